@@ -1,0 +1,10 @@
+pub mod ByteTests
+pub mod Cuts
+pub mod Forms
+pub mod FrontFacts
+pub mod Fronts
+pub mod Numbers
+pub mod OneCut
+pub mod Runs
+pub mod SpanFacts
+pub mod Words

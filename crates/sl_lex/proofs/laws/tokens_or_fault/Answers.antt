@@ -1,0 +1,5 @@
+use Rattle.sl_lex.proofs.OneCut.{tokens_or_fault}
+use Rattle.sl_lex.proofs.laws.tokens_or_fault.Goals as goal
+
+pub returns : goal.returns
+returns c = tokens_or_fault

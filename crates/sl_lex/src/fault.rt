@@ -1,0 +1,30 @@
+//! Why a text has no tokens.
+
+ghost use Rattle.std.specs.Prelude.{◌≡◌};
+ghost use Rattle.sl_lex.specs.declared.fault.LexFault.TheVariants.{NoMemory};
+
+use std::alloc::AllocFailed;
+use thiserror::Error;
+
+/// Why a text has no tokens, with the offset in bytes where it shows.
+#[derive(Clone, Copy, Debug, PartialEq, Eq, Error)]
+pub enum LexFault {
+    #[error("no token begins with the byte at {0}")]
+    BadByte(usize),
+    #[error("the text that begins at {0} is not closed")]
+    OpenString(usize),
+    #[error("the number at {0} is above 999999999")]
+    BigNumber(usize),
+    #[error("the word at {0} has over 12 bytes")]
+    LongName(usize),
+    #[error("out of memory")]
+    NoMemory,
+}
+
+impl<T: Drop> From<AllocFailed<T>> for LexFault {
+    ghost from_gives = { λ _ e. e ≡ NoMemory };
+
+    fn from(_e: AllocFailed<T>) -> LexFault {
+        LexFault::NoMemory
+    }
+}

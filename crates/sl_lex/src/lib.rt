@@ -1,0 +1,16 @@
+//! Tokens: a rulebook's bytes cut into words, numbers, texts and marks.
+#![tactic(auto)]
+
+mod fault;
+mod keyword;
+pub mod laws;
+mod scan;
+mod token;
+
+pub use fault::LexFault;
+pub use keyword::Keyword;
+pub use scan::lex;
+pub use token::{Kind, MAX_NUMBER, Mark, Token};
+
+#[cfg(test)]
+mod tests;

@@ -1,0 +1,41 @@
+use super::*;
+use std::test::*;
+
+#[test]
+fn faults_stand_at_the_first_byte(rt: HostRuntime) {
+    for (text, fault) in [
+        ("rulebook 1000000000", LexFault::BigNumber(9)),
+        ("law abcdefghijklm", LexFault::LongName(4)),
+        ("rulebook 1; $", LexFault::BadByte(12)),
+        ("rulebook 1; law \"abc", LexFault::OpenString(16)),
+    ] {
+        let found = lex(rt.alloc(), text.as_bytes());
+        assert!(rt; matches!(found, Err(e) if e == fault), "in {text}");
+    }
+}
+
+#[test]
+fn a_book_has_its_tokens(rt: HostRuntime) -> Result<(), Fail> {
+    let tokens = lex(rt.alloc(), b"rulebook 01; law \"t\" # c")
+        .ok()
+        .ok_or("it has tokens")?;
+    let expected = [
+        (Kind::Keyword(Keyword::Rulebook), 0, 8),
+        (Kind::Number(1), 9, 11),
+        (Kind::Mark(Mark::Semicolon), 11, 12),
+        (Kind::Keyword(Keyword::Law), 13, 16),
+        (Kind::Text, 17, 20),
+    ];
+    assert_eq!(rt; tokens.len(), expected.len());
+    for (token, (kind, start, end)) in tokens.iter().zip(expected) {
+        assert_eq!(rt; *token, Token { kind, start, end });
+    }
+    Ok(())
+}
+
+#[test]
+fn an_empty_text_has_no_tokens(rt: HostRuntime) -> Result<(), Fail> {
+    let tokens = lex(rt.alloc(), b"").ok().ok_or("it has tokens")?;
+    assert_eq!(rt; tokens.len(), 0);
+    Ok(())
+}

@@ -1,0 +1,3 @@
+pub mod NameLists
+pub mod Order
+pub mod LawProofs

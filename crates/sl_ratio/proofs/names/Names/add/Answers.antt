@@ -1,0 +1,27 @@
+use Rattle.std.proofs.Common.{◌≡◌, List, ℕ, [], ◌∷◌, ◌++◌, None, map, ap, sym, subst, ◌∙◌}
+use Rattle.sl_ratio.specs.Names.{NameList, IsNameList, name_fault}
+use Rattle.sl_ratio.proofs.NameLists.{joins, with_name, map-inserted}
+use Rattle.sl_ratio.proofs.names.Names.add.Goals as goal
+use Rattle.sl_ratio.proofs.names.Names.add.Goals.{In-Ok-insert}
+
+-- the list before, as the fields have it
+abbrev before : In-Ok-insert → NameList
+before c = record { limit = c.self.inside.limit; names = map (λ key. key.items) c.self.inside.names.keys }
+
+free : (c : In-Ok-insert) → name_fault (before c) c.args.name.now ≡ None
+free c = subst (λ (l : NameList). name_fault l c.args.name.now ≡ None) (sym c.self.view_is) (sym c.fault.ensures ∙ c.in_default.is)
+
+names_after : (c : In-Ok-insert) → map (λ key. key.items) c.insert.new.self.keys ≡ (before c).names ++ c.args.name.now ∷ []
+names_after c =
+    ap (map (λ key. key.items)) c.in-Ok-insert.ensures.keys ∙
+    map-inserted (λ key. key.items) c.self.inside.names.keys c.in-Ok.kept c.args.name.now c.in-Ok.ensures.items (joins (before c) _ (free c)).new
+
+pub invariant_of-self-2 : goal.invariant_of-self-2
+invariant_of-self-2 c =
+    subst (λ (n : List (List ℕ)). IsNameList (record { limit = c.self.inside.limit; names = n })) (sym (names_after c))
+    (with_name (before c) c.args.name.now (free c) c.self.invariant)
+
+pub returns-clause-added : goal.returns-clause-added
+returns-clause-added c =
+    let same : c.args.self.now ≡ before c = sym c.self.view_is in
+    rw (same, names_after c)

@@ -1,0 +1,22 @@
+//! Quotients as ratios of whole numbers, the methods of apportionment, and lists of names.
+#![tactic(auto)]
+
+mod entry;
+pub mod laws;
+mod memory;
+mod method;
+mod names;
+mod ratio;
+mod remainder;
+mod signpost;
+
+pub use entry::Entry;
+pub use memory::NoMemory;
+pub use method::{Divisor, Method};
+pub use names::{MAX_NAME_BYTES, NameFault, Names, spelling_fault};
+pub use ratio::{MAX_DENOMINATOR, MAX_NUMERATOR, Ratio};
+pub use remainder::hare;
+pub use signpost::{Adams, Dean, Hill, Jefferson, MAX_SEATS, MAX_WEIGHT, Signpost, Webster};
+
+#[cfg(test)]
+mod tests;

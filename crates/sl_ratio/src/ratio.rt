@@ -1,0 +1,79 @@
+//! A quotient: the ratio of two whole numbers, infinite where the denominator is 0.
+
+ghost use Rattle.std.specs.Prelude.{◌≡◌, ◌*◌, ◌^◌, ◌<◌, ◌≤◌, ◌↔◌, IsTrue};
+ghost use Rattle.sl_ratio.specs.Quotient.{FitsRatio, compare};
+
+use std::cmp::Ordering;
+use std::marker::Model;
+
+/// The greatest numerator of a ratio.
+pub const MAX_NUMERATOR: u128 = 10_000_000_000_000_000_000_000_000;
+
+/// The greatest denominator of a ratio.
+pub const MAX_DENOMINATOR: u128 = 1_000_000_000_000;
+
+/// A quotient of votes by a divisor. It is kept as it came, not reduced: 60/3 and 20/1 are equal quotients and two ratios.
+///
+/// `==` compares the ratios, and `cmp` the quotients.
+#[derive(Clone, Copy, Debug, PartialEq, Eq, Hash)]
+pub struct Ratio {
+    num: u128,
+    den: u128,
+}
+
+impl Model for Ratio {
+    ghost use Rattle.std.specs.Prelude.{◌≤◌};
+    ghost use Rattle.sl_ratio.specs.Quotient.{Quotient, FitsRatio};
+
+    ghost Value = { Quotient };
+
+    ghost view = { λ r. record { num = r.num; den = r.den } };
+
+    ghost invariant = { λ r. FitsRatio (record { num = r.num; den = r.den }) };
+
+    ghost inverse = { λ q. record { num = q.num; den = q.den } };
+}
+
+impl Ratio {
+    /// The ratio of `num` to `den`, which is infinite where `den` is 0.
+    pub fn new(num: u128, den: u128) -> Ratio
+        requires positive { 1 ≤ num }
+        requires num { num ≤ MAX_NUMERATOR }
+        requires den { den ≤ MAX_DENOMINATOR }
+        ensures value { result ≡ record { num = num; den = den } }
+    {
+        Ratio { num, den }
+    }
+
+    /// The numerator.
+    pub fn num(&self) -> u128
+        ensures value { result ≡ self.now.num }
+        ensures fits { FitsRatio self.now }
+    {
+        self.num
+    }
+
+    /// The denominator, 0 where the quotient is infinite.
+    pub fn den(&self) -> u128
+        ensures value { result ≡ self.now.den }
+        ensures fits { FitsRatio self.now }
+    {
+        self.den
+    }
+
+    /// Whether the quotient is infinite.
+    pub fn is_infinite(&self) -> bool
+        ensures { IsTrue result ↔ (self.now.den ≡ 0) }
+    {
+        self.den == 0
+    }
+
+    /// The order of the two quotients. Equal quotients may have different parts, so this is no `Ord`.
+    pub fn cmp(&self, other: &Ratio) -> Ordering
+        ensures { result ≡ compare self.now other.now }
+    {
+        let across = self.num * other.den;
+        let back = other.num * self.den;
+        across.cmp(&back)
+    }
+}

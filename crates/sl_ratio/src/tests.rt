@@ -1,0 +1,83 @@
+//! The worked rows, with ample memory.
+
+use super::*;
+use std::cmp::Ordering;
+use std::hash::{DefaultHasher, Hash, Hasher};
+use std::test::*;
+
+#[test]
+fn quotients_of_the_rows(rt: HostRuntime) {
+    assert_eq!(rt; Divisor::Jefferson.ratio(30, 0), Ratio::new(30, 1));
+    assert_eq!(rt; Divisor::Webster.ratio(30, 0), Ratio::new(60, 1));
+    assert_eq!(rt; Divisor::Jefferson.ratio(100, 3), Ratio::new(100, 4));
+    assert_eq!(rt; Divisor::Webster.ratio(100, 3), Ratio::new(200, 7));
+    assert_eq!(rt; Divisor::Webster.ratio(30, 1), Ratio::new(60, 3));
+    assert_eq!(rt; Divisor::Webster.ratio(10, 0), Ratio::new(20, 1));
+    assert_eq!(rt; Divisor::Adams.ratio(3, 0), Ratio::new(3, 0));
+    assert_eq!(rt; Divisor::Adams.ratio(3, 1), Ratio::new(3, 1));
+    assert_eq!(rt; Divisor::Dean.ratio(3, 2), Ratio::new(15, 12));
+    assert_eq!(rt; Divisor::Hill.ratio(3, 2), Ratio::new(9, 6));
+    let infinite = Divisor::Adams.ratio(3, 0);
+    assert!(rt; infinite.is_infinite());
+    assert_eq!(rt; (infinite.num(), infinite.den()), (3, 0));
+    assert_eq!(rt; infinite.cmp(&Divisor::Adams.ratio(2, 0)), Ordering::Equal);
+    assert_eq!(rt;
+        infinite.cmp(&Ratio::new(MAX_NUMERATOR, 1)),
+        Ordering::Greater
+    );
+}
+
+#[test]
+fn shares_by_hare(rt: HostRuntime) {
+    assert_eq!(rt; hare(8, 100, 210), (3, 170));
+}
+
+fn hash_of(entry: &Entry) -> u64 {
+    let mut state = DefaultHasher::new();
+    entry.hash(&mut state);
+    state.finish()
+}
+
+#[test]
+fn entries_of_equal_quotients(rt: HostRuntime) {
+    let first = Entry {
+        ratio: Ratio::new(60, 3),
+        index: 0,
+    };
+    let second = Entry {
+        ratio: Ratio::new(20, 1),
+        index: 1,
+    };
+    assert_eq!(rt; first.ratio.cmp(&second.ratio), Ordering::Equal);
+    assert!(rt; first > second && first != second);
+    let reduced = Entry {
+        ratio: second.ratio,
+        index: 0,
+    };
+    assert!(rt; first > reduced && reduced > second);
+    let greater = Entry {
+        ratio: Ratio::new(61, 3),
+        index: 9,
+    };
+    assert!(rt; greater > first);
+    assert_eq!(rt; hash_of(&first), hash_of(&first));
+}
+
+#[test]
+fn names_are_numbered(rt: HostRuntime) -> Result<(), Fail> {
+    let mut names = Names::new(rt.alloc(), 2);
+    assert!(rt; names.is_empty());
+    assert_eq!(rt; names.add(b"A"), Ok(0));
+    assert_eq!(rt; names.add(b"B"), Ok(1));
+    assert_eq!(rt; names.add(b"A"), Err(NameFault::Twice));
+    assert_eq!(rt; names.add(b"C"), Err(NameFault::Full));
+    assert_eq!(rt; names.add(b""), Err(NameFault::Empty));
+    assert_eq!(rt; names.add(b"aaaabbbbccccd"), Err(NameFault::TooLong));
+    assert_eq!(rt; names.add(b"a/b"), Err(NameFault::BadByte));
+    assert_eq!(rt; spelling_fault(b"_a-Z09"), None);
+    assert_eq!(rt; names.len(), 2);
+    assert_eq!(rt; names.find(b"B"), Some(1));
+    assert_eq!(rt; names.find(b"C"), None);
+    assert!(rt; names.len() > 1 && names.name(1) == b"B".as_slice());
+    Ok(())
+}

@@ -1,0 +1,5 @@
+use Rattle.sl_stages.proofs.LadderProofs.{batches}
+use Rattle.sl_stages.proofs.laws.batches.Goals as goal
+
+pub returns : goal.returns
+returns c = batches

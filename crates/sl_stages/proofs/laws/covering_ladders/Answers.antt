@@ -1,0 +1,5 @@
+use Rattle.sl_stages.proofs.CoveringProofs.{covering_ladders_law}
+use Rattle.sl_stages.proofs.laws.covering_ladders.Goals as goal
+
+pub returns : goal.returns
+returns c = covering_ladders_law

@@ -1,0 +1,5 @@
+use Rattle.sl_stages.proofs.DrawnLots.{draws}
+use Rattle.sl_stages.proofs.laws.draws.Goals as goal
+
+pub returns : goal.returns
+returns c = draws

@@ -1,0 +1,5 @@
+use Rattle.sl_stages.proofs.DivisorProofs.{empty_fields}
+use Rattle.sl_stages.proofs.laws.empty_fields.Goals as goal
+
+pub returns : goal.returns
+returns c = empty_fields

@@ -1,0 +1,5 @@
+use Rattle.sl_stages.proofs.HouseProofs.{growths}
+use Rattle.sl_stages.proofs.laws.growths.Goals as goal
+
+pub returns : goal.returns
+returns c = growths

@@ -1,0 +1,173 @@
+//! Rulebooks as trees.
+
+ghost use Rattle.std.specs.Prelude.{IsTrue, map};
+ghost use Rattle.sl_stages.specs.Trees.{stage_of};
+ghost use Rattle.sl_stages.specs.Limits.{is_within_limits};
+
+use crate::word::Word;
+use sl_ratio::Method;
+
+/// What a column has a number for: one for all, each party, each Land, or each list.
+#[derive(Clone, Copy, Debug, PartialEq, Eq)]
+pub enum Shape {
+    One,
+    Party,
+    Land,
+    List,
+}
+
+/// What the numbers of a column count.
+#[derive(Clone, Copy, Debug, PartialEq, Eq)]
+pub enum Unit {
+    Seats,
+    Votes,
+}
+
+/// What a column has: a shape and a unit.
+#[derive(Clone, Copy, Debug, PartialEq, Eq)]
+pub struct ColumnType {
+    pub shape: Shape,
+    pub unit: Unit,
+}
+
+/// What a sum leaves: a number for each party, for each Land, or one for all.
+#[derive(Clone, Copy, Debug, PartialEq, Eq)]
+pub enum Axis {
+    Party,
+    Land,
+    All,
+}
+
+/// The majority clause of a split or a growth.
+#[derive(Clone, Copy, Debug, PartialEq, Eq)]
+pub enum Majority {
+    /// None is written.
+    Free,
+    /// An entry with more than half of the votes and no more than half of the seats comes first.
+    Prefer,
+    /// Such an entry ends the count.
+    Refuse,
+}
+
+/// A number of a book, with the offset of its first byte.
+#[derive(Clone, Copy, Debug, PartialEq, Eq)]
+pub struct Number {
+    pub value: u32,
+    pub at: usize,
+}
+
+/// An expression. Each keeps the offset of its first token.
+#[derive(Drop)]
+pub enum Expr {
+    House {
+        at: usize,
+    },
+    Counted {
+        at: usize,
+    },
+    Winners {
+        at: usize,
+    },
+    Outside {
+        at: usize,
+    },
+    Independents {
+        at: usize,
+    },
+    Population {
+        at: usize,
+    },
+    Name {
+        at: usize,
+        name: Word,
+    },
+    Sum {
+        at: usize,
+        of: Box<Expr>,
+        over: Axis,
+    },
+    Larger {
+        at: usize,
+        left: Box<Expr>,
+        right: Box<Expr>,
+    },
+    Less {
+        at: usize,
+        left: Box<Expr>,
+        right: Box<Expr>,
+    },
+    Split {
+        at: usize,
+        seats: Box<Expr>,
+        votes: Box<Expr>,
+        method: Method,
+        minima: Option<Box<Expr>>,
+        majority: Majority,
+    },
+    Grow {
+        at: usize,
+        seats: Box<Expr>,
+        votes: Box<Expr>,
+        method: Method,
+        minima: Box<Expr>,
+        cap: Number,
+        majority: Majority,
+    },
+}
+
+/// A condition under which a party takes part.
+#[derive(Clone, Copy, Debug, PartialEq, Eq)]
+pub enum Condition {
+    /// At least `share` votes in each `per` of all valid votes.
+    Valid { share: Number, per: u32 },
+    /// At least so many winners.
+    Winners { least: u32 },
+    /// It is a party of a national minority.
+    Minority,
+    All,
+}
+
+/// A stage: a name, its offset, and what it stands for.
+#[derive(Drop)]
+pub struct Stage {
+    pub name: Word,
+    pub at: usize,
+    pub expr: Expr,
+}
+
+/// Whose seats the lists have in the end.
+#[derive(Drop)]
+pub enum Base {
+    Winners,
+    Stage(Word),
+}
+
+/// What becomes of constituency winners.
+#[derive(Clone, Copy, Debug, PartialEq, Eq)]
+pub enum Seating {
+    /// All are seated.
+    Keep,
+    /// They are seated as far as the seats of their list last.
+    Cover,
+}
+
+/// The last clause, with the offsets of its base and of `vacate`, if that word is there.
+#[derive(Drop)]
+pub struct LastClause {
+    pub base: Base,
+    pub at: usize,
+    pub seating: Seating,
+    pub vacate: Option<usize>,
+}
+
+/// A rulebook, within the limits on stages, depth, parts and numbers.
+#[derive(Drop)]
+pub struct Book {
+    pub version: Number,
+    pub law: Vec<u8>,
+    pub house: Number,
+    pub eligible: Vec<Condition>,
+    pub stages: Vec<Stage>,
+    pub last: LastClause,
+    pub ghost within_limits: { IsTrue (is_within_limits (map stage_of stages.items)) },
+}

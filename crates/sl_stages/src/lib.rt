@@ -1,0 +1,27 @@
+//! What a rulebook, returns and an outcome are, and what a rulebook means.
+#![tactic(auto)]
+
+mod book;
+mod check_fault;
+mod checked;
+mod fault;
+pub mod laws;
+mod limits;
+mod returns;
+mod table;
+mod word;
+
+pub use book::{
+    Axis, Base, Book, ColumnType, Condition, Expr, LastClause, Majority, Number, Seating, Shape,
+    Stage, Unit,
+};
+pub use check_fault::CheckFault;
+pub use checked::CheckedBook;
+pub use fault::{FaultKind, Item, Items, LegalFault, Scope};
+pub use limits::{
+    MAX_DEPTH, MAX_LANDS, MAX_PARTIES, MAX_PARTS, MAX_PER, MAX_SEATS, MAX_SLATE, MAX_STAGES,
+    MAX_VOTES, MAX_WINS,
+};
+pub use returns::{ListVotes, Returns, Win};
+pub use table::{ListSeats, Mark, Outcome, Placed, SeatStep, Table, Weight};
+pub use word::Word;

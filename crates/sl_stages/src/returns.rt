@@ -1,0 +1,227 @@
+//! The returns of an election.
+
+ghost use Rattle.std.specs.Prelude.{◌≡◌, ◌<◌, ◌≤◌, Some, IfSome, length, slice_get, slice_index};
+ghost use Rattle.std.specs.List.{position};
+ghost use Rattle.std.specs.Str.{bytes_eq};
+ghost use Rattle.sl_stages.specs.Votes.{valid_in, counted_in, slate_in};
+
+mod add;
+
+use crate::limits::{MAX_LANDS, MAX_PARTIES, MAX_WINS};
+use sl_ratio::Names;
+use std::alloc::Global;
+use std::marker::Model;
+
+/// The votes of a list, and how many names are left on it, if that is told.
+#[derive(Clone, Copy, Debug, PartialEq, Eq)]
+pub struct ListVotes {
+    pub valid: u32,
+    pub counted: u32,
+    pub slate: Option<u32>,
+}
+
+/// The winner of a constituency: the Land, the party, if there is one, the winner's first votes, and all valid first votes.
+#[derive(Clone, Copy, Debug, PartialEq, Eq)]
+pub struct Win {
+    pub land: usize,
+    pub party: Option<usize>,
+    pub first: u32,
+    pub valid: u32,
+}
+
+/// The returns of an election, whose numbers are all in range. Länder, parties and winners have the numbers of their records, from 0.
+#[derive(Drop)]
+pub struct Returns {
+    alloc: Global,
+    house: Option<u32>,
+    lands: Names,
+    populations: Vec<u32>,
+    // for each Land a row with a cell for each party that there may be
+    rows: Vec<Vec<Option<ListVotes>>>,
+    parties: Names,
+    minorities: Vec<bool>,
+    winners: Names,
+    wins: Vec<Win>,
+}
+
+impl Model for Returns {
+    ghost use Rattle.sl_stages.specs.Election.{Election, IsElection};
+
+    ghost Value = { Election };
+
+    ghost use Rattle.sl_stages.specs.Kept.{election_of, KeepsLimits};
+
+    ghost view = { election_of };
+
+    ghost invariant = { λ r. KeepsLimits r × IsElection (election_of r) };
+}
+
+impl Returns {
+    ghost use Rattle.sl_stages.specs.Election.{Election, IsElection, lands_of, parties_of, wins_of, list_at, has_list, no_election};
+
+    /// Returns without a record. Takes no memory.
+    pub fn empty(alloc: Global) -> Returns
+        ensures { result ≡ no_election }
+    {
+        Returns {
+            alloc,
+            house: None,
+            lands: Names::new(alloc, MAX_LANDS),
+            populations: Vec::new(alloc),
+            rows: Vec::new(alloc),
+            parties: Names::new(alloc, MAX_PARTIES),
+            minorities: Vec::new(alloc),
+            winners: Names::new(alloc, MAX_WINS),
+            wins: Vec::new(alloc),
+        }
+    }
+
+    /// The house that the returns give, in seats.
+    pub fn house(&self) -> Option<u32>
+        ensures house { result ≡ self.now.house }
+        ensures kept { IsElection self.now }
+    {
+        self.house
+    }
+
+    /// The number of Länder.
+    pub fn lands(&self) -> usize
+        ensures number { result ≡ lands_of self.now }
+        ensures kept { IsElection self.now }
+    {
+        self.lands.len()
+    }
+
+    /// The number of parties.
+    pub fn parties(&self) -> usize
+        ensures number { result ≡ parties_of self.now }
+        ensures kept { IsElection self.now }
+    {
+        self.parties.len()
+    }
+
+    /// The number of constituency winners.
+    pub fn wins(&self) -> usize
+        ensures number { result ≡ wins_of self.now }
+        ensures kept { IsElection self.now }
+    {
+        self.wins.len()
+    }
+
+    /// The list of a party in a Land, if it has one.
+    pub fn list(&self, land: usize, party: usize) -> Option<ListVotes>
+        requires land { land < lands_of self.now }
+        requires party { party < parties_of self.now }
+        ensures { result ≡ list_at self.now land party }
+    {
+        self.rows[land][party]
+    }
+
+    /// Whether a party has a list in a Land.
+    pub fn is_list(&self, land: usize, party: usize) -> bool
+        requires land { land < lands_of self.now }
+        requires party { party < parties_of self.now }
+        ensures { result ≡ has_list self.now land party }
+    {
+        self.list(land, party).is_some()
+    }
+
+    /// The valid votes of a list, 0 where there is none.
+    pub fn valid(&self, land: usize, party: usize) -> u32
+        requires land { land < lands_of self.now }
+        requires party { party < parties_of self.now }
+        ensures { result ≡ valid_in (list_at self.now land party) }
+    {
+        self.list(land, party).map_or(0, |votes| votes.valid)
+    }
+
+    /// The counted votes of a list, 0 where there is none.
+    pub fn counted(&self, land: usize, party: usize) -> u32
+        requires land { land < lands_of self.now }
+        requires party { party < parties_of self.now }
+        ensures { result ≡ counted_in (list_at self.now land party) }
+    {
+        self.list(land, party).map_or(0, |votes| votes.counted)
+    }
+
+    /// The number of names left on a list, if it is told.
+    pub fn slate(&self, land: usize, party: usize) -> Option<u32>
+        requires land { land < lands_of self.now }
+        requires party { party < parties_of self.now }
+        ensures { result ≡ slate_in (list_at self.now land party) }
+    {
+        self.list(land, party).and_then(|votes| votes.slate)
+    }
+
+    /// The people of a Land.
+    pub fn population(&self, land: usize) -> u32
+        requires { land < lands_of self.now }
+        ensures { result ≡ slice_index self.now.populations land }
+    {
+        self.populations[land]
+    }
+
+    /// Whether a party is one of a national minority.
+    pub fn minority(&self, party: usize) -> bool
+        requires { party < parties_of self.now }
+        ensures { slice_get self.now.minorities party ≡ Some result }
+    {
+        self.minorities[party]
+    }
+
+    /// A constituency winner.
+    pub fn win(&self, win: usize) -> Win
+        requires { win < wins_of self.now }
+        ensures { slice_get self.now.wins win ≡ Some result }
+    {
+        self.wins[win]
+    }
+
+    /// The name of a Land.
+    pub fn land_name(&self, land: usize) -> &[u8]
+        requires { land < lands_of self.now }
+        ensures { slice_get self.now.land_names land ≡ Some result.now }
+    {
+        self.lands.name(land)
+    }
+
+    /// The name of a party.
+    pub fn party_name(&self, party: usize) -> &[u8]
+        requires { party < parties_of self.now }
+        ensures { slice_get self.now.party_names party ≡ Some result.now }
+    {
+        self.parties.name(party)
+    }
+
+    /// The constituency of a winner.
+    pub fn win_name(&self, win: usize) -> &[u8]
+        requires { win < wins_of self.now }
+        ensures { slice_get self.now.win_names win ≡ Some result.now }
+    {
+        self.winners.name(win)
+    }
+
+    /// The number of the Land with that name.
+    pub fn find_land(&self, name: &[u8]) -> Option<usize>
+        ensures number { result ≡ position (bytes_eq name.now) self.now.land_names }
+        ensures within { IfSome result (λ land. land < lands_of self.now) }
+    {
+        self.lands.find(name)
+    }
+
+    /// The number of the party with that name.
+    pub fn find_party(&self, name: &[u8]) -> Option<usize>
+        ensures number { result ≡ position (bytes_eq name.now) self.now.party_names }
+        ensures within { IfSome result (λ party. party < parties_of self.now) }
+    {
+        self.parties.find(name)
+    }
+
+    /// The number of the winner of that constituency.
+    pub fn find_win(&self, name: &[u8]) -> Option<usize>
+        ensures number { result ≡ position (bytes_eq name.now) self.now.win_names }
+        ensures within { IfSome result (λ win. win < wins_of self.now) }
+    {
+        self.winners.find(name)
+    }
+}

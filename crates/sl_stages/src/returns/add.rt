@@ -1,0 +1,219 @@
+//! Records that join the returns.
+
+ghost use Rattle.std.specs.Prelude.{◌≡◌, ◌<◌, ◌≤◌, ◌++◌, ◌∷◌, [], false, None, Some, length, map, replicate, slice_index_or, slice_set, vec_len, vec_capacity, IfOk, IsOk, OnOk, OnErr};
+ghost use Rattle.std.specs.Option.{ForSome};
+ghost use Rattle.sl_ratio.specs.Names.{name_fault};
+ghost use Rattle.sl_stages.specs.declared.limits.TheConstants.{MAX_LANDS, MAX_PARTIES, MAX_SEATS, MAX_VOTES, MAX_SLATE, MAX_WINS};
+
+use crate::limits::MAX_PARTIES;
+use crate::returns::{ListVotes, Returns, Win};
+use sl_ratio::NoMemory;
+use std::alloc::Global;
+
+// A row without a list.
+fn blank_row(alloc: Global) -> Result<Vec<Option<ListVotes>>, NoMemory>
+    ensures { IfOk result (λ row. row.items ≡ replicate MAX_PARTIES None) }
+{
+    let mut row = Vec::new(alloc);
+    match row.resize(MAX_PARTIES, None) {
+        Ok(()) => Ok(row),
+        Err(_) => Err(NoMemory),
+    }
+}
+
+// Makes room for one more item.
+fn make_room<T>(items: &mut Vec<T>) -> Result<(), NoMemory>
+    ensures same { items.new.items ≡ items.old.items }
+    ensures room { OnOk result (vec_len items.new < vec_capacity items.new) }
+{
+    match items.reserve(1) {
+        Ok(()) => Ok(()),
+        Err(_) => Err(NoMemory),
+    }
+}
+
+// Adds an item for which there is room.
+fn put<T: Drop>(items: &mut Vec<T>, item: T)
+    requires { vec_len items.old < vec_capacity items.old }
+    ensures { items.new.items ≡ items.old.items ++ item ∷ [] }
+{
+    let _ = items.push(item);
+}
+
+// Writes the cell of a list, in rows by Land.
+fn write_cell(rows: &mut Vec<Vec<Option<ListVotes>>>, land: usize, party: usize, votes: ListVotes)
+    requires land { land < vec_len rows.old }
+    requires party { party < length (slice_index_or (map (λ row. row.items) rows.old.items) land []) }
+    ensures { let cells = map (λ row. row.items) rows.old.items in
+        map (λ row. row.items) rows.new.items ≡ slice_set cells land (slice_set (slice_index_or cells land []) party (Some votes)) }
+{
+    let row = &mut rows[land];
+    row[party] = Some(votes);
+}
+
+impl Returns {
+    ghost use Rattle.sl_stages.specs.Election.{Election, IsElection, IsWin, lands_of, parties_of, wins_of, list_at, has_list, with_house, with_land, with_party, with_list, with_win};
+
+    /// Sets the house, in seats. Takes no memory.
+    pub fn set_house(&mut self, seats: u32)
+        requires least { 1 ≤ seats }
+        requires most { seats ≤ MAX_SEATS }
+        ensures { self.new ≡ with_house self.old seats }
+    {
+        self.house = Some(seats);
+    }
+
+    /// Adds a Land with its people.
+    ///
+    /// # Errors
+    ///
+    /// Where memory is wanting. The returns are then unchanged.
+    pub fn add_land(&mut self, name: &[u8], population: u32) -> Result<(), NoMemory>
+        requires name { name_fault (record { limit = MAX_LANDS; names = self.old.land_names }) name.now ≡ None }
+        requires population { population ≤ MAX_VOTES }
+        ensures added { OnOk result (self.new ≡ with_land self.old name.now population) }
+        ensures unchanged { OnErr result (self.new ≡ self.old) }
+    {
+        let row = blank_row(self.alloc)?;
+        make_room(&mut self.populations)?;
+        make_room(&mut self.rows)?;
+        if self.lands.add(name).is_err() {
+            return Err(NoMemory);
+        }
+        put(&mut self.populations, population);
+        put(&mut self.rows, row);
+        Ok(())
+    }
+
+    /// Adds a party, and whether it is one of a national minority.
+    ///
+    /// # Errors
+    ///
+    /// Where memory is wanting. The returns are then unchanged.
+    pub fn add_party(&mut self, name: &[u8], minority: bool) -> Result<(), NoMemory>
+        requires { name_fault (record { limit = MAX_PARTIES; names = self.old.party_names }) name.now ≡ None }
+        ensures added { OnOk result (self.new ≡ with_party self.old name.now minority) }
+        ensures unchanged { OnErr result (self.new ≡ self.old) }
+    {
+        make_room(&mut self.minorities)?;
+        if self.parties.add(name).is_err() {
+            return Err(NoMemory);
+        }
+        put(&mut self.minorities, minority);
+        Ok(())
+    }
+
+    /// Adds the list of a party in a Land, with its valid votes and its counted ones. Takes no memory: the list's cell
+    /// stands since the Land was added.
+    ///
+    /// # Errors
+    ///
+    /// None comes.
+    pub fn add_list(
+        &mut self,
+        land: usize,
+        party: usize,
+        valid: u32,
+        counted: u32,
+    ) -> Result<(), NoMemory>
+        requires land { land < lands_of self.old }
+        requires party { party < parties_of self.old }
+        requires new { has_list self.old land party ≡ false }
+        requires counted { counted ≤ valid }
+        requires valid { valid ≤ MAX_VOTES }
+        ensures succeeds { IsOk result }
+        ensures added { self.new ≡ with_list self.old land party (record { valid = valid; counted = counted; slate = None }) }
+    {
+        let votes = ListVotes {
+            valid,
+            counted,
+            slate: None,
+        };
+        write_cell(&mut self.rows, land, party, votes);
+        Ok(())
+    }
+
+    /// Adds the winner of a constituency: the Land, the party, if there is one, the constituency, the winner's first
+    /// votes and all valid first votes.
+    ///
+    /// # Errors
+    ///
+    /// Where memory is wanting. The returns are then unchanged.
+    pub fn add_win(
+        &mut self,
+        land: usize,
+        party: Option<usize>,
+        name: &[u8],
+        first: u32,
+        valid: u32,
+    ) -> Result<(), NoMemory>
+        requires land { land < lands_of self.old }
+        requires party { ForSome party (λ p. p < parties_of self.old) }
+        requires name { name_fault (record { limit = MAX_WINS; names = self.old.win_names }) name.now ≡ None }
+        requires least { 1 ≤ first }
+        requires most { first ≤ valid }
+        requires valid { valid ≤ MAX_VOTES }
+        ensures added { OnOk result (self.new ≡ with_win self.old name.now (record { land = land; party = party; first = first; valid = valid })) }
+        ensures unchanged { OnErr result (self.new ≡ self.old) }
+    {
+        make_room(&mut self.wins)?;
+        if self.winners.add(name).is_err() {
+            return Err(NoMemory);
+        }
+        let win = Win {
+            land,
+            party,
+            first,
+            valid,
+        };
+        put(&mut self.wins, win);
+        Ok(())
+    }
+}
+
+#[cfg(test)]
+mod tests {
+    use super::*;
+    use std::test::*;
+
+    // A Land and a party.
+    fn land_and_party(alloc: Global) -> Result<Returns, NoMemory>
+        ensures { IfOk result (λ r. r.win_names ≡ []) }
+    {
+        let mut returns = Returns::empty(alloc);
+        returns.add_land(b"X", 1000)?;
+        returns.add_party(b"A", true)?;
+        Ok(returns)
+    }
+
+    // Whether these are a Land, a party, its list and a winner.
+    fn are_read_back(returns: &Returns) -> bool {
+        if returns.lands() != 1 || returns.parties() != 1 || returns.wins() != 1 {
+            return false;
+        }
+        let win = returns.win(0);
+        returns.land_name(0) == b"X".as_slice()
+            && returns.population(0) == 1000
+            && returns.party_name(0) == b"A".as_slice()
+            && returns.minority(0)
+            && returns.valid(0, 0) == 20
+            && returns.counted(0, 0) == 10
+            && returns.slate(0, 0).is_none()
+            && returns.win_name(0) == b"w1".as_slice()
+            && win.land == 0
+            && win.party == Some(0)
+            && win.first == 5
+            && win.valid == 9
+    }
+
+    #[test]
+    fn records_are_read_back(rt: HostRuntime) -> Result<(), Fail> {
+        let mut returns = land_and_party(rt.alloc())?;
+        assert!(rt; returns.lands() == 1 && returns.parties() == 1);
+        assert!(rt; !returns.is_list(0, 0));
+        returns.add_win(0, Some(0), b"w1", 5, 9)?;
+        returns.add_list(0, 0, 20, 10)?;
+        assert!(rt; are_read_back(&returns));
+        Ok(())
+    }
+}
