@@ -1,0 +1,28 @@
+-- The first test that fails, of lists of tests in a row.
+use Rattle.std.proofs.Common.{◌≡◌, ℕ, List, [], ◌∷◌, ◌++◌, Option, Some, None, true, false, if◌then◌else◌, refl, ◌∙◌, sym, ap, append_assoc}
+use Rattle.std.specs.Option.{option_or}
+use Rattle.std.specs.Global.{Box}
+use Rattle.sl_ratio.specs.declared.method.Method.{Method}
+use Rattle.sl_stages.specs.declared.check_fault.CheckFault.{CheckFault}
+use Rattle.sl_stages.specs.declared.book.Majority.{Majority}
+use Rattle.sl_stages.specs.declared.book.Expr.{Expr, Split}
+use Rattle.sl_stages.specs.Trees.{tree_of}
+use Rattle.sl_stages.specs.Typing.{Column, Test, first_failing, expr_tests}
+
+-- it is that of the first list, or else that of the second
+pub fails_in_row : (a b : List Test) → first_failing (a ++ b) ≡ option_or (first_failing a) (first_failing b)
+fails_in_row [] b = refl
+fails_in_row (t ∷ a) b =
+    elim t.holds as (λ h. (if h then first_failing (a ++ b) else Some t.otherwise) ≡ option_or (if h then first_failing a else Some t.otherwise) (first_failing b))
+    [ true ↦ fails_in_row a b | false ↦ refl ]
+
+-- the first two lists may be taken together
+pub fails_behind : (a b c : List Test) → first_failing (a ++ (b ++ c)) ≡ option_or (first_failing (a ++ b)) (first_failing c)
+fails_behind a b c = sym (ap first_failing (append_assoc a b c)) ∙ fails_in_row (a ++ b) c
+
+-- a split fails where its seats or its votes do, whatever stands behind them
+pub split_fails : (cs : List Column) (e : Expr) (at : ℕ) (s v : Box Expr) (method : Method) (minima : Option (Box Expr)) (m : Majority) (x y : Expr) (f : CheckFault)
+    → e ≡ Split at s v method minima m → x ≡ s.value → y ≡ v.value → first_failing (expr_tests cs (tree_of x) ++ expr_tests cs (tree_of y)) ≡ Some f
+    → first_failing (expr_tests cs (tree_of e)) ≡ Some f
+split_fails cs e at s v method None m x y f is p q fails = rw (is, ← p, ← q) (fails_behind (expr_tests cs (tree_of x)) (expr_tests cs (tree_of y)) _ ∙ rw fails refl)
+split_fails cs e at s v method (Some b) m x y f is p q fails = rw (is, ← p, ← q) (fails_behind (expr_tests cs (tree_of x)) (expr_tests cs (tree_of y)) _ ∙ rw fails refl)

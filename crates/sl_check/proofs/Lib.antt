@@ -1,0 +1,8 @@
+pub mod Finding
+pub mod Failing
+pub mod Counting
+pub mod Walking
+pub mod Within
+mod TestLists
+mod NodeLaws
+mod Typed

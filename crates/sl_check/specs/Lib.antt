@@ -1,0 +1,4 @@
+pub mod Judging
+pub mod Known
+pub mod Nodes
+pub mod HasType

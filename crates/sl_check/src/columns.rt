@@ -1,0 +1,116 @@
+//! The columns of earlier stages, and the types of expressions over them.
+
+ghost use Rattle.std.specs.Prelude.{◌≡◌, ◌≤◌, find, option_map, length, ◌++◌};
+ghost use Rattle.std.specs.List.{list_any};
+ghost use Rattle.sl_stages.specs.Typing.{is_named, type_or_one, expr_tests, type_of};
+ghost use Rattle.sl_stages.specs.Trees.{tree_of};
+ghost use Rattle.sl_check.specs.Judging.{Judges};
+ghost use Rattle.sl_check.specs.Known.{columns, name_tests};
+
+use crate::nodes::{grow_type, pair_type, seats, split_from_type, split_type, sum_type, votes};
+use sl_stages::{CheckFault, ColumnType, Expr, Shape, Stage, Word};
+
+/// The stages before some place of a book, and what the column of each has.
+#[derive(Clone, Copy)]
+pub struct Columns<'a> {
+    pub stages: &'a [Stage],
+    pub types: &'a [ColumnType],
+    ghost paired: { length stages.now ≤ length types.now },
+}
+
+impl<'a> Columns<'a> {
+    /// What the column of the stage of that name has.
+    pub fn find(&self, name: &Word) -> Option<ColumnType>
+        ensures { let known = columns self.now.stages.now self.now.types.now
+            in result ≡ option_map (λ c. c.type) (find (is_named name.now) known) }
+    {
+        for (i, stage) in self.stages.iter().enumerate() {
+            if name.as_bytes() == stage.name.as_bytes() {
+                return Some(self.types[i]);
+            }
+        }
+        None
+    }
+
+    /// Whether a stage has that name.
+    #[tactic(auto, using(crate::proofs::Finding::is_found))]
+    pub fn has(&self, name: &Word) -> bool
+        ensures { let known = columns self.now.stages.now self.now.types.now
+            in result ≡ list_any (is_named name.now) known }
+    {
+        self.find(name).is_some()
+    }
+
+    /// The type of a stage's name at that offset.
+    #[tactic(auto, using(crate::proofs::Finding::judges_name))]
+    pub fn name_type(&self, at: usize, name: &Word) -> Result<ColumnType, CheckFault>
+        ensures { let known = columns self.now.stages.now self.now.types.now
+            in Judges result (name_tests known at name.now) (type_or_one (find (is_named name.now) known)) }
+    {
+        self.find(name).ok_or(CheckFault::StageUnknown(at))
+    }
+
+    /// The types of two expressions.
+    #[cycle(expr)]
+    #[tactic(auto, using(crate::proofs::Failing::fails_in_row, crate::proofs::Failing::fails_behind))]
+    fn both(&self, left: &Expr, right: &Expr) -> Result<(ColumnType, ColumnType), CheckFault>
+        ensures { let known = columns self.now.stages.now self.now.types.now
+            in let l = tree_of left.now
+            in let r = tree_of right.now
+            in Judges result (expr_tests known l ++ expr_tests known r) (type_of known l, type_of known r) }
+    {
+        Ok((self.expr_type(left)?, self.expr_type(right)?))
+    }
+
+    /// The type of an expression.
+    #[cycle(expr)]
+    #[tactic(auto, using(crate::proofs::Failing::fails_in_row, crate::proofs::Failing::fails_behind))]
+    pub fn expr_type(&self, expr: &Expr) -> Result<ColumnType, CheckFault>
+        ensures { let known = columns self.now.stages.now self.now.types.now
+            in Judges result (expr_tests known (tree_of expr.now)) (type_of known (tree_of expr.now)) }
+    {
+        match expr {
+            Expr::House { .. } => Ok(seats(Shape::One)),
+            Expr::Counted { .. } => Ok(votes(Shape::List)),
+            Expr::Winners { .. } => Ok(seats(Shape::List)),
+            Expr::Outside { .. } | Expr::Independents { .. } => Ok(seats(Shape::Land)),
+            Expr::Population { .. } => Ok(votes(Shape::Land)),
+            Expr::Name { at, name } => self.name_type(*at, name),
+            Expr::Sum { at, of, over } => sum_type(*at, self.expr_type(of)?, *over),
+            Expr::Larger { at, left, right } | Expr::Less { at, left, right } => {
+                let (left, right) = self.both(left, right)?;
+                pair_type(*at, left, right)
+            }
+            Expr::Split {
+                at,
+                seats,
+                votes,
+                method,
+                minima,
+                majority,
+            } => {
+                let (of, by) = self.both(seats, votes)?;
+                match minima {
+                    None => split_type(*at, of, by, *method, *majority),
+                    Some(minima) => {
+                        let minima = self.expr_type(minima)?;
+                        split_from_type(*at, of, by, minima, *method, *majority)
+                    }
+                }
+            }
+            Expr::Grow {
+                at,
+                seats,
+                votes,
+                method,
+                minima,
+                cap,
+                majority,
+            } => {
+                let (of, by) = self.both(seats, votes)?;
+                let minima = self.expr_type(minima)?;
+                grow_type(*at, of, by, minima, *method, *cap, *majority)
+            }
+        }
+    }
+}

@@ -1,0 +1,47 @@
+//! How many splits and growths an expression has.
+
+ghost use Rattle.std.specs.Prelude.{◌≡◌, ◌≤◌};
+ghost use Rattle.sl_stages.specs.Trees.{tree_of};
+ghost use Rattle.sl_stages.specs.Limits.{parts_of};
+ghost use Rattle.sl_stages.specs.Typing.{splits_in};
+
+use sl_stages::{Expr, MAX_PARTS};
+
+/// The number of splits and growths in an expression.
+#[tactic(auto, using(crate::proofs::Counting::few_splits))]
+pub fn splits_in(expr: &Expr) -> u32
+    requires { parts_of (tree_of expr.now) ≤ MAX_PARTS }
+    ensures { result ≡ splits_in (tree_of expr.now) }
+{
+    match expr {
+        Expr::House { .. }
+        | Expr::Counted { .. }
+        | Expr::Winners { .. }
+        | Expr::Outside { .. }
+        | Expr::Independents { .. }
+        | Expr::Population { .. }
+        | Expr::Name { .. } => 0,
+        Expr::Sum { of, .. } => splits_in(of),
+        Expr::Larger { left, right, .. } | Expr::Less { left, right, .. } => {
+            splits_in(left) + splits_in(right)
+        }
+        Expr::Split {
+            seats,
+            votes,
+            minima,
+            ..
+        } => {
+            let minima = match minima {
+                None => 0,
+                Some(minima) => splits_in(minima),
+            };
+            1 + splits_in(seats) + splits_in(votes) + minima
+        }
+        Expr::Grow {
+            seats,
+            votes,
+            minima,
+            ..
+        } => 1 + splits_in(seats) + splits_in(votes) + splits_in(minima),
+    }
+}

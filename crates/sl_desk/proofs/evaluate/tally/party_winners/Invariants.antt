@@ -1,0 +1,7 @@
+use Rattle.sl_stages.specs.Election.{parties_of}
+use Rattle.sl_stages.specs.Facts.{is_of}
+use Rattle.sl_desk.proofs.Counting.{Counts}
+use Rattle.sl_desk.proofs.evaluate.tally.party_winners.Given as goal
+
+abbrev pub invariant-loop-number : goal.invariant-loop-number
+invariant-loop-number l = Counts is_of l.returns.wins (parties_of l.returns) l.number l.column.items

@@ -1,0 +1,14 @@
+use Rattle.sl_desk.proofs.OneTable.{one_table}
+use Rattle.sl_desk.proofs.OneOutput.{one_output}
+use Rattle.sl_desk.proofs.laws.inputs_have_one_output.Goals as goal
+
+pub returns : goal.returns
+returns c = one_output (record {
+  one_list = c.one_list.ensures;
+  one_lex_fault = c.one_fault.ensures;
+  tokens_or_fault = c.tokens_or_fault.ensures;
+  one_tree = c.one_tree.ensures;
+  one_parse_fault = c.one_fault-2.ensures;
+  tree_or_fault = c.no_fault_of_a_book.ensures;
+  one_table = one_table;
+})

@@ -1,0 +1,13 @@
+pub mod Statuses
+pub mod Failures
+pub mod Inputs
+pub mod Refusals
+pub mod Output
+pub mod Judging
+pub mod Calls
+pub mod Adapters
+pub mod Laws
+pub mod Standings
+pub mod Shapes
+pub mod Places
+pub mod StageColumns

@@ -1,0 +1,21 @@
+//! The workbench: from readers of bytes to a writer of bytes.
+#![tactic(auto)]
+
+mod book;
+mod calls;
+mod evaluate;
+mod input;
+mod judged;
+pub mod laws;
+mod limits;
+mod refusal;
+mod returns;
+mod sink;
+mod source;
+mod status;
+
+pub use calls::count;
+pub use limits::{MAX_BOOK_BYTES, MAX_RETURNS_BYTES};
+pub use sink::{Sink, ToWrite};
+pub use source::{BookSource, Failed, FromRead, Source};
+pub use status::{DeskError, Input, Status};

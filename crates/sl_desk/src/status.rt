@@ -1,0 +1,59 @@
+//! How a call of the desk ends.
+
+ghost use Rattle.std.specs.Prelude.{◌≡◌};
+ghost use Rattle.sl_desk.specs.declared.status.DeskError.TheVariants.{NoMemory as OutOfMemory};
+
+use sl_ratio::NoMemory;
+use thiserror::Error;
+
+/// What was written: a table, a refusal, a legal fault, or that the steps ran out.
+#[derive(Clone, Copy, Debug, PartialEq, Eq)]
+pub enum Status {
+    Done,
+    Refused,
+    Legal,
+    Budget,
+}
+
+impl Status {
+    ghost use Rattle.sl_desk.specs.Statuses.{status_number};
+
+    /// The exit status of the program: 0, 2, 3 or 4.
+    pub fn number(self) -> u8
+        ensures { result ≡ status_number self }
+    {
+        match self {
+            Status::Done => 0,
+            Status::Refused => 2,
+            Status::Legal => 3,
+            Status::Budget => 4,
+        }
+    }
+}
+
+/// Something that a call reads.
+#[derive(Clone, Copy, Debug, PartialEq, Eq)]
+pub enum Input {
+    Book,
+    Returns,
+    Code,
+}
+
+/// Why a call did not come to its end.
+#[derive(Clone, Copy, Debug, PartialEq, Eq, Error)]
+pub enum DeskError {
+    #[error("read fault")]
+    Read(Input),
+    #[error("write fault")]
+    Write,
+    #[error("out of memory")]
+    NoMemory,
+}
+
+impl From<NoMemory> for DeskError {
+    ghost from_gives = { λ _ e. e ≡ OutOfMemory };
+
+    fn from(_e: NoMemory) -> DeskError {
+        DeskError::NoMemory
+    }
+}

@@ -1,0 +1,6 @@
+pub mod Spans
+pub mod Grammar
+pub mod Faults
+pub mod Reading
+pub mod Views
+pub mod Parsing

@@ -1,0 +1,283 @@
+//! Reading expressions. `levels` and `parts` count the levels and the expressions that the stage still has room for, and
+//! what is left of the parts is handed back.
+
+ghost use Rattle.std.specs.Prelude.{◌≡◌, drop};
+ghost use Rattle.sl_stages.specs.Trees.{tree_of, boxed_tree};
+ghost use Rattle.sl_parse.specs.Faults.{begins_expr};
+ghost use Rattle.sl_parse.specs.Reading.{Gives, read_sum, read_two, read_larger, read_less, read_division, read_minima, read_split, read_grow, read_node, read_expr};
+
+use crate::fault::{Cause, Stop};
+use crate::token::Parser;
+use sl_lex::{Keyword, Kind, Mark};
+use sl_ratio::Method;
+use sl_stages::Expr;
+
+/// What was read, the parts that are left, and the token behind it.
+type Read<T> = Result<(T, u32, usize), Stop>;
+
+/// What is given out, by which votes and by which method.
+#[derive(Drop)]
+pub(crate) struct Division {
+    pub seats: Expr,
+    pub votes: Expr,
+    pub method: Method,
+}
+
+/// Whether an expression begins with such a token.
+fn begins_expr(kind: Kind) -> bool
+    ensures { result ≡ begins_expr kind }
+{
+    matches!(
+        kind,
+        Kind::Name
+            | Kind::Keyword(
+                Keyword::House
+                    | Keyword::Counted
+                    | Keyword::Winners
+                    | Keyword::Outside
+                    | Keyword::Independents
+                    | Keyword::Population
+                    | Keyword::Sum
+                    | Keyword::Larger
+                    | Keyword::Less
+                    | Keyword::Split
+                    | Keyword::Grow
+            )
+    )
+}
+
+impl<'a> Parser<'a> {
+    ghost use Rattle.sl_parse.specs.Views.{division_tree};
+
+    #[cycle(expr)]
+    #[tactic(auto, unfolding(crate::specs::Reading::read_expr, crate::specs::Reading::no_room))]
+    pub fn expr(&self, levels: u32, parts: u32, at: usize) -> Read<Expr>
+        ensures { let all = self.now.tokens.now in
+            Gives all (λ x. (tree_of x.0, x.1, drop x.2 all)) result
+            (read_expr self.now.text.now levels parts (drop at all)) }
+    {
+        if levels > 0 && parts > 0 {
+            return self.node(levels - 1, parts - 1, at);
+        }
+        match self.peek(at) {
+            Some(token) if begins_expr(token.kind) => Err(Stop::At(Cause::TooDeep, at)),
+            _ => Err(Stop::At(Cause::Expected, at)),
+        }
+    }
+
+    #[cycle(expr)]
+    #[tactic(auto, unfolding(crate::specs::Reading::read_node, crate::specs::Reading::read_node_at))]
+    fn node(&self, levels: u32, parts: u32, at: usize) -> Read<Expr>
+        ensures { let all = self.now.tokens.now in
+            let text = self.now.text.now in
+            Gives all (λ x. (tree_of x.0, x.1, drop x.2 all)) result
+            (read_node text (read_expr text levels) parts (drop at all)) }
+    {
+        let Some(token) = self.peek(at) else {
+            return Err(Stop::At(Cause::Expected, at));
+        };
+        let start = token.start;
+        match token.kind {
+            Kind::Keyword(Keyword::House) => Ok((Expr::House { at: start }, parts, at + 1)),
+            Kind::Keyword(Keyword::Counted) => Ok((Expr::Counted { at: start }, parts, at + 1)),
+            Kind::Keyword(Keyword::Winners) => Ok((Expr::Winners { at: start }, parts, at + 1)),
+            Kind::Keyword(Keyword::Outside) => Ok((Expr::Outside { at: start }, parts, at + 1)),
+            Kind::Keyword(Keyword::Independents) => {
+                Ok((Expr::Independents { at: start }, parts, at + 1))
+            }
+            Kind::Keyword(Keyword::Population) => {
+                Ok((Expr::Population { at: start }, parts, at + 1))
+            }
+            Kind::Name => {
+                let ((name, at_name), at) = self.name(at)?;
+                Ok((Expr::Name { at: at_name, name }, parts, at))
+            }
+            Kind::Keyword(Keyword::Sum) => self.sum(levels, parts, start, at + 1),
+            Kind::Keyword(Keyword::Larger) => self.larger(levels, parts, start, at + 1),
+            Kind::Keyword(Keyword::Less) => self.less(levels, parts, start, at + 1),
+            Kind::Keyword(Keyword::Split) => self.split(levels, parts, start, at + 1),
+            Kind::Keyword(Keyword::Grow) => self.grow(levels, parts, start, at + 1),
+            _ => Err(Stop::At(Cause::Expected, at)),
+        }
+    }
+
+    #[cycle(expr)]
+    #[tactic(auto, unfolding(crate::specs::Reading::read_sum))]
+    fn sum(&self, levels: u32, parts: u32, start: usize, at: usize) -> Read<Expr>
+        ensures { let all = self.now.tokens.now in
+            Gives all (λ x. (tree_of x.0, x.1, drop x.2 all)) result
+            (read_sum (read_expr self.now.text.now levels) start parts (drop at all)) }
+    {
+        let at = self.mark(Mark::Open, at)?;
+        let (of, parts, at) = self.expr(levels, parts, at)?;
+        let at = self.mark(Mark::Comma, at)?;
+        let (over, at) = self.axis(at)?;
+        let at = self.mark(Mark::Close, at)?;
+        let of = Box::new(self.alloc, of)?;
+        Ok((
+            Expr::Sum {
+                at: start,
+                of,
+                over,
+            },
+            parts,
+            at,
+        ))
+    }
+
+    /// Two arguments, up to the end of the second.
+    #[cycle(expr)]
+    #[tactic(auto, unfolding(crate::specs::Reading::read_two))]
+    fn two(&self, levels: u32, parts: u32, at: usize) -> Read<(Expr, Expr)>
+        ensures { let all = self.now.tokens.now in
+            Gives all (λ x. ((tree_of x.0.0, tree_of x.0.1), x.1, drop x.2 all)) result
+            (read_two (read_expr self.now.text.now levels) parts (drop at all)) }
+    {
+        let at = self.mark(Mark::Open, at)?;
+        let (left, parts, at) = self.expr(levels, parts, at)?;
+        let at = self.mark(Mark::Comma, at)?;
+        let (right, parts, at) = self.expr(levels, parts, at)?;
+        Ok(((left, right), parts, at))
+    }
+
+    #[cycle(expr)]
+    #[tactic(auto, unfolding(crate::specs::Reading::read_larger))]
+    fn larger(&self, levels: u32, parts: u32, start: usize, at: usize) -> Read<Expr>
+        ensures { let all = self.now.tokens.now in
+            Gives all (λ x. (tree_of x.0, x.1, drop x.2 all)) result
+            (read_larger (read_expr self.now.text.now levels) start parts (drop at all)) }
+    {
+        let ((left, right), parts, at) = self.two(levels, parts, at)?;
+        let at = self.mark(Mark::Close, at)?;
+        let left = Box::new(self.alloc, left)?;
+        let right = Box::new(self.alloc, right)?;
+        Ok((
+            Expr::Larger {
+                at: start,
+                left,
+                right,
+            },
+            parts,
+            at,
+        ))
+    }
+
+    #[cycle(expr)]
+    #[tactic(auto, unfolding(crate::specs::Reading::read_less))]
+    fn less(&self, levels: u32, parts: u32, start: usize, at: usize) -> Read<Expr>
+        ensures { let all = self.now.tokens.now in
+            Gives all (λ x. (tree_of x.0, x.1, drop x.2 all)) result
+            (read_less (read_expr self.now.text.now levels) start parts (drop at all)) }
+    {
+        let ((left, right), parts, at) = self.two(levels, parts, at)?;
+        let at = self.mark(Mark::Close, at)?;
+        let left = Box::new(self.alloc, left)?;
+        let right = Box::new(self.alloc, right)?;
+        Ok((
+            Expr::Less {
+                at: start,
+                left,
+                right,
+            },
+            parts,
+            at,
+        ))
+    }
+
+    #[cycle(expr)]
+    #[tactic(auto, unfolding(crate::specs::Reading::read_division))]
+    fn division(&self, levels: u32, parts: u32, at: usize) -> Read<Division>
+        ensures { let all = self.now.tokens.now in
+            Gives all (λ x. (division_tree x.0, x.1, drop x.2 all)) result
+            (read_division (read_expr self.now.text.now levels) parts (drop at all)) }
+    {
+        let ((seats, votes), parts, at) = self.two(levels, parts, at)?;
+        let at = self.mark(Mark::Comma, at)?;
+        let (method, at) = self.method(at)?;
+        Ok((
+            Division {
+                seats,
+                votes,
+                method,
+            },
+            parts,
+            at,
+        ))
+    }
+
+    /// The minima of a split, if they are there.
+    #[cycle(expr)]
+    #[tactic(auto, unfolding(crate::specs::Reading::read_minima))]
+    fn minima(&self, levels: u32, parts: u32, at: usize) -> Read<Option<Box<Expr>>>
+        ensures { let all = self.now.tokens.now in
+            Gives all (λ x. (boxed_tree x.0, x.1, drop x.2 all)) result
+            (read_minima (read_expr self.now.text.now levels) parts (drop at all)) }
+    {
+        if !self.is_clause(Keyword::Atleast, at) {
+            return Ok((None, parts, at));
+        }
+        let at = self.mark(Mark::Comma, at)?;
+        let at = self.keyword(Keyword::Atleast, at)?;
+        let (minima, parts, at) = self.expr(levels, parts, at)?;
+        Ok((Some(Box::new(self.alloc, minima)?), parts, at))
+    }
+
+    #[cycle(expr)]
+    #[tactic(auto, unfolding(crate::specs::Reading::read_split))]
+    fn split(&self, levels: u32, parts: u32, start: usize, at: usize) -> Read<Expr>
+        ensures { let all = self.now.tokens.now in
+            Gives all (λ x. (tree_of x.0, x.1, drop x.2 all)) result
+            (read_split (read_expr self.now.text.now levels) start parts (drop at all)) }
+    {
+        let (division, parts, at) = self.division(levels, parts, at)?;
+        let (minima, parts, at) = self.minima(levels, parts, at)?;
+        let (majority, at) = self.majority(at)?;
+        let at = self.mark(Mark::Close, at)?;
+        let seats = Box::new(self.alloc, division.seats)?;
+        let votes = Box::new(self.alloc, division.votes)?;
+        Ok((
+            Expr::Split {
+                at: start,
+                seats,
+                votes,
+                method: division.method,
+                minima,
+                majority,
+            },
+            parts,
+            at,
+        ))
+    }
+
+    #[cycle(expr)]
+    #[tactic(auto, unfolding(crate::specs::Reading::read_grow))]
+    fn grow(&self, levels: u32, parts: u32, start: usize, at: usize) -> Read<Expr>
+        ensures { let all = self.now.tokens.now in
+            Gives all (λ x. (tree_of x.0, x.1, drop x.2 all)) result
+            (read_grow (read_expr self.now.text.now levels) start parts (drop at all)) }
+    {
+        let (division, parts, at) = self.division(levels, parts, at)?;
+        let at = self.mark(Mark::Comma, at)?;
+        let (minima, parts, at) = self.expr(levels, parts, at)?;
+        let at = self.mark(Mark::Comma, at)?;
+        let (cap, at) = self.number(at)?;
+        let (majority, at) = self.refusal(at)?;
+        let at = self.mark(Mark::Close, at)?;
+        let seats = Box::new(self.alloc, division.seats)?;
+        let votes = Box::new(self.alloc, division.votes)?;
+        let minima = Box::new(self.alloc, minima)?;
+        Ok((
+            Expr::Grow {
+                at: start,
+                seats,
+                votes,
+                method: division.method,
+                minima,
+                cap,
+                majority,
+            },
+            parts,
+            at,
+        ))
+    }
+}

@@ -1,0 +1,12 @@
+pub mod CellLemmas
+pub mod TestLemmas
+pub mod NameTests
+pub mod Joins
+pub mod Places
+pub mod Rows
+pub mod Growing
+pub mod Steps
+pub mod Feeding
+pub mod AllRecords
+pub mod Prefixes
+pub mod Reading

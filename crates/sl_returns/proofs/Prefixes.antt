@@ -1,0 +1,47 @@
+-- A refused record decides what all the records give.
+use Rattle.std.proofs.Common.{◌≡◌, Bool, true, false, List, [], ◌∷◌, ◌++◌, Option, Some, None, Result, Ok, Err, IfOk, IfErr, ◌⊎◌, inl, inr, if◌then◌else◌, sym, ap, ◌∙◌}
+use Rattle.std.specs.Option.{option_or}
+use Rattle.std.proofs.lemmas.Option.{none-some}
+use Rattle.sl_stages.specs.Election.{Election}
+use Rattle.sl_returns.specs.declared.fault.FaultKind.TheVariants as fault
+use Rattle.sl_returns.specs.declared.fault.ReturnsFault.{ReturnsFault}
+use Rattle.sl_returns.specs.Faults.{fault_at, row_behind, no_memory}
+use Rattle.sl_returns.specs.Cells.{Record, is_header}
+use Rattle.sl_returns.specs.Records.{election_of_records}
+use Rattle.sl_returns.specs.Building.{RefusesLast}
+use Rattle.sl_returns.specs.Returns.{fault_behind, first_fault, refusal_of, lack_of, behind_header, returns_of, unless}
+
+-- a fault among the first records is the first of all
+first_fault_stays : (before rest more : List Record) (f : ReturnsFault) → first_fault before rest ≡ Some f → first_fault before (rest ++ more) ≡ Some f
+first_fault_stays before [] more f h = absurd (none-some f h)
+first_fault_stays before (r ∷ rest) more f h = go (fault_behind before r) h (first_fault_stays (before ++ r ∷ []) rest more f)
+  where
+    go : (o : Option ReturnsFault) → option_or o (first_fault (before ++ r ∷ []) rest) ≡ Some f → (first_fault (before ++ r ∷ []) rest ≡ Some f → first_fault (before ++ r ∷ []) (rest ++ more) ≡ Some f)
+        → option_or o (first_fault (before ++ r ∷ []) (rest ++ more)) ≡ Some f
+    go None h later = later h
+    go (Some x) h later = h
+
+refusal_stays : (rs more : List Record) (f : ReturnsFault) → refusal_of rs ≡ Some f → refusal_of (rs ++ more) ≡ Some f
+refusal_stays [] more f h = absurd (none-some f h)
+refusal_stays (r ∷ rest) more f h = go (is_header r) h
+  where
+    go : (b : Bool) → (if b then first_fault [] rest else Some (fault_at (row_behind 0) fault.Header)) ≡ Some f → (if b then first_fault [] (rest ++ more) else Some (fault_at (row_behind 0) fault.Header)) ≡ Some f
+    go true h = first_fault_stays [] rest more f h
+    go false h = h
+
+-- what records give whose beginning is refused
+pub refused_for_good : (rs more : List Record) (f : ReturnsFault) → refusal_of rs ≡ Some f → returns_of (rs ++ more) ≡ Err f
+refused_for_good rs more f h = ap (λ o. unless (option_or o (lack_of (rs ++ more))) (election_of_records (behind_header (rs ++ more)))) (refusal_stays rs more f h)
+
+-- a fault of the last of some records, which others may follow, or want of memory
+pub answers : (rs more all : List Record) (f : ReturnsFault) → all ≡ rs ++ more → RefusesLast rs f → (f ≡ no_memory) ⊎ (returns_of all ≡ Err f)
+answers rs more all f e h = elim h [ inl refused ↦ inr (ap returns_of e ∙ refused_for_good rs more f refused) | inr wants ↦ inl wants.1 ]
+
+-- what an answer equal to the returns says of each outcome
+pub says_ok : (answer given : Result Election ReturnsFault) → answer ≡ given → IfOk answer (λ e. given ≡ Ok e)
+says_ok (Ok e) given h = sym h
+says_ok (Err f) given h = tt
+
+pub says_err : (answer given : Result Election ReturnsFault) → answer ≡ given → IfErr answer (λ f. (f ≡ no_memory) ⊎ (given ≡ Err f))
+says_err (Ok e) given h = tt
+says_err (Err f) given h = inr (sym h)

@@ -1,0 +1,47 @@
+-- The returns that a list of records gives, or the first fault (docs/returns.md, section 5).
+use Rattle.std.specs.Prelude.{◌+◌, ℕ, List, [], ◌∷◌, ◌++◌, length, Option, Some, None, option_map, Result, Ok, Err, nat_eq, if◌then◌else◌}
+use Rattle.std.specs.Option.{option_or}
+use Rattle.csv.specs.Reading.{default_config, records, strip_bom}
+use Rattle.sl_stages.specs.Election.{Election}
+use Rattle.sl_returns.specs.declared.fault.ReturnsFault.{ReturnsFault}
+use Rattle.sl_returns.specs.declared.fault.FaultKind.TheVariants as fault
+use Rattle.sl_returns.specs.Faults.{fault_at, row_behind}
+use Rattle.sl_returns.specs.Cells.{Record, is_header}
+use Rattle.sl_returns.specs.Tests.{first_failing, record_tests}
+use Rattle.sl_returns.specs.Records.{land_names, election_of_records}
+
+-- what is wrong with a record behind the header and behind those records
+abbrev pub fault_behind : List Record → Record → Option ReturnsFault
+fault_behind before r = option_map (fault_at (row_behind (length before + 1))) (first_failing (record_tests (election_of_records before) r))
+
+-- the fault of the first record that fails its tests, of records behind the header and behind those before them
+abbrev pub first_fault : List Record → List Record → Option ReturnsFault
+first_fault before [] = None
+first_fault before (r ∷ rest) = option_or (fault_behind before r) (first_fault (before ++ r ∷ []) rest)
+
+-- the first record that is refused: the first of all, if it is not the header, or one that fails its tests
+abbrev pub refusal_of : List Record → Option ReturnsFault
+refusal_of [] = None
+refusal_of (r ∷ rest) = if is_header r then first_fault [] rest else Some (fault_at (row_behind 0) fault.Header)
+
+-- what is missing at the end of records none of which is refused: a header, or a Land
+abbrev pub lack_of : List Record → Option ReturnsFault
+lack_of [] = Some (fault_at (row_behind 0) fault.Header)
+lack_of (r ∷ rest) = if nat_eq (length (land_names rest)) 0 then Some (fault_at (row_behind (length rest)) fault.NoLand) else None
+
+-- the records behind the header
+abbrev pub behind_header : List Record → List Record
+behind_header [] = []
+behind_header (r ∷ rest) = rest
+
+abbrev pub unless : Option ReturnsFault → Election → Result Election ReturnsFault
+unless None e = Ok e
+unless (Some f) e = Err f
+
+-- the returns, or the first fault
+abbrev pub returns_of : List Record → Result Election ReturnsFault
+returns_of rs = unless (option_or (refusal_of rs) (lack_of rs)) (election_of_records (behind_header rs))
+
+-- the records of a text, as the `csv` crate defines them
+abbrev pub records_in : List ℕ → List Record
+records_in bytes = records default_config (strip_bom bytes)

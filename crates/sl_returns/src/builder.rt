@@ -1,0 +1,113 @@
+//! Returns, built record by record.
+
+ghost use Rattle.std.specs.Prelude.{◌≡◌, ◌++◌, ◌∷◌, [], List, None, Some, OnOk, IfErr, IfSome, Err};
+ghost use Rattle.csv.specs.Records.{fields_of};
+ghost use Rattle.sl_returns.specs.Cells.{Record};
+ghost use Rattle.sl_returns.specs.Joining.{TakesRecord, RefusesRecord};
+
+use crate::cells::is_header;
+use crate::fault::{FaultKind, ReturnsFault};
+use crate::join::join;
+use csv::ByteRecord;
+use sl_stages::Returns;
+use std::alloc::Global;
+use std::marker::Model;
+
+/// Returns that are being read, record by record. The first record is the header.
+#[derive(Drop)]
+pub struct ReturnsBuilder {
+    returns: Returns,
+    // the row of the last record
+    row: u32,
+    fault: Option<ReturnsFault>,
+}
+
+impl Model for ReturnsBuilder {
+    ghost use Rattle.sl_returns.specs.Building.{Building};
+
+    ghost Value = { Building };
+
+    ghost view = { λ b. record { election = b.returns; row = b.row; fault = b.fault } };
+}
+
+impl ReturnsBuilder {
+    ghost use Rattle.sl_returns.specs.Building.{Building, StandsFor, RefusesLast};
+    ghost use Rattle.sl_returns.specs.Returns.{returns_of};
+
+    /// A builder that has taken no record. Takes no memory.
+    pub fn new(alloc: Global) -> ReturnsBuilder
+        ensures { StandsFor result [] }
+    {
+        ReturnsBuilder {
+            returns: Returns::empty(alloc),
+            row: 0,
+            fault: None,
+        }
+    }
+
+    /// Takes the next record.
+    ///
+    /// # Errors
+    ///
+    /// The record is no header where it must be, or the first test that it fails; or want of memory. The builder has
+    /// then failed: it answers the same from then on.
+    pub fn feed(&mut self, fields: &ByteRecord) -> Result<(), ReturnsFault>
+        ensures taken { (rs : List Record) → StandsFor self.old rs → OnOk result (StandsFor self.new (rs ++ fields_of fields.now ∷ [])) }
+        ensures refused { (rs : List Record) → StandsFor self.old rs → IfErr result (RefusesLast (rs ++ fields_of fields.now ∷ [])) }
+
+        // after a refusal it has failed, and a builder that has failed refuses with the same fault
+        ensures fails { IfErr result (λ f. self.new.fault ≡ Some f) }
+        ensures failed { IfSome self.old.fault (λ f. result ≡ Err f) }
+    {
+        if let Some(fault) = self.fault {
+            return Err(fault);
+        }
+        let row = self.row.saturating_add(1);
+        match take(&mut self.returns, self.row == 0, fields) {
+            Ok(()) => {
+                self.row = row;
+                Ok(())
+            }
+            Err(kind) => {
+                let fault = ReturnsFault::at(row, kind);
+                self.fault = Some(fault);
+                Err(fault)
+            }
+        }
+    }
+
+    /// The returns that the records give.
+    ///
+    /// # Errors
+    ///
+    /// The fault with which the builder has failed; or that there is no header, or no Land. Takes no memory.
+    pub fn finish(self) -> Result<Returns, ReturnsFault>
+        ensures finished { (rs : List Record) → StandsFor self rs → result ≡ returns_of rs }
+        ensures failed { IfSome self.fault (λ f. result ≡ Err f) }
+    {
+        if let Some(fault) = self.fault {
+            return Err(fault);
+        }
+        if self.row == 0 {
+            return Err(ReturnsFault::at(1, FaultKind::Header));
+        }
+        if self.returns.lands() == 0 {
+            return Err(ReturnsFault::at(self.row, FaultKind::NoLand));
+        }
+        Ok(self.returns)
+    }
+}
+
+// Takes a record, of which the first must be the header.
+fn take(returns: &mut Returns, is_first: bool, fields: &ByteRecord) -> Result<(), FaultKind>
+    ensures taken { OnOk result (TakesRecord is_first returns.old returns.new (fields_of fields.now)) }
+    ensures refused { IfErr result (RefusesRecord is_first returns.old (fields_of fields.now)) }
+{
+    if !is_first {
+        join(returns, fields)
+    } else if is_header(fields) {
+        Ok(())
+    } else {
+        Err(FaultKind::Header)
+    }
+}

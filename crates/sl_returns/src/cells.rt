@@ -1,0 +1,157 @@
+//! The cells of a record, and the tests of each.
+
+ghost use Rattle.std.specs.Prelude.{◌≡◌, ◌≤◌, None, Some, true, IsTrue, IfOk, IfErr, OnOk, if◌then◌else◌};
+ghost use Rattle.std.specs.List.{list_all};
+ghost use Rattle.std.specs.Char.{is_ascii_digit};
+ghost use Rattle.csv.specs.Records.{fields_of};
+ghost use Rattle.sl_ratio.specs.Names.{is_name};
+ghost use Rattle.sl_returns.specs.Cells.{cell, is_blank, is_header, is_number, number_of};
+ghost use Rattle.sl_returns.specs.Tests.{Pass, FailBy, test, are_blank, new_tests, known_tests, known_or_none_tests, number_tests};
+
+use crate::fault::FaultKind;
+use csv::ByteRecord;
+use sl_ratio::spelling_fault;
+
+// How many cells a record has.
+pub(crate) const COLUMNS: usize = 6;
+
+// The columns, from 0.
+pub(crate) const KIND: usize = 0;
+
+pub(crate) const LAND: usize = 1;
+
+pub(crate) const PARTY: usize = 2;
+
+pub(crate) const A: usize = 3;
+
+pub(crate) const B: usize = 4;
+
+pub(crate) const C: usize = 5;
+
+// The greatest number of digits in a number.
+pub(crate) const MAX_DIGITS: usize = 12;
+
+// The cell of a column, which is empty where the record has no such column.
+pub(crate) fn cell(fields: &ByteRecord, column: usize) -> &[u8]
+    ensures { result.now ≡ cell (fields_of fields.now) column }
+{
+    match fields.get(column) {
+        Some(cell) => cell,
+        None => &[],
+    }
+}
+
+// Whether a record is the header.
+pub(crate) fn is_header(fields: &ByteRecord) -> bool
+    ensures { result ≡ is_header (fields_of fields.now) }
+{
+    fields.len() == COLUMNS
+        && cell(fields, KIND) == b"kind".as_slice()
+        && cell(fields, LAND) == b"land".as_slice()
+        && cell(fields, PARTY) == b"party".as_slice()
+        && cell(fields, A) == b"a".as_slice()
+        && cell(fields, B) == b"b".as_slice()
+        && cell(fields, C) == b"c".as_slice()
+}
+
+// Whether the cells of these columns are empty.
+pub(crate) fn are_blank(fields: &ByteRecord, columns: &[usize]) -> bool
+    ensures { result ≡ are_blank (fields_of fields.now) columns.now }
+{
+    columns
+        .iter()
+        .all(|column| cell(fields, *column).is_empty())
+}
+
+// A test, and the fault where it fails.
+#[tactic(auto, unfolding(crate::specs::Tests::test))]
+pub(crate) fn ensure(holds: bool, fault: FaultKind) -> Result<(), FaultKind>
+    ensures passed { OnOk result (Pass (test holds fault)) }
+    ensures held { OnOk result (holds ≡ true) }
+    ensures failed { IfErr result (FailBy (test holds fault)) }
+{
+    if holds { Ok(()) } else { Err(fault) }
+}
+
+// Whether a name is well spelled.
+fn is_name(name: &[u8]) -> bool
+    ensures { result ≡ is_name name.now }
+{
+    spelling_fault(name).is_none()
+}
+
+// The tests of a name that is to be new, by its number in a list of names, if it is there.
+#[tactic(auto, unfolding(crate::specs::Tests::test, crate::specs::Tests::new_tests))]
+pub(crate) fn new_name(name: &[u8], found: Option<usize>) -> Result<(), FaultKind>
+    ensures passed { OnOk result (Pass (new_tests name.now found)) }
+    ensures failed { IfErr result (FailBy (new_tests name.now found)) }
+{
+    ensure(is_name(name), FaultKind::Name)?;
+    ensure(found.is_none(), FaultKind::Twice)
+}
+
+// The number of a name that is to be known, by what was found of it, and its tests.
+#[tactic(auto, unfolding(crate::specs::Tests::test, crate::specs::Tests::known_tests))]
+pub(crate) fn known_name(name: &[u8], found: Option<usize>) -> Result<usize, FaultKind>
+    ensures passed { OnOk result (Pass (known_tests name.now found)) }
+    ensures number { IfOk result (λ number. found ≡ Some number) }
+    ensures failed { IfErr result (FailBy (known_tests name.now found)) }
+{
+    ensure(is_name(name), FaultKind::Name)?;
+    found.ok_or(FaultKind::Unknown)
+}
+
+// The same, where an empty cell stands for none.
+#[tactic(auto, unfolding(crate::specs::Tests::known_or_none_tests))]
+pub(crate) fn known_or_none(name: &[u8], found: Option<usize>) -> Result<Option<usize>, FaultKind>
+    ensures passed { OnOk result (Pass (known_or_none_tests name.now found)) }
+    ensures number { IfOk result (λ number. number ≡ (if is_blank name.now then None else found)) }
+    ensures failed { IfErr result (FailBy (known_or_none_tests name.now found)) }
+{
+    if name.is_empty() {
+        return Ok(None);
+    }
+    let number = known_name(name, found)?;
+    Ok(Some(number))
+}
+
+// Whether each byte is a digit.
+fn are_digits(bytes: &[u8]) -> bool
+    ensures { result ≡ list_all is_ascii_digit bytes.now }
+{
+    bytes.iter().all(|byte| byte.is_ascii_digit())
+}
+
+// Whether a cell is one to twelve digits.
+fn is_number(cell: &[u8]) -> bool
+    ensures { result ≡ is_number cell.now }
+{
+    !cell.is_empty() && cell.len() <= MAX_DIGITS && are_digits(cell)
+}
+
+// The number that digits spell.
+fn number_of(digits: &[u8]) -> u64
+    requires { IsTrue (is_number digits.now) }
+    ensures { result ≡ number_of digits.now }
+{
+    let mut number = 0;
+    for digit in digits {
+        number = number * 10 + u64::from(*digit - b'0');
+    }
+    number
+}
+
+// The number of a cell, from the least to the greatest.
+#[tactic(auto, unfolding(crate::specs::Tests::test, crate::specs::Tests::number_tests))]
+pub(crate) fn number(cell: &[u8], least: u32, greatest: u32) -> Result<u32, FaultKind>
+    ensures passed { IfOk result (λ n. Pass (number_tests cell.now least greatest) × (n ≡ number_of cell.now) × (least ≤ n) × (n ≤ greatest)) }
+    ensures failed { IfErr result (FailBy (number_tests cell.now least greatest)) }
+{
+    ensure(is_number(cell), FaultKind::Number)?;
+    let number = number_of(cell);
+    ensure(
+        u64::from(least) <= number && number <= u64::from(greatest),
+        FaultKind::Range,
+    )?;
+    Ok(number as u32)
+}

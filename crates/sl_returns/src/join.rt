@@ -1,0 +1,108 @@
+//! The records of each kind, tested and joined to the returns.
+
+ghost use Rattle.std.specs.Prelude.{◌≡◌, ◌<◌, IfOk, IfErr, OnOk, IsOk, Some};
+ghost use Rattle.csv.specs.Records.{fields_of};
+ghost use Rattle.sl_returns.specs.Tests.{Pass, Refuse, land_tests, party_tests, list_tests, win_tests, record_tests};
+ghost use Rattle.sl_returns.specs.Joining.{with_land_of, with_party_of, with_list_of, with_win_of, with_record};
+
+use crate::cells::{
+    A, B, C, COLUMNS, KIND, LAND, PARTY, are_blank, cell, ensure, known_name, known_or_none,
+    new_name, number,
+};
+use crate::fault::FaultKind;
+use crate::kind::Kind;
+use csv::ByteRecord;
+use sl_ratio::NoMemory;
+use sl_stages::{MAX_LANDS, MAX_PARTIES, MAX_VOTES, MAX_WINS, Returns};
+
+// What the returns answer to a record that passed its tests.
+fn kept(answer: Result<(), NoMemory>) -> Result<(), FaultKind>
+    ensures ok { OnOk result (IsOk answer) }
+    ensures err { IfErr result (λ k. k ≡ FaultKind.NoMemory) }
+{
+    answer.map_err(|_| FaultKind::NoMemory)
+}
+
+// Joins a Land.
+#[tactic(auto, using(crate::proofs::TestLemmas::passes, crate::proofs::TestLemmas::fails))]
+fn join_land(returns: &mut Returns, fields: &ByteRecord) -> Result<(), FaultKind>
+    ensures joined { OnOk result (Pass (land_tests returns.old (fields_of fields.now)) × (returns.new ≡ with_land_of returns.old (fields_of fields.now))) }
+    ensures refused { IfErr result (Refuse (land_tests returns.old (fields_of fields.now))) }
+{
+    ensure(are_blank(fields, &[PARTY, B, C]), FaultKind::Fields)?;
+    let name = cell(fields, LAND);
+    new_name(name, returns.find_land(name))?;
+    let population = number(cell(fields, A), 0, MAX_VOTES)?;
+    ensure(returns.lands() < MAX_LANDS, FaultKind::TooMany)?;
+    kept(returns.add_land(name, population))
+}
+
+// Joins a party.
+#[tactic(auto, using(crate::proofs::TestLemmas::passes))]
+fn join_party(returns: &mut Returns, fields: &ByteRecord) -> Result<(), FaultKind>
+    ensures joined { OnOk result (Pass (party_tests returns.old (fields_of fields.now)) × (returns.new ≡ with_party_of returns.old (fields_of fields.now))) }
+    ensures refused { IfErr result (Refuse (party_tests returns.old (fields_of fields.now))) }
+{
+    ensure(are_blank(fields, &[LAND, B, C]), FaultKind::Fields)?;
+    let name = cell(fields, PARTY);
+    new_name(name, returns.find_party(name))?;
+    let minority = number(cell(fields, A), 0, 1)?;
+    ensure(returns.parties() < MAX_PARTIES, FaultKind::TooMany)?;
+    kept(returns.add_party(name, minority == 1))
+}
+
+// Joins a list.
+#[tactic(auto, using(crate::proofs::TestLemmas::passes))]
+fn join_list(returns: &mut Returns, fields: &ByteRecord) -> Result<(), FaultKind>
+    ensures joined { OnOk result (Pass (list_tests returns.old (fields_of fields.now)) × (returns.new ≡ with_list_of returns.old (fields_of fields.now))) }
+    ensures refused { IfErr result (Refuse (list_tests returns.old (fields_of fields.now))) }
+{
+    ensure(are_blank(fields, &[C]), FaultKind::Fields)?;
+    let land_name = cell(fields, LAND);
+    let land = known_name(land_name, returns.find_land(land_name))?;
+    let party_name = cell(fields, PARTY);
+    let party = known_name(party_name, returns.find_party(party_name))?;
+    let valid = number(cell(fields, A), 0, MAX_VOTES)?;
+    let counted = number(cell(fields, B), 0, MAX_VOTES)?;
+    ensure(counted <= valid, FaultKind::Counted)?;
+    ensure(!returns.is_list(land, party), FaultKind::Twice)?;
+    kept(returns.add_list(land, party, valid, counted))
+}
+
+// Joins a winner.
+#[tactic(auto, using(crate::proofs::TestLemmas::passes))]
+fn join_win(returns: &mut Returns, fields: &ByteRecord) -> Result<(), FaultKind>
+    ensures joined { OnOk result (Pass (win_tests returns.old (fields_of fields.now)) × (returns.new ≡ with_win_of returns.old (fields_of fields.now))) }
+    ensures refused { IfErr result (Refuse (win_tests returns.old (fields_of fields.now))) }
+{
+    let land_name = cell(fields, LAND);
+    let land = known_name(land_name, returns.find_land(land_name))?;
+    let party_name = cell(fields, PARTY);
+    let party = known_or_none(party_name, returns.find_party(party_name))?;
+    let name = cell(fields, A);
+    new_name(name, returns.find_win(name))?;
+    let first = number(cell(fields, B), 1, MAX_VOTES)?;
+    let valid = number(cell(fields, C), 0, MAX_VOTES)?;
+    ensure(first <= valid, FaultKind::Range)?;
+    ensure(returns.wins() < MAX_WINS, FaultKind::TooMany)?;
+    kept(returns.add_win(land, party, name, first, valid))
+}
+
+/// Joins a record behind the header to the returns.
+///
+/// # Errors
+///
+/// The fault of the first test that the record fails; or, where it passes, want of memory.
+pub(crate) fn join(returns: &mut Returns, fields: &ByteRecord) -> Result<(), FaultKind>
+    ensures joined { OnOk result (Pass (record_tests returns.old (fields_of fields.now)) × (returns.new ≡ with_record returns.old (fields_of fields.now))) }
+    ensures refused { IfErr result (Refuse (record_tests returns.old (fields_of fields.now))) }
+{
+    ensure(fields.len() == COLUMNS, FaultKind::Fields)?;
+    match Kind::named(cell(fields, KIND)) {
+        Some(Kind::Land) => join_land(returns, fields),
+        Some(Kind::Party) => join_party(returns, fields),
+        Some(Kind::List) => join_list(returns, fields),
+        Some(Kind::Win) => join_win(returns, fields),
+        None => Err(FaultKind::Kind),
+    }
+}

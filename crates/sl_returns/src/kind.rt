@@ -1,0 +1,28 @@
+//! The kinds of records.
+
+ghost use Rattle.std.specs.Prelude.{◌≡◌};
+ghost use Rattle.sl_returns.specs.Kinds.{kind_named};
+
+// What a record tells, by the word in its first cell.
+#[derive(Clone, Copy, Debug, PartialEq, Eq)]
+pub(crate) enum Kind {
+    Land,
+    Party,
+    List,
+    Win,
+}
+
+impl Kind {
+    // The kind that a word names.
+    pub(crate) fn named(word: &[u8]) -> Option<Kind>
+        ensures { result ≡ kind_named word.now }
+    {
+        match word {
+            b"land" => Some(Kind::Land),
+            b"party" => Some(Kind::Party),
+            b"list" => Some(Kind::List),
+            b"win" => Some(Kind::Win),
+            _ => None,
+        }
+    }
+}

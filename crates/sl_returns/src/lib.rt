@@ -1,0 +1,16 @@
+//! The returns of an election, read from records of comma-separated cells.
+#![tactic(auto)]
+
+mod builder;
+mod cells;
+mod fault;
+mod join;
+mod kind;
+mod read;
+
+pub use builder::ReturnsBuilder;
+pub use fault::{FaultKind, ReturnsFault};
+pub use read::read_returns;
+
+#[cfg(test)]
+mod tests;

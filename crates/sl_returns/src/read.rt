@@ -1,0 +1,46 @@
+//! Returns from bytes.
+
+ghost use Rattle.std.specs.Prelude.{◌≡◌, ◌⊎◌, IfOk, IfErr, Ok, Err, true};
+ghost use Rattle.csv.specs.Reading.{error_kind, stops_reader};
+ghost use Rattle.sl_returns.specs.Faults.{no_memory};
+ghost use Rattle.sl_returns.specs.Returns.{records_in, returns_of};
+
+use crate::builder::ReturnsBuilder;
+use crate::fault::{FaultKind, ReturnsFault};
+use csv::{ErrorKind, ReaderBuilder};
+use sl_stages::Returns;
+use std::alloc::Global;
+
+/// The returns that the records of a text give.
+///
+/// # Errors
+///
+/// The first fault of the records; or want of memory.
+pub fn read_returns(alloc: Global, bytes: &[u8]) -> Result<Returns, ReturnsFault>
+    ensures ok { IfOk result (λ r. returns_of (records_in bytes.now) ≡ Ok r) }
+    ensures err { IfErr result (λ f. (f ≡ no_memory) ⊎ (returns_of (records_in bytes.now) ≡ Err f)) }
+{
+    let reader = ReaderBuilder::new()
+        .has_headers(false)
+        .flexible(true)
+        .from_reader(alloc, bytes);
+    let mut builder = ReturnsBuilder::new(alloc);
+    for fields in reader.into_byte_records() {
+        match fields {
+            Ok(fields) => builder.feed(&fields)?,
+            Err(error) => return Err(stopped(error)),
+        }
+    }
+    builder.finish()
+}
+
+// What it means that the reader of a text in memory stopped: it wanted memory, since such a text is always read.
+fn stopped(error: csv::Error) -> ReturnsFault
+    requires { stops_reader (error_kind error) ≡ true }
+    ensures { result ≡ no_memory }
+{
+    match error.into_kind() {
+        ErrorKind::OutOfMemory | ErrorKind::Io(_) => ReturnsFault::at(0, FaultKind::NoMemory),
+        _ => unreachable!(),
+    }
+}

@@ -1,0 +1,3 @@
+pub mod LineLoops
+pub mod ListOrder
+pub mod Winners

@@ -1,0 +1,111 @@
+//! Texts of lines, written word by word.
+
+ghost use Rattle.std.specs.Prelude.{◌≡◌, OnOk, OnErr};
+ghost use Rattle.std.specs.Fmt.{decimal};
+ghost use Rattle.sl_table.specs.Lines.{no_text, with_word, with_end};
+
+use sl_ratio::NoMemory;
+use std::alloc::Global;
+use std::marker::Model;
+
+/// A text that is written word by word. A line is words parted by one blank, with LF behind the last of them (docs/output.md, section 1).
+#[derive(Debug, Drop)]
+pub struct Text {
+    alloc: Global,
+    bytes: Vec<u8>,
+    // whether the last line has a word and no end yet
+    begun: bool,
+}
+
+impl Model for Text {
+    ghost use Rattle.sl_table.specs.Lines.{Draft};
+
+    ghost Value = { Draft };
+
+    ghost view = { λ t. record { bytes = t.bytes.items; begun = t.begun } };
+}
+
+impl Text {
+    /// A text without a byte. Takes no memory.
+    pub fn new(alloc: Global) -> Text
+        ensures { result ≡ no_text }
+    {
+        Text {
+            alloc,
+            bytes: Vec::new(alloc),
+            begun: false,
+        }
+    }
+
+    /// Adds a word to the line, behind a blank if it is not the line's first.
+    ///
+    /// # Errors
+    ///
+    /// Want of memory. The text is then unchanged.
+    pub fn word(&mut self, word: &[u8]) -> Result<(), NoMemory>
+        ensures added { OnOk result (self.new ≡ with_word self.old word.now) }
+        ensures unchanged { OnErr result (self.new ≡ self.old) }
+    {
+        let length = self.bytes.len();
+        if self.begun && self.bytes.push(b' ').is_err() {
+            return Err(NoMemory);
+        }
+        if self.bytes.extend_from_slice(word).is_err() {
+            self.bytes.truncate(length);
+            return Err(NoMemory);
+        }
+        self.begun = true;
+        Ok(())
+    }
+
+    /// Adds a number to the line, in plain decimal, as a word of its own.
+    ///
+    /// # Errors
+    ///
+    /// Want of memory. The text is then unchanged.
+    pub fn number(&mut self, number: u64) -> Result<(), NoMemory>
+        ensures added { OnOk result (self.new ≡ with_word self.old (decimal number)) }
+        ensures unchanged { OnErr result (self.new ≡ self.old) }
+    {
+        self.wide_number(u128::from(number))
+    }
+
+    /// Adds a number of up to 128 bits, as `number` does.
+    ///
+    /// # Errors
+    ///
+    /// Want of memory. The text is then unchanged.
+    pub fn wide_number(&mut self, number: u128) -> Result<(), NoMemory>
+        ensures added { OnOk result (self.new ≡ with_word self.old (decimal number)) }
+        ensures unchanged { OnErr result (self.new ≡ self.old) }
+    {
+        let Ok(digits) = number.to_string(self.alloc) else {
+            return Err(NoMemory);
+        };
+        self.word(digits.as_bytes())
+    }
+
+    /// Ends the line.
+    ///
+    /// # Errors
+    ///
+    /// Want of memory. The text is then unchanged.
+    pub fn end_line(&mut self) -> Result<(), NoMemory>
+        ensures ended { OnOk result (self.new ≡ with_end self.old) }
+        ensures unchanged { OnErr result (self.new ≡ self.old) }
+    {
+        if self.bytes.push(b'\n').is_err() {
+            return Err(NoMemory);
+        }
+        self.begun = false;
+        Ok(())
+    }
+
+    /// The bytes of the text.
+    pub fn into_bytes(self) -> Vec<u8>
+        ensures { result.items ≡ self.bytes }
+    {
+        let Text { bytes, .. } = self;
+        bytes
+    }
+}
