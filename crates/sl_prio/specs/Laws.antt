@@ -1,0 +1,47 @@
+-- The laws of the definitions, each of them the contract of a function of `laws`.
+use Rattle.std.specs.Prelude.{◌≡◌, ℕ, List, [], ◌∷◌, IsTrue, All, Contains, MatchOption, IsPermutation, slice_get}
+use Rattle.std.specs.List.Sorted.{IsSorted}
+use Rattle.std.specs.Ordering.{is_le, flip_args}
+use Rattle.sl_ratio.specs.declared.entry.Entry.{Entry}
+use Rattle.sl_ratio.specs.Entry.{entry_cmp}
+use Rattle.sl_prio.specs.Ranking.{ranked}
+use Rattle.sl_prio.specs.Prio.{top, peers, is_covered}
+use Rattle.sl_prio.specs.Lot.{lot_cmp, drawn}
+
+-- what two tables answer alike: their tops, their peers with the number and the order of these, which lots cover them, and what lots draw
+pub record AnswersAlike (xs ys : List Entry) : Type 0 where
+  pub same_top : top xs ≡ top ys
+  pub same_peers : peers xs ≡ peers ys
+  pub same_covers : (lot : List ℕ) → is_covered lot xs ≡ is_covered lot ys
+  pub same_drawn : (lot : List ℕ) → drawn lot xs ≡ drawn lot ys
+
+-- tables that hold the same entries answer alike, in whatever order they are listed
+abbrev pub OrderIsFree : Type 0
+OrderIsFree = (xs ys : List Entry) → IsPermutation xs ys → AnswersAlike xs ys
+
+-- an entry that is taken from the same entries leaves the same entries
+abbrev pub Remainders : Type 0
+Remainders = (entry : Entry) (xs ys : List Entry) → IsPermutation (entry ∷ xs) (entry ∷ ys) → IsPermutation xs ys
+
+-- the top is an entry that no other exceeds, and only a list without entries lacks one
+abbrev pub Tops : Type 0
+Tops = (xs : List Entry) → MatchOption (top xs) (xs ≡ []) (λ first. Contains xs first × All (λ entry. IsTrue (is_le (entry_cmp entry first))) xs)
+
+-- what a ranking has
+pub record IsRanking (xs ys : List Entry) : Type 0 where
+  pub permutation : IsPermutation xs ys
+  pub falling : IsSorted (flip_args entry_cmp) ys
+
+-- `ranked` lists the entries from the greatest to the smallest
+abbrev pub Rankings : Type 0
+Rankings = (xs : List Entry) → IsRanking xs (ranked xs)
+
+-- the first of the peers is the top
+abbrev pub FirstPeers : Type 0
+FirstPeers = (xs : List Entry) → slice_get (peers xs) 0 ≡ top xs
+
+-- a lot draws a peer before which it draws no other, and only a list without entries lacks one
+abbrev pub Draws : Type 0
+Draws =
+    (xs : List Entry) (lot : List ℕ) →
+    MatchOption (drawn lot xs) (xs ≡ []) (λ peer. Contains (peers xs) peer × All (λ other. IsTrue (is_le (lot_cmp lot other peer))) (peers xs))

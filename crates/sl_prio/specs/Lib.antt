@@ -1,0 +1,4 @@
+pub mod Ranking
+pub mod Prio
+pub mod Lot
+pub mod Laws

@@ -1,0 +1,11 @@
+//! Priority tables: entries of a scope, of which the greatest and those with its quotient are found.
+#![tactic(auto)]
+
+pub mod laws;
+mod lot;
+mod prio;
+
+pub use prio::Prio;
+
+#[cfg(test)]
+mod tests;
