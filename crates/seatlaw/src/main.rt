@@ -12,6 +12,7 @@ fn main(rt: HostRuntime) -> anyhow::Result<ExitCode> {
     let words: Vec<String> = std::env::args(&rt)?.collect(alloc)?;
     let status = match request_of(alloc, words.as_slice()) {
         Ok(Request::Count { book, returns }) => run::count(&rt, book, returns)?,
+        Ok(Request::Check { book }) => run::check(&rt, book)?,
         Ok(Request::Nothing) => 0,
         Err(error) => {
             error.print(&rt)?;

@@ -44,3 +44,13 @@ pub fn count(rt: &HostRuntime, book: &str, returns: &str) -> io::Result<u8> {
     let ending = sl_desk::count(rt.alloc(), &mut book, &mut returns, &mut out);
     exit_status(rt, ending)
 }
+
+/// Checks the rulebook of a file, and writes to standard output.
+pub fn check(rt: &HostRuntime, book: &str) -> io::Result<u8> {
+    let Ok(mut book) = open_book(rt, book) else {
+        return after_error(rt, DeskError::Read(Input::Book));
+    };
+    let mut out = ToWrite::new(rt.stdout());
+    let ending = sl_desk::check_book(rt.alloc(), &mut book, &mut out);
+    exit_status(rt, ending)
+}

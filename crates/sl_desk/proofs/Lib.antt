@@ -16,3 +16,4 @@ pub mod Writing
 pub mod BookFacts
 pub mod CountFacts
 pub mod OneOutput
+pub mod OneCheck

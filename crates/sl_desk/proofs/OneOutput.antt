@@ -17,7 +17,11 @@ use Rattle.sl_stages.specs.Limits.{is_within_limits}
 use Rattle.sl_stages.specs.Typing.{check_fault}
 use Rattle.sl_stages.specs.Election.{Election}
 use Rattle.sl_stages.specs.Tables.{SeatTable}
-use Rattle.sl_stages.specs.Outcomes.{ComesTo, is_plain}
+use Rattle.sl_stages.specs.declared.table.Outcome.{Outcome}
+use Rattle.sl_stages.specs.declared.table.Outcome.TheVariants as outcome
+use Rattle.sl_stages.specs.Outcomes.{is_plain}
+use Rattle.sl_stages.specs.Means.{Means}
+use Rattle.sl_stages.proofs.PlainMeaning.{plain_outcomes}
 use Rattle.sl_table.specs.Short.{short_text}
 use Rattle.sl_desk.specs.declared.limits.TheConstants.{MAX_BOOK_BYTES, MAX_RETURNS_BYTES}
 use Rattle.sl_desk.specs.declared.status.Status.{Status}
@@ -25,6 +29,7 @@ use Rattle.sl_desk.specs.declared.status.Status.TheVariants.{Done, Refused, Lega
 use Rattle.sl_desk.specs.Refusals.{numbered, lex_fault, parse_fault, checked_fault, refused, refused_at, too_long}
 use Rattle.sl_desk.specs.Output.{IsBookText, HasLexFault, HasParseFault, HasCheckFault, IsBookRefusal, BookInput, library, text, IsGoodBook, IsBadBook, AreGoodReturns, AreBadReturns, IsTableText, IsCount, IsOutput}
 use Rattle.sl_desk.specs.Laws.{HasOneOutput}
+use Rattle.sl_desk.proofs.OneTable.{one_table}
 
 -- what the layers below say
 pub record LowerLaws : Type 0 where
@@ -35,7 +40,16 @@ pub record LowerLaws : Type 0 where
   pub one_parse_fault : (source : List ℕ) (tokens : List Token) (a b : Cause) (x y : List Token) → IsFault source limits tokens a x → IsFault source limits tokens b y → (a ≡ b) × (x ≡ y)
   pub tree_or_fault : (source : List ℕ) (tokens : List Token) (tree : BookTree) (cause : Cause) (rest : List Token)
       → IsBook source tree tokens [] → IsTrue (is_within_limits tree.stages) → IsFault source limits tokens cause rest → ⊥
-  pub one_table : (b : BookTree) (e : Election) (t u : SeatTable) → ComesTo b e t → ComesTo b e u → t ≡ u
+
+same_tables : (t u : SeatTable) → outcome.Table t ≡ outcome.Table u → t ≡ u
+same_tables t u h = cc
+
+-- a plain book means one table
+one_meaning : (b : BookTree) (e : Election) (t u : SeatTable) → is_plain b ≡ true → Means b e (outcome.Table t) → Means b e (outcome.Table u) → t ≡ u
+one_meaning b e t u plain h k =
+    let first = (plain_outcomes b e (outcome.Table t) plain).0 h in
+    let second = (plain_outcomes b e (outcome.Table u) plain).0 k in
+    same_tables t first.0 first.2 ∙ one_table b e first.0 second.0 first.1 second.1 ∙ sym (same_tables u second.0 second.2)
 
 -- a fault of the parser by its cause
 record ByCause (source : List ℕ) (tokens : List Token) (fault : ParseFault) : Type 0 where
@@ -121,15 +135,15 @@ module _ (laws : LowerLaws) where
   one_refusal source l m (inr (inr (inr h))) (inr (inr (inr k))) =
       h.2 ∙ ap (λ f. refused_at (codes "book" ∷ codes "check" ∷ []) (checked_fault f)) (same_check_fault source h.0 k.0 h.1 k.1) ∙ sym k.2
 
-  one_bad_book : (input : BookInput) (l m : List ℕ) → IsBadBook input l → IsBadBook input m → l ≡ m
+  pub one_bad_book : (input : BookInput) (l m : List ℕ) → IsBadBook input l → IsBadBook input m → l ≡ m
   one_bad_book (library name) l m h k = h ∙ sym k
   one_bad_book (text bytes) l m h k = one_refusal bytes l m h k
 
-  no_bad_book : (input : BookInput) (tree : BookTree) (l : List ℕ) → IsGoodBook input tree → IsBadBook input l → ⊥
+  pub no_bad_book : (input : BookInput) (tree : BookTree) (l : List ℕ) → IsGoodBook input tree → IsBadBook input l → ⊥
   no_bad_book (library name) tree l h k = absurd h
   no_bad_book (text bytes) tree l h k = no_refusal bytes tree l h k
 
-  one_good_book : (input : BookInput) (a b : BookTree) → IsGoodBook input a → IsGoodBook input b → a ≡ b
+  pub one_good_book : (input : BookInput) (a b : BookTree) → IsGoodBook input a → IsGoodBook input b → a ≡ b
   one_good_book (library name) a b h k = absurd h
   one_good_book (text bytes) a b h k = one_book_text bytes a b h k
 
@@ -151,10 +165,9 @@ module _ (laws : LowerLaws) where
   one_good_returns : (bytes : List ℕ) (d e : Election) → AreGoodReturns bytes d → AreGoodReturns bytes e → d ≡ e
   one_good_returns bytes d e h k = same_ok _ d e h.1 k.1
 
-  one_table_text : (b : BookTree) (d e : Election) (s t : List ℕ) → d ≡ e → IsTableText b d s → IsTableText b e t → s ≡ t
-  one_table_text b d e s t same h k =
-      let there : ComesTo b d k.0 = subst (λ (x : Election). ComesTo b x k.0) (sym same) k.1 in
-      let one : h.0 ≡ k.0 = laws.one_table b d h.0 k.0 h.1 there in
+  one_table_text : (b : BookTree) (d e : Election) (s t : List ℕ) → is_plain b ≡ true → d ≡ e → IsTableText b d s → IsTableText b e t → s ≡ t
+  one_table_text b d e s t plain same h k =
+      let one : h.0 ≡ k.0 = one_meaning b d h.0 k.0 plain h.1 (subst (λ (x : Election). Means b x (outcome.Table k.0)) (sym same) k.1) in
       h.2 ∙ ap (λ x. short_text x d) one ∙ ap (λ x. short_text k.0 x) same ∙ sym k.2
 
   one_count : (b : BookTree) (bytes : List ℕ) (x y : Status) (s t : List ℕ) → IsCount b bytes x s → IsCount b bytes y t → (x ≡ y) × (s ≡ t)
@@ -168,7 +181,7 @@ module _ (laws : LowerLaws) where
   one_count b bytes Refused Budget s t h k = absurd k
   one_count b bytes Done Refused s t h (inl k) = absurd (true_or_false _ h.0 k.0)
   one_count b bytes Done Refused s t h (inr k) = absurd (no_bad_returns bytes t h.1 h.2 k.1)
-  one_count b bytes Done Done s t h k = (refl, one_table_text b h.1 k.1 s t (one_good_returns bytes h.1 k.1 h.2 k.2) h.3 k.3)
+  one_count b bytes Done Done s t h k = (refl, one_table_text b h.1 k.1 s t h.0 (one_good_returns bytes h.1 k.1 h.2 k.2) h.3 k.3)
   one_count b bytes Done Legal s t h k = absurd k
   one_count b bytes Done Budget s t h k = absurd k
   one_count b bytes Legal y s t h k = absurd h

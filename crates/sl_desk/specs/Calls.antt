@@ -1,13 +1,15 @@
 -- What a call of the desk says of its readers and its writer (docs/output.md, section 3).
 use Rattle.std.specs.Prelude.{◌≡◌, ℕ, List, Option, Some, None, ⊤}
 use Rattle.std.specs.Option.{option_map}
+use Rattle.std.specs.Io.KnownBytes.{Appends}
 use Rattle.sl_desk.specs.declared.source.BookSource.{BookSource}
 use Rattle.sl_desk.specs.declared.source.BookSource.TheVariants.{Library, Reader}
+use Rattle.sl_desk.specs.declared.status.Status.{Status}
 use Rattle.sl_desk.specs.declared.status.Input.{Input}
 use Rattle.sl_desk.specs.declared.status.Input.TheVariants as input
 use Rattle.sl_desk.specs.declared.status.DeskError.{DeskError}
 use Rattle.sl_desk.specs.declared.status.DeskError.TheVariants.{Read, Write, NoMemory}
-use Rattle.sl_desk.specs.Failures.{HasFailed}
+use Rattle.sl_desk.specs.Failures.{HasFailed, AppendsFront}
 use Rattle.sl_desk.specs.Output.{BookInput, library, text}
 
 -- the book that a source gives, if its bytes are known
@@ -63,3 +65,11 @@ abbrev pub ForKnown : {A B : Type 0} → Option A → Option B → (A → B → 
 ForKnown None known P = ⊤
 ForKnown (Some a) None P = ⊤
 ForKnown (Some a) (Some b) P = P a b
+
+-- known contents grew by a text of which that holds
+abbrev pub Writes : (List ℕ → Type 0) → Option (List ℕ) → Option (List ℕ) → Type 0
+Writes IsText old new = (output : List ℕ) × IsText output × Appends old new output
+
+-- they grew by a front of a text of which that holds with some status
+abbrev pub WritesFront : (Status → List ℕ → Type 0) → Option (List ℕ) → Option (List ℕ) → Type 0
+WritesFront IsText old new = (status : Status) × (output : List ℕ) × IsText status output × AppendsFront old new output

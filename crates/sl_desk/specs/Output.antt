@@ -1,5 +1,6 @@
 -- What is written for which bytes (docs/output.md).
 use Rattle.std.specs.Prelude.{◌≡◌, ℕ, ◌<◌, ◌≤◌, ◌⊎◌, true, false, List, [], ◌∷◌, length, Option, Some, None, Ok, Err, IsTrue, codes}
+use Rattle.std.specs.Fmt.{decimal}
 use Rattle.sl_lex.specs.declared.fault.LexFault.{LexFault}
 use Rattle.sl_lex.specs.declared.token.Token.{Token}
 use Rattle.sl_lex.specs.Tokens as lex
@@ -16,7 +17,10 @@ use Rattle.sl_stages.specs.Limits.{is_within_limits}
 use Rattle.sl_stages.specs.Typing.{check_fault}
 use Rattle.sl_stages.specs.Election.{Election}
 use Rattle.sl_stages.specs.Tables.{SeatTable}
-use Rattle.sl_stages.specs.Outcomes.{ComesTo, is_plain}
+use Rattle.sl_stages.specs.declared.table.Outcome.TheVariants as outcome
+use Rattle.sl_stages.specs.Outcomes.{is_plain}
+use Rattle.sl_stages.specs.Means.{Means}
+use Rattle.sl_table.specs.Lines.{line}
 use Rattle.sl_table.specs.Short.{short_text}
 use Rattle.sl_desk.specs.declared.limits.TheConstants.{MAX_BOOK_BYTES, MAX_RETURNS_BYTES}
 use Rattle.sl_desk.specs.declared.status.Status.{Status}
@@ -90,9 +94,9 @@ AreBadReturns bytes output =
 
 -- ---- counting
 
--- the short text of the table to which the book comes
+-- the short text of a table that the book means
 abbrev pub IsTableText : BookTree → Election → List ℕ → Type 0
-IsTableText book e output = (t : SeatTable) × ComesTo book e t × (output ≡ short_text t e)
+IsTableText book e output = (t : SeatTable) × Means book e (outcome.Table t) × (output ≡ short_text t e)
 
 -- what a well-formed book comes to on the bytes of returns: a line that says that it is not counted yet; the refusal of the returns; or a table
 abbrev pub IsCount : BookTree → List ℕ → Status → List ℕ → Type 0
@@ -108,3 +112,17 @@ abbrev pub IsOutput : BookInput → List ℕ → Status → List ℕ → Type 0
 IsOutput input returns status output =
     ((status ≡ Refused) × IsBadBook input output)
     ⊎ ((book : BookTree) × IsGoodBook input book × IsCount book returns status output)
+
+-- ---- checking
+
+-- the line that tells of a book: its version, its house, how many stages it has, and the text of its law
+abbrev pub check_line : BookTree → List ℕ
+check_line b =
+    line (codes "book" ∷ decimal b.version.value ∷ codes "house" ∷ decimal b.house.value ∷ codes "stages" ∷ decimal (length b.stages)
+    ∷ codes "law" ∷ b.law ∷ [])
+
+-- what checking writes: the refusal of the book, or the line that tells of it
+abbrev pub IsCheckOutput : BookInput → Status → List ℕ → Type 0
+IsCheckOutput input status output =
+    ((status ≡ Refused) × IsBadBook input output)
+    ⊎ ((status ≡ Done) × (book : BookTree) × IsGoodBook input book × (output ≡ check_line book))

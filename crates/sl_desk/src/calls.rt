@@ -1,28 +1,15 @@
-//! Counting an election: from a rulebook and returns to the text of a table.
+//! The calls of the desk: what each writes, and how it ends.
 
-ghost use Rattle.std.specs.Prelude.{◌≡◌, ◌≢◌, ℕ, List, true, IfOk, IfErr, IfSome, IsErrOf};
-ghost use Rattle.std.specs.Io.KnownBytes.{Appends, Keeps};
-ghost use Rattle.sl_desk.specs.Failures.{AppendsFront};
-ghost use Rattle.sl_desk.specs.declared.status.Status.{Status};
-ghost use Rattle.sl_stages.specs.Books.{book_of};
-ghost use Rattle.sl_stages.specs.Outcomes.{is_plain};
-ghost use Rattle.sl_desk.specs.Output.{IsOutput, IsCount, IsTableText};
-ghost use Rattle.sl_desk.specs.Calls.{Counts, book_input, book_failures, IsFaultOf, IsInputFault, IsReturnsFault, ForKnown};
+ghost use Rattle.std.specs.Prelude.{◌≡◌, OnOk, IfErr};
+ghost use Rattle.std.specs.Io.KnownBytes.{Appends};
+ghost use Rattle.sl_desk.specs.Failures.{AppendsFront, HasFailed};
 
-use crate::book::read_book;
-use crate::evaluate::{evaluate, is_plain};
+pub mod check;
+pub mod count;
+
 use crate::input::write_all;
-use crate::judged::Judged;
-use crate::refusal::refused_later;
-use crate::returns::read_election;
 use crate::sink::Sink;
-use crate::source::{BookSource, Source};
 use crate::status::{DeskError, Status};
-use sl_check::CheckedBook;
-use sl_ratio::NoMemory;
-use sl_stages::Returns;
-use sl_table::short_text;
-use std::alloc::Global;
 
 // A text to be written, and what it is.
 #[derive(Drop)]
@@ -31,91 +18,38 @@ struct Answer {
     text: Vec<u8>,
 }
 
-fn refusal(text: Vec<u8>) -> Answer
-    ensures status { result.status ≡ Status.Refused }
-    ensures text { result.text ≡ text }
-{
-    Answer {
-        status: Status::Refused,
-        text,
+impl Answer {
+    // The table to which a book comes, or the line that tells of one.
+    fn done(text: Vec<u8>) -> Answer
+        ensures status { result.status ≡ Status.Done }
+        ensures text { result.text ≡ text }
+    {
+        Answer {
+            status: Status::Done,
+            text,
+        }
     }
-}
 
-// The table to which a plain book comes on returns.
-fn table(alloc: Global, book: &CheckedBook, returns: &Returns) -> Result<Answer, NoMemory>
-    requires { is_plain (book_of book.now.book) ≡ true }
-    ensures { IfOk result (λ a. (a.status ≡ Status.Done) × IsTableText (book_of book.now.book) returns.now a.text.items) }
-{
-    let table = evaluate(alloc, book, returns)?;
-    Ok(Answer {
-        status: Status::Done,
-        text: short_text(alloc, &table, returns)?,
-    })
-}
-
-// What a well-formed book comes to on the returns of a source.
-fn counted<S: Source>(
-    alloc: Global,
-    book: &CheckedBook,
-    returns: &mut S,
-) -> Result<Answer, DeskError>
-    ensures answer { IfOk result (λ a. IfSome (S.remaining returns.old) (λ bytes. IsCount (book_of book.now.book) bytes a.status a.text.items)) }
-    ensures fault { IfErr result (IsReturnsFault (S.failed returns.old) (S.failed returns.new)) }
-{
-    if !is_plain(&book.book) {
-        return Ok(refusal(refused_later(alloc)?));
+    // The line that refuses an input.
+    fn refused(text: Vec<u8>) -> Answer
+        ensures status { result.status ≡ Status.Refused }
+        ensures text { result.text ≡ text }
+    {
+        Answer {
+            status: Status::Refused,
+            text,
+        }
     }
-    match read_election(alloc, returns)? {
-        Judged::Good(returns) => Ok(table(alloc, book, &returns)?),
-        Judged::Refused(line) => Ok(refusal(line)),
-    }
-}
 
-// What counting a book on returns writes.
-fn answer_to<B: Source, R: Source>(
-    alloc: Global,
-    book: &mut BookSource<'_, B>,
-    returns: &mut R,
-) -> Result<Answer, DeskError>
-    ensures answer { IfOk result (λ a. ForKnown (book_input B.remaining book.old) (R.remaining returns.old) (λ input bytes.
-        IsOutput input bytes a.status a.text.items)) }
-    ensures fault { IfErr result (IsInputFault (book_failures B.failed book.old) (book_failures B.failed book.new) (R.failed returns.old) (R.failed returns.new)) }
-{
-    match read_book(alloc, book)? {
-        Judged::Good(book) => counted(alloc, &book, returns),
-        Judged::Refused(line) => Ok(refusal(line)),
-    }
-}
-
-/// Counts an election: reads a rulebook and returns, and writes the table to which the book comes, or the line that refuses one of them. The book
-/// is read and judged before the returns (docs/output.md).
-///
-/// # Errors
-///
-/// `Read` where a source failed, `Write` where the sink did, and `NoMemory`.
-pub fn count<B: Source, R: Source, W: Sink>(
-    alloc: Global,
-    book: &mut BookSource<'_, B>,
-    returns: &mut R,
-    out: &mut W,
-) -> Result<Status, DeskError>
-    // Where the bytes of both inputs are known, their output is written behind what was there.
-    ensures written { IfOk result (λ status. ForKnown (book_input B.remaining book.old) (R.remaining returns.old) (λ input bytes.
-        (output : List ℕ) × IsOutput input bytes status output × Appends (W.contents out.old) (W.contents out.new) output)) }
-
-    // After Write, a front of it is; after any other error, nothing.
-    ensures front { IsErrOf result DeskError.Write → ForKnown (book_input B.remaining book.old) (R.remaining returns.old) (λ input bytes.
-        (status : Status) × (output : List ℕ) × IsOutput input bytes status output × AppendsFront (W.contents out.old) (W.contents out.new) output) }
-    ensures nothing { IfErr result (λ e. e ≢ DeskError.Write → Keeps (W.contents out.old) (W.contents out.new)) }
-
-    // Read comes only where that source failed, Write only where the sink did.
-    ensures fault { IfErr result (IsFaultOf
-        (record { book = book_failures B.failed book.old; returns = R.failed returns.old; out = W.failed out.old })
-        (record { book = book_failures B.failed book.new; returns = R.failed returns.new; out = W.failed out.new })) }
-{
-    let answer = answer_to(alloc, book, returns)?;
-    match write_all(out, answer.text.as_slice()) {
-        Ok(()) => Ok(answer.status),
-        Err(_) => Err(DeskError::Write),
+    // Writes the text.
+    fn write<W: Sink>(&self, out: &mut W) -> Result<(), DeskError>
+        ensures whole { OnOk result (Appends (W.contents out.old) (W.contents out.new) self.now.text.items) }
+        ensures front { AppendsFront (W.contents out.old) (W.contents out.new) self.now.text.items }
+        ensures fault { IfErr result (λ e. (e ≡ DeskError.Write) × HasFailed (W.failed out.old) (W.failed out.new)) }
+    {
+        match write_all(out, self.text.as_slice()) {
+            Ok(()) => Ok(()),
+            Err(_) => Err(DeskError::Write),
+        }
     }
 }

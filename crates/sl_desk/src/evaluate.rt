@@ -3,6 +3,8 @@
 ghost use Rattle.std.specs.Prelude.{◌≡◌, true, IfOk};
 ghost use Rattle.sl_stages.specs.Books.{book_of};
 ghost use Rattle.sl_stages.specs.Outcomes.{ComesTo, is_plain};
+ghost use Rattle.sl_stages.specs.Means.{Means};
+ghost use Rattle.sl_stages.specs.declared.table.Outcome.TheVariants as outcome;
 ghost use Rattle.sl_table.specs.Fits.{Fits};
 
 mod facts;
@@ -20,7 +22,20 @@ use sl_ratio::NoMemory;
 use sl_stages::{CheckedBook, Returns, Table};
 use std::alloc::Global;
 
-/// The table to which a plain book comes.
+// The table that the columns of a plain book make.
+fn columns_table(alloc: Global, book: &CheckedBook, returns: &Returns) -> Result<Table, NoMemory>
+    requires { is_plain (book_of book.now.book) ≡ true }
+    ensures table { IfOk result (ComesTo (book_of book.now.book) returns.now) }
+    ensures fits { IfOk result (λ t. Fits t returns.now) }
+{
+    let facts = Facts::new(alloc, &book.book, returns)?;
+    let evaluator = Evaluator::new(facts)?;
+    let base = evaluator.base()?;
+    let table = kept_table(&evaluator.facts, &base)?;
+    Ok(table)
+}
+
+/// The table that a plain book means.
 ///
 /// # Errors
 ///
@@ -31,12 +46,9 @@ pub(crate) fn evaluate(
     returns: &Returns,
 ) -> Result<Table, NoMemory>
     requires { is_plain (book_of book.now.book) ≡ true }
-    ensures table { IfOk result (ComesTo (book_of book.now.book) returns.now) }
+    ensures means { IfOk result (λ t. Means (book_of book.now.book) returns.now (outcome.Table t)) }
     ensures fits { IfOk result (λ t. Fits t returns.now) }
 {
-    let facts = Facts::new(alloc, &book.book, returns)?;
-    let evaluator = Evaluator::new(facts)?;
-    let base = evaluator.base()?;
-    let table = kept_table(&evaluator.facts, &base)?;
+    let table = columns_table(alloc, book, returns)?;
     Ok(table)
 }

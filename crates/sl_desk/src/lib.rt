@@ -14,7 +14,8 @@ mod sink;
 mod source;
 mod status;
 
-pub use calls::count;
+pub use calls::check::check_book;
+pub use calls::count::count;
 pub use limits::{MAX_BOOK_BYTES, MAX_RETURNS_BYTES};
 pub use sink::{Sink, ToWrite};
 pub use source::{BookSource, Failed, FromRead, Source};

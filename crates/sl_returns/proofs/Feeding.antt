@@ -1,6 +1,5 @@
 -- A builder that takes one record more.
-use Rattle.std.proofs.Common.{◌≡◌, ◌+◌, ◌-◌, ◌^◌, ℕ, min, Bool, true, false, List, [], ◌∷◌, ◌++◌, length, Option, Some, None, inl, inr, refl, sym, ap, subst, ◌∙◌, arith, append_assoc, if◌then◌else◌, nat_eq}
-use Rattle.std.proofs.lemmas.Bool.{eq-eqb, ne_eqb}
+use Rattle.std.proofs.Common.{◌≡◌, ◌+◌, ◌-◌, ◌^◌, ℕ, min, List, [], ◌∷◌, ◌++◌, length, Option, Some, None, inl, inr, refl, sym, ap, subst, ◌∙◌, arith, append_assoc}
 use Rattle.std.specs.Option.{option_map, option_or}
 use Rattle.std.proofs.lemmas.List.{append-nil, length_push}
 use Rattle.std.proofs.lemmas.Option.{none-some}
@@ -8,11 +7,13 @@ use Rattle.sl_stages.specs.Election.{Election}
 use Rattle.sl_returns.specs.declared.fault.FaultKind.{FaultKind}
 use Rattle.sl_returns.specs.declared.fault.FaultKind.TheVariants as fault
 use Rattle.sl_returns.specs.Faults.{fault_at, row_behind}
-use Rattle.sl_returns.specs.Cells.{Record, is_header}
+use Rattle.sl_returns.specs.declared.header.Version.{Version}
+use Rattle.sl_returns.specs.Cells.{Record}
+use Rattle.sl_returns.specs.Headers.{version_of}
 use Rattle.sl_returns.specs.Records.{election_of_records}
 use Rattle.sl_returns.specs.Tests.{Pass, FailBy, first_failing, record_tests}
 use Rattle.sl_returns.specs.Joining.{with_record, TakesRecord, RefusesRecord}
-use Rattle.sl_returns.specs.Returns.{fault_behind, first_fault, refusal_of}
+use Rattle.sl_returns.specs.Returns.{fault_behind, first_fault, refusal_under, refusal_of}
 use Rattle.sl_returns.specs.Building.{Building, StandsFor, RefusesLast}
 use Rattle.sl_returns.proofs.Steps.{IsGood, no_records, grows}
 
@@ -37,37 +38,38 @@ unmapped f (Some x) h = absurd (none-some (f x) (sym h))
 
 -- ---- one record more
 
-first_fault-push : (before rest : List Record) (r : Record) → first_fault before (rest ++ r ∷ []) ≡ option_or (first_fault before rest) (fault_behind (before ++ rest) r)
-first_fault-push before [] r = or_none (fault_behind before r) ∙ ap (λ b. fault_behind b r) (sym (append-nil before))
-first_fault-push before (x ∷ rest) r =
-    let more = first_fault-push (before ++ x ∷ []) rest r ∙ ap (λ b. option_or (first_fault (before ++ x ∷ []) rest) (fault_behind b r)) (append_assoc before (x ∷ []) rest) in
-    ap (option_or (fault_behind before x)) more ∙ sym (or_assoc (fault_behind before x) (first_fault (before ++ x ∷ []) rest) (fault_behind (before ++ (x ∷ rest)) r))
+first_fault-push : (v : Version) (before rest : List Record) (r : Record) → first_fault v before (rest ++ r ∷ []) ≡ option_or (first_fault v before rest) (fault_behind v (before ++ rest) r)
+first_fault-push v before [] r = or_none (fault_behind v before r) ∙ ap (λ b. fault_behind v b r) (sym (append-nil before))
+first_fault-push v before (x ∷ rest) r =
+    let more = first_fault-push v (before ++ x ∷ []) rest r ∙ ap (λ b. option_or (first_fault v (before ++ x ∷ []) rest) (fault_behind v b r)) (append_assoc before (x ∷ []) rest) in
+    ap (option_or (fault_behind v before x)) more ∙ sym (or_assoc (fault_behind v before x) (first_fault v (before ++ x ∷ []) rest) (fault_behind v (before ++ (x ∷ rest)) r))
 
 -- records none of which is refused are good
-good_from : (before rest : List Record) → IsGood before → first_fault before rest ≡ None → IsGood (before ++ rest)
-good_from before [] good h = subst IsGood (sym (append-nil before)) good
-good_from before (x ∷ rest) good h =
-    let (none, more) = neither (fault_behind before x) (first_fault (before ++ x ∷ []) rest) h in
-    let passed = unmapped (fault_at (row_behind (length before + 1))) (first_failing (record_tests (election_of_records before) x)) none in
-    let next = (grows before x good (record { none = passed })).good in
-    subst IsGood (append_assoc before (x ∷ []) rest) (good_from (before ++ x ∷ []) rest next more)
+good_from : (v : Version) (before rest : List Record) → IsGood before → first_fault v before rest ≡ None → IsGood (before ++ rest)
+good_from v before [] good h = subst IsGood (sym (append-nil before)) good
+good_from v before (x ∷ rest) good h =
+    let (none, more) = neither (fault_behind v before x) (first_fault v (before ++ x ∷ []) rest) h in
+    let passed = unmapped (fault_at (row_behind (length before + 1))) (first_failing (record_tests v (election_of_records before) x)) none in
+    let next = (grows before x good v (record { none = passed })).good in
+    subst IsGood (append_assoc before (x ∷ []) rest) (good_from v (before ++ x ∷ []) rest next more)
 
 -- records behind a header, none of which is refused
 record Sound (h : Record) (rest : List Record) : Type 0 where
-  header : is_header h ≡ true
-  none : first_fault [] rest ≡ None
+  version : Version
+  header : version_of h ≡ Some version
+  none : first_fault version [] rest ≡ None
 
 sound : (h : Record) (rest : List Record) → refusal_of (h ∷ rest) ≡ None → Sound h rest
-sound h rest accepted = go (is_header h) refl accepted
+sound h rest accepted = go (version_of h) refl accepted
   where
-    go : (b : Bool) → is_header h ≡ b → (if b then first_fault [] rest else Some (fault_at (row_behind 0) fault.Header)) ≡ None → Sound h rest
-    go true e n = record { header = e; none = n }
-    go false e n = absurd (none-some (fault_at (row_behind 0) fault.Header) (sym n))
+    go : (o : Option Version) → version_of h ≡ o → refusal_under o rest ≡ None → Sound h rest
+    go None e n = absurd (none-some (fault_at (row_behind 0) fault.Header) (sym n))
+    go (Some v) e n = record { version = v; header = e; none = n }
 
-refusal_push : (h : Record) (rest : List Record) (r : Record) → Sound h rest → refusal_of ((h ∷ rest) ++ r ∷ []) ≡ fault_behind rest r
+refusal_push : (h : Record) (rest : List Record) (r : Record) (is : Sound h rest) → refusal_of ((h ∷ rest) ++ r ∷ []) ≡ fault_behind is.version rest r
 refusal_push h rest r is =
-    let behind = first_fault-push [] rest r ∙ ap (λ o. option_or o (fault_behind rest r)) is.none in
-    rw is.header behind
+    let behind = first_fault-push is.version [] rest r ∙ ap (λ o. option_or o (fault_behind is.version rest r)) is.none in
+    ap (λ o. refusal_under o (rest ++ r ∷ [])) is.header ∙ behind
 
 -- the row behind a row
 abbrev row_after : ℕ → ℕ
@@ -78,62 +80,64 @@ rows_go rest r row h = omega (arith, h, length_push rest r)
 
 -- ---- a record that is taken
 
-taken_first : (b : Building) (r : Record) (e : Election) → StandsFor b [] → TakesRecord true b.election e r → StandsFor (record { election = e; row = row_after b.row; fault = b.fault }) (r ∷ [])
-taken_first b r e s t = record {
-  accepted = rw t.0 refl;
+-- the builder with a record more
+abbrev after : Building → Version → Election → Building
+after b v e = record { election = e; version = Some v; row = row_after b.row; fault = b.fault }
+
+taken_first : (b : Building) (r : Record) (v : Version) (e : Election) → StandsFor b [] → TakesRecord None v b.election e r → StandsFor (after b v e) (r ∷ [])
+taken_first b r v e s t = record {
+  accepted = ap (λ o. refusal_under o []) t.0;
   going = s.going;
   election = t.1 ∙ s.election;
+  version = sym t.0;
   row = ap row_after s.row;
 }
 
 -- behind records none of which is refused, a record that passes its tests is not refused either
-not_refused : (b : Building) (h : Record) (rest : List Record) (r : Record) → StandsFor b (h ∷ rest) → Pass (record_tests b.election r) → refusal_of ((h ∷ rest) ++ r ∷ []) ≡ None
-not_refused b h rest r s passed =
-    let here : Pass (record_tests (election_of_records rest) r) = subst (λ x. Pass (record_tests x r)) s.election passed in
-    refusal_push h rest r (sound h rest s.accepted) ∙ ap (option_map (fault_at (row_behind (length rest + 1)))) here.none
+not_refused : (b : Building) (h : Record) (rest : List Record) (r : Record) (is : Sound h rest) → StandsFor b (h ∷ rest) → Pass (record_tests is.version b.election r) → refusal_of ((h ∷ rest) ++ r ∷ []) ≡ None
+not_refused b h rest r is s passed =
+    let here : Pass (record_tests is.version (election_of_records rest) r) = subst (λ x. Pass (record_tests is.version x r)) s.election passed in
+    refusal_push h rest r is ∙ ap (option_map (fault_at (row_behind (length rest + 1)))) here.none
 
-taken_next : (b : Building) (h : Record) (rest : List Record) (r : Record) (e : Election) → StandsFor b (h ∷ rest) → TakesRecord false b.election e r
-    → StandsFor (record { election = e; row = row_after b.row; fault = b.fault }) ((h ∷ rest) ++ r ∷ [])
-taken_next b h rest r e s t =
-    let is = sound h rest s.accepted in
-    let good = good_from [] rest no_records is.none in
-    let passed : Pass (record_tests (election_of_records rest) r) = subst (λ x. Pass (record_tests x r)) s.election t.0 in
+taken_next : (b : Building) (h : Record) (rest : List Record) (r : Record) (v : Version) (e : Election) (is : Sound h rest) → StandsFor b (h ∷ rest) → TakesRecord (Some is.version) v b.election e r
+    → StandsFor (after b v e) ((h ∷ rest) ++ r ∷ [])
+taken_next b h rest r v e is s (same, passes, joins) =
+    let good = good_from is.version [] rest no_records is.none in
+    let passed : Pass (record_tests is.version (election_of_records rest) r) = subst (λ x. Pass (record_tests is.version x r)) s.election passes in
     record {
-      accepted = not_refused b h rest r s t.0;
+      accepted = not_refused b h rest r is s passes;
       going = s.going;
-      election = t.1 ∙ ap (λ x. with_record x r) s.election ∙ sym (grows rest r good passed).election;
+      election = joins ∙ ap (λ x. with_record x r) s.election ∙ sym (grows rest r good is.version passed).election;
+      version = ap Some same ∙ sym is.header;
       row = rows_go rest r b.row s.row;
     }
 
-pub taken : (b : Building) (rs : List Record) (r : Record) (e : Election) → StandsFor b rs → TakesRecord (nat_eq b.row 0) b.election e r
-    → StandsFor (record { election = e; row = row_after b.row; fault = b.fault }) (rs ++ r ∷ [])
-taken b [] r e s t =
-    let first : nat_eq b.row 0 ≡ true = eq-eqb b.row 0 s.row in
-    taken_first b r e s (rw first at t)
-taken b (h ∷ rest) r e s t =
-    let next : nat_eq b.row 0 ≡ false = ne_eqb b.row 0 (λ zero. omega (arith, s.row, zero)) in
-    taken_next b h rest r e s (rw next at t)
+pub taken : (b : Building) (rs : List Record) (r : Record) (v : Version) (e : Election) → StandsFor b rs → TakesRecord b.version v b.election e r → StandsFor (after b v e) (rs ++ r ∷ [])
+taken b [] r v e s t = taken_first b r v e s (subst (λ o. TakesRecord o v b.election e r) s.version t)
+taken b (h ∷ rest) r v e s t =
+    let is = sound h rest s.accepted in
+    taken_next b h rest r v e is s (subst (λ o. TakesRecord o v b.election e r) (s.version ∙ is.header) t)
 
 -- ---- a record that is refused
 
-refused_next : (b : Building) (h : Record) (rest : List Record) (r : Record) (k : FaultKind) → StandsFor b (h ∷ rest) → RefusesRecord false b.election r k
+refused_next : (b : Building) (h : Record) (rest : List Record) (r : Record) (k : FaultKind) (is : Sound h rest) → StandsFor b (h ∷ rest) → RefusesRecord (Some is.version) b.election r k
     → RefusesLast ((h ∷ rest) ++ r ∷ []) (fault_at (row_after b.row) k)
-refused_next b h rest r k s refuses =
-    let is = sound h rest s.accepted in
+refused_next b h rest r k is s refuses =
     let row : row_after b.row ≡ row_behind (length rest + 1) = omega (arith, s.row) in
     elim refuses [
       | inl fails ↦
-          let first : FailBy (record_tests (election_of_records rest) r) k = subst (λ x. FailBy (record_tests x r) k) s.election fails in
+          let first : FailBy (record_tests is.version (election_of_records rest) r) k = subst (λ x. FailBy (record_tests is.version x r) k) s.election fails in
           inl (refusal_push h rest r is ∙ ap (option_map (fault_at (row_behind (length rest + 1)))) first.first ∙ ap (λ n. Some (fault_at n k)) (sym row))
-      | inr wants ↦ inr (not_refused b h rest r s wants.0, ap (fault_at (row_after b.row)) wants.1)
+      | inr wants ↦ inr (not_refused b h rest r is s wants.0, ap (fault_at (row_after b.row)) wants.1)
     ]
 
-pub refused : (b : Building) (rs : List Record) (r : Record) (k : FaultKind) → StandsFor b rs → RefusesRecord (nat_eq b.row 0) b.election r k → RefusesLast (rs ++ r ∷ []) (fault_at (row_after b.row) k)
-refused b [] r k s refuses =
-    let first : nat_eq b.row 0 ≡ true = eq-eqb b.row 0 s.row in
-    let (header, kind) = rw first at refuses in
+refused_first : (b : Building) (r : Record) (k : FaultKind) → StandsFor b [] → RefusesRecord None b.election r k → RefusesLast (r ∷ []) (fault_at (row_after b.row) k)
+refused_first b r k s (none, header) =
     let row : row_behind 0 ≡ row_after b.row = ap row_after (sym s.row) in
-    inl (rw header (rw kind (ap (λ n. Some (fault_at n fault.Header)) row)))
+    inl (ap (λ o. refusal_under o []) none ∙ rw header (ap (λ n. Some (fault_at n fault.Header)) row))
+
+pub refused : (b : Building) (rs : List Record) (r : Record) (k : FaultKind) → StandsFor b rs → RefusesRecord b.version b.election r k → RefusesLast (rs ++ r ∷ []) (fault_at (row_after b.row) k)
+refused b [] r k s refuses = refused_first b r k s (subst (λ o. RefusesRecord o b.election r k) s.version refuses)
 refused b (h ∷ rest) r k s refuses =
-    let next : nat_eq b.row 0 ≡ false = ne_eqb b.row 0 (λ zero. omega (arith, s.row, zero)) in
-    refused_next b h rest r k s (rw next at refuses)
+    let is = sound h rest s.accepted in
+    refused_next b h rest r k is s (subst (λ o. RefusesRecord o b.election r k) (s.version ∙ is.header) refuses)

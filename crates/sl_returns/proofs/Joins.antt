@@ -2,6 +2,7 @@
 use Rattle.std.proofs.Common.{◌≡◌, length, Option, None, Result, Ok, Err, IfErr, OnOk, inl, inr, nat_eq, refl, subst}
 use Rattle.sl_stages.specs.Election.{Election}
 use Rattle.sl_returns.specs.declared.cells.TheConstants.{COLUMNS, KIND}
+use Rattle.sl_returns.specs.declared.header.Version.{Version}
 use Rattle.sl_returns.specs.declared.kind.Kind.{Kind}
 use Rattle.sl_returns.specs.declared.fault.FaultKind.{FaultKind}
 use Rattle.sl_returns.specs.declared.fault.FaultKind.TheVariants as fault
@@ -15,25 +16,25 @@ use Rattle.sl_returns.proofs.TestLemmas.{both, after}
 abbrev pub Sized : Record → Type 0
 Sized r = Pass (test (nat_eq (length r) COLUMNS) fault.Fields)
 
-module _ (e new : Election) (r : Record) (kind : Option Kind) (named : kind ≡ kind_named (cell r KIND)) (sized : Sized r) where
-  passed : Pass (kind_tests kind e r) → Pass (record_tests e r)
-  passed h = both sized (subst (λ (k : Option Kind). Pass (kind_tests k e r)) named h)
+module _ (v : Version) (e new : Election) (r : Record) (kind : Option Kind) (named : kind ≡ kind_named (cell r KIND)) (sized : Sized r) where
+  passed : Pass (kind_tests v kind e r) → Pass (record_tests v e r)
+  passed h = both sized (subst (λ (k : Option Kind). Pass (kind_tests v k e r)) named h)
 
-  failed : (k : FaultKind) → FailBy (kind_tests kind e r) k → FailBy (record_tests e r) k
-  failed k h = after sized (subst (λ (x : Option Kind). FailBy (kind_tests x e r) k) named h)
+  failed : (k : FaultKind) → FailBy (kind_tests v kind e r) k → FailBy (record_tests v e r) k
+  failed k h = after sized (subst (λ (x : Option Kind). FailBy (kind_tests v x e r) k) named h)
 
-  pub joined_by : (answer : Result (Unit {0}) FaultKind) → OnOk answer (Pass (kind_tests kind e r) × (new ≡ with_kind kind e r)) → OnOk answer (Pass (record_tests e r) × (new ≡ with_record e r))
+  pub joined_by : (answer : Result (Unit {0}) FaultKind) → OnOk answer (Pass (kind_tests v kind e r) × (new ≡ with_kind kind e r)) → OnOk answer (Pass (record_tests v e r) × (new ≡ with_record e r))
   joined_by (Ok u) h = (passed h.0, subst (λ (k : Option Kind). new ≡ with_kind k e r) named h.1)
   joined_by (Err k) h = tt
 
-  refused : (k : FaultKind) → Refuse (kind_tests kind e r) k → Refuse (record_tests e r) k
+  refused : (k : FaultKind) → Refuse (kind_tests v kind e r) k → Refuse (record_tests v e r) k
   refused k h = elim h [ inl f ↦ inl (failed k f) | inr f ↦ inr (passed f.0, f.1) ]
 
-  pub refused_by : (answer : Result (Unit {0}) FaultKind) → IfErr answer (Refuse (kind_tests kind e r)) → IfErr answer (Refuse (record_tests e r))
+  pub refused_by : (answer : Result (Unit {0}) FaultKind) → IfErr answer (Refuse (kind_tests v kind e r)) → IfErr answer (Refuse (record_tests v e r))
   refused_by (Ok u) h = tt
   refused_by (Err k) h = refused k h
 
 -- a word that names no kind
-pub no_kind : (e : Election) (r : Record) → None ≡ kind_named (cell r KIND) → Sized r → FailBy (record_tests e r) fault.Kind
+pub no_kind : (v : Version) (e : Election) (r : Record) → None ≡ kind_named (cell r KIND) → Sized r → FailBy (record_tests v e r) fault.Kind
 unfolding test
-no_kind e r named sized = failed e e r None named sized fault.Kind (record { first = refl })
+no_kind v e r named sized = failed v e e r None named sized fault.Kind (record { first = refl })

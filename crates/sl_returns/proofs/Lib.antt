@@ -5,6 +5,8 @@ pub mod Joins
 pub mod Places
 pub mod Rows
 pub mod Growing
+pub mod Sorting
+pub mod PassedTests
 pub mod Steps
 pub mod Feeding
 pub mod AllRecords

@@ -10,8 +10,7 @@ use Rattle.sl_ratio.specs.declared.names.TheConstants.{MAX_NAME_BYTES}
 use Rattle.sl_ratio.specs.Names.{is_name, is_name_byte, name_fault, spelling_fault}
 use Rattle.sl_ratio.proofs.NameLists.{is_free}
 use Rattle.sl_returns.specs.declared.fault.FaultKind.TheVariants as fault
-use Rattle.sl_returns.specs.Cells.{is_blank, number_in, place_in}
-use Rattle.sl_returns.specs.Records.{backer_of}
+use Rattle.sl_returns.specs.Cells.{is_blank, number_in, place_in, place_or_none}
 use Rattle.sl_returns.specs.Tests.{Pass, test, new_tests, known_tests, known_or_none_tests}
 
 -- a well spelled name has no fault of spelling
@@ -70,10 +69,10 @@ is_known name found h = go (is_name name) found h.none
     go true (Some n) h = (n, refl)
     go false f h = absurd (none-some fault.Name (sym h))
 
--- the party of a winner: nothing where the cell is empty, else the party's place
-pub found_backer : (names : List (List ℕ)) (name : List ℕ) → Pass (known_or_none_tests name (number_in names name)) → (if is_blank name then None else number_in names name) ≡ backer_of names name
+-- a name that may be empty: nothing where it is, else its place
+pub found_or_none : (names : List (List ℕ)) (name : List ℕ) → Pass (known_or_none_tests name (number_in names name)) → (if is_blank name then None else number_in names name) ≡ place_or_none names name
 unfolding known_or_none_tests
-found_backer names name h = go (is_blank name) h
+found_or_none names name h = go (is_blank name) h
   where
     go : (b : Bool) → Pass (if b then [] else known_tests name (number_in names name)) → (if b then None else number_in names name) ≡ (if b then None else Some (place_in names name))
     go true h = refl

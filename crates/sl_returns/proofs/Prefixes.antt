@@ -1,33 +1,34 @@
 -- A refused record decides what all the records give.
-use Rattle.std.proofs.Common.{◌≡◌, Bool, true, false, List, [], ◌∷◌, ◌++◌, Option, Some, None, Result, Ok, Err, IfOk, IfErr, ◌⊎◌, inl, inr, if◌then◌else◌, sym, ap, ◌∙◌}
+use Rattle.std.proofs.Common.{◌≡◌, List, [], ◌∷◌, ◌++◌, Option, Some, None, Result, Ok, Err, IfOk, IfErr, ◌⊎◌, inl, inr, sym, ap, ◌∙◌}
 use Rattle.std.specs.Option.{option_or}
 use Rattle.std.proofs.lemmas.Option.{none-some}
 use Rattle.sl_stages.specs.Election.{Election}
-use Rattle.sl_returns.specs.declared.fault.FaultKind.TheVariants as fault
 use Rattle.sl_returns.specs.declared.fault.ReturnsFault.{ReturnsFault}
-use Rattle.sl_returns.specs.Faults.{fault_at, row_behind, no_memory}
-use Rattle.sl_returns.specs.Cells.{Record, is_header}
+use Rattle.sl_returns.specs.Faults.{no_memory}
+use Rattle.sl_returns.specs.declared.header.Version.{Version}
+use Rattle.sl_returns.specs.Cells.{Record}
+use Rattle.sl_returns.specs.Headers.{version_of}
 use Rattle.sl_returns.specs.Records.{election_of_records}
 use Rattle.sl_returns.specs.Building.{RefusesLast}
-use Rattle.sl_returns.specs.Returns.{fault_behind, first_fault, refusal_of, lack_of, behind_header, returns_of, unless}
+use Rattle.sl_returns.specs.Returns.{fault_behind, first_fault, refusal_under, refusal_of, lack_of, behind_header, returns_of, unless}
 
 -- a fault among the first records is the first of all
-first_fault_stays : (before rest more : List Record) (f : ReturnsFault) → first_fault before rest ≡ Some f → first_fault before (rest ++ more) ≡ Some f
-first_fault_stays before [] more f h = absurd (none-some f h)
-first_fault_stays before (r ∷ rest) more f h = go (fault_behind before r) h (first_fault_stays (before ++ r ∷ []) rest more f)
+first_fault_stays : (v : Version) (before rest more : List Record) (f : ReturnsFault) → first_fault v before rest ≡ Some f → first_fault v before (rest ++ more) ≡ Some f
+first_fault_stays v before [] more f h = absurd (none-some f h)
+first_fault_stays v before (r ∷ rest) more f h = go (fault_behind v before r) h (first_fault_stays v (before ++ r ∷ []) rest more f)
   where
-    go : (o : Option ReturnsFault) → option_or o (first_fault (before ++ r ∷ []) rest) ≡ Some f → (first_fault (before ++ r ∷ []) rest ≡ Some f → first_fault (before ++ r ∷ []) (rest ++ more) ≡ Some f)
-        → option_or o (first_fault (before ++ r ∷ []) (rest ++ more)) ≡ Some f
+    go : (o : Option ReturnsFault) → option_or o (first_fault v (before ++ r ∷ []) rest) ≡ Some f → (first_fault v (before ++ r ∷ []) rest ≡ Some f → first_fault v (before ++ r ∷ []) (rest ++ more) ≡ Some f)
+        → option_or o (first_fault v (before ++ r ∷ []) (rest ++ more)) ≡ Some f
     go None h later = later h
     go (Some x) h later = h
 
 refusal_stays : (rs more : List Record) (f : ReturnsFault) → refusal_of rs ≡ Some f → refusal_of (rs ++ more) ≡ Some f
 refusal_stays [] more f h = absurd (none-some f h)
-refusal_stays (r ∷ rest) more f h = go (is_header r) h
+refusal_stays (r ∷ rest) more f h = go (version_of r) h
   where
-    go : (b : Bool) → (if b then first_fault [] rest else Some (fault_at (row_behind 0) fault.Header)) ≡ Some f → (if b then first_fault [] (rest ++ more) else Some (fault_at (row_behind 0) fault.Header)) ≡ Some f
-    go true h = first_fault_stays [] rest more f h
-    go false h = h
+    go : (v : Option Version) → refusal_under v rest ≡ Some f → refusal_under v (rest ++ more) ≡ Some f
+    go None h = h
+    go (Some v) h = first_fault_stays v [] rest more f h
 
 -- what records give whose beginning is refused
 pub refused_for_good : (rs more : List Record) (f : ReturnsFault) → refusal_of rs ≡ Some f → returns_of (rs ++ more) ≡ Err f

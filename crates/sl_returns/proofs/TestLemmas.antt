@@ -41,6 +41,11 @@ pub exit : {ts : List Test} {k : FaultKind} (r : Result (Unit {0}) FaultKind) �
 exit (Ok u) h f = absurd h
 exit {ts} (Err e) h f = inl (subst (λ k. FailBy ts k) (sym h) f)
 
+-- the same, where the function itself promises no more than the first fault
+pub refusing : {X : Type 0} {ts : List Test} {k : FaultKind} (r : Result X FaultKind) → IsErrAnd r (λ e. e ≡ k) → FailBy ts k → IfErr r (FailBy ts)
+refusing (Ok x) h f = absurd h
+refusing {X} {ts} (Err e) h f = subst (λ k. FailBy ts k) (sym h) f
+
 -- where every test holds, the returns refuse a record only for want of memory
 pub wanting : {ts : List Test} (r : Result (Unit {0}) FaultKind) → Pass ts → IfErr r (λ k. k ≡ fault.NoMemory) → IfErr r (Refuse ts)
 wanting (Ok u) h e = tt

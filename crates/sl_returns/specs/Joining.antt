@@ -1,15 +1,20 @@
 -- The election with a record more, for a record whose tests hold.
-use Rattle.std.specs.Prelude.{◌≡◌, Bool, true, false, Option, Some, None}
-use Rattle.sl_stages.specs.Election.{Election, with_land, with_party, with_list, with_win}
+use Rattle.std.specs.Prelude.{◌≡◌, Option, Some, None}
+use Rattle.sl_stages.specs.Election.{Election, with_house, with_land, with_party, with_list, with_win, with_lot}
 use Rattle.sl_returns.specs.declared.cells.TheConstants.{KIND, LAND, PARTY, A}
+use Rattle.sl_returns.specs.declared.header.Version.{Version}
 use Rattle.sl_returns.specs.declared.kind.Kind.{Kind}
 use Rattle.sl_returns.specs.declared.kind.Kind.TheVariants as kind
 use Rattle.sl_returns.specs.declared.fault.FaultKind.{FaultKind}
 use Rattle.sl_returns.specs.declared.fault.FaultKind.TheVariants as fault
-use Rattle.sl_returns.specs.Cells.{Record, cell, is_header, number_of, place_in}
+use Rattle.sl_returns.specs.Cells.{Record, cell, number_of, place_in}
+use Rattle.sl_returns.specs.Headers.{version_of}
 use Rattle.sl_returns.specs.Kinds.{kind_named}
-use Rattle.sl_returns.specs.Records.{is_minority, votes_of, win_of}
+use Rattle.sl_returns.specs.Records.{is_minority, votes_of, win_of, lot_of}
 use Rattle.sl_returns.specs.Tests.{Pass, Refuse, record_tests}
+
+abbrev pub with_house_of : Election → Record → Election
+with_house_of e r = with_house e (number_of (cell r A))
 
 abbrev pub with_land_of : Election → Record → Election
 with_land_of e r = with_land e (cell r LAND) (number_of (cell r A))
@@ -23,22 +28,27 @@ with_list_of e r = with_list e (place_in e.land_names (cell r LAND)) (place_in e
 abbrev pub with_win_of : Election → Record → Election
 with_win_of e r = with_win e (cell r A) (win_of e.land_names e.party_names r)
 
+abbrev pub with_lot_of : Election → Record → Election
+with_lot_of e r = with_lot e (lot_of e.land_names e.party_names e.win_names r)
+
 abbrev pub with_kind : Option Kind → Election → Record → Election
 with_kind None e r = e
+with_kind (Some kind.House) e r = with_house_of e r
 with_kind (Some kind.Land) e r = with_land_of e r
 with_kind (Some kind.Party) e r = with_party_of e r
 with_kind (Some kind.List) e r = with_list_of e r
 with_kind (Some kind.Win) e r = with_win_of e r
+with_kind (Some kind.Lot) e r = with_lot_of e r
 
 abbrev pub with_record : Election → Record → Election
 with_record e r = with_kind (kind_named (cell r KIND)) e r
 
--- what taking a record leaves: the first is the header and changes nothing, another passes its tests and joins
-abbrev pub TakesRecord : Bool → Election → Election → Record → Type 0
-TakesRecord true old new r = (is_header r ≡ true) × (new ≡ old)
-TakesRecord false old new r = Pass (record_tests old r) × (new ≡ with_record old r)
+-- what taking a record leaves: the first is the header of a version and changes nothing else, another passes its tests and joins
+abbrev pub TakesRecord : Option Version → Version → Election → Election → Record → Type 0
+TakesRecord None v old new r = (version_of r ≡ Some v) × (new ≡ old)
+TakesRecord (Some u) v old new r = (v ≡ u) × Pass (record_tests u old r) × (new ≡ with_record old r)
 
 -- why a record is refused
-abbrev pub RefusesRecord : Bool → Election → Record → FaultKind → Type 0
-RefusesRecord true old r k = (is_header r ≡ false) × (k ≡ fault.Header)
-RefusesRecord false old r k = Refuse (record_tests old r) k
+abbrev pub RefusesRecord : Option Version → Election → Record → FaultKind → Type 0
+RefusesRecord None old r k = (version_of r ≡ None) × (k ≡ fault.Header)
+RefusesRecord (Some u) old r k = Refuse (record_tests u old r) k

@@ -5,13 +5,15 @@ use Rattle.sl_returns.specs.declared.kind.Kind.{Kind}
 use Rattle.sl_returns.specs.declared.kind.Kind.TheVariants as kind
 
 abbrev pub word_of : Kind → List ℕ
+word_of kind.House = codes "house"
 word_of kind.Land = codes "land"
 word_of kind.Party = codes "party"
 word_of kind.List = codes "list"
 word_of kind.Win = codes "win"
+word_of kind.Lot = codes "lot"
 
 abbrev pub kinds : List Kind
-kinds = kind.Land ∷ kind.Party ∷ kind.List ∷ kind.Win ∷ []
+kinds = kind.House ∷ kind.Land ∷ kind.Party ∷ kind.List ∷ kind.Win ∷ kind.Lot ∷ []
 
 -- the kind that a word names
 abbrev pub kind_named : List ℕ → Option Kind

@@ -1,8 +1,10 @@
 pub mod Faults
 pub mod Kinds
 pub mod Cells
+pub mod Headers
 pub mod Tests
 pub mod Records
+pub mod Lots
 pub mod Joining
 pub mod Returns
 pub mod Building

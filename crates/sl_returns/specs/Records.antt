@@ -1,14 +1,15 @@
 -- What an election is, read off the records behind the header (docs/returns.md, section 4).
-use Rattle.std.specs.Prelude.{ℕ, ◌-◌, Bool, List, ◌++◌, length, map, filter, find, replicate, Option, Some, None, option_map, nat_eq, ◌&&◌, if◌then◌else◌}
+use Rattle.std.specs.Prelude.{ℕ, ◌-◌, Bool, List, ◌++◌, length, map, filter, find, replicate, Option, None, option_map, nat_eq, ◌&&◌, slice_get}
 use Rattle.std.specs.Str.{bytes_eq}
 use Rattle.sl_stages.specs.declared.limits.TheConstants.{MAX_PARTIES}
 use Rattle.sl_stages.specs.declared.returns.ListVotes.{ListVotes}
 use Rattle.sl_stages.specs.declared.returns.Win.{Win}
+use Rattle.sl_stages.specs.declared.returns.Lot.{Lot}
 use Rattle.sl_stages.specs.Election.{Election}
 use Rattle.sl_returns.specs.declared.cells.TheConstants.{KIND, LAND, PARTY, A, B, C}
 use Rattle.sl_returns.specs.declared.kind.Kind.{Kind}
 use Rattle.sl_returns.specs.declared.kind.Kind.TheVariants as kind
-use Rattle.sl_returns.specs.Cells.{Record, cell, is_blank, number_of, place_in}
+use Rattle.sl_returns.specs.Cells.{Record, cell, number_of, number_or_none, place_in, place_or_none}
 use Rattle.sl_returns.specs.Kinds.{word_of}
 
 -- the records of a kind, in their order
@@ -18,6 +19,10 @@ of_kind k rs = filter (λ r. bytes_eq (cell r KIND) (word_of k)) rs
 -- what a column has in each of them
 abbrev pub column : ℕ → List Record → List (List ℕ)
 column at rs = map (λ r. cell r at) rs
+
+-- the house that the first of its records tells
+abbrev pub house : List Record → Option ℕ
+house rs = slice_get (map number_of (column A (of_kind kind.House rs))) 0
 
 abbrev pub land_names : List Record → List (List ℕ)
 land_names rs = column LAND (of_kind kind.Land rs)
@@ -37,9 +42,9 @@ minorities rs = map is_minority (of_kind kind.Party rs)
 
 -- ---- lists
 
--- the votes that a record tells of its list
+-- what a record tells of its list
 abbrev pub votes_of : Record → ListVotes
-votes_of r = record { valid = number_of (cell r A); counted = number_of (cell r B); slate = None }
+votes_of r = record { valid = number_of (cell r A); counted = number_of (cell r B); slate = number_or_none (cell r C) }
 
 -- whether a record names that Land and that party
 abbrev pub names_both : List ℕ → List ℕ → Record → Bool
@@ -58,14 +63,10 @@ rows_from lists lands parties = map (row_from lists parties) lands
 
 -- ---- winners
 
--- the party of a winner, who may have none
-abbrev pub backer_of : List (List ℕ) → List ℕ → Option ℕ
-backer_of parties party = if is_blank party then None else Some (place_in parties party)
-
 abbrev pub win_of : List (List ℕ) → List (List ℕ) → Record → Win
 win_of lands parties r = record {
   land = place_in lands (cell r LAND);
-  party = backer_of parties (cell r PARTY);
+  party = place_or_none parties (cell r PARTY);
   first = number_of (cell r B);
   valid = number_of (cell r C);
 }
@@ -76,11 +77,25 @@ win_names rs = column A (of_kind kind.Win rs)
 abbrev pub wins : List Record → List Win
 wins rs = map (win_of (land_names rs) (party_names rs)) (of_kind kind.Win rs)
 
+-- ---- lots
+
+-- the lot that a record tells
+abbrev pub lot_of : List (List ℕ) → List (List ℕ) → List (List ℕ) → Record → Lot
+lot_of lands parties constituencies r = record {
+  land = place_or_none lands (cell r LAND);
+  party = place_or_none parties (cell r PARTY);
+  stage = cell r A;
+  win = place_or_none constituencies (cell r B);
+}
+
+abbrev pub lots : List Record → List Lot
+lots rs = map (lot_of (land_names rs) (party_names rs) (win_names rs)) (of_kind kind.Lot rs)
+
 -- ---- the election
 
 abbrev pub election_of_records : List Record → Election
 election_of_records rs = record {
-  house = None;
+  house = house rs;
   land_names = land_names rs;
   populations = populations rs;
   cells = rows_from (of_kind kind.List rs) (land_names rs) (party_names rs);
@@ -88,4 +103,5 @@ election_of_records rs = record {
   minorities = minorities rs;
   win_names = win_names rs;
   wins = wins rs;
+  lots = lots rs;
 }

@@ -5,24 +5,31 @@ use Rattle.csv.specs.Reading.{default_config, records, strip_bom}
 use Rattle.sl_stages.specs.Election.{Election}
 use Rattle.sl_returns.specs.declared.fault.ReturnsFault.{ReturnsFault}
 use Rattle.sl_returns.specs.declared.fault.FaultKind.TheVariants as fault
+use Rattle.sl_returns.specs.declared.header.Version.{Version}
 use Rattle.sl_returns.specs.Faults.{fault_at, row_behind}
-use Rattle.sl_returns.specs.Cells.{Record, is_header}
+use Rattle.sl_returns.specs.Cells.{Record}
+use Rattle.sl_returns.specs.Headers.{version_of}
 use Rattle.sl_returns.specs.Tests.{first_failing, record_tests}
 use Rattle.sl_returns.specs.Records.{land_names, election_of_records}
 
 -- what is wrong with a record behind the header and behind those records
-abbrev pub fault_behind : List Record → Record → Option ReturnsFault
-fault_behind before r = option_map (fault_at (row_behind (length before + 1))) (first_failing (record_tests (election_of_records before) r))
+abbrev pub fault_behind : Version → List Record → Record → Option ReturnsFault
+fault_behind v before r = option_map (fault_at (row_behind (length before + 1))) (first_failing (record_tests v (election_of_records before) r))
 
 -- the fault of the first record that fails its tests, of records behind the header and behind those before them
-abbrev pub first_fault : List Record → List Record → Option ReturnsFault
-first_fault before [] = None
-first_fault before (r ∷ rest) = option_or (fault_behind before r) (first_fault (before ++ r ∷ []) rest)
+abbrev pub first_fault : Version → List Record → List Record → Option ReturnsFault
+first_fault v before [] = None
+first_fault v before (r ∷ rest) = option_or (fault_behind v before r) (first_fault v (before ++ r ∷ []) rest)
+
+-- the fault of a first record that is the header of that version, and of those behind it
+abbrev pub refusal_under : Option Version → List Record → Option ReturnsFault
+refusal_under None rest = Some (fault_at (row_behind 0) fault.Header)
+refusal_under (Some v) rest = first_fault v [] rest
 
 -- the first record that is refused: the first of all, if it is not the header, or one that fails its tests
 abbrev pub refusal_of : List Record → Option ReturnsFault
 refusal_of [] = None
-refusal_of (r ∷ rest) = if is_header r then first_fault [] rest else Some (fault_at (row_behind 0) fault.Header)
+refusal_of (r ∷ rest) = refusal_under (version_of r) rest
 
 -- what is missing at the end of records none of which is refused: a header, or a Land
 abbrev pub lack_of : List Record → Option ReturnsFault

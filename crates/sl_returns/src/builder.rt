@@ -1,12 +1,12 @@
 //! Returns, built record by record.
 
-ghost use Rattle.std.specs.Prelude.{◌≡◌, ◌++◌, ◌∷◌, [], List, None, Some, OnOk, IfErr, IfSome, Err};
+ghost use Rattle.std.specs.Prelude.{◌≡◌, ◌++◌, ◌∷◌, [], List, None, Some, OnOk, IfOk, IfErr, IfSome, Err};
 ghost use Rattle.csv.specs.Records.{fields_of};
 ghost use Rattle.sl_returns.specs.Cells.{Record};
 ghost use Rattle.sl_returns.specs.Joining.{TakesRecord, RefusesRecord};
 
-use crate::cells::is_header;
 use crate::fault::{FaultKind, ReturnsFault};
+use crate::header::Version;
 use crate::join::join;
 use csv::ByteRecord;
 use sl_stages::Returns;
@@ -17,6 +17,8 @@ use std::marker::Model;
 #[derive(Drop)]
 pub struct ReturnsBuilder {
     returns: Returns,
+    // the version that the header told
+    version: Option<Version>,
     // the row of the last record
     row: u32,
     fault: Option<ReturnsFault>,
@@ -27,7 +29,7 @@ impl Model for ReturnsBuilder {
 
     ghost Value = { Building };
 
-    ghost view = { λ b. record { election = b.returns; row = b.row; fault = b.fault } };
+    ghost view = { λ b. record { election = b.returns; version = b.version; row = b.row; fault = b.fault } };
 }
 
 impl ReturnsBuilder {
@@ -40,6 +42,7 @@ impl ReturnsBuilder {
     {
         ReturnsBuilder {
             returns: Returns::empty(alloc),
+            version: None,
             row: 0,
             fault: None,
         }
@@ -63,8 +66,9 @@ impl ReturnsBuilder {
             return Err(fault);
         }
         let row = self.row.saturating_add(1);
-        match take(&mut self.returns, self.row == 0, fields) {
-            Ok(()) => {
+        match take(&mut self.returns, self.version, fields) {
+            Ok(version) => {
+                self.version = Some(version);
                 self.row = row;
                 Ok(())
             }
@@ -98,16 +102,20 @@ impl ReturnsBuilder {
     }
 }
 
-// Takes a record, of which the first must be the header.
-fn take(returns: &mut Returns, is_first: bool, fields: &ByteRecord) -> Result<(), FaultKind>
-    ensures taken { OnOk result (TakesRecord is_first returns.old returns.new (fields_of fields.now)) }
-    ensures refused { IfErr result (RefusesRecord is_first returns.old (fields_of fields.now)) }
+// Takes a record, which must be the header where none has told its version, and answers the version.
+fn take(
+    returns: &mut Returns,
+    version: Option<Version>,
+    fields: &ByteRecord,
+) -> Result<Version, FaultKind>
+    ensures taken { IfOk result (λ v. TakesRecord version v returns.old returns.new (fields_of fields.now)) }
+    ensures refused { IfErr result (RefusesRecord version returns.old (fields_of fields.now)) }
 {
-    if !is_first {
-        join(returns, fields)
-    } else if is_header(fields) {
-        Ok(())
-    } else {
-        Err(FaultKind::Header)
+    match version {
+        None => Version::of(fields).ok_or(FaultKind::Header),
+        Some(version) => {
+            join(returns, version, fields)?;
+            Ok(version)
+        }
     }
 }

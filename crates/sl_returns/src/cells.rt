@@ -2,11 +2,12 @@
 
 ghost use Rattle.std.specs.Prelude.{◌≡◌, ◌≤◌, None, Some, true, IsTrue, IfOk, IfErr, OnOk, if◌then◌else◌};
 ghost use Rattle.std.specs.List.{list_all};
+ghost use Rattle.std.specs.Option.{ForSome};
 ghost use Rattle.std.specs.Char.{is_ascii_digit};
 ghost use Rattle.csv.specs.Records.{fields_of};
 ghost use Rattle.sl_ratio.specs.Names.{is_name};
-ghost use Rattle.sl_returns.specs.Cells.{cell, is_blank, is_header, is_number, number_of};
-ghost use Rattle.sl_returns.specs.Tests.{Pass, FailBy, test, are_blank, new_tests, known_tests, known_or_none_tests, number_tests};
+ghost use Rattle.sl_returns.specs.Cells.{cell, is_blank, is_number, number_of, number_or_none};
+ghost use Rattle.sl_returns.specs.Tests.{Pass, FailBy, test, are_blank, new_tests, known_tests, known_or_none_tests, number_tests, number_or_none_tests};
 
 use crate::fault::FaultKind;
 use csv::ByteRecord;
@@ -41,19 +42,6 @@ pub(crate) fn cell(fields: &ByteRecord, column: usize) -> &[u8]
     }
 }
 
-// Whether a record is the header.
-pub(crate) fn is_header(fields: &ByteRecord) -> bool
-    ensures { result ≡ is_header (fields_of fields.now) }
-{
-    fields.len() == COLUMNS
-        && cell(fields, KIND) == b"kind".as_slice()
-        && cell(fields, LAND) == b"land".as_slice()
-        && cell(fields, PARTY) == b"party".as_slice()
-        && cell(fields, A) == b"a".as_slice()
-        && cell(fields, B) == b"b".as_slice()
-        && cell(fields, C) == b"c".as_slice()
-}
-
 // Whether the cells of these columns are empty.
 pub(crate) fn are_blank(fields: &ByteRecord, columns: &[usize]) -> bool
     ensures { result ≡ are_blank (fields_of fields.now) columns.now }
@@ -74,7 +62,7 @@ pub(crate) fn ensure(holds: bool, fault: FaultKind) -> Result<(), FaultKind>
 }
 
 // Whether a name is well spelled.
-fn is_name(name: &[u8]) -> bool
+pub(crate) fn is_name(name: &[u8]) -> bool
     ensures { result ≡ is_name name.now }
 {
     spelling_fault(name).is_none()
@@ -154,4 +142,23 @@ pub(crate) fn number(cell: &[u8], least: u32, greatest: u32) -> Result<u32, Faul
         FaultKind::Range,
     )?;
     Ok(number as u32)
+}
+
+// The same, where the cell may be empty.
+#[tactic(auto, unfolding(crate::specs::Tests::number_or_none_tests))]
+pub(crate) fn number_or_none(
+    cell: &[u8],
+    least: u32,
+    greatest: u32,
+) -> Result<Option<u32>, FaultKind>
+    ensures passed { OnOk result (Pass (number_or_none_tests cell.now least greatest)) }
+    ensures number { IfOk result (λ n. n ≡ number_or_none cell.now) }
+    ensures within { IfOk result (λ n. ForSome n (λ m. m ≤ greatest)) }
+    ensures failed { IfErr result (FailBy (number_or_none_tests cell.now least greatest)) }
+{
+    if cell.is_empty() {
+        return Ok(None);
+    }
+    let number = number(cell, least, greatest)?;
+    Ok(Some(number))
 }

@@ -10,7 +10,7 @@ use thiserror::Error;
 pub enum FaultKind {
     #[error("the first record is not the header")]
     Header = 1,
-    #[error("the record has not six cells, or a cell that must be empty is not")]
+    #[error("the record has not six cells, or a cell is filled or empty against its kind")]
     Fields,
     #[error("there is no such kind of record")]
     Kind,

@@ -1,19 +1,25 @@
 //! The records of each kind, tested and joined to the returns.
 
-ghost use Rattle.std.specs.Prelude.{◌≡◌, ◌<◌, IfOk, IfErr, OnOk, IsOk, Some};
+ghost use Rattle.std.specs.Prelude.{◌≡◌, ◌<◌, IfOk, IfErr, OnOk, IsOk, Some, false};
 ghost use Rattle.csv.specs.Records.{fields_of};
-ghost use Rattle.sl_returns.specs.Tests.{Pass, Refuse, land_tests, party_tests, list_tests, win_tests, record_tests};
-ghost use Rattle.sl_returns.specs.Joining.{with_land_of, with_party_of, with_list_of, with_win_of, with_record};
+ghost use Rattle.sl_stages.specs.Votes.{IsListVotes};
+ghost use Rattle.sl_stages.specs.Election.{lands_of, parties_of, has_list, with_list};
+ghost use Rattle.sl_returns.specs.Tests.{Pass, Refuse, fills_list, house_tests, land_tests, party_tests, list_tests, win_tests, lot_tests, record_tests};
+ghost use Rattle.sl_returns.specs.Joining.{with_house_of, with_land_of, with_party_of, with_list_of, with_win_of, with_lot_of, with_record};
 
 use crate::cells::{
     A, B, C, COLUMNS, KIND, LAND, PARTY, are_blank, cell, ensure, known_name, known_or_none,
-    new_name, number,
+    new_name, number, number_or_none,
 };
 use crate::fault::FaultKind;
+use crate::header::Version;
 use crate::kind::Kind;
+use crate::lot::ToldLot;
 use csv::ByteRecord;
 use sl_ratio::NoMemory;
-use sl_stages::{MAX_LANDS, MAX_PARTIES, MAX_VOTES, MAX_WINS, Returns};
+use sl_stages::{
+    ListVotes, MAX_LANDS, MAX_LOTS, MAX_PARTIES, MAX_SEATS, MAX_SLATE, MAX_VOTES, MAX_WINS, Returns,
+};
 
 // What the returns answer to a record that passed its tests.
 fn kept(answer: Result<(), NoMemory>) -> Result<(), FaultKind>
@@ -21,6 +27,19 @@ fn kept(answer: Result<(), NoMemory>) -> Result<(), FaultKind>
     ensures err { IfErr result (λ k. k ≡ FaultKind.NoMemory) }
 {
     answer.map_err(|_| FaultKind::NoMemory)
+}
+
+// Joins the house.
+#[tactic(auto, using(crate::proofs::TestLemmas::passes, crate::proofs::TestLemmas::fails))]
+fn join_house(returns: &mut Returns, fields: &ByteRecord) -> Result<(), FaultKind>
+    ensures joined { OnOk result (Pass (house_tests returns.old (fields_of fields.now)) × (returns.new ≡ with_house_of returns.old (fields_of fields.now))) }
+    ensures refused { IfErr result (Refuse (house_tests returns.old (fields_of fields.now))) }
+{
+    ensure(are_blank(fields, &[LAND, PARTY, B, C]), FaultKind::Fields)?;
+    let seats = number(cell(fields, A), 1, MAX_SEATS)?;
+    ensure(returns.house().is_none(), FaultKind::Twice)?;
+    returns.set_house(seats);
+    Ok(())
 }
 
 // Joins a Land.
@@ -51,22 +70,56 @@ fn join_party(returns: &mut Returns, fields: &ByteRecord) -> Result<(), FaultKin
     kept(returns.add_party(name, minority == 1))
 }
 
+// Keeps a list, with the names left on it, if they are told.
+fn keep_list(
+    returns: &mut Returns,
+    land: usize,
+    party: usize,
+    votes: ListVotes,
+) -> Result<(), FaultKind>
+    requires land { land < lands_of returns.old }
+    requires party { party < parties_of returns.old }
+    requires new { has_list returns.old land party ≡ false }
+    requires votes { IsListVotes votes }
+    ensures kept { OnOk result (returns.new ≡ with_list returns.old land party votes) }
+    ensures wants { IfErr result (λ k. k ≡ FaultKind.NoMemory) }
+{
+    kept(returns.add_list(land, party, votes.valid, votes.counted))?;
+    if let Some(names) = votes.slate {
+        returns.set_slate(land, party, names);
+    }
+    Ok(())
+}
+
+// Whether the cell of the names left on a list is empty where they can't be told.
+fn fills_list(version: Version, fields: &ByteRecord) -> bool
+    ensures { result ≡ fills_list version (fields_of fields.now) }
+{
+    version.may_tell_slate() || cell(fields, C).is_empty()
+}
+
 // Joins a list.
 #[tactic(auto, using(crate::proofs::TestLemmas::passes))]
-fn join_list(returns: &mut Returns, fields: &ByteRecord) -> Result<(), FaultKind>
-    ensures joined { OnOk result (Pass (list_tests returns.old (fields_of fields.now)) × (returns.new ≡ with_list_of returns.old (fields_of fields.now))) }
-    ensures refused { IfErr result (Refuse (list_tests returns.old (fields_of fields.now))) }
+fn join_list(returns: &mut Returns, version: Version, fields: &ByteRecord) -> Result<(), FaultKind>
+    ensures joined { OnOk result (Pass (list_tests version returns.old (fields_of fields.now)) × (returns.new ≡ with_list_of returns.old (fields_of fields.now))) }
+    ensures refused { IfErr result (Refuse (list_tests version returns.old (fields_of fields.now))) }
 {
-    ensure(are_blank(fields, &[C]), FaultKind::Fields)?;
+    ensure(fills_list(version, fields), FaultKind::Fields)?;
     let land_name = cell(fields, LAND);
     let land = known_name(land_name, returns.find_land(land_name))?;
     let party_name = cell(fields, PARTY);
     let party = known_name(party_name, returns.find_party(party_name))?;
     let valid = number(cell(fields, A), 0, MAX_VOTES)?;
     let counted = number(cell(fields, B), 0, MAX_VOTES)?;
+    let slate = number_or_none(cell(fields, C), 0, MAX_SLATE)?;
     ensure(counted <= valid, FaultKind::Counted)?;
     ensure(!returns.is_list(land, party), FaultKind::Twice)?;
-    kept(returns.add_list(land, party, valid, counted))
+    let votes = ListVotes {
+        valid,
+        counted,
+        slate,
+    };
+    keep_list(returns, land, party, votes)
 }
 
 // Joins a winner.
@@ -88,21 +141,39 @@ fn join_win(returns: &mut Returns, fields: &ByteRecord) -> Result<(), FaultKind>
     kept(returns.add_win(land, party, name, first, valid))
 }
 
-/// Joins a record behind the header to the returns.
+// Joins a lot.
+#[tactic(auto, using(crate::proofs::TestLemmas::passes))]
+fn join_lot(returns: &mut Returns, fields: &ByteRecord) -> Result<(), FaultKind>
+    ensures joined { OnOk result (Pass (lot_tests returns.old (fields_of fields.now)) × (returns.new ≡ with_lot_of returns.old (fields_of fields.now))) }
+    ensures refused { IfErr result (Refuse (lot_tests returns.old (fields_of fields.now))) }
+{
+    let lot = ToldLot::read(returns, fields)?;
+    ensure(!lot.is_among(returns.lots()), FaultKind::Twice)?;
+    ensure(returns.lots().len() < MAX_LOTS, FaultKind::TooMany)?;
+    kept(returns.add_lot(lot.land, lot.party, lot.stage, lot.win))
+}
+
+/// Joins a record behind a header of that version to the returns.
 ///
 /// # Errors
 ///
 /// The fault of the first test that the record fails; or, where it passes, want of memory.
-pub(crate) fn join(returns: &mut Returns, fields: &ByteRecord) -> Result<(), FaultKind>
-    ensures joined { OnOk result (Pass (record_tests returns.old (fields_of fields.now)) × (returns.new ≡ with_record returns.old (fields_of fields.now))) }
-    ensures refused { IfErr result (Refuse (record_tests returns.old (fields_of fields.now))) }
+pub(crate) fn join(
+    returns: &mut Returns,
+    version: Version,
+    fields: &ByteRecord,
+) -> Result<(), FaultKind>
+    ensures joined { OnOk result (Pass (record_tests version returns.old (fields_of fields.now)) × (returns.new ≡ with_record returns.old (fields_of fields.now))) }
+    ensures refused { IfErr result (Refuse (record_tests version returns.old (fields_of fields.now))) }
 {
     ensure(fields.len() == COLUMNS, FaultKind::Fields)?;
     match Kind::named(cell(fields, KIND)) {
+        Some(Kind::House) => join_house(returns, fields),
         Some(Kind::Land) => join_land(returns, fields),
         Some(Kind::Party) => join_party(returns, fields),
-        Some(Kind::List) => join_list(returns, fields),
+        Some(Kind::List) => join_list(returns, version, fields),
         Some(Kind::Win) => join_win(returns, fields),
+        Some(Kind::Lot) => join_lot(returns, fields),
         None => Err(FaultKind::Kind),
     }
 }

@@ -6,10 +6,12 @@ ghost use Rattle.sl_returns.specs.Kinds.{kind_named};
 // What a record tells, by the word in its first cell.
 #[derive(Clone, Copy, Debug, PartialEq, Eq)]
 pub(crate) enum Kind {
+    House,
     Land,
     Party,
     List,
     Win,
+    Lot,
 }
 
 impl Kind {
@@ -18,10 +20,12 @@ impl Kind {
         ensures { result ≡ kind_named word.now }
     {
         match word {
+            b"house" => Some(Kind::House),
             b"land" => Some(Kind::Land),
             b"party" => Some(Kind::Party),
             b"list" => Some(Kind::List),
             b"win" => Some(Kind::Win),
+            b"lot" => Some(Kind::Lot),
             _ => None,
         }
     }

@@ -4,8 +4,10 @@
 mod builder;
 mod cells;
 mod fault;
+mod header;
 mod join;
 mod kind;
+mod lot;
 mod read;
 
 pub use builder::ReturnsBuilder;

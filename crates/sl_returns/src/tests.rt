@@ -1,8 +1,10 @@
-//! The worked returns and refusals, with ample memory.
+//! Returns that are read, with ample memory.
+
+mod refusals;
 
 use super::*;
 use csv::ByteRecord;
-use sl_stages::Returns;
+use sl_stages::{Lot, Returns};
 use std::alloc::Global;
 use std::test::*;
 
@@ -12,12 +14,14 @@ fn are_worked(returns: &Returns) -> bool {
         return false;
     }
     let (first, second) = (returns.win(0), returns.win(1));
-    returns.land_name(0) == b"X".as_slice()
+    returns.house().is_none()
+        && returns.land_name(0) == b"X".as_slice()
         && returns.population(0) == 1000
         && returns.party_name(0) == b"A".as_slice()
         && !returns.minority(0)
         && returns.valid(0, 0) == 10
         && returns.counted(0, 0) == 10
+        && returns.slate(0, 0).is_none()
         && returns.win_name(0) == b"w1".as_slice()
         && returns.win_name(1) == b"w2".as_slice()
         && first.party == Some(0)
@@ -34,55 +38,58 @@ fn returns_are_read(rt: HostRuntime) -> Result<(), Fail> {
     Ok(())
 }
 
-// The number and the row of the fault of a text's returns, 0 where there is none.
-fn fault_in(alloc: Global, text: &[u8]) -> (u32, u32) {
-    match read_returns(alloc, text) {
-        Ok(_) => (0, 0),
-        Err(fault) => (fault.kind.number(), fault.row),
+// Whether two Länder have the lists that the second version tells, and the house is told between them.
+fn have_slates(returns: &Returns) -> bool {
+    if returns.lands() != 2 || returns.parties() != 2 {
+        return false;
+    }
+    returns.house() == Some(598)
+        && returns.minority(1)
+        && returns.slate(0, 0) == Some(4000)
+        && returns.slate(1, 0) == Some(0)
+        && returns.slate(1, 1).is_none()
+        && !returns.is_list(0, 1)
+        && (returns.valid(1, 1), returns.counted(1, 1)) == (7, 6)
+}
+
+#[test]
+fn slates_and_the_house_are_read(rt: HostRuntime) -> Result<(), Fail> {
+    let text =
+        b"kind2,land,party,a,b,c\nland,X,,1,,\nparty,,A,0,,\nlist,X,A,10,10,4000\nhouse,,,598,,\nland,Y,,2,,\nparty,,B,1,,\nlist,Y,B,7,6,\nlist,Y,A,3,0,0\n";
+    let returns = read_returns(rt.alloc(), text)?;
+    assert!(rt; have_slates(&returns));
+    Ok(())
+}
+
+// Whether a lot has these cells.
+fn is_lot(
+    lot: &Lot,
+    land: Option<usize>,
+    party: Option<usize>,
+    stage: &[u8],
+    win: Option<usize>,
+) -> bool {
+    lot.land == land && lot.party == party && lot.stage.as_bytes() == stage && lot.win == win
+}
+
+// Whether these are a party's lot, a Land's, a list's and a winner's, in this order.
+fn are_drawn(lots: &[Lot]) -> bool {
+    match lots {
+        [party, land, list, winner] => {
+            is_lot(party, None, Some(1), b"s", None)
+                && is_lot(land, Some(0), None, b"2-s", None)
+                && is_lot(list, Some(0), Some(1), b"s", None)
+                && is_lot(winner, Some(0), Some(1), b"seats", Some(1))
+        }
+        _ => false,
     }
 }
 
 #[test]
-fn the_first_fault_is_told(rt: HostRuntime) {
-    let faults: [(&[u8], (u32, u32)); 11] = [
-        (b"", (1, 1)),
-        (b"kind,land,party,a,b,d\n", (1, 1)),
-        (b"kind,land,party,a,b,c\n", (11, 1)),
-        (b"kind,land,party,a,b,c\nland,X,,1000,\n", (2, 2)),
-        (b"kind,land,party,a,b,c\nseat,X,,1000,,\n", (3, 2)),
-        (b"kind,land,party,a,b,c\nland,X Y,,1,,\n", (4, 2)),
-        (b"kind,land,party,a,b,c\nland,X,,1x,,\n", (5, 2)),
-        (b"kind,land,party,a,b,c\nland,X,,100000001,,\n", (6, 2)),
-        (b"kind,land,party,a,b,c\nlist,X,A,1,1,\n", (7, 2)),
-        (
-            b"kind,land,party,a,b,c\nland,X,,1,,\nparty,,A,0,,\nlist,X,A,5,5,\nlist,X,A,5,5,\n",
-            (8, 5),
-        ),
-        (
-            b"kind,land,party,a,b,c\nland,X,,1,,\nparty,,A,0,,\nlist,X,A,5,6,\n",
-            (9, 4),
-        ),
-    ];
-    for (text, fault) in faults {
-        assert_eq!(rt; fault_in(rt.alloc(), text), fault);
-    }
-}
-
-#[test]
-fn a_refusal_is_final(rt: HostRuntime) -> Result<(), Fail> {
-    let header: [&[u8]; 6] = [b"kind", b"land", b"party", b"a", b"b", b"c"];
-    let header = ByteRecord::from_fields(rt.alloc(), &header)?;
-    let land: [&[u8]; 6] = [b"land", b"X", b"", b"1", b"", b""];
-    let land = ByteRecord::from_fields(rt.alloc(), &land)?;
-    let mut builder = ReturnsBuilder::new(rt.alloc());
-    builder.feed(&header)?;
-    builder.feed(&land)?;
-    let fault = ReturnsFault {
-        row: 3,
-        kind: FaultKind::Twice,
-    };
-    assert_eq!(rt; builder.feed(&land), Err(fault));
-    assert_eq!(rt; builder.feed(&header), Err(fault));
-    assert_eq!(rt; builder.finish().err(), Some(fault));
+fn lots_are_read_in_their_order(rt: HostRuntime) -> Result<(), Fail> {
+    let text =
+        b"kind,land,party,a,b,c\nland,X,,1,,\nparty,,A,0,,\nparty,,B,0,,\nwin,X,A,w1,1,1\nwin,X,B,w2,1,1\nlot,,B,s,,\nlot,X,,2-s,,\nlot,X,B,s,,\nlot,X,B,seats,w2,\n";
+    let returns = read_returns(rt.alloc(), text)?;
+    assert!(rt; are_drawn(returns.lots()));
     Ok(())
 }

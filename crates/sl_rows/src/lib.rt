@@ -2,6 +2,10 @@
 #![tactic(auto)]
 
 #[cfg(test)]
+mod checks;
+#[cfg(test)]
+mod library;
+#[cfg(test)]
 mod memory;
 #[cfg(test)]
 mod tests;

@@ -1,7 +1,14 @@
 //! A source and a sink over memory that go in small steps, and fail at a call of one's choice.
 
-use sl_desk::{Failed, Sink, Source};
+use sl_desk::{DeskError, Failed, Sink, Source, Status};
 use std::alloc::Global;
+
+/// How a call over memory ends, with what was written.
+#[derive(Drop)]
+pub struct Ending {
+    pub result: Result<Status, DeskError>,
+    pub written: Vec<u8>,
+}
 
 /// A source of known bytes: at most `step` bytes a call, and the call numbered `fails_at`, from 1, fails.
 #[derive(Drop)]

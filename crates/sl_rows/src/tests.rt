@@ -1,6 +1,6 @@
 //! Counts over memory: what is written, and how a call ends.
 
-use crate::memory::{Narrow, Slow};
+use crate::memory::{Ending, Narrow, Slow};
 use sl_desk::{BookSource, DeskError, Input, Status, count};
 use std::alloc::Global;
 use std::test::Fail;
@@ -12,13 +12,6 @@ const RETURNS: &str =
     "kind,land,party,a,b,c\nland,X,,1000,,\nparty,,A,0,,\nlist,X,A,10,10,\nwin,X,A,w1,5,9\nwin,X,,w2,5,9\n";
 
 const TABLE: &str = "total 2\nparty A 1 1\nlist X A 1 1\nsingle w2\n";
-
-// How a count over memory ends, with what was written.
-#[derive(Drop)]
-struct Ending {
-    result: Result<Status, DeskError>,
-    written: Vec<u8>,
-}
 
 // The calls that fail, from 1; none at 0.
 #[derive(Clone, Copy)]

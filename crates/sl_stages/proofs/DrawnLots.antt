@@ -62,7 +62,7 @@ stands_in (x ∷ xs) i e = elim (or_cases (nat_eq x i) (list_any (λ j. nat_eq j
 ]
 
 module _ (p : ℕ → Bool) where
-  filter_only : (xs : List ℕ) (i : ℕ) → Contains (filter p xs) i → Contains xs i × (p i ≡ true)
+  pub filter_only : (xs : List ℕ) (i : ℕ) → Contains (filter p xs) i → Contains xs i × (p i ≡ true)
   filter_only [] i c = absurd (Contains-none i c)
   filter_only (x ∷ xs) i c =
       elim (cases_Bool (p x)) [
@@ -87,7 +87,7 @@ module _ (p : ℕ → Bool) where
             (elim (Contains-cases x xs i c) [ inl s ↦ absurd (both_ways (p x) no' (subst (λ z. p z ≡ true) (sym s) e)) | inr h ↦ filter_has xs i h e ])
       ]
 
-  filter_distinct : (xs : List ℕ) → Distinct xs → Distinct (filter p xs)
+  pub filter_distinct : (xs : List ℕ) → Distinct xs → Distinct (filter p xs)
   filter_distinct [] d = tt
   filter_distinct (x ∷ xs) d =
       elim (cases_Bool (p x)) [

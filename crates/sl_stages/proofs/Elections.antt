@@ -1,24 +1,42 @@
 -- What joins an election leaves it an election.
-use Rattle.std.proofs.Common.{◌≡◌, ℕ, ◌+◌, ◌<◌, ◌≤◌, List, [], length, get_or, replicate, Option, Some, None, arith, sym, ap, subst, ◌∙◌}
-use Rattle.std.proofs.lemmas.List.{length_push, length-set, length-replicate}
+use Rattle.std.proofs.Common.{◌≡◌, ℕ, zero, suc, ◌+◌, ◌<◌, ◌≤◌, Bool, List, [], ◌∷◌, length, get_or, set, replicate, Option, Some, None, arith, refl, sym, ap, subst, ◌∙◌}
+use Rattle.std.proofs.lemmas.List.{length_push, length-set, length-replicate, get_or-set_same, set-set}
 use Rattle.std.proofs.lemmas.List.Elements.{All-push, All-replicate, All-set, All-get_or, All-weaker}
 use Rattle.std.specs.List.{All}
 use Rattle.std.proofs.lemmas.Option.{none-some, same_Some}
-use Rattle.sl_stages.specs.declared.limits.TheConstants.{MAX_LANDS, MAX_PARTIES, MAX_VOTES}
+use Rattle.sl_stages.specs.declared.limits.TheConstants.{MAX_LANDS, MAX_PARTIES, MAX_WINS, MAX_LOTS, MAX_VOTES, MAX_SLATE}
 use Rattle.sl_stages.specs.declared.returns.ListVotes.{ListVotes}
 use Rattle.sl_stages.specs.declared.returns.Win.{Win}
-use Rattle.sl_stages.specs.Votes.{IsListVotes}
-use Rattle.sl_stages.specs.Election.{Election, IsElection, IsWin, IsCell, with_land, with_list}
+use Rattle.sl_stages.specs.declared.returns.Lot.{Lot}
+use Rattle.sl_stages.specs.Votes.{IsListVotes, valid_in, counted_in}
+use Rattle.sl_stages.specs.Election.{Election, IsElection, IsWin, IsLot, IsCell, with_land, with_party, with_list, with_win, with_slate, with_lot, list_at}
 
--- a winner stays one as a Land joins
-win_stays : (lands parties : ℕ) (w : Win) → IsWin lands parties w → IsWin (lands + 1) parties w
-win_stays lands parties w is = record {
+-- a winner stays one as Länder and parties join
+win_stays : (lands parties more_lands more_parties : ℕ) → lands ≤ more_lands → parties ≤ more_parties → (w : Win) → IsWin lands parties w → IsWin more_lands more_parties w
+win_stays lands parties more_lands more_parties lands_grow parties_grow w is = record {
   land = let h = is.land in omega arith;
-  party = is.party;
+  party = λ n e. let h = is.party n e in omega arith;
   least = is.least;
   most = is.most;
   valid = is.valid;
 }
+
+wins_stay : (e : Election) (lands parties : ℕ) → IsElection e → length e.land_names ≤ lands → length e.party_names ≤ parties → All (IsWin lands parties) e.wins
+wins_stay e lands parties is lands_grow parties_grow =
+    All-weaker (IsWin (length e.land_names) (length e.party_names)) (IsWin lands parties) (win_stays (length e.land_names) (length e.party_names) lands parties lands_grow parties_grow) e.wins is.places
+
+-- a lot stays one as Länder, parties and winners join
+lot_stays : (lands parties winners more_lands more_parties more_winners : ℕ) → lands ≤ more_lands → parties ≤ more_parties → winners ≤ more_winners → (l : Lot) → IsLot lands parties winners l → IsLot more_lands more_parties more_winners l
+lot_stays lands parties winners more_lands more_parties more_winners lands_grow parties_grow winners_grow l is = record {
+  land = λ n e. let h = is.land n e in omega arith;
+  party = λ n e. let h = is.party n e in omega arith;
+  win = λ n e. let h = is.win n e in omega arith;
+}
+
+lots_stay : (e : Election) (lands parties winners : ℕ) → IsElection e → length e.land_names ≤ lands → length e.party_names ≤ parties → length e.win_names ≤ winners → All (IsLot lands parties winners) e.lots
+lots_stay e lands parties winners is lands_grow parties_grow winners_grow =
+    All-weaker (IsLot (length e.land_names) (length e.party_names) (length e.win_names)) (IsLot lands parties winners)
+    (lot_stays (length e.land_names) (length e.party_names) (length e.win_names) lands parties winners lands_grow parties_grow winners_grow) e.lots is.lots
 
 -- a cell without a list is a cell
 blank_cell : IsCell None
@@ -39,7 +57,29 @@ is_with_land e name people is free most =
       people = All-push (λ n. n ≤ MAX_VOTES) e.populations people is.people most;
       widths = All-push (λ row. length row ≡ MAX_PARTIES) e.cells (replicate MAX_PARTIES None) is.widths (length-replicate {A = Option ListVotes} MAX_PARTIES None);
       votes = All-push (All IsCell) e.cells (replicate MAX_PARTIES None) is.votes (All-replicate IsCell MAX_PARTIES None blank_cell);
-      places = rw named (All-weaker (IsWin (length e.land_names) (length e.party_names)) (IsWin (length e.land_names + 1) (length e.party_names)) (win_stays (length e.land_names) (length e.party_names)) e.wins is.places);
+      places = wins_stay e _ _ is (omega arith) (omega arith);
+      drawn = is.drawn;
+      lots = lots_stay e _ _ _ is (omega arith) (omega arith) (omega arith);
+    }
+
+pub is_with_party : (e : Election) (name : List ℕ) (minority : Bool) → IsElection e → length e.party_names < MAX_PARTIES → IsElection (with_party e name minority)
+is_with_party e name minority is free =
+    let named = length_push e.party_names name in
+    record {
+      house = is.house;
+      lands = is.lands;
+      parties = omega arith;
+      winners = is.winners;
+      populations = is.populations;
+      rows = is.rows;
+      minorities = length_push e.minorities minority ∙ ap (λ n. n + 1) is.minorities ∙ sym named;
+      wins = is.wins;
+      people = is.people;
+      widths = is.widths;
+      votes = is.votes;
+      places = wins_stay e _ _ is (omega arith) (omega arith);
+      drawn = is.drawn;
+      lots = lots_stay e _ _ _ is (omega arith) (omega arith) (omega arith);
     }
 
 -- the cell of a list
@@ -63,4 +103,85 @@ is_with_list e land party votes is within of_list =
       widths = All-set (λ row. length row ≡ MAX_PARTIES) e.cells land _ (length-set row party (Some votes) ∙ All-get_or (λ row. length row ≡ MAX_PARTIES) e.cells land [] there is.widths) is.widths;
       votes = All-set (All IsCell) e.cells land _ (All-set IsCell row party (Some votes) (list_cell votes of_list) (All-get_or (All IsCell) e.cells land [] there is.votes)) is.votes;
       places = is.places;
+      drawn = is.drawn;
+      lots = is.lots;
     }
+
+-- a row has a cell for each party
+pub cell_within : (e : Election) (land party : ℕ) → IsElection e → land < length e.land_names → party < length e.party_names → party < length (get_or e.cells land [])
+cell_within e land party is l p =
+    let wide = All-get_or (λ row. length row ≡ MAX_PARTIES) e.cells land [] (omega (arith, is.rows)) is.widths in
+    omega (arith, wide, is.parties)
+
+-- a list that was added is read back
+pub list_told : (e : Election) (land party : ℕ) (votes : ListVotes) → IsElection e → land < length e.land_names → party < length e.party_names → list_at (with_list e land party votes) land party ≡ Some votes
+list_told e land party votes is of_land of_party =
+    let there : land < length e.cells = omega (arith, is.rows) in
+    let row = get_or e.cells land [] in
+    ap (λ row. get_or row party None) (get_or-set_same e.cells land (set row party (Some votes)) [] there) ∙ get_or-set_same row party (Some votes) None (cell_within e land party is of_land of_party)
+
+-- what is written over what was read back
+set_again : {X : Type 0} (xs : List X) (i : ℕ) (x d : X) (f : X → X) → set (set xs i x) i (f (get_or (set xs i x) i d)) ≡ set xs i (f x)
+set_again [] i x d f = refl
+set_again (y ∷ xs) zero x d f = refl
+set_again (y ∷ xs) (suc i) x d f = ap (λ ys. y ∷ ys) (set_again xs i x d f)
+
+-- a list that joins, and then its names
+pub slate_told : (e : Election) (land party names : ℕ) (votes : ListVotes) → list_at (with_list e land party votes) land party ≡ Some votes
+    → with_slate (with_list e land party votes) land party names ≡ with_list e land party (record votes { slate = Some names })
+slate_told e land party names votes told =
+    let row = get_or e.cells land [] in
+    let again = Some (record votes { slate = Some names }) in
+    ap (λ cell. with_list (with_list e land party votes) land party (record { valid = valid_in cell; counted = counted_in cell; slate = Some names })) told
+    ∙ ap (λ (cells : List (List (Option ListVotes))). record e { cells = cells }) (set_again e.cells land (set row party (Some votes)) [] (λ row. set row party again) ∙ ap (set e.cells land) (set-set row party (Some votes) again))
+
+-- the votes of a list keep within the limits as its names are told
+with_names : (cell : Option ListVotes) (names : ℕ) → IsCell cell → names ≤ MAX_SLATE → IsListVotes (record { valid = valid_in cell; counted = counted_in cell; slate = Some names })
+with_names None names is few = record { counted = omega arith; valid = omega arith; slate = λ n e. subst (λ m. m ≤ MAX_SLATE) (same_Some names n e) few }
+with_names (Some v) names is few =
+    let kept = is v refl in
+    record { counted = kept.counted; valid = kept.valid; slate = λ n e. subst (λ m. m ≤ MAX_SLATE) (same_Some names n e) few }
+
+pub is_with_slate : (e : Election) (land party names : ℕ) → IsElection e → land < length e.land_names → party < length e.party_names → names ≤ MAX_SLATE → IsElection (with_slate e land party names)
+is_with_slate e land party names is of_land of_party few =
+    let there : land < length e.cells = omega (arith, is.rows) in
+    let cell = All-get_or IsCell (get_or e.cells land []) party None (cell_within e land party is of_land of_party) (All-get_or (All IsCell) e.cells land [] there is.votes) in
+    is_with_list e land party _ is of_land (with_names (list_at e land party) names cell few)
+
+pub is_with_win : (e : Election) (name : List ℕ) (win : Win) → IsElection e → length e.win_names < MAX_WINS → IsWin (length e.land_names) (length e.party_names) win → IsElection (with_win e name win)
+is_with_win e name win is free placed =
+    let named = length_push e.win_names name in
+    record {
+      house = is.house;
+      lands = is.lands;
+      parties = is.parties;
+      winners = omega arith;
+      populations = is.populations;
+      rows = is.rows;
+      minorities = is.minorities;
+      wins = named ∙ ap (λ n. n + 1) is.wins ∙ sym (length_push e.wins win);
+      people = is.people;
+      widths = is.widths;
+      votes = is.votes;
+      places = All-push (IsWin (length e.land_names) (length e.party_names)) e.wins win is.places placed;
+      drawn = is.drawn;
+      lots = lots_stay e _ _ _ is (omega arith) (omega arith) (omega arith);
+    }
+
+pub is_with_lot : (e : Election) (lot : Lot) → IsElection e → length e.lots < MAX_LOTS → IsLot (length e.land_names) (length e.party_names) (length e.win_names) lot → IsElection (with_lot e lot)
+is_with_lot e lot is free named = record {
+  house = is.house;
+  lands = is.lands;
+  parties = is.parties;
+  winners = is.winners;
+  populations = is.populations;
+  rows = is.rows;
+  minorities = is.minorities;
+  wins = is.wins;
+  people = is.people;
+  widths = is.widths;
+  votes = is.votes;
+  places = is.places;
+  drawn = let more = length_push e.lots lot in omega arith;
+  lots = All-push (IsLot (length e.land_names) (length e.party_names) (length e.win_names)) e.lots lot is.lots named;
+}

@@ -15,7 +15,7 @@ use Rattle.sl_stages.proofs.HouseProofs.{growing}
 use Rattle.sl_stages.proofs.SettledTests.{settled_test, settled_by_test, peers_test, peers_by_test, names_by_test, lacks_by_test}
 
 module _ (l : Ladders) (law : AreFalling l) (s : List ℕ) (e : length s ≡ length l.base) (settled : settled_test l s ≡ true) where
-  decided : (lot : List ℕ) → IsChoice (IsTop l (sum s)) lot (Decided s)
+  pub decided : (lot : List ℕ) → IsChoice (IsTop l (sum s)) lot (Decided s)
   decided = ((batches l law).settled s (settled_by_test l s law e settled)).choice
 
   module _ (peers : List ℕ) (listed : peers_test l s peers ≡ true) (r : ℕ) (pos : 0 < r) (less : r < length peers) where
@@ -83,7 +83,7 @@ hamilton_majority =
       preferred = (preferred.choice [] (Decided (3 ∷ 1 ∷ 1 ∷ 0 ∷ []))).0 (decided (hamilton_ladders true four_lists 5) preferred.falling (3 ∷ 1 ∷ 1 ∷ 0 ∷ []) refl refl []);
     }
 
-three_votes : (a b c : ℕ) → 0 < a → 0 < b → 0 < c → AllHaveVotes (a ∷ b ∷ c ∷ [])
+pub three_votes : (a b c : ℕ) → 0 < a → 0 < b → 0 < c → AllHaveVotes (a ∷ b ∷ c ∷ [])
 three_votes a b c x y z zero less = x
 three_votes a b c x y z (suc zero) less = y
 three_votes a b c x y z (suc (suc zero)) less = z

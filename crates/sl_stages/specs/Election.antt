@@ -1,10 +1,11 @@
 -- The returns of an election, as the definitions see them (docs/returns.md, section 2).
 use Rattle.std.specs.Prelude.{◌≡◌, ℕ, ◌+◌, ◌*◌, ◌<◌, ◌≤◌, Bool, List, [], ◌∷◌, ◌++◌, length, replicate, Option, Some, None, is_some, slice_index_or, slice_set, All}
 use Rattle.std.specs.Option.{ForSome}
-use Rattle.sl_stages.specs.declared.limits.TheConstants.{MAX_LANDS, MAX_PARTIES, MAX_WINS, MAX_VOTES, MAX_SEATS}
+use Rattle.sl_stages.specs.declared.limits.TheConstants.{MAX_LANDS, MAX_PARTIES, MAX_WINS, MAX_LOTS, MAX_VOTES, MAX_SEATS}
 use Rattle.sl_stages.specs.declared.returns.ListVotes.{ListVotes}
 use Rattle.sl_stages.specs.declared.returns.Win.{Win}
-use Rattle.sl_stages.specs.Votes.{IsListVotes}
+use Rattle.sl_stages.specs.declared.returns.Lot.{Lot}
+use Rattle.sl_stages.specs.Votes.{IsListVotes, valid_in, counted_in}
 
 -- Each Land, each party and each winner has the number of its record, from 0.
 pub record Election : Type 0 where
@@ -19,6 +20,8 @@ pub record Election : Type 0 where
   pub minorities : List Bool
   pub win_names : List (List ℕ)
   pub wins : List Win
+  -- in the order of their records
+  pub lots : List Lot
 
 abbrev pub lands_of : Election → ℕ
 lands_of e = length e.land_names
@@ -47,6 +50,12 @@ pub record IsWin (lands parties : ℕ) (w : Win) : Type 0 where
 abbrev pub IsCell : Option ListVotes → Type 0
 IsCell cell = ForSome cell IsListVotes
 
+-- what each lot keeps: it names a Land, a party and a winner of the election
+pub record IsLot (lands parties winners : ℕ) (l : Lot) : Type 0 where
+  pub land : ForSome l.land (λ n. n < lands)
+  pub party : ForSome l.party (λ n. n < parties)
+  pub win : ForSome l.win (λ n. n < winners)
+
 -- what every election keeps
 pub record IsElection (e : Election) : Type 0 where
   pub house : ForSome e.house (λ h. (1 ≤ h) × (h ≤ MAX_SEATS))
@@ -61,11 +70,13 @@ pub record IsElection (e : Election) : Type 0 where
   pub widths : All (λ row. length row ≡ MAX_PARTIES) e.cells
   pub votes : All (All IsCell) e.cells
   pub places : All (IsWin (length e.land_names) (length e.party_names)) e.wins
+  pub drawn : length e.lots ≤ MAX_LOTS
+  pub lots : All (IsLot (length e.land_names) (length e.party_names) (length e.win_names)) e.lots
 
 -- ---- records that join an election
 
 abbrev pub no_election : Election
-no_election = record { house = None; land_names = []; populations = []; cells = []; party_names = []; minorities = []; win_names = []; wins = [] }
+no_election = record { house = None; land_names = []; populations = []; cells = []; party_names = []; minorities = []; win_names = []; wins = []; lots = [] }
 
 abbrev pub with_house : Election → ℕ → Election
 with_house e seats = record e { house = Some seats }
@@ -85,3 +96,9 @@ with_list e land party votes = record e { cells = slice_set e.cells land (slice_
 
 abbrev pub with_win : Election → List ℕ → Win → Election
 with_win e name win = record e { win_names = e.win_names ++ name ∷ []; wins = e.wins ++ win ∷ [] }
+
+abbrev pub with_slate : Election → ℕ → ℕ → ℕ → Election
+with_slate e land party names = with_list e land party (record { valid = valid_in (list_at e land party); counted = counted_in (list_at e land party); slate = Some names })
+
+abbrev pub with_lot : Election → Lot → Election
+with_lot e lot = record e { lots = e.lots ++ lot ∷ [] }

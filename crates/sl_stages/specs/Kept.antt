@@ -14,6 +14,7 @@ election_of r = record {
   minorities = r.minorities.items;
   win_names = r.winners.names;
   wins = r.wins.items;
+  lots = r.lots.items;
 }
 
 -- the lists of names have the limits of an election

@@ -22,3 +22,17 @@ pub mod Laws
 pub mod Awards
 pub mod Bounds
 pub mod Examples
+pub mod Scopes
+pub mod Lots
+pub mod Records
+pub mod Splits
+pub mod Results
+pub mod Expressions
+pub mod Seating
+pub mod Means
+pub mod MeaningLaws
+pub mod SmallElections
+pub mod MeaningExamples
+pub mod ScopeExamples
+pub mod LawExample
+pub mod ColumnLaws

@@ -1,5 +1,5 @@
 -- What the expressions of a rulebook mean on returns (docs/meaning.md, sections 2 and 3).
-use Rattle.std.specs.Prelude.{◌≡◌, ℕ, ◌+◌, ◌-◌, Bool, List, [], ◌∷◌, ◌++◌, Option, Some, find, map, max, sum, sum_by, unwrap_or, option_map}
+use Rattle.std.specs.Prelude.{◌≡◌, ℕ, ◌-◌, Bool, List, [], ◌∷◌, ◌++◌, Some, find, map, max, sum, sum_by, unwrap_or, option_map}
 use Rattle.std.specs.List.{zip}
 use Rattle.std.specs.Str.{bytes_eq}
 use Rattle.sl_stages.specs.declared.book.Axis.{Axis}
@@ -30,7 +30,7 @@ abbrev pub less_of : List ℕ → List ℕ → List ℕ
 less_of left right = map (λ x. x.0 - x.1) (zip left right)
 
 module _ (b : BookTree) (e : Election) where
-  -- the expression is that column, where those are the columns of the stages before it
+  -- the expression, one without splits and growths, is that column, where those are the columns of the stages before it
   abbrev pub IsColumn : List NamedColumn → ExprTree → List ℕ → Type 0
   IsColumn stages (house at) c = c ≡ unwrap_or e.house b.house.value ∷ []
   IsColumn stages (counted at) c = c ≡ counted_votes b.eligible e

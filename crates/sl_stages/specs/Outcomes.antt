@@ -1,5 +1,5 @@
--- What a rulebook comes to on returns (docs/meaning.md, section 4).
-use Rattle.std.specs.Prelude.{◌≡◌, ℕ, Bool, true, false, ◌&&◌, List, [], ◌∷◌, Option, Some, None, map, flat_map, max, filter, is_none, nat_eq, if◌then◌else◌}
+-- The base of the last clause, and what a plain rulebook comes to: one without splits, growths, covering and vacant seats (docs/meaning.md, sections 8 and 12).
+use Rattle.std.specs.Prelude.{◌≡◌, ℕ, Bool, true, false, ◌&&◌, List, [], map, flat_map, max, filter, is_none, nat_eq, if◌then◌else◌}
 use Rattle.std.specs.List.{list_all}
 use Rattle.sl_stages.specs.declared.book.Base.{Base}
 use Rattle.sl_stages.specs.declared.book.Base.TheVariants as base
@@ -11,7 +11,7 @@ use Rattle.sl_stages.specs.declared.table.ListSeats.{ListSeats}
 use Rattle.sl_stages.specs.declared.table.Placed.{Placed}
 use Rattle.sl_stages.specs.declared.table.Placed.TheVariants as placed
 use Rattle.sl_stages.specs.Tables.{SeatTable}
-use Rattle.sl_stages.specs.Trees.{ExprTree, winners, name, StageTree, BookTree}
+use Rattle.sl_stages.specs.Trees.{ExprTree, winners, name, BookTree}
 use Rattle.sl_stages.specs.Election.{Election, has_list}
 use Rattle.sl_stages.specs.Typing.{splits_in}
 use Rattle.sl_stages.specs.Facts.{lands, parties, list_cell, list_winners, is_on_list}

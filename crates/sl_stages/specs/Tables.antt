@@ -1,4 +1,4 @@
--- Seat tables, as the definitions see them (docs/meaning.md, section 4).
+-- Seat tables, as the definitions see them (docs/meaning.md, sections 7 and 8).
 use Rattle.std.specs.Prelude.{List}
 use Rattle.sl_stages.specs.declared.table.ListSeats.{ListSeats}
 use Rattle.sl_stages.specs.declared.table.Placed.{Placed}

@@ -5,6 +5,7 @@ mod book;
 mod check_fault;
 mod checked;
 mod fault;
+mod label;
 pub mod laws;
 mod limits;
 mod returns;
@@ -18,10 +19,11 @@ pub use book::{
 pub use check_fault::CheckFault;
 pub use checked::CheckedBook;
 pub use fault::{FaultKind, Item, Items, LegalFault, Scope};
+pub use label::Label;
 pub use limits::{
-    MAX_DEPTH, MAX_LANDS, MAX_PARTIES, MAX_PARTS, MAX_PER, MAX_SEATS, MAX_SLATE, MAX_STAGES,
-    MAX_VOTES, MAX_WINS,
+    MAX_DEPTH, MAX_LANDS, MAX_LOTS, MAX_PARTIES, MAX_PARTS, MAX_PER, MAX_SEATS, MAX_SLATE,
+    MAX_STAGES, MAX_VOTES, MAX_WINS,
 };
-pub use returns::{ListVotes, Returns, Win};
+pub use returns::{ListVotes, Lot, Returns, Win};
 pub use table::{ListSeats, Mark, Outcome, Placed, SeatStep, Table, Weight};
 pub use word::Word;

@@ -24,6 +24,9 @@ pub const MAX_LANDS: usize = 64;
 /// Constituency winners of a returns file.
 pub const MAX_WINS: usize = 2000;
 
+/// Lots of a returns file.
+pub const MAX_LOTS: usize = 4000;
+
 /// Votes of a list, first votes of a constituency, people of a Land.
 pub const MAX_VOTES: u32 = 100_000_000;
 

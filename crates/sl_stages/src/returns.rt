@@ -7,6 +7,7 @@ ghost use Rattle.sl_stages.specs.Votes.{valid_in, counted_in, slate_in};
 
 mod add;
 
+use crate::label::Label;
 use crate::limits::{MAX_LANDS, MAX_PARTIES, MAX_WINS};
 use sl_ratio::Names;
 use std::alloc::Global;
@@ -29,6 +30,15 @@ pub struct Win {
     pub valid: u32,
 }
 
+/// A lot that was drawn: the Land and the party that it names, the stage, or `seats`, at which it counts, and with `seats` the winner.
+#[derive(Debug, Drop)]
+pub struct Lot {
+    pub land: Option<usize>,
+    pub party: Option<usize>,
+    pub stage: Label,
+    pub win: Option<usize>,
+}
+
 /// The returns of an election, whose numbers are all in range. Länder, parties and winners have the numbers of their records, from 0.
 #[derive(Drop)]
 pub struct Returns {
@@ -42,6 +52,7 @@ pub struct Returns {
     minorities: Vec<bool>,
     winners: Names,
     wins: Vec<Win>,
+    lots: Vec<Lot>,
 }
 
 impl Model for Returns {
@@ -73,6 +84,7 @@ impl Returns {
             minorities: Vec::new(alloc),
             winners: Names::new(alloc, MAX_WINS),
             wins: Vec::new(alloc),
+            lots: Vec::new(alloc),
         }
     }
 
@@ -175,6 +187,14 @@ impl Returns {
         ensures { slice_get self.now.wins win ≡ Some result }
     {
         self.wins[win]
+    }
+
+    /// The lots, in the order of their records.
+    pub fn lots(&self) -> &[Lot]
+        ensures lots { result.now ≡ self.now.lots }
+        ensures kept { IsElection self.now }
+    {
+        self.lots.as_slice()
     }
 
     /// The name of a Land.

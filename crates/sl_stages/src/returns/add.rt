@@ -1,12 +1,13 @@
 //! Records that join the returns.
 
-ghost use Rattle.std.specs.Prelude.{◌≡◌, ◌<◌, ◌≤◌, ◌++◌, ◌∷◌, [], false, None, Some, length, map, replicate, slice_index_or, slice_set, vec_len, vec_capacity, IfOk, IsOk, OnOk, OnErr};
+ghost use Rattle.std.specs.Prelude.{◌≡◌, ◌<◌, ◌≤◌, ◌++◌, ◌∷◌, [], true, false, None, Some, length, map, replicate, slice_index_or, slice_set, vec_len, vec_capacity, IfOk, IsOk, OnOk, OnErr};
 ghost use Rattle.std.specs.Option.{ForSome};
-ghost use Rattle.sl_ratio.specs.Names.{name_fault};
-ghost use Rattle.sl_stages.specs.declared.limits.TheConstants.{MAX_LANDS, MAX_PARTIES, MAX_SEATS, MAX_VOTES, MAX_SLATE, MAX_WINS};
+ghost use Rattle.sl_ratio.specs.Names.{name_fault, spelling_fault};
+ghost use Rattle.sl_stages.specs.declared.limits.TheConstants.{MAX_LANDS, MAX_PARTIES, MAX_SEATS, MAX_VOTES, MAX_SLATE, MAX_WINS, MAX_LOTS};
 
+use crate::label::Label;
 use crate::limits::MAX_PARTIES;
-use crate::returns::{ListVotes, Returns, Win};
+use crate::returns::{ListVotes, Lot, Returns, Win};
 use sl_ratio::NoMemory;
 use std::alloc::Global;
 
@@ -52,7 +53,7 @@ fn write_cell(rows: &mut Vec<Vec<Option<ListVotes>>>, land: usize, party: usize,
 }
 
 impl Returns {
-    ghost use Rattle.sl_stages.specs.Election.{Election, IsElection, IsWin, lands_of, parties_of, wins_of, list_at, has_list, with_house, with_land, with_party, with_list, with_win};
+    ghost use Rattle.sl_stages.specs.Election.{Election, IsElection, IsWin, lands_of, parties_of, wins_of, list_at, has_list, with_house, with_land, with_party, with_list, with_win, with_slate, with_lot};
 
     /// Sets the house, in seats. Takes no memory.
     pub fn set_house(&mut self, seats: u32)
@@ -123,6 +124,7 @@ impl Returns {
         requires valid { valid ≤ MAX_VOTES }
         ensures succeeds { IsOk result }
         ensures added { self.new ≡ with_list self.old land party (record { valid = valid; counted = counted; slate = None }) }
+        ensures listed { list_at self.new land party ≡ Some (record { valid = valid; counted = counted; slate = None }) }
     {
         let votes = ListVotes {
             valid,
@@ -169,6 +171,54 @@ impl Returns {
         put(&mut self.wins, win);
         Ok(())
     }
+
+    /// Sets the number of names left on a list. Takes no memory.
+    pub fn set_slate(&mut self, land: usize, party: usize, names: u32)
+        requires land { land < lands_of self.old }
+        requires party { party < parties_of self.old }
+        requires list { has_list self.old land party ≡ true }
+        requires names { names ≤ MAX_SLATE }
+        ensures { self.new ≡ with_slate self.old land party names }
+    {
+        let told = ListVotes {
+            valid: self.valid(land, party),
+            counted: self.counted(land, party),
+            slate: Some(names),
+        };
+        write_cell(&mut self.rows, land, party, told);
+    }
+
+    /// Adds a lot: the Land and the party that it names, the stage, or `seats`, and with `seats` the winner.
+    ///
+    /// # Errors
+    ///
+    /// Where memory is wanting. The returns are then unchanged.
+    pub fn add_lot(
+        &mut self,
+        land: Option<usize>,
+        party: Option<usize>,
+        stage: &[u8],
+        win: Option<usize>,
+    ) -> Result<(), NoMemory>
+        requires land { ForSome land (λ n. n < lands_of self.old) }
+        requires party { ForSome party (λ n. n < parties_of self.old) }
+        requires stage { spelling_fault stage.now ≡ None }
+        requires win { ForSome win (λ n. n < wins_of self.old) }
+        requires room { length self.old.lots < MAX_LOTS }
+        ensures added { OnOk result (self.new ≡ with_lot self.old (record { land = land; party = party; stage = stage.now; win = win })) }
+        ensures unchanged { OnErr result (self.new ≡ self.old) }
+    {
+        make_room(&mut self.lots)?;
+        let stage = Label::new(self.alloc, stage)?;
+        let lot = Lot {
+            land,
+            party,
+            stage,
+            win,
+        };
+        put(&mut self.lots, lot);
+        Ok(())
+    }
 }
 
 #[cfg(test)]
@@ -206,6 +256,23 @@ mod tests {
             && win.valid == 9
     }
 
+    // Whether these are the names left on a list, and a lot of the only winner.
+    fn are_told(returns: &Returns) -> bool {
+        match returns.lots() {
+            [lot] => {
+                returns.house() == Some(598)
+                    && returns.valid(0, 0) == 20
+                    && returns.counted(0, 0) == 10
+                    && returns.slate(0, 0) == Some(7)
+                    && lot.land == Some(0)
+                    && lot.party.is_none()
+                    && lot.stage.as_bytes() == b"seats".as_slice()
+                    && lot.win == Some(0)
+            }
+            _ => false,
+        }
+    }
+
     #[test]
     fn records_are_read_back(rt: HostRuntime) -> Result<(), Fail> {
         let mut returns = land_and_party(rt.alloc())?;
@@ -214,6 +281,10 @@ mod tests {
         returns.add_win(0, Some(0), b"w1", 5, 9)?;
         returns.add_list(0, 0, 20, 10)?;
         assert!(rt; are_read_back(&returns));
+        returns.set_house(598);
+        returns.set_slate(0, 0, 7);
+        returns.add_lot(Some(0), None, b"seats", Some(0))?;
+        assert!(rt; are_told(&returns));
         Ok(())
     }
 }

@@ -1,4 +1,3 @@
-use Rattle.sl_desk.proofs.OneTable.{one_table}
 use Rattle.sl_desk.proofs.OneOutput.{one_output}
 use Rattle.sl_desk.proofs.laws.inputs_have_one_output.Goals as goal
 
@@ -10,5 +9,4 @@ returns c = one_output (record {
   one_tree = c.one_tree.ensures;
   one_parse_fault = c.one_fault-2.ensures;
   tree_or_fault = c.no_fault_of_a_book.ensures;
-  one_table = one_table;
 })

@@ -7,7 +7,7 @@ use Rattle.sl_returns.specs.Joining.{with_win_of}
 use Rattle.sl_returns.proofs.join.join_win.Goals.{After-kept}
 use Rattle.std.proofs.lemmas.Bool.{ltb-true}
 use Rattle.sl_stages.specs.declared.limits.TheConstants.{MAX_WINS}
-use Rattle.sl_returns.proofs.NameTests.{found_backer, found_place, may_join}
+use Rattle.sl_returns.proofs.NameTests.{found_or_none, found_place, may_join}
 use Rattle.sl_returns.proofs.TestLemmas.{after, both, here, exit, taken, wanting}
 use Rattle.sl_returns.proofs.join.join_win.Goals as goal
 
@@ -92,7 +92,7 @@ joined c =
     let land = found_place e.land_names c.cell-land_name.result.now c.in_ok-land.land (sym c.find_land.ensures.number ∙ c.in_ok-land.ensures.number) in
     let known = rw c.find_party.ensures.number at c.in_ok-party.ensures.passed in
     let number = rw c.find_party.ensures.number at c.in_ok-party.ensures.number in
-    let party = number ∙ found_backer e.party_names c.cell-party_name.result.now known in
+    let party = number ∙ found_or_none e.party_names c.cell-party_name.result.now known in
     rw (land, party, c.in_ok-first.ensures.passed.1, c.in_ok-valid.ensures.passed.1, c.cell-land_name.ensures, c.cell-party_name.ensures, c.cell-name.ensures, c.cell.ensures, c.cell-2.ensures) (refl {a = with_win_of e (fields_of c.args.fields.now)})
 
 pub returns-clause-joined : goal.returns-clause-joined

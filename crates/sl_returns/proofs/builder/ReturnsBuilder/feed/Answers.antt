@@ -8,7 +8,7 @@ use Rattle.sl_returns.proofs.builder.ReturnsBuilder.feed.Goals as goal
 pub returns-in-Ok-clause-taken : goal.returns-in-Ok-clause-taken
 returns-in-Ok-clause-taken c rs s =
     let stands = subst (λ (b : Building). StandsFor b rs) (sym c.self.view_is) s in
-    rw c.saturating_add-row.ensures (taken _ rs (fields_of c.args.fields.now) c.take.new.returns stands c.in-Ok.ensures.taken)
+    rw c.saturating_add-row.ensures (taken _ rs (fields_of c.args.fields.now) c.in-Ok.version c.take.new.returns stands c.in-Ok.ensures.taken)
 
 pub returns-in-Err-clause-refused : goal.returns-in-Err-clause-refused
 returns-in-Err-clause-refused c rs s =

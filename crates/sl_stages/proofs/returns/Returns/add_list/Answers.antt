@@ -5,17 +5,11 @@ use Rattle.std.proofs.lemmas.List.Elements.{All-get_or}
 use Rattle.std.proofs.lemmas.Option.{none-some}
 use Rattle.sl_stages.specs.declared.limits.TheConstants.{MAX_PARTIES}
 use Rattle.sl_stages.specs.declared.returns.ListVotes.{ListVotes}
-use Rattle.sl_stages.specs.Election.{Election, IsElection, with_list}
+use Rattle.sl_stages.specs.Election.{Election, IsElection, list_at, with_list}
 use Rattle.sl_stages.specs.Kept.{election_of}
-use Rattle.sl_stages.proofs.Elections.{is_with_list}
+use Rattle.sl_stages.proofs.Elections.{cell_within, is_with_list, list_told}
 use Rattle.sl_stages.proofs.returns.Returns.add_list.Goals as goal
 use Rattle.sl_stages.proofs.returns.Returns.add_list.Goals.{After-write_cell}
-
--- a row has a cell for each party
-cell_within : (e : Election) (land party : ℕ) → IsElection e → land < length e.land_names → party < length e.party_names → party < length (get_or e.cells land [])
-cell_within e land party is l p =
-    let wide = All-get_or (λ row. length row ≡ MAX_PARTIES) e.cells land [] (omega (arith, is.rows)) is.widths in
-    omega (arith, wide, is.parties)
 
 pub write_cell-requires : goal.write_cell-requires
 write_cell-requires c =
@@ -50,3 +44,10 @@ invariant_of-self c =
 
 pub returns-clause-added : goal.returns-clause-added
 returns-clause-added c = joined c ∙ ap (λ e. with_list e c.args.land c.args.party (votes c)) c.self.view_is
+
+pub returns-clause-listed : goal.returns-clause-listed
+returns-clause-listed c =
+    let e = election_of c.self.inside in
+    let land : c.args.land < length e.land_names = subst (λ (e : Election). c.args.land < length e.land_names) (sym c.self.view_is) c.requires.land in
+    let party : c.args.party < length e.party_names = subst (λ (e : Election). c.args.party < length e.party_names) (sym c.self.view_is) c.requires.party in
+    ap (λ e. list_at e c.args.land c.args.party) (joined c) ∙ list_told e c.args.land c.args.party (votes c) c.self.invariant.1 land party

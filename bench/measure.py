@@ -1,0 +1,30 @@
+"""How long a command of seatlaw takes, and how much memory."""
+import os
+import subprocess
+import time
+
+HOME = os.path.dirname(os.path.dirname(os.path.abspath(__file__)))
+PROGRAM = os.path.join(HOME, "crates", "seatlaw", "out", "seatlaw")
+MAX_BOOK = 65536
+MAX_RETURNS = 4194304
+
+
+def write(folder, name, text):
+    path = os.path.join(folder, name)
+    with open(path, "w") as f:
+        f.write(text)
+    return path
+
+
+def measure(what, words, runs, wanted=0):
+    """Prints the best time of some runs, and the greatest memory."""
+    best, peak = None, 0
+    for _ in range(runs):
+        start = time.perf_counter()
+        child = subprocess.Popen([PROGRAM, *words], stdout=subprocess.DEVNULL)
+        _, status, usage = os.wait4(child.pid, 0)
+        took = time.perf_counter() - start
+        assert os.waitstatus_to_exitcode(status) == wanted, status
+        best = took if best is None else min(best, took)
+        peak = max(peak, usage.ru_maxrss)
+    print("%-60s %6.3f s, %5.1f MiB" % (what, best, peak / 1024))

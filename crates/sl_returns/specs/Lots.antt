@@ -1,0 +1,6 @@
+-- What a record tells of a lot, as the returns keep it.
+use Rattle.sl_stages.specs.declared.returns.Lot.{Lot}
+use Rattle.sl_returns.specs.declared.lot.ToldLot.{ToldLot}
+
+abbrev pub lot_told : ToldLot → Lot
+lot_told l = record { land = l.land; party = l.party; stage = l.stage.now; win = l.win }

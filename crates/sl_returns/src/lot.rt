@@ -1,0 +1,77 @@
+//! The lots of the returns.
+
+ghost use Rattle.std.specs.Prelude.{◌≡◌, IfOk, IfErr, OnOk, None};
+ghost use Rattle.csv.specs.Records.{fields_of};
+ghost use Rattle.sl_ratio.specs.Names.{spelling_fault};
+ghost use Rattle.sl_stages.specs.Election.{IsLot, lands_of, parties_of, wins_of};
+ghost use Rattle.sl_returns.specs.Records.{lot_of};
+ghost use Rattle.sl_returns.specs.Tests.{Pass, FailBy, lot_cell_tests, fills_lot, same_lot, has_lot};
+ghost use Rattle.sl_returns.specs.Lots.{lot_told};
+
+use crate::cells::{A, B, C, LAND, PARTY, cell, ensure, is_name, known_or_none};
+use crate::fault::FaultKind;
+use csv::ByteRecord;
+use sl_stages::{Lot, Returns};
+
+// What a record tells of a lot, by the numbers of what it names.
+#[derive(Clone, Copy)]
+pub(crate) struct ToldLot<'a> {
+    pub(crate) land: Option<usize>,
+    pub(crate) party: Option<usize>,
+    pub(crate) stage: &'a [u8],
+    pub(crate) win: Option<usize>,
+}
+
+impl<'a> ToldLot<'a> {
+    // The lot that a record tells, whose cells it tests.
+    pub(crate) fn read(returns: &Returns, fields: &'a ByteRecord) -> Result<ToldLot<'a>, FaultKind>
+        ensures passed { OnOk result (Pass (lot_cell_tests returns.now (fields_of fields.now))) }
+        ensures told { IfOk result (λ l. lot_told l ≡ lot_of returns.now.land_names returns.now.party_names returns.now.win_names (fields_of fields.now)) }
+        ensures named { IfOk result (λ l. IsLot (lands_of returns.now) (parties_of returns.now) (wins_of returns.now) (lot_told l)) }
+        ensures spelled { IfOk result (λ l. spelling_fault l.stage.now ≡ None) }
+        ensures failed { IfErr result (FailBy (lot_cell_tests returns.now (fields_of fields.now))) }
+    {
+        ensure(fills_lot(fields), FaultKind::Fields)?;
+        let land_name = cell(fields, LAND);
+        let land = known_or_none(land_name, returns.find_land(land_name))?;
+        let party_name = cell(fields, PARTY);
+        let party = known_or_none(party_name, returns.find_party(party_name))?;
+        let stage = cell(fields, A);
+        ensure(is_name(stage), FaultKind::Name)?;
+        let win_name = cell(fields, B);
+        let win = known_or_none(win_name, returns.find_win(win_name))?;
+        Ok(ToldLot {
+            land,
+            party,
+            stage,
+            win,
+        })
+    }
+
+    // Whether it is one of these lots.
+    pub(crate) fn is_among(&self, lots: &[Lot]) -> bool
+        ensures { result ≡ has_lot lots.now (lot_told self.now) }
+    {
+        lots.iter().any(|lot| self.is_same(lot))
+    }
+
+    // Whether it is that lot.
+    fn is_same(&self, lot: &Lot) -> bool
+        ensures { result ≡ same_lot lot.now (lot_told self.now) }
+    {
+        lot.land == self.land
+            && lot.party == self.party
+            && lot.stage.as_bytes() == self.stage
+            && lot.win == self.win
+    }
+}
+
+// Whether the cells that a lot must fill are filled, and the others are empty: it names a Land or a party, and a
+// constituency exactly where its stage is `seats`.
+fn fills_lot(fields: &ByteRecord) -> bool
+    ensures { result ≡ fills_lot (fields_of fields.now) }
+{
+    let names_entry = !cell(fields, LAND).is_empty() || !cell(fields, PARTY).is_empty();
+    let is_of_seats = cell(fields, A) == b"seats".as_slice();
+    cell(fields, C).is_empty() && names_entry && is_of_seats != cell(fields, B).is_empty()
+}

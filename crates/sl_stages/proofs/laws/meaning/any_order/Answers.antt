@@ -1,0 +1,5 @@
+use Rattle.sl_stages.proofs.MeaningProofs.{any_order}
+use Rattle.sl_stages.proofs.laws.meaning.any_order.Goals as goal
+
+pub returns : goal.returns
+returns c = any_order

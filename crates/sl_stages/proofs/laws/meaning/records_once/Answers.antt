@@ -1,0 +1,5 @@
+use Rattle.sl_stages.proofs.RecordsOnce.{records_once}
+use Rattle.sl_stages.proofs.laws.meaning.records_once.Goals as goal
+
+pub returns : goal.returns
+returns c = records_once

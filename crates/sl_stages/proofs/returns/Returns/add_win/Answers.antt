@@ -1,0 +1,49 @@
+-- The returns with a winner more.
+use Rattle.std.proofs.Common.{◌≡◌, ◌<◌, ◌++◌, ◌∷◌, [], List, ℕ, None, length, rules, ap, sym, subst, ◌∙◌}
+use Rattle.std.specs.Option.{ForSome}
+use Rattle.sl_ratio.specs.Names.{name_fault}
+use Rattle.sl_ratio.proofs.NameLists.{joins}
+use Rattle.sl_stages.specs.declared.limits.TheConstants.{MAX_WINS}
+use Rattle.sl_stages.specs.declared.returns.Win.{Win}
+use Rattle.sl_stages.specs.Election.{Election, IsElection, IsWin, with_win}
+use Rattle.sl_stages.specs.Kept.{election_of}
+use Rattle.sl_stages.proofs.Elections.{is_with_win}
+use Rattle.sl_stages.proofs.returns.Returns.add_win.Goals as goal
+use Rattle.sl_stages.proofs.returns.Returns.add_win.Goals.{After-put}
+
+-- the constituencies, with the one that was added
+named : (c : After-put) → c.add.new.self ≡ record { limit = c.self.inside.winners.limit; names = c.self.inside.winners.names ++ c.args.name.now ∷ [] }
+named c = search rules
+
+abbrev win : After-put → Win
+win c = record { land = c.args.land; party = c.args.party; first = c.args.first; valid = c.args.valid }
+
+wins : (c : After-put) → c.put.new.items.items ≡ c.self.inside.wins.items ++ win c ∷ []
+wins c = c.put.ensures ∙ ap (λ ws. ws ++ win c ∷ []) c.make_room.ensures.same
+
+-- the election that the fields keep in the end
+abbrev after : After-put → Election
+after c = election_of (record c.self.inside { winners = c.add.new.self; wins = c.put.new.items })
+
+joined : (c : After-put) → after c ≡ with_win (election_of c.self.inside) c.args.name.now (win c)
+joined c = rw (named c, wins c)
+
+-- the winner names a Land and a party of the election
+placed : (c : After-put) → IsWin (length (election_of c.self.inside).land_names) (length (election_of c.self.inside).party_names) (win c)
+placed c = subst (λ (e : Election). IsWin (length e.land_names) (length e.party_names) (win c)) (sym c.self.view_is) (record {
+  land = c.requires.land;
+  party = c.requires.party;
+  least = c.requires.least;
+  most = c.requires.most;
+  valid = c.requires.valid;
+})
+
+pub invariant_of-self-2 : goal.invariant_of-self-2
+invariant_of-self-2 c =
+    let e = election_of c.self.inside in
+    let limits = c.self.invariant.0 in
+    let may = subst (λ (names : List (List ℕ)). name_fault (record { limit = MAX_WINS; names = names }) c.args.name.now ≡ None) (sym (ap (λ e. e.win_names) c.self.view_is)) c.requires.name in
+    let free : length e.win_names < MAX_WINS = (joins (record { limit = MAX_WINS; names = e.win_names }) c.args.name.now may).free in (
+      record { lands = limits.lands; parties = limits.parties; winners = ap (λ names. names.limit) (named c) ∙ limits.winners },
+      subst IsElection (sym (joined c)) (is_with_win e c.args.name.now (win c) c.self.invariant.1 free (placed c)),
+    )
