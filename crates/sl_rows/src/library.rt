@@ -70,12 +70,30 @@ seats lower cover;\n";
 #[test]
 fn books_of_the_library(rt: HostRuntime) -> Result<(), Fail> {
     let cases = [
-        (BOOK_1956, "book 2 house 494 stages 3 law Bundeswahlgesetz 1956\n"),
-        (BOOK_1985, "book 2 house 496 stages 3 law Bundeswahlgesetz 1985\n"),
-        (BOOK_2008, "book 2 house 598 stages 3 law Bundeswahlgesetz 2008\n"),
-        (BOOK_2013, "book 2 house 598 stages 6 law Bundeswahlgesetz 2013\n"),
-        (BOOK_2023, "book 1 house 630 stages 3 law Bundeswahlgesetz 2023\n"),
-        (BOOK_2023_ORDER, "book 1 house 630 stages 3 law Bundeswahlgesetz 2023, order of 2024\n"),
+        (
+            BOOK_1956,
+            "book 2 house 494 stages 3 law Bundeswahlgesetz 1956\n",
+        ),
+        (
+            BOOK_1985,
+            "book 2 house 496 stages 3 law Bundeswahlgesetz 1985\n",
+        ),
+        (
+            BOOK_2008,
+            "book 2 house 598 stages 3 law Bundeswahlgesetz 2008\n",
+        ),
+        (
+            BOOK_2013,
+            "book 2 house 598 stages 6 law Bundeswahlgesetz 2013\n",
+        ),
+        (
+            BOOK_2023,
+            "book 1 house 630 stages 3 law Bundeswahlgesetz 2023\n",
+        ),
+        (
+            BOOK_2023_ORDER,
+            "book 1 house 630 stages 3 law Bundeswahlgesetz 2023, order of 2024\n",
+        ),
     ];
     for (book, line) in cases {
         let mut book = BookSource::Reader(Slow::new(book.as_bytes(), 4096, 0));

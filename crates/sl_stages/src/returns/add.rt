@@ -228,7 +228,8 @@ mod tests {
 
     // A Land and a party.
     fn land_and_party(alloc: Global) -> Result<Returns, NoMemory>
-        ensures { IfOk result (λ r. r.win_names ≡ []) }
+        ensures no_winner { IfOk result (λ r. r.win_names ≡ []) }
+        ensures no_lot { IfOk result (λ r. r.lots ≡ []) }
     {
         let mut returns = Returns::empty(alloc);
         returns.add_land(b"X", 1000)?;
@@ -258,6 +259,9 @@ mod tests {
 
     // Whether these are the names left on a list, and a lot of the only winner.
     fn are_told(returns: &Returns) -> bool {
+        if returns.lands() != 1 || returns.parties() != 1 {
+            return false;
+        }
         match returns.lots() {
             [lot] => {
                 returns.house() == Some(598)

@@ -1,0 +1,77 @@
+//! A counting code: its instructions, its stages and its slots.
+
+ghost use Rattle.std.specs.Prelude.{◌≡◌};
+ghost use Rattle.sl_code.specs.Codes.{CountingCode, IsCode};
+
+use crate::instr::Instr;
+use sl_stages::{Shape, Word};
+use std::marker::Model;
+
+/// Slots of a code.
+pub const MAX_SLOTS: usize = 200;
+
+/// Instructions of a code.
+pub const MAX_INSTRS: usize = 200_000;
+
+/// A stage: its name, and the slot of its column.
+#[derive(Debug, Drop)]
+pub struct CodeStage {
+    pub name: Word,
+    pub slot: u8,
+}
+
+/// A code, within the limits of its format (docs/code.md, section 1).
+#[derive(Debug, Drop)]
+pub struct Code {
+    instrs: Vec<Instr>,
+    stages: Vec<CodeStage>,
+    slots: Vec<Shape>,
+}
+
+impl Model for Code {
+    ghost use Rattle.sl_code.specs.Codes.{CountingCode, IsCode};
+
+    ghost Value = { CountingCode };
+
+    ghost view = { λ c. record { instrs = c.instrs.items; stages = c.stages.items; slots = c.slots.items } };
+
+    ghost invariant = { λ c. IsCode (record { instrs = c.instrs.items; stages = c.stages.items; slots = c.slots.items }) };
+}
+
+impl Code {
+    /// The code of these parts. Takes no memory.
+    pub fn new(instrs: Vec<Instr>, stages: Vec<CodeStage>, slots: Vec<Shape>) -> Code
+        requires { IsCode (record { instrs = instrs.items; stages = stages.items; slots = slots.items }) }
+        ensures { result ≡ record { instrs = instrs.items; stages = stages.items; slots = slots.items } }
+    {
+        Code {
+            instrs,
+            stages,
+            slots,
+        }
+    }
+
+    /// The instructions.
+    pub fn instrs(&self) -> &[Instr]
+        ensures instrs { result.now ≡ self.now.instrs }
+        ensures kept { IsCode self.now }
+    {
+        self.instrs.as_slice()
+    }
+
+    /// The stages, in order.
+    pub fn stages(&self) -> &[CodeStage]
+        ensures stages { result.now ≡ self.now.stages }
+        ensures kept { IsCode self.now }
+    {
+        self.stages.as_slice()
+    }
+
+    /// The shapes of the slots.
+    pub fn slots(&self) -> &[Shape]
+        ensures slots { result.now ≡ self.now.slots }
+        ensures kept { IsCode self.now }
+    {
+        self.slots.as_slice()
+    }
+}

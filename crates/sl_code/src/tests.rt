@@ -1,0 +1,83 @@
+//! Code files from outside, read, written and listed, and bytes that are none.
+
+use super::*;
+use sl_stages::Shape;
+use std::test::*;
+
+// One List slot, and `halt 0`.
+const HALT: [u8; 13] = *b"SLC\x01\x00\x01\x03\x01\x00\x00\x00\x29\x00";
+
+// The stage `up` with slot 0; four slots, one of each shape; `set 1 258`, `jmp 7`, `at 5 3 7`, `emit 255 2 3 4`, `halt 0`.
+const MIXED: [u8; 45] =
+    *b"SLC\x01\x01\x02up\x00\x04\x00\x01\x02\x03\x05\x00\x00\x00\x01\x01\x02\x01\x00\x00\x00\x00\x00\x00\x09\x07\x00\x00\x00\x2a\x05\x00\x03\x07\x23\xff\x02\x03\x04\x29\x00";
+
+#[test]
+fn the_smallest_file(rt: HostRuntime) -> Result<(), Fail> {
+    let alloc = rt.alloc();
+    let mut slots = Vec::new(alloc);
+    slots.push(Shape::List).ok().ok_or("there is room")?;
+    let mut instrs = Vec::new(alloc);
+    instrs
+        .push(Instr::Halt { slot: 0 })
+        .ok()
+        .ok_or("there is room")?;
+    let code = Code::new(instrs, Vec::new(alloc), slots);
+    assert_eq!(rt; to_bytes(alloc, &code)?.as_slice(), HALT.as_slice());
+    assert_eq!(rt; listing(alloc, &code)?.as_slice(), b"0 halt 0\n".as_slice());
+    let read = from_bytes(alloc, &HALT)?;
+    assert_eq!(rt; read.instrs(), [Instr::Halt { slot: 0 }].as_slice());
+    assert_eq!(rt; read.slots(), [Shape::List].as_slice());
+    assert_eq!(rt; read.stages().len(), 0);
+    Ok(())
+}
+
+#[test]
+fn operands_of_every_width(rt: HostRuntime) -> Result<(), Fail> {
+    let alloc = rt.alloc();
+    let code = from_bytes(alloc, &MIXED)?;
+    assert_eq!(rt; to_bytes(alloc, &code)?.as_slice(), MIXED.as_slice());
+    let text = b"0 set 1 258\n1 jmp 7\n2 at 5 3 7\n3 emit 255 2 3 4\n4 halt 0\n";
+    assert_eq!(rt; listing(alloc, &code)?.as_slice(), text.as_slice());
+    assert_eq!(rt; code.stages().len(), 1);
+    assert_eq!(rt; code.stages()[0].name.as_bytes(), b"up".as_slice());
+    Ok(())
+}
+
+#[test]
+fn the_first_fault(rt: HostRuntime) {
+    let alloc = rt.alloc();
+    for (bytes, fault) in [
+        (b"".as_slice(), CodeFault::Short(0)),
+        (b"SM".as_slice(), CodeFault::Magic(0)),
+        (b"SL".as_slice(), CodeFault::Short(2)),
+        (b"SLC\x02".as_slice(), CodeFault::Version(3)),
+        (b"SLC\x01\x21".as_slice(), CodeFault::Limit(4)),
+        (b"SLC\x01\x01\x0d".as_slice(), CodeFault::Op(5)),
+        (b"SLC\x01\x01\x02u-".as_slice(), CodeFault::Op(7)),
+        (b"SLC\x01\x00\x01\x04".as_slice(), CodeFault::Op(6)),
+        (
+            b"SLC\x01\x00\x00\xff\xff\xff".as_slice(),
+            CodeFault::Short(9),
+        ),
+        (
+            b"SLC\x01\x00\x00\x41\x0d\x03\x00".as_slice(),
+            CodeFault::Limit(6),
+        ),
+        (
+            b"SLC\x01\x00\x00\x40\x0d\x03\x00".as_slice(),
+            CodeFault::Short(10),
+        ),
+        (
+            b"SLC\x01\x00\x00\x01\x00\x00\x00\x2d".as_slice(),
+            CodeFault::Op(10),
+        ),
+        (&HALT[..12], CodeFault::Short(12)),
+        (
+            b"SLC\x01\x00\x01\x03\x01\x00\x00\x00\x29\x00\x00".as_slice(),
+            CodeFault::Trailing(13),
+        ),
+    ] {
+        let found = from_bytes(alloc, bytes);
+        assert!(rt; matches!(found, Err(e) if e == fault));
+    }
+}

@@ -1,0 +1,15 @@
+-- Bounds of what an election has.
+use Rattle.std.proofs.Common.{ℕ, ◌^◌, ◌<◌, arith}
+use Rattle.std.proofs.lemmas.Nat.{mul-le}
+use Rattle.sl_stages.specs.Election.{Election, IsElection, lands_of, parties_of}
+use Rattle.sl_code.specs.declared.operand.Entries.{Entries}
+use Rattle.sl_code.specs.declared.operand.Entries.TheVariants as entries
+use Rattle.sl_machine.specs.Safe.{entries_in}
+
+pub entries_fit : (e : Election) → IsElection e → (k : Entries) (i : ℕ) → i < entries_in e k → i < 2 ^ 32
+entries_fit e kept entries.Party i h = omega (arith, kept.parties)
+entries_fit e kept entries.Land i h = omega (arith, kept.lands)
+entries_fit e kept entries.List i h =
+    let most = mul-le (lands_of e) (parties_of e) 64 256 kept.lands kept.parties in
+    omega (arith, most)
+entries_fit e kept entries.Win i h = omega (arith, kept.winners, kept.wins)

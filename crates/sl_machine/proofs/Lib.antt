@@ -1,0 +1,23 @@
+-- The lemmas of the machine.
+pub mod Sets
+pub mod TableFacts
+pub mod Keeping
+pub mod KeptRegisters
+pub mod KeptColumns
+pub mod KeptCursors
+pub mod KeptEntries
+pub mod KeptTables
+pub mod KeptRecords
+pub mod Stepping
+pub mod Soundness
+pub mod Priorities
+pub mod Cells
+pub mod Inputs
+pub mod LotLists
+pub mod Bounds
+pub mod Drawing
+pub mod PeerLists
+pub mod Halting
+pub mod Starting
+pub mod Leavings
+pub mod Running

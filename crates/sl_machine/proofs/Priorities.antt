@@ -1,0 +1,133 @@
+-- The priority table, as the entries of a `Prio` make it.
+use Rattle.std.proofs.Common.{◌≡◌, ℕ, ◌<◌, true, false, List, [], ◌∷◌, slice_get, Option, Some, None, is_some, Result, Ok, Err, OnOk, OnErr, All, IsPermutation, IsSome, refl, sym, ap, subst, ◌∙◌, inl, inr, arith}
+use Rattle.std.specs.Option.{option_map, option_and_then, ForSome}
+use Rattle.std.specs.Ordering.{is_gt}
+use Rattle.std.proofs.lemmas.Bool.{cases_Bool, false_from_ne_true, true≢false}
+use Rattle.std.proofs.lemmas.Option.{same_Some}
+use Rattle.std.proofs.lemmas.Cmp.{tied_itself}
+use Rattle.std.proofs.lemmas.List.Elements.{All-cons, All-head, All-tail}
+use Rattle.std.proofs.lemmas.List.Sorted.{All-permutation, IsPermutation-sym}
+use Rattle.sl_ratio.specs.Entry.{entry_cmp}
+use Rattle.sl_ratio.specs.EntryLaws.{entry_total}
+use Rattle.sl_ratio.specs.declared.entry.Entry.{Entry}
+use Rattle.sl_stages.specs.Election.{Election}
+use Rattle.sl_prio.specs.Ranking.{ranked, insert_ranked}
+use Rattle.sl_prio.specs.Prio.{top, peers, is_covered}
+use Rattle.sl_prio.specs.Lot.{drawn}
+use Rattle.sl_prio.specs.Laws.{AnswersAlike}
+use Rattle.sl_prio.specs.Lot.{lot_cmp}
+use Rattle.sl_prio.proofs.Greatest.{greatest-None}
+use Rattle.sl_prio.proofs.Orders.{entry_order, lot_order}
+use Rattle.sl_prio.proofs.Orders.{same_entry as is_same}
+use Rattle.sl_prio.proofs.Rankings.{ranked-permutation, counts_alike, ranked-unique}
+use Rattle.sl_prio.proofs.LawProofs.{order_is_free, first_peers}
+use Rattle.sl_machine.specs.declared.priority.TableKind.{TableKind}
+use Rattle.sl_machine.specs.declared.priority.PriorityTable.TheInside.{Inside}
+use Rattle.sl_machine.specs.declared.priority.Taken.{Taken}
+use Rattle.sl_machine.specs.State.{State, PriorityTable}
+use Rattle.sl_machine.specs.Places.{at_entry}
+use Rattle.sl_machine.specs.Effects.{Goes, given, takes, mark_of}
+use Rattle.sl_machine.specs.Safe.{entries_in}
+use Rattle.sl_machine.specs.Priority.{same_entry, without}
+use Rattle.sl_machine.specs.Tables.{table_in, with_entry}
+
+-- ---- a table that is on
+
+abbrev pub table_with : TableKind → List Entry → PriorityTable
+table_with k xs = record { entries = k.entries; ranking = k.ranking; contents = ranked xs }
+
+pub contents_of : (kind : Option TableKind) (xs : List Entry) (x : PriorityTable) → option_map (λ k. table_with k xs) kind ≡ Some x → x.contents ≡ ranked xs
+contents_of None xs x h = cc
+contents_of (Some k) xs x h = ap (λ t. t.contents) (sym (same_Some (table_with k xs) x h))
+
+pub alike : (xs : List Entry) → AnswersAlike xs (ranked xs)
+alike xs = order_is_free xs (ranked xs) (ranked-permutation xs)
+
+module _ (t : Inside) (x : PriorityTable) (h : table_in t ≡ Some x) where
+  pub seen_peers : peers t.prio ≡ peers x.contents
+  seen_peers = (alike t.prio).same_peers ∙ ap peers (sym (contents_of t.kind t.prio x h))
+
+  pub seen_covered : (lot : List ℕ) → is_covered lot t.prio ≡ is_covered lot x.contents
+  seen_covered lot = (alike t.prio).same_covers lot ∙ ap (is_covered lot) (sym (contents_of t.kind t.prio x h))
+
+pub top_there : (kind : Option TableKind) (xs : List Entry) → IsSome (option_and_then (λ x. top x.contents) (option_map (λ k. table_with k xs) kind)) → IsSome (top xs)
+top_there None xs h = cc
+top_there (Some k) xs h = subst (λ (o : Option Entry). IsSome o) (sym (alike xs).same_top) h
+
+drawn_some : (lot : List ℕ) (xs : List Entry) (o : Option Entry) → drawn lot xs ≡ o → IsSome (top xs) → IsSome o
+drawn_some lot xs (Some x) h some = refl
+drawn_some lot xs None h some =
+    let empty : peers xs ≡ [] = greatest-None (lot_cmp lot) (lot_order lot) (peers xs) h in
+    let none : None ≡ top xs = sym (ap (λ ps. slice_get ps 0) empty) ∙ first_peers xs in
+    absurd (true≢false (sym some ∙ ap is_some (sym none)))
+
+-- where there is a top, a lot draws an entry
+pub drawn_there : (lot : List ℕ) (xs : List Entry) → IsSome (top xs) → IsSome (drawn lot xs)
+drawn_there lot xs some = drawn_some lot xs (drawn lot xs) refl some
+
+-- ---- entries that go in
+
+pub entered : (x : Entry) (xs ys : List Entry) → IsPermutation (x ∷ xs) ys → ranked ys ≡ insert_ranked x (ranked xs)
+entered x xs ys h = sym (ranked-unique entry_order (x ∷ xs) ys (counts_alike (x ∷ xs) ys h))
+
+-- ---- entries that are taken
+
+same_itself : (x : Entry) → same_entry x x ≡ true
+same_itself x = grind (arith)
+
+same_is : (x y : Entry) → same_entry x y ≡ true → y ≡ x
+same_is x y h = sym (is_same x y h)
+
+not_same : (x y : Entry) → is_gt (entry_cmp y x) ≡ true → same_entry x y ≡ false
+not_same x y h = false_from_ne_true _ (λ e.
+    let above : is_gt (entry_cmp x x) ≡ true = subst (λ (z : Entry). is_gt (entry_cmp z x) ≡ true) (same_is x y e) h in
+    true≢false (sym above ∙ ap is_gt (tied_itself entry_total x)))
+
+without_inserted : (x : Entry) (ys : List Entry) → without x (insert_ranked x ys) ≡ ys
+without_inserted x [] = rw (same_itself x) refl
+without_inserted x (y ∷ ys) =
+    elim (cases_Bool (is_gt (entry_cmp y x))) [
+      | inl t ↦ rw t (rw (not_same x y t) (ap (λ zs. y ∷ zs) (without_inserted x ys)))
+      | inr f ↦ rw f (rw (same_itself x) refl)
+    ]
+
+pub without_ranked : (x : Entry) (xs ys : List Entry) → IsPermutation xs (x ∷ ys) → without x (ranked xs) ≡ ranked ys
+without_ranked x xs ys h = ap (without x) (ranked-unique entry_order xs (x ∷ ys) (counts_alike xs (x ∷ ys) h)) ∙ without_inserted x (ranked ys)
+
+pub taken_fits : (P : Entry → Type 0) (xs ys : List Entry) (x : Entry) → IsPermutation xs (x ∷ ys) → All P xs → P x × All P ys
+taken_fits P xs ys x h all =
+    let both = All-permutation P xs (x ∷ ys) h all in
+    (All-head P x ys both, All-tail P x ys both)
+
+pub takes_from : (k : TableKind) (xs ys : List Entry) (x : Entry) (o : Option Entry) (e : Election) (s : State) → o ≡ Some x → IsPermutation xs (x ∷ ys)
+    → takes e (table_with k xs) o s ≡ Goes (at_entry e k.entries x.index (record s { table = Some (table_with k ys); mark = mark_of k.ranking x.ratio }))
+takes_from k xs ys x o e s is h =
+    rw is (ap (λ (zs : List Entry). Goes (at_entry e k.entries x.index (record s { table = Some (record { entries = k.entries; ranking = k.ranking; contents = zs }); mark = mark_of k.ranking x.ratio }))) (without_ranked x xs ys h))
+
+pub taken_is : (kind : Option TableKind) (k : TableKind) (xs ys : List Entry) (x : Entry) (taken : Taken) (now : Option PriorityTable) (pick : List Entry → Option Entry)
+    → kind ≡ Some k → option_map (λ k. table_with k xs) kind ≡ now → taken ≡ record { entries = k.entries; index = x.index; mark = mark_of k.ranking x.ratio }
+    → pick (ranked xs) ≡ Some x → IsPermutation xs (x ∷ ys) → (e : Election) (s : State)
+    → given now (λ t. takes e t (pick t.contents) s) ≡ Goes (at_entry e taken.entries taken.index (record s { table = option_map (λ k. table_with k ys) kind; mark = taken.mark }))
+taken_is kind k xs ys x taken now pick is view told first h e s =
+    rw (← view, is, told) (takes_from k xs ys x (pick (ranked xs)) e s first h)
+
+pub taken_within : (e : Election) (kind : Option TableKind) (k : TableKind) (xs ys : List Entry) (x : Entry) (taken : Taken) (now : Option PriorityTable)
+    → kind ≡ Some k → option_map (λ k. table_with k xs) kind ≡ now → taken ≡ record { entries = k.entries; index = x.index; mark = mark_of k.ranking x.ratio }
+    → IsPermutation xs (x ∷ ys) → ForSome now (λ t. All (λ x. x.index < entries_in e t.entries) t.contents) → taken.index < entries_in e taken.entries
+taken_within e kind k xs ys x taken now is view told h all =
+    let P : Entry → Type 0 = λ x. x.index < entries_in e k.entries in
+    let ranked_in : All P (ranked xs) = all (table_with k xs) (sym view ∙ ap (option_map (λ k. table_with k xs)) is) in
+    let held : All P xs = All-permutation P (ranked xs) xs (IsPermutation-sym xs (ranked xs) (ranked-permutation xs)) ranked_in in
+    rw told (taken_fits P xs ys x h held).0
+
+module _ {T E : Type 0} where
+  pub put_fits : (P : Entry → Type 0) (xs ys : List Entry) (x : Entry) (r : Result T E) → OnOk r (IsPermutation (x ∷ xs) ys) → OnErr r (ys ≡ xs) → P x → All P xs → All P ys
+  put_fits P xs ys x (Ok u) added same fits all = All-permutation P (x ∷ xs) ys added (All-cons P x xs fits all)
+  put_fits P xs ys x (Err e) added same fits all = subst (λ (zs : List Entry). All P zs) (sym same) all
+
+  pub put_enters : (kind : Option TableKind) (xs ys : List Entry) (x : Entry) (now : Option PriorityTable) (r : Result T E)
+      → OnOk r (IsPermutation (x ∷ xs) ys) → option_map (λ k. table_with k xs) kind ≡ now → OnOk r (option_map (λ k. table_with k ys) kind ≡ option_map (with_entry x) now)
+  put_enters None xs ys x now (Ok u) added view = rw (← view) refl
+  put_enters (Some k) xs ys x now (Ok u) added view =
+      rw (← view) (ap (λ (zs : List Entry). Some (record { entries = k.entries; ranking = k.ranking; contents = zs })) (entered x xs ys added))
+  put_enters kind xs ys x now (Err e) added view = tt

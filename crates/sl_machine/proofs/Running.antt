@@ -1,0 +1,64 @@
+-- What a step from a safe place comes to.
+use Rattle.std.proofs.Common.{◌≡◌, ℕ, ◌+◌, Some, IsSome, IsTrue, is_some, slice_get, sym, ap, subst, ◌∙◌}
+use Rattle.std.proofs.lemmas.Option.{same_Some}
+use Rattle.sl_stages.specs.Election.{Election}
+use Rattle.sl_code.specs.Codes.{CountingCode}
+use Rattle.sl_code.specs.declared.instr.Instr.{Instr}
+use Rattle.sl_verify.specs.Needs.{has_columns}
+use Rattle.sl_verify.specs.Leaves.{target_of}
+use Rattle.sl_machine.specs.declared.machine.Onward.TheVariants as onward
+use Rattle.sl_machine.specs.declared.step.End.{End}
+use Rattle.sl_machine.specs.declared.step.End.TheVariants as end
+use Rattle.sl_machine.specs.Agrees.{IsSafe}
+use Rattle.sl_machine.specs.Answers.{HasSlots}
+use Rattle.sl_machine.specs.Effects.{Effect, Goes, Jumps, Ends, effect}
+use Rattle.sl_machine.specs.Laws.{StepsSafely, LandsSafely}
+use Rattle.sl_machine.specs.Leading.{Leads}
+use Rattle.sl_machine.specs.Safe.{MayStep}
+use Rattle.sl_machine.specs.State.{State}
+use Rattle.sl_machine.specs.Steps.{run}
+use Rattle.sl_machine.specs.Stores.{ending_of}
+use Rattle.sl_machine.proofs.Halting.{HaltsIn, halts_in}
+use Rattle.sl_machine.proofs.Soundness.{safe_steps}
+use Rattle.sl_machine.proofs.Stepping.{step_goes, step_jumps, step_ends}
+
+module _ (c : CountingCode) (e : Election) (p : ℕ) (s : State) (safe : IsSafe c e p s) (i : Instr) (at : slice_get c.instrs p ≡ Some i) where
+  next : StepsSafely c e p s
+  next = safe_steps c e p s safe
+
+  same : next.instr ≡ i
+  same = same_Some next.instr i (sym next.stands ∙ at)
+
+  pub may_here : MayStep c e i s
+  may_here = subst (λ (j : Instr). MayStep c e j s) same next.may
+
+  pub columns_here : IsTrue (has_columns c i)
+  columns_here = subst (λ (j : Instr). IsTrue (has_columns c j)) same next.columns
+
+  at_next : (x : Effect) → x ≡ effect c e i s → effect c e next.instr s ≡ x
+  at_next x h = ap (λ (j : Instr). effect c e j s) same ∙ sym h
+
+  pub goes_on : (t : State) → Goes t ≡ effect c e i s → Leads c e p s (onward.To (p + 1)) t
+  goes_on t h = (next.goes t (at_next (Goes t) h), λ n. step_goes c e (run c e n) p s i at t (sym h))
+
+  landing : (t : State) → Jumps t ≡ effect c e i s → LandsSafely c e next.instr t
+  landing t h = next.jumps t (at_next (Jumps t) h)
+
+  lands : (t : State) (h : Jumps t ≡ effect c e i s) → target_of i ≡ Some (landing t h).place
+  lands t h = ap target_of (sym same) ∙ (landing t h).target
+
+  pub has_target : (t : State) → Jumps t ≡ effect c e i s → IsSome (target_of i)
+  has_target t h = ap is_some (lands t h)
+
+  pub jumps_to : (t : State) (q : ℕ) → Jumps t ≡ effect c e i s → target_of i ≡ Some q → Leads c e p s (onward.To q) t
+  jumps_to t q h target =
+      let there : (landing t h).place ≡ q = same_Some (landing t h).place q (sym (lands t h) ∙ target) in
+      (subst (λ (r : ℕ). IsSafe c e r t) there (landing t h).safe, λ n. step_jumps c e (run c e n) p s i at t q (sym h) target)
+
+  slots_of : (x : End) (t : State) → HaltsIn c (Ends (ending_of x t)) → HasSlots c (Some x)
+  slots_of (end.Halted base vacant) t h = h
+  slots_of (end.Faulted fault) t h = tt
+
+  pub ends_with : (x : End) (t : State) → Ends (ending_of x t) ≡ effect c e i s → Leads c e p s (onward.End x) t
+  ends_with x t h =
+      (slots_of x t (subst (HaltsIn c) (sym h) (halts_in c e s i)), λ n. step_ends c e (run c e n) p s i at (ending_of x t) (sym h))

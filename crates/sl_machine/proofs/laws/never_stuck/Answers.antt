@@ -1,0 +1,5 @@
+use Rattle.sl_machine.proofs.Soundness.{never_stuck}
+use Rattle.sl_machine.proofs.laws.never_stuck.Goals as goal
+
+pub returns : goal.returns
+returns c = never_stuck

@@ -1,0 +1,5 @@
+use Rattle.sl_machine.proofs.Soundness.{safe_steps}
+use Rattle.sl_machine.proofs.laws.safe_steps.Goals as goal
+
+pub returns : goal.returns
+returns c = safe_steps

@@ -1,0 +1,96 @@
+-- The step is one that may be made, and leads on.
+use Rattle.std.proofs.Common.{rules, ◌≡◌, ◌<◌, ◌+◌, ◌^◌, ℕ, List, Option, Some, IsSome, length, get_or, slice_get, sym, ap, subst, ◌∙◌, arith}
+use Rattle.std.proofs.lemmas.Option.{slice_get_within, slice_get-get_or}
+use Rattle.sl_code.specs.declared.instr.Instr.{Instr}
+use Rattle.sl_code.specs.declared.instr.Instr.TheVariants as instr
+use Rattle.sl_machine.specs.declared.step.Next.{Next}
+use Rattle.sl_machine.specs.Effects.{effect}
+use Rattle.sl_machine.specs.Stores.{state_of, effect_of}
+use Rattle.sl_machine.proofs.Running.{may_here, columns_here, goes_on, has_target, jumps_to, ends_with}
+use Rattle.sl_machine.proofs.machine.step_from.Goals as goal
+
+pub step-requires-clause-step : goal.step-requires-clause-step
+step-requires-clause-step c =
+    let code = c.args.code.now in
+    let e = c.args.returns.now in
+    let s = state_of c.args.store.now in
+    let safe = c.requires.safe in
+    let place = c.args.place in
+    let there : place < length c.instrs.result.now = subst (λ (is : List Instr). place < length is) (sym c.instrs.ensures.instrs) (slice_get_within code.instrs place safe.instr safe.stands) in
+    let i = get_or c.instrs.result.now place (instr.Set 0 0) in
+    let at : slice_get code.instrs place ≡ Some i = ap (λ (is : List Instr). slice_get is place) (sym c.instrs.ensures.instrs) ∙ slice_get-get_or c.instrs.result.now place (instr.Set 0 0) there in
+    may_here code e place s safe i at
+
+pub step-requires-clause-columns : goal.step-requires-clause-columns
+step-requires-clause-columns c =
+    let code = c.args.code.now in
+    let e = c.args.returns.now in
+    let s = state_of c.args.store.now in
+    let safe = c.requires.safe in
+    let place = c.args.place in
+    let there : place < length c.instrs.result.now = subst (λ (is : List Instr). place < length is) (sym c.instrs.ensures.instrs) (slice_get_within code.instrs place safe.instr safe.stands) in
+    let i = get_or c.instrs.result.now place (instr.Set 0 0) in
+    let at : slice_get code.instrs place ≡ Some i = ap (λ (is : List Instr). slice_get is place) (sym c.instrs.ensures.instrs) ∙ slice_get-get_or c.instrs.result.now place (instr.Set 0 0) there in
+    columns_here code e place s safe i at
+
+pub overflow_add-result : goal.overflow_add-result
+overflow_add-result c =
+    let there = slice_get_within c.args.code.now.instrs c.args.place c.requires.safe.instr c.requires.safe.stands in
+    let small : c.args.place + 1 < 2 ^ 64 = omega (arith, there, c.instrs.ensures.kept.instrs) in
+    search rules
+
+pub unwrap-requires : goal.unwrap-requires
+unwrap-requires c =
+    let code = c.args.code.now in
+    let e = c.args.returns.now in
+    let s = state_of c.args.store.now in
+    let safe = c.requires.safe in
+    let place = c.args.place in
+    let there : place < length c.instrs.result.now = subst (λ (is : List Instr). place < length is) (sym c.instrs.ensures.instrs) (slice_get_within code.instrs place safe.instr safe.stands) in
+    let i = get_or c.instrs.result.now place (instr.Set 0 0) in
+    let at : slice_get code.instrs place ≡ Some i = ap (λ (is : List Instr). slice_get is place) (sym c.instrs.ensures.instrs) ∙ slice_get-get_or c.instrs.result.now place (instr.Set 0 0) there in
+    let t = state_of c.step.new.self in
+    let follows = subst (λ (n : Next). effect_of n t ≡ effect code e i s) c.in-Jumps.is c.in_ok-step.ensures.follows in
+    subst (λ (o : Option ℕ). IsSome o) (sym c.target_of.ensures) (has_target code e place s safe i at t follows)
+
+pub returns-in-Goes-clause-leads : goal.returns-in-Goes-clause-leads
+returns-in-Goes-clause-leads c =
+    let code = c.args.code.now in
+    let e = c.args.returns.now in
+    let s = state_of c.args.store.now in
+    let safe = c.requires.safe in
+    let place = c.args.place in
+    let there : place < length c.instrs.result.now = subst (λ (is : List Instr). place < length is) (sym c.instrs.ensures.instrs) (slice_get_within code.instrs place safe.instr safe.stands) in
+    let i = get_or c.instrs.result.now place (instr.Set 0 0) in
+    let at : slice_get code.instrs place ≡ Some i = ap (λ (is : List Instr). slice_get is place) (sym c.instrs.ensures.instrs) ∙ slice_get-get_or c.instrs.result.now place (instr.Set 0 0) there in
+    let t = state_of c.step.new.self in
+    let follows = subst (λ (n : Next). effect_of n t ≡ effect code e i s) c.in-Goes.is c.in_ok-step.ensures.follows in
+    goes_on code e place s safe i at t follows
+
+pub returns-in-Jumps-clause-leads : goal.returns-in-Jumps-clause-leads
+returns-in-Jumps-clause-leads c =
+    let code = c.args.code.now in
+    let e = c.args.returns.now in
+    let s = state_of c.args.store.now in
+    let safe = c.requires.safe in
+    let place = c.args.place in
+    let there : place < length c.instrs.result.now = subst (λ (is : List Instr). place < length is) (sym c.instrs.ensures.instrs) (slice_get_within code.instrs place safe.instr safe.stands) in
+    let i = get_or c.instrs.result.now place (instr.Set 0 0) in
+    let at : slice_get code.instrs place ≡ Some i = ap (λ (is : List Instr). slice_get is place) (sym c.instrs.ensures.instrs) ∙ slice_get-get_or c.instrs.result.now place (instr.Set 0 0) there in
+    let t = state_of c.step.new.self in
+    let follows = subst (λ (n : Next). effect_of n t ≡ effect code e i s) c.in-Jumps.is c.in_ok-step.ensures.follows in
+    jumps_to code e place s safe i at t c.unwrap.result follows (sym c.target_of.ensures ∙ c.unwrap.ensures)
+
+pub returns-in-Ends-clause-leads : goal.returns-in-Ends-clause-leads
+returns-in-Ends-clause-leads c =
+    let code = c.args.code.now in
+    let e = c.args.returns.now in
+    let s = state_of c.args.store.now in
+    let safe = c.requires.safe in
+    let place = c.args.place in
+    let there : place < length c.instrs.result.now = subst (λ (is : List Instr). place < length is) (sym c.instrs.ensures.instrs) (slice_get_within code.instrs place safe.instr safe.stands) in
+    let i = get_or c.instrs.result.now place (instr.Set 0 0) in
+    let at : slice_get code.instrs place ≡ Some i = ap (λ (is : List Instr). slice_get is place) (sym c.instrs.ensures.instrs) ∙ slice_get-get_or c.instrs.result.now place (instr.Set 0 0) there in
+    let t = state_of c.step.new.self in
+    let follows = subst (λ (n : Next). effect_of n t ≡ effect code e i s) c.in-Ends.is c.in_ok-step.ensures.follows in
+    ends_with code e place s safe i at c.in-Ends.end t follows

@@ -1,0 +1,16 @@
+-- What is left of the run ends as the whole.
+use Rattle.std.proofs.Common.{◌≡◌}
+use Rattle.sl_machine.specs.Agrees.{IsSafe}
+use Rattle.sl_machine.specs.Steps.{run}
+use Rattle.sl_machine.specs.Stores.{state_of, sizes_of, sizes_for}
+use Rattle.sl_machine.proofs.machine.steps.Given as goal
+
+abbrev pub invariant-loop-left : goal.invariant-loop-left
+invariant-loop-left l = record {
+  same : run l.code l.returns l.budget 0 (state_of l.fn.store) ≡ run l.code l.returns l.left l.place (state_of l.store);
+  safe : IsSafe l.code l.returns l.place (state_of l.store);
+  sizes : sizes_of l.store ≡ sizes_for l.code l.returns;
+}
+
+abbrev pub decreases-loop-left : goal.decreases-loop-left
+decreases-loop-left l = l.left

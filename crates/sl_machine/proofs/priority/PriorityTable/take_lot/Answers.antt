@@ -1,0 +1,42 @@
+-- The entry that is taken, and the others, which stay as they were ranked.
+use Rattle.std.proofs.Common.{◌∷◌, Option, IsSome, IsPermutation, sym, subst, ◌∙◌}
+use Rattle.std.specs.Option.{IfSome, option_and_then}
+use Rattle.sl_ratio.specs.declared.entry.Entry.{Entry}
+use Rattle.sl_prio.specs.Prio.{top}
+use Rattle.sl_prio.specs.Lot.{drawn}
+use Rattle.sl_machine.specs.State.{PriorityTable}
+use Rattle.sl_machine.specs.Tables.{FitsMark}
+use Rattle.sl_machine.proofs.Priorities.{alike, top_there, drawn_there, taken_fits, taken_is, taken_within}
+use Rattle.sl_machine.proofs.priority.PriorityTable.take_lot.Goals as goal
+
+pub unwrap-entry-requires : goal.unwrap-entry-requires
+unwrap-entry-requires c =
+    let there = drawn_there c.args.lot.now c.self.inside.prio (top_there c.self.inside.kind c.self.inside.prio (subst (λ (o : Option PriorityTable). IsSome (option_and_then (λ t. top t.contents) o)) (sym c.self.view_is) c.requires)) in
+    subst (λ (o : Option Entry). IsSome o) (sym c.take_lot.ensures.drawn) there
+
+pub taken-requires : goal.taken-requires
+taken-requires c =
+    let rest : IsPermutation c.self.inside.prio (c.unwrap-entry.result ∷ c.take_lot.new.self) =
+    subst (λ (o : Option Entry). IfSome o (λ entry. IsPermutation c.self.inside.prio (entry ∷ c.take_lot.new.self))) c.unwrap-entry.ensures c.take_lot.ensures.rest in
+    (taken_fits (λ x. FitsMark c.unwrap-kind.result.ranking x.ratio) _ _ _ rest (c.self.invariant c.unwrap-kind.result c.unwrap-kind.ensures)).0
+
+pub invariant_of-self : goal.invariant_of-self
+invariant_of-self c = λ kind is.
+    let rest : IsPermutation c.self.inside.prio (c.unwrap-entry.result ∷ c.take_lot.new.self) =
+    subst (λ (o : Option Entry). IfSome o (λ entry. IsPermutation c.self.inside.prio (entry ∷ c.take_lot.new.self))) c.unwrap-entry.ensures c.take_lot.ensures.rest in
+    (taken_fits (λ x. FitsMark kind.ranking x.ratio) _ _ _ rest (c.self.invariant kind is)).1
+
+pub returns-clause-taken : goal.returns-clause-taken
+returns-clause-taken c =
+    let rest : IsPermutation c.self.inside.prio (c.unwrap-entry.result ∷ c.take_lot.new.self) =
+    subst (λ (o : Option Entry). IfSome o (λ entry. IsPermutation c.self.inside.prio (entry ∷ c.take_lot.new.self))) c.unwrap-entry.ensures c.take_lot.ensures.rest in
+    let first = sym ((alike c.self.inside.prio).same_drawn c.args.lot.now) ∙ sym c.take_lot.ensures.drawn ∙ c.unwrap-entry.ensures in
+    taken_is c.self.inside.kind c.unwrap-kind.result c.self.inside.prio c.take_lot.new.self c.unwrap-entry.result c.taken.result c.args.self.now (drawn c.args.lot.now)
+    c.unwrap-kind.ensures c.self.view_is c.taken.ensures first rest
+
+pub returns-clause-within : goal.returns-clause-within
+returns-clause-within c = λ e all.
+    let rest : IsPermutation c.self.inside.prio (c.unwrap-entry.result ∷ c.take_lot.new.self) =
+    subst (λ (o : Option Entry). IfSome o (λ entry. IsPermutation c.self.inside.prio (entry ∷ c.take_lot.new.self))) c.unwrap-entry.ensures c.take_lot.ensures.rest in
+    taken_within e c.self.inside.kind c.unwrap-kind.result c.self.inside.prio c.take_lot.new.self c.unwrap-entry.result c.taken.result c.args.self.now
+    c.unwrap-kind.ensures c.self.view_is c.taken.ensures rest all

@@ -1,0 +1,30 @@
+-- The column is one of zeros, as long as before.
+use Rattle.std.proofs.Common.{◌≡◌, ◌<◌, ℕ, List, length, get_or, replicate, ap, ◌∙◌, arith}
+use Rattle.std.proofs.lemmas.Grind.{common_steps}
+use Rattle.std.proofs.lemmas.List.{length-map, length-replicate}
+use Rattle.sl_machine.specs.State.{with_column}
+use Rattle.sl_machine.specs.Effects.{Goes}
+use Rattle.sl_machine.specs.Stores.{state_of, columns_of}
+use Rattle.sl_machine.proofs.Cells.{same_columns, widths_kept, column_written}
+use Rattle.sl_machine.proofs.store.Store.zero_column.Goals as goal
+
+zeros_at : (xs : List ℕ) (n : ℕ) → xs ≡ replicate n 0 → (p : ℕ) → get_or xs p 0 ≡ 0
+zeros_at xs n h p = rw h (grind (arith, common_steps))
+
+pub returns-clause-kept : goal.returns-clause-kept
+returns-clause-kept c =
+    let rows = c.args.self.now.columns.items in
+    let there : c.from.result < length rows = omega (arith, c.requires, length-map (columns_of c.args.self.now) length, length-map rows (λ row. row.items)) in
+    let row = c.index_mut-column.result.now in
+    let long = ap length c.clear.ensures ∙ length-replicate (length row.items) 0 in
+    let kept = widths_kept (λ row. row.items) rows c.from.result row there c.index_mut-column.ensures.value c.clear.new.column long in
+    ap (λ (ws : List ℕ). record { columns = ws; winners = length c.args.self.now.placed.items }) kept
+
+pub returns-clause-follows : goal.returns-clause-follows
+returns-clause-follows c =
+    let rows = c.args.self.now.columns.items in
+    let s = state_of c.args.self.now in
+    let there : c.from.result < length rows = omega (arith, c.requires, length-map (columns_of c.args.self.now) length, length-map rows (λ row. row.items)) in
+    let row = c.index_mut-column.result.now in
+    let cells = column_written (λ row. row.items) rows c.from.result row there c.index_mut-column.ensures.value c.clear.new.column (λ p. 0) (zeros_at _ _ c.clear.ensures) in
+    ap Goes (same_columns s _ _ cells) ∙ ap (λ (k : ℕ). Goes (with_column k (λ p. 0) s)) c.from.ensures

@@ -1,0 +1,28 @@
+-- The lots of a code's stages in tables of each kind of entries.
+use Rattle.std.specs.Prelude.{ℕ, List, [], ◌∷◌, ◌++◌, map, codes}
+use Rattle.sl_stages.specs.Election.{Election}
+use Rattle.sl_code.specs.Codes.{CountingCode}
+use Rattle.sl_code.specs.declared.operand.Entries.{Entries}
+use Rattle.sl_code.specs.declared.operand.Entries.TheVariants as entries
+use Rattle.sl_machine.specs.Drawn.{lot_of}
+
+-- the lot of a stage, in a table of parties, of Länder, of lists, of winners
+pub record StageLots : Type 0 where
+  pub party : List ℕ
+  pub land : List ℕ
+  pub list : List ℕ
+  pub win : List ℕ
+
+abbrev pub lot_in : Entries → StageLots → List ℕ
+lot_in entries.Party l = l.party
+lot_in entries.Land l = l.land
+lot_in entries.List l = l.list
+lot_in entries.Win l = l.win
+
+-- the lots of that name
+abbrev pub stage_lots : Election → List ℕ → StageLots
+stage_lots e name = record { party = lot_of e entries.Party name; land = lot_of e entries.Land name; list = lot_of e entries.List name; win = lot_of e entries.Win name }
+
+-- those of the stages, and behind them those of the last clause
+abbrev pub lots_for : CountingCode → Election → List StageLots
+lots_for c e = map (λ stage. stage_lots e stage.name) c.stages ++ stage_lots e (codes "seats") ∷ []

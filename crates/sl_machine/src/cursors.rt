@@ -1,0 +1,246 @@
+//! The cursors: what they stand at, and how they move.
+
+ghost use Rattle.std.specs.Prelude.{◌≡◌, ◌<◌, ◌+◌, ◌*◌, ℕ, Option, Some, IsSome, IfSome, if◌then◌else◌};
+ghost use Rattle.sl_verify.specs.declared.known.TheConstants.{REGISTERS};
+ghost use Rattle.sl_code.specs.Codes.{CountingCode};
+ghost use Rattle.sl_code.specs.declared.instr.Instr.TheVariants as instr;
+ghost use Rattle.sl_stages.specs.Election.{lands_of, parties_of, wins_of, has_list};
+ghost use Rattle.sl_machine.specs.State.{State};
+ghost use Rattle.sl_machine.specs.Places.{both, cells_of, cell_at, index_at, scope_at, item_of, at_entry};
+ghost use Rattle.sl_machine.specs.Effects.{Goes, Jumps, effect, given, with_party, with_land, with_win, winner_at, first_of, next_of, to_party};
+ghost use Rattle.sl_machine.specs.Safe.{IsInRange, entries_in};
+ghost use Rattle.sl_machine.specs.Stores.{state_of, sizes_of, effect_of};
+
+use crate::step::Next;
+use crate::store::Store;
+use sl_code::{Entries, ScopeKind};
+use sl_stages::{Item, Returns, Scope, Shape};
+
+// The cursor on the first of so many, if there is one, and where the run goes on.
+fn first_of(count: usize) -> (Option<usize>, Next)
+    ensures { (set : Option ℕ → State → State) (s : State) → effect_of result.1 (set result.0 s) ≡ first_of count set s }
+{
+    if count == 0 {
+        (None, Next::Jumps)
+    } else {
+        (Some(0), Next::Goes)
+    }
+}
+
+// The cursor on the next of so many, if there is one, and where the run goes on.
+fn next_of(count: usize, cursor: usize) -> (Option<usize>, Next)
+    requires { cursor < count }
+    ensures { (set : Option ℕ → State → State) (s : State) → effect_of result.1 (set result.0 s) ≡ next_of count (Some cursor) set s }
+{
+    if cursor + 1 < count {
+        (Some(cursor + 1), Next::Jumps)
+    } else {
+        (None, Next::Goes)
+    }
+}
+
+/// The item that an entry of the table of that number is.
+pub(crate) fn item_of(returns: &Returns, entries: Entries, index: usize) -> Item
+    requires { index < entries_in returns.now entries }
+    ensures { result ≡ item_of returns.now entries index }
+{
+    match entries {
+        Entries::Party => Item::Party(index),
+        Entries::Land => Item::Land(index),
+        Entries::List => Item::List(index / returns.parties(), index % returns.parties()),
+        Entries::Win => Item::Win(index),
+    }
+}
+
+impl Store {
+    // The number of the list at the cursors.
+    fn list_index(&self, returns: &Returns) -> Option<usize>
+        requires { IsInRange returns.now (state_of self.now) }
+        ensures value { let s = state_of self.now in result ≡ both s.land s.party (λ land party. land * parties_of returns.now + party) }
+        ensures within { IfSome result (λ place. place < lands_of returns.now * parties_of returns.now) }
+    {
+        let land = self.cursors.land?;
+        let party = self.cursors.party?;
+        Some(land * returns.parties() + party)
+    }
+
+    /// The cell of a column of that shape at the cursors.
+    pub(crate) fn cell_index(&self, returns: &Returns, shape: Shape) -> Option<usize>
+        requires { IsInRange returns.now (state_of self.now) }
+        ensures value { result ≡ cell_at returns.now shape (state_of self.now) }
+        ensures within { IfSome result (λ place. place < cells_of returns.now shape) }
+    {
+        match shape {
+            Shape::One => Some(0),
+            Shape::Party => self.cursors.party,
+            Shape::Land => self.cursors.land,
+            Shape::List => self.list_index(returns),
+        }
+    }
+
+    /// The number of the table's entry at the cursors.
+    pub(crate) fn entry_index(&self, returns: &Returns, entries: Entries) -> Option<usize>
+        requires { IsInRange returns.now (state_of self.now) }
+        ensures value { result ≡ index_at returns.now entries (state_of self.now) }
+        ensures within { IfSome result (λ index. index < entries_in returns.now entries) }
+    {
+        match entries {
+            Entries::Party => self.cursors.party,
+            Entries::Land => self.cursors.land,
+            Entries::List => self.list_index(returns),
+            Entries::Win => self.cursors.win,
+        }
+    }
+
+    /// The scope at the cursors.
+    pub(crate) fn scope(&self, kind: ScopeKind) -> Option<Scope>
+        ensures { result ≡ scope_at kind (state_of self.now) }
+    {
+        match kind {
+            ScopeKind::All => Some(Scope::All),
+            ScopeKind::Land => Some(Scope::Land(self.cursors.land?)),
+            ScopeKind::Party => Some(Scope::Party(self.cursors.party?)),
+            ScopeKind::List => Some(Scope::List(self.cursors.land?, self.cursors.party?)),
+        }
+    }
+
+    /// Moves the cursors to the table's entry of that number.
+    pub(crate) fn move_to(&mut self, returns: &Returns, entries: Entries, index: usize)
+        requires { index < entries_in returns.now entries }
+        ensures state { state_of self.new ≡ at_entry returns.now entries index (state_of self.old) }
+        ensures table { self.new.table ≡ self.old.table }
+        ensures kept { sizes_of self.new ≡ sizes_of self.old }
+    {
+        match entries {
+            Entries::Party => self.cursors.party = Some(index),
+            Entries::Land => self.cursors.land = Some(index),
+            Entries::List => {
+                self.cursors.land = Some(index / returns.parties());
+                self.cursors.party = Some(index % returns.parties());
+            }
+            Entries::Win => self.cursors.win = Some(index),
+        }
+    }
+
+    /// Jumps where the Land and the party have no list.
+    pub(crate) fn jump_without_list(&self, returns: &Returns) -> Next
+        requires land { IsSome (state_of self.now).land }
+        requires party { IsSome (state_of self.now).party }
+        requires range { IsInRange returns.now (state_of self.now) }
+        ensures { let s = state_of self.now in
+            effect_of result s ≡ given (both s.land s.party (has_list returns.now)) (λ there. if there then Goes s else Jumps s) }
+    {
+        let land = self.cursors.land.unwrap();
+        let party = self.cursors.party.unwrap();
+        if returns.is_list(land, party) {
+            Next::Goes
+        } else {
+            Next::Jumps
+        }
+    }
+
+    /// Sets a register to the house of the returns, if they give one.
+    pub(crate) fn set_house(&mut self, returns: &Returns, register: u8) -> Next
+        requires { register < REGISTERS }
+        ensures follows { (c : CountingCode) → effect_of result (state_of self.new) ≡ effect c returns.now (instr.House register) (state_of self.old) }
+        ensures kept { sizes_of self.new ≡ sizes_of self.old }
+    {
+        match returns.house() {
+            Some(seats) => self.set(register, u64::from(seats)),
+            None => Next::Goes,
+        }
+    }
+
+    /// Moves to the winner's party.
+    pub(crate) fn to_winners_party(&mut self, returns: &Returns) -> Next
+        requires win { IsSome (state_of self.old).win }
+        requires range { IsInRange returns.now (state_of self.old) }
+        ensures follows { let s = state_of self.old in effect_of result (state_of self.new) ≡ given (winner_at returns.now s) (λ w. to_party w.party s) }
+        ensures kept { sizes_of self.new ≡ sizes_of self.old }
+    {
+        let winner = returns.win(self.cursors.win.unwrap());
+        self.cursors.party = winner.party;
+        match winner.party {
+            Some(_) => Next::Goes,
+            None => Next::Jumps,
+        }
+    }
+
+    /// Moves to the winner's Land.
+    pub(crate) fn to_winners_land(&mut self, returns: &Returns) -> Next
+        requires win { IsSome (state_of self.old).win }
+        requires range { IsInRange returns.now (state_of self.old) }
+        ensures follows { let s = state_of self.old in effect_of result (state_of self.new) ≡ given (winner_at returns.now s) (λ w. Goes (with_land (Some w.land) s)) }
+        ensures kept { sizes_of self.new ≡ sizes_of self.old }
+    {
+        let winner = returns.win(self.cursors.win.unwrap());
+        self.cursors.land = Some(winner.land);
+        Next::Goes
+    }
+
+    /// Moves to the first party.
+    pub(crate) fn first_party(&mut self, returns: &Returns) -> Next
+        ensures follows { effect_of result (state_of self.new) ≡ first_of (parties_of returns.now) with_party (state_of self.old) }
+        ensures kept { sizes_of self.new ≡ sizes_of self.old }
+    {
+        let (party, next) = first_of(returns.parties());
+        self.cursors.party = party;
+        next
+    }
+
+    /// Moves to the next party.
+    pub(crate) fn next_party(&mut self, returns: &Returns) -> Next
+        requires party { IsSome (state_of self.old).party }
+        requires range { IsInRange returns.now (state_of self.old) }
+        ensures follows { let s = state_of self.old in effect_of result (state_of self.new) ≡ next_of (parties_of returns.now) s.party with_party s }
+        ensures kept { sizes_of self.new ≡ sizes_of self.old }
+    {
+        let (party, next) = next_of(returns.parties(), self.cursors.party.unwrap());
+        self.cursors.party = party;
+        next
+    }
+
+    /// Moves to the first Land.
+    pub(crate) fn first_land(&mut self, returns: &Returns) -> Next
+        ensures follows { effect_of result (state_of self.new) ≡ first_of (lands_of returns.now) with_land (state_of self.old) }
+        ensures kept { sizes_of self.new ≡ sizes_of self.old }
+    {
+        let (land, next) = first_of(returns.lands());
+        self.cursors.land = land;
+        next
+    }
+
+    /// Moves to the next Land.
+    pub(crate) fn next_land(&mut self, returns: &Returns) -> Next
+        requires land { IsSome (state_of self.old).land }
+        requires range { IsInRange returns.now (state_of self.old) }
+        ensures follows { let s = state_of self.old in effect_of result (state_of self.new) ≡ next_of (lands_of returns.now) s.land with_land s }
+        ensures kept { sizes_of self.new ≡ sizes_of self.old }
+    {
+        let (land, next) = next_of(returns.lands(), self.cursors.land.unwrap());
+        self.cursors.land = land;
+        next
+    }
+
+    /// Moves to the first winner.
+    pub(crate) fn first_win(&mut self, returns: &Returns) -> Next
+        ensures follows { effect_of result (state_of self.new) ≡ first_of (wins_of returns.now) with_win (state_of self.old) }
+        ensures kept { sizes_of self.new ≡ sizes_of self.old }
+    {
+        let (win, next) = first_of(returns.wins());
+        self.cursors.win = win;
+        next
+    }
+
+    /// Moves to the next winner.
+    pub(crate) fn next_win(&mut self, returns: &Returns) -> Next
+        requires win { IsSome (state_of self.old).win }
+        requires range { IsInRange returns.now (state_of self.old) }
+        ensures follows { let s = state_of self.old in effect_of result (state_of self.new) ≡ next_of (wins_of returns.now) s.win with_win s }
+        ensures kept { sizes_of self.new ≡ sizes_of self.old }
+    {
+        let (win, next) = next_of(returns.wins(), self.cursors.win.unwrap());
+        self.cursors.win = win;
+        next
+    }
+}

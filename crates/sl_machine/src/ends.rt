@@ -1,0 +1,164 @@
+//! Winners who are seated, and the ends of a run.
+
+ghost use Rattle.std.specs.Prelude.{◌≡◌, ◌<◌, ℕ, None, Some, IsTrue, IsSome, IfOk, map, length};
+ghost use Rattle.std.specs.Option.{option_map, option_and_then};
+ghost use Rattle.sl_verify.specs.declared.known.TheConstants.{REGISTERS};
+ghost use Rattle.sl_verify.specs.Needs.{has_stage};
+ghost use Rattle.sl_code.specs.Codes.{CountingCode};
+ghost use Rattle.sl_code.specs.declared.instr.Instr.TheVariants as instr;
+ghost use Rattle.sl_prio.specs.Prio.{top, peers};
+ghost use Rattle.sl_stages.specs.Election.{Election, IsElection, wins_of};
+ghost use Rattle.sl_machine.specs.State.{State, Halted, with_place};
+ghost use Rattle.sl_machine.specs.Places.{scope_at, item_of};
+ghost use Rattle.sl_machine.specs.Effects.{Goes, Ends, effect, given, faults, kind_of};
+ghost use Rattle.sl_machine.specs.Safe.{IsInRange};
+ghost use Rattle.sl_machine.specs.Stores.{state_of, sizes_of, effect_of};
+
+use crate::cursors::item_of;
+use crate::records::stage_number;
+use crate::step::{End, Next};
+use crate::store::{Store, append};
+use sl_code::{Code, EndFault, ScopeKind};
+use sl_ratio::NoMemory;
+use sl_stages::{FaultKind, Item, Items, LegalFault, Placed, Returns};
+
+/// Ends with the seats of the lists.
+pub(crate) fn halt(slot: u8) -> Next
+    ensures { (s : State) → effect_of result s ≡ Ends (Halted slot None s) }
+{
+    Next::Ends(End::Halted {
+        base: usize::from(slot),
+        vacant: None,
+    })
+}
+
+/// Ends with the seats of the lists, and with the vacant ones.
+pub(crate) fn halt_with_vacant(slot: u8, vacant: u8) -> Next
+    ensures { (s : State) → effect_of result s ≡ Ends (Halted slot (Some vacant) s) }
+{
+    Next::Ends(End::Halted {
+        base: usize::from(slot),
+        vacant: Some(usize::from(vacant)),
+    })
+}
+
+// The kind of a legal fault without names.
+fn kind_of(fault: EndFault) -> FaultKind
+    ensures { result ≡ kind_of fault }
+{
+    match fault {
+        EndFault::Limit => FaultKind::Limit,
+        EndFault::Short => FaultKind::Short,
+        EndFault::NoList => FaultKind::NoList,
+        EndFault::Majority => FaultKind::Majority,
+        EndFault::Cap => FaultKind::Cap,
+    }
+}
+
+impl Store {
+    // Ends with a legal fault of that kind.
+    fn fault(&self, code: &Code, stage: u8, scope: ScopeKind, kind: FaultKind) -> Next
+        requires stage { IsTrue (has_stage code.now stage) }
+        requires scope { IsSome (scope_at scope (state_of self.now)) }
+        ensures { (e : Election) → effect_of result (state_of self.now) ≡ faults code.now e stage scope kind (state_of self.now) }
+    {
+        Next::Ends(End::Faulted(LegalFault {
+            stage: stage_number(code, stage),
+            scope: self.scope(scope).unwrap(),
+            kind,
+        }))
+    }
+
+    /// Ends with a legal fault without names.
+    pub(crate) fn end_with_fault(
+        &self,
+        code: &Code,
+        stage: u8,
+        scope: ScopeKind,
+        fault: EndFault,
+    ) -> Next
+        requires stage { IsTrue (has_stage code.now stage) }
+        requires scope { IsSome (scope_at scope (state_of self.now)) }
+        ensures { (e : Election) → effect_of result (state_of self.now) ≡ effect code.now e (instr.Fault stage scope fault) (state_of self.now) }
+    {
+        self.fault(code, stage, scope, kind_of(fault))
+    }
+
+    // The items of the peers.
+    fn peers(&self, returns: &Returns) -> Result<Vec<Item>, NoMemory>
+        requires table { IsSome self.now.table }
+        requires range { IsInRange returns.now (state_of self.now) }
+        ensures { IfOk result (λ items. option_map (λ t. map (λ x. item_of returns.now t.entries x.index) (peers t.contents)) self.now.table ≡ Some items.items) }
+    {
+        let entries = self.table.entries().unwrap();
+        let mut items = Vec::new(self.alloc);
+        for i in 0..self.table.peers() {
+            let peer = self.table.member(i).unwrap();
+            append(&mut items, item_of(returns, entries, peer.index as usize))?;
+        }
+        Ok(items)
+    }
+
+    /// Ends with a tie among the peers.
+    pub(crate) fn end_with_tie(
+        &self,
+        code: &Code,
+        returns: &Returns,
+        stage: u8,
+        scope: ScopeKind,
+        seats: u8,
+    ) -> Result<Next, NoMemory>
+        requires stage { IsTrue (has_stage code.now stage) }
+        requires scope { IsSome (scope_at scope (state_of self.now)) }
+        requires seats { seats < REGISTERS }
+        requires top { IsSome (option_and_then (λ t. top t.contents) self.now.table) }
+        requires range { IsInRange returns.now (state_of self.now) }
+        ensures { IfOk result (λ next. effect_of next (state_of self.now)
+            ≡ effect code.now returns.now (instr.Tie stage scope seats) (state_of self.now)) }
+    {
+        let names = Items::new(self.peers(returns)?);
+        let seats = self.register(seats);
+        Ok(self.fault(code, stage, scope, FaultKind::Tie { seats, names }))
+    }
+
+    // Seats the winner of that number so.
+    fn put_winner(&mut self, win: usize, place: Placed)
+        requires { win < length self.old.placed.items }
+        ensures state { state_of self.new ≡ with_place win place (state_of self.old) }
+        ensures kept { sizes_of self.new ≡ sizes_of self.old }
+    {
+        self.placed[win] = place;
+    }
+
+    /// Seats the winner on the list of the Land and the party, if there is one.
+    pub(crate) fn seat_on_list(&mut self, returns: &Returns) -> Next
+        requires win { IsSome (state_of self.old).win }
+        requires election { IsElection returns.now }
+        requires range { IsInRange returns.now (state_of self.old) }
+        requires sizes { (sizes_of self.old).winners ≡ wins_of returns.now }
+        ensures follows { (c : CountingCode) → effect_of result (state_of self.new) ≡ effect c returns.now instr.Seat (state_of self.old) }
+        ensures kept { sizes_of self.new ≡ sizes_of self.old }
+    {
+        let win = self.cursors.win.unwrap();
+        let winner = returns.win(win);
+        if let Some(party) = winner.party
+            && returns.is_list(winner.land, party)
+        {
+            self.put_winner(win, Placed::OnList);
+        }
+        Next::Goes
+    }
+
+    /// Seats the winner as a single.
+    pub(crate) fn seat_as_single(&mut self, returns: &Returns) -> Next
+        requires win { IsSome (state_of self.old).win }
+        requires range { IsInRange returns.now (state_of self.old) }
+        requires sizes { (sizes_of self.old).winners ≡ wins_of returns.now }
+        ensures follows { (c : CountingCode) → effect_of result (state_of self.new) ≡ effect c returns.now instr.Single (state_of self.old) }
+        ensures kept { sizes_of self.new ≡ sizes_of self.old }
+    {
+        let win = self.cursors.win.unwrap();
+        self.put_winner(win, Placed::Single);
+        Next::Goes
+    }
+}

@@ -1,0 +1,22 @@
+//! The counting machine.
+#![tactic(auto)]
+
+mod arithmetic;
+mod columns;
+mod cursors;
+mod ends;
+pub mod laws;
+mod lots;
+mod machine;
+mod memory;
+mod priority;
+mod records;
+mod step;
+mod store;
+mod table;
+
+pub use machine::{Ending, budget, run};
+pub use memory::Memory;
+
+#[cfg(test)]
+mod tests;

@@ -1,0 +1,155 @@
+//! The lots of a code's stages, as numbers of entries of the priority table.
+
+ghost use Rattle.std.specs.Prelude.{◌≡◌, ◌<◌, ◌≤◌, Some, None, IfOk, length, slice_get, option_map, if◌then◌else◌};
+ghost use Rattle.sl_stages.specs.Election.{IsElection, IsLot, lands_of, parties_of, wins_of};
+ghost use Rattle.std.specs.Str.{bytes_eq};
+ghost use Rattle.sl_stages.specs.Lots.{is_winner_of};
+ghost use Rattle.sl_stages.specs.Scopes.{place};
+ghost use Rattle.sl_machine.specs.Drawn.{lot_of, given_in};
+ghost use Rattle.sl_machine.specs.Lots.{lot_in, stage_lots, lots_for};
+
+use crate::store::append;
+use sl_code::{Code, Entries};
+use sl_ratio::NoMemory;
+use sl_stages::{Lot, Returns};
+use std::alloc::Global;
+use std::marker::Model;
+
+/// The lot of a stage in a table of each kind of entries.
+#[derive(Drop)]
+pub(crate) struct StageLot {
+    party: Vec<u32>,
+    land: Vec<u32>,
+    list: Vec<u32>,
+    win: Vec<u32>,
+}
+
+impl Model for StageLot {
+    ghost use Rattle.sl_machine.specs.Lots.{StageLots};
+
+    ghost Value = { StageLots };
+
+    ghost view = { λ l. record { party = l.party.items; land = l.land.items; list = l.list.items; win = l.win.items } };
+}
+
+/// The lots of the stages, and behind them the lot of the last clause.
+#[derive(Drop)]
+pub(crate) struct Lots {
+    stages: Vec<StageLot>,
+}
+
+impl Model for Lots {
+    ghost use Rattle.std.specs.Prelude.{List};
+    ghost use Rattle.sl_machine.specs.Lots.{StageLots};
+
+    ghost Value = { List StageLots };
+
+    ghost view = { λ l. l.stages.items };
+}
+
+// The entry that a lot gives in a table of such entries, by its number.
+fn given_in(returns: &Returns, entries: Entries, lot: &Lot) -> Option<u32>
+    requires lot { IsLot (lands_of returns.now) (parties_of returns.now) (wins_of returns.now) lot.now }
+    requires election { IsElection returns.now }
+    ensures { result ≡ option_map (place returns.now) (given_in returns.now entries lot.now) }
+{
+    match (entries, lot.land, lot.party) {
+        (Entries::Party, None, Some(party)) => Some(party as u32),
+        (Entries::Land, Some(land), None) => Some(land as u32),
+        (Entries::List, Some(land), Some(party)) => {
+            Some((land * returns.parties() + party) as u32)
+        }
+        (Entries::Win, Some(land), Some(party)) => given_winner(returns, land, party, lot.win?),
+        _ => None,
+    }
+}
+
+// The winner, if it is of that Land and that party.
+fn given_winner(returns: &Returns, land: usize, party: usize, win: usize) -> Option<u32>
+    requires win { win < wins_of returns.now }
+    requires election { IsElection returns.now }
+    ensures { result ≡ (if is_winner_of land party (slice_get returns.now.wins win) then Some win else None) }
+{
+    let winner = returns.win(win);
+    (winner.land == land && winner.party == Some(party)).then_some(win as u32)
+}
+
+// The entry that a lot gives, if it has the name.
+fn given_by(returns: &Returns, entries: Entries, name: &[u8], lot: &Lot) -> Option<u32>
+    requires lot { IsLot (lands_of returns.now) (parties_of returns.now) (wins_of returns.now) lot.now }
+    requires election { IsElection returns.now }
+    ensures { result ≡ (if bytes_eq name.now lot.now.stage then option_map (place returns.now) (given_in returns.now entries lot.now) else None) }
+{
+    if name == lot.stage.as_bytes() {
+        given_in(returns, entries, lot)
+    } else {
+        None
+    }
+}
+
+// The entries that the lots of that name give.
+fn lot_of(
+    alloc: Global,
+    returns: &Returns,
+    entries: Entries,
+    name: &[u8],
+) -> Result<Vec<u32>, NoMemory>
+    ensures { IfOk result (λ lot. lot.items ≡ lot_of returns.now entries name.now) }
+{
+    let mut drawn = Vec::new(alloc);
+    for lot in returns.lots() {
+        if let Some(index) = given_by(returns, entries, name, lot) {
+            append(&mut drawn, index)?;
+        }
+    }
+    Ok(drawn)
+}
+
+impl StageLot {
+    // The lot of the stage of that name.
+    fn named(alloc: Global, returns: &Returns, name: &[u8]) -> Result<StageLot, NoMemory>
+        ensures { IfOk result (λ lot. lot ≡ stage_lots returns.now name.now) }
+    {
+        Ok(StageLot {
+            party: lot_of(alloc, returns, Entries::Party, name)?,
+            land: lot_of(alloc, returns, Entries::Land, name)?,
+            list: lot_of(alloc, returns, Entries::List, name)?,
+            win: lot_of(alloc, returns, Entries::Win, name)?,
+        })
+    }
+}
+
+impl Lots {
+    /// The lots of a code's stages.
+    ///
+    /// # Errors
+    ///
+    /// Want of memory.
+    pub(crate) fn of(alloc: Global, code: &Code, returns: &Returns) -> Result<Lots, NoMemory>
+        ensures { IfOk result (λ lots. lots ≡ lots_for code.now returns.now) }
+    {
+        let mut stages = Vec::new(alloc);
+        for stage in code.stages() {
+            append(
+                &mut stages,
+                StageLot::named(alloc, returns, stage.name.as_bytes())?,
+            )?;
+        }
+        append(&mut stages, StageLot::named(alloc, returns, b"seats")?)?;
+        Ok(Lots { stages })
+    }
+
+    /// The lot of a stage, or of the last clause behind all stages, in a table of such entries.
+    pub(crate) fn lot(&self, stage: usize, entries: Entries) -> &[u32]
+        requires { stage < length self.now }
+        ensures { option_map (lot_in entries) (slice_get self.now stage) ≡ Some result.now }
+    {
+        let lot = &self.stages[stage];
+        match entries {
+            Entries::Party => lot.party.as_slice(),
+            Entries::Land => lot.land.as_slice(),
+            Entries::List => lot.list.as_slice(),
+            Entries::Win => lot.win.as_slice(),
+        }
+    }
+}

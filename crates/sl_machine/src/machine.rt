@@ -1,0 +1,144 @@
+//! Runs of a code on returns.
+
+ghost use Rattle.std.specs.Prelude.{◌≡◌, ◌≤◌, Some, IfOk, IsSome};
+ghost use Rattle.sl_stages.specs.declared.limits.TheConstants.{MAX_STAGES};
+ghost use Rattle.sl_verify.specs.Leaves.{target_of};
+ghost use Rattle.sl_machine.specs.Agrees.{IsSafe};
+ghost use Rattle.sl_machine.specs.Answers.{answer_of, end_of, HasSlots};
+ghost use Rattle.sl_machine.specs.Leading.{Leads};
+ghost use Rattle.sl_machine.specs.Lots.{lots_for};
+ghost use Rattle.sl_machine.specs.Steps.{run, ending, budget_of};
+ghost use Rattle.sl_machine.specs.Stores.{state_of, sizes_of, sizes_for};
+
+use crate::lots::Lots;
+use crate::memory::Memory;
+use crate::step::{End, Next};
+use crate::store::Store;
+use sl_code::{Code, Instr};
+use sl_ratio::NoMemory;
+use sl_stages::{LegalFault, Returns};
+use sl_verify::Verified;
+use std::alloc::Global;
+
+/// How a run ends.
+#[derive(Drop)]
+pub enum Ending {
+    /// It is done.
+    Done(Memory),
+    /// It comes to a legal fault.
+    Fault(LegalFault),
+    /// It needs more steps than it was given.
+    OutOfBudget,
+}
+
+/// The steps that a code of so many stages may take.
+pub fn budget(stages: usize, returns: &Returns) -> u64
+    requires { stages ≤ MAX_STAGES }
+    ensures { result ≡ budget_of stages returns.now }
+{
+    let parties = returns.parties() as u64;
+    let lands = returns.lands() as u64;
+    let wins = returns.wins() as u64;
+    400 * (stages as u64 + 2) * (parties + 1) * (lands + 1) * (4000 + wins + 2)
+}
+
+// The place to which an instruction jumps, if it may.
+fn target_of(instr: Instr) -> Option<usize>
+    ensures { result ≡ target_of instr }
+{
+    match instr {
+        Instr::Jmp { target }
+        | Instr::Jz { target, .. }
+        | Instr::Jlt { target, .. }
+        | Instr::Jnl { target }
+        | Instr::Wparty { target }
+        | Instr::Fparty { target }
+        | Instr::Nparty { target }
+        | Instr::Fland { target }
+        | Instr::Nland { target }
+        | Instr::Fwin { target }
+        | Instr::Nwin { target }
+        | Instr::Peers { target, .. }
+        | Instr::Lot { target, .. } => Some(target as usize),
+        _ => None,
+    }
+}
+
+// What comes behind a step: a place of the code, or the end.
+#[derive(Drop)]
+enum Onward {
+    To(usize),
+    End(End),
+}
+
+// Makes a step from a place.
+fn step_from(
+    store: &mut Store,
+    code: &Code,
+    returns: &Returns,
+    lots: &Lots,
+    place: usize,
+) -> Result<Onward, NoMemory>
+    requires safe { IsSafe code.now returns.now place (state_of store.old) }
+    requires lots { lots.now ≡ lots_for code.now returns.now }
+    requires sizes { sizes_of store.old ≡ sizes_for code.now returns.now }
+    ensures leads { IfOk result (λ onward. Leads code.now returns.now place (state_of store.old) onward (state_of store.new)) }
+    ensures kept { sizes_of store.new ≡ sizes_of store.old }
+{
+    let instr = code.instrs()[place];
+    match store.step(code, returns, lots, instr)? {
+        Next::Goes => Ok(Onward::To(place + 1)),
+        Next::Jumps => Ok(Onward::To(target_of(instr).unwrap())),
+        Next::Ends(end) => Ok(Onward::End(end)),
+    }
+}
+
+// Makes at most so many steps from the start, and answers how they end, if they do.
+fn steps(
+    store: &mut Store,
+    code: &Code,
+    returns: &Returns,
+    lots: &Lots,
+    budget: u64,
+) -> Result<Option<End>, NoMemory>
+    requires safe { IsSafe code.now returns.now 0 (state_of store.old) }
+    requires lots { lots.now ≡ lots_for code.now returns.now }
+    requires sizes { sizes_of store.old ≡ sizes_for code.now returns.now }
+    ensures end { IfOk result (λ end. run code.now returns.now budget 0 (state_of store.old) ≡ end_of end (state_of store.new)) }
+    ensures slots { IfOk result (HasSlots code.now) }
+    ensures kept { IfOk result (λ end. sizes_of store.new ≡ sizes_for code.now returns.now) }
+{
+    let mut place = 0;
+    let mut left = budget;
+    while left > 0 {
+        left -= 1;
+        match step_from(store, code, returns, lots, place)? {
+            Onward::To(next) => place = next,
+            Onward::End(end) => return Ok(Some(end)),
+        }
+    }
+    Ok(None)
+}
+
+/// Runs accepted code on returns, for at most so many steps (docs/machine.md, section 4).
+///
+/// # Errors
+///
+/// Want of memory.
+pub fn run(
+    alloc: Global,
+    code: &Verified,
+    returns: &Returns,
+    budget: u64,
+) -> Result<Ending, NoMemory>
+    ensures { IfOk result (λ answer. answer_of code.now returns.now (ending code.now returns.now budget) ≡ Some answer) }
+{
+    let code = code.code();
+    let lots = Lots::of(alloc, code, returns)?;
+    let mut store = Store::start(alloc, code, returns)?;
+    match steps(&mut store, code, returns, &lots, budget)? {
+        Some(End::Halted { base, vacant }) => Ok(Ending::Done(Memory::new(store, base, vacant)?)),
+        Some(End::Faulted(fault)) => Ok(Ending::Fault(fault)),
+        None => Ok(Ending::OutOfBudget),
+    }
+}

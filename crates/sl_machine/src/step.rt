@@ -1,0 +1,128 @@
+//! One step of a run.
+
+ghost use Rattle.std.specs.Prelude.{◌≡◌, IsTrue, IfOk};
+ghost use Rattle.sl_verify.specs.Needs.{has_columns};
+ghost use Rattle.sl_machine.specs.Effects.{effect};
+ghost use Rattle.sl_stages.specs.Election.{IsElection};
+ghost use Rattle.sl_machine.specs.Lots.{lots_for};
+ghost use Rattle.sl_machine.specs.Safe.{MayStep};
+ghost use Rattle.sl_machine.specs.Stores.{state_of, sizes_of, sizes_for, effect_of};
+
+use crate::ends::{halt, halt_with_vacant};
+use crate::lots::Lots;
+use crate::store::Store;
+use sl_code::{Code, Instr};
+use sl_ratio::NoMemory;
+use sl_stages::{LegalFault, Returns};
+
+/// How a run ends by an instruction.
+#[derive(Debug, Drop)]
+pub(crate) enum End {
+    /// With the seats of the lists in a slot, and the vacant ones in a slot if one is named.
+    Halted { base: usize, vacant: Option<usize> },
+    Faulted(LegalFault),
+}
+
+/// Where a run goes on after an instruction: behind it, or at its target, if it does not end.
+#[derive(Debug, Drop)]
+pub(crate) enum Next {
+    Goes,
+    Jumps,
+    Ends(End),
+}
+
+impl Store {
+    /// Makes one step.
+    ///
+    /// # Errors
+    ///
+    /// Want of memory.
+    pub(crate) fn step(
+        &mut self,
+        code: &Code,
+        returns: &Returns,
+        lots: &Lots,
+        instr: Instr,
+    ) -> Result<Next, NoMemory>
+        requires step { MayStep code.now returns.now instr (state_of self.old) }
+        requires election { IsElection returns.now }
+        requires lots { lots.now ≡ lots_for code.now returns.now }
+        requires columns { IsTrue (has_columns code.now instr) }
+        requires sizes { sizes_of self.old ≡ sizes_for code.now returns.now }
+        ensures follows { IfOk result (λ next. effect_of next (state_of self.new) ≡ effect code.now returns.now instr (state_of self.old)) }
+        ensures kept { sizes_of self.new ≡ sizes_of self.old }
+    {
+        match instr {
+            Instr::Set { register, value } => Ok(self.set(register, value)),
+            Instr::Mov { register, from } => Ok(self.copy(register, from)),
+            Instr::Add { register, by } => Ok(self.add(register, by)),
+            Instr::Sub { register, by } => Ok(self.subtract(register, by)),
+            Instr::Mul { register, by } => Ok(self.multiply(register, by)),
+            Instr::Div { register, by } => Ok(self.divide(register, by)),
+            Instr::Rem { register, by } => Ok(self.keep_rest(register, by)),
+            Instr::Max { register, by } => Ok(self.keep_greater(register, by)),
+            Instr::Jmp { .. } => Ok(Next::Jumps),
+            Instr::Jz { register, .. } => Ok(self.jump_if_zero(register)),
+            Instr::Jlt { left, right, .. } => Ok(self.jump_if_less(left, right)),
+            Instr::Jnl { .. } => Ok(self.jump_without_list(returns)),
+            Instr::Get { register, slot } => Ok(self.get_cell(code, returns, register, slot)),
+            Instr::Store { slot, register } => Ok(self.store_cell(code, returns, slot, register)),
+            Instr::Zero { slot } => Ok(self.zero_column(slot)),
+            Instr::Input { slot, input } => Ok(self.input_column(returns, slot, input)),
+            Instr::House { register } => Ok(self.set_house(returns, register)),
+            Instr::Wparty { .. } => Ok(self.to_winners_party(returns)),
+            Instr::Wland => Ok(self.to_winners_land(returns)),
+            Instr::Fparty { .. } => Ok(self.first_party(returns)),
+            Instr::Nparty { .. } => Ok(self.next_party(returns)),
+            Instr::Fland { .. } => Ok(self.first_land(returns)),
+            Instr::Nland { .. } => Ok(self.next_land(returns)),
+            Instr::Fwin { .. } => Ok(self.first_win(returns)),
+            Instr::Nwin { .. } => Ok(self.next_win(returns)),
+            Instr::Table { entries, ranking } => Ok(self.open_table(entries, ranking)),
+            Instr::Prio {
+                method,
+                weight,
+                seats,
+            } => self.enter_quotient(returns, method, weight, seats),
+            Instr::Rest { register } => self.enter_remainder(returns, register),
+            Instr::Lead => self.enter_lead(returns),
+            Instr::Share => self.enter_share(returns),
+            Instr::Peers { register, .. } => Ok(self.count_peers(register)),
+            Instr::Take => Ok(self.take_top(returns)),
+            Instr::Lot { stage, .. } => Ok(self.jump_without_lot(code, lots, stage)),
+            Instr::Takelot { stage } => Ok(self.take_drawn(code, returns, lots, stage)),
+            Instr::Emit {
+                stage,
+                scope,
+                number,
+                step,
+            } => self.emit(code, returns, stage, scope, number, step),
+            Instr::Given {
+                stage,
+                scope,
+                number,
+            } => self.emit_given(code, returns, stage, scope, number),
+            Instr::Fault {
+                stage,
+                scope,
+                fault,
+            } => Ok(self.end_with_fault(code, stage, scope, fault)),
+            Instr::Tie {
+                stage,
+                scope,
+                seats,
+            } => self.end_with_tie(code, returns, stage, scope, seats),
+            Instr::Seat => Ok(self.seat_on_list(returns)),
+            Instr::Single => Ok(self.seat_as_single(returns)),
+            Instr::Halt { slot } => Ok(halt(slot)),
+            Instr::At { .. } => Ok(Next::Goes),
+            Instr::Haltv { slot, vacant } => Ok(halt_with_vacant(slot, vacant)),
+            Instr::Weigh {
+                stage,
+                scope,
+                rounding,
+                weight,
+            } => self.weigh(code, returns, stage, scope, rounding, weight),
+        }
+    }
+}

@@ -1,0 +1,131 @@
+//! What the machine holds during a run.
+
+ghost use Rattle.std.specs.Prelude.{◌≡◌, ◌++◌, ◌∷◌, [], map, replicate, IfOk, OnOk};
+ghost use Rattle.sl_stages.specs.Election.{IsElection};
+ghost use Rattle.sl_machine.specs.State.{start};
+ghost use Rattle.sl_machine.specs.Places.{cells_of};
+ghost use Rattle.sl_machine.specs.Stores.{state_of, sizes_of, sizes_for};
+
+use crate::priority::PriorityTable;
+use sl_code::Code;
+use sl_ratio::{NoMemory, Ratio};
+use sl_stages::{Mark, Placed, Returns, SeatStep, Shape, Weight};
+use std::alloc::Global;
+
+/// The machine's registers.
+pub(crate) const REGISTER_COUNT: usize = 16;
+
+/// The cursors, where they are set.
+#[derive(Clone, Copy, Debug)]
+pub(crate) struct Cursors {
+    pub party: Option<usize>,
+    pub land: Option<usize>,
+    pub win: Option<usize>,
+}
+
+/// A state of the machine, but for the place in the code.
+#[derive(Drop)]
+pub(crate) struct Store {
+    pub alloc: Global,
+    pub registers: [u64; REGISTER_COUNT],
+    // a column for each slot
+    pub columns: Vec<Vec<u64>>,
+    pub cursors: Cursors,
+    pub table: PriorityTable,
+    // the mark of the entry taken last
+    pub mark: Mark,
+    pub steps: Vec<SeatStep>,
+    pub weights: Vec<Weight>,
+    // by winner
+    pub placed: Vec<Placed>,
+}
+
+// So many zeros.
+pub(crate) fn zeros(alloc: Global, length: usize) -> Result<Vec<u64>, NoMemory>
+    ensures { IfOk result (λ column. column.items ≡ replicate length 0) }
+{
+    let mut column = Vec::new(alloc);
+    match column.resize(length, 0) {
+        Ok(()) => Ok(column),
+        Err(_) => Err(NoMemory),
+    }
+}
+
+// Adds an item.
+pub(crate) fn append<T: Drop>(items: &mut Vec<T>, item: T) -> Result<(), NoMemory>
+    ensures { OnOk result (items.new.items ≡ items.old.items ++ item ∷ []) }
+{
+    match items.push(item) {
+        Ok(()) => Ok(()),
+        Err(_) => Err(NoMemory),
+    }
+}
+
+// The number of cells of a column.
+pub(crate) fn cells(returns: &Returns, shape: Shape) -> usize
+    ensures { result ≡ cells_of returns.now shape }
+{
+    match shape {
+        Shape::One => 1,
+        Shape::Party => returns.parties(),
+        Shape::Land => returns.lands(),
+        Shape::List => returns.lands() * returns.parties(),
+    }
+}
+
+// A column of zeros for each slot.
+fn blank_columns(
+    alloc: Global,
+    slots: &[Shape],
+    returns: &Returns,
+) -> Result<Vec<Vec<u64>>, NoMemory>
+    ensures { IfOk result (λ columns. map (λ column. column.items) columns.items ≡ map (λ shape. replicate (cells_of returns.now shape) 0) slots.now) }
+{
+    let mut columns = Vec::new(alloc);
+    for shape in slots {
+        append(&mut columns, zeros(alloc, cells(returns, *shape))?)?;
+    }
+    Ok(columns)
+}
+
+// Nobody is seated.
+fn unseated(alloc: Global, wins: usize) -> Result<Vec<Placed>, NoMemory>
+    ensures { IfOk result (λ placed. placed.items ≡ replicate wins Placed.Unseated) }
+{
+    let mut placed = Vec::new(alloc);
+    match placed.resize(wins, Placed::Unseated) {
+        Ok(()) => Ok(placed),
+        Err(_) => Err(NoMemory),
+    }
+}
+
+impl Store {
+    /// The state at the start of a run.
+    ///
+    /// # Errors
+    ///
+    /// Want of memory.
+    pub(crate) fn start(alloc: Global, code: &Code, returns: &Returns) -> Result<Store, NoMemory>
+        ensures state { IfOk result (λ store. state_of store ≡ start) }
+        ensures election { IfOk result (λ store. IsElection returns.now) }
+        ensures fits { IfOk result (λ store. sizes_of store ≡ sizes_for code.now returns.now) }
+    {
+        let columns = blank_columns(alloc, code.slots(), returns)?;
+        let placed = unseated(alloc, returns.wins())?;
+        Ok(Store {
+            alloc,
+            registers: [0; REGISTER_COUNT],
+            columns,
+            cursors: Cursors {
+                party: None,
+                land: None,
+                win: None,
+            },
+            table: PriorityTable::off(alloc),
+            mark: Mark::Quotient(Ratio::new(1, 1)),
+            steps: Vec::new(alloc),
+            weights: Vec::new(alloc),
+            placed,
+        })
+    }
+}

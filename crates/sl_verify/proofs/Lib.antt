@@ -1,0 +1,6 @@
+-- The lemmas of the verifier.
+pub mod Failing
+pub mod Walking
+pub mod Passing
+pub mod Kinded
+pub mod RegisterSets

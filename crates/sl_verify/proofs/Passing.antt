@@ -1,0 +1,87 @@
+-- Tests that hold, as the facts that they say.
+use Rattle.std.proofs.Common.{◌≡◌, ℕ, Bool, true, false, ◌&&◌, List, [], ◌∷◌, ◌++◌, Option, Some, None, refl, ◌∙◌, sym}
+use Rattle.std.specs.Prelude.{IsTrue}
+use Rattle.std.specs.Option.{option_or, option_map_or}
+use Rattle.sl_code.specs.Codes.{CountingCode}
+use Rattle.sl_code.specs.declared.kinds.Kinds.{Kinds}
+use Rattle.sl_verify.specs.declared.fault.VerifyFault.{VerifyFault}
+use Rattle.sl_verify.specs.Kinds.{implies}
+use Rattle.sl_verify.specs.WellKinded.{declared_at, leads_well, Stands}
+use Rattle.sl_verify.specs.Faults.{Test, test, first_failing, coming_tests, kinds_here, landing_tests, jump_tests, end_tests}
+use Rattle.sl_verify.proofs.Failing.{fails_in_row}
+
+-- ---- lists
+
+none_or : (x y : Option VerifyFault) → option_or x y ≡ None → (x ≡ None) × (y ≡ None)
+none_or None y h = (refl, h)
+none_or (Some f) y h = cc
+
+-- all of both lists hold
+pub pass_parts : (a b : List Test) → first_failing (a ++ b) ≡ None → (first_failing a ≡ None) × (first_failing b ≡ None)
+pass_parts a b h = none_or (first_failing a) (first_failing b) (sym (fails_in_row a b) ∙ h)
+
+pub pass_join : (a b : List Test) → first_failing a ≡ None → first_failing b ≡ None → first_failing (a ++ b) ≡ None
+pass_join a b p q = fails_in_row a b ∙ rw (p, q) refl
+
+pub fails_or_passes : (o : Option VerifyFault) (f : VerifyFault) → o ≡ Some f → o ≡ None → ⊥
+fails_or_passes None f h p = cc
+fails_or_passes (Some g) f h p = cc
+
+pub one_holds : (b : Bool) (f : VerifyFault) → first_failing (test b f ∷ []) ≡ None → IsTrue b
+one_holds true f h = refl
+one_holds false f h = cc
+
+pub one_passes : (b : Bool) (f : VerifyFault) → IsTrue b → first_failing (test b f ∷ []) ≡ None
+one_passes b f h = rw h refl
+
+pub four_hold : (a b c d : Bool) (e f g h : VerifyFault)
+    → first_failing (test a e ∷ test b f ∷ test c g ∷ test d h ∷ []) ≡ None → IsTrue (a && b && c && d)
+four_hold true true true true e f g h p = refl
+four_hold true true true false e f g h p = cc
+four_hold true true false d e f g h p = cc
+four_hold true false c d e f g h p = cc
+four_hold false b c d e f g h p = cc
+
+pub four_pass : (a b c d : Bool) (e f g h : VerifyFault)
+    → IsTrue (a && b && c && d) → first_failing (test a e ∷ test b f ∷ test c g ∷ test d h ∷ []) ≡ None
+four_pass true true true true e f g h p = refl
+four_pass true true true false e f g h p = cc
+four_pass true true false d e f g h p = cc
+four_pass true false c d e f g h p = cc
+four_pass false b c d e f g h p = cc
+
+-- ---- the tests of an instruction
+
+pub coming_stands : (p : ℕ) (comes declared : Option Kinds) → first_failing (coming_tests p comes declared) ≡ None
+    → Stands comes declared (kinds_here comes declared)
+coming_stands p None None h = cc
+coming_stands p None (Some d) h = refl
+coming_stands p (Some c) None h = refl
+coming_stands p (Some c) (Some d) h = (refl, one_holds (implies c d) _ h)
+
+pub stands_coming : (p : ℕ) (comes declared : Option Kinds) (k : Kinds) → Stands comes declared k
+    → (first_failing (coming_tests p comes declared) ≡ None) × (k ≡ kinds_here comes declared)
+stands_coming p None None k h = absurd h
+stands_coming p None (Some d) k h = (refl, h)
+stands_coming p (Some c) None k h = (refl, h)
+stands_coming p (Some c) (Some d) k h = (one_passes (implies c d) _ h.1, h.0)
+
+landing_leads : (code : CountingCode) (p : ℕ) (k : Kinds) (t : ℕ) → first_failing (landing_tests p k (declared_at code t)) ≡ None
+    → IsTrue (leads_well code k (Some t))
+landing_leads code p k t = elim (declared_at code t) as (λ o. first_failing (landing_tests p k o) ≡ None → IsTrue (option_map_or (implies k) o false))
+    [ None ↦ λ h. cc | Some d ↦ λ h. one_holds (implies k d) _ h ]
+
+pub jump_leads : (code : CountingCode) (p : ℕ) (k : Kinds) (t : Option ℕ) → first_failing (jump_tests code p k t) ≡ None → IsTrue (leads_well code k t)
+jump_leads code p k None h = refl
+jump_leads code p k (Some t) h = landing_leads code p k t h
+
+pub leads_jump : (code : CountingCode) (p : ℕ) (k : Kinds) (t : Option ℕ) → IsTrue (leads_well code k t) → first_failing (jump_tests code p k t) ≡ None
+leads_jump code p k None h = refl
+leads_jump code p k (Some t) h = elim (declared_at code t) as (λ o. IsTrue (option_map_or (implies k) o false) → first_failing (landing_tests p k o) ≡ None)
+    [ None ↦ λ h. cc | Some d ↦ λ h. one_passes (implies k d) _ h ] h
+
+-- ---- the end
+
+pub nothing_comes : (p : ℕ) (comes : Option Kinds) → first_failing (end_tests p comes) ≡ None → comes ≡ None
+nothing_comes p None h = refl
+nothing_comes p (Some c) h = cc

@@ -1,0 +1,13 @@
+use Rattle.std.proofs.Common.{◌≡◌, Some, rules}
+use Rattle.sl_verify.specs.Leaves.{target_of, carried}
+use Rattle.sl_verify.specs.Faults.{first_failing, need_tests, jump_tests, own_tests}
+use Rattle.sl_verify.proofs.Failing.{fails_first}
+use Rattle.sl_verify.proofs.pass.check_own.Goals as goal
+
+pub returns-in_err-check_needs-clause-tests : goal.returns-in_err-check_needs-clause-tests
+returns-in_err-check_needs-clause-tests c =
+    let needs = need_tests c.args.code.now c.args.place c.args.kinds c.args.instr in
+    let jump = jump_tests c.args.code.now c.args.place (carried c.args.kinds c.args.instr) (target_of c.args.instr) in
+    let fails : first_failing (own_tests c.args.code.now c.args.place c.args.kinds c.args.instr) ≡ Some c.in_err-check_needs.field-0.0 =
+    fails_first needs jump c.in_err-check_needs.field-0.0 c.in_err-check_needs.ensures.tests in
+    search rules

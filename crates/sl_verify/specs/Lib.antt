@@ -1,0 +1,7 @@
+-- The definitions of the verifier.
+pub mod Kinds
+pub mod Needs
+pub mod Leaves
+pub mod WellKinded
+pub mod Faults
+pub mod Judging

@@ -1,0 +1,146 @@
+//! What is known behind an instruction, and where it jumps.
+
+ghost use Rattle.std.specs.Prelude.{◌≡◌, IsTrue};
+ghost use Rattle.sl_verify.specs.Needs.{has_registers};
+ghost use Rattle.sl_verify.specs.Leaves.{ends, positive_behind, cursors_behind, with_ready, table_behind, behind, target_of, carried};
+
+use crate::known::{contains, join, with_register};
+use crate::needs::table_cursors;
+use sl_code::{Cursors, Instr, Kinds, Registers, TableState};
+
+/// Whether the run never goes on to the next instruction.
+fn ends(instr: Instr) -> bool
+    ensures { result ≡ ends instr }
+{
+    matches!(
+        instr,
+        Instr::Jmp { .. }
+            | Instr::Fault { .. }
+            | Instr::Tie { .. }
+            | Instr::Halt { .. }
+            | Instr::Haltv { .. }
+    )
+}
+
+/// The registers that are positive behind the instruction.
+fn positive_behind(positive: Registers, instr: Instr) -> Registers
+    requires { IsTrue (has_registers instr) }
+    ensures { result ≡ positive_behind positive instr }
+{
+    match instr {
+        Instr::Set { register, value } => with_register(value > 0, register, positive),
+        Instr::Mov { register, from } => {
+            with_register(contains(positive, from), register, positive)
+        }
+        Instr::Add { register, by } | Instr::Max { register, by } => {
+            let is_positive = contains(positive, register) || contains(positive, by);
+            with_register(is_positive, register, positive)
+        }
+        Instr::Mul { register, by } => {
+            let is_positive = contains(positive, register) && contains(positive, by);
+            with_register(is_positive, register, positive)
+        }
+        Instr::Sub { register, .. }
+        | Instr::Div { register, .. }
+        | Instr::Rem { register, .. }
+        | Instr::Get { register, .. } => with_register(false, register, positive),
+        Instr::Jz { register, .. } | Instr::Peers { register, .. } => {
+            with_register(true, register, positive)
+        }
+        _ => positive,
+    }
+}
+
+/// The cursors that are set behind the instruction.
+fn cursors_behind(kinds: Kinds, instr: Instr) -> Cursors
+    ensures { result ≡ cursors_behind kinds instr }
+{
+    let mut cursors = kinds.cursors;
+    match instr {
+        Instr::Wparty { .. } | Instr::Fparty { .. } => cursors.party = true,
+        Instr::Wland | Instr::Fland { .. } => cursors.land = true,
+        Instr::Fwin { .. } => cursors.win = true,
+        Instr::Nparty { .. } => cursors.party = false,
+        Instr::Nland { .. } => cursors.land = false,
+        Instr::Nwin { .. } => cursors.win = false,
+        Instr::Take | Instr::Takelot { .. } => {
+            cursors = join(cursors, table_cursors(kinds.table));
+        }
+        _ => {}
+    }
+    cursors
+}
+
+/// The same table, known not to be empty, or not known so.
+fn with_ready(ready: bool, table: Option<TableState>) -> Option<TableState>
+    ensures { result ≡ with_ready ready table }
+{
+    table.map(|table| TableState { ready, ..table })
+}
+
+/// What is known of the table behind the instruction.
+fn table_behind(table: Option<TableState>, instr: Instr) -> Option<TableState>
+    ensures { result ≡ table_behind table instr }
+{
+    match instr {
+        Instr::Table { entries, ranking } => Some(TableState {
+            entries,
+            ranking,
+            ready: false,
+        }),
+        Instr::Peers { .. } => with_ready(true, table),
+        Instr::Take | Instr::Takelot { .. } => with_ready(false, table),
+        _ => table,
+    }
+}
+
+/// The kinds behind the instruction, if the run goes on to the next.
+pub fn behind(kinds: Kinds, instr: Instr) -> Option<Kinds>
+    requires { IsTrue (has_registers instr) }
+    ensures { result ≡ behind kinds instr }
+{
+    if ends(instr) {
+        return None;
+    }
+    Some(Kinds {
+        positive: positive_behind(kinds.positive, instr),
+        cursors: cursors_behind(kinds, instr),
+        table: table_behind(kinds.table, instr),
+    })
+}
+
+/// Where the instruction may jump.
+pub fn target_of(instr: Instr) -> Option<u32>
+    ensures { result ≡ target_of instr }
+{
+    match instr {
+        Instr::Jmp { target }
+        | Instr::Jz { target, .. }
+        | Instr::Jlt { target, .. }
+        | Instr::Jnl { target }
+        | Instr::Wparty { target }
+        | Instr::Fparty { target }
+        | Instr::Nparty { target }
+        | Instr::Fland { target }
+        | Instr::Nland { target }
+        | Instr::Fwin { target }
+        | Instr::Nwin { target }
+        | Instr::Peers { target, .. }
+        | Instr::Lot { target, .. } => Some(target),
+        _ => None,
+    }
+}
+
+/// The kinds that the instruction's jump carries.
+pub fn carried(kinds: Kinds, instr: Instr) -> Kinds
+    ensures { result ≡ carried kinds instr }
+{
+    let mut kinds = kinds;
+    match instr {
+        Instr::Wparty { .. } | Instr::Fparty { .. } => kinds.cursors.party = false,
+        Instr::Fland { .. } => kinds.cursors.land = false,
+        Instr::Fwin { .. } => kinds.cursors.win = false,
+        _ => {}
+    }
+    kinds
+}

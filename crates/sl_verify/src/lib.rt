@@ -1,0 +1,18 @@
+//! The verifier of counting code: which codes never get stuck, and what is wrong with any other.
+#![tactic(auto)]
+
+mod fault;
+mod known;
+pub mod laws;
+mod leaves;
+mod needs;
+mod pass;
+mod verifier;
+
+pub use fault::VerifyFault;
+pub use known::REGISTERS;
+pub use needs::LAST_CLAUSE;
+pub use verifier::{Verified, verify};
+
+#[cfg(test)]
+mod tests;

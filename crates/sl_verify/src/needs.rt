@@ -1,0 +1,261 @@
+//! What an instruction needs.
+
+ghost use Rattle.std.specs.Prelude.{◌≡◌, IsTrue, true};
+ghost use Rattle.std.specs.Option.{option_map_or};
+ghost use Rattle.sl_verify.specs.Kinds.{contains};
+ghost use Rattle.sl_stages.specs.Typing.{same_shape};
+ghost use Rattle.sl_verify.specs.Needs.{has_registers, has_slot, has_column, has_stage, input_shape, has_columns, needed_positive, shape_cursors, scope_cursors, entry_cursors, slot_cursors, table_cursors, needed_cursors, has_kinds, takes_entry, takes_share, points_at, has_table};
+
+use crate::known::{
+    LAND_CURSOR, LIST_CURSORS, NO_CURSORS, PARTY_CURSOR, WIN_CURSOR, contains, covers, is_register,
+    same_entries, same_ranking,
+};
+use sl_code::{Code, Cursors, Entries, Input, Instr, Kinds, Ranking, ScopeKind, TableState};
+use sl_stages::Shape;
+
+/// The stage number that stands for the last clause.
+pub const LAST_CLAUSE: u8 = 255;
+
+/// Whether the machine has the registers that the instruction names.
+pub fn has_registers(instr: Instr) -> bool
+    ensures { result ≡ has_registers instr }
+{
+    match instr {
+        Instr::Set { register, .. }
+        | Instr::Jz { register, .. }
+        | Instr::Get { register, .. }
+        | Instr::Store { register, .. }
+        | Instr::House { register }
+        | Instr::Rest { register }
+        | Instr::Peers { register, .. } => is_register(register),
+        Instr::Mov { register, from } => is_register(register) && is_register(from),
+        Instr::Add { register, by }
+        | Instr::Sub { register, by }
+        | Instr::Mul { register, by }
+        | Instr::Div { register, by }
+        | Instr::Rem { register, by }
+        | Instr::Max { register, by } => is_register(register) && is_register(by),
+        Instr::Jlt { left, right, .. } => is_register(left) && is_register(right),
+        Instr::Prio { weight, seats, .. } => is_register(weight) && is_register(seats),
+        Instr::Emit { number, step, .. } => is_register(number) && is_register(step),
+        Instr::Given { number, .. } => is_register(number),
+        Instr::Tie { seats, .. } => is_register(seats),
+        Instr::Weigh { weight, .. } => is_register(weight),
+        _ => true,
+    }
+}
+
+fn same_shape(a: Shape, b: Shape) -> bool
+    ensures { result ≡ same_shape a b }
+{
+    a == b
+}
+
+/// Whether the code has the slot.
+pub fn has_slot(code: &Code, slot: u8) -> bool
+    ensures { result ≡ has_slot code.now slot }
+{
+    (slot as usize) < code.slots().len()
+}
+
+/// Whether the slot's column has that shape.
+fn has_column(code: &Code, slot: u8, shape: Shape) -> bool
+    ensures { result ≡ has_column code.now slot shape }
+{
+    match code.slots().get(slot as usize) {
+        None => false,
+        Some(has) => same_shape(shape, *has),
+    }
+}
+
+fn has_stage(code: &Code, stage: u8) -> bool
+    ensures { result ≡ has_stage code.now stage }
+{
+    stage == LAST_CLAUSE || (stage as usize) < code.stages().len()
+}
+
+fn input_shape(input: Input) -> Shape
+    ensures { result ≡ input_shape input }
+{
+    match input {
+        Input::Valid | Input::Counted | Input::Names => Shape::List,
+        Input::Minority => Shape::Party,
+        Input::Population => Shape::Land,
+    }
+}
+
+/// Whether the code has the columns and the stage that the instruction names.
+pub fn has_columns(code: &Code, instr: Instr) -> bool
+    ensures { result ≡ has_columns code.now instr }
+{
+    match instr {
+        Instr::Get { slot, .. } | Instr::Store { slot, .. } | Instr::Zero { slot } => {
+            has_slot(code, slot)
+        }
+        Instr::Input { slot, input } => has_column(code, slot, input_shape(input)),
+        Instr::Halt { slot } => has_column(code, slot, Shape::List),
+        Instr::Haltv { slot, vacant } => {
+            has_column(code, slot, Shape::List) && has_column(code, vacant, Shape::List)
+        }
+        Instr::Lot { stage, .. }
+        | Instr::Takelot { stage }
+        | Instr::Emit { stage, .. }
+        | Instr::Given { stage, .. }
+        | Instr::Fault { stage, .. }
+        | Instr::Tie { stage, .. }
+        | Instr::Weigh { stage, .. } => has_stage(code, stage),
+        _ => true,
+    }
+}
+
+/// The register that must be positive.
+fn needed_positive(instr: Instr) -> Option<u8>
+    ensures { result ≡ needed_positive instr }
+{
+    match instr {
+        Instr::Div { by, .. } | Instr::Rem { by, .. } => Some(by),
+        Instr::Prio { weight, .. } | Instr::Weigh { weight, .. } => Some(weight),
+        _ => None,
+    }
+}
+
+fn shape_cursors(shape: Shape) -> Cursors
+    ensures { result ≡ shape_cursors shape }
+{
+    match shape {
+        Shape::One => NO_CURSORS,
+        Shape::Party => PARTY_CURSOR,
+        Shape::Land => LAND_CURSOR,
+        Shape::List => LIST_CURSORS,
+    }
+}
+
+fn scope_cursors(scope: ScopeKind) -> Cursors
+    ensures { result ≡ scope_cursors scope }
+{
+    match scope {
+        ScopeKind::All => NO_CURSORS,
+        ScopeKind::Party => PARTY_CURSOR,
+        ScopeKind::Land => LAND_CURSOR,
+        ScopeKind::List => LIST_CURSORS,
+    }
+}
+
+fn entry_cursors(entries: Entries) -> Cursors
+    ensures { result ≡ entry_cursors entries }
+{
+    match entries {
+        Entries::Party => PARTY_CURSOR,
+        Entries::Land => LAND_CURSOR,
+        Entries::List => LIST_CURSORS,
+        Entries::Win => WIN_CURSOR,
+    }
+}
+
+/// The cursors that say a cell of the slot's column.
+fn slot_cursors(slots: &[Shape], slot: u8) -> Cursors
+    ensures { result ≡ slot_cursors slots.now slot }
+{
+    match slots.get(slot as usize) {
+        None => NO_CURSORS,
+        Some(shape) => shape_cursors(*shape),
+    }
+}
+
+/// The cursors that say an entry of the table.
+pub fn table_cursors(table: Option<TableState>) -> Cursors
+    ensures { result ≡ table_cursors table }
+{
+    match table {
+        None => NO_CURSORS,
+        Some(table) => entry_cursors(table.entries),
+    }
+}
+
+/// The cursors that must be set, where the slots have these shapes and that is known of the table.
+fn needed_cursors(slots: &[Shape], table: Option<TableState>, instr: Instr) -> Cursors
+    ensures { result ≡ needed_cursors slots.now table instr }
+{
+    match instr {
+        Instr::Jnl { .. } => LIST_CURSORS,
+        Instr::Get { slot, .. } | Instr::Store { slot, .. } => slot_cursors(slots, slot),
+        Instr::Nparty { .. } => PARTY_CURSOR,
+        Instr::Nland { .. } => LAND_CURSOR,
+        Instr::Wparty { .. }
+        | Instr::Wland
+        | Instr::Nwin { .. }
+        | Instr::Share
+        | Instr::Seat
+        | Instr::Single => WIN_CURSOR,
+        Instr::Prio { .. } | Instr::Rest { .. } | Instr::Lead => table_cursors(table),
+        Instr::Emit { scope, .. }
+        | Instr::Given { scope, .. }
+        | Instr::Fault { scope, .. }
+        | Instr::Tie { scope, .. }
+        | Instr::Weigh { scope, .. } => scope_cursors(scope),
+        _ => NO_CURSORS,
+    }
+}
+
+fn is_needed_positive(kinds: Kinds, instr: Instr) -> bool
+    requires { IsTrue (has_registers instr) }
+    ensures { result ≡ option_map_or (contains kinds.positive) (needed_positive instr) true }
+{
+    match needed_positive(instr) {
+        None => true,
+        Some(register) => contains(kinds.positive, register),
+    }
+}
+
+/// Whether the register that must be positive is, and the cursors that must be set are.
+pub fn has_kinds(slots: &[Shape], kinds: Kinds, instr: Instr) -> bool
+    requires { IsTrue (has_registers instr) }
+    ensures { result ≡ has_kinds slots.now kinds instr }
+{
+    is_needed_positive(kinds, instr)
+        && covers(kinds.cursors, needed_cursors(slots, kinds.table, instr))
+}
+
+/// Whether it is a table of parties, Länder or lists, ranked so.
+fn takes_entry(ranking: Ranking, table: TableState) -> bool
+    ensures { result ≡ takes_entry ranking table }
+{
+    !same_entries(table.entries, Entries::Win) && same_ranking(table.ranking, ranking)
+}
+
+/// Whether it is a table of winners, ranked by quotients.
+fn takes_share(table: TableState) -> bool
+    ensures { result ≡ takes_share table }
+{
+    same_entries(table.entries, Entries::Win) && same_ranking(table.ranking, Ranking::Quotients)
+}
+
+/// Whether it is a table of parties, Länder or lists, to whose entries the cursors point.
+fn points_at(cursors: Cursors, table: TableState) -> bool
+    ensures { result ≡ points_at cursors table }
+{
+    !same_entries(table.entries, Entries::Win) && covers(cursors, entry_cursors(table.entries))
+}
+
+/// Whether the table is as the instruction needs it.
+pub fn has_table(kinds: Kinds, instr: Instr) -> bool
+    ensures { result ≡ has_table kinds instr }
+{
+    match instr {
+        Instr::Prio { .. } => kinds
+            .table
+            .is_some_and(|table| takes_entry(Ranking::Quotients, table)),
+        Instr::Rest { .. } | Instr::Lead => kinds
+            .table
+            .is_some_and(|table| takes_entry(Ranking::Remainders, table)),
+        Instr::Share => kinds.table.is_some_and(takes_share),
+        Instr::Peers { .. } => kinds.table.is_some(),
+        Instr::Take | Instr::Lot { .. } | Instr::Takelot { .. } | Instr::Tie { .. } => {
+            kinds.table.is_some_and(|table| table.ready)
+        }
+        Instr::Emit { .. } | Instr::Given { .. } | Instr::Weigh { .. } => kinds
+            .table
+            .is_some_and(|table| points_at(kinds.cursors, table)),
+        _ => true,
+    }
+}

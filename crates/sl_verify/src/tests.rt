@@ -1,0 +1,333 @@
+//! Codes built by hand, and the first fault of each.
+
+ghost use Rattle.std.specs.Prelude.{◌≤◌, length};
+ghost use Rattle.sl_code.specs.declared.code.TheConstants.{MAX_SLOTS, MAX_INSTRS};
+
+use super::*;
+use sl_code::{
+    Code, CodeStage, Cursors, EndFault, Entries, Input, Instr, Kinds, Ranking, Registers, Rounding,
+    ScopeKind, TableState,
+};
+use sl_ratio::Divisor;
+use sl_stages::{Shape, Word};
+use std::alloc::Global;
+use std::test::Fail;
+
+fn code(alloc: Global, instrs: &[Instr], slots: &[Shape]) -> Result<Code, Fail>
+    requires instrs { length instrs.now ≤ MAX_INSTRS }
+    requires slots { length slots.now ≤ MAX_SLOTS }
+{
+    Ok(Code::new(
+        Vec::from_slice(alloc, instrs)?,
+        Vec::new(alloc),
+        Vec::from_slice(alloc, slots)?,
+    ))
+}
+
+/// The fault of a code with one List slot and no stages.
+fn fault_of(alloc: Global, instrs: &[Instr]) -> Result<Option<VerifyFault>, Fail>
+    requires { length instrs.now ≤ MAX_INSTRS }
+{
+    let code = code(alloc, instrs, &[Shape::List])?;
+    Ok(verify(code).err().map(|refused| refused.1))
+}
+
+/// `at` with those registers positive, no cursor set, and the table off.
+fn at(mask: u16) -> Instr {
+    Instr::At {
+        kinds: Kinds {
+            positive: Registers { mask },
+            cursors: Cursors {
+                party: false,
+                land: false,
+                win: false,
+            },
+            table: None,
+        },
+    }
+}
+
+/// `at` with these cursors set and a table of lists, ranked by quotients.
+fn at_table(party: bool, land: bool) -> Instr {
+    Instr::At {
+        kinds: Kinds {
+            positive: Registers { mask: 0 },
+            cursors: Cursors {
+                party,
+                land,
+                win: false,
+            },
+            table: Some(TableState {
+                entries: Entries::List,
+                ranking: Ranking::Quotients,
+                ready: false,
+            }),
+        },
+    }
+}
+
+const HALT: Instr = Instr::Halt { slot: 0 };
+
+#[test]
+fn single_instructions(rt: HostRuntime) -> Result<(), Fail> {
+    let alloc = rt.alloc();
+    let high = Instr::Mov {
+        register: 16,
+        from: 0,
+    };
+    let set = Instr::Set {
+        register: 0,
+        value: 1,
+    };
+    assert_eq!(rt;
+        fault_of(alloc, &[high, HALT])?,
+        Some(VerifyFault::Register(0))
+    );
+    assert_eq!(rt;
+        fault_of(alloc, &[Instr::Take, HALT])?,
+        Some(VerifyFault::TableKind(0))
+    );
+    assert_eq!(rt; fault_of(alloc, &[set])?, Some(VerifyFault::RunsOff(0)));
+    assert_eq!(rt; fault_of(alloc, &[])?, Some(VerifyFault::RunsOff(0)));
+    assert_eq!(rt;
+        fault_of(alloc, &[Instr::Jmp { target: 9 }])?,
+        Some(VerifyFault::Jump(0))
+    );
+    assert_eq!(rt;
+        fault_of(alloc, &[at(1), HALT])?,
+        Some(VerifyFault::Meet(0))
+    );
+    assert_eq!(rt; fault_of(alloc, &[HALT, HALT])?, Some(VerifyFault::Meet(1)));
+    Ok(())
+}
+
+#[test]
+fn slots(rt: HostRuntime) -> Result<(), Fail> {
+    let alloc = rt.alloc();
+    let halted = code(alloc, &[HALT], &[])?;
+    assert_eq!(rt;
+        verify(halted).err().map(|refused| refused.1),
+        Some(VerifyFault::Slot(0))
+    );
+    let halted = code(alloc, &[HALT], &[Shape::Party])?;
+    assert_eq!(rt;
+        verify(halted).err().map(|refused| refused.1),
+        Some(VerifyFault::Slot(0))
+    );
+    let halted = code(alloc, &[HALT], &[Shape::List])?;
+    let verified = verify(halted).ok().ok_or("refused")?;
+    assert_eq!(rt; verified.code().instrs(), [HALT].as_slice());
+    assert_eq!(rt; verified.into_code().slots(), [Shape::List].as_slice());
+    Ok(())
+}
+
+/// `set 0 1`, `jz 1 3`, `set 0 0`, an `at`, `div 2 0`, `halt 0`: register 0 is 0 on one of two paths.
+#[test]
+fn paths_meet(rt: HostRuntime) -> Result<(), Fail> {
+    let alloc = rt.alloc();
+    for (mask, fault) in [(1, VerifyFault::Meet(2)), (0, VerifyFault::Kind(4))] {
+        let instrs = [
+            Instr::Set {
+                register: 0,
+                value: 1,
+            },
+            Instr::Jz {
+                register: 1,
+                target: 3,
+            },
+            Instr::Set {
+                register: 0,
+                value: 0,
+            },
+            at(mask),
+            Instr::Div { register: 2, by: 0 },
+            HALT,
+        ];
+        assert_eq!(rt; fault_of(alloc, &instrs)?, Some(fault));
+    }
+    Ok(())
+}
+
+/// Enters each list with votes into a table, takes the greatest, and records its seat.
+fn seat_of_the_greatest() -> [Instr; 19] {
+    [
+        Instr::Table {
+            entries: Entries::List,
+            ranking: Ranking::Quotients,
+        },
+        Instr::Fland { target: 13 },
+        at_table(false, true),
+        Instr::Fparty { target: 11 },
+        at_table(true, true),
+        Instr::Jnl { target: 9 },
+        Instr::Get {
+            register: 5,
+            slot: 0,
+        },
+        Instr::Jz {
+            register: 5,
+            target: 9,
+        },
+        Instr::Prio {
+            method: Divisor::Webster,
+            weight: 5,
+            seats: 6,
+        },
+        at_table(true, true),
+        Instr::Nparty { target: 4 },
+        at_table(false, true),
+        Instr::Nland { target: 2 },
+        at_table(false, false),
+        Instr::Peers {
+            register: 1,
+            target: 17,
+        },
+        Instr::Take,
+        Instr::Emit {
+            stage: 255,
+            scope: ScopeKind::All,
+            number: 1,
+            step: 1,
+        },
+        at(0),
+        HALT,
+    ]
+}
+
+/// The same with another instruction at one place.
+fn fault_with(alloc: Global, place: usize, instr: Instr) -> Result<Option<VerifyFault>, Fail> {
+    let mut instrs = seat_of_the_greatest();
+    if let Some(old) = instrs.get_mut(place) {
+        *old = instr;
+    }
+    fault_of(alloc, &instrs)
+}
+
+#[test]
+fn needs(rt: HostRuntime) -> Result<(), Fail> {
+    let alloc = rt.alloc();
+    assert_eq!(rt; fault_of(alloc, &seat_of_the_greatest())?, None);
+    let stage = 255;
+    let scope = ScopeKind::All;
+    let cases = [
+        (6, Instr::Zero { slot: 1 }, VerifyFault::Slot(6)),
+        (
+            6,
+            Instr::Input {
+                slot: 0,
+                input: Input::Minority,
+            },
+            VerifyFault::Slot(6),
+        ),
+        (6, Instr::Wland, VerifyFault::Kind(6)),
+        (6, Instr::Seat, VerifyFault::Kind(6)),
+        (7, Instr::House { register: 5 }, VerifyFault::Kind(8)),
+        (8, Instr::Rest { register: 5 }, VerifyFault::TableKind(8)),
+        (8, Instr::Lead, VerifyFault::TableKind(8)),
+        (8, Instr::Share, VerifyFault::Kind(8)),
+        (10, Instr::Nwin { target: 4 }, VerifyFault::Kind(10)),
+        (10, Instr::Nland { target: 4 }, VerifyFault::Meet(10)),
+        (12, Instr::Jmp { target: 3 }, VerifyFault::Jump(12)),
+        (14, Instr::Single, VerifyFault::Kind(14)),
+        (
+            14,
+            Instr::Max {
+                register: 1,
+                by: 17,
+            },
+            VerifyFault::Register(14),
+        ),
+        (
+            14,
+            Instr::Sub { register: 1, by: 2 },
+            VerifyFault::TableKind(15),
+        ),
+        (15, Instr::Takelot { stage: 0 }, VerifyFault::Slot(15)),
+        (
+            15,
+            Instr::Lot { stage, target: 17 },
+            VerifyFault::TableKind(16),
+        ),
+        (
+            16,
+            Instr::Given {
+                stage,
+                scope: ScopeKind::List,
+                number: 16,
+            },
+            VerifyFault::Register(16),
+        ),
+        (
+            16,
+            Instr::Weigh {
+                stage,
+                scope,
+                rounding: Rounding::Adams,
+                weight: 5,
+            },
+            VerifyFault::Kind(16),
+        ),
+        (
+            16,
+            Instr::Tie {
+                stage,
+                scope,
+                seats: 1,
+            },
+            VerifyFault::TableKind(16),
+        ),
+        (
+            18,
+            Instr::Fault {
+                stage,
+                scope: ScopeKind::Land,
+                fault: EndFault::Limit,
+            },
+            VerifyFault::Kind(18),
+        ),
+        (
+            18,
+            Instr::Haltv { slot: 0, vacant: 1 },
+            VerifyFault::Slot(18),
+        ),
+    ];
+    for (place, instr, fault) in cases {
+        assert_eq!(rt; fault_with(alloc, place, instr)?, Some(fault), "at {place}");
+    }
+    Ok(())
+}
+
+#[test]
+fn stages_without_slots(rt: HostRuntime) -> Result<(), Fail> {
+    let alloc = rt.alloc();
+    let mut stages = Vec::new(alloc);
+    stages.push(CodeStage {
+        name: Word::new(alloc, b"s")?,
+        slot: 1,
+    })?;
+    let code = Code::new(
+        Vec::from_slice(alloc, &[HALT])?,
+        stages,
+        Vec::from_slice(alloc, &[Shape::List])?,
+    );
+    assert_eq!(rt;
+        verify(code).err().map(|refused| refused.1),
+        Some(VerifyFault::Slot(0))
+    );
+    Ok(())
+}
+
+#[test]
+fn many_instructions(rt: HostRuntime) -> Result<(), Fail> {
+    let alloc = rt.alloc();
+    let code = Code::new(
+        vec![in alloc; at(0); 200_000]?,
+        Vec::new(alloc),
+        Vec::new(alloc),
+    );
+    assert_eq!(rt;
+        verify(code).err().map(|refused| refused.1),
+        Some(VerifyFault::RunsOff(199_999))
+    );
+    Ok(())
+}
