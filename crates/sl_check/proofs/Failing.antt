@@ -1,4 +1,4 @@
--- The first test that fails, of lists of tests in a row.
+-- The first test that fails, of an expression with several arguments.
 use Rattle.std.proofs.Common.{◌≡◌, ℕ, List, [], ◌∷◌, ◌++◌, Option, Some, None, true, false, if◌then◌else◌, refl, ◌∙◌, sym, ap, append_assoc}
 use Rattle.std.specs.Option.{option_or}
 use Rattle.std.specs.Global.{Box}
@@ -7,17 +7,12 @@ use Rattle.sl_stages.specs.declared.check_fault.CheckFault.{CheckFault}
 use Rattle.sl_stages.specs.declared.book.Majority.{Majority}
 use Rattle.sl_stages.specs.declared.book.Expr.{Expr, Split}
 use Rattle.sl_stages.specs.Trees.{tree_of}
-use Rattle.sl_stages.specs.Typing.{Column, Test, first_failing, expr_tests}
-
--- it is that of the first list, or else that of the second
-pub fails_in_row : (a b : List Test) → first_failing (a ++ b) ≡ option_or (first_failing a) (first_failing b)
-fails_in_row [] b = refl
-fails_in_row (t ∷ a) b =
-    elim t.holds as (λ h. (if h then first_failing (a ++ b) else Some t.otherwise) ≡ option_or (if h then first_failing a else Some t.otherwise) (first_failing b))
-    [ true ↦ fails_in_row a b | false ↦ refl ]
+use Rattle.sl_stages.proofs.Tests.{fails_in_row}
+use Rattle.sl_stages.specs.Tests.{Test, first_failing}
+use Rattle.sl_stages.specs.Typing.{Column, expr_tests}
 
 -- the first two lists may be taken together
-pub fails_behind : (a b c : List Test) → first_failing (a ++ (b ++ c)) ≡ option_or (first_failing (a ++ b)) (first_failing c)
+pub fails_behind : (a b c : List (Test CheckFault)) → first_failing (a ++ (b ++ c)) ≡ option_or (first_failing (a ++ b)) (first_failing c)
 fails_behind a b c = sym (ap first_failing (append_assoc a b c)) ∙ fails_in_row (a ++ b) c
 
 -- a split fails where its seats or its votes do, whatever stands behind them

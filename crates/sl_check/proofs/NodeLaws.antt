@@ -14,10 +14,12 @@ use Rattle.sl_stages.specs.declared.book.Majority.{Majority}
 use Rattle.sl_stages.specs.declared.book.Majority.TheVariants as majority
 use Rattle.sl_stages.specs.declared.book.Number.{Number}
 use Rattle.sl_stages.specs.declared.book.ColumnType.{ColumnType}
-use Rattle.sl_stages.specs.Typing.{column, first_failing, shape_over, can_split, same_shape, is_prefer, is_hamilton, is_seat_number}
+use Rattle.sl_stages.specs.Tests.{first_failing}
+use Rattle.sl_stages.specs.Typing.{column, shape_over, can_split, same_shape, is_prefer, is_hamilton, is_seat_number}
 use Rattle.sl_check.specs.HasType.{Sums, Splits, IsSplit, IsSplitFrom}
 use Rattle.sl_check.specs.Nodes.{sum_tests, pair_tests, split_tests, split_from_tests, share_from_tests, grow_tests}
-use Rattle.sl_check.proofs.TestLists.{all_hold, hold_all, same_shape_is, same_shape_self, same_unit_is, same_unit_self, can_sum_is, sums_to, can_split_is, splits_can, preferred_is, preferred_can, not_preferred_is, not_preferred_can}
+use Rattle.sl_stages.proofs.Shapes.{same_shape_is, same_shape_self, same_unit_is, same_unit_self}
+use Rattle.sl_check.proofs.TestLists.{all_hold, hold_all, can_sum_is, sums_to, can_split_is, splits_can, preferred_is, preferred_can, not_preferred_is, not_preferred_can}
 
 -- two columns of one shape and one unit are of one type
 pub column_is : (a b : ColumnType) → a.shape ≡ b.shape → a.unit ≡ b.unit → a ≡ b

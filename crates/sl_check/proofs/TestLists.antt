@@ -12,37 +12,27 @@ use Rattle.sl_stages.specs.declared.book.Axis.TheVariants as axis
 use Rattle.sl_stages.specs.declared.book.Majority.{Majority}
 use Rattle.sl_stages.specs.declared.book.Majority.TheVariants as majority
 use Rattle.sl_stages.specs.declared.check_fault.CheckFault.{CheckFault}
-use Rattle.sl_stages.specs.Typing.{Test, first_failing, same_shape, same_unit, shape_over, can_sum, can_split, is_prefer, is_hamilton}
+use Rattle.sl_stages.specs.Tests.{Test, first_failing}
+use Rattle.sl_stages.specs.Typing.{same_shape, same_unit, shape_over, can_sum, can_split, is_prefer, is_hamilton}
 use Rattle.sl_check.specs.HasType.{Sums, Splits}
-use Rattle.sl_check.proofs.Failing.{fails_in_row}
+use Rattle.sl_stages.proofs.Tests.{pass_parts, pass_join}
 
 -- ---- lists
 
-none_or : (x y : Option CheckFault) → option_or x y ≡ None → (x ≡ None) × (y ≡ None)
-none_or None y h = (refl, h)
-none_or (Some f) y h = cc
-
--- all of both lists hold
-pub pass_parts : (a b : List Test) → first_failing (a ++ b) ≡ None → (first_failing a ≡ None) × (first_failing b ≡ None)
-pass_parts a b h = none_or (first_failing a) (first_failing b) (sym (fails_in_row a b) ∙ h)
-
-pub pass_join : (a b : List Test) → first_failing a ≡ None → first_failing b ≡ None → first_failing (a ++ b) ≡ None
-pass_join a b p q = fails_in_row a b ∙ rw (p, q) refl
-
--- the same of more lists
-pub pass_join3 : (a b c : List Test) → first_failing a ≡ None → first_failing b ≡ None → first_failing c ≡ None → first_failing (a ++ (b ++ c)) ≡ None
+-- all of three lists hold, and of four
+pub pass_join3 : (a b c : List (Test CheckFault)) → first_failing a ≡ None → first_failing b ≡ None → first_failing c ≡ None → first_failing (a ++ (b ++ c)) ≡ None
 pass_join3 a b c p q r = pass_join a (b ++ c) p (pass_join b c q r)
 
-pub pass_join4 : (a b c d : List Test) → first_failing a ≡ None → first_failing b ≡ None → first_failing c ≡ None → first_failing d ≡ None → first_failing (a ++ (b ++ (c ++ d))) ≡ None
+pub pass_join4 : (a b c d : List (Test CheckFault)) → first_failing a ≡ None → first_failing b ≡ None → first_failing c ≡ None → first_failing d ≡ None → first_failing (a ++ (b ++ (c ++ d))) ≡ None
 pass_join4 a b c d p q r s = pass_join a (b ++ (c ++ d)) p (pass_join3 b c d q r s)
 
-pub pass_parts3 : (a b c : List Test) → first_failing (a ++ (b ++ c)) ≡ None → (first_failing a ≡ None) × (first_failing b ≡ None) × (first_failing c ≡ None)
+pub pass_parts3 : (a b c : List (Test CheckFault)) → first_failing (a ++ (b ++ c)) ≡ None → (first_failing a ≡ None) × (first_failing b ≡ None) × (first_failing c ≡ None)
 pass_parts3 a b c h =
     let p = pass_parts a (b ++ c) h in
     let q = pass_parts b c p.1 in
     (p.0, q.0, q.1)
 
-pub pass_parts4 : (a b c d : List Test) → first_failing (a ++ (b ++ (c ++ d))) ≡ None
+pub pass_parts4 : (a b c d : List (Test CheckFault)) → first_failing (a ++ (b ++ (c ++ d))) ≡ None
     → (first_failing a ≡ None) × (first_failing b ≡ None) × (first_failing c ≡ None) × (first_failing d ≡ None)
 pass_parts4 a b c d h =
     let p = pass_parts a (b ++ (c ++ d)) h in
@@ -50,43 +40,21 @@ pass_parts4 a b c d h =
     (p.0, q.0, q.1, q.2)
 
 -- each test of a list holds
-abbrev pub AllHold : List Test → Type 0
+abbrev pub AllHold : List (Test CheckFault) → Type 0
 AllHold [] = Unit {0}
 AllHold (t ∷ ts) = (t.holds ≡ true) × AllHold ts
 
-pub all_hold : (ts : List Test) → AllHold ts → first_failing ts ≡ None
+pub all_hold : (ts : List (Test CheckFault)) → AllHold ts → first_failing ts ≡ None
 all_hold [] h = refl
 all_hold (t ∷ ts) h = rw h.0 (all_hold ts h.1)
 
-pub hold_all : (ts : List Test) → first_failing ts ≡ None → AllHold ts
+pub hold_all : (ts : List (Test CheckFault)) → first_failing ts ≡ None → AllHold ts
 hold_all [] pass = tt
 hold_all (t ∷ ts) pass =
     elim t.holds as (λ b. (if b then first_failing ts else Some t.otherwise) ≡ None → (b ≡ true) × AllHold ts)
     [ true ↦ λ p. (refl, hold_all ts p) | false ↦ λ p. cc ] pass
 
 -- ---- tests
-
-pub same_shape_is : (a b : Shape) → same_shape a b ≡ true → a ≡ b
-same_shape_is shape.One shape.One h = refl
-same_shape_is shape.Party shape.Party h = refl
-same_shape_is shape.Land shape.Land h = refl
-same_shape_is shape.List shape.List h = refl
-same_shape_is _ _ h = cc
-
-pub same_shape_self : (a : Shape) → same_shape a a ≡ true
-same_shape_self shape.One = refl
-same_shape_self shape.Party = refl
-same_shape_self shape.Land = refl
-same_shape_self shape.List = refl
-
-pub same_unit_is : (a b : Units) → same_unit a b ≡ true → a ≡ b
-same_unit_is unit.Seats unit.Seats h = refl
-same_unit_is unit.Votes unit.Votes h = refl
-same_unit_is _ _ h = cc
-
-pub same_unit_self : (a : Units) → same_unit a a ≡ true
-same_unit_self unit.Seats = refl
-same_unit_self unit.Votes = refl
 
 pub can_sum_is : (s : Shape) (over : Axis) → can_sum s over ≡ true → Sums s over (shape_over over)
 can_sum_is shape.List axis.Party h = tt

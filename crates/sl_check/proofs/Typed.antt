@@ -4,12 +4,14 @@ use Rattle.sl_stages.specs.declared.book.Shape.TheVariants as shape
 use Rattle.sl_stages.specs.declared.book.Unit.TheVariants as unit
 use Rattle.sl_stages.specs.declared.book.ColumnType.{ColumnType}
 use Rattle.sl_stages.specs.Trees.{ExprTree, house, counted, winners, outside, independents, population, name, sum, larger, less, split, split_from, grow}
-use Rattle.sl_stages.specs.Typing.{Column, column, type_or_one, is_named, first_failing, expr_tests, type_of}
+use Rattle.sl_stages.specs.Tests.{first_failing}
+use Rattle.sl_stages.specs.Typing.{Column, column, type_or_one, is_named, expr_tests, type_of}
 use Rattle.sl_check.specs.Known.{name_tests}
 use Rattle.sl_check.specs.Nodes.{sum_tests, pair_tests, split_tests, split_from_tests, grow_tests}
 use Rattle.sl_check.specs.HasType.{HasType, IsNamed}
 use Rattle.sl_check.proofs.Finding.{is_found}
-use Rattle.sl_check.proofs.TestLists.{pass_parts, pass_join, pass_parts3, pass_join3, pass_parts4, pass_join4, all_hold, hold_all}
+use Rattle.sl_stages.proofs.Tests.{pass_parts, pass_join}
+use Rattle.sl_check.proofs.TestLists.{pass_parts3, pass_join3, pass_parts4, pass_join4, all_hold, hold_all}
 use Rattle.sl_check.proofs.NodeLaws.{sum_typed, sum_has, pair_typed, pair_has, split_typed, split_has, split_from_typed, split_from_has, grow_typed, grow_has}
 
 -- all tests of an expression hold, and that is its type

@@ -1,4 +1,3 @@
-pub mod Judging
 pub mod Known
 pub mod Nodes
 pub mod HasType

@@ -3,8 +3,9 @@
 ghost use Rattle.std.specs.Prelude.{◌≡◌, ◌≤◌, [], ◌∷◌, map, length, Some, None, MatchResult, IsTrue};
 ghost use Rattle.sl_stages.specs.Trees.{tree_of, stage_of};
 ghost use Rattle.sl_stages.specs.Limits.{parts_of, is_within_limits};
-ghost use Rattle.sl_stages.specs.Typing.{type_of, first_failing, stages_tests, columns_of, base_tests};
-ghost use Rattle.sl_check.specs.Judging.{Judges};
+ghost use Rattle.sl_stages.specs.Tests.{first_failing};
+ghost use Rattle.sl_stages.specs.Typing.{type_of, stages_tests, columns_of, base_tests};
+ghost use Rattle.sl_stages.specs.Tests.{Judges};
 ghost use Rattle.sl_check.specs.Known.{columns, stage_tests};
 
 use crate::columns::Columns;

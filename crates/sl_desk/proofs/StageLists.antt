@@ -12,12 +12,13 @@ use Rattle.sl_stages.specs.declared.book.Stage.{Stage}
 use Rattle.sl_stages.specs.Books.{book_of}
 use Rattle.sl_stages.specs.Election.{Election}
 use Rattle.sl_stages.specs.Trees.{StageTree, BookTree, stage_of}
-use Rattle.sl_stages.specs.Typing.{Column, is_named, test, first_failing, column_of, columns_of, expr_tests, stages_tests, base_tests, type_of, splits_in, is_seat_number, is_typed, tests_of, condition_tests, version_tests}
+use Rattle.sl_stages.specs.Tests.{test, first_failing}
+use Rattle.sl_stages.specs.Typing.{Column, is_named, column_of, columns_of, expr_tests, stages_tests, base_tests, type_of, splits_in, is_seat_number, is_typed, tests_of, condition_tests, version_tests}
 use Rattle.sl_stages.specs.Meaning.{NamedColumn, IsColumn, AreColumns}
 use Rattle.sl_desk.specs.declared.evaluate.stages.StageColumn.{StageColumn}
 use Rattle.sl_desk.specs.Shapes.{IsShaped}
 use Rattle.sl_desk.specs.StageColumns.{named_column, stage_tree, types_of, AreShaped, IsPlainExpr}
-use Rattle.sl_desk.proofs.PlainExprs.{passes_first, passes_both}
+use Rattle.sl_stages.proofs.Tests.{no_fault, head_holds, pass_parts}
 
 pub columns_of_push : (cs : List Column) (ss : List StageTree) (s : StageTree) → columns_of cs (ss ++ s ∷ []) ≡ columns_of cs ss ++ column_of (columns_of cs ss) s ∷ []
 columns_of_push cs [] s = refl
@@ -38,27 +39,22 @@ are_shaped_push e (x ∷ ts) [] t c are same is = absurd are
 
 -- ---- what a typed book says
 
-none_from : {X : Type 0} (o : Option X) → is_none o ≡ true → o ≡ None
-none_from None h = refl
-none_from (Some x) h = absurd (false≢true h)
-
 -- the tests of its stages and of its base hold
 pub stages_pass : (b : BookTree) → IsTrue (is_typed b) → (first_failing (stages_tests [] b.stages) ≡ None) × (first_failing (base_tests (columns_of [] b.stages) b.last.at b.last.base) ≡ None)
 stages_pass b typed =
-    let all = none_from (first_failing (tests_of b)) typed in
-    let behind_version = passes_both (version_tests b.version b.last.vacate) _ all in
-    let behind_house = passes_first (test (is_seat_number b.house.value) (fault.HouseRange b.house.at)) (condition_tests b.eligible ++ (stages_tests [] b.stages ++ base_tests (columns_of [] b.stages) b.last.at b.last.base)) behind_version.1 in
-    let behind_conditions = passes_both (condition_tests b.eligible) _ behind_house.1 in
-    passes_both (stages_tests [] b.stages) _ behind_conditions.1
+    let all = no_fault (tests_of b) typed in
+    let behind_version = pass_parts (version_tests b.version b.last.vacate) _ all in
+    let behind_house = head_holds _ _ _ behind_version.1 in
+    let behind_conditions = pass_parts (condition_tests b.eligible) _ behind_house.1 in
+    pass_parts (stages_tests [] b.stages) _ behind_conditions.1
 
 -- the tests of the first stage, and of those behind it
 first_stage : (cs : List Column) (s : StageTree) (rest : List StageTree) → first_failing (stages_tests cs (s ∷ rest)) ≡ None
     → (first_failing (expr_tests cs s.expr) ≡ None) × (first_failing (stages_tests (cs ++ column_of cs s ∷ []) rest) ≡ None)
 first_stage cs s rest h =
-    let names = test (not (list_any (is_named s.name) cs)) (fault.StageTwice s.at) in
-    let splits = test (nat_le (splits_in s.expr) 1) (fault.TwoSplits s.at) in
-    let others = expr_tests cs s.expr ++ stages_tests (cs ++ column_of cs s ∷ []) rest in
-    passes_both (expr_tests cs s.expr) (stages_tests (cs ++ column_of cs s ∷ []) rest) (passes_first splits others (passes_first names (splits ∷ others) h).1).1
+    let names = head_holds _ _ _ h in
+    let splits = head_holds _ _ _ names.1 in
+    pass_parts (expr_tests cs s.expr) (stages_tests (cs ++ column_of cs s ∷ []) rest) splits.1
 
 -- the tests of a stage hold behind the stages before it
 stage_passes : (cs : List Column) (ss : List StageTree) (s : StageTree) (rest : List StageTree) → first_failing (stages_tests cs (ss ++ s ∷ rest)) ≡ None → first_failing (expr_tests (columns_of cs ss) s.expr) ≡ None

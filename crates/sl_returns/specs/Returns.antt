@@ -9,7 +9,8 @@ use Rattle.sl_returns.specs.declared.header.Version.{Version}
 use Rattle.sl_returns.specs.Faults.{fault_at, row_behind}
 use Rattle.sl_returns.specs.Cells.{Record}
 use Rattle.sl_returns.specs.Headers.{version_of}
-use Rattle.sl_returns.specs.Tests.{first_failing, record_tests}
+use Rattle.sl_stages.specs.Tests.{first_failing}
+use Rattle.sl_returns.specs.Tests.{record_tests}
 use Rattle.sl_returns.specs.Records.{land_names, election_of_records}
 
 -- what is wrong with a record behind the header and behind those records

@@ -6,6 +6,7 @@ use Rattle.std.specs.Str.{bytes_eq}
 use Rattle.sl_ratio.specs.Names.{is_name}
 use Rattle.sl_stages.specs.declared.limits.TheConstants.{MAX_SEATS, MAX_LANDS, MAX_PARTIES, MAX_WINS, MAX_LOTS, MAX_VOTES, MAX_SLATE}
 use Rattle.sl_stages.specs.declared.returns.Lot.{Lot}
+use Rattle.sl_stages.specs.Tests.{Test, first_failing}
 use Rattle.sl_stages.specs.Election.{Election, lands_of, parties_of, wins_of, has_list}
 use Rattle.sl_returns.specs.declared.cells.TheConstants.{COLUMNS, KIND, LAND, PARTY, A, B, C}
 use Rattle.sl_returns.specs.declared.header.Version.{Version}
@@ -18,20 +19,10 @@ use Rattle.sl_returns.specs.Cells.{Record, cell, is_blank, is_number, number_of,
 use Rattle.sl_returns.specs.Kinds.{kind_named}
 use Rattle.sl_returns.specs.Records.{lot_of}
 
--- a test, and the fault of a record that fails it
-pub record Test : Type 0 where
-  pub holds : Bool
-  pub otherwise : FaultKind
-
--- the fault of the first test that fails
-abbrev pub first_failing : List Test → Option FaultKind
-first_failing [] = None
-first_failing (t ∷ ts) = if t.holds then first_failing ts else Some t.otherwise
-
 -- ---- tests of a cell
 
 -- one test
-unfoldable pub test : Bool → FaultKind → List Test
+unfoldable pub test : Bool → FaultKind → List (Test FaultKind)
 test b f = record { holds = b; otherwise = f } ∷ []
 
 -- cells of these columns are empty
@@ -39,51 +30,51 @@ abbrev pub are_blank : Record → List ℕ → Bool
 are_blank r columns = list_all (λ column. is_blank (cell r column)) columns
 
 -- a name that is to be new, by its number in a list of names, if it is there
-unfoldable pub new_tests : List ℕ → Option ℕ → List Test
+unfoldable pub new_tests : List ℕ → Option ℕ → List (Test FaultKind)
 new_tests name found = test (is_name name) fault.Name ++ test (is_none found) fault.Twice
 
 -- a name that is to be known
-unfoldable pub known_tests : List ℕ → Option ℕ → List Test
+unfoldable pub known_tests : List ℕ → Option ℕ → List (Test FaultKind)
 known_tests name found = test (is_name name) fault.Name ++ test (is_some found) fault.Unknown
 
 -- a name that is to be known, where an empty cell stands for none
-unfoldable pub known_or_none_tests : List ℕ → Option ℕ → List Test
+unfoldable pub known_or_none_tests : List ℕ → Option ℕ → List (Test FaultKind)
 known_or_none_tests name found = if is_blank name then [] else known_tests name found
 
 -- the same, by the list of names
-abbrev pub new_name_tests : List (List ℕ) → List ℕ → List Test
+abbrev pub new_name_tests : List (List ℕ) → List ℕ → List (Test FaultKind)
 new_name_tests names name = new_tests name (number_in names name)
 
-abbrev pub known_name_tests : List (List ℕ) → List ℕ → List Test
+abbrev pub known_name_tests : List (List ℕ) → List ℕ → List (Test FaultKind)
 known_name_tests names name = known_tests name (number_in names name)
 
-abbrev pub name_or_none_tests : List (List ℕ) → List ℕ → List Test
+abbrev pub name_or_none_tests : List (List ℕ) → List ℕ → List (Test FaultKind)
 name_or_none_tests names name = known_or_none_tests name (number_in names name)
 
 -- a number from the least to the greatest
-unfoldable pub number_tests : List ℕ → ℕ → ℕ → List Test
+unfoldable pub number_tests : List ℕ → ℕ → ℕ → List (Test FaultKind)
 number_tests c least greatest = test (is_number c) fault.Number ++ test (nat_le least (number_of c) && nat_le (number_of c) greatest) fault.Range
 
 -- the same, where the cell may be empty
-unfoldable pub number_or_none_tests : List ℕ → ℕ → ℕ → List Test
+unfoldable pub number_or_none_tests : List ℕ → ℕ → ℕ → List (Test FaultKind)
 number_or_none_tests c least greatest = if is_blank c then [] else number_tests c least greatest
 
 -- ---- tests of a record of each kind
 
-abbrev pub house_tests : Election → Record → List Test
+abbrev pub house_tests : Election → Record → List (Test FaultKind)
 house_tests e r =
     test (are_blank r (LAND ∷ PARTY ∷ B ∷ C ∷ [])) fault.Fields
     ++ (number_tests (cell r A) 1 MAX_SEATS
     ++ test (is_none e.house) fault.Twice)
 
-abbrev pub land_tests : Election → Record → List Test
+abbrev pub land_tests : Election → Record → List (Test FaultKind)
 land_tests e r =
     test (are_blank r (PARTY ∷ B ∷ C ∷ [])) fault.Fields
     ++ (new_name_tests e.land_names (cell r LAND)
     ++ (number_tests (cell r A) 0 MAX_VOTES
     ++ test (nat_lt (lands_of e) MAX_LANDS) fault.TooMany))
 
-abbrev pub party_tests : Election → Record → List Test
+abbrev pub party_tests : Election → Record → List (Test FaultKind)
 party_tests e r =
     test (are_blank r (LAND ∷ B ∷ C ∷ [])) fault.Fields
     ++ (new_name_tests e.party_names (cell r PARTY)
@@ -98,7 +89,7 @@ may_tell_slate version.Second = true
 abbrev pub fills_list : Version → Record → Bool
 fills_list v r = may_tell_slate v || is_blank (cell r C)
 
-abbrev pub list_tests : Version → Election → Record → List Test
+abbrev pub list_tests : Version → Election → Record → List (Test FaultKind)
 list_tests v e r =
     test (fills_list v r) fault.Fields
     ++ (known_name_tests e.land_names (cell r LAND)
@@ -109,7 +100,7 @@ list_tests v e r =
     ++ (test (nat_le (number_of (cell r B)) (number_of (cell r A))) fault.Counted
     ++ test (not (has_list e (place_in e.land_names (cell r LAND)) (place_in e.party_names (cell r PARTY)))) fault.Twice))))))
 
-abbrev pub win_tests : Election → Record → List Test
+abbrev pub win_tests : Election → Record → List (Test FaultKind)
 win_tests e r =
     known_name_tests e.land_names (cell r LAND)
     ++ (name_or_none_tests e.party_names (cell r PARTY)
@@ -142,7 +133,7 @@ abbrev pub has_lot : List Lot → Lot → Bool
 has_lot lots l = list_any (λ told. same_lot told l) lots
 
 -- the tests of its cells
-abbrev pub lot_cell_tests : Election → Record → List Test
+abbrev pub lot_cell_tests : Election → Record → List (Test FaultKind)
 lot_cell_tests e r =
     test (fills_lot r) fault.Fields
     ++ (name_or_none_tests e.land_names (cell r LAND)
@@ -150,7 +141,7 @@ lot_cell_tests e r =
     ++ (test (is_name (cell r A)) fault.Name
     ++ name_or_none_tests e.win_names (cell r B))))
 
-abbrev pub lot_tests : Election → Record → List Test
+abbrev pub lot_tests : Election → Record → List (Test FaultKind)
 lot_tests e r =
     lot_cell_tests e r
     ++ (test (not (has_lot e.lots (lot_of e.land_names e.party_names e.win_names r))) fault.Twice
@@ -158,7 +149,7 @@ lot_tests e r =
 
 -- ---- every test of a record
 
-abbrev pub kind_tests : Version → Option Kind → Election → Record → List Test
+abbrev pub kind_tests : Version → Option Kind → Election → Record → List (Test FaultKind)
 kind_tests v None e r = test false fault.Kind
 kind_tests v (Some kind.House) e r = house_tests e r
 kind_tests v (Some kind.Land) e r = land_tests e r
@@ -167,19 +158,19 @@ kind_tests v (Some kind.List) e r = list_tests v e r
 kind_tests v (Some kind.Win) e r = win_tests e r
 kind_tests v (Some kind.Lot) e r = lot_tests e r
 
-abbrev pub record_tests : Version → Election → Record → List Test
+abbrev pub record_tests : Version → Election → Record → List (Test FaultKind)
 record_tests v e r = test (nat_eq (length r) COLUMNS) fault.Fields ++ kind_tests v (kind_named (cell r KIND)) e r
 
 -- ---- what tests answer
 
 -- every test holds
-pub record Pass (ts : List Test) : Type 0 where
+pub record Pass (ts : List (Test FaultKind)) : Type 0 where
   pub none : first_failing ts ≡ None
 
 -- the fault is that of the first test that fails
-pub record FailBy (ts : List Test) (k : FaultKind) : Type 0 where
+pub record FailBy (ts : List (Test FaultKind)) (k : FaultKind) : Type 0 where
   pub first : first_failing ts ≡ Some k
 
 -- the same, or, where every test holds, want of memory
-abbrev pub Refuse : List Test → FaultKind → Type 0
+abbrev pub Refuse : List (Test FaultKind) → FaultKind → Type 0
 Refuse ts k = FailBy ts k ⊎ (Pass ts × (k ≡ fault.NoMemory))

@@ -1,3 +1,5 @@
+pub mod Tests
+pub mod Shapes
 pub mod Elections
 pub mod QuotientOrder
 pub mod SeatSums

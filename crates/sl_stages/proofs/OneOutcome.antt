@@ -17,7 +17,8 @@ use Rattle.sl_stages.specs.declared.table.Outcome.{Outcome}
 use Rattle.sl_stages.specs.declared.table.Outcome.TheVariants as outcome
 use Rattle.sl_stages.specs.Trees.{StageTree, BookTree}
 use Rattle.sl_stages.specs.Election.{Election, IsElection, IsWin}
-use Rattle.sl_stages.specs.Typing.{first_failing, Test, test, is_seat_number, columns_of, column_of as typed_column, base_tests, tests_of, version_tests, condition_tests, stages_tests, is_typed}
+use Rattle.sl_stages.specs.Tests.{first_failing, Test, test}
+use Rattle.sl_stages.specs.Typing.{is_seat_number, columns_of, column_of as typed_column, base_tests, tests_of, version_tests, condition_tests, stages_tests, is_typed}
 use Rattle.sl_stages.specs.Meaning.{IsColumn}
 use Rattle.sl_stages.specs.Outcomes.{base_of}
 use Rattle.sl_stages.specs.Facts.{list_cell}
@@ -31,13 +32,8 @@ use Rattle.sl_stages.specs.Means.{Known, nothing_known, Run, Through, Stopped, w
 use Rattle.sl_stages.proofs.CoveringProofs.{coverings}
 use Rattle.sl_stages.proofs.ExactlyOne.{ExactlyOne, one_equal, one_zip}
 use Rattle.sl_stages.proofs.OneAward.{mentions_distinct}
-use Rattle.sl_stages.proofs.OneResult.{head_holds, pass_both, SameNames, more_names, one_column, one_run}
-
-pub tests_hold : (tests : List Test) → is_none (first_failing tests) ≡ true → first_failing tests ≡ None
-tests_hold tests none = of (first_failing tests) none where
-  of : (f : Option CheckFault) → is_none f ≡ true → f ≡ None
-  of None h = refl
-  of (Some f) h = absurd (false≢true h)
+use Rattle.sl_stages.proofs.Tests.{no_fault, head_holds, pass_parts}
+use Rattle.sl_stages.proofs.OneResult.{SameNames, more_names, one_column, one_run}
 
 -- ---- covering
 
@@ -124,13 +120,13 @@ module _ (b : BookTree) (e : Election) where
   typed_parts h =
       let ends = base_tests (columns_of [] b.stages) b.last.at b.last.base in
       let behind = condition_tests b.eligible ++ (stages_tests [] b.stages ++ ends) in
-      let house = (pass_both (version_tests b.version b.last.vacate) (test (is_seat_number b.house.value) (fault.HouseRange b.house.at) ∷ behind) h).1 in
-      let conditions = (pass_both (condition_tests b.eligible) (stages_tests [] b.stages ++ ends) (head_holds _ _ _ house).1).1 in
-      pass_both (stages_tests [] b.stages) ends conditions
+      let house = (pass_parts (version_tests b.version b.last.vacate) (test (is_seat_number b.house.value) (fault.HouseRange b.house.at) ∷ behind) h).1 in
+      let conditions = (pass_parts (condition_tests b.eligible) (stages_tests [] b.stages ++ ends) (head_holds _ _ _ house).1).1 in
+      pass_parts (stages_tests [] b.stages) ends conditions
 
   pub one_outcome : is_typed b ≡ true → IsElection e → ExactlyOne (IsOutcome b e)
   one_outcome typed is =
-      let tests = tests_hold (tests_of b) typed in
+      let tests = no_fault (tests_of b) typed in
       let parts = typed_parts tests in
       let run = one_run b e nothing_known b.stages tt parts.0 in
       let end = one_ending is parts.1 run.one run.is in

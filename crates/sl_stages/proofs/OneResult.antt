@@ -15,7 +15,9 @@ use Rattle.sl_stages.specs.declared.check_fault.CheckFault.{CheckFault}
 use Rattle.sl_stages.specs.declared.fault.FaultKind.TheVariants as fault
 use Rattle.sl_stages.specs.Trees.{ExprTree, house, counted, winners, outside, independents, population, name, sum as sum_tree, larger, less, split, split_from, grow, StageTree, BookTree}
 use Rattle.sl_stages.specs.Election.{Election}
-use Rattle.sl_stages.specs.Typing.{Column as TypedColumn, Test, first_failing, expr_tests, stages_tests, is_named, is_hamilton, is_prefer, column_of as typed_column}
+use Rattle.sl_stages.specs.Tests.{Test, first_failing}
+use Rattle.sl_stages.specs.Typing.{Column as TypedColumn, expr_tests, stages_tests, is_named, is_hamilton, is_prefer, column_of as typed_column}
+use Rattle.sl_stages.proofs.Tests.{head_holds, pass_parts}
 use Rattle.sl_stages.specs.Meaning.{NamedColumn, is_column_of, sum_over, larger_of, less_of}
 use Rattle.sl_stages.specs.Scopes.{Group, cells, place, scopes}
 use Rattle.sl_stages.specs.Records.{Records}
@@ -80,19 +82,6 @@ module _ (e : Election) (at : Stand) (amounts votes : List ℕ) where
       (mentions_distinct _) (length_cells g minima ∙ sym (length_cells g votes)))
   one_grown by.Hamilton majority minima cap divisor = absurd (false≢true (sym divisor))
 
--- ---- tests that hold
-
-pub head_holds : (b : Bool) (rest : Option CheckFault) (f : CheckFault) → (if b then rest else Some f) ≡ None → (b ≡ true) × (rest ≡ None)
-head_holds true rest f h = (refl, h)
-head_holds false rest f h = cc
-
-pub pass_both : (ts us : List Test) → first_failing (ts ++ us) ≡ None → (first_failing ts ≡ None) × (first_failing us ≡ None)
-pass_both [] us h = (refl, h)
-pass_both (t ∷ ts) us h =
-    let head = head_holds t.holds (first_failing (ts ++ us)) t.otherwise h in
-    let rest = pass_both ts us head.1 in
-    (cond-true t.holds (first_failing ts) (Some t.otherwise) head.0 ∙ rest.0, rest.1)
-
 -- ---- names
 
 -- the columns have the names that their types have
@@ -152,28 +141,28 @@ module _ (b : BookTree) (e : Election) (c : Context) (names : SameNames c.types 
   one_means (population at) pass = one_leaf _
   one_means (name at n) pass = one_image (λ values. option_map (λ s. s.values) (find (is_column_of n) c.columns) ≡ Some values) plain (one_column c.types c.columns names n (head_holds _ _ _ pass).0)
   one_means (sum_tree at x over) pass =
-      one_then (ExprMeans b e c x) (λ xs r. r ≡ plain (sum_over e over xs)) (one_means x (pass_both (expr_tests c.types x) _ pass).0) (λ xs. one_equal (plain (sum_over e over xs)))
+      one_then (ExprMeans b e c x) (λ xs r. r ≡ plain (sum_over e over xs)) (one_means x (pass_parts (expr_tests c.types x) _ pass).0) (λ xs. one_equal (plain (sum_over e over xs)))
   one_means (larger at x y) pass =
-      let px = pass_both (expr_tests c.types x) _ pass in
-      let py = pass_both (expr_tests c.types y) _ px.1 in
+      let px = pass_parts (expr_tests c.types x) _ pass in
+      let py = pass_parts (expr_tests c.types y) _ px.1 in
       one_then (ExprMeans b e c x) (λ xs. Then (ExprMeans b e c y) (λ ys r. r ≡ plain (larger_of xs ys))) (one_means x px.0)
       (λ xs. one_then (ExprMeans b e c y) (λ ys r. r ≡ plain (larger_of xs ys)) (one_means y py.0) (λ ys. one_equal (plain (larger_of xs ys))))
   one_means (less at x y) pass =
-      let px = pass_both (expr_tests c.types x) _ pass in
-      let py = pass_both (expr_tests c.types y) _ px.1 in
+      let px = pass_parts (expr_tests c.types x) _ pass in
+      let py = pass_parts (expr_tests c.types y) _ px.1 in
       one_then (ExprMeans b e c x) (λ xs. Then (ExprMeans b e c y) (λ ys r. r ≡ plain (less_of xs ys))) (one_means x px.0)
       (λ xs. one_then (ExprMeans b e c y) (λ ys r. r ≡ plain (less_of xs ys)) (one_means y py.0) (λ ys. one_equal (plain (less_of xs ys))))
   one_means (split at s v method majority) pass =
-      let ps = pass_both (expr_tests c.types s) _ pass in
-      let pv = pass_both (expr_tests c.types v) _ ps.1 in
+      let ps = pass_parts (expr_tests c.types s) _ pass in
+      let pv = pass_parts (expr_tests c.types v) _ ps.1 in
       let Split : List ℕ → List ℕ → ExprResult → Type 0 = λ amounts votes. IsSplit e (stand c v) amounts votes (shape_in c s) method majority None in
       one_then (ExprMeans b e c s) (λ amounts. Then (ExprMeans b e c v) (Split amounts)) (one_means s ps.0)
       (λ amounts. one_then (ExprMeans b e c v) (Split amounts) (one_means v pv.0)
       (λ votes. one_split_result e (stand c v) amounts votes (shape_in c s) method majority None tt))
   one_means (split_from at s v method m majority) pass =
-      let ps = pass_both (expr_tests c.types s) _ pass in
-      let pv = pass_both (expr_tests c.types v) _ ps.1 in
-      let pm = pass_both (expr_tests c.types m) _ pv.1 in
+      let ps = pass_parts (expr_tests c.types s) _ pass in
+      let pv = pass_parts (expr_tests c.types v) _ ps.1 in
+      let pm = pass_parts (expr_tests c.types m) _ pv.1 in
       let divisor = no_hamilton majority method (head_holds _ _ _ pm.1).0 in
       let Split : List ℕ → List ℕ → List ℕ → ExprResult → Type 0 = λ amounts votes minima. IsSplit e (stand c v) amounts votes (shape_in c s) method majority (Some minima) in
       one_then (ExprMeans b e c s) (λ amounts. Then (ExprMeans b e c v) (λ votes. Then (ExprMeans b e c m) (Split amounts votes))) (one_means s ps.0)
@@ -181,9 +170,9 @@ module _ (b : BookTree) (e : Election) (c : Context) (names : SameNames c.types 
       (λ votes. one_then (ExprMeans b e c m) (Split amounts votes) (one_means m pm.0)
       (λ minima. one_split_result e (stand c v) amounts votes (shape_in c s) method majority (Some minima) (fits_divisor method minima divisor))))
   one_means (grow at s v method m limit majority) pass =
-      let ps = pass_both (expr_tests c.types s) _ pass in
-      let pv = pass_both (expr_tests c.types v) _ ps.1 in
-      let pm = pass_both (expr_tests c.types m) _ pv.1 in
+      let ps = pass_parts (expr_tests c.types s) _ pass in
+      let pv = pass_parts (expr_tests c.types v) _ ps.1 in
+      let pm = pass_parts (expr_tests c.types m) _ pv.1 in
       let divisor = no_hamilton majority method (head_holds _ _ _ pm.1).0 in
       let Grown : List ℕ → List ℕ → List ℕ → ExprResult → Type 0 = λ amounts votes minima. IsGrown e (stand c v) amounts votes method majority minima limit.value in
       one_then (ExprMeans b e c s) (λ amounts. Then (ExprMeans b e c v) (λ votes. Then (ExprMeans b e c m) (Grown amounts votes))) (one_means s ps.0)
@@ -203,7 +192,7 @@ module _ (b : BookTree) (e : Election) where
   one_run k (s ∷ ss) names pass =
       let once = head_holds _ _ _ pass in
       let single = head_holds _ _ _ once.1 in
-      let parts = pass_both (expr_tests k.types s.expr) _ single.1 in
+      let parts = pass_parts (expr_tests k.types s.expr) _ single.1 in
       let first = one_means b e (context_of k s) names s.expr parts.0 in
       let Next : List ℕ → Records → Run → Type 0 = λ values records. StagesMean b e (with_stage k s values records) ss in
       let after = goes_once first.one Next

@@ -26,7 +26,8 @@ use Rattle.sl_stages.specs.declared.table.Outcome.TheVariants as outcome
 use Rattle.sl_stages.specs.Tables.{SeatTable}
 use Rattle.sl_stages.specs.Trees.{ExprTree, house, counted, winners, outside, independents, population, name, sum, larger, less, split, split_from, grow, StageTree, BookTree}
 use Rattle.sl_stages.specs.Election.{Election}
-use Rattle.sl_stages.specs.Typing.{splits_in, first_failing, tests_of, stages_tests, expr_tests}
+use Rattle.sl_stages.specs.Tests.{first_failing}
+use Rattle.sl_stages.specs.Typing.{splits_in, tests_of, stages_tests, expr_tests}
 use Rattle.sl_stages.specs.Meaning.{sum_over, larger_of, less_of}
 use Rattle.sl_stages.specs.Scopes.{same_item, Group, scopes}
 use Rattle.sl_stages.specs.Records.{Records, no_records, both_records}
@@ -39,8 +40,8 @@ use Rattle.sl_stages.specs.MeaningLaws.{same_scope, same_seat, same_entry, Recor
 use Rattle.sl_stages.proofs.DistinctLists.{number_flips, every_weaker, every_append, distinct_nil, distinct_append}
 use Rattle.sl_stages.proofs.ScopeRecords.{scopes_differ, entries_once, AtScope, Once}
 use Rattle.sl_stages.proofs.StageRecords.{split_at, split_once, growth_at, growth_once, OfStage, of_stage, all_apart}
-use Rattle.sl_stages.proofs.OneResult.{head_holds, pass_both}
-use Rattle.sl_stages.proofs.OneOutcome.{tests_hold, typed_parts}
+use Rattle.sl_stages.proofs.Tests.{no_fault, head_holds, pass_parts}
+use Rattle.sl_stages.proofs.OneOutcome.{typed_parts}
 
 -- ---- results whose records come from so many splits and growths of a stage
 
@@ -194,7 +195,7 @@ module _ (b : BookTree) (e : Election) where
   run_before k (s ∷ ss) end pass before run =
       let once = head_holds _ _ _ pass in
       let single = head_holds _ _ _ once.1 in
-      let parts = pass_both (expr_tests k.types s.expr) _ single.1 in
+      let parts = pass_parts (expr_tests k.types s.expr) _ single.1 in
       goes_before k s ss end run.0 (leb-true (splits_in s.expr) 1 single.0) before (few_records b e (context_of k s) s.expr run.0 run.1)
       (λ values records more. run_before (with_stage k s values records) ss end parts.1
       (subst (λ n. BeforeStage n (both_records k.records records)) (sym (length-append k.columns (record { name = s.name; values = values } ∷ []))) more))
@@ -253,7 +254,7 @@ records_once b e t typed means = ordered means.ordered means.is means.same where
   ordered : (o : Outcome) → IsOutcome b e o → SameOutcome (outcome.Table t) o → RecordsComeOnce t
   ordered (outcome.Fault f) is same = absurd same
   ordered (outcome.Table u) is same =
-      let once = comes_once b e is.run u (typed_parts b e (tests_hold (tests_of b) typed)).0 is.stages is.ends in
+      let once = comes_once b e is.run u (typed_parts b e (no_fault (tests_of b) typed)).0 is.stages is.ends in
       record {
         steps = IsDistinct-IsPermutation same_seat seat_flips u.steps t.steps (IsPermutation-sym t.steps u.steps same.steps) once.steps;
         weights = IsDistinct-IsPermutation same_entry entry_flips u.weights t.weights (IsPermutation-sym t.weights u.weights same.weights) once.weights;

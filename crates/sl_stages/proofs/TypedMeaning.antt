@@ -17,7 +17,8 @@ use Rattle.sl_stages.specs.declared.book.Unit.TheVariants as unit
 use Rattle.sl_stages.specs.declared.book.ColumnType.{ColumnType}
 use Rattle.sl_stages.specs.Trees.{ExprTree, house, counted, winners, outside, independents, population, name, sum, larger, less, split, split_from, grow, StageTree, BookTree}
 use Rattle.sl_stages.specs.Election.{Election, IsElection}
-use Rattle.sl_stages.specs.Typing.{Column as TypedColumn, type_of, type_or_one, column, first_failing, tests_of, version_tests, expr_tests, stages_tests, is_named, same_shape, same_unit, can_split, column_of as typed_column}
+use Rattle.sl_stages.specs.Tests.{first_failing}
+use Rattle.sl_stages.specs.Typing.{Column as TypedColumn, type_of, type_or_one, column, tests_of, version_tests, expr_tests, stages_tests, is_named, same_shape, same_unit, can_split, column_of as typed_column}
 use Rattle.sl_stages.specs.Meaning.{NamedColumn, is_column_of, sum_over, larger_of, less_of}
 use Rattle.sl_stages.specs.Scopes.{cells}
 use Rattle.sl_stages.specs.Lots.{stage_lot}
@@ -26,8 +27,9 @@ use Rattle.sl_stages.specs.Results.{ExprResult, Column, Fault, plain, behind, Co
 use Rattle.sl_stages.specs.Expressions.{minima_at, IsSplitIn, split_records, IsGrowthIn, growth_records, IsSplit, IsGrown, Context, ExprMeans, stand, shape_in}
 use Rattle.sl_stages.specs.Means.{Known, nothing_known, Through, context_of, with_stage, GoesOn, StagesMean}
 use Rattle.sl_stages.specs.ColumnLaws.{HasType, IsTypedAs, TypedExpressions, TypedStages}
-use Rattle.sl_stages.proofs.OneResult.{head_holds, pass_both}
-use Rattle.sl_stages.proofs.OneOutcome.{tests_hold, typed_parts}
+use Rattle.sl_stages.proofs.Shapes.{same_shape_is, same_unit_is}
+use Rattle.sl_stages.proofs.Tests.{no_fault, head_holds, pass_parts}
+use Rattle.sl_stages.proofs.OneOutcome.{typed_parts}
 use Rattle.sl_stages.proofs.TypedColumns.{made_one, counted_typed, winners_typed, outside_typed, independents_typed, population_typed, sum_typed, larger_typed, less_typed}
 use Rattle.sl_stages.proofs.TypedSplits.{split_sum, growth_sum, shared_typed}
 
@@ -46,20 +48,8 @@ then_column First Next values r h = let on = continued Next h.first values r h.g
 
 -- ---- shapes and units
 
-one_shape : (s t : Shape) → same_shape s t ≡ true → t ≡ s
-one_shape shape.One shape.One is = refl
-one_shape shape.Party shape.Party is = refl
-one_shape shape.Land shape.Land is = refl
-one_shape shape.List shape.List is = refl
-one_shape _ _ is = absurd (false≢true is)
-
-one_unit : (u w : Units) → same_unit u w ≡ true → w ≡ u
-one_unit unit.Seats unit.Seats is = refl
-one_unit unit.Votes unit.Votes is = refl
-one_unit _ _ is = absurd (false≢true is)
-
 one_type : (t u : ColumnType) → same_shape t.shape u.shape ≡ true → same_unit t.unit u.unit ≡ true → u ≡ t
-one_type t u shapes units = λ i. record { shape = one_shape t.shape u.shape shapes i; unit = one_unit t.unit u.unit units i }
+one_type t u shapes units = λ i. record { shape = sym (same_shape_is t.shape u.shape shapes) i; unit = sym (same_unit_is t.unit u.unit units) i }
 
 no_one : (s v : Shape) → can_split s v ≡ true → same_shape v shape.One ≡ false
 no_one shape.One v can = not-true (same_shape v shape.One) can
@@ -129,14 +119,14 @@ module _ (b : BookTree) (e : Election) (is : IsElection e) (few : b.house.value 
   typed_means (name at n) pass values r h =
       subst (HasType e (type_of c.types (name at n))) (sym (named_values h.0 values r h.2)) (named_typed e n c.types c.columns known h.0 h.1)
   typed_means (sum at x over) pass values r h =
-      let parts = pass_both (expr_tests c.types x) _ pass in
+      let parts = pass_parts (expr_tests c.types x) _ pass in
       let on = then_column (ExprMeans b e c x) (λ xs r. r ≡ plain (sum_over e over xs)) values r h in
       let can = (head_holds _ _ _ parts.1).0 in
       subst (HasType e (type_of c.types (sum at x over))) (sym (named_values (sum_over e over on.0) values on.3 on.4))
       (sum_typed e is (type_of c.types x).unit (type_of c.types x).shape over on.0 can (typed_means x parts.0 on.0 on.1 on.2))
   typed_means (larger at x y) pass values r h =
-      let px = pass_both (expr_tests c.types x) _ pass in
-      let py = pass_both (expr_tests c.types y) _ px.1 in
+      let px = pass_parts (expr_tests c.types x) _ pass in
+      let py = pass_parts (expr_tests c.types y) _ px.1 in
       let shapes = head_holds _ _ _ py.1 in
       let units = head_holds _ _ _ shapes.1 in
       let one = then_column (ExprMeans b e c x) (λ xs. Then (ExprMeans b e c y) (λ ys r. r ≡ plain (larger_of xs ys))) values r h in
@@ -145,8 +135,8 @@ module _ (b : BookTree) (e : Election) (is : IsElection e) (few : b.house.value 
       subst (HasType e (type_of c.types x)) (sym (named_values (larger_of one.0 two.0) values two.3 two.4))
       (larger_typed e (type_of c.types x) one.0 two.0 (typed_means x px.0 one.0 one.1 one.2) (subst (λ t. HasType e t two.0) same (typed_means y py.0 two.0 two.1 two.2)))
   typed_means (less at x y) pass values r h =
-      let px = pass_both (expr_tests c.types x) _ pass in
-      let py = pass_both (expr_tests c.types y) _ px.1 in
+      let px = pass_parts (expr_tests c.types x) _ pass in
+      let py = pass_parts (expr_tests c.types y) _ px.1 in
       let shapes = head_holds _ _ _ py.1 in
       let units = head_holds _ _ _ shapes.1 in
       let one = then_column (ExprMeans b e c x) (λ xs. Then (ExprMeans b e c y) (λ ys r. r ≡ plain (less_of xs ys))) values r h in
@@ -155,17 +145,17 @@ module _ (b : BookTree) (e : Election) (is : IsElection e) (few : b.house.value 
       subst (HasType e (type_of c.types x)) (sym (named_values (less_of one.0 two.0) values two.3 two.4))
       (less_typed e (type_of c.types x) one.0 two.0 (typed_means x px.0 one.0 one.1 one.2) (subst (λ t. HasType e t two.0) same (typed_means y py.0 two.0 two.1 two.2)))
   typed_means (split at s v method majority) pass values r h =
-      let ps = pass_both (expr_tests c.types s) _ pass in
-      let pv = pass_both (expr_tests c.types v) _ ps.1 in
+      let ps = pass_parts (expr_tests c.types s) _ pass in
+      let pv = pass_parts (expr_tests c.types v) _ ps.1 in
       let shapes = head_holds _ _ _ (head_holds _ _ _ pv.1).1 in
       let Split : List ℕ → List ℕ → ExprResult → Type 0 = λ amounts votes. IsSplit e (stand c v) amounts votes (shape_in c s) method majority None in
       let one = then_column (ExprMeans b e c s) (λ amounts. Then (ExprMeans b e c v) (Split amounts)) values r h in
       let two = then_column (ExprMeans b e c v) (Split one.0) values one.3 one.4 in
       split_typed e (stand c v) one.0 two.0 (no_one (shape_in c s) (shape_in c v) shapes.0) values two.3 (shape_in c s) method majority None two.4
   typed_means (split_from at s v method m majority) pass values r h =
-      let ps = pass_both (expr_tests c.types s) _ pass in
-      let pv = pass_both (expr_tests c.types v) _ ps.1 in
-      let pm = pass_both (expr_tests c.types m) _ pv.1 in
+      let ps = pass_parts (expr_tests c.types s) _ pass in
+      let pv = pass_parts (expr_tests c.types v) _ ps.1 in
+      let pm = pass_parts (expr_tests c.types m) _ pv.1 in
       let shapes = head_holds _ _ _ (head_holds _ _ _ pm.1).1 in
       let can = and_parts (can_split (shape_in c s) (shape_in c v)) (same_shape (shape_in c m) (shape_in c v)) shapes.0 in
       let Split : List ℕ → List ℕ → List ℕ → ExprResult → Type 0 = λ amounts votes minima. IsSplit e (stand c v) amounts votes (shape_in c s) method majority (Some minima) in
@@ -174,9 +164,9 @@ module _ (b : BookTree) (e : Election) (is : IsElection e) (few : b.house.value 
       let three = then_column (ExprMeans b e c m) (Split one.0 two.0) values two.3 two.4 in
       split_typed e (stand c v) one.0 two.0 (no_one (shape_in c s) (shape_in c v) can.0) values three.3 (shape_in c s) method majority (Some three.0) three.4
   typed_means (grow at s v method m limit majority) pass values r h =
-      let ps = pass_both (expr_tests c.types s) _ pass in
-      let pv = pass_both (expr_tests c.types v) _ ps.1 in
-      let pm = pass_both (expr_tests c.types m) _ pv.1 in
+      let ps = pass_parts (expr_tests c.types s) _ pass in
+      let pv = pass_parts (expr_tests c.types v) _ ps.1 in
+      let pm = pass_parts (expr_tests c.types m) _ pv.1 in
       let caps = head_holds _ _ _ (head_holds _ _ _ pm.1).1 in
       let shapes = head_holds _ _ _ caps.1 in
       let both = and_parts (same_shape (shape_in c s) shape.One && can_split (shape_in c s) (shape_in c v)) (same_shape (shape_in c m) (shape_in c v)) shapes.0 in
@@ -198,7 +188,7 @@ all_and_one R (c ∷ xs) (d ∷ ys) x y this all = (all.0, all_and_one R xs ys x
 
 house_within : (b : BookTree) → first_failing (tests_of b) ≡ None → b.house.value ≤ MAX_SEATS
 house_within b h =
-    let house = (pass_both (version_tests b.version b.last.vacate) _ h).1 in
+    let house = (pass_parts (version_tests b.version b.last.vacate) _ h).1 in
     leb-true b.house.value MAX_SEATS (and_parts (nat_le 1 b.house.value) (nat_le b.house.value MAX_SEATS) (head_holds _ _ _ house).0).1
 
 module _ (b : BookTree) (e : Election) (is : IsElection e) (few : b.house.value ≤ MAX_SEATS) where
@@ -213,7 +203,7 @@ module _ (b : BookTree) (e : Election) (is : IsElection e) (few : b.house.value 
   run_typed k (s ∷ ss) end pass known run =
       let once = head_holds _ _ _ pass in
       let single = head_holds _ _ _ once.1 in
-      let parts = pass_both (expr_tests k.types s.expr) _ single.1 in
+      let parts = pass_parts (expr_tests k.types s.expr) _ single.1 in
       goes_typed k s ss end run.0
       (λ values records same on.
       let type = typed_means b e is few (context_of k s) known s.expr parts.0 values records (subst (ExprMeans b e (context_of k s) s.expr) same run.1) in
@@ -222,9 +212,9 @@ module _ (b : BookTree) (e : Election) (is : IsElection e) (few : b.house.value 
       run.2
 
 pub typed_expressions : TypedExpressions
-typed_expressions b e c x values records typed is known pass means = typed_means b e is (house_within b (tests_hold (tests_of b) typed)) c known x pass values records means
+typed_expressions b e c x values records typed is known pass means = typed_means b e is (house_within b (no_fault (tests_of b) typed)) c known x pass values records means
 
 pub typed_stages : TypedStages
 typed_stages b e k typed is run =
-    let tests = tests_hold (tests_of b) typed in
+    let tests = no_fault (tests_of b) typed in
     run_typed b e is (house_within b tests) nothing_known b.stages k (typed_parts b e tests).0 tt run

@@ -9,7 +9,8 @@ use Rattle.sl_stages.specs.declared.book.Unit.TheVariants as unit
 use Rattle.sl_stages.specs.declared.book.ColumnType.{ColumnType}
 use Rattle.sl_stages.specs.Trees.{ExprTree, BookTree}
 use Rattle.sl_stages.specs.Election.{Election, IsElection, lands_of, parties_of, has_list}
-use Rattle.sl_stages.specs.Typing.{Column as TypedColumn, type_of, first_failing, expr_tests, is_typed}
+use Rattle.sl_stages.specs.Tests.{first_failing}
+use Rattle.sl_stages.specs.Typing.{Column as TypedColumn, type_of, expr_tests, is_typed}
 use Rattle.sl_stages.specs.Facts.{list_cell}
 use Rattle.sl_stages.specs.Meaning.{NamedColumn}
 use Rattle.sl_stages.specs.Records.{Records}

@@ -2,6 +2,7 @@ pub mod Words
 pub mod Trees
 pub mod Limits
 pub mod Books
+pub mod Tests
 pub mod Typing
 pub mod Votes
 pub mod Election

@@ -21,6 +21,7 @@ use Rattle.sl_stages.specs.declared.book.Base.TheVariants as base
 use Rattle.sl_stages.specs.declared.book.LastClause.{LastClause}
 use Rattle.sl_stages.specs.declared.check_fault.CheckFault.{CheckFault}
 use Rattle.sl_stages.specs.declared.check_fault.CheckFault.TheVariants as fault
+use Rattle.sl_stages.specs.Tests.{Test, test, first_failing}
 use Rattle.sl_stages.specs.Trees.{ExprTree, house, counted, winners, outside, independents, population, name, sum, larger, less, split, split_from, grow, StageTree, BookTree}
 use Rattle.std.specs.Str.{bytes_eq}
 
@@ -77,19 +78,6 @@ same_unit _ _ = false
 
 -- ---- tests
 
--- a test, and the fault of a book that fails it
-pub record Test : Type 0 where
-  pub holds : Bool
-  pub otherwise : CheckFault
-
-abbrev pub test : Bool → CheckFault → Test
-test b f = record { holds = b; otherwise = f }
-
--- the fault of the first test that fails
-abbrev pub first_failing : List Test → Option CheckFault
-first_failing [] = None
-first_failing (t ∷ ts) = if t.holds then first_failing ts else Some t.otherwise
-
 -- a column of that shape can be summed so
 abbrev pub can_sum : Shape → Axis → Bool
 can_sum shape.One over = false
@@ -127,13 +115,13 @@ module _ (cs : List Column) where
   is_votes e = same_unit (type_of cs e).unit unit.Votes
 
   -- two columns of one shape, and of one unit
-  abbrev pub alike_tests : ℕ → ExprTree → ExprTree → List Test
+  abbrev pub alike_tests : ℕ → ExprTree → ExprTree → List (Test CheckFault)
   alike_tests at l r =
       test (same_shape (shape_of l) (shape_of r)) (fault.Shape at)
       ∷ test (same_unit (type_of cs l).unit (type_of cs r).unit) (fault.Unit at) ∷ []
 
   -- the tests of an expression: those of its arguments from left to right, and then its own
-  abbrev pub expr_tests : ExprTree → List Test
+  abbrev pub expr_tests : ExprTree → List (Test CheckFault)
   expr_tests (house at) = []
   expr_tests (counted at) = []
   expr_tests (winners at) = []
@@ -184,7 +172,7 @@ columns_of cs [] = cs
 columns_of cs (s ∷ ss) = columns_of (cs ++ column_of cs s ∷ []) ss
 
 -- the tests of the stages behind those columns
-abbrev pub stages_tests : List Column → List StageTree → List Test
+abbrev pub stages_tests : List Column → List StageTree → List (Test CheckFault)
 stages_tests cs [] = []
 stages_tests cs (s ∷ ss) =
     test (not (list_any (is_named s.name) cs)) (fault.StageTwice s.at)
@@ -192,11 +180,11 @@ stages_tests cs (s ∷ ss) =
     ∷ (expr_tests cs s.expr ++ stages_tests (cs ++ column_of cs s ∷ []) ss)
 
 -- a number is 1 or 2; and `vacate`, at its offset, stands in version 2 alone
-abbrev pub version_tests : Number → Option ℕ → List Test
+abbrev pub version_tests : Number → Option ℕ → List (Test CheckFault)
 version_tests v None = test (nat_eq v.value 1 || nat_eq v.value 2) (fault.Version v.at) ∷ []
 version_tests v (Some at) = test (nat_eq v.value 1 || nat_eq v.value 2) (fault.Version v.at) ∷ test (nat_eq v.value 2) (fault.Version at) ∷ []
 
-abbrev pub condition_tests : List Condition → List Test
+abbrev pub condition_tests : List Condition → List (Test CheckFault)
 condition_tests [] = []
 condition_tests (condition.Valid share per ∷ rest) =
     test (nat_le 1 share.value && nat_le share.value per && nat_le per MAX_PER) (fault.PerRange share.at) ∷ condition_tests rest
@@ -204,14 +192,14 @@ condition_tests (condition.Winners least ∷ rest) = condition_tests rest
 condition_tests (condition.Minority ∷ rest) = condition_tests rest
 condition_tests (condition.All ∷ rest) = condition_tests rest
 
-abbrev pub base_tests : List Column → ℕ → Base → List Test
+abbrev pub base_tests : List Column → ℕ → Base → List (Test CheckFault)
 base_tests cs at base.Winners = []
 base_tests cs at (base.Stage n) =
     test (list_any (is_named n) cs) (fault.StageUnknown at)
     ∷ test (same_shape (type_of cs (name at n)).shape shape.List && same_unit (type_of cs (name at n)).unit unit.Seats) (fault.SeatsShape at) ∷ []
 
 -- every test of a book, in order
-abbrev pub tests_of : BookTree → List Test
+abbrev pub tests_of : BookTree → List (Test CheckFault)
 tests_of b =
     version_tests b.version b.last.vacate
     ++ (test (is_seat_number b.house.value) (fault.HouseRange b.house.at)

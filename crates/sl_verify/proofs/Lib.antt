@@ -1,5 +1,4 @@
 -- The lemmas of the verifier.
-pub mod Failing
 pub mod Walking
 pub mod Passing
 pub mod Kinded

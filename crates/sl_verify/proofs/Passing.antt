@@ -1,27 +1,16 @@
 -- Tests that hold, as the facts that they say.
 use Rattle.std.proofs.Common.{◌≡◌, ℕ, Bool, true, false, ◌&&◌, List, [], ◌∷◌, ◌++◌, Option, Some, None, refl, ◌∙◌, sym}
 use Rattle.std.specs.Prelude.{IsTrue}
-use Rattle.std.specs.Option.{option_or, option_map_or}
+use Rattle.std.specs.Option.{option_map_or}
 use Rattle.sl_code.specs.Codes.{CountingCode}
 use Rattle.sl_code.specs.declared.kinds.Kinds.{Kinds}
 use Rattle.sl_verify.specs.declared.fault.VerifyFault.{VerifyFault}
 use Rattle.sl_verify.specs.Kinds.{implies}
 use Rattle.sl_verify.specs.WellKinded.{declared_at, leads_well, Stands}
-use Rattle.sl_verify.specs.Faults.{Test, test, first_failing, coming_tests, kinds_here, landing_tests, jump_tests, end_tests}
-use Rattle.sl_verify.proofs.Failing.{fails_in_row}
+use Rattle.sl_stages.specs.Tests.{Test, test, first_failing}
+use Rattle.sl_verify.specs.Faults.{coming_tests, kinds_here, landing_tests, jump_tests, end_tests}
 
 -- ---- lists
-
-none_or : (x y : Option VerifyFault) → option_or x y ≡ None → (x ≡ None) × (y ≡ None)
-none_or None y h = (refl, h)
-none_or (Some f) y h = cc
-
--- all of both lists hold
-pub pass_parts : (a b : List Test) → first_failing (a ++ b) ≡ None → (first_failing a ≡ None) × (first_failing b ≡ None)
-pass_parts a b h = none_or (first_failing a) (first_failing b) (sym (fails_in_row a b) ∙ h)
-
-pub pass_join : (a b : List Test) → first_failing a ≡ None → first_failing b ≡ None → first_failing (a ++ b) ≡ None
-pass_join a b p q = fails_in_row a b ∙ rw (p, q) refl
 
 pub fails_or_passes : (o : Option VerifyFault) (f : VerifyFault) → o ≡ Some f → o ≡ None → ⊥
 fails_or_passes None f h p = cc

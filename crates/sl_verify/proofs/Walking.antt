@@ -9,8 +9,9 @@ use Rattle.sl_verify.specs.declared.fault.VerifyFault.{VerifyFault}
 use Rattle.sl_verify.specs.Kinds.{start_kinds}
 use Rattle.sl_verify.specs.Leaves.{behind}
 use Rattle.sl_verify.specs.WellKinded.{declared_by}
-use Rattle.sl_verify.specs.Faults.{first_failing, kinds_here, instr_tests, pass_tests}
-use Rattle.sl_verify.proofs.Failing.{fails_in_row}
+use Rattle.sl_stages.specs.Tests.{first_failing}
+use Rattle.sl_verify.specs.Faults.{kinds_here, instr_tests, pass_tests}
+use Rattle.sl_stages.proofs.Tests.{fails_in_row}
 
 -- the tests before place p hold, and these kinds come to it: the first test that fails is one of the rest
 pub record Passed (code : CountingCode) (is : List Instr) (p : ℕ) (comes : Option Kinds) : Type 0 where

@@ -1,5 +1,6 @@
 -- What keeps a code from being well kinded: each test in its order, and the fault that it gives (docs/verifier.md, section 4).
 use Rattle.std.specs.Prelude.{ℕ, suc, ◌-◌, Bool, false, List, [], ◌∷◌, ◌++◌, Option, Some, None, if◌then◌else◌}
+use Rattle.sl_stages.specs.Tests.{Test, test, first_failing}
 use Rattle.sl_code.specs.Codes.{CountingCode}
 use Rattle.sl_code.specs.declared.instr.Instr.{Instr}
 use Rattle.sl_code.specs.declared.kinds.Kinds.{Kinds}
@@ -10,24 +11,11 @@ use Rattle.sl_verify.specs.Needs.{has_registers, has_columns, has_kinds, has_tab
 use Rattle.sl_verify.specs.Leaves.{behind, target_of, carried}
 use Rattle.sl_verify.specs.WellKinded.{declared_by, declared_at, has_stage_slots}
 
--- a test, and the fault of a code that fails it
-pub record Test : Type 0 where
-  pub holds : Bool
-  pub otherwise : VerifyFault
-
-abbrev pub test : Bool → VerifyFault → Test
-test b f = record { holds = b; otherwise = f }
-
--- the fault of the first test that fails
-abbrev pub first_failing : List Test → Option VerifyFault
-first_failing [] = None
-first_failing (t ∷ ts) = if t.holds then first_failing ts else Some t.otherwise
-
 -- ---- an instruction
 
 -- what comes to place p implies what is declared there, if anything is; something comes where nothing is declared.
 -- Meet is told of the instruction before, and of the first one at the start
-abbrev pub coming_tests : ℕ → Option Kinds → Option Kinds → List Test
+abbrev pub coming_tests : ℕ → Option Kinds → Option Kinds → List (Test VerifyFault)
 coming_tests p None None = test false (fault.Meet p) ∷ []
 coming_tests p None (Some d) = []
 coming_tests p (Some c) None = []
@@ -39,7 +27,7 @@ kinds_here comes (Some d) = d
 kinds_here (Some c) None = c
 kinds_here None None = start_kinds
 
-abbrev pub need_tests : CountingCode → ℕ → Kinds → Instr → List Test
+abbrev pub need_tests : CountingCode → ℕ → Kinds → Instr → List (Test VerifyFault)
 need_tests code p k i =
     test (has_registers i) (fault.Register p)
     ∷ test (has_columns code i) (fault.Slot p)
@@ -47,36 +35,36 @@ need_tests code p k i =
     ∷ test (has_table k i) (fault.TableKind p) ∷ []
 
 -- a jump at place p comes to what is declared at its target
-abbrev pub landing_tests : ℕ → Kinds → Option Kinds → List Test
+abbrev pub landing_tests : ℕ → Kinds → Option Kinds → List (Test VerifyFault)
 landing_tests p k None = test false (fault.Jump p) ∷ []
 landing_tests p k (Some d) = test (implies k d) (fault.Meet p) ∷ []
 
-abbrev pub jump_tests : CountingCode → ℕ → Kinds → Option ℕ → List Test
+abbrev pub jump_tests : CountingCode → ℕ → Kinds → Option ℕ → List (Test VerifyFault)
 jump_tests code p k None = []
 jump_tests code p k (Some t) = landing_tests p k (declared_at code t)
 
 -- the tests of an instruction at place p with these kinds
-abbrev pub own_tests : CountingCode → ℕ → Kinds → Instr → List Test
+abbrev pub own_tests : CountingCode → ℕ → Kinds → Instr → List (Test VerifyFault)
 own_tests code p k i = need_tests code p k i ++ jump_tests code p (carried k i) (target_of i)
 
 -- the tests of an instruction to which these kinds come
-abbrev pub instr_tests : CountingCode → ℕ → Option Kinds → Instr → List Test
+abbrev pub instr_tests : CountingCode → ℕ → Option Kinds → Instr → List (Test VerifyFault)
 instr_tests code p comes i = coming_tests p comes (declared_by i) ++ own_tests code p (kinds_here comes (declared_by i)) i
 
 -- ---- a code
 
 -- nothing comes to place p, behind the last instruction; RunsOff is told of the instruction before, and at the start of the first
-abbrev pub end_tests : ℕ → Option Kinds → List Test
+abbrev pub end_tests : ℕ → Option Kinds → List (Test VerifyFault)
 end_tests p None = []
 end_tests p (Some c) = test false (fault.RunsOff (p - 1)) ∷ []
 
 -- the tests of the instructions from place p on, where these kinds come to the first of them
-abbrev pub pass_tests : CountingCode → ℕ → Option Kinds → List Instr → List Test
+abbrev pub pass_tests : CountingCode → ℕ → Option Kinds → List Instr → List (Test VerifyFault)
 pass_tests code p comes [] = end_tests p comes
 pass_tests code p comes (i ∷ is) =
     instr_tests code p comes i ++ pass_tests code (suc p) (behind (kinds_here comes (declared_by i)) i) is
 
-abbrev pub verify_tests : CountingCode → List Test
+abbrev pub verify_tests : CountingCode → List (Test VerifyFault)
 verify_tests code = test (has_stage_slots code) (fault.Slot 0) ∷ pass_tests code 0 (Some start_kinds) code.instrs
 
 -- the fault of a code

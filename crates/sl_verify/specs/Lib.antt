@@ -4,4 +4,3 @@ pub mod Needs
 pub mod Leaves
 pub mod WellKinded
 pub mod Faults
-pub mod Judging

@@ -5,8 +5,9 @@ ghost use Rattle.sl_verify.specs.Kinds.{start_kinds};
 ghost use Rattle.sl_verify.specs.Needs.{has_registers};
 ghost use Rattle.sl_verify.specs.Leaves.{behind};
 ghost use Rattle.sl_verify.specs.WellKinded.{declared_by, declared_at, has_stage_slots};
-ghost use Rattle.sl_verify.specs.Faults.{test, coming_tests, kinds_here, need_tests, landing_tests, jump_tests, own_tests, instr_tests, end_tests, pass_tests, verify_tests};
-ghost use Rattle.sl_verify.specs.Judging.{Judges};
+ghost use Rattle.sl_stages.specs.Tests.{test};
+ghost use Rattle.sl_verify.specs.Faults.{coming_tests, kinds_here, need_tests, landing_tests, jump_tests, own_tests, instr_tests, end_tests, pass_tests, verify_tests};
+ghost use Rattle.sl_stages.specs.Tests.{Judges};
 
 use crate::fault::VerifyFault;
 use crate::known::{START, implies};
@@ -100,7 +101,7 @@ fn check_jump(
 }
 
 /// Refuses an instruction that cannot stand at a place with these kinds.
-#[tactic(auto, using(crate::proofs::Failing::fails_in_row))]
+#[tactic(auto, using(sl_stages::proofs::Tests::fails_in_row))]
 fn check_own(code: &Code, place: usize, kinds: Kinds, instr: Instr) -> Result<(), VerifyFault>
     ensures tests { Judges result (own_tests code.now place kinds instr) tt }
     ensures registers { OnOk result (IsTrue (has_registers instr)) }
@@ -110,7 +111,7 @@ fn check_own(code: &Code, place: usize, kinds: Kinds, instr: Instr) -> Result<()
 }
 
 /// The kinds behind an instruction, where these come to it.
-#[tactic(auto, using(crate::proofs::Failing::fails_in_row))]
+#[tactic(auto, using(sl_stages::proofs::Tests::fails_in_row))]
 fn check_instr(
     code: &Code,
     place: usize,

@@ -4,7 +4,8 @@ ghost use Rattle.std.specs.Prelude.{◌≡◌, Some, None, true, IsTrue, IfOk, n
 ghost use Rattle.std.specs.List.{list_any, list_all};
 ghost use Rattle.sl_stages.specs.Trees.{tree_of, stage_of};
 ghost use Rattle.sl_stages.specs.Books.{book_of};
-ghost use Rattle.sl_stages.specs.Typing.{is_named, is_typed, splits_in, columns_of, type_of, type_or_one, first_failing, base_tests};
+ghost use Rattle.sl_stages.specs.Tests.{first_failing};
+ghost use Rattle.sl_stages.specs.Typing.{is_named, is_typed, splits_in, columns_of, type_of, type_or_one, base_tests};
 ghost use Rattle.sl_stages.specs.Meaning.{is_column_of, IsColumn, AreColumns};
 ghost use Rattle.sl_stages.specs.declared.book.Shape.TheVariants as shape;
 ghost use Rattle.sl_stages.specs.Outcomes.{base_of};

@@ -1,7 +1,8 @@
 use Rattle.std.proofs.Common.{◌≡◌, Some, rules}
 use Rattle.sl_verify.specs.Leaves.{target_of, carried}
-use Rattle.sl_verify.specs.Faults.{first_failing, need_tests, jump_tests, own_tests}
-use Rattle.sl_verify.proofs.Failing.{fails_first}
+use Rattle.sl_stages.specs.Tests.{first_failing}
+use Rattle.sl_verify.specs.Faults.{need_tests, jump_tests, own_tests}
+use Rattle.sl_stages.proofs.Tests.{fails_first}
 use Rattle.sl_verify.proofs.pass.check_own.Goals as goal
 
 pub returns-in_err-check_needs-clause-tests : goal.returns-in_err-check_needs-clause-tests
