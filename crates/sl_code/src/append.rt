@@ -9,20 +9,16 @@ use sl_ratio::NoMemory;
 pub(crate) fn push(bytes: &mut Vec<u8>, byte: u8) -> Result<(), NoMemory>
     ensures { OnOk result (bytes.new.items ≡ bytes.old.items ++ byte ∷ []) }
 {
-    match bytes.push(byte) {
-        Ok(()) => Ok(()),
-        Err(_) => Err(NoMemory),
-    }
+    bytes.push(byte)?;
+    Ok(())
 }
 
 /// Adds bytes at the end.
 pub(crate) fn extend(bytes: &mut Vec<u8>, more: &[u8]) -> Result<(), NoMemory>
     ensures { OnOk result (bytes.new.items ≡ bytes.old.items ++ more.now) }
 {
-    match bytes.extend_from_slice(more) {
-        Ok(()) => Ok(()),
-        Err(_) => Err(NoMemory),
-    }
+    bytes.extend_from_slice(more)?;
+    Ok(())
 }
 
 /// Adds a number in two bytes, least first.

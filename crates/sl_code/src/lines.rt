@@ -48,8 +48,6 @@ fn operand_word(alloc: Global, text: &mut Vec<u8>, operand: Operand) -> Result<(
 fn decimal(alloc: Global, text: &mut Vec<u8>, number: u64) -> Result<(), NoMemory>
     ensures { OnOk result (text.new.items ≡ text.old.items ++ decimal number) }
 {
-    let Ok(digits) = number.to_string(alloc) else {
-        return Err(NoMemory);
-    };
+    let digits = number.to_string(alloc)?;
     extend(text, digits.as_bytes())
 }

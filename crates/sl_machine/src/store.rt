@@ -45,20 +45,16 @@ pub(crate) fn zeros(alloc: Global, length: usize) -> Result<Vec<u64>, NoMemory>
     ensures { IfOk result (λ column. column.items ≡ replicate length 0) }
 {
     let mut column = Vec::new(alloc);
-    match column.resize(length, 0) {
-        Ok(()) => Ok(column),
-        Err(_) => Err(NoMemory),
-    }
+    column.resize(length, 0)?;
+    Ok(column)
 }
 
 // Adds an item.
 pub(crate) fn append<T: Drop>(items: &mut Vec<T>, item: T) -> Result<(), NoMemory>
     ensures { OnOk result (items.new.items ≡ items.old.items ++ item ∷ []) }
 {
-    match items.push(item) {
-        Ok(()) => Ok(()),
-        Err(_) => Err(NoMemory),
-    }
+    items.push(item)?;
+    Ok(())
 }
 
 // The number of cells of a column.
@@ -93,10 +89,8 @@ fn unseated(alloc: Global, wins: usize) -> Result<Vec<Placed>, NoMemory>
     ensures { IfOk result (λ placed. placed.items ≡ replicate wins Placed.Unseated) }
 {
     let mut placed = Vec::new(alloc);
-    match placed.resize(wins, Placed::Unseated) {
-        Ok(()) => Ok(placed),
-        Err(_) => Err(NoMemory),
-    }
+    placed.resize(wins, Placed::Unseated)?;
+    Ok(placed)
 }
 
 impl Store {

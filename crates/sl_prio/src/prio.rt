@@ -62,9 +62,7 @@ impl Prio {
         ensures added { OnOk result (IsPermutation (entry ∷ self.old) self.new) }
         ensures unchanged { OnErr result (self.new ≡ self.old) }
     {
-        let Ok(()) = self.entries.push(entry) else {
-            return Err(NoMemory);
-        };
+        self.entries.push(entry)?;
         Ok(())
     }
 

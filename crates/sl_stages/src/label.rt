@@ -30,10 +30,8 @@ impl Label {
         requires { spelling_fault bytes.now ≡ None }
         ensures { IfOk result (λ l. l ≡ bytes.now) }
     {
-        match Vec::from_slice(alloc, bytes) {
-            Ok(bytes) => Ok(Label { bytes }),
-            Err(_) => Err(NoMemory),
-        }
+        let bytes = Vec::from_slice(alloc, bytes)?;
+        Ok(Label { bytes })
     }
 
     /// Its bytes.

@@ -27,10 +27,8 @@ impl Word {
         requires { IsTrue (is_word bytes.now) }
         ensures { IfOk result (λ w. w ≡ bytes.now) }
     {
-        match Vec::from_slice(alloc, bytes) {
-            Ok(bytes) => Ok(Word { bytes }),
-            Err(_) => Err(NoMemory),
-        }
+        let bytes = Vec::from_slice(alloc, bytes)?;
+        Ok(Word { bytes })
     }
 
     /// Its bytes.

@@ -47,8 +47,8 @@ impl Text {
         ensures unchanged { OnErr result (self.new ≡ self.old) }
     {
         let length = self.bytes.len();
-        if self.begun && self.bytes.push(b' ').is_err() {
-            return Err(NoMemory);
+        if self.begun {
+            self.bytes.push(b' ')?;
         }
         if self.bytes.extend_from_slice(word).is_err() {
             self.bytes.truncate(length);
@@ -79,9 +79,7 @@ impl Text {
         ensures added { OnOk result (self.new ≡ with_word self.old (decimal number)) }
         ensures unchanged { OnErr result (self.new ≡ self.old) }
     {
-        let Ok(digits) = number.to_string(self.alloc) else {
-            return Err(NoMemory);
-        };
+        let digits = number.to_string(self.alloc)?;
         self.word(digits.as_bytes())
     }
 
@@ -94,9 +92,7 @@ impl Text {
         ensures ended { OnOk result (self.new ≡ with_end self.old) }
         ensures unchanged { OnErr result (self.new ≡ self.old) }
     {
-        if self.bytes.push(b'\n').is_err() {
-            return Err(NoMemory);
-        }
+        self.bytes.push(b'\n')?;
         self.begun = false;
         Ok(())
     }

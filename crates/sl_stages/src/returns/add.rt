@@ -16,10 +16,8 @@ fn blank_row(alloc: Global) -> Result<Vec<Option<ListVotes>>, NoMemory>
     ensures { IfOk result (λ row. row.items ≡ replicate MAX_PARTIES None) }
 {
     let mut row = Vec::new(alloc);
-    match row.resize(MAX_PARTIES, None) {
-        Ok(()) => Ok(row),
-        Err(_) => Err(NoMemory),
-    }
+    row.resize(MAX_PARTIES, None)?;
+    Ok(row)
 }
 
 // Makes room for one more item.
@@ -27,10 +25,8 @@ fn make_room<T>(items: &mut Vec<T>) -> Result<(), NoMemory>
     ensures same { items.new.items ≡ items.old.items }
     ensures room { OnOk result (vec_len items.new < vec_capacity items.new) }
 {
-    match items.reserve(1) {
-        Ok(()) => Ok(()),
-        Err(_) => Err(NoMemory),
-    }
+    items.reserve(1)?;
+    Ok(())
 }
 
 // Adds an item for which there is room.
