@@ -1,14 +1,15 @@
 //! Rulebooks built by hand, each with the offsets of its text.
 
-ghost use Rattle.std.specs.Prelude.{◌≡◌, ◌&&◌, map, nat_le, IsTrue, IfOk};
+ghost use Rattle.std.specs.Prelude.{◌≡◌, ◌≤◌, ◌&&◌, map, flat_map, nat_le, IsTrue, IfOk};
 ghost use Rattle.sl_stages.specs.Words.{is_word};
 ghost use Rattle.sl_stages.specs.Trees.{tree_of, stage_of};
-ghost use Rattle.sl_stages.specs.Limits.{depth_of, parts_of, is_within_limits};
+ghost use Rattle.sl_stages.specs.Limits.{depth_of, parts_of, is_within_limits, numbers_of, are_small};
 
 use super::*;
 use sl_ratio::{Divisor, Method};
 use sl_stages::{
-    Axis, Base, Book, Condition, Expr, LastClause, Majority, Number, Seating, Stage, Word,
+    Axis, Base, Book, Condition, Expr, LastClause, MAX_NUMBER, Majority, Number, Seating, Stage,
+    Word,
 };
 use std::alloc::Global;
 use std::test::Fail;
@@ -30,7 +31,10 @@ fn book(
     stages: Vec<Stage>,
     last: LastClause,
 ) -> Result<Book, Fail>
-    requires { IsTrue (is_within_limits (map stage_of stages.items)) }
+    requires within { IsTrue (is_within_limits (map stage_of stages.items)) }
+    requires version { version ≤ MAX_NUMBER }
+    requires house { house ≤ MAX_NUMBER }
+    requires numbers { IsTrue (are_small (flat_map (λ s. numbers_of s.expr) (map stage_of stages.items))) }
 {
     Ok(Book {
         version: Number {
@@ -59,7 +63,8 @@ fn stage(alloc: Global, name: &[u8], at: usize, expr: Expr) -> Result<Stage, Fai
 
 /// `rulebook 1; law "t"; house 8; eligible all; stage s = E; seats s keep;`
 fn one_stage(alloc: Global, expr: Expr, at: usize) -> Result<Book, Fail>
-    requires { IsTrue (nat_le (depth_of (tree_of expr)) 16 && nat_le (parts_of (tree_of expr)) 64) }
+    requires within { IsTrue (nat_le (depth_of (tree_of expr)) 16 && nat_le (parts_of (tree_of expr)) 64) }
+    requires numbers { IsTrue (are_small (numbers_of (tree_of expr))) }
 {
     let mut stages = Vec::new(alloc);
     stages.push(stage(alloc, b"s", 50, expr)?)?;

@@ -1,7 +1,7 @@
 -- What tokens say of the text between their offsets.
 use Rattle.std.specs.Prelude.{◌≡◌, ℕ, ◌<◌, ◌≤◌, List, [], ◌∷◌, length, slice_range}
 use Rattle.sl_lex.specs.declared.keyword.Keyword.{Keyword}
-use Rattle.sl_lex.specs.declared.token.TheConstants.{MAX_NUMBER}
+use Rattle.sl_ratio.specs.declared.limits.TheConstants.{MAX_NUMBER}
 use Rattle.sl_ratio.specs.declared.names.TheConstants.{MAX_NAME_BYTES}
 use Rattle.sl_lex.specs.declared.token.Kind.{Kind}
 use Rattle.sl_lex.specs.declared.token.Kind.TheVariants as kinds

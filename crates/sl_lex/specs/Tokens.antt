@@ -3,7 +3,7 @@ use Rattle.std.specs.Prelude.{◌≡◌, ℕ, ◌+◌, ◌*◌, ◌-◌, ◌<◌
 use Rattle.std.specs.Option.{option_map, option_to_list}
 use Rattle.std.specs.Str.{bytes_eq}
 use Rattle.sl_lex.specs.declared.keyword.Keyword.{Keyword}
-use Rattle.sl_lex.specs.declared.token.TheConstants.{MAX_NUMBER}
+use Rattle.sl_ratio.specs.declared.limits.TheConstants.{MAX_NUMBER}
 use Rattle.sl_ratio.specs.declared.names.TheConstants.{MAX_NAME_BYTES}
 use Rattle.sl_lex.specs.declared.token.Kind.{Kind}
 use Rattle.sl_lex.specs.declared.token.Kind.TheVariants as kinds

@@ -10,7 +10,8 @@ mod token;
 pub use fault::LexFault;
 pub use keyword::Keyword;
 pub use scan::lex;
-pub use token::{Kind, MAX_NUMBER, Mark, Token};
+pub use sl_ratio::MAX_NUMBER;
+pub use token::{Kind, Mark, Token};
 
 #[cfg(test)]
 mod tests;

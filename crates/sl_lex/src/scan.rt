@@ -10,9 +10,9 @@ ghost use Rattle.sl_lex.specs.Tokens.{number_of, ShowsAt, AreTokens, IsRefusal};
 
 use crate::fault::LexFault;
 use crate::keyword::Keyword;
-use crate::token::{Kind, MAX_NUMBER, Mark, Token};
+use crate::token::{Kind, Mark, Token};
 use memchr::memchr;
-use sl_ratio::MAX_NAME_BYTES;
+use sl_ratio::{MAX_NAME_BYTES, MAX_NUMBER};
 use std::alloc::Global;
 
 /// What a byte may begin.

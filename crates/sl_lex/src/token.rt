@@ -2,9 +2,6 @@
 
 use crate::keyword::Keyword;
 
-/// The greatest number that may stand in a book.
-pub const MAX_NUMBER: u32 = 999_999_999;
-
 /// A mark of one byte: `;` `=` `,` `(` `)`.
 #[derive(Clone, Copy, Debug, PartialEq, Eq)]
 pub enum Mark {

@@ -4,7 +4,7 @@ use Rattle.std.specs.Option.{ForSome}
 use Rattle.std.proofs.lemmas.Option.{slice_get_within, same_Some}
 use Rattle.sl_ratio.specs.Quotient.{Quotient, quotient}
 use Rattle.sl_ratio.specs.declared.entry.Entry.{Entry}
-use Rattle.sl_ratio.specs.declared.signpost.TheConstants.{MAX_WEIGHT, MAX_SEATS}
+use Rattle.sl_ratio.specs.declared.limits.TheConstants.{MAX_WEIGHT, MAX_SEATS}
 use Rattle.sl_stages.specs.declared.fault.Scope.{Scope}
 use Rattle.sl_stages.specs.declared.table.Placed.TheVariants as placed
 use Rattle.sl_stages.specs.Election.{Election, lands_of, parties_of, wins_of, has_list}

@@ -5,7 +5,7 @@ use Rattle.std.proofs.lemmas.Bool.{and_parts, both_ways, true≢false}
 use Rattle.std.proofs.lemmas.List.Elements.{All-nil}
 use Rattle.sl_ratio.specs.declared.entry.Entry.{Entry}
 use Rattle.sl_ratio.specs.declared.method.Divisor.{Divisor}
-use Rattle.sl_ratio.specs.declared.signpost.TheConstants.{MAX_WEIGHT, MAX_SEATS}
+use Rattle.sl_ratio.specs.declared.limits.TheConstants.{MAX_WEIGHT, MAX_SEATS}
 use Rattle.sl_ratio.specs.Quotient.{Quotient, quotient}
 use Rattle.sl_stages.specs.Election.{Election, IsElection, IsWin, lands_of, parties_of, wins_of}
 use Rattle.sl_code.specs.Codes.{CountingCode}

@@ -4,7 +4,7 @@ use Rattle.std.specs.Option.{option_map}
 use Rattle.sl_ratio.specs.declared.entry.Entry.{Entry}
 use Rattle.sl_ratio.specs.declared.method.Divisor.{Divisor}
 use Rattle.sl_ratio.specs.declared.method.Divisor.TheVariants as divisor
-use Rattle.sl_ratio.specs.declared.signpost.TheConstants.{MAX_WEIGHT, MAX_SEATS}
+use Rattle.sl_ratio.specs.declared.limits.TheConstants.{MAX_WEIGHT, MAX_SEATS}
 use Rattle.sl_ratio.specs.Quotient.{Quotient, quotient}
 use Rattle.sl_stages.specs.declared.fault.FaultKind.{FaultKind}
 use Rattle.sl_stages.specs.declared.fault.FaultKind.TheVariants as fault
@@ -30,6 +30,7 @@ use Rattle.sl_code.specs.declared.operand.Rounding.TheVariants as rounding
 use Rattle.sl_code.specs.declared.operand.ScopeKind.{ScopeKind}
 use Rattle.sl_code.specs.Codes.{CountingCode}
 use Rattle.sl_verify.specs.declared.needs.TheConstants.{LAST_CLAUSE}
+use Rattle.sl_verify.specs.Kinds.{same_ranking}
 use Rattle.sl_machine.specs.State.{State, PriorityTable, Ending, Halted, Faulted, with_register, with_column, with_cell, with_place}
 use Rattle.sl_machine.specs.Places.{both, cell_at, index_at, item_of, at_entry, scope_at}
 use Rattle.sl_prio.specs.Prio.{top, peers, is_covered}
@@ -128,11 +129,7 @@ with_table t s = record s { table = Some t }
 -- enters the cursors' entry in a table with that ranking
 abbrev pub enters : Election → Ranking → Quotient → State → Effect
 enters e by q s = given s.table (λ t. given (index_at e t.entries s) (λ index.
-    if same by t.ranking then Goes (with_table (record t { contents = insert_ranked (record { ratio = q; index = index }) t.contents }) s) else NoCase)) where
-      same : Ranking → Ranking → Bool
-      same ranking.Quotients ranking.Quotients = true
-      same ranking.Remainders ranking.Remainders = true
-      same _ _ = false
+    if same_ranking by t.ranking then Goes (with_table (record t { contents = insert_ranked (record { ratio = q; index = index }) t.contents }) s) else NoCase))
 
 -- the mark of an entry taken
 abbrev pub mark_of : Ranking → Quotient → Mark

@@ -3,7 +3,7 @@
 ghost use Rattle.std.specs.Prelude.{◌≡◌, ◌<◌, ◌+◌, min, Some, IsTrue, IsSome, IfOk, option_map};
 ghost use Rattle.std.specs.Option.{ForSome, option_and_then};
 ghost use Rattle.sl_ratio.specs.Quotient.{quotient};
-ghost use Rattle.sl_ratio.specs.declared.signpost.TheConstants.{MAX_WEIGHT, MAX_SEATS};
+ghost use Rattle.sl_ratio.specs.declared.limits.TheConstants.{MAX_WEIGHT, MAX_SEATS};
 ghost use Rattle.sl_verify.specs.declared.known.TheConstants.{REGISTERS};
 ghost use Rattle.sl_verify.specs.Needs.{has_stage};
 ghost use Rattle.sl_code.specs.Codes.{CountingCode};

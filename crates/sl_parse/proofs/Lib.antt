@@ -15,3 +15,4 @@ pub mod OneTree
 pub mod Stands
 pub mod Loop
 mod SpanFacts
+mod TokenNumbers

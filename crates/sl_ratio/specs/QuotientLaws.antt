@@ -4,7 +4,7 @@ use Rattle.std.proofs.Math.Nat.{mul-le-mul_right, mul-le-mul_left}
 use Rattle.sl_ratio.specs.declared.method.Divisor.{Divisor}
 use Rattle.sl_ratio.specs.declared.method.Divisor.TheVariants.{Adams, Dean, Hill, Webster, Jefferson}
 use Rattle.sl_ratio.specs.declared.ratio.TheConstants.{MAX_NUMERATOR, MAX_DENOMINATOR}
-use Rattle.sl_ratio.specs.declared.signpost.TheConstants.{MAX_WEIGHT, MAX_SEATS}
+use Rattle.sl_ratio.specs.declared.limits.TheConstants.{MAX_WEIGHT, MAX_SEATS}
 use Rattle.sl_ratio.specs.Quotient.{FitsRatio, Below, quotient}
 
 times_pos : (v k : ℕ) → 1 ≤ v → 1 ≤ v * (k + 1)

@@ -1,6 +1,6 @@
 -- What makes a table of quotients that of a divisor method (Balinski and Young, Fair Representation; docs/methods.md, section 1).
 use Rattle.std.specs.Prelude.{ℕ, ◌+◌, ◌<◌, ◌≤◌}
-use Rattle.sl_ratio.specs.declared.signpost.TheConstants.{MAX_WEIGHT, MAX_SEATS}
+use Rattle.sl_ratio.specs.declared.limits.TheConstants.{MAX_WEIGHT, MAX_SEATS}
 use Rattle.sl_ratio.specs.Quotient.{Quotient, FitsRatio, Below}
 
 -- q v a is the quotient of a weight v for the next seat, with a seats held

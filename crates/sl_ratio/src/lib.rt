@@ -3,6 +3,7 @@
 
 mod entry;
 pub mod laws;
+mod limits;
 mod memory;
 mod method;
 mod names;
@@ -11,12 +12,13 @@ mod remainder;
 mod signpost;
 
 pub use entry::Entry;
+pub use limits::{MAX_NUMBER, MAX_SEATS, MAX_WEIGHT};
 pub use memory::NoMemory;
 pub use method::{Divisor, Method};
 pub use names::{MAX_NAME_BYTES, NameFault, Names, spelling_fault};
 pub use ratio::{MAX_DENOMINATOR, MAX_NUMERATOR, Ratio};
 pub use remainder::hare;
-pub use signpost::{Adams, Dean, Hill, Jefferson, MAX_SEATS, MAX_WEIGHT, Signpost, Webster};
+pub use signpost::{Adams, Dean, Hill, Jefferson, Signpost, Webster};
 
 #[cfg(test)]
 mod tests;

@@ -2,18 +2,12 @@
 
 ghost use Rattle.std.specs.Prelude.{◌≡◌, ℕ, ◌+◌, ◌<◌, ◌≤◌};
 ghost use Rattle.sl_ratio.specs.declared.method.Divisor.{Divisor};
-ghost use Rattle.sl_ratio.specs.declared.signpost.TheConstants.{MAX_WEIGHT, MAX_SEATS};
+ghost use Rattle.sl_ratio.specs.declared.limits.TheConstants.{MAX_WEIGHT, MAX_SEATS};
 ghost use Rattle.sl_ratio.specs.Quotient.{Quotient, FitsRatio, Below, quotient};
 ghost use Rattle.sl_ratio.specs.QuotientLaws.{quotient_fits, quotient_falls, quotient_rises};
 
 use crate::method::Divisor;
 use crate::ratio::Ratio;
-
-/// The greatest weight of an entry, in votes or persons.
-pub const MAX_WEIGHT: u64 = 1_638_400_000_000;
-
-/// The greatest number of seats of a scope.
-pub const MAX_SEATS: u32 = 4000;
 
 /// A divisor method by its quotients: those of a weight of `v` votes for the next seat of an entry that holds `a` seats.
 pub trait Signpost {

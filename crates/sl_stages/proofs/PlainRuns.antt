@@ -1,5 +1,5 @@
 -- Plain expressions and stages come to the columns that they are.
-use Rattle.std.proofs.Common.{◌≡◌, ℕ, ◌+◌, true, List, [], ◌∷◌, ◌++◌, nat_eq, arith, refl, sym, ap, subst, ◌∙◌}
+use Rattle.std.proofs.Common.{◌≡◌, ℕ, true, List, [], ◌∷◌, ◌++◌, nat_eq, arith, refl, sym, ap, subst, ◌∙◌}
 use Rattle.std.specs.List.{list_all}
 use Rattle.std.proofs.lemmas.Bool.{and_parts, eqb-true}
 use Rattle.sl_stages.specs.Trees.{ExprTree, house, counted, winners, outside, independents, population, name, sum, larger, less, split, split_from, grow, StageTree, BookTree}
@@ -24,9 +24,6 @@ after First Next r h xs same =
 -- and back
 pub then_plain : (First : ExprResult → Type 0) (Next : List ℕ → ExprResult → Type 0) (r : ExprResult) (xs : List ℕ) → First (plain xs) → Next xs r → Then First Next r
 then_plain First Next r xs first next = record { first = plain xs; comes = first; goes_on = (r, next, sym (behind_nothing r)) }
-
-no_split : (n : ℕ) → 1 + n ≡ 0 → ⊥
-no_split n h = omega arith
 
 module _ (b : BookTree) (e : Election) (c : Context) where
   -- a plain column that the expression is

@@ -6,7 +6,7 @@ use Rattle.std.proofs.lemmas.Bool.{cases_Bool, cond-true, cond-false, and_parts,
 use Rattle.sl_ratio.specs.declared.method.Divisor.{Divisor}
 use Rattle.sl_ratio.specs.declared.method.Method.{Method}
 use Rattle.sl_ratio.specs.declared.method.Method.TheVariants as by
-use Rattle.sl_stages.specs.declared.limits.TheConstants.{MAX_SEATS}
+use Rattle.sl_ratio.specs.declared.limits.TheConstants.{MAX_SEATS}
 use Rattle.sl_stages.specs.declared.book.Majority.{Majority}
 use Rattle.sl_stages.specs.declared.book.Shape.{Shape}
 use Rattle.sl_stages.specs.declared.book.Shape.TheVariants as shape

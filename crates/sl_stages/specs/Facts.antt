@@ -1,5 +1,5 @@
 -- What the returns say of parties, lists and winners (docs/meaning.md, section 1).
-use Rattle.std.specs.Prelude.{ℕ, ◌+◌, ◌*◌, Bool, true, false, not, ◌&&◌, List, [], ◌∷◌, Option, Some, None, is_none, map, sum_by, count_by, flat_map, nat_eq, nat_le, slice_index, slice_index_or, if◌then◌else◌}
+use Rattle.std.specs.Prelude.{ℕ, ◌+◌, ◌*◌, Bool, true, false, not, ◌&&◌, List, Option, Some, None, is_none, map, sum_by, count_by, flat_map, nat_eq, nat_le, slice_index, slice_index_or, if◌then◌else◌}
 use Rattle.std.specs.List.{list_any, range_with_len}
 use Rattle.sl_stages.specs.declared.book.Condition.{Condition}
 use Rattle.sl_stages.specs.declared.book.Condition.TheVariants as condition

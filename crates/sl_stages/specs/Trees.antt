@@ -1,5 +1,5 @@
 -- Rulebooks as the definitions see them: without the places in memory (docs/language.md, section 2).
-use Rattle.std.specs.Prelude.{ℕ, List, map, Option, Some, None}
+use Rattle.std.specs.Prelude.{ℕ, List, Option, Some, None}
 use Rattle.std.specs.Global.{Box}
 use Rattle.sl_ratio.specs.declared.method.Method.{Method}
 use Rattle.sl_stages.specs.declared.book.Axis.{Axis}

@@ -1,9 +1,10 @@
 -- Which rulebooks are well formed: each test, in its order, and the fault that it gives (docs/language.md, section 5).
-use Rattle.std.specs.Prelude.{ℕ, ◌+◌, Bool, true, false, not, ◌&&◌, ◌||◌, List, [], ◌∷◌, ◌++◌, Option, Some, None, nat_eq, nat_le, is_none, is_some, option_map, find, if◌then◌else◌}
+use Rattle.std.specs.Prelude.{ℕ, ◌+◌, Bool, true, false, not, ◌&&◌, ◌||◌, List, [], ◌∷◌, ◌++◌, Option, Some, None, nat_eq, nat_le, is_none, find, if◌then◌else◌}
 use Rattle.std.specs.List.{list_any}
 use Rattle.sl_ratio.specs.declared.method.Method.{Method}
 use Rattle.sl_ratio.specs.declared.method.Method.TheVariants.{Divisor, Hamilton}
-use Rattle.sl_stages.specs.declared.limits.TheConstants.{MAX_SEATS, MAX_PER}
+use Rattle.sl_ratio.specs.declared.limits.TheConstants.{MAX_SEATS}
+use Rattle.sl_stages.specs.declared.limits.TheConstants.{MAX_PER}
 use Rattle.sl_stages.specs.declared.book.Shape.{Shape}
 use Rattle.sl_stages.specs.declared.book.Shape.TheVariants as shape
 use Rattle.sl_stages.specs.declared.book.Unit.{Unit as Units}
@@ -18,7 +19,6 @@ use Rattle.sl_stages.specs.declared.book.Condition.{Condition}
 use Rattle.sl_stages.specs.declared.book.Condition.TheVariants as condition
 use Rattle.sl_stages.specs.declared.book.Base.{Base}
 use Rattle.sl_stages.specs.declared.book.Base.TheVariants as base
-use Rattle.sl_stages.specs.declared.book.LastClause.{LastClause}
 use Rattle.sl_stages.specs.declared.check_fault.CheckFault.{CheckFault}
 use Rattle.sl_stages.specs.declared.check_fault.CheckFault.TheVariants as fault
 use Rattle.sl_stages.specs.Tests.{Test, test, first_failing}

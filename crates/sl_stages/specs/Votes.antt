@@ -1,5 +1,5 @@
 -- What is told of a list (docs/returns.md, section 2).
-use Rattle.std.specs.Prelude.{◌≡◌, ℕ, ◌≤◌, Option, Some, None}
+use Rattle.std.specs.Prelude.{ℕ, ◌≤◌, Option, Some, None}
 use Rattle.std.specs.Option.{ForSome}
 use Rattle.sl_stages.specs.declared.limits.TheConstants.{MAX_VOTES, MAX_SLATE}
 use Rattle.sl_stages.specs.declared.returns.ListVotes.{ListVotes}

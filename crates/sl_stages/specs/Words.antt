@@ -1,5 +1,5 @@
 -- Words: the names of stages (docs/language.md, section 1).
-use Rattle.std.specs.Prelude.{ℕ, Bool, true, false, ◌&&◌, ◌||◌, List, [], ◌∷◌, length, nat_eq, nat_le}
+use Rattle.std.specs.Prelude.{ℕ, Bool, false, ◌&&◌, ◌||◌, List, [], ◌∷◌, length, nat_eq, nat_le}
 use Rattle.std.specs.List.{list_all}
 use Rattle.sl_ratio.specs.declared.names.TheConstants.{MAX_NAME_BYTES}
 

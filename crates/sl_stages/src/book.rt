@@ -2,7 +2,7 @@
 
 ghost use Rattle.std.specs.Prelude.{IsTrue, map};
 ghost use Rattle.sl_stages.specs.Trees.{stage_of};
-ghost use Rattle.sl_stages.specs.Limits.{is_within_limits};
+ghost use Rattle.sl_stages.specs.Limits.{is_within_limits, book_numbers, are_small};
 
 use crate::word::Word;
 use sl_ratio::Method;
@@ -170,4 +170,5 @@ pub struct Book {
     pub stages: Vec<Stage>,
     pub last: LastClause,
     pub ghost within_limits: { IsTrue (is_within_limits (map stage_of stages.items)) },
+    pub ghost small_numbers: { IsTrue (are_small (book_numbers (record { version = version; law = law.items; house = house; eligible = eligible.items; stages = map stage_of stages.items; last = last }))) },
 }

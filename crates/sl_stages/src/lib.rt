@@ -21,8 +21,8 @@ pub use checked::CheckedBook;
 pub use fault::{FaultKind, Item, Items, LegalFault, Scope};
 pub use label::Label;
 pub use limits::{
-    MAX_DEPTH, MAX_LANDS, MAX_LOTS, MAX_PARTIES, MAX_PARTS, MAX_PER, MAX_SEATS, MAX_SLATE,
-    MAX_STAGES, MAX_VOTES, MAX_WINS,
+    MAX_DEPTH, MAX_LANDS, MAX_LOTS, MAX_NUMBER, MAX_PARTIES, MAX_PARTS, MAX_PER, MAX_SEATS,
+    MAX_SLATE, MAX_STAGES, MAX_VOTES, MAX_WINS,
 };
 pub use returns::{ListVotes, Lot, Returns, Win};
 pub use table::{ListSeats, Mark, Outcome, Placed, SeatStep, Table, Weight};

@@ -1,4 +1,6 @@
-//! The limits of rulebooks and returns. Each stands here once, for code and definitions alike (docs/limits.md).
+//! The limits of rulebooks and returns. Each stands once, for code and definitions alike (docs/limits.md).
+
+pub use sl_ratio::{MAX_NUMBER, MAX_SEATS};
 
 /// Stages of a book.
 pub const MAX_STAGES: usize = 32;
@@ -8,9 +10,6 @@ pub const MAX_DEPTH: u32 = 16;
 
 /// Expressions of a stage, each sub-expression counted.
 pub const MAX_PARTS: u32 = 64;
-
-/// Seats of a house, of a scope and of a cap.
-pub const MAX_SEATS: u32 = 4000;
 
 /// The greatest `d` of `n per d`.
 pub const MAX_PER: u32 = 1000;

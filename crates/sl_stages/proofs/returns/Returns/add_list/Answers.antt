@@ -1,9 +1,7 @@
 -- The returns with a list more.
-use Rattle.std.proofs.Common.{◌≡◌, ◌<◌, ℕ, [], List, Option, None, length, get_or, ap, sym, subst, ◌∙◌, arith}
+use Rattle.std.proofs.Common.{◌≡◌, ◌<◌, List, Option, None, length, ap, sym, subst, ◌∙◌, arith}
 use Rattle.std.proofs.lemmas.List.{length-map}
-use Rattle.std.proofs.lemmas.List.Elements.{All-get_or}
 use Rattle.std.proofs.lemmas.Option.{none-some}
-use Rattle.sl_stages.specs.declared.limits.TheConstants.{MAX_PARTIES}
 use Rattle.sl_stages.specs.declared.returns.ListVotes.{ListVotes}
 use Rattle.sl_stages.specs.Election.{Election, IsElection, list_at, with_list}
 use Rattle.sl_stages.specs.Kept.{election_of}

@@ -1,6 +1,5 @@
 -- The returns with a winner more.
 use Rattle.std.proofs.Common.{◌≡◌, ◌<◌, ◌++◌, ◌∷◌, [], List, ℕ, None, length, rules, ap, sym, subst, ◌∙◌}
-use Rattle.std.specs.Option.{ForSome}
 use Rattle.sl_ratio.specs.Names.{name_fault}
 use Rattle.sl_ratio.proofs.NameLists.{joins}
 use Rattle.sl_stages.specs.declared.limits.TheConstants.{MAX_WINS}
