@@ -1,5 +1,5 @@
 -- The first test that fails, of an expression with several arguments.
-use Rattle.std.proofs.Common.{◌≡◌, ℕ, List, [], ◌∷◌, ◌++◌, Option, Some, None, true, false, if◌then◌else◌, refl, ◌∙◌, sym, ap, append_assoc}
+use Rattle.std.proofs.Common.{◌≡◌, ℕ, List, ◌++◌, Option, Some, None, refl, ◌∙◌, sym, ap, append_assoc}
 use Rattle.std.specs.Option.{option_or}
 use Rattle.std.specs.Global.{Box}
 use Rattle.sl_ratio.specs.declared.method.Method.{Method}

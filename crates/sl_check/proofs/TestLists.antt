@@ -1,19 +1,16 @@
 -- Tests that hold, as the facts that they say.
-use Rattle.std.proofs.Common.{◌≡◌, ◌≢◌, List, [], ◌∷◌, ◌++◌, Option, Some, None, true, false, not, ◌||◌, if◌then◌else◌, refl, ◌∙◌, sym}
-use Rattle.std.specs.Option.{option_or}
+use Rattle.std.proofs.Common.{◌≡◌, ◌≢◌, List, [], ◌∷◌, ◌++◌, Some, None, true, false, not, ◌||◌, if◌then◌else◌, refl}
 use Rattle.sl_ratio.specs.declared.method.Method.{Method}
 use Rattle.sl_ratio.specs.declared.method.Method.TheVariants.{Divisor, Hamilton}
 use Rattle.sl_stages.specs.declared.book.Shape.{Shape}
 use Rattle.sl_stages.specs.declared.book.Shape.TheVariants as shape
-use Rattle.sl_stages.specs.declared.book.Unit.{Unit as Units}
-use Rattle.sl_stages.specs.declared.book.Unit.TheVariants as unit
 use Rattle.sl_stages.specs.declared.book.Axis.{Axis}
 use Rattle.sl_stages.specs.declared.book.Axis.TheVariants as axis
 use Rattle.sl_stages.specs.declared.book.Majority.{Majority}
 use Rattle.sl_stages.specs.declared.book.Majority.TheVariants as majority
 use Rattle.sl_stages.specs.declared.check_fault.CheckFault.{CheckFault}
 use Rattle.sl_stages.specs.Tests.{Test, first_failing}
-use Rattle.sl_stages.specs.Typing.{same_shape, same_unit, shape_over, can_sum, can_split, is_prefer, is_hamilton}
+use Rattle.sl_stages.specs.Typing.{shape_over, can_sum, can_split, is_prefer, is_hamilton}
 use Rattle.sl_check.specs.HasType.{Sums, Splits}
 use Rattle.sl_stages.proofs.Tests.{pass_parts, pass_join}
 

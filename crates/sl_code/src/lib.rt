@@ -25,6 +25,3 @@ pub use lines::listing;
 pub use operand::{EndFault, Entries, Input, Ranking, Rounding, ScopeKind};
 pub use parts::{Operand, Operands};
 pub use spelling::to_bytes;
-
-#[cfg(test)]
-mod tests;

@@ -1,5 +1,5 @@
 -- From the tests of a tree to what the bytes of its text come to.
-use Rattle.std.proofs.Common.{◌≡◌, ℕ, ◌≤◌, ◌∷◌, List, [], length, codes, Result, Ok, Err, Option, Some, None, IfSome, IfOk, subst, Vec, IsTrue, inl, inr, sym, ap, ◌∙◌}
+use Rattle.std.proofs.Common.{◌≡◌, ℕ, ◌≤◌, ◌∷◌, List, [], length, codes, Result, Ok, Err, Option, Some, None, IfSome, IfOk, subst, Vec, inr}
 use Rattle.std.specs.Global.{Global}
 use Rattle.sl_lex.specs.declared.token.Token.{Token}
 use Rattle.sl_lex.specs.Tokens.{AreTokens}
@@ -9,7 +9,6 @@ use Rattle.sl_stages.specs.declared.book.Book.{Book}
 use Rattle.sl_stages.specs.declared.checked.CheckedBook.{CheckedBook}
 use Rattle.sl_stages.specs.declared.check_fault.CheckFault.{CheckFault}
 use Rattle.sl_stages.specs.Books.{book_of}
-use Rattle.sl_stages.specs.Limits.{is_within_limits}
 use Rattle.sl_stages.specs.Typing.{check_fault}
 use Rattle.sl_desk.specs.declared.limits.TheConstants.{MAX_BOOK_BYTES}
 use Rattle.sl_desk.specs.declared.judged.Judged.{Judged}

@@ -1,10 +1,10 @@
 -- Columns of pairs of Land and party: the place of a pair, and all numbers at once.
-use Rattle.std.proofs.Common.{◌≡◌, ℕ, zero, suc, ◌+◌, ◌*◌, ◌/◌, ◌%◌, ◌<◌, ◌≤◌, List, [], ◌∷◌, ◌++◌, map, length, take, get_or, refl, sym, ap, subst, ◌∙◌, inl, inr, arith}
+use Rattle.std.proofs.Common.{◌≡◌, ℕ, ◌+◌, ◌*◌, ◌/◌, ◌%◌, ◌<◌, ◌≤◌, List, [], ◌∷◌, map, length, take, get_or, sym, ap, ◌∙◌, inl, inr, arith}
 use Rattle.std.specs.List.{All, flat_map, range_with_len}
 use Rattle.std.proofs.lemmas.Bool.{cases_lt}
-use Rattle.std.proofs.lemmas.List.{length-append, take-map, map-id}
-use Rattle.std.proofs.lemmas.List.Concat.{flat_map-cons, get_or-flat_map}
-use Rattle.std.proofs.lemmas.List.Elements.{All-nil, All-append, All-map, All-from_get_or}
+use Rattle.std.proofs.lemmas.List.{length-append, map-id}
+use Rattle.std.proofs.lemmas.List.Concat.{get_or-flat_map}
+use Rattle.std.proofs.lemmas.List.Elements.{All-nil, All-append, All-map}
 use Rattle.std.proofs.lemmas.List.FromFn.{length-range_with_len, length-map-range_with_len, get_or-range_with_len, get_or-map-range_with_len, take-map-range_with_len, fill_by_all}
 use Rattle.std.proofs.lemmas.Nat.{div_below, mod_below}
 use Rattle.sl_stages.specs.Election.{Election, lands_of, parties_of}

@@ -1,5 +1,5 @@
 -- A party is eligible as its standing says.
-use Rattle.std.proofs.Common.{◌≡◌, ℕ, Bool, false, ◌||◌, Option, Some, List, [], ◌∷◌, slice_get, get_or, count_by, refl, ap, sym, ◌∙◌}
+use Rattle.std.proofs.Common.{◌≡◌, ℕ, false, ◌||◌, Some, List, [], ◌∷◌, slice_get, count_by, refl, ap, sym, ◌∙◌}
 use Rattle.std.specs.List.{list_any}
 use Rattle.std.proofs.lemmas.Option.{get_or_from_slice_get}
 use Rattle.sl_stages.specs.declared.book.Condition.{Condition}

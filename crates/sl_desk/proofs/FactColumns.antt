@@ -1,25 +1,21 @@
 -- The columns that a book can name: their shapes, and the winners of lists by their places.
-use Rattle.std.proofs.Common.{is_none, ◌≡◌, ◌≢◌, ℕ, ◌+◌, ◌*◌, ◌^◌, ◌<◌, ◌≤◌, ◌&&◌, Bool, true, false, cond, not, List, [], ◌∷◌, Option, Some, None, map, length, get_or, count_by, nat_eq, refl, sym, ap, subst, ◌∙◌, inl, inr, arith}
-use Rattle.std.specs.List.{All, sum_by, range_with_len}
-use Rattle.std.specs.Option.{ForSome}
-use Rattle.std.proofs.lemmas.Bool.{cases_lt, cases_eq}
-use Rattle.std.proofs.lemmas.Bool.Decides.{nat_tests}
+use Rattle.std.proofs.Common.{is_none, ◌≡◌, ℕ, ◌*◌, ◌^◌, ◌≤◌, ◌&&◌, Bool, true, false, cond, not, List, [], Option, Some, None, length, get_or, count_by, refl, sym, subst, inl, inr, arith}
+use Rattle.std.specs.List.{All}
+use Rattle.std.proofs.lemmas.Bool.{cases_lt}
 use Rattle.std.proofs.lemmas.List.{get_or_past}
-use Rattle.std.proofs.lemmas.List.Elements.{All-get_or, All-head, All-tail, All-weaker}
-use Rattle.std.proofs.lemmas.List.Sums.{count_by-le-length, sum_by-cons}
-use Rattle.std.proofs.lemmas.Nat.{same_from_place}
+use Rattle.std.proofs.lemmas.List.Elements.{All-get_or, All-weaker}
+use Rattle.std.proofs.lemmas.List.Sums.{count_by-le-length}
 use Rattle.std.proofs.Math.Nat.{mul-le-mul}
-use Rattle.sl_stages.specs.declared.limits.TheConstants.{MAX_VOTES, MAX_WINS, MAX_LANDS, MAX_PARTIES}
+use Rattle.sl_stages.specs.declared.limits.TheConstants.{MAX_VOTES, MAX_LANDS, MAX_PARTIES}
 use Rattle.sl_stages.specs.declared.book.Condition.{Condition}
 use Rattle.sl_stages.specs.declared.book.Shape.TheVariants as shape
 use Rattle.sl_stages.specs.declared.returns.ListVotes.{ListVotes}
 use Rattle.sl_stages.specs.declared.returns.Win.{Win}
-use Rattle.sl_stages.specs.Votes.{IsListVotes, counted_in}
-use Rattle.sl_stages.specs.Election.{Election, IsElection, IsWin, IsCell, lands_of, parties_of, list_at}
+use Rattle.sl_stages.specs.Votes.{counted_in}
+use Rattle.sl_stages.specs.Election.{Election, IsElection, IsCell, lands_of, parties_of, list_at}
 use Rattle.sl_stages.specs.Facts.{lands, by_list, by_land, is_in, is_of, is_eligible, takes_part, is_on_list, counted_votes, list_winners, outside_winners, independent_winners}
 use Rattle.sl_desk.specs.Shapes.{IsShaped, most_of}
-use Rattle.sl_desk.specs.Places.{list_place}
-use Rattle.sl_desk.proofs.Cells.{length_by_list, length_by_land, by_list_as, all_by_list, all_made}
+use Rattle.sl_desk.proofs.Cells.{length_by_list, length_by_land, all_by_list, all_made}
 
 -- ---- what is counted of a list
 

@@ -1,13 +1,13 @@
 -- The table of a book that keeps its winners fits the returns.
-use Rattle.std.proofs.Common.{◌≡◌, ℕ, List, [], ◌∷◌, ◌++◌, map, length, refl, sym, ap, ◌∙◌}
+use Rattle.std.proofs.Common.{◌≡◌, ℕ, List, [], ◌∷◌, ◌++◌, map, refl, ap, ◌∙◌}
 use Rattle.std.specs.List.{flat_map, filter}
 use Rattle.std.proofs.lemmas.List.{map-append, length-map}
 use Rattle.sl_stages.specs.declared.table.ListSeats.{ListSeats}
 use Rattle.sl_stages.specs.Trees.{BookTree}
 use Rattle.sl_stages.specs.Election.{Election, has_list}
 use Rattle.sl_stages.specs.Facts.{lands, parties}
-use Rattle.sl_stages.specs.Outcomes.{kept_list, kept_lists, kept_place, kept_table}
-use Rattle.sl_table.specs.Fits.{Fits, list_order}
+use Rattle.sl_stages.specs.Outcomes.{kept_list, kept_place, kept_table}
+use Rattle.sl_table.specs.Fits.{Fits}
 
 map-map : {X Y Z : Type 0} (f : X → Y) (g : Y → Z) (h : X → Z) → ((x : X) → g (f x) ≡ h x) → (xs : List X) → map g (map f xs) ≡ map h xs
 map-map f g h same [] = refl

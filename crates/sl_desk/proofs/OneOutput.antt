@@ -1,5 +1,5 @@
 -- Two outputs of the same inputs are one, by the laws of the layers below.
-use Rattle.std.proofs.Common.{◌≡◌, ℕ, ◌<◌, ◌≤◌, ◌⊎◌, List, [], ◌∷◌, length, codes, Option, Some, None, Ok, Err, Result, Bool, true, false, IsTrue, inl, inr, refl, sym, ◌∙◌, ap, subst, arith}
+use Rattle.std.proofs.Common.{◌≡◌, ℕ, List, [], ◌∷◌, length, codes, Option, Some, None, Ok, Err, Result, Bool, true, false, IsTrue, inl, inr, refl, sym, ◌∙◌, ap, subst, arith}
 use Rattle.sl_lex.specs.declared.fault.LexFault.{LexFault}
 use Rattle.sl_lex.specs.declared.token.Token.{Token}
 use Rattle.sl_lex.specs.Tokens as lex
@@ -17,17 +17,15 @@ use Rattle.sl_stages.specs.Limits.{is_within_limits}
 use Rattle.sl_stages.specs.Typing.{check_fault}
 use Rattle.sl_stages.specs.Election.{Election}
 use Rattle.sl_stages.specs.Tables.{SeatTable}
-use Rattle.sl_stages.specs.declared.table.Outcome.{Outcome}
 use Rattle.sl_stages.specs.declared.table.Outcome.TheVariants as outcome
 use Rattle.sl_stages.specs.Outcomes.{is_plain}
 use Rattle.sl_stages.specs.Means.{Means}
 use Rattle.sl_stages.proofs.PlainMeaning.{plain_outcomes}
 use Rattle.sl_table.specs.Short.{short_text}
-use Rattle.sl_desk.specs.declared.limits.TheConstants.{MAX_BOOK_BYTES, MAX_RETURNS_BYTES}
 use Rattle.sl_desk.specs.declared.status.Status.{Status}
 use Rattle.sl_desk.specs.declared.status.Status.TheVariants.{Done, Refused, Legal, Budget}
-use Rattle.sl_desk.specs.Refusals.{numbered, lex_fault, parse_fault, checked_fault, refused, refused_at, too_long}
-use Rattle.sl_desk.specs.Output.{IsBookText, HasLexFault, HasParseFault, HasCheckFault, IsBookRefusal, BookInput, library, text, IsGoodBook, IsBadBook, AreGoodReturns, AreBadReturns, IsTableText, IsCount, IsOutput}
+use Rattle.sl_desk.specs.Refusals.{numbered, lex_fault, parse_fault, checked_fault, refused_at}
+use Rattle.sl_desk.specs.Output.{IsBookText, HasParseFault, HasCheckFault, IsBookRefusal, BookInput, library, text, IsGoodBook, IsBadBook, AreGoodReturns, AreBadReturns, IsTableText, IsCount}
 use Rattle.sl_desk.specs.Laws.{HasOneOutput}
 use Rattle.sl_desk.proofs.OneTable.{one_table}
 

@@ -1,16 +1,10 @@
 -- What the tests of an expression say of its parts.
-use Rattle.std.proofs.Common.{◌≡◌, ℕ, ◌+◌, ◌<◌, Bool, true, false, cond, List, [], ◌∷◌, ◌++◌, Option, Some, None, refl, sym, ap, subst, ◌∙◌, arith}
+use Rattle.std.proofs.Common.{◌≡◌, ℕ, ◌+◌, true, List, ◌++◌, None, subst, arith}
 use Rattle.std.specs.List.{list_any}
-use Rattle.std.proofs.lemmas.Bool.{false≢true}
-use Rattle.std.proofs.lemmas.Option.{none-some}
 use Rattle.sl_stages.specs.declared.book.Axis.{Axis}
-use Rattle.sl_stages.specs.declared.book.Shape.{Shape}
-use Rattle.sl_stages.specs.declared.book.Shape.TheVariants as shape
-use Rattle.sl_stages.specs.declared.check_fault.CheckFault.{CheckFault}
-use Rattle.sl_stages.specs.declared.check_fault.CheckFault.TheVariants as fault
-use Rattle.sl_stages.specs.Trees.{ExprTree, house, counted, winners, outside, independents, population, name, sum, larger, less, split, split_from, grow}
-use Rattle.sl_stages.specs.Tests.{Test, test, first_failing}
-use Rattle.sl_stages.specs.Typing.{Column, is_named, type_of, same_shape, same_unit, can_sum, alike_tests, expr_tests, splits_in}
+use Rattle.sl_stages.specs.Trees.{ExprTree, name, sum, larger, less}
+use Rattle.sl_stages.specs.Tests.{first_failing}
+use Rattle.sl_stages.specs.Typing.{Column, is_named, type_of, can_sum, alike_tests, expr_tests, splits_in}
 use Rattle.sl_stages.proofs.Shapes.{same_shape_is}
 use Rattle.sl_stages.proofs.Tests.{head_holds, pass_parts}
 use Rattle.sl_desk.specs.StageColumns.{IsPlainExpr}

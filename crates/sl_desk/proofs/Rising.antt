@@ -1,5 +1,5 @@
 -- A count of failures that goes up by one, or stands at the greatest number.
-use Rattle.std.proofs.Common.{◌≡◌, ℕ, ◌+◌, ◌-◌, ◌^◌, ◌<◌, ◌≤◌, ◌⊎◌, inl, inr, min, arith, sym, ◌∙◌}
+use Rattle.std.proofs.Common.{◌≡◌, ℕ, ◌-◌, ◌^◌, ◌<◌, ◌⊎◌, arith}
 use Rattle.sl_desk.specs.Failures.{HasFailed, one_more}
 
 rises_or_stands : (n m : ℕ) → m ≡ one_more n → ((n < m) ⊎ (m ≡ 2 ^ 64 - 1))

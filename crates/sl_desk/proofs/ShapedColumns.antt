@@ -1,8 +1,7 @@
 -- Columns of a shape: their cells, and those made from them by sums and number by number.
-use Rattle.std.proofs.Common.{◌≡◌, ℕ, suc, ◌+◌, ◌-◌, ◌*◌, ◌^◌, ◌<◌, ◌≤◌, Bool, true, false, List, [], ◌∷◌, map, max, length, get_or, refl, sym, ap, ◌∙◌, arith, mul-le-mul_left, mul-le-mul_right}
+use Rattle.std.proofs.Common.{◌≡◌, ℕ, suc, ◌+◌, ◌-◌, ◌*◌, ◌^◌, ◌<◌, ◌≤◌, true, List, [], ◌∷◌, map, max, length, get_or, refl, sym, ap, ◌∙◌, arith}
 use Rattle.std.specs.List.{All, sum, zip}
 use Rattle.std.proofs.lemmas.Bool.{false≢true}
-use Rattle.std.proofs.lemmas.List.{length-map}
 use Rattle.std.proofs.lemmas.List.Elements.{All-nil, All-cons, All-head, All-tail, All-get_or}
 use Rattle.std.proofs.lemmas.Nat.{mul-add-lt}
 use Rattle.std.proofs.Math.Nat.{mul_comm}
@@ -11,10 +10,10 @@ use Rattle.sl_stages.specs.declared.book.Axis.{Axis}
 use Rattle.sl_stages.specs.declared.book.Axis.TheVariants as axis
 use Rattle.sl_stages.specs.declared.book.Shape.{Shape}
 use Rattle.sl_stages.specs.declared.book.Shape.TheVariants as shape
-use Rattle.sl_stages.specs.Election.{Election, IsElection, lands_of, parties_of}
+use Rattle.sl_stages.specs.Election.{Election, lands_of, parties_of}
 use Rattle.sl_stages.specs.Meaning.{larger_of, less_of}
 use Rattle.sl_stages.specs.Typing.{can_sum}
-use Rattle.sl_desk.specs.Shapes.{IsShaped, CanSum, size_of, most_of}
+use Rattle.sl_desk.specs.Shapes.{IsShaped, CanSum, most_of}
 use Rattle.sl_desk.proofs.Ranges.{sum_within}
 
 pub cell_below : (e : Election) (land party : ℕ) → land < lands_of e → party < parties_of e → land * parties_of e + party < lands_of e * parties_of e

@@ -1,19 +1,17 @@
 -- Lists of stages, one stage more: their types, their columns, and what a typed book says of each.
-use Rattle.std.proofs.Common.{◌≡◌, ℕ, ◌+◌, ◌<◌, Bool, true, false, ◌&&◌, List, [], ◌∷◌, ◌++◌, Option, Some, None, IsTrue, is_none, not, nat_le, map, length, take, drop, get_or, nat_eq, refl, sym, ap, subst, ◌∙◌, arith}
-use Rattle.std.specs.List.{list_all, list_any}
-use Rattle.std.proofs.lemmas.Bool.{false≢true}
+use Rattle.std.proofs.Common.{◌≡◌, ℕ, ◌+◌, ◌<◌, true, List, [], ◌∷◌, ◌++◌, None, IsTrue, map, length, take, drop, get_or, nat_eq, refl, sym, ap, subst, ◌∙◌, arith}
+use Rattle.std.specs.List.{list_all}
 use Rattle.std.proofs.lemmas.List.{take-append-drop, drop_more, take_more, map_push, length-map, get_or-map}
 use Rattle.std.proofs.lemmas.List.Elements.{All-get_or}
 use Rattle.std.proofs.lemmas.List.Sums.{AllPass-from_list_all}
 use Rattle.std.proofs.lemmas.Bool.Decides.{nat_tests}
-use Rattle.sl_stages.specs.declared.check_fault.CheckFault.TheVariants as fault
 use Rattle.sl_stages.specs.declared.book.Book.{Book}
 use Rattle.sl_stages.specs.declared.book.Stage.{Stage}
 use Rattle.sl_stages.specs.Books.{book_of}
 use Rattle.sl_stages.specs.Election.{Election}
 use Rattle.sl_stages.specs.Trees.{StageTree, BookTree, stage_of}
-use Rattle.sl_stages.specs.Tests.{test, first_failing}
-use Rattle.sl_stages.specs.Typing.{Column, is_named, column_of, columns_of, expr_tests, stages_tests, base_tests, type_of, splits_in, is_seat_number, is_typed, tests_of, condition_tests, version_tests}
+use Rattle.sl_stages.specs.Tests.{first_failing}
+use Rattle.sl_stages.specs.Typing.{Column, column_of, columns_of, expr_tests, stages_tests, base_tests, type_of, splits_in, is_typed, tests_of, condition_tests, version_tests}
 use Rattle.sl_stages.specs.Meaning.{NamedColumn, IsColumn, AreColumns}
 use Rattle.sl_desk.specs.declared.evaluate.stages.StageColumn.{StageColumn}
 use Rattle.sl_desk.specs.Shapes.{IsShaped}

@@ -1,6 +1,6 @@
 -- Winners of lists, counted by the place of their list.
-use Rattle.std.proofs.Common.{◌≡◌, ◌≢◌, ◌⊎◌, ℕ, ◌+◌, ◌*◌, ◌<◌, ◌≤◌, ◌&&◌, Bool, true, false, cond, List, [], ◌∷◌, Option, Some, None, map, length, get_or, count_by, nat_eq, refl, sym, ap, subst, ◌∙◌, eq-eqb, inl, inr, arith}
-use Rattle.std.specs.List.{All, sum_by, range_with_len}
+use Rattle.std.proofs.Common.{◌≡◌, ◌≢◌, ◌⊎◌, ℕ, ◌+◌, ◌*◌, ◌<◌, ◌&&◌, Bool, true, false, cond, List, [], ◌∷◌, Option, Some, None, map, count_by, nat_eq, refl, sym, ap, ◌∙◌, eq-eqb, inl, inr, arith}
+use Rattle.std.specs.List.{All, range_with_len}
 use Rattle.std.specs.Option.{ForSome}
 use Rattle.std.proofs.lemmas.Bool.{cases_eq, ne_eqb}
 use Rattle.std.proofs.lemmas.List.Elements.{All-head, All-tail, All-weaker}
@@ -9,7 +9,7 @@ use Rattle.std.proofs.lemmas.Nat.{same_from_place}
 use Rattle.sl_stages.specs.declared.book.Condition.{Condition}
 use Rattle.sl_stages.specs.declared.returns.Win.{Win}
 use Rattle.sl_stages.specs.Election.{Election, IsElection, IsWin, lands_of, parties_of}
-use Rattle.sl_stages.specs.Facts.{by_list, is_in, is_of, takes_part, list_winners}
+use Rattle.sl_stages.specs.Facts.{is_in, is_of, takes_part, list_winners}
 use Rattle.sl_desk.specs.Places.{list_place}
 use Rattle.sl_desk.proofs.Cells.{by_list_as}
 

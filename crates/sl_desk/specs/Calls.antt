@@ -1,11 +1,10 @@
 -- What a call of the desk says of its readers and its writer (docs/output.md, section 3).
-use Rattle.std.specs.Prelude.{◌≡◌, ℕ, List, Option, Some, None, ⊤}
+use Rattle.std.specs.Prelude.{ℕ, List, Option, Some, None, ⊤}
 use Rattle.std.specs.Option.{option_map}
 use Rattle.std.specs.Io.KnownBytes.{Appends}
 use Rattle.sl_desk.specs.declared.source.BookSource.{BookSource}
 use Rattle.sl_desk.specs.declared.source.BookSource.TheVariants.{Library, Reader}
 use Rattle.sl_desk.specs.declared.status.Status.{Status}
-use Rattle.sl_desk.specs.declared.status.Input.{Input}
 use Rattle.sl_desk.specs.declared.status.Input.TheVariants as input
 use Rattle.sl_desk.specs.declared.status.DeskError.{DeskError}
 use Rattle.sl_desk.specs.declared.status.DeskError.TheVariants.{Read, Write, NoMemory}

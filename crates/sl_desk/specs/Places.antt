@@ -1,7 +1,6 @@
 -- Where a winner counts in a column of lists.
-use Rattle.std.specs.Prelude.{ℕ, ◌+◌, ◌*◌, Bool, List, Option, Some, None, if◌then◌else◌}
+use Rattle.std.specs.Prelude.{ℕ, ◌+◌, ◌*◌, List, Option, Some, None, if◌then◌else◌}
 use Rattle.sl_stages.specs.declared.book.Condition.{Condition}
-use Rattle.sl_stages.specs.declared.returns.Win.{Win}
 use Rattle.sl_stages.specs.Election.{Election, parties_of}
 use Rattle.sl_stages.specs.Facts.{takes_part}
 

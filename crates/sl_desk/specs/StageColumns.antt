@@ -3,7 +3,7 @@ use Rattle.std.specs.Prelude.{◌≡◌, ℕ, List, [], ◌∷◌, None, map}
 use Rattle.sl_stages.specs.Trees.{ExprTree, StageTree, stage_of}
 use Rattle.sl_stages.specs.Election.{Election}
 use Rattle.sl_stages.specs.Tests.{first_failing}
-use Rattle.sl_stages.specs.Typing.{Column, columns_of, expr_tests, splits_in, type_of}
+use Rattle.sl_stages.specs.Typing.{Column, columns_of, expr_tests, splits_in}
 use Rattle.sl_stages.specs.Books.{book_of}
 use Rattle.sl_stages.specs.Meaning.{NamedColumn, IsColumn}
 use Rattle.sl_desk.specs.declared.evaluate.stages.Evaluator.{Evaluator}

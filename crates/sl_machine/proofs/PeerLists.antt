@@ -1,61 +1,78 @@
--- The peers of the table that is on.
-use Rattle.std.proofs.Common.{◌≡◌, ℕ, ◌+◌, ◌<◌, ◌∷◌, ◌++◌, [], List, length, map, take, get_or, slice_get, Option, Some, None, All, option_map, refl, sym, ap, subst, ◌∙◌, arith}
-use Rattle.std.specs.Option.{option_map_or, ForSome}
-use Rattle.std.specs.List.{filter}
-use Rattle.std.proofs.lemmas.List.{take_more, take_all, map-append}
-use Rattle.std.proofs.lemmas.List.Elements.{All-get_or, All-nil, All-filter}
-use Rattle.std.proofs.lemmas.List.Sorted.{All-permutation}
-use Rattle.std.proofs.lemmas.Option.{same_Some, slice_get_within, get_or_from_slice_get}
+-- Entries that are taken off a table from the front of its ranking, as many as there are peers.
+use Rattle.std.proofs.Common.{◌≡◌, ℕ, ◌+◌, ◌<◌, ◌∷◌, ◌++◌, [], List, length, map, take, drop, get_or, Option, Some, None, All, IsPermutation, IsSome, refl, sym, ap, subst, ◌∙◌, arith}
+use Rattle.std.specs.Option.{option_map, ForSome}
+use Rattle.std.proofs.lemmas.List.{length-take, length-drop, drop-drop, drop_more, map_more}
+use Rattle.std.proofs.lemmas.List.Sorted.{All-permutation, IsPermutation-sym}
+use Rattle.std.proofs.lemmas.Option.{same_Some}
 use Rattle.sl_ratio.specs.declared.entry.Entry.{Entry}
+use Rattle.sl_ratio.specs.Entry.{entry_cmp}
+use Rattle.sl_ratio.specs.Quotient.{FitsRatio}
 use Rattle.sl_prio.specs.Ranking.{ranked}
-use Rattle.sl_prio.specs.Prio.{top, peers, has_quotient_of}
+use Rattle.sl_prio.specs.Prio.{top, peers}
+use Rattle.sl_prio.proofs.Fronts.{ranked_behind, peers_in_front}
+use Rattle.sl_prio.proofs.Greatest.{greatest-None}
+use Rattle.sl_prio.proofs.Orders.{entry_order}
 use Rattle.sl_prio.proofs.Rankings.{ranked-permutation}
 use Rattle.sl_stages.specs.declared.fault.Item.{Item}
 use Rattle.sl_stages.specs.Election.{Election}
-use Rattle.sl_code.specs.declared.operand.Entries.{Entries}
+use Rattle.sl_machine.specs.declared.priority.TableKind.{TableKind}
 use Rattle.sl_machine.specs.State.{PriorityTable}
 use Rattle.sl_machine.specs.Places.{item_of}
 use Rattle.sl_machine.specs.Safe.{entries_in}
+use Rattle.sl_machine.proofs.Priorities.{alike, table_with}
 
-abbrev pub peers_in : Option PriorityTable → List Entry
-peers_in None = []
-peers_in (Some t) = peers t.contents
+top_of : (xs : List Entry) (first : Option Entry) → top xs ≡ first → 0 < length (ranked xs) → IsSome first
+top_of xs (Some x) h some = refl
+top_of xs None h some =
+    let none : length (ranked xs) ≡ 0 = ap (λ ys. length (ranked ys)) (greatest-None entry_cmp entry_order xs h) in
+    absurd (omega arith)
 
-All-peers : (P : Entry → Type 0) (xs : List Entry) (first : Option Entry) → All P xs → All P (option_map_or (λ t. ranked (filter (has_quotient_of t) xs)) first [])
-All-peers P xs None all = All-nil P
-All-peers P xs (Some t) all = All-permutation P (filter (has_quotient_of t) xs) _ (ranked-permutation (filter (has_quotient_of t) xs)) (All-filter (has_quotient_of t) P xs all)
+module _ (xs : List Entry) (ratios : All (λ x. FitsRatio x.ratio) xs) where
+  -- while fewer entries are taken than there are peers, there is a top
+  pub top_left : (ys : List Entry) (i : ℕ) → i < length (peers xs) → ranked ys ≡ drop i (ranked xs) → IsSome (top ys)
+  top_left ys i more rest =
+      let peers_fit = ap length (peers_in_front xs ratios) ∙ length-take (length (peers xs)) (ranked xs) in
+      let long = ap length rest ∙ length-drop i (ranked xs) in
+      top_of ys (top ys) refl (omega (arith, peers_fit, long))
 
--- each peer is an entry of the table
-pub peer_within : (e : Election) (k : Entries) (table : Option PriorityTable) (i : ℕ) (x : Entry) (o : Option Entry)
-    → option_map (λ t. t.entries) table ≡ Some k → ForSome table (λ t. o ≡ slice_get (peers t.contents) i) → o ≡ Some x
-    → ForSome table (λ t. All (λ x. x.index < entries_in e t.entries) t.contents) → x.index < entries_in e k
-peer_within e k None i x o kind at is all = cc
-peer_within e k (Some t) i x o kind at is all =
-    let P : Entry → Type 0 = λ x. x.index < entries_in e t.entries in
-    let held : All P (peers t.contents) = All-peers P t.contents (top t.contents) (all t refl) in
-    let found : slice_get (peers t.contents) i ≡ Some x = sym (at t refl) ∙ is in
-    let there = slice_get_within (peers t.contents) i x found in
-    let here : get_or (peers t.contents) i x ≡ x = get_or_from_slice_get (peers t.contents) i x x found in
-    subst (λ (k : Entries). x.index < entries_in e k) (same_Some t.entries k kind) (subst P here (All-get_or P (peers t.contents) i x there held))
+  -- as many as there are peers are the peers
+  pub peers_taken : peers (ranked xs) ≡ take (length (peers xs)) (ranked xs)
+  peers_taken = sym (alike xs).same_peers ∙ peers_in_front xs ratios
 
--- one peer more
-pub peer_more : (f : Entry → Item) (table : Option PriorityTable) (k : Entries) (i : ℕ) (x : Entry) (o : Option Entry) (items : List Item)
-    → option_map (λ t. t.entries) table ≡ Some k → ForSome table (λ t. o ≡ slice_get (peers t.contents) i) → o ≡ Some x
-    → items ≡ map f (take i (peers_in table)) → items ++ f x ∷ [] ≡ map f (take (i + 1) (peers_in table))
-peer_more f None k i x o items kind at is h = cc
-peer_more f (Some t) k i x o items kind at is h =
-    let found : slice_get (peers t.contents) i ≡ Some x = sym (at t refl) ∙ is in
-    let there = slice_get_within (peers t.contents) i x found in
-    let here : get_or (peers t.contents) i x ≡ x = get_or_from_slice_get (peers t.contents) i x x found in
-    let more = take_more (peers t.contents) i x there ∙ ap (λ (y : Entry). take i (peers t.contents) ++ y ∷ []) here in
-    ap (λ (ys : List Item). ys ++ f x ∷ []) h ∙ sym (ap (map f) more ∙ map-append f (take i (peers t.contents)) (x ∷ []))
+-- ys is left of a table that held xs, from which so many entries were taken; x is taken next, and leaves zs
+module _ (xs ys zs : List Entry) (x : Entry) (i : ℕ) (first : top ys ≡ Some x) (left : IsPermutation ys (x ∷ zs)) (rest : ranked ys ≡ drop i (ranked xs)) where
+  next : drop i (ranked xs) ≡ x ∷ ranked zs
+  next = sym rest ∙ ranked_behind x ys zs first left
 
--- all peers
-pub peers_all : (e : Election) (table : Option PriorityTable) (k : Entries) (n : ℕ) (items : List Item)
-    → option_map (λ t. t.entries) table ≡ Some k → ForSome table (λ t. n ≡ length (peers t.contents))
-    → items ≡ map (λ x. item_of e k x.index) (take n (peers_in table))
-    → option_map (λ t. map (λ x. item_of e t.entries x.index) (peers t.contents)) table ≡ Some items
-peers_all e None k n items kind long h = cc
-peers_all e (Some t) k n items kind long h =
-    let all : take n (peers t.contents) ≡ peers t.contents = ap (λ (m : ℕ). take m (peers t.contents)) (long t refl) ∙ take_all (length (peers t.contents)) (peers t.contents) (omega arith) in
-    ap Some (sym (h ∙ ap (map (λ x. item_of e k x.index)) all ∙ ap (λ (j : Entries). map (λ x. item_of e j x.index) (peers t.contents)) (sym (same_Some t.entries k kind))))
+  pub rest_behind : ranked zs ≡ drop (i + 1) (ranked xs)
+  rest_behind = ap (drop 1) (sym next) ∙ drop-drop 1 i (ranked xs)
+
+  pub one_more : (f : Entry → Item) (items : List Item) → items ≡ map f (take i (ranked xs)) → items ++ f x ∷ [] ≡ map f (take (i + 1) (ranked xs))
+  one_more f items so_far =
+      let long = sym (length-drop i (ranked xs)) ∙ ap length next in
+      let within : i < length (ranked xs) = omega (arith, long) in
+      let split = drop_more (ranked xs) i x within in
+      let here : get_or (ranked xs) i x ≡ x = cc (next, split) in
+      ap (λ ys. ys ++ f x ∷ []) so_far ∙ ap (λ y. map f (take i (ranked xs)) ++ f y ∷ []) (sym here) ∙ sym (map_more f (ranked xs) i x within)
+
+-- a table of that kind, seen as it is while it is on
+module _ (e : Election) (kind : Option TableKind) (k : TableKind) (xs : List Entry) (now : Option PriorityTable) (on : kind ≡ Some k) (view : option_map (λ k. table_with k xs) kind ≡ now) where
+  seen : now ≡ Some (table_with k xs)
+  seen = sym view ∙ ap (option_map (λ k. table_with k xs)) on
+
+  pub range_held : ForSome now (λ t. All (λ x. x.index < entries_in e t.entries) t.contents) → All (λ x. x.index < entries_in e k.entries) xs
+  range_held range =
+      let P : Entry → Type 0 = λ x. x.index < entries_in e k.entries in
+      All-permutation P (ranked xs) xs (IsPermutation-sym xs (ranked xs) (ranked-permutation xs)) (range (table_with k xs) seen)
+
+  pub peers_told : (ps : List Entry) (items : List Item) → peers (ranked xs) ≡ ps → items ≡ map (λ x. item_of e k.entries x.index) ps
+      → option_map (λ t. map (λ x. item_of e t.entries x.index) (peers t.contents)) now ≡ Some items
+  peers_told ps items all told = rw seen (ap (λ qs. Some (map (λ x. item_of e k.entries x.index) qs)) all ∙ ap Some (sym told))
+
+  -- the table that is left when the peers are taken
+  pub rest_told : (ys : List Entry) (still : Option TableKind) → still ≡ Some k → ranked ys ≡ drop (length (peers xs)) (ranked xs)
+      → ForSome now (λ t. option_map (λ k. table_with k ys) still ≡ Some (record t { contents = drop (length (peers t.contents)) t.contents }))
+  rest_told ys still same rest t is =
+      let left : ranked ys ≡ drop (length (peers (ranked xs))) (ranked xs) = rest ∙ ap (λ ps. drop (length ps) (ranked xs)) (alike xs).same_peers in
+      let Left : PriorityTable → Type 0 = λ t. Some (table_with k ys) ≡ Some (record t { contents = drop (length (peers t.contents)) t.contents }) in
+      rw same (subst Left (same_Some (table_with k xs) t (sym seen ∙ is)) (ap (λ zs. Some (record { entries = k.entries; ranking = k.ranking; contents = zs })) left))

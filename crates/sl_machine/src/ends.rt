@@ -1,26 +1,25 @@
 //! Winners who are seated, and the ends of a run.
 
-ghost use Rattle.std.specs.Prelude.{◌≡◌, ◌<◌, ℕ, None, Some, IsTrue, IsSome, IfOk, map, length};
-ghost use Rattle.std.specs.Option.{option_map, option_and_then};
+ghost use Rattle.std.specs.Prelude.{◌≡◌, ◌<◌, ℕ, None, Some, IsTrue, IsSome, IfOk, length};
+ghost use Rattle.std.specs.Option.{option_and_then};
 ghost use Rattle.sl_verify.specs.declared.known.TheConstants.{REGISTERS};
 ghost use Rattle.sl_verify.specs.Needs.{has_stage};
 ghost use Rattle.sl_code.specs.Codes.{CountingCode};
 ghost use Rattle.sl_code.specs.declared.instr.Instr.TheVariants as instr;
-ghost use Rattle.sl_prio.specs.Prio.{top, peers};
+ghost use Rattle.sl_prio.specs.Prio.{top};
 ghost use Rattle.sl_stages.specs.Election.{Election, IsElection, wins_of};
 ghost use Rattle.sl_machine.specs.State.{State, Halted, with_place};
-ghost use Rattle.sl_machine.specs.Places.{scope_at, item_of};
+ghost use Rattle.sl_machine.specs.Places.{scope_at};
 ghost use Rattle.sl_machine.specs.Effects.{Goes, Ends, effect, given, faults, kind_of};
 ghost use Rattle.sl_machine.specs.Safe.{IsInRange};
 ghost use Rattle.sl_machine.specs.Stores.{state_of, sizes_of, effect_of};
 
-use crate::cursors::item_of;
 use crate::records::stage_number;
 use crate::step::{End, Next};
-use crate::store::{Store, append};
+use crate::store::Store;
 use sl_code::{Code, EndFault, ScopeKind};
 use sl_ratio::NoMemory;
-use sl_stages::{FaultKind, Item, Items, LegalFault, Placed, Returns};
+use sl_stages::{FaultKind, Items, LegalFault, Placed, Returns};
 
 /// Ends with the seats of the lists.
 pub(crate) fn halt(slot: u8) -> Next
@@ -84,24 +83,9 @@ impl Store {
         self.fault(code, stage, scope, kind_of(fault))
     }
 
-    // The items of the peers.
-    fn peers(&self, returns: &Returns) -> Result<Vec<Item>, NoMemory>
-        requires table { IsSome self.now.table }
-        requires range { IsInRange returns.now (state_of self.now) }
-        ensures { IfOk result (λ items. option_map (λ t. map (λ x. item_of returns.now t.entries x.index) (peers t.contents)) self.now.table ≡ Some items.items) }
-    {
-        let entries = self.table.entries().unwrap();
-        let mut items = Vec::new(self.alloc);
-        for i in 0..self.table.peers() {
-            let peer = self.table.member(i).unwrap();
-            append(&mut items, item_of(returns, entries, peer.index as usize))?;
-        }
-        Ok(items)
-    }
-
-    /// Ends with a tie among the peers.
+    /// Ends with a tie among the peers, which are taken off the table.
     pub(crate) fn end_with_tie(
-        &self,
+        &mut self,
         code: &Code,
         returns: &Returns,
         stage: u8,
@@ -109,14 +93,15 @@ impl Store {
         seats: u8,
     ) -> Result<Next, NoMemory>
         requires stage { IsTrue (has_stage code.now stage) }
-        requires scope { IsSome (scope_at scope (state_of self.now)) }
+        requires scope { IsSome (scope_at scope (state_of self.old)) }
         requires seats { seats < REGISTERS }
-        requires top { IsSome (option_and_then (λ t. top t.contents) self.now.table) }
-        requires range { IsInRange returns.now (state_of self.now) }
-        ensures { IfOk result (λ next. effect_of next (state_of self.now)
-            ≡ effect code.now returns.now (instr.Tie stage scope seats) (state_of self.now)) }
+        requires top { IsSome (option_and_then (λ t. top t.contents) self.old.table) }
+        requires range { IsInRange returns.now (state_of self.old) }
+        ensures follows { IfOk result (λ next. effect_of next (state_of self.new)
+            ≡ effect code.now returns.now (instr.Tie stage scope seats) (state_of self.old)) }
+        ensures kept { sizes_of self.new ≡ sizes_of self.old }
     {
-        let names = Items::new(self.peers(returns)?);
+        let names = Items::new(self.table.take_peers(self.alloc, returns)?);
         let seats = self.register(seats);
         Ok(self.fault(code, stage, scope, FaultKind::Tie { seats, names }))
     }

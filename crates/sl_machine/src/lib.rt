@@ -17,6 +17,3 @@ mod table;
 
 pub use machine::{Ending, budget, run};
 pub use memory::Memory;
-
-#[cfg(test)]
-mod tests;

@@ -1,21 +1,23 @@
 //! The priority table, which is on or off.
 
-ghost use Rattle.std.specs.Prelude.{◌≡◌, ◌<◌, ℕ, All, Some, None, [], List, IsSome, OnOk, length, slice_get, option_map};
+ghost use Rattle.std.specs.Prelude.{◌≡◌, ◌<◌, ℕ, All, Some, None, [], List, IsSome, IfOk, OnOk, length, map, drop, option_map};
 ghost use Rattle.std.specs.Option.{ForSome, option_and_then};
 ghost use Rattle.sl_code.specs.declared.operand.Ranking.TheVariants as ranking;
 ghost use Rattle.sl_prio.specs.Prio.{top, peers, is_covered};
 ghost use Rattle.sl_prio.specs.Lot.{drawn};
 ghost use Rattle.sl_stages.specs.Election.{Election};
 ghost use Rattle.sl_machine.specs.State.{State};
-ghost use Rattle.sl_machine.specs.Places.{at_entry};
+ghost use Rattle.sl_machine.specs.Places.{at_entry, item_of};
 ghost use Rattle.sl_machine.specs.Effects.{Goes, given, takes, mark_of};
 ghost use Rattle.sl_machine.specs.Safe.{entries_in};
 ghost use Rattle.sl_machine.specs.Tables.{FitsMark, with_entry};
 
+use crate::cursors::item_of;
+use crate::store::append;
 use sl_code::{Entries, Ranking};
 use sl_prio::Prio;
 use sl_ratio::{Entry, NoMemory, Ratio};
-use sl_stages::Mark;
+use sl_stages::{Item, Mark, Returns};
 use std::alloc::Global;
 use std::marker::Model;
 
@@ -47,12 +49,13 @@ impl Model for PriorityTable {
 
     ghost Value = { Option Table };
 
-    ghost use Rattle.sl_machine.specs.Safe.{entries_in};
+    ghost use Rattle.std.specs.Prelude.{All};
+    ghost use Rattle.sl_ratio.specs.Quotient.{FitsRatio};
     ghost use Rattle.sl_machine.specs.Tables.{table_in, HasMarks};
 
     ghost view = { table_in };
 
-    ghost invariant = { HasMarks };
+    ghost invariant = { λ t. HasMarks t × All (λ x. FitsRatio x.ratio) t.prio };
 }
 
 // The mark of an entry that is taken from a table with that ranking.
@@ -130,6 +133,8 @@ impl PriorityTable {
         requires { ForSome self.old (λ t. FitsMark t.ranking entry.ratio) }
         ensures { OnOk result (self.new ≡ option_map (with_entry entry) self.old) }
     {
+        // no ratio has numerator 0, so the peers stand first in a ranking
+        prove!(entry.ratio.num() > 0);
         self.prio.put(entry)
     }
 
@@ -138,13 +143,6 @@ impl PriorityTable {
         ensures { ForSome self.now (λ t. result ≡ length (peers t.contents)) }
     {
         self.prio.peers()
-    }
-
-    /// The peer at place `i`, from the greatest.
-    pub(crate) fn member(&self, i: usize) -> Option<Entry>
-        ensures { ForSome self.now (λ t. result ≡ slice_get (peers t.contents) i) }
-    {
-        self.prio.member(i)
     }
 
     /// Whether a lot names every peer.
@@ -176,5 +174,32 @@ impl PriorityTable {
         let kind = self.kind.unwrap();
         let entry = self.prio.take_lot(lot).unwrap();
         kind.taken(entry)
+    }
+
+    /// Takes the peers, and answers their items, from the greatest on.
+    ///
+    /// # Errors
+    ///
+    /// Want of memory.
+    pub(crate) fn take_peers(
+        &mut self,
+        alloc: Global,
+        returns: &Returns,
+    ) -> Result<Vec<Item>, NoMemory>
+        requires table { IsSome self.old }
+        requires range { ForSome self.old (λ t. All (λ x. x.index < entries_in returns.now t.entries) t.contents) }
+        ensures items { IfOk result (λ items. option_map (λ t. map (λ x. item_of returns.now t.entries x.index) (peers t.contents)) self.old ≡ Some items.items) }
+        ensures rest { OnOk result (ForSome self.old (λ t. self.new ≡ Some (record t { contents = drop (length (peers t.contents)) t.contents }))) }
+    {
+        let kind = self.kind.unwrap();
+        let mut items = Vec::new(alloc);
+        for _ in 0..self.prio.peers() {
+            let peer = self.prio.take().unwrap();
+            append(
+                &mut items,
+                item_of(returns, kind.entries, peer.index as usize),
+            )?;
+        }
+        Ok(items)
     }
 }

@@ -1,11 +1,11 @@
 -- The tokens of a text are what the parser needs of them.
-use Rattle.std.proofs.Common.{◌≡◌, ℕ, List, [], ◌∷◌, refl}
+use Rattle.std.proofs.Common.{ℕ, List, [], ◌∷◌, refl}
 use Rattle.sl_lex.specs.declared.token.Token.{Token}
 use Rattle.sl_lex.specs.declared.token.Kind.{Kind}
 use Rattle.sl_lex.specs.declared.token.Kind.TheVariants as kinds
 use Rattle.sl_lex.specs.Pieces.{IsPiece, text as text_form}
 use Rattle.sl_lex.specs.Spans as lex
-use Rattle.sl_parse.specs.Spans.{IsQuoted, FitsKind, IsSpan, AreSpans}
+use Rattle.sl_parse.specs.Spans.{IsQuoted, FitsKind, AreSpans}
 
 quoted_of : (bytes : List ℕ) → IsPiece text_form bytes → IsQuoted bytes
 quoted_of [] h = absurd h

@@ -12,6 +12,3 @@ mod token;
 
 pub use fault::{Cause, ParseFault};
 pub use parser::parse;
-
-#[cfg(test)]
-mod tests;

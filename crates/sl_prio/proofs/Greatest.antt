@@ -32,7 +32,7 @@ le_reverse Greater Less e h = refl
 le_reverse Greater Equal e h = cc
 le_reverse Greater Greater e h = cc
 
-both_le : (r s : Ordering) → r ≡ ordering_reverse s → is_le r ≡ true → is_le s ≡ true → r ≡ Equal
+pub both_le : (r s : Ordering) → r ≡ ordering_reverse s → is_le r ≡ true → is_le s ≡ true → r ≡ Equal
 both_le Equal s e h k = refl
 both_le Less Less e h k = cc
 both_le Less Equal e h k = cc

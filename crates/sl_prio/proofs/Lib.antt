@@ -5,3 +5,4 @@ pub mod Orders
 pub mod Tables
 pub mod Draws
 pub mod LawProofs
+pub mod Fronts

@@ -1,9 +1,10 @@
 -- The laws of the definitions, each of them the contract of a function of `laws`.
-use Rattle.std.specs.Prelude.{◌≡◌, ℕ, List, [], ◌∷◌, IsTrue, All, Contains, MatchOption, IsPermutation, slice_get}
+use Rattle.std.specs.Prelude.{◌≡◌, ℕ, List, [], ◌∷◌, IsTrue, All, Contains, MatchOption, IsPermutation, length, slice_get, take}
 use Rattle.std.specs.List.Sorted.{IsSorted}
 use Rattle.std.specs.Ordering.{is_le, flip_args}
 use Rattle.sl_ratio.specs.declared.entry.Entry.{Entry}
 use Rattle.sl_ratio.specs.Entry.{entry_cmp}
+use Rattle.sl_ratio.specs.Quotient.{FitsRatio}
 use Rattle.sl_prio.specs.Ranking.{ranked}
 use Rattle.sl_prio.specs.Prio.{top, peers, is_covered}
 use Rattle.sl_prio.specs.Lot.{lot_cmp, drawn}
@@ -39,6 +40,10 @@ Rankings = (xs : List Entry) → IsRanking xs (ranked xs)
 -- the first of the peers is the top
 abbrev pub FirstPeers : Type 0
 FirstPeers = (xs : List Entry) → slice_get (peers xs) 0 ≡ top xs
+
+-- the peers are those that come first in the ranking
+abbrev pub PeersInFront : Type 0
+PeersInFront = (xs : List Entry) → All (λ entry. FitsRatio entry.ratio) xs → peers xs ≡ take (length (peers xs)) (ranked xs)
 
 -- a lot draws a peer before which it draws no other, and only a list without entries lacks one
 abbrev pub Draws : Type 0

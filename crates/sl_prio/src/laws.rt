@@ -1,6 +1,6 @@
 //! Laws of the definitions. Each function does nothing: its contract is the law.
 
-ghost use Rattle.sl_prio.specs.Laws.{OrderIsFree, Remainders, Tops, Rankings, FirstPeers, Draws};
+ghost use Rattle.sl_prio.specs.Laws.{OrderIsFree, Remainders, Tops, Rankings, FirstPeers, PeersInFront, Draws};
 
 /// Tables that hold the same entries have the same top, the same peers and the same choice of each lot, in whatever order the
 /// entries are listed.
@@ -26,6 +26,11 @@ pub fn rankings()
 /// The first of the peers is the top.
 pub fn first_peers()
     ensures { FirstPeers }
+{}
+
+/// The peers are those that come first in the ranking.
+pub fn peers_in_front()
+    ensures { PeersInFront }
 {}
 
 /// A lot draws a peer before which it draws no other, and only an empty table has none.

@@ -1,5 +1,5 @@
 -- Lists of tests, one after the other, and what they say of a record that passes them.
-use Rattle.std.proofs.Common.{◌≡◌, Bool, true, false, List, [], ◌∷◌, ◌++◌, Some, None, refl, sym, subst, inl, inr, ◌∙◌, cond, Result, Ok, Err, IfErr, OnOk, IsOk}
+use Rattle.std.proofs.Common.{◌≡◌, Bool, true, false, List, ◌++◌, Some, refl, sym, subst, inl, inr, ◌∙◌, Result, Ok, Err, IfErr, OnOk, IsOk}
 use Rattle.std.specs.Result.{IsErrAnd}
 use Rattle.std.proofs.lemmas.Bool.{false≢true}
 use Rattle.std.proofs.lemmas.Option.{none-some}

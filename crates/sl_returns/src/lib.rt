@@ -13,6 +13,3 @@ mod read;
 pub use builder::ReturnsBuilder;
 pub use fault::{FaultKind, ReturnsFault};
 pub use read::read_returns;
-
-#[cfg(test)]
-mod tests;

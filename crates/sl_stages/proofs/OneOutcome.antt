@@ -1,8 +1,7 @@
 -- A typed book comes to exactly one outcome on an election.
-use Rattle.std.proofs.Common.{◌≡◌, ℕ, ◌+◌, ◌≤◌, true, List, [], ◌∷◌, ◌++◌, Option, Some, None, is_none, length, map, min, arith, refl, sym, ap, subst, ◌∙◌}
+use Rattle.std.proofs.Common.{◌≡◌, ℕ, ◌+◌, ◌≤◌, true, List, [], ◌∷◌, ◌++◌, None, length, map, min, arith, refl, sym, ap, subst, ◌∙◌}
 use Rattle.std.specs.Prelude.{slice_get, filter_map, unwrap_or, option_map}
 use Rattle.std.specs.List.{All, zip, enumerate_from}
-use Rattle.std.proofs.lemmas.Bool.{false≢true}
 use Rattle.std.proofs.lemmas.List.{length-map}
 use Rattle.std.proofs.lemmas.List.Elements.{All-nil, All-cons, All-head, All-tail, All-filter, All-get_or, All-map}
 use Rattle.sl_stages.specs.declared.book.Base.{Base}
@@ -10,14 +9,13 @@ use Rattle.sl_stages.specs.declared.book.Base.TheVariants as base
 use Rattle.sl_stages.specs.declared.book.LastClause.{LastClause}
 use Rattle.sl_stages.specs.declared.book.Seating.{Seating}
 use Rattle.sl_stages.specs.declared.book.Seating.TheVariants as seating
-use Rattle.sl_stages.specs.declared.check_fault.CheckFault.{CheckFault}
 use Rattle.sl_stages.specs.declared.check_fault.CheckFault.TheVariants as fault
 use Rattle.sl_stages.specs.declared.returns.Win.{Win}
 use Rattle.sl_stages.specs.declared.table.Outcome.{Outcome}
 use Rattle.sl_stages.specs.declared.table.Outcome.TheVariants as outcome
 use Rattle.sl_stages.specs.Trees.{StageTree, BookTree}
 use Rattle.sl_stages.specs.Election.{Election, IsElection, IsWin}
-use Rattle.sl_stages.specs.Tests.{first_failing, Test, test}
+use Rattle.sl_stages.specs.Tests.{first_failing, test}
 use Rattle.sl_stages.specs.Typing.{is_seat_number, columns_of, column_of as typed_column, base_tests, tests_of, version_tests, condition_tests, stages_tests, is_typed}
 use Rattle.sl_stages.specs.Meaning.{IsColumn}
 use Rattle.sl_stages.specs.Outcomes.{base_of}

@@ -1,6 +1,6 @@
 -- An expression of a typed book comes to exactly one result, and its stages to exactly one run.
 use Rattle.std.proofs.Common.{◌≡◌, ℕ, ◌&&◌, ◌||◌, Bool, true, false, not, List, [], ◌∷◌, ◌++◌, Option, Some, None, length, refl, sym, ap, subst, ◌∙◌, inl, inr}
-use Rattle.std.specs.Prelude.{find, slice_index, option_map, if◌then◌else◌}
+use Rattle.std.specs.Prelude.{find, slice_index, option_map}
 use Rattle.std.specs.List.{AllZip, list_any}
 use Rattle.std.specs.Str.{bytes_eq}
 use Rattle.std.proofs.lemmas.Bool.{cases_Bool, cond-true, cond-false, false≢true, both_ways, or_cases, not-true, and_parts}
@@ -11,11 +11,10 @@ use Rattle.sl_ratio.specs.declared.method.Method.TheVariants as by
 use Rattle.sl_stages.specs.declared.book.Majority.{Majority}
 use Rattle.sl_stages.specs.declared.book.Shape.{Shape}
 use Rattle.sl_stages.specs.declared.book.Shape.TheVariants as shape
-use Rattle.sl_stages.specs.declared.check_fault.CheckFault.{CheckFault}
 use Rattle.sl_stages.specs.declared.fault.FaultKind.TheVariants as fault
 use Rattle.sl_stages.specs.Trees.{ExprTree, house, counted, winners, outside, independents, population, name, sum as sum_tree, larger, less, split, split_from, grow, StageTree, BookTree}
 use Rattle.sl_stages.specs.Election.{Election}
-use Rattle.sl_stages.specs.Tests.{Test, first_failing}
+use Rattle.sl_stages.specs.Tests.{first_failing}
 use Rattle.sl_stages.specs.Typing.{Column as TypedColumn, expr_tests, stages_tests, is_named, is_hamilton, is_prefer, column_of as typed_column}
 use Rattle.sl_stages.proofs.Tests.{head_holds, pass_parts}
 use Rattle.sl_stages.specs.Meaning.{NamedColumn, is_column_of, sum_over, larger_of, less_of}

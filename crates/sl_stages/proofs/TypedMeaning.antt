@@ -12,7 +12,6 @@ use Rattle.sl_ratio.specs.declared.limits.TheConstants.{MAX_SEATS}
 use Rattle.sl_stages.specs.declared.book.Majority.{Majority}
 use Rattle.sl_stages.specs.declared.book.Shape.{Shape}
 use Rattle.sl_stages.specs.declared.book.Shape.TheVariants as shape
-use Rattle.sl_stages.specs.declared.book.Unit.{Unit as Units}
 use Rattle.sl_stages.specs.declared.book.Unit.TheVariants as unit
 use Rattle.sl_stages.specs.declared.book.ColumnType.{ColumnType}
 use Rattle.sl_stages.specs.Trees.{ExprTree, house, counted, winners, outside, independents, population, name, sum, larger, less, split, split_from, grow, StageTree, BookTree}

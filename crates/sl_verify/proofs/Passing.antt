@@ -1,5 +1,5 @@
 -- Tests that hold, as the facts that they say.
-use Rattle.std.proofs.Common.{◌≡◌, ℕ, Bool, true, false, ◌&&◌, List, [], ◌∷◌, ◌++◌, Option, Some, None, refl, ◌∙◌, sym}
+use Rattle.std.proofs.Common.{◌≡◌, ℕ, Bool, true, false, ◌&&◌, [], ◌∷◌, Option, Some, None, refl}
 use Rattle.std.specs.Prelude.{IsTrue}
 use Rattle.std.specs.Option.{option_map_or}
 use Rattle.sl_code.specs.Codes.{CountingCode}
@@ -7,7 +7,7 @@ use Rattle.sl_code.specs.declared.kinds.Kinds.{Kinds}
 use Rattle.sl_verify.specs.declared.fault.VerifyFault.{VerifyFault}
 use Rattle.sl_verify.specs.Kinds.{implies}
 use Rattle.sl_verify.specs.WellKinded.{declared_at, leads_well, Stands}
-use Rattle.sl_stages.specs.Tests.{Test, test, first_failing}
+use Rattle.sl_stages.specs.Tests.{test, first_failing}
 use Rattle.sl_verify.specs.Faults.{coming_tests, kinds_here, landing_tests, jump_tests, end_tests}
 
 -- ---- lists

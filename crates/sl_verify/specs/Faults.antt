@@ -1,5 +1,5 @@
 -- What keeps a code from being well kinded: each test in its order, and the fault that it gives (docs/verifier.md, section 4).
-use Rattle.std.specs.Prelude.{ℕ, suc, ◌-◌, Bool, false, List, [], ◌∷◌, ◌++◌, Option, Some, None, if◌then◌else◌}
+use Rattle.std.specs.Prelude.{ℕ, suc, ◌-◌, false, List, [], ◌∷◌, ◌++◌, Option, Some, None}
 use Rattle.sl_stages.specs.Tests.{Test, test, first_failing}
 use Rattle.sl_code.specs.Codes.{CountingCode}
 use Rattle.sl_code.specs.declared.instr.Instr.{Instr}

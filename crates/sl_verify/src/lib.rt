@@ -13,6 +13,3 @@ pub use fault::VerifyFault;
 pub use known::REGISTERS;
 pub use needs::LAST_CLAUSE;
 pub use verifier::{Verified, verify};
-
-#[cfg(test)]
-mod tests;

@@ -1,6 +1,6 @@
-use Rattle.std.proofs.Common.{◌≡◌, ◌+◌, ◌*◌, ◌^◌, ◌<◌, ◌≤◌, ℕ, get_or, ap, sym, ◌∙◌, arith}
+use Rattle.std.proofs.Common.{◌≡◌, ◌+◌, ◌*◌, ◌^◌, ◌≤◌, get_or, ap, arith}
 use Rattle.std.specs.List.{sum_by, range_with_len}
-use Rattle.sl_stages.specs.Election.{lands_of, parties_of}
+use Rattle.sl_stages.specs.Election.{parties_of}
 use Rattle.sl_stages.specs.Facts.{list_cell}
 use Rattle.sl_desk.proofs.Ranges.{sum_more}
 use Rattle.sl_desk.proofs.ShapedColumns.{cell_most}

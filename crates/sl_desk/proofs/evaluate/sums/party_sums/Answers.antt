@@ -1,4 +1,4 @@
-use Rattle.std.proofs.Common.{◌≡◌, ◌*◌, ◌^◌, ◌≤◌, ℕ, ap, ◌∙◌, arith}
+use Rattle.std.proofs.Common.{◌≡◌, ◌*◌, ◌^◌, ◌≤◌, ◌∙◌, arith}
 use Rattle.std.specs.List.{sum_by}
 use Rattle.sl_stages.specs.declared.limits.TheConstants.{MAX_LANDS}
 use Rattle.sl_stages.specs.Election.{parties_of}

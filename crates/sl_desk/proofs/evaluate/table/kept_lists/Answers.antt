@@ -1,4 +1,3 @@
-use Rattle.std.proofs.Common.{◌≡◌, ap, sym, ◌∙◌}
 use Rattle.sl_desk.proofs.Ranges.{pieces_more}
 use Rattle.sl_desk.proofs.evaluate.table.kept_lists.Goals as goal
 

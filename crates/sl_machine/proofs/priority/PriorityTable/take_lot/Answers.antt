@@ -2,6 +2,7 @@
 use Rattle.std.proofs.Common.{◌∷◌, Option, IsSome, IsPermutation, sym, subst, ◌∙◌}
 use Rattle.std.specs.Option.{IfSome, option_and_then}
 use Rattle.sl_ratio.specs.declared.entry.Entry.{Entry}
+use Rattle.sl_ratio.specs.Quotient.{FitsRatio}
 use Rattle.sl_prio.specs.Prio.{top}
 use Rattle.sl_prio.specs.Lot.{drawn}
 use Rattle.sl_machine.specs.State.{PriorityTable}
@@ -18,13 +19,15 @@ pub taken-requires : goal.taken-requires
 taken-requires c =
     let rest : IsPermutation c.self.inside.prio (c.unwrap-entry.result ∷ c.take_lot.new.self) =
     subst (λ (o : Option Entry). IfSome o (λ entry. IsPermutation c.self.inside.prio (entry ∷ c.take_lot.new.self))) c.unwrap-entry.ensures c.take_lot.ensures.rest in
-    (taken_fits (λ x. FitsMark c.unwrap-kind.result.ranking x.ratio) _ _ _ rest (c.self.invariant c.unwrap-kind.result c.unwrap-kind.ensures)).0
+    (taken_fits (λ x. FitsMark c.unwrap-kind.result.ranking x.ratio) _ _ _ rest (c.self.invariant.0 c.unwrap-kind.result c.unwrap-kind.ensures)).0
 
 pub invariant_of-self : goal.invariant_of-self
-invariant_of-self c = λ kind is.
+invariant_of-self c =
     let rest : IsPermutation c.self.inside.prio (c.unwrap-entry.result ∷ c.take_lot.new.self) =
-    subst (λ (o : Option Entry). IfSome o (λ entry. IsPermutation c.self.inside.prio (entry ∷ c.take_lot.new.self))) c.unwrap-entry.ensures c.take_lot.ensures.rest in
-    (taken_fits (λ x. FitsMark kind.ranking x.ratio) _ _ _ rest (c.self.invariant kind is)).1
+    subst (λ (o : Option Entry). IfSome o (λ entry. IsPermutation c.self.inside.prio (entry ∷ c.take_lot.new.self))) c.unwrap-entry.ensures c.take_lot.ensures.rest in (
+      (λ kind is. (taken_fits (λ x. FitsMark kind.ranking x.ratio) _ _ _ rest (c.self.invariant.0 kind is)).1),
+      (taken_fits (λ x. FitsRatio x.ratio) _ _ _ rest c.self.invariant.1).1,
+    )
 
 pub returns-clause-taken : goal.returns-clause-taken
 returns-clause-taken c =

@@ -1,4 +1,4 @@
-use Rattle.std.proofs.Common.{◌≡◌, arith}
+use Rattle.std.proofs.Common.{arith}
 use Rattle.sl_stages.specs.Election.{parties_of}
 use Rattle.sl_stages.specs.Facts.{is_eligible}
 use Rattle.sl_desk.proofs.Ranges.{made_length, made_read}

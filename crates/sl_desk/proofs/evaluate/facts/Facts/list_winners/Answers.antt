@@ -1,4 +1,4 @@
-use Rattle.std.proofs.Common.{◌≡◌, ◌<◌, ◌*◌, ℕ, Bool, Option, Some, None, ap, sym, ◌∙◌, eq-eqb, refl, arith}
+use Rattle.std.proofs.Common.{◌*◌, ℕ, Bool, ap, sym, ◌∙◌, eq-eqb, refl, arith}
 use Rattle.std.proofs.lemmas.Bool.{ne_eqb}
 use Rattle.std.proofs.lemmas.Option.{slice_get_within, get_or_from_slice_get}
 use Rattle.sl_stages.specs.declared.returns.Win.{Win}

@@ -1,4 +1,4 @@
-use Rattle.std.proofs.Common.{◌≡◌, ◌++◌, ℕ, ap, ◌∙◌, map, if◌then◌else◌, arith}
+use Rattle.std.proofs.Common.{◌≡◌, ◌++◌, ap, ◌∙◌, map, if◌then◌else◌, arith}
 use Rattle.std.specs.List.{range_with_len}
 use Rattle.sl_stages.specs.Votes.{counted_in}
 use Rattle.sl_stages.specs.Election.{list_at, parties_of}

@@ -2,7 +2,7 @@ use Rattle.std.proofs.Common.{◌≡◌, ◌+◌, ◌<◌, ap, sym, subst, ◌�
 use Rattle.std.proofs.lemmas.Result.{IfOk-weaker}
 use Rattle.sl_stages.specs.Meaning.{larger_of, less_of}
 use Rattle.sl_stages.specs.Limits.{parts_of}
-use Rattle.sl_stages.specs.Trees.{ExprTree, tree_of}
+use Rattle.sl_stages.specs.Trees.{tree_of}
 use Rattle.sl_stages.specs.Typing.{type_of}
 use Rattle.sl_desk.specs.Shapes.{IsShaped, CanSum}
 use Rattle.sl_desk.specs.StageColumns.{types_of, IsPlainExpr}

@@ -3,7 +3,6 @@ use Rattle.std.specs.List.{list_all}
 use Rattle.sl_stages.specs.Books.{book_of}
 use Rattle.sl_stages.specs.Trees.{stage_of}
 use Rattle.sl_stages.specs.Typing.{is_typed, splits_in}
-use Rattle.sl_desk.specs.declared.evaluate.facts.Facts.{Facts}
 use Rattle.sl_desk.proofs.StageLists.{next_plain, knows_more, stage_at}
 use Rattle.sl_desk.proofs.evaluate.stages.Evaluator.new.Goals as goal
 

@@ -1,7 +1,7 @@
-//! Tests over short texts.
+//! Rulebooks that are parsed, and texts that are none.
 
-use super::*;
 use sl_lex::lex;
+use sl_parse::{ParseFault, parse};
 use sl_stages::{Book, Expr, Majority, Stage};
 use std::alloc::Global;
 use std::test::*;

@@ -1,6 +1,6 @@
 //! Code files from outside, read, written and listed, and bytes that are none.
 
-use super::*;
+use sl_code::{Code, CodeFault, Instr, from_bytes, listing, to_bytes};
 use sl_stages::Shape;
 use std::test::*;
 

@@ -2,11 +2,16 @@
 
 mod refusals;
 
-use super::*;
 use csv::ByteRecord;
+use sl_returns::{FaultKind, ReturnsBuilder, ReturnsFault, read_returns};
 use sl_stages::{Lot, Returns};
 use std::alloc::Global;
 use std::test::*;
+
+/// The returns of a text.
+pub(crate) fn returns_in(alloc: Global, text: &str) -> Result<Returns, ReturnsFault> {
+    read_returns(alloc, text.as_bytes())
+}
 
 // Whether these are a Land, a party, its list, and two winners, one of whom has no party.
 fn are_worked(returns: &Returns) -> bool {
@@ -32,8 +37,8 @@ fn are_worked(returns: &Returns) -> bool {
 #[test]
 fn returns_are_read(rt: HostRuntime) -> Result<(), Fail> {
     let text =
-        b"kind,land,party,a,b,c\nland,X,,1000,,\nparty,,A,0,,\nlist,X,A,10,10,\nwin,X,A,w1,5,9\nwin,X,,w2,5,9\n";
-    let returns = read_returns(rt.alloc(), text)?;
+        "kind,land,party,a,b,c\nland,X,,1000,,\nparty,,A,0,,\nlist,X,A,10,10,\nwin,X,A,w1,5,9\nwin,X,,w2,5,9\n";
+    let returns = returns_in(rt.alloc(), text)?;
     assert!(rt; are_worked(&returns));
     Ok(())
 }
@@ -55,8 +60,8 @@ fn have_slates(returns: &Returns) -> bool {
 #[test]
 fn slates_and_the_house_are_read(rt: HostRuntime) -> Result<(), Fail> {
     let text =
-        b"kind2,land,party,a,b,c\nland,X,,1,,\nparty,,A,0,,\nlist,X,A,10,10,4000\nhouse,,,598,,\nland,Y,,2,,\nparty,,B,1,,\nlist,Y,B,7,6,\nlist,Y,A,3,0,0\n";
-    let returns = read_returns(rt.alloc(), text)?;
+        "kind2,land,party,a,b,c\nland,X,,1,,\nparty,,A,0,,\nlist,X,A,10,10,4000\nhouse,,,598,,\nland,Y,,2,,\nparty,,B,1,,\nlist,Y,B,7,6,\nlist,Y,A,3,0,0\n";
+    let returns = returns_in(rt.alloc(), text)?;
     assert!(rt; have_slates(&returns));
     Ok(())
 }
@@ -88,8 +93,8 @@ fn are_drawn(lots: &[Lot]) -> bool {
 #[test]
 fn lots_are_read_in_their_order(rt: HostRuntime) -> Result<(), Fail> {
     let text =
-        b"kind,land,party,a,b,c\nland,X,,1,,\nparty,,A,0,,\nparty,,B,0,,\nwin,X,A,w1,1,1\nwin,X,B,w2,1,1\nlot,,B,s,,\nlot,X,,2-s,,\nlot,X,B,s,,\nlot,X,B,seats,w2,\n";
-    let returns = read_returns(rt.alloc(), text)?;
+        "kind,land,party,a,b,c\nland,X,,1,,\nparty,,A,0,,\nparty,,B,0,,\nwin,X,A,w1,1,1\nwin,X,B,w2,1,1\nlot,,B,s,,\nlot,X,,2-s,,\nlot,X,B,s,,\nlot,X,B,seats,w2,\n";
+    let returns = returns_in(rt.alloc(), text)?;
     assert!(rt; are_drawn(returns.lots()));
     Ok(())
 }

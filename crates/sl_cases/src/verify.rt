@@ -3,13 +3,13 @@
 ghost use Rattle.std.specs.Prelude.{◌≤◌, length};
 ghost use Rattle.sl_code.specs.declared.code.TheConstants.{MAX_SLOTS, MAX_INSTRS};
 
-use super::*;
 use sl_code::{
     Code, CodeStage, Cursors, EndFault, Entries, Input, Instr, Kinds, Ranking, Registers, Rounding,
     ScopeKind, TableState,
 };
 use sl_ratio::Divisor;
 use sl_stages::{Shape, Word};
+use sl_verify::{VerifyFault, verify};
 use std::alloc::Global;
 use std::test::Fail;
 

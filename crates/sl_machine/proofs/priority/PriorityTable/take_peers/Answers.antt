@@ -1,0 +1,77 @@
+-- Each peer is the top of what is left of the table.
+use Rattle.std.proofs.Common.{◌≡◌, ◌<◌, ◌∷◌, ◌++◌, [], length, Option, Some, All, IsPermutation, IsSome, refl, sym, ap, subst, ◌∙◌, arith}
+use Rattle.std.specs.Option.{IfSome}
+use Rattle.std.proofs.lemmas.Option.{same_Some}
+use Rattle.sl_ratio.specs.declared.entry.Entry.{Entry}
+use Rattle.sl_ratio.specs.Quotient.{FitsRatio}
+use Rattle.sl_prio.specs.Prio.{peers}
+use Rattle.sl_stages.specs.declared.fault.Item.{Item}
+use Rattle.sl_machine.specs.declared.priority.TableKind.{TableKind}
+use Rattle.sl_machine.specs.Places.{item_of}
+use Rattle.sl_machine.specs.Safe.{entries_in}
+use Rattle.sl_machine.specs.Tables.{FitsMark}
+use Rattle.sl_machine.proofs.Priorities.{taken_fits}
+use Rattle.sl_machine.proofs.PeerLists.{top_left, peers_taken, rest_behind, one_more, range_held, peers_told, rest_told}
+use Rattle.sl_machine.proofs.priority.PriorityTable.take_peers.Goals as goal
+
+pub loop-init : goal.loop-init
+loop-init c = record {
+  kind = c.unwrap-kind.ensures;
+  marks = c.self.invariant.0 c.unwrap-kind.result c.unwrap-kind.ensures;
+  ratios = c.self.invariant.1;
+  range = range_held c.args.returns.now c.self.inside.kind c.unwrap-kind.result c.self.inside.prio c.args.self.now c.unwrap-kind.ensures c.self.view_is c.requires.range;
+  rest = refl;
+  items = c.new-items.ensures.items;
+}
+
+pub unwrap-peer-requires : goal.unwrap-peer-requires
+unwrap-peer-requires c =
+    let more : c.loop.counter < length (peers c.self.inside.prio) = omega arith in
+    subst (λ (o : Option Entry). IsSome o) (sym c.take.ensures.top)
+    (top_left c.self.inside.prio c.self.invariant.1 c.loop.self-inside.prio c.loop.counter more c.loop.invariant.rest)
+
+pub item_of-requires : goal.item_of-requires
+item_of-requires c =
+    let rest : IsPermutation c.loop.self-inside.prio (c.unwrap-peer.result ∷ c.take.new.self) =
+    subst (λ (o : Option Entry). IfSome o (λ peer. IsPermutation c.loop.self-inside.prio (peer ∷ c.take.new.self))) c.unwrap-peer.ensures c.take.ensures.rest in
+    (taken_fits (λ x. x.index < entries_in c.args.returns.now c.unwrap-kind.result.entries) _ _ _ rest c.loop.invariant.range).0
+
+pub invariant_of-self-in_err-append : goal.invariant_of-self-in_err-append
+invariant_of-self-in_err-append c =
+    let rest : IsPermutation c.loop.self-inside.prio (c.unwrap-peer.result ∷ c.take.new.self) =
+    subst (λ (o : Option Entry). IfSome o (λ peer. IsPermutation c.loop.self-inside.prio (peer ∷ c.take.new.self))) c.unwrap-peer.ensures c.take.ensures.rest in
+    let marks = (taken_fits (λ x. FitsMark c.unwrap-kind.result.ranking x.ratio) _ _ _ rest c.loop.invariant.marks).1 in
+    let same = λ (k : TableKind) (is : c.loop.self-inside.kind ≡ Some k). same_Some c.unwrap-kind.result k (sym c.loop.invariant.kind ∙ is) in (
+      (λ k is. subst (λ (k : TableKind). All (λ x. FitsMark k.ranking x.ratio) c.take.new.self) (same k is) marks),
+      (taken_fits (λ x. FitsRatio x.ratio) _ _ _ rest c.loop.invariant.ratios).1,
+    )
+
+pub loop-preserved : goal.loop-preserved
+loop-preserved c =
+    let rest : IsPermutation c.loop.self-inside.prio (c.unwrap-peer.result ∷ c.take.new.self) =
+    subst (λ (o : Option Entry). IfSome o (λ peer. IsPermutation c.loop.self-inside.prio (peer ∷ c.take.new.self))) c.unwrap-peer.ensures c.take.ensures.rest in
+    let e = c.args.returns.now in
+    let k = c.unwrap-kind.result in
+    let first = sym c.take.ensures.top ∙ c.unwrap-peer.ensures in
+    let more = one_more c.self.inside.prio c.loop.self-inside.prio c.take.new.self c.unwrap-peer.result c.loop.counter first rest c.loop.invariant.rest
+    (λ x. item_of e k.entries x.index) c.loop.items.items c.loop.invariant.items in
+    record {
+      kind = c.loop.invariant.kind;
+      marks = (taken_fits (λ x. FitsMark k.ranking x.ratio) _ _ _ rest c.loop.invariant.marks).1;
+      ratios = (taken_fits (λ x. FitsRatio x.ratio) _ _ _ rest c.loop.invariant.ratios).1;
+      range = (taken_fits (λ x. x.index < entries_in e k.entries) _ _ _ rest c.loop.invariant.range).1;
+      rest = rest_behind c.self.inside.prio c.loop.self-inside.prio c.take.new.self c.unwrap-peer.result c.loop.counter first rest c.loop.invariant.rest;
+      items = c.in_ok-append.ensures ∙ ap (λ (item : Item). c.loop.items.items ++ item ∷ []) c.item_of.ensures ∙ more;
+    }
+
+pub returns-clause-items : goal.returns-clause-items
+returns-clause-items c =
+    let all : c.loop.counter ≡ length (peers c.self.inside.prio) = omega arith in
+    peers_told c.args.returns.now c.self.inside.kind c.unwrap-kind.result c.self.inside.prio c.args.self.now c.unwrap-kind.ensures c.self.view_is
+    _ c.loop.items.items (rw all (peers_taken c.self.inside.prio c.self.invariant.1)) c.loop.invariant.items
+
+pub returns-clause-rest : goal.returns-clause-rest
+returns-clause-rest c =
+    let all : c.loop.counter ≡ length (peers c.self.inside.prio) = omega arith in
+    rest_told c.args.returns.now c.self.inside.kind c.unwrap-kind.result c.self.inside.prio c.args.self.now c.unwrap-kind.ensures c.self.view_is
+    c.loop.self-inside.prio c.loop.self-inside.kind c.loop.invariant.kind (rw all at c.loop.invariant.rest)
