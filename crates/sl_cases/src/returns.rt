@@ -8,8 +8,8 @@ use sl_stages::{Lot, Returns};
 use std::alloc::Global;
 use std::test::*;
 
-/// The returns of a text.
-pub(crate) fn returns_in(alloc: Global, text: &str) -> Result<Returns, ReturnsFault> {
+// The returns of a text.
+fn returns_in(alloc: Global, text: &str) -> Result<Returns, ReturnsFault> {
     read_returns(alloc, text.as_bytes())
 }
 

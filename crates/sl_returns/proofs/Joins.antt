@@ -8,13 +8,13 @@ use Rattle.sl_returns.specs.declared.fault.FaultKind.{FaultKind}
 use Rattle.sl_returns.specs.declared.fault.FaultKind.TheVariants as fault
 use Rattle.sl_returns.specs.Cells.{Record, cell}
 use Rattle.sl_returns.specs.Kinds.{kind_named}
-use Rattle.sl_returns.specs.Tests.{Pass, FailBy, Refuse, test, kind_tests, record_tests}
+use Rattle.sl_returns.specs.Tests.{Pass, FailBy, Refuse, one_test, kind_tests, record_tests}
 use Rattle.sl_returns.specs.Joining.{with_kind, with_record}
 use Rattle.sl_returns.proofs.TestLemmas.{both, after}
 
 -- a record has its cells
 abbrev pub Sized : Record → Type 0
-Sized r = Pass (test (nat_eq (length r) COLUMNS) fault.Fields)
+Sized r = Pass (one_test (nat_eq (length r) COLUMNS) fault.Fields)
 
 module _ (v : Version) (e new : Election) (r : Record) (kind : Option Kind) (named : kind ≡ kind_named (cell r KIND)) (sized : Sized r) where
   passed : Pass (kind_tests v kind e r) → Pass (record_tests v e r)
@@ -36,5 +36,5 @@ module _ (v : Version) (e new : Election) (r : Record) (kind : Option Kind) (nam
 
 -- a word that names no kind
 pub no_kind : (v : Version) (e : Election) (r : Record) → None ≡ kind_named (cell r KIND) → Sized r → FailBy (record_tests v e r) fault.Kind
-unfolding test
+unfolding one_test
 no_kind v e r named sized = failed v e e r None named sized fault.Kind (record { first = refl })

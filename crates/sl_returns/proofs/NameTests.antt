@@ -11,7 +11,7 @@ use Rattle.sl_ratio.specs.Names.{is_name, is_name_byte, name_fault, spelling_fau
 use Rattle.sl_ratio.proofs.NameLists.{is_free}
 use Rattle.sl_returns.specs.declared.fault.FaultKind.TheVariants as fault
 use Rattle.sl_returns.specs.Cells.{is_blank, number_in, place_in, place_or_none}
-use Rattle.sl_returns.specs.Tests.{Pass, test, new_tests, known_tests, known_or_none_tests}
+use Rattle.sl_returns.specs.Tests.{Pass, one_test, new_tests, known_tests, known_or_none_tests}
 
 -- a well spelled name has no fault of spelling
 spelled : (name : List ℕ) → is_name name ≡ true → spelling_fault name ≡ None
@@ -45,7 +45,7 @@ pub record IsNew (name : List ℕ) (found : Option ℕ) : Type 0 where
   pub new : found ≡ None
 
 pub is_new : (name : List ℕ) (found : Option ℕ) → Pass (new_tests name found) → IsNew name found
-unfolding new_tests test
+unfolding new_tests one_test
 is_new name found h = go (is_name name) refl found h.none
   where
     go : (b : Bool) → is_name name ≡ b → (f : Option ℕ) → cond b (cond (is_none f) None (Some fault.Twice)) (Some fault.Name) ≡ None → IsNew name f
@@ -61,7 +61,7 @@ may_join names limit name h free =
 
 -- a name that is to be known, and is, was found
 pub is_known : (name : List ℕ) (found : Option ℕ) → Pass (known_tests name found) → (n : ℕ) × (found ≡ Some n)
-unfolding known_tests test
+unfolding known_tests one_test
 is_known name found h = go (is_name name) found h.none
   where
     go : (b : Bool) (f : Option ℕ) → cond b (cond (is_some f) None (Some fault.Unknown)) (Some fault.Name) ≡ None → (n : ℕ) × (f ≡ Some n)

@@ -10,7 +10,7 @@ use Rattle.sl_returns.specs.declared.header.Version.{Version}
 use Rattle.sl_returns.specs.declared.fault.FaultKind.TheVariants as fault
 use Rattle.sl_returns.specs.Cells.{Record, cell, number_of, number_in, place_in}
 use Rattle.sl_returns.specs.Records.{lot_of}
-use Rattle.sl_returns.specs.Tests.{Pass, test, are_blank, new_name_tests, known_name_tests, name_or_none_tests, known_or_none_tests, number_tests, number_or_none_tests, fills_list, fills_lot, has_lot, house_tests, land_tests, party_tests, list_tests, win_tests, lot_cell_tests, lot_tests}
+use Rattle.sl_returns.specs.Tests.{Pass, one_test, are_blank, new_name_tests, known_name_tests, name_or_none_tests, known_or_none_tests, number_tests, number_or_none_tests, fills_list, fills_lot, has_lot, house_tests, land_tests, party_tests, list_tests, win_tests, lot_cell_tests, lot_tests}
 use Rattle.sl_returns.proofs.TestLemmas.{parts, holds}
 use Rattle.sl_returns.proofs.NameTests.{is_known}
 use Rattle.sl_returns.proofs.Places.{Known, KnownOrNone, known}
@@ -30,9 +30,9 @@ known_or_none names name h filled = name_known names name (rw filled at h)
 module _ (e : Election) (r : Record) where
   pub passed_house : Pass (house_tests e r) → e.house ≡ None
   passed_house h =
-      let last = test (is_none e.house) fault.Twice in
+      let last = one_test (is_none e.house) fault.Twice in
       let numbers = number_tests (cell r A) 1 MAX_SEATS in
-      let (blank, h1) = parts (test (are_blank r (LAND ∷ PARTY ∷ B ∷ C ∷ [])) fault.Fields) (numbers ++ last) h in
+      let (blank, h1) = parts (one_test (are_blank r (LAND ∷ PARTY ∷ B ∷ C ∷ [])) fault.Fields) (numbers ++ last) h in
       let (number, new) = parts numbers last h1 in
       none_of e.house (holds _ _ new)
     where
@@ -46,10 +46,10 @@ module _ (e : Election) (r : Record) where
 
   pub passed_land : Pass (land_tests e r) → PassedLand
   passed_land h =
-      let last = test (nat_lt (lands_of e) MAX_LANDS) fault.TooMany in
+      let last = one_test (nat_lt (lands_of e) MAX_LANDS) fault.TooMany in
       let numbers = number_tests (cell r A) 0 MAX_VOTES in
       let names = new_name_tests e.land_names (cell r LAND) in
-      let (blank, h1) = parts (test (are_blank r (PARTY ∷ B ∷ C ∷ [])) fault.Fields) (names ++ (numbers ++ last)) h in
+      let (blank, h1) = parts (one_test (are_blank r (PARTY ∷ B ∷ C ∷ [])) fault.Fields) (names ++ (numbers ++ last)) h in
       let (name, h2) = parts names (numbers ++ last) h1 in
       let (number, room) = parts numbers last h2 in
       record { name = name; free = ltb-true (lands_of e) MAX_LANDS (holds _ _ room) }
@@ -60,10 +60,10 @@ module _ (e : Election) (r : Record) where
 
   pub passed_party : Pass (party_tests e r) → PassedParty
   passed_party h =
-      let last = test (nat_lt (parties_of e) MAX_PARTIES) fault.TooMany in
+      let last = one_test (nat_lt (parties_of e) MAX_PARTIES) fault.TooMany in
       let numbers = number_tests (cell r A) 0 1 in
       let names = new_name_tests e.party_names (cell r PARTY) in
-      let (blank, h1) = parts (test (are_blank r (LAND ∷ B ∷ C ∷ [])) fault.Fields) (names ++ (numbers ++ last)) h in
+      let (blank, h1) = parts (one_test (are_blank r (LAND ∷ B ∷ C ∷ [])) fault.Fields) (names ++ (numbers ++ last)) h in
       let (name, h2) = parts names (numbers ++ last) h1 in
       let (number, room) = parts numbers last h2 in
       record { name = name; free = ltb-true (parties_of e) MAX_PARTIES (holds _ _ room) }
@@ -75,14 +75,14 @@ module _ (e : Election) (r : Record) where
   pub passed_list : (v : Version) → Pass (list_tests v e r) → PassedList
   passed_list v h =
       let there = has_list e (place_in e.land_names (cell r LAND)) (place_in e.party_names (cell r PARTY)) in
-      let last = test (not there) fault.Twice in
-      let within = test (nat_le (number_of (cell r B)) (number_of (cell r A))) fault.Counted in
+      let last = one_test (not there) fault.Twice in
+      let within = one_test (nat_le (number_of (cell r B)) (number_of (cell r A))) fault.Counted in
       let slate = number_or_none_tests (cell r C) 0 MAX_SLATE in
       let counted = number_tests (cell r B) 0 MAX_VOTES in
       let valid = number_tests (cell r A) 0 MAX_VOTES in
       let party = known_name_tests e.party_names (cell r PARTY) in
       let land = known_name_tests e.land_names (cell r LAND) in
-      let (h0, h1) = parts (test (fills_list v r) fault.Fields) (land ++ (party ++ (valid ++ (counted ++ (slate ++ (within ++ last)))))) h in
+      let (h0, h1) = parts (one_test (fills_list v r) fault.Fields) (land ++ (party ++ (valid ++ (counted ++ (slate ++ (within ++ last)))))) h in
       let (of_land, h2) = parts land (party ++ (valid ++ (counted ++ (slate ++ (within ++ last))))) h1 in
       let (of_party, h3) = parts party (valid ++ (counted ++ (slate ++ (within ++ last)))) h2 in
       let (h4, h5) = parts valid (counted ++ (slate ++ (within ++ last))) h3 in
@@ -96,8 +96,8 @@ module _ (e : Election) (r : Record) where
 
   pub passed_win : Pass (win_tests e r) → BackedByKnown e.land_names e.party_names r
   passed_win h =
-      let last = test (nat_lt (wins_of e) MAX_WINS) fault.TooMany in
-      let within = test (nat_le (number_of (cell r B)) (number_of (cell r C))) fault.Range in
+      let last = one_test (nat_lt (wins_of e) MAX_WINS) fault.TooMany in
+      let within = one_test (nat_le (number_of (cell r B)) (number_of (cell r C))) fault.Range in
       let valid = number_tests (cell r C) 0 MAX_VOTES in
       let first = number_tests (cell r B) 1 MAX_VOTES in
       let name = new_name_tests e.win_names (cell r A) in
@@ -109,14 +109,14 @@ module _ (e : Election) (r : Record) where
 
   pub passed_lot : Pass (lot_tests e r) → DrawnOfKnown e.land_names e.party_names e.win_names r
   passed_lot h =
-      let new = test (not (has_lot e.lots (lot_of e.land_names e.party_names e.win_names r))) fault.Twice in
-      let room = test (nat_lt (length e.lots) MAX_LOTS) fault.TooMany in
+      let new = one_test (not (has_lot e.lots (lot_of e.land_names e.party_names e.win_names r))) fault.Twice in
+      let room = one_test (nat_lt (length e.lots) MAX_LOTS) fault.TooMany in
       let win = name_or_none_tests e.win_names (cell r B) in
-      let stage = test (is_name (cell r A)) fault.Name in
+      let stage = one_test (is_name (cell r A)) fault.Name in
       let party = name_or_none_tests e.party_names (cell r PARTY) in
       let land = name_or_none_tests e.land_names (cell r LAND) in
       let (cells, rest) = parts (lot_cell_tests e r) (new ++ room) h in
-      let (filled, h1) = parts (test (fills_lot r) fault.Fields) (land ++ (party ++ (stage ++ win))) cells in
+      let (filled, h1) = parts (one_test (fills_lot r) fault.Fields) (land ++ (party ++ (stage ++ win))) cells in
       let (of_land, h2) = parts land (party ++ (stage ++ win)) h1 in
       let (of_party, h3) = parts party (stage ++ win) h2 in
       let (spelled, of_win) = parts stage win h3 in

@@ -14,7 +14,7 @@ use Rattle.sl_returns.specs.declared.fault.FaultKind.TheVariants as fault
 use Rattle.sl_returns.specs.Cells.{Record, cell, number_in}
 use Rattle.sl_returns.specs.Kinds.{kind_named}
 use Rattle.sl_returns.specs.Records.{election_of_records}
-use Rattle.sl_returns.specs.Tests.{Pass, test, kind_tests, record_tests}
+use Rattle.sl_returns.specs.Tests.{Pass, one_test, kind_tests, record_tests}
 use Rattle.sl_returns.specs.Joining.{with_record}
 use Rattle.sl_returns.specs.Joining as joining
 use Rattle.sl_returns.proofs.TestLemmas.{parts, holds}
@@ -98,7 +98,7 @@ module _ (rs : List Record) (r : Record) (good : IsGood rs) (v : Version) where
   -- a record that passes its tests joins good ones
   pub grows : Pass (record_tests v before r) → Grows rs r
   grows h =
-      let (sized, rest) = parts (test (nat_eq (length r) COLUMNS) fault.Fields) (kind_tests v (kind_named (cell r KIND)) before r) h in
+      let (sized, rest) = parts (one_test (nat_eq (length r) COLUMNS) fault.Fields) (kind_tests v (kind_named (cell r KIND)) before r) h in
       by (kind_named (cell r KIND)) refl rest
     where
       by : (k : Option Kind) → kind_named (cell r KIND) ≡ k → Pass (kind_tests v k before r) → Grows rs r

@@ -8,7 +8,7 @@ use Rattle.sl_returns.specs.declared.fault.FaultKind.TheVariants as fault
 use Rattle.sl_ratio.specs.declared.memory.NoMemory.{NoMemory}
 use Rattle.sl_stages.specs.Tests.{Test, first_failing}
 use Rattle.sl_stages.proofs.Tests.{fails_in_row, fails_first, pass_parts}
-use Rattle.sl_returns.specs.Tests.{test, Pass, FailBy, Refuse}
+use Rattle.sl_returns.specs.Tests.{one_test, Pass, FailBy, Refuse}
 
 -- where the first tests hold, the others decide
 pub passes : (ts us : List (Test FaultKind)) → Pass ts → first_failing (ts ++ us) ≡ first_failing us
@@ -56,7 +56,7 @@ parts ts us h =
     (record { none = both_pass.0 }, record { none = both_pass.1 })
 
 -- a test that holds
-pub holds : (b : Bool) (k : FaultKind) → Pass (test b k) → b ≡ true
-unfolding test
+pub holds : (b : Bool) (k : FaultKind) → Pass (one_test b k) → b ≡ true
+unfolding one_test
 holds true k h = refl
 holds false k h = absurd (none-some k (sym h.none))

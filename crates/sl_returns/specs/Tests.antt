@@ -23,8 +23,8 @@ use Rattle.sl_returns.specs.Records.{lot_of}
 -- ---- tests of a cell
 
 -- one test
-unfoldable pub test : Bool → FaultKind → List (Test FaultKind)
-test b f = record { holds = b; otherwise = f } ∷ []
+unfoldable pub one_test : Bool → FaultKind → List (Test FaultKind)
+one_test b f = record { holds = b; otherwise = f } ∷ []
 
 -- cells of these columns are empty
 abbrev pub are_blank : Record → List ℕ → Bool
@@ -32,11 +32,11 @@ are_blank r columns = list_all (λ column. is_blank (cell r column)) columns
 
 -- a name that is to be new, by its number in a list of names, if it is there
 unfoldable pub new_tests : List ℕ → Option ℕ → List (Test FaultKind)
-new_tests name found = test (is_name name) fault.Name ++ test (is_none found) fault.Twice
+new_tests name found = one_test (is_name name) fault.Name ++ one_test (is_none found) fault.Twice
 
 -- a name that is to be known
 unfoldable pub known_tests : List ℕ → Option ℕ → List (Test FaultKind)
-known_tests name found = test (is_name name) fault.Name ++ test (is_some found) fault.Unknown
+known_tests name found = one_test (is_name name) fault.Name ++ one_test (is_some found) fault.Unknown
 
 -- a name that is to be known, where an empty cell stands for none
 unfoldable pub known_or_none_tests : List ℕ → Option ℕ → List (Test FaultKind)
@@ -54,7 +54,7 @@ name_or_none_tests names name = known_or_none_tests name (number_in names name)
 
 -- a number from the least to the greatest
 unfoldable pub number_tests : List ℕ → ℕ → ℕ → List (Test FaultKind)
-number_tests c least greatest = test (is_number c) fault.Number ++ test (nat_le least (number_of c) && nat_le (number_of c) greatest) fault.Range
+number_tests c least greatest = one_test (is_number c) fault.Number ++ one_test (nat_le least (number_of c) && nat_le (number_of c) greatest) fault.Range
 
 -- the same, where the cell may be empty
 unfoldable pub number_or_none_tests : List ℕ → ℕ → ℕ → List (Test FaultKind)
@@ -64,23 +64,23 @@ number_or_none_tests c least greatest = if is_blank c then [] else number_tests 
 
 abbrev pub house_tests : Election → Record → List (Test FaultKind)
 house_tests e r =
-    test (are_blank r (LAND ∷ PARTY ∷ B ∷ C ∷ [])) fault.Fields
+    one_test (are_blank r (LAND ∷ PARTY ∷ B ∷ C ∷ [])) fault.Fields
     ++ (number_tests (cell r A) 1 MAX_SEATS
-    ++ test (is_none e.house) fault.Twice)
+    ++ one_test (is_none e.house) fault.Twice)
 
 abbrev pub land_tests : Election → Record → List (Test FaultKind)
 land_tests e r =
-    test (are_blank r (PARTY ∷ B ∷ C ∷ [])) fault.Fields
+    one_test (are_blank r (PARTY ∷ B ∷ C ∷ [])) fault.Fields
     ++ (new_name_tests e.land_names (cell r LAND)
     ++ (number_tests (cell r A) 0 MAX_VOTES
-    ++ test (nat_lt (lands_of e) MAX_LANDS) fault.TooMany))
+    ++ one_test (nat_lt (lands_of e) MAX_LANDS) fault.TooMany))
 
 abbrev pub party_tests : Election → Record → List (Test FaultKind)
 party_tests e r =
-    test (are_blank r (LAND ∷ B ∷ C ∷ [])) fault.Fields
+    one_test (are_blank r (LAND ∷ B ∷ C ∷ [])) fault.Fields
     ++ (new_name_tests e.party_names (cell r PARTY)
     ++ (number_tests (cell r A) 0 1
-    ++ test (nat_lt (parties_of e) MAX_PARTIES) fault.TooMany))
+    ++ one_test (nat_lt (parties_of e) MAX_PARTIES) fault.TooMany))
 
 -- the names left on a list can be told only in the second version
 abbrev pub may_tell_slate : Version → Bool
@@ -92,14 +92,14 @@ fills_list v r = may_tell_slate v || is_blank (cell r C)
 
 abbrev pub list_tests : Version → Election → Record → List (Test FaultKind)
 list_tests v e r =
-    test (fills_list v r) fault.Fields
+    one_test (fills_list v r) fault.Fields
     ++ (known_name_tests e.land_names (cell r LAND)
     ++ (known_name_tests e.party_names (cell r PARTY)
     ++ (number_tests (cell r A) 0 MAX_VOTES
     ++ (number_tests (cell r B) 0 MAX_VOTES
     ++ (number_or_none_tests (cell r C) 0 MAX_SLATE
-    ++ (test (nat_le (number_of (cell r B)) (number_of (cell r A))) fault.Counted
-    ++ test (not (has_list e (place_in e.land_names (cell r LAND)) (place_in e.party_names (cell r PARTY)))) fault.Twice))))))
+    ++ (one_test (nat_le (number_of (cell r B)) (number_of (cell r A))) fault.Counted
+    ++ one_test (not (has_list e (place_in e.land_names (cell r LAND)) (place_in e.party_names (cell r PARTY)))) fault.Twice))))))
 
 abbrev pub win_tests : Election → Record → List (Test FaultKind)
 win_tests e r =
@@ -108,8 +108,8 @@ win_tests e r =
     ++ (new_name_tests e.win_names (cell r A)
     ++ (number_tests (cell r B) 1 MAX_VOTES
     ++ (number_tests (cell r C) 0 MAX_VOTES
-    ++ (test (nat_le (number_of (cell r B)) (number_of (cell r C))) fault.Range
-    ++ test (nat_lt (wins_of e) MAX_WINS) fault.TooMany)))))
+    ++ (one_test (nat_le (number_of (cell r B)) (number_of (cell r C))) fault.Range
+    ++ one_test (nat_lt (wins_of e) MAX_WINS) fault.TooMany)))))
 
 -- a lot names a Land or a party, and a constituency exactly where its stage is `seats`
 abbrev pub names_entry : Record → Bool
@@ -136,22 +136,22 @@ has_lot lots l = list_any (λ told. same_lot told l) lots
 -- the tests of its cells
 abbrev pub lot_cell_tests : Election → Record → List (Test FaultKind)
 lot_cell_tests e r =
-    test (fills_lot r) fault.Fields
+    one_test (fills_lot r) fault.Fields
     ++ (name_or_none_tests e.land_names (cell r LAND)
     ++ (name_or_none_tests e.party_names (cell r PARTY)
-    ++ (test (is_name (cell r A)) fault.Name
+    ++ (one_test (is_name (cell r A)) fault.Name
     ++ name_or_none_tests e.win_names (cell r B))))
 
 abbrev pub lot_tests : Election → Record → List (Test FaultKind)
 lot_tests e r =
     lot_cell_tests e r
-    ++ (test (not (has_lot e.lots (lot_of e.land_names e.party_names e.win_names r))) fault.Twice
-    ++ test (nat_lt (length e.lots) MAX_LOTS) fault.TooMany)
+    ++ (one_test (not (has_lot e.lots (lot_of e.land_names e.party_names e.win_names r))) fault.Twice
+    ++ one_test (nat_lt (length e.lots) MAX_LOTS) fault.TooMany)
 
 -- ---- every test of a record
 
 abbrev pub kind_tests : Version → Option Kind → Election → Record → List (Test FaultKind)
-kind_tests v None e r = test false fault.Kind
+kind_tests v None e r = one_test false fault.Kind
 kind_tests v (Some kind.House) e r = house_tests e r
 kind_tests v (Some kind.Land) e r = land_tests e r
 kind_tests v (Some kind.Party) e r = party_tests e r
@@ -160,7 +160,7 @@ kind_tests v (Some kind.Win) e r = win_tests e r
 kind_tests v (Some kind.Lot) e r = lot_tests e r
 
 abbrev pub record_tests : Version → Election → Record → List (Test FaultKind)
-record_tests v e r = test (nat_eq (length r) COLUMNS) fault.Fields ++ kind_tests v (kind_named (cell r KIND)) e r
+record_tests v e r = one_test (nat_eq (length r) COLUMNS) fault.Fields ++ kind_tests v (kind_named (cell r KIND)) e r
 
 -- ---- what tests answer
 

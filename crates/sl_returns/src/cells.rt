@@ -7,7 +7,7 @@ ghost use Rattle.std.specs.Char.{is_ascii_digit};
 ghost use Rattle.csv.specs.Records.{fields_of};
 ghost use Rattle.sl_ratio.specs.Names.{is_name};
 ghost use Rattle.sl_returns.specs.Cells.{cell, is_blank, is_number, number_of, number_or_none};
-ghost use Rattle.sl_returns.specs.Tests.{Pass, FailBy, test, are_blank, new_tests, known_tests, known_or_none_tests, number_tests, number_or_none_tests};
+ghost use Rattle.sl_returns.specs.Tests.{Pass, FailBy, one_test, are_blank, new_tests, known_tests, known_or_none_tests, number_tests, number_or_none_tests};
 
 use crate::fault::FaultKind;
 use csv::ByteRecord;
@@ -52,11 +52,11 @@ pub(crate) fn are_blank(fields: &ByteRecord, columns: &[usize]) -> bool
 }
 
 // A test, and the fault where it fails.
-#[tactic(auto, unfolding(crate::specs::Tests::test))]
+#[tactic(auto, unfolding(crate::specs::Tests::one_test))]
 pub(crate) fn ensure(holds: bool, fault: FaultKind) -> Result<(), FaultKind>
-    ensures passed { OnOk result (Pass (test holds fault)) }
+    ensures passed { OnOk result (Pass (one_test holds fault)) }
     ensures held { OnOk result (holds ≡ true) }
-    ensures failed { IfErr result (FailBy (test holds fault)) }
+    ensures failed { IfErr result (FailBy (one_test holds fault)) }
 {
     if holds { Ok(()) } else { Err(fault) }
 }
@@ -69,7 +69,7 @@ pub(crate) fn is_name(name: &[u8]) -> bool
 }
 
 // The tests of a name that is to be new, by its number in a list of names, if it is there.
-#[tactic(auto, unfolding(crate::specs::Tests::test, crate::specs::Tests::new_tests))]
+#[tactic(auto, unfolding(crate::specs::Tests::one_test, crate::specs::Tests::new_tests))]
 pub(crate) fn new_name(name: &[u8], found: Option<usize>) -> Result<(), FaultKind>
     ensures passed { OnOk result (Pass (new_tests name.now found)) }
     ensures failed { IfErr result (FailBy (new_tests name.now found)) }
@@ -79,7 +79,7 @@ pub(crate) fn new_name(name: &[u8], found: Option<usize>) -> Result<(), FaultKin
 }
 
 // The number of a name that is to be known, by what was found of it, and its tests.
-#[tactic(auto, unfolding(crate::specs::Tests::test, crate::specs::Tests::known_tests))]
+#[tactic(auto, unfolding(crate::specs::Tests::one_test, crate::specs::Tests::known_tests))]
 pub(crate) fn known_name(name: &[u8], found: Option<usize>) -> Result<usize, FaultKind>
     ensures passed { OnOk result (Pass (known_tests name.now found)) }
     ensures number { IfOk result (λ number. found ≡ Some number) }
@@ -130,7 +130,7 @@ fn number_of(digits: &[u8]) -> u64
 }
 
 // The number of a cell, from the least to the greatest.
-#[tactic(auto, unfolding(crate::specs::Tests::test, crate::specs::Tests::number_tests))]
+#[tactic(auto, unfolding(crate::specs::Tests::one_test, crate::specs::Tests::number_tests))]
 pub(crate) fn number(cell: &[u8], least: u32, greatest: u32) -> Result<u32, FaultKind>
     ensures passed { IfOk result (λ n. Pass (number_tests cell.now least greatest) × (n ≡ number_of cell.now) × (least ≤ n) × (n ≤ greatest)) }
     ensures failed { IfErr result (FailBy (number_tests cell.now least greatest)) }

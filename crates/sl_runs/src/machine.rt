@@ -2,13 +2,18 @@
 
 mod awards;
 
-use crate::returns::returns_in;
 use sl_code::from_bytes;
 use sl_machine::{Ending, Memory, budget, run};
+use sl_returns::{ReturnsFault, read_returns};
 use sl_stages::{FaultKind, Returns, Scope};
 use sl_verify::verify;
 use std::alloc::Global;
 use std::test::*;
+
+// The returns of a text.
+fn returns_in(alloc: Global, text: &str) -> Result<Returns, ReturnsFault> {
+    read_returns(alloc, text.as_bytes())
+}
 
 // How a code file's run ends that has as many steps as its budget.
 fn ending(alloc: Global, file: &[u8], returns: &Returns) -> Result<Ending, Fail> {
