@@ -2,6 +2,7 @@
 
 use sl_code::{Code, CodeFault, Instr, from_bytes, listing, to_bytes};
 use sl_stages::Shape;
+use std::alloc::Global;
 use std::test::*;
 
 // One List slot, and `halt 0`.
@@ -11,23 +12,32 @@ const HALT: [u8; 13] = *b"SLC\x01\x00\x01\x03\x01\x00\x00\x00\x29\x00";
 const MIXED: [u8; 45] =
     *b"SLC\x01\x01\x02up\x00\x04\x00\x01\x02\x03\x05\x00\x00\x00\x01\x01\x02\x01\x00\x00\x00\x00\x00\x00\x09\x07\x00\x00\x00\x2a\x05\x00\x03\x07\x23\xff\x02\x03\x04\x29\x00";
 
+// The code of the first file.
+fn halt(alloc: Global) -> Result<Code, Fail> {
+    Ok(Code::new(
+        Vec::from_slice(alloc, &[Instr::Halt { slot: 0 }])?,
+        Vec::new(alloc),
+        Vec::from_slice(alloc, &[Shape::List])?,
+    ))
+}
+
 #[test]
-fn the_smallest_file(rt: HostRuntime) -> Result<(), Fail> {
-    let alloc = rt.alloc();
-    let mut slots = Vec::new(alloc);
-    slots.push(Shape::List).ok().ok_or("there is room")?;
-    let mut instrs = Vec::new(alloc);
-    instrs
-        .push(Instr::Halt { slot: 0 })
-        .ok()
-        .ok_or("there is room")?;
-    let code = Code::new(instrs, Vec::new(alloc), slots);
-    assert_eq!(rt; to_bytes(alloc, &code)?.as_slice(), HALT.as_slice());
-    assert_eq!(rt; listing(alloc, &code)?.as_slice(), b"0 halt 0\n".as_slice());
-    let read = from_bytes(alloc, &HALT)?;
-    assert_eq!(rt; read.instrs(), [Instr::Halt { slot: 0 }].as_slice());
-    assert_eq!(rt; read.slots(), [Shape::List].as_slice());
-    assert_eq!(rt; read.stages().len(), 0);
+fn the_smallest_file_written(rt: HostRuntime) -> Result<(), Fail> {
+    let code = halt(rt.alloc())?;
+    assert_eq!(rt; to_bytes(rt.alloc(), &code)?.as_slice(), HALT.as_slice());
+    assert_eq!(rt;
+        listing(rt.alloc(), &code)?.as_slice(),
+        b"0 halt 0\n".as_slice()
+    );
+    Ok(())
+}
+
+#[test]
+fn the_smallest_file_read(rt: HostRuntime) -> Result<(), Fail> {
+    let code = from_bytes(rt.alloc(), &HALT)?;
+    assert_eq!(rt; code.instrs(), [Instr::Halt { slot: 0 }].as_slice());
+    assert_eq!(rt; code.slots(), [Shape::List].as_slice());
+    assert_eq!(rt; code.stages().len(), 0);
     Ok(())
 }
 

@@ -4,27 +4,38 @@ mod awards;
 
 use sl_code::from_bytes;
 use sl_machine::{Ending, Memory, budget, run};
-use sl_returns::{ReturnsFault, read_returns};
+use sl_ratio::NoMemory;
+use sl_returns::read_returns;
 use sl_stages::{FaultKind, Returns, Scope};
-use sl_verify::verify;
+use sl_verify::{Verified, verify};
 use std::alloc::Global;
 use std::test::*;
 
-// The returns of a text.
-fn returns_in(alloc: Global, text: &str) -> Result<Returns, ReturnsFault> {
-    read_returns(alloc, text.as_bytes())
+// The code of a file that the verifier accepts.
+fn accepted(alloc: Global, file: &[u8]) -> Result<Verified, Fail> {
+    let code = from_bytes(alloc, file)?;
+    match verify(code) {
+        Ok(verified) => Ok(verified),
+        Err(_) => Err("refused")?,
+    }
 }
 
-// How a code file's run ends that has as many steps as its budget.
-fn ending(alloc: Global, file: &[u8], returns: &Returns) -> Result<Ending, Fail> {
-    let code = verify(from_bytes(alloc, file)?).ok().ok_or("refused")?;
+// How the run of a code ends that has as many steps as its budget.
+fn end_of(alloc: Global, code: &Verified, returns: &Returns) -> Result<Ending, NoMemory> {
     let steps = budget(code.code().stages().len(), returns);
-    Ok(run(alloc, &code, returns, steps)?)
+    run(alloc, code, returns, steps)
+}
+
+// How such a run of a code file ends on the returns of a text.
+fn ending(alloc: Global, file: &[u8], text: &str) -> Result<Ending, Fail> {
+    let returns = read_returns(alloc, text.as_bytes())?;
+    let code = accepted(alloc, file)?;
+    Ok(end_of(alloc, &code, &returns)?)
 }
 
 // What is held when such a run is done.
-fn held(alloc: Global, file: &[u8], returns: &Returns) -> Result<Memory, Fail> {
-    match ending(alloc, file, returns)? {
+fn held(alloc: Global, file: &[u8], text: &str) -> Result<Memory, Fail> {
+    match ending(alloc, file, text)? {
         Ending::Done(memory) => Ok(memory),
         _ => Err("the run is not done")?,
     }
@@ -48,13 +59,24 @@ const VACANT: [u8; 21] =
 const CAP: [u8; 14] = *b"SLC\x01\x00\x00\x01\x00\x00\x00\x25\xff\x00\x06";
 
 #[test]
-fn codes_that_are_done(rt: HostRuntime) -> Result<(), Fail> {
-    let returns = returns_in(rt.alloc(), ONE_LIST)?;
-    let halted = held(rt.alloc(), &HALT, &returns)?;
+fn budget_of_one_list(rt: HostRuntime) -> Result<(), Fail> {
+    let returns = read_returns(rt.alloc(), ONE_LIST.as_bytes())?;
+    assert_eq!(rt; budget(0, &returns), 12_806_400);
+    Ok(())
+}
+
+#[test]
+fn a_code_that_halts_at_once(rt: HostRuntime) -> Result<(), Fail> {
+    let halted = held(rt.alloc(), &HALT, ONE_LIST)?;
     assert_eq!(rt; halted.base(), [0].as_slice());
     assert_eq!(rt; halted.vacant(), [0].as_slice());
     assert!(rt; halted.steps().is_empty() && halted.weights().is_empty());
-    let halted = held(rt.alloc(), &VACANT, &returns)?;
+    Ok(())
+}
+
+#[test]
+fn a_code_with_vacant_seats(rt: HostRuntime) -> Result<(), Fail> {
+    let halted = held(rt.alloc(), &VACANT, ONE_LIST)?;
     assert_eq!(rt; halted.base(), [10].as_slice());
     assert_eq!(rt; halted.vacant(), [4].as_slice());
     Ok(())
@@ -62,11 +84,9 @@ fn codes_that_are_done(rt: HostRuntime) -> Result<(), Fail> {
 
 #[test]
 fn codes_that_are_not_done(rt: HostRuntime) -> Result<(), Fail> {
-    let returns = returns_in(rt.alloc(), ONE_LIST)?;
-    assert_eq!(rt; budget(0, &returns), 12_806_400);
-    let end = ending(rt.alloc(), &ENDLESS, &returns)?;
+    let end = ending(rt.alloc(), &ENDLESS, ONE_LIST)?;
     assert!(rt; matches!(end, Ending::OutOfBudget));
-    let Ending::Fault(fault) = ending(rt.alloc(), &CAP, &returns)? else {
+    let Ending::Fault(fault) = ending(rt.alloc(), &CAP, ONE_LIST)? else {
         panic!(rt; "no legal fault");
     };
     assert_eq!(rt; (fault.stage, fault.scope), (0, Scope::All));

@@ -24,12 +24,16 @@ fn code(alloc: Global, instrs: &[Instr], slots: &[Shape]) -> Result<Code, Fail>
     ))
 }
 
-/// The fault of a code with one List slot and no stages.
+/// The fault of a code.
+fn fault(code: Code) -> Option<VerifyFault> {
+    verify(code).err().map(|refused| refused.1)
+}
+
+/// The fault of these instructions with one List slot and no stages.
 fn fault_of(alloc: Global, instrs: &[Instr]) -> Result<Option<VerifyFault>, Fail>
     requires { length instrs.now ≤ MAX_INSTRS }
 {
-    let code = code(alloc, instrs, &[Shape::List])?;
-    Ok(verify(code).err().map(|refused| refused.1))
+    Ok(fault(code(alloc, instrs, &[Shape::List])?))
 }
 
 /// `at` with those registers positive, no cursor set, and the table off.
@@ -103,19 +107,17 @@ fn single_instructions(rt: HostRuntime) -> Result<(), Fail> {
 
 #[test]
 fn slots(rt: HostRuntime) -> Result<(), Fail> {
-    let alloc = rt.alloc();
-    let halted = code(alloc, &[HALT], &[])?;
-    assert_eq!(rt;
-        verify(halted).err().map(|refused| refused.1),
-        Some(VerifyFault::Slot(0))
-    );
-    let halted = code(alloc, &[HALT], &[Shape::Party])?;
-    assert_eq!(rt;
-        verify(halted).err().map(|refused| refused.1),
-        Some(VerifyFault::Slot(0))
-    );
-    let halted = code(alloc, &[HALT], &[Shape::List])?;
-    let verified = verify(halted).ok().ok_or("refused")?;
+    let without = code(rt.alloc(), &[HALT], &[])?;
+    assert_eq!(rt; fault(without), Some(VerifyFault::Slot(0)));
+    let of_parties = code(rt.alloc(), &[HALT], &[Shape::Party])?;
+    assert_eq!(rt; fault(of_parties), Some(VerifyFault::Slot(0)));
+    Ok(())
+}
+
+#[test]
+fn an_accepted_code(rt: HostRuntime) -> Result<(), Fail> {
+    let code = code(rt.alloc(), &[HALT], &[Shape::List])?;
+    let verified = verify(code).ok().ok_or("refused")?;
     assert_eq!(rt; verified.code().instrs(), [HALT].as_slice());
     assert_eq!(rt; verified.into_code().slots(), [Shape::List].as_slice());
     Ok(())
@@ -310,10 +312,7 @@ fn stages_without_slots(rt: HostRuntime) -> Result<(), Fail> {
         stages,
         Vec::from_slice(alloc, &[Shape::List])?,
     );
-    assert_eq!(rt;
-        verify(code).err().map(|refused| refused.1),
-        Some(VerifyFault::Slot(0))
-    );
+    assert_eq!(rt; fault(code), Some(VerifyFault::Slot(0)));
     Ok(())
 }
 
@@ -325,9 +324,6 @@ fn many_instructions(rt: HostRuntime) -> Result<(), Fail> {
         Vec::new(alloc),
         Vec::new(alloc),
     );
-    assert_eq!(rt;
-        verify(code).err().map(|refused| refused.1),
-        Some(VerifyFault::RunsOff(199_999))
-    );
+    assert_eq!(rt; fault(code), Some(VerifyFault::RunsOff(199_999)));
     Ok(())
 }
