@@ -1,8 +1,8 @@
 -- An expression has no more splits and growths than parts.
 use Rattle.std.proofs.Common.{◌≤◌, arith}
-use Rattle.sl_stages.specs.Trees.{ExprTree, house, counted, winners, outside, independents, population, name, sum, larger, less, split, split_from, grow}
-use Rattle.sl_stages.specs.Limits.{parts_of}
-use Rattle.sl_stages.specs.Typing.{splits_in}
+use Rattle.sl_stages.specs.book.Trees.{ExprTree, house, counted, winners, outside, independents, population, name, sum, larger, less, split, split_from, grow}
+use Rattle.sl_stages.specs.book.Limits.{parts_of}
+use Rattle.sl_stages.specs.book.Typing.{splits_in}
 
 pub few_splits : (e : ExprTree) → splits_in e ≤ parts_of e
 few_splits (house at) = omega arith

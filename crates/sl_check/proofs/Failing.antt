@@ -6,10 +6,10 @@ use Rattle.sl_ratio.specs.declared.method.Method.{Method}
 use Rattle.sl_stages.specs.declared.check_fault.CheckFault.{CheckFault}
 use Rattle.sl_stages.specs.declared.book.Majority.{Majority}
 use Rattle.sl_stages.specs.declared.book.Expr.{Expr, Split}
-use Rattle.sl_stages.specs.Trees.{tree_of}
+use Rattle.sl_stages.specs.book.Trees.{tree_of}
 use Rattle.sl_stages.proofs.Tests.{fails_in_row}
-use Rattle.sl_stages.specs.Tests.{Test, first_failing}
-use Rattle.sl_stages.specs.Typing.{Column, expr_tests}
+use Rattle.sl_stages.specs.book.Tests.{Test, first_failing}
+use Rattle.sl_stages.specs.book.Typing.{Column, expr_tests}
 
 -- the first two lists may be taken together
 pub fails_behind : (a b c : List (Test CheckFault)) → first_failing (a ++ (b ++ c)) ≡ option_or (first_failing (a ++ b)) (first_failing c)

@@ -14,8 +14,8 @@ use Rattle.sl_stages.specs.declared.book.Majority.{Majority}
 use Rattle.sl_stages.specs.declared.book.Majority.TheVariants as majority
 use Rattle.sl_stages.specs.declared.book.Number.{Number}
 use Rattle.sl_stages.specs.declared.book.ColumnType.{ColumnType}
-use Rattle.sl_stages.specs.Tests.{first_failing}
-use Rattle.sl_stages.specs.Typing.{column, shape_over, can_split, same_shape, is_prefer, is_hamilton, is_seat_number}
+use Rattle.sl_stages.specs.book.Tests.{first_failing}
+use Rattle.sl_stages.specs.book.Typing.{column, shape_over, can_split, same_shape, is_prefer, is_hamilton, is_seat_number}
 use Rattle.sl_check.specs.HasType.{Sums, Splits, IsSplit, IsSplitFrom}
 use Rattle.sl_check.specs.Nodes.{sum_tests, pair_tests, split_tests, split_from_tests, share_from_tests, grow_tests}
 use Rattle.sl_stages.proofs.Shapes.{same_shape_is, same_shape_self, same_unit_is, same_unit_self}

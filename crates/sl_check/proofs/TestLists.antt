@@ -9,8 +9,8 @@ use Rattle.sl_stages.specs.declared.book.Axis.TheVariants as axis
 use Rattle.sl_stages.specs.declared.book.Majority.{Majority}
 use Rattle.sl_stages.specs.declared.book.Majority.TheVariants as majority
 use Rattle.sl_stages.specs.declared.check_fault.CheckFault.{CheckFault}
-use Rattle.sl_stages.specs.Tests.{Test, first_failing}
-use Rattle.sl_stages.specs.Typing.{shape_over, can_sum, can_split, is_prefer, is_hamilton}
+use Rattle.sl_stages.specs.book.Tests.{Test, first_failing}
+use Rattle.sl_stages.specs.book.Typing.{shape_over, can_sum, can_split, is_prefer, is_hamilton}
 use Rattle.sl_check.specs.HasType.{Sums, Splits}
 use Rattle.sl_stages.proofs.Tests.{pass_parts, pass_join}
 

@@ -3,9 +3,9 @@ use Rattle.std.proofs.Common.{◌≡◌, ℕ, List, Option, Some, None, true, fi
 use Rattle.sl_stages.specs.declared.book.Shape.TheVariants as shape
 use Rattle.sl_stages.specs.declared.book.Unit.TheVariants as unit
 use Rattle.sl_stages.specs.declared.book.ColumnType.{ColumnType}
-use Rattle.sl_stages.specs.Trees.{ExprTree, house, counted, winners, outside, independents, population, name, sum, larger, less, split, split_from, grow}
-use Rattle.sl_stages.specs.Tests.{first_failing}
-use Rattle.sl_stages.specs.Typing.{Column, column, type_or_one, is_named, expr_tests, type_of}
+use Rattle.sl_stages.specs.book.Trees.{ExprTree, house, counted, winners, outside, independents, population, name, sum, larger, less, split, split_from, grow}
+use Rattle.sl_stages.specs.book.Tests.{first_failing}
+use Rattle.sl_stages.specs.book.Typing.{Column, column, type_or_one, is_named, expr_tests, type_of}
 use Rattle.sl_check.specs.Known.{name_tests}
 use Rattle.sl_check.specs.Nodes.{sum_tests, pair_tests, split_tests, split_from_tests, grow_tests}
 use Rattle.sl_check.specs.HasType.{HasType, IsNamed}

@@ -6,9 +6,9 @@ use Rattle.std.specs.Option.{option_or}
 use Rattle.sl_stages.specs.declared.check_fault.CheckFault.{CheckFault}
 use Rattle.sl_stages.specs.declared.book.Stage.{Stage}
 use Rattle.sl_stages.specs.declared.book.ColumnType.{ColumnType}
-use Rattle.sl_stages.specs.Trees.{tree_of, stage_of}
-use Rattle.sl_stages.specs.Tests.{first_failing}
-use Rattle.sl_stages.specs.Typing.{Column, column_of, columns_of, type_of, stages_tests}
+use Rattle.sl_stages.specs.book.Trees.{tree_of, stage_of}
+use Rattle.sl_stages.specs.book.Tests.{first_failing}
+use Rattle.sl_stages.specs.book.Typing.{Column, column_of, columns_of, type_of, stages_tests}
 use Rattle.sl_check.specs.Known.{columns, stage_tests}
 use Rattle.sl_stages.proofs.Tests.{fails_in_row}
 

@@ -6,8 +6,8 @@ use Rattle.std.proofs.lemmas.Bool.{leb-true}
 use Rattle.std.proofs.lemmas.List.{length-map}
 use Rattle.sl_stages.specs.declared.limits.TheConstants.{MAX_PARTS, MAX_STAGES}
 use Rattle.sl_stages.specs.declared.book.Stage.{Stage}
-use Rattle.sl_stages.specs.Trees.{tree_of, stage_of}
-use Rattle.sl_stages.specs.Limits.{parts_of, is_within_stage, is_within_limits}
+use Rattle.sl_stages.specs.book.Trees.{tree_of, stage_of}
+use Rattle.sl_stages.specs.book.Limits.{parts_of, is_within_stage, is_within_limits}
 
 parts_each : (ss : List Stage) (i : ℕ) (s : Stage) → list_all is_within_stage (map stage_of ss) ≡ true → i < length ss → s ≡ get_or ss i s
     → parts_of (tree_of s.expr) ≤ MAX_PARTS

@@ -12,8 +12,8 @@ use Rattle.sl_stages.specs.declared.book.Axis.TheVariants as axis
 use Rattle.sl_stages.specs.declared.book.Majority.{Majority}
 use Rattle.sl_stages.specs.declared.book.Majority.TheVariants as majority
 use Rattle.sl_stages.specs.declared.book.ColumnType.{ColumnType}
-use Rattle.sl_stages.specs.Trees.{ExprTree, house, counted, winners, outside, independents, population, name, sum, larger, less, split, split_from, grow}
-use Rattle.sl_stages.specs.Typing.{Column, column, is_named}
+use Rattle.sl_stages.specs.book.Trees.{ExprTree, house, counted, winners, outside, independents, population, name, sum, larger, less, split, split_from, grow}
+use Rattle.sl_stages.specs.book.Typing.{Column, column, is_named}
 
 -- a column of the first shape is summed over the axis to one of the second
 abbrev pub Sums : Shape → Axis → Shape → Type 0

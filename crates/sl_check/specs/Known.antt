@@ -3,9 +3,9 @@ use Rattle.std.specs.Prelude.{ℕ, List, [], ◌∷◌, not, nat_le}
 use Rattle.sl_stages.specs.declared.book.Stage.{Stage}
 use Rattle.sl_stages.specs.declared.book.ColumnType.{ColumnType}
 use Rattle.sl_stages.specs.declared.check_fault.CheckFault.{CheckFault}
-use Rattle.sl_stages.specs.Tests.{Test, test}
-use Rattle.sl_stages.specs.Typing.{Column, is_named, splits_in, expr_tests}
-use Rattle.sl_stages.specs.Trees.{StageTree}
+use Rattle.sl_stages.specs.book.Tests.{Test, test}
+use Rattle.sl_stages.specs.book.Typing.{Column, is_named, splits_in, expr_tests}
+use Rattle.sl_stages.specs.book.Trees.{StageTree}
 use Rattle.sl_stages.specs.declared.check_fault.CheckFault.TheVariants as fault
 use Rattle.std.specs.List.{list_any}
 

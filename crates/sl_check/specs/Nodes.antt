@@ -9,8 +9,8 @@ use Rattle.sl_stages.specs.declared.book.Number.{Number}
 use Rattle.sl_stages.specs.declared.book.ColumnType.{ColumnType}
 use Rattle.sl_stages.specs.declared.check_fault.CheckFault.TheVariants as fault
 use Rattle.sl_stages.specs.declared.check_fault.CheckFault.{CheckFault}
-use Rattle.sl_stages.specs.Tests.{Test, test}
-use Rattle.sl_stages.specs.Typing.{same_shape, same_unit, can_sum, can_split, is_hamilton, is_prefer, is_seat_number}
+use Rattle.sl_stages.specs.book.Tests.{Test, test}
+use Rattle.sl_stages.specs.book.Typing.{same_shape, same_unit, can_sum, can_split, is_hamilton, is_prefer, is_seat_number}
 
 abbrev pub sum_tests : ℕ → ColumnType → Axis → List (Test CheckFault)
 sum_tests at e over = test (can_sum e.shape over) (fault.Shape at) ∷ []

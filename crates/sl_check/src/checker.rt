@@ -1,14 +1,14 @@
 //! The whole of a rulebook.
 
 ghost use Rattle.std.specs.Prelude.{◌≡◌, [], ◌∷◌, Some, IfOk, IfErr, IsTrue, IsOk, ◌↔◌};
-ghost use Rattle.sl_stages.specs.Books.{book_of};
-ghost use Rattle.sl_stages.specs.Typing.{version_tests, condition_tests, tests_of, check_fault, is_typed};
-ghost use Rattle.sl_stages.specs.Tests.{Judges};
+ghost use Rattle.sl_stages.specs.book.Books.{book_of};
+ghost use Rattle.sl_stages.specs.book.Typing.{version_tests, condition_tests, tests_of, check_fault, is_typed};
+ghost use Rattle.sl_stages.specs.book.Tests.{Judges};
 
 use crate::columns::Columns;
 use crate::nodes::{is_seat_number, test};
 use crate::stages::stage_types;
-use sl_stages::{Book, CheckFault, CheckedBook, Condition, MAX_PER, Number};
+use sl_stages::{Book, CheckFault, CheckedBook, Cond, MAX_PER, Number};
 
 /// Refuses versions but 1 and 2, and `vacate` in version 1.
 fn check_version(version: Number, vacate: Option<usize>) -> Result<(), CheckFault>
@@ -23,19 +23,19 @@ fn check_version(version: Number, vacate: Option<usize>) -> Result<(), CheckFaul
 }
 
 /// Refuses a share of votes that is not from 1 per 1000 to the whole.
-fn check_condition(condition: Condition) -> Result<(), CheckFault>
+fn check_condition(condition: Cond) -> Result<(), CheckFault>
     ensures { Judges result (condition_tests (condition ∷ [])) tt }
 {
     match condition {
-        Condition::Valid { share, per } => {
+        Cond::Valid { share, per } => {
             let fits = 1 <= share.value && share.value <= per && per <= MAX_PER;
             test(fits, CheckFault::PerRange(share.at))
         }
-        Condition::Winners { .. } | Condition::Minority | Condition::All => Ok(()),
+        Cond::Winners { .. } | Cond::Minority | Cond::All => Ok(()),
     }
 }
 
-fn check_conditions(conditions: &[Condition]) -> Result<(), CheckFault>
+fn check_conditions(conditions: &[Cond]) -> Result<(), CheckFault>
     ensures { Judges result (condition_tests conditions.now) tt }
 {
     for condition in conditions {

@@ -2,9 +2,9 @@
 
 ghost use Rattle.std.specs.Prelude.{◌≡◌, ◌≤◌, find, option_map, length, ◌++◌};
 ghost use Rattle.std.specs.List.{list_any};
-ghost use Rattle.sl_stages.specs.Typing.{is_named, type_or_one, expr_tests, type_of};
-ghost use Rattle.sl_stages.specs.Trees.{tree_of};
-ghost use Rattle.sl_stages.specs.Tests.{Judges};
+ghost use Rattle.sl_stages.specs.book.Typing.{is_named, type_or_one, expr_tests, type_of};
+ghost use Rattle.sl_stages.specs.book.Trees.{tree_of};
+ghost use Rattle.sl_stages.specs.book.Tests.{Judges};
 ghost use Rattle.sl_check.specs.Known.{columns, name_tests};
 
 use crate::nodes::{grow_type, pair_type, seats, split_from_type, split_type, sum_type, votes};

@@ -2,9 +2,9 @@
 
 ghost use Rattle.std.specs.Prelude.{◌≡◌, ◌↔◌, List, None};
 ghost use Rattle.sl_stages.specs.declared.book.ColumnType.{ColumnType};
-ghost use Rattle.sl_stages.specs.Trees.{ExprTree};
-ghost use Rattle.sl_stages.specs.Tests.{first_failing};
-ghost use Rattle.sl_stages.specs.Typing.{Column, expr_tests, type_of};
+ghost use Rattle.sl_stages.specs.book.Trees.{ExprTree};
+ghost use Rattle.sl_stages.specs.book.Tests.{first_failing};
+ghost use Rattle.sl_stages.specs.book.Typing.{Column, expr_tests, type_of};
 ghost use Rattle.sl_check.specs.HasType.{HasType};
 
 /// All tests of an expression hold exactly where it has a type by the table of expressions

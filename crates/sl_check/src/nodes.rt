@@ -3,9 +3,9 @@
 ghost use Rattle.std.specs.Prelude.{◌≡◌, ◌&&◌, [], ◌∷◌};
 ghost use Rattle.sl_stages.specs.declared.book.Shape.TheVariants as shape;
 ghost use Rattle.sl_stages.specs.declared.book.Unit.TheVariants as unit;
-ghost use Rattle.sl_stages.specs.Tests.{test};
-ghost use Rattle.sl_stages.specs.Typing.{column, same_shape, same_unit, shape_over, can_sum, can_split, is_hamilton, is_prefer, is_seat_number};
-ghost use Rattle.sl_stages.specs.Tests.{Judges};
+ghost use Rattle.sl_stages.specs.book.Tests.{test};
+ghost use Rattle.sl_stages.specs.book.Typing.{column, same_shape, same_unit, shape_over, can_sum, can_split, is_hamilton, is_prefer, is_seat_number};
+ghost use Rattle.sl_stages.specs.book.Tests.{Judges};
 ghost use Rattle.sl_check.specs.Nodes.{sum_tests, pair_tests, share_from_tests, split_tests, split_from_tests, grow_tests};
 
 use sl_ratio::Method;

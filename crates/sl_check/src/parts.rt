@@ -1,9 +1,9 @@
 //! How many splits and growths an expression has.
 
 ghost use Rattle.std.specs.Prelude.{◌≡◌, ◌≤◌};
-ghost use Rattle.sl_stages.specs.Trees.{tree_of};
-ghost use Rattle.sl_stages.specs.Limits.{parts_of};
-ghost use Rattle.sl_stages.specs.Typing.{splits_in};
+ghost use Rattle.sl_stages.specs.book.Trees.{tree_of};
+ghost use Rattle.sl_stages.specs.book.Limits.{parts_of};
+ghost use Rattle.sl_stages.specs.book.Typing.{splits_in};
 
 use sl_stages::{Expr, MAX_PARTS};
 

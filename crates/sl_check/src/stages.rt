@@ -1,11 +1,11 @@
 //! The stages of a rulebook, and the base of its last clause.
 
 ghost use Rattle.std.specs.Prelude.{◌≡◌, ◌≤◌, [], ◌∷◌, map, length, Some, None, MatchResult, IsTrue};
-ghost use Rattle.sl_stages.specs.Trees.{tree_of, stage_of};
-ghost use Rattle.sl_stages.specs.Limits.{parts_of, is_within_limits};
-ghost use Rattle.sl_stages.specs.Tests.{first_failing};
-ghost use Rattle.sl_stages.specs.Typing.{type_of, stages_tests, columns_of, base_tests};
-ghost use Rattle.sl_stages.specs.Tests.{Judges};
+ghost use Rattle.sl_stages.specs.book.Trees.{tree_of, stage_of};
+ghost use Rattle.sl_stages.specs.book.Limits.{parts_of, is_within_limits};
+ghost use Rattle.sl_stages.specs.book.Tests.{first_failing};
+ghost use Rattle.sl_stages.specs.book.Typing.{type_of, stages_tests, columns_of, base_tests};
+ghost use Rattle.sl_stages.specs.book.Tests.{Judges};
 ghost use Rattle.sl_check.specs.Known.{columns, stage_tests};
 
 use crate::columns::Columns;

@@ -1,14 +1,14 @@
 //! Rulebooks built by hand, each with the offsets of its text.
 
 ghost use Rattle.std.specs.Prelude.{◌≡◌, ◌≤◌, ◌&&◌, map, flat_map, nat_le, IsTrue, IfOk};
-ghost use Rattle.sl_stages.specs.Words.{is_word};
-ghost use Rattle.sl_stages.specs.Trees.{tree_of, stage_of};
-ghost use Rattle.sl_stages.specs.Limits.{depth_of, parts_of, is_within_limits, numbers_of, are_small};
+ghost use Rattle.sl_stages.specs.book.Words.{is_word};
+ghost use Rattle.sl_stages.specs.book.Trees.{tree_of, stage_of};
+ghost use Rattle.sl_stages.specs.book.Limits.{depth_of, parts_of, is_within_limits, numbers_of, are_small};
 
 use super::*;
 use sl_ratio::{Divisor, Method};
 use sl_stages::{
-    Axis, Base, Book, Condition, Expr, LastClause, MAX_NUMBER, Majority, Number, Seating, Stage,
+    Axis, Base, Book, Cond, Expr, LastClause, MAX_NUMBER, Majority, Number, Seating, Stage,
     Word,
 };
 use std::alloc::Global;
@@ -46,7 +46,7 @@ fn book(
             value: house,
             at: 27,
         },
-        eligible: Vec::from_slice(alloc, &[Condition::All])?,
+        eligible: Vec::from_slice(alloc, &[Cond::All])?,
         stages,
         last,
     })

@@ -5,7 +5,7 @@ use Rattle.std.proofs.lemmas.Bool.{and_parts, and_from, false≢true}
 use Rattle.sl_ratio.specs.declared.names.TheConstants.{MAX_NAME_BYTES}
 use Rattle.sl_stages.specs.declared.book.Shape.{Shape}
 use Rattle.sl_stages.specs.declared.book.Shape.TheVariants as shapes
-use Rattle.sl_stages.specs.Words.{is_letter, is_word}
+use Rattle.sl_stages.specs.book.Words.{is_letter, is_word}
 use Rattle.sl_code.specs.declared.code.CodeStage.{CodeStage}
 use Rattle.sl_code.specs.declared.fault.Cause.TheVariants as causes
 use Rattle.sl_code.specs.declared.fault.Stop.{Stop}

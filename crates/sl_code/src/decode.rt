@@ -55,7 +55,7 @@ impl<'a> Reader<'a> {
     {
         let register = self.byte()?;
         let value = self.value()?;
-        Ok(Instr::Set { register, value })
+        Ok(Instr::Set(register, value))
     }
 
     /// An operation of two registers.
@@ -66,13 +66,13 @@ impl<'a> Reader<'a> {
     {
         let (register, by) = self.pair()?;
         Ok(match op {
-            0x02 => Instr::Mov { register, from: by },
-            0x03 => Instr::Add { register, by },
-            0x04 => Instr::Sub { register, by },
-            0x05 => Instr::Mul { register, by },
-            0x06 => Instr::Div { register, by },
-            0x07 => Instr::Rem { register, by },
-            _ => Instr::Max { register, by },
+            0x02 => Instr::Mov(register, by),
+            0x03 => Instr::Add(register, by),
+            0x04 => Instr::Sub(register, by),
+            0x05 => Instr::Mul(register, by),
+            0x06 => Instr::Div(register, by),
+            0x07 => Instr::Rem(register, by),
+            _ => Instr::Max(register, by),
         })
     }
 
@@ -84,15 +84,15 @@ impl<'a> Reader<'a> {
     {
         let target = self.target()?;
         Ok(match op {
-            0x09 => Instr::Jmp { target },
-            0x0c => Instr::Jnl { target },
-            0x12 => Instr::Wparty { target },
-            0x14 => Instr::Fparty { target },
-            0x15 => Instr::Nparty { target },
-            0x16 => Instr::Fland { target },
-            0x17 => Instr::Nland { target },
-            0x18 => Instr::Fwin { target },
-            _ => Instr::Nwin { target },
+            0x09 => Instr::Jmp(target),
+            0x0c => Instr::Jnl(target),
+            0x12 => Instr::Wparty(target),
+            0x14 => Instr::Fparty(target),
+            0x15 => Instr::Nparty(target),
+            0x16 => Instr::Fland(target),
+            0x17 => Instr::Nland(target),
+            0x18 => Instr::Fwin(target),
+            _ => Instr::Nwin(target),
         })
     }
 
@@ -105,18 +105,9 @@ impl<'a> Reader<'a> {
         let first = self.byte()?;
         let target = self.target()?;
         Ok(match op {
-            0x0a => Instr::Jz {
-                register: first,
-                target,
-            },
-            0x1f => Instr::Peers {
-                register: first,
-                target,
-            },
-            _ => Instr::Lot {
-                stage: first,
-                target,
-            },
+            0x0a => Instr::Jz(first, target),
+            0x1f => Instr::Peers(first, target),
+            _ => Instr::Lot(first, target),
         })
     }
 
@@ -126,11 +117,7 @@ impl<'a> Reader<'a> {
     {
         let (left, right) = self.pair()?;
         let target = self.target()?;
-        Ok(Instr::Jlt {
-            left,
-            right,
-            target,
-        })
+        Ok(Instr::Jlt(left, right, target))
     }
 
     /// An operation of a register and a slot, or of two slots.
@@ -141,18 +128,9 @@ impl<'a> Reader<'a> {
     {
         let (first, second) = self.pair()?;
         Ok(match op {
-            0x0d => Instr::Get {
-                register: first,
-                slot: second,
-            },
-            0x0e => Instr::Store {
-                slot: first,
-                register: second,
-            },
-            _ => Instr::Haltv {
-                slot: first,
-                vacant: second,
-            },
+            0x0d => Instr::Get(first, second),
+            0x0e => Instr::Store(first, second),
+            _ => Instr::Haltv(first, second),
         })
     }
 
@@ -164,11 +142,11 @@ impl<'a> Reader<'a> {
     {
         let number = self.byte()?;
         Ok(match op {
-            0x0f => Instr::Zero { slot: number },
-            0x11 => Instr::House { register: number },
-            0x1c => Instr::Rest { register: number },
-            0x22 => Instr::Takelot { stage: number },
-            _ => Instr::Halt { slot: number },
+            0x0f => Instr::Zero(number),
+            0x11 => Instr::House(number),
+            0x1c => Instr::Rest(number),
+            0x22 => Instr::Takelot(number),
+            _ => Instr::Halt(number),
         })
     }
 
@@ -178,7 +156,7 @@ impl<'a> Reader<'a> {
     {
         let slot = self.byte()?;
         let input = self.input()?;
-        Ok(Instr::Input { slot, input })
+        Ok(Instr::Input(slot, input))
     }
 
     fn new_table(&mut self) -> Result<Instr, Stop>
@@ -187,7 +165,7 @@ impl<'a> Reader<'a> {
     {
         let entries = self.entries()?;
         let ranking = self.ranking()?;
-        Ok(Instr::Table { entries, ranking })
+        Ok(Instr::Table(entries, ranking))
     }
 
     fn priority(&mut self) -> Result<Instr, Stop>
@@ -196,11 +174,7 @@ impl<'a> Reader<'a> {
     {
         let method = self.method()?;
         let (weight, seats) = self.pair()?;
-        Ok(Instr::Prio {
-            method,
-            weight,
-            seats,
-        })
+        Ok(Instr::Prio(method, weight, seats))
     }
 
     /// A stage and a scope.
@@ -219,12 +193,7 @@ impl<'a> Reader<'a> {
     {
         let (stage, scope) = self.place()?;
         let (number, step) = self.pair()?;
-        Ok(Instr::Emit {
-            stage,
-            scope,
-            number,
-            step,
-        })
+        Ok(Instr::Emit(stage, scope, number, step))
     }
 
     /// An operation of a stage, a scope and a register.
@@ -236,16 +205,8 @@ impl<'a> Reader<'a> {
         let (stage, scope) = self.place()?;
         let register = self.byte()?;
         Ok(match op {
-            0x24 => Instr::Given {
-                stage,
-                scope,
-                number: register,
-            },
-            _ => Instr::Tie {
-                stage,
-                scope,
-                seats: register,
-            },
+            0x24 => Instr::Given(stage, scope, register),
+            _ => Instr::Tie(stage, scope, register),
         })
     }
 
@@ -255,11 +216,7 @@ impl<'a> Reader<'a> {
     {
         let (stage, scope) = self.place()?;
         let fault = self.end_fault()?;
-        Ok(Instr::Fault {
-            stage,
-            scope,
-            fault,
-        })
+        Ok(Instr::Fault(stage, scope, fault))
     }
 
     fn kinds(&mut self) -> Result<Instr, Stop>
@@ -269,13 +226,11 @@ impl<'a> Reader<'a> {
         let positive = self.registers()?;
         let cursors = self.cursors()?;
         let table = self.table()?;
-        Ok(Instr::At {
-            kinds: Kinds {
+        Ok(Instr::At(Kinds {
                 positive,
                 cursors,
                 table,
-            },
-        })
+            }))
     }
 
     fn weigh(&mut self) -> Result<Instr, Stop>
@@ -285,11 +240,6 @@ impl<'a> Reader<'a> {
         let (stage, scope) = self.place()?;
         let rounding = self.rounding()?;
         let weight = self.byte()?;
-        Ok(Instr::Weigh {
-            stage,
-            scope,
-            rounding,
-            weight,
-        })
+        Ok(Instr::Weigh(stage, scope, rounding, weight))
     }
 }

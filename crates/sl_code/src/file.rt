@@ -3,7 +3,7 @@
 ghost use Rattle.std.specs.Prelude.{◌≡◌, ◌∷◌, ◌++◌, ◌<◌, ◌≤◌, ◌^◌, [], length, flat_map, map, All, IsTrue, IfOk, IfErr, OnOk};
 ghost use Rattle.std.specs.List.{list_all};
 ghost use Rattle.sl_stages.specs.declared.limits.TheConstants.{MAX_STAGES as most_stages};
-ghost use Rattle.sl_stages.specs.Words.{is_letter};
+ghost use Rattle.sl_stages.specs.book.Words.{is_letter};
 ghost use Rattle.sl_code.specs.declared.code.TheConstants.{MAX_SLOTS as most_slots, MAX_INSTRS as most_instrs};
 ghost use Rattle.sl_code.specs.declared.fault.Cause.TheVariants as causes;
 ghost use Rattle.sl_code.specs.Numbers.{shape_number};

@@ -4,196 +4,92 @@ use crate::kinds::Kinds;
 use crate::operand::{EndFault, Entries, Input, Ranking, Rounding, ScopeKind};
 use sl_ratio::Divisor;
 
-/// An instruction (docs/code.md, section 2). Registers, slots, stages and targets are numbers; which of them there are, the
-/// verifier decides. Stage 255 is the last clause.
+/// An instruction (docs/code.md, section 2), with its operands in order: `r` and `s` are registers, `k` and `v` slots, `t` the place of an
+/// instruction, `n` a stage (255 is the last clause), `c` a scope. Which of them there are, the verifier decides.
 #[derive(Clone, Copy, Debug, PartialEq, Eq)]
 pub enum Instr {
-    /// The register is the value.
-    Set {
-        register: u8,
-        value: u64,
-    },
-    Mov {
-        register: u8,
-        from: u8,
-    },
-    /// The sum, at most 2^64 - 1.
-    Add {
-        register: u8,
-        by: u8,
-    },
-    /// The difference, at least 0.
-    Sub {
-        register: u8,
-        by: u8,
-    },
-    /// The product, at most 2^64 - 1.
-    Mul {
-        register: u8,
-        by: u8,
-    },
-    Div {
-        register: u8,
-        by: u8,
-    },
-    Rem {
-        register: u8,
-        by: u8,
-    },
-    /// The greater of the two.
-    Max {
-        register: u8,
-        by: u8,
-    },
-    Jmp {
-        target: u32,
-    },
-    /// Jumps where the register is 0.
-    Jz {
-        register: u8,
-        target: u32,
-    },
-    /// Jumps where the first register is less than the second.
-    Jlt {
-        left: u8,
-        right: u8,
-        target: u32,
-    },
-    /// Jumps where the Land and the party of the cursors have no list.
-    Jnl {
-        target: u32,
-    },
-    /// The register is the column's cell at the cursors.
-    Get {
-        register: u8,
-        slot: u8,
-    },
-    /// The column's cell at the cursors is the register.
-    Store {
-        slot: u8,
-        register: u8,
-    },
-    /// Each cell of the column is 0.
-    Zero {
-        slot: u8,
-    },
-    /// The column is one of the returns'.
-    Input {
-        slot: u8,
-        input: Input,
-    },
-    /// The register is the returns' house, if they give one.
-    House {
-        register: u8,
-    },
-    /// The party cursor is the winner's party; for a winner without a party it is unset, and the machine jumps.
-    Wparty {
-        target: u32,
-    },
+    /// `r x`: r is the number x.
+    Set(u8, u64),
+    /// `r s`: r is s.
+    Mov(u8, u8),
+    /// `r s`: r is the sum of both, at most 2^64 - 1.
+    Add(u8, u8),
+    /// `r s`: r is the difference, at least 0.
+    Sub(u8, u8),
+    /// `r s`: r is the product, at most 2^64 - 1.
+    Mul(u8, u8),
+    /// `r s`: r is the quotient, rounded down.
+    Div(u8, u8),
+    /// `r s`: r is the remainder of the division by s.
+    Rem(u8, u8),
+    /// `r s`: r is the greater of the two.
+    Max(u8, u8),
+    /// `t`: jumps.
+    Jmp(u32),
+    /// `r t`: jumps where r is 0.
+    Jz(u8, u32),
+    /// `r s t`: jumps where r is less than s.
+    Jlt(u8, u8, u32),
+    /// `t`: jumps where the Land and the party of the cursors have no list.
+    Jnl(u32),
+    /// `r k`: r is the column's cell at the cursors.
+    Get(u8, u8),
+    /// `k r`: the column's cell at the cursors is r.
+    Store(u8, u8),
+    /// `k`: each cell of the column is 0.
+    Zero(u8),
+    /// `k i`: the column is one of the returns'.
+    Input(u8, Input),
+    /// `r`: r is the returns' house, if they give one.
+    House(u8),
+    /// `t`: the party cursor is the winner's party; for a winner without a party it is unset, and the machine jumps.
+    Wparty(u32),
     /// The Land cursor is the winner's Land.
     Wland,
-    /// The cursor is the first party; without a party it is unset, and the machine jumps. So for Länder and winners.
-    Fparty {
-        target: u32,
-    },
-    /// The cursor is the next party, and the machine jumps; behind the last one it is unset. So for Länder and winners.
-    Nparty {
-        target: u32,
-    },
-    Fland {
-        target: u32,
-    },
-    Nland {
-        target: u32,
-    },
-    Fwin {
-        target: u32,
-    },
-    Nwin {
-        target: u32,
-    },
-    /// The table is on and empty.
-    Table {
-        entries: Entries,
-        ranking: Ranking,
-    },
-    /// Enters the cursors' entry with the method's quotient for a weight and seats held.
-    Prio {
-        method: Divisor,
-        weight: u8,
-        seats: u8,
-    },
-    /// Enters the cursors' entry with a remainder.
-    Rest {
-        register: u8,
-    },
+    /// `t`: the cursor is the first party; without a party it is unset, and the machine jumps. `Fland` and `Fwin` do the same.
+    Fparty(u32),
+    /// `t`: the cursor is the next party, and the machine jumps; after the last one it is unset. `Nland` and `Nwin` do the same.
+    Nparty(u32),
+    Fland(u32),
+    Nland(u32),
+    Fwin(u32),
+    Nwin(u32),
+    /// `e o`: the table is on and empty.
+    Table(Entries, Ranking),
+    /// `m r s`: enters the cursors' entry with the method's quotient for the weight r and s seats held.
+    Prio(Divisor, u8, u8),
+    /// `r`: enters the cursors' entry with the remainder r.
+    Rest(u8),
     /// Enters the cursors' entry ahead of all remainders.
     Lead,
     /// Enters the winner with the share of first votes.
     Share,
-    /// Jumps where the table is empty; else the register is the number of entries with the greatest quotient.
-    Peers {
-        register: u8,
-        target: u32,
-    },
+    /// `r t`: jumps where the table is empty; else r is the number of entries with the greatest quotient.
+    Peers(u8, u32),
     /// Takes the greatest entry out; the cursors are its.
     Take,
-    /// Jumps unless the stage's lot names every peer of the greatest entry.
-    Lot {
-        stage: u8,
-        target: u32,
-    },
-    /// Takes the peer out that the stage's lot draws; the cursors are its.
-    Takelot {
-        stage: u8,
-    },
-    /// Records the seat of this number and step for the cursors' entry, with the mark taken last.
-    Emit {
-        stage: u8,
-        scope: ScopeKind,
-        number: u8,
-        step: u8,
-    },
-    /// Records a given seat for the cursors' entry, with step 0.
-    Given {
-        stage: u8,
-        scope: ScopeKind,
-        number: u8,
-    },
-    /// Ends with a legal fault.
-    Fault {
-        stage: u8,
-        scope: ScopeKind,
-        fault: EndFault,
-    },
-    /// Ends with a tie of so many seats among the peers of the greatest entry.
-    Tie {
-        stage: u8,
-        scope: ScopeKind,
-        seats: u8,
-    },
+    /// `n t`: jumps unless the stage's lot names every peer of the greatest entry.
+    Lot(u8, u32),
+    /// `n`: takes the peer out that the stage's lot draws; the cursors are its.
+    Takelot(u8),
+    /// `n c r s`: records seat number r with step s for the cursors' entry, with the mark taken last.
+    Emit(u8, ScopeKind, u8, u8),
+    /// `n c r`: records seat number r as a given one for the cursors' entry, with step 0.
+    Given(u8, ScopeKind, u8),
+    /// `n c f`: ends with a legal fault.
+    Fault(u8, ScopeKind, EndFault),
+    /// `n c r`: ends with a tie of r seats among the peers of the greatest entry.
+    Tie(u8, ScopeKind, u8),
     /// The winner is seated on the list of its Land and party, if there is one.
     Seat,
     /// The winner is seated as a single.
     Single,
-    /// Ends with the seats of the lists.
-    Halt {
-        slot: u8,
-    },
+    /// `k`: ends with the seats of the lists.
+    Halt(u8),
     /// Declares what is known here.
-    At {
-        kinds: Kinds,
-    },
-    /// Ends with the seats of the lists, and with the vacant ones.
-    Haltv {
-        slot: u8,
-        vacant: u8,
-    },
-    /// Records the weight of the cursors' entry.
-    Weigh {
-        stage: u8,
-        scope: ScopeKind,
-        rounding: Rounding,
-        weight: u8,
-    },
+    At(Kinds),
+    /// `k v`: ends with the seats of the lists, and with the vacant ones.
+    Haltv(u8, u8),
+    /// `n c m r`: records the weight r of the cursors' entry.
+    Weigh(u8, ScopeKind, Rounding, u8),
 }

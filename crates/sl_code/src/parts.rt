@@ -136,50 +136,50 @@ impl Instr {
         ensures { result ≡ opcode_of self }
     {
         match self {
-            Instr::Set { .. } => 0x01,
-            Instr::Mov { .. } => 0x02,
-            Instr::Add { .. } => 0x03,
-            Instr::Sub { .. } => 0x04,
-            Instr::Mul { .. } => 0x05,
-            Instr::Div { .. } => 0x06,
-            Instr::Rem { .. } => 0x07,
-            Instr::Max { .. } => 0x08,
-            Instr::Jmp { .. } => 0x09,
-            Instr::Jz { .. } => 0x0a,
-            Instr::Jlt { .. } => 0x0b,
-            Instr::Jnl { .. } => 0x0c,
-            Instr::Get { .. } => 0x0d,
-            Instr::Store { .. } => 0x0e,
-            Instr::Zero { .. } => 0x0f,
-            Instr::Input { .. } => 0x10,
-            Instr::House { .. } => 0x11,
-            Instr::Wparty { .. } => 0x12,
+            Instr::Set(..) => 0x01,
+            Instr::Mov(..) => 0x02,
+            Instr::Add(..) => 0x03,
+            Instr::Sub(..) => 0x04,
+            Instr::Mul(..) => 0x05,
+            Instr::Div(..) => 0x06,
+            Instr::Rem(..) => 0x07,
+            Instr::Max(..) => 0x08,
+            Instr::Jmp(..) => 0x09,
+            Instr::Jz(..) => 0x0a,
+            Instr::Jlt(..) => 0x0b,
+            Instr::Jnl(..) => 0x0c,
+            Instr::Get(..) => 0x0d,
+            Instr::Store(..) => 0x0e,
+            Instr::Zero(..) => 0x0f,
+            Instr::Input(..) => 0x10,
+            Instr::House(..) => 0x11,
+            Instr::Wparty(..) => 0x12,
             Instr::Wland => 0x13,
-            Instr::Fparty { .. } => 0x14,
-            Instr::Nparty { .. } => 0x15,
-            Instr::Fland { .. } => 0x16,
-            Instr::Nland { .. } => 0x17,
-            Instr::Fwin { .. } => 0x18,
-            Instr::Nwin { .. } => 0x19,
-            Instr::Table { .. } => 0x1a,
-            Instr::Prio { .. } => 0x1b,
-            Instr::Rest { .. } => 0x1c,
+            Instr::Fparty(..) => 0x14,
+            Instr::Nparty(..) => 0x15,
+            Instr::Fland(..) => 0x16,
+            Instr::Nland(..) => 0x17,
+            Instr::Fwin(..) => 0x18,
+            Instr::Nwin(..) => 0x19,
+            Instr::Table(..) => 0x1a,
+            Instr::Prio(..) => 0x1b,
+            Instr::Rest(..) => 0x1c,
             Instr::Lead => 0x1d,
             Instr::Share => 0x1e,
-            Instr::Peers { .. } => 0x1f,
+            Instr::Peers(..) => 0x1f,
             Instr::Take => 0x20,
-            Instr::Lot { .. } => 0x21,
-            Instr::Takelot { .. } => 0x22,
-            Instr::Emit { .. } => 0x23,
-            Instr::Given { .. } => 0x24,
-            Instr::Fault { .. } => 0x25,
-            Instr::Tie { .. } => 0x26,
+            Instr::Lot(..) => 0x21,
+            Instr::Takelot(..) => 0x22,
+            Instr::Emit(..) => 0x23,
+            Instr::Given(..) => 0x24,
+            Instr::Fault(..) => 0x25,
+            Instr::Tie(..) => 0x26,
             Instr::Seat => 0x27,
             Instr::Single => 0x28,
-            Instr::Halt { .. } => 0x29,
-            Instr::At { .. } => 0x2a,
-            Instr::Haltv { .. } => 0x2b,
-            Instr::Weigh { .. } => 0x2c,
+            Instr::Halt(..) => 0x29,
+            Instr::At(..) => 0x2a,
+            Instr::Haltv(..) => 0x2b,
+            Instr::Weigh(..) => 0x2c,
         }
     }
 
@@ -188,50 +188,50 @@ impl Instr {
         ensures { result.now ≡ name_of self }
     {
         match self {
-            Instr::Set { .. } => b"set",
-            Instr::Mov { .. } => b"mov",
-            Instr::Add { .. } => b"add",
-            Instr::Sub { .. } => b"sub",
-            Instr::Mul { .. } => b"mul",
-            Instr::Div { .. } => b"div",
-            Instr::Rem { .. } => b"rem",
-            Instr::Max { .. } => b"max",
-            Instr::Jmp { .. } => b"jmp",
-            Instr::Jz { .. } => b"jz",
-            Instr::Jlt { .. } => b"jlt",
-            Instr::Jnl { .. } => b"jnl",
-            Instr::Get { .. } => b"get",
-            Instr::Store { .. } => b"store",
-            Instr::Zero { .. } => b"zero",
-            Instr::Input { .. } => b"input",
-            Instr::House { .. } => b"house",
-            Instr::Wparty { .. } => b"wparty",
+            Instr::Set(..) => b"set",
+            Instr::Mov(..) => b"mov",
+            Instr::Add(..) => b"add",
+            Instr::Sub(..) => b"sub",
+            Instr::Mul(..) => b"mul",
+            Instr::Div(..) => b"div",
+            Instr::Rem(..) => b"rem",
+            Instr::Max(..) => b"max",
+            Instr::Jmp(..) => b"jmp",
+            Instr::Jz(..) => b"jz",
+            Instr::Jlt(..) => b"jlt",
+            Instr::Jnl(..) => b"jnl",
+            Instr::Get(..) => b"get",
+            Instr::Store(..) => b"store",
+            Instr::Zero(..) => b"zero",
+            Instr::Input(..) => b"input",
+            Instr::House(..) => b"house",
+            Instr::Wparty(..) => b"wparty",
             Instr::Wland => b"wland",
-            Instr::Fparty { .. } => b"fparty",
-            Instr::Nparty { .. } => b"nparty",
-            Instr::Fland { .. } => b"fland",
-            Instr::Nland { .. } => b"nland",
-            Instr::Fwin { .. } => b"fwin",
-            Instr::Nwin { .. } => b"nwin",
-            Instr::Table { .. } => b"table",
-            Instr::Prio { .. } => b"prio",
-            Instr::Rest { .. } => b"rest",
+            Instr::Fparty(..) => b"fparty",
+            Instr::Nparty(..) => b"nparty",
+            Instr::Fland(..) => b"fland",
+            Instr::Nland(..) => b"nland",
+            Instr::Fwin(..) => b"fwin",
+            Instr::Nwin(..) => b"nwin",
+            Instr::Table(..) => b"table",
+            Instr::Prio(..) => b"prio",
+            Instr::Rest(..) => b"rest",
             Instr::Lead => b"lead",
             Instr::Share => b"share",
-            Instr::Peers { .. } => b"peers",
+            Instr::Peers(..) => b"peers",
             Instr::Take => b"take",
-            Instr::Lot { .. } => b"lot",
-            Instr::Takelot { .. } => b"takelot",
-            Instr::Emit { .. } => b"emit",
-            Instr::Given { .. } => b"given",
-            Instr::Fault { .. } => b"fault",
-            Instr::Tie { .. } => b"tie",
+            Instr::Lot(..) => b"lot",
+            Instr::Takelot(..) => b"takelot",
+            Instr::Emit(..) => b"emit",
+            Instr::Given(..) => b"given",
+            Instr::Fault(..) => b"fault",
+            Instr::Tie(..) => b"tie",
             Instr::Seat => b"seat",
             Instr::Single => b"single",
-            Instr::Halt { .. } => b"halt",
-            Instr::At { .. } => b"at",
-            Instr::Haltv { .. } => b"haltv",
-            Instr::Weigh { .. } => b"weigh",
+            Instr::Halt(..) => b"halt",
+            Instr::At(..) => b"at",
+            Instr::Haltv(..) => b"haltv",
+            Instr::Weigh(..) => b"weigh",
         }
     }
 
@@ -242,122 +242,92 @@ impl Instr {
         match self {
             Instr::Wland | Instr::Lead | Instr::Share | Instr::Take | Instr::Seat | Instr::Single =>
                 Operands::none(),
-            Instr::Jmp { target }
-            | Instr::Jnl { target }
-            | Instr::Wparty { target }
-            | Instr::Fparty { target }
-            | Instr::Nparty { target }
-            | Instr::Fland { target }
-            | Instr::Nland { target }
-            | Instr::Fwin { target }
-            | Instr::Nwin { target } => Operands::one(Operand::Target(target)),
-            Instr::House { register } | Instr::Rest { register } => {
+            Instr::Jmp(target)
+            | Instr::Jnl(target)
+            | Instr::Wparty(target)
+            | Instr::Fparty(target)
+            | Instr::Nparty(target)
+            | Instr::Fland(target)
+            | Instr::Nland(target)
+            | Instr::Fwin(target)
+            | Instr::Nwin(target) => Operands::one(Operand::Target(target)),
+            Instr::House(register) | Instr::Rest(register) => {
                 Operands::one(Operand::Register(register))
             }
-            Instr::Zero { slot } | Instr::Halt { slot } => Operands::one(Operand::Slot(slot)),
-            Instr::Takelot { stage } => Operands::one(Operand::Stage(stage)),
-            Instr::Set { register, value } => {
+            Instr::Zero(slot) | Instr::Halt(slot) => Operands::one(Operand::Slot(slot)),
+            Instr::Takelot(stage) => Operands::one(Operand::Stage(stage)),
+            Instr::Set(register, value) => {
                 Operands::two(Operand::Register(register), Operand::Value(value))
             }
-            Instr::Mov { register, from } => {
+            Instr::Mov(register, from) => {
                 Operands::two(Operand::Register(register), Operand::Register(from))
             }
-            Instr::Add { register, by }
-            | Instr::Sub { register, by }
-            | Instr::Mul { register, by }
-            | Instr::Div { register, by }
-            | Instr::Rem { register, by }
-            | Instr::Max { register, by } => {
+            Instr::Add(register, by)
+            | Instr::Sub(register, by)
+            | Instr::Mul(register, by)
+            | Instr::Div(register, by)
+            | Instr::Rem(register, by)
+            | Instr::Max(register, by) => {
                 Operands::two(Operand::Register(register), Operand::Register(by))
             }
-            Instr::Jz { register, target } | Instr::Peers { register, target } => {
+            Instr::Jz(register, target) | Instr::Peers(register, target) => {
                 Operands::two(Operand::Register(register), Operand::Target(target))
             }
-            Instr::Jlt {
-                left,
-                right,
-                target,
-            } => Operands::three(
+            Instr::Jlt(left, right, target) => Operands::three(
                 Operand::Register(left),
                 Operand::Register(right),
                 Operand::Target(target),
             ),
-            Instr::Get { register, slot } => {
+            Instr::Get(register, slot) => {
                 Operands::two(Operand::Register(register), Operand::Slot(slot))
             }
-            Instr::Store { slot, register } => {
+            Instr::Store(slot, register) => {
                 Operands::two(Operand::Slot(slot), Operand::Register(register))
             }
-            Instr::Input { slot, input } => {
+            Instr::Input(slot, input) => {
                 Operands::two(Operand::Slot(slot), Operand::Input(input))
             }
-            Instr::Haltv { slot, vacant } => {
+            Instr::Haltv(slot, vacant) => {
                 Operands::two(Operand::Slot(slot), Operand::Slot(vacant))
             }
-            Instr::Table { entries, ranking } => {
+            Instr::Table(entries, ranking) => {
                 Operands::two(Operand::Entries(entries), Operand::Ranking(ranking))
             }
-            Instr::Prio {
-                method,
-                weight,
-                seats,
-            } => Operands::three(
+            Instr::Prio(method, weight, seats) => Operands::three(
                 Operand::Method(method),
                 Operand::Register(weight),
                 Operand::Register(seats),
             ),
-            Instr::Lot { stage, target } => {
+            Instr::Lot(stage, target) => {
                 Operands::two(Operand::Stage(stage), Operand::Target(target))
             }
-            Instr::Emit {
-                stage,
-                scope,
-                number,
-                step,
-            } => Operands::four(
+            Instr::Emit(stage, scope, number, step) => Operands::four(
                 Operand::Stage(stage),
                 Operand::Scope(scope),
                 Operand::Register(number),
                 Operand::Register(step),
             ),
-            Instr::Given {
-                stage,
-                scope,
-                number,
-            } => Operands::three(
+            Instr::Given(stage, scope, number) => Operands::three(
                 Operand::Stage(stage),
                 Operand::Scope(scope),
                 Operand::Register(number),
             ),
-            Instr::Fault {
-                stage,
-                scope,
-                fault,
-            } => Operands::three(
+            Instr::Fault(stage, scope, fault) => Operands::three(
                 Operand::Stage(stage),
                 Operand::Scope(scope),
                 Operand::Fault(fault),
             ),
-            Instr::Tie {
-                stage,
-                scope,
-                seats,
-            } => Operands::three(
+            Instr::Tie(stage, scope, seats) => Operands::three(
                 Operand::Stage(stage),
                 Operand::Scope(scope),
                 Operand::Register(seats),
             ),
-            Instr::At { kinds } => Operands::three(
+            Instr::At(kinds) => Operands::three(
                 Operand::Positive(kinds.positive),
                 Operand::Cursors(kinds.cursors),
                 Operand::Table(kinds.table),
             ),
-            Instr::Weigh {
-                stage,
-                scope,
-                rounding,
-                weight,
-            } => Operands::four(
+            Instr::Weigh(stage, scope, rounding, weight) => Operands::four(
                 Operand::Stage(stage),
                 Operand::Scope(scope),
                 Operand::Rounding(rounding),

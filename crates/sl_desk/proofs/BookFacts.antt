@@ -8,8 +8,8 @@ use Rattle.sl_ratio.specs.declared.memory.NoMemory.{NoMemory}
 use Rattle.sl_stages.specs.declared.book.Book.{Book}
 use Rattle.sl_stages.specs.declared.checked.CheckedBook.{CheckedBook}
 use Rattle.sl_stages.specs.declared.check_fault.CheckFault.{CheckFault}
-use Rattle.sl_stages.specs.Books.{book_of}
-use Rattle.sl_stages.specs.Typing.{check_fault}
+use Rattle.sl_stages.specs.book.Books.{book_of}
+use Rattle.sl_stages.specs.book.Typing.{check_fault}
 use Rattle.sl_desk.specs.declared.limits.TheConstants.{MAX_BOOK_BYTES}
 use Rattle.sl_desk.specs.declared.judged.Judged.{Judged}
 use Rattle.sl_desk.specs.declared.judged.Judged.TheVariants.{Good, Refused}

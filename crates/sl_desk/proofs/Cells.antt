@@ -7,8 +7,8 @@ use Rattle.std.proofs.lemmas.List.Concat.{get_or-flat_map}
 use Rattle.std.proofs.lemmas.List.Elements.{All-nil, All-append, All-map}
 use Rattle.std.proofs.lemmas.List.FromFn.{length-range_with_len, length-map-range_with_len, get_or-range_with_len, get_or-map-range_with_len, take-map-range_with_len, fill_by_all}
 use Rattle.std.proofs.lemmas.Nat.{div_below, mod_below}
-use Rattle.sl_stages.specs.Election.{Election, lands_of, parties_of}
-use Rattle.sl_stages.specs.Facts.{lands, parties, by_party, by_land, by_list}
+use Rattle.sl_stages.specs.returns.Election.{Election, lands_of, parties_of}
+use Rattle.sl_stages.specs.returns.Facts.{lands, parties, by_party, by_land, by_list}
 
 all_pieces : {X A : Type 0} (P : A → Type 0) (f : X → List A) → ((x : X) → All P (f x)) → (xs : List X) → All P (flat_map f xs)
 all_pieces P f each [] = All-nil P

@@ -1,8 +1,8 @@
 -- From what the parts of a count answer to what is written.
 use Rattle.std.proofs.Common.{◌≡◌, ℕ, List, Option, Some, None, IfSome, true, sym, subst, inl}
-use Rattle.sl_stages.specs.Trees.{BookTree}
-use Rattle.sl_stages.specs.Election.{Election}
-use Rattle.sl_stages.specs.Outcomes.{is_plain}
+use Rattle.sl_stages.specs.book.Trees.{BookTree}
+use Rattle.sl_stages.specs.returns.Election.{Election}
+use Rattle.sl_stages.specs.meaning.PlainBooks.{is_plain}
 use Rattle.sl_desk.specs.declared.status.Status.{Status}
 use Rattle.sl_desk.specs.declared.status.Status.TheVariants.{Done, Refused}
 use Rattle.sl_desk.specs.Calls.{ForKnown}

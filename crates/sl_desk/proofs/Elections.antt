@@ -4,8 +4,8 @@ use Rattle.std.proofs.lemmas.Bool.Decides.{nat_tests}
 use Rattle.std.proofs.lemmas.Option.{slice_get_within, get_or_from_slice_get}
 use Rattle.std.proofs.lemmas.List.Elements.{All-get_or}
 use Rattle.sl_stages.specs.declared.returns.Win.{Win}
-use Rattle.sl_stages.specs.Election.{Election, IsElection, IsWin, lands_of, parties_of}
-use Rattle.sl_stages.specs.Facts.{is_of}
+use Rattle.sl_stages.specs.returns.Election.{Election, IsElection, IsWin, lands_of, parties_of}
+use Rattle.sl_stages.specs.returns.Facts.{is_of}
 
 -- a winner that the returns tell is one of the election's
 pub win_is : (e : Election) (i : ℕ) (w : Win) → IsElection e → slice_get e.wins i ≡ Some w → IsWin (lands_of e) (parties_of e) w

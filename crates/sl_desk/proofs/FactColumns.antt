@@ -7,13 +7,13 @@ use Rattle.std.proofs.lemmas.List.Elements.{All-get_or, All-weaker}
 use Rattle.std.proofs.lemmas.List.Sums.{count_by-le-length}
 use Rattle.std.proofs.Math.Nat.{mul-le-mul}
 use Rattle.sl_stages.specs.declared.limits.TheConstants.{MAX_VOTES, MAX_LANDS, MAX_PARTIES}
-use Rattle.sl_stages.specs.declared.book.Condition.{Condition}
+use Rattle.sl_stages.specs.declared.book.Cond.{Cond}
 use Rattle.sl_stages.specs.declared.book.Shape.TheVariants as shape
 use Rattle.sl_stages.specs.declared.returns.ListVotes.{ListVotes}
 use Rattle.sl_stages.specs.declared.returns.Win.{Win}
-use Rattle.sl_stages.specs.Votes.{counted_in}
-use Rattle.sl_stages.specs.Election.{Election, IsElection, IsCell, lands_of, parties_of, list_at}
-use Rattle.sl_stages.specs.Facts.{lands, by_list, by_land, is_in, is_of, is_eligible, takes_part, is_on_list, counted_votes, list_winners, outside_winners, independent_winners}
+use Rattle.sl_stages.specs.returns.Votes.{counted_in}
+use Rattle.sl_stages.specs.returns.Election.{Election, IsElection, IsCell, lands_of, parties_of, list_at}
+use Rattle.sl_stages.specs.returns.Facts.{lands, by_list, by_land, is_in, is_of, is_eligible, takes_part, is_on_list, counted_votes, list_winners, outside_winners, independent_winners}
 use Rattle.sl_desk.specs.Shapes.{IsShaped, most_of}
 use Rattle.sl_desk.proofs.Cells.{length_by_list, length_by_land, all_by_list, all_made}
 
@@ -58,7 +58,7 @@ shaped_by_land e f is each =
     let size : length (by_land e f) ≡ lands_of e = length_by_land e f in
     record { size = size; short = omega (arith, size, is.lands); most = all_made f (most_of shape.Land) (lands e) (λ land. omega (arith, each land)) }
 
-module _ (conditions : List Condition) (e : Election) (is : IsElection e) where
+module _ (conditions : List Cond) (e : Election) (is : IsElection e) where
   winners_within : (test : Win → Bool) → count_by test e.wins ≤ 2 ^ 32
   winners_within test = omega (arith, count_by-le-length test e.wins, is.wins, is.winners)
 

@@ -3,10 +3,11 @@ use Rattle.std.proofs.Common.{◌≡◌, ℕ, List, [], ◌∷◌, ◌++◌, map
 use Rattle.std.specs.List.{flat_map, filter}
 use Rattle.std.proofs.lemmas.List.{map-append, length-map}
 use Rattle.sl_stages.specs.declared.table.ListSeats.{ListSeats}
-use Rattle.sl_stages.specs.Trees.{BookTree}
-use Rattle.sl_stages.specs.Election.{Election, has_list}
-use Rattle.sl_stages.specs.Facts.{lands, parties}
-use Rattle.sl_stages.specs.Outcomes.{kept_list, kept_place, kept_table}
+use Rattle.sl_stages.specs.book.Trees.{BookTree}
+use Rattle.sl_stages.specs.returns.Election.{Election, has_list}
+use Rattle.sl_stages.specs.returns.Facts.{lands, parties}
+use Rattle.sl_stages.specs.meaning.PlainBooks.{kept_list, kept_table}
+use Rattle.sl_stages.specs.meaning.Seating.{kept_place}
 use Rattle.sl_table.specs.Fits.{Fits}
 
 map-map : {X Y Z : Type 0} (f : X → Y) (g : Y → Z) (h : X → Z) → ((x : X) → g (f x) ≡ h x) → (xs : List X) → map g (map f xs) ≡ map h xs

@@ -4,9 +4,9 @@ use Rattle.std.specs.List.{find, list_any}
 use Rattle.std.specs.Option.{option_map}
 use Rattle.std.specs.Str.{bytes_eq}
 use Rattle.std.proofs.lemmas.Bool.{false≢true}
-use Rattle.sl_stages.specs.Election.{Election}
-use Rattle.sl_stages.specs.Typing.{Column, is_named, type_or_one}
-use Rattle.sl_stages.specs.Meaning.{NamedColumn, is_column_of}
+use Rattle.sl_stages.specs.returns.Election.{Election}
+use Rattle.sl_stages.specs.book.Typing.{Column, is_named, type_or_one}
+use Rattle.sl_stages.specs.meaning.Columns.{NamedColumn, is_column_of}
 use Rattle.sl_desk.specs.Shapes.{IsShaped}
 use Rattle.sl_desk.specs.StageColumns.{AreShaped}
 

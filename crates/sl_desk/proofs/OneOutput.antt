@@ -12,15 +12,15 @@ use Rattle.sl_parse.specs.Faults.{IsFault}
 use Rattle.sl_parse.specs.Parsing.{limits, offset, fault_at, IsFaultOf}
 use Rattle.sl_returns.specs.Faults.{fault_number}
 use Rattle.sl_stages.specs.declared.check_fault.CheckFault.{CheckFault}
-use Rattle.sl_stages.specs.Trees.{BookTree}
-use Rattle.sl_stages.specs.Limits.{is_within_limits}
-use Rattle.sl_stages.specs.Typing.{check_fault}
-use Rattle.sl_stages.specs.Election.{Election}
-use Rattle.sl_stages.specs.Tables.{SeatTable}
+use Rattle.sl_stages.specs.book.Trees.{BookTree}
+use Rattle.sl_stages.specs.book.Limits.{is_within_limits}
+use Rattle.sl_stages.specs.book.Typing.{check_fault}
+use Rattle.sl_stages.specs.returns.Election.{Election}
+use Rattle.sl_stages.specs.meaning.Tables.{SeatTable}
 use Rattle.sl_stages.specs.declared.table.Outcome.TheVariants as outcome
-use Rattle.sl_stages.specs.Outcomes.{is_plain}
-use Rattle.sl_stages.specs.Means.{Means}
-use Rattle.sl_stages.proofs.PlainMeaning.{plain_outcomes}
+use Rattle.sl_stages.specs.meaning.PlainBooks.{is_plain}
+use Rattle.sl_stages.specs.meaning.Means.{Means}
+use Rattle.sl_stages.proofs.meaning.PlainMeaning.{plain_outcomes}
 use Rattle.sl_table.specs.Short.{short_text}
 use Rattle.sl_desk.specs.declared.status.Status.{Status}
 use Rattle.sl_desk.specs.declared.status.Status.TheVariants.{Done, Refused, Legal, Budget}

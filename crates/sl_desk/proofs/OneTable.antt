@@ -1,11 +1,12 @@
 -- An expression is at most one column, and a book comes to at most one table.
 use Rattle.std.proofs.Common.{◌≡◌, ℕ, List, [], ◌∷◌, ◌++◌, sym, ap, subst, ◌∙◌}
 use Rattle.std.proofs.lemmas.Option.{same_Some}
-use Rattle.sl_stages.specs.Trees.{ExprTree, house, counted, winners, outside, independents, population, name, sum, larger, less, split, split_from, grow, StageTree, BookTree}
-use Rattle.sl_stages.specs.Election.{Election}
-use Rattle.sl_stages.specs.Tables.{SeatTable}
-use Rattle.sl_stages.specs.Meaning.{NamedColumn, IsColumn, AreColumns, sum_over, larger_of, less_of}
-use Rattle.sl_stages.specs.Outcomes.{ComesTo, base_of, kept_table}
+use Rattle.sl_stages.specs.book.Trees.{ExprTree, house, counted, winners, outside, independents, population, name, sum, larger, less, split, split_from, grow, StageTree, BookTree}
+use Rattle.sl_stages.specs.returns.Election.{Election}
+use Rattle.sl_stages.specs.meaning.Tables.{SeatTable}
+use Rattle.sl_stages.specs.meaning.Columns.{NamedColumn, IsColumn, AreColumns, sum_over, larger_of, less_of}
+use Rattle.sl_stages.specs.meaning.PlainBooks.{ComesTo, kept_table}
+use Rattle.sl_stages.specs.meaning.Seating.{base_of}
 
 module _ (b : BookTree) (e : Election) where
   pub one_column : (stages : List NamedColumn) (x : ExprTree) (c d : List ℕ) → IsColumn b e stages x c → IsColumn b e stages x d → c ≡ d

@@ -2,9 +2,9 @@
 use Rattle.std.proofs.Common.{◌≡◌, ℕ, ◌+◌, true, List, ◌++◌, None, subst, arith}
 use Rattle.std.specs.List.{list_any}
 use Rattle.sl_stages.specs.declared.book.Axis.{Axis}
-use Rattle.sl_stages.specs.Trees.{ExprTree, name, sum, larger, less}
-use Rattle.sl_stages.specs.Tests.{first_failing}
-use Rattle.sl_stages.specs.Typing.{Column, is_named, type_of, can_sum, alike_tests, expr_tests, splits_in}
+use Rattle.sl_stages.specs.book.Trees.{ExprTree, name, sum, larger, less}
+use Rattle.sl_stages.specs.book.Tests.{first_failing}
+use Rattle.sl_stages.specs.book.Typing.{Column, is_named, type_of, can_sum, alike_tests, expr_tests, splits_in}
 use Rattle.sl_stages.proofs.Shapes.{same_shape_is}
 use Rattle.sl_stages.proofs.Tests.{head_holds, pass_parts}
 use Rattle.sl_desk.specs.StageColumns.{IsPlainExpr}

@@ -10,9 +10,9 @@ use Rattle.sl_stages.specs.declared.book.Axis.{Axis}
 use Rattle.sl_stages.specs.declared.book.Axis.TheVariants as axis
 use Rattle.sl_stages.specs.declared.book.Shape.{Shape}
 use Rattle.sl_stages.specs.declared.book.Shape.TheVariants as shape
-use Rattle.sl_stages.specs.Election.{Election, lands_of, parties_of}
-use Rattle.sl_stages.specs.Meaning.{larger_of, less_of}
-use Rattle.sl_stages.specs.Typing.{can_sum}
+use Rattle.sl_stages.specs.returns.Election.{Election, lands_of, parties_of}
+use Rattle.sl_stages.specs.meaning.Columns.{larger_of, less_of}
+use Rattle.sl_stages.specs.book.Typing.{can_sum}
 use Rattle.sl_desk.specs.Shapes.{IsShaped, CanSum, most_of}
 use Rattle.sl_desk.proofs.Ranges.{sum_within}
 

@@ -7,12 +7,12 @@ use Rattle.std.proofs.lemmas.List.Sums.{AllPass-from_list_all}
 use Rattle.std.proofs.lemmas.Bool.Decides.{nat_tests}
 use Rattle.sl_stages.specs.declared.book.Book.{Book}
 use Rattle.sl_stages.specs.declared.book.Stage.{Stage}
-use Rattle.sl_stages.specs.Books.{book_of}
-use Rattle.sl_stages.specs.Election.{Election}
-use Rattle.sl_stages.specs.Trees.{StageTree, BookTree, stage_of}
-use Rattle.sl_stages.specs.Tests.{first_failing}
-use Rattle.sl_stages.specs.Typing.{Column, column_of, columns_of, expr_tests, stages_tests, base_tests, type_of, splits_in, is_typed, tests_of, condition_tests, version_tests}
-use Rattle.sl_stages.specs.Meaning.{NamedColumn, IsColumn, AreColumns}
+use Rattle.sl_stages.specs.book.Books.{book_of}
+use Rattle.sl_stages.specs.returns.Election.{Election}
+use Rattle.sl_stages.specs.book.Trees.{StageTree, BookTree, stage_of}
+use Rattle.sl_stages.specs.book.Tests.{first_failing}
+use Rattle.sl_stages.specs.book.Typing.{Column, column_of, columns_of, expr_tests, stages_tests, base_tests, type_of, splits_in, is_typed, tests_of, condition_tests, version_tests}
+use Rattle.sl_stages.specs.meaning.Columns.{NamedColumn, IsColumn, AreColumns}
 use Rattle.sl_desk.specs.declared.evaluate.stages.StageColumn.{StageColumn}
 use Rattle.sl_desk.specs.Shapes.{IsShaped}
 use Rattle.sl_desk.specs.StageColumns.{named_column, stage_tree, types_of, AreShaped, IsPlainExpr}

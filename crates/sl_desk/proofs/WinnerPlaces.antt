@@ -6,10 +6,10 @@ use Rattle.std.proofs.lemmas.Bool.{cases_eq, ne_eqb}
 use Rattle.std.proofs.lemmas.List.Elements.{All-head, All-tail, All-weaker}
 use Rattle.std.proofs.lemmas.List.Sums.{sum_by-cons}
 use Rattle.std.proofs.lemmas.Nat.{same_from_place}
-use Rattle.sl_stages.specs.declared.book.Condition.{Condition}
+use Rattle.sl_stages.specs.declared.book.Cond.{Cond}
 use Rattle.sl_stages.specs.declared.returns.Win.{Win}
-use Rattle.sl_stages.specs.Election.{Election, IsElection, IsWin, lands_of, parties_of}
-use Rattle.sl_stages.specs.Facts.{is_in, is_of, takes_part, list_winners}
+use Rattle.sl_stages.specs.returns.Election.{Election, IsElection, IsWin, lands_of, parties_of}
+use Rattle.sl_stages.specs.returns.Facts.{is_in, is_of, takes_part, list_winners}
 use Rattle.sl_desk.specs.Places.{list_place}
 use Rattle.sl_desk.proofs.Cells.{by_list_as}
 
@@ -52,7 +52,7 @@ not_both true a b (inl h) = ap (λ c. c && b) h
 not_both true true b (inr h) = h
 not_both true false b (inr h) = refl
 
-module _ (conditions : List Condition) (e : Election) where
+module _ (conditions : List Cond) (e : Election) where
   -- a winner counts at the place of a pair who is of that pair, where the party takes part there
   at_pair : (w : Win) (at : ℕ) (o : Option ℕ) → ForSome o (λ p. p < parties_of e) → (land party : ℕ) → party < parties_of e
       → is_at (land * parties_of e + party) (list_place conditions e at o) ≡ cond (takes_part conditions e land party) (is_in land (record w { land = at }) && is_of party (record w { party = o })) false

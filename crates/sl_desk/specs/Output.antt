@@ -12,14 +12,14 @@ use Rattle.sl_returns.specs.declared.fault.ReturnsFault.{ReturnsFault}
 use Rattle.sl_returns.specs.Faults.{fault_number}
 use Rattle.sl_returns.specs.Returns.{records_in, returns_of}
 use Rattle.sl_stages.specs.declared.check_fault.CheckFault.{CheckFault}
-use Rattle.sl_stages.specs.Trees.{BookTree}
-use Rattle.sl_stages.specs.Limits.{is_within_limits}
-use Rattle.sl_stages.specs.Typing.{check_fault}
-use Rattle.sl_stages.specs.Election.{Election}
-use Rattle.sl_stages.specs.Tables.{SeatTable}
+use Rattle.sl_stages.specs.book.Trees.{BookTree}
+use Rattle.sl_stages.specs.book.Limits.{is_within_limits}
+use Rattle.sl_stages.specs.book.Typing.{check_fault}
+use Rattle.sl_stages.specs.returns.Election.{Election}
+use Rattle.sl_stages.specs.meaning.Tables.{SeatTable}
 use Rattle.sl_stages.specs.declared.table.Outcome.TheVariants as outcome
-use Rattle.sl_stages.specs.Outcomes.{is_plain}
-use Rattle.sl_stages.specs.Means.{Means}
+use Rattle.sl_stages.specs.meaning.PlainBooks.{is_plain}
+use Rattle.sl_stages.specs.meaning.Means.{Means}
 use Rattle.sl_table.specs.Lines.{line}
 use Rattle.sl_table.specs.Short.{short_text}
 use Rattle.sl_desk.specs.declared.limits.TheConstants.{MAX_BOOK_BYTES, MAX_RETURNS_BYTES}

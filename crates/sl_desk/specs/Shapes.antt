@@ -5,7 +5,7 @@ use Rattle.sl_stages.specs.declared.book.Axis.{Axis}
 use Rattle.sl_stages.specs.declared.book.Axis.TheVariants as axis
 use Rattle.sl_stages.specs.declared.book.Shape.{Shape}
 use Rattle.sl_stages.specs.declared.book.Shape.TheVariants as shape
-use Rattle.sl_stages.specs.Election.{Election, lands_of, parties_of}
+use Rattle.sl_stages.specs.returns.Election.{Election, lands_of, parties_of}
 
 -- one number for all, for each party, for each Land, or for each pair of Land and party
 abbrev pub size_of : Election → Shape → ℕ

@@ -1,11 +1,11 @@
 -- The columns of a book's first stages, as later stages know them.
 use Rattle.std.specs.Prelude.{◌≡◌, ℕ, List, [], ◌∷◌, None, map}
-use Rattle.sl_stages.specs.Trees.{ExprTree, StageTree, stage_of}
-use Rattle.sl_stages.specs.Election.{Election}
-use Rattle.sl_stages.specs.Tests.{first_failing}
-use Rattle.sl_stages.specs.Typing.{Column, columns_of, expr_tests, splits_in}
-use Rattle.sl_stages.specs.Books.{book_of}
-use Rattle.sl_stages.specs.Meaning.{NamedColumn, IsColumn}
+use Rattle.sl_stages.specs.book.Trees.{ExprTree, StageTree, stage_of}
+use Rattle.sl_stages.specs.returns.Election.{Election}
+use Rattle.sl_stages.specs.book.Tests.{first_failing}
+use Rattle.sl_stages.specs.book.Typing.{Column, columns_of, expr_tests, splits_in}
+use Rattle.sl_stages.specs.book.Books.{book_of}
+use Rattle.sl_stages.specs.meaning.Columns.{NamedColumn, IsColumn}
 use Rattle.sl_desk.specs.declared.evaluate.stages.Evaluator.{Evaluator}
 use Rattle.sl_desk.specs.declared.evaluate.stages.StageColumn.{StageColumn}
 use Rattle.sl_desk.specs.Shapes.{IsShaped}

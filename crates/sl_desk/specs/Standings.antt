@@ -1,9 +1,9 @@
 -- What the conditions of a rulebook ask of a party.
 use Rattle.std.specs.Prelude.{ℕ, ◌*◌, Bool, false, true, count_by, nat_le, slice_index_or}
-use Rattle.sl_stages.specs.declared.book.Condition.{Condition}
-use Rattle.sl_stages.specs.declared.book.Condition.TheVariants as condition
-use Rattle.sl_stages.specs.Election.{Election}
-use Rattle.sl_stages.specs.Facts.{is_of, valid_votes, all_valid_votes}
+use Rattle.sl_stages.specs.declared.book.Cond.{Cond}
+use Rattle.sl_stages.specs.declared.book.Cond.TheVariants as condition
+use Rattle.sl_stages.specs.returns.Election.{Election}
+use Rattle.sl_stages.specs.returns.Facts.{is_of, valid_votes, all_valid_votes}
 use Rattle.sl_desk.specs.declared.evaluate.tally.Standing.{Standing}
 
 -- how a party stands in an election
@@ -16,7 +16,7 @@ standing_of e party = record {
 }
 
 -- whether a standing meets a condition
-abbrev pub standing_meets : Standing → Condition → Bool
+abbrev pub standing_meets : Standing → Cond → Bool
 standing_meets s (condition.Valid share per) = nat_le (share.value * s.all_valid) (per * s.valid)
 standing_meets s (condition.Winners least) = nat_le least s.winners
 standing_meets s condition.Minority = s.minority

@@ -2,10 +2,10 @@
 
 ghost use Rattle.std.specs.Prelude.{◌≡◌, ◌≢◌, ◌≤◌, ◌∷◌, [], Some, None, codes, length, OnOk, IfOk, IfSome, IfErr};
 ghost use Rattle.sl_desk.specs.Refusals.{parse_fault, checked_fault, refused_at};
-ghost use Rattle.sl_stages.specs.Typing.{check_fault};
+ghost use Rattle.sl_stages.specs.book.Typing.{check_fault};
 ghost use Rattle.sl_stages.specs.declared.check_fault.CheckFault.{CheckFault};
 ghost use Rattle.sl_lex.specs.Tokens.{AreTokens};
-ghost use Rattle.sl_stages.specs.Books.{book_of};
+ghost use Rattle.sl_stages.specs.book.Books.{book_of};
 ghost use Rattle.sl_desk.specs.Output.{IsBookText, IsBookRefusal, IsGoodBook, IsBadBook};
 ghost use Rattle.sl_desk.specs.Judging.{Judges};
 ghost use Rattle.sl_desk.specs.Calls.{book_input, book_failures, IsBookFault};

@@ -1,9 +1,9 @@
 //! What a plain rulebook comes to on returns, worked out from its tree.
 
 ghost use Rattle.std.specs.Prelude.{◌≡◌, true, IfOk};
-ghost use Rattle.sl_stages.specs.Books.{book_of};
-ghost use Rattle.sl_stages.specs.Outcomes.{ComesTo, is_plain};
-ghost use Rattle.sl_stages.specs.Means.{Means};
+ghost use Rattle.sl_stages.specs.book.Books.{book_of};
+ghost use Rattle.sl_stages.specs.meaning.PlainBooks.{ComesTo, is_plain};
+ghost use Rattle.sl_stages.specs.meaning.Means.{Means};
 ghost use Rattle.sl_stages.specs.declared.table.Outcome.TheVariants as outcome;
 ghost use Rattle.sl_table.specs.Fits.{Fits};
 

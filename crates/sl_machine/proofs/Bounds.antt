@@ -1,7 +1,7 @@
 -- Bounds of what an election has.
 use Rattle.std.proofs.Common.{ℕ, ◌^◌, ◌<◌, arith}
 use Rattle.std.proofs.lemmas.Nat.{mul-le}
-use Rattle.sl_stages.specs.Election.{Election, IsElection, lands_of, parties_of}
+use Rattle.sl_stages.specs.returns.Election.{Election, IsElection, lands_of, parties_of}
 use Rattle.sl_code.specs.declared.operand.Entries.{Entries}
 use Rattle.sl_code.specs.declared.operand.Entries.TheVariants as entries
 use Rattle.sl_machine.specs.Safe.{entries_in}

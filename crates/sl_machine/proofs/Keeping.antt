@@ -9,7 +9,7 @@ use Rattle.sl_stages.specs.declared.table.Mark.{Mark}
 use Rattle.sl_stages.specs.declared.table.Placed.{Placed}
 use Rattle.sl_stages.specs.declared.table.SeatStep.{SeatStep}
 use Rattle.sl_stages.specs.declared.table.Weight.{Weight}
-use Rattle.sl_stages.specs.Election.{Election, lands_of, parties_of, wins_of}
+use Rattle.sl_stages.specs.returns.Election.{Election, lands_of, parties_of, wins_of}
 use Rattle.sl_code.specs.Codes.{CountingCode}
 use Rattle.sl_code.specs.declared.instr.Instr.{Instr}
 use Rattle.sl_code.specs.declared.kinds.Registers.{Registers}

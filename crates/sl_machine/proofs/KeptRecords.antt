@@ -7,7 +7,7 @@ use Rattle.sl_stages.specs.declared.table.Mark.{Mark}
 use Rattle.sl_stages.specs.declared.table.Mark.TheVariants as mark
 use Rattle.sl_stages.specs.declared.table.Placed.{Placed}
 use Rattle.sl_stages.specs.declared.table.Placed.TheVariants as placed
-use Rattle.sl_stages.specs.Election.{Election, wins_of, has_list}
+use Rattle.sl_stages.specs.returns.Election.{Election, wins_of, has_list}
 use Rattle.sl_code.specs.Codes.{CountingCode}
 use Rattle.sl_code.specs.declared.instr.Instr.{Instr}
 use Rattle.sl_code.specs.declared.instr.Instr.TheVariants as op

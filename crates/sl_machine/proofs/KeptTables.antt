@@ -5,7 +5,7 @@ use Rattle.std.specs.Option.{ForSome}
 use Rattle.std.proofs.lemmas.Bool.{true≢false}
 use Rattle.std.proofs.lemmas.Option.{same_Some}
 use Rattle.sl_ratio.specs.declared.entry.Entry.{Entry}
-use Rattle.sl_stages.specs.Election.{Election, lands_of, parties_of, wins_of}
+use Rattle.sl_stages.specs.returns.Election.{Election, lands_of, parties_of, wins_of}
 use Rattle.sl_code.specs.Codes.{CountingCode}
 use Rattle.sl_code.specs.declared.instr.Instr.{Instr}
 use Rattle.sl_code.specs.declared.instr.Instr.TheVariants as op

@@ -4,8 +4,8 @@ use Rattle.std.specs.Str.{bytes_eq}
 use Rattle.std.proofs.lemmas.List.{take_more}
 use Rattle.std.proofs.lemmas.List.Elements.{filter_map-append, filter-append}
 use Rattle.sl_stages.specs.declared.returns.Lot.{Lot}
-use Rattle.sl_stages.specs.Election.{Election}
-use Rattle.sl_stages.specs.Scopes.{place}
+use Rattle.sl_stages.specs.returns.Election.{Election}
+use Rattle.sl_stages.specs.meaning.Scopes.{place}
 use Rattle.sl_code.specs.declared.operand.Entries.{Entries}
 use Rattle.sl_machine.specs.Drawn.{given_in}
 

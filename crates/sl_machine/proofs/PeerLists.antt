@@ -14,7 +14,7 @@ use Rattle.sl_prio.proofs.Greatest.{greatest-None}
 use Rattle.sl_prio.proofs.Orders.{entry_order}
 use Rattle.sl_prio.proofs.Rankings.{ranked-permutation}
 use Rattle.sl_stages.specs.declared.fault.Item.{Item}
-use Rattle.sl_stages.specs.Election.{Election}
+use Rattle.sl_stages.specs.returns.Election.{Election}
 use Rattle.sl_machine.specs.declared.priority.TableKind.{TableKind}
 use Rattle.sl_machine.specs.State.{PriorityTable}
 use Rattle.sl_machine.specs.Places.{item_of}

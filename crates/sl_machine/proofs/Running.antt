@@ -1,7 +1,7 @@
 -- What a step from a safe place comes to.
 use Rattle.std.proofs.Common.{◌≡◌, ℕ, ◌+◌, Some, IsSome, IsTrue, is_some, slice_get, sym, ap, subst, ◌∙◌}
 use Rattle.std.proofs.lemmas.Option.{same_Some}
-use Rattle.sl_stages.specs.Election.{Election}
+use Rattle.sl_stages.specs.returns.Election.{Election}
 use Rattle.sl_code.specs.Codes.{CountingCode}
 use Rattle.sl_code.specs.declared.instr.Instr.{Instr}
 use Rattle.sl_verify.specs.Needs.{has_columns}

@@ -8,7 +8,7 @@ use Rattle.sl_stages.specs.declared.table.Placed.{Placed}
 use Rattle.sl_stages.specs.declared.table.SeatStep.{SeatStep}
 use Rattle.sl_stages.specs.declared.table.Weight.{Weight}
 use Rattle.sl_stages.specs.declared.table.Placed.TheVariants as placed
-use Rattle.sl_stages.specs.Election.{Election}
+use Rattle.sl_stages.specs.returns.Election.{Election}
 use Rattle.sl_machine.specs.State.{State, PriorityTable, start}
 use Rattle.sl_machine.specs.Places.{cells_of}
 

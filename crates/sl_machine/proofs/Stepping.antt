@@ -1,6 +1,6 @@
 -- One step of a run, by the case of the effect.
 use Rattle.std.proofs.Common.{◌≡◌, ℕ, ◌+◌, Some, slice_get, refl}
-use Rattle.sl_stages.specs.Election.{Election}
+use Rattle.sl_stages.specs.returns.Election.{Election}
 use Rattle.sl_code.specs.Codes.{CountingCode}
 use Rattle.sl_code.specs.declared.instr.Instr.{Instr}
 use Rattle.sl_verify.specs.Leaves.{target_of}

@@ -1,7 +1,7 @@
 -- What a run answers: the ending, with what is held in the last state (docs/machine.md, section 1).
 use Rattle.std.specs.Prelude.{◌<◌, length, Option, Some, None}
 use Rattle.std.specs.Option.{ForSome}
-use Rattle.sl_stages.specs.Election.{Election}
+use Rattle.sl_stages.specs.returns.Election.{Election}
 use Rattle.sl_code.specs.Codes.{CountingCode}
 use Rattle.sl_machine.specs.declared.machine.Ending.{Ending as Answer}
 use Rattle.sl_machine.specs.declared.machine.Ending.TheVariants as answer

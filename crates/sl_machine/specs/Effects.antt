@@ -14,8 +14,8 @@ use Rattle.sl_stages.specs.declared.returns.Win.{Win}
 use Rattle.sl_stages.specs.declared.table.Mark.{Mark}
 use Rattle.sl_stages.specs.declared.table.Mark.TheVariants as mark
 use Rattle.sl_stages.specs.declared.table.Placed.TheVariants as placed
-use Rattle.sl_stages.specs.Election.{Election, lands_of, parties_of, wins_of, list_at, has_list}
-use Rattle.sl_stages.specs.Votes.{valid_in, counted_in, slate_in}
+use Rattle.sl_stages.specs.returns.Election.{Election, lands_of, parties_of, wins_of, list_at, has_list}
+use Rattle.sl_stages.specs.returns.Votes.{valid_in, counted_in, slate_in}
 use Rattle.sl_code.specs.declared.code.CodeStage.{CodeStage}
 use Rattle.sl_code.specs.declared.instr.Instr.{Instr}
 use Rattle.sl_code.specs.declared.instr.Instr.TheVariants as instr

@@ -1,6 +1,6 @@
 -- Where a step leads.
 use Rattle.std.specs.Prelude.{◌≡◌, ℕ, suc, Some}
-use Rattle.sl_stages.specs.Election.{Election}
+use Rattle.sl_stages.specs.returns.Election.{Election}
 use Rattle.sl_code.specs.Codes.{CountingCode}
 use Rattle.sl_machine.specs.declared.machine.Onward.{Onward}
 use Rattle.sl_machine.specs.declared.machine.Onward.TheVariants as onward

@@ -7,7 +7,7 @@ use Rattle.sl_stages.specs.declared.fault.Item.{Item}
 use Rattle.sl_stages.specs.declared.fault.Item.TheVariants as item
 use Rattle.sl_stages.specs.declared.fault.Scope.{Scope}
 use Rattle.sl_stages.specs.declared.fault.Scope.TheVariants as scope
-use Rattle.sl_stages.specs.Election.{Election, lands_of, parties_of}
+use Rattle.sl_stages.specs.returns.Election.{Election, lands_of, parties_of}
 use Rattle.sl_code.specs.declared.operand.Entries.{Entries}
 use Rattle.sl_code.specs.declared.operand.Entries.TheVariants as entries
 use Rattle.sl_code.specs.declared.operand.ScopeKind.{ScopeKind}

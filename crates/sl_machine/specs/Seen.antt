@@ -3,7 +3,7 @@ use Rattle.std.specs.Prelude.{ℕ, Option, slice_get}
 use Rattle.std.specs.Option.{option_map, option_and_then}
 use Rattle.sl_ratio.specs.Quotient.{Quotient}
 use Rattle.sl_stages.specs.declared.fault.Item.{Item}
-use Rattle.sl_stages.specs.Election.{Election}
+use Rattle.sl_stages.specs.returns.Election.{Election}
 use Rattle.sl_code.specs.Codes.{CountingCode}
 use Rattle.sl_prio.specs.Ranking.{insert_ranked}
 use Rattle.sl_machine.specs.State.{State}

@@ -1,6 +1,6 @@
 -- Runs of a code: one step after another, as many as a budget allows (docs/machine.md, section 4).
 use Rattle.std.specs.Prelude.{ℕ, zero, suc, ◌+◌, ◌*◌, Option, Some, None, slice_get}
-use Rattle.sl_stages.specs.Election.{Election, lands_of, parties_of, wins_of}
+use Rattle.sl_stages.specs.returns.Election.{Election, lands_of, parties_of, wins_of}
 use Rattle.sl_code.specs.declared.instr.Instr.{Instr}
 use Rattle.sl_code.specs.Codes.{CountingCode}
 use Rattle.sl_verify.specs.Leaves.{target_of}

@@ -4,7 +4,7 @@ ghost use Rattle.std.specs.Prelude.{◌≡◌, ◌<◌, ◌+◌, ◌*◌, ℕ, O
 ghost use Rattle.sl_verify.specs.declared.known.TheConstants.{REGISTERS};
 ghost use Rattle.sl_code.specs.Codes.{CountingCode};
 ghost use Rattle.sl_code.specs.declared.instr.Instr.TheVariants as instr;
-ghost use Rattle.sl_stages.specs.Election.{lands_of, parties_of, wins_of, has_list};
+ghost use Rattle.sl_stages.specs.returns.Election.{lands_of, parties_of, wins_of, has_list};
 ghost use Rattle.sl_machine.specs.State.{State};
 ghost use Rattle.sl_machine.specs.Places.{both, cells_of, cell_at, index_at, scope_at, item_of, at_entry};
 ghost use Rattle.sl_machine.specs.Effects.{Goes, Jumps, effect, given, with_party, with_land, with_win, winner_at, first_of, next_of, to_party};

@@ -7,7 +7,7 @@ ghost use Rattle.sl_verify.specs.Needs.{has_stage};
 ghost use Rattle.sl_code.specs.Codes.{CountingCode};
 ghost use Rattle.sl_code.specs.declared.instr.Instr.TheVariants as instr;
 ghost use Rattle.sl_prio.specs.Prio.{top};
-ghost use Rattle.sl_stages.specs.Election.{Election, IsElection, wins_of};
+ghost use Rattle.sl_stages.specs.returns.Election.{Election, IsElection, wins_of};
 ghost use Rattle.sl_machine.specs.State.{State, Halted, with_place};
 ghost use Rattle.sl_machine.specs.Places.{scope_at};
 ghost use Rattle.sl_machine.specs.Effects.{Goes, Ends, effect, given, faults, kind_of};

@@ -1,10 +1,10 @@
 //! The lots of a code's stages, as numbers of entries of the priority table.
 
 ghost use Rattle.std.specs.Prelude.{◌≡◌, ◌<◌, ◌≤◌, Some, None, IfOk, length, slice_get, option_map, if◌then◌else◌};
-ghost use Rattle.sl_stages.specs.Election.{IsElection, IsLot, lands_of, parties_of, wins_of};
+ghost use Rattle.sl_stages.specs.returns.Election.{IsElection, IsLot, lands_of, parties_of, wins_of};
 ghost use Rattle.std.specs.Str.{bytes_eq};
-ghost use Rattle.sl_stages.specs.Lots.{is_winner_of};
-ghost use Rattle.sl_stages.specs.Scopes.{place};
+ghost use Rattle.sl_stages.specs.meaning.Lots.{is_winner_of};
+ghost use Rattle.sl_stages.specs.meaning.Scopes.{place};
 ghost use Rattle.sl_machine.specs.Drawn.{lot_of, given_in};
 ghost use Rattle.sl_machine.specs.Lots.{lot_in, stage_lots, lots_for};
 

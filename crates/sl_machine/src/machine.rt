@@ -47,19 +47,19 @@ fn target_of(instr: Instr) -> Option<usize>
     ensures { result ≡ target_of instr }
 {
     match instr {
-        Instr::Jmp { target }
-        | Instr::Jz { target, .. }
-        | Instr::Jlt { target, .. }
-        | Instr::Jnl { target }
-        | Instr::Wparty { target }
-        | Instr::Fparty { target }
-        | Instr::Nparty { target }
-        | Instr::Fland { target }
-        | Instr::Nland { target }
-        | Instr::Fwin { target }
-        | Instr::Nwin { target }
-        | Instr::Peers { target, .. }
-        | Instr::Lot { target, .. } => Some(target as usize),
+        Instr::Jmp(target)
+        | Instr::Jz(_, target)
+        | Instr::Jlt(_, _, target)
+        | Instr::Jnl(target)
+        | Instr::Wparty(target)
+        | Instr::Fparty(target)
+        | Instr::Nparty(target)
+        | Instr::Fland(target)
+        | Instr::Nland(target)
+        | Instr::Fwin(target)
+        | Instr::Nwin(target)
+        | Instr::Peers(_, target)
+        | Instr::Lot(_, target) => Some(target as usize),
         _ => None,
     }
 }

@@ -2,7 +2,7 @@
 
 ghost use Rattle.std.specs.Prelude.{◌≡◌, ◌<◌, Some, IfOk, IsSome, slice_get, length};
 ghost use Rattle.std.specs.Option.{ForSome};
-ghost use Rattle.sl_stages.specs.Election.{Election};
+ghost use Rattle.sl_stages.specs.returns.Election.{Election};
 ghost use Rattle.sl_code.specs.Codes.{CountingCode};
 ghost use Rattle.sl_machine.specs.Memories.{held_of};
 ghost use Rattle.sl_machine.specs.Leaving.{held_with, HasVacancy};

@@ -5,7 +5,7 @@ ghost use Rattle.std.specs.Option.{ForSome, option_and_then};
 ghost use Rattle.sl_code.specs.declared.operand.Ranking.TheVariants as ranking;
 ghost use Rattle.sl_prio.specs.Prio.{top, peers, is_covered};
 ghost use Rattle.sl_prio.specs.Lot.{drawn};
-ghost use Rattle.sl_stages.specs.Election.{Election};
+ghost use Rattle.sl_stages.specs.returns.Election.{Election};
 ghost use Rattle.sl_machine.specs.State.{State};
 ghost use Rattle.sl_machine.specs.Places.{at_entry, item_of};
 ghost use Rattle.sl_machine.specs.Effects.{Goes, given, takes, mark_of};

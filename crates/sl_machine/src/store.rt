@@ -1,7 +1,7 @@
 //! What the machine holds during a run.
 
 ghost use Rattle.std.specs.Prelude.{◌≡◌, ◌++◌, ◌∷◌, [], map, replicate, IfOk, OnOk};
-ghost use Rattle.sl_stages.specs.Election.{IsElection};
+ghost use Rattle.sl_stages.specs.returns.Election.{IsElection};
 ghost use Rattle.sl_machine.specs.State.{start};
 ghost use Rattle.sl_machine.specs.Places.{cells_of};
 ghost use Rattle.sl_machine.specs.Stores.{state_of, sizes_of, sizes_for};

@@ -10,7 +10,7 @@ ghost use Rattle.sl_code.specs.Codes.{CountingCode};
 ghost use Rattle.sl_code.specs.declared.instr.Instr.TheVariants as instr;
 ghost use Rattle.sl_code.specs.declared.operand.Ranking.TheVariants as ranking;
 ghost use Rattle.sl_prio.specs.Prio.{top};
-ghost use Rattle.sl_stages.specs.Election.{Election, IsElection};
+ghost use Rattle.sl_stages.specs.returns.Election.{Election, IsElection};
 ghost use Rattle.sl_machine.specs.Places.{at_entry};
 ghost use Rattle.sl_machine.specs.Effects.{Goes, effect, given, name_of, winner_at};
 ghost use Rattle.sl_machine.specs.Drawn.{lot_of};

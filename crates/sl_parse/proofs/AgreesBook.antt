@@ -6,12 +6,12 @@ use Rattle.sl_lex.specs.declared.token.Kind.TheVariants as kinds
 use Rattle.sl_lex.specs.declared.token.Token.{Token}
 use Rattle.sl_stages.specs.declared.book.Base.{Base}
 use Rattle.sl_stages.specs.declared.book.Base.TheVariants as bases
-use Rattle.sl_stages.specs.declared.book.Condition.{Condition}
-use Rattle.sl_stages.specs.declared.book.Condition.TheVariants as conditions
+use Rattle.sl_stages.specs.declared.book.Cond.{Cond}
+use Rattle.sl_stages.specs.declared.book.Cond.TheVariants as conditions
 use Rattle.sl_stages.specs.declared.book.LastClause.{LastClause}
 use Rattle.sl_stages.specs.declared.book.Number.{Number}
-use Rattle.sl_stages.specs.Trees.{StageTree, BookTree}
-use Rattle.sl_stages.specs.Limits.{parts_of}
+use Rattle.sl_stages.specs.book.Trees.{StageTree, BookTree}
+use Rattle.sl_stages.specs.book.Limits.{parts_of}
 use Rattle.sl_parse.specs.declared.fault.Cause.TheVariants.{TooManyStages}
 use Rattle.sl_parse.specs.Grammar.{token, one_token, keyword, semicolon, IsStage, AreStages, IsCondition, AreMore, AreConditions, HeadTree, IsHead, IsBase, IsVacate, IsLast, IsBook}
 use Rattle.sl_parse.specs.Faults.{Limits}
@@ -27,7 +27,7 @@ Stops k here = (t : Token) × (rest : List Token) × (here ≡ t ∷ rest) × (s
 
 -- ---- conditions and the rest of what stands before the stages
 
-condition_at : (k : Kind) (c : Condition) (here mid after : List Token) (t : Token) → here ≡ t ∷ mid → t.kind ≡ k → Agrees mid after (read_condition_at k t mid) (c, after) Any → Agrees here after (read_condition here) (c, after) Any
+condition_at : (k : Kind) (c : Cond) (here mid after : List Token) (t : Token) → here ≡ t ∷ mid → t.kind ≡ k → Agrees mid after (read_condition_at k t mid) (c, after) Any → Agrees here after (read_condition here) (c, after) Any
 unfolding read_condition
 condition_at k c here mid after t is kind h =
     let reads : read_condition here ≡ read_condition_at k t mid = rw (is, kind) refl in
@@ -37,7 +37,7 @@ condition_at k c here mid after t is kind h =
 number_agrees : (n : ℕ) (here after : List Token) → token (kinds.Number n) here after → (m : Number) × (m.value ≡ n) × Agrees here after (one number_in here) (m, after) Any
 number_agrees n here after (t, is, kind) = (record { value = n; at = t.start }, refl, one_agrees number_in tests_number (record { value = n; at = t.start }) here after (t, is, (kind, refl)))
 
-condition_agrees : (c : Condition) (here after : List Token) → IsCondition c here after → Agrees here after (read_condition here) (c, after) Any
+condition_agrees : (c : Cond) (here after : List Token) → IsCondition c here after → Agrees here after (read_condition here) (c, after) Any
 unfolding read_condition_at read_valid read_winners
 condition_agrees (conditions.Valid share per) here after (mid, (t, is, kind), (a, ha, (b, hb, (c, hc, (d, hd, he))))) =
     let n = number_agrees per d after he in
@@ -58,7 +58,7 @@ condition_agrees (conditions.Winners least) here after (mid, (t, is, kind), (a, 
 condition_agrees conditions.Minority here after (t, is, kind) = condition_at _ conditions.Minority here after after t is kind (agreed after _ _ refl)
 condition_agrees conditions.All here after (t, is, kind) = condition_at _ conditions.All here after after t is kind (agreed after _ _ refl)
 
-more_agree : (n : ℕ) (cs : List Condition) (here after : List Token) → AreMore cs here after → Stops (kinds.Keyword keywords.Or) after → length here ≤ n → Agrees here after (read_more n here) (cs, after) Any
+more_agree : (n : ℕ) (cs : List Cond) (here after : List Token) → AreMore cs here after → Stops (kinds.Keyword keywords.Or) after → length here ≤ n → Agrees here after (read_more n here) (cs, after) Any
 unfolding read_more
 more_agree zero [] here after h (t, rest, is, other) le = absurd (omega (arith, ap length h, ap length is))
 more_agree (suc n) [] here after h (t, rest, is, other) le =
@@ -76,7 +76,7 @@ more_agree (suc n) (c ∷ cs) here after (a, ha, (b, hc, hcs)) stops le =
     let next : is_next (kinds.Keyword keywords.Or) here ≡ true = rw (ha.1, ha.2) refl in
     record { shorter = all.shorter; finds = rw next all.finds }
 
-conditions_agree : (cs : List Condition) (here after : List Token) → AreConditions cs here after → Stops (kinds.Keyword keywords.Or) after → Agrees here after (read_conditions here) (cs, after) Any
+conditions_agree : (cs : List Cond) (here after : List Token) → AreConditions cs here after → Stops (kinds.Keyword keywords.Or) after → Agrees here after (read_conditions here) (cs, after) Any
 unfolding read_conditions
 conditions_agree [] here after h stops = absurd h
 conditions_agree (c ∷ cs) here after (b, hc, hcs) stops =

@@ -8,8 +8,8 @@ use Rattle.sl_lex.specs.declared.token.Kind.TheVariants as kinds
 use Rattle.sl_lex.specs.declared.token.Token.{Token}
 use Rattle.sl_stages.specs.declared.book.Majority.{Majority}
 use Rattle.sl_stages.specs.declared.book.Majority.TheVariants as majorities
-use Rattle.sl_stages.specs.Trees.{ExprTree, house, counted, winners, outside, independents, population, name, sum, larger, less, split, split_from, grow}
-use Rattle.sl_stages.specs.Limits.{depth_of, parts_of}
+use Rattle.sl_stages.specs.book.Trees.{ExprTree, house, counted, winners, outside, independents, population, name, sum, larger, less, split, split_from, grow}
+use Rattle.sl_stages.specs.book.Limits.{depth_of, parts_of}
 use Rattle.sl_parse.specs.declared.fault.Cause.TheVariants.{TooDeep}
 use Rattle.sl_parse.specs.Grammar.{◌▸◌, keyword, comma, open_mark, close_mark, method_word, IsMajority, IsRefusal, IsExpr}
 use Rattle.sl_parse.specs.Faults.{begins_expr}

@@ -4,8 +4,8 @@ use Rattle.std.proofs.lemmas.List.{append-nil}
 use Rattle.sl_lex.specs.declared.keyword.Keyword.TheVariants as keywords
 use Rattle.sl_lex.specs.declared.token.Kind.TheVariants as kinds
 use Rattle.sl_lex.specs.declared.token.Token.{Token}
-use Rattle.sl_stages.specs.Trees.{StageTree}
-use Rattle.sl_stages.specs.declared.book.Condition.{Condition}
+use Rattle.sl_stages.specs.book.Trees.{StageTree}
+use Rattle.sl_stages.specs.declared.book.Cond.{Cond}
 use Rattle.sl_parse.specs.declared.fault.Cause.TheVariants.{TooManyStages}
 use Rattle.sl_parse.specs.declared.fault.Stop.{Stop}
 use Rattle.sl_parse.specs.declared.fault.Stop.TheVariants as stops
@@ -59,12 +59,12 @@ module _ (text : List ℕ) (l : Limits) (all : List Token) (limit i : ℕ) (fron
 -- ---- conditions
 
 -- so many conditions are read, and more may follow
-pub record MayGoOn (front : List Condition) (rest : List Token) (total : Read (List Condition × List Token)) : Type 0 where
+pub record MayGoOn (front : List Cond) (rest : List Token) (total : Read (List Cond × List Token)) : Type 0 where
   pub fuel : ℕ
   pub enough : length rest ≤ fuel
   pub so_far : with_front front (read_more fuel rest) ≡ total
 
-pub first_read : (ts rest : List Token) (c : Condition) → read_condition ts ≡ Ok (c, rest) → MayGoOn (c ∷ []) rest (read_conditions ts)
+pub first_read : (ts rest : List Token) (c : Cond) → read_condition ts ≡ Ok (c, rest) → MayGoOn (c ∷ []) rest (read_conditions ts)
 unfolding read_conditions
 first_read ts rest c e = record { fuel = length rest; enough = omega arith; so_far = rw e refl }
 
@@ -73,7 +73,7 @@ unfolding read_conditions
 first_stops all stops.NoMemory ts h = tt
 first_stops all (stops.At c r) ts h = rw h refl
 
-module _ (all : List Token) (front : List Condition) (rest : List Token) (total : Read (List Condition × List Token)) where
+module _ (all : List Token) (front : List Cond) (rest : List Token) (total : Read (List Cond × List Token)) where
   abbrev IsOr : Type 0
   IsOr = is_next (kinds.Keyword keywords.Or) rest ≡ true
 
@@ -95,7 +95,7 @@ module _ (all : List Token) (front : List Condition) (rest : List Token) (total 
       go zero enough so_far = absurd (none rest enough next)
       go (suc fuel) enough so_far = record { fuel = fuel; enough = enough; so_far = rw next at so_far }
 
-  pub or_goes_on : (a after : List Token) (c : Condition) → IsOr → taken (kinds.Keyword keywords.Or) rest ≡ Ok a → read_condition a ≡ Ok (c, after) → MayGoOn front rest total → MayGoOn (front ++ c ∷ []) after total
+  pub or_goes_on : (a after : List Token) (c : Cond) → IsOr → taken (kinds.Keyword keywords.Or) rest ≡ Ok a → read_condition a ≡ Ok (c, after) → MayGoOn front rest total → MayGoOn (front ++ c ∷ []) after total
   or_goes_on a after c next ha hc g =
       let m = one_more next g in
       let so_far = m.so_far in
@@ -118,5 +118,5 @@ module _ (all : List Token) (front : List Condition) (rest : List Token) (total 
   or_is_done next g = sym g.so_far ∙ ended g.fuel
     where
       ended : (n : ℕ) → with_front front (read_more n rest) ≡ Ok (front, rest)
-      ended zero = ap (λ (cs : List Condition). Ok (cs, rest)) (append-nil front)
-      ended (suc n) = rw next (ap (λ (cs : List Condition). Ok (cs, rest)) (append-nil front))
+      ended zero = ap (λ (cs : List Cond). Ok (cs, rest)) (append-nil front)
+      ended (suc n) = rw next (ap (λ (cs : List Cond). Ok (cs, rest)) (append-nil front))

@@ -10,7 +10,7 @@ use Rattle.sl_lex.specs.declared.token.Kind.TheVariants as kinds
 use Rattle.sl_lex.specs.declared.token.Token.{Token}
 use Rattle.sl_lex.specs.Pieces.{IsLetter, IsWordByte, IsPiece, word}
 use Rattle.sl_parse.specs.Spans.{bytes_of, FitsKind, IsSpan, AreSpans}
-use Rattle.sl_stages.specs.Words.{is_letter, is_digit, is_word}
+use Rattle.sl_stages.specs.book.Words.{is_letter, is_digit, is_word}
 
 or_left : (a b : Bool) → a ≡ true → (a || b) ≡ true
 or_left a b h = rw h refl

@@ -8,8 +8,8 @@ use Rattle.sl_lex.specs.declared.token.Kind.TheVariants as kinds
 use Rattle.sl_lex.specs.declared.token.Token.{Token}
 use Rattle.sl_stages.specs.declared.book.Majority.{Majority}
 use Rattle.sl_stages.specs.declared.book.Majority.TheVariants as majorities
-use Rattle.sl_stages.specs.Trees.{ExprTree, sum, larger, less, grow}
-use Rattle.sl_stages.specs.Limits.{depth_of, parts_of}
+use Rattle.sl_stages.specs.book.Trees.{ExprTree, sum, larger, less, grow}
+use Rattle.sl_stages.specs.book.Limits.{depth_of, parts_of}
 use Rattle.sl_parse.specs.declared.fault.Cause.{Cause}
 use Rattle.sl_parse.specs.declared.fault.Cause.TheVariants.{TooDeep}
 use Rattle.sl_parse.specs.Grammar.{Part, ◌▸◌, empty, one_token, keyword, comma, open_mark, close_mark, method_word, IsMajority, IsRefusal, IsExpr}

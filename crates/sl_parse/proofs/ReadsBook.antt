@@ -6,11 +6,11 @@ use Rattle.sl_lex.specs.declared.token.Kind.TheVariants as kinds
 use Rattle.sl_lex.specs.declared.token.Token.{Token}
 use Rattle.sl_stages.specs.declared.book.Base.{Base}
 use Rattle.sl_stages.specs.declared.book.Base.TheVariants as bases
-use Rattle.sl_stages.specs.declared.book.Condition.{Condition}
-use Rattle.sl_stages.specs.declared.book.Condition.TheVariants as conditions
+use Rattle.sl_stages.specs.declared.book.Cond.{Cond}
+use Rattle.sl_stages.specs.declared.book.Cond.TheVariants as conditions
 use Rattle.sl_stages.specs.declared.book.Number.{Number}
-use Rattle.sl_stages.specs.Trees.{StageTree, BookTree}
-use Rattle.sl_stages.specs.Limits.{depth_of, parts_of}
+use Rattle.sl_stages.specs.book.Trees.{StageTree, BookTree}
+use Rattle.sl_stages.specs.book.Limits.{depth_of, parts_of}
 use Rattle.sl_parse.specs.declared.fault.Cause.{Cause}
 use Rattle.sl_parse.specs.declared.fault.Cause.TheVariants.{Expected, TooDeep, TooManyStages, After}
 use Rattle.sl_parse.specs.Grammar.{keyword, token, number, one_token, IsStage, AreStages, IsCondition, AreMore, AreConditions, HeadTree, IsHead, IsBase, IsVacate, IsLast, IsBook}
@@ -27,7 +27,7 @@ Deep = Cause → List Token → Type 0
 
 -- ---- conditions
 
-pub condition-shorter : (c : Condition) (here after : List Token) → IsCondition c here after → length after < length here
+pub condition-shorter : (c : Cond) (here after : List Token) → IsCondition c here after → length after < length here
 condition-shorter (conditions.Valid share per) here after (a, ha, (b, hb, (c, hc, (d, hd, (e, he, hf))))) = omega (arith, ap length ha.1, ap length hb.1, ap length hc.1, ap length hd.1, ap length he.1, ap length hf.1)
 condition-shorter (conditions.Winners least) here after (a, ha, (b, hb, (c, hc, hd))) = omega (arith, ap length ha.1, ap length hb.1, ap length hc.1, ap length hd.1)
 condition-shorter conditions.Minority here after (t, is, kind) = rw is (omega arith)
@@ -37,7 +37,7 @@ module _ (text : List ℕ) (l : Limits) (deep : Deep) (p : ℕ) where
   number-told : (n : Number) (here after : List Token) → number n here after → token (kinds.Number n.value) here after
   number-told n here after (t, is, h) = (t, is, h.0)
 
-  ReadsCondition : List Sym → List Token → List Token → Read (Condition × List Token) → Type 0
+  ReadsCondition : List Sym → List Token → List Token → Read (Cond × List Token) → Type 0
   ReadsCondition ss whole here r = Reads text l ss [] (p, here) r (λ x. (p, x.1)) (λ x. IsCondition x.0 whole x.1) deep
 
   reads_valid : (t : Token) (ts : List Token) → t.kind ≡ kinds.Keyword keywords.Valid
@@ -73,7 +73,7 @@ module _ (text : List ℕ) (l : Limits) (deep : Deep) (p : ℕ) where
   reads_condition [] = record { same = λ more. refl; told = λ is. absurd is }
   reads_condition (t ∷ ts) = reads_condition_at t.kind t ts refl
 
-  ReadsMore : List Sym → List Token → Read (List Condition × List Token) → Type 0
+  ReadsMore : List Sym → List Token → Read (List Cond × List Token) → Type 0
   ReadsMore ss ts r = Reads text l ss (semicolon_sym ∷ []) (p, ts) r (λ x. (p, x.1)) (λ x. AreMore x.0 ts x.1) deep
 
   reads_more : (n : ℕ) (ts : List Token) → length ts ≤ n → ReadsMore (or_more ∷ []) ts (read_more n ts)
@@ -157,7 +157,7 @@ taken-shorter k ts a e = go (one (this k) ts) (reads_one [] nowhere {deep = λ _
     go (Ok x) told is = let same : x.1 ≡ a = cc in rw (← same) (omega (arith, ap length told.1))
     go (Err f) told is = absurd cc
 
-pub read_condition-shorter : (ts : List Token) (c : Condition) (after : List Token) → read_condition ts ≡ Ok (c, after) → length after < length ts
+pub read_condition-shorter : (ts : List Token) (c : Cond) (after : List Token) → read_condition ts ≡ Ok (c, after) → length after < length ts
 read_condition-shorter ts c after e =
     let told = (reads_condition [] nowhere (λ _ _. Unit {0}) 0 ts).told in
     condition-shorter c ts after (rw e at told)

@@ -4,8 +4,8 @@ use Rattle.sl_lex.specs.declared.keyword.Keyword.TheVariants as keywords
 use Rattle.sl_lex.specs.declared.token.Kind.{Kind}
 use Rattle.sl_lex.specs.declared.token.Kind.TheVariants as kinds
 use Rattle.sl_lex.specs.declared.token.Token.{Token}
-use Rattle.sl_stages.specs.Trees.{ExprTree, house, counted, winners, outside, independents, population, name}
-use Rattle.sl_stages.specs.Limits.{depth_of, parts_of}
+use Rattle.sl_stages.specs.book.Trees.{ExprTree, house, counted, winners, outside, independents, population, name}
+use Rattle.sl_stages.specs.book.Limits.{depth_of, parts_of}
 use Rattle.sl_parse.specs.declared.fault.Cause.TheVariants.{Expected, TooDeep}
 use Rattle.sl_parse.specs.Grammar.{IsExpr}
 use Rattle.sl_parse.specs.Faults.{Limits, begins_expr}

@@ -12,13 +12,13 @@ use Rattle.sl_lex.specs.declared.token.Token.{Token}
 use Rattle.sl_ratio.specs.declared.limits.TheConstants.{MAX_NUMBER}
 use Rattle.sl_stages.specs.declared.limits.TheConstants.{MAX_STAGES}
 use Rattle.sl_stages.specs.declared.book.Number.{Number}
-use Rattle.sl_stages.specs.declared.book.Condition.{Condition}
-use Rattle.sl_stages.specs.declared.book.Condition.TheVariants as conditions
+use Rattle.sl_stages.specs.declared.book.Cond.{Cond}
+use Rattle.sl_stages.specs.declared.book.Cond.TheVariants as conditions
 use Rattle.sl_stages.specs.declared.book.LastClause.{LastClause}
 use Rattle.sl_stages.specs.declared.book.Majority.{Majority}
 use Rattle.sl_stages.specs.declared.book.Majority.TheVariants as majorities
-use Rattle.sl_stages.specs.Trees.{ExprTree, house, counted, winners, outside, independents, population, name, sum, larger, less, split, split_from, grow, StageTree}
-use Rattle.sl_stages.specs.Limits.{numbers_of, condition_numbers, book_numbers, are_small}
+use Rattle.sl_stages.specs.book.Trees.{ExprTree, house, counted, winners, outside, independents, population, name, sum, larger, less, split, split_from, grow, StageTree}
+use Rattle.sl_stages.specs.book.Limits.{numbers_of, condition_numbers, book_numbers, are_small}
 use Rattle.sl_parse.specs.Spans.{bytes_of, FitsKind, AreSpans}
 use Rattle.sl_parse.specs.Grammar.{◌▸◌, Part, empty, one_token, token, number, IsMajority, IsRefusal, IsExpr, AreStages, IsCondition, AreMore, AreConditions, HeadTree, IsHead}
 use Rattle.sl_parse.specs.Parsing.{limits}
@@ -131,17 +131,17 @@ module _ (test : ℕ → Bool) where
 
   -- ---- what stands before the stages
 
-  condition : (c : Condition) → Takes (condition_numbers c) (IsCondition c)
+  condition : (c : Cond) → Takes (condition_numbers c) (IsCondition c)
   condition (conditions.Valid share per) = skip one (skip one (skip one (two (number_at share) (skip one (a_number per)))))
   condition (conditions.Winners least) = skip one (skip one (skip one (a_number least)))
   condition conditions.Minority = one
   condition conditions.All = one
 
-  more_conditions : (cs : List Condition) → Takes (flat_map condition_numbers cs) (AreMore cs)
+  more_conditions : (cs : List Cond) → Takes (flat_map condition_numbers cs) (AreMore cs)
   more_conditions [] = nothing
   more_conditions (c ∷ cs) = skip one (two (condition c) (more_conditions cs))
 
-  all_conditions : (cs : List Condition) → Takes (flat_map condition_numbers cs) (AreConditions cs)
+  all_conditions : (cs : List Cond) → Takes (flat_map condition_numbers cs) (AreConditions cs)
   all_conditions [] = record { told = λ here after h all. absurd h }
   all_conditions (c ∷ cs) = two (condition c) (more_conditions cs)
 

@@ -15,14 +15,14 @@ use Rattle.sl_stages.specs.declared.book.Axis.TheVariants as axes
 use Rattle.sl_stages.specs.declared.book.Majority.{Majority}
 use Rattle.sl_stages.specs.declared.book.Majority.TheVariants as majorities
 use Rattle.sl_stages.specs.declared.book.Number.{Number}
-use Rattle.sl_stages.specs.declared.book.Condition.{Condition}
-use Rattle.sl_stages.specs.declared.book.Condition.TheVariants as conditions
+use Rattle.sl_stages.specs.declared.book.Cond.{Cond}
+use Rattle.sl_stages.specs.declared.book.Cond.TheVariants as conditions
 use Rattle.sl_stages.specs.declared.book.Base.{Base}
 use Rattle.sl_stages.specs.declared.book.Base.TheVariants as bases
 use Rattle.sl_stages.specs.declared.book.Seating.{Seating}
 use Rattle.sl_stages.specs.declared.book.Seating.TheVariants as seatings
 use Rattle.sl_stages.specs.declared.book.LastClause.{LastClause}
-use Rattle.sl_stages.specs.Trees.{ExprTree, house, counted, winners, outside, independents, population, name, sum, larger, less, split, split_from, grow, StageTree, BookTree}
+use Rattle.sl_stages.specs.book.Trees.{ExprTree, house, counted, winners, outside, independents, population, name, sum, larger, less, split, split_from, grow, StageTree, BookTree}
 
 -- A part of a token list, told by the tokens from its first on and by those behind it.
 abbrev pub Part : Type 1
@@ -137,18 +137,18 @@ AreStages text (s ∷ ss) = IsStage text s ▸ AreStages text ss
 
 -- ---- books
 
-abbrev pub IsCondition : Condition → Part
+abbrev pub IsCondition : Cond → Part
 IsCondition (conditions.Valid share per) = keyword keywords.Valid ▸ keyword keywords.At ▸ keyword keywords.Least ▸ number share ▸ keyword keywords.Per ▸ token (kinds.Number per)
 IsCondition (conditions.Winners least) = keyword keywords.Winners ▸ keyword keywords.At ▸ keyword keywords.Least ▸ token (kinds.Number least)
 IsCondition conditions.Minority = keyword keywords.Minority
 IsCondition conditions.All = keyword keywords.All
 
-abbrev pub AreMore : List Condition → Part
+abbrev pub AreMore : List Cond → Part
 AreMore [] = empty
 AreMore (c ∷ cs) = keyword keywords.Or ▸ IsCondition c ▸ AreMore cs
 
 -- conditions with `or` between them
-abbrev pub AreConditions : List Condition → Part
+abbrev pub AreConditions : List Cond → Part
 AreConditions [] = none
 AreConditions (c ∷ cs) = IsCondition c ▸ AreMore cs
 
@@ -157,7 +157,7 @@ pub record HeadTree : Type 0 where
   pub version : Number
   pub law : List ℕ
   pub house : Number
-  pub eligible : List Condition
+  pub eligible : List Cond
 
 abbrev pub IsHead : List ℕ → HeadTree → Part
 IsHead text h = keyword keywords.Rulebook ▸ number h.version ▸ semicolon ▸ keyword keywords.Law ▸ quoted text h.law ▸ semicolon

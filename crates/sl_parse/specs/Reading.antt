@@ -17,14 +17,14 @@ use Rattle.sl_stages.specs.declared.book.Axis.TheVariants as axes
 use Rattle.sl_stages.specs.declared.book.Majority.{Majority}
 use Rattle.sl_stages.specs.declared.book.Majority.TheVariants as majorities
 use Rattle.sl_stages.specs.declared.book.Number.{Number}
-use Rattle.sl_stages.specs.declared.book.Condition.{Condition}
-use Rattle.sl_stages.specs.declared.book.Condition.TheVariants as conditions
+use Rattle.sl_stages.specs.declared.book.Cond.{Cond}
+use Rattle.sl_stages.specs.declared.book.Cond.TheVariants as conditions
 use Rattle.sl_stages.specs.declared.book.Base.{Base}
 use Rattle.sl_stages.specs.declared.book.Base.TheVariants as bases
 use Rattle.sl_stages.specs.declared.book.Seating.{Seating}
 use Rattle.sl_stages.specs.declared.book.Seating.TheVariants as seatings
 use Rattle.sl_stages.specs.declared.book.LastClause.{LastClause}
-use Rattle.sl_stages.specs.Trees.{ExprTree, house, counted, winners, outside, independents, population, name, sum, larger, less, split, split_from, grow, StageTree, BookTree}
+use Rattle.sl_stages.specs.book.Trees.{ExprTree, house, counted, winners, outside, independents, population, name, sum, larger, less, split, split_from, grow, StageTree, BookTree}
 use Rattle.sl_parse.specs.declared.fault.Cause.{Cause}
 use Rattle.sl_parse.specs.declared.fault.Cause.TheVariants.{Expected, TooDeep, TooManyStages, After}
 use Rattle.sl_parse.specs.declared.fault.Stop.{Stop}
@@ -283,7 +283,7 @@ read_stages text limits (suc n) ts = if is_next (kinds.Keyword keywords.Stage) t
 
 -- ---- what stands before the stages, and behind them
 
-unfoldable pub read_valid : List Token → Read (Condition × List Token)
+unfoldable pub read_valid : List Token → Read (Cond × List Token)
 read_valid ts = do
   a ← taken (kinds.Keyword keywords.At) ts
   b ← taken (kinds.Keyword keywords.Least) a
@@ -292,26 +292,26 @@ read_valid ts = do
   d ← one number_in c
   Ok (conditions.Valid n.0 d.0.value, d.1)
 
-unfoldable pub read_winners : List Token → Read (Condition × List Token)
+unfoldable pub read_winners : List Token → Read (Cond × List Token)
 read_winners ts = do
   a ← taken (kinds.Keyword keywords.At) ts
   b ← taken (kinds.Keyword keywords.Least) a
   n ← one number_in b
   Ok (conditions.Winners n.0.value, n.1)
 
-unfoldable pub read_condition_at : Kind → Token → List Token → Read (Condition × List Token)
+unfoldable pub read_condition_at : Kind → Token → List Token → Read (Cond × List Token)
 read_condition_at (kinds.Keyword keywords.Valid) t rest = read_valid rest
 read_condition_at (kinds.Keyword keywords.Winners) t rest = read_winners rest
 read_condition_at (kinds.Keyword keywords.Minority) t rest = Ok (conditions.Minority, rest)
 read_condition_at (kinds.Keyword keywords.All) t rest = Ok (conditions.All, rest)
 read_condition_at _ t rest = Err (Expected, t ∷ rest)
 
-unfoldable pub read_condition : List Token → Read (Condition × List Token)
+unfoldable pub read_condition : List Token → Read (Cond × List Token)
 read_condition [] = Err (Expected, [])
 read_condition (t ∷ rest) = read_condition_at t.kind t rest
 
 -- so many further conditions at most
-unfoldable pub read_more : ℕ → List Token → Read (List Condition × List Token)
+unfoldable pub read_more : ℕ → List Token → Read (List Cond × List Token)
 read_more zero ts = Ok ([], ts)
 read_more (suc n) ts = if is_next (kinds.Keyword keywords.Or) ts then (do
   a ← taken (kinds.Keyword keywords.Or) ts
@@ -319,7 +319,7 @@ read_more (suc n) ts = if is_next (kinds.Keyword keywords.Or) ts then (do
   cs ← read_more n c.1
   Ok (c.0 ∷ cs.0, cs.1)) else Ok ([], ts)
 
-unfoldable pub read_conditions : List Token → Read (List Condition × List Token)
+unfoldable pub read_conditions : List Token → Read (List Cond × List Token)
 read_conditions ts = do
   c ← read_condition ts
   cs ← read_more (length c.1) c.1

@@ -1,10 +1,10 @@
 //! Reading stages, the last clause, and a book.
 
 ghost use Rattle.std.specs.Prelude.{◌≡◌, drop, map, IfOk, IsTrue};
-ghost use Rattle.sl_stages.specs.Trees.{stage_of};
-ghost use Rattle.sl_stages.specs.Limits.{is_within_limits};
+ghost use Rattle.sl_stages.specs.book.Trees.{stage_of};
+ghost use Rattle.sl_stages.specs.book.Limits.{is_within_limits};
 ghost use Rattle.sl_parse.specs.Reading.{Gives, read_stage, read_stages, read_last, read_book};
-ghost use Rattle.sl_stages.specs.Books.{book_of};
+ghost use Rattle.sl_stages.specs.book.Books.{book_of};
 ghost use Rattle.sl_parse.specs.Parsing.{limits};
 
 use crate::fault::{Cause, Stop};

@@ -2,7 +2,7 @@
 //! what is left of the parts is handed back.
 
 ghost use Rattle.std.specs.Prelude.{◌≡◌, drop};
-ghost use Rattle.sl_stages.specs.Trees.{tree_of, boxed_tree};
+ghost use Rattle.sl_stages.specs.book.Trees.{tree_of, boxed_tree};
 ghost use Rattle.sl_parse.specs.Faults.{begins_expr};
 ghost use Rattle.sl_parse.specs.Reading.{Gives, read_sum, read_two, read_larger, read_less, read_division, read_minima, read_split, read_grow, read_node, read_expr};
 

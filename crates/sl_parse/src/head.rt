@@ -6,7 +6,7 @@ ghost use Rattle.sl_parse.specs.Reading.{Gives, read_valid, read_winners, read_c
 use crate::fault::{Cause, Stop};
 use crate::token::Parser;
 use sl_lex::{Keyword, Kind, Mark};
-use sl_stages::{Condition, Number};
+use sl_stages::{Cond, Number};
 
 /// What stands before the stages.
 #[derive(Drop)]
@@ -14,14 +14,14 @@ pub(crate) struct Head {
     pub version: Number,
     pub law: Vec<u8>,
     pub house: Number,
-    pub eligible: Vec<Condition>,
+    pub eligible: Vec<Cond>,
 }
 
 impl<'a> Parser<'a> {
     ghost use Rattle.sl_parse.specs.Views.{head_tree};
 
     #[tactic(auto, unfolding(crate::specs::Reading::read_condition, crate::specs::Reading::read_condition_at))]
-    fn condition(&self, at: usize) -> Result<(Condition, usize), Stop>
+    fn condition(&self, at: usize) -> Result<(Cond, usize), Stop>
         ensures { let all = self.now.tokens.now in
             Gives all (λ x. (x.0, drop x.1 all)) result
             (read_condition (drop at all)) }
@@ -32,15 +32,15 @@ impl<'a> Parser<'a> {
         match token.kind {
             Kind::Keyword(Keyword::Valid) => self.valid(at + 1),
             Kind::Keyword(Keyword::Winners) => self.winners(at + 1),
-            Kind::Keyword(Keyword::Minority) => Ok((Condition::Minority, at + 1)),
-            Kind::Keyword(Keyword::All) => Ok((Condition::All, at + 1)),
+            Kind::Keyword(Keyword::Minority) => Ok((Cond::Minority, at + 1)),
+            Kind::Keyword(Keyword::All) => Ok((Cond::All, at + 1)),
             _ => Err(Stop::At(Cause::Expected, at)),
         }
     }
 
     /// What follows `valid`.
     #[tactic(auto, unfolding(crate::specs::Reading::read_valid))]
-    fn valid(&self, at: usize) -> Result<(Condition, usize), Stop>
+    fn valid(&self, at: usize) -> Result<(Cond, usize), Stop>
         ensures { let all = self.now.tokens.now in
             Gives all (λ x. (x.0, drop x.1 all)) result
             (read_valid (drop at all)) }
@@ -51,7 +51,7 @@ impl<'a> Parser<'a> {
         let at = self.keyword(Keyword::Per, at)?;
         let (per, at) = self.number(at)?;
         Ok((
-            Condition::Valid {
+            Cond::Valid {
                 share,
                 per: per.value,
             },
@@ -61,7 +61,7 @@ impl<'a> Parser<'a> {
 
     /// What follows `winners`.
     #[tactic(auto, unfolding(crate::specs::Reading::read_winners))]
-    fn winners(&self, at: usize) -> Result<(Condition, usize), Stop>
+    fn winners(&self, at: usize) -> Result<(Cond, usize), Stop>
         ensures { let all = self.now.tokens.now in
             Gives all (λ x. (x.0, drop x.1 all)) result
             (read_winners (drop at all)) }
@@ -69,11 +69,11 @@ impl<'a> Parser<'a> {
         let at = self.keyword(Keyword::At, at)?;
         let at = self.keyword(Keyword::Least, at)?;
         let (least, at) = self.number(at)?;
-        Ok((Condition::Winners { least: least.value }, at))
+        Ok((Cond::Winners { least: least.value }, at))
     }
 
     /// Conditions with `or` between them.
-    fn conditions(&self, at: usize) -> Result<(Vec<Condition>, usize), Stop>
+    fn conditions(&self, at: usize) -> Result<(Vec<Cond>, usize), Stop>
         ensures { let all = self.now.tokens.now in
             Gives all (λ x. (x.0.items, drop x.1 all)) result
             (read_conditions (drop at all)) }

@@ -3,10 +3,10 @@
 ghost use Rattle.std.specs.Prelude.{◌≡◌, IsTrue, IfOk, IfErr, []};
 ghost use Rattle.sl_lex.specs.Tokens.{AreTokens};
 ghost use Rattle.sl_parse.specs.Spans.{AreSpans};
-ghost use Rattle.sl_stages.specs.Trees.{BookTree};
-ghost use Rattle.sl_stages.specs.Limits.{is_within_limits};
+ghost use Rattle.sl_stages.specs.book.Trees.{BookTree};
+ghost use Rattle.sl_stages.specs.book.Limits.{is_within_limits};
 ghost use Rattle.sl_parse.specs.Grammar.{IsBook};
-ghost use Rattle.sl_stages.specs.Books.{book_of};
+ghost use Rattle.sl_stages.specs.book.Books.{book_of};
 ghost use Rattle.sl_parse.specs.Parsing.{fault_at, IsFaultOf, Answers};
 
 use crate::fault::{Cause, ParseFault, Stop};

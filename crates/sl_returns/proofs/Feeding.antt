@@ -3,7 +3,7 @@ use Rattle.std.proofs.Common.{◌≡◌, ◌+◌, ◌-◌, ◌^◌, ℕ, min, Li
 use Rattle.std.specs.Option.{option_map, option_or}
 use Rattle.std.proofs.lemmas.List.{append-nil, length_push}
 use Rattle.std.proofs.lemmas.Option.{none-some}
-use Rattle.sl_stages.specs.Election.{Election}
+use Rattle.sl_stages.specs.returns.Election.{Election}
 use Rattle.sl_returns.specs.declared.fault.FaultKind.{FaultKind}
 use Rattle.sl_returns.specs.declared.fault.FaultKind.TheVariants as fault
 use Rattle.sl_returns.specs.Faults.{fault_at, row_behind}
@@ -11,7 +11,7 @@ use Rattle.sl_returns.specs.declared.header.Version.{Version}
 use Rattle.sl_returns.specs.Cells.{Record}
 use Rattle.sl_returns.specs.Headers.{version_of}
 use Rattle.sl_returns.specs.Records.{election_of_records}
-use Rattle.sl_stages.specs.Tests.{first_failing}
+use Rattle.sl_stages.specs.book.Tests.{first_failing}
 use Rattle.sl_returns.specs.Tests.{Pass, FailBy, record_tests}
 use Rattle.sl_returns.specs.Joining.{with_record, TakesRecord, RefusesRecord}
 use Rattle.sl_returns.specs.Returns.{fault_behind, first_fault, refusal_under, refusal_of}

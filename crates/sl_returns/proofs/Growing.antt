@@ -9,7 +9,7 @@ use Rattle.sl_ratio.specs.Names.{IsNameList, name_fault}
 use Rattle.sl_ratio.proofs.NameLists.{with_name}
 use Rattle.sl_stages.specs.declared.limits.TheConstants.{MAX_LANDS, MAX_PARTIES}
 use Rattle.sl_stages.specs.declared.returns.ListVotes.{ListVotes}
-use Rattle.sl_stages.specs.Election.{Election, has_list}
+use Rattle.sl_stages.specs.returns.Election.{Election, has_list}
 use Rattle.sl_returns.specs.declared.cells.TheConstants.{LAND, PARTY, A, B}
 use Rattle.sl_returns.specs.Cells.{Record, cell, number_of, number_in, place_in}
 use Rattle.sl_returns.specs.Records.{column, is_minority, list_from, rows_from, win_of, lot_of}

@@ -1,6 +1,6 @@
 -- What the records of one kind say, as what every record says.
 use Rattle.std.proofs.Common.{◌≡◌, length, Option, None, Result, Ok, Err, IfErr, OnOk, inl, inr, nat_eq, refl, subst}
-use Rattle.sl_stages.specs.Election.{Election}
+use Rattle.sl_stages.specs.returns.Election.{Election}
 use Rattle.sl_returns.specs.declared.cells.TheConstants.{COLUMNS, KIND}
 use Rattle.sl_returns.specs.declared.header.Version.{Version}
 use Rattle.sl_returns.specs.declared.kind.Kind.{Kind}

@@ -6,7 +6,7 @@ use Rattle.std.proofs.lemmas.Option.{none-some}
 use Rattle.sl_returns.specs.declared.fault.FaultKind.{FaultKind}
 use Rattle.sl_returns.specs.declared.fault.FaultKind.TheVariants as fault
 use Rattle.sl_ratio.specs.declared.memory.NoMemory.{NoMemory}
-use Rattle.sl_stages.specs.Tests.{Test, first_failing}
+use Rattle.sl_stages.specs.book.Tests.{Test, first_failing}
 use Rattle.sl_stages.proofs.Tests.{fails_in_row, fails_first, pass_parts}
 use Rattle.sl_returns.specs.Tests.{one_test, Pass, FailBy, Refuse}
 

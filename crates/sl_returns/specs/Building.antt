@@ -1,6 +1,6 @@
 -- What a builder has, and what it stands for.
 use Rattle.std.specs.Prelude.{◌≡◌, ◌⊎◌, ℕ, List, [], ◌∷◌, length, Option, Some, None}
-use Rattle.sl_stages.specs.Election.{Election}
+use Rattle.sl_stages.specs.returns.Election.{Election}
 use Rattle.sl_returns.specs.declared.fault.ReturnsFault.{ReturnsFault}
 use Rattle.sl_returns.specs.declared.header.Version.{Version}
 use Rattle.sl_returns.specs.Faults.{row_behind, no_memory}

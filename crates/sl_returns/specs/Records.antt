@@ -5,7 +5,7 @@ use Rattle.sl_stages.specs.declared.limits.TheConstants.{MAX_PARTIES}
 use Rattle.sl_stages.specs.declared.returns.ListVotes.{ListVotes}
 use Rattle.sl_stages.specs.declared.returns.Win.{Win}
 use Rattle.sl_stages.specs.declared.returns.Lot.{Lot}
-use Rattle.sl_stages.specs.Election.{Election}
+use Rattle.sl_stages.specs.returns.Election.{Election}
 use Rattle.sl_returns.specs.declared.cells.TheConstants.{KIND, LAND, PARTY, A, B, C}
 use Rattle.sl_returns.specs.declared.kind.Kind.{Kind}
 use Rattle.sl_returns.specs.declared.kind.Kind.TheVariants as kind

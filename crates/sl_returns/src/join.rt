@@ -2,8 +2,8 @@
 
 ghost use Rattle.std.specs.Prelude.{◌≡◌, ◌<◌, IfOk, IfErr, OnOk, IsOk, Some, false};
 ghost use Rattle.csv.specs.Records.{fields_of};
-ghost use Rattle.sl_stages.specs.Votes.{IsListVotes};
-ghost use Rattle.sl_stages.specs.Election.{lands_of, parties_of, has_list, with_list};
+ghost use Rattle.sl_stages.specs.returns.Votes.{IsListVotes};
+ghost use Rattle.sl_stages.specs.returns.Election.{lands_of, parties_of, has_list, with_list};
 ghost use Rattle.sl_returns.specs.Tests.{Pass, Refuse, fills_list, house_tests, land_tests, party_tests, list_tests, win_tests, lot_tests, record_tests};
 ghost use Rattle.sl_returns.specs.Joining.{with_house_of, with_land_of, with_party_of, with_list_of, with_win_of, with_lot_of, with_record};
 

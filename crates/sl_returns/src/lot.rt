@@ -3,7 +3,7 @@
 ghost use Rattle.std.specs.Prelude.{◌≡◌, IfOk, IfErr, OnOk, None};
 ghost use Rattle.csv.specs.Records.{fields_of};
 ghost use Rattle.sl_ratio.specs.Names.{spelling_fault};
-ghost use Rattle.sl_stages.specs.Election.{IsLot, lands_of, parties_of, wins_of};
+ghost use Rattle.sl_stages.specs.returns.Election.{IsLot, lands_of, parties_of, wins_of};
 ghost use Rattle.sl_returns.specs.Records.{lot_of};
 ghost use Rattle.sl_returns.specs.Tests.{Pass, FailBy, lot_cell_tests, fills_lot, same_lot, has_lot};
 ghost use Rattle.sl_returns.specs.Lots.{lot_told};

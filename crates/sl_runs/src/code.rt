@@ -15,7 +15,7 @@ const MIXED: [u8; 45] =
 // The code of the first file.
 fn halt(alloc: Global) -> Result<Code, Fail> {
     Ok(Code::new(
-        Vec::from_slice(alloc, &[Instr::Halt { slot: 0 }])?,
+        Vec::from_slice(alloc, &[Instr::Halt(0)])?,
         Vec::new(alloc),
         Vec::from_slice(alloc, &[Shape::List])?,
     ))
@@ -35,7 +35,7 @@ fn the_smallest_file_written(rt: HostRuntime) -> Result<(), Fail> {
 #[test]
 fn the_smallest_file_read(rt: HostRuntime) -> Result<(), Fail> {
     let code = from_bytes(rt.alloc(), &HALT)?;
-    assert_eq!(rt; code.instrs(), [Instr::Halt { slot: 0 }].as_slice());
+    assert_eq!(rt; code.instrs(), [Instr::Halt(0)].as_slice());
     assert_eq!(rt; code.slots(), [Shape::List].as_slice());
     assert_eq!(rt; code.stages().len(), 0);
     Ok(())

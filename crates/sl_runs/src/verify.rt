@@ -38,8 +38,7 @@ fn fault_of(alloc: Global, instrs: &[Instr]) -> Result<Option<VerifyFault>, Fail
 
 /// `at` with those registers positive, no cursor set, and the table off.
 fn at(mask: u16) -> Instr {
-    Instr::At {
-        kinds: Kinds {
+    Instr::At(Kinds {
             positive: Registers { mask },
             cursors: Cursors {
                 party: false,
@@ -47,14 +46,12 @@ fn at(mask: u16) -> Instr {
                 win: false,
             },
             table: None,
-        },
-    }
+        })
 }
 
 /// `at` with these cursors set and a table of lists, ranked by quotients.
 fn at_table(party: bool, land: bool) -> Instr {
-    Instr::At {
-        kinds: Kinds {
+    Instr::At(Kinds {
             positive: Registers { mask: 0 },
             cursors: Cursors {
                 party,
@@ -66,23 +63,16 @@ fn at_table(party: bool, land: bool) -> Instr {
                 ranking: Ranking::Quotients,
                 ready: false,
             }),
-        },
-    }
+        })
 }
 
-const HALT: Instr = Instr::Halt { slot: 0 };
+const HALT: Instr = Instr::Halt(0);
 
 #[test]
 fn single_instructions(rt: HostRuntime) -> Result<(), Fail> {
     let alloc = rt.alloc();
-    let high = Instr::Mov {
-        register: 16,
-        from: 0,
-    };
-    let set = Instr::Set {
-        register: 0,
-        value: 1,
-    };
+    let high = Instr::Mov(16, 0);
+    let set = Instr::Set(0, 1);
     assert_eq!(rt;
         fault_of(alloc, &[high, HALT])?,
         Some(VerifyFault::Register(0))
@@ -94,7 +84,7 @@ fn single_instructions(rt: HostRuntime) -> Result<(), Fail> {
     assert_eq!(rt; fault_of(alloc, &[set])?, Some(VerifyFault::RunsOff(0)));
     assert_eq!(rt; fault_of(alloc, &[])?, Some(VerifyFault::RunsOff(0)));
     assert_eq!(rt;
-        fault_of(alloc, &[Instr::Jmp { target: 9 }])?,
+        fault_of(alloc, &[Instr::Jmp(9)])?,
         Some(VerifyFault::Jump(0))
     );
     assert_eq!(rt;
@@ -129,20 +119,11 @@ fn paths_meet(rt: HostRuntime) -> Result<(), Fail> {
     let alloc = rt.alloc();
     for (mask, fault) in [(1, VerifyFault::Meet(2)), (0, VerifyFault::Kind(4))] {
         let instrs = [
-            Instr::Set {
-                register: 0,
-                value: 1,
-            },
-            Instr::Jz {
-                register: 1,
-                target: 3,
-            },
-            Instr::Set {
-                register: 0,
-                value: 0,
-            },
+            Instr::Set(0, 1),
+            Instr::Jz(1, 3),
+            Instr::Set(0, 0),
             at(mask),
-            Instr::Div { register: 2, by: 0 },
+            Instr::Div(2, 0),
             HALT,
         ];
         assert_eq!(rt; fault_of(alloc, &instrs)?, Some(fault));
@@ -153,44 +134,23 @@ fn paths_meet(rt: HostRuntime) -> Result<(), Fail> {
 /// Enters each list with votes into a table, takes the greatest, and records its seat.
 fn seat_of_the_greatest() -> [Instr; 19] {
     [
-        Instr::Table {
-            entries: Entries::List,
-            ranking: Ranking::Quotients,
-        },
-        Instr::Fland { target: 13 },
+        Instr::Table(Entries::List, Ranking::Quotients),
+        Instr::Fland(13),
         at_table(false, true),
-        Instr::Fparty { target: 11 },
+        Instr::Fparty(11),
         at_table(true, true),
-        Instr::Jnl { target: 9 },
-        Instr::Get {
-            register: 5,
-            slot: 0,
-        },
-        Instr::Jz {
-            register: 5,
-            target: 9,
-        },
-        Instr::Prio {
-            method: Divisor::Webster,
-            weight: 5,
-            seats: 6,
-        },
+        Instr::Jnl(9),
+        Instr::Get(5, 0),
+        Instr::Jz(5, 9),
+        Instr::Prio(Divisor::Webster, 5, 6),
         at_table(true, true),
-        Instr::Nparty { target: 4 },
+        Instr::Nparty(4),
         at_table(false, true),
-        Instr::Nland { target: 2 },
+        Instr::Nland(2),
         at_table(false, false),
-        Instr::Peers {
-            register: 1,
-            target: 17,
-        },
+        Instr::Peers(1, 17),
         Instr::Take,
-        Instr::Emit {
-            stage: 255,
-            scope: ScopeKind::All,
-            number: 1,
-            step: 1,
-        },
+        Instr::Emit(255, ScopeKind::All, 1, 1),
         at(0),
         HALT,
     ]
@@ -212,84 +172,61 @@ fn needs(rt: HostRuntime) -> Result<(), Fail> {
     let stage = 255;
     let scope = ScopeKind::All;
     let cases = [
-        (6, Instr::Zero { slot: 1 }, VerifyFault::Slot(6)),
+        (6, Instr::Zero(1), VerifyFault::Slot(6)),
         (
             6,
-            Instr::Input {
-                slot: 0,
-                input: Input::Minority,
-            },
+            Instr::Input(0, Input::Minority),
             VerifyFault::Slot(6),
         ),
         (6, Instr::Wland, VerifyFault::Kind(6)),
         (6, Instr::Seat, VerifyFault::Kind(6)),
-        (7, Instr::House { register: 5 }, VerifyFault::Kind(8)),
-        (8, Instr::Rest { register: 5 }, VerifyFault::TableKind(8)),
+        (7, Instr::House(5), VerifyFault::Kind(8)),
+        (8, Instr::Rest(5), VerifyFault::TableKind(8)),
         (8, Instr::Lead, VerifyFault::TableKind(8)),
         (8, Instr::Share, VerifyFault::Kind(8)),
-        (10, Instr::Nwin { target: 4 }, VerifyFault::Kind(10)),
-        (10, Instr::Nland { target: 4 }, VerifyFault::Meet(10)),
-        (12, Instr::Jmp { target: 3 }, VerifyFault::Jump(12)),
+        (10, Instr::Nwin(4), VerifyFault::Kind(10)),
+        (10, Instr::Nland(4), VerifyFault::Meet(10)),
+        (12, Instr::Jmp(3), VerifyFault::Jump(12)),
         (14, Instr::Single, VerifyFault::Kind(14)),
         (
             14,
-            Instr::Max {
-                register: 1,
-                by: 17,
-            },
+            Instr::Max(1, 17),
             VerifyFault::Register(14),
         ),
         (
             14,
-            Instr::Sub { register: 1, by: 2 },
+            Instr::Sub(1, 2),
             VerifyFault::TableKind(15),
         ),
-        (15, Instr::Takelot { stage: 0 }, VerifyFault::Slot(15)),
+        (15, Instr::Takelot(0), VerifyFault::Slot(15)),
         (
             15,
-            Instr::Lot { stage, target: 17 },
+            Instr::Lot(stage, 17),
             VerifyFault::TableKind(16),
         ),
         (
             16,
-            Instr::Given {
-                stage,
-                scope: ScopeKind::List,
-                number: 16,
-            },
+            Instr::Given(stage, ScopeKind::List, 16),
             VerifyFault::Register(16),
         ),
         (
             16,
-            Instr::Weigh {
-                stage,
-                scope,
-                rounding: Rounding::Adams,
-                weight: 5,
-            },
+            Instr::Weigh(stage, scope, Rounding::Adams, 5),
             VerifyFault::Kind(16),
         ),
         (
             16,
-            Instr::Tie {
-                stage,
-                scope,
-                seats: 1,
-            },
+            Instr::Tie(stage, scope, 1),
             VerifyFault::TableKind(16),
         ),
         (
             18,
-            Instr::Fault {
-                stage,
-                scope: ScopeKind::Land,
-                fault: EndFault::Limit,
-            },
+            Instr::Fault(stage, ScopeKind::Land, EndFault::Limit),
             VerifyFault::Kind(18),
         ),
         (
             18,
-            Instr::Haltv { slot: 0, vacant: 1 },
+            Instr::Haltv(0, 1),
             VerifyFault::Slot(18),
         ),
     ];

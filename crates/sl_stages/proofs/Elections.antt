@@ -8,8 +8,8 @@ use Rattle.sl_stages.specs.declared.limits.TheConstants.{MAX_LANDS, MAX_PARTIES,
 use Rattle.sl_stages.specs.declared.returns.ListVotes.{ListVotes}
 use Rattle.sl_stages.specs.declared.returns.Win.{Win}
 use Rattle.sl_stages.specs.declared.returns.Lot.{Lot}
-use Rattle.sl_stages.specs.Votes.{IsListVotes, valid_in, counted_in}
-use Rattle.sl_stages.specs.Election.{Election, IsElection, IsWin, IsLot, IsCell, with_land, with_party, with_list, with_win, with_slate, with_lot, list_at}
+use Rattle.sl_stages.specs.returns.Votes.{IsListVotes, valid_in, counted_in}
+use Rattle.sl_stages.specs.returns.Election.{Election, IsElection, IsWin, IsLot, IsCell, with_land, with_party, with_list, with_win, with_slate, with_lot, list_at}
 
 -- a winner stays one as Länder and parties join
 win_stays : (lands parties more_lands more_parties : ℕ) → lands ≤ more_lands → parties ≤ more_parties → (w : Win) → IsWin lands parties w → IsWin more_lands more_parties w

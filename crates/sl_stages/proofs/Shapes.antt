@@ -4,7 +4,7 @@ use Rattle.sl_stages.specs.declared.book.Shape.{Shape}
 use Rattle.sl_stages.specs.declared.book.Shape.TheVariants as shape
 use Rattle.sl_stages.specs.declared.book.Unit.{Unit as Units}
 use Rattle.sl_stages.specs.declared.book.Unit.TheVariants as unit
-use Rattle.sl_stages.specs.Typing.{same_shape, same_unit}
+use Rattle.sl_stages.specs.book.Typing.{same_shape, same_unit}
 
 pub same_shape_is : (a b : Shape) → same_shape a b ≡ true → a ≡ b
 same_shape_is shape.One shape.One h = refl

@@ -1,8 +1,8 @@
 //! Rulebooks as trees.
 
 ghost use Rattle.std.specs.Prelude.{IsTrue, map};
-ghost use Rattle.sl_stages.specs.Trees.{stage_of};
-ghost use Rattle.sl_stages.specs.Limits.{is_within_limits, book_numbers, are_small};
+ghost use Rattle.sl_stages.specs.book.Trees.{stage_of};
+ghost use Rattle.sl_stages.specs.book.Limits.{is_within_limits, book_numbers, are_small};
 
 use crate::word::Word;
 use sl_ratio::Method;
@@ -117,7 +117,7 @@ pub enum Expr {
 
 /// A condition under which a party takes part.
 #[derive(Clone, Copy, Debug, PartialEq, Eq)]
-pub enum Condition {
+pub enum Cond {
     /// At least `share` votes in each `per` of all valid votes.
     Valid { share: Number, per: u32 },
     /// At least so many winners.
@@ -166,7 +166,7 @@ pub struct Book {
     pub version: Number,
     pub law: Vec<u8>,
     pub house: Number,
-    pub eligible: Vec<Condition>,
+    pub eligible: Vec<Cond>,
     pub stages: Vec<Stage>,
     pub last: LastClause,
     pub ghost within_limits: { IsTrue (is_within_limits (map stage_of stages.items)) },

@@ -1,8 +1,8 @@
 //! Rulebooks that are well formed.
 
 ghost use Rattle.std.specs.Prelude.{IsTrue};
-ghost use Rattle.sl_stages.specs.Books.{book_of};
-ghost use Rattle.sl_stages.specs.Typing.{is_typed};
+ghost use Rattle.sl_stages.specs.book.Books.{book_of};
+ghost use Rattle.sl_stages.specs.book.Typing.{is_typed};
 
 use crate::book::Book;
 

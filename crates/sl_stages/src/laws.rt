@@ -1,12 +1,10 @@
 //! Laws of the definitions of a seat law's methods (docs/methods.md). Each function does nothing: its contract is the law.
 
 pub mod bounds;
-pub mod elections;
-pub mod examples;
 pub mod meaning;
 
-ghost use Rattle.sl_stages.specs.Laws.{EmptyFields, DivisorAllocations, HamiltonAllocations, Coverings, FullCoverings, Growths};
-ghost use Rattle.sl_stages.specs.Awards.{Draws, Batches, DivisorLadders, HamiltonLadders, CoveringLadders, GrowthBatches};
+ghost use Rattle.sl_stages.specs.laws.MethodLaws.{EmptyFields, DivisorAllocations, HamiltonAllocations, Coverings, FullCoverings, Growths};
+ghost use Rattle.sl_stages.specs.laws.Awards.{Draws, Batches, DivisorLadders, HamiltonLadders, CoveringLadders, GrowthBatches};
 
 /// A field is empty exactly where its weights sum to 0 (docs/methods.md, section 2).
 pub fn empty_fields()

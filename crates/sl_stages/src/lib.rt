@@ -13,7 +13,7 @@ mod table;
 mod word;
 
 pub use book::{
-    Axis, Base, Book, ColumnType, Condition, Expr, LastClause, Majority, Number, Seating, Shape,
+    Axis, Base, Book, ColumnType, Cond, Expr, LastClause, Majority, Number, Seating, Shape,
     Stage, Unit,
 };
 pub use check_fault::CheckFault;

@@ -3,7 +3,7 @@
 ghost use Rattle.std.specs.Prelude.{◌≡◌, ◌<◌, ◌≤◌, Some, IfSome, length, slice_get, slice_index};
 ghost use Rattle.std.specs.List.{position};
 ghost use Rattle.std.specs.Str.{bytes_eq};
-ghost use Rattle.sl_stages.specs.Votes.{valid_in, counted_in, slate_in};
+ghost use Rattle.sl_stages.specs.returns.Votes.{valid_in, counted_in, slate_in};
 
 mod add;
 
@@ -56,11 +56,11 @@ pub struct Returns {
 }
 
 impl Model for Returns {
-    ghost use Rattle.sl_stages.specs.Election.{Election, IsElection};
+    ghost use Rattle.sl_stages.specs.returns.Election.{Election, IsElection};
 
     ghost Value = { Election };
 
-    ghost use Rattle.sl_stages.specs.Kept.{election_of, KeepsLimits};
+    ghost use Rattle.sl_stages.specs.inner.Kept.{election_of, KeepsLimits};
 
     ghost view = { election_of };
 
@@ -68,7 +68,7 @@ impl Model for Returns {
 }
 
 impl Returns {
-    ghost use Rattle.sl_stages.specs.Election.{Election, IsElection, lands_of, parties_of, wins_of, list_at, has_list, no_election};
+    ghost use Rattle.sl_stages.specs.returns.Election.{Election, IsElection, lands_of, parties_of, wins_of, list_at, has_list, no_election};
 
     /// Returns without a record. Takes no memory.
     pub fn empty(alloc: Global) -> Returns

@@ -68,7 +68,7 @@ pub struct Table {
 }
 
 impl Model for Table {
-    ghost use Rattle.sl_stages.specs.Tables.{SeatTable};
+    ghost use Rattle.sl_stages.specs.meaning.Tables.{SeatTable};
 
     ghost Value = { SeatTable };
 

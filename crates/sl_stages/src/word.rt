@@ -1,7 +1,7 @@
 //! The name of a stage.
 
 ghost use Rattle.std.specs.Prelude.{◌≡◌, ◌<◌, ◌≤◌, ℕ, List, length, IsTrue, IfOk};
-ghost use Rattle.sl_stages.specs.Words.{is_word};
+ghost use Rattle.sl_stages.specs.book.Words.{is_word};
 
 use sl_ratio::NoMemory;
 use std::alloc::Global;

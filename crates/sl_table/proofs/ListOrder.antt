@@ -5,9 +5,9 @@ use Rattle.std.proofs.lemmas.List.{get_or-map, length-map}
 use Rattle.std.proofs.lemmas.List.Elements.{All-nil, All-head, All-tail, All-append, All-map, All-filter, All-from_get_or}
 use Rattle.std.proofs.lemmas.List.FromFn.{length-range_with_len, get_or-range_with_len}
 use Rattle.sl_stages.specs.declared.table.ListSeats.{ListSeats}
-use Rattle.sl_stages.specs.Election.{Election, lands_of, parties_of, has_list}
-use Rattle.sl_stages.specs.Facts.{lands, parties}
-use Rattle.sl_stages.specs.Tables.{SeatTable}
+use Rattle.sl_stages.specs.returns.Election.{Election, lands_of, parties_of, has_list}
+use Rattle.sl_stages.specs.returns.Facts.{lands, parties}
+use Rattle.sl_stages.specs.meaning.Tables.{SeatTable}
 use Rattle.sl_table.specs.Fits.{Fits, list_order}
 
 -- what holds of each element of each piece

@@ -1,8 +1,8 @@
 -- Which tables fit which returns (docs/output.md, section 1).
 use Rattle.std.specs.Prelude.{◌≡◌, ℕ, List, length, map, flat_map, filter}
-use Rattle.sl_stages.specs.Election.{Election, has_list}
-use Rattle.sl_stages.specs.Facts.{lands, parties}
-use Rattle.sl_stages.specs.Tables.{SeatTable}
+use Rattle.sl_stages.specs.returns.Election.{Election, has_list}
+use Rattle.sl_stages.specs.returns.Facts.{lands, parties}
+use Rattle.sl_stages.specs.meaning.Tables.{SeatTable}
 
 -- the lists of an election in list order: by Land, and then by party
 abbrev pub list_order : Election → List (ℕ × ℕ)

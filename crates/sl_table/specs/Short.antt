@@ -6,9 +6,9 @@ use Rattle.sl_stages.specs.declared.table.ListSeats.{ListSeats}
 use Rattle.sl_stages.specs.declared.table.Placed.{Placed}
 use Rattle.sl_stages.specs.declared.table.Placed.TheVariants as placed
 use Rattle.sl_stages.specs.declared.returns.Win.{Win}
-use Rattle.sl_stages.specs.Election.{Election}
-use Rattle.sl_stages.specs.Facts.{parties, is_of}
-use Rattle.sl_stages.specs.Tables.{SeatTable}
+use Rattle.sl_stages.specs.returns.Election.{Election}
+use Rattle.sl_stages.specs.returns.Facts.{parties, is_of}
+use Rattle.sl_stages.specs.meaning.Tables.{SeatTable}
 use Rattle.sl_table.specs.Lines.{line}
 
 abbrev pub is_single : Placed → Bool

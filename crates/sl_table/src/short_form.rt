@@ -2,8 +2,8 @@
 
 ghost use Rattle.std.specs.Prelude.{◌≡◌, ◌+◌, ◌^◌, ◌<◌, ◌≤◌, false, flat_map, filter, sum_by, count_by, IfOk, OnOk};
 ghost use Rattle.std.specs.List.{zip};
-ghost use Rattle.sl_stages.specs.Election.{lands_of, parties_of};
-ghost use Rattle.sl_stages.specs.Facts.{parties, is_of};
+ghost use Rattle.sl_stages.specs.returns.Election.{lands_of, parties_of};
+ghost use Rattle.sl_stages.specs.returns.Facts.{parties, is_of};
 ghost use Rattle.sl_table.specs.Fits.{Fits};
 ghost use Rattle.sl_table.specs.Lines.{with_lines};
 ghost use Rattle.sl_table.specs.Short.{is_single, is_list_of, singles_of, seated_of, total_line, party_line, list_line, vacant_line, winner_line, short_text};

@@ -9,7 +9,7 @@ use Rattle.sl_verify.specs.Kinds.{start_kinds}
 use Rattle.sl_verify.specs.Needs.{has_registers, has_columns, has_kinds, has_table}
 use Rattle.sl_verify.specs.Leaves.{behind, target_of, carried}
 use Rattle.sl_verify.specs.WellKinded.{declared_by, has_stage_slots, coming, IsKinded, IsWellKinded}
-use Rattle.sl_stages.specs.Tests.{test, first_failing}
+use Rattle.sl_stages.specs.book.Tests.{test, first_failing}
 use Rattle.sl_verify.specs.Faults.{coming_tests, kinds_here, need_tests, jump_tests, own_tests, instr_tests, pass_tests, verify_fault}
 use Rattle.sl_stages.proofs.Tests.{pass_parts, pass_join}
 use Rattle.sl_verify.proofs.Passing.{one_holds, one_passes, four_hold, four_pass, coming_stands, stands_coming, jump_leads, leads_jump, nothing_comes}

@@ -7,7 +7,7 @@ use Rattle.sl_code.specs.declared.kinds.Kinds.{Kinds}
 use Rattle.sl_verify.specs.declared.fault.VerifyFault.{VerifyFault}
 use Rattle.sl_verify.specs.Kinds.{implies}
 use Rattle.sl_verify.specs.WellKinded.{declared_at, leads_well, Stands}
-use Rattle.sl_stages.specs.Tests.{test, first_failing}
+use Rattle.sl_stages.specs.book.Tests.{test, first_failing}
 use Rattle.sl_verify.specs.Faults.{coming_tests, kinds_here, landing_tests, jump_tests, end_tests}
 
 -- ---- lists

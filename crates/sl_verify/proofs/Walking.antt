@@ -9,7 +9,7 @@ use Rattle.sl_verify.specs.declared.fault.VerifyFault.{VerifyFault}
 use Rattle.sl_verify.specs.Kinds.{start_kinds}
 use Rattle.sl_verify.specs.Leaves.{behind}
 use Rattle.sl_verify.specs.WellKinded.{declared_by}
-use Rattle.sl_stages.specs.Tests.{first_failing}
+use Rattle.sl_stages.specs.book.Tests.{first_failing}
 use Rattle.sl_verify.specs.Faults.{kinds_here, instr_tests, pass_tests}
 use Rattle.sl_stages.proofs.Tests.{fails_in_row}
 

@@ -14,11 +14,11 @@ fn ends(instr: Instr) -> bool
 {
     matches!(
         instr,
-        Instr::Jmp { .. }
-            | Instr::Fault { .. }
-            | Instr::Tie { .. }
-            | Instr::Halt { .. }
-            | Instr::Haltv { .. }
+        Instr::Jmp(..)
+            | Instr::Fault(..)
+            | Instr::Tie(..)
+            | Instr::Halt(..)
+            | Instr::Haltv(..)
     )
 }
 
@@ -28,23 +28,23 @@ fn positive_behind(positive: Registers, instr: Instr) -> Registers
     ensures { result ≡ positive_behind positive instr }
 {
     match instr {
-        Instr::Set { register, value } => with_register(value > 0, register, positive),
-        Instr::Mov { register, from } => {
+        Instr::Set(register, value) => with_register(value > 0, register, positive),
+        Instr::Mov(register, from) => {
             with_register(contains(positive, from), register, positive)
         }
-        Instr::Add { register, by } | Instr::Max { register, by } => {
+        Instr::Add(register, by) | Instr::Max(register, by) => {
             let is_positive = contains(positive, register) || contains(positive, by);
             with_register(is_positive, register, positive)
         }
-        Instr::Mul { register, by } => {
+        Instr::Mul(register, by) => {
             let is_positive = contains(positive, register) && contains(positive, by);
             with_register(is_positive, register, positive)
         }
-        Instr::Sub { register, .. }
-        | Instr::Div { register, .. }
-        | Instr::Rem { register, .. }
-        | Instr::Get { register, .. } => with_register(false, register, positive),
-        Instr::Jz { register, .. } | Instr::Peers { register, .. } => {
+        Instr::Sub(register, _)
+        | Instr::Div(register, _)
+        | Instr::Rem(register, _)
+        | Instr::Get(register, _) => with_register(false, register, positive),
+        Instr::Jz(register, _) | Instr::Peers(register, _) => {
             with_register(true, register, positive)
         }
         _ => positive,
@@ -57,13 +57,13 @@ fn cursors_behind(kinds: Kinds, instr: Instr) -> Cursors
 {
     let mut cursors = kinds.cursors;
     match instr {
-        Instr::Wparty { .. } | Instr::Fparty { .. } => cursors.party = true,
-        Instr::Wland | Instr::Fland { .. } => cursors.land = true,
-        Instr::Fwin { .. } => cursors.win = true,
-        Instr::Nparty { .. } => cursors.party = false,
-        Instr::Nland { .. } => cursors.land = false,
-        Instr::Nwin { .. } => cursors.win = false,
-        Instr::Take | Instr::Takelot { .. } => {
+        Instr::Wparty(..) | Instr::Fparty(..) => cursors.party = true,
+        Instr::Wland | Instr::Fland(..) => cursors.land = true,
+        Instr::Fwin(..) => cursors.win = true,
+        Instr::Nparty(..) => cursors.party = false,
+        Instr::Nland(..) => cursors.land = false,
+        Instr::Nwin(..) => cursors.win = false,
+        Instr::Take | Instr::Takelot(..) => {
             cursors = join(cursors, table_cursors(kinds.table));
         }
         _ => {}
@@ -83,13 +83,13 @@ fn table_behind(table: Option<TableState>, instr: Instr) -> Option<TableState>
     ensures { result ≡ table_behind table instr }
 {
     match instr {
-        Instr::Table { entries, ranking } => Some(TableState {
+        Instr::Table(entries, ranking) => Some(TableState {
             entries,
             ranking,
             ready: false,
         }),
-        Instr::Peers { .. } => with_ready(true, table),
-        Instr::Take | Instr::Takelot { .. } => with_ready(false, table),
+        Instr::Peers(..) => with_ready(true, table),
+        Instr::Take | Instr::Takelot(..) => with_ready(false, table),
         _ => table,
     }
 }
@@ -114,19 +114,19 @@ pub fn target_of(instr: Instr) -> Option<u32>
     ensures { result ≡ target_of instr }
 {
     match instr {
-        Instr::Jmp { target }
-        | Instr::Jz { target, .. }
-        | Instr::Jlt { target, .. }
-        | Instr::Jnl { target }
-        | Instr::Wparty { target }
-        | Instr::Fparty { target }
-        | Instr::Nparty { target }
-        | Instr::Fland { target }
-        | Instr::Nland { target }
-        | Instr::Fwin { target }
-        | Instr::Nwin { target }
-        | Instr::Peers { target, .. }
-        | Instr::Lot { target, .. } => Some(target),
+        Instr::Jmp(target)
+        | Instr::Jz(_, target)
+        | Instr::Jlt(_, _, target)
+        | Instr::Jnl(target)
+        | Instr::Wparty(target)
+        | Instr::Fparty(target)
+        | Instr::Nparty(target)
+        | Instr::Fland(target)
+        | Instr::Nland(target)
+        | Instr::Fwin(target)
+        | Instr::Nwin(target)
+        | Instr::Peers(_, target)
+        | Instr::Lot(_, target) => Some(target),
         _ => None,
     }
 }
@@ -137,9 +137,9 @@ pub fn carried(kinds: Kinds, instr: Instr) -> Kinds
 {
     let mut kinds = kinds;
     match instr {
-        Instr::Wparty { .. } | Instr::Fparty { .. } => kinds.cursors.party = false,
-        Instr::Fland { .. } => kinds.cursors.land = false,
-        Instr::Fwin { .. } => kinds.cursors.win = false,
+        Instr::Wparty(..) | Instr::Fparty(..) => kinds.cursors.party = false,
+        Instr::Fland(..) => kinds.cursors.land = false,
+        Instr::Fwin(..) => kinds.cursors.win = false,
         _ => {}
     }
     kinds

@@ -3,7 +3,7 @@
 ghost use Rattle.std.specs.Prelude.{◌≡◌, IsTrue, true};
 ghost use Rattle.std.specs.Option.{option_map_or};
 ghost use Rattle.sl_verify.specs.Kinds.{contains};
-ghost use Rattle.sl_stages.specs.Typing.{same_shape};
+ghost use Rattle.sl_stages.specs.book.Typing.{same_shape};
 ghost use Rattle.sl_verify.specs.Needs.{has_registers, has_slot, has_column, has_stage, input_shape, has_columns, needed_positive, shape_cursors, scope_cursors, entry_cursors, slot_cursors, table_cursors, needed_cursors, has_kinds, takes_entry, takes_share, points_at, has_table};
 
 use crate::known::{
@@ -21,26 +21,26 @@ pub fn has_registers(instr: Instr) -> bool
     ensures { result ≡ has_registers instr }
 {
     match instr {
-        Instr::Set { register, .. }
-        | Instr::Jz { register, .. }
-        | Instr::Get { register, .. }
-        | Instr::Store { register, .. }
-        | Instr::House { register }
-        | Instr::Rest { register }
-        | Instr::Peers { register, .. } => is_register(register),
-        Instr::Mov { register, from } => is_register(register) && is_register(from),
-        Instr::Add { register, by }
-        | Instr::Sub { register, by }
-        | Instr::Mul { register, by }
-        | Instr::Div { register, by }
-        | Instr::Rem { register, by }
-        | Instr::Max { register, by } => is_register(register) && is_register(by),
-        Instr::Jlt { left, right, .. } => is_register(left) && is_register(right),
-        Instr::Prio { weight, seats, .. } => is_register(weight) && is_register(seats),
-        Instr::Emit { number, step, .. } => is_register(number) && is_register(step),
-        Instr::Given { number, .. } => is_register(number),
-        Instr::Tie { seats, .. } => is_register(seats),
-        Instr::Weigh { weight, .. } => is_register(weight),
+        Instr::Set(register, _)
+        | Instr::Jz(register, _)
+        | Instr::Get(register, _)
+        | Instr::Store(_, register)
+        | Instr::House(register)
+        | Instr::Rest(register)
+        | Instr::Peers(register, _) => is_register(register),
+        Instr::Mov(register, from) => is_register(register) && is_register(from),
+        Instr::Add(register, by)
+        | Instr::Sub(register, by)
+        | Instr::Mul(register, by)
+        | Instr::Div(register, by)
+        | Instr::Rem(register, by)
+        | Instr::Max(register, by) => is_register(register) && is_register(by),
+        Instr::Jlt(left, right, _) => is_register(left) && is_register(right),
+        Instr::Prio(_, weight, seats) => is_register(weight) && is_register(seats),
+        Instr::Emit(_, _, number, step) => is_register(number) && is_register(step),
+        Instr::Given(_, _, number) => is_register(number),
+        Instr::Tie(_, _, seats) => is_register(seats),
+        Instr::Weigh(_, _, _, weight) => is_register(weight),
         _ => true,
     }
 }
@@ -89,21 +89,21 @@ pub fn has_columns(code: &Code, instr: Instr) -> bool
     ensures { result ≡ has_columns code.now instr }
 {
     match instr {
-        Instr::Get { slot, .. } | Instr::Store { slot, .. } | Instr::Zero { slot } => {
+        Instr::Get(_, slot) | Instr::Store(slot, _) | Instr::Zero(slot) => {
             has_slot(code, slot)
         }
-        Instr::Input { slot, input } => has_column(code, slot, input_shape(input)),
-        Instr::Halt { slot } => has_column(code, slot, Shape::List),
-        Instr::Haltv { slot, vacant } => {
+        Instr::Input(slot, input) => has_column(code, slot, input_shape(input)),
+        Instr::Halt(slot) => has_column(code, slot, Shape::List),
+        Instr::Haltv(slot, vacant) => {
             has_column(code, slot, Shape::List) && has_column(code, vacant, Shape::List)
         }
-        Instr::Lot { stage, .. }
-        | Instr::Takelot { stage }
-        | Instr::Emit { stage, .. }
-        | Instr::Given { stage, .. }
-        | Instr::Fault { stage, .. }
-        | Instr::Tie { stage, .. }
-        | Instr::Weigh { stage, .. } => has_stage(code, stage),
+        Instr::Lot(stage, _)
+        | Instr::Takelot(stage)
+        | Instr::Emit(stage, _, _, _)
+        | Instr::Given(stage, _, _)
+        | Instr::Fault(stage, _, _)
+        | Instr::Tie(stage, _, _)
+        | Instr::Weigh(stage, _, _, _) => has_stage(code, stage),
         _ => true,
     }
 }
@@ -113,8 +113,8 @@ fn needed_positive(instr: Instr) -> Option<u8>
     ensures { result ≡ needed_positive instr }
 {
     match instr {
-        Instr::Div { by, .. } | Instr::Rem { by, .. } => Some(by),
-        Instr::Prio { weight, .. } | Instr::Weigh { weight, .. } => Some(weight),
+        Instr::Div(_, by) | Instr::Rem(_, by) => Some(by),
+        Instr::Prio(_, weight, _) | Instr::Weigh(_, _, _, weight) => Some(weight),
         _ => None,
     }
 }
@@ -177,22 +177,22 @@ fn needed_cursors(slots: &[Shape], table: Option<TableState>, instr: Instr) -> C
     ensures { result ≡ needed_cursors slots.now table instr }
 {
     match instr {
-        Instr::Jnl { .. } => LIST_CURSORS,
-        Instr::Get { slot, .. } | Instr::Store { slot, .. } => slot_cursors(slots, slot),
-        Instr::Nparty { .. } => PARTY_CURSOR,
-        Instr::Nland { .. } => LAND_CURSOR,
-        Instr::Wparty { .. }
+        Instr::Jnl(..) => LIST_CURSORS,
+        Instr::Get(_, slot) | Instr::Store(slot, _) => slot_cursors(slots, slot),
+        Instr::Nparty(..) => PARTY_CURSOR,
+        Instr::Nland(..) => LAND_CURSOR,
+        Instr::Wparty(..)
         | Instr::Wland
-        | Instr::Nwin { .. }
+        | Instr::Nwin(..)
         | Instr::Share
         | Instr::Seat
         | Instr::Single => WIN_CURSOR,
-        Instr::Prio { .. } | Instr::Rest { .. } | Instr::Lead => table_cursors(table),
-        Instr::Emit { scope, .. }
-        | Instr::Given { scope, .. }
-        | Instr::Fault { scope, .. }
-        | Instr::Tie { scope, .. }
-        | Instr::Weigh { scope, .. } => scope_cursors(scope),
+        Instr::Prio(..) | Instr::Rest(..) | Instr::Lead => table_cursors(table),
+        Instr::Emit(_, scope, _, _)
+        | Instr::Given(_, scope, _)
+        | Instr::Fault(_, scope, _)
+        | Instr::Tie(_, scope, _)
+        | Instr::Weigh(_, scope, _, _) => scope_cursors(scope),
         _ => NO_CURSORS,
     }
 }
@@ -242,18 +242,18 @@ pub fn has_table(kinds: Kinds, instr: Instr) -> bool
     ensures { result ≡ has_table kinds instr }
 {
     match instr {
-        Instr::Prio { .. } => kinds
+        Instr::Prio(..) => kinds
             .table
             .is_some_and(|table| takes_entry(Ranking::Quotients, table)),
-        Instr::Rest { .. } | Instr::Lead => kinds
+        Instr::Rest(..) | Instr::Lead => kinds
             .table
             .is_some_and(|table| takes_entry(Ranking::Remainders, table)),
         Instr::Share => kinds.table.is_some_and(takes_share),
-        Instr::Peers { .. } => kinds.table.is_some(),
-        Instr::Take | Instr::Lot { .. } | Instr::Takelot { .. } | Instr::Tie { .. } => {
+        Instr::Peers(..) => kinds.table.is_some(),
+        Instr::Take | Instr::Lot(..) | Instr::Takelot(..) | Instr::Tie(..) => {
             kinds.table.is_some_and(|table| table.ready)
         }
-        Instr::Emit { .. } | Instr::Given { .. } | Instr::Weigh { .. } => kinds
+        Instr::Emit(..) | Instr::Given(..) | Instr::Weigh(..) => kinds
             .table
             .is_some_and(|table| points_at(kinds.cursors, table)),
         _ => true,

@@ -5,9 +5,9 @@ ghost use Rattle.sl_verify.specs.Kinds.{start_kinds};
 ghost use Rattle.sl_verify.specs.Needs.{has_registers};
 ghost use Rattle.sl_verify.specs.Leaves.{behind};
 ghost use Rattle.sl_verify.specs.WellKinded.{declared_by, declared_at, has_stage_slots};
-ghost use Rattle.sl_stages.specs.Tests.{test};
+ghost use Rattle.sl_stages.specs.book.Tests.{test};
 ghost use Rattle.sl_verify.specs.Faults.{coming_tests, kinds_here, need_tests, landing_tests, jump_tests, own_tests, instr_tests, end_tests, pass_tests, verify_tests};
-ghost use Rattle.sl_stages.specs.Tests.{Judges};
+ghost use Rattle.sl_stages.specs.book.Tests.{Judges};
 
 use crate::fault::VerifyFault;
 use crate::known::{START, implies};
@@ -27,7 +27,7 @@ fn declared_by(instr: Instr) -> Option<Kinds>
     ensures { result ≡ declared_by instr }
 {
     match instr {
-        Instr::At { kinds } => Some(kinds),
+        Instr::At(kinds) => Some(kinds),
         _ => None,
     }
 }

@@ -2,7 +2,7 @@
 
 ghost use Rattle.std.specs.Prelude.{◌≡◌, ◌≢◌, IfOk, IfErr, IfSome, IsErrOf};
 ghost use Rattle.std.specs.Io.KnownBytes.{Keeps};
-ghost use Rattle.sl_stages.specs.Books.{book_of};
+ghost use Rattle.sl_stages.specs.book.Books.{book_of};
 ghost use Rattle.sl_desk.specs.Output.{IsCheckOutput, check_line};
 ghost use Rattle.sl_desk.specs.Calls.{Counts, book_input, book_failures, IsBookFault, IsFaultOf, Writes, WritesFront};
 

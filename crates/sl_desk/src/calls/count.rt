@@ -2,8 +2,8 @@
 
 ghost use Rattle.std.specs.Prelude.{◌≡◌, ◌≢◌, true, IfOk, IfErr, IfSome, IsErrOf};
 ghost use Rattle.std.specs.Io.KnownBytes.{Keeps};
-ghost use Rattle.sl_stages.specs.Books.{book_of};
-ghost use Rattle.sl_stages.specs.Outcomes.{is_plain};
+ghost use Rattle.sl_stages.specs.book.Books.{book_of};
+ghost use Rattle.sl_stages.specs.meaning.PlainBooks.{is_plain};
 ghost use Rattle.sl_desk.specs.Output.{IsOutput, IsCount, IsTableText};
 ghost use Rattle.sl_desk.specs.Calls.{Counts, book_input, book_failures, IsFaultOf, IsInputFault, IsReturnsFault, ForKnown, Writes, WritesFront};
 

@@ -3,9 +3,9 @@
 ghost use Rattle.std.specs.Prelude.{◌≡◌, ◌+◌, ◌*◌, ◌<◌, ◌≤◌, IfOk, OnOk, IfSome, ◌++◌, map, if◌then◌else◌};
 ghost use Rattle.std.specs.Option.{ForSome};
 ghost use Rattle.sl_stages.specs.declared.book.Shape.TheVariants as shape;
-ghost use Rattle.sl_stages.specs.Election.{lands_of, parties_of, list_at};
-ghost use Rattle.sl_stages.specs.Votes.{counted_in};
-ghost use Rattle.sl_stages.specs.Facts.{parties, by_party, is_eligible, takes_part, is_on_list, counted_votes, list_winners, outside_winners, independent_winners};
+ghost use Rattle.sl_stages.specs.returns.Election.{lands_of, parties_of, list_at};
+ghost use Rattle.sl_stages.specs.returns.Votes.{counted_in};
+ghost use Rattle.sl_stages.specs.returns.Facts.{parties, by_party, is_eligible, takes_part, is_on_list, counted_votes, list_winners, outside_winners, independent_winners};
 ghost use Rattle.sl_desk.specs.Shapes.{IsShaped};
 ghost use Rattle.sl_desk.specs.Places.{list_place};
 

@@ -2,10 +2,10 @@
 
 ghost use Rattle.std.specs.Prelude.{◌≡◌, nat_eq, map};
 ghost use Rattle.std.specs.List.{list_all};
-ghost use Rattle.sl_stages.specs.Trees.{tree_of, stage_of};
-ghost use Rattle.sl_stages.specs.Typing.{splits_in};
-ghost use Rattle.sl_stages.specs.Books.{book_of};
-ghost use Rattle.sl_stages.specs.Outcomes.{is_plain, is_keep};
+ghost use Rattle.sl_stages.specs.book.Trees.{tree_of, stage_of};
+ghost use Rattle.sl_stages.specs.book.Typing.{splits_in};
+ghost use Rattle.sl_stages.specs.book.Books.{book_of};
+ghost use Rattle.sl_stages.specs.meaning.PlainBooks.{is_plain, is_keep};
 
 use sl_stages::{Book, Expr, Seating, Stage};
 

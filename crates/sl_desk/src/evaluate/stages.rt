@@ -2,13 +2,13 @@
 
 ghost use Rattle.std.specs.Prelude.{◌≡◌, Some, None, true, IsTrue, IfOk, nat_eq, find, map, option_map, unwrap_or, [], ◌∷◌};
 ghost use Rattle.std.specs.List.{list_any, list_all};
-ghost use Rattle.sl_stages.specs.Trees.{tree_of, stage_of};
-ghost use Rattle.sl_stages.specs.Books.{book_of};
-ghost use Rattle.sl_stages.specs.Tests.{first_failing};
-ghost use Rattle.sl_stages.specs.Typing.{is_named, is_typed, splits_in, columns_of, type_of, type_or_one, base_tests};
-ghost use Rattle.sl_stages.specs.Meaning.{is_column_of, IsColumn, AreColumns};
+ghost use Rattle.sl_stages.specs.book.Trees.{tree_of, stage_of};
+ghost use Rattle.sl_stages.specs.book.Books.{book_of};
+ghost use Rattle.sl_stages.specs.book.Tests.{first_failing};
+ghost use Rattle.sl_stages.specs.book.Typing.{is_named, is_typed, splits_in, columns_of, type_of, type_or_one, base_tests};
+ghost use Rattle.sl_stages.specs.meaning.Columns.{is_column_of, IsColumn, AreColumns};
 ghost use Rattle.sl_stages.specs.declared.book.Shape.TheVariants as shape;
-ghost use Rattle.sl_stages.specs.Outcomes.{base_of};
+ghost use Rattle.sl_stages.specs.meaning.Seating.{base_of};
 ghost use Rattle.sl_desk.specs.Shapes.{IsShaped};
 ghost use Rattle.sl_desk.specs.StageColumns.{named_column, types_of, AreShaped, IsPlainExpr, KnowsShapes, HasColumn, known_columns, known_types};
 

@@ -4,10 +4,10 @@ ghost use Rattle.std.specs.Prelude.{◌≡◌, ◌*◌, ◌+◌, ◌^◌, ◌<�
 ghost use Rattle.sl_stages.specs.declared.book.Axis.TheVariants as axis;
 ghost use Rattle.sl_stages.specs.declared.book.Shape.TheVariants as shape;
 ghost use Rattle.sl_stages.specs.declared.limits.TheConstants.{MAX_LANDS, MAX_PARTIES};
-ghost use Rattle.sl_stages.specs.Election.{lands_of, parties_of};
-ghost use Rattle.sl_stages.specs.Facts.{lands, parties, list_cell};
-ghost use Rattle.sl_stages.specs.Meaning.{sum_over, larger_of, less_of};
-ghost use Rattle.sl_stages.specs.Typing.{shape_over};
+ghost use Rattle.sl_stages.specs.returns.Election.{lands_of, parties_of};
+ghost use Rattle.sl_stages.specs.returns.Facts.{lands, parties, list_cell};
+ghost use Rattle.sl_stages.specs.meaning.Columns.{sum_over, larger_of, less_of};
+ghost use Rattle.sl_stages.specs.book.Typing.{shape_over};
 ghost use Rattle.sl_desk.specs.Shapes.{IsShaped, CanSum};
 
 use sl_ratio::NoMemory;

@@ -2,10 +2,11 @@
 
 ghost use Rattle.std.specs.Prelude.{◌≡◌, ◌<◌, ◌++◌, IfOk, OnOk, map, filter};
 ghost use Rattle.sl_stages.specs.declared.book.Shape.TheVariants as shape;
-ghost use Rattle.sl_stages.specs.Books.{book_of};
-ghost use Rattle.sl_stages.specs.Election.{lands_of, has_list};
-ghost use Rattle.sl_stages.specs.Facts.{parties, list_winners};
-ghost use Rattle.sl_stages.specs.Outcomes.{kept_list, kept_lists, kept_place, kept_table};
+ghost use Rattle.sl_stages.specs.book.Books.{book_of};
+ghost use Rattle.sl_stages.specs.returns.Election.{lands_of, has_list};
+ghost use Rattle.sl_stages.specs.returns.Facts.{parties, list_winners};
+ghost use Rattle.sl_stages.specs.meaning.PlainBooks.{kept_list, kept_lists, kept_table};
+ghost use Rattle.sl_stages.specs.meaning.Seating.{kept_place};
 ghost use Rattle.sl_desk.specs.Shapes.{IsShaped};
 
 use crate::evaluate::facts::Facts;

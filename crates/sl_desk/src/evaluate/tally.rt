@@ -3,13 +3,13 @@
 ghost use Rattle.std.specs.Prelude.{◌≡◌, ◌*◌, ◌^◌, ◌<◌, ◌≤◌, IfOk, All, count_by, map};
 ghost use Rattle.std.specs.List.{list_any};
 ghost use Rattle.sl_stages.specs.declared.limits.TheConstants.{MAX_LANDS};
-ghost use Rattle.sl_stages.specs.Election.{parties_of};
-ghost use Rattle.sl_stages.specs.Facts.{parties, by_party, is_of, is_eligible, valid_votes};
+ghost use Rattle.sl_stages.specs.returns.Election.{parties_of};
+ghost use Rattle.sl_stages.specs.returns.Facts.{parties, by_party, is_of, is_eligible, valid_votes};
 ghost use Rattle.sl_desk.specs.Standings.{standing_of, standing_meets};
 
 use crate::evaluate::sums::total;
 use sl_ratio::NoMemory;
-use sl_stages::{Condition, Returns};
+use sl_stages::{Cond, Returns};
 use std::alloc::Global;
 
 // How a party stands: its valid votes, those of all parties, its winners, and whether it is of a national minority.
@@ -23,22 +23,22 @@ struct Standing {
 
 impl Standing {
     // Whether a party that stands so meets a condition.
-    fn meets(&self, condition: &Condition) -> bool
+    fn meets(&self, condition: &Cond) -> bool
         ensures { result ≡ standing_meets self.now condition.now }
     {
         match condition {
-            Condition::Valid { share, per } => {
+            Cond::Valid { share, per } => {
                 u128::from(share.value) * u128::from(self.all_valid)
                     <= u128::from(*per) * u128::from(self.valid)
             }
-            Condition::Winners { least } => u64::from(*least) <= self.winners,
-            Condition::Minority => self.minority,
-            Condition::All => true,
+            Cond::Winners { least } => u64::from(*least) <= self.winners,
+            Cond::Minority => self.minority,
+            Cond::All => true,
         }
     }
 
     // Whether it meets one of the conditions.
-    fn meets_one(&self, conditions: &[Condition]) -> bool
+    fn meets_one(&self, conditions: &[Cond]) -> bool
         ensures { result ≡ list_any (standing_meets self.now) conditions.now }
     {
         conditions.iter().any(|condition| self.meets(condition))
@@ -93,7 +93,7 @@ fn party_votes(alloc: Global, returns: &Returns) -> Result<Vec<u64>, NoMemory>
 /// Which parties meet one of the conditions.
 pub fn eligible(
     alloc: Global,
-    conditions: &[Condition],
+    conditions: &[Cond],
     returns: &Returns,
 ) -> Result<Vec<bool>, NoMemory>
     ensures { IfOk result (λ column. column.items ≡ map (is_eligible conditions.now returns.now) (parties returns.now)) }

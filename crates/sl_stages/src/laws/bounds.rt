@@ -1,6 +1,6 @@
 //! Laws of the bounds. Each function does nothing: its contract is the law.
 
-ghost use Rattle.sl_stages.specs.Bounds.{EqualBounds, EveryDivisorBetween};
+ghost use Rattle.sl_stages.specs.laws.EqualBounds.{EqualBounds, EveryDivisorBetween};
 
 /// The bounds of an allocation are equal exactly where there is another allocation.
 pub fn equal_bounds()

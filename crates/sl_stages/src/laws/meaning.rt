@@ -1,7 +1,7 @@
 //! Laws of the meaning (docs/meaning.md, section 10). Each function does nothing: its contract is the law.
 
-ghost use Rattle.sl_stages.specs.MeaningLaws.{SomeOutcome, AtMostOneOutcome, AnyOrder, RecordsOnce, KeptWinners, CoveredWinners, PlainOutcomes};
-ghost use Rattle.sl_stages.specs.ColumnLaws.{TypedExpressions, TypedStages};
+ghost use Rattle.sl_stages.specs.laws.MeaningLaws.{SomeOutcome, AtMostOneOutcome, AnyOrder, RecordsOnce, KeptWinners, CoveredWinners, PlainOutcomes};
+ghost use Rattle.sl_stages.specs.laws.ColumnLaws.{TypedExpressions, TypedStages};
 
 /// A rulebook that passes the checks means some outcome on every election.
 pub fn some_outcome()

@@ -50,7 +50,7 @@ fn write_cell(rows: &mut Vec<Vec<Option<ListVotes>>>, land: usize, party: usize,
 }
 
 impl Returns {
-    ghost use Rattle.sl_stages.specs.Election.{Election, IsElection, IsWin, lands_of, parties_of, wins_of, list_at, has_list, with_house, with_land, with_party, with_list, with_win, with_slate, with_lot};
+    ghost use Rattle.sl_stages.specs.returns.Election.{Election, IsElection, IsWin, lands_of, parties_of, wins_of, list_at, has_list, with_house, with_land, with_party, with_list, with_win, with_slate, with_lot};
 
     /// Sets the house, in seats. Takes no memory.
     pub fn set_house(&mut self, seats: u32)

@@ -1,7 +1,7 @@
 use Rattle.std.proofs.Common.{◌≡◌, [], map, ap, sym, subst, ◌∙◌}
-use Rattle.sl_stages.specs.Books.{book_of}
-use Rattle.sl_stages.specs.Trees.{stage_of}
-use Rattle.sl_stages.specs.Typing.{columns_of}
+use Rattle.sl_stages.specs.book.Books.{book_of}
+use Rattle.sl_stages.specs.book.Trees.{stage_of}
+use Rattle.sl_stages.specs.book.Typing.{columns_of}
 use Rattle.sl_table.specs.Fits.{Fits}
 use Rattle.sl_desk.specs.StageColumns.{types_of}
 use Rattle.sl_desk.proofs.StageLists.{base_passes}

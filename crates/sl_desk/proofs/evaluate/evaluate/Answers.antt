@@ -1,7 +1,7 @@
 use Rattle.std.proofs.Common.{refl}
-use Rattle.sl_stages.specs.Books.{book_of}
+use Rattle.sl_stages.specs.book.Books.{book_of}
 use Rattle.sl_stages.specs.declared.table.Outcome.TheVariants as outcome
-use Rattle.sl_stages.proofs.PlainMeaning.{plain_outcomes}
+use Rattle.sl_stages.proofs.meaning.PlainMeaning.{plain_outcomes}
 use Rattle.sl_desk.proofs.evaluate.evaluate.Goals as goal
 
 pub returns-clause-means : goal.returns-clause-means

@@ -2,7 +2,7 @@
 use Rattle.std.proofs.Common.{◌≡◌, ◌<◌, ◌++◌, ◌∷◌, [], ℕ, List, All, Option, length, get_or, option_to_list, sym, ap, subst, ◌∙◌, append-nil, take, Vec, Global}
 use Rattle.std.proofs.lemmas.List.Elements.{All-get_or}
 use Rattle.sl_stages.specs.declared.returns.Lot.{Lot}
-use Rattle.sl_stages.specs.Election.{IsLot, lands_of, parties_of, wins_of}
+use Rattle.sl_stages.specs.returns.Election.{IsLot, lands_of, parties_of, wins_of}
 use Rattle.sl_machine.proofs.LotLists.{given_by, given_next}
 use Rattle.sl_machine.proofs.lots.lot_of.Goals as goal
 use Rattle.sl_machine.proofs.lots.lot_of.Goals.{in-Some+in_ok-append, in_default}

@@ -1,6 +1,6 @@
 -- The list with its names.
 use Rattle.std.proofs.Common.{ℕ, Option, is_some, ap, sym, ◌∙◌}
-use Rattle.sl_stages.specs.Election.{list_at, with_list, with_slate}
+use Rattle.sl_stages.specs.returns.Election.{list_at, with_list, with_slate}
 use Rattle.sl_stages.proofs.Elections.{slate_told}
 use Rattle.sl_returns.proofs.join.keep_list.Goals as goal
 

@@ -1,4 +1,4 @@
-use Rattle.sl_stages.proofs.LadderProofs.{batches}
+use Rattle.sl_stages.proofs.methods.LadderProofs.{batches}
 use Rattle.sl_stages.proofs.laws.batches.Goals as goal
 
 pub returns : goal.returns

@@ -1,4 +1,4 @@
-use Rattle.sl_stages.proofs.CoveringProofs.{coverings, full_coverings}
+use Rattle.sl_stages.proofs.methods.CoveringProofs.{coverings, full_coverings}
 use Rattle.sl_stages.proofs.laws.coverings.Goals as goal
 
 pub returns-clause-well_defined : goal.returns-clause-well_defined

@@ -1,4 +1,4 @@
-use Rattle.sl_stages.proofs.DivisorProofs.{divisor_allocations}
+use Rattle.sl_stages.proofs.methods.DivisorProofs.{divisor_allocations}
 use Rattle.sl_stages.proofs.laws.divisor_allocations.Goals as goal
 
 pub returns : goal.returns

@@ -1,4 +1,4 @@
-use Rattle.sl_stages.proofs.DivisorProofs.{divisor_ladders_law}
+use Rattle.sl_stages.proofs.methods.DivisorProofs.{divisor_ladders_law}
 use Rattle.sl_stages.proofs.laws.divisor_ladders.Goals as goal
 
 pub returns : goal.returns

@@ -1,4 +1,4 @@
-use Rattle.sl_stages.proofs.DivisorProofs.{empty_fields}
+use Rattle.sl_stages.proofs.methods.DivisorProofs.{empty_fields}
 use Rattle.sl_stages.proofs.laws.empty_fields.Goals as goal
 
 pub returns : goal.returns

@@ -1,4 +1,4 @@
-use Rattle.sl_stages.proofs.HouseProofs.{growth_batches}
+use Rattle.sl_stages.proofs.methods.HouseProofs.{growth_batches}
 use Rattle.sl_stages.proofs.laws.growth_batches.Goals as goal
 
 pub returns : goal.returns

@@ -1,4 +1,4 @@
-use Rattle.sl_stages.proofs.HamiltonProofs.{hamilton_ladders_law}
+use Rattle.sl_stages.proofs.methods.HamiltonProofs.{hamilton_ladders_law}
 use Rattle.sl_stages.proofs.laws.hamilton_ladders.Goals as goal
 
 pub returns : goal.returns

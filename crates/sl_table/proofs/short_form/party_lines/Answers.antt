@@ -1,6 +1,6 @@
 use Rattle.std.proofs.Common.{◌≡◌, ◌<◌, length, get_or, arith, zero-add, ◌∙◌}
 use Rattle.std.proofs.lemmas.List.FromFn.{length-range_with_len, get_or-range_with_len}
-use Rattle.sl_stages.specs.Facts.{parties}
+use Rattle.sl_stages.specs.returns.Facts.{parties}
 use Rattle.sl_table.specs.Short.{party_line}
 use Rattle.sl_table.proofs.LineLoops.{lines_more, lines_all}
 use Rattle.sl_table.proofs.short_form.party_lines.Goals as goal

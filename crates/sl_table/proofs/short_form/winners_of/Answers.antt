@@ -1,6 +1,6 @@
 use Rattle.std.proofs.Common.{◌&&◌, true, false, count_by, refl, ap, ◌∙◌, arith}
 use Rattle.std.specs.List.{zip}
-use Rattle.sl_stages.specs.Facts.{is_of}
+use Rattle.sl_stages.specs.returns.Facts.{is_of}
 use Rattle.sl_table.specs.Short.{is_single, is_seated}
 use Rattle.sl_table.proofs.Winners.{count_both_more, all_pairs}
 use Rattle.sl_table.proofs.short_form.winners_of.Goals as goal

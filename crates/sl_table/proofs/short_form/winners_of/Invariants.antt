@@ -1,6 +1,6 @@
 use Rattle.std.proofs.Common.{◌≡◌, ◌≤◌, ◌&&◌, count_by, take}
 use Rattle.std.specs.List.{zip}
-use Rattle.sl_stages.specs.Facts.{is_of}
+use Rattle.sl_stages.specs.returns.Facts.{is_of}
 use Rattle.sl_table.specs.Short.{is_single, is_seated}
 use Rattle.sl_table.proofs.short_form.winners_of.Given as goal
 

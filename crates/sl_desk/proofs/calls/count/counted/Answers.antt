@@ -1,6 +1,6 @@
 use Rattle.std.proofs.Common.{◌≡◌, true, rules}
-use Rattle.sl_stages.specs.Books.{book_of}
-use Rattle.sl_stages.specs.Outcomes.{is_plain}
+use Rattle.sl_stages.specs.book.Books.{book_of}
+use Rattle.sl_stages.specs.meaning.PlainBooks.{is_plain}
 use Rattle.sl_desk.proofs.CountFacts.{table_counts}
 use Rattle.sl_desk.proofs.calls.count.counted.Goals as goal
 

@@ -2,8 +2,8 @@ use Rattle.std.proofs.Common.{nat_eq, sym, ◌∙◌, rules, tests}
 use Rattle.std.proofs.lemmas.Iterator.{YieldsList-from_slice}
 use Rattle.std.proofs.lemmas.Iterator.Search.{all_from_yields_List}
 use Rattle.std.proofs.lemmas.List.Folds.{list_all-map}
-use Rattle.sl_stages.specs.Trees.{tree_of, stage_of}
-use Rattle.sl_stages.specs.Typing.{splits_in}
+use Rattle.sl_stages.specs.book.Trees.{tree_of, stage_of}
+use Rattle.sl_stages.specs.book.Typing.{splits_in}
 use Rattle.sl_desk.proofs.evaluate.plain.are_plain.Goals as goal
 
 pub returns : goal.returns

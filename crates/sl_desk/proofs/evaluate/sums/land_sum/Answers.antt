@@ -1,7 +1,7 @@
 use Rattle.std.proofs.Common.{◌≡◌, ◌+◌, ◌*◌, ◌^◌, ◌≤◌, get_or, ap, arith}
 use Rattle.std.specs.List.{sum_by, range_with_len}
-use Rattle.sl_stages.specs.Election.{parties_of}
-use Rattle.sl_stages.specs.Facts.{list_cell}
+use Rattle.sl_stages.specs.returns.Election.{parties_of}
+use Rattle.sl_stages.specs.returns.Facts.{list_cell}
 use Rattle.sl_desk.proofs.Ranges.{sum_more}
 use Rattle.sl_desk.proofs.ShapedColumns.{cell_most}
 use Rattle.sl_desk.proofs.evaluate.sums.land_sum.Goals as goal

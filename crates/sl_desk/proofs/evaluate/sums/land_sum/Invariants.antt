@@ -1,6 +1,6 @@
 use Rattle.std.proofs.Common.{◌≡◌, ◌*◌, ◌^◌, ◌≤◌}
 use Rattle.std.specs.List.{sum_by, range_with_len}
-use Rattle.sl_stages.specs.Facts.{list_cell}
+use Rattle.sl_stages.specs.returns.Facts.{list_cell}
 use Rattle.sl_desk.proofs.evaluate.sums.land_sum.Given as goal
 
 abbrev pub invariant-loop-party : goal.invariant-loop-party

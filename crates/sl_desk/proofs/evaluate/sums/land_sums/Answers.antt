@@ -1,8 +1,8 @@
 use Rattle.std.proofs.Common.{◌≡◌, ◌*◌, ◌^◌, ◌≤◌, ◌∙◌, arith}
 use Rattle.std.specs.List.{sum_by}
 use Rattle.sl_stages.specs.declared.limits.TheConstants.{MAX_PARTIES}
-use Rattle.sl_stages.specs.Election.{lands_of}
-use Rattle.sl_stages.specs.Facts.{parties, list_cell}
+use Rattle.sl_stages.specs.returns.Election.{lands_of}
+use Rattle.sl_stages.specs.returns.Facts.{parties, list_cell}
 use Rattle.sl_desk.proofs.Ranges.{made_more, made_length, pushed_all}
 use Rattle.sl_desk.proofs.evaluate.sums.land_sums.Goals as goal
 

@@ -1,7 +1,7 @@
 use Rattle.std.proofs.Common.{◌≡◌, ◌*◌, ◌^◌, ◌≤◌, map}
 use Rattle.std.specs.List.{All, sum_by, range_with_len}
 use Rattle.sl_stages.specs.declared.limits.TheConstants.{MAX_PARTIES}
-use Rattle.sl_stages.specs.Facts.{parties, list_cell}
+use Rattle.sl_stages.specs.returns.Facts.{parties, list_cell}
 use Rattle.sl_desk.proofs.evaluate.sums.land_sums.Given as goal
 
 abbrev pub invariant-loop-land : goal.invariant-loop-land

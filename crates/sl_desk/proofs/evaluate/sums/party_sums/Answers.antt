@@ -1,8 +1,8 @@
 use Rattle.std.proofs.Common.{◌≡◌, ◌*◌, ◌^◌, ◌≤◌, ◌∙◌, arith}
 use Rattle.std.specs.List.{sum_by}
 use Rattle.sl_stages.specs.declared.limits.TheConstants.{MAX_LANDS}
-use Rattle.sl_stages.specs.Election.{parties_of}
-use Rattle.sl_stages.specs.Facts.{lands, list_cell}
+use Rattle.sl_stages.specs.returns.Election.{parties_of}
+use Rattle.sl_stages.specs.returns.Facts.{lands, list_cell}
 use Rattle.sl_desk.proofs.Ranges.{made_more, made_length, pushed_all}
 use Rattle.sl_desk.proofs.evaluate.sums.party_sums.Goals as goal
 

@@ -1,7 +1,7 @@
 use Rattle.std.proofs.Common.{◌≡◌, ◌*◌, ◌^◌, ◌≤◌, map}
 use Rattle.std.specs.List.{All, sum_by, range_with_len}
 use Rattle.sl_stages.specs.declared.limits.TheConstants.{MAX_LANDS}
-use Rattle.sl_stages.specs.Facts.{lands, list_cell}
+use Rattle.sl_stages.specs.returns.Facts.{lands, list_cell}
 use Rattle.sl_desk.proofs.evaluate.sums.party_sums.Given as goal
 
 abbrev pub invariant-loop-party : goal.invariant-loop-party

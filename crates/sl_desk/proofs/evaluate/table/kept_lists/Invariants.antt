@@ -1,9 +1,9 @@
 use Rattle.std.proofs.Common.{◌≡◌, map}
 use Rattle.std.specs.List.{filter, flat_map, range_with_len}
-use Rattle.sl_stages.specs.Books.{book_of}
-use Rattle.sl_stages.specs.Election.{has_list}
-use Rattle.sl_stages.specs.Facts.{parties}
-use Rattle.sl_stages.specs.Outcomes.{kept_list}
+use Rattle.sl_stages.specs.book.Books.{book_of}
+use Rattle.sl_stages.specs.returns.Election.{has_list}
+use Rattle.sl_stages.specs.returns.Facts.{parties}
+use Rattle.sl_stages.specs.meaning.PlainBooks.{kept_list}
 use Rattle.sl_desk.proofs.evaluate.table.kept_lists.Given as goal
 
 abbrev pub invariant-loop-land : goal.invariant-loop-land

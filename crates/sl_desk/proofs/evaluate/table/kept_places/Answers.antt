@@ -2,8 +2,8 @@ use Rattle.std.proofs.Common.{◌≡◌, ◌++◌, ◌∷◌, [], map, take, ap,
 use Rattle.std.proofs.lemmas.List.{map_more}
 use Rattle.std.proofs.lemmas.Option.{slice_get_within, get_or_from_slice_get}
 use Rattle.sl_stages.specs.declared.table.Placed.TheVariants as placed
-use Rattle.sl_stages.specs.Books.{book_of}
-use Rattle.sl_stages.specs.Outcomes.{kept_place}
+use Rattle.sl_stages.specs.book.Books.{book_of}
+use Rattle.sl_stages.specs.meaning.Seating.{kept_place}
 use Rattle.sl_desk.proofs.evaluate.table.kept_places.Goals as goal
 use Rattle.sl_desk.proofs.evaluate.table.kept_places.Goals.{then-is_on_list, else-is_on_list}
 

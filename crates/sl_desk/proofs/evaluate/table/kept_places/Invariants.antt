@@ -1,6 +1,6 @@
 use Rattle.std.proofs.Common.{◌≡◌, map, take}
-use Rattle.sl_stages.specs.Books.{book_of}
-use Rattle.sl_stages.specs.Outcomes.{kept_place}
+use Rattle.sl_stages.specs.book.Books.{book_of}
+use Rattle.sl_stages.specs.meaning.Seating.{kept_place}
 use Rattle.sl_desk.proofs.evaluate.table.kept_places.Given as goal
 
 abbrev pub invariant-loop-number : goal.invariant-loop-number

@@ -1,8 +1,8 @@
 use Rattle.std.proofs.Common.{◌≡◌, ◌+◌, ◌*◌, ℕ, List, max, get_or, ap, sym, ◌∙◌}
 use Rattle.sl_stages.specs.declared.table.ListSeats.{ListSeats}
-use Rattle.sl_stages.specs.Books.{book_of}
-use Rattle.sl_stages.specs.Election.{has_list, parties_of}
-use Rattle.sl_stages.specs.Outcomes.{kept_list}
+use Rattle.sl_stages.specs.book.Books.{book_of}
+use Rattle.sl_stages.specs.returns.Election.{has_list, parties_of}
+use Rattle.sl_stages.specs.meaning.PlainBooks.{kept_list}
 use Rattle.sl_desk.proofs.Ranges.{kept_more, kept_same}
 use Rattle.sl_desk.proofs.evaluate.table.push_lists.Goals as goal
 use Rattle.sl_desk.proofs.evaluate.table.push_lists.Goals.{then-is_list+in-Ok, else-is_list}

@@ -1,8 +1,8 @@
 use Rattle.std.proofs.Common.{◌≡◌, ◌++◌, map}
 use Rattle.std.specs.List.{filter, range_with_len}
-use Rattle.sl_stages.specs.Books.{book_of}
-use Rattle.sl_stages.specs.Election.{has_list}
-use Rattle.sl_stages.specs.Outcomes.{kept_list}
+use Rattle.sl_stages.specs.book.Books.{book_of}
+use Rattle.sl_stages.specs.returns.Election.{has_list}
+use Rattle.sl_stages.specs.meaning.PlainBooks.{kept_list}
 use Rattle.sl_desk.proofs.evaluate.table.push_lists.Given as goal
 
 abbrev pub invariant-loop-party : goal.invariant-loop-party

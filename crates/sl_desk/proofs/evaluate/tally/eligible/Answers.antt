@@ -2,8 +2,8 @@ use Rattle.std.proofs.Common.{◌≡◌, ◌*◌, ◌^◌, ◌<◌, ◌≤◌, l
 use Rattle.std.specs.List.{sum}
 use Rattle.std.proofs.lemmas.List.Sums.{sum-map}
 use Rattle.sl_stages.specs.declared.limits.TheConstants.{MAX_LANDS, MAX_PARTIES}
-use Rattle.sl_stages.specs.Election.{parties_of}
-use Rattle.sl_stages.specs.Facts.{parties, valid_votes, all_valid_votes, is_of, is_eligible}
+use Rattle.sl_stages.specs.returns.Election.{parties_of}
+use Rattle.sl_stages.specs.returns.Facts.{parties, valid_votes, all_valid_votes, is_of, is_eligible}
 use Rattle.sl_desk.proofs.Ranges.{made_length, made_read, made_more, sum_within}
 use Rattle.sl_desk.proofs.Eligibility.{eligible_as}
 use Rattle.sl_desk.proofs.evaluate.tally.eligible.Goals as goal

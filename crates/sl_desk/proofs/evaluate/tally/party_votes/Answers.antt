@@ -1,6 +1,6 @@
 use Rattle.std.proofs.Common.{◌*◌, ◌^◌, ◌≤◌}
 use Rattle.sl_stages.specs.declared.limits.TheConstants.{MAX_LANDS}
-use Rattle.sl_stages.specs.Facts.{valid_votes}
+use Rattle.sl_stages.specs.returns.Facts.{valid_votes}
 use Rattle.sl_desk.proofs.Ranges.{made_more, pushed_all}
 use Rattle.sl_desk.proofs.evaluate.tally.party_votes.Goals as goal
 

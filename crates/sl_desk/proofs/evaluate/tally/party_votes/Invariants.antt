@@ -1,7 +1,7 @@
 use Rattle.std.proofs.Common.{◌≡◌, ◌*◌, ◌^◌, ◌≤◌, map}
 use Rattle.std.specs.List.{All, range_with_len}
 use Rattle.sl_stages.specs.declared.limits.TheConstants.{MAX_LANDS}
-use Rattle.sl_stages.specs.Facts.{valid_votes}
+use Rattle.sl_stages.specs.returns.Facts.{valid_votes}
 use Rattle.sl_desk.proofs.evaluate.tally.party_votes.Given as goal
 
 abbrev pub invariant-loop-party : goal.invariant-loop-party

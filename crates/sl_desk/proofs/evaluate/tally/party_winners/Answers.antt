@@ -1,7 +1,7 @@
 use Rattle.std.proofs.Common.{◌<◌, ap, arith}
 use Rattle.std.proofs.lemmas.Option.{slice_get_within, get_or_from_slice_get}
-use Rattle.sl_stages.specs.Election.{parties_of}
-use Rattle.sl_stages.specs.Facts.{is_of}
+use Rattle.sl_stages.specs.returns.Election.{parties_of}
+use Rattle.sl_stages.specs.returns.Facts.{is_of}
 use Rattle.sl_desk.proofs.Counting.{counts_one, counts_no, counts_all, count_le}
 use Rattle.sl_desk.proofs.Elections.{win_party_below, is_of_yes, is_of_no, is_of_none}
 use Rattle.sl_desk.proofs.evaluate.tally.party_winners.Goals as goal

@@ -1,5 +1,5 @@
-use Rattle.sl_stages.specs.Election.{parties_of}
-use Rattle.sl_stages.specs.Facts.{is_of}
+use Rattle.sl_stages.specs.returns.Election.{parties_of}
+use Rattle.sl_stages.specs.returns.Facts.{is_of}
 use Rattle.sl_desk.proofs.Counting.{Counts}
 use Rattle.sl_desk.proofs.evaluate.tally.party_winners.Given as goal
 

@@ -1,7 +1,7 @@
 use Rattle.std.proofs.Common.{◌≡◌, ◌*◌, ◌^◌, ◌≤◌}
 use Rattle.std.specs.List.{sum_by, range_with_len}
-use Rattle.sl_stages.specs.Election.{list_at}
-use Rattle.sl_stages.specs.Votes.{valid_in}
+use Rattle.sl_stages.specs.returns.Election.{list_at}
+use Rattle.sl_stages.specs.returns.Votes.{valid_in}
 use Rattle.sl_desk.proofs.evaluate.tally.valid_votes.Given as goal
 
 abbrev pub invariant-loop-land : goal.invariant-loop-land

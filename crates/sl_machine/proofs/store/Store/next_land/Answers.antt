@@ -1,6 +1,6 @@
 -- The cursor is set, so that there is a next one or none.
 use Rattle.std.proofs.Common.{ℕ, Option, Some, ap, sym, ◌∙◌}
-use Rattle.sl_stages.specs.Election.{lands_of}
+use Rattle.sl_stages.specs.returns.Election.{lands_of}
 use Rattle.sl_machine.specs.Effects.{next_of, with_land}
 use Rattle.sl_machine.specs.Stores.{state_of}
 use Rattle.sl_machine.proofs.store.Store.next_land.Goals as goal

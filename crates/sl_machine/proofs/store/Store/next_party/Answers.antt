@@ -1,6 +1,6 @@
 -- The cursor is set, so that there is a next one or none.
 use Rattle.std.proofs.Common.{ℕ, Option, Some, ap, sym, ◌∙◌}
-use Rattle.sl_stages.specs.Election.{parties_of}
+use Rattle.sl_stages.specs.returns.Election.{parties_of}
 use Rattle.sl_machine.specs.Effects.{next_of, with_party}
 use Rattle.sl_machine.specs.Stores.{state_of}
 use Rattle.sl_machine.proofs.store.Store.next_party.Goals as goal

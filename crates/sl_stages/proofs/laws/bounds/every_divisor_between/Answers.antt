@@ -1,4 +1,4 @@
-use Rattle.sl_stages.proofs.BoundsProofs.{every_divisor_between}
+use Rattle.sl_stages.proofs.methods.BoundsProofs.{every_divisor_between}
 use Rattle.sl_stages.proofs.laws.bounds.every_divisor_between.Goals as goal
 
 pub returns : goal.returns

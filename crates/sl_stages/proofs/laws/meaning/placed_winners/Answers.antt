@@ -1,5 +1,5 @@
-use Rattle.sl_stages.proofs.CoveredWinners.{covered_winners}
-use Rattle.sl_stages.proofs.PlacedWinners.{kept_winners}
+use Rattle.sl_stages.proofs.meaning.CoveredWinners.{covered_winners}
+use Rattle.sl_stages.proofs.meaning.PlacedWinners.{kept_winners}
 use Rattle.sl_stages.proofs.laws.meaning.placed_winners.Goals as goal
 
 pub returns-clause-kept : goal.returns-clause-kept

@@ -1,4 +1,4 @@
-use Rattle.sl_stages.proofs.PlainMeaning.{plain_outcomes}
+use Rattle.sl_stages.proofs.meaning.PlainMeaning.{plain_outcomes}
 use Rattle.sl_stages.proofs.laws.meaning.plain_outcomes.Goals as goal
 
 pub returns : goal.returns

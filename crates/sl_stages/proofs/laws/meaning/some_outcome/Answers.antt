@@ -1,4 +1,4 @@
-use Rattle.sl_stages.proofs.MeaningProofs.{some_outcome}
+use Rattle.sl_stages.proofs.meaning.MeaningProofs.{some_outcome}
 use Rattle.sl_stages.proofs.laws.meaning.some_outcome.Goals as goal
 
 pub returns : goal.returns

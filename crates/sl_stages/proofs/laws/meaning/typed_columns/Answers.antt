@@ -1,4 +1,4 @@
-use Rattle.sl_stages.proofs.TypedMeaning.{typed_expressions, typed_stages}
+use Rattle.sl_stages.proofs.meaning.TypedMeaning.{typed_expressions, typed_stages}
 use Rattle.sl_stages.proofs.laws.meaning.typed_columns.Goals as goal
 
 pub returns-clause-expressions : goal.returns-clause-expressions

@@ -4,8 +4,8 @@ use Rattle.std.proofs.lemmas.List.{map_push}
 use Rattle.sl_ratio.specs.Names.{name_fault}
 use Rattle.sl_ratio.proofs.NameLists.{joins}
 use Rattle.sl_stages.specs.declared.limits.TheConstants.{MAX_LANDS, MAX_PARTIES}
-use Rattle.sl_stages.specs.Election.{Election, IsElection, with_land}
-use Rattle.sl_stages.specs.Kept.{election_of}
+use Rattle.sl_stages.specs.returns.Election.{Election, IsElection, with_land}
+use Rattle.sl_stages.specs.inner.Kept.{election_of}
 use Rattle.sl_stages.proofs.Elections.{is_with_land}
 use Rattle.sl_stages.proofs.returns.Returns.add_land.Goals as goal
 use Rattle.sl_stages.proofs.returns.Returns.add_land.Goals.{After-put-2}

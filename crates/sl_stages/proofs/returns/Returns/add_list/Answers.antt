@@ -3,8 +3,8 @@ use Rattle.std.proofs.Common.{◌≡◌, ◌<◌, List, Option, None, length, ap
 use Rattle.std.proofs.lemmas.List.{length-map}
 use Rattle.std.proofs.lemmas.Option.{none-some}
 use Rattle.sl_stages.specs.declared.returns.ListVotes.{ListVotes}
-use Rattle.sl_stages.specs.Election.{Election, IsElection, list_at, with_list}
-use Rattle.sl_stages.specs.Kept.{election_of}
+use Rattle.sl_stages.specs.returns.Election.{Election, IsElection, list_at, with_list}
+use Rattle.sl_stages.specs.inner.Kept.{election_of}
 use Rattle.sl_stages.proofs.Elections.{cell_within, is_with_list, list_told}
 use Rattle.sl_stages.proofs.returns.Returns.add_list.Goals as goal
 use Rattle.sl_stages.proofs.returns.Returns.add_list.Goals.{After-write_cell}

@@ -2,8 +2,8 @@
 use Rattle.std.proofs.Common.{◌≡◌, ◌<◌, ◌++◌, ◌∷◌, [], length, ap, sym, subst, ◌∙◌}
 use Rattle.sl_stages.specs.declared.limits.TheConstants.{MAX_LOTS}
 use Rattle.sl_stages.specs.declared.returns.Lot.{Lot}
-use Rattle.sl_stages.specs.Election.{Election, IsElection, IsLot, with_lot}
-use Rattle.sl_stages.specs.Kept.{election_of}
+use Rattle.sl_stages.specs.returns.Election.{Election, IsElection, IsLot, with_lot}
+use Rattle.sl_stages.specs.inner.Kept.{election_of}
 use Rattle.sl_stages.proofs.Elections.{is_with_lot}
 use Rattle.sl_stages.proofs.returns.Returns.add_lot.Goals as goal
 use Rattle.sl_stages.proofs.returns.Returns.add_lot.Goals.{After-put}

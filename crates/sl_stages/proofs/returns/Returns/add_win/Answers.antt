@@ -4,8 +4,8 @@ use Rattle.sl_ratio.specs.Names.{name_fault}
 use Rattle.sl_ratio.proofs.NameLists.{joins}
 use Rattle.sl_stages.specs.declared.limits.TheConstants.{MAX_WINS}
 use Rattle.sl_stages.specs.declared.returns.Win.{Win}
-use Rattle.sl_stages.specs.Election.{Election, IsElection, IsWin, with_win}
-use Rattle.sl_stages.specs.Kept.{election_of}
+use Rattle.sl_stages.specs.returns.Election.{Election, IsElection, IsWin, with_win}
+use Rattle.sl_stages.specs.inner.Kept.{election_of}
 use Rattle.sl_stages.proofs.Elections.{is_with_win}
 use Rattle.sl_stages.proofs.returns.Returns.add_win.Goals as goal
 use Rattle.sl_stages.proofs.returns.Returns.add_win.Goals.{After-put}

@@ -1,5 +1,5 @@
 use Rattle.std.proofs.Common.{arith}
-use Rattle.sl_stages.specs.Election.{lands_of}
+use Rattle.sl_stages.specs.returns.Election.{lands_of}
 use Rattle.sl_desk.proofs.Ranges.{pieces_more, pieces_all}
 use Rattle.sl_desk.proofs.FactColumns.{counted_shaped}
 use Rattle.sl_desk.proofs.evaluate.facts.Facts.counted_votes.Goals as goal

@@ -1,8 +1,8 @@
 use Rattle.std.proofs.Common.{◌≡◌, if◌then◌else◌}
 use Rattle.std.specs.List.{flat_map, range_with_len}
-use Rattle.sl_stages.specs.Votes.{counted_in}
-use Rattle.sl_stages.specs.Election.{list_at}
-use Rattle.sl_stages.specs.Facts.{by_party, is_eligible}
+use Rattle.sl_stages.specs.returns.Votes.{counted_in}
+use Rattle.sl_stages.specs.returns.Election.{list_at}
+use Rattle.sl_stages.specs.returns.Facts.{by_party, is_eligible}
 use Rattle.sl_desk.proofs.evaluate.facts.Facts.counted_votes.Given as goal
 
 abbrev pub invariant-loop-land : goal.invariant-loop-land

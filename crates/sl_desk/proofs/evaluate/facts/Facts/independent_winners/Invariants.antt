@@ -1,6 +1,6 @@
 use Rattle.std.proofs.Common.{◌&&◌, is_none}
-use Rattle.sl_stages.specs.Election.{lands_of}
-use Rattle.sl_stages.specs.Facts.{is_in}
+use Rattle.sl_stages.specs.returns.Election.{lands_of}
+use Rattle.sl_stages.specs.returns.Facts.{is_in}
 use Rattle.sl_desk.proofs.Counting.{Counts}
 use Rattle.sl_desk.proofs.evaluate.facts.Facts.independent_winners.Given as goal
 

@@ -1,6 +1,6 @@
 use Rattle.std.proofs.Common.{arith}
-use Rattle.sl_stages.specs.Election.{parties_of}
-use Rattle.sl_stages.specs.Facts.{is_eligible}
+use Rattle.sl_stages.specs.returns.Election.{parties_of}
+use Rattle.sl_stages.specs.returns.Facts.{is_eligible}
 use Rattle.sl_desk.proofs.Ranges.{made_length, made_read}
 use Rattle.sl_desk.proofs.evaluate.facts.Facts.is_eligible.Goals as goal
 

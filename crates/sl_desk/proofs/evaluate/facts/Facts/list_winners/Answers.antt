@@ -2,7 +2,7 @@ use Rattle.std.proofs.Common.{◌*◌, ℕ, Bool, ap, sym, ◌∙◌, eq-eqb, re
 use Rattle.std.proofs.lemmas.Bool.{ne_eqb}
 use Rattle.std.proofs.lemmas.Option.{slice_get_within, get_or_from_slice_get}
 use Rattle.sl_stages.specs.declared.returns.Win.{Win}
-use Rattle.sl_stages.specs.Election.{lands_of, parties_of}
+use Rattle.sl_stages.specs.returns.Election.{lands_of, parties_of}
 use Rattle.sl_desk.specs.Places.{list_place}
 use Rattle.sl_desk.proofs.Counting.{counts_one, counts_no, counts_all, count_le}
 use Rattle.sl_desk.proofs.FactColumns.{list_winners_shaped}

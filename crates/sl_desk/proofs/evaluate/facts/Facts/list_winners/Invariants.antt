@@ -1,5 +1,5 @@
 use Rattle.std.proofs.Common.{◌*◌}
-use Rattle.sl_stages.specs.Election.{lands_of, parties_of}
+use Rattle.sl_stages.specs.returns.Election.{lands_of, parties_of}
 use Rattle.sl_desk.specs.Places.{list_place}
 use Rattle.sl_desk.proofs.Counting.{Counts}
 use Rattle.sl_desk.proofs.WinnerPlaces.{is_at}

@@ -1,8 +1,8 @@
 use Rattle.std.proofs.Common.{◌&&◌, ℕ, Bool, not, ap, sym, ◌∙◌, arith}
 use Rattle.std.proofs.lemmas.Option.{slice_get_within, get_or_from_slice_get}
 use Rattle.sl_stages.specs.declared.returns.Win.{Win}
-use Rattle.sl_stages.specs.Election.{lands_of}
-use Rattle.sl_stages.specs.Facts.{is_in, is_on_list}
+use Rattle.sl_stages.specs.returns.Election.{lands_of}
+use Rattle.sl_stages.specs.returns.Facts.{is_in, is_on_list}
 use Rattle.sl_desk.proofs.Counting.{counts_one, counts_no, counts_all, count_le, one_land, other_land, no_land}
 use Rattle.sl_desk.proofs.Elections.{win_is}
 use Rattle.sl_desk.proofs.FactColumns.{outside_shaped}

@@ -1,6 +1,6 @@
 use Rattle.std.proofs.Common.{◌&&◌, not}
-use Rattle.sl_stages.specs.Election.{lands_of}
-use Rattle.sl_stages.specs.Facts.{is_in, is_on_list}
+use Rattle.sl_stages.specs.returns.Election.{lands_of}
+use Rattle.sl_stages.specs.returns.Facts.{is_in, is_on_list}
 use Rattle.sl_desk.proofs.Counting.{Counts}
 use Rattle.sl_desk.proofs.evaluate.facts.Facts.outside_winners.Given as goal
 

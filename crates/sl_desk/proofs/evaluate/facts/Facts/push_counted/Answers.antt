@@ -1,8 +1,8 @@
 use Rattle.std.proofs.Common.{◌≡◌, ◌++◌, ap, ◌∙◌, map, if◌then◌else◌, arith}
 use Rattle.std.specs.List.{range_with_len}
-use Rattle.sl_stages.specs.Votes.{counted_in}
-use Rattle.sl_stages.specs.Election.{list_at, parties_of}
-use Rattle.sl_stages.specs.Facts.{is_eligible}
+use Rattle.sl_stages.specs.returns.Votes.{counted_in}
+use Rattle.sl_stages.specs.returns.Election.{list_at, parties_of}
+use Rattle.sl_stages.specs.returns.Facts.{is_eligible}
 use Rattle.sl_desk.proofs.Ranges.{row_more}
 use Rattle.sl_desk.proofs.evaluate.facts.Facts.push_counted.Goals as goal
 

@@ -1,8 +1,8 @@
 use Rattle.std.proofs.Common.{◌≡◌, ◌++◌, map, if◌then◌else◌}
 use Rattle.std.specs.List.{range_with_len}
-use Rattle.sl_stages.specs.Votes.{counted_in}
-use Rattle.sl_stages.specs.Election.{list_at}
-use Rattle.sl_stages.specs.Facts.{is_eligible}
+use Rattle.sl_stages.specs.returns.Votes.{counted_in}
+use Rattle.sl_stages.specs.returns.Election.{list_at}
+use Rattle.sl_stages.specs.returns.Facts.{is_eligible}
 use Rattle.sl_desk.proofs.evaluate.facts.Facts.push_counted.Given as goal
 
 abbrev pub invariant-loop-party : goal.invariant-loop-party

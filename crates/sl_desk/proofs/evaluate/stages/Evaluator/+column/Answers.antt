@@ -1,9 +1,9 @@
 use Rattle.std.proofs.Common.{◌≡◌, ◌+◌, ◌<◌, ap, sym, subst, ◌∙◌, arith}
 use Rattle.std.proofs.lemmas.Result.{IfOk-weaker}
-use Rattle.sl_stages.specs.Meaning.{larger_of, less_of}
-use Rattle.sl_stages.specs.Limits.{parts_of}
-use Rattle.sl_stages.specs.Trees.{tree_of}
-use Rattle.sl_stages.specs.Typing.{type_of}
+use Rattle.sl_stages.specs.meaning.Columns.{larger_of, less_of}
+use Rattle.sl_stages.specs.book.Limits.{parts_of}
+use Rattle.sl_stages.specs.book.Trees.{tree_of}
+use Rattle.sl_stages.specs.book.Typing.{type_of}
 use Rattle.sl_desk.specs.Shapes.{IsShaped, CanSum}
 use Rattle.sl_desk.specs.StageColumns.{types_of, IsPlainExpr}
 use Rattle.sl_desk.proofs.PlainExprs.{sum_part, larger_parts, less_parts}

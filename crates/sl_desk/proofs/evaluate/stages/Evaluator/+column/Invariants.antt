@@ -1,5 +1,5 @@
-use Rattle.sl_stages.specs.Limits.{parts_of}
-use Rattle.sl_stages.specs.Trees.{tree_of}
+use Rattle.sl_stages.specs.book.Limits.{parts_of}
+use Rattle.sl_stages.specs.book.Trees.{tree_of}
 use Rattle.sl_desk.proofs.evaluate.stages.Evaluator.+column.Given as goal
 
 abbrev pub decreases-column : goal.decreases-column

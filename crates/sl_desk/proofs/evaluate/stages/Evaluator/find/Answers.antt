@@ -2,7 +2,7 @@ use Rattle.std.proofs.Common.{sym, ap, ◌∙◌, rules, tests}
 use Rattle.std.specs.Option.{option_map}
 use Rattle.std.proofs.lemmas.Iterator.{YieldsList-from_slice}
 use Rattle.std.proofs.lemmas.Iterator.Search.{find_from_yields_List}
-use Rattle.sl_stages.specs.Meaning.{is_column_of}
+use Rattle.sl_stages.specs.meaning.Columns.{is_column_of}
 use Rattle.sl_desk.specs.StageColumns.{named_column}
 use Rattle.sl_desk.proofs.LookUps.{find-map, option_map-option_map}
 use Rattle.sl_desk.proofs.evaluate.stages.Evaluator.find.Goals as goal

@@ -1,7 +1,7 @@
 use Rattle.std.proofs.Common.{◌≡◌, map, sym, ap, ◌∙◌}
 use Rattle.std.specs.Option.{option_map}
 use Rattle.std.proofs.lemmas.Option.{none-some, same_Some}
-use Rattle.sl_stages.specs.Meaning.{NamedColumn}
+use Rattle.sl_stages.specs.meaning.Columns.{NamedColumn}
 use Rattle.sl_desk.specs.StageColumns.{named_column, types_of}
 use Rattle.sl_desk.proofs.LookUps.{found}
 use Rattle.sl_desk.proofs.evaluate.stages.Evaluator.named.Goals as goal

@@ -1,8 +1,8 @@
 use Rattle.std.proofs.Common.{◌≡◌, IsTrue, true, map, nat_eq, sym, ap, subst, ◌∙◌}
 use Rattle.std.specs.List.{list_all}
-use Rattle.sl_stages.specs.Books.{book_of}
-use Rattle.sl_stages.specs.Trees.{stage_of}
-use Rattle.sl_stages.specs.Typing.{is_typed, splits_in}
+use Rattle.sl_stages.specs.book.Books.{book_of}
+use Rattle.sl_stages.specs.book.Trees.{stage_of}
+use Rattle.sl_stages.specs.book.Typing.{is_typed, splits_in}
 use Rattle.sl_desk.proofs.StageLists.{next_plain, knows_more, stage_at}
 use Rattle.sl_desk.proofs.evaluate.stages.Evaluator.new.Goals as goal
 

@@ -1,5 +1,5 @@
 use Rattle.std.proofs.Common.{◌≡◌}
-use Rattle.sl_stages.specs.Books.{book_of}
+use Rattle.sl_stages.specs.book.Books.{book_of}
 use Rattle.sl_desk.proofs.StageLists.{KnowsStages}
 use Rattle.sl_desk.proofs.evaluate.stages.Evaluator.new.Given as goal
 

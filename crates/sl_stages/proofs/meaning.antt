@@ -1,0 +1,19 @@
+-- Lemmas on what a rulebook means.
+pub mod ExactlyOne
+pub mod OneAward
+pub mod OneResult
+pub mod OneOutcome
+pub mod MeaningProofs
+pub mod ListPlaces
+pub mod PlainRuns
+pub mod Members
+pub mod PlacedWinners
+pub mod PlainMeaning
+pub mod DistinctLists
+pub mod ScopeRecords
+pub mod StageRecords
+pub mod RecordsOnce
+pub mod CoveredWinners
+pub mod TypedColumns
+pub mod TypedSplits
+pub mod TypedMeaning

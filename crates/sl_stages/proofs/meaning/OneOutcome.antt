@@ -1,0 +1,135 @@
+-- A typed book comes to exactly one outcome on an election.
+use Rattle.std.proofs.Common.{◌≡◌, ℕ, ◌+◌, ◌≤◌, true, List, [], ◌∷◌, ◌++◌, None, length, map, min, arith, refl, sym, ap, subst, ◌∙◌}
+use Rattle.std.specs.Prelude.{slice_get, filter_map, unwrap_or, option_map}
+use Rattle.std.specs.List.{All, zip, enumerate_from}
+use Rattle.std.proofs.lemmas.List.{length-map}
+use Rattle.std.proofs.lemmas.List.Elements.{All-nil, All-cons, All-head, All-tail, All-filter, All-get_or, All-map}
+use Rattle.sl_stages.specs.declared.book.Base.{Base}
+use Rattle.sl_stages.specs.declared.book.Base.TheVariants as base
+use Rattle.sl_stages.specs.declared.book.LastClause.{LastClause}
+use Rattle.sl_stages.specs.declared.book.Seating.{Seating}
+use Rattle.sl_stages.specs.declared.book.Seating.TheVariants as seating
+use Rattle.sl_stages.specs.declared.check_fault.CheckFault.TheVariants as fault
+use Rattle.sl_stages.specs.declared.returns.Win.{Win}
+use Rattle.sl_stages.specs.declared.table.Outcome.{Outcome}
+use Rattle.sl_stages.specs.declared.table.Outcome.TheVariants as outcome
+use Rattle.sl_stages.specs.book.Trees.{StageTree, BookTree}
+use Rattle.sl_stages.specs.returns.Election.{Election, IsElection, IsWin}
+use Rattle.sl_stages.specs.book.Tests.{first_failing, test}
+use Rattle.sl_stages.specs.book.Typing.{is_seat_number, columns_of, column_of as typed_column, base_tests, tests_of, version_tests, condition_tests, stages_tests, is_typed}
+use Rattle.sl_stages.specs.meaning.Columns.{IsColumn}
+use Rattle.sl_stages.specs.meaning.Seating.{base_of}
+use Rattle.sl_stages.specs.returns.Facts.{list_cell}
+use Rattle.sl_stages.specs.laws.MethodLaws.{AllHaveVotes}
+use Rattle.sl_stages.specs.methods.Ties.{Choice}
+use Rattle.sl_stages.specs.meaning.Lots.{seats_lot}
+use Rattle.sl_stages.specs.meaning.Records.{Records}
+use Rattle.sl_stages.specs.meaning.Results.{ExprResult, Column, Fault}
+use Rattle.sl_stages.specs.meaning.Seating.{winners_of, winner_items, IsSeating, lists_of, tie_of, cover_table, keep_table}
+use Rattle.sl_stages.specs.meaning.Means.{Known, nothing_known, Run, Through, Stopped, with_stage, StagesMean, IsCovered, GoesOn, IsSeated, IsEnd, EndsAs, IsOutcome}
+use Rattle.sl_stages.proofs.methods.CoveringProofs.{coverings}
+use Rattle.sl_stages.proofs.meaning.ExactlyOne.{ExactlyOne, one_equal, one_zip}
+use Rattle.sl_stages.proofs.meaning.OneAward.{mentions_distinct}
+use Rattle.sl_stages.proofs.Tests.{no_fault, head_holds, pass_parts}
+use Rattle.sl_stages.proofs.meaning.OneResult.{SameNames, more_names, one_column, one_run}
+
+-- ---- covering
+
+votes_numbered : (n lands parties : ℕ) (wins : List Win) → All (IsWin lands parties) wins → All (λ x. 1 ≤ x.1.first) (enumerate_from n wins)
+votes_numbered n lands parties [] each = All-nil (λ x. 1 ≤ x.1.first)
+votes_numbered n lands parties (w ∷ wins) each =
+    All-cons (λ x. 1 ≤ x.1.first) (n, w) (enumerate_from (n + 1) wins) (All-head (IsWin lands parties) w wins each).least
+    (votes_numbered (n + 1) lands parties wins (All-tail (IsWin lands parties) w wins each))
+
+module _ (b : BookTree) (e : Election) (is : IsElection e) (base : List ℕ) (l : ℕ × ℕ) where
+  have_votes : AllHaveVotes (map (λ x. x.1.first) (winners_of b e l.0 l.1))
+  have_votes i within =
+      All-get_or (λ n. 1 ≤ n) (map (λ x. x.1.first) (winners_of b e l.0 l.1)) i 0 within
+      (All-map (λ n. 1 ≤ n) (λ x. x.1.first) (winners_of b e l.0 l.1)
+      (All-filter _ (λ x. 1 ≤ x.1.first) (enumerate_from 0 e.wins) (votes_numbered 0 (length e.land_names) (length e.party_names) e.wins is.places)))
+
+  few : (n : ℕ) → min n (length (winners_of b e l.0 l.1)) ≤ length (map {B = ℕ} (λ x. x.1.first) (winners_of b e l.0 l.1))
+  few n = let long : length (map {B = ℕ} (λ x. x.1.first) (winners_of b e l.0 l.1)) ≡ length (winners_of b e l.0 l.1) = length-map (winners_of b e l.0 l.1) (λ x. x.1.first) in omega (arith, long)
+
+  pub one_seating : ExactlyOne (IsSeating b e base l)
+  one_seating =
+      let won = winners_of b e l.0 l.1 in
+      let defined = (coverings (map (λ x. x.1.first) won) (map (λ x. x.1.valid) won) (min (list_cell e base l.0 l.1) (length won)) have_votes).1 (few (list_cell e base l.0 l.1)) in
+      let chosen = defined.one_choice (seats_lot e (winner_items b e l.0 l.1)) (mentions_distinct _) in
+      record { one = chosen.0; is = chosen.1; only = chosen.2 }
+
+-- ---- the last clause
+
+module _ (b : BookTree) (e : Election) (is : IsElection e) (base : List ℕ) (records : Records) where
+  one_covered : ExactlyOne (IsCovered b e base records)
+  one_covered =
+      let all = one_zip (IsSeating b e base) (lists_of e) (one_seating b e is base) in
+      let end : List Choice → Outcome = λ choices. unwrap_or (option_map (λ f. outcome.Fault f) (slice_get (filter_map (tie_of b e) (zip (lists_of e) choices)) 0))
+      (outcome.Table (cover_table b e base records (zip (lists_of e) choices))) in
+      record {
+        one = end all.one;
+        is = record { choices = all.one; each = all.is; is = refl };
+        only = λ o h. h.is ∙ ap end (all.only h.choices h.each);
+      }
+
+  one_seated : (s : Seating) → ExactlyOne (IsSeated b e s base records)
+  one_seated seating.Keep = one_equal (outcome.Table (keep_table b e base records))
+  one_seated seating.Cover = one_covered
+
+module _ (b : BookTree) (e : Election) where
+  base_column : (k : Known) (last : LastClause) (x : Base) → SameNames k.types k.columns → first_failing (base_tests k.types last.at x) ≡ None →
+      ExactlyOne (IsColumn b e k.columns (base_of (record last { base = x })))
+  base_column k last base.Winners names pass = one_equal _
+  base_column k last (base.Stage n) names pass = one_column k.types k.columns names n (head_holds _ _ _ pass).0
+
+  one_end : IsElection e → (k : Known) → SameNames k.types k.columns → first_failing (base_tests k.types b.last.at b.last.base) ≡ None → ExactlyOne (IsEnd b e k)
+  one_end is k names pass =
+      let column = base_column k b.last b.last.base names pass in
+      let end = one_seated b e is column.one k.records b.last.seating in
+      record {
+        one = end.one;
+        is = record { base = column.one; is_base = column.is; seated = end.is };
+        only = λ o h. end.only o (subst (λ c. IsSeated b e b.last.seating c k.records o) (column.only h.base h.is_base) h.seated);
+      }
+
+  -- ---- what is known behind the stages
+
+  goes : (k : Known) (s : StageTree) (ss : List StageTree) (end : Known) (p : ExprResult) →
+      ((values : List ℕ) (records : Records) → StagesMean b e (with_stage k s values records) ss (Through end) → SameNames end.types end.columns × (end.types ≡ columns_of k.types (s ∷ ss))) →
+      GoesOn p (λ values records. StagesMean b e (with_stage k s values records) ss (Through end)) (Through end) →
+      SameNames end.types end.columns × (end.types ≡ columns_of k.types (s ∷ ss))
+  goes k s ss end (Fault f) on stops = cc
+  goes k s ss end (Column values records) on run = on values records run
+
+  through : (k : Known) (ss : List StageTree) (end : Known) → SameNames k.types k.columns → StagesMean b e k ss (Through end) → SameNames end.types end.columns × (end.types ≡ columns_of k.types ss)
+  through k [] end names run = let same : end ≡ k = cc in (subst (λ j. SameNames j.types j.columns) (sym same) names, ap (λ j. j.types) same)
+  through k (s ∷ ss) end names run =
+      goes k s ss end run.0
+      (λ values records. through (with_stage k s values records) ss end (more_names k.types k.columns (typed_column k.types s) (record { name = s.name; values = values }) refl names))
+      run.2
+
+  one_ending : IsElection e → first_failing (base_tests (columns_of [] b.stages) b.last.at b.last.base) ≡ None → (r : Run) → StagesMean b e nothing_known b.stages r → ExactlyOne (EndsAs b e r)
+  one_ending is pass (Stopped f) run = one_equal (outcome.Fault f)
+  one_ending is pass (Through k) run =
+      let known = through nothing_known b.stages k tt run in
+      one_end is k known.0 (subst (λ ts. first_failing (base_tests ts b.last.at b.last.base) ≡ None) (sym known.1) pass)
+
+  pub typed_parts : first_failing (tests_of b) ≡ None → (first_failing (stages_tests [] b.stages) ≡ None) × (first_failing (base_tests (columns_of [] b.stages) b.last.at b.last.base) ≡ None)
+  typed_parts h =
+      let ends = base_tests (columns_of [] b.stages) b.last.at b.last.base in
+      let behind = condition_tests b.eligible ++ (stages_tests [] b.stages ++ ends) in
+      let house = (pass_parts (version_tests b.version b.last.vacate) (test (is_seat_number b.house.value) (fault.HouseRange b.house.at) ∷ behind) h).1 in
+      let conditions = (pass_parts (condition_tests b.eligible) (stages_tests [] b.stages ++ ends) (head_holds _ _ _ house).1).1 in
+      pass_parts (stages_tests [] b.stages) ends conditions
+
+  pub one_outcome : is_typed b ≡ true → IsElection e → ExactlyOne (IsOutcome b e)
+  one_outcome typed is =
+      let tests = no_fault (tests_of b) typed in
+      let parts = typed_parts tests in
+      let run = one_run b e nothing_known b.stages tt parts.0 in
+      let end = one_ending is parts.1 run.one run.is in
+      record {
+        one = end.one;
+        is = record { run = run.one; stages = run.is; ends = end.is };
+        only = λ o h. end.only o (subst (λ r. EndsAs b e r o) (run.only h.run h.stages) h.ends);
+      }

@@ -1,0 +1,125 @@
+-- A plain book means the table that it comes to.
+use Rattle.std.proofs.Common.{◌≡◌, ℕ, ◌<◌, ◌&&◌, true, List, [], ◌∷◌, Option, Some, None, is_none, nat_eq, map, filter, ◌↔◌, arith, refl, sym, ap, subst, ◌∙◌}
+use Rattle.std.specs.Prelude.{IsPermutation}
+use Rattle.std.specs.List.{All, flat_map, range_with_len, list_all}
+use Rattle.std.proofs.lemmas.Bool.{and_parts, false≢true}
+use Rattle.std.proofs.lemmas.List.{nil_from_length}
+use Rattle.std.proofs.lemmas.List.Elements.{All-head, All-tail, All-filter, All-weaker, All-from_get_or}
+use Rattle.std.proofs.lemmas.List.FromFn.{length-range_with_len, get_or-range_with_len}
+use Rattle.std.proofs.lemmas.List.Sorted.{length_permutation}
+use Rattle.sl_stages.specs.declared.book.Seating.{Seating}
+use Rattle.sl_stages.specs.declared.book.Seating.TheVariants as seating
+use Rattle.sl_stages.specs.declared.table.ListSeats.{ListSeats}
+use Rattle.sl_stages.specs.declared.table.Outcome.{Outcome}
+use Rattle.sl_stages.specs.declared.table.Outcome.TheVariants as outcome
+use Rattle.sl_stages.specs.meaning.Tables.{SeatTable}
+use Rattle.sl_stages.specs.book.Trees.{BookTree}
+use Rattle.sl_stages.specs.returns.Votes.{slate_in}
+use Rattle.sl_stages.specs.returns.Election.{Election, lands_of, parties_of, list_at, has_list}
+use Rattle.sl_stages.specs.returns.Facts.{lands, parties}
+use Rattle.sl_stages.specs.book.Typing.{splits_in}
+use Rattle.sl_stages.specs.meaning.PlainBooks.{ComesTo, is_keep, kept_list, kept_lists, kept_table}
+use Rattle.sl_stages.specs.meaning.Seating.{kept_place}
+use Rattle.sl_stages.specs.meaning.Records.{no_records}
+use Rattle.sl_stages.specs.meaning.Seating.{placed_on, vacant_of, table_line, kept_seats, keep_table}
+use Rattle.sl_stages.specs.meaning.Means.{Through, SameOutcome, IsSeated, EndsAs, Means}
+use Rattle.sl_stages.specs.laws.MeaningLaws.{PlainOutcomes}
+use Rattle.sl_stages.proofs.meaning.PlacedWinners.{kept_direct}
+use Rattle.sl_stages.proofs.meaning.PlainRuns.{bare, AllPlain, from_run, to_run}
+use Rattle.sl_stages.proofs.meaning.MeaningProofs.{same_itself}
+
+-- ---- lists made of others
+
+map_agree : {X Y : Type 0} (f g : X → Y) (xs : List X) → All (λ x. f x ≡ g x) xs → map f xs ≡ map g xs
+map_agree f g [] all = refl
+map_agree f g (x ∷ xs) all = cc (All-head (λ x. f x ≡ g x) x xs all, map_agree f g xs (All-tail (λ x. f x ≡ g x) x xs all))
+
+pieces_agree : {X Y : Type 0} (f g : X → List Y) (xs : List X) → All (λ x. f x ≡ g x) xs → flat_map f xs ≡ flat_map g xs
+pieces_agree f g [] all = refl
+pieces_agree f g (x ∷ xs) all = cc (All-head (λ x. f x ≡ g x) x xs all, pieces_agree f g xs (All-tail (λ x. f x ≡ g x) x xs all))
+
+below : (n : ℕ) → All (λ k. k < n) (range_with_len 0 n)
+below n = All-from_get_or (λ k. k < n) (range_with_len 0 n) 0 (λ i within. let is = get_or-range_with_len 0 n i 0 (omega (arith, length-range_with_len 0 n)) in omega (arith, is, length-range_with_len 0 n))
+
+-- ---- the table
+
+none_vacant : (o : Option ℕ) → is_none o ≡ true → (names : Option ℕ) (seats direct : ℕ) → vacant_of o names seats direct ≡ 0
+none_vacant None h names seats direct = refl
+none_vacant (Some at) h names seats direct = absurd (false≢true h)
+
+module _ (b : BookTree) (e : Election) (base : List ℕ) (none : is_none b.last.vacate ≡ true) where
+  same_line : (land party : ℕ) → land < lands_of e → party < parties_of e → table_line b e (kept_seats b e base) (map (kept_place b e) e.wins) land party ≡ kept_list b e base land party
+  same_line land party in_lands in_parties =
+      let direct = kept_direct b e land party in_lands in_parties in
+      let vacant = none_vacant b.last.vacate none (slate_in (list_at e land party)) (kept_seats b e base land party) (placed_on e (map (kept_place b e) e.wins) land party) in
+      cc (direct, vacant)
+
+  line : ℕ → ℕ → ListSeats
+  line = table_line b e (kept_seats b e base) (map (kept_place b e) e.wins)
+
+  lines_in : (land : ℕ) → land < lands_of e → map (line land) (filter (has_list e land) (parties e)) ≡ map (kept_list b e base land) (filter (has_list e land) (parties e))
+  unfolding line
+  lines_in land in_lands =
+      map_agree (line land) (kept_list b e base land) (filter (has_list e land) (parties e))
+      (All-weaker (λ party. party < parties_of e) (λ party. line land party ≡ kept_list b e base land party) (λ party in_parties. same_line land party in_lands in_parties)
+      (filter (has_list e land) (parties e)) (All-filter (has_list e land) (λ party. party < parties_of e) (parties e) (below (parties_of e))))
+
+  same_lists : (keep_table b e base no_records).lists ≡ kept_lists b e base
+  unfolding line
+  same_lists =
+      pieces_agree (λ land. map (line land) (filter (has_list e land) (parties e))) (λ land. map (kept_list b e base land) (filter (has_list e land) (parties e))) (lands e)
+      (All-weaker (λ land. land < lands_of e) (λ land. map (line land) (filter (has_list e land) (parties e)) ≡ map (kept_list b e base land) (filter (has_list e land) (parties e))) lines_in
+      (lands e) (below (lands_of e)))
+
+  same_table : keep_table b e base no_records ≡ kept_table b e base
+  same_table = ap (λ (l : List ListSeats). record { lists = l; placed = map (kept_place b e) e.wins; steps = []; weights = [] }) same_lists
+
+-- ---- the outcome
+
+no_more : {X : Type 0} (xs : List X) → IsPermutation xs [] → xs ≡ []
+no_more xs h = nil_from_length xs (sym (length_permutation xs [] h))
+
+only_table : (o : Outcome) (t : SeatTable) → t.steps ≡ [] → t.weights ≡ [] → SameOutcome o (outcome.Table t) → o ≡ outcome.Table t
+only_table (outcome.Fault f) t steps weights h = absurd h
+only_table (outcome.Table u) t steps weights h =
+    let s = no_more u.steps (subst (IsPermutation u.steps) steps h.steps) in
+    let w = no_more u.weights (subst (IsPermutation u.weights) weights h.weights) in
+    ap (λ (x : SeatTable). outcome.Table x) (same_parts u t h.lists h.placed (s ∙ sym steps) (w ∙ sym weights))
+  where
+    same_parts : (x y : SeatTable) → x.lists ≡ y.lists → x.placed ≡ y.placed → x.steps ≡ y.steps → x.weights ≡ y.weights → x ≡ y
+    same_parts x y l p s w = λ i. record { lists = l i; placed = p i; steps = s i; weights = w i }
+
+module _ (b : BookTree) (e : Election) where
+  kept_end : (s : Seating) → is_keep s ≡ true → (base : List ℕ) (o : Outcome) → IsSeated b e s base no_records o ↔ (o ≡ outcome.Table (keep_table b e base no_records))
+  kept_end seating.Keep keep base o = (λ h. h, λ h. h)
+  kept_end seating.Cover keep base o = absurd (false≢true keep)
+
+  module _ (o : Outcome) (all : AllPlain b.stages) (keep : is_keep b.last.seating ≡ true) (none : is_none b.last.vacate ≡ true) where
+    from_plain : Means b e o → (t : SeatTable) × ComesTo b e t × (o ≡ outcome.Table t)
+    from_plain means =
+        let run = from_run b e [] [] b.stages all means.is.run means.is.stages in
+        let end = subst (λ r. EndsAs b e r means.ordered) run.2 means.is.ends in
+        let ordered = (kept_end b.last.seating keep end.base means.ordered).0 end.seated ∙ ap (λ (x : SeatTable). outcome.Table x) (same_table b e end.base none) in
+        let t = kept_table b e end.base in
+        (t, (run.1, end.base, run.3, end.is_base, refl), only_table o t refl refl (subst (SameOutcome o) ordered means.same))
+
+    to_plain : (t : SeatTable) × ComesTo b e t × (o ≡ outcome.Table t) → Means b e o
+    to_plain it =
+        let comes = it.1 in
+        let run = to_run b e [] [] b.stages all comes.0 comes.2 in
+        let t = keep_table b e comes.1 no_records in
+        record {
+          ordered = outcome.Table t;
+          is = record {
+            run = Through (bare run.0 comes.0);
+            stages = run.1;
+            ends = record { base = comes.1; is_base = comes.3; seated = (kept_end b.last.seating keep comes.1 (outcome.Table t)).1 refl };
+          };
+          same = subst (λ x. SameOutcome x (outcome.Table t)) (sym (it.2 ∙ ap (λ (x : SeatTable). outcome.Table x) (comes.4 ∙ sym (same_table b e comes.1 none)))) (same_itself (outcome.Table t));
+        }
+
+pub plain_outcomes : PlainOutcomes
+plain_outcomes b e o plain =
+    let parts = and_parts (list_all (λ s. nat_eq (splits_in s.expr) 0) b.stages && is_keep b.last.seating) (is_none b.last.vacate) plain in
+    let kept = and_parts (list_all (λ s. nat_eq (splits_in s.expr) 0) b.stages) (is_keep b.last.seating) parts.0 in
+    (from_plain b e o kept.0 kept.1 parts.1, to_plain b e o kept.0 kept.1 parts.1)

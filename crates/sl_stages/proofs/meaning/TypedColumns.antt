@@ -1,0 +1,214 @@
+-- Columns of their types: the facts of the returns, and what sums, the greater and the difference make.
+use Rattle.std.proofs.Common.{◌≡◌, ℕ, zero, suc, ◌+◌, ◌-◌, ◌*◌, ◌≤◌, ◌&&◌, Bool, true, false, cond, not, List, [], ◌∷◌, Option, Some, None, is_none, is_some, map, max, length, get_or, sum, sum_by, count_by, refl, sym, ap, subst, ◌∙◌, inl, inr, arith}
+use Rattle.std.specs.List.{All, flat_map, zip}
+use Rattle.std.proofs.lemmas.Bool.{cases_lt, false≢true, and_right}
+use Rattle.std.proofs.lemmas.List.{get_or_past}
+use Rattle.std.proofs.lemmas.List.Elements.{All-nil, All-cons, All-head, All-tail, All-get_or, All-map, All-weaker, All-append}
+use Rattle.std.proofs.lemmas.List.Sums.{count_by-le-length, sum_by-cons}
+use Rattle.std.proofs.lemmas.List.FromFn.{length-range_with_len, length-map-range_with_len}
+use Rattle.std.proofs.Math.Nat.{mul-le-mul, le_refl}
+use Rattle.sl_ratio.specs.declared.limits.TheConstants.{MAX_SEATS}
+use Rattle.sl_stages.specs.declared.limits.TheConstants.{MAX_LANDS, MAX_PARTIES, MAX_VOTES, MAX_WINS}
+use Rattle.sl_stages.specs.declared.book.Axis.{Axis}
+use Rattle.sl_stages.specs.declared.book.Axis.TheVariants as axis
+use Rattle.sl_stages.specs.declared.book.Cond.{Cond}
+use Rattle.sl_stages.specs.declared.book.Shape.{Shape}
+use Rattle.sl_stages.specs.declared.book.Shape.TheVariants as shape
+use Rattle.sl_stages.specs.declared.book.Unit.{Unit as Units}
+use Rattle.sl_stages.specs.declared.book.Unit.TheVariants as unit
+use Rattle.sl_stages.specs.declared.book.ColumnType.{ColumnType}
+use Rattle.sl_stages.specs.declared.returns.ListVotes.{ListVotes}
+use Rattle.sl_stages.specs.declared.returns.Win.{Win}
+use Rattle.sl_stages.specs.returns.Votes.{counted_in}
+use Rattle.sl_stages.specs.returns.Election.{Election, IsElection, IsCell, lands_of, parties_of, list_at, has_list}
+use Rattle.sl_stages.specs.returns.Facts.{lands, parties, by_party, by_land, by_list, list_cell, is_in, is_of, is_eligible, takes_part, is_on_list, counted_votes, list_winners, outside_winners, independent_winners}
+use Rattle.sl_stages.specs.book.Typing.{can_sum, shape_over, column}
+use Rattle.sl_stages.specs.meaning.Columns.{sum_over, larger_of, less_of}
+use Rattle.sl_stages.specs.laws.ColumnLaws.{most_of_list, most_of, HasType}
+use Rattle.sl_stages.proofs.meaning.ListPlaces.{by_list_at, length_by_list}
+use Rattle.sl_stages.proofs.methods.SeatSums.{sum-cons}
+
+-- ---- columns made by a function
+
+all_pieces : {X A : Type 0} (P : A → Type 0) (f : X → List A) → ((x : X) → All P (f x)) → (xs : List X) → All P (flat_map f xs)
+all_pieces P f each [] = All-nil P
+all_pieces P f each (x ∷ xs) = All-append P (f x) (flat_map f xs) (each x) (all_pieces P f each xs)
+
+all_made : (f : ℕ → ℕ) (m : ℕ) (xs : List ℕ) → ((k : ℕ) → f k ≤ m) → All (λ n. n ≤ m) (map f xs)
+all_made f m xs each = All-map (λ n. n ≤ m) f xs (λ k d within. each (get_or xs k d))
+
+module _ (e : Election) (u : Units) where
+  pub made_by_list : (f : ℕ → ℕ → ℕ) → ((land party : ℕ) → f land party ≤ most_of_list u) → ((land party : ℕ) → has_list e land party ≡ false → f land party ≡ 0) → HasType e (column shape.List u) (by_list e f)
+  made_by_list f few alone = record {
+    size = length_by_list e f;
+    most = all_pieces (λ n. n ≤ 1 * most_of_list u) (λ land. by_party e (f land)) (λ land. all_made (f land) (1 * most_of_list u) (parties e) (λ party. omega (arith, few land party))) (lands e);
+    lists_alone = λ same land party in_lands in_parties none. by_list_at e f land party in_lands in_parties ∙ alone land party none;
+  }
+
+  pub made_by_land : (f : ℕ → ℕ) → ((land : ℕ) → f land ≤ MAX_PARTIES * most_of_list u) → HasType e (column shape.Land u) (by_land e f)
+  made_by_land f few = record {
+    size = length-map-range_with_len f 0 (lands_of e);
+    most = all_made f (MAX_PARTIES * most_of_list u) (lands e) few;
+    lists_alone = λ same. cc;
+  }
+
+  pub made_by_party : (f : ℕ → ℕ) → ((party : ℕ) → f party ≤ MAX_LANDS * most_of_list u) → HasType e (column shape.Party u) (by_party e f)
+  made_by_party f few = record {
+    size = length-map-range_with_len f 0 (parties_of e);
+    most = all_made f (MAX_LANDS * most_of_list u) (parties e) few;
+    lists_alone = λ same. cc;
+  }
+
+  pub made_one : (n : ℕ) → n ≤ MAX_LANDS * MAX_PARTIES * most_of_list u → HasType e (column shape.One u) (n ∷ [])
+  made_one n few = record {
+    size = refl;
+    most = All-cons (λ m. m ≤ MAX_LANDS * MAX_PARTIES * most_of_list u) n [] few (All-nil (λ m. m ≤ MAX_LANDS * MAX_PARTIES * most_of_list u));
+    lists_alone = λ same. cc;
+  }
+
+-- ---- the facts of the returns
+
+cell_within : (cell : Option ListVotes) → IsCell cell → counted_in cell ≤ MAX_VOTES
+cell_within None is = omega arith
+cell_within (Some v) is = let votes = is v refl in omega (arith, votes.counted, votes.valid)
+
+no_cell : IsCell None
+no_cell x h = cc
+
+some_cell : (row : List (Option ListVotes)) (party : ℕ) → All IsCell row → IsCell (get_or row party None)
+some_cell row party all = elim (cases_lt party (length row)) [
+  | inl within ↦ All-get_or IsCell row party None within all
+  | inr past ↦ subst IsCell (sym (get_or_past row party None past)) no_cell
+]
+
+some_row : (cells : List (List (Option ListVotes))) (land : ℕ) → All (All IsCell) cells → All IsCell (get_or cells land [])
+some_row cells land all = elim (cases_lt land (length cells)) [
+  | inl within ↦ All-get_or (All IsCell) cells land [] within all
+  | inr past ↦ subst (All IsCell) (sym (get_or_past cells land [] past)) (λ k d h. absurd (omega arith))
+]
+
+either_within : (b : Bool) (x m : ℕ) → x ≤ m → cond b x 0 ≤ m
+either_within true x m h = h
+either_within false x m h = omega arith
+
+nothing_counted : (t : Bool) (cell : Option ListVotes) → is_some cell ≡ false → cond t (counted_in cell) 0 ≡ 0
+nothing_counted true None none = refl
+nothing_counted false None none = refl
+nothing_counted t (Some v) none = absurd (false≢true (sym none))
+
+module _ (conditions : List Cond) (e : Election) (is : IsElection e) where
+  winners_within : (test : Win → Bool) → count_by test e.wins ≤ MAX_WINS
+  winners_within test = omega (arith, count_by-le-length test e.wins, is.wins, is.winners)
+
+  pub counted_typed : HasType e (column shape.List unit.Votes) (counted_votes conditions e)
+  counted_typed = made_by_list e unit.Votes (λ land party. cond (is_eligible conditions e party) (counted_in (list_at e land party)) 0)
+      (λ land party. either_within (is_eligible conditions e party) (counted_in (list_at e land party)) MAX_VOTES (cell_within (list_at e land party) (some_cell (get_or e.cells land []) party (some_row e.cells land is.votes))))
+      (λ land party none. nothing_counted (is_eligible conditions e party) (list_at e land party) none)
+
+  pub winners_typed : HasType e (column shape.List unit.Seats) (list_winners conditions e)
+  winners_typed = made_by_list e unit.Seats (λ land party. cond (takes_part conditions e land party) (count_by (λ w. is_in land w && is_of party w) e.wins) 0)
+      (λ land party. either_within (takes_part conditions e land party) (count_by (λ w. is_in land w && is_of party w) e.wins) MAX_SEATS (let few = winners_within (λ w. is_in land w && is_of party w) in omega (arith, few)))
+      (λ land party none. ap (λ t. cond t (count_by (λ w. is_in land w && is_of party w) e.wins) 0) (and_right (is_eligible conditions e party) (has_list e land party) none))
+
+  pub outside_typed : HasType e (column shape.Land unit.Seats) (outside_winners conditions e)
+  outside_typed = made_by_land e unit.Seats (λ land. count_by (λ w. is_in land w && not (is_on_list conditions e w)) e.wins)
+      (λ land. let few = winners_within (λ w. is_in land w && not (is_on_list conditions e w)) in omega (arith, few))
+
+  pub independents_typed : HasType e (column shape.Land unit.Seats) (independent_winners conditions e)
+  independents_typed = made_by_land e unit.Seats (λ land. count_by (λ w. is_in land w && is_none w.party) e.wins)
+      (λ land. let few = winners_within (λ w. is_in land w && is_none w.party) in omega (arith, few))
+
+  pub population_typed : HasType e (column shape.Land unit.Votes) e.populations
+  population_typed = record {
+    size = is.populations;
+    most = All-weaker (λ n. n ≤ MAX_VOTES) (λ n. n ≤ MAX_PARTIES * MAX_VOTES) (λ n h. omega arith) e.populations is.people;
+    lists_alone = λ same. cc;
+  }
+
+-- ---- sums
+
+sum_by_most : {X : Type 0} (f : X → ℕ) (m : ℕ) → ((x : X) → f x ≤ m) → (xs : List X) → sum_by f xs ≤ length xs * m
+sum_by_most f m each [] = omega arith
+sum_by_most f m each (x ∷ xs) = let rest = sum_by_most f m each xs in omega (arith, rest, each x, sum_by-cons f x xs)
+
+sum_most : (m : ℕ) (xs : List ℕ) → All (λ n. n ≤ m) xs → sum xs ≤ length xs * m
+sum_most m [] all = omega arith
+sum_most m (x ∷ xs) all = let rest = sum_most m xs (All-tail (λ n. n ≤ m) x xs all) in omega (arith, rest, All-head (λ n. n ≤ m) x xs all, sum-cons x xs)
+
+number_most : (m : ℕ) (xs : List ℕ) → All (λ n. n ≤ m) xs → (k : ℕ) → get_or xs k 0 ≤ m
+number_most m xs all k = elim (cases_lt k (length xs)) [ inl within ↦ All-get_or (λ n. n ≤ m) xs k 0 within all | inr past ↦ omega (arith, get_or_past xs k 0 past) ]
+
+at_most_times : (n most m k : ℕ) → n ≤ most → k ≤ n * m → k ≤ most * m
+at_most_times n most m k few h = let wide : n * m ≤ most * m = mul-le-mul few (le_refl m) in omega (arith, wide)
+
+module _ (e : Election) (is : IsElection e) (u : Units) where
+  pub sum_typed : (s : Shape) (over : Axis) (xs : List ℕ) → can_sum s over ≡ true → HasType e (column s u) xs → HasType e (column (shape_over over) u) (sum_over e over xs)
+  sum_typed shape.One over xs can t = absurd (false≢true can)
+  sum_typed shape.List axis.Party xs can t =
+      made_by_party e u _ (λ party.
+      let sums = sum_by_most (λ land. list_cell e xs land party) (1 * most_of_list u) (λ land. number_most (1 * most_of_list u) xs t.most (land * parties_of e + party)) (lands e) in
+      let few = at_most_times (length (lands e)) MAX_LANDS (1 * most_of_list u) _ (omega (arith, length-range_with_len 0 (lands_of e), is.lands)) sums in
+      omega (arith, few))
+  sum_typed shape.List axis.Land xs can t =
+      made_by_land e u _ (λ land.
+      let sums = sum_by_most (λ party. list_cell e xs land party) (1 * most_of_list u) (λ party. number_most (1 * most_of_list u) xs t.most (land * parties_of e + party)) (parties e) in
+      let few = at_most_times (length (parties e)) MAX_PARTIES (1 * most_of_list u) _ (omega (arith, length-range_with_len 0 (parties_of e), is.parties)) sums in
+      omega (arith, few))
+  sum_typed shape.List axis.All xs can t =
+      let places : lands_of e * parties_of e ≤ MAX_LANDS * MAX_PARTIES = mul-le-mul is.lands is.parties in
+      let few = at_most_times (length xs) (MAX_LANDS * MAX_PARTIES) (1 * most_of_list u) (sum xs) (omega (arith, t.size, places)) (sum_most (1 * most_of_list u) xs t.most) in
+      made_one e u (sum xs) (omega (arith, few))
+  sum_typed shape.Party axis.All xs can t =
+      let few = at_most_times (length xs) MAX_PARTIES (MAX_LANDS * most_of_list u) (sum xs) (omega (arith, t.size, is.parties)) (sum_most (MAX_LANDS * most_of_list u) xs t.most) in
+      made_one e u (sum xs) (omega (arith, few))
+  sum_typed shape.Party axis.Party xs can t = absurd (false≢true can)
+  sum_typed shape.Party axis.Land xs can t = absurd (false≢true can)
+  sum_typed shape.Land axis.All xs can t =
+      let few = at_most_times (length xs) MAX_LANDS (MAX_PARTIES * most_of_list u) (sum xs) (omega (arith, t.size, is.lands)) (sum_most (MAX_PARTIES * most_of_list u) xs t.most) in
+      made_one e u (sum xs) (omega (arith, few))
+  sum_typed shape.Land axis.Party xs can t = absurd (false≢true can)
+  sum_typed shape.Land axis.Land xs can t = absurd (false≢true can)
+
+-- ---- number by number
+
+zipped : (f : ℕ × ℕ → ℕ) (m : ℕ) → ((x y : ℕ) → x ≤ m → y ≤ m → f (x, y) ≤ m) → (xs ys : List ℕ) → length xs ≡ length ys → All (λ n. n ≤ m) xs → All (λ n. n ≤ m) ys →
+    (length (map f (zip xs ys)) ≡ length xs) × All (λ n. n ≤ m) (map f (zip xs ys))
+zipped f m each [] ys same left right = (refl, All-nil (λ n. n ≤ m))
+zipped f m each (x ∷ xs) [] same left right = absurd (omega (arith, same))
+zipped f m each (x ∷ xs) (y ∷ ys) same left right =
+    let P : ℕ → Type 0 = λ n. n ≤ m in
+    let rest = zipped f m each xs ys (omega (arith, same)) (All-tail P x xs left) (All-tail P y ys right) in
+    (ap suc rest.0, All-cons P (f (x, y)) (map f (zip xs ys)) (each x y (All-head P x xs left) (All-head P y ys right)) rest.1)
+
+zipped_at : (f : ℕ × ℕ → ℕ) (xs ys : List ℕ) (k : ℕ) → length xs ≡ length ys → f (get_or xs k 0, get_or ys k 0) ≡ 0 → get_or (map f (zip xs ys)) k 0 ≡ 0
+zipped_at f [] ys k same none = refl
+zipped_at f (x ∷ xs) [] k same none = absurd (omega (arith, same))
+zipped_at f (x ∷ xs) (y ∷ ys) zero same none = none
+zipped_at f (x ∷ xs) (y ∷ ys) (suc k) same none = zipped_at f xs ys k (omega (arith, same)) none
+
+module _ (e : Election) (t : ColumnType) (xs ys : List ℕ) (left : HasType e t xs) (right : HasType e t ys) where
+  as_long : length xs ≡ length ys
+  as_long = left.size ∙ sym right.size
+
+  pub larger_typed : HasType e t (larger_of xs ys)
+  larger_typed =
+      let both = zipped (λ x. max x.0 x.1) (most_of t) (λ x y h k. omega arith) xs ys as_long left.most right.most in
+      record {
+        size = both.0 ∙ left.size;
+        most = both.1;
+        lists_alone = λ same land party in_lands in_parties none.
+            let a = left.lists_alone same land party in_lands in_parties none in
+            let c = right.lists_alone same land party in_lands in_parties none in
+            zipped_at (λ x. max x.0 x.1) xs ys (land * parties_of e + party) as_long (omega (arith, a, c));
+      }
+
+  pub less_typed : HasType e t (less_of xs ys)
+  less_typed =
+      let both = zipped (λ x. x.0 - x.1) (most_of t) (λ x y h k. omega arith) xs ys as_long left.most right.most in
+      record {
+        size = both.0 ∙ left.size;
+        most = both.1;
+        lists_alone = λ same land party in_lands in_parties none.
+            let a = left.lists_alone same land party in_lands in_parties none in
+            zipped_at (λ x. x.0 - x.1) xs ys (land * parties_of e + party) as_long (omega (arith, a));
+      }

@@ -1,0 +1,214 @@
+-- Which rulebooks are well formed: each test, in its order, and the fault that it gives (docs/language.md, section 5).
+use Rattle.std.specs.Prelude.{ℕ, ◌+◌, Bool, true, false, not, ◌&&◌, ◌||◌, List, [], ◌∷◌, ◌++◌, Option, Some, None, nat_eq, nat_le, is_none, find}
+use Rattle.std.specs.List.{list_any}
+use Rattle.sl_ratio.specs.declared.method.Method.{Method}
+use Rattle.sl_ratio.specs.declared.method.Method.TheVariants.{Divisor, Hamilton}
+use Rattle.sl_ratio.specs.declared.limits.TheConstants.{MAX_SEATS}
+use Rattle.sl_stages.specs.declared.limits.TheConstants.{MAX_PER}
+use Rattle.sl_stages.specs.declared.book.Shape.{Shape}
+use Rattle.sl_stages.specs.declared.book.Shape.TheVariants as shape
+use Rattle.sl_stages.specs.declared.book.Unit.{Unit as Units}
+use Rattle.sl_stages.specs.declared.book.Unit.TheVariants as unit
+use Rattle.sl_stages.specs.declared.book.Axis.{Axis}
+use Rattle.sl_stages.specs.declared.book.Axis.TheVariants as axis
+use Rattle.sl_stages.specs.declared.book.Majority.{Majority}
+use Rattle.sl_stages.specs.declared.book.Majority.TheVariants as majority
+use Rattle.sl_stages.specs.declared.book.Number.{Number}
+use Rattle.sl_stages.specs.declared.book.ColumnType.{ColumnType}
+use Rattle.sl_stages.specs.declared.book.Cond.{Cond}
+use Rattle.sl_stages.specs.declared.book.Cond.TheVariants as condition
+use Rattle.sl_stages.specs.declared.book.Base.{Base}
+use Rattle.sl_stages.specs.declared.book.Base.TheVariants as base
+use Rattle.sl_stages.specs.declared.check_fault.CheckFault.{CheckFault}
+use Rattle.sl_stages.specs.declared.check_fault.CheckFault.TheVariants as fault
+use Rattle.sl_stages.specs.book.Tests.{Test, test, first_failing}
+use Rattle.sl_stages.specs.book.Trees.{ExprTree, house, counted, winners, outside, independents, population, name, sum, larger, less, split, split_from, grow, StageTree, BookTree}
+use Rattle.std.specs.Str.{bytes_eq}
+
+-- ---- columns
+
+-- a stage's column, as later stages know it
+pub record Column : Type 0 where
+  pub name : List ℕ
+  pub type : ColumnType
+
+abbrev pub is_named : List ℕ → Column → Bool
+is_named n c = bytes_eq n c.name
+
+-- a column of that shape and unit
+abbrev pub column : Shape → Units → ColumnType
+column s u = record { shape = s; unit = u }
+
+abbrev pub type_or_one : Option Column → ColumnType
+type_or_one None = column shape.One unit.Seats
+type_or_one (Some c) = c.type
+
+abbrev pub shape_over : Axis → Shape
+shape_over axis.Party = shape.Party
+shape_over axis.Land = shape.Land
+shape_over axis.All = shape.One
+
+-- the shape and the unit of an expression whose tests hold
+abbrev pub type_of : List Column → ExprTree → ColumnType
+type_of cs (house at) = column shape.One unit.Seats
+type_of cs (counted at) = column shape.List unit.Votes
+type_of cs (winners at) = column shape.List unit.Seats
+type_of cs (outside at) = column shape.Land unit.Seats
+type_of cs (independents at) = column shape.Land unit.Seats
+type_of cs (population at) = column shape.Land unit.Votes
+type_of cs (name at n) = type_or_one (find (is_named n) cs)
+type_of cs (sum at e over) = column (shape_over over) (type_of cs e).unit
+type_of cs (larger at l r) = type_of cs l
+type_of cs (less at l r) = type_of cs l
+type_of cs (split at s v method m) = column (type_of cs v).shape unit.Seats
+type_of cs (split_from at s v method f m) = column (type_of cs v).shape unit.Seats
+type_of cs (grow at s v method f cap m) = column (type_of cs v).shape unit.Seats
+
+abbrev pub same_shape : Shape → Shape → Bool
+same_shape shape.One shape.One = true
+same_shape shape.Party shape.Party = true
+same_shape shape.Land shape.Land = true
+same_shape shape.List shape.List = true
+same_shape _ _ = false
+
+abbrev pub same_unit : Units → Units → Bool
+same_unit unit.Seats unit.Seats = true
+same_unit unit.Votes unit.Votes = true
+same_unit _ _ = false
+
+-- ---- tests
+
+-- a column of that shape can be summed so
+abbrev pub can_sum : Shape → Axis → Bool
+can_sum shape.One over = false
+can_sum shape.List over = true
+can_sum shape.Party axis.All = true
+can_sum shape.Land axis.All = true
+can_sum _ _ = false
+
+-- seats of the first shape can be split by votes of the second
+abbrev pub can_split : Shape → Shape → Bool
+can_split shape.One v = not (same_shape v shape.One)
+can_split shape.Party v = same_shape v shape.List
+can_split shape.Land v = same_shape v shape.List
+can_split shape.List v = false
+
+abbrev pub is_hamilton : Method → Bool
+is_hamilton Hamilton = true
+is_hamilton (Divisor d) = false
+
+abbrev pub is_prefer : Majority → Bool
+is_prefer majority.Prefer = true
+is_prefer _ = false
+
+abbrev pub is_seat_number : ℕ → Bool
+is_seat_number n = nat_le 1 n && nat_le n MAX_SEATS
+
+module _ (cs : List Column) where
+  abbrev pub shape_of : ExprTree → Shape
+  shape_of e = (type_of cs e).shape
+
+  abbrev pub is_seats : ExprTree → Bool
+  is_seats e = same_unit (type_of cs e).unit unit.Seats
+
+  abbrev pub is_votes : ExprTree → Bool
+  is_votes e = same_unit (type_of cs e).unit unit.Votes
+
+  -- two columns of one shape, and of one unit
+  abbrev pub alike_tests : ℕ → ExprTree → ExprTree → List (Test CheckFault)
+  alike_tests at l r =
+      test (same_shape (shape_of l) (shape_of r)) (fault.Shape at)
+      ∷ test (same_unit (type_of cs l).unit (type_of cs r).unit) (fault.Unit at) ∷ []
+
+  -- the tests of an expression: those of its arguments from left to right, and then its own
+  abbrev pub expr_tests : ExprTree → List (Test CheckFault)
+  expr_tests (house at) = []
+  expr_tests (counted at) = []
+  expr_tests (winners at) = []
+  expr_tests (outside at) = []
+  expr_tests (independents at) = []
+  expr_tests (population at) = []
+  expr_tests (name at n) = test (list_any (is_named n) cs) (fault.StageUnknown at) ∷ []
+  expr_tests (sum at e over) = expr_tests e ++ test (can_sum (shape_of e) over) (fault.Shape at) ∷ []
+  expr_tests (larger at l r) = expr_tests l ++ (expr_tests r ++ alike_tests at l r)
+  expr_tests (less at l r) = expr_tests l ++ (expr_tests r ++ alike_tests at l r)
+  expr_tests (split at s v method m) = expr_tests s ++ (expr_tests v ++ (
+      test (not (is_prefer m) || is_hamilton method) (fault.MethodOption at)
+      ∷ test (can_split (shape_of s) (shape_of v)) (fault.Shape at)
+      ∷ test (is_seats s && is_votes v) (fault.Unit at) ∷ []))
+  expr_tests (split_from at s v method f m) = expr_tests s ++ (expr_tests v ++ (expr_tests f ++ (
+      test (not (is_prefer m) && not (is_hamilton method)) (fault.MethodOption at)
+      ∷ test (can_split (shape_of s) (shape_of v) && same_shape (shape_of f) (shape_of v)) (fault.Shape at)
+      ∷ test (is_seats s && is_votes v && is_seats f) (fault.Unit at) ∷ [])))
+  expr_tests (grow at s v method f cap m) = expr_tests s ++ (expr_tests v ++ (expr_tests f ++ (
+      test (not (is_prefer m) && not (is_hamilton method)) (fault.MethodOption at)
+      ∷ test (is_seat_number cap.value) (fault.CapRange cap.at)
+      ∷ test (same_shape (shape_of s) shape.One && can_split (shape_of s) (shape_of v) && same_shape (shape_of f) (shape_of v)) (fault.Shape at)
+      ∷ test (is_seats s && is_votes v && is_seats f) (fault.Unit at) ∷ [])))
+
+-- how many splits and growths an expression has
+abbrev pub splits_in : ExprTree → ℕ
+splits_in (house at) = 0
+splits_in (counted at) = 0
+splits_in (winners at) = 0
+splits_in (outside at) = 0
+splits_in (independents at) = 0
+splits_in (population at) = 0
+splits_in (name at n) = 0
+splits_in (sum at e over) = splits_in e
+splits_in (larger at l r) = splits_in l + splits_in r
+splits_in (less at l r) = splits_in l + splits_in r
+splits_in (split at s v method m) = 1 + splits_in s + splits_in v
+splits_in (split_from at s v method f m) = 1 + splits_in s + splits_in v + splits_in f
+splits_in (grow at s v method f cap m) = 1 + splits_in s + splits_in v + splits_in f
+
+-- the column of a stage behind those
+abbrev pub column_of : List Column → StageTree → Column
+column_of cs s = record { name = s.name; type = type_of cs s.expr }
+
+-- the columns behind these stages
+abbrev pub columns_of : List Column → List StageTree → List Column
+columns_of cs [] = cs
+columns_of cs (s ∷ ss) = columns_of (cs ++ column_of cs s ∷ []) ss
+
+-- the tests of the stages behind those columns
+abbrev pub stages_tests : List Column → List StageTree → List (Test CheckFault)
+stages_tests cs [] = []
+stages_tests cs (s ∷ ss) =
+    test (not (list_any (is_named s.name) cs)) (fault.StageTwice s.at)
+    ∷ test (nat_le (splits_in s.expr) 1) (fault.TwoSplits s.at)
+    ∷ (expr_tests cs s.expr ++ stages_tests (cs ++ column_of cs s ∷ []) ss)
+
+-- a number is 1 or 2; and `vacate`, at its offset, stands in version 2 alone
+abbrev pub version_tests : Number → Option ℕ → List (Test CheckFault)
+version_tests v None = test (nat_eq v.value 1 || nat_eq v.value 2) (fault.Version v.at) ∷ []
+version_tests v (Some at) = test (nat_eq v.value 1 || nat_eq v.value 2) (fault.Version v.at) ∷ test (nat_eq v.value 2) (fault.Version at) ∷ []
+
+abbrev pub condition_tests : List Cond → List (Test CheckFault)
+condition_tests [] = []
+condition_tests (condition.Valid share per ∷ rest) =
+    test (nat_le 1 share.value && nat_le share.value per && nat_le per MAX_PER) (fault.PerRange share.at) ∷ condition_tests rest
+condition_tests (condition.Winners least ∷ rest) = condition_tests rest
+condition_tests (condition.Minority ∷ rest) = condition_tests rest
+condition_tests (condition.All ∷ rest) = condition_tests rest
+
+abbrev pub base_tests : List Column → ℕ → Base → List (Test CheckFault)
+base_tests cs at base.Winners = []
+base_tests cs at (base.Stage n) =
+    test (list_any (is_named n) cs) (fault.StageUnknown at)
+    ∷ test (same_shape (type_of cs (name at n)).shape shape.List && same_unit (type_of cs (name at n)).unit unit.Seats) (fault.SeatsShape at) ∷ []
+
+-- every test of a book, in order
+abbrev pub tests_of : BookTree → List (Test CheckFault)
+tests_of b =
+    version_tests b.version b.last.vacate
+    ++ (test (is_seat_number b.house.value) (fault.HouseRange b.house.at)
+    ∷ (condition_tests b.eligible ++ (stages_tests [] b.stages ++ base_tests (columns_of [] b.stages) b.last.at b.last.base)))
+
+-- what is wrong with a book: the first test that fails
+abbrev pub check_fault : BookTree → Option CheckFault
+check_fault b = first_failing (tests_of b)
+
+-- a book all of whose tests hold
+abbrev pub is_typed : BookTree → Bool
+is_typed b = is_none (check_fault b)

@@ -1,0 +1,2 @@
+-- How values of the program keep what the definitions speak of; no definition cites these.
+pub mod Kept

@@ -1,0 +1,7 @@
+-- What the definitions imply: the statements of the laws.
+pub mod Ladders
+pub mod MethodLaws
+pub mod Awards
+pub mod EqualBounds
+pub mod MeaningLaws
+pub mod ColumnLaws

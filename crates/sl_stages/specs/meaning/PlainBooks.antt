@@ -1,0 +1,38 @@
+-- What a plain rulebook comes to: one without splits, growths, covering and vacant seats (docs/meaning.md, section 12).
+use Rattle.std.specs.Prelude.{◌≡◌, ℕ, Bool, true, false, ◌&&◌, List, [], map, flat_map, max, filter, is_none, nat_eq}
+use Rattle.std.specs.List.{list_all}
+use Rattle.sl_stages.specs.declared.book.Seating.{Seating}
+use Rattle.sl_stages.specs.declared.book.Seating.TheVariants as seating
+use Rattle.sl_stages.specs.declared.table.ListSeats.{ListSeats}
+use Rattle.sl_stages.specs.meaning.Tables.{SeatTable}
+use Rattle.sl_stages.specs.book.Trees.{BookTree}
+use Rattle.sl_stages.specs.returns.Election.{Election, has_list}
+use Rattle.sl_stages.specs.book.Typing.{splits_in}
+use Rattle.sl_stages.specs.returns.Facts.{lands, parties, list_cell, list_winners}
+use Rattle.sl_stages.specs.meaning.Columns.{NamedColumn, IsColumn, AreColumns}
+use Rattle.sl_stages.specs.meaning.Seating.{base_of, kept_place}
+
+-- under `keep` a list has the larger of its base and its winners, who all sit on it
+abbrev pub kept_list : BookTree → Election → List ℕ → ℕ → ℕ → ListSeats
+kept_list b e column land party =
+    let won = list_cell e (list_winners b.eligible e) land party in
+    record { land = land; party = party; seats = max (list_cell e column land party) won; direct = won; vacant = 0 }
+
+abbrev pub kept_lists : BookTree → Election → List ℕ → List ListSeats
+kept_lists b e column = flat_map (λ land. map (kept_list b e column land) (filter (has_list e land) (parties e))) (lands e)
+
+-- under a book that keeps, the table, where the base is that column
+abbrev pub kept_table : BookTree → Election → List ℕ → SeatTable
+kept_table b e column = record { lists = kept_lists b e column; placed = map (kept_place b e) e.wins; steps = []; weights = [] }
+
+-- the book comes to that table: there are columns of its stages and of its base
+abbrev pub ComesTo : BookTree → Election → SeatTable → Type 0
+ComesTo b e t = (columns : List NamedColumn) × (column : List ℕ) × AreColumns b e [] b.stages columns × IsColumn b e columns (base_of b.last) column × (t ≡ kept_table b e column)
+
+abbrev pub is_keep : Seating → Bool
+is_keep seating.Keep = true
+is_keep seating.Cover = false
+
+-- a book without splits and growths whose winners are all kept, and no vacant seats are told
+abbrev pub is_plain : BookTree → Bool
+is_plain b = list_all (λ s. nat_eq (splits_in s.expr) 0) b.stages && is_keep b.last.seating && is_none b.last.vacate
