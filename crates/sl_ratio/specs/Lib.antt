@@ -1,7 +1,6 @@
 pub mod Quotient
-pub mod QuotientLaws
 pub mod Signpost
 pub mod Entry
-pub mod EntryLaws
 pub mod Names
 pub mod Laws
+pub mod inner
