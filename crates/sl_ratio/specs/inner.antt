@@ -1,3 +1,4 @@
--- Proofs that the code's `impl` blocks give for the laws of their traits, and so stand where code can cite them; no definition cites these.
+-- What only code and proofs cite: the proofs that `impl` blocks give for the laws of their traits, and the steps of a search.
 pub mod QuotientLaws
 pub mod EntryLaws
+pub mod Picks
