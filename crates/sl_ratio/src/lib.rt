@@ -1,4 +1,4 @@
-//! Quotients as ratios of whole numbers, the methods of apportionment, and lists of names.
+//! Quotients as ratios of whole numbers, the methods of apportionment, the bounds of an allocation, and lists of names.
 #![tactic(auto)]
 
 mod bound;

@@ -1,4 +1,4 @@
-use Rattle.std.proofs.Common.{◌≡◌, sum, All, arith}
+use Rattle.std.proofs.Common.{arith}
 use Rattle.sl_ratio.proofs.Searches.{sum_none}
 use Rattle.sl_ratio.proofs.bound.bounds.Goals as goal
 
