@@ -1,9 +1,9 @@
 -- The bounds of an allocation are equal where there is another one.
-use Rattle.std.proofs.Common.{◌≡◌, ◌≢◌, ℕ, zero, suc, ◌+◌, ◌-◌, ◌*◌, ◌/◌, ◌<◌, ◌≤◌, ◌⊎◌, List, [], ◌∷◌, length, get_or, sum, inl, inr, arith, refl, sym, ap, ◌∙◌, subst}
+use Rattle.std.proofs.Common.{◌≡◌, ◌≢◌, ℕ, zero, suc, ◌-◌, ◌<◌, ◌≤◌, ◌⊎◌, List, [], ◌∷◌, length, get_or, sum, inl, inr, arith, refl, sym, ap, ◌∙◌, subst}
 use Rattle.std.proofs.lemmas.Bool.{cases_lt, cases_eq}
 use Rattle.std.proofs.lemmas.List.Elements.{Contains-get_or}
 use Rattle.sl_ratio.specs.declared.method.Divisor.{Divisor}
-use Rattle.sl_ratio.specs.Quotient.{AtMost, SameQuotient, quotient}
+use Rattle.sl_ratio.specs.Quotient.{AtMost, SameQuotient}
 use Rattle.sl_ratio.specs.Bounds.{IsLast, IsNext, last_quotient, next_quotient}
 use Rattle.sl_ratio.proofs.Order.{AtMost-trans}
 use Rattle.sl_stages.specs.methods.Field.{no_minima}
