@@ -1,5 +1,5 @@
 -- The bounds of an allocation without minima, and rounding by a divisor between them (docs/methods.md, section 9). The entries are
--- given by their weights v, all positive, and by their seats s, in entry order. A list reads 0 past its end.
+-- given by their weights v and their seats s, in entry order; those of positive weight count. A list reads 0 past its end.
 use Rattle.std.specs.Prelude.{◌≡◌, ◌≢◌, ℕ, ◌+◌, ◌-◌, ◌*◌, ◌/◌, ◌<◌, ◌⊎◌, List, Option, Some, None, slice_index, if◌then◌else◌}
 use Rattle.std.specs.Ordering.{is_le}
 use Rattle.sl_ratio.specs.declared.method.Divisor.{Divisor}
@@ -10,7 +10,7 @@ use Rattle.sl_ratio.specs.Quotient.{Quotient, AtMost, Below, compare, quotient}
 abbrev pub IsRounding : Divisor → Type 0
 IsRounding method = (method ≡ Adams) ⊎ (method ≡ Webster) ⊎ (method ≡ Jefferson)
 
--- i is an entry: it has a positive weight
+-- entry i has a positive weight
 abbrev pub HasWeight : List ℕ → ℕ → Type 0
 HasWeight v i = 0 < slice_index v i
 
