@@ -11,7 +11,7 @@ use Rattle.std.proofs.lemmas.List.Sorted.{All-permutation}
 use Rattle.sl_ratio.specs.declared.entry.Entry.{Entry}
 use Rattle.sl_ratio.specs.Quotient.{FitsRatio, compare}
 use Rattle.sl_ratio.specs.Entry.{quotient_cmp, entry_cmp}
-use Rattle.sl_ratio.specs.EntryLaws.{quotient_total, quotient_cmp-positive}
+use Rattle.sl_ratio.specs.inner.EntryLaws.{quotient_total, quotient_cmp-positive}
 use Rattle.sl_prio.specs.Ranking.{insert_ranked, ranked}
 use Rattle.sl_prio.specs.Prio.{top, peers, has_quotient_of}
 use Rattle.sl_prio.specs.Laws.{PeersInFront}

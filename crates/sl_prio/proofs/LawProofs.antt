@@ -8,7 +8,7 @@ use Rattle.std.proofs.lemmas.List.Sorted.{IsPermutation-sym, IsPermutation-trans
 use Rattle.std.proofs.lemmas.Bool.{and_from, and_right}
 use Rattle.sl_ratio.specs.declared.entry.Entry.{Entry}
 use Rattle.sl_ratio.specs.Entry.{entry_cmp}
-use Rattle.sl_ratio.specs.EntryLaws.{entry_total}
+use Rattle.sl_ratio.specs.inner.EntryLaws.{entry_total}
 use Rattle.sl_prio.specs.Ranking.{greatest, ranked}
 use Rattle.sl_prio.specs.Prio.{top, peers, has_quotient_of}
 use Rattle.sl_prio.specs.Lot.{lot_cmp, drawn}

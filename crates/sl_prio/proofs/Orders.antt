@@ -7,7 +7,7 @@ use Rattle.std.specs.Ordering.{is_eq, ordering_then}
 use Rattle.std.proofs.lemmas.Bool.{and_parts, eqb-true}
 use Rattle.sl_ratio.specs.declared.entry.Entry.{Entry}
 use Rattle.sl_ratio.specs.Entry.{entry_cmp}
-use Rattle.sl_ratio.specs.EntryLaws.{entry_total, entry_ties}
+use Rattle.sl_ratio.specs.inner.EntryLaws.{entry_total, entry_ties}
 use Rattle.sl_prio.specs.Lot.{place_in_lot, lot_cmp}
 use Rattle.sl_prio.proofs.Greatest.{IsEntryOrder}
 
