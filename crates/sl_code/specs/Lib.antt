@@ -7,3 +7,5 @@ pub mod Listing
 pub mod Faults
 pub mod Proper
 pub mod Reading
+pub mod Standing
+pub mod Laws
