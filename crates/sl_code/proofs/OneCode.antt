@@ -16,7 +16,8 @@ use Rattle.sl_code.specs.declared.parts.Operand.{Operand}
 use Rattle.sl_code.specs.declared.parts.Operand.TheVariants as o
 use Rattle.sl_code.specs.Codes.{CountingCode}
 use Rattle.sl_code.specs.Numbers.{shape_number}
-use Rattle.sl_code.specs.Operands.{opcode_of, operands_of, value_of, bytes_of, two_bytes, four_bytes, eight_bytes}
+use Rattle.sl_code.specs.Rows.{opcode_of, operands_of}
+use Rattle.sl_code.specs.Operands.{value_of, bytes_of, two_bytes, four_bytes, eight_bytes}
 use Rattle.sl_code.specs.Spelling.{instr_bytes, stage_bytes, opening, stages_part, slots_part, instrs_part, spelling_of}
 use Rattle.sl_code.specs.Faults.{IsStage, IsAny, shape_bytes}
 use Rattle.sl_code.specs.Proper.{FitsBytes, IsInRange, IsProper}

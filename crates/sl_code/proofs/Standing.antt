@@ -25,11 +25,11 @@ get_before (y ∷ xs) after (suc n) x e = get_before xs after n x e
 module _ (c : CountingCode) where
   -- a code's instructions stand at its start
   pub all_stand : HasAt c 0 c.instrs
-  all_stand = record { before = []; after = []; placed = refl; whole = sym (append-nil c.instrs); }
+  all_stand = record { before = []; after = []; placed = refl; whole = sym (append-nil c.instrs) }
 
   -- a prefix of them, and the rest after it
   pub prefix_stands : (at : ℕ) (xs ys : List Instr) → HasAt c at (xs ++ ys) → HasAt c at xs
-  prefix_stands at xs ys h = record { before = h.before; after = ys ++ h.after; placed = h.placed; whole = h.whole ∙ ap (λ is. h.before ++ is) (append_assoc xs ys h.after); }
+  prefix_stands at xs ys h = record { before = h.before; after = ys ++ h.after; placed = h.placed; whole = h.whole ∙ ap (λ is. h.before ++ is) (append_assoc xs ys h.after) }
 
   pub rest_stands : (at : ℕ) (xs ys : List Instr) → HasAt c at (xs ++ ys) → HasAt c (at + length xs) ys
   rest_stands at xs ys h = record {

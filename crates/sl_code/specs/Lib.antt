@@ -2,6 +2,7 @@
 pub mod Codes
 pub mod Numbers
 pub mod Operands
+pub mod Rows
 pub mod Spelling
 pub mod Listing
 pub mod Faults

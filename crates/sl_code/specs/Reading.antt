@@ -8,7 +8,8 @@ use Rattle.sl_code.specs.declared.fault.Refusal.{Refusal}
 use Rattle.sl_code.specs.declared.fault.Refusal.TheVariants as refusals
 use Rattle.sl_code.specs.declared.instr.Instr.{Instr}
 use Rattle.sl_code.specs.Codes.{CountingCode}
-use Rattle.sl_code.specs.Operands.{opcode_of, operands_of, bytes_of}
+use Rattle.sl_code.specs.Rows.{opcode_of, operands_of}
+use Rattle.sl_code.specs.Operands.{bytes_of}
 use Rattle.sl_code.specs.Spelling.{spelling_of}
 use Rattle.sl_code.specs.Faults.{FailsTests, stop_at, IsRefusal}
 use Rattle.sl_code.specs.Proper.{IsInRange, IsProper}
