@@ -49,6 +49,18 @@ impl Instr {
         self.row().operands
     }
 
+    /// Where it may jump.
+    pub fn target(self) -> Option<u32>
+        ensures { result ≡ target_of self }
+    {
+        for operand in self.operands().as_slice() {
+            if let Some(target) = operand.target() {
+                return Some(target);
+            }
+        }
+        None
+    }
+
     fn row(self) -> Facts
         ensures opcode { result.opcode ≡ opcode_of self }
         ensures name { result.name.now ≡ name_of self }
