@@ -4,7 +4,7 @@ use Rattle.std.specs.Prelude.{slice_get, IsTrue, nat_le, nat_lt, option_and_then
 use Rattle.std.specs.Option.{option_map_or}
 use Rattle.std.specs.Int.Bits.{and_zero_r}
 use Rattle.std.proofs.Math.Bool.{or-true}
-use Rattle.std.proofs.lemmas.Bool.{and_parts, ltb-true, lt-ltb, leb-true, eq-eqb}
+use Rattle.std.proofs.lemmas.Bool.{and_parts, ltb-true, lt-ltb, leb-true, le-leb, eq-eqb}
 use Rattle.std.proofs.lemmas.Option.{option_and_then_some}
 use Rattle.sl_stages.specs.declared.book.Shape.{Shape}
 use Rattle.sl_stages.specs.declared.book.Shape.TheVariants as shape
@@ -131,6 +131,13 @@ pub passed_within : (x y : Context) (comes : Option Kinds) (is : List Instr) →
 passed_within x y comes is w = all_within x y w comes is
 
 -- ---- a piece in a code
+
+-- what a piece declares, by how far from its first place
+pub declared_from_first : (at n : ℕ) (is : List Instr) → declared_in at is (at + n) ≡ option_and_then declared_by (slice_get is n)
+declared_from_first at n is =
+    let within : nat_le at (at + n) ≡ true = le-leb at (at + n) (omega arith) in
+    let far : (at + n) - at ≡ n = omega arith in
+    rw (within, far) refl
 
 module _ (code : CountingCode) (at : ℕ) (is : List Instr) (stand : HasAt code at is) where
   declared_there : (t : ℕ) (d : Kinds) → option_and_then declared_by (slice_get is (t - at)) ≡ Some d → at ≤ t → declared_at code t ≡ Some d

@@ -1,5 +1,5 @@
 -- What the definitions of the verifier imply for pieces of code.
-use Rattle.std.specs.Prelude.{◌≡◌, ◌↔◌, ℕ, ◌+◌, ◌≤◌, ◌&&◌, List, ◌++◌, length, Option, Some, None, slice_get, IsTrue}
+use Rattle.std.specs.Prelude.{◌≡◌, ◌↔◌, ℕ, ◌+◌, ◌≤◌, ◌&&◌, List, ◌++◌, length, Option, Some, None, slice_get, option_and_then, IsTrue}
 use Rattle.sl_stages.specs.book.Tests.{first_failing}
 use Rattle.sl_stages.specs.declared.book.Shape.{Shape}
 use Rattle.sl_code.specs.Codes.{CountingCode}
@@ -10,8 +10,8 @@ use Rattle.sl_verify.specs.declared.known.TheConstants.{REGISTERS}
 use Rattle.sl_verify.specs.declared.needs.TheConstants.{LAST_CLAUSE}
 use Rattle.sl_verify.specs.Kinds.{start_kinds, implies}
 use Rattle.sl_verify.specs.Needs.{Context}
-use Rattle.sl_verify.specs.WellKinded.{context_of, has_stage_slots, IsWellKinded}
-use Rattle.sl_verify.specs.Pieces.{comes_after, are_passed, piece_context, IsWithin}
+use Rattle.sl_verify.specs.WellKinded.{declared_by, context_of, has_stage_slots, IsWellKinded}
+use Rattle.sl_verify.specs.Pieces.{comes_after, are_passed, declared_in, piece_context, IsWithin}
 use Rattle.sl_verify.specs.Faults.{pass_tests}
 
 abbrev pub Limits : Type 0
@@ -53,6 +53,10 @@ abbrev pub PieceWithin : Type 0
 PieceWithin = (code : CountingCode) (at : ℕ) (is : List Instr) (slots : ℕ → Option Shape) (stages : ℕ) → HasAt code at is
     → ((k : ℕ) (s : Shape) → slots k ≡ Some s → slice_get code.slots k ≡ Some s) → stages ≤ length code.stages
     → IsWithin (piece_context slots stages at is) (context_of code)
+
+-- the context of a piece declares what its own instructions do, by how far they are from its first place
+abbrev pub DeclaredFromFirst : Type 0
+DeclaredFromFirst = (at n : ℕ) (is : List Instr) → declared_in at is (at + n) ≡ option_and_then declared_by (slice_get is n)
 
 -- an `at` that declares nothing asks for nothing
 abbrev pub NothingAsked : Type 0

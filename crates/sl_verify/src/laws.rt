@@ -6,7 +6,7 @@ ghost use Rattle.sl_code.specs.declared.kinds.Registers.{Registers};
 ghost use Rattle.sl_verify.specs.Kinds.{is_register, contains, with_register, includes};
 ghost use Rattle.sl_verify.specs.WellKinded.{IsWellKinded};
 ghost use Rattle.sl_verify.specs.Faults.{verify_fault};
-ghost use Rattle.sl_verify.specs.Laws.{Limits, ComesInRow, PassedInRow, TestsInRow, PassedTests, KindedByPass, PassedWithin, PieceWithin, NothingAsked};
+ghost use Rattle.sl_verify.specs.Laws.{Limits, ComesInRow, PassedInRow, TestsInRow, PassedTests, KindedByPass, PassedWithin, PieceWithin, DeclaredFromFirst, NothingAsked};
 
 /// A code is well kinded exactly where it fails no test.
 pub fn fault_or_kinds()
@@ -46,6 +46,7 @@ pub fn kinded_by_pass()
 pub fn pieces()
     ensures within { PassedWithin }
     ensures context { PieceWithin }
+    ensures declared { DeclaredFromFirst }
 {}
 
 /// What is declared at a place after which nothing is known is implied by all kinds.
