@@ -5,7 +5,7 @@ use Rattle.std.proofs.lemmas.List.{append-nil}
 use Rattle.sl_code.specs.declared.instr.Instr.{Instr}
 use Rattle.sl_code.specs.Codes.{CountingCode}
 use Rattle.sl_code.specs.Standing.{HasAt}
-use Rattle.sl_code.proofs.Fronts.{front_same, back_same}
+use Rattle.sl_code.proofs.Fronts.{back_same}
 
 -- ---- lists
 

@@ -35,7 +35,7 @@ module _ (code : CountingCode) where
       let parts = and_parts (meets comes (declared_by i)) (has_own (context_of code) k i) h in
       let own = and_parts (has_needs (context_of code) k i) (leads_well (context_of code) (carried k i) (target_of i)) parts.1 in
       let needs = four_pass (has_registers i) (has_columns (context_of code) i) (has_kinds (context_of code) k i) (has_table k i)
-          (fault.Register p) (fault.Slot p) (fault.Kind p) (fault.TableKind p) own.0 in
+      (fault.Register p) (fault.Slot p) (fault.Kind p) (fault.TableKind p) own.0 in
       pass_join (coming_tests p comes (declared_by i)) (own_tests code p k i) (meets_coming p comes (declared_by i) parts.0)
       (pass_join (need_tests code p k i) (jump_tests code p (carried k i) (target_of i)) needs (leads_jump code p (carried k i) (target_of i) own.1))
 
@@ -68,7 +68,7 @@ module _ (code : CountingCode) where
       let k = kinds_here comes (declared_by i) in
       let parts = and_parts (meets comes (declared_by i)) (has_own (context_of code) k i) h in
       let own = and_parts (has_needs (context_of code) k i) (leads_well (context_of code) (carried k i) (target_of i)) parts.1 in
-      record { stands = meets_stands comes (declared_by i) parts.0; needs = own.0; leads = own.1; }
+      record { stands = meets_stands comes (declared_by i) parts.0; needs = own.0; leads = own.1 }
 
   -- what comes to the places after the first instruction
   coming_next : (i : Instr) (is : List Instr) (comes : Option Kinds) (q : ℕ)
@@ -115,7 +115,7 @@ module _ (code : CountingCode) where
       let next = comes_next comes x in
       let leaves : behind (kinds zero) x ≡ next = ap (λ k. behind k x) here.1 in
       let rest = all_pass is next (λ n. kinds (suc n))
-          (λ q i e. subst (λ c. IsKinded code c (kinds (suc q)) i) (coming_rest x is comes next kinds q leaves) (each (suc q) i e)) in
+      (λ q i e. subst (λ c. IsKinded code c (kinds (suc q)) i) (coming_rest x is comes next kinds q leaves) (each (suc q) i e)) in
       (both_hold _ _ here.0 rest.0, coming_rest x is comes next kinds (length is) leaves ∙ rest.1)
 
   -- ---- both

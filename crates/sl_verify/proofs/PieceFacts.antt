@@ -1,6 +1,6 @@
 -- Pieces of code: one after another, and in a code.
-use Rattle.std.proofs.Common.{◌≡◌, ℕ, zero, suc, ◌+◌, ◌-◌, ◌≤◌, Bool, true, false, ◌&&◌, ◌||◌, not, ◌==◌, List, [], ◌∷◌, ◌++◌, append_assoc, Option, Some, None, is_some, length, refl, ◌∙◌, sym, ap, arith}
-use Rattle.std.specs.Prelude.{slice_get, IsTrue, nat_le, nat_lt, option_and_then, if◌then◌else◌, bit_and}
+use Rattle.std.proofs.Common.{◌≡◌, ℕ, suc, ◌+◌, ◌-◌, ◌≤◌, Bool, true, false, ◌&&◌, ◌||◌, ◌==◌, List, [], ◌∷◌, ◌++◌, append_assoc, Option, Some, None, is_some, length, refl, ◌∙◌, sym, ap, arith}
+use Rattle.std.specs.Prelude.{slice_get, IsTrue, nat_le, nat_lt, option_and_then, if◌then◌else◌}
 use Rattle.std.specs.Option.{option_map_or}
 use Rattle.std.specs.Int.Bits.{and_zero_r}
 use Rattle.std.proofs.Math.Bool.{or-true}
@@ -15,12 +15,11 @@ use Rattle.sl_code.specs.Standing.{HasAt}
 use Rattle.sl_code.proofs.Standing.{stands_each}
 use Rattle.sl_code.specs.declared.instr.Instr.{Instr}
 use Rattle.sl_code.specs.declared.instr.Instr.TheVariants as op
-use Rattle.sl_code.specs.declared.kinds.Cursors.{Cursors}
 use Rattle.sl_code.specs.declared.kinds.Kinds.{Kinds}
 use Rattle.sl_code.specs.declared.kinds.TableState.{TableState}
 use Rattle.sl_verify.specs.declared.needs.TheConstants.{LAST_CLAUSE}
 use Rattle.sl_verify.specs.Kinds.{start_kinds, no_cursors, contains, covers, includes, implies}
-use Rattle.sl_verify.specs.Needs.{Context, has_slot, has_column, has_stage, has_registers, has_columns, has_kinds, has_table, has_needs, input_shape, shape_cursors, slot_cursors, needed_positive, needed_cursors}
+use Rattle.sl_verify.specs.Needs.{Context, has_slot, has_column, has_stage, has_registers, has_columns, has_kinds, has_table, has_needs, input_shape, shape_cursors, needed_positive, needed_cursors}
 use Rattle.sl_verify.specs.Leaves.{carried}
 use Rattle.sl_verify.specs.WellKinded.{declared_by, declared_at, context_of, leads_well}
 use Rattle.sl_verify.specs.Pieces.{kinds_here, comes_next, comes_after, meets, has_own, is_passed, are_passed, declared_in, piece_context, IsWithin}
@@ -157,7 +156,7 @@ module _ (code : CountingCode) (at : ℕ) (is : List Instr) (stand : HasAt code 
 pub piece_within : (code : CountingCode) (at : ℕ) (is : List Instr) (slots : ℕ → Option Shape) (stages : ℕ) → HasAt code at is
     → ((k : ℕ) (s : Shape) → slots k ≡ Some s → slice_get code.slots k ≡ Some s) → stages ≤ length code.stages
     → IsWithin (piece_context slots stages at is) (context_of code)
-piece_within code at is slots stages stand are le = record { slots = are; stages = le; declared = declared_within code at is stand; }
+piece_within code at is slots stages stand are le = record { slots = are; stages = le; declared = declared_within code at is stand }
 
 -- ---- nothing is asked
 

@@ -40,7 +40,7 @@ PassedTests = (code : CountingCode) (p : ℕ) (comes : Option Kinds) (is : List 
 abbrev pub KindedByPass : Type 0
 KindedByPass = (code : CountingCode) → IsWellKinded code
     ↔ (IsTrue (has_stage_slots code) × IsTrue (are_passed (context_of code) (Some start_kinds) code.instrs)
-        × (comes_after (Some start_kinds) code.instrs ≡ None))
+    × (comes_after (Some start_kinds) code.instrs ≡ None))
 
 -- ---- a piece in a code
 

@@ -14,11 +14,7 @@ fn ends(instr: Instr) -> bool
 {
     matches!(
         instr,
-        Instr::Jmp(..)
-            | Instr::Fault(..)
-            | Instr::Tie(..)
-            | Instr::Halt(..)
-            | Instr::Haltv(..)
+        Instr::Jmp(..) | Instr::Fault(..) | Instr::Tie(..) | Instr::Halt(..) | Instr::Haltv(..)
     )
 }
 

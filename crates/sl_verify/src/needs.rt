@@ -127,7 +127,9 @@ fn has_staged(code: &Code, operand: Operand) -> bool
 fn each_slot(code: &Code, shape: Option<Shape>, operands: &[Operand]) -> bool
     ensures { result ≡ list_all (λ operand. option_map_or (suits (context_of code.now) shape) (slot_in operand) true) operands.now }
 {
-    operands.iter().all(|operand| has_suited(code, shape, *operand))
+    operands
+        .iter()
+        .all(|operand| has_suited(code, shape, *operand))
 }
 
 fn each_stage(code: &Code, operands: &[Operand]) -> bool

@@ -1,4 +1,4 @@
-use Rattle.std.proofs.Common.{◌≡◌, sym, ◌∙◌}
+use Rattle.std.proofs.Common.{sym, ◌∙◌}
 use Rattle.sl_code.specs.Rows.{target_in}
 use Rattle.sl_code.proofs.Targets.{none_so_far}
 use Rattle.sl_code.proofs.instr.Instr.target.Goals as goal
