@@ -50,7 +50,7 @@ known_cursors {a} {b} {c} p known t h set =
     subst (λ (x : Entries). AreSet (entry_cursors x) a b c) (sym h.is.entries) (subst (λ (o : Option TableState). AreSet (table_cursors o) a b c) h.known_is set)
 
 -- the number of a list is in range
-list_below : (l p lands parties : ℕ) → l < lands → p < parties → l * parties + p < lands * parties
+pub list_below : (l p lands parties : ℕ) → l < lands → p < parties → l * parties + p < lands * parties
 list_below l p lands parties low small =
     let more : suc l * parties ≤ lands * parties = mul-le-mul_right parties low in
     let split : suc l * parties ≡ l * parties + parties = suc-mul l parties in

@@ -8,6 +8,7 @@ pub mod KeptCursors
 pub mod KeptEntries
 pub mod KeptTables
 pub mod KeptRecords
+pub mod Fitting
 pub mod Stepping
 pub mod Soundness
 pub mod Priorities
@@ -17,7 +18,7 @@ pub mod LotLists
 pub mod Bounds
 pub mod Drawing
 pub mod PeerLists
-pub mod Halting
+pub mod Holding
 pub mod Starting
 pub mod Leavings
 pub mod Running

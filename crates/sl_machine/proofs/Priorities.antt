@@ -29,7 +29,7 @@ use Rattle.sl_machine.specs.Places.{at_entry}
 use Rattle.sl_machine.specs.Effects.{Goes, given, takes, mark_of}
 use Rattle.sl_machine.specs.Safe.{entries_in}
 use Rattle.sl_machine.specs.Priority.{same_entry, without}
-use Rattle.sl_machine.specs.Tables.{table_in, with_entry}
+use Rattle.sl_machine.specs.inner.Tables.{table_in, with_entry}
 
 -- ---- a table that is on
 

@@ -4,7 +4,7 @@ ghost use Rattle.std.specs.Prelude.{◌≡◌, ◌++◌, ◌∷◌, [], map, rep
 ghost use Rattle.sl_stages.specs.returns.Election.{IsElection};
 ghost use Rattle.sl_machine.specs.State.{start};
 ghost use Rattle.sl_machine.specs.Places.{cells_of};
-ghost use Rattle.sl_machine.specs.Stores.{state_of, sizes_of, sizes_for};
+ghost use Rattle.sl_machine.specs.inner.Stores.{state_of, sizes_of, sizes_for};
 
 use crate::priority::PriorityTable;
 use sl_code::Code;
