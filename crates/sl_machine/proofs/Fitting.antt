@@ -34,14 +34,13 @@ use Rattle.sl_code.specs.Codes.{CountingCode}
 use Rattle.sl_verify.specs.declared.needs.TheConstants.{LAST_CLAUSE}
 use Rattle.sl_verify.specs.Kinds.{same_ranking}
 use Rattle.sl_verify.specs.Needs.{has_columns, has_column}
-use Rattle.sl_prio.specs.Ranking.{insert_ranked}
 use Rattle.sl_prio.specs.Prio.{top, peers, is_covered}
 use Rattle.sl_prio.specs.Lot.{drawn}
 use Rattle.sl_machine.specs.State.{State, PriorityTable, Halted, Faulted}
 use Rattle.sl_machine.specs.Places.{both, cell_at, index_at, item_of, at_entry, scope_at}
 use Rattle.sl_machine.specs.Priority.{without}
 use Rattle.sl_machine.specs.Drawn.{lot_of}
-use Rattle.sl_machine.specs.Effects.{Effect, Goes, Jumps, Ends, NoCase, effect, given, where_positive, winner_at, to_party, first_of, next_of, with_party, with_land, with_win, seats, sets_house, counts_peers, stage_of, name_of, kind_of, mark_of, at_scope, with_lot, with_table, takes, enters}
+use Rattle.sl_machine.specs.Effects.{Effect, Goes, Jumps, Ends, NoCase, effect, given, where_positive, winner_at, to_party, first_of, next_of, with_party, with_land, with_win, seats, sets_house, counts_peers, stage_of, name_of, kind_of, mark_of, at_scope, with_lot, with_table, with_entry, takes, enters}
 use Rattle.sl_machine.specs.Fits.{HasItem, HasScope, FitsStep, FitsWeight, FitsKind, FitsFault, FitsRecords, FitsHalt, FitsEnd}
 use Rattle.sl_machine.specs.Safe.{IsInRange, entries_in}
 use Rattle.sl_machine.proofs.TableFacts.{peers_all}
@@ -164,7 +163,7 @@ module _ (c : CountingCode) (e : Election) (s : State) (range : IsInRange e s) (
 
   enters_fits : (by : Ranking) (q : Quotient) → FitsEffect c e (enters e by q s)
   enters_fits by q = in_given c e s.table _ (λ t is. in_given c e (index_at e t.entries s) _ (λ index at.
-      in_if c e (same_ranking by t.ranking) (Goes (with_table (record t { contents = insert_ranked (record { ratio = q; index = index }) t.contents }) s)) NoCase h tt))
+      in_if c e (same_ranking by t.ranking) (Goes (with_table (with_entry (record { ratio = q; index = index }) t) s)) NoCase h tt))
 
   at_scope_fits : (n : ℕ) (k : ScopeKind) (go : ℕ → Scope → Effect) → ((stage : ℕ) (x : Scope) → stage ≤ length c.stages → HasScope e x → FitsEffect c e (go stage x)) → FitsEffect c e (at_scope c e n k s go)
   at_scope_fits n k go f = in_given c e (stage_of c.stages n) _ (λ stage is. in_given c e (scope_at k s) (go stage) (λ x at. f stage x (stage_fits c.stages n stage is) (scope_fits e k s x range at)))

@@ -10,6 +10,9 @@ pub mod KeptTables
 pub mod KeptRecords
 pub mod Fitting
 pub mod Stepping
+pub mod effects
+pub mod Coming
+pub mod Reading
 pub mod Soundness
 pub mod Priorities
 pub mod Cells

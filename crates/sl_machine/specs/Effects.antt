@@ -14,6 +14,8 @@ use Rattle.sl_stages.specs.declared.returns.Win.{Win}
 use Rattle.sl_stages.specs.declared.table.Mark.{Mark}
 use Rattle.sl_stages.specs.declared.table.Mark.TheVariants as mark
 use Rattle.sl_stages.specs.declared.table.Placed.TheVariants as placed
+use Rattle.sl_stages.specs.declared.table.SeatStep.{SeatStep}
+use Rattle.sl_stages.specs.declared.table.Weight.{Weight}
 use Rattle.sl_stages.specs.returns.Election.{Election, lands_of, parties_of, wins_of, list_at, has_list}
 use Rattle.sl_stages.specs.returns.Votes.{valid_in, counted_in, slate_in}
 use Rattle.sl_code.specs.declared.code.CodeStage.{CodeStage}
@@ -133,10 +135,14 @@ seats w (Some p) listed s = if listed p then Goes (with_place w placed.OnList s)
 abbrev pub with_table : PriorityTable → State → State
 with_table t s = record s { table = Some t }
 
+-- the table with one more entry
+abbrev pub with_entry : Entry → PriorityTable → PriorityTable
+with_entry x t = record t { contents = insert_ranked x t.contents }
+
 -- enters the cursors' entry in a table with that ranking
 abbrev pub enters : Election → Ranking → Quotient → State → Effect
 enters e by q s = given s.table (λ t. given (index_at e t.entries s) (λ index.
-    if same_ranking by t.ranking then Goes (with_table (record t { contents = insert_ranked (record { ratio = q; index = index }) t.contents }) s) else NoCase))
+    if same_ranking by t.ranking then Goes (with_table (with_entry (record { ratio = q; index = index }) t) s) else NoCase))
 
 -- the mark of an entry taken: among remainders one with the denominator 0 is ahead of all, and any other stands for its numerator less 1
 abbrev pub mark_of : Ranking → Quotient → Mark
@@ -148,12 +154,21 @@ abbrev pub counts_peers : ℕ → ℕ → State → Effect
 counts_peers r zero s = Jumps s
 counts_peers r (suc n) s = sets r (suc n) s
 
+-- the table without an entry, and the mark of that
+abbrev pub after_take : Entry → PriorityTable → State → State
+after_take x t s = record s { table = Some (record t { contents = without x t.contents }); mark = mark_of t.ranking x.ratio }
+
 -- takes an entry out: the cursors and the mark are its
 abbrev pub takes : Election → PriorityTable → Option Entry → State → Effect
-takes e t entry s = given entry (λ x.
-    Goes (at_entry e t.entries x.index (record s { table = Some (record t { contents = without x t.contents }); mark = mark_of t.ranking x.ratio })))
+takes e t entry s = given entry (λ x. Goes (at_entry e t.entries x.index (after_take x t s)))
 
 -- ---- stages, scopes and what is recorded
+
+abbrev pub with_step : SeatStep → State → State
+with_step x s = record s { steps = s.steps ++ x ∷ [] }
+
+abbrev pub with_weight : Weight → State → State
+with_weight x s = record s { weights = s.weights ++ x ∷ [] }
 
 -- the stage of an operand: its number, or the number of stages for the last clause
 abbrev pub stage_of : List CodeStage → ℕ → Option ℕ
@@ -182,11 +197,11 @@ module _ (c : CountingCode) (e : Election) where
 
   abbrev pub records : ℕ → ScopeKind → ℕ → ℕ → Mark → State → Effect
   records n kind number step mark s = at_scope n kind s (λ stage scope. given s.table (λ t. given (index_at e t.entries s) (λ index.
-      Goes (record s { steps = s.steps ++ record { stage = stage; scope = scope; entry = item_of e t.entries index; n = number; step = step; mark = mark } ∷ [] }))))
+      Goes (with_step (record { stage = stage; scope = scope; entry = item_of e t.entries index; n = number; step = step; mark = mark }) s))))
 
   abbrev pub weighs : ℕ → ScopeKind → Rounding → ℕ → State → Effect
   weighs n kind by weight s = at_scope n kind s (λ stage scope. given s.table (λ t. given (index_at e t.entries s) (λ index.
-      Goes (record s { weights = s.weights ++ record { stage = stage; scope = scope; entry = item_of e t.entries index; divisor = divisor_of by; weight = min weight MAX_WEIGHT } ∷ [] }))))
+      Goes (with_weight (record { stage = stage; scope = scope; entry = item_of e t.entries index; divisor = divisor_of by; weight = min weight MAX_WEIGHT }) s))))
 
   abbrev pub faults : ℕ → ScopeKind → FaultKind → State → Effect
   faults n kind why s = at_scope n kind s (λ stage scope. Ends (Faulted (record { stage = stage; scope = scope; kind = why })))

@@ -4,6 +4,7 @@ pub mod Places
 pub mod Drawn
 pub mod Effects
 pub mod Runs
+pub mod Comes
 pub mod Memories
 pub mod Answers
 pub mod Fits

@@ -8,9 +8,9 @@ ghost use Rattle.sl_prio.specs.Lot.{drawn};
 ghost use Rattle.sl_stages.specs.returns.Election.{Election};
 ghost use Rattle.sl_machine.specs.State.{State};
 ghost use Rattle.sl_machine.specs.Places.{at_entry, item_of};
-ghost use Rattle.sl_machine.specs.Effects.{Goes, given, takes, mark_of};
+ghost use Rattle.sl_machine.specs.Effects.{Goes, given, takes, mark_of, with_entry};
 ghost use Rattle.sl_machine.specs.Safe.{entries_in};
-ghost use Rattle.sl_machine.specs.inner.Tables.{FitsMark, with_entry};
+ghost use Rattle.sl_machine.specs.inner.Tables.{FitsMark};
 
 use crate::cursors::item_of;
 use crate::store::append;
