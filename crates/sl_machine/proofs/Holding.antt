@@ -12,11 +12,9 @@ use Rattle.sl_machine.specs.State.{State}
 use Rattle.sl_machine.specs.Places.{cells_of}
 use Rattle.sl_machine.specs.Memories.{column_of, vacant_of, held_of}
 use Rattle.sl_machine.specs.Fits.{FitsHalt, FitsMemory}
+use Rattle.sl_machine.proofs.effects.Storing.{column_long}
 
 module _ (c : CountingCode) (e : Election) (s : State) where
-  pub column_length : (slot : ℕ) → length (column_of c e s slot) ≡ cells_of e (get_or c.slots slot shape.One)
-  column_length slot = length-map-range_with_len (s.columns slot) 0 (cells_of e (get_or c.slots slot shape.One))
-
   pub column_lengths : map length (map (column_of c e s) (range_with_len 0 (length c.slots))) ≡ map (cells_of e) c.slots
   column_lengths =
       let n = length c.slots in
@@ -25,7 +23,7 @@ module _ (c : CountingCode) (e : Election) (s : State) where
       let cells : ℕ → ℕ = λ k. cells_of e (get_or c.slots k shape.One) in
       let listed = fill_by_all cells (map length columns) n 0 (length-map columns length ∙ many) (λ k h.
       get_or-map length columns k (column_of c e s k) 0 (omega (arith, many))
-      ∙ ap length (get_or-map-range_with_len (column_of c e s) 0 n k k (column_of c e s k) h (omega arith)) ∙ column_length k) in
+      ∙ ap length (get_or-map-range_with_len (column_of c e s) 0 n k k (column_of c e s k) h (omega arith)) ∙ column_long c e s k) in
       let asked = fill_by_all cells (map (cells_of e) c.slots) n 0 (length-map c.slots (cells_of e)) (λ k h. get_or-map (cells_of e) c.slots k shape.One 0 h) in
       listed ∙ sym asked
 
@@ -33,7 +31,7 @@ module _ (c : CountingCode) (e : Election) (s : State) where
   list_length slot is =
       let there : slot < length c.slots = slice_get_within c.slots slot shape.List is in
       let found : get_or c.slots slot shape.One ≡ shape.List = cc (slice_get-get_or c.slots slot shape.One there) in
-      column_length slot ∙ ap (cells_of e) found
+      column_long c e s slot ∙ ap (cells_of e) found
 
   vacant_length : (base : ℕ) (vacant : Option ℕ) → FitsHalt c e base vacant s → length (vacant_of c e s base vacant) ≡ lands_of e * parties_of e
   vacant_length base None h = length-replicate (length (column_of c e s base)) 0 ∙ list_length base h.base

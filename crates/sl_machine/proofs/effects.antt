@@ -4,3 +4,4 @@ pub mod Cursors
 pub mod Table
 pub mod Records
 pub mod Framing
+pub mod Storing
