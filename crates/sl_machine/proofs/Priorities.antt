@@ -26,10 +26,10 @@ use Rattle.sl_machine.specs.declared.priority.PriorityTable.TheInside.{Inside}
 use Rattle.sl_machine.specs.declared.priority.Taken.{Taken}
 use Rattle.sl_machine.specs.State.{State, PriorityTable}
 use Rattle.sl_machine.specs.Places.{at_entry}
-use Rattle.sl_machine.specs.Effects.{Goes, given, takes, mark_of}
+use Rattle.sl_machine.specs.Effects.{Goes, given, takes, mark_of, with_entry}
 use Rattle.sl_machine.specs.Safe.{entries_in}
 use Rattle.sl_machine.specs.Priority.{same_entry, without}
-use Rattle.sl_machine.specs.Tables.{table_in, with_entry}
+use Rattle.sl_machine.specs.inner.Tables.{table_in}
 
 -- ---- a table that is on
 

@@ -5,10 +5,9 @@ use Rattle.sl_ratio.specs.Quotient.{Quotient}
 use Rattle.sl_stages.specs.declared.fault.Item.{Item}
 use Rattle.sl_stages.specs.returns.Election.{Election}
 use Rattle.sl_code.specs.Codes.{CountingCode}
-use Rattle.sl_prio.specs.Ranking.{insert_ranked}
 use Rattle.sl_machine.specs.State.{State}
 use Rattle.sl_machine.specs.Places.{cell_at, index_at, item_of}
-use Rattle.sl_machine.specs.Effects.{Effect, Goes, given, with_table}
+use Rattle.sl_machine.specs.Effects.{Effect, Goes, given, with_table, with_entry}
 
 -- the place of a slot's column at the cursors
 abbrev pub place_at : CountingCode → Election → ℕ → State → Option ℕ
@@ -25,4 +24,4 @@ item_at e s = option_and_then (λ t. option_map (item_of e t.entries) (index_at 
 -- enters that entry in the table, whatever its ranking
 abbrev pub puts_in : Election → Quotient → State → Effect
 puts_in e q s = given s.table (λ t. given (index_at e t.entries s) (λ index.
-    Goes (with_table (record t { contents = insert_ranked (record { ratio = q; index = index }) t.contents }) s)))
+    Goes (with_table (with_entry (record { ratio = q; index = index }) t) s)))

@@ -4,7 +4,7 @@ use Rattle.sl_machine.specs.declared.memory.Vacant.{Vacant}
 use Rattle.sl_machine.specs.declared.memory.Vacant.TheVariants as vacant
 use Rattle.sl_machine.specs.declared.store.Store.{Store}
 use Rattle.sl_machine.specs.Memories.{Held}
-use Rattle.sl_machine.specs.Stores.{columns_of}
+use Rattle.sl_machine.specs.inner.Stores.{columns_of}
 
 abbrev pub vacancy : Store → Vacant → List ℕ
 vacancy s (vacant.Column slot) = slice_index_or (columns_of s) slot []

@@ -2,10 +2,9 @@
 use Rattle.std.specs.Prelude.{◌≤◌, ◌^◌, Option, All}
 use Rattle.std.specs.Option.{option_map, ForSome}
 use Rattle.sl_ratio.specs.Quotient.{Quotient}
-use Rattle.sl_ratio.specs.declared.entry.Entry.{Entry}
 use Rattle.sl_code.specs.declared.operand.Ranking.{Ranking}
 use Rattle.sl_code.specs.declared.operand.Ranking.TheVariants as ranking
-use Rattle.sl_prio.specs.Ranking.{ranked, insert_ranked}
+use Rattle.sl_prio.specs.Ranking.{ranked}
 use Rattle.sl_machine.specs.declared.priority.PriorityTable.TheInside.{Inside}
 use Rattle.sl_machine.specs.State.{PriorityTable}
 
@@ -20,7 +19,3 @@ FitsMark ranking.Remainders q = q.num ≤ 2 ^ 64
 -- so are all of them
 abbrev pub HasMarks : Inside → Type 0
 HasMarks t = ForSome t.kind (λ kind. All (λ x. FitsMark kind.ranking x.ratio) t.prio)
-
--- the table with one more entry
-abbrev pub with_entry : Entry → PriorityTable → PriorityTable
-with_entry x t = record t { contents = insert_ranked x t.contents }

@@ -3,12 +3,12 @@ use Rattle.std.specs.Prelude.{ℕ, List, [], length, map, slice_index, slice_ind
 use Rattle.sl_stages.specs.declared.table.Placed.TheVariants as placed
 use Rattle.sl_stages.specs.returns.Election.{Election, wins_of}
 use Rattle.sl_code.specs.Codes.{CountingCode}
-use Rattle.sl_machine.specs.declared.step.End.{End}
+use Rattle.sl_machine.specs.declared.step.End.{End as Answer}
 use Rattle.sl_machine.specs.declared.step.End.TheVariants as end
-use Rattle.sl_machine.specs.declared.step.Next.{Next}
-use Rattle.sl_machine.specs.declared.step.Next.TheVariants as next
+use Rattle.sl_machine.specs.declared.step.Effect.{Effect as Move}
+use Rattle.sl_machine.specs.declared.step.Effect.TheVariants as move
 use Rattle.sl_machine.specs.declared.store.Store.{Store}
-use Rattle.sl_machine.specs.State.{State, Ending, Halted, Faulted}
+use Rattle.sl_machine.specs.State.{State, End, Halted, Faulted}
 use Rattle.sl_machine.specs.Places.{cells_of}
 use Rattle.sl_machine.specs.Effects.{Effect, Goes, Jumps, Ends}
 
@@ -43,12 +43,12 @@ sizes_of s = record { columns = map length (columns_of s); winners = length s.pl
 abbrev pub sizes_for : CountingCode → Election → Sizes
 sizes_for c e = record { columns = map (cells_of e) c.slots; winners = wins_of e }
 
--- what an answer says of the run that comes to a state
-abbrev pub ending_of : End → State → Ending
-ending_of (end.Halted base vacant) s = Halted base vacant s
-ending_of (end.Faulted fault) s = Faulted fault
+-- the end and the effect that a body answers, with the state that it leaves
+abbrev pub end_with : Answer → State → End
+end_with (end.Halted base vacant) s = Halted base vacant s
+end_with (end.Faulted fault) s = Faulted fault
 
-abbrev pub effect_of : Next → State → Effect
-effect_of next.Goes s = Goes s
-effect_of next.Jumps s = Jumps s
-effect_of (next.Ends end) s = Ends (ending_of end s)
+abbrev pub effect_of : Move → State → Effect
+effect_of move.Goes s = Goes s
+effect_of move.Jumps s = Jumps s
+effect_of (move.Ends end) s = Ends (end_with end s)
