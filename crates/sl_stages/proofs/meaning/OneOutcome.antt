@@ -1,5 +1,5 @@
 -- A typed book comes to exactly one outcome on an election.
-use Rattle.std.proofs.Common.{◌≡◌, ℕ, ◌+◌, ◌≤◌, true, List, [], ◌∷◌, ◌++◌, None, length, map, min, arith, refl, sym, ap, subst, ◌∙◌}
+use Rattle.std.proofs.Common.{◌≡◌, ℕ, ◌+◌, ◌≤◌, Bool, true, List, [], ◌∷◌, ◌++◌, None, length, map, min, arith, refl, sym, ap, subst, ◌∙◌}
 use Rattle.std.specs.Prelude.{slice_get, filter_map, unwrap_or, option_map}
 use Rattle.std.specs.List.{All, zip, enumerate_from}
 use Rattle.std.proofs.lemmas.List.{length-map}
@@ -19,7 +19,7 @@ use Rattle.sl_stages.specs.book.Tests.{first_failing, test}
 use Rattle.sl_stages.specs.book.Typing.{is_seat_number, columns_of, column_of as typed_column, base_tests, tests_of, version_tests, condition_tests, stages_tests, is_typed}
 use Rattle.sl_stages.specs.meaning.Columns.{IsColumn}
 use Rattle.sl_stages.specs.meaning.Seating.{base_of}
-use Rattle.sl_stages.specs.returns.Facts.{list_cell}
+use Rattle.sl_stages.specs.returns.Facts.{list_cell, is_eligible}
 use Rattle.sl_stages.specs.laws.MethodLaws.{AllHaveVotes}
 use Rattle.sl_stages.specs.methods.Ties.{Choice}
 use Rattle.sl_stages.specs.meaning.Lots.{seats_lot}
@@ -41,21 +41,21 @@ votes_numbered n lands parties (w ∷ wins) each =
     All-cons (λ x. 1 ≤ x.1.first) (n, w) (enumerate_from (n + 1) wins) (All-head (IsWin lands parties) w wins each).least
     (votes_numbered (n + 1) lands parties wins (All-tail (IsWin lands parties) w wins each))
 
-module _ (b : BookTree) (e : Election) (is : IsElection e) (base : List ℕ) (l : ℕ × ℕ) where
-  have_votes : AllHaveVotes (map (λ x. x.1.first) (winners_of b e l.0 l.1))
+module _ (eligible : ℕ → Bool) (e : Election) (is : IsElection e) (base : List ℕ) (l : ℕ × ℕ) where
+  have_votes : AllHaveVotes (map (λ x. x.1.first) (winners_of eligible e l.0 l.1))
   have_votes i within =
-      All-get_or (λ n. 1 ≤ n) (map (λ x. x.1.first) (winners_of b e l.0 l.1)) i 0 within
-      (All-map (λ n. 1 ≤ n) (λ x. x.1.first) (winners_of b e l.0 l.1)
+      All-get_or (λ n. 1 ≤ n) (map (λ x. x.1.first) (winners_of eligible e l.0 l.1)) i 0 within
+      (All-map (λ n. 1 ≤ n) (λ x. x.1.first) (winners_of eligible e l.0 l.1)
       (All-filter _ (λ x. 1 ≤ x.1.first) (enumerate_from 0 e.wins) (votes_numbered 0 (length e.land_names) (length e.party_names) e.wins is.places)))
 
-  few : (n : ℕ) → min n (length (winners_of b e l.0 l.1)) ≤ length (map {B = ℕ} (λ x. x.1.first) (winners_of b e l.0 l.1))
-  few n = let long : length (map {B = ℕ} (λ x. x.1.first) (winners_of b e l.0 l.1)) ≡ length (winners_of b e l.0 l.1) = length-map (winners_of b e l.0 l.1) (λ x. x.1.first) in omega (arith, long)
+  few : (n : ℕ) → min n (length (winners_of eligible e l.0 l.1)) ≤ length (map {B = ℕ} (λ x. x.1.first) (winners_of eligible e l.0 l.1))
+  few n = let long : length (map {B = ℕ} (λ x. x.1.first) (winners_of eligible e l.0 l.1)) ≡ length (winners_of eligible e l.0 l.1) = length-map (winners_of eligible e l.0 l.1) (λ x. x.1.first) in omega (arith, long)
 
-  pub one_seating : ExactlyOne (IsSeating b e base l)
+  pub one_seating : ExactlyOne (IsSeating eligible e base l)
   one_seating =
-      let won = winners_of b e l.0 l.1 in
+      let won = winners_of eligible e l.0 l.1 in
       let defined = (coverings (map (λ x. x.1.first) won) (map (λ x. x.1.valid) won) (min (list_cell e base l.0 l.1) (length won)) have_votes).1 (few (list_cell e base l.0 l.1)) in
-      let chosen = defined.one_choice (seats_lot e (winner_items b e l.0 l.1)) (mentions_distinct _) in
+      let chosen = defined.one_choice (seats_lot e (winner_items eligible e l.0 l.1)) (mentions_distinct _) in
       record { one = chosen.0; is = chosen.1; only = chosen.2 }
 
 -- ---- the last clause
@@ -63,8 +63,8 @@ module _ (b : BookTree) (e : Election) (is : IsElection e) (base : List ℕ) (l 
 module _ (b : BookTree) (e : Election) (is : IsElection e) (base : List ℕ) (records : Records) where
   one_covered : ExactlyOne (IsCovered b e base records)
   one_covered =
-      let all = one_zip (IsSeating b e base) (lists_of e) (one_seating b e is base) in
-      let end : List Choice → Outcome = λ choices. unwrap_or (option_map (λ f. outcome.Fault f) (slice_get (filter_map (tie_of b e) (zip (lists_of e) choices)) 0))
+      let all = one_zip (IsSeating (is_eligible b.eligible e) e base) (lists_of e) (one_seating (is_eligible b.eligible e) e is base) in
+      let end : List Choice → Outcome = λ choices. unwrap_or (option_map (λ f. outcome.Fault f) (slice_get (filter_map (tie_of (is_eligible b.eligible e) e (length b.stages)) (zip (lists_of e) choices)) 0))
       (outcome.Table (cover_table b e base records (zip (lists_of e) choices))) in
       record {
         one = end all.one;

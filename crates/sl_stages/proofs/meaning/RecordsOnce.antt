@@ -26,6 +26,7 @@ use Rattle.sl_stages.specs.declared.table.Outcome.TheVariants as outcome
 use Rattle.sl_stages.specs.meaning.Tables.{SeatTable}
 use Rattle.sl_stages.specs.book.Trees.{ExprTree, house, counted, winners, outside, independents, population, name, sum, larger, less, split, split_from, grow, StageTree, BookTree}
 use Rattle.sl_stages.specs.returns.Election.{Election}
+use Rattle.sl_stages.specs.returns.Facts.{is_eligible}
 use Rattle.sl_stages.specs.book.Tests.{first_failing}
 use Rattle.sl_stages.specs.book.Typing.{splits_in, tests_of, stages_tests, expr_tests}
 use Rattle.sl_stages.specs.meaning.Columns.{sum_over, larger_of, less_of}
@@ -218,7 +219,7 @@ module _ (b : BookTree) (e : Election) where
   seated_has : (s : Seating) (base : List ℕ) (r : Records) (t : SeatTable) → IsSeated b e s base r (outcome.Table t) → HasRecords r t
   seated_has seating.Keep base r t is = of_table t (keep_table b e base r) r is refl refl
   seated_has seating.Cover base r t is =
-      unwrapped_table (slice_get (filter_map (tie_of b e) (zip (lists_of e) is.choices)) 0) t (cover_table b e base r (zip (lists_of e) is.choices)) r refl refl is.is
+      unwrapped_table (slice_get (filter_map (tie_of (is_eligible b.eligible e) e (length b.stages)) (zip (lists_of e) is.choices)) 0) t (cover_table b e base r (zip (lists_of e) is.choices)) r refl refl is.is
 
   comes_once : (run : Run) (t : SeatTable) → first_failing (stages_tests [] b.stages) ≡ None → StagesMean b e nothing_known b.stages run → EndsAs b e run (outcome.Table t) → RecordsComeOnce t
   comes_once (Stopped f) t pass stages ends = cc

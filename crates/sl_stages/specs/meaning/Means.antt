@@ -9,6 +9,7 @@ use Rattle.sl_stages.specs.declared.table.Outcome.TheVariants as outcome
 use Rattle.sl_stages.specs.meaning.Tables.{SeatTable}
 use Rattle.sl_stages.specs.book.Trees.{StageTree, BookTree}
 use Rattle.sl_stages.specs.returns.Election.{Election}
+use Rattle.sl_stages.specs.returns.Facts.{is_eligible}
 use Rattle.sl_stages.specs.book.Typing.{Column as TypedColumn, column_of as typed_column}
 use Rattle.sl_stages.specs.methods.Ties.{Choice}
 use Rattle.sl_stages.specs.meaning.Columns.{NamedColumn, IsColumn}
@@ -62,8 +63,8 @@ StagesMean b e k (s ∷ ss) r =
 -- under `cover` each list, in list order, comes to a choice between its winners; the first tie is the outcome
 pub record IsCovered (b : BookTree) (e : Election) (base : List ℕ) (records : Records) (o : Outcome) : Type 0 where
   pub choices : List Choice
-  pub each : AllZip (IsSeating b e base) (lists_of e) choices
-  pub is : o ≡ unwrap_or (option_map (λ f. outcome.Fault f) (slice_get (filter_map (tie_of b e) (zip (lists_of e) choices)) 0))
+  pub each : AllZip (IsSeating (is_eligible b.eligible e) e base) (lists_of e) choices
+  pub is : o ≡ unwrap_or (option_map (λ f. outcome.Fault f) (slice_get (filter_map (tie_of (is_eligible b.eligible e) e (length b.stages)) (zip (lists_of e) choices)) 0))
       (outcome.Table (cover_table b e base records (zip (lists_of e) choices)))
 
 abbrev pub IsSeated : BookTree → Election → Seating → List ℕ → Records → Outcome → Type 0

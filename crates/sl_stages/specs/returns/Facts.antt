@@ -61,16 +61,26 @@ meets e party condition.All = true
 abbrev pub is_eligible : List Cond → Election → ℕ → Bool
 is_eligible conditions e party = list_any (meets e party) conditions
 
--- an eligible party's list in a Land
-abbrev pub takes_part : List Cond → Election → ℕ → ℕ → Bool
-takes_part conditions e land party = is_eligible conditions e party && has_list e land party
+-- ---- lists of eligible parties
 
--- the winner is of an eligible party that has a list in the Land
+module _ (eligible : ℕ → Bool) (e : Election) where
+  -- an eligible party's list in a Land
+  abbrev pub is_eligible_list : ℕ → ℕ → Bool
+  is_eligible_list land party = eligible party && has_list e land party
+
+  -- the winner is of an eligible party that has a list in the Land
+  abbrev pub has_eligible_list : Win → Bool
+  has_eligible_list w = is_taken w.party where
+    is_taken : Option ℕ → Bool
+    is_taken None = false
+    is_taken (Some p) = is_eligible_list w.land p
+
+-- the same, where the parties that meet one of these conditions are eligible
+abbrev pub takes_part : List Cond → Election → ℕ → ℕ → Bool
+takes_part conditions e = is_eligible_list (is_eligible conditions e) e
+
 abbrev pub is_on_list : List Cond → Election → Win → Bool
-is_on_list conditions e w = is_taken w.party where
-  is_taken : Option ℕ → Bool
-  is_taken None = false
-  is_taken (Some p) = takes_part conditions e w.land p
+is_on_list conditions e = has_eligible_list (is_eligible conditions e) e
 
 -- ---- the columns that a book can name
 
