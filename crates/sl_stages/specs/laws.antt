@@ -5,3 +5,4 @@ pub mod Awards
 pub mod EqualBounds
 pub mod MeaningLaws
 pub mod ColumnLaws
+pub mod OneLaws

@@ -26,9 +26,10 @@ use Rattle.sl_stages.specs.meaning.Lots.{seats_lot}
 use Rattle.sl_stages.specs.meaning.Records.{Records}
 use Rattle.sl_stages.specs.meaning.Results.{ExprResult, Column, Fault}
 use Rattle.sl_stages.specs.meaning.Seating.{winners_of, winner_items, IsSeating, lists_of, tie_of, cover_table, keep_table}
-use Rattle.sl_stages.specs.meaning.Means.{Known, nothing_known, Run, Through, Stopped, with_stage, StagesMean, IsCovered, GoesOn, IsSeated, IsEnd, EndsAs, IsOutcome}
+use Rattle.sl_stages.specs.meaning.Means.{Known, nothing_known, StagesResult, Through, Stopped, with_stage, StagesMean, IsCovered, GoesOn, IsSeated, IsEnd, EndsAs, IsOutcome}
+use Rattle.sl_stages.specs.laws.OneLaws.{ExactlyOne, OneStagesResult, OneSeating}
 use Rattle.sl_stages.proofs.methods.CoveringProofs.{coverings}
-use Rattle.sl_stages.proofs.meaning.ExactlyOne.{ExactlyOne, one_equal, one_zip}
+use Rattle.sl_stages.proofs.meaning.ExactlyOne.{one_equal, one_zip}
 use Rattle.sl_stages.proofs.meaning.OneAward.{mentions_distinct}
 use Rattle.sl_stages.proofs.Tests.{no_fault, head_holds, pass_parts}
 use Rattle.sl_stages.proofs.meaning.OneResult.{SameNames, more_names, one_column, one_run}
@@ -51,12 +52,15 @@ module _ (eligible : ℕ → Bool) (e : Election) (is : IsElection e) (base : Li
   few : (n : ℕ) → min n (length (winners_of eligible e l.0 l.1)) ≤ length (map {B = ℕ} (λ x. x.1.first) (winners_of eligible e l.0 l.1))
   few n = let long : length (map {B = ℕ} (λ x. x.1.first) (winners_of eligible e l.0 l.1)) ≡ length (winners_of eligible e l.0 l.1) = length-map (winners_of eligible e l.0 l.1) (λ x. x.1.first) in omega (arith, long)
 
-  pub one_seating : ExactlyOne (IsSeating eligible e base l)
-  one_seating =
+  one_chosen : ExactlyOne (IsSeating eligible e base l)
+  one_chosen =
       let won = winners_of eligible e l.0 l.1 in
       let defined = (coverings (map (λ x. x.1.first) won) (map (λ x. x.1.valid) won) (min (list_cell e base l.0 l.1) (length won)) have_votes).1 (few (list_cell e base l.0 l.1)) in
       let chosen = defined.one_choice (seats_lot e (winner_items eligible e l.0 l.1)) (mentions_distinct _) in
       record { one = chosen.0; is = chosen.1; only = chosen.2 }
+
+pub one_seating : OneSeating
+one_seating = one_chosen
 
 -- ---- the last clause
 
@@ -108,7 +112,7 @@ module _ (b : BookTree) (e : Election) where
       (λ values records. through (with_stage k s values records) ss end (more_names k.types k.columns (typed_column k.types s) (record { name = s.name; values = values }) refl names))
       run.2
 
-  one_ending : IsElection e → first_failing (base_tests (columns_of [] b.stages) b.last.at b.last.base) ≡ None → (r : Run) → StagesMean b e nothing_known b.stages r → ExactlyOne (EndsAs b e r)
+  one_ending : IsElection e → first_failing (base_tests (columns_of [] b.stages) b.last.at b.last.base) ≡ None → (r : StagesResult) → StagesMean b e nothing_known b.stages r → ExactlyOne (EndsAs b e r)
   one_ending is pass (Stopped f) run = one_equal (outcome.Fault f)
   one_ending is pass (Through k) run =
       let known = through nothing_known b.stages k tt run in
@@ -122,14 +126,19 @@ module _ (b : BookTree) (e : Election) where
       let conditions = (pass_parts (condition_tests b.eligible) (stages_tests [] b.stages ++ ends) (head_holds _ _ _ house).1).1 in
       pass_parts (stages_tests [] b.stages) ends conditions
 
+  one_through : is_typed b ≡ true → ExactlyOne (StagesMean b e nothing_known b.stages)
+  one_through typed = one_run b e nothing_known b.stages tt (typed_parts (no_fault (tests_of b) typed)).0
+
   pub one_outcome : is_typed b ≡ true → IsElection e → ExactlyOne (IsOutcome b e)
   one_outcome typed is =
-      let tests = no_fault (tests_of b) typed in
-      let parts = typed_parts tests in
-      let run = one_run b e nothing_known b.stages tt parts.0 in
+      let parts = typed_parts (no_fault (tests_of b) typed) in
+      let run = one_through typed in
       let end = one_ending is parts.1 run.one run.is in
       record {
         one = end.one;
         is = record { run = run.one; stages = run.is; ends = end.is };
         only = λ o h. end.only o (subst (λ r. EndsAs b e r o) (run.only h.run h.stages) h.ends);
       }
+
+pub one_stages_result : OneStagesResult
+one_stages_result = one_through

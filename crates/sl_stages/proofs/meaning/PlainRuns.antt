@@ -9,7 +9,7 @@ use Rattle.sl_stages.specs.meaning.Columns.{NamedColumn, IsColumn, AreColumns, s
 use Rattle.sl_stages.specs.meaning.Records.{no_records}
 use Rattle.sl_stages.specs.meaning.Results.{ExprResult, Column, Fault, plain, behind, Continues, Then}
 use Rattle.sl_stages.specs.meaning.Expressions.{Context, ExprMeans}
-use Rattle.sl_stages.specs.meaning.Means.{Known, Run, Through, context_of, with_stage, GoesOn, StagesMean}
+use Rattle.sl_stages.specs.meaning.Means.{Known, StagesResult, Through, context_of, with_stage, GoesOn, StagesMean}
 
 behind_nothing : (q : ExprResult) → behind no_records q ≡ q
 behind_nothing (Column c records) = refl
@@ -85,7 +85,7 @@ abbrev pub AllPlain : List StageTree → Type 0
 AllPlain ss = list_all (λ s. nat_eq (splits_in s.expr) 0) ss ≡ true
 
 module _ (b : BookTree) (e : Election) where
-  pub from_run : (types : List TypedColumn) (columns : List NamedColumn) (ss : List StageTree) → AllPlain ss → (r : Run) → StagesMean b e (bare types columns) ss r →
+  pub from_run : (types : List TypedColumn) (columns : List NamedColumn) (ss : List StageTree) → AllPlain ss → (r : StagesResult) → StagesMean b e (bare types columns) ss r →
       (after : List TypedColumn) × (all : List NamedColumn) × (r ≡ Through (bare after all)) × AreColumns b e columns ss all
   from_run types columns [] plain r h = (types, columns, h, refl)
   from_run types columns (s ∷ ss) each r h =

@@ -36,7 +36,7 @@ use Rattle.sl_stages.specs.meaning.Splits.{Award}
 use Rattle.sl_stages.specs.meaning.Results.{ExprResult, Column, Fault, plain, behind, Continues, Then, Stand, fault_at, fault_of, first_over, AreJoined, IsShared}
 use Rattle.sl_stages.specs.meaning.Expressions.{IsSplitIn, split_records, IsGrowthIn, growth_records, IsSplit, IsGrown, Context, ExprMeans, IsNamed, stand, shape_in}
 use Rattle.sl_stages.specs.meaning.Seating.{keep_table, cover_table, lists_of, tie_of}
-use Rattle.sl_stages.specs.meaning.Means.{Known, nothing_known, Run, Through, Stopped, context_of, with_stage, GoesOn, StagesMean, IsSeated, EndsAs, IsOutcome, SameOutcome}
+use Rattle.sl_stages.specs.meaning.Means.{Known, nothing_known, StagesResult, Through, Stopped, context_of, with_stage, GoesOn, StagesMean, IsSeated, EndsAs, IsOutcome, SameOutcome}
 use Rattle.sl_stages.specs.laws.MeaningLaws.{same_scope, same_seat, same_entry, RecordsComeOnce, RecordsOnce}
 use Rattle.sl_stages.proofs.meaning.DistinctLists.{number_flips, every_weaker, every_append, distinct_nil, distinct_append}
 use Rattle.sl_stages.proofs.meaning.ScopeRecords.{scopes_differ, entries_once, AtScope, Once}
@@ -221,7 +221,7 @@ module _ (b : BookTree) (e : Election) where
   seated_has seating.Cover base r t is =
       unwrapped_table (slice_get (filter_map (tie_of (is_eligible b.eligible e) e (length b.stages)) (zip (lists_of e) is.choices)) 0) t (cover_table b e base r (zip (lists_of e) is.choices)) r refl refl is.is
 
-  comes_once : (run : Run) (t : SeatTable) → first_failing (stages_tests [] b.stages) ≡ None → StagesMean b e nothing_known b.stages run → EndsAs b e run (outcome.Table t) → RecordsComeOnce t
+  comes_once : (run : StagesResult) (t : SeatTable) → first_failing (stages_tests [] b.stages) ≡ None → StagesMean b e nothing_known b.stages run → EndsAs b e run (outcome.Table t) → RecordsComeOnce t
   comes_once (Stopped f) t pass stages ends = cc
   comes_once (Through k) t pass stages ends =
       let once = run_before nothing_known b.stages k pass (record { steps_below = tt; weights_below = tt; once = record { steps = distinct_nil same_seat; weights = distinct_nil same_entry } }) stages in

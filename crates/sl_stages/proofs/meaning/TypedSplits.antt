@@ -74,7 +74,7 @@ told_most m (p ∷ pairs) i all =
       | inr other ↦ subst (λ o. unwrap_or (option_map (λ x. x.1) o) 0 ≤ m) (sym (cond-false (same_item i p.0) (Some p) (find (λ x. same_item i x.0) pairs) other)) (told_most m pairs i all.1)
     ]
 
-told_none : (pairs : List (Item × ℕ)) (i : Item) → Every (λ p. same_item i p.0 ≡ false) pairs → told_of pairs i ≡ 0
+pub told_none : (pairs : List (Item × ℕ)) (i : Item) → Every (λ p. same_item i p.0 ≡ false) pairs → told_of pairs i ≡ 0
 told_none [] i all = refl
 told_none (p ∷ pairs) i all = ap (λ (o : Option (Item × ℕ)). unwrap_or (option_map (λ x. x.1) o) 0) (cond-false (same_item i p.0) (Some p) (find (λ x. same_item i x.0) pairs) all.0) ∙ told_none pairs i all.1
 
@@ -132,7 +132,7 @@ module _ (e : Election) (over s : Shape) (awards : List Award) (all : Every (λ 
       (every_weaker (λ x. sum (awarded x.1) ≤ MAX_SEATS) (λ x. Every (λ p. p.1 ≤ MAX_SEATS) (zip x.0.entries (awarded x.1)))
       (λ x h. every_second (λ n. n ≤ MAX_SEATS) x.0.entries (awarded x.1) (every_no_more MAX_SEATS (awarded x.1) h)) (zip (scopes e over s) awards) all)
 
-no_pair : (e : Election) (over : Shape) (awards : List Award) (land party : ℕ) → has_list e land party ≡ false →
+pub no_pair : (e : Election) (over : Shape) (awards : List Award) (land party : ℕ) → has_list e land party ≡ false →
     Every (λ p. same_item (item.List land party) p.0 ≡ false) (flat_map (λ x. zip x.0.entries (awarded x.1)) (zip (scopes e over shape.List) awards))
 no_pair e over awards land party none =
     every_pieces (λ p. same_item (item.List land party) p.0 ≡ false) (λ x. zip x.0.entries (awarded x.1)) (zip (scopes e over shape.List) awards)

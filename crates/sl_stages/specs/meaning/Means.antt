@@ -43,16 +43,16 @@ with_stage k s values records = record {
 }
 
 -- what stages come to: their columns, or the first fault
-pub data Run : Type 0 where
-  Through : (known : Known) → Run
-  Stopped : (fault : LegalFault) → Run
+pub data StagesResult : Type 0 where
+  Through : (known : Known) → StagesResult
+  Stopped : (fault : LegalFault) → StagesResult
 
 -- a fault stops the run, and a column goes on
-abbrev pub GoesOn : ExprResult → (List ℕ → Records → Type 0) → Run → Type 0
+abbrev pub GoesOn : ExprResult → (List ℕ → Records → Type 0) → StagesResult → Type 0
 GoesOn (Fault f) OnColumn r = r ≡ Stopped f
 GoesOn (Column values records) OnColumn r = OnColumn values records
 
-abbrev pub StagesMean : BookTree → Election → Known → List StageTree → Run → Type 0
+abbrev pub StagesMean : BookTree → Election → Known → List StageTree → StagesResult → Type 0
 StagesMean b e k [] r = r ≡ Through k
 StagesMean b e k (s ∷ ss) r =
     (first : ExprResult) × ExprMeans b e (context_of k s) s.expr first ×
@@ -77,13 +77,13 @@ pub record IsEnd (b : BookTree) (e : Election) (k : Known) (o : Outcome) : Type 
   pub is_base : IsColumn b e k.columns (base_of b.last) base
   pub seated : IsSeated b e b.last.seating base k.records o
 
-abbrev pub EndsAs : BookTree → Election → Run → Outcome → Type 0
+abbrev pub EndsAs : BookTree → Election → StagesResult → Outcome → Type 0
 EndsAs b e (Stopped f) o = o ≡ outcome.Fault f
 EndsAs b e (Through k) o = IsEnd b e k o
 
 -- the outcome, with a table's steps and weights in the order of stages, scopes and entries
 pub record IsOutcome (b : BookTree) (e : Election) (o : Outcome) : Type 0 where
-  pub run : Run
+  pub run : StagesResult
   pub stages : StagesMean b e nothing_known b.stages run
   pub ends : EndsAs b e run o
 
