@@ -8,8 +8,8 @@ use Rattle.sl_stages.specs.declared.book.Stage.{Stage}
 use Rattle.sl_stages.specs.declared.book.ColumnType.{ColumnType}
 use Rattle.sl_stages.specs.book.Trees.{tree_of, stage_of}
 use Rattle.sl_stages.specs.book.Tests.{first_failing}
-use Rattle.sl_stages.specs.book.Typing.{Column, column_of, columns_of, type_of, stages_tests}
-use Rattle.sl_check.specs.Known.{columns, stage_tests}
+use Rattle.sl_stages.specs.book.Typing.{Column, column_of, columns_of, type_of, stage_tests, stages_tests}
+use Rattle.sl_check.specs.Known.{columns}
 use Rattle.sl_stages.proofs.Tests.{fails_in_row}
 
 -- the first i stages pass, and have the columns of the first i types

@@ -1,5 +1,6 @@
 pub mod Tests
 pub mod Shapes
 pub mod Elections
+pub mod typing
 pub mod methods
 pub mod meaning

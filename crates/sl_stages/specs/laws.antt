@@ -1,4 +1,5 @@
 -- What the definitions imply: the statements of the laws.
+pub mod BookLaws
 pub mod Ladders
 pub mod MethodLaws
 pub mod Awards

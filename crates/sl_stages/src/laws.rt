@@ -1,5 +1,6 @@
 //! Laws of the definitions of a seat law's methods (docs/methods.md). Each function does nothing: its contract is the law.
 
+pub mod book;
 pub mod bounds;
 pub mod meaning;
 
