@@ -1,5 +1,6 @@
 -- What the definitions imply: the statements of the laws.
 pub mod BookLaws
+pub mod ReturnsLaws
 pub mod Ladders
 pub mod MethodLaws
 pub mod Awards

@@ -3,6 +3,7 @@
 pub mod book;
 pub mod bounds;
 pub mod meaning;
+pub mod returns;
 
 ghost use Rattle.sl_stages.specs.laws.MethodLaws.{EmptyFields, DivisorAllocations, HamiltonAllocations, Coverings, FullCoverings, Growths};
 ghost use Rattle.sl_stages.specs.laws.Awards.{Draws, Batches, DivisorLadders, HamiltonLadders, CoveringLadders, GrowthBatches};
