@@ -1,4 +1,5 @@
 -- What the definitions imply: the statements of the laws.
+pub mod LimitLaws
 pub mod BookLaws
 pub mod ReturnsLaws
 pub mod Ladders

@@ -14,9 +14,9 @@ use Rattle.sl_stages.specs.declared.fault.LegalFault.{LegalFault}
 use Rattle.sl_stages.specs.declared.table.Outcome.TheVariants as outcome
 use Rattle.sl_stages.specs.meaning.Tables.{SeatTable}
 use Rattle.sl_stages.specs.returns.Election.{Election, IsElection, lands_of, parties_of, has_list}
-use Rattle.sl_stages.specs.returns.Facts.{lands, parties, list_cell, is_in, is_of, is_eligible, is_eligible_list, has_eligible_list}
+use Rattle.sl_stages.specs.returns.Facts.{lists_of, lands, parties, list_cell, is_in, is_of, is_eligible, is_eligible_list, has_eligible_list}
 use Rattle.sl_stages.specs.methods.Ties.{Choice, Decided, Tied}
-use Rattle.sl_stages.specs.meaning.Seating.{is_on, placed_on, lists_of, winners_of, IsSeating, tie_of, seated_on, cover_place, covered_places, cover_table}
+use Rattle.sl_stages.specs.meaning.Seating.{is_on, placed_on, winners_of, IsSeating, tie_of, seated_on, cover_place, covered_places, cover_table}
 use Rattle.sl_stages.specs.laws.MeaningLaws.{IsListOf, CoveredWinners}
 use Rattle.sl_stages.proofs.methods.SeatSums.{sum-cons}
 use Rattle.sl_stages.proofs.meaning.DistinctLists.{number_flips, every_weaker, every_passes, every_map, every_filter, every_zipped, distinct_filter}

@@ -16,16 +16,16 @@ use Rattle.sl_stages.specs.declared.table.Outcome.TheVariants as outcome
 use Rattle.sl_stages.specs.book.Trees.{StageTree, BookTree}
 use Rattle.sl_stages.specs.returns.Election.{Election, IsElection, IsWin}
 use Rattle.sl_stages.specs.book.Tests.{first_failing, test}
-use Rattle.sl_stages.specs.book.Typing.{is_seat_number, columns_of, column_of as typed_column, base_tests, tests_of, version_tests, condition_tests, stages_tests, is_typed}
-use Rattle.sl_stages.specs.meaning.Columns.{IsColumn}
+use Rattle.sl_stages.specs.book.Typing.{is_seat_number, columns_of, stage_column, base_tests, tests_of, version_tests, condition_tests, stages_tests, is_typed}
+use Rattle.sl_stages.specs.meaning.Columns.{IsLeaf}
 use Rattle.sl_stages.specs.meaning.Seating.{base_of}
-use Rattle.sl_stages.specs.returns.Facts.{list_cell, is_eligible}
+use Rattle.sl_stages.specs.returns.Facts.{lists_of, list_cell, is_eligible}
 use Rattle.sl_stages.specs.laws.MethodLaws.{AllHaveVotes}
 use Rattle.sl_stages.specs.methods.Ties.{Choice}
 use Rattle.sl_stages.specs.meaning.Lots.{seats_lot}
 use Rattle.sl_stages.specs.meaning.Records.{Records}
 use Rattle.sl_stages.specs.meaning.Results.{ExprResult, Column, Fault}
-use Rattle.sl_stages.specs.meaning.Seating.{winners_of, winner_items, IsSeating, lists_of, tie_of, cover_table, keep_table}
+use Rattle.sl_stages.specs.meaning.Seating.{winners_of, winner_items, IsSeating, tie_of, cover_table, keep_table}
 use Rattle.sl_stages.specs.meaning.Means.{Known, nothing_known, StagesResult, Through, Stopped, with_stage, StagesMean, IsCovered, GoesOn, IsSeated, IsEnd, EndsAs, IsOutcome}
 use Rattle.sl_stages.specs.laws.OneLaws.{ExactlyOne, OneStagesResult, OneSeating}
 use Rattle.sl_stages.proofs.methods.CoveringProofs.{coverings}
@@ -82,7 +82,7 @@ module _ (b : BookTree) (e : Election) (is : IsElection e) (base : List ℕ) (re
 
 module _ (b : BookTree) (e : Election) where
   base_column : (k : Known) (last : LastClause) (x : Base) → SameNames k.types k.columns → first_failing (base_tests k.types last.at x) ≡ None →
-      ExactlyOne (IsColumn b e k.columns (base_of (record last { base = x })))
+      ExactlyOne (IsLeaf b e k.columns (base_of (record last { base = x })))
   base_column k last base.Winners names pass = one_equal _
   base_column k last (base.Stage n) names pass = one_column k.types k.columns names n (head_holds _ _ _ pass).0
 
@@ -109,7 +109,7 @@ module _ (b : BookTree) (e : Election) where
   through k [] end names run = let same : end ≡ k = cc in (subst (λ j. SameNames j.types j.columns) (sym same) names, ap (λ j. j.types) same)
   through k (s ∷ ss) end names run =
       goes k s ss end run.0
-      (λ values records. through (with_stage k s values records) ss end (more_names k.types k.columns (typed_column k.types s) (record { name = s.name; values = values }) refl names))
+      (λ values records. through (with_stage k s values records) ss end (more_names k.types k.columns (stage_column k.types s) (record { name = s.name; values = values }) refl names))
       run.2
 
   one_ending : IsElection e → first_failing (base_tests (columns_of [] b.stages) b.last.at b.last.base) ≡ None → (r : StagesResult) → StagesMean b e nothing_known b.stages r → ExactlyOne (EndsAs b e r)

@@ -16,7 +16,7 @@ use Rattle.sl_stages.specs.declared.fault.FaultKind.TheVariants as fault
 use Rattle.sl_stages.specs.book.Trees.{ExprTree, house, counted, winners, outside, independents, population, name, sum as sum_tree, larger, less, split, split_from, grow, StageTree, BookTree}
 use Rattle.sl_stages.specs.returns.Election.{Election}
 use Rattle.sl_stages.specs.book.Tests.{first_failing}
-use Rattle.sl_stages.specs.book.Typing.{Column as TypedColumn, expr_tests, stages_tests, is_named, is_hamilton, is_prefer, column_of as typed_column}
+use Rattle.sl_stages.specs.book.Typing.{Column as TypedColumn, expr_tests, stages_tests, is_named, is_hamilton, is_prefer, stage_column}
 use Rattle.sl_stages.proofs.Tests.{head_holds, pass_parts}
 use Rattle.sl_stages.specs.meaning.Columns.{NamedColumn, is_column_of, sum_over, larger_of, less_of}
 use Rattle.sl_stages.specs.meaning.Scopes.{Group, cells, place, scopes}
@@ -203,7 +203,7 @@ module _ (b : BookTree) (e : Election) where
       let first = one_means b e (context_of k s) names s.expr parts.0 in
       let Next : List ℕ → Records → StagesResult → Type 0 = λ values records. StagesMean b e (with_stage k s values records) ss in
       let after = goes_once first.one Next
-      (λ values records. one_run (with_stage k s values records) ss (more_names k.types k.columns (typed_column k.types s) (record { name = s.name; values = values }) refl names) parts.1) in
+      (λ values records. one_run (with_stage k s values records) ss (more_names k.types k.columns (stage_column k.types s) (record { name = s.name; values = values }) refl names) parts.1) in
       record {
         one = after.one;
         is = (first.one, first.is, after.is);

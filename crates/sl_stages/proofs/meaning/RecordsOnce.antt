@@ -26,7 +26,7 @@ use Rattle.sl_stages.specs.declared.table.Outcome.TheVariants as outcome
 use Rattle.sl_stages.specs.meaning.Tables.{SeatTable}
 use Rattle.sl_stages.specs.book.Trees.{ExprTree, house, counted, winners, outside, independents, population, name, sum, larger, less, split, split_from, grow, StageTree, BookTree}
 use Rattle.sl_stages.specs.returns.Election.{Election}
-use Rattle.sl_stages.specs.returns.Facts.{is_eligible}
+use Rattle.sl_stages.specs.returns.Facts.{lists_of, is_eligible}
 use Rattle.sl_stages.specs.book.Tests.{first_failing}
 use Rattle.sl_stages.specs.book.Typing.{splits_in, tests_of, stages_tests, expr_tests}
 use Rattle.sl_stages.specs.meaning.Columns.{sum_over, larger_of, less_of}
@@ -34,8 +34,8 @@ use Rattle.sl_stages.specs.meaning.Scopes.{same_item, Group, scopes}
 use Rattle.sl_stages.specs.meaning.Records.{Records, no_records, both_records}
 use Rattle.sl_stages.specs.meaning.Splits.{Award}
 use Rattle.sl_stages.specs.meaning.Results.{ExprResult, Column, Fault, plain, behind, Continues, Then, Stand, fault_at, fault_of, first_over, AreJoined, IsShared}
-use Rattle.sl_stages.specs.meaning.Expressions.{IsSplitIn, split_records, IsGrowthIn, growth_records, IsSplit, IsGrown, Context, ExprMeans, IsNamed, stand, shape_in}
-use Rattle.sl_stages.specs.meaning.Seating.{keep_table, cover_table, lists_of, tie_of}
+use Rattle.sl_stages.specs.meaning.Expressions.{IsSplitIn, split_records, IsGrowthIn, growth_records, IsSplit, IsGrown, Context, ExprMeans, IsLeafResult, stand, shape_in}
+use Rattle.sl_stages.specs.meaning.Seating.{keep_table, cover_table, tie_of}
 use Rattle.sl_stages.specs.meaning.Means.{Known, nothing_known, StagesResult, Through, Stopped, context_of, with_stage, GoesOn, StagesMean, IsSeated, EndsAs, IsOutcome, SameOutcome}
 use Rattle.sl_stages.specs.laws.MeaningLaws.{same_scope, same_seat, same_entry, RecordsComeOnce, RecordsOnce}
 use Rattle.sl_stages.proofs.meaning.DistinctLists.{number_flips, every_weaker, every_append, distinct_nil, distinct_append}
@@ -112,7 +112,7 @@ module _ (e : Election) (at : Stand) (amounts votes : List ℕ) where
 -- ---- expressions
 
 module _ (b : BookTree) (e : Election) (c : Context) where
-  leaf_few : (x : ExprTree) (n : ℕ) (r : ExprResult) → IsNamed b e c x r → HasFew c.stage n r
+  leaf_few : (x : ExprTree) (n : ℕ) (r : ExprResult) → IsLeafResult b e c x r → HasFew c.stage n r
   leaf_few x n r h = plain_has c.stage n h.0 r h.2
 
   few_records : (x : ExprTree) (r : ExprResult) → ExprMeans b e c x r → HasFew c.stage (splits_in x) r

@@ -17,7 +17,7 @@ use Rattle.sl_stages.specs.declared.book.ColumnType.{ColumnType}
 use Rattle.sl_stages.specs.book.Trees.{ExprTree, house, counted, winners, outside, independents, population, name, sum, larger, less, split, split_from, grow, StageTree, BookTree}
 use Rattle.sl_stages.specs.returns.Election.{Election, IsElection}
 use Rattle.sl_stages.specs.book.Tests.{first_failing}
-use Rattle.sl_stages.specs.book.Typing.{Column as TypedColumn, type_of, type_or_one, column, tests_of, version_tests, expr_tests, stages_tests, is_named, same_shape, same_unit, can_split, column_of as typed_column}
+use Rattle.sl_stages.specs.book.Typing.{Column as TypedColumn, type_of, type_or_one, column, tests_of, version_tests, expr_tests, stages_tests, is_named, same_shape, same_unit, can_split, stage_column}
 use Rattle.sl_stages.specs.meaning.Columns.{NamedColumn, is_column_of, sum_over, larger_of, less_of}
 use Rattle.sl_stages.specs.meaning.Scopes.{cells}
 use Rattle.sl_stages.specs.meaning.Lots.{stage_lot}
@@ -207,7 +207,7 @@ module _ (b : BookTree) (e : Election) (is : IsElection e) (few : b.house.value 
       (λ values records same on.
       let type = typed_means b e is few (context_of k s) known s.expr parts.0 values records (subst (ExprMeans b e (context_of k s) s.expr) same run.1) in
       run_typed (with_stage k s values records) ss end parts.1
-      (all_and_one (IsTypedAs e) k.types k.columns (typed_column k.types s) (record { name = s.name; values = values }) (record { name = refl; type = type }) known) on)
+      (all_and_one (IsTypedAs e) k.types k.columns (stage_column k.types s) (record { name = s.name; values = values }) (record { name = refl; type = type }) known) on)
       run.2
 
 pub typed_expressions : TypedExpressions

@@ -21,7 +21,7 @@ use Rattle.sl_stages.specs.returns.Facts.{lands, parties}
 use Rattle.sl_stages.specs.book.Typing.{column, same_shape}
 use Rattle.sl_stages.specs.methods.LeastHouse.{Growth, GrownTo, EmptyField, AboveCap, IsGrowth}
 use Rattle.sl_stages.specs.methods.Ties.{Choice, Decided, Tied, IsChoice}
-use Rattle.sl_stages.specs.meaning.Scopes.{same_item, lists_in_land, lists_of_party, Group, scopes, told_of, column_of}
+use Rattle.sl_stages.specs.meaning.Scopes.{same_item, lists_in_land, lists_of_party, Group, scopes, told_of, pair_column}
 use Rattle.sl_stages.specs.meaning.Records.{Records}
 use Rattle.sl_stages.specs.meaning.Splits.{Award, Seats, Refused, awarded, is_refused, award_of, IsChosen, IsAllocation, refusal, IsSplitAward, IsHouseAward, IsGrowthAward}
 use Rattle.sl_stages.specs.meaning.Results.{Column, Fault, Stand, fault_at, fault_of, amount_of, first_over, AreJoined, IsShared}
@@ -141,7 +141,7 @@ no_pair e over awards land party none =
     (every_zipped (λ g. Every (λ i. same_item (item.List land party) i ≡ false) g.entries) (scopes e over shape.List) awards (no_entry e land party none over)))
 
 awarded_column : (e : Election) (over s : Shape) → same_shape s shape.One ≡ false → (awards : List Award) → Every (λ x. sum (awarded x.1) ≤ MAX_SEATS) (zip (scopes e over s) awards) →
-    FitsType e (column s unit.Seats) (column_of e s (flat_map (λ x. zip x.0.entries (awarded x.1)) (zip (scopes e over s) awards)))
+    FitsType e (column s unit.Seats) (pair_column e s (flat_map (λ x. zip x.0.entries (awarded x.1)) (zip (scopes e over s) awards)))
 unfolding pairs
 awarded_column e over shape.One ok awards all = absurd (false≢true (sym ok))
 awarded_column e over shape.Party ok awards all =

@@ -178,13 +178,13 @@ splits_in (split_from at s v method f m) = 1 + splits_in s + splits_in v + split
 splits_in (grow at s v method f cap m) = 1 + splits_in s + splits_in v + splits_in f
 
 -- the column of a stage after those
-abbrev pub column_of : List Column → StageTree → Column
-column_of cs s = record { name = s.name; type = type_of cs s.expr }
+abbrev pub stage_column : List Column → StageTree → Column
+stage_column cs s = record { name = s.name; type = type_of cs s.expr }
 
 -- the columns after these stages
 abbrev pub columns_of : List Column → List StageTree → List Column
 columns_of cs [] = cs
-columns_of cs (s ∷ ss) = columns_of (cs ++ column_of cs s ∷ []) ss
+columns_of cs (s ∷ ss) = columns_of (cs ++ stage_column cs s ∷ []) ss
 
 -- the tests of a stage after those columns: its name, the number of its splits, and its expression
 abbrev pub stage_tests : List Column → StageTree → List (Test CheckFault)
@@ -196,7 +196,7 @@ stage_tests cs s =
 -- the tests of the stages after those columns
 abbrev pub stages_tests : List Column → List StageTree → List (Test CheckFault)
 stages_tests cs [] = []
-stages_tests cs (s ∷ ss) = stage_tests cs s ++ stages_tests (cs ++ column_of cs s ∷ []) ss
+stages_tests cs (s ∷ ss) = stage_tests cs s ++ stages_tests (cs ++ stage_column cs s ∷ []) ss
 
 -- a number is 1 or 2; and `vacate`, at its offset, stands in version 2 alone
 abbrev pub version_tests : Number → Option ℕ → List (Test CheckFault)

@@ -9,15 +9,15 @@ use Rattle.sl_stages.specs.declared.table.Outcome.TheVariants as outcome
 use Rattle.sl_stages.specs.meaning.Tables.{SeatTable}
 use Rattle.sl_stages.specs.book.Trees.{StageTree, BookTree}
 use Rattle.sl_stages.specs.returns.Election.{Election}
-use Rattle.sl_stages.specs.returns.Facts.{is_eligible}
-use Rattle.sl_stages.specs.book.Typing.{Column as TypedColumn, column_of as typed_column}
+use Rattle.sl_stages.specs.returns.Facts.{lists_of, is_eligible}
+use Rattle.sl_stages.specs.book.Typing.{Column as TypedColumn, stage_column}
 use Rattle.sl_stages.specs.methods.Ties.{Choice}
-use Rattle.sl_stages.specs.meaning.Columns.{NamedColumn, IsColumn}
+use Rattle.sl_stages.specs.meaning.Columns.{NamedColumn, IsLeaf}
 use Rattle.sl_stages.specs.meaning.Seating.{base_of}
 use Rattle.sl_stages.specs.meaning.Records.{Records, no_records, both_records}
 use Rattle.sl_stages.specs.meaning.Results.{ExprResult, Column, Fault}
 use Rattle.sl_stages.specs.meaning.Expressions.{Context, ExprMeans}
-use Rattle.sl_stages.specs.meaning.Seating.{keep_table, lists_of, IsSeating, tie_of, cover_table}
+use Rattle.sl_stages.specs.meaning.Seating.{keep_table, IsSeating, tie_of, cover_table}
 
 -- ---- stages
 
@@ -37,7 +37,7 @@ context_of k s = record { stage = length k.columns; name = s.name; types = k.typ
 -- what is known behind that stage too
 abbrev pub with_stage : Known → StageTree → List ℕ → Records → Known
 with_stage k s values records = record {
-  types = k.types ++ typed_column k.types s ∷ [];
+  types = k.types ++ stage_column k.types s ∷ [];
   columns = k.columns ++ record { name = s.name; values = values } ∷ [];
   records = both_records k.records records;
 }
@@ -74,7 +74,7 @@ IsSeated b e seating.Cover base records o = IsCovered b e base records o
 -- the last clause, behind the stages
 pub record IsEnd (b : BookTree) (e : Election) (k : Known) (o : Outcome) : Type 0 where
   pub base : List ℕ
-  pub is_base : IsColumn b e k.columns (base_of b.last) base
+  pub is_base : IsLeaf b e k.columns (base_of b.last) base
   pub seated : IsSeated b e b.last.seating base k.records o
 
 abbrev pub EndsAs : BookTree → Election → StagesResult → Outcome → Type 0

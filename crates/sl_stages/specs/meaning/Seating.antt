@@ -16,8 +16,8 @@ use Rattle.sl_stages.specs.declared.table.Placed.TheVariants as placed
 use Rattle.sl_stages.specs.meaning.Tables.{SeatTable}
 use Rattle.sl_stages.specs.book.Trees.{ExprTree, winners, name, BookTree}
 use Rattle.sl_stages.specs.returns.Votes.{slate_in}
-use Rattle.sl_stages.specs.returns.Election.{Election, list_at, has_list}
-use Rattle.sl_stages.specs.returns.Facts.{lands, parties, list_cell, list_winners, is_of, is_in, is_eligible, has_eligible_list, is_on_list}
+use Rattle.sl_stages.specs.returns.Election.{Election, list_at}
+use Rattle.sl_stages.specs.returns.Facts.{each_list, list_cell, list_winners, is_of, is_in, is_eligible, has_eligible_list, is_on_list}
 use Rattle.sl_stages.specs.methods.Covering.{IsCovering}
 use Rattle.sl_stages.specs.methods.Ties.{Choice, Decided, Tied, IsChoice}
 use Rattle.sl_stages.specs.meaning.Lots.{seats_lot}
@@ -48,10 +48,6 @@ abbrev pub vacant_of : Option ℕ → Option ℕ → ℕ → ℕ → ℕ
 vacant_of (Some vacate) (Some names) seats direct = seats - direct - names
 vacant_of _ _ seats direct = 0
 
--- the lists, each by its Land and its party, in list order
-abbrev pub lists_of : Election → List (ℕ × ℕ)
-lists_of e = flat_map (λ land. map (λ party. (land, party)) (filter (has_list e land) (parties e))) (lands e)
-
 -- under `keep` a winner with a list sits on it, and every other winner as a single
 abbrev pub kept_place : BookTree → Election → Win → Placed
 kept_place b e w = if is_on_list b.eligible e w then placed.OnList else placed.Single
@@ -68,7 +64,7 @@ module _ (b : BookTree) (e : Election) where
 
   abbrev pub table_of : (ℕ → ℕ → ℕ) → List Placed → Records → SeatTable
   table_of seats places records = record {
-    lists = flat_map (λ land. map (table_line seats places land) (filter (has_list e land) (parties e))) (lands e);
+    lists = each_list e (table_line seats places);
     placed = places;
     steps = records.steps;
     weights = records.weights;
