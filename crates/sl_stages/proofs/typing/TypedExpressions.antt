@@ -1,28 +1,36 @@
 -- All tests of an expression hold exactly where it has a type.
-use Rattle.std.proofs.Common.{◌≡◌, ℕ, List, Option, Some, None, true, find, is_some, option_map, refl, ◌∙◌, sym}
+use Rattle.std.proofs.Common.{◌≡◌, ℕ, ◌||◌, List, [], ◌∷◌, Bool, cond, false, Option, Some, None, true, find, is_some, option_map, refl, ◌∙◌, sym}
+use Rattle.std.specs.List.{list_any}
 use Rattle.sl_stages.specs.declared.book.Shape.TheVariants as shape
 use Rattle.sl_stages.specs.declared.book.Unit.TheVariants as unit
 use Rattle.sl_stages.specs.declared.book.ColumnType.{ColumnType}
 use Rattle.sl_stages.specs.book.Trees.{ExprTree, house, counted, winners, outside, independents, population, name, sum, larger, less, split, split_from, grow}
 use Rattle.sl_stages.specs.book.Tests.{first_failing}
 use Rattle.sl_stages.specs.book.Typing.{Column, column, type_or_one, is_named, expr_tests, type_of}
-use Rattle.sl_check.specs.Known.{name_tests}
-use Rattle.sl_check.specs.Nodes.{sum_tests, pair_tests, split_tests, split_from_tests, grow_tests}
-use Rattle.sl_check.specs.HasType.{HasType, IsNamed}
-use Rattle.sl_check.proofs.Finding.{is_found}
+use Rattle.sl_stages.specs.book.Typing.{name_tests}
+use Rattle.sl_stages.specs.book.Typing.{sum_tests, pair_tests, split_tests, split_from_tests, grow_tests}
+use Rattle.sl_stages.specs.book.HasType.{HasType, IsStageType}
+use Rattle.sl_stages.specs.laws.BookLaws.{TypesByTests}
 use Rattle.sl_stages.proofs.Tests.{pass_parts, pass_join}
-use Rattle.sl_check.proofs.TestLists.{pass_parts3, pass_join3, pass_parts4, pass_join4, all_hold, hold_all}
-use Rattle.sl_check.proofs.NodeLaws.{sum_typed, sum_has, pair_typed, pair_has, split_typed, split_has, split_from_typed, split_from_has, grow_typed, grow_has}
+use Rattle.sl_stages.proofs.typing.TestLists.{pass_parts3, pass_join3, pass_parts4, pass_join4, all_hold, hold_all}
+use Rattle.sl_stages.proofs.typing.NodeLaws.{sum_typed, sum_has, pair_typed, pair_has, split_typed, split_has, split_from_typed, split_from_has, grow_typed, grow_has}
+
+-- a column is found where there is one of that name
+pub is_found : (p : Column → Bool) (cs : List Column) → list_any p cs ≡ is_some (option_map (λ c. c.type) (find p cs))
+is_found p [] = refl
+is_found p (c ∷ cs) =
+    elim (p c) as (λ b. (b || list_any p cs) ≡ is_some (option_map (λ d. d.type) (cond b (Some c) (find p cs))))
+    [ true ↦ refl | false ↦ is_found p cs ]
 
 -- all tests of an expression hold, and that is its type
 abbrev pub Passes : List Column → ExprTree → ColumnType → Type 0
 Passes cs e t = (first_failing (expr_tests cs e) ≡ None) × (type_of cs e ≡ t)
 
-name_typed : (cs : List Column) (at : ℕ) (n : List ℕ) (t : ColumnType) → IsNamed cs n t → Passes cs (name at n) t
+name_typed : (cs : List Column) (at : ℕ) (n : List ℕ) (t : ColumnType) → IsStageType cs n t → Passes cs (name at n) t
 name_typed cs at n t h =
     (all_hold (name_tests cs at n) (is_found (is_named n) cs ∙ rw h.found refl, tt), rw h.found (sym h.same))
 
-named : (cs : List Column) (found : Option Column) (n : List ℕ) (t : ColumnType) → find (is_named n) cs ≡ found → is_some (option_map (λ c. c.type) found) ≡ true → type_or_one found ≡ t → IsNamed cs n t
+named : (cs : List Column) (found : Option Column) (n : List ℕ) (t : ColumnType) → find (is_named n) cs ≡ found → is_some (option_map (λ c. c.type) found) ≡ true → type_or_one found ≡ t → IsStageType cs n t
 named cs None n t is some same = cc
 named cs (Some c) n t is some same = record { of = c; found = is; same = sym same }
 
@@ -132,3 +140,6 @@ has cs (grow at s v method f most m) t h =
       g.1,
       g.2,
     )
+
+pub typed_expressions : TypesByTests
+typed_expressions cs e t = (typed cs e t, has cs e t)

@@ -16,10 +16,10 @@ use Rattle.sl_stages.specs.declared.book.Number.{Number}
 use Rattle.sl_stages.specs.declared.book.ColumnType.{ColumnType}
 use Rattle.sl_stages.specs.book.Tests.{first_failing}
 use Rattle.sl_stages.specs.book.Typing.{column, shape_over, can_split, same_shape, is_prefer, is_hamilton, is_seat_number}
-use Rattle.sl_check.specs.HasType.{Sums, Splits, IsSplit, IsSplitFrom}
-use Rattle.sl_check.specs.Nodes.{sum_tests, pair_tests, split_tests, split_from_tests, share_from_tests, grow_tests}
+use Rattle.sl_stages.specs.book.HasType.{Sums, Splits, IsSplitType, IsSplitFromType}
+use Rattle.sl_stages.specs.book.Typing.{sum_tests, pair_tests, split_tests, split_from_tests, share_from_tests, grow_tests}
 use Rattle.sl_stages.proofs.Shapes.{same_shape_is, same_shape_self, same_unit_is, same_unit_self}
-use Rattle.sl_check.proofs.TestLists.{all_hold, hold_all, can_sum_is, sums_to, can_split_is, splits_can, preferred_is, preferred_can, not_preferred_is, not_preferred_can}
+use Rattle.sl_stages.proofs.typing.TestLists.{all_hold, hold_all, can_sum_is, sums_to, can_split_is, splits_can, preferred_is, preferred_can, not_preferred_is, not_preferred_can}
 
 -- two columns of one shape and one unit are of one type
 pub column_is : (a b : ColumnType) → a.shape ≡ b.shape → a.unit ≡ b.unit → a ≡ b
@@ -54,7 +54,7 @@ pair_has at l r pass =
 
 -- ---- splits
 
-pub split_typed : (at : ℕ) (s v t : ColumnType) (method : Method) (m : Majority) → IsSplit (λ x. s ≡ x) (λ x. v ≡ x) method m t
+pub split_typed : (at : ℕ) (s v t : ColumnType) (method : Method) (m : Majority) → IsSplitType (λ x. s ≡ x) (λ x. v ≡ x) method m t
     → (first_failing (split_tests at s v method m) ≡ None) × (column v.shape unit.Seats ≡ t)
 split_typed at s v t method m h =
     rw (h.seats, h.votes) (
@@ -63,7 +63,7 @@ split_typed at s v t method m h =
     )
 
 pub split_has : (at : ℕ) (s v t : ColumnType) (method : Method) (m : Majority) → first_failing (split_tests at s v method m) ≡ None → column v.shape unit.Seats ≡ t
-    → IsSplit (λ x. s ≡ x) (λ x. v ≡ x) method m t
+    → IsSplitType (λ x. s ≡ x) (λ x. v ≡ x) method m t
 split_has at s v t method m pass is =
     let h = hold_all (split_tests at s v method m) pass in
     rw (← is) (record {
@@ -107,7 +107,7 @@ divisor_of Hamilton h = cc
 
 -- a split or a growth of these types, from that shape
 abbrev pub Shares : (s v f t : ColumnType) (from : Shape) (method : Method) (m : Majority) → Type 0
-Shares s v f t from method m = IsSplitFrom (λ x. s ≡ x) (λ x. v ≡ x) (λ x. f ≡ x) from method m t
+Shares s v f t from method m = IsSplitFromType (λ x. s ≡ x) (λ x. v ≡ x) (λ x. f ≡ x) from method m t
 
 pub split_from_typed : (at : ℕ) (s v f t : ColumnType) (from : Shape) (method : Method) (m : Majority) → Shares s v f t from method m
     → (first_failing (split_from_tests at s v f method m) ≡ None) × (column v.shape unit.Seats ≡ t)

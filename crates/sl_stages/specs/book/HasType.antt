@@ -1,4 +1,4 @@
--- The shape and the unit of an expression, as the table of expressions gives them (docs/language.md).
+-- The shape and the unit of an expression, as the table of expressions gives them (docs/language.md, section 3).
 use Rattle.std.specs.Prelude.{◌≡◌, ◌≢◌, ℕ, ◌≤◌, List, Some, find}
 use Rattle.sl_ratio.specs.declared.method.Divisor.{Divisor as DivisorMethod}
 use Rattle.sl_ratio.specs.declared.method.Method.{Method}
@@ -24,7 +24,7 @@ Sums shape.Party axis.All shape.One = Unit {0}
 Sums shape.Land axis.All shape.One = Unit {0}
 Sums _ _ _ = ⊥
 
--- seats of the first shape are shared out by votes of the second: all at once, for each party, or for each Land
+-- seats of the first shape are given out by votes of the second: all at once, for each party, or for each Land
 abbrev pub Splits : Shape → Shape → Type 0
 Splits shape.One shape.Party = Unit {0}
 Splits shape.One shape.Land = Unit {0}
@@ -34,19 +34,19 @@ Splits shape.Land shape.List = Unit {0}
 Splits _ _ = ⊥
 
 -- a type is that of the earlier stage of that name
-pub record IsNamed (cs : List Column) (n : List ℕ) (t : ColumnType) : Type 0 where
+pub record IsStageType (cs : List Column) (n : List ℕ) (t : ColumnType) : Type 0 where
   pub of : Column
   pub found : find (is_named n) cs ≡ Some of
   pub same : t ≡ of.type
 
 -- a type is that of a sum
-pub record IsSum (Of : ColumnType → Type 0) (over : Axis) (t : ColumnType) : Type 0 where
+pub record IsSumType (Of : ColumnType → Type 0) (over : Axis) (t : ColumnType) : Type 0 where
   pub from : Shape
   pub sums : Sums from over t.shape
   pub of : Of (column from t.unit)
 
 -- a type is that of a split without minima; Hamilton's method alone knows preferred entries
-pub record IsSplit (Seats Votes : ColumnType → Type 0) (method : Method) (m : Majority) (t : ColumnType) : Type 0 where
+pub record IsSplitType (Seats Votes : ColumnType → Type 0) (method : Method) (m : Majority) (t : ColumnType) : Type 0 where
   pub from : Shape
   pub splits : Splits from t.shape
   pub seats : Seats (column from unit.Seats)
@@ -55,7 +55,7 @@ pub record IsSplit (Seats Votes : ColumnType → Type 0) (method : Method) (m : 
   pub preferred : m ≡ majority.Prefer → method ≡ Hamilton
 
 -- a type is that of a split or a growth from seats of that shape, with minima: by a divisor method, with no preferred entries
-pub record IsSplitFrom (Seats Votes Minima : ColumnType → Type 0) (from : Shape) (method : Method) (m : Majority) (t : ColumnType) : Type 0 where
+pub record IsSplitFromType (Seats Votes Minima : ColumnType → Type 0) (from : Shape) (method : Method) (m : Majority) (t : ColumnType) : Type 0 where
   pub splits : Splits from t.shape
   pub seats : Seats (column from unit.Seats)
   pub votes : Votes (column t.shape unit.Votes)
@@ -65,7 +65,7 @@ pub record IsSplitFrom (Seats Votes Minima : ColumnType → Type 0) (from : Shap
   pub by : method ≡ Divisor divisor
   pub not_preferred : m ≢ majority.Prefer
 
--- an expression behind stages with these columns has that shape and that unit
+-- an expression after stages with these columns has that shape and that unit
 abbrev pub HasType : List Column → ExprTree → ColumnType → Type 0
 HasType cs (house at) t = t ≡ column shape.One unit.Seats
 HasType cs (counted at) t = t ≡ column shape.List unit.Votes
@@ -73,10 +73,10 @@ HasType cs (winners at) t = t ≡ column shape.List unit.Seats
 HasType cs (outside at) t = t ≡ column shape.Land unit.Seats
 HasType cs (independents at) t = t ≡ column shape.Land unit.Seats
 HasType cs (population at) t = t ≡ column shape.Land unit.Votes
-HasType cs (name at n) t = IsNamed cs n t
-HasType cs (sum at e over) t = IsSum (HasType cs e) over t
+HasType cs (name at n) t = IsStageType cs n t
+HasType cs (sum at e over) t = IsSumType (HasType cs e) over t
 HasType cs (larger at l r) t = HasType cs l t × HasType cs r t
 HasType cs (less at l r) t = HasType cs l t × HasType cs r t
-HasType cs (split at s v method m) t = IsSplit (HasType cs s) (HasType cs v) method m t
-HasType cs (split_from at s v method f m) t = (from : Shape) × IsSplitFrom (HasType cs s) (HasType cs v) (HasType cs f) from method m t
-HasType cs (grow at s v method f cap m) t = IsSplitFrom (HasType cs s) (HasType cs v) (HasType cs f) shape.One method m t × (1 ≤ cap.value) × (cap.value ≤ MAX_SEATS)
+HasType cs (split at s v method m) t = IsSplitType (HasType cs s) (HasType cs v) method m t
+HasType cs (split_from at s v method f m) t = (from : Shape) × IsSplitFromType (HasType cs s) (HasType cs v) (HasType cs f) from method m t
+HasType cs (grow at s v method f cap m) t = IsSplitFromType (HasType cs s) (HasType cs v) (HasType cs f) shape.One method m t × (1 ≤ cap.value) × (cap.value ≤ MAX_SEATS)

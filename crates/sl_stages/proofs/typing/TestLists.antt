@@ -11,7 +11,7 @@ use Rattle.sl_stages.specs.declared.book.Majority.TheVariants as majority
 use Rattle.sl_stages.specs.declared.check_fault.CheckFault.{CheckFault}
 use Rattle.sl_stages.specs.book.Tests.{Test, first_failing}
 use Rattle.sl_stages.specs.book.Typing.{shape_over, can_sum, can_split, is_prefer, is_hamilton}
-use Rattle.sl_check.specs.HasType.{Sums, Splits}
+use Rattle.sl_stages.specs.book.HasType.{Sums, Splits}
 use Rattle.sl_stages.proofs.Tests.{pass_parts, pass_join}
 
 -- ---- lists
