@@ -7,21 +7,9 @@ use Rattle.std.proofs.lemmas.List.Elements.{All-append, All-cons, All-head, All-
 use Rattle.sl_ratio.specs.declared.entry.Entry.{Entry}
 use Rattle.sl_prio.specs.Lot.{lot_cmp}
 use Rattle.sl_prio.specs.inner.Heap.{IsDrawnOf, IsDrawnFrom}
-use Rattle.sl_prio.proofs.Finding.{Contains-head, Contains-tail, Contains-cases, Contains-none}
+use Rattle.sl_prio.proofs.Finding.{Contains-head, Contains-tail, Contains-cases, Contains-append_left, Contains-append_right}
 use Rattle.sl_prio.proofs.Greatest.{AtMost, AtMost-self, AtMost-trans, AtMost-other, le_not_gt}
 use Rattle.sl_prio.proofs.Orders.{lot_order}
-
-module _ {X : Type 0} where
-  pub Contains-append_left : (xs ys : List X) (x : X) → Contains xs x → Contains (xs ++ ys) x
-  Contains-append_left [] ys x h = absurd (Contains-none x h)
-  Contains-append_left (z ∷ zs) ys x h = elim (Contains-cases z zs x h) [
-    | inl e ↦ subst (λ (w : X). Contains (z ∷ (zs ++ ys)) w) e (Contains-head z (zs ++ ys))
-    | inr k ↦ Contains-tail z (zs ++ ys) x (Contains-append_left zs ys x k)
-  ]
-
-  pub Contains-append_right : (xs ys : List X) (x : X) → Contains ys x → Contains (xs ++ ys) x
-  Contains-append_right [] ys x h = h
-  Contains-append_right (z ∷ zs) ys x h = Contains-tail z (zs ++ ys) x (Contains-append_right zs ys x h)
 
 module _ (lot : List ℕ) where
   abbrev Before : Entry → Entry → Type 0

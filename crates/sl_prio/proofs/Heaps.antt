@@ -1,4 +1,4 @@
--- Entries that move up and down in a heap, that join it and that leave it.
+-- Entries that move up and down in a heap, and one that leaves it.
 use Rattle.std.proofs.Common.{◌≡◌, ℕ, zero, suc, ◌+◌, ◌-◌, ◌*◌, ◌/◌, ◌<◌, ◌≤◌, ◌≢◌, true, false, List, [], ◌∷◌, All, IsPermutation, length, get_or, IsTrue, Some, slice_get, take, drop, ◌++◌, refl, sym, ap, subst, ◌∙◌, inl, inr, arith}
 use Rattle.std.specs.List.{SwappedAt, swap_remove}
 use Rattle.std.specs.Ordering.{is_le, is_gt}
@@ -114,9 +114,6 @@ module _ (xs ys : List Entry) (j c : ℕ) (s : SwappedAt xs ys j c) (long : leng
 
 -- ---- where an entry rests
 
-pub settled : (xs : List Entry) (j : ℕ) → j < length xs → IsHeapBut xs j → HasChildrenUnder xs j j → MayRise xs j
-settled xs j within others below = record { within = within; others = others; below = below }
-
 module _ (xs : List Entry) (j : ℕ) (may : MayRise xs j) where
   rests : ((p : ℕ) → p * 2 + 1 ≤ j → j ≤ p * 2 + 2 → IsUnder xs p j) → IsHeap xs
   rests above p k a b l =
@@ -134,17 +131,7 @@ module _ (xs : List Entry) (j : ℕ) (may : MayRise xs j) where
   pub rests_under_parent : 0 < j → IsUnder xs ((j - 1) / 2) j → IsHeap xs
   rests_under_parent pos h = rests (λ p a b. let e : p ≡ (j - 1) / 2 = omega arith in moved xs xs p j ((j - 1) / 2) j (λ d. ap (λ n. get_or xs n d) e) (λ d. refl) h)
 
--- ---- entries that join and leave
-
-pub joined : (xs ys : List Entry) (x : Entry) → length ys ≡ length xs + 1 → ((k : ℕ) (d : Entry) → k < length xs → get_or ys k d ≡ get_or xs k d) → IsHeap xs → MayRise ys (length xs)
-joined xs ys x long same heap = record {
-  within = omega arith;
-  others = record {
-    apart = λ p k a b l u v. moved xs ys p k p k (λ d. same p d (omega arith)) (λ d. same k d (omega arith)) (heap p k a b (omega arith));
-    across = λ p k a b f t l. absurd (omega arith);
-  };
-  below = λ k f t l. absurd (omega arith);
-}
+-- ---- an entry that leaves
 
 pub left : (xs ys : List Entry) (j : ℕ) → length ys + 1 ≡ length xs → ((k : ℕ) (d : Entry) → k ≢ j → k + 1 < length xs → get_or ys k d ≡ get_or xs k d) → IsHeap xs → IsHeapBut ys j
 left xs ys j long same heap = record {
@@ -170,9 +157,9 @@ module _ (xs : List Entry) (heap : IsHeap xs) where
       greatest-is entry_cmp entry_order xs x (0, some, sym first)
       (λ k d l. subst (λ (z : Entry). IsTrue (is_le (entry_cmp (get_or xs k d) z))) (get_or_default xs 0 d x some ∙ sym first) (under_top xs k k heap (omega arith) l d))
 
-pub top_got : (xs : List Entry) → IsHeap xs → slice_get xs 0 ≡ top xs
-top_got [] heap = refl
-top_got (x ∷ xs) heap = sym (top_first (x ∷ xs) heap x (omega arith) refl)
+pub top_at_first : (xs : List Entry) → IsHeap xs → slice_get xs 0 ≡ top xs
+top_at_first [] heap = refl
+top_at_first (x ∷ xs) heap = sym (top_first (x ∷ xs) heap x (omega arith) refl)
 
 -- ---- a part of a vector that is lent and comes back
 

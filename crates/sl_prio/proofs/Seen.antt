@@ -10,7 +10,7 @@ use Rattle.sl_prio.specs.Laws.{AnswersAlike}
 use Rattle.sl_prio.specs.inner.Heap.{IsHeap, IsDrawnOf, are_named, peers_under, subtree}
 use Rattle.sl_prio.proofs.Finding.{Contains-cases}
 use Rattle.sl_prio.proofs.Greatest.{AtMost}
-use Rattle.sl_prio.proofs.Heaps.{top_got}
+use Rattle.sl_prio.proofs.Heaps.{top_at_first}
 use Rattle.sl_prio.proofs.LawProofs.{order_is_free}
 use Rattle.sl_prio.proofs.Subtrees.{subtree_permutation}
 use Rattle.sl_prio.proofs.Tables.{peers-length, peers-list_all, top-peer, drawn-is}
@@ -20,7 +20,7 @@ module _ (xs : List Entry) (heap : IsHeap xs) (first : Entry) (at : slice_get xs
   same = order_is_free xs (subtree xs 0) (subtree_permutation xs)
 
   first_is : top (subtree xs 0) ≡ Some first
-  first_is = sym same.same_top ∙ sym (top_got xs heap) ∙ at
+  first_is = sym same.same_top ∙ sym (top_at_first xs heap) ∙ at
 
   pub seen_length : length (peers_under first xs 0) ≡ length (peers xs)
   seen_length = peers-length (subtree xs 0) first first_is ∙ ap length (sym same.same_peers)

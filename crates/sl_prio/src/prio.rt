@@ -59,7 +59,7 @@ impl Prio {
         ensures added { OnOk result (IsPermutation (entry ∷ self.old) self.new) }
         ensures unchanged { OnErr result (self.new ≡ self.old) }
     {
-        // no ratio has numerator 0, so that between two entries with one quotient stand only entries with it
+        // no ratio has numerator 0: in order, only entries with their quotient come between two entries with one quotient
         prove!(entry.ratio.num() > 0);
         let place = self.entries.len();
         self.entries.push(entry)?;
