@@ -20,6 +20,9 @@ pub mod Inputs
 pub mod LotLists
 pub mod Bounds
 pub mod Drawing
+pub mod LotOrder
+pub mod LotProofs
+pub mod LotDraws
 pub mod PeerLists
 pub mod Holding
 pub mod Starting
