@@ -1,5 +1,5 @@
--- The law is proved in proofs/LotDraws.antt.
-use Rattle.sl_machine.proofs.LotDraws.{same_draws}
+-- The law is proved in proofs/drawing/LotDraws.antt.
+use Rattle.sl_machine.proofs.drawing.LotDraws.{same_draws}
 use Rattle.sl_machine.proofs.laws.same_draws.Goals as goal
 
 pub returns : goal.returns

@@ -14,8 +14,8 @@ use Rattle.sl_machine.specs.Memories.{Held, held_of}
 use Rattle.sl_machine.specs.State.{State}
 use Rattle.sl_machine.specs.inner.Leading.{FitsWith}
 use Rattle.sl_machine.specs.inner.Stores.{Sizes, state_of, sizes_of}
-use Rattle.sl_machine.proofs.Holding.{held_fits}
-use Rattle.sl_machine.proofs.Soundness.{starts_are_safe}
+use Rattle.sl_machine.proofs.stores.Holding.{held_fits}
+use Rattle.sl_machine.proofs.soundness.Soundness.{starts_are_safe}
 use Rattle.sl_machine.proofs.machine.run.Goals as goal
 
 pub steps-requires-clause-safe : goal.steps-requires-clause-safe

@@ -1,6 +1,6 @@
 -- What the lots before the place give.
 use Rattle.std.proofs.Common.{◌≡◌, take}
-use Rattle.sl_machine.proofs.LotLists.{lots_given}
+use Rattle.sl_machine.proofs.drawing.LotLists.{lots_given}
 use Rattle.sl_machine.proofs.lots.StageLot.named.Given as goal
 
 abbrev pub invariant-loop-lot : goal.invariant-loop-lot

@@ -43,9 +43,9 @@ use Rattle.sl_machine.specs.Drawn.{lot_of}
 use Rattle.sl_machine.specs.Effects.{Effect, Goes, Jumps, Ends, NoCase, effect, given, where_positive, winner_at, to_party, first_of, next_of, with_party, with_land, with_win, seats, sets_house, counts_peers, stage_of, name_of, kind_of, mark_of, at_scope, with_lot, with_table, with_entry, takes, enters}
 use Rattle.sl_machine.specs.Fits.{HasItem, HasScope, FitsStep, FitsWeight, FitsKind, FitsFault, FitsRecords, FitsHalt, FitsEnd}
 use Rattle.sl_machine.specs.Safe.{IsInRange, entries_in}
-use Rattle.sl_machine.proofs.TableFacts.{peers_all}
-use Rattle.sl_machine.proofs.KeptEntries.{list_below}
-use Rattle.sl_machine.proofs.KeptTables.{list_parts}
+use Rattle.sl_machine.proofs.soundness.TableLemmas.{peers_all}
+use Rattle.sl_machine.proofs.soundness.KeptEntries.{list_below}
+use Rattle.sl_machine.proofs.soundness.KeptTables.{list_parts}
 
 -- the records of the state to which an effect leads fit, and so does its end
 abbrev pub FitsEffect : CountingCode → Election → Effect → Type 0

@@ -24,7 +24,7 @@ use Rattle.sl_code.specs.declared.operand.Entries.TheVariants as entries
 use Rattle.sl_machine.specs.Places.{item_of}
 use Rattle.sl_machine.specs.Drawn.{given_in, lot_of}
 use Rattle.sl_machine.specs.SameLots.{lot_meant, AreEntries, SameLot, SameLots}
-use Rattle.sl_machine.proofs.LotOrder.{read_among, mentions_only, mentions_all, mentions_order, numbers_only, numbers_all, numbers_order}
+use Rattle.sl_machine.proofs.drawing.LotOrder.{read_among, mentions_only, mentions_all, mentions_order, numbers_only, numbers_all, numbers_order}
 
 -- ---- items by their places
 

@@ -8,7 +8,7 @@ use Rattle.sl_machine.specs.State.{State, End}
 use Rattle.sl_machine.specs.Effects.{Goes, Jumps, Ends, effect}
 use Rattle.sl_machine.specs.Runs.{Step, To, Over, Nowhere, Ending, Ended, OutOfBudget, step, after_step, run}
 use Rattle.sl_machine.specs.Comes.{Comes, Finishes}
-use Rattle.sl_machine.proofs.Stepping.{step_goes, step_jumps, step_ends, run_on, run_over}
+use Rattle.sl_machine.proofs.runs.Stepping.{step_goes, step_jumps, step_ends, run_on, run_over}
 
 module _ (c : CountingCode) (e : Election) where
   -- ---- no step, and one

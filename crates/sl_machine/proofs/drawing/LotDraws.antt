@@ -19,7 +19,7 @@ use Rattle.sl_stages.specs.methods.Ties as meaning
 use Rattle.sl_stages.specs.laws.Awards.{DrawsNext}
 use Rattle.sl_stages.proofs.methods.DrawnLots.{is_in, stands_in}
 use Rattle.sl_machine.specs.SameLots.{SameLot, PeersAre, SameCovers, SameDraws}
-use Rattle.sl_machine.proofs.LotOrder.{place_at, place_least, place_apart, apart}
+use Rattle.sl_machine.proofs.drawing.LotOrder.{place_at, place_least, place_apart, apart}
 
 -- ---- covering
 

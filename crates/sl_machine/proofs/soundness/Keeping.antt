@@ -27,7 +27,7 @@ use Rattle.sl_machine.specs.State.{State, PriorityTable}
 use Rattle.sl_machine.specs.Effects.{Effect, Goes, Jumps, Ends, NoCase, effect, given, where_positive}
 use Rattle.sl_machine.specs.Safe.{IsInRange, entries_in}
 use Rattle.sl_machine.specs.Agrees.{ArePositive, AreSet, IsTable, HasTable, Agrees}
-use Rattle.sl_machine.proofs.Sets.{asked, positive_included, set_covered}
+use Rattle.sl_machine.proofs.soundness.Sets.{asked, positive_included, set_covered}
 
 -- the state is one of which the kinds are known, and in range
 pub record Keeps (e : Election) (k : Kinds) (s : State) : Type 0 where
