@@ -1,6 +1,6 @@
 -- The lot of a stage is one lot for the machine, which counts entries by their places in a column, and for a rulebook's meaning, which
 -- counts them by their numbers among the entries of a scope (docs/machine.md, section 3).
-use Rattle.std.specs.Prelude.{◌≡◌, ◌<◌, ◌↔◌, ℕ, List, length, map, filter_map, slice_index, All, Contains, Option, Some, IsTrue}
+use Rattle.std.specs.Prelude.{◌≡◌, ◌<◌, ◌↔◌, ℕ, List, length, map, filter_map, slice_index, All, Contains, Some, IsTrue}
 use Rattle.std.specs.List.Sorted.{IsStrictlyIncreasing}
 use Rattle.sl_ratio.specs.declared.entry.Entry.{Entry}
 use Rattle.sl_prio.specs.Lot.{place_in_lot}

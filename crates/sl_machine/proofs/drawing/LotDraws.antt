@@ -1,5 +1,5 @@
 -- A lot covers and draws alike by places in a column and by numbers among entries.
-use Rattle.std.proofs.Common.{◌≡◌, ◌≢◌, ℕ, ◌+◌, ◌<◌, ◌≤◌, ◌↔◌, true, false, cond, nat_lt, ◌==◌, List, [], length, get_or, All, Option, Some, None, IsTrue, Contains, MatchOption, refl, sym, ap, subst, ◌∙◌, inl, inr, arith}
+use Rattle.std.proofs.Common.{◌≡◌, ◌≢◌, ℕ, ◌<◌, ◌≤◌, true, false, nat_lt, List, [], length, get_or, All, Option, Some, None, IsTrue, Contains, MatchOption, refl, sym, subst, ◌∙◌, inl, inr, arith}
 use Rattle.std.specs.Prelude.{nat_eq}
 use Rattle.std.specs.List.{list_any}
 use Rattle.std.specs.List.Sorted.{IsStrictlyIncreasing}
@@ -7,7 +7,7 @@ use Rattle.std.specs.Ordering.{nat_cmp, is_le}
 use Rattle.std.specs.declared.cmp.Ordering.TheVariants.{Greater}
 use Rattle.std.proofs.lemmas.List.Elements.{Contains-get_or}
 use Rattle.std.proofs.lemmas.List.Sums.{AllPass-from_list_all, list_all-from_AllPass}
-use Rattle.std.proofs.lemmas.Bool.{cases_eq, cases_lt, le-ltb, ne_eqb, true≢false}
+use Rattle.std.proofs.lemmas.Bool.{cases_lt, le-ltb, ne_eqb, true≢false}
 use Rattle.sl_ratio.specs.declared.entry.Entry.{Entry}
 use Rattle.sl_prio.specs.Lot.{place_in_lot, lot_cmp}
 use Rattle.sl_prio.specs.Lot as machine
@@ -19,7 +19,7 @@ use Rattle.sl_stages.specs.methods.Ties as meaning
 use Rattle.sl_stages.specs.laws.Awards.{DrawsNext}
 use Rattle.sl_stages.proofs.methods.DrawnLots.{is_in, stands_in}
 use Rattle.sl_machine.specs.SameLots.{SameLot, PeersAre, SameCovers, SameDraws}
-use Rattle.sl_machine.proofs.drawing.LotOrder.{place_at, place_least, place_apart, apart}
+use Rattle.sl_machine.proofs.drawing.LotOrder.{place_at, place_least, place_apart}
 
 -- ---- covering
 

@@ -1,5 +1,5 @@
 -- Where lots name a number first, and which numbers are left of a lot.
-use Rattle.std.proofs.Common.{◌≡◌, ◌≢◌, ◌⊎◌, ℕ, zero, suc, ◌+◌, ◌<◌, ◌≤◌, Bool, true, false, not, cond, nat_lt, List, [], ◌∷◌, length, get_or, filter, filter_map, Option, Some, None, Contains, refl, sym, ap, subst, ◌∙◌, inl, inr, arith, eq-eqb, ne_eqb, eqb-true}
+use Rattle.std.proofs.Common.{◌≡◌, ◌≢◌, ℕ, zero, suc, ◌+◌, ◌<◌, ◌≤◌, Bool, true, false, not, List, [], ◌∷◌, length, get_or, filter, filter_map, Option, Some, None, Contains, refl, sym, ap, subst, ◌∙◌, inl, inr, arith, eq-eqb, ne_eqb, eqb-true}
 use Rattle.std.specs.Prelude.{nat_eq, position}
 use Rattle.std.specs.List.{position_or_len}
 use Rattle.std.specs.List.Sorted.{IsStrictlyIncreasing}
@@ -7,7 +7,6 @@ use Rattle.std.proofs.lemmas.Bool.{cases_Bool, cases_eq, cases_lt, lt-ltb, le-lt
 use Rattle.std.proofs.lemmas.List.Kept.{AllPairs-from_increasing}
 use Rattle.std.proofs.lemmas.List.Quantifiers.{position-Some}
 use Rattle.std.proofs.lemmas.List.Sums.{prefix_len-le-length, fails_before_first}
-use Rattle.std.proofs.lemmas.Option.{same_Some}
 use Rattle.sl_prio.specs.Lot.{place_in_lot}
 use Rattle.sl_prio.proofs.Finding.{Contains-head, Contains-tail, Contains-cases, Contains-none, Contains-filter, filter-Contains}
 use Rattle.sl_stages.specs.meaning.Lots.{first_mentions}

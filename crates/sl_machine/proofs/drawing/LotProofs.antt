@@ -1,7 +1,7 @@
 -- The machine's lot of a stage and the meaning's are one, and cover and draw alike.
-use Rattle.std.proofs.Common.{◌≡◌, ◌≢◌, ◌⊎◌, ℕ, zero, suc, ◌+◌, ◌*◌, ◌/◌, ◌%◌, ◌<◌, ◌≤◌, ◌↔◌, Bool, true, false, not, cond, nat_lt, List, [], ◌∷◌, length, map, get_or, filter, filter_map, All, Option, Some, None, option_map, IsTrue, Contains, if◌then◌else◌, refl, sym, ap, subst, ◌∙◌, inl, inr, arith, eq-eqb, eqb-true}
+use Rattle.std.proofs.Common.{◌≡◌, ℕ, ◌+◌, ◌<◌, Bool, true, false, not, cond, List, [], ◌∷◌, length, map, filter_map, All, Option, Some, None, option_map, if◌then◌else◌, refl, sym, ap, subst, ◌∙◌, inl, inr, eq-eqb, eqb-true}
 use Rattle.std.specs.Prelude.{nat_eq, position, slice_get}
-use Rattle.std.specs.List.{position_or_len, prefix_len, cons_option}
+use Rattle.std.specs.List.{prefix_len, cons_option}
 use Rattle.std.specs.Option.{ForSome}
 use Rattle.std.specs.Str.{bytes_eq}
 use Rattle.std.proofs.lemmas.Bool.{cases_Bool, false_from_ne_true, true≢false, and_parts}
@@ -9,13 +9,12 @@ use Rattle.std.proofs.lemmas.List.{length-map}
 use Rattle.std.specs.List.Sorted.{IsStrictlyIncreasing}
 use Rattle.std.proofs.lemmas.List.Elements.{All-head, All-tail, All-filter, All-weaker}
 use Rattle.std.proofs.lemmas.Nat.{div-mul-add, mod-mul-add}
-use Rattle.std.proofs.lemmas.Option.{same_Some, none-some}
+use Rattle.std.proofs.lemmas.Option.{same_Some}
 use Rattle.sl_stages.specs.declared.book.Shape.TheVariants as shape
 use Rattle.sl_stages.specs.declared.fault.Item.{Item}
 use Rattle.sl_stages.specs.declared.fault.Item.TheVariants as item
 use Rattle.sl_stages.specs.declared.returns.Lot.{Lot}
-use Rattle.sl_stages.specs.declared.returns.Win.{Win}
-use Rattle.sl_stages.specs.returns.Election.{Election, IsElection, IsLot, lands_of, parties_of, wins_of}
+use Rattle.sl_stages.specs.returns.Election.{Election, IsElection, IsLot, lands_of, parties_of}
 use Rattle.sl_stages.specs.meaning.Scopes.{place, same_item}
 use Rattle.sl_stages.specs.meaning.Lots.{lots_named, given_entry, given_winner, is_winner_of, first_mentions, lot_among}
 use Rattle.sl_stages.proofs.meaning.OneAward.{mentions_distinct}

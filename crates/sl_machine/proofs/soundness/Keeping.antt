@@ -1,5 +1,5 @@
 -- States that keep what is known of them: where a part of the state changes, and the same part of the kinds.
-use Rattle.std.proofs.Common.{◌≡◌, ◌≢◌, ℕ, zero, suc, ◌<◌, Bool, true, false, not, ◌&&◌, ◌||◌, if◌then◌else◌, arith, List, [], ◌∷◌, length, slice_get, Option, Some, None, IsTrue, IsSome, IsSomeAnd, All, refl, subst, ◌∙◌}
+use Rattle.std.proofs.Common.{◌≡◌, ℕ, zero, suc, ◌<◌, Bool, true, false, not, ◌&&◌, ◌||◌, if◌then◌else◌, arith, List, [], ◌∷◌, length, slice_get, Option, Some, None, IsTrue, IsSome, IsSomeAnd, All, refl, subst, ◌∙◌}
 use Rattle.std.specs.Bool.{⊤}
 use Rattle.std.specs.Option.{ForSome, option_map_or}
 use Rattle.std.proofs.lemmas.Bool.{and_parts}

@@ -1,5 +1,5 @@
 -- The instructions that record seats and weights, that seat winners and that end the run keep what is known.
-use Rattle.std.proofs.Common.{ℕ, ◌<◌, Bool, not, IsTrue, Option, Some, None, IsSomeAnd, slice_get, refl, sym, subst, if◌then◌else◌}
+use Rattle.std.proofs.Common.{ℕ, ◌<◌, Bool, not, IsTrue, Option, Some, None, IsSomeAnd, slice_get, refl, sym, subst}
 use Rattle.std.specs.Bool.{⊤}
 use Rattle.std.proofs.lemmas.Bool.{and_parts}
 use Rattle.sl_stages.specs.declared.fault.Scope.{Scope}

@@ -16,7 +16,7 @@ use Rattle.sl_verify.specs.WellKinded.{IsWellKinded, Stands, coming, declared_by
 use Rattle.sl_machine.specs.State.{State, start}
 use Rattle.sl_machine.specs.Effects.{Effect, Goes, Jumps, Ends, NoCase, effect}
 use Rattle.sl_machine.specs.Fits.{FitsRecords, FitsStep, FitsWeight}
-use Rattle.sl_machine.specs.Runs.{Ending, Ended, Stuck, To, Over, Nowhere, Step, run, step, after_step}
+use Rattle.sl_machine.specs.Runs.{Ending, Stuck, To, Over, Nowhere, Step, run, step, after_step}
 use Rattle.sl_machine.specs.Agrees.{Agrees, IsSafe}
 use Rattle.sl_machine.specs.Laws.{StartsAreSafe, LandsSafely, StepsSafely, SafeSteps, NeverStuck}
 use Rattle.sl_machine.proofs.soundness.Sets.{none_positive, none_set}

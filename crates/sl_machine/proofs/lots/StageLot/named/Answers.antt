@@ -1,12 +1,12 @@
 -- Each lot is one of the returns', and adds what it gives.
-use Rattle.std.proofs.Common.{◌≡◌, ◌<◌, ℕ, List, All, length, get_or, sym, ap, subst, ◌∙◌, take}
+use Rattle.std.proofs.Common.{◌≡◌, ◌<◌, ℕ, List, All, length, get_or, sym, ap, subst, ◌∙◌}
 use Rattle.std.proofs.lemmas.List.Elements.{All-get_or}
 use Rattle.std.specs.Prelude.{if◌then◌else◌}
 use Rattle.std.specs.Str.{bytes_eq}
 use Rattle.sl_stages.specs.declared.returns.Lot.{Lot}
 use Rattle.sl_stages.specs.returns.Election.{IsLot, lands_of, parties_of, wins_of}
 use Rattle.sl_machine.specs.inner.Lots.{StageLots, with_lot}
-use Rattle.sl_machine.proofs.drawing.LotLists.{lots_given, lots_next}
+use Rattle.sl_machine.proofs.drawing.LotLists.{lots_next}
 use Rattle.sl_machine.proofs.lots.StageLot.named.Goals as goal
 
 pub add_named-requires-clause-lot : goal.add_named-requires-clause-lot
