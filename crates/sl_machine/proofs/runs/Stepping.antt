@@ -1,5 +1,5 @@
 -- One step of a run, by the case of the effect.
-use Rattle.std.proofs.Common.{◌≡◌, ℕ, ◌+◌, suc, Option, Some, slice_get, refl, ap, ◌∙◌}
+use Rattle.std.proofs.Common.{◌≡◌, ℕ, ◌+◌, suc, Option, Some, slice_get, ap, ◌∙◌}
 use Rattle.sl_stages.specs.returns.Election.{Election}
 use Rattle.sl_code.specs.Codes.{CountingCode}
 use Rattle.sl_code.specs.declared.instr.Instr.{Instr}

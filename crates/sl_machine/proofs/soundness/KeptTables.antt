@@ -26,11 +26,11 @@ use Rattle.sl_machine.specs.Safe.{entries_in}
 use Rattle.sl_machine.specs.Agrees.{IsTable, HasTable}
 use Rattle.sl_prio.specs.Prio.{top, peers, is_covered}
 use Rattle.sl_prio.specs.Lot.{drawn}
-use Rattle.sl_machine.proofs.Sets.{positive_written}
-use Rattle.sl_machine.proofs.TableFacts.{top_all, drawn_all, peers_some, without_all}
-use Rattle.sl_machine.proofs.Keeping.{Keeps, Follows, keeps_registers, keeps_records, keeps_cursors, keeps_known, keeps_table, follows_given, follows_either, get_some, IsSound}
-use Rattle.sl_machine.proofs.KeptCursors.{some_for}
-use Rattle.sl_machine.proofs.KeptEntries.{IsKnown, table_there}
+use Rattle.sl_machine.proofs.soundness.Sets.{positive_written}
+use Rattle.sl_machine.proofs.soundness.TableLemmas.{top_all, drawn_all, peers_some, without_all}
+use Rattle.sl_machine.proofs.soundness.Keeping.{Keeps, Follows, keeps_registers, keeps_records, keeps_cursors, keeps_known, keeps_table, follows_given, follows_either, get_some, IsSound}
+use Rattle.sl_machine.proofs.soundness.KeptCursors.{some_for}
+use Rattle.sl_machine.proofs.soundness.KeptEntries.{IsKnown, table_there}
 
 -- ---- the cursors of an entry
 either_none : (b : Bool) → IsTrue (b || false) → IsTrue b

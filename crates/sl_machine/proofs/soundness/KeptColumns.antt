@@ -17,8 +17,8 @@ use Rattle.sl_machine.specs.State.{State}
 use Rattle.sl_machine.specs.Places.{both, cell_at}
 use Rattle.sl_machine.specs.Effects.{Goes, Jumps}
 use Rattle.sl_machine.specs.Agrees.{AreSet}
-use Rattle.sl_machine.proofs.Sets.{positive_written, positive_found, set_covered}
-use Rattle.sl_machine.proofs.Keeping.{Keeps, keeps_registers, keeps_records, follows_given, follows_either, get_some, IsSound}
+use Rattle.sl_machine.proofs.soundness.Sets.{positive_written, positive_found, set_covered}
+use Rattle.sl_machine.proofs.soundness.Keeping.{Keeps, keeps_registers, keeps_records, follows_given, follows_either, get_some, IsSound}
 
 -- a cursor that is set
 pub set_some : {A : Type 0} (o : Option A) → IsSome o → IsSomeAnd o (λ x. ⊤)

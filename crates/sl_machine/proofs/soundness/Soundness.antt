@@ -16,19 +16,19 @@ use Rattle.sl_verify.specs.WellKinded.{IsWellKinded, Stands, coming, declared_by
 use Rattle.sl_machine.specs.State.{State, start}
 use Rattle.sl_machine.specs.Effects.{Effect, Goes, Jumps, Ends, NoCase, effect}
 use Rattle.sl_machine.specs.Fits.{FitsRecords, FitsStep, FitsWeight}
-use Rattle.sl_machine.specs.Runs.{Ending, Ended, Stuck, To, Over, Nowhere, Step, run, step, after_step}
+use Rattle.sl_machine.specs.Runs.{Ending, Stuck, To, Over, Nowhere, Step, run, step, after_step}
 use Rattle.sl_machine.specs.Agrees.{Agrees, IsSafe}
 use Rattle.sl_machine.specs.Laws.{StartsAreSafe, LandsSafely, StepsSafely, SafeSteps, NeverStuck}
-use Rattle.sl_machine.proofs.Sets.{none_positive, none_set}
-use Rattle.sl_machine.proofs.Keeping.{get_some, Keeps, Follows, agrees_implied, IsSound, need_parts}
-use Rattle.sl_machine.proofs.KeptRegisters.{set_follows, mov_follows, add_follows, sub_follows, mul_follows, div_follows, rem_follows, max_follows, house_follows}
-use Rattle.sl_machine.proofs.KeptColumns.{jmp_follows, jz_follows, jlt_follows, jnl_follows, at_follows, get_follows, store_follows, zero_follows, input_follows, halt_follows, haltv_follows}
-use Rattle.sl_machine.proofs.KeptCursors.{none_for, fparty_follows, fland_follows, fwin_follows, nparty_follows, nland_follows, nwin_follows, wparty_follows, wland_follows}
-use Rattle.sl_machine.proofs.KeptEntries.{table_follows, prio_follows, rest_follows, lead_follows, share_follows}
-use Rattle.sl_machine.proofs.KeptTables.{peers_follows, take_follows, lot_tested, takelot_follows}
-use Rattle.sl_machine.proofs.Fitting.{FitsEffect, fits_effect}
-use Rattle.sl_machine.proofs.Stepping.{step_goes, step_jumps, step_ends}
-use Rattle.sl_machine.proofs.KeptRecords.{emit_follows, given_follows, weigh_follows, fault_follows, tie_follows, seat_follows, single_follows}
+use Rattle.sl_machine.proofs.soundness.Sets.{none_positive, none_set}
+use Rattle.sl_machine.proofs.soundness.Keeping.{get_some, Keeps, Follows, agrees_implied, IsSound, need_parts}
+use Rattle.sl_machine.proofs.soundness.KeptRegisters.{set_follows, mov_follows, add_follows, sub_follows, mul_follows, div_follows, rem_follows, max_follows, house_follows}
+use Rattle.sl_machine.proofs.soundness.KeptColumns.{jmp_follows, jz_follows, jlt_follows, jnl_follows, at_follows, get_follows, store_follows, zero_follows, input_follows, halt_follows, haltv_follows}
+use Rattle.sl_machine.proofs.soundness.KeptCursors.{none_for, fparty_follows, fland_follows, fwin_follows, nparty_follows, nland_follows, nwin_follows, wparty_follows, wland_follows}
+use Rattle.sl_machine.proofs.soundness.KeptEntries.{table_follows, prio_follows, rest_follows, lead_follows, share_follows}
+use Rattle.sl_machine.proofs.soundness.KeptTables.{peers_follows, take_follows, lot_tested, takelot_follows}
+use Rattle.sl_machine.proofs.soundness.Fitting.{FitsEffect, fits_effect}
+use Rattle.sl_machine.proofs.runs.Stepping.{step_goes, step_jumps, step_ends}
+use Rattle.sl_machine.proofs.soundness.KeptRecords.{emit_follows, given_follows, weigh_follows, fault_follows, tie_follows, seat_follows, single_follows}
 
 -- ---- one instruction
 module _ (c : CountingCode) (e : Election) (k : Kinds) (s : State) (h : Keeps e k s) (election : IsElection e) where

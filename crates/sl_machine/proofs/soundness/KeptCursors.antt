@@ -12,8 +12,8 @@ use Rattle.sl_verify.specs.Kinds.{party_cursor, land_cursor, win_cursor}
 use Rattle.sl_verify.specs.Leaves as leaves
 use Rattle.sl_machine.specs.State.{State}
 use Rattle.sl_machine.specs.Effects.{Goes, Jumps, winner_at, first_of, next_of, to_party, with_party, with_land, with_win}
-use Rattle.sl_machine.proofs.Sets.{set_covered}
-use Rattle.sl_machine.proofs.Keeping.{Keeps, Follows, keeps_party, keeps_land, keeps_win, follows_given, follows_either, get_all, IsSound}
+use Rattle.sl_machine.proofs.soundness.Sets.{set_covered}
+use Rattle.sl_machine.proofs.soundness.Keeping.{Keeps, Follows, keeps_party, keeps_land, keeps_win, follows_given, follows_either, get_all, IsSound}
 
 -- what holds of a cursor that is set to a number, and of one that is unset
 pub some_for : (P : ℕ → Type 0) (n : ℕ) → P n → ForSome (Some n) P

@@ -1,5 +1,5 @@
 -- States that keep what is known of them: where a part of the state changes, and the same part of the kinds.
-use Rattle.std.proofs.Common.{◌≡◌, ◌≢◌, ℕ, zero, suc, ◌<◌, Bool, true, false, not, ◌&&◌, ◌||◌, if◌then◌else◌, arith, List, [], ◌∷◌, length, slice_get, Option, Some, None, IsTrue, IsSome, IsSomeAnd, All, refl, subst, ◌∙◌}
+use Rattle.std.proofs.Common.{◌≡◌, ℕ, zero, suc, ◌<◌, Bool, true, false, not, ◌&&◌, ◌||◌, if◌then◌else◌, arith, List, [], ◌∷◌, length, slice_get, Option, Some, None, IsTrue, IsSome, IsSomeAnd, All, refl, subst, ◌∙◌}
 use Rattle.std.specs.Bool.{⊤}
 use Rattle.std.specs.Option.{ForSome, option_map_or}
 use Rattle.std.proofs.lemmas.Bool.{and_parts}
@@ -27,7 +27,7 @@ use Rattle.sl_machine.specs.State.{State, PriorityTable}
 use Rattle.sl_machine.specs.Effects.{Effect, Goes, Jumps, Ends, NoCase, effect, given, where_positive}
 use Rattle.sl_machine.specs.Safe.{IsInRange, entries_in}
 use Rattle.sl_machine.specs.Agrees.{ArePositive, AreSet, IsTable, HasTable, Agrees}
-use Rattle.sl_machine.proofs.Sets.{asked, positive_included, set_covered}
+use Rattle.sl_machine.proofs.soundness.Sets.{asked, positive_included, set_covered}
 
 -- the state is one of which the kinds are known, and in range
 pub record Keeps (e : Election) (k : Kinds) (s : State) : Type 0 where

@@ -1,5 +1,5 @@
 -- The instructions that record seats and weights, that seat winners and that end the run keep what is known.
-use Rattle.std.proofs.Common.{ℕ, ◌<◌, Bool, not, IsTrue, Option, Some, None, IsSomeAnd, slice_get, refl, sym, subst, if◌then◌else◌}
+use Rattle.std.proofs.Common.{ℕ, ◌<◌, Bool, not, IsTrue, Option, Some, None, IsSomeAnd, slice_get, refl, sym, subst}
 use Rattle.std.specs.Bool.{⊤}
 use Rattle.std.proofs.lemmas.Bool.{and_parts}
 use Rattle.sl_stages.specs.declared.fault.Scope.{Scope}
@@ -25,12 +25,12 @@ use Rattle.sl_machine.specs.Effects.{Effect, Goes, given, at_scope, records, sea
 use Rattle.sl_machine.specs.Safe.{entries_in}
 use Rattle.sl_machine.specs.Agrees.{AreSet}
 use Rattle.sl_prio.specs.Prio.{top}
-use Rattle.sl_machine.proofs.Sets.{set_covered}
-use Rattle.sl_machine.proofs.TableFacts.{top_all}
-use Rattle.sl_machine.proofs.Keeping.{Keeps, Follows, keeps_records, follows_given, follows_either, follows_positive, get_some, IsSound}
-use Rattle.sl_machine.proofs.KeptColumns.{set_some, both_set}
-use Rattle.sl_machine.proofs.KeptEntries.{IsKnown, table_there, cursor_there, index_there}
-use Rattle.sl_machine.proofs.KeptTables.{mapped_there, stage_there, is_ready}
+use Rattle.sl_machine.proofs.soundness.Sets.{set_covered}
+use Rattle.sl_machine.proofs.soundness.TableLemmas.{top_all}
+use Rattle.sl_machine.proofs.soundness.Keeping.{Keeps, Follows, keeps_records, follows_given, follows_either, follows_positive, get_some, IsSound}
+use Rattle.sl_machine.proofs.soundness.KeptColumns.{set_some, both_set}
+use Rattle.sl_machine.proofs.soundness.KeptEntries.{IsKnown, table_there, cursor_there, index_there}
+use Rattle.sl_machine.proofs.soundness.KeptTables.{mapped_there, stage_there, is_ready}
 
 scope_there : (scope : ScopeKind) (s : State) → AreSet (scope_cursors scope) s.party s.land s.win → IsSomeAnd (scope_at scope s) (λ x. ⊤)
 scope_there kind.All s set = tt

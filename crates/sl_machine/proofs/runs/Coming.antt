@@ -1,14 +1,14 @@
 -- Pieces of runs: a step, one piece after another, and more steps than are needed.
-use Rattle.std.proofs.Common.{◌≡◌, ℕ, zero, suc, ◌+◌, ◌*◌, ◌-◌, ◌≤◌, Some, slice_get, refl, sym, ap, subst, ◌∙◌, arith}
+use Rattle.std.proofs.Common.{◌≡◌, ℕ, zero, suc, ◌+◌, ◌-◌, ◌≤◌, Some, slice_get, ap, subst, ◌∙◌, arith}
 use Rattle.sl_stages.specs.returns.Election.{Election}
 use Rattle.sl_code.specs.Codes.{CountingCode}
 use Rattle.sl_code.specs.declared.instr.Instr.{Instr}
 use Rattle.sl_verify.specs.Leaves.{target_of}
 use Rattle.sl_machine.specs.State.{State, End}
 use Rattle.sl_machine.specs.Effects.{Goes, Jumps, Ends, effect}
-use Rattle.sl_machine.specs.Runs.{Step, To, Over, Nowhere, Ending, Ended, OutOfBudget, step, after_step, run}
+use Rattle.sl_machine.specs.Runs.{Step, To, Over, Nowhere, Ending, Ended, step, after_step, run}
 use Rattle.sl_machine.specs.Comes.{Comes, Finishes}
-use Rattle.sl_machine.proofs.Stepping.{step_goes, step_jumps, step_ends, run_on, run_over}
+use Rattle.sl_machine.proofs.runs.Stepping.{step_goes, step_jumps, step_ends, run_on, run_over}
 
 module _ (c : CountingCode) (e : Election) where
   -- ---- no step, and one

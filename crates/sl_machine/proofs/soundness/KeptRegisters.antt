@@ -10,8 +10,8 @@ use Rattle.sl_verify.specs.Kinds.{contains, is_register, with_register}
 use Rattle.sl_machine.specs.State as machine
 use Rattle.sl_machine.specs.State.{State}
 use Rattle.sl_machine.specs.Effects.{most, sets, sets_house}
-use Rattle.sl_machine.proofs.Sets.{positive_written, positive_kept}
-use Rattle.sl_machine.proofs.Keeping.{Keeps, Follows, keeps_registers, follows_positive, IsSound}
+use Rattle.sl_machine.proofs.soundness.Sets.{positive_written, positive_kept}
+use Rattle.sl_machine.proofs.soundness.Keeping.{Keeps, Follows, keeps_registers, follows_positive, IsSound}
 
 module _ (c : CountingCode) (e : Election) (k : Kinds) (s : State) (h : Keeps e k s) where
   -- a register is written, and is known to be positive if b says so

@@ -15,8 +15,8 @@ use Rattle.sl_machine.specs.inner.Leading.{Leads}
 use Rattle.sl_machine.specs.Safe.{MayStep}
 use Rattle.sl_machine.specs.State.{State}
 use Rattle.sl_machine.specs.inner.Stores.{end_with}
-use Rattle.sl_machine.proofs.Soundness.{safe_steps}
-use Rattle.sl_machine.proofs.Stepping.{step_goes, step_jumps, step_ends, run_on, run_over}
+use Rattle.sl_machine.proofs.soundness.Soundness.{safe_steps}
+use Rattle.sl_machine.proofs.runs.Stepping.{step_goes, step_jumps, step_ends, run_on, run_over}
 
 module _ (c : CountingCode) (e : Election) (p : ℕ) (s : State) (safe : IsSafe c e p s) (i : Instr) (at : slice_get c.instrs p ≡ Some i) where
   next : StepsSafely c e p s

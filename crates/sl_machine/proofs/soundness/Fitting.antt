@@ -1,5 +1,5 @@
 -- What an instruction records, and how it ends a run, fits the code and the returns.
-use Rattle.std.proofs.Common.{◌≡◌, ℕ, zero, suc, ◌+◌, ◌*◌, ◌<◌, ◌≤◌, Bool, true, false, ◌==◌, nat_lt, min, List, [], ◌∷◌, ◌++◌, length, map, All, Option, Some, None, IsTrue, slice_get, option_map, if◌then◌else◌, refl, sym, subst, arith}
+use Rattle.std.proofs.Common.{◌≡◌, ℕ, zero, suc, ◌+◌, ◌*◌, ◌<◌, ◌≤◌, Bool, true, false, ◌==◌, nat_lt, min, List, [], ◌∷◌, ◌++◌, length, map, All, Option, Some, None, IsTrue, slice_get, option_map, if◌then◌else◌, refl, subst, arith}
 use Rattle.std.specs.Option.{ForSome, option_map_or}
 use Rattle.std.proofs.lemmas.Bool.{and_parts}
 use Rattle.std.proofs.lemmas.List.Elements.{All-append, All-nil, All-cons, All-map, All-weaker}
@@ -10,12 +10,9 @@ use Rattle.sl_ratio.specs.Quotient.{Quotient, quotient}
 use Rattle.sl_stages.specs.declared.book.Shape.{Shape}
 use Rattle.sl_stages.specs.declared.book.Shape.TheVariants as shape
 use Rattle.sl_stages.specs.book.Typing.{same_shape}
-use Rattle.sl_stages.specs.declared.fault.FaultKind.{FaultKind}
-use Rattle.sl_stages.specs.declared.fault.FaultKind.TheVariants as fault
 use Rattle.sl_stages.specs.declared.fault.Scope.{Scope}
 use Rattle.sl_stages.specs.declared.fault.Scope.TheVariants as scope
 use Rattle.sl_stages.specs.declared.table.Mark.{Mark}
-use Rattle.sl_stages.specs.declared.table.Mark.TheVariants as mark
 use Rattle.sl_stages.specs.declared.table.SeatStep.{SeatStep}
 use Rattle.sl_stages.specs.declared.table.Weight.{Weight}
 use Rattle.sl_stages.specs.returns.Election.{Election, lands_of, parties_of, wins_of, has_list}
@@ -36,16 +33,16 @@ use Rattle.sl_verify.specs.Kinds.{same_ranking}
 use Rattle.sl_verify.specs.Needs.{has_columns, has_column}
 use Rattle.sl_prio.specs.Prio.{top, peers, is_covered}
 use Rattle.sl_prio.specs.Lot.{drawn}
-use Rattle.sl_machine.specs.State.{State, PriorityTable, Halted, Faulted}
+use Rattle.sl_machine.specs.State.{State, PriorityTable}
 use Rattle.sl_machine.specs.Places.{both, cell_at, index_at, item_of, at_entry, scope_at}
 use Rattle.sl_machine.specs.Priority.{without}
 use Rattle.sl_machine.specs.Drawn.{lot_of}
 use Rattle.sl_machine.specs.Effects.{Effect, Goes, Jumps, Ends, NoCase, effect, given, where_positive, winner_at, to_party, first_of, next_of, with_party, with_land, with_win, seats, sets_house, counts_peers, stage_of, name_of, kind_of, mark_of, at_scope, with_lot, with_table, with_entry, takes, enters}
-use Rattle.sl_machine.specs.Fits.{HasItem, HasScope, FitsStep, FitsWeight, FitsKind, FitsFault, FitsRecords, FitsHalt, FitsEnd}
+use Rattle.sl_machine.specs.Fits.{HasItem, HasScope, FitsStep, FitsWeight, FitsKind, FitsRecords, FitsEnd}
 use Rattle.sl_machine.specs.Safe.{IsInRange, entries_in}
-use Rattle.sl_machine.proofs.TableFacts.{peers_all}
-use Rattle.sl_machine.proofs.KeptEntries.{list_below}
-use Rattle.sl_machine.proofs.KeptTables.{list_parts}
+use Rattle.sl_machine.proofs.soundness.TableLemmas.{peers_all}
+use Rattle.sl_machine.proofs.soundness.KeptEntries.{list_below}
+use Rattle.sl_machine.proofs.soundness.KeptTables.{list_parts}
 
 -- the records of the state to which an effect leads fit, and so does its end
 abbrev pub FitsEffect : CountingCode → Election → Effect → Type 0

@@ -24,10 +24,10 @@ use Rattle.sl_machine.specs.Places.{both, index_at}
 use Rattle.sl_machine.specs.Effects.{Effect, Goes, NoCase, given, with_table, with_entry, winner_at}
 use Rattle.sl_machine.specs.Safe.{IsInRange, entries_in}
 use Rattle.sl_machine.specs.Agrees.{AreSet, IsTable, HasTable}
-use Rattle.sl_machine.proofs.Sets.{set_covered}
-use Rattle.sl_machine.proofs.TableFacts.{inserted_all, inserted_some}
-use Rattle.sl_machine.proofs.Keeping.{Keeps, Follows, keeps_table, follows_given, follows_either, follows_positive, same_entries-is, same_ranking-is, same_ranking-itself, IsSound}
-use Rattle.sl_machine.proofs.KeptCursors.{winner_there}
+use Rattle.sl_machine.proofs.soundness.Sets.{set_covered}
+use Rattle.sl_machine.proofs.soundness.TableLemmas.{inserted_all, inserted_some}
+use Rattle.sl_machine.proofs.soundness.Keeping.{Keeps, Follows, keeps_table, follows_given, follows_either, follows_positive, same_entries-is, same_ranking-is, same_ranking-itself, IsSound}
+use Rattle.sl_machine.proofs.soundness.KeptCursors.{winner_there}
 
 -- a table that is known to be on and to pass a test
 pub record IsKnown (p : TableState → Bool) (known : Option TableState) (t : PriorityTable) : Type 0 where
