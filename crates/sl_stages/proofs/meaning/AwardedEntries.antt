@@ -1,9 +1,10 @@
 -- The column of the awards of a split or a growth: at an entry's place stand its seats.
-use Rattle.std.proofs.Common.{◌≡◌, ℕ, zero, suc, ◌&&◌, Bool, true, false, List, [], ◌∷◌, ◌++◌, Option, Some, length, get_or, nat_eq, map, arith, refl, sym, ap, subst, ◌∙◌}
+use Rattle.std.proofs.Common.{◌≡◌, ℕ, zero, suc, ◌<◌, ◌&&◌, Bool, true, false, List, [], ◌∷◌, ◌++◌, Option, Some, length, get_or, nat_eq, map, arith, refl, sym, ap, subst, ◌∙◌}
 use Rattle.std.specs.Prelude.{zip, flat_map, find, filter, slice_get, option_map, unwrap_or}
 use Rattle.std.specs.List.{AllByRecursion as Every, AllZip, IsDistinct}
 use Rattle.std.proofs.lemmas.Bool.{cond-true, cond-false, eq-eqb, and_from, and_right}
 use Rattle.std.proofs.lemmas.List.{append-nil}
+use Rattle.std.proofs.lemmas.List.FromFn.{get_or-map-range_with_len}
 use Rattle.std.proofs.lemmas.Option.{none-some, same_Some}
 use Rattle.sl_stages.specs.declared.book.Shape.{Shape}
 use Rattle.sl_stages.specs.declared.book.Shape.TheVariants as shape
@@ -12,9 +13,10 @@ use Rattle.sl_stages.specs.declared.fault.Item.{Item}
 use Rattle.sl_stages.specs.declared.fault.Item.TheVariants as item
 use Rattle.sl_stages.specs.returns.Election.{Election, lands_of, parties_of, has_list}
 use Rattle.sl_stages.specs.returns.Facts.{lands, parties}
-use Rattle.sl_stages.specs.meaning.Scopes.{same_item, Group, scopes, entries_of, lists_in_land, lists_of_party, told_of}
+use Rattle.sl_stages.specs.meaning.Scopes.{same_item, Group, scopes, entries_of, lists_in_land, lists_of_party, place, told_of, pair_column}
 use Rattle.sl_stages.specs.meaning.Splits.{Award, awarded}
 use Rattle.sl_stages.proofs.meaning.DistinctLists.{number_flips, always, every_weaker, every_map, Apart, distinct_nil, distinct_pieces, distinct_range}
+use Rattle.sl_stages.proofs.meaning.ListPlaces.{by_list_at}
 use Rattle.sl_stages.proofs.meaning.ScopeRecords.{entries_differ, lists_in_land_differ, lists_of_party_differ, lands_apart}
 
 -- ---- the same item
@@ -152,3 +154,15 @@ scope_entries_differ e shape.Land votes =
     subst (IsDistinct same_item) (sym (pieces_of_made (λ (g : Group). g.entries) (λ land. record { scope = scope.Land land; amount_place = land; entries = lists_in_land e land }) (lands e)))
     (distinct_pieces same_item nat_eq (lists_in_land e) (lands_apart e) (lands e) (always (λ l. IsDistinct same_item (lists_in_land e l)) (lists_in_land_differ e) (lands e)) (distinct_range 0 (lands_of e)))
 scope_entries_differ e shape.List votes = distinct_nil same_item
+
+-- ---- the column that pairs make: at an entry's place stands what they say of it
+
+module _ (e : Election) (pairs : List (Item × ℕ)) where
+  pub party_cell : (party : ℕ) → party < parties_of e → get_or (pair_column e shape.Party pairs) (place e (item.Party party)) 0 ≡ told_of pairs (item.Party party)
+  party_cell party within = get_or-map-range_with_len (λ party. told_of pairs (item.Party party)) 0 (parties_of e) party party 0 within (omega arith)
+
+  pub land_cell : (land : ℕ) → land < lands_of e → get_or (pair_column e shape.Land pairs) (place e (item.Land land)) 0 ≡ told_of pairs (item.Land land)
+  land_cell land within = get_or-map-range_with_len (λ land. told_of pairs (item.Land land)) 0 (lands_of e) land land 0 within (omega arith)
+
+  pub pair_cell : (land party : ℕ) → land < lands_of e → party < parties_of e → get_or (pair_column e shape.List pairs) (place e (item.List land party)) 0 ≡ told_of pairs (item.List land party)
+  pair_cell land party in_lands in_parties = by_list_at e (λ land party. told_of pairs (item.List land party)) land party in_lands in_parties
