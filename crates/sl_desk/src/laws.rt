@@ -1,6 +1,14 @@
 //! Laws of what is written.
 
+ghost use Rattle.std.specs.Prelude.{◌≡◌};
 ghost use Rattle.sl_desk.specs.Laws.{HasOneOutput, HasOneCheck};
+
+use crate::limits::{MAX_BOOK_BYTES, MAX_RETURNS_BYTES};
+
+/// A book may have 65,536 bytes, and returns 4,194,304.
+pub fn limits()
+    ensures { (MAX_BOOK_BYTES ≡ 65536) × (MAX_RETURNS_BYTES ≡ 4194304) }
+{}
 
 /// The bytes of a book and of returns have at most one output: a status and a text.
 pub fn inputs_have_one_output()

@@ -1,4 +1,4 @@
-use Rattle.sl_desk.proofs.OneCheck.{one_check}
+use Rattle.sl_desk.proofs.OneOutput.{one_check}
 use Rattle.sl_desk.proofs.laws.books_have_one_check.Goals as goal
 
 pub returns : goal.returns
