@@ -39,7 +39,7 @@ use Rattle.sl_desk.proofs.OneTable.{one_table}
 pub record LowerLaws : Type 0 where
   pub one_list : (source : List ℕ) (a b : List Token) → lex.AreTokens source a → lex.AreTokens source b → a ≡ b
   pub one_lex_fault : (source : List ℕ) (a b : LexFault) → lex.IsFault source a → lex.IsFault source b → a ≡ b
-  pub tokens_or_fault : (source : List ℕ) (tokens : List Token) (fault : LexFault) → lex.AreTokens source tokens → lex.IsFault source fault → ⊥
+  pub no_fault_of_tokens : (source : List ℕ) (tokens : List Token) (fault : LexFault) → lex.AreTokens source tokens → lex.IsFault source fault → ⊥
   pub one_tree : (source : List ℕ) (tokens : List Token) (a b : BookTree) → IsBook source a tokens [] → IsBook source b tokens [] → a ≡ b
   pub one_parse_fault : (source : List ℕ) (tokens : List Token) (a b : Cause) (x y : List Token) → IsFault source limits tokens a x → IsFault source limits tokens b y → (a ≡ b) × (x ≡ y)
   pub tree_or_fault : (source : List ℕ) (tokens : List Token) (tree : BookTree) (cause : Cause) (rest : List Token)
@@ -169,21 +169,21 @@ module _ (laws : LowerLaws) where
   one_text_verdict source (Refused TooLong) (Good u) h k = let fits = k.0.lexed.fits in absurd (omega arith)
   one_text_verdict source (Refused (Tokens f)) (Refused TooLong) h k = let fits = h.0 in absurd (omega arith)
   one_text_verdict source (Refused (Tokens f)) (Refused (Tokens g)) h k = ap (λ (x : LexFault). Refused (Tokens x)) (laws.one_lex_fault source f g h.1 k.1)
-  one_text_verdict source (Refused (Tokens f)) (Refused (Grammar g)) h k = absurd (laws.tokens_or_fault source k.0 f k.1.lexed h.1)
-  one_text_verdict source (Refused (Tokens f)) (Refused (Test g)) h k = absurd (laws.tokens_or_fault source k.1.tokens f k.1.lexed.lexed h.1)
-  one_text_verdict source (Refused (Tokens f)) (Good u) h k = absurd (laws.tokens_or_fault source k.0.tokens f k.0.lexed.lexed h.1)
+  one_text_verdict source (Refused (Tokens f)) (Refused (Grammar g)) h k = absurd (laws.no_fault_of_tokens source k.0 f k.1.lexed h.1)
+  one_text_verdict source (Refused (Tokens f)) (Refused (Test g)) h k = absurd (laws.no_fault_of_tokens source k.1.tokens f k.1.lexed.lexed h.1)
+  one_text_verdict source (Refused (Tokens f)) (Good u) h k = absurd (laws.no_fault_of_tokens source k.0.tokens f k.0.lexed.lexed h.1)
   one_text_verdict source (Refused (Grammar f)) (Refused TooLong) h k = let fits = h.1.fits in absurd (omega arith)
-  one_text_verdict source (Refused (Grammar f)) (Refused (Tokens g)) h k = absurd (laws.tokens_or_fault source h.0 g h.1.lexed k.1)
+  one_text_verdict source (Refused (Grammar f)) (Refused (Tokens g)) h k = absurd (laws.no_fault_of_tokens source h.0 g h.1.lexed k.1)
   one_text_verdict source (Refused (Grammar f)) (Refused (Grammar g)) h k = ap (λ (x : ParseFault). Refused (Grammar x)) (one_fault source h.0 k.0 f g h.1 k.1 h.2 k.2 h.3 k.3)
   one_text_verdict source (Refused (Grammar f)) (Refused (Test g)) h k = absurd (no_fault source k.0 h.0 f k.1 h.1 h.2 h.3)
   one_text_verdict source (Refused (Grammar f)) (Good u) h k = absurd (no_fault source u h.0 f k.0 h.1 h.2 h.3)
   one_text_verdict source (Refused (Test f)) (Refused TooLong) h k = let fits = h.1.lexed.fits in absurd (omega arith)
-  one_text_verdict source (Refused (Test f)) (Refused (Tokens g)) h k = absurd (laws.tokens_or_fault source h.1.tokens g h.1.lexed.lexed k.1)
+  one_text_verdict source (Refused (Test f)) (Refused (Tokens g)) h k = absurd (laws.no_fault_of_tokens source h.1.tokens g h.1.lexed.lexed k.1)
   one_text_verdict source (Refused (Test f)) (Refused (Grammar g)) h k = absurd (no_fault source h.0 k.0 g h.1 k.1 k.2 k.3)
   one_text_verdict source (Refused (Test f)) (Refused (Test g)) h k = ap (λ (x : CheckFault). Refused (Test x)) (one_test source h.0 k.0 f g h.1 k.1 h.2 k.2)
   one_text_verdict source (Refused (Test f)) (Good u) h k = absurd (no_test source u h.0 f k.0 h.1 k.1 h.2)
   one_text_verdict source (Good t) (Refused TooLong) h k = let fits = h.0.lexed.fits in absurd (omega arith)
-  one_text_verdict source (Good t) (Refused (Tokens g)) h k = absurd (laws.tokens_or_fault source h.0.tokens g h.0.lexed.lexed k.1)
+  one_text_verdict source (Good t) (Refused (Tokens g)) h k = absurd (laws.no_fault_of_tokens source h.0.tokens g h.0.lexed.lexed k.1)
   one_text_verdict source (Good t) (Refused (Grammar g)) h k = absurd (no_fault source t k.0 g h.0 k.1 k.2 k.3)
   one_text_verdict source (Good t) (Refused (Test g)) h k = absurd (no_test source t k.0 g h.0 k.1 h.1 k.2)
   one_text_verdict source (Good t) (Good u) h k = ap (λ (x : BookTree). Good x) (one_tree source t u h.0 k.0)

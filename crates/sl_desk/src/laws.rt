@@ -16,7 +16,7 @@ pub fn inputs_have_one_output()
 {
     sl_lex::laws::one_list();
     sl_lex::laws::one_fault();
-    sl_lex::laws::tokens_or_fault();
+    sl_lex::laws::no_fault_of_tokens();
     sl_parse::laws::one_tree();
     sl_parse::laws::one_fault();
     sl_parse::laws::no_fault_of_a_book();
@@ -28,7 +28,7 @@ pub fn books_have_one_check()
 {
     sl_lex::laws::one_list();
     sl_lex::laws::one_fault();
-    sl_lex::laws::tokens_or_fault();
+    sl_lex::laws::no_fault_of_tokens();
     sl_parse::laws::one_tree();
     sl_parse::laws::one_fault();
     sl_parse::laws::no_fault_of_a_book();
