@@ -30,8 +30,8 @@ use Rattle.sl_desk.specs.declared.status.Status.{Status}
 use Rattle.sl_desk.specs.declared.verdict.Verdict.{Verdict}
 use Rattle.sl_desk.specs.declared.verdict.Verdict.TheVariants.{Good, Refused}
 use Rattle.sl_desk.specs.Refusals.{refused}
-use Rattle.sl_desk.specs.Verdicts.{HasTokens, HasTree, BookInput, library, text, IsTextVerdict, IsBookVerdict, book_line, IsReturnsVerdict}
-use Rattle.sl_desk.specs.Output.{IsTableText, IsTreeOutput, IsCount, IsCheck, check_line}
+use Rattle.sl_desk.specs.Verdicts.{HasTokens, HasTree, library, text, IsTextVerdict, IsBookVerdict, book_line, IsReturnsVerdict}
+use Rattle.sl_desk.specs.Output.{IsTableText, IsTreeOutput, IsCount, IsCheck}
 use Rattle.sl_desk.specs.Laws.{HasOneOutput, HasOneCheck}
 use Rattle.sl_desk.proofs.OneTable.{one_table}
 

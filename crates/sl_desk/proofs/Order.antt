@@ -1,5 +1,5 @@
 -- The book is judged before the returns are read.
-use Rattle.std.proofs.Common.{◌≡◌, ℕ, ◌+◌, ◌-◌, ◌^◌, min, List, Option, Some, None, IfSome, IfOk, IfErr, Result, Ok, Err, true, ap, subst, sym, inr, arith}
+use Rattle.std.proofs.Common.{◌≡◌, ℕ, ◌+◌, ◌-◌, ◌^◌, min, List, Option, Some, None, IfSome, IfOk, IfErr, Result, Ok, Err, true, ap, inr, arith}
 use Rattle.sl_stages.specs.book.Trees.{BookTree}
 use Rattle.sl_stages.specs.returns.Election.{Election}
 use Rattle.sl_stages.specs.meaning.PlainBooks.{is_plain}

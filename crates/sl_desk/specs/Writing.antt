@@ -1,7 +1,6 @@
 -- What a call leaves in its writer (docs/output.md, section 3).
-use Rattle.std.specs.Prelude.{◌≡◌, ℕ, Option, Some, None, List, take, Result, Ok, Err}
+use Rattle.std.specs.Prelude.{ℕ, Option, List, take, Result, Ok, Err}
 use Rattle.std.specs.Io.KnownBytes.{Appends, Keeps}
-use Rattle.sl_desk.specs.declared.source.Failed.{Failed}
 use Rattle.sl_desk.specs.declared.status.Status.{Status}
 use Rattle.sl_desk.specs.declared.status.DeskError.{DeskError}
 use Rattle.sl_desk.specs.declared.status.DeskError.TheVariants as fault

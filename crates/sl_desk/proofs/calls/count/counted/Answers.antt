@@ -1,4 +1,4 @@
-use Rattle.std.proofs.Common.{◌≡◌, true, sym, rules}
+use Rattle.std.proofs.Common.{◌≡◌, true, rules}
 use Rattle.sl_stages.specs.book.Books.{book_of}
 use Rattle.sl_stages.specs.meaning.PlainBooks.{is_plain}
 use Rattle.sl_desk.specs.Failures.{counts}
