@@ -11,4 +11,5 @@ pub mod OneCode
 pub mod Operations
 pub mod Pieces
 pub mod StageFacts
+pub mod Standing
 pub mod Values

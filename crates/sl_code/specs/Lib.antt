@@ -7,3 +7,4 @@ pub mod Listing
 pub mod Faults
 pub mod Proper
 pub mod Reading
+pub mod Standing
