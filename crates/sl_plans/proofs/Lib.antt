@@ -1,0 +1,5 @@
+-- The lemmas of plans.
+pub mod Places
+pub mod Pieces
+pub mod Loops
+pub mod Following

@@ -1,0 +1,4 @@
+-- The definitions of plans.
+pub mod Trees
+pub mod Meaning
+pub mod Following
