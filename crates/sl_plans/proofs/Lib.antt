@@ -3,3 +3,4 @@ pub mod Places
 pub mod Pieces
 pub mod Loops
 pub mod Following
+pub mod Rules

@@ -2,3 +2,4 @@
 pub mod Trees
 pub mod Meaning
 pub mod Following
+pub mod Achieves
