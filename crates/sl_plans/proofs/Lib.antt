@@ -4,3 +4,4 @@ pub mod Pieces
 pub mod Loops
 pub mod Following
 pub mod Rules
+pub mod Keeping

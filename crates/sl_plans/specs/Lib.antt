@@ -3,3 +3,4 @@ pub mod Trees
 pub mod Meaning
 pub mod Following
 pub mod Achieves
+pub mod inner
