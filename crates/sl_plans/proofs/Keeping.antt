@@ -132,7 +132,7 @@ never_of : (is : List Instr) → list_any (λ i. false) is ≡ false
 never_of [] = refl
 never_of (i ∷ is) = never_of is
 
--- free plan has an instruction of no kind
+-- no plan has an instruction of no kind
 has_none : (tree : Tree) → has_instr (λ i. false) tree ≡ false
 has_none (Line is) = never_of is
 has_none (Stop i) = refl

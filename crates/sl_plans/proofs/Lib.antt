@@ -5,3 +5,5 @@ pub mod Loops
 pub mod Following
 pub mod Rules
 pub mod Keeping
+pub mod KeepingRules
+pub mod Prices

@@ -160,8 +160,8 @@ each_achieves Inv {c = c} {e = e} {over = over} {body = body} {s = s} {Q = Q} {E
     let n : ℕ = count_of e over in
     record {
       meets = meets_then (for_each (range_with_len 0 n) (turn_at over (does c e body)) s) (λ t. Onward (set_cursor over None t)) (Inv (0 + n)) Q E
-      (meets_each over (does c e body) Inv E n 0 (λ j t below inv. (turn j t (omega arith) inv).meets) s first)
-      (λ t inv. let same : 0 + n ≡ n = omega arith in last t (subst (λ (m : ℕ). Inv m t) same inv));
+          (meets_each over (does c e body) Inv E n 0 (λ j t below inv. (turn j t (omega arith) inv).meets) s first)
+          (λ t inv. let same : 0 + n ≡ n = omega arith in last t (subst (λ (m : ℕ). Inv m t) same inv));
     }
 
 -- ---- counted loops
@@ -193,8 +193,8 @@ pub times_achieves : (Inv : ℕ → State → Type 0) {c : CountingCode} {e : El
     → Achieves c e (Times r m body) s Q E
 times_achieves Inv {c = c} {e = e} {r = r} {m = m} {body = body} {s = s} {Q = Q} {E = E} other within first turn last = record {
   meets = meets_more (does c e (Times r m body) s) (λ u. (u.registers r ≡ 0) × Inv 0 u) Q E E
-  (meets_turns r (counted c e r (does c e body)) Inv E
-  (λ w t is inv. subst (λ (u : State). Meets (does c e body u) (λ v. (v.registers r ≡ w) × Inv w v) E) (sym (counted_down r w t other is)) (turn w t is inv).meets)
-  (turns_in e m) (s.registers r) s refl within first)
-  (λ t h. last t h.0 h.1) (λ x h. h);
+      (meets_turns r (counted c e r (does c e body)) Inv E
+      (λ w t is inv. subst (λ (u : State). Meets (does c e body u) (λ v. (v.registers r ≡ w) × Inv w v) E) (sym (counted_down r w t other is)) (turn w t is inv).meets)
+      (turns_in e m) (s.registers r) s refl within first)
+      (λ t h. last t h.0 h.1) (λ x h. h);
 }

@@ -3,4 +3,5 @@ pub mod Trees
 pub mod Meaning
 pub mod Following
 pub mod Achieves
+pub mod Costs
 pub mod inner

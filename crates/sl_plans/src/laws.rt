@@ -1,5 +1,6 @@
 //! What holds of every plan.
 
+ghost use Rattle.sl_plans.specs.Costs.{PlansCostTheirPrice, SharesSuffice};
 ghost use Rattle.sl_plans.specs.Following.{PlansAreFollowed};
 ghost use Rattle.sl_plans.specs.inner.Frames.{PlansKeepTheRest};
 
@@ -11,4 +12,14 @@ pub fn plans_are_followed()
 /// What a plan cannot write stays as it was.
 pub fn plans_keep_the_rest()
     ensures { PlansKeepTheRest }
+{}
+
+/// A plan costs its price.
+pub fn plans_cost_their_price()
+    ensures { PlansCostTheirPrice }
+{}
+
+/// A plan with no number of its price above a share's takes at most a share.
+pub fn shares_suffice()
+    ensures { SharesSuffice }
 {}
