@@ -3,7 +3,7 @@ use Rattle.std.proofs.Common.{◌≡◌, ℕ, zero, suc, ◌+◌, ◌-◌, ◌�
 use Rattle.sl_stages.specs.returns.Election.{Election}
 use Rattle.sl_code.specs.Codes.{CountingCode}
 use Rattle.sl_code.specs.declared.instr.Instr.{Instr}
-use Rattle.sl_verify.specs.Leaves.{target_of}
+use Rattle.sl_code.specs.Rows.{target_of}
 use Rattle.sl_machine.specs.State.{State, End}
 use Rattle.sl_machine.specs.Effects.{Goes, Jumps, Ends, effect}
 use Rattle.sl_machine.specs.Runs.{Step, To, Over, Nowhere, Ending, Ended, step, after_step, run}

@@ -5,7 +5,8 @@ use Rattle.sl_stages.specs.returns.Election.{Election}
 use Rattle.sl_code.specs.Codes.{CountingCode}
 use Rattle.sl_code.specs.declared.instr.Instr.{Instr}
 use Rattle.sl_verify.specs.Needs.{has_columns}
-use Rattle.sl_verify.specs.Leaves.{target_of}
+use Rattle.sl_verify.specs.WellKinded.{context_of}
+use Rattle.sl_code.specs.Rows.{target_of}
 use Rattle.sl_machine.specs.declared.machine.Step.TheVariants as step
 use Rattle.sl_machine.specs.declared.step.End.{End}
 use Rattle.sl_machine.specs.Agrees.{IsSafe}
@@ -28,8 +29,8 @@ module _ (c : CountingCode) (e : Election) (p : ℕ) (s : State) (safe : IsSafe 
   pub may_here : MayStep c e i s
   may_here = subst (λ (j : Instr). MayStep c e j s) same next.may
 
-  pub columns_here : IsTrue (has_columns c i)
-  columns_here = subst (λ (j : Instr). IsTrue (has_columns c j)) same next.columns
+  pub columns_here : IsTrue (has_columns (context_of c) i)
+  columns_here = subst (λ (j : Instr). IsTrue (has_columns (context_of c) j)) same next.columns
 
   at_next : (x : Effect) → x ≡ effect c e i s → effect c e next.instr s ≡ x
   at_next x h = ap (λ (j : Instr). effect c e j s) same ∙ sym h

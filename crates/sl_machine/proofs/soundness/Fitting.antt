@@ -31,6 +31,7 @@ use Rattle.sl_code.specs.Codes.{CountingCode}
 use Rattle.sl_verify.specs.declared.needs.TheConstants.{LAST_CLAUSE}
 use Rattle.sl_verify.specs.Kinds.{same_ranking}
 use Rattle.sl_verify.specs.Needs.{has_columns, has_column}
+use Rattle.sl_verify.specs.WellKinded.{context_of}
 use Rattle.sl_prio.specs.Prio.{top, peers, is_covered}
 use Rattle.sl_prio.specs.Lot.{drawn}
 use Rattle.sl_machine.specs.State.{State, PriorityTable}
@@ -192,7 +193,7 @@ module _ (c : CountingCode) (e : Election) (s : State) (range : IsInRange e s) (
       (peers_all (λ x. HasItem e (item_of e t.entries x.index)) t.contents
       (All-weaker (λ x. x.index < entries_in e t.entries) (λ x. HasItem e (item_of e t.entries x.index)) (λ x below. item_fits e t.entries x.index below) t.contents (range.table t is)))
 
-  pub fits_effect : (i : Instr) → IsTrue (has_columns c i) → FitsEffect c e (effect c e i s)
+  pub fits_effect : (i : Instr) → IsTrue (has_columns (context_of c) i) → FitsEffect c e (effect c e i s)
   fits_effect (instr.Set r x) g = h
   fits_effect (instr.Mov r f) g = h
   fits_effect (instr.Add r f) g = h
@@ -237,7 +238,7 @@ module _ (c : CountingCode) (e : Election) (s : State) (range : IsInRange e s) (
   fits_effect (instr.Halt k) g = in_given c e (slice_get c.slots k) _ (λ x is. record { base = column_is (slice_get c.slots k) g; vacant = none_named c; records = h })
   fits_effect (instr.At kinds) g = h
   fits_effect (instr.Haltv k v) g =
-      let both = and_parts (has_column c k shape.List) (has_column c v shape.List) g in
+      let both = and_parts (has_column (context_of c) k shape.List) (has_column (context_of c) v shape.List) g in
       in_given c e (slice_get c.slots k) _ (λ x is. in_given c e (slice_get c.slots v) _ (λ y at.
       record { base = column_is (slice_get c.slots k) both.0; vacant = one_named c v (column_is (slice_get c.slots v) both.1); records = h }))
   fits_effect (instr.Weigh n k by r) g = in_positive c e (s.registers r) _ (at_scope_fits n k _ (λ stage x in_stages in_scope.

@@ -22,7 +22,9 @@ use Rattle.sl_code.specs.declared.operand.Ranking.{Ranking}
 use Rattle.sl_code.specs.declared.operand.Ranking.TheVariants as ranking
 use Rattle.sl_verify.specs.Kinds.{contains, covers, includes, implies, fits_table, same_entries, same_ranking}
 use Rattle.sl_verify.specs.Needs.{has_registers, has_columns, has_kinds, has_table, has_needs, needed_positive, needed_cursors}
-use Rattle.sl_verify.specs.Leaves.{behind, target_of, carried, with_party, with_land, with_win}
+use Rattle.sl_code.specs.Rows.{target_of}
+use Rattle.sl_verify.specs.Leaves.{behind, carried, with_party, with_land, with_win}
+use Rattle.sl_verify.specs.WellKinded.{context_of}
 use Rattle.sl_machine.specs.State.{State, PriorityTable}
 use Rattle.sl_machine.specs.Effects.{Effect, Goes, Jumps, Ends, NoCase, effect, given, where_positive}
 use Rattle.sl_machine.specs.Safe.{IsInRange, entries_in}
@@ -169,17 +171,17 @@ get_some xs i h = get_all (λ x. ⊤) xs i h (λ k d l. tt)
 -- ---- what an instruction needs, part by part
 pub record HasNeeds (c : CountingCode) (k : Kinds) (i : Instr) : Type 0 where
   pub registers : IsTrue (has_registers i)
-  pub columns : IsTrue (has_columns c i)
+  pub columns : IsTrue (has_columns (context_of c) i)
   pub positive : IsTrue (option_map_or (contains k.positive) (needed_positive i) true)
-  pub cursors : IsTrue (covers k.cursors (needed_cursors c.slots k.table i))
+  pub cursors : IsTrue (covers k.cursors (needed_cursors (context_of c) k.table i))
   pub table : IsTrue (has_table k i)
 
-pub need_parts : (c : CountingCode) (k : Kinds) (i : Instr) → IsTrue (has_needs c k i) → HasNeeds c k i
+pub need_parts : (c : CountingCode) (k : Kinds) (i : Instr) → IsTrue (has_needs (context_of c) k i) → HasNeeds c k i
 need_parts c k i h =
-    let most = and_parts (has_registers i && has_columns c i && has_kinds c.slots k i) (has_table k i) h in
-    let more = and_parts (has_registers i && has_columns c i) (has_kinds c.slots k i) most.0 in
-    let some = and_parts (has_registers i) (has_columns c i) more.0 in
-    let kinds = and_parts (option_map_or (contains k.positive) (needed_positive i) true) (covers k.cursors (needed_cursors c.slots k.table i)) more.1 in
+    let most = and_parts (has_registers i && has_columns (context_of c) i && has_kinds (context_of c) k i) (has_table k i) h in
+    let more = and_parts (has_registers i && has_columns (context_of c) i) (has_kinds (context_of c) k i) most.0 in
+    let some = and_parts (has_registers i) (has_columns (context_of c) i) more.0 in
+    let kinds = and_parts (option_map_or (contains k.positive) (needed_positive i) true) (covers k.cursors (needed_cursors (context_of c) k.table i)) more.1 in
     record { registers = some.0; columns = some.1; positive = kinds.0; cursors = kinds.1; table = most.1 }
 
 -- where the instruction has what it needs, its effect keeps what is known

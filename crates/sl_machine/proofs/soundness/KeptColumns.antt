@@ -11,8 +11,9 @@ use Rattle.sl_code.specs.Codes.{CountingCode}
 use Rattle.sl_code.specs.declared.instr.Instr.TheVariants as op
 use Rattle.sl_code.specs.declared.kinds.Kinds.{Kinds}
 use Rattle.sl_code.specs.declared.operand.Input.{Input}
-use Rattle.sl_verify.specs.Kinds.{list_cursors}
+use Rattle.sl_verify.specs.Kinds.{list_cursors, no_cursors}
 use Rattle.sl_verify.specs.Needs.{shape_cursors, slot_cursors, has_column, input_shape}
+use Rattle.sl_verify.specs.WellKinded.{context_of}
 use Rattle.sl_machine.specs.State.{State}
 use Rattle.sl_machine.specs.Places.{both, cell_at}
 use Rattle.sl_machine.specs.Effects.{Goes, Jumps}
@@ -32,11 +33,10 @@ both_set (Some x) None f h l = cc
 both_set (Some x) (Some y) f h l = tt
 
 -- the column of a slot that there is, with its cursors
-slot_there : (slots : List Shape) (slot : ℕ) (p l w : Option ℕ) → slot < length slots → AreSet (slot_cursors slots slot) p l w
-    → IsSomeAnd (slice_get slots slot) (λ x. AreSet (shape_cursors x) p l w)
-slot_there [] slot p l w h all = absurd (omega arith)
-slot_there (x ∷ xs) zero p l w h all = all
-slot_there (x ∷ xs) (suc n) p l w h all = slot_there xs n p l w (omega arith) all
+slot_there : (column : Option Shape) (p l w : Option ℕ) → IsSome column → AreSet (option_map_or shape_cursors column no_cursors) p l w
+    → IsSomeAnd column (λ x. AreSet (shape_cursors x) p l w)
+slot_there None p l w h all = cc
+slot_there (Some x) p l w h all = all
 
 column_there : (s : Shape) (column : Option Shape) → IsTrue (option_map_or (same_shape s) column false) → IsSomeAnd column (λ x. ⊤)
 column_there s None h = cc
@@ -75,8 +75,8 @@ module _ (c : CountingCode) (e : Election) (k : Kinds) (s : State) (h : Keeps e 
   pub get_follows : (r slot : ℕ) → IsSound c e k s (op.Get r slot)
   get_follows r slot n =
       let i = op.Get r slot in
-      let cursors = set_covered k.cursors (slot_cursors c.slots slot) n.cursors h.agrees.cursors in
-      let there = slot_there c.slots slot s.party s.land s.win (ltb-true slot (length c.slots) n.columns) cursors in
+      let cursors = set_covered k.cursors (slot_cursors (context_of c) slot) n.cursors h.agrees.cursors in
+      let there = slot_there (slice_get c.slots slot) s.party s.land s.win n.columns cursors in
       follows_given e k i (λ x. AreSet (shape_cursors x) s.party s.land s.win) (slice_get c.slots slot) _ there (λ x is all.
       follows_given e k i (λ p. ⊤) (cell_at e x s) _ (cell_there e x s all) (λ p at any.
       keeps_registers e k s h _ _ (positive_written false r (s.columns slot p) k.positive s.registers n.registers (λ t. absurd (true≢false (sym t))) h.agrees.positive)))
@@ -88,13 +88,13 @@ module _ (c : CountingCode) (e : Election) (k : Kinds) (s : State) (h : Keeps e 
   pub store_follows : (slot r : ℕ) → IsSound c e k s (op.Store slot r)
   store_follows slot r n =
       let i = op.Store slot r in
-      let cursors = set_covered k.cursors (slot_cursors c.slots slot) n.cursors h.agrees.cursors in
-      let there = slot_there c.slots slot s.party s.land s.win (ltb-true slot (length c.slots) n.columns) cursors in
+      let cursors = set_covered k.cursors (slot_cursors (context_of c) slot) n.cursors h.agrees.cursors in
+      let there = slot_there (slice_get c.slots slot) s.party s.land s.win n.columns cursors in
       follows_given e k i (λ x. AreSet (shape_cursors x) s.party s.land s.win) (slice_get c.slots slot) _ there (λ x is all.
       follows_given e k i (λ p. ⊤) (cell_at e x s) _ (cell_there e x s all) (λ p at any. stored _))
 
   pub zero_follows : (slot : ℕ) → IsSound c e k s (op.Zero slot)
-  zero_follows slot n = follows_given e k (op.Zero slot) (λ x. ⊤) (slice_get c.slots slot) _ (get_some c.slots slot (ltb-true slot (length c.slots) n.columns)) (λ x is all. stored _)
+  zero_follows slot n = follows_given e k (op.Zero slot) (λ x. ⊤) (slice_get c.slots slot) _ (set_some (slice_get c.slots slot) n.columns) (λ x is all. stored _)
 
   pub input_follows : (slot : ℕ) (column : Input) → IsSound c e k s (op.Input slot column)
   input_follows slot column n =
@@ -106,6 +106,6 @@ module _ (c : CountingCode) (e : Election) (k : Kinds) (s : State) (h : Keeps e 
   pub haltv_follows : (slot vacant : ℕ) → IsSound c e k s (op.Haltv slot vacant)
   haltv_follows slot vacant n =
       let i = op.Haltv slot vacant in
-      let columns = and_parts (has_column c slot shape.List) (has_column c vacant shape.List) n.columns in
+      let columns = and_parts (has_column (context_of c) slot shape.List) (has_column (context_of c) vacant shape.List) n.columns in
       follows_given e k i (λ x. ⊤) (slice_get c.slots slot) _ (column_there shape.List (slice_get c.slots slot) columns.0) (λ x is all.
       follows_given e k i (λ x. ⊤) (slice_get c.slots vacant) _ (column_there shape.List (slice_get c.slots vacant) columns.1) (λ y is_too all_too. tt))

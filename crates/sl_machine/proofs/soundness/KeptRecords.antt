@@ -19,6 +19,7 @@ use Rattle.sl_code.specs.declared.operand.ScopeKind.{ScopeKind}
 use Rattle.sl_code.specs.declared.operand.ScopeKind.TheVariants as kind
 use Rattle.sl_verify.specs.Kinds.{covers, same_entries, win_cursor}
 use Rattle.sl_verify.specs.Needs.{entry_cursors, scope_cursors, has_stage, is_table, points_at}
+use Rattle.sl_verify.specs.WellKinded.{context_of}
 use Rattle.sl_machine.specs.State.{State, PriorityTable, with_place}
 use Rattle.sl_machine.specs.Places.{index_at, scope_at}
 use Rattle.sl_machine.specs.Effects.{Effect, Goes, given, at_scope, records, seats, stage_of}
@@ -40,7 +41,7 @@ scope_there kind.List s set = both_set s.land s.party _ (set.land refl) (set.par
 
 module _ (c : CountingCode) (e : Election) (k : Kinds) (s : State) (h : Keeps e k s) where
   -- ---- a stage's scope, and an entry at the cursors
-  scope_follows : (i : Instr) (n : ℕ) (scope : ScopeKind) (go : ℕ → Scope → Effect) → IsTrue (has_stage c n) → IsTrue (covers k.cursors (scope_cursors scope))
+  scope_follows : (i : Instr) (n : ℕ) (scope : ScopeKind) (go : ℕ → Scope → Effect) → IsTrue (has_stage (context_of c) n) → IsTrue (covers k.cursors (scope_cursors scope))
       → ((stage : ℕ) (x : Scope) → Follows e k i (go stage x)) → Follows e k i (at_scope c e n scope s go)
   scope_follows i n scope go stage cursors f =
       follows_given e k i (λ x. ⊤) (stage_of c.stages n) _ (stage_there c n stage) (λ at is any.
@@ -56,7 +57,7 @@ module _ (c : CountingCode) (e : Election) (k : Kinds) (s : State) (h : Keeps e 
       follows_given e k i (λ index. index < entries_in e t.entries) (index_at e t.entries s) _ (index_there e t.entries s here h.range) (λ index at below. f t index))
 
   -- ---- what is recorded
-  records_follows : (i : Instr) (n : ℕ) (scope : ScopeKind) (number step : ℕ) (m : Mark) → IsTrue (has_stage c n) → IsTrue (covers k.cursors (scope_cursors scope))
+  records_follows : (i : Instr) (n : ℕ) (scope : ScopeKind) (number step : ℕ) (m : Mark) → IsTrue (has_stage (context_of c) n) → IsTrue (covers k.cursors (scope_cursors scope))
       → IsTrue (is_table (points_at k.cursors) k.table) → ((u : State) → Keeps e k u → Follows e k i (Goes u)) → Follows e k i (records c e n scope number step m s)
   records_follows i n scope number step m stage cursors table goes =
       scope_follows i n scope _ stage cursors (λ at x. entry_follows i _ table (λ t index. goes _ (keeps_records e k s h s.columns s.mark _ s.weights s.placed)))

@@ -17,6 +17,7 @@ use Rattle.sl_verify.specs.declared.needs.TheConstants.{LAST_CLAUSE}
 use Rattle.sl_verify.specs.Kinds.{is_register, join}
 use Rattle.sl_verify.specs.Needs.{entry_cursors, table_cursors, has_stage, is_table}
 use Rattle.sl_verify.specs.Leaves.{with_ready}
+use Rattle.sl_verify.specs.WellKinded.{context_of}
 use Rattle.sl_machine.specs.State.{State, PriorityTable}
 use Rattle.sl_machine.specs.Places.{at_entry}
 use Rattle.sl_machine.specs.Priority.{without}
@@ -77,7 +78,7 @@ pub mapped_there : {A B : Type 0} (f : A → B) (o : Option A) → IsSomeAnd o (
 mapped_there f None h = h
 mapped_there f (Some x) h = tt
 
-module _ (c : CountingCode) (n : ℕ) (h : IsTrue (has_stage c n)) where
+module _ (c : CountingCode) (n : ℕ) (h : IsTrue (has_stage (context_of c) n)) where
   pub stage_there : IsSomeAnd (stage_of c.stages n) (λ y. ⊤)
   stage_there =
       chosen_there (n == LAST_CLAUSE) (nat_lt n (length c.stages)) (length c.stages) _ h (λ t.
@@ -159,7 +160,7 @@ module _ (c : CountingCode) (e : Election) (k : Kinds) (s : State) (h : Keeps e 
       takes_follows t now_is known op.Take (top t.contents) (top_there t now_is known) (λ u a. a))
 
   -- the table, and the stage's lot in it
-  lot_follows : (i : Instr) (n : ℕ) (go : PriorityTable → List ℕ → Effect) → IsTrue (has_stage c n) → IsTrue (is_table is_ready k.table)
+  lot_follows : (i : Instr) (n : ℕ) (go : PriorityTable → List ℕ → Effect) → IsTrue (has_stage (context_of c) n) → IsTrue (is_table is_ready k.table)
       → ((t : PriorityTable) → s.table ≡ Some t → IsKnown is_ready k.table t → (lot : List ℕ) → Follows e k i (go t lot)) → Follows e k i (with_lot c e n s go)
   lot_follows i n go stage table f =
       follows_given e k i (IsKnown is_ready k.table) s.table _ (table_there is_ready k.table s.table table h.agrees.table) (λ t now_is known.

@@ -11,8 +11,9 @@ use Rattle.sl_code.specs.declared.instr.Instr.{Instr}
 use Rattle.sl_code.specs.declared.instr.Instr.TheVariants as op
 use Rattle.sl_code.specs.declared.kinds.Kinds.{Kinds}
 use Rattle.sl_verify.specs.Kinds.{start_kinds, implies}
-use Rattle.sl_verify.specs.Leaves.{behind, target_of, carried}
-use Rattle.sl_verify.specs.WellKinded.{IsWellKinded, Stands, coming, declared_by, leads_well}
+use Rattle.sl_code.specs.Rows.{target_of}
+use Rattle.sl_verify.specs.Leaves.{behind, carried}
+use Rattle.sl_verify.specs.WellKinded.{IsWellKinded, Stands, coming, declared_by, leads_well, context_of}
 use Rattle.sl_machine.specs.State.{State, start}
 use Rattle.sl_machine.specs.Effects.{Effect, Goes, Jumps, Ends, NoCase, effect}
 use Rattle.sl_machine.specs.Fits.{FitsRecords, FitsStep, FitsWeight}
@@ -145,7 +146,7 @@ module _ (c : CountingCode) (e : Election) (code : IsWellKinded c) (election : I
         k : Kinds
         k = carried (code.kinds p) i
 
-        go : (o : Option ℕ) → target_of i ≡ o → IsSome o → IsTrue (leads_well c k o) → LandsSafely c e i s
+        go : (o : Option ℕ) → target_of i ≡ o → IsSome o → IsTrue (leads_well (context_of c) k o) → LandsSafely c e i s
         go None same some leads = cc
         go (Some q) same some leads =
             let there = leads_to k (slice_get c.instrs q) leads in
