@@ -7,3 +7,4 @@ pub mod Rules
 pub mod Keeping
 pub mod KeepingRules
 pub mod Prices
+pub mod Laying

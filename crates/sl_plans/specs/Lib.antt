@@ -4,4 +4,5 @@ pub mod Meaning
 pub mod Following
 pub mod Achieves
 pub mod Costs
+pub mod Layout
 pub mod inner

@@ -1,7 +1,10 @@
 //! Structured plans of counting code: what they are, what they do, and how they are laid out as instructions.
 #![tactic(auto)]
 
+mod emitter;
+mod known;
 pub mod laws;
 mod plan;
 
+pub use emitter::{ONES, emit, put, size};
 pub use plan::{Bound, Cursor, Part, Plan, Test};
