@@ -18,7 +18,7 @@ use Rattle.sl_prio.specs.Laws.{AnswersAlike}
 use Rattle.sl_prio.specs.Lot.{lot_cmp}
 use Rattle.sl_prio.proofs.Greatest.{greatest-None}
 use Rattle.sl_prio.proofs.Orders.{entry_order, lot_order}
-use Rattle.sl_prio.proofs.Orders.{same_entry as is_same}
+use Rattle.sl_prio.proofs.Orders.{same_entry-is as is_same}
 use Rattle.sl_prio.proofs.Rankings.{ranked-permutation, counts_alike, ranked-unique}
 use Rattle.sl_prio.proofs.LawProofs.{order_is_free, first_peers}
 use Rattle.sl_machine.specs.declared.priority.TableKind.{TableKind}
@@ -28,7 +28,7 @@ use Rattle.sl_machine.specs.State.{State, PriorityTable}
 use Rattle.sl_machine.specs.Places.{at_entry}
 use Rattle.sl_machine.specs.Effects.{Goes, given, takes, mark_of, with_entry}
 use Rattle.sl_machine.specs.Safe.{entries_in}
-use Rattle.sl_machine.specs.Priority.{same_entry, without}
+use Rattle.sl_prio.specs.Ranking.{same_entry, without}
 use Rattle.sl_machine.specs.inner.Tables.{table_in}
 
 -- ---- a table that is on

@@ -38,7 +38,7 @@ use Rattle.sl_machine.specs.Places.{both, cell_at, index_at, item_of, at_entry, 
 use Rattle.sl_prio.specs.Prio.{top, peers, is_covered}
 use Rattle.sl_prio.specs.Lot.{drawn}
 use Rattle.sl_prio.specs.Ranking.{insert_ranked}
-use Rattle.sl_machine.specs.Priority.{without}
+use Rattle.sl_prio.specs.Ranking.{without}
 use Rattle.sl_machine.specs.Drawn.{lot_of}
 
 -- the machine goes on after the instruction, or at its target, or the run ends, or no case applies

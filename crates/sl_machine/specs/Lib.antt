@@ -1,5 +1,4 @@
 pub mod State
-pub mod Priority
 pub mod Places
 pub mod Drawn
 pub mod SameLots

@@ -36,7 +36,7 @@ use Rattle.sl_prio.specs.Prio.{top, peers, is_covered}
 use Rattle.sl_prio.specs.Lot.{drawn}
 use Rattle.sl_machine.specs.State.{State, PriorityTable}
 use Rattle.sl_machine.specs.Places.{both, cell_at, index_at, item_of, at_entry, scope_at}
-use Rattle.sl_machine.specs.Priority.{without}
+use Rattle.sl_prio.specs.Ranking.{without}
 use Rattle.sl_machine.specs.Drawn.{lot_of}
 use Rattle.sl_machine.specs.Effects.{Effect, Goes, Jumps, Ends, NoCase, effect, given, where_positive, winner_at, to_party, first_of, next_of, with_party, with_land, with_win, seats, sets_house, counts_peers, stage_of, name_of, kind_of, mark_of, at_scope, with_lot, with_table, with_entry, takes, enters}
 use Rattle.sl_machine.specs.Fits.{HasItem, HasScope, FitsStep, FitsWeight, FitsKind, FitsRecords, FitsEnd}

@@ -20,7 +20,7 @@ use Rattle.sl_verify.specs.Leaves.{with_ready}
 use Rattle.sl_verify.specs.WellKinded.{context_of}
 use Rattle.sl_machine.specs.State.{State, PriorityTable}
 use Rattle.sl_machine.specs.Places.{at_entry}
-use Rattle.sl_machine.specs.Priority.{without}
+use Rattle.sl_prio.specs.Ranking.{without}
 use Rattle.sl_machine.specs.Drawn.{lot_of}
 use Rattle.sl_machine.specs.Effects.{Effect, Goes, Jumps, counts_peers, takes, mark_of, name_of, stage_of, with_lot}
 use Rattle.sl_machine.specs.Safe.{entries_in}

@@ -12,7 +12,7 @@ use Rattle.sl_prio.specs.Ranking.{insert_ranked, ranked}
 use Rattle.sl_prio.specs.Prio.{top, peers, has_quotient_of}
 use Rattle.sl_prio.specs.Lot.{drawn}
 use Rattle.sl_prio.proofs.LawProofs.{tops, draws}
-use Rattle.sl_machine.specs.Priority.{same_entry, without}
+use Rattle.sl_prio.specs.Ranking.{same_entry, without}
 
 -- ---- entries that are put in and taken out
 module _ (P : Entry → Type 0) where
