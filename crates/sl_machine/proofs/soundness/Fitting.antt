@@ -38,7 +38,7 @@ use Rattle.sl_machine.specs.State.{State, PriorityTable}
 use Rattle.sl_machine.specs.Places.{both, cell_at, index_at, item_of, at_entry, scope_at}
 use Rattle.sl_prio.specs.Ranking.{without}
 use Rattle.sl_machine.specs.Drawn.{lot_of}
-use Rattle.sl_machine.specs.Effects.{Effect, Goes, Jumps, Ends, NoCase, effect, given, where_positive, winner_at, to_party, first_of, next_of, with_party, with_land, with_win, seats, sets_house, counts_peers, stage_of, name_of, kind_of, mark_of, at_scope, with_lot, with_table, with_entry, takes, enters}
+use Rattle.sl_machine.specs.Effects.{Effect, Goes, Jumps, Ends, NoCase, effect, given, where_positive, winner_at, to_party, first_of, next_of, with_party, with_land, with_win, seat_winner, sets_house, counts_peers, stage_of, name_of, kind_of, mark_of, at_scope, with_lot, with_table, with_entry, takes, enters}
 use Rattle.sl_machine.specs.Fits.{HasItem, HasScope, FitsStep, FitsWeight, FitsKind, FitsRecords, FitsEnd}
 use Rattle.sl_machine.specs.Safe.{IsInRange, entries_in}
 use Rattle.sl_machine.proofs.soundness.TableLemmas.{peers_all}
@@ -151,7 +151,7 @@ module _ (c : CountingCode) (e : Election) (s : State) (range : IsInRange e s) (
   count_fits r zero = h
   count_fits r (suc n) = h
 
-  seats_fits : (w : ℕ) (party : Option ℕ) (listed : ℕ → Bool) → FitsEffect c e (seats w party listed s)
+  seats_fits : (w : ℕ) (party : Option ℕ) (listed : ℕ → Bool) → FitsEffect c e (seat_winner w party listed s)
   seats_fits w None listed = h
   seats_fits w (Some p) listed = in_if c e (listed p) _ _ h h
 

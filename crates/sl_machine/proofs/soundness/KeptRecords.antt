@@ -22,7 +22,7 @@ use Rattle.sl_verify.specs.Needs.{entry_cursors, scope_cursors, has_stage, is_ta
 use Rattle.sl_verify.specs.WellKinded.{context_of}
 use Rattle.sl_machine.specs.State.{State, PriorityTable, with_place}
 use Rattle.sl_machine.specs.Places.{index_at, scope_at}
-use Rattle.sl_machine.specs.Effects.{Effect, Goes, given, at_scope, records, seats, stage_of}
+use Rattle.sl_machine.specs.Effects.{Effect, Goes, given, at_scope, records, seat_winner, stage_of}
 use Rattle.sl_machine.specs.Safe.{entries_in}
 use Rattle.sl_machine.specs.Agrees.{AreSet}
 use Rattle.sl_prio.specs.Prio.{top}
@@ -95,7 +95,7 @@ module _ (c : CountingCode) (e : Election) (k : Kinds) (s : State) (h : Keeps e 
       let cursors = set_covered k.cursors win_cursor n.cursors h.agrees.cursors in
       follows_given e k op.Single (λ w. w < wins_of e) s.win _ (cursor_there s.win (wins_of e) (cursors.win refl) h.range.win) (λ w is below. placed_there w placed.Single)
 
-  seats_follow : (w : ℕ) (listed : ℕ → Bool) (party : Option ℕ) → Follows e k op.Seat (seats w party listed s)
+  seats_follow : (w : ℕ) (listed : ℕ → Bool) (party : Option ℕ) → Follows e k op.Seat (seat_winner w party listed s)
   seats_follow w listed None = h
   seats_follow w listed (Some p) = follows_either e k op.Seat (listed p) (Goes (with_place w placed.OnList s)) (Goes s) (λ yes. placed_there w placed.OnList) (λ no. h)
 
