@@ -1,23 +1,23 @@
 -- Fronts of equal lists.
-use Rattle.std.proofs.Common.{◌≡◌, ℕ, List, [], ◌∷◌, ◌++◌, length, refl, arith}
+use Rattle.std.proofs.Common.{◌≡◌, List, [], ◌∷◌, ◌++◌, length, refl, arith}
 
-pub head : (x y : ℕ) (xs ys : List ℕ) → x ∷ xs ≡ y ∷ ys → x ≡ y
+pub head : {X : Type 0} (x y : X) (xs ys : List X) → x ∷ xs ≡ y ∷ ys → x ≡ y
 head x y xs ys e = cc
 
-pub tail : (x y : ℕ) (xs ys : List ℕ) → x ∷ xs ≡ y ∷ ys → xs ≡ ys
+pub tail : {X : Type 0} (x y : X) (xs ys : List X) → x ∷ xs ≡ y ∷ ys → xs ≡ ys
 tail x y xs ys e = cc
 
-pub no_front : (x : ℕ) (xs : List ℕ) → x ∷ xs ≡ [] → ⊥
+pub no_front : {X : Type 0} (x : X) (xs : List X) → x ∷ xs ≡ [] → ⊥
 no_front x xs e = cc
 
 -- behind fronts of one length
-pub back_same : (xs ys r s : List ℕ) → length xs ≡ length ys → xs ++ r ≡ ys ++ s → r ≡ s
+pub back_same : {X : Type 0} (xs ys r s : List X) → length xs ≡ length ys → xs ++ r ≡ ys ++ s → r ≡ s
 back_same [] [] r s long e = e
 back_same [] (y ∷ ys) r s long e = absurd (omega (arith, long))
 back_same (x ∷ xs) [] r s long e = absurd (omega (arith, long))
 back_same (x ∷ xs) (y ∷ ys) r s long e = back_same xs ys r s (omega (arith, long)) (tail _ _ _ _ e)
 
-pub front_same : (xs ys r s : List ℕ) → length xs ≡ length ys → xs ++ r ≡ ys ++ s → xs ≡ ys
+pub front_same : {X : Type 0} (xs ys r s : List X) → length xs ≡ length ys → xs ++ r ≡ ys ++ s → xs ≡ ys
 front_same [] [] r s long e = refl
 front_same [] (y ∷ ys) r s long e = absurd (omega (arith, long))
 front_same (x ∷ xs) [] r s long e = absurd (omega (arith, long))

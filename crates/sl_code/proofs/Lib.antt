@@ -11,4 +11,6 @@ pub mod OneCode
 pub mod Operations
 pub mod Pieces
 pub mod StageFacts
+pub mod Standing
+pub mod Targets
 pub mod Values

@@ -227,10 +227,10 @@ impl<'a> Reader<'a> {
         let cursors = self.cursors()?;
         let table = self.table()?;
         Ok(Instr::At(Kinds {
-                positive,
-                cursors,
-                table,
-            }))
+            positive,
+            cursors,
+            table,
+        }))
     }
 
     fn weigh(&mut self) -> Result<Instr, Stop>

@@ -23,7 +23,7 @@ use Rattle.sl_code.specs.declared.operand.Ranking.TheVariants as ranking
 use Rattle.sl_verify.specs.Kinds.{contains, covers, includes, implies, fits_table, same_entries, same_ranking}
 use Rattle.sl_verify.specs.Needs.{has_registers, has_columns, has_kinds, has_table, has_needs, needed_positive, needed_cursors}
 use Rattle.sl_verify.specs.Leaves.{behind, target_of, carried, with_party, with_land, with_win}
-use Rattle.sl_machine.specs.State.{State, PriorityTable, Stuck}
+use Rattle.sl_machine.specs.State.{State, PriorityTable}
 use Rattle.sl_machine.specs.Effects.{Effect, Goes, Jumps, Ends, NoCase, effect, given, where_positive}
 use Rattle.sl_machine.specs.Safe.{IsInRange, entries_in}
 use Rattle.sl_machine.specs.Agrees.{ArePositive, AreSet, IsTable, HasTable, Agrees}
@@ -34,12 +34,11 @@ pub record Keeps (e : Election) (k : Kinds) (s : State) : Type 0 where
   pub agrees : Agrees k s
   pub range : IsInRange e s
 
--- the instruction has a case, and the kinds behind it are known where it goes on, those that it carries where it jumps; an end is one that a
--- code asks for
+-- the instruction has a case, and the kinds behind it are known where it goes on, those that it carries where it jumps
 abbrev pub Follows : Election → Kinds → Instr → Effect → Type 0
 Follows e k i (Goes t) = IsSomeAnd (behind k i) (λ next. Keeps e next t)
 Follows e k i (Jumps t) = IsSome (target_of i) × Keeps e (carried k i) t
-Follows e k i (Ends x) = x ≢ Stuck
+Follows e k i (Ends x) = Unit {0}
 Follows e k i NoCase = ⊥
 
 module _ (e : Election) (k : Kinds) (s : State) (h : Keeps e k s) where

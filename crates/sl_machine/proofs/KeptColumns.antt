@@ -101,11 +101,11 @@ module _ (c : CountingCode) (e : Election) (k : Kinds) (s : State) (h : Keeps e 
       follows_given e k (op.Input slot column) (λ x. ⊤) (slice_get c.slots slot) _ (column_there (input_shape column) (slice_get c.slots slot) n.columns) (λ x is all. stored _)
 
   pub halt_follows : (slot : ℕ) → IsSound c e k s (op.Halt slot)
-  halt_follows slot n = follows_given e k (op.Halt slot) (λ x. ⊤) (slice_get c.slots slot) _ (column_there shape.List (slice_get c.slots slot) n.columns) (λ x is all h. cc)
+  halt_follows slot n = follows_given e k (op.Halt slot) (λ x. ⊤) (slice_get c.slots slot) _ (column_there shape.List (slice_get c.slots slot) n.columns) (λ x is all. tt)
 
   pub haltv_follows : (slot vacant : ℕ) → IsSound c e k s (op.Haltv slot vacant)
   haltv_follows slot vacant n =
       let i = op.Haltv slot vacant in
       let columns = and_parts (has_column c slot shape.List) (has_column c vacant shape.List) n.columns in
       follows_given e k i (λ x. ⊤) (slice_get c.slots slot) _ (column_there shape.List (slice_get c.slots slot) columns.0) (λ x is all.
-      follows_given e k i (λ x. ⊤) (slice_get c.slots vacant) _ (column_there shape.List (slice_get c.slots vacant) columns.1) (λ y is_too all_too h. cc))
+      follows_given e k i (λ x. ⊤) (slice_get c.slots vacant) _ (column_there shape.List (slice_get c.slots vacant) columns.1) (λ y is_too all_too. tt))

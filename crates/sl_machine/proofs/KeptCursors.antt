@@ -1,9 +1,8 @@
 -- The instructions on cursors keep what is known.
 use Rattle.std.proofs.Common.{ℕ, zero, suc, ◌+◌, ◌<◌, Bool, true, false, IsTrue, Option, Some, None, IsSome, IsSomeAnd, slice_get, nat_lt, refl, sym, subst, arith, ltb-true}
-use Rattle.std.specs.Option.{ForSome}
+use Rattle.std.specs.Option.{ForSome, option_and_then}
 use Rattle.std.proofs.lemmas.Bool.{true≢false}
 use Rattle.std.proofs.lemmas.Option.{same_Some, none-some}
-use Rattle.sl_stages.specs.declared.returns.Win.{Win}
 use Rattle.sl_stages.specs.returns.Election.{Election, IsElection, IsWin, lands_of, parties_of, wins_of}
 use Rattle.sl_code.specs.Codes.{CountingCode}
 use Rattle.sl_code.specs.declared.instr.Instr.{Instr}
@@ -29,12 +28,11 @@ not_set t = absurd (true≢false (sym t))
 -- the winner at the cursor
 pub winner_there : (e : Election) (s : State) → IsElection e → ForSome s.win (λ w. w < wins_of e) → IsSome s.win
     → IsSomeAnd (winner_at e s) (IsWin (lands_of e) (parties_of e))
-winner_there e s election below there =
-    (elim s.win as (λ o. ForSome o (λ w. w < wins_of e) → IsSome o
-    → IsSomeAnd (elim o as (λ x. Option Win) [ None ↦ None | Some w ↦ slice_get e.wins w ]) (IsWin (lands_of e) (parties_of e))) [
-      | None ↦ λ b t. cc
-      | Some w ↦ λ b t. get_all (IsWin (lands_of e) (parties_of e)) e.wins w (b w refl) election.places
-    ]) below there
+winner_there e s election below there = found s.win below there
+  where
+    found : (win : Option ℕ) → ForSome win (λ w. w < wins_of e) → IsSome win → IsSomeAnd (option_and_then (λ w. slice_get e.wins w) win) (IsWin (lands_of e) (parties_of e))
+    found None b t = cc
+    found (Some w) b t = get_all (IsWin (lands_of e) (parties_of e)) e.wins w (b w refl) election.places
 
 module _ (c : CountingCode) (e : Election) (k : Kinds) (s : State) (h : Keeps e k s) where
   first_follows : (i : Instr) (n : ℕ) (set : Option ℕ → State → State) → Follows e k i (Jumps (set None s)) → (0 < n → Follows e k i (Goes (set (Some 0) s)))

@@ -19,10 +19,9 @@ use Rattle.sl_code.specs.declared.operand.Ranking.{Ranking}
 use Rattle.sl_code.specs.declared.operand.Ranking.TheVariants as ranking
 use Rattle.sl_verify.specs.Kinds.{covers, same_entries, same_ranking, win_cursor}
 use Rattle.sl_verify.specs.Needs.{entry_cursors, table_cursors, is_table, takes_entry, takes_share}
-use Rattle.sl_prio.specs.Ranking.{insert_ranked}
 use Rattle.sl_machine.specs.State.{State, PriorityTable}
 use Rattle.sl_machine.specs.Places.{both, index_at}
-use Rattle.sl_machine.specs.Effects.{Effect, Goes, NoCase, given, with_table, winner_at}
+use Rattle.sl_machine.specs.Effects.{Effect, Goes, NoCase, given, with_table, with_entry, winner_at}
 use Rattle.sl_machine.specs.Safe.{IsInRange, entries_in}
 use Rattle.sl_machine.specs.Agrees.{AreSet, IsTable, HasTable}
 use Rattle.sl_machine.proofs.Sets.{set_covered}
@@ -50,7 +49,7 @@ known_cursors {a} {b} {c} p known t h set =
     subst (λ (x : Entries). AreSet (entry_cursors x) a b c) (sym h.is.entries) (subst (λ (o : Option TableState). AreSet (table_cursors o) a b c) h.known_is set)
 
 -- the number of a list is in range
-list_below : (l p lands parties : ℕ) → l < lands → p < parties → l * parties + p < lands * parties
+pub list_below : (l p lands parties : ℕ) → l < lands → p < parties → l * parties + p < lands * parties
 list_below l p lands parties low small =
     let more : suc l * parties ≤ lands * parties = mul-le-mul_right parties low in
     let split : suc l * parties ≡ l * parties + parties = suc-mul l parties in
@@ -80,28 +79,28 @@ module _ (c : CountingCode) (e : Election) (k : Kinds) (s : State) (h : Keeps e 
       keeps_table e k s h _ _ (record { entries = refl; ranking = refl; ready = λ t. absurd (true≢false (sym t)) }) (All-nil (λ x. x.index < entries_in e kind))
 
   module _ (p : TableState → Bool) (t : PriorityTable) (now_is : s.table ≡ Some t) (known : IsKnown p k.table t) (q : Quotient) where
-    abbrev with_entry : ℕ → PriorityTable
-    with_entry index = record t { contents = insert_ranked (record { ratio = q; index = index }) t.contents }
+    abbrev with_index : ℕ → PriorityTable
+    with_index index = with_entry (record { ratio = q; index = index }) t
 
-    entered : (index : ℕ) → index < entries_in e t.entries → Keeps e k (with_table (with_entry index) s)
+    entered : (index : ℕ) → index < entries_in e t.entries → Keeps e k (with_table (with_index index) s)
     entered index below =
         let entry : Entry = record { ratio = q; index = index } in
-        let is : IsTable known.state (with_entry index) = record { entries = known.is.entries; ranking = known.is.ranking; ready = λ r. inserted_some entry t.contents } in
+        let is : IsTable known.state (with_index index) = record { entries = known.is.entries; ranking = known.is.ranking; ready = λ r. inserted_some entry t.contents } in
         let all = inserted_all (λ x. x.index < entries_in e t.entries) entry t.contents below (h.range.table t now_is) in
-        let kept = keeps_table e k s h known.state (with_entry index) is all in
-        subst (λ (o : Option TableState). Keeps e (record k { table = o }) (with_table (with_entry index) s)) (sym known.known_is) kept
+        let kept = keeps_table e k s h known.state (with_index index) is all in
+        subst (λ (o : Option TableState). Keeps e (record k { table = o }) (with_table (with_index index) s)) (sym known.known_is) kept
 
     -- the table's own ranking
     entering : (i : Instr) (by : Ranking) → t.ranking ≡ by → AreSet (entry_cursors t.entries) s.party s.land s.win → ((u : State) → Keeps e k u → Follows e k i (Goes u))
-        → Follows e k i (given (index_at e t.entries s) (λ index. if same_ranking by t.ranking then Goes (with_table (with_entry index) s) else NoCase))
+        → Follows e k i (given (index_at e t.entries s) (λ index. if same_ranking by t.ranking then Goes (with_table (with_index index) s) else NoCase))
     entering i by so set goes =
         follows_given e k i (λ index. index < entries_in e t.entries) (index_at e t.entries s) _ (index_there e t.entries s set h.range) (λ index at below.
-        follows_either e k i (same_ranking by t.ranking) (Goes (with_table (with_entry index) s)) NoCase (λ yes. goes _ (entered index below)) (λ no. both_ways _ no (same_ranking-itself t.ranking by so)))
+        follows_either e k i (same_ranking by t.ranking) (Goes (with_table (with_index index) s)) NoCase (λ yes. goes _ (entered index below)) (λ no. both_ways _ no (same_ranking-itself t.ranking by so)))
 
   -- what enters the cursors' entry in a table with that ranking
   abbrev entry_of : Ranking → Quotient → Effect
   entry_of by q = given s.table (λ t. given (index_at e t.entries s) (λ index.
-      if same_ranking by t.ranking then Goes (with_table (record t { contents = insert_ranked (record { ratio = q; index = index }) t.contents }) s) else NoCase))
+      if same_ranking by t.ranking then Goes (with_table (with_entry (record { ratio = q; index = index }) t) s) else NoCase))
 
   -- an entry of a party, a Land or a list
   entry_follows : (i : Instr) (by : Ranking) (q : Quotient) → IsTrue (is_table (takes_entry by) k.table) → IsTrue (covers k.cursors (table_cursors k.table))

@@ -1,5 +1,5 @@
 -- The instructions that record seats and weights, that seat winners and that end the run keep what is known.
-use Rattle.std.proofs.Common.{ℕ, ◌<◌, Bool, not, IsTrue, Some, None, IsSomeAnd, slice_get, refl, sym, subst, if◌then◌else◌}
+use Rattle.std.proofs.Common.{ℕ, ◌<◌, Bool, not, IsTrue, Option, Some, None, IsSomeAnd, slice_get, refl, sym, subst, if◌then◌else◌}
 use Rattle.std.specs.Bool.{⊤}
 use Rattle.std.proofs.lemmas.Bool.{and_parts}
 use Rattle.sl_stages.specs.declared.fault.Scope.{Scope}
@@ -21,7 +21,7 @@ use Rattle.sl_verify.specs.Kinds.{covers, same_entries, win_cursor}
 use Rattle.sl_verify.specs.Needs.{entry_cursors, scope_cursors, has_stage, is_table, points_at}
 use Rattle.sl_machine.specs.State.{State, PriorityTable, with_place}
 use Rattle.sl_machine.specs.Places.{index_at, scope_at}
-use Rattle.sl_machine.specs.Effects.{Effect, Goes, given, at_scope, records, stage_of}
+use Rattle.sl_machine.specs.Effects.{Effect, Goes, given, at_scope, records, seats, stage_of}
 use Rattle.sl_machine.specs.Safe.{entries_in}
 use Rattle.sl_machine.specs.Agrees.{AreSet}
 use Rattle.sl_prio.specs.Prio.{top}
@@ -76,14 +76,14 @@ module _ (c : CountingCode) (e : Election) (k : Kinds) (s : State) (h : Keeps e 
 
   -- ---- ends
   pub fault_follows : (n : ℕ) (scope : ScopeKind) (f : EndFault) → IsSound c e k s (op.Fault n scope f)
-  fault_follows n scope f needs = scope_follows (op.Fault n scope f) n scope _ needs.columns needs.cursors (λ at x h. cc)
+  fault_follows n scope f needs = scope_follows (op.Fault n scope f) n scope _ needs.columns needs.cursors (λ at x. tt)
 
   pub tie_follows : (n : ℕ) (scope : ScopeKind) (r : ℕ) → IsSound c e k s (op.Tie n scope r)
   tie_follows n scope r needs =
       let i = op.Tie n scope r in
       follows_given e k i (IsKnown is_ready k.table) s.table _ (table_there is_ready k.table s.table needs.table h.agrees.table) (λ t now_is known.
       follows_given e k i (λ x. x.index < entries_in e t.entries) (top t.contents) _ (top_all _ t.contents (known.is.ready known.passes) (h.range.table t now_is)) (λ first is below.
-      scope_follows i n scope _ needs.columns needs.cursors (λ at x h. cc)))
+      scope_follows i n scope _ needs.columns needs.cursors (λ at x. tt)))
 
   -- ---- winners
   placed_there : (w : ℕ) (p : Placed) → Keeps e k (with_place w p s)
@@ -94,13 +94,13 @@ module _ (c : CountingCode) (e : Election) (k : Kinds) (s : State) (h : Keeps e 
       let cursors = set_covered k.cursors win_cursor n.cursors h.agrees.cursors in
       follows_given e k op.Single (λ w. w < wins_of e) s.win _ (cursor_there s.win (wins_of e) (cursors.win refl) h.range.win) (λ w is below. placed_there w placed.Single)
 
+  seats_follow : (w : ℕ) (listed : ℕ → Bool) (party : Option ℕ) → Follows e k op.Seat (seats w party listed s)
+  seats_follow w listed None = h
+  seats_follow w listed (Some p) = follows_either e k op.Seat (listed p) (Goes (with_place w placed.OnList s)) (Goes s) (λ yes. placed_there w placed.OnList) (λ no. h)
+
   pub seat_follows : IsSound c e k s op.Seat
   seat_follows n =
       let cursors = set_covered k.cursors win_cursor n.cursors h.agrees.cursors in
       follows_given e k op.Seat (λ w. w < wins_of e) s.win _ (cursor_there s.win (wins_of e) (cursors.win refl) h.range.win) (λ w is below.
       follows_given e k op.Seat (λ x. ⊤) (slice_get e.wins w) _ (get_some e.wins w below) (λ winner at any.
-      let seated : Effect = Goes (with_place w placed.OnList s) in
-      elim winner.party as (λ o. Follows e k op.Seat ((elim o as (λ x. (ℕ → Bool) → Effect) [ None ↦ λ listed. Goes s | Some p ↦ λ listed. if listed p then seated else Goes s ]) (has_list e winner.land))) [
-        | None ↦ h
-        | Some p ↦ follows_either e k op.Seat (has_list e winner.land p) seated (Goes s) (λ yes. placed_there w placed.OnList) (λ no. h)
-      ]))
+      seats_follow w (has_list e winner.land) winner.party))

@@ -1,5 +1,5 @@
 -- The instructions on registers keep what is known.
-use Rattle.std.proofs.Common.{◌⊎◌, ℕ, ◌+◌, ◌-◌, ◌*◌, ◌/◌, ◌%◌, ◌<◌, min, max, Bool, false, ◌&&◌, ◌||◌, IsTrue, Some, None, nat_lt, refl, sym, inl, inr, arith, ltb-true, mul-pos}
+use Rattle.std.proofs.Common.{◌⊎◌, ℕ, ◌+◌, ◌-◌, ◌*◌, ◌/◌, ◌%◌, ◌<◌, min, max, Bool, false, ◌&&◌, ◌||◌, IsTrue, Option, Some, None, nat_lt, refl, sym, inl, inr, arith, ltb-true, mul-pos}
 use Rattle.std.specs.Option.{ForSome}
 use Rattle.std.proofs.lemmas.Bool.{and_parts, or_cases, true≢false}
 use Rattle.sl_stages.specs.returns.Election.{Election, IsElection}
@@ -9,7 +9,7 @@ use Rattle.sl_code.specs.declared.kinds.Kinds.{Kinds}
 use Rattle.sl_verify.specs.Kinds.{contains, is_register, with_register}
 use Rattle.sl_machine.specs.State as machine
 use Rattle.sl_machine.specs.State.{State}
-use Rattle.sl_machine.specs.Effects.{Goes, most, sets}
+use Rattle.sl_machine.specs.Effects.{most, sets, sets_house}
 use Rattle.sl_machine.proofs.Sets.{positive_written, positive_kept}
 use Rattle.sl_machine.proofs.Keeping.{Keeps, Follows, keeps_registers, follows_positive, IsSound}
 
@@ -83,7 +83,8 @@ module _ (c : CountingCode) (e : Election) (k : Kinds) (s : State) (h : Keeps e 
   -- the house that the returns give is positive, so that the register is known as before
   pub house_follows : (r : ℕ) → IsElection e → IsSound c e k s (op.House r)
   house_follows r election n =
-      (elim e.house as (λ o. ForSome o (λ x. 0 < x) → Follows e k (op.House r) (elim o [ None ↦ Goes s | Some x ↦ sets r x s ])) [
-        | None ↦ λ positive. h
-        | Some x ↦ λ positive. keeps_registers e k s h _ _ (positive_kept r x k.positive s.registers (positive x refl) h.agrees.positive)
-      ]) (λ x same. (election.house x same).0)
+      sets_house_follows e.house (λ x same. (election.house x same).0)
+    where
+      sets_house_follows : (house : Option ℕ) → ForSome house (λ x. 0 < x) → Follows e k (op.House r) (sets_house r house s)
+      sets_house_follows None positive = h
+      sets_house_follows (Some x) positive = keeps_registers e k s h _ _ (positive_kept r x k.positive s.registers (positive x refl) h.agrees.positive)

@@ -14,14 +14,14 @@ use Rattle.sl_code.specs.declared.kinds.TableState.{TableState}
 use Rattle.sl_code.specs.declared.operand.Entries.{Entries}
 use Rattle.sl_code.specs.declared.operand.Entries.TheVariants as entries
 use Rattle.sl_verify.specs.declared.needs.TheConstants.{LAST_CLAUSE}
-use Rattle.sl_verify.specs.Kinds.{join}
+use Rattle.sl_verify.specs.Kinds.{is_register, join}
 use Rattle.sl_verify.specs.Needs.{entry_cursors, table_cursors, has_stage, is_table}
 use Rattle.sl_verify.specs.Leaves.{with_ready}
 use Rattle.sl_machine.specs.State.{State, PriorityTable}
 use Rattle.sl_machine.specs.Places.{at_entry}
 use Rattle.sl_machine.specs.Priority.{without}
 use Rattle.sl_machine.specs.Drawn.{lot_of}
-use Rattle.sl_machine.specs.Effects.{Effect, Goes, Jumps, sets, takes, mark_of, name_of, stage_of, with_lot}
+use Rattle.sl_machine.specs.Effects.{Effect, Goes, Jumps, counts_peers, takes, mark_of, name_of, stage_of, with_lot}
 use Rattle.sl_machine.specs.Safe.{entries_in}
 use Rattle.sl_machine.specs.Agrees.{IsTable, HasTable}
 use Rattle.sl_prio.specs.Prio.{top, peers, is_covered}
@@ -38,7 +38,7 @@ either_none true h = refl
 either_none false h = h
 
 -- the Land and the party of a list's number
-list_parts : (index lands parties : ℕ) → index < lands * parties → (index / parties < lands) × (index % parties < parties)
+pub list_parts : (index lands parties : ℕ) → index < lands * parties → (index / parties < lands) × (index % parties < parties)
 list_parts index lands parties below =
     let some : 0 < parties = elim (eq-zero-or-pos parties) [
       | inl none ↦ let zero : lands * parties ≡ 0 = ap (λ x. lands * x) none ∙ mul-zero lands in absurd (omega arith)
@@ -103,15 +103,15 @@ module _ (c : CountingCode) (e : Election) (k : Kinds) (s : State) (h : Keeps e 
   peers_follows r t n =
       let p : TableState → Bool = λ t. true in
       follows_given e k (op.Peers r t) (IsKnown p k.table) s.table _ (table_there p k.table s.table n.table h.agrees.table) (λ table now_is known.
-      (elim (length (peers table.contents)) as (λ m. length (peers table.contents) ≡ m
-      → Follows e k (op.Peers r t) (elim m as (λ x. Effect) [ zero ↦ Jumps s | suc x ↦ sets r (suc x) s ])) [
-        | zero ↦ λ count. (refl, h)
-        | suc m ↦ λ count.
-            let some : table.contents ≢ [] = peers_some table.contents (omega arith) in
-            let ready = ready_table k.table s.table (λ u same. subst (λ (v : PriorityTable). v.contents ≢ []) (same_Some table u (sym now_is ∙ same)) some) h.agrees.table in
-            let kept = keeps_known e k s h (with_ready true k.table) ready in
-            keeps_registers e _ s kept _ _ (positive_written true r (suc m) k.positive s.registers n.registers (λ t. omega arith) h.agrees.positive)
-      ]) refl)
+      counted table now_is n.registers (length (peers table.contents)) refl)
+    where
+      counted : (table : PriorityTable) → s.table ≡ Some table → IsTrue (is_register r) → (m : ℕ) → length (peers table.contents) ≡ m → Follows e k (op.Peers r t) (counts_peers r m s)
+      counted table now_is here zero count = (refl, h)
+      counted table now_is here (suc m) count =
+          let some : table.contents ≢ [] = peers_some table.contents (omega arith) in
+          let ready = ready_table k.table s.table (λ u same. subst (λ (v : PriorityTable). v.contents ≢ []) (same_Some table u (sym now_is ∙ same)) some) h.agrees.table in
+          let kept = keeps_known e k s h (with_ready true k.table) ready in
+          keeps_registers e _ s kept _ _ (positive_written true r (suc m) k.positive s.registers here (λ t. omega arith) h.agrees.positive)
 
   -- ---- what is taken
   module _ (t : PriorityTable) (now_is : s.table ≡ Some t) (known : IsKnown is_ready k.table t) where

@@ -9,10 +9,10 @@ use Rattle.sl_stages.specs.returns.Election.{Election, wins_of}
 use Rattle.sl_code.specs.Codes.{CountingCode}
 use Rattle.sl_machine.specs.declared.store.Store.{Store}
 use Rattle.sl_machine.specs.Places.{cells_of}
-use Rattle.sl_machine.specs.Stores.{Sizes, state_of, columns_of, sizes_of, sizes_for}
+use Rattle.sl_machine.specs.inner.Stores.{Sizes, state_of, columns_of, sizes_of, sizes_for}
 use Rattle.sl_machine.specs.declared.memory.Vacant.TheVariants as vacant
 use Rattle.sl_machine.specs.Memories.{column_of, held_of}
-use Rattle.sl_machine.specs.Leaving.{held_with}
+use Rattle.sl_machine.specs.inner.Leaving.{held_with}
 
 module _ (c : CountingCode) (e : Election) (s : Store) (sizes : sizes_of s ≡ sizes_for c e) where
   widths : map length (columns_of s) ≡ map (cells_of e) c.slots

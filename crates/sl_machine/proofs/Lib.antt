@@ -8,7 +8,11 @@ pub mod KeptCursors
 pub mod KeptEntries
 pub mod KeptTables
 pub mod KeptRecords
+pub mod Fitting
 pub mod Stepping
+pub mod effects
+pub mod Coming
+pub mod Reading
 pub mod Soundness
 pub mod Priorities
 pub mod Cells
@@ -17,7 +21,7 @@ pub mod LotLists
 pub mod Bounds
 pub mod Drawing
 pub mod PeerLists
-pub mod Halting
+pub mod Holding
 pub mod Starting
 pub mod Leavings
 pub mod Running

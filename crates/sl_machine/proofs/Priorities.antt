@@ -8,7 +8,7 @@ use Rattle.std.proofs.lemmas.Cmp.{tied_itself}
 use Rattle.std.proofs.lemmas.List.Elements.{All-cons, All-head, All-tail}
 use Rattle.std.proofs.lemmas.List.Sorted.{All-permutation, IsPermutation-sym}
 use Rattle.sl_ratio.specs.Entry.{entry_cmp}
-use Rattle.sl_ratio.specs.EntryLaws.{entry_total}
+use Rattle.sl_ratio.specs.inner.EntryLaws.{entry_total}
 use Rattle.sl_ratio.specs.declared.entry.Entry.{Entry}
 use Rattle.sl_stages.specs.returns.Election.{Election}
 use Rattle.sl_prio.specs.Ranking.{ranked, insert_ranked}
@@ -26,10 +26,10 @@ use Rattle.sl_machine.specs.declared.priority.PriorityTable.TheInside.{Inside}
 use Rattle.sl_machine.specs.declared.priority.Taken.{Taken}
 use Rattle.sl_machine.specs.State.{State, PriorityTable}
 use Rattle.sl_machine.specs.Places.{at_entry}
-use Rattle.sl_machine.specs.Effects.{Goes, given, takes, mark_of}
+use Rattle.sl_machine.specs.Effects.{Goes, given, takes, mark_of, with_entry}
 use Rattle.sl_machine.specs.Safe.{entries_in}
 use Rattle.sl_machine.specs.Priority.{same_entry, without}
-use Rattle.sl_machine.specs.Tables.{table_in, with_entry}
+use Rattle.sl_machine.specs.inner.Tables.{table_in}
 
 -- ---- a table that is on
 

@@ -6,21 +6,17 @@ use Rattle.sl_code.specs.Codes.{CountingCode}
 use Rattle.sl_code.specs.declared.instr.Instr.{Instr}
 use Rattle.sl_verify.specs.Needs.{has_columns}
 use Rattle.sl_verify.specs.Leaves.{target_of}
-use Rattle.sl_machine.specs.declared.machine.Onward.TheVariants as onward
+use Rattle.sl_machine.specs.declared.machine.Step.TheVariants as step
 use Rattle.sl_machine.specs.declared.step.End.{End}
-use Rattle.sl_machine.specs.declared.step.End.TheVariants as end
 use Rattle.sl_machine.specs.Agrees.{IsSafe}
-use Rattle.sl_machine.specs.Answers.{HasSlots}
 use Rattle.sl_machine.specs.Effects.{Effect, Goes, Jumps, Ends, effect}
 use Rattle.sl_machine.specs.Laws.{StepsSafely, LandsSafely}
-use Rattle.sl_machine.specs.Leading.{Leads}
+use Rattle.sl_machine.specs.inner.Leading.{Leads}
 use Rattle.sl_machine.specs.Safe.{MayStep}
 use Rattle.sl_machine.specs.State.{State}
-use Rattle.sl_machine.specs.Steps.{run}
-use Rattle.sl_machine.specs.Stores.{ending_of}
-use Rattle.sl_machine.proofs.Halting.{HaltsIn, halts_in}
+use Rattle.sl_machine.specs.inner.Stores.{end_with}
 use Rattle.sl_machine.proofs.Soundness.{safe_steps}
-use Rattle.sl_machine.proofs.Stepping.{step_goes, step_jumps, step_ends}
+use Rattle.sl_machine.proofs.Stepping.{step_goes, step_jumps, step_ends, run_on, run_over}
 
 module _ (c : CountingCode) (e : Election) (p : ℕ) (s : State) (safe : IsSafe c e p s) (i : Instr) (at : slice_get c.instrs p ≡ Some i) where
   next : StepsSafely c e p s
@@ -38,8 +34,8 @@ module _ (c : CountingCode) (e : Election) (p : ℕ) (s : State) (safe : IsSafe 
   at_next : (x : Effect) → x ≡ effect c e i s → effect c e next.instr s ≡ x
   at_next x h = ap (λ (j : Instr). effect c e j s) same ∙ sym h
 
-  pub goes_on : (t : State) → Goes t ≡ effect c e i s → Leads c e p s (onward.To (p + 1)) t
-  goes_on t h = (next.goes t (at_next (Goes t) h), λ n. step_goes c e (run c e n) p s i at t (sym h))
+  pub goes_on : (t : State) → Goes t ≡ effect c e i s → Leads c e p s (step.To (p + 1)) t
+  goes_on t h = (next.goes t (at_next (Goes t) h), run_on c e p (p + 1) s t (step_goes c e p s i at t (sym h)))
 
   landing : (t : State) → Jumps t ≡ effect c e i s → LandsSafely c e next.instr t
   landing t h = next.jumps t (at_next (Jumps t) h)
@@ -50,15 +46,11 @@ module _ (c : CountingCode) (e : Election) (p : ℕ) (s : State) (safe : IsSafe 
   pub has_target : (t : State) → Jumps t ≡ effect c e i s → IsSome (target_of i)
   has_target t h = ap is_some (lands t h)
 
-  pub jumps_to : (t : State) (q : ℕ) → Jumps t ≡ effect c e i s → target_of i ≡ Some q → Leads c e p s (onward.To q) t
+  pub jumps_to : (t : State) (q : ℕ) → Jumps t ≡ effect c e i s → target_of i ≡ Some q → Leads c e p s (step.To q) t
   jumps_to t q h target =
       let there : (landing t h).place ≡ q = same_Some (landing t h).place q (sym (lands t h) ∙ target) in
-      (subst (λ (r : ℕ). IsSafe c e r t) there (landing t h).safe, λ n. step_jumps c e (run c e n) p s i at t q (sym h) target)
+      (subst (λ (r : ℕ). IsSafe c e r t) there (landing t h).safe, run_on c e p q s t (step_jumps c e p s i at t q (sym h) target))
 
-  slots_of : (x : End) (t : State) → HaltsIn c (Ends (ending_of x t)) → HasSlots c (Some x)
-  slots_of (end.Halted base vacant) t h = h
-  slots_of (end.Faulted fault) t h = tt
-
-  pub ends_with : (x : End) (t : State) → Ends (ending_of x t) ≡ effect c e i s → Leads c e p s (onward.End x) t
+  pub ends_with : (x : End) (t : State) → Ends (end_with x t) ≡ effect c e i s → Leads c e p s (step.Over x) t
   ends_with x t h =
-      (slots_of x t (subst (HaltsIn c) (sym h) (halts_in c e s i)), λ n. step_ends c e (run c e n) p s i at (ending_of x t) (sym h))
+      (next.ends (end_with x t) (at_next (Ends (end_with x t)) h), run_over c e p s (end_with x t) (step_ends c e p s i at (end_with x t) (sym h)))

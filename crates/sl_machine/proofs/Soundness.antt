@@ -3,6 +3,7 @@ use Rattle.std.proofs.Common.{◌≡◌, ◌≢◌, false, ℕ, zero, suc, ◌+�
 use Rattle.std.specs.Bool.{⊤}
 use Rattle.std.specs.Option.{option_map_or}
 use Rattle.std.proofs.lemmas.Bool.{cases_lt}
+use Rattle.std.proofs.lemmas.List.Elements.{All-nil}
 use Rattle.std.proofs.lemmas.Option.{slice_get_within, none-some}
 use Rattle.sl_stages.specs.returns.Election.{Election, IsElection}
 use Rattle.sl_code.specs.Codes.{CountingCode}
@@ -12,9 +13,10 @@ use Rattle.sl_code.specs.declared.kinds.Kinds.{Kinds}
 use Rattle.sl_verify.specs.Kinds.{start_kinds, implies}
 use Rattle.sl_verify.specs.Leaves.{behind, target_of, carried}
 use Rattle.sl_verify.specs.WellKinded.{IsWellKinded, Stands, coming, declared_by, leads_well}
-use Rattle.sl_machine.specs.State.{State, Stuck, start}
+use Rattle.sl_machine.specs.State.{State, start}
 use Rattle.sl_machine.specs.Effects.{Effect, Goes, Jumps, Ends, NoCase, effect}
-use Rattle.sl_machine.specs.Steps.{Run, run, step}
+use Rattle.sl_machine.specs.Fits.{FitsRecords, FitsStep, FitsWeight}
+use Rattle.sl_machine.specs.Runs.{Ending, Ended, Stuck, To, Over, Nowhere, Step, run, step, after_step}
 use Rattle.sl_machine.specs.Agrees.{Agrees, IsSafe}
 use Rattle.sl_machine.specs.Laws.{StartsAreSafe, LandsSafely, StepsSafely, SafeSteps, NeverStuck}
 use Rattle.sl_machine.proofs.Sets.{none_positive, none_set}
@@ -24,6 +26,7 @@ use Rattle.sl_machine.proofs.KeptColumns.{jmp_follows, jz_follows, jlt_follows, 
 use Rattle.sl_machine.proofs.KeptCursors.{none_for, fparty_follows, fland_follows, fwin_follows, nparty_follows, nland_follows, nwin_follows, wparty_follows, wland_follows}
 use Rattle.sl_machine.proofs.KeptEntries.{table_follows, prio_follows, rest_follows, lead_follows, share_follows}
 use Rattle.sl_machine.proofs.KeptTables.{peers_follows, take_follows, lot_tested, takelot_follows}
+use Rattle.sl_machine.proofs.Fitting.{FitsEffect, fits_effect}
 use Rattle.sl_machine.proofs.Stepping.{step_goes, step_jumps, step_ends}
 use Rattle.sl_machine.proofs.KeptRecords.{emit_follows, given_follows, weigh_follows, fault_follows, tie_follows, seat_follows, single_follows}
 
@@ -111,33 +114,33 @@ module _ (c : CountingCode) (e : Election) (code : IsWellKinded c) (election : I
   abbrev comes_to : ℕ → Option Kinds
   comes_to = coming c.instrs (Some start_kinds) code.kinds
 
-  came_safe : (p : ℕ) (k : Kinds) (s : State) → p ≤ length c.instrs → comes_to p ≡ Some k → Keeps e k s → IsSafe c e p s
-  came_safe p k s most comes h =
+  came_safe : (p : ℕ) (k : Kinds) (s : State) → p ≤ length c.instrs → comes_to p ≡ Some k → Keeps e k s → FitsRecords (length c.stages) e s.steps s.weights → IsSafe c e p s
+  came_safe p k s most comes h records =
       elim (cases_lt p (length c.instrs)) [
         | inl low ↦
             let here = there_is (slice_get c.instrs p) (get_some c.instrs p low) in
             let kinded = code.each p here.0 here.1 in
             let stands = subst (λ (o : Option Kinds). Stands o (declared_by here.0) (code.kinds p)) comes kinded.stands in
             let agrees = stood s k (code.kinds p) (declared_by here.0) stands h.agrees in
-            record { code = code; election = election; instr = here.0; stands = here.1; agrees = agrees; range = h.range }
+            record { code = code; election = election; instr = here.0; stands = here.1; agrees = agrees; range = h.range; records = records }
         | inr high ↦
             let end : length c.instrs ≡ p = omega arith in
             absurd (none-some k (sym (sym comes ∙ ap comes_to (sym end) ∙ code.halts)))
       ]
 
   module _ (p : ℕ) (i : Instr) (at : slice_get c.instrs p ≡ Some i) where
-    next_safe : (s : State) → IsSomeAnd (behind (code.kinds p) i) (λ k. Keeps e k s) → IsSafe c e (p + 1) s
-    next_safe s h = go (behind (code.kinds p) i) refl h
+    next_safe : (s : State) → FitsRecords (length c.stages) e s.steps s.weights → IsSomeAnd (behind (code.kinds p) i) (λ k. Keeps e k s) → IsSafe c e (p + 1) s
+    next_safe s records h = go (behind (code.kinds p) i) refl h
       where
         go : (o : Option Kinds) → behind (code.kinds p) i ≡ o → IsSomeAnd o (λ k. Keeps e k s) → IsSafe c e (p + 1) s
         go None same h = absurd h
         go (Some k) same h =
             let low = slice_get_within c.instrs p i at in
             let comes : comes_to (suc p) ≡ Some k = ap (option_and_then (behind (code.kinds p))) at ∙ same in
-            rw add-one (came_safe (suc p) k s low comes h)
+            rw add-one (came_safe (suc p) k s low comes h records)
 
-    jump_safe : (s : State) → IsSome (target_of i) → Keeps e (carried (code.kinds p) i) s → LandsSafely c e i s
-    jump_safe s there h = go (target_of i) refl there (code.each p i at).leads
+    jump_safe : (s : State) → FitsRecords (length c.stages) e s.steps s.weights → IsSome (target_of i) → Keeps e (carried (code.kinds p) i) s → LandsSafely c e i s
+    jump_safe s records there h = go (target_of i) refl there (code.each p i at).leads
       where
         k : Kinds
         k = carried (code.kinds p) i
@@ -153,7 +156,7 @@ module _ (c : CountingCode) (e : Election) (code : IsWellKinded c) (election : I
             record {
               place = q;
               target = same;
-              safe = record { code = code; election = election; instr = there.instr; stands = there.is; agrees = agrees; range = h.range };
+              safe = record { code = code; election = election; instr = there.instr; stands = there.is; agrees = agrees; range = h.range; records = records };
             }
 
 pub starts_are_safe : StartsAreSafe
@@ -161,11 +164,14 @@ starts_are_safe c e code election =
     came_safe c e code election 0 start_kinds start (omega arith) refl (record {
       agrees = record { positive = none_positive start.registers; cursors = none_set; table = tt };
       range = record { party = none_for _; land = none_for _; win = none_for _; table = none_for _ };
-    })
+    }) (record { steps = All-nil (FitsStep (length c.stages) e); weights = All-nil (FitsWeight (length c.stages) e) })
 
--- what is kept where the effect is of one case
+-- what is kept, and what fits, where the effect is of one case
 in_case : (e : Election) (k : Kinds) (i : Instr) (x y : Effect) → x ≡ y → Follows e k i x → Follows e k i y
 in_case e k i x y same h = subst (λ (z : Effect). Follows e k i z) same h
+
+fits_case : (c : CountingCode) (e : Election) (x y : Effect) → x ≡ y → FitsEffect c e x → FitsEffect c e y
+fits_case c e x y same h = subst (FitsEffect c e) same h
 
 pub safe_steps : SafeSteps
 safe_steps c e p s safe =
@@ -175,33 +181,45 @@ safe_steps c e p s safe =
     let needs = need_parts c k i (code.each p i safe.stands).needs in
     let keeps : Keeps e k s = record { agrees = safe.agrees; range = safe.range } in
     let all = follows c e k s keeps safe.election i needs in
+    let fits = fits_effect c e s safe.range safe.records i needs.columns in
     record {
       instr = i;
       stands = safe.stands;
       columns = needs.columns;
       may = record { registers = needs.registers; case = λ same. in_case e k i (effect c e i s) NoCase same all; range = safe.range };
-      goes = λ t same. next_safe c e code safe.election p i safe.stands t (in_case e k i (effect c e i s) (Goes t) same all);
-      jumps = λ t same. let jump = in_case e k i (effect c e i s) (Jumps t) same all in jump_safe c e code safe.election p i safe.stands t jump.0 jump.1;
-      ends = λ x same. in_case e k i (effect c e i s) (Ends x) same all;
+      goes = λ t same. next_safe c e code safe.election p i safe.stands t (fits_case c e (effect c e i s) (Goes t) same fits) (in_case e k i (effect c e i s) (Goes t) same all);
+      jumps = λ t same. let jump = in_case e k i (effect c e i s) (Jumps t) same all in jump_safe c e code safe.election p i safe.stands t (fits_case c e (effect c e i s) (Jumps t) same fits) jump.0 jump.1;
+      ends = λ x same. fits_case c e (effect c e i s) (Ends x) same fits;
     }
 
 -- ---- runs
 module _ (c : CountingCode) (e : Election) where
-  -- a safe step is not stuck, if what comes behind it is not
-  step_safe : (rest : Run) (p : ℕ) (s : State) → StepsSafely c e p s → ((q : ℕ) (t : State) → IsSafe c e q t → rest q t ≢ Stuck) → step c e rest p s ≢ Stuck
-  step_safe rest p s next goes_on = case (effect c e next.instr s) refl
+  -- a step that comes to a safe place, or ends the run
+  abbrev IsSafeStep : Step → Type 0
+  IsSafeStep (To q t) = IsSafe c e q t
+  IsSafeStep (Over x) = Unit {0}
+  IsSafeStep Nowhere = ⊥
+
+  safe_step : (p : ℕ) (s : State) → StepsSafely c e p s → IsSafeStep (step c e p s)
+  safe_step p s next = case (effect c e next.instr s) refl
     where
-      case : (x : Effect) → effect c e next.instr s ≡ x → step c e rest p s ≢ Stuck
-      case (Goes t) same h = goes_on (p + 1) t (next.goes t same) (sym (step_goes c e rest p s next.instr next.stands t same) ∙ h)
-      case (Jumps t) same h =
+      case : (x : Effect) → effect c e next.instr s ≡ x → IsSafeStep (step c e p s)
+      case (Goes t) same = subst IsSafeStep (sym (step_goes c e p s next.instr next.stands t same)) (next.goes t same)
+      case (Jumps t) same =
           let land = next.jumps t same in
-          goes_on land.place t land.safe (sym (step_jumps c e rest p s next.instr next.stands t land.place same land.target) ∙ h)
-      case (Ends x) same h = next.ends x same (sym (step_ends c e rest p s next.instr next.stands x same) ∙ h)
-      case NoCase same h = next.may.case same
+          subst IsSafeStep (sym (step_jumps c e p s next.instr next.stands t land.place same land.target)) land.safe
+      case (Ends x) same = subst IsSafeStep (sym (step_ends c e p s next.instr next.stands x same)) tt
+      case NoCase same = absurd (next.may.case same)
+
+  -- a run is not stuck after a safe step, if no run from a safe place is
+  not_stuck : (x : Step) (rest : ℕ → State → Ending) → IsSafeStep x → ((q : ℕ) (t : State) → IsSafe c e q t → rest q t ≢ Stuck) → after_step x rest ≢ Stuck
+  not_stuck (To q t) rest safe goes_on = goes_on q t safe
+  not_stuck (Over x) rest safe goes_on = λ h. cc
+  not_stuck Nowhere rest safe goes_on = absurd safe
 
   run_safe : (budget p : ℕ) (s : State) → IsSafe c e p s → run c e budget p s ≢ Stuck
   run_safe zero p s safe = λ h. cc
-  run_safe (suc n) p s safe = step_safe (run c e n) p s (safe_steps c e p s safe) (run_safe n)
+  run_safe (suc n) p s safe = not_stuck (step c e p s) (run c e n) (safe_step p s (safe_steps c e p s safe)) (run_safe n)
 
 pub never_stuck : NeverStuck
 never_stuck c e code election budget = run_safe c e budget 0 start (starts_are_safe c e code election)

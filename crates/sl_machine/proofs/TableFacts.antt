@@ -44,7 +44,7 @@ module _ (P : Entry → Type 0) where
         | inr f ↦ rw f (filtered_all p xs (All-tail P x xs all))
       ]
 
-  peers_all : (xs : List Entry) → All P xs → All P (peers xs)
+  pub peers_all : (xs : List Entry) → All P xs → All P (peers xs)
   peers_all xs all = at (top xs)
     where
       at : (first : Option Entry) → All P (option_map_or (λ x. ranked (filter (has_quotient_of x) xs)) first [])

@@ -1,5 +1,5 @@
 -- When a state is one of which the verifier's kinds are known, and when a run may come to it (docs/machine.md, section 5).
-use Rattle.std.specs.Prelude.{◌≡◌, ◌≢◌, ℕ, ◌<◌, IsTrue, IsSome, [], Option, Some, None, slice_get, ⊤}
+use Rattle.std.specs.Prelude.{◌≡◌, ◌≢◌, ℕ, ◌<◌, IsTrue, IsSome, [], length, Option, Some, None, slice_get, ⊤}
 use Rattle.sl_stages.specs.returns.Election.{Election, IsElection}
 use Rattle.sl_code.specs.declared.instr.Instr.{Instr}
 use Rattle.sl_code.specs.declared.kinds.Registers.{Registers}
@@ -10,6 +10,7 @@ use Rattle.sl_code.specs.Codes.{CountingCode}
 use Rattle.sl_verify.specs.Kinds.{contains}
 use Rattle.sl_verify.specs.WellKinded.{IsWellKinded}
 use Rattle.sl_machine.specs.State.{State, PriorityTable}
+use Rattle.sl_machine.specs.Fits.{FitsRecords}
 use Rattle.sl_machine.specs.Safe.{IsInRange}
 
 -- the registers of the set are positive
@@ -41,7 +42,7 @@ pub record Agrees (k : Kinds) (s : State) : Type 0 where
   pub table : HasTable k.table s.table
 
 -- a run of the code for the election may come to the place in the state: the code is well kinded, an instruction stands there, and the
--- state is one of which its kinds are known
+-- state is one of which its kinds are known, and all in it fits
 pub record IsSafe (c : CountingCode) (e : Election) (place : ℕ) (s : State) : Type 0 where
   pub code : IsWellKinded c
   pub election : IsElection e
@@ -49,3 +50,4 @@ pub record IsSafe (c : CountingCode) (e : Election) (place : ℕ) (s : State) : 
   pub stands : slice_get c.instrs place ≡ Some instr
   pub agrees : Agrees (code.kinds place) s
   pub range : IsInRange e s
+  pub records : FitsRecords (length c.stages) e s.steps s.weights

@@ -1,6 +1,6 @@
 -- What each instruction does to a state, wherever it stands in the code (docs/machine.md, section 2).
 use Rattle.std.specs.Prelude.{ℕ, zero, suc, ◌+◌, ◌-◌, ◌*◌, ◌/◌, ◌%◌, ◌^◌, Bool, true, false, min, max, List, [], ◌∷◌, ◌++◌, Option, Some, None, ◌==◌, nat_lt, codes, length, map, slice_get, slice_index, slice_index_or, if◌then◌else◌}
-use Rattle.std.specs.Option.{option_map}
+use Rattle.std.specs.Option.{option_map, option_and_then}
 use Rattle.sl_ratio.specs.declared.entry.Entry.{Entry}
 use Rattle.sl_ratio.specs.declared.method.Divisor.{Divisor}
 use Rattle.sl_ratio.specs.declared.method.Divisor.TheVariants as divisor
@@ -14,6 +14,8 @@ use Rattle.sl_stages.specs.declared.returns.Win.{Win}
 use Rattle.sl_stages.specs.declared.table.Mark.{Mark}
 use Rattle.sl_stages.specs.declared.table.Mark.TheVariants as mark
 use Rattle.sl_stages.specs.declared.table.Placed.TheVariants as placed
+use Rattle.sl_stages.specs.declared.table.SeatStep.{SeatStep}
+use Rattle.sl_stages.specs.declared.table.Weight.{Weight}
 use Rattle.sl_stages.specs.returns.Election.{Election, lands_of, parties_of, wins_of, list_at, has_list}
 use Rattle.sl_stages.specs.returns.Votes.{valid_in, counted_in, slate_in}
 use Rattle.sl_code.specs.declared.code.CodeStage.{CodeStage}
@@ -31,7 +33,7 @@ use Rattle.sl_code.specs.declared.operand.ScopeKind.{ScopeKind}
 use Rattle.sl_code.specs.Codes.{CountingCode}
 use Rattle.sl_verify.specs.declared.needs.TheConstants.{LAST_CLAUSE}
 use Rattle.sl_verify.specs.Kinds.{same_ranking}
-use Rattle.sl_machine.specs.State.{State, PriorityTable, Ending, Halted, Faulted, with_register, with_column, with_cell, with_place}
+use Rattle.sl_machine.specs.State.{State, PriorityTable, End, Halted, Faulted, with_register, with_column, with_cell, with_place}
 use Rattle.sl_machine.specs.Places.{both, cell_at, index_at, item_of, at_entry, scope_at}
 use Rattle.sl_prio.specs.Prio.{top, peers, is_covered}
 use Rattle.sl_prio.specs.Lot.{drawn}
@@ -39,11 +41,11 @@ use Rattle.sl_prio.specs.Ranking.{insert_ranked}
 use Rattle.sl_machine.specs.Priority.{without}
 use Rattle.sl_machine.specs.Drawn.{lot_of}
 
--- the machine goes on behind the instruction, or at its target, or the run ends, or no case applies
+-- the machine goes on after the instruction, or at its target, or the run ends, or no case applies
 pub data Effect : Type 0 where
   Goes : State → Effect
   Jumps : State → Effect
-  Ends : Ending → Effect
+  Ends : End → Effect
   NoCase : Effect
 
 -- what there must be
@@ -63,6 +65,11 @@ most = 2 ^ 64 - 1
 
 abbrev pub sets : ℕ → ℕ → State → Effect
 sets r value s = Goes (with_register r value s)
+
+-- the register holds the house, if there is one
+abbrev pub sets_house : ℕ → Option ℕ → State → Effect
+sets_house r None s = Goes s
+sets_house r (Some seats) s = sets r seats s
 
 -- ---- columns
 
@@ -102,10 +109,7 @@ with_win win s = record s { win = win }
 
 -- the winner at the cursor
 abbrev pub winner_at : Election → State → Option Win
-winner_at e s = found s.win where
-  found : Option ℕ → Option Win
-  found None = None
-  found (Some w) = slice_get e.wins w
+winner_at e s = option_and_then (λ w. slice_get e.wins w) s.win
 
 -- the first of so many; none
 abbrev pub first_of : ℕ → (Option ℕ → State → State) → State → Effect
@@ -121,30 +125,50 @@ abbrev pub to_party : Option ℕ → State → Effect
 to_party None s = Jumps (with_party None s)
 to_party (Some p) s = Goes (with_party (Some p) s)
 
+-- the winner of that number is seated on the list of the party, if it has a party with a list
+abbrev pub seats : ℕ → Option ℕ → (ℕ → Bool) → State → Effect
+seats w None listed s = Goes s
+seats w (Some p) listed s = if listed p then Goes (with_place w placed.OnList s) else Goes s
+
 -- ---- the priority table
 
 abbrev pub with_table : PriorityTable → State → State
 with_table t s = record s { table = Some t }
 
+-- the table with one more entry
+abbrev pub with_entry : Entry → PriorityTable → PriorityTable
+with_entry x t = record t { contents = insert_ranked x t.contents }
+
 -- enters the cursors' entry in a table with that ranking
 abbrev pub enters : Election → Ranking → Quotient → State → Effect
 enters e by q s = given s.table (λ t. given (index_at e t.entries s) (λ index.
-    if same_ranking by t.ranking then Goes (with_table (record t { contents = insert_ranked (record { ratio = q; index = index }) t.contents }) s) else NoCase))
+    if same_ranking by t.ranking then Goes (with_table (with_entry (record { ratio = q; index = index }) t) s) else NoCase))
 
--- the mark of an entry taken
+-- the mark of an entry taken: among remainders one with the denominator 0 is ahead of all, and any other stands for its numerator less 1
 abbrev pub mark_of : Ranking → Quotient → Mark
 mark_of ranking.Quotients q = mark.Quotient q
-mark_of ranking.Remainders q = remainder_mark q.den where
-  remainder_mark : ℕ → Mark
-  remainder_mark zero = mark.Lead
-  remainder_mark (suc d) = mark.Rest (q.num - 1)
+mark_of ranking.Remainders q = if q.den == 0 then mark.Lead else mark.Rest (q.num - 1)
+
+-- a register holds that number of peers; jumps where there are none
+abbrev pub counts_peers : ℕ → ℕ → State → Effect
+counts_peers r zero s = Jumps s
+counts_peers r (suc n) s = sets r (suc n) s
+
+-- the table without an entry, and the mark of that
+abbrev pub after_take : Entry → PriorityTable → State → State
+after_take x t s = record s { table = Some (record t { contents = without x t.contents }); mark = mark_of t.ranking x.ratio }
 
 -- takes an entry out: the cursors and the mark are its
 abbrev pub takes : Election → PriorityTable → Option Entry → State → Effect
-takes e t entry s = given entry (λ x.
-    Goes (at_entry e t.entries x.index (record s { table = Some (record t { contents = without x t.contents }); mark = mark_of t.ranking x.ratio })))
+takes e t entry s = given entry (λ x. Goes (at_entry e t.entries x.index (after_take x t s)))
 
 -- ---- stages, scopes and what is recorded
+
+abbrev pub with_step : SeatStep → State → State
+with_step x s = record s { steps = s.steps ++ x ∷ [] }
+
+abbrev pub with_weight : Weight → State → State
+with_weight x s = record s { weights = s.weights ++ x ∷ [] }
 
 -- the stage of an operand: its number, or the number of stages for the last clause
 abbrev pub stage_of : List CodeStage → ℕ → Option ℕ
@@ -173,11 +197,11 @@ module _ (c : CountingCode) (e : Election) where
 
   abbrev pub records : ℕ → ScopeKind → ℕ → ℕ → Mark → State → Effect
   records n kind number step mark s = at_scope n kind s (λ stage scope. given s.table (λ t. given (index_at e t.entries s) (λ index.
-      Goes (record s { steps = s.steps ++ record { stage = stage; scope = scope; entry = item_of e t.entries index; n = number; step = step; mark = mark } ∷ [] }))))
+      Goes (with_step (record { stage = stage; scope = scope; entry = item_of e t.entries index; n = number; step = step; mark = mark }) s))))
 
   abbrev pub weighs : ℕ → ScopeKind → Rounding → ℕ → State → Effect
   weighs n kind by weight s = at_scope n kind s (λ stage scope. given s.table (λ t. given (index_at e t.entries s) (λ index.
-      Goes (record s { weights = s.weights ++ record { stage = stage; scope = scope; entry = item_of e t.entries index; divisor = divisor_of by; weight = min weight MAX_WEIGHT } ∷ [] }))))
+      Goes (with_weight (record { stage = stage; scope = scope; entry = item_of e t.entries index; divisor = divisor_of by; weight = min weight MAX_WEIGHT }) s))))
 
   abbrev pub faults : ℕ → ScopeKind → FaultKind → State → Effect
   faults n kind why s = at_scope n kind s (λ stage scope. Ends (Faulted (record { stage = stage; scope = scope; kind = why })))
@@ -204,10 +228,7 @@ module _ (c : CountingCode) (e : Election) where
   effect (instr.Store k r) s = given (slice_get c.slots k) (λ shape. given (cell_at e shape s) (λ place. Goes (with_cell k place (s.registers r) s)))
   effect (instr.Zero k) s = given (slice_get c.slots k) (λ shape. Goes (with_column k (λ place. 0) s))
   effect (instr.Input k i) s = given (slice_get c.slots k) (λ shape. Goes (with_column k (input_of e i) s))
-  effect (instr.House r) s = from_house e.house where
-    from_house : Option ℕ → Effect
-    from_house None = Goes s
-    from_house (Some seats) = sets r seats s
+  effect (instr.House r) s = sets_house r e.house s
   effect (instr.Wparty t) s = given (winner_at e s) (λ w. to_party w.party s)
   effect instr.Wland s = given (winner_at e s) (λ w. Goes (with_land (Some w.land) s))
   effect (instr.Fparty t) s = first_of (parties_of e) with_party s
@@ -222,10 +243,7 @@ module _ (c : CountingCode) (e : Election) where
   effect (instr.Rest r) s = enters e ranking.Remainders (record { num = s.registers r + 1; den = 1 }) s
   effect instr.Lead s = enters e ranking.Remainders (record { num = 1; den = 0 }) s
   effect instr.Share s = given (winner_at e s) (λ w. enters e ranking.Quotients (record { num = w.first; den = w.valid }) s)
-  effect (instr.Peers r t) s = given s.table (λ table. count (length (peers table.contents))) where
-    count : ℕ → Effect
-    count zero = Jumps s
-    count (suc n) = sets r (suc n) s
+  effect (instr.Peers r t) s = given s.table (λ table. counts_peers r (length (peers table.contents)) s)
   effect instr.Take s = given s.table (λ t. takes e t (top t.contents) s)
   effect (instr.Lot n t) s = with_lot n s (λ table lot. if is_covered lot table.contents then Goes s else Jumps s)
   effect (instr.Takelot n) s = with_lot n s (λ table lot. takes e table (drawn lot table.contents) s)
@@ -234,10 +252,7 @@ module _ (c : CountingCode) (e : Election) where
   effect (instr.Fault n kind f) s = faults n kind (kind_of f) s
   effect (instr.Tie n kind r) s = given s.table (λ t. given (top t.contents) (λ first.
       faults n kind (fault.Tie (s.registers r) (map (λ x. item_of e t.entries x.index) (peers t.contents))) s))
-  effect instr.Seat s = given s.win (λ w. given (slice_get e.wins w) (λ winner. seat w winner.party (has_list e winner.land))) where
-    seat : ℕ → Option ℕ → (ℕ → Bool) → Effect
-    seat w None listed = Goes s
-    seat w (Some p) listed = if listed p then Goes (with_place w placed.OnList s) else Goes s
+  effect instr.Seat s = given s.win (λ w. given (slice_get e.wins w) (λ winner. seats w winner.party (has_list e winner.land) s))
   effect instr.Single s = given s.win (λ w. Goes (with_place w placed.Single s))
   effect (instr.Halt k) s = given (slice_get c.slots k) (λ shape. Ends (Halted k None s))
   effect (instr.At kinds) s = Goes s

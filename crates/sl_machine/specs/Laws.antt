@@ -6,9 +6,10 @@ use Rattle.sl_code.specs.Codes.{CountingCode}
 use Rattle.sl_verify.specs.Needs.{has_columns}
 use Rattle.sl_verify.specs.Leaves.{target_of}
 use Rattle.sl_verify.specs.WellKinded.{IsWellKinded}
-use Rattle.sl_machine.specs.State.{State, Ending, Stuck, start}
+use Rattle.sl_machine.specs.State.{State, End, start}
 use Rattle.sl_machine.specs.Effects.{Goes, Jumps, Ends, effect}
-use Rattle.sl_machine.specs.Steps.{ending}
+use Rattle.sl_machine.specs.Fits.{FitsEnd}
+use Rattle.sl_machine.specs.Runs.{Stuck, ending}
 use Rattle.sl_machine.specs.Safe.{MayStep}
 use Rattle.sl_machine.specs.Agrees.{IsSafe}
 
@@ -23,7 +24,7 @@ pub record LandsSafely (c : CountingCode) (e : Election) (i : Instr) (s : State)
   pub safe : IsSafe c e place s
 
 -- an instruction stands at the place, the columns and the stage that it names are there, and it has a case in the state; to go on from there or
--- to jump is safe, and an end is not to be stuck
+-- to jump is safe, and an end fits
 pub record StepsSafely (c : CountingCode) (e : Election) (place : ℕ) (s : State) : Type 0 where
   pub instr : Instr
   pub stands : slice_get c.instrs place ≡ Some instr
@@ -31,7 +32,7 @@ pub record StepsSafely (c : CountingCode) (e : Election) (place : ℕ) (s : Stat
   pub may : MayStep c e instr s
   pub goes : (t : State) → effect c e instr s ≡ Goes t → IsSafe c e (place + 1) t
   pub jumps : (t : State) → effect c e instr s ≡ Jumps t → LandsSafely c e instr t
-  pub ends : (x : Ending) → effect c e instr s ≡ Ends x → x ≢ Stuck
+  pub ends : (x : End) → effect c e instr s ≡ Ends x → FitsEnd c e x
 
 -- each step from where a run may come is safe
 abbrev pub SafeSteps : Type 0

@@ -1,4 +1,4 @@
--- The states of the counting machine, and how its runs end (docs/machine.md, section 1).
+-- The states of the counting machine, and the ends that an instruction gives its runs (docs/machine.md, section 1).
 use Rattle.std.specs.Prelude.{ℕ, List, [], Option, None, ◌==◌, ◌&&◌, if◌then◌else◌}
 use Rattle.sl_ratio.specs.declared.entry.Entry.{Entry}
 use Rattle.sl_stages.specs.declared.fault.LegalFault.{LegalFault}
@@ -61,10 +61,8 @@ with_cell slot place value s = record s { columns = λ k p. if (k == slot) && (p
 abbrev pub with_place : ℕ → Placed → State → State
 with_place winner where_to s = record s { placed = λ w. if w == winner then where_to else s.placed w }
 
--- how a run ends: with the seats of the lists in a slot, and the vacant ones in a slot if one is named; with a legal fault; or for want of
--- steps. A run of code that the verifier accepts is never stuck
-pub data Ending : Type 0 where
-  Halted : (base : ℕ) (vacant : Option ℕ) (last : State) → Ending
-  Faulted : (fault : LegalFault) → Ending
-  OutOfBudget : Ending
-  Stuck : Ending
+-- the end that an instruction gives a run: with the seats of the lists in a slot, and the vacant ones in a slot if one is named; or with a
+-- legal fault
+pub data End : Type 0 where
+  Halted : (base : ℕ) (vacant : Option ℕ) (last : State) → End
+  Faulted : (fault : LegalFault) → End

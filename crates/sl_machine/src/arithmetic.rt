@@ -3,9 +3,9 @@
 ghost use Rattle.std.specs.Prelude.{◌≡◌, ◌<◌, ◌+◌, ◌-◌, ◌*◌, ◌/◌, ◌%◌, ◌==◌, min, max, nat_lt, if◌then◌else◌};
 ghost use Rattle.sl_verify.specs.declared.known.TheConstants.{REGISTERS};
 ghost use Rattle.sl_machine.specs.Effects.{Goes, Jumps, sets, most, where_positive};
-ghost use Rattle.sl_machine.specs.Stores.{state_of, sizes_of, effect_of};
+ghost use Rattle.sl_machine.specs.inner.Stores.{state_of, sizes_of, effect_of};
 
-use crate::step::Next;
+use crate::step::Effect;
 use crate::store::Store;
 
 impl Store {
@@ -18,17 +18,17 @@ impl Store {
     }
 
     /// Sets a register.
-    pub(crate) fn set(&mut self, register: u8, value: u64) -> Next
+    pub(crate) fn set(&mut self, register: u8, value: u64) -> Effect
         requires { register < REGISTERS }
         ensures follows { effect_of result (state_of self.new) ≡ sets register value (state_of self.old) }
         ensures kept { sizes_of self.new ≡ sizes_of self.old }
     {
         self.registers[usize::from(register)] = value;
-        Next::Goes
+        Effect::Goes
     }
 
     /// Sets a register to what another holds.
-    pub(crate) fn copy(&mut self, register: u8, from: u8) -> Next
+    pub(crate) fn copy(&mut self, register: u8, from: u8) -> Effect
         requires register { register < REGISTERS }
         requires from { from < REGISTERS }
         ensures follows { let s = state_of self.old in effect_of result (state_of self.new) ≡ sets register (s.registers from) s }
@@ -38,7 +38,7 @@ impl Store {
     }
 
     /// Adds, up to the greatest number.
-    pub(crate) fn add(&mut self, register: u8, by: u8) -> Next
+    pub(crate) fn add(&mut self, register: u8, by: u8) -> Effect
         requires register { register < REGISTERS }
         requires by { by < REGISTERS }
         ensures follows { let s = state_of self.old in effect_of result (state_of self.new) ≡ sets register (min (s.registers register + s.registers by) most) s }
@@ -49,7 +49,7 @@ impl Store {
     }
 
     /// Subtracts, down to 0.
-    pub(crate) fn subtract(&mut self, register: u8, by: u8) -> Next
+    pub(crate) fn subtract(&mut self, register: u8, by: u8) -> Effect
         requires register { register < REGISTERS }
         requires by { by < REGISTERS }
         ensures follows { let s = state_of self.old in effect_of result (state_of self.new) ≡ sets register (s.registers register - s.registers by) s }
@@ -60,7 +60,7 @@ impl Store {
     }
 
     /// Multiplies, up to the greatest number.
-    pub(crate) fn multiply(&mut self, register: u8, by: u8) -> Next
+    pub(crate) fn multiply(&mut self, register: u8, by: u8) -> Effect
         requires register { register < REGISTERS }
         requires by { by < REGISTERS }
         ensures follows { let s = state_of self.old in effect_of result (state_of self.new) ≡ sets register (min (s.registers register * s.registers by) most) s }
@@ -71,7 +71,7 @@ impl Store {
     }
 
     /// Divides by a positive number.
-    pub(crate) fn divide(&mut self, register: u8, by: u8) -> Next
+    pub(crate) fn divide(&mut self, register: u8, by: u8) -> Effect
         requires register { register < REGISTERS }
         requires by { by < REGISTERS }
         requires positive { 0 < (state_of self.old).registers by }
@@ -83,7 +83,7 @@ impl Store {
     }
 
     /// Keeps the rest of a division by a positive number.
-    pub(crate) fn keep_rest(&mut self, register: u8, by: u8) -> Next
+    pub(crate) fn keep_rest(&mut self, register: u8, by: u8) -> Effect
         requires register { register < REGISTERS }
         requires by { by < REGISTERS }
         requires positive { 0 < (state_of self.old).registers by }
@@ -95,7 +95,7 @@ impl Store {
     }
 
     /// Keeps the greater of two numbers.
-    pub(crate) fn keep_greater(&mut self, register: u8, by: u8) -> Next
+    pub(crate) fn keep_greater(&mut self, register: u8, by: u8) -> Effect
         requires register { register < REGISTERS }
         requires by { by < REGISTERS }
         ensures follows { let s = state_of self.old in effect_of result (state_of self.new) ≡ sets register (max (s.registers register) (s.registers by)) s }
@@ -106,27 +106,27 @@ impl Store {
     }
 
     /// Jumps where a register holds 0.
-    pub(crate) fn jump_if_zero(&self, register: u8) -> Next
+    pub(crate) fn jump_if_zero(&self, register: u8) -> Effect
         requires { register < REGISTERS }
         ensures { let s = state_of self.now in effect_of result s ≡ (if s.registers register == 0 then Jumps s else Goes s) }
     {
         if self.register(register) == 0 {
-            Next::Jumps
+            Effect::Jumps
         } else {
-            Next::Goes
+            Effect::Goes
         }
     }
 
     /// Jumps where a register holds less than another.
-    pub(crate) fn jump_if_less(&self, left: u8, right: u8) -> Next
+    pub(crate) fn jump_if_less(&self, left: u8, right: u8) -> Effect
         requires left { left < REGISTERS }
         requires right { right < REGISTERS }
         ensures { let s = state_of self.now in effect_of result s ≡ (if nat_lt (s.registers left) (s.registers right) then Jumps s else Goes s) }
     {
         if self.register(left) < self.register(right) {
-            Next::Jumps
+            Effect::Jumps
         } else {
-            Next::Goes
+            Effect::Goes
         }
     }
 }

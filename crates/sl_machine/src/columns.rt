@@ -13,10 +13,10 @@ ghost use Rattle.sl_machine.specs.State.{with_column};
 ghost use Rattle.sl_machine.specs.Places.{cells_of};
 ghost use Rattle.sl_machine.specs.Effects.{Goes, effect, input_of, names_or_most};
 ghost use Rattle.sl_machine.specs.Safe.{IsInRange};
-ghost use Rattle.sl_machine.specs.Seen.{place_at};
-ghost use Rattle.sl_machine.specs.Stores.{state_of, columns_of, sizes_of, sizes_for, effect_of};
+ghost use Rattle.sl_machine.specs.inner.Seen.{place_at};
+ghost use Rattle.sl_machine.specs.inner.Stores.{state_of, columns_of, sizes_of, sizes_for, effect_of};
 
-use crate::step::Next;
+use crate::step::Effect;
 use crate::store::Store;
 use sl_code::{Code, Input};
 use sl_stages::Returns;
@@ -106,7 +106,7 @@ impl Store {
         returns: &Returns,
         register: u8,
         slot: u8,
-    ) -> Next
+    ) -> Effect
         requires register { register < REGISTERS }
         requires there { IsSome (place_at code.now returns.now slot (state_of self.old)) }
         requires range { IsInRange returns.now (state_of self.old) }
@@ -125,7 +125,7 @@ impl Store {
         returns: &Returns,
         slot: u8,
         register: u8,
-    ) -> Next
+    ) -> Effect
         requires register { register < REGISTERS }
         requires there { IsSome (place_at code.now returns.now slot (state_of self.old)) }
         requires range { IsInRange returns.now (state_of self.old) }
@@ -137,22 +137,22 @@ impl Store {
         let value = self.register(register);
         let column = &mut self.columns[usize::from(slot)];
         column[place] = value;
-        Next::Goes
+        Effect::Goes
     }
 
     /// Makes a column 0.
-    pub(crate) fn zero_column(&mut self, slot: u8) -> Next
+    pub(crate) fn zero_column(&mut self, slot: u8) -> Effect
         requires { slot < length (sizes_of self.old).columns }
         ensures follows { effect_of result (state_of self.new) ≡ Goes (with_column slot (λ place. 0) (state_of self.old)) }
         ensures kept { sizes_of self.new ≡ sizes_of self.old }
     {
         let column = &mut self.columns[usize::from(slot)];
         clear(column);
-        Next::Goes
+        Effect::Goes
     }
 
     /// Makes a column one of the returns'.
-    pub(crate) fn input_column(&mut self, returns: &Returns, slot: u8, input: Input) -> Next
+    pub(crate) fn input_column(&mut self, returns: &Returns, slot: u8, input: Input) -> Effect
         requires election { IsElection returns.now }
         requires width { slice_get (sizes_of self.old).columns slot ≡ Some (cells_of returns.now (input_shape input)) }
         ensures follows { effect_of result (state_of self.new) ≡ Goes (with_column slot (input_of returns.now input) (state_of self.old)) }
@@ -160,6 +160,6 @@ impl Store {
     {
         let column = &mut self.columns[usize::from(slot)];
         read_column(column, returns, input);
-        Next::Goes
+        Effect::Goes
     }
 }

@@ -9,33 +9,33 @@ ghost use Rattle.sl_machine.specs.State.{State};
 ghost use Rattle.sl_machine.specs.Places.{both, cells_of, cell_at, index_at, scope_at, item_of, at_entry};
 ghost use Rattle.sl_machine.specs.Effects.{Goes, Jumps, effect, given, with_party, with_land, with_win, winner_at, first_of, next_of, to_party};
 ghost use Rattle.sl_machine.specs.Safe.{IsInRange, entries_in};
-ghost use Rattle.sl_machine.specs.Stores.{state_of, sizes_of, effect_of};
+ghost use Rattle.sl_machine.specs.inner.Stores.{state_of, sizes_of, effect_of};
 
-use crate::step::Next;
+use crate::step::Effect;
 use crate::store::Store;
 use sl_code::{Entries, ScopeKind};
 use sl_stages::{Item, Returns, Scope, Shape};
 
 // The cursor on the first of so many, if there is one, and where the run goes on.
-fn first_of(count: usize) -> (Option<usize>, Next)
+fn first_of(count: usize) -> (Option<usize>, Effect)
     ensures { (set : Option ℕ → State → State) (s : State) → effect_of result.1 (set result.0 s) ≡ first_of count set s }
 {
     if count == 0 {
-        (None, Next::Jumps)
+        (None, Effect::Jumps)
     } else {
-        (Some(0), Next::Goes)
+        (Some(0), Effect::Goes)
     }
 }
 
 // The cursor on the next of so many, if there is one, and where the run goes on.
-fn next_of(count: usize, cursor: usize) -> (Option<usize>, Next)
+fn next_of(count: usize, cursor: usize) -> (Option<usize>, Effect)
     requires { cursor < count }
     ensures { (set : Option ℕ → State → State) (s : State) → effect_of result.1 (set result.0 s) ≡ next_of count (Some cursor) set s }
 {
     if cursor + 1 < count {
-        (Some(cursor + 1), Next::Jumps)
+        (Some(cursor + 1), Effect::Jumps)
     } else {
-        (None, Next::Goes)
+        (None, Effect::Goes)
     }
 }
 
@@ -123,7 +123,7 @@ impl Store {
     }
 
     /// Jumps where the Land and the party have no list.
-    pub(crate) fn jump_without_list(&self, returns: &Returns) -> Next
+    pub(crate) fn jump_without_list(&self, returns: &Returns) -> Effect
         requires land { IsSome (state_of self.now).land }
         requires party { IsSome (state_of self.now).party }
         requires range { IsInRange returns.now (state_of self.now) }
@@ -133,26 +133,26 @@ impl Store {
         let land = self.cursors.land.unwrap();
         let party = self.cursors.party.unwrap();
         if returns.is_list(land, party) {
-            Next::Goes
+            Effect::Goes
         } else {
-            Next::Jumps
+            Effect::Jumps
         }
     }
 
     /// Sets a register to the house of the returns, if they give one.
-    pub(crate) fn set_house(&mut self, returns: &Returns, register: u8) -> Next
+    pub(crate) fn set_house(&mut self, returns: &Returns, register: u8) -> Effect
         requires { register < REGISTERS }
         ensures follows { (c : CountingCode) → effect_of result (state_of self.new) ≡ effect c returns.now (instr.House register) (state_of self.old) }
         ensures kept { sizes_of self.new ≡ sizes_of self.old }
     {
         match returns.house() {
             Some(seats) => self.set(register, u64::from(seats)),
-            None => Next::Goes,
+            None => Effect::Goes,
         }
     }
 
     /// Moves to the winner's party.
-    pub(crate) fn to_winners_party(&mut self, returns: &Returns) -> Next
+    pub(crate) fn to_winners_party(&mut self, returns: &Returns) -> Effect
         requires win { IsSome (state_of self.old).win }
         requires range { IsInRange returns.now (state_of self.old) }
         ensures follows { let s = state_of self.old in effect_of result (state_of self.new) ≡ given (winner_at returns.now s) (λ w. to_party w.party s) }
@@ -161,13 +161,13 @@ impl Store {
         let winner = returns.win(self.cursors.win.unwrap());
         self.cursors.party = winner.party;
         match winner.party {
-            Some(_) => Next::Goes,
-            None => Next::Jumps,
+            Some(_) => Effect::Goes,
+            None => Effect::Jumps,
         }
     }
 
     /// Moves to the winner's Land.
-    pub(crate) fn to_winners_land(&mut self, returns: &Returns) -> Next
+    pub(crate) fn to_winners_land(&mut self, returns: &Returns) -> Effect
         requires win { IsSome (state_of self.old).win }
         requires range { IsInRange returns.now (state_of self.old) }
         ensures follows { let s = state_of self.old in effect_of result (state_of self.new) ≡ given (winner_at returns.now s) (λ w. Goes (with_land (Some w.land) s)) }
@@ -175,11 +175,11 @@ impl Store {
     {
         let winner = returns.win(self.cursors.win.unwrap());
         self.cursors.land = Some(winner.land);
-        Next::Goes
+        Effect::Goes
     }
 
     /// Moves to the first party.
-    pub(crate) fn first_party(&mut self, returns: &Returns) -> Next
+    pub(crate) fn first_party(&mut self, returns: &Returns) -> Effect
         ensures follows { effect_of result (state_of self.new) ≡ first_of (parties_of returns.now) with_party (state_of self.old) }
         ensures kept { sizes_of self.new ≡ sizes_of self.old }
     {
@@ -189,7 +189,7 @@ impl Store {
     }
 
     /// Moves to the next party.
-    pub(crate) fn next_party(&mut self, returns: &Returns) -> Next
+    pub(crate) fn next_party(&mut self, returns: &Returns) -> Effect
         requires party { IsSome (state_of self.old).party }
         requires range { IsInRange returns.now (state_of self.old) }
         ensures follows { let s = state_of self.old in effect_of result (state_of self.new) ≡ next_of (parties_of returns.now) s.party with_party s }
@@ -201,7 +201,7 @@ impl Store {
     }
 
     /// Moves to the first Land.
-    pub(crate) fn first_land(&mut self, returns: &Returns) -> Next
+    pub(crate) fn first_land(&mut self, returns: &Returns) -> Effect
         ensures follows { effect_of result (state_of self.new) ≡ first_of (lands_of returns.now) with_land (state_of self.old) }
         ensures kept { sizes_of self.new ≡ sizes_of self.old }
     {
@@ -211,7 +211,7 @@ impl Store {
     }
 
     /// Moves to the next Land.
-    pub(crate) fn next_land(&mut self, returns: &Returns) -> Next
+    pub(crate) fn next_land(&mut self, returns: &Returns) -> Effect
         requires land { IsSome (state_of self.old).land }
         requires range { IsInRange returns.now (state_of self.old) }
         ensures follows { let s = state_of self.old in effect_of result (state_of self.new) ≡ next_of (lands_of returns.now) s.land with_land s }
@@ -223,7 +223,7 @@ impl Store {
     }
 
     /// Moves to the first winner.
-    pub(crate) fn first_win(&mut self, returns: &Returns) -> Next
+    pub(crate) fn first_win(&mut self, returns: &Returns) -> Effect
         ensures follows { effect_of result (state_of self.new) ≡ first_of (wins_of returns.now) with_win (state_of self.old) }
         ensures kept { sizes_of self.new ≡ sizes_of self.old }
     {
@@ -233,7 +233,7 @@ impl Store {
     }
 
     /// Moves to the next winner.
-    pub(crate) fn next_win(&mut self, returns: &Returns) -> Next
+    pub(crate) fn next_win(&mut self, returns: &Returns) -> Effect
         requires win { IsSome (state_of self.old).win }
         requires range { IsInRange returns.now (state_of self.old) }
         ensures follows { let s = state_of self.old in effect_of result (state_of self.new) ≡ next_of (wins_of returns.now) s.win with_win s }

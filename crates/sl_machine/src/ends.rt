@@ -12,30 +12,30 @@ ghost use Rattle.sl_machine.specs.State.{State, Halted, with_place};
 ghost use Rattle.sl_machine.specs.Places.{scope_at};
 ghost use Rattle.sl_machine.specs.Effects.{Goes, Ends, effect, given, faults, kind_of};
 ghost use Rattle.sl_machine.specs.Safe.{IsInRange};
-ghost use Rattle.sl_machine.specs.Stores.{state_of, sizes_of, effect_of};
+ghost use Rattle.sl_machine.specs.inner.Stores.{state_of, sizes_of, effect_of};
 
 use crate::records::stage_number;
-use crate::step::{End, Next};
+use crate::step::{Effect, End};
 use crate::store::Store;
 use sl_code::{Code, EndFault, ScopeKind};
 use sl_ratio::NoMemory;
 use sl_stages::{FaultKind, Items, LegalFault, Placed, Returns};
 
 /// Ends with the seats of the lists.
-pub(crate) fn halt(slot: u8) -> Next
+pub(crate) fn halt(slot: u8) -> Effect
     ensures { (s : State) → effect_of result s ≡ Ends (Halted slot None s) }
 {
-    Next::Ends(End::Halted {
+    Effect::Ends(End::Halted {
         base: usize::from(slot),
         vacant: None,
     })
 }
 
 /// Ends with the seats of the lists, and with the vacant ones.
-pub(crate) fn halt_with_vacant(slot: u8, vacant: u8) -> Next
+pub(crate) fn halt_with_vacant(slot: u8, vacant: u8) -> Effect
     ensures { (s : State) → effect_of result s ≡ Ends (Halted slot (Some vacant) s) }
 {
-    Next::Ends(End::Halted {
+    Effect::Ends(End::Halted {
         base: usize::from(slot),
         vacant: Some(usize::from(vacant)),
     })
@@ -56,12 +56,12 @@ fn kind_of(fault: EndFault) -> FaultKind
 
 impl Store {
     // Ends with a legal fault of that kind.
-    fn fault(&self, code: &Code, stage: u8, scope: ScopeKind, kind: FaultKind) -> Next
+    fn fault(&self, code: &Code, stage: u8, scope: ScopeKind, kind: FaultKind) -> Effect
         requires stage { IsTrue (has_stage code.now stage) }
         requires scope { IsSome (scope_at scope (state_of self.now)) }
         ensures { (e : Election) → effect_of result (state_of self.now) ≡ faults code.now e stage scope kind (state_of self.now) }
     {
-        Next::Ends(End::Faulted(LegalFault {
+        Effect::Ends(End::Faulted(LegalFault {
             stage: stage_number(code, stage),
             scope: self.scope(scope).unwrap(),
             kind,
@@ -75,7 +75,7 @@ impl Store {
         stage: u8,
         scope: ScopeKind,
         fault: EndFault,
-    ) -> Next
+    ) -> Effect
         requires stage { IsTrue (has_stage code.now stage) }
         requires scope { IsSome (scope_at scope (state_of self.now)) }
         ensures { (e : Election) → effect_of result (state_of self.now) ≡ effect code.now e (instr.Fault stage scope fault) (state_of self.now) }
@@ -91,7 +91,7 @@ impl Store {
         stage: u8,
         scope: ScopeKind,
         seats: u8,
-    ) -> Result<Next, NoMemory>
+    ) -> Result<Effect, NoMemory>
         requires stage { IsTrue (has_stage code.now stage) }
         requires scope { IsSome (scope_at scope (state_of self.old)) }
         requires seats { seats < REGISTERS }
@@ -116,7 +116,7 @@ impl Store {
     }
 
     /// Seats the winner on the list of the Land and the party, if there is one.
-    pub(crate) fn seat_on_list(&mut self, returns: &Returns) -> Next
+    pub(crate) fn seat_on_list(&mut self, returns: &Returns) -> Effect
         requires win { IsSome (state_of self.old).win }
         requires election { IsElection returns.now }
         requires range { IsInRange returns.now (state_of self.old) }
@@ -131,11 +131,11 @@ impl Store {
         {
             self.put_winner(win, Placed::OnList);
         }
-        Next::Goes
+        Effect::Goes
     }
 
     /// Seats the winner as a single.
-    pub(crate) fn seat_as_single(&mut self, returns: &Returns) -> Next
+    pub(crate) fn seat_as_single(&mut self, returns: &Returns) -> Effect
         requires win { IsSome (state_of self.old).win }
         requires range { IsInRange returns.now (state_of self.old) }
         requires sizes { (sizes_of self.old).winners ≡ wins_of returns.now }
@@ -144,6 +144,6 @@ impl Store {
     {
         let win = self.cursors.win.unwrap();
         self.put_winner(win, Placed::Single);
-        Next::Goes
+        Effect::Goes
     }
 }

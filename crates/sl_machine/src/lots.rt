@@ -6,7 +6,7 @@ ghost use Rattle.std.specs.Str.{bytes_eq};
 ghost use Rattle.sl_stages.specs.meaning.Lots.{is_winner_of};
 ghost use Rattle.sl_stages.specs.meaning.Scopes.{place};
 ghost use Rattle.sl_machine.specs.Drawn.{lot_of, given_in};
-ghost use Rattle.sl_machine.specs.Lots.{lot_in, stage_lots, lots_for};
+ghost use Rattle.sl_machine.specs.inner.Lots.{lot_in, stage_lots, lots_for};
 
 use crate::store::append;
 use sl_code::{Code, Entries};
@@ -25,7 +25,7 @@ pub(crate) struct StageLot {
 }
 
 impl Model for StageLot {
-    ghost use Rattle.sl_machine.specs.Lots.{StageLots};
+    ghost use Rattle.sl_machine.specs.inner.Lots.{StageLots};
 
     ghost Value = { StageLots };
 
@@ -40,7 +40,7 @@ pub(crate) struct Lots {
 
 impl Model for Lots {
     ghost use Rattle.std.specs.Prelude.{List};
-    ghost use Rattle.sl_machine.specs.Lots.{StageLots};
+    ghost use Rattle.sl_machine.specs.inner.Lots.{StageLots};
 
     ghost Value = { List StageLots };
 

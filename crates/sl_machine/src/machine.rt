@@ -4,15 +4,16 @@ ghost use Rattle.std.specs.Prelude.{◌≡◌, ◌≤◌, Some, IfOk, IsSome};
 ghost use Rattle.sl_stages.specs.declared.limits.TheConstants.{MAX_STAGES};
 ghost use Rattle.sl_verify.specs.Leaves.{target_of};
 ghost use Rattle.sl_machine.specs.Agrees.{IsSafe};
-ghost use Rattle.sl_machine.specs.Answers.{answer_of, end_of, HasSlots};
-ghost use Rattle.sl_machine.specs.Leading.{Leads};
-ghost use Rattle.sl_machine.specs.Lots.{lots_for};
-ghost use Rattle.sl_machine.specs.Steps.{run, ending, budget_of};
-ghost use Rattle.sl_machine.specs.Stores.{state_of, sizes_of, sizes_for};
+ghost use Rattle.sl_machine.specs.Answers.{answer_of};
+ghost use Rattle.sl_machine.specs.Fits.{Fits};
+ghost use Rattle.sl_machine.specs.inner.Leading.{Leads, ending_with, FitsWith};
+ghost use Rattle.sl_machine.specs.inner.Lots.{lots_for};
+ghost use Rattle.sl_machine.specs.Runs.{run, ending, share_of, budget_of};
+ghost use Rattle.sl_machine.specs.inner.Stores.{state_of, sizes_of, sizes_for};
 
 use crate::lots::Lots;
 use crate::memory::Memory;
-use crate::step::{End, Next};
+use crate::step::{Effect, End};
 use crate::store::Store;
 use sl_code::{Code, Instr};
 use sl_ratio::NoMemory;
@@ -31,15 +32,23 @@ pub enum Ending {
     OutOfBudget,
 }
 
+// The steps that a stage may take.
+fn share(returns: &Returns) -> u64
+    ensures value { result ≡ share_of returns.now }
+    ensures most { result ≤ 40105364000 }
+{
+    let parties = returns.parties() as u64;
+    let lands = returns.lands() as u64;
+    let wins = returns.wins() as u64;
+    400 * (parties + 1) * (lands + 1) * (4000 + wins + 2)
+}
+
 /// The steps that a code of so many stages may take.
 pub fn budget(stages: usize, returns: &Returns) -> u64
     requires { stages ≤ MAX_STAGES }
     ensures { result ≡ budget_of stages returns.now }
 {
-    let parties = returns.parties() as u64;
-    let lands = returns.lands() as u64;
-    let wins = returns.wins() as u64;
-    400 * (stages as u64 + 2) * (parties + 1) * (lands + 1) * (4000 + wins + 2)
+    (stages as u64 + 2) * share(returns)
 }
 
 // The place to which an instruction jumps, if it may.
@@ -64,11 +73,11 @@ fn target_of(instr: Instr) -> Option<usize>
     }
 }
 
-// What comes behind a step: a place of the code, or the end.
+// Where a step comes to: a place of the code, or the end of the run.
 #[derive(Drop)]
-enum Onward {
+enum Step {
     To(usize),
-    End(End),
+    Over(End),
 }
 
 // Makes a step from a place.
@@ -78,18 +87,18 @@ fn step_from(
     returns: &Returns,
     lots: &Lots,
     place: usize,
-) -> Result<Onward, NoMemory>
+) -> Result<Step, NoMemory>
     requires safe { IsSafe code.now returns.now place (state_of store.old) }
     requires lots { lots.now ≡ lots_for code.now returns.now }
     requires sizes { sizes_of store.old ≡ sizes_for code.now returns.now }
-    ensures leads { IfOk result (λ onward. Leads code.now returns.now place (state_of store.old) onward (state_of store.new)) }
+    ensures leads { IfOk result (λ step. Leads code.now returns.now place (state_of store.old) step (state_of store.new)) }
     ensures kept { sizes_of store.new ≡ sizes_of store.old }
 {
     let instr = code.instrs()[place];
     match store.step(code, returns, lots, instr)? {
-        Next::Goes => Ok(Onward::To(place + 1)),
-        Next::Jumps => Ok(Onward::To(target_of(instr).unwrap())),
-        Next::Ends(end) => Ok(Onward::End(end)),
+        Effect::Goes => Ok(Step::To(place + 1)),
+        Effect::Jumps => Ok(Step::To(target_of(instr).unwrap())),
+        Effect::Ends(end) => Ok(Step::Over(end)),
     }
 }
 
@@ -104,8 +113,8 @@ fn steps(
     requires safe { IsSafe code.now returns.now 0 (state_of store.old) }
     requires lots { lots.now ≡ lots_for code.now returns.now }
     requires sizes { sizes_of store.old ≡ sizes_for code.now returns.now }
-    ensures end { IfOk result (λ end. run code.now returns.now budget 0 (state_of store.old) ≡ end_of end (state_of store.new)) }
-    ensures slots { IfOk result (HasSlots code.now) }
+    ensures end { IfOk result (λ end. run code.now returns.now budget 0 (state_of store.old) ≡ ending_with end (state_of store.new)) }
+    ensures fits { IfOk result (λ end. FitsWith code.now returns.now end (state_of store.new)) }
     ensures kept { IfOk result (λ end. sizes_of store.new ≡ sizes_for code.now returns.now) }
 {
     let mut place = 0;
@@ -113,8 +122,8 @@ fn steps(
     while left > 0 {
         left -= 1;
         match step_from(store, code, returns, lots, place)? {
-            Onward::To(next) => place = next,
-            Onward::End(end) => return Ok(Some(end)),
+            Step::To(next) => place = next,
+            Step::Over(end) => return Ok(Some(end)),
         }
     }
     Ok(None)
@@ -131,7 +140,8 @@ pub fn run(
     returns: &Returns,
     budget: u64,
 ) -> Result<Ending, NoMemory>
-    ensures { IfOk result (λ answer. answer_of code.now returns.now (ending code.now returns.now budget) ≡ Some answer) }
+    ensures ending { IfOk result (λ answer. answer_of code.now returns.now (ending code.now returns.now budget) ≡ Some answer) }
+    ensures fits { IfOk result (Fits code.now returns.now) }
 {
     let code = code.code();
     let lots = Lots::of(alloc, code, returns)?;

@@ -5,8 +5,8 @@ ghost use Rattle.std.specs.Option.{ForSome};
 ghost use Rattle.sl_stages.specs.returns.Election.{Election};
 ghost use Rattle.sl_code.specs.Codes.{CountingCode};
 ghost use Rattle.sl_machine.specs.Memories.{held_of};
-ghost use Rattle.sl_machine.specs.Leaving.{held_with, HasVacancy};
-ghost use Rattle.sl_machine.specs.Stores.{state_of, sizes_of, sizes_for};
+ghost use Rattle.sl_machine.specs.inner.Leaving.{held_with, HasVacancy};
+ghost use Rattle.sl_machine.specs.inner.Stores.{state_of, sizes_of, sizes_for};
 
 use crate::store::{Store, zeros};
 use sl_ratio::NoMemory;
@@ -36,7 +36,7 @@ impl Model for Memory {
 
     ghost Value = { Held };
 
-    ghost use Rattle.sl_machine.specs.Halts.{held_in, HasColumns};
+    ghost use Rattle.sl_machine.specs.inner.Memories.{held_in, HasColumns};
 
     ghost view = { held_in };
 

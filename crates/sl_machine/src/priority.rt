@@ -8,9 +8,9 @@ ghost use Rattle.sl_prio.specs.Lot.{drawn};
 ghost use Rattle.sl_stages.specs.returns.Election.{Election};
 ghost use Rattle.sl_machine.specs.State.{State};
 ghost use Rattle.sl_machine.specs.Places.{at_entry, item_of};
-ghost use Rattle.sl_machine.specs.Effects.{Goes, given, takes, mark_of};
+ghost use Rattle.sl_machine.specs.Effects.{Goes, given, takes, mark_of, with_entry};
 ghost use Rattle.sl_machine.specs.Safe.{entries_in};
-ghost use Rattle.sl_machine.specs.Tables.{FitsMark, with_entry};
+ghost use Rattle.sl_machine.specs.inner.Tables.{FitsMark};
 
 use crate::cursors::item_of;
 use crate::store::append;
@@ -51,7 +51,7 @@ impl Model for PriorityTable {
 
     ghost use Rattle.std.specs.Prelude.{All};
     ghost use Rattle.sl_ratio.specs.Quotient.{FitsRatio};
-    ghost use Rattle.sl_machine.specs.Tables.{table_in, HasMarks};
+    ghost use Rattle.sl_machine.specs.inner.Tables.{table_in, HasMarks};
 
     ghost view = { table_in };
 

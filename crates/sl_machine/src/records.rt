@@ -7,11 +7,11 @@ ghost use Rattle.sl_code.specs.declared.instr.Instr.TheVariants as instr;
 ghost use Rattle.sl_machine.specs.Places.{scope_at};
 ghost use Rattle.sl_machine.specs.Effects.{effect, stage_of, divisor_of};
 ghost use Rattle.sl_machine.specs.Safe.{IsInRange};
-ghost use Rattle.sl_machine.specs.Seen.{item_at};
-ghost use Rattle.sl_machine.specs.Stores.{state_of, sizes_of, effect_of};
+ghost use Rattle.sl_machine.specs.inner.Seen.{item_at};
+ghost use Rattle.sl_machine.specs.inner.Stores.{state_of, sizes_of, effect_of};
 
 use crate::cursors::item_of;
-use crate::step::Next;
+use crate::step::Effect;
 use crate::store::{Store, append};
 use sl_code::{Code, Rounding, ScopeKind};
 use sl_ratio::{Divisor, MAX_WEIGHT, NoMemory};
@@ -62,7 +62,7 @@ impl Store {
         scope: ScopeKind,
         number: u8,
         step: u8,
-    ) -> Result<Next, NoMemory>
+    ) -> Result<Effect, NoMemory>
         requires stage { IsTrue (has_stage code.now stage) }
         requires scope { IsSome (scope_at scope (state_of self.old)) }
         requires entry { IsSome (item_at returns.now (state_of self.old)) }
@@ -82,7 +82,7 @@ impl Store {
             mark: self.mark,
         };
         append(&mut self.steps, record)?;
-        Ok(Next::Goes)
+        Ok(Effect::Goes)
     }
 
     /// Records a seat that no quotient won.
@@ -93,7 +93,7 @@ impl Store {
         stage: u8,
         scope: ScopeKind,
         number: u8,
-    ) -> Result<Next, NoMemory>
+    ) -> Result<Effect, NoMemory>
         requires stage { IsTrue (has_stage code.now stage) }
         requires scope { IsSome (scope_at scope (state_of self.old)) }
         requires entry { IsSome (item_at returns.now (state_of self.old)) }
@@ -112,7 +112,7 @@ impl Store {
             mark: Mark::Given,
         };
         append(&mut self.steps, record)?;
-        Ok(Next::Goes)
+        Ok(Effect::Goes)
     }
 
     /// Records a weight.
@@ -124,7 +124,7 @@ impl Store {
         scope: ScopeKind,
         rounding: Rounding,
         weight: u8,
-    ) -> Result<Next, NoMemory>
+    ) -> Result<Effect, NoMemory>
         requires stage { IsTrue (has_stage code.now stage) }
         requires scope { IsSome (scope_at scope (state_of self.old)) }
         requires entry { IsSome (item_at returns.now (state_of self.old)) }
@@ -143,6 +143,6 @@ impl Store {
             weight: self.register(weight).min(MAX_WEIGHT),
         };
         append(&mut self.weights, record)?;
-        Ok(Next::Goes)
+        Ok(Effect::Goes)
     }
 }

@@ -4,9 +4,9 @@ ghost use Rattle.std.specs.Prelude.{◌≡◌, IsTrue, IfOk};
 ghost use Rattle.sl_verify.specs.Needs.{has_columns};
 ghost use Rattle.sl_machine.specs.Effects.{effect};
 ghost use Rattle.sl_stages.specs.returns.Election.{IsElection};
-ghost use Rattle.sl_machine.specs.Lots.{lots_for};
+ghost use Rattle.sl_machine.specs.inner.Lots.{lots_for};
 ghost use Rattle.sl_machine.specs.Safe.{MayStep};
-ghost use Rattle.sl_machine.specs.Stores.{state_of, sizes_of, sizes_for, effect_of};
+ghost use Rattle.sl_machine.specs.inner.Stores.{state_of, sizes_of, sizes_for, effect_of};
 
 use crate::ends::{halt, halt_with_vacant};
 use crate::lots::Lots;
@@ -15,7 +15,7 @@ use sl_code::{Code, Instr};
 use sl_ratio::NoMemory;
 use sl_stages::{LegalFault, Returns};
 
-/// How a run ends by an instruction.
+/// The end that an instruction gives a run.
 #[derive(Debug, Drop)]
 pub(crate) enum End {
     /// With the seats of the lists in a slot, and the vacant ones in a slot if one is named.
@@ -23,9 +23,9 @@ pub(crate) enum End {
     Faulted(LegalFault),
 }
 
-/// Where a run goes on after an instruction: behind it, or at its target, if it does not end.
+/// What an instruction did: the run goes on after it, or at its target, or ends.
 #[derive(Debug, Drop)]
-pub(crate) enum Next {
+pub(crate) enum Effect {
     Goes,
     Jumps,
     Ends(End),
@@ -43,7 +43,7 @@ impl Store {
         returns: &Returns,
         lots: &Lots,
         instr: Instr,
-    ) -> Result<Next, NoMemory>
+    ) -> Result<Effect, NoMemory>
         requires step { MayStep code.now returns.now instr (state_of self.old) }
         requires election { IsElection returns.now }
         requires lots { lots.now ≡ lots_for code.now returns.now }
@@ -61,7 +61,7 @@ impl Store {
             Instr::Div(register, by) => Ok(self.divide(register, by)),
             Instr::Rem(register, by) => Ok(self.keep_rest(register, by)),
             Instr::Max(register, by) => Ok(self.keep_greater(register, by)),
-            Instr::Jmp(..) => Ok(Next::Jumps),
+            Instr::Jmp(..) => Ok(Effect::Jumps),
             Instr::Jz(register, _) => Ok(self.jump_if_zero(register)),
             Instr::Jlt(left, right, _) => Ok(self.jump_if_less(left, right)),
             Instr::Jnl(..) => Ok(self.jump_without_list(returns)),
@@ -79,7 +79,9 @@ impl Store {
             Instr::Fwin(..) => Ok(self.first_win(returns)),
             Instr::Nwin(..) => Ok(self.next_win(returns)),
             Instr::Table(entries, ranking) => Ok(self.open_table(entries, ranking)),
-            Instr::Prio(method, weight, seats) => self.enter_quotient(returns, method, weight, seats),
+            Instr::Prio(method, weight, seats) => self.enter_quotient(
+                returns, method, weight, seats,
+            ),
             Instr::Rest(register) => self.enter_remainder(returns, register),
             Instr::Lead => self.enter_lead(returns),
             Instr::Share => self.enter_share(returns),
@@ -87,16 +89,24 @@ impl Store {
             Instr::Take => Ok(self.take_top(returns)),
             Instr::Lot(stage, _) => Ok(self.jump_without_lot(code, lots, stage)),
             Instr::Takelot(stage) => Ok(self.take_drawn(code, returns, lots, stage)),
-            Instr::Emit(stage, scope, number, step) => self.emit(code, returns, stage, scope, number, step),
-            Instr::Given(stage, scope, number) => self.emit_given(code, returns, stage, scope, number),
+            Instr::Emit(stage, scope, number, step) => self.emit(
+                code, returns, stage, scope, number, step,
+            ),
+            Instr::Given(stage, scope, number) => self.emit_given(
+                code, returns, stage, scope, number,
+            ),
             Instr::Fault(stage, scope, fault) => Ok(self.end_with_fault(code, stage, scope, fault)),
-            Instr::Tie(stage, scope, seats) => self.end_with_tie(code, returns, stage, scope, seats),
+            Instr::Tie(stage, scope, seats) => self.end_with_tie(
+                code, returns, stage, scope, seats,
+            ),
             Instr::Seat => Ok(self.seat_on_list(returns)),
             Instr::Single => Ok(self.seat_as_single(returns)),
             Instr::Halt(slot) => Ok(halt(slot)),
-            Instr::At(..) => Ok(Next::Goes),
+            Instr::At(..) => Ok(Effect::Goes),
             Instr::Haltv(slot, vacant) => Ok(halt_with_vacant(slot, vacant)),
-            Instr::Weigh(stage, scope, rounding, weight) => self.weigh(code, returns, stage, scope, rounding, weight),
+            Instr::Weigh(stage, scope, rounding, weight) => self.weigh(
+                code, returns, stage, scope, rounding, weight,
+            ),
         }
     }
 }

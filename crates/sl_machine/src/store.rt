@@ -4,16 +4,14 @@ ghost use Rattle.std.specs.Prelude.{◌≡◌, ◌++◌, ◌∷◌, [], map, rep
 ghost use Rattle.sl_stages.specs.returns.Election.{IsElection};
 ghost use Rattle.sl_machine.specs.State.{start};
 ghost use Rattle.sl_machine.specs.Places.{cells_of};
-ghost use Rattle.sl_machine.specs.Stores.{state_of, sizes_of, sizes_for};
+ghost use Rattle.sl_machine.specs.inner.Stores.{state_of, sizes_of, sizes_for};
 
 use crate::priority::PriorityTable;
 use sl_code::Code;
 use sl_ratio::{NoMemory, Ratio};
 use sl_stages::{Mark, Placed, Returns, SeatStep, Shape, Weight};
+use sl_verify::REGISTERS;
 use std::alloc::Global;
-
-/// The machine's registers.
-pub(crate) const REGISTER_COUNT: usize = 16;
 
 /// The cursors, where they are set.
 #[derive(Clone, Copy, Debug)]
@@ -27,7 +25,7 @@ pub(crate) struct Cursors {
 #[derive(Drop)]
 pub(crate) struct Store {
     pub alloc: Global,
-    pub registers: [u64; REGISTER_COUNT],
+    pub registers: [u64; REGISTERS as usize],
     // a column for each slot
     pub columns: Vec<Vec<u64>>,
     pub cursors: Cursors,
@@ -108,7 +106,7 @@ impl Store {
         let placed = unseated(alloc, returns.wins())?;
         Ok(Store {
             alloc,
-            registers: [0; REGISTER_COUNT],
+            registers: [0; REGISTERS as usize],
             columns,
             cursors: Cursors {
                 party: None,

@@ -15,15 +15,15 @@ ghost use Rattle.sl_machine.specs.Places.{at_entry};
 ghost use Rattle.sl_machine.specs.Effects.{Goes, effect, given, name_of, winner_at};
 ghost use Rattle.sl_machine.specs.Drawn.{lot_of};
 ghost use Rattle.sl_machine.specs.Safe.{IsInRange, entries_in};
-ghost use Rattle.sl_machine.specs.Lots.{lots_for};
-ghost use Rattle.sl_machine.specs.Seen.{entry_at, puts_in};
-ghost use Rattle.sl_machine.specs.Stores.{state_of, sizes_of, effect_of};
-ghost use Rattle.sl_machine.specs.Tables.{FitsMark};
+ghost use Rattle.sl_machine.specs.inner.Lots.{lots_for};
+ghost use Rattle.sl_machine.specs.inner.Seen.{entry_at, puts_in};
+ghost use Rattle.sl_machine.specs.inner.Stores.{state_of, sizes_of, effect_of};
+ghost use Rattle.sl_machine.specs.inner.Tables.{FitsMark};
 
 use crate::lots::Lots;
 use crate::priority::Taken;
 use crate::records::stage_number;
-use crate::step::Next;
+use crate::step::Effect;
 use crate::store::Store;
 use sl_code::{Code, Entries, Ranking};
 use sl_ratio::{Divisor, Entry, MAX_SEATS, MAX_WEIGHT, NoMemory, Ratio};
@@ -31,16 +31,16 @@ use sl_stages::Returns;
 
 impl Store {
     /// Puts the table on, without entries.
-    pub(crate) fn open_table(&mut self, entries: Entries, ranking: Ranking) -> Next
+    pub(crate) fn open_table(&mut self, entries: Entries, ranking: Ranking) -> Effect
         ensures follows { (c : CountingCode) (e : Election) → effect_of result (state_of self.new) ≡ effect c e (instr.Table entries ranking) (state_of self.old) }
         ensures kept { sizes_of self.new ≡ sizes_of self.old }
     {
         self.table.open(entries, ranking);
-        Next::Goes
+        Effect::Goes
     }
 
     // Enters the cursors' entry.
-    fn enter(&mut self, returns: &Returns, ratio: Ratio) -> Result<Next, NoMemory>
+    fn enter(&mut self, returns: &Returns, ratio: Ratio) -> Result<Effect, NoMemory>
         requires entry { IsSome (entry_at returns.now (state_of self.old)) }
         requires election { IsElection returns.now }
         requires fits { ForSome self.old.table (λ t. FitsMark t.ranking ratio) }
@@ -54,7 +54,7 @@ impl Store {
             ratio,
             index: index as u32,
         })?;
-        Ok(Next::Goes)
+        Ok(Effect::Goes)
     }
 
     /// Enters the cursors' entry with the quotient of a method.
@@ -64,7 +64,7 @@ impl Store {
         method: Divisor,
         weight: u8,
         seats: u8,
-    ) -> Result<Next, NoMemory>
+    ) -> Result<Effect, NoMemory>
         requires weight { weight < REGISTERS }
         requires seats { seats < REGISTERS }
         requires positive { 0 < (state_of self.old).registers weight }
@@ -86,7 +86,7 @@ impl Store {
         &mut self,
         returns: &Returns,
         register: u8,
-    ) -> Result<Next, NoMemory>
+    ) -> Result<Effect, NoMemory>
         requires register { register < REGISTERS }
         requires election { IsElection returns.now }
         requires entry { IsSome (entry_at returns.now (state_of self.old)) }
@@ -100,7 +100,7 @@ impl Store {
     }
 
     /// Enters the cursors' entry ahead of all remainders.
-    pub(crate) fn enter_lead(&mut self, returns: &Returns) -> Result<Next, NoMemory>
+    pub(crate) fn enter_lead(&mut self, returns: &Returns) -> Result<Effect, NoMemory>
         requires election { IsElection returns.now }
         requires entry { IsSome (entry_at returns.now (state_of self.old)) }
         requires range { IsInRange returns.now (state_of self.old) }
@@ -111,7 +111,7 @@ impl Store {
     }
 
     /// Enters the winner with the share of first votes.
-    pub(crate) fn enter_share(&mut self, returns: &Returns) -> Result<Next, NoMemory>
+    pub(crate) fn enter_share(&mut self, returns: &Returns) -> Result<Effect, NoMemory>
         requires win { IsSome (state_of self.old).win }
         requires election { IsElection returns.now }
         requires entry { IsSome (entry_at returns.now (state_of self.old)) }
@@ -126,7 +126,7 @@ impl Store {
     }
 
     /// Sets a register to the number of peers, and jumps where there are none.
-    pub(crate) fn count_peers(&mut self, register: u8) -> Next
+    pub(crate) fn count_peers(&mut self, register: u8) -> Effect
         requires register { register < REGISTERS }
         requires table { IsSome self.old.table }
         ensures follows { (c : CountingCode) (e : Election) → effect_of result (state_of self.new) ≡ effect c e (instr.Peers register 0) (state_of self.old) }
@@ -134,25 +134,25 @@ impl Store {
     {
         let peers = self.table.peers();
         if peers == 0 {
-            Next::Jumps
+            Effect::Jumps
         } else {
             self.set(register, peers as u64)
         }
     }
 
     // Moves the cursors and the mark to an entry that was taken.
-    fn move_to_taken(&mut self, returns: &Returns, taken: Taken) -> Next
+    fn move_to_taken(&mut self, returns: &Returns, taken: Taken) -> Effect
         requires { taken.index < entries_in returns.now taken.entries }
         ensures follows { effect_of result (state_of self.new) ≡ Goes (at_entry returns.now taken.entries taken.index (record (state_of self.old) { mark = taken.mark })) }
         ensures kept { sizes_of self.new ≡ sizes_of self.old }
     {
         self.mark = taken.mark;
         self.move_to(returns, taken.entries, taken.index as usize);
-        Next::Goes
+        Effect::Goes
     }
 
     /// Takes the greatest entry.
-    pub(crate) fn take_top(&mut self, returns: &Returns) -> Next
+    pub(crate) fn take_top(&mut self, returns: &Returns) -> Effect
         requires top { IsSome (option_and_then (λ t. top t.contents) self.old.table) }
         requires range { IsInRange returns.now (state_of self.old) }
         ensures follows { (c : CountingCode) → effect_of result (state_of self.new) ≡ effect c returns.now instr.Take (state_of self.old) }
@@ -174,7 +174,7 @@ impl Store {
     }
 
     /// Jumps unless the stage's lot names every peer.
-    pub(crate) fn jump_without_lot(&self, code: &Code, lots: &Lots, stage: u8) -> Next
+    pub(crate) fn jump_without_lot(&self, code: &Code, lots: &Lots, stage: u8) -> Effect
         requires stage { IsTrue (has_stage code.now stage) }
         requires top { IsSome (option_and_then (λ t. top t.contents) self.now.table) }
         requires lots { (e : Election) × (lots.now ≡ lots_for code.now e) }
@@ -182,9 +182,9 @@ impl Store {
             effect_of result (state_of self.now) ≡ effect code.now e (instr.Lot stage 0) (state_of self.now) }
     {
         if self.table.covers(self.lot(code, lots, stage)) {
-            Next::Goes
+            Effect::Goes
         } else {
-            Next::Jumps
+            Effect::Jumps
         }
     }
 
@@ -195,7 +195,7 @@ impl Store {
         returns: &Returns,
         lots: &Lots,
         stage: u8,
-    ) -> Next
+    ) -> Effect
         requires stage { IsTrue (has_stage code.now stage) }
         requires top { IsSome (option_and_then (λ t. top t.contents) self.old.table) }
         requires lots { lots.now ≡ lots_for code.now returns.now }

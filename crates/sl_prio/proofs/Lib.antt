@@ -6,3 +6,5 @@ pub mod Tables
 pub mod Draws
 pub mod LawProofs
 pub mod Fronts
+pub mod RankedEntries
+pub mod PeerLaws

@@ -40,7 +40,7 @@ lands_apart e l k differ =
     (always (λ q. nat_eq l k && nat_eq p q ≡ false) (λ q. and_left (nat_eq l k) (nat_eq p q) differ) (filter (has_list e k) (parties e))))
     (filter (has_list e l) (parties e)))
 
-entries_differ : (e : Election) (s : Shape) → IsDistinct same_item (entries_of e s)
+pub entries_differ : (e : Election) (s : Shape) → IsDistinct same_item (entries_of e s)
 entries_differ e shape.One = distinct_nil same_item
 entries_differ e shape.Party = distinct_map nat_eq same_item (λ party. item.Party party) (λ p q differ. differ) (parties e) (distinct_range 0 (parties_of e))
 entries_differ e shape.Land = distinct_map nat_eq same_item (λ land. item.Land land) (λ l k differ. differ) (lands e) (distinct_range 0 (lands_of e))

@@ -1,9 +1,20 @@
--- A run from the start is safe.
-use Rattle.std.proofs.Common.{sym, subst}
+-- A run from the start is safe, and what is held at its end fits.
+use Rattle.std.proofs.Common.{◌≡◌, ℕ, ◌<◌, List, length, map, Option, Some, slice_get, refl, sym, ap, subst, ◌∙◌, arith}
+use Rattle.std.proofs.lemmas.List.{length-map}
+use Rattle.std.proofs.lemmas.Option.{slice_get_within}
+use Rattle.sl_stages.specs.declared.book.Shape.TheVariants as shape
+use Rattle.sl_stages.specs.returns.Election.{Election}
 use Rattle.sl_code.specs.Codes.{CountingCode}
 use Rattle.sl_verify.specs.WellKinded.{IsWellKinded}
+use Rattle.sl_machine.specs.declared.step.End.{End}
+use Rattle.sl_machine.specs.declared.step.End.TheVariants as end
 use Rattle.sl_machine.specs.Agrees.{IsSafe}
+use Rattle.sl_machine.specs.Fits.{FitsHalt, FitsMemory}
+use Rattle.sl_machine.specs.Memories.{Held, held_of}
 use Rattle.sl_machine.specs.State.{State}
+use Rattle.sl_machine.specs.inner.Leading.{FitsWith}
+use Rattle.sl_machine.specs.inner.Stores.{Sizes, state_of, sizes_of}
+use Rattle.sl_machine.proofs.Holding.{held_fits}
 use Rattle.sl_machine.proofs.Soundness.{starts_are_safe}
 use Rattle.sl_machine.proofs.machine.run.Goals as goal
 
@@ -13,3 +24,28 @@ steps-requires-clause-safe c =
     let e = c.args.returns.now in
     let kinds = subst (λ (x : CountingCode). IsWellKinded x) (sym c.code-code.ensures.code) c.code-code.ensures.kinds in
     subst (λ (s : State). IsSafe code e 0 s) (sym c.in_ok-store.ensures.state) (starts_are_safe code e kinds c.in_ok-store.ensures.election)
+
+-- an end that fits, and halts
+halted : (c : CountingCode) (e : Election) (s : State) (base : ℕ) (vacant : Option ℕ) (x : End) (o : Option End) → o ≡ Some x → x ≡ end.Halted base vacant → FitsWith c e o s → FitsHalt c e base vacant s
+halted c e s base vacant x o some is fits = subst (λ (y : End). FitsWith c e (Some y) s) is (subst (λ (p : Option End). FitsWith c e p s) some fits)
+
+pub new-requires-clause-vacant : goal.new-requires-clause-vacant
+new-requires-clause-vacant c = λ slot named.
+    let code = c.code-code.result.now in
+    let e = c.args.returns.now in
+    let h = c.in-Some-Halted in
+    let fits = halted code e (state_of c.steps.new.store) h.base h.vacant h.field-0 c.in_ok-base.field-0 h.is h.field-0-is c.in_ok-base.ensures.fits in
+    let below = slice_get_within code.slots slot shape.List (fits.vacant slot named) in
+    let columns = ap (λ (z : Sizes). length z.columns) c.in_ok-base.ensures.kept ∙ length-map code.slots _ in
+    omega (arith, columns, below)
+
+pub returns-in-Some-Halted-clause-fits : goal.returns-in-Some-Halted-clause-fits
+returns-in-Some-Halted-clause-fits c =
+    let code = c.code-code.result.now in
+    let e = c.args.returns.now in
+    let h = c.in-Some-Halted in
+    let s = state_of c.steps.new.store in
+    let fits = halted code e s h.base h.vacant h.field-0 c.in_ok-base.field-0 h.is h.field-0-is c.in_ok-base.ensures.fits in
+    let memory = c.in_ok-new-in-Some-Halted.ensures code e c.in_ok-base.ensures.kept in
+    let held = subst (λ (m : Held). FitsMemory code e m) (sym memory) (held_fits code e s h.base h.vacant fits) in
+    subst (λ (x : CountingCode). FitsMemory x e c.in_ok-new-in-Some-Halted.field-0) c.code-code.ensures.code held

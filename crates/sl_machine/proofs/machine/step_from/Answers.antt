@@ -3,9 +3,9 @@ use Rattle.std.proofs.Common.{rules, ◌≡◌, ◌<◌, ◌+◌, ◌^◌, ℕ, 
 use Rattle.std.proofs.lemmas.Option.{slice_get_within, slice_get-get_or}
 use Rattle.sl_code.specs.declared.instr.Instr.{Instr}
 use Rattle.sl_code.specs.declared.instr.Instr.TheVariants as instr
-use Rattle.sl_machine.specs.declared.step.Next.{Next}
+use Rattle.sl_machine.specs.declared.step.Effect.{Effect}
 use Rattle.sl_machine.specs.Effects.{effect}
-use Rattle.sl_machine.specs.Stores.{state_of, effect_of}
+use Rattle.sl_machine.specs.inner.Stores.{state_of, effect_of}
 use Rattle.sl_machine.proofs.Running.{may_here, columns_here, goes_on, has_target, jumps_to, ends_with}
 use Rattle.sl_machine.proofs.machine.step_from.Goals as goal
 
@@ -50,7 +50,7 @@ unwrap-requires c =
     let i = get_or c.instrs.result.now place (instr.Set 0 0) in
     let at : slice_get code.instrs place ≡ Some i = ap (λ (is : List Instr). slice_get is place) (sym c.instrs.ensures.instrs) ∙ slice_get-get_or c.instrs.result.now place (instr.Set 0 0) there in
     let t = state_of c.step.new.self in
-    let follows = subst (λ (n : Next). effect_of n t ≡ effect code e i s) c.in-Jumps.is c.in_ok-step.ensures.follows in
+    let follows = subst (λ (n : Effect). effect_of n t ≡ effect code e i s) c.in-Jumps.is c.in_ok-step.ensures.follows in
     subst (λ (o : Option ℕ). IsSome o) (sym c.target_of.ensures) (has_target code e place s safe i at t follows)
 
 pub returns-in-Goes-clause-leads : goal.returns-in-Goes-clause-leads
@@ -64,7 +64,7 @@ returns-in-Goes-clause-leads c =
     let i = get_or c.instrs.result.now place (instr.Set 0 0) in
     let at : slice_get code.instrs place ≡ Some i = ap (λ (is : List Instr). slice_get is place) (sym c.instrs.ensures.instrs) ∙ slice_get-get_or c.instrs.result.now place (instr.Set 0 0) there in
     let t = state_of c.step.new.self in
-    let follows = subst (λ (n : Next). effect_of n t ≡ effect code e i s) c.in-Goes.is c.in_ok-step.ensures.follows in
+    let follows = subst (λ (n : Effect). effect_of n t ≡ effect code e i s) c.in-Goes.is c.in_ok-step.ensures.follows in
     goes_on code e place s safe i at t follows
 
 pub returns-in-Jumps-clause-leads : goal.returns-in-Jumps-clause-leads
@@ -78,7 +78,7 @@ returns-in-Jumps-clause-leads c =
     let i = get_or c.instrs.result.now place (instr.Set 0 0) in
     let at : slice_get code.instrs place ≡ Some i = ap (λ (is : List Instr). slice_get is place) (sym c.instrs.ensures.instrs) ∙ slice_get-get_or c.instrs.result.now place (instr.Set 0 0) there in
     let t = state_of c.step.new.self in
-    let follows = subst (λ (n : Next). effect_of n t ≡ effect code e i s) c.in-Jumps.is c.in_ok-step.ensures.follows in
+    let follows = subst (λ (n : Effect). effect_of n t ≡ effect code e i s) c.in-Jumps.is c.in_ok-step.ensures.follows in
     jumps_to code e place s safe i at t c.unwrap.result follows (sym c.target_of.ensures ∙ c.unwrap.ensures)
 
 pub returns-in-Ends-clause-leads : goal.returns-in-Ends-clause-leads
@@ -92,5 +92,5 @@ returns-in-Ends-clause-leads c =
     let i = get_or c.instrs.result.now place (instr.Set 0 0) in
     let at : slice_get code.instrs place ≡ Some i = ap (λ (is : List Instr). slice_get is place) (sym c.instrs.ensures.instrs) ∙ slice_get-get_or c.instrs.result.now place (instr.Set 0 0) there in
     let t = state_of c.step.new.self in
-    let follows = subst (λ (n : Next). effect_of n t ≡ effect code e i s) c.in-Ends.is c.in_ok-step.ensures.follows in
+    let follows = subst (λ (n : Effect). effect_of n t ≡ effect code e i s) c.in-Ends.is c.in_ok-step.ensures.follows in
     ends_with code e place s safe i at c.in-Ends.end t follows

@@ -1,8 +1,8 @@
 -- What is left of the run ends as the whole.
 use Rattle.std.proofs.Common.{◌≡◌}
 use Rattle.sl_machine.specs.Agrees.{IsSafe}
-use Rattle.sl_machine.specs.Steps.{run}
-use Rattle.sl_machine.specs.Stores.{state_of, sizes_of, sizes_for}
+use Rattle.sl_machine.specs.Runs.{run}
+use Rattle.sl_machine.specs.inner.Stores.{state_of, sizes_of, sizes_for}
 use Rattle.sl_machine.proofs.machine.steps.Given as goal
 
 abbrev pub invariant-loop-left : goal.invariant-loop-left

@@ -1,6 +1,6 @@
 -- The lots of the stages before the place.
 use Rattle.std.proofs.Common.{◌≡◌, map, take}
-use Rattle.sl_machine.specs.Lots.{stage_lots}
+use Rattle.sl_machine.specs.inner.Lots.{stage_lots}
 use Rattle.sl_machine.proofs.lots.Lots.of.Given as goal
 
 abbrev pub invariant-loop-stage : goal.invariant-loop-stage

@@ -3,7 +3,7 @@ use Rattle.std.proofs.Common.{◌≡◌, Some, sym, ap, ◌∙◌}
 use Rattle.std.specs.Option.{option_map}
 use Rattle.sl_ratio.specs.Quotient.{FitsRatio}
 use Rattle.sl_machine.specs.declared.priority.TableKind.{TableKind}
-use Rattle.sl_machine.specs.Tables.{FitsMark}
+use Rattle.sl_machine.specs.inner.Tables.{FitsMark}
 use Rattle.sl_machine.proofs.Priorities.{table_with, put_fits, put_enters}
 use Rattle.sl_machine.proofs.priority.PriorityTable.enter.Goals as goal
 

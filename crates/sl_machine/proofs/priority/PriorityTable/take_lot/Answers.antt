@@ -6,7 +6,7 @@ use Rattle.sl_ratio.specs.Quotient.{FitsRatio}
 use Rattle.sl_prio.specs.Prio.{top}
 use Rattle.sl_prio.specs.Lot.{drawn}
 use Rattle.sl_machine.specs.State.{PriorityTable}
-use Rattle.sl_machine.specs.Tables.{FitsMark}
+use Rattle.sl_machine.specs.inner.Tables.{FitsMark}
 use Rattle.sl_machine.proofs.Priorities.{alike, top_there, drawn_there, taken_fits, taken_is, taken_within}
 use Rattle.sl_machine.proofs.priority.PriorityTable.take_lot.Goals as goal
 

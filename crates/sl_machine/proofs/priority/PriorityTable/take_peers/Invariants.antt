@@ -4,7 +4,7 @@ use Rattle.sl_ratio.specs.Quotient.{FitsRatio}
 use Rattle.sl_prio.specs.Ranking.{ranked}
 use Rattle.sl_machine.specs.Places.{item_of}
 use Rattle.sl_machine.specs.Safe.{entries_in}
-use Rattle.sl_machine.specs.Tables.{FitsMark}
+use Rattle.sl_machine.specs.inner.Tables.{FitsMark}
 use Rattle.sl_machine.proofs.priority.PriorityTable.take_peers.Given as goal
 
 abbrev pub invariant-loop : goal.invariant-loop

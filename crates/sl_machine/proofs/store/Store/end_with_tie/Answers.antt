@@ -12,7 +12,7 @@ use Rattle.sl_prio.specs.Prio.{peers}
 use Rattle.sl_machine.specs.State.{State, PriorityTable}
 use Rattle.sl_machine.specs.Places.{item_of, scope_at}
 use Rattle.sl_machine.specs.Effects.{faults}
-use Rattle.sl_machine.specs.Stores.{state_of}
+use Rattle.sl_machine.specs.inner.Stores.{state_of}
 use Rattle.sl_machine.proofs.Drawing.{said_there}
 use Rattle.sl_machine.proofs.store.Store.end_with_tie.Goals as goal
 

@@ -7,7 +7,7 @@ use Rattle.sl_verify.specs.Needs.{input_shape}
 use Rattle.sl_machine.specs.Places.{cells_of}
 use Rattle.sl_machine.specs.State.{with_column}
 use Rattle.sl_machine.specs.Effects.{Goes, input_of}
-use Rattle.sl_machine.specs.Stores.{state_of, columns_of}
+use Rattle.sl_machine.specs.inner.Stores.{state_of, columns_of}
 use Rattle.sl_machine.proofs.Cells.{same_columns, row_width, widths_kept, column_written}
 use Rattle.sl_machine.proofs.Inputs.{input_at}
 use Rattle.sl_machine.proofs.store.Store.input_column.Goals as goal

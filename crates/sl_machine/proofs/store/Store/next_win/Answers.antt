@@ -2,7 +2,7 @@
 use Rattle.std.proofs.Common.{ℕ, Option, Some, ap, sym, ◌∙◌}
 use Rattle.sl_stages.specs.returns.Election.{wins_of}
 use Rattle.sl_machine.specs.Effects.{next_of, with_win}
-use Rattle.sl_machine.specs.Stores.{state_of}
+use Rattle.sl_machine.specs.inner.Stores.{state_of}
 use Rattle.sl_machine.proofs.store.Store.next_win.Goals as goal
 
 pub returns-clause-follows : goal.returns-clause-follows

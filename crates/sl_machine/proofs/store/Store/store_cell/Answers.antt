@@ -5,7 +5,7 @@ use Rattle.std.specs.Vec.{with_item}
 use Rattle.sl_machine.specs.State.{with_cell}
 use Rattle.sl_machine.specs.Places.{cell_at}
 use Rattle.sl_machine.specs.Effects.{Goes}
-use Rattle.sl_machine.specs.Stores.{state_of, columns_of, Sizes}
+use Rattle.sl_machine.specs.inner.Stores.{state_of, columns_of, Sizes}
 use Rattle.sl_machine.proofs.Cells.{found_behind, same_columns, row_width, widths_kept, cells_written}
 use Rattle.sl_machine.proofs.store.Store.store_cell.Goals as goal
 

@@ -2,7 +2,7 @@
 use Rattle.std.proofs.Common.{sym, ◌∙◌}
 use Rattle.sl_prio.specs.Lot.{drawn}
 use Rattle.sl_machine.specs.Effects.{name_of, takes}
-use Rattle.sl_machine.specs.Stores.{state_of}
+use Rattle.sl_machine.specs.inner.Stores.{state_of}
 use Rattle.sl_machine.proofs.Drawing.{lot_there}
 use Rattle.sl_machine.proofs.store.Store.take_drawn.Goals as goal
 

@@ -1,0 +1,90 @@
+-- Registers, cells and columns that were written, as they are read again.
+use Rattle.std.proofs.Common.{◌≡◌, ◌≢◌, ℕ, ◌+◌, ◌*◌, ◌/◌, ◌%◌, ◌<◌, Bool, true, false, ◌==◌, ◌&&◌, List, length, map, get_or, set, Option, Some, slice_get, if◌then◌else◌, refl, sym, ap, ◌∙◌, inl, inr, arith, eq-eqb, ne_eqb}
+use Rattle.std.specs.List.{range_with_len}
+use Rattle.std.proofs.lemmas.Bool.{cases_eq}
+use Rattle.std.proofs.lemmas.Grind.{get_or-set_at}
+use Rattle.std.proofs.lemmas.List.{length-set, get_or-set_other}
+use Rattle.std.proofs.lemmas.Nat.{div-add-mod'}
+use Rattle.std.proofs.lemmas.List.FromFn.{fill_by_all, length-map-range_with_len, get_or-map-range_with_len}
+use Rattle.sl_stages.specs.declared.book.Shape.TheVariants as shape
+use Rattle.sl_stages.specs.returns.Election.{Election, parties_of}
+use Rattle.sl_code.specs.declared.operand.Entries.{Entries}
+use Rattle.sl_code.specs.declared.operand.Entries.TheVariants as entries
+use Rattle.sl_code.specs.Codes.{CountingCode}
+use Rattle.sl_machine.specs.State.{State, with_register, with_column, with_cell}
+use Rattle.sl_machine.specs.Places.{cells_of, index_at, at_entry}
+use Rattle.sl_machine.specs.Memories.{column_of}
+
+module _ (s : State) where
+  -- ---- registers
+  pub register_same : (r v : ℕ) → (with_register r v s).registers r ≡ v
+  register_same r v = ap (λ (b : Bool). if b then v else s.registers r) (eq-eqb r r refl)
+
+  pub register_other : (r v q : ℕ) → q ≢ r → (with_register r v s).registers q ≡ s.registers q
+  register_other r v q other = ap (λ (b : Bool). if b then v else s.registers q) (ne_eqb q r other)
+
+  -- ---- cells
+  pub cell_same : (k p v : ℕ) → (with_cell k p v s).columns k p ≡ v
+  cell_same k p v = rw (eq-eqb k k refl, eq-eqb p p refl) refl
+
+  pub cell_other_place : (k p v q : ℕ) → q ≢ p → (with_cell k p v s).columns k q ≡ s.columns k q
+  cell_other_place k p v q other = rw (eq-eqb k k refl, ne_eqb q p other) refl
+
+  pub cell_other_slot : (k p v j q : ℕ) → j ≢ k → (with_cell k p v s).columns j q ≡ s.columns j q
+  cell_other_slot k p v j q other = rw (ne_eqb j k other) refl
+
+  pub column_same : (k : ℕ) (f : ℕ → ℕ) → (with_column k f s).columns k ≡ f
+  column_same k f = ap (λ (b : Bool). if b then f else s.columns k) (eq-eqb k k refl)
+
+  pub column_other : (k : ℕ) (f : ℕ → ℕ) (j : ℕ) → j ≢ k → (with_column k f s).columns j ≡ s.columns j
+  column_other k f j other = ap (λ (b : Bool). if b then f else s.columns j) (ne_eqb j k other)
+
+-- the entry of which the cursors are is the one at the cursors
+pub entry_again : (e : Election) (k : Entries) (index : ℕ) (s : State) → index_at e k (at_entry e k index s) ≡ Some index
+entry_again e entries.Party index s = refl
+entry_again e entries.Land index s = refl
+entry_again e entries.List index s = ap (λ (n : ℕ). Some n) (div-add-mod' index (parties_of e))
+entry_again e entries.Win index s = refl
+
+-- ---- a slot's column as the list of its cells
+module _ (c : CountingCode) (e : Election) where
+  -- as many as its shape has
+  abbrev pub width_of : ℕ → ℕ
+  width_of k = cells_of e (get_or c.slots k shape.One)
+
+  module _ (s : State) (k : ℕ) where
+    pub column_long : length (column_of c e s k) ≡ width_of k
+    column_long = length-map-range_with_len (s.columns k) 0 (width_of k)
+
+    pub column_at : (p : ℕ) → p < width_of k → get_or (column_of c e s k) p 0 ≡ s.columns k p
+    column_at p within = get_or-map-range_with_len (s.columns k) 0 (width_of k) p p 0 within (omega arith)
+
+    -- the list of a column is any list of that length with those cells
+    pub column_by_cells : (xs : List ℕ) → length xs ≡ width_of k → ((p : ℕ) → p < width_of k → get_or xs p 0 ≡ s.columns k p) → xs ≡ column_of c e s k
+    column_by_cells xs long cells = fill_by_all (s.columns k) xs (width_of k) 0 long cells
+
+  -- a slot whose cells stay
+  pub column_kept : (s t : State) (k : ℕ) → ((p : ℕ) → t.columns k p ≡ s.columns k p) → column_of c e t k ≡ column_of c e s k
+  column_kept s t k same = column_by_cells s k (column_of c e t k) (column_long t k) (λ p within. column_at t k p within ∙ same p)
+
+  module _ (s : State) (k : ℕ) where
+    -- after a cell is stored
+    pub column_stored : (p v : ℕ) → p < width_of k → column_of c e (with_cell k p v s) k ≡ set (column_of c e s k) p v
+    column_stored p v within =
+        let xs = column_of c e s k in
+        let there : p < length xs = omega (arith, column_long s k) in
+        sym (column_by_cells (with_cell k p v s) k (set xs p v) (length-set xs p v ∙ column_long s k) (λ q low.
+        elim (cases_eq q p) [
+          | inl here ↦ get_or-set_at xs p q v 0 here there ∙ sym (cell_same s k p v) ∙ ap (λ (r : ℕ). (with_cell k p v s).columns k r) (sym here)
+          | inr other ↦ get_or-set_other xs p q v 0 other ∙ column_at s k q low ∙ sym (cell_other_place s k p v q other)
+        ]))
+
+    pub column_stored_other : (p v j : ℕ) → j ≢ k → column_of c e (with_cell k p v s) j ≡ column_of c e s j
+    column_stored_other p v j other = column_kept s (with_cell k p v s) j (λ q. cell_other_slot s k p v j q other)
+
+    -- after a whole column is written
+    pub column_written : (f : ℕ → ℕ) → column_of c e (with_column k f s) k ≡ map f (range_with_len 0 (width_of k))
+    column_written f = ap (λ (g : ℕ → ℕ). map g (range_with_len 0 (width_of k))) (column_same s k f)
+
+    pub column_written_other : (f : ℕ → ℕ) (j : ℕ) → j ≢ k → column_of c e (with_column k f s) j ≡ column_of c e s j
+    column_written_other f j other = ap (λ (g : ℕ → ℕ). map g (range_with_len 0 (width_of j))) (column_other s k f j other)

@@ -1,0 +1,9 @@
+-- What bodies and proofs alone cite: how the machine's values stand for those of the definitions.
+pub mod Stores
+pub mod Seen
+pub mod Frames
+pub mod Memories
+pub mod Leaving
+pub mod Lots
+pub mod Tables
+pub mod Leading

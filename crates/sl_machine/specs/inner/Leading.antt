@@ -1,0 +1,27 @@
+-- Where a step of the machine leads, and how its steps end.
+use Rattle.std.specs.Prelude.{◌≡◌, ℕ, suc, Option, Some, None}
+use Rattle.sl_stages.specs.returns.Election.{Election}
+use Rattle.sl_code.specs.Codes.{CountingCode}
+use Rattle.sl_machine.specs.declared.machine.Step.{Step}
+use Rattle.sl_machine.specs.declared.machine.Step.TheVariants as step
+use Rattle.sl_machine.specs.declared.step.End.{End}
+use Rattle.sl_machine.specs.State.{State}
+use Rattle.sl_machine.specs.Agrees.{IsSafe}
+use Rattle.sl_machine.specs.Fits.{FitsEnd}
+use Rattle.sl_machine.specs.Runs.{Ending, Ended, OutOfBudget, run}
+use Rattle.sl_machine.specs.inner.Stores.{end_with}
+
+-- a step from a place and a state leads to a place and a state that are safe, or to an end that fits: runs with one step less go on there
+abbrev pub Leads : CountingCode → Election → ℕ → State → Step → State → Type 0
+Leads c e p s (step.To q) t = IsSafe c e q t × ((n : ℕ) → run c e (suc n) p s ≡ run c e n q t)
+Leads c e p s (step.Over end) t = FitsEnd c e (end_with end t) × ((n : ℕ) → run c e (suc n) p s ≡ Ended (end_with end t))
+
+-- how steps end that come to a state
+abbrev pub ending_with : Option End → State → Ending
+ending_with None s = OutOfBudget
+ending_with (Some end) s = Ended (end_with end s)
+
+-- an end that they come to fits
+abbrev pub FitsWith : CountingCode → Election → Option End → State → Type 0
+FitsWith c e None s = Unit {0}
+FitsWith c e (Some end) s = FitsEnd c e (end_with end s)

@@ -1,0 +1,54 @@
+-- How the machine's store stands for a state.
+use Rattle.std.specs.Prelude.{ℕ, List, [], length, map, slice_index, slice_index_or}
+use Rattle.sl_stages.specs.declared.table.Placed.TheVariants as placed
+use Rattle.sl_stages.specs.returns.Election.{Election, wins_of}
+use Rattle.sl_code.specs.Codes.{CountingCode}
+use Rattle.sl_machine.specs.declared.step.End.{End as Answer}
+use Rattle.sl_machine.specs.declared.step.End.TheVariants as end
+use Rattle.sl_machine.specs.declared.step.Effect.{Effect as Move}
+use Rattle.sl_machine.specs.declared.step.Effect.TheVariants as move
+use Rattle.sl_machine.specs.declared.store.Store.{Store}
+use Rattle.sl_machine.specs.State.{State, End, Halted, Faulted}
+use Rattle.sl_machine.specs.Places.{cells_of}
+use Rattle.sl_machine.specs.Effects.{Effect, Goes, Jumps, Ends}
+
+-- the columns, each as the list of its cells
+abbrev pub columns_of : Store → List (List ℕ)
+columns_of s = map (λ column. column.items) s.columns.items
+
+-- the state that a store stands for: what is told of no register, no cell and no winner is 0, and unseated
+abbrev pub state_of : Store → State
+state_of s = record {
+  registers = λ r. slice_index s.registers r;
+  columns = λ k place. slice_index (slice_index_or (columns_of s) k []) place;
+  party = s.cursors.party;
+  land = s.cursors.land;
+  win = s.cursors.win;
+  table = s.table;
+  mark = s.mark;
+  steps = s.steps.items;
+  weights = s.weights.items;
+  placed = λ w. slice_index_or s.placed.items w placed.Unseated;
+}
+
+-- how many cells each column has, and how many winners there are
+pub record Sizes : Type 0 where
+  pub columns : List ℕ
+  pub winners : ℕ
+
+abbrev pub sizes_of : Store → Sizes
+sizes_of s = record { columns = map length (columns_of s); winners = length s.placed.items }
+
+-- the sizes that a code and returns ask for
+abbrev pub sizes_for : CountingCode → Election → Sizes
+sizes_for c e = record { columns = map (cells_of e) c.slots; winners = wins_of e }
+
+-- the end and the effect that a body answers, with the state that it leaves
+abbrev pub end_with : Answer → State → End
+end_with (end.Halted base vacant) s = Halted base vacant s
+end_with (end.Faulted fault) s = Faulted fault
+
+abbrev pub effect_of : Move → State → Effect
+effect_of move.Goes s = Goes s
+effect_of move.Jumps s = Jumps s
+effect_of (move.Ends end) s = Ends (end_with end s)
