@@ -2,6 +2,7 @@ pub mod State
 pub mod Priority
 pub mod Places
 pub mod Drawn
+pub mod SameLots
 pub mod Effects
 pub mod Runs
 pub mod Comes

@@ -65,7 +65,7 @@ peer_between x y z fits_x fits_y fits_z below_x below_y tied =
 -- ---- the front of a ranking
 
 module _ (x : Entry) (fits : HasRatio x) where
-  none_behind : (y : Entry) (ys : List Entry) → HasRatio y → AtMost entry_cmp x y → has_quotient_of x y ≡ false → All HasRatio ys → All (AtMost entry_cmp y) ys
+  pub none_behind : (y : Entry) (ys : List Entry) → HasRatio y → AtMost entry_cmp x y → has_quotient_of x y ≡ false → All HasRatio ys → All (AtMost entry_cmp y) ys
       → filter (has_quotient_of x) ys ≡ []
   none_behind y [] fits_y below other ratios most = refl
   none_behind y (z ∷ zs) fits_y below other ratios most =

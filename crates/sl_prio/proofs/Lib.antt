@@ -8,3 +8,6 @@ pub mod LawProofs
 pub mod Fronts
 pub mod RankedEntries
 pub mod PeerLaws
+pub mod Heaps
+pub mod Subtrees
+pub mod Seen

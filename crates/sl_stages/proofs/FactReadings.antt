@@ -2,20 +2,38 @@
 use Rattle.std.proofs.Common.{◌≡◌, ℕ, zero, suc, ◌+◌, ◌*◌, ◌<◌, ◌≤◌, ◌&&◌, Bool, true, false, not, cond, List, [], ◌∷◌, Option, Some, None, is_none, is_some, nat_eq, length, get_or, count_by, arith, refl, sym, ap, subst, ◌∙◌, inl, inr}
 use Rattle.std.specs.Prelude.{if◌then◌else◌, Contains, slice_get, slice_index_or, sum_by}
 use Rattle.std.specs.List.{All, list_any, range_with_len}
-use Rattle.std.proofs.lemmas.Bool.{cases_eq, or_cases, or_left, or_right, and_parts, and_left, and_right, eq-eqb, ne_eqb, leb-true, le-leb, both_ways, false≢true}
+use Rattle.std.proofs.lemmas.Bool.{cases_eq, cases_lt, or_cases, or_left, or_right, and_parts, and_left, and_right, eq-eqb, ne_eqb, leb-true, le-leb, both_ways, false≢true}
+use Rattle.std.proofs.lemmas.List.{get_or_past}
 use Rattle.std.proofs.lemmas.List.Sums.{sum_by-cons}
-use Rattle.std.proofs.lemmas.List.Elements.{All-head, All-tail}
+use Rattle.std.proofs.lemmas.List.Elements.{All-head, All-tail, All-get_or}
 use Rattle.std.proofs.lemmas.List.FromFn.{get_or-map-range_with_len}
 use Rattle.sl_stages.specs.declared.book.Cond.{Cond}
 use Rattle.sl_stages.specs.declared.book.Cond.TheVariants as condition
 use Rattle.sl_stages.specs.declared.returns.ListVotes.{ListVotes}
 use Rattle.sl_stages.specs.declared.returns.Win.{Win}
 use Rattle.sl_stages.specs.returns.Votes.{counted_in}
-use Rattle.sl_stages.specs.returns.Election.{Election, IsWin, lands_of, parties_of, list_at, has_list}
+use Rattle.sl_stages.specs.returns.Election.{Election, IsWin, EndsBefore, lands_of, parties_of, list_at, has_list}
 use Rattle.sl_stages.specs.returns.Facts.{parties, list_cell, is_of, is_in, valid_votes, all_valid_votes, meets, is_eligible, takes_part, is_on_list, counted_votes, list_winners, outside_winners, independent_winners}
-use Rattle.sl_stages.specs.laws.ReturnsLaws.{MeetsCondition, EligibleParties, FactsOfLists, FactsOfLands}
+use Rattle.sl_stages.specs.laws.ReturnsLaws.{ListsAreNamed, MeetsCondition, EligibleParties, FactsOfLists, FactsOfLands}
 use Rattle.sl_stages.proofs.meaning.ListPlaces.{by_list_at}
 use Rattle.sl_stages.proofs.meaning.PlacedWinners.{when_both}
+
+-- ---- lists
+
+some_list : (cells : List (List (Option ListVotes))) (lands parties land party : ℕ) → length cells ≡ lands → All (EndsBefore parties) cells →
+    is_some (get_or (get_or cells land []) party None) ≡ true → (land < lands) × (party < parties)
+some_list cells lands parties land party long ends h =
+    elim (cases_lt land lands) [
+      | inr past ↦ absurd (false≢true (sym (ap (λ row. is_some (get_or row party None)) (get_or_past cells land [] (omega (arith, past, long)))) ∙ h))
+      | inl in_lands ↦ elim (cases_lt party parties) [
+        | inl in_parties ↦ (in_lands, in_parties)
+        | inr past ↦
+            absurd (false≢true (sym (ap is_some (All-get_or (EndsBefore parties) cells land [] (omega (arith, in_lands, long)) ends party past)) ∙ h))
+      ]
+    ]
+
+pub lists_are_named : ListsAreNamed
+lists_are_named e land party is h = some_list e.cells (lands_of e) (parties_of e) land party is.rows is.ends h
 
 -- ---- who is eligible
 

@@ -5,6 +5,7 @@ pub mod ReturnsLaws
 pub mod Ladders
 pub mod MethodLaws
 pub mod Awards
+pub mod Walks
 pub mod EqualBounds
 pub mod MeaningLaws
 pub mod ColumnLaws

@@ -9,6 +9,7 @@ pub mod returns;
 ghost use Rattle.sl_stages.specs.laws.MethodLaws.{EmptyFields, DivisorAllocations, HamiltonAllocations, Coverings, FullCoverings, Growths};
 ghost use Rattle.sl_stages.specs.laws.LimitLaws.{Limits};
 ghost use Rattle.sl_stages.specs.laws.Awards.{Draws, Batches, DivisorLadders, HamiltonLadders, CoveringLadders, GrowthBatches};
+ghost use Rattle.sl_stages.specs.laws.Walks.{Walks};
 
 /// The value of each limit of rulebooks and returns (docs/limits.md).
 pub fn limits()
@@ -53,6 +54,11 @@ pub fn draws()
 /// (docs/methods.md, section 7).
 pub fn batches()
     ensures { Batches }
+{}
+
+/// Within a batch the peers get their seats one by one, in any order (docs/methods.md, section 7).
+pub fn walks()
+    ensures { Walks }
 {}
 
 /// The divisor allocations are the tops of their ladders (docs/methods.md, section 7).

@@ -1,5 +1,5 @@
 -- The instructions that record seats and weights, that seat winners, and that end a run.
-use Rattle.std.proofs.Common.{◌≡◌, ℕ, suc, min, Bool, true, false, map, Option, Some, None, slice_get, if◌then◌else◌, refl, ap, ◌∙◌}
+use Rattle.std.proofs.Common.{◌≡◌, ℕ, suc, min, Bool, true, false, map, Option, Some, None, slice_get, if◌then◌else◌, ap, ◌∙◌}
 use Rattle.sl_ratio.specs.declared.entry.Entry.{Entry}
 use Rattle.sl_ratio.specs.declared.limits.TheConstants.{MAX_WEIGHT}
 use Rattle.sl_stages.specs.declared.book.Shape.{Shape}

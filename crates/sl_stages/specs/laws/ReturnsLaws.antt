@@ -6,6 +6,12 @@ use Rattle.sl_stages.specs.returns.Votes.{counted_in}
 use Rattle.sl_stages.specs.returns.Election.{Election, IsElection, lands_of, parties_of, list_at, has_list}
 use Rattle.sl_stages.specs.returns.Facts.{parties, list_cell, is_of, is_in, valid_votes, all_valid_votes, is_eligible, takes_part, counted_votes, list_winners, outside_winners, independent_winners}
 
+-- ---- lists
+
+-- each list is of a Land and a party of the election, so neither a Land nor a party that joins brings a list with it
+abbrev pub ListsAreNamed : Type 0
+ListsAreNamed = (e : Election) (land party : ℕ) → IsElection e → has_list e land party ≡ true → (land < lands_of e) × (party < parties_of e)
+
 -- ---- who is eligible
 
 -- n in each d of all valid votes; so many winners; a party of a national minority; every party

@@ -14,6 +14,16 @@ lands e = range_with_len 0 (lands_of e)
 abbrev pub parties : Election → List ℕ
 parties e = range_with_len 0 (parties_of e)
 
+-- ---- lists, in list order: by Land, then by party
+
+-- what f gives for each list
+abbrev pub each_list : {X : Type 0} → Election → (ℕ → ℕ → X) → List X
+each_list e f = flat_map (λ land. map (f land) (filter (has_list e land) (parties e))) (lands e)
+
+-- the lists, each by its Land and its party
+abbrev pub lists_of : Election → List (ℕ × ℕ)
+lists_of e = each_list e (λ land party. (land, party))
+
 -- ---- columns: a number for each party, for each Land, or for each pair of Land and party, in the order of Länder and then of parties
 
 abbrev pub by_party : Election → (ℕ → ℕ) → List ℕ
@@ -24,14 +34,6 @@ by_land e f = map f (lands e)
 
 abbrev pub by_list : Election → (ℕ → ℕ → ℕ) → List ℕ
 by_list e f = flat_map (λ land. by_party e (f land)) (lands e)
-
--- what f gives for each list, in list order: by Land, then by party
-abbrev pub each_list : {X : Type 0} → Election → (ℕ → ℕ → X) → List X
-each_list e f = flat_map (λ land. map (f land) (filter (has_list e land) (parties e))) (lands e)
-
--- the lists, each by its Land and its party
-abbrev pub lists_of : Election → List (ℕ × ℕ)
-lists_of e = each_list e (λ land party. (land, party))
 
 -- the number of a pair of Land and party in such a column
 abbrev pub list_cell : Election → List ℕ → ℕ → ℕ → ℕ

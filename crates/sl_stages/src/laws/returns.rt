@@ -1,6 +1,11 @@
-//! Laws of the facts of the returns (docs/meaning.md, section 1). Each function does nothing: its contract is the law.
+//! Laws of the returns and the facts read off them (docs/meaning.md, section 1). Each function does nothing: its contract is the law.
 
-ghost use Rattle.sl_stages.specs.laws.ReturnsLaws.{EligibleParties, FactsOfLists, FactsOfLands};
+ghost use Rattle.sl_stages.specs.laws.ReturnsLaws.{ListsAreNamed, EligibleParties, FactsOfLists, FactsOfLands};
+
+/// Each list is of a Land and a party of the election.
+pub fn lists_are_named()
+    ensures { ListsAreNamed }
+{}
 
 /// A party is eligible exactly where it meets one of the conditions.
 pub fn eligible_parties()

@@ -6,7 +6,7 @@ use Rattle.sl_code.specs.declared.instr.Instr.TheVariants as instr
 use Rattle.sl_machine.specs.declared.step.Effect.{Effect}
 use Rattle.sl_machine.specs.Effects.{effect}
 use Rattle.sl_machine.specs.inner.Stores.{state_of, effect_of}
-use Rattle.sl_machine.proofs.Running.{may_here, columns_here, goes_on, has_target, jumps_to, ends_with}
+use Rattle.sl_machine.proofs.runs.Leading.{may_here, columns_here, goes_on, has_target, jumps_to, ends_with}
 use Rattle.sl_machine.proofs.machine.step_from.Goals as goal
 
 pub step-requires-clause-step : goal.step-requires-clause-step

@@ -1,0 +1,9 @@
+-- The lemmas of plans.
+pub mod Places
+pub mod Pieces
+pub mod Loops
+pub mod Following
+pub mod Rules
+pub mod Keeping
+pub mod KeepingRules
+pub mod Prices

@@ -1,0 +1,7 @@
+-- The definitions of plans.
+pub mod Trees
+pub mod Meaning
+pub mod Following
+pub mod Achieves
+pub mod Costs
+pub mod inner

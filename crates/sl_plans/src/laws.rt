@@ -1,0 +1,25 @@
+//! What holds of every plan.
+
+ghost use Rattle.sl_plans.specs.Costs.{PlansCostTheirPrice, SharesSuffice};
+ghost use Rattle.sl_plans.specs.Following.{PlansAreFollowed};
+ghost use Rattle.sl_plans.specs.inner.Frames.{PlansKeepTheRest};
+
+/// Wherever the instructions of a plan stand, the machine does what the plan says, within the plan's cost.
+pub fn plans_are_followed()
+    ensures { PlansAreFollowed }
+{}
+
+/// What a plan cannot write stays as it was.
+pub fn plans_keep_the_rest()
+    ensures { PlansKeepTheRest }
+{}
+
+/// A plan costs its price.
+pub fn plans_cost_their_price()
+    ensures { PlansCostTheirPrice }
+{}
+
+/// A plan with no number of its price above a share's takes at most a share.
+pub fn shares_suffice()
+    ensures { SharesSuffice }
+{}
