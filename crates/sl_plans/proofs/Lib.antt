@@ -8,3 +8,5 @@ pub mod Keeping
 pub mod KeepingRules
 pub mod Prices
 pub mod Laying
+pub mod Reaching
+pub mod Sums

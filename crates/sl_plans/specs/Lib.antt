@@ -5,4 +5,5 @@ pub mod Following
 pub mod Achieves
 pub mod Costs
 pub mod Layout
+pub mod Sums
 pub mod inner
