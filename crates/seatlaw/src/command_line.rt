@@ -8,7 +8,6 @@ use std::alloc::{AllocError, Global};
 pub enum Request<'a> {
     Count { book: &'a str, returns: &'a str },
     Check { book: &'a str },
-    Nothing,
 }
 
 // An argument that must be given.
@@ -33,7 +32,7 @@ fn command<'a>(alloc: Global) -> Result<Command<'a>, AllocError> {
         .arg(book(alloc))?
         .arg(word(alloc, "RETURNS", "The returns, a path"))?;
     let check = Command::new(alloc, "check")
-        .about("Checks a rulebook and writes a line that tells of it")
+        .about("Checks a rulebook and writes a line about it")
         .arg(book(alloc))?;
     Command::new(alloc, "seatlaw")
         .about("Seat tables of the Bundestag by a rulebook and returns")
@@ -53,13 +52,12 @@ fn check_of<'a>(given: &ArgMatches<'a>) -> Option<Request<'a>> {
     Some(Request::Check { book })
 }
 
-/// What these words ask for.
-pub fn request_of<'a>(alloc: Global, words: &'a [String]) -> Result<Request<'a>, Error> {
+/// What these words ask for, if they are a request.
+pub fn request_of<'a>(alloc: Global, words: &'a [String]) -> Result<Option<Request<'a>>, Error> {
     let matches = command(alloc)?.try_get_matches_from(words)?;
-    let request = match matches.subcommand() {
+    Ok(match matches.subcommand() {
         Some(("count", given)) => count_of(given),
         Some(("check", given)) => check_of(given),
         _ => None,
-    };
-    Ok(request.unwrap_or(Request::Nothing))
+    })
 }

@@ -4,16 +4,17 @@
 mod command_line;
 mod run;
 
-use command_line::{Request, request_of};
+use command_line::request_of;
 use std::process::ExitCode;
 
 fn main(rt: HostRuntime) -> anyhow::Result<ExitCode> {
-    let alloc = rt.alloc();
-    let words: Vec<String> = std::env::args(&rt)?.collect(alloc)?;
-    let status = match request_of(alloc, words.as_slice()) {
-        Ok(Request::Count { book, returns }) => run::count(&rt, book, returns)?,
-        Ok(Request::Check { book }) => run::check(&rt, book)?,
-        Ok(Request::Nothing) => 0,
+    let words: Vec<String> = std::env::args(&rt)?.collect(rt.alloc())?;
+    let status = match request_of(rt.alloc(), words.as_slice()) {
+        Ok(Some(request)) => run::exit_status(&rt, request),
+        Ok(None) => {
+            eprintln!(rt; "no command is given")?;
+            1
+        }
         Err(error) => {
             error.print(&rt)?;
             if error.use_stderr() { 1 } else { 0 }

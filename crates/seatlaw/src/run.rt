@@ -1,56 +1,52 @@
 //! Commands over files.
 
+use crate::command_line::Request;
 use sl_desk::{BookSource, DeskError, FromRead, Input, Status, ToWrite};
 use std::fs::File;
-use std::io;
 
-// The exit status after an error, which is told on standard error.
-fn after_error(rt: &HostRuntime, error: DeskError) -> io::Result<u8> {
-    match error {
-        DeskError::Read(Input::Book) => eprintln!(rt; "read fault book")?,
-        DeskError::Read(Input::Returns) => eprintln!(rt; "read fault returns")?,
-        DeskError::Read(Input::Code) => eprintln!(rt; "read fault code")?,
-        DeskError::Write => eprintln!(rt; "write fault")?,
-        DeskError::NoMemory => eprintln!(rt; "out of memory")?,
-    }
-    Ok(5)
-}
-
-fn exit_status(rt: &HostRuntime, ending: Result<Status, DeskError>) -> io::Result<u8> {
-    match ending {
-        Ok(status) => Ok(status.number()),
-        Err(error) => after_error(rt, error),
+// The file at a path, as that input.
+fn open(rt: &HostRuntime, path: &str, input: Input) -> Result<FromRead<File>, DeskError> {
+    match File::open(rt, path) {
+        Ok(file) => Ok(FromRead::new(file)),
+        Err(_) => Err(DeskError::Read(input)),
     }
 }
 
 // A rulebook: of the library if the word begins with `@`, else of the file at that path.
-fn open_book<'a>(rt: &HostRuntime, word: &'a str) -> io::Result<BookSource<'a, FromRead<File>>> {
+fn open_book<'a>(
+    rt: &HostRuntime,
+    word: &'a str,
+) -> Result<BookSource<'a, FromRead<File>>, DeskError> {
     match word.strip_prefix('@') {
         Some(name) => Ok(BookSource::Library(name)),
-        None => Ok(BookSource::Reader(FromRead::new(File::open(rt, word)?))),
+        None => Ok(BookSource::Reader(open(rt, word, Input::Book)?)),
     }
 }
 
-/// Counts the election of two files, and writes to standard output.
-pub fn count(rt: &HostRuntime, book: &str, returns: &str) -> io::Result<u8> {
-    let Ok(mut book) = open_book(rt, book) else {
-        return after_error(rt, DeskError::Read(Input::Book));
-    };
-    let Ok(file) = File::open(rt, returns) else {
-        return after_error(rt, DeskError::Read(Input::Returns));
-    };
-    let mut returns = FromRead::new(file);
+fn count(rt: &HostRuntime, book: &str, returns: &str) -> Result<Status, DeskError> {
+    let mut book = open_book(rt, book)?;
+    let mut returns = open(rt, returns, Input::Returns)?;
     let mut out = ToWrite::new(rt.stdout());
-    let ending = sl_desk::count(rt.alloc(), &mut book, &mut returns, &mut out);
-    exit_status(rt, ending)
+    sl_desk::count(rt.alloc(), &mut book, &mut returns, &mut out)
 }
 
-/// Checks the rulebook of a file, and writes to standard output.
-pub fn check(rt: &HostRuntime, book: &str) -> io::Result<u8> {
-    let Ok(mut book) = open_book(rt, book) else {
-        return after_error(rt, DeskError::Read(Input::Book));
-    };
+fn check(rt: &HostRuntime, book: &str) -> Result<Status, DeskError> {
+    let mut book = open_book(rt, book)?;
     let mut out = ToWrite::new(rt.stdout());
-    let ending = sl_desk::check_book(rt.alloc(), &mut book, &mut out);
-    exit_status(rt, ending)
+    sl_desk::check_book(rt.alloc(), &mut book, &mut out)
+}
+
+/// Runs a command over files and standard output, and answers the exit status: 5 after an error, also where its line cannot be printed.
+pub fn exit_status(rt: &HostRuntime, request: Request<'_>) -> u8 {
+    let ending = match request {
+        Request::Count { book, returns } => count(rt, book, returns),
+        Request::Check { book } => check(rt, book),
+    };
+    match ending {
+        Ok(status) => status.number(),
+        Err(error) => {
+            let _ = eprintln!(rt; "{error}");
+            5
+        }
+    }
 }

@@ -1,5 +1,5 @@
 -- The column of a name among those of earlier stages.
-use Rattle.std.proofs.Common.{◌≡◌, ℕ, suc, zero, ◌<◌, ◌≤◌, ◌||◌, List, [], ◌∷◌, Bool, true, false, cond, Some, is_some, length, find, option_map, drop, get_or, arith, refl}
+use Rattle.std.proofs.Common.{◌≡◌, ℕ, suc, zero, ◌<◌, ◌≤◌, ◌||◌, List, [], ◌∷◌, Bool, true, false, cond, Some, length, find, option_map, drop, get_or, arith, refl}
 use Rattle.std.specs.Str.{bytes_eq}
 use Rattle.std.specs.Option.{ok_or}
 use Rattle.std.specs.List.{list_any}
@@ -27,10 +27,3 @@ judges_name p [] at = refl
 judges_name p (c ∷ cs) at =
     elim (p c) as (λ b. Judges (ok_or (option_map (λ d. d.type) (cond b (Some c) (find p cs))) (StageUnknown at)) (test (b || list_any p cs) (StageUnknown at) ∷ []) (type_or_one (cond b (Some c) (find p cs))))
     [ true ↦ (refl, refl) | false ↦ judges_name p cs at ]
-
--- a column is found where there is one of that name
-pub is_found : (p : Column → Bool) (cs : List Column) → list_any p cs ≡ is_some (option_map (λ c. c.type) (find p cs))
-is_found p [] = refl
-is_found p (c ∷ cs) =
-    elim (p c) as (λ b. (b || list_any p cs) ≡ is_some (option_map (λ d. d.type) (cond b (Some c) (find p cs))))
-    [ true ↦ refl | false ↦ is_found p cs ]

@@ -3,6 +3,3 @@ pub mod Failing
 pub mod Counting
 pub mod Walking
 pub mod Within
-mod TestLists
-mod NodeLaws
-mod Typed

@@ -8,8 +8,8 @@ use Rattle.sl_stages.specs.declared.book.Stage.{Stage}
 use Rattle.sl_stages.specs.declared.book.ColumnType.{ColumnType}
 use Rattle.sl_stages.specs.book.Trees.{tree_of, stage_of}
 use Rattle.sl_stages.specs.book.Tests.{first_failing}
-use Rattle.sl_stages.specs.book.Typing.{Column, column_of, columns_of, type_of, stages_tests}
-use Rattle.sl_check.specs.Known.{columns, stage_tests}
+use Rattle.sl_stages.specs.book.Typing.{Column, stage_column, columns_of, type_of, stage_tests, stages_tests}
+use Rattle.sl_check.specs.Known.{columns}
 use Rattle.sl_stages.proofs.Tests.{fails_in_row}
 
 -- the first i stages pass, and have the columns of the first i types
@@ -32,10 +32,10 @@ drop_here ss i s lt here = rw (← here) at (drop-cons ss i s lt)
 -- the tests of the rest are those of the stage that comes next, and of those behind it
 stages_here : (cs : List Column) (ss : List Stage) (i : ℕ) (s : Stage) → i < length ss → s ≡ get_or ss i s
     → first_failing (stages_tests cs (map stage_of (drop i ss)))
-    ≡ option_or (first_failing (stage_tests cs (stage_of s))) (first_failing (stages_tests (cs ++ column_of cs (stage_of s) ∷ []) (map stage_of (drop (suc i) ss))))
+    ≡ option_or (first_failing (stage_tests cs (stage_of s))) (first_failing (stages_tests (cs ++ stage_column cs (stage_of s) ∷ []) (map stage_of (drop (suc i) ss))))
 stages_here cs ss i s lt here =
     ap (λ rest. first_failing (stages_tests cs (map stage_of rest))) (drop_here ss i s lt here)
-    ∙ fails_in_row (stage_tests cs (stage_of s)) (stages_tests (cs ++ column_of cs (stage_of s) ∷ []) (map stage_of (drop (suc i) ss)))
+    ∙ fails_in_row (stage_tests cs (stage_of s)) (stages_tests (cs ++ stage_column cs (stage_of s) ∷ []) (map stage_of (drop (suc i) ss)))
 
 -- a stage that fails a test is the first to fail one
 pub stage_fails : (ss : List Stage) (ts : List ColumnType) (i : ℕ) (s : Stage) (f : CheckFault)
@@ -53,10 +53,10 @@ pub stage_passes : (ss : List Stage) (ts : List ColumnType) (i : ℕ) (s : Stage
 stage_passes ss ts i s t passed lt room here passes is =
     let cs = columns (take i ss) ts in
     let rest = map stage_of (drop (suc i) ss) in
-    let next : columns (take (suc i) ss) (set ts i t) ≡ cs ++ column_of cs (stage_of s) ∷ [] =
+    let next : columns (take (suc i) ss) (set ts i t) ≡ cs ++ stage_column cs (stage_of s) ∷ [] =
     columns_next ss ts i s t lt room here ∙ ap (λ u. cs ++ record { name = s.name; type = u } ∷ []) is in
     record {
-      tests = passed.tests ∙ stages_here cs ss i s lt here ∙ ap (λ r. option_or r (first_failing (stages_tests (cs ++ column_of cs (stage_of s) ∷ []) rest))) passes
+      tests = passed.tests ∙ stages_here cs ss i s lt here ∙ ap (λ r. option_or r (first_failing (stages_tests (cs ++ stage_column cs (stage_of s) ∷ []) rest))) passes
           ∙ ap (λ ds. first_failing (stages_tests ds rest)) (sym next);
       names = passed.names ∙ ap (λ ds. columns_of cs (map stage_of ds)) (drop_here ss i s lt here) ∙ ap (λ ds. columns_of ds rest) (sym next);
     }

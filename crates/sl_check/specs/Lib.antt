@@ -1,3 +1,1 @@
 pub mod Known
-pub mod Nodes
-pub mod HasType

@@ -2,10 +2,10 @@
 
 ghost use Rattle.std.specs.Prelude.{◌≡◌, ◌≤◌, find, option_map, length, ◌++◌};
 ghost use Rattle.std.specs.List.{list_any};
-ghost use Rattle.sl_stages.specs.book.Typing.{is_named, type_or_one, expr_tests, type_of};
+ghost use Rattle.sl_stages.specs.book.Typing.{is_named, type_or_one, name_tests, expr_tests, type_of};
 ghost use Rattle.sl_stages.specs.book.Trees.{tree_of};
 ghost use Rattle.sl_stages.specs.book.Tests.{Judges};
-ghost use Rattle.sl_check.specs.Known.{columns, name_tests};
+ghost use Rattle.sl_check.specs.Known.{columns};
 
 use crate::nodes::{grow_type, pair_type, seats, split_from_type, split_type, sum_type, votes};
 use sl_stages::{CheckFault, ColumnType, Expr, Shape, Stage, Word};
@@ -33,7 +33,7 @@ impl<'a> Columns<'a> {
     }
 
     /// Whether a stage has that name.
-    #[tactic(auto, using(crate::proofs::Finding::is_found))]
+    #[tactic(auto, using(sl_stages::proofs::typing::TypedExpressions::is_found))]
     pub fn has(&self, name: &Word) -> bool
         ensures { let known = columns self.now.stages.now self.now.types.now
             in result ≡ list_any (is_named name.now) known }

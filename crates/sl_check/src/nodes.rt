@@ -6,7 +6,7 @@ ghost use Rattle.sl_stages.specs.declared.book.Unit.TheVariants as unit;
 ghost use Rattle.sl_stages.specs.book.Tests.{test};
 ghost use Rattle.sl_stages.specs.book.Typing.{column, same_shape, same_unit, shape_over, can_sum, can_split, is_hamilton, is_prefer, is_seat_number};
 ghost use Rattle.sl_stages.specs.book.Tests.{Judges};
-ghost use Rattle.sl_check.specs.Nodes.{sum_tests, pair_tests, share_from_tests, split_tests, split_from_tests, grow_tests};
+ghost use Rattle.sl_stages.specs.book.Typing.{sum_tests, pair_tests, share_from_tests, split_tests, split_from_tests, grow_tests};
 
 use sl_ratio::Method;
 use sl_stages::{Axis, CheckFault, ColumnType, MAX_SEATS, Majority, Number, Shape, Unit};

@@ -4,9 +4,9 @@ ghost use Rattle.std.specs.Prelude.{◌≡◌, ◌≤◌, [], ◌∷◌, map, le
 ghost use Rattle.sl_stages.specs.book.Trees.{tree_of, stage_of};
 ghost use Rattle.sl_stages.specs.book.Limits.{parts_of, is_within_limits};
 ghost use Rattle.sl_stages.specs.book.Tests.{first_failing};
-ghost use Rattle.sl_stages.specs.book.Typing.{type_of, stages_tests, columns_of, base_tests};
+ghost use Rattle.sl_stages.specs.book.Typing.{type_of, stage_tests, stages_tests, columns_of, base_tests};
 ghost use Rattle.sl_stages.specs.book.Tests.{Judges};
-ghost use Rattle.sl_check.specs.Known.{columns, stage_tests};
+ghost use Rattle.sl_check.specs.Known.{columns};
 
 use crate::columns::Columns;
 use crate::nodes::{same_shape, same_unit, seats, test};

@@ -8,8 +8,7 @@ ghost use Rattle.sl_stages.specs.book.Limits.{depth_of, parts_of, is_within_limi
 use super::*;
 use sl_ratio::{Divisor, Method};
 use sl_stages::{
-    Axis, Base, Book, Cond, Expr, LastClause, MAX_NUMBER, Majority, Number, Seating, Stage,
-    Word,
+    Axis, Base, Book, Cond, Expr, LastClause, MAX_NUMBER, Majority, Number, Seating, Stage, Word,
 };
 use std::alloc::Global;
 use std::test::Fail;

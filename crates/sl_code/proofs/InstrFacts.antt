@@ -20,7 +20,8 @@ use Rattle.sl_code.specs.declared.operand.ScopeKind.TheVariants as scopes
 use Rattle.sl_code.specs.declared.parts.Operand.{Operand}
 use Rattle.sl_code.specs.declared.parts.Operand.TheVariants as o
 use Rattle.sl_code.specs.Numbers.{ranking_number, entries_number, input_number, fault_number, table_number, flag}
-use Rattle.sl_code.specs.Operands.{opcode_of, operands_of, bytes_of, tests_of, two_bytes, four_bytes, eight_bytes, is_any, is_below, is_end_fault}
+use Rattle.sl_code.specs.Rows.{opcode_of, operands_of}
+use Rattle.sl_code.specs.Operands.{bytes_of, tests_of, two_bytes, four_bytes, eight_bytes, is_any, is_below, is_end_fault}
 use Rattle.sl_code.specs.Spelling.{instr_bytes}
 use Rattle.sl_code.specs.Faults.{FailsTests, FailsInstr, missing, meaningless, in_operands, instr_tests, stop_at, IsAny}
 use Rattle.sl_code.proofs.Failing.{scope_passes, entries_passes, method_passes, rounding_passes, cursors_passes}

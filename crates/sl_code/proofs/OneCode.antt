@@ -1,5 +1,6 @@
--- Bytes spell one code at most.
+-- Bytes spell one code at most; so what is written reads back.
 use Rattle.std.proofs.Common.{◌≡◌, ℕ, List, [], ◌∷◌, ◌++◌, length, map, flat_map, get_or, refl, sym, ap, ◌∙◌, arith, append_assoc}
+use Rattle.std.proofs.Common.{Result, Ok, Err, ◌⊎◌, inl, inr}
 use Rattle.std.specs.Int.{w16, w32, w64, from_le_bytes}
 use Rattle.std.specs.List.{All, AllByRecursion}
 use Rattle.std.proofs.lemmas.List.Elements.{All-head, All-tail}
@@ -8,16 +9,20 @@ use Rattle.std.proofs.lemmas.Nat.{from_le_bytes-to_le_bytes_2, from_le_bytes-to_
 use Rattle.sl_stages.specs.declared.book.Shape.{Shape}
 use Rattle.sl_stages.specs.declared.book.Shape.TheVariants as shapes
 use Rattle.sl_code.specs.declared.code.CodeStage.{CodeStage}
+use Rattle.sl_code.specs.declared.fault.CodeFault.{CodeFault}
+use Rattle.sl_code.specs.declared.fault.CodeFault.TheVariants as faults
 use Rattle.sl_code.specs.declared.instr.Instr.{Instr}
 use Rattle.sl_code.specs.declared.parts.Operand.{Operand}
 use Rattle.sl_code.specs.declared.parts.Operand.TheVariants as o
 use Rattle.sl_code.specs.Codes.{CountingCode}
 use Rattle.sl_code.specs.Numbers.{shape_number}
-use Rattle.sl_code.specs.Operands.{opcode_of, operands_of, value_of, bytes_of, two_bytes, four_bytes, eight_bytes}
+use Rattle.sl_code.specs.Rows.{opcode_of, operands_of}
+use Rattle.sl_code.specs.Operands.{value_of, bytes_of, two_bytes, four_bytes, eight_bytes}
 use Rattle.sl_code.specs.Spelling.{instr_bytes, stage_bytes, opening, stages_part, slots_part, instrs_part, spelling_of}
 use Rattle.sl_code.specs.Faults.{IsStage, IsAny, shape_bytes}
 use Rattle.sl_code.specs.Proper.{FitsBytes, IsInRange, IsProper}
-use Rattle.sl_code.proofs.FileFacts.{in_parts, four_same}
+use Rattle.sl_code.specs.Reading.{IsReading}
+use Rattle.sl_code.proofs.FileFacts.{in_parts, four_same, spelling_none}
 use Rattle.sl_code.proofs.Fronts.{head, tail, front_same, back_same}
 use Rattle.sl_code.proofs.InstrFacts.{instr_same, same_widths}
 use Rattle.sl_code.proofs.Pieces.{all_any}
@@ -122,3 +127,14 @@ code_one a b is_a is_b e =
     let number : (length a.instrs ≡ length b.instrs) × (flat_map instr_bytes a.instrs ++ [] ≡ flat_map instr_bytes b.instrs ++ []) = four_same (length a.instrs) (length b.instrs) _ _ (omega (arith, is_a.limits.instrs)) (omega (arith, is_b.limits.instrs)) counted in
     let instrs : (a.instrs ≡ b.instrs) × ([] ≡ []) = elements_known instr_bytes IsInRange instr_same instr_known a.instrs b.instrs [] [] number.0 is_a.in_range is_b.in_range number.1 in
     code_of a.instrs b.instrs a.stages b.stages a.slots b.slots instrs.0 stages.0 slots.0
+
+pub reads_one : (c : CountingCode) (answer : Result CountingCode CodeFault) → IsProper c → IsReading (spelling_of c) answer
+    → (answer ≡ Ok c) ⊎ (answer ≡ Err faults.NoMemory)
+reads_one c (Ok d) is_c h = inl (ap Ok (code_one d c h.1 is_c (sym h.0)))
+reads_one c (Err faults.NoMemory) is_c h = inr refl
+reads_one c (Err (faults.Magic at)) is_c h = absurd (spelling_none c _ is_c.limits is_c.words h)
+reads_one c (Err (faults.Version at)) is_c h = absurd (spelling_none c _ is_c.limits is_c.words h)
+reads_one c (Err (faults.Op at)) is_c h = absurd (spelling_none c _ is_c.limits is_c.words h)
+reads_one c (Err (faults.Short at)) is_c h = absurd (spelling_none c _ is_c.limits is_c.words h)
+reads_one c (Err (faults.Trailing at)) is_c h = absurd (spelling_none c _ is_c.limits is_c.words h)
+reads_one c (Err (faults.Limit at)) is_c h = absurd (spelling_none c _ is_c.limits is_c.words h)

@@ -14,7 +14,8 @@ use Rattle.sl_code.specs.declared.operand.Input.TheVariants as inputs
 use Rattle.sl_code.specs.declared.operand.Ranking.TheVariants as rankings
 use Rattle.sl_code.specs.declared.operand.Rounding.TheVariants as roundings
 use Rattle.sl_code.specs.declared.operand.ScopeKind.TheVariants as scopes
-use Rattle.sl_code.specs.Operands.{opcode_of, is_any, is_below, is_rounding, is_end_fault}
+use Rattle.sl_code.specs.Rows.{opcode_of}
+use Rattle.sl_code.specs.Operands.{is_any, is_below, is_rounding, is_end_fault}
 use Rattle.sl_code.specs.Faults.{FailsTests, FailsInstr, meaningless, in_operands, IsOperation, instr_tests, stop_at}
 use Rattle.sl_code.specs.Reading.{FailsAhead}
 

@@ -19,7 +19,8 @@ use Rattle.sl_code.specs.declared.operand.Rounding.TheVariants as roundings
 use Rattle.sl_code.specs.declared.operand.ScopeKind.{ScopeKind}
 use Rattle.sl_code.specs.declared.operand.ScopeKind.TheVariants as scopes
 use Rattle.sl_code.specs.Numbers.{scope_number, entries_number, ranking_number, input_number, method_number, rounding_number, fault_number, cursors_number, table_number, flag}
-use Rattle.sl_code.specs.Operands.{opcode_of, operands_of, value_of}
+use Rattle.sl_code.specs.Rows.{opcode_of, operands_of}
+use Rattle.sl_code.specs.Operands.{value_of}
 
 -- ---- the value of a number
 

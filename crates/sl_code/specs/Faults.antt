@@ -14,7 +14,8 @@ use Rattle.sl_code.specs.declared.fault.CodeFault.TheVariants as faults
 use Rattle.sl_code.specs.declared.instr.Instr.{Instr}
 use Rattle.sl_code.specs.Codes.{CountingCode, IsCode}
 use Rattle.sl_code.specs.Numbers.{shape_number}
-use Rattle.sl_code.specs.Operands.{opcode_of, operands_of, tests_of, four_bytes, is_any, is_below}
+use Rattle.sl_code.specs.Rows.{opcode_of, operands_of}
+use Rattle.sl_code.specs.Operands.{tests_of, four_bytes, is_any, is_below}
 use Rattle.sl_code.specs.Spelling.{instr_bytes, stage_bytes, opening, stages_part, slots_part, spelling_of}
 
 -- the fault stands in front of these bytes

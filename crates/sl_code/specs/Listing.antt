@@ -5,7 +5,8 @@ use Rattle.std.specs.Fmt.{decimal}
 use Rattle.sl_code.specs.declared.instr.Instr.{Instr}
 use Rattle.sl_code.specs.declared.parts.Operand.{Operand}
 use Rattle.sl_code.specs.Codes.{CountingCode}
-use Rattle.sl_code.specs.Operands.{name_of, operands_of, value_of}
+use Rattle.sl_code.specs.Rows.{name_of, operands_of}
+use Rattle.sl_code.specs.Operands.{value_of}
 
 -- a blank, and the operand in plain decimal
 abbrev pub operand_word : Operand → List ℕ

@@ -5,7 +5,7 @@ use Rattle.sl_code.specs.declared.instr.Instr.{Instr}
 use Rattle.sl_code.specs.declared.parts.Operand.{Operand}
 use Rattle.sl_code.specs.declared.parts.Operand.TheVariants as o
 use Rattle.sl_code.specs.Codes.{CountingCode, IsCode}
-use Rattle.sl_code.specs.Operands.{operands_of}
+use Rattle.sl_code.specs.Rows.{operands_of}
 use Rattle.sl_code.specs.Faults.{IsStage}
 
 -- the number of an operand of several bytes fits them

@@ -1,14 +1,23 @@
--- What reading an instruction or an element gives.
-use Rattle.std.specs.Prelude.{◌≡◌, ℕ, Bool, ◌||◌, List, [], ◌++◌, flat_map, nat_eq, nat_le, ◌&&◌, length, IsTrue}
+-- What reading a file, an instruction or an element gives.
+use Rattle.std.specs.Prelude.{◌≡◌, ℕ, Bool, ◌||◌, List, [], ◌++◌, flat_map, nat_eq, nat_le, ◌&&◌, length, IsTrue, Result, Ok, Err}
 use Rattle.sl_stages.specs.book.Words.{is_word}
 use Rattle.sl_code.specs.declared.fault.Cause.TheVariants as causes
 use Rattle.sl_code.specs.declared.fault.Stop.{Stop}
+use Rattle.sl_code.specs.declared.fault.CodeFault.{CodeFault}
 use Rattle.sl_code.specs.declared.fault.Refusal.{Refusal}
 use Rattle.sl_code.specs.declared.fault.Refusal.TheVariants as refusals
 use Rattle.sl_code.specs.declared.instr.Instr.{Instr}
-use Rattle.sl_code.specs.Operands.{opcode_of, operands_of, bytes_of}
-use Rattle.sl_code.specs.Faults.{FailsTests, stop_at}
-use Rattle.sl_code.specs.Proper.{IsInRange}
+use Rattle.sl_code.specs.Codes.{CountingCode}
+use Rattle.sl_code.specs.Rows.{opcode_of, operands_of}
+use Rattle.sl_code.specs.Operands.{bytes_of}
+use Rattle.sl_code.specs.Spelling.{spelling_of}
+use Rattle.sl_code.specs.Faults.{FailsTests, stop_at, IsRefusal}
+use Rattle.sl_code.specs.Proper.{IsInRange, IsProper}
+
+-- what reading may answer for these bytes: a proper code that they spell; else their fault, or that memory ran out
+abbrev pub IsReading : List ℕ → Result CountingCode CodeFault → Type 0
+IsReading bytes (Ok c) = (bytes ≡ spelling_of c) × IsProper c
+IsReading bytes (Err fault) = IsRefusal bytes fault
 
 -- memory ran out, or reading stopped as P says
 abbrev pub Refuses : (Stop → Type 0) → Refusal → Type 0

@@ -5,7 +5,8 @@ use Rattle.sl_code.specs.declared.code.CodeStage.{CodeStage}
 use Rattle.sl_code.specs.declared.instr.Instr.{Instr}
 use Rattle.sl_code.specs.Codes.{CountingCode}
 use Rattle.sl_code.specs.Numbers.{shape_number}
-use Rattle.sl_code.specs.Operands.{opcode_of, operands_of, bytes_of, four_bytes}
+use Rattle.sl_code.specs.Rows.{opcode_of, operands_of}
+use Rattle.sl_code.specs.Operands.{bytes_of, four_bytes}
 
 -- an instruction: its operation and its operands
 abbrev pub instr_bytes : Instr → List ℕ

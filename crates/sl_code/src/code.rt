@@ -1,7 +1,8 @@
 //! A counting code: its instructions, its stages and its slots.
 
 ghost use Rattle.std.specs.Prelude.{◌≡◌};
-ghost use Rattle.sl_code.specs.Codes.{CountingCode, IsCode};
+ghost use Rattle.sl_code.specs.Codes.{CountingCode};
+ghost use Rattle.sl_code.specs.Proper.{IsProper};
 
 use crate::instr::Instr;
 use sl_stages::{Shape, Word};
@@ -20,7 +21,8 @@ pub struct CodeStage {
     pub slot: u8,
 }
 
-/// A code, within the limits of its format (docs/code.md, section 1).
+/// A code that can be spelled: within the limits of its format, with names that are words and operands that fit their bytes
+/// (docs/code.md, section 1).
 #[derive(Debug, Drop)]
 pub struct Code {
     instrs: Vec<Instr>,
@@ -29,19 +31,20 @@ pub struct Code {
 }
 
 impl Model for Code {
-    ghost use Rattle.sl_code.specs.Codes.{CountingCode, IsCode};
+    ghost use Rattle.sl_code.specs.Codes.{CountingCode};
+    ghost use Rattle.sl_code.specs.Proper.{IsProper};
 
     ghost Value = { CountingCode };
 
     ghost view = { λ c. record { instrs = c.instrs.items; stages = c.stages.items; slots = c.slots.items } };
 
-    ghost invariant = { λ c. IsCode (record { instrs = c.instrs.items; stages = c.stages.items; slots = c.slots.items }) };
+    ghost invariant = { λ c. IsProper (record { instrs = c.instrs.items; stages = c.stages.items; slots = c.slots.items }) };
 }
 
 impl Code {
     /// The code of these parts. Takes no memory.
     pub fn new(instrs: Vec<Instr>, stages: Vec<CodeStage>, slots: Vec<Shape>) -> Code
-        requires { IsCode (record { instrs = instrs.items; stages = stages.items; slots = slots.items }) }
+        requires { IsProper (record { instrs = instrs.items; stages = stages.items; slots = slots.items }) }
         ensures { result ≡ record { instrs = instrs.items; stages = stages.items; slots = slots.items } }
     {
         Code {
@@ -54,7 +57,7 @@ impl Code {
     /// The instructions.
     pub fn instrs(&self) -> &[Instr]
         ensures instrs { result.now ≡ self.now.instrs }
-        ensures kept { IsCode self.now }
+        ensures kept { IsProper self.now }
     {
         self.instrs.as_slice()
     }
@@ -62,7 +65,7 @@ impl Code {
     /// The stages, in order.
     pub fn stages(&self) -> &[CodeStage]
         ensures stages { result.now ≡ self.now.stages }
-        ensures kept { IsCode self.now }
+        ensures kept { IsProper self.now }
     {
         self.stages.as_slice()
     }
@@ -70,7 +73,7 @@ impl Code {
     /// The shapes of the slots.
     pub fn slots(&self) -> &[Shape]
         ensures slots { result.now ≡ self.now.slots }
-        ensures kept { IsCode self.now }
+        ensures kept { IsProper self.now }
     {
         self.slots.as_slice()
     }

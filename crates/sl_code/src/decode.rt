@@ -4,7 +4,8 @@ ghost use Rattle.std.specs.Prelude.{◌≡◌, ◌∷◌, ◌++◌, [], IsTrue, 
 ghost use Rattle.sl_code.specs.Numbers.{scope_number};
 ghost use Rattle.sl_code.specs.Operands.{is_any, is_below, is_rounding, is_end_fault};
 ghost use Rattle.sl_code.specs.Spelling.{instr_bytes};
-ghost use Rattle.sl_code.specs.Faults.{FailsInstr};
+ghost use Rattle.sl_code.specs.declared.instr.Instr.TheVariants as instrs;
+ghost use Rattle.sl_code.specs.Faults.{FailsInstr, instr_tests};
 ghost use Rattle.sl_code.specs.Proper.{IsInRange};
 ghost use Rattle.sl_code.specs.Reading.{FailsAhead, Reads, is_binary, is_column, is_jump, is_branch, is_unary, is_scoped};
 
@@ -51,7 +52,7 @@ impl<'a> Reader<'a> {
 
     fn set(&mut self) -> Result<Instr, Stop>
         ensures ok { IfOk result (Reads 0x01 self.old self.new) }
-        ensures err { IfErr result (FailsAhead (is_any ∷ is_any ∷ is_any ∷ is_any ∷ is_any ∷ is_any ∷ is_any ∷ is_any ∷ is_any ∷ []) self.old) }
+        ensures err { IfErr result (FailsAhead (instr_tests (instrs.Set 0 0)) self.old) }
     {
         let register = self.byte()?;
         let value = self.value()?;
@@ -62,7 +63,7 @@ impl<'a> Reader<'a> {
     fn binary(&mut self, op: u8) -> Result<Instr, Stop>
         requires { IsTrue (is_binary op) }
         ensures ok { IfOk result (Reads op self.old self.new) }
-        ensures err { IfErr result (FailsAhead (is_any ∷ is_any ∷ []) self.old) }
+        ensures err { IfErr result (FailsAhead (instr_tests (instrs.Mov 0 0)) self.old) }
     {
         let (register, by) = self.pair()?;
         Ok(match op {
@@ -80,7 +81,7 @@ impl<'a> Reader<'a> {
     fn jump(&mut self, op: u8) -> Result<Instr, Stop>
         requires { IsTrue (is_jump op) }
         ensures ok { IfOk result (Reads op self.old self.new) }
-        ensures err { IfErr result (FailsAhead (is_any ∷ is_any ∷ is_any ∷ is_any ∷ []) self.old) }
+        ensures err { IfErr result (FailsAhead (instr_tests (instrs.Jmp 0)) self.old) }
     {
         let target = self.target()?;
         Ok(match op {
@@ -100,7 +101,7 @@ impl<'a> Reader<'a> {
     fn branch(&mut self, op: u8) -> Result<Instr, Stop>
         requires { IsTrue (is_branch op) }
         ensures ok { IfOk result (Reads op self.old self.new) }
-        ensures err { IfErr result (FailsAhead (is_any ∷ is_any ∷ is_any ∷ is_any ∷ is_any ∷ []) self.old) }
+        ensures err { IfErr result (FailsAhead (instr_tests (instrs.Jz 0 0)) self.old) }
     {
         let first = self.byte()?;
         let target = self.target()?;
@@ -113,7 +114,7 @@ impl<'a> Reader<'a> {
 
     fn less(&mut self) -> Result<Instr, Stop>
         ensures ok { IfOk result (Reads 0x0b self.old self.new) }
-        ensures err { IfErr result (FailsAhead (is_any ∷ is_any ∷ is_any ∷ is_any ∷ is_any ∷ is_any ∷ []) self.old) }
+        ensures err { IfErr result (FailsAhead (instr_tests (instrs.Jlt 0 0 0)) self.old) }
     {
         let (left, right) = self.pair()?;
         let target = self.target()?;
@@ -124,7 +125,7 @@ impl<'a> Reader<'a> {
     fn column(&mut self, op: u8) -> Result<Instr, Stop>
         requires { IsTrue (is_column op) }
         ensures ok { IfOk result (Reads op self.old self.new) }
-        ensures err { IfErr result (FailsAhead (is_any ∷ is_any ∷ []) self.old) }
+        ensures err { IfErr result (FailsAhead (instr_tests (instrs.Get 0 0)) self.old) }
     {
         let (first, second) = self.pair()?;
         Ok(match op {
@@ -138,7 +139,7 @@ impl<'a> Reader<'a> {
     fn unary(&mut self, op: u8) -> Result<Instr, Stop>
         requires { IsTrue (is_unary op) }
         ensures ok { IfOk result (Reads op self.old self.new) }
-        ensures err { IfErr result (FailsAhead (is_any ∷ []) self.old) }
+        ensures err { IfErr result (FailsAhead (instr_tests (instrs.Zero 0)) self.old) }
     {
         let number = self.byte()?;
         Ok(match op {
@@ -227,10 +228,10 @@ impl<'a> Reader<'a> {
         let cursors = self.cursors()?;
         let table = self.table()?;
         Ok(Instr::At(Kinds {
-                positive,
-                cursors,
-                table,
-            }))
+            positive,
+            cursors,
+            table,
+        }))
     }
 
     fn weigh(&mut self) -> Result<Instr, Stop>

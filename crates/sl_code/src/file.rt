@@ -9,9 +9,9 @@ ghost use Rattle.sl_code.specs.declared.fault.Cause.TheVariants as causes;
 ghost use Rattle.sl_code.specs.Numbers.{shape_number};
 ghost use Rattle.sl_code.specs.Operands.{four_bytes};
 ghost use Rattle.sl_code.specs.Spelling.{opening, instr_bytes, stage_bytes, stages_part, slots_part, instrs_part, spelling_of};
-ghost use Rattle.sl_code.specs.Faults.{FailsTests, FailsOpening, FailsCount, FailsLongCount, FailsElement, FailsStage, FailsStages, FailsShape, FailsSlots, FailsInstr, FailsInstrs, FailsFile, IsStage, IsAny, IsRefusal, shape_bytes, is_byte, is_name_length, is_name_byte, name_tests, fault_of, stop_at};
+ghost use Rattle.sl_code.specs.Faults.{FailsTests, FailsOpening, FailsCount, FailsLongCount, FailsElement, FailsStage, FailsStages, FailsShape, FailsSlots, FailsInstr, FailsInstrs, FailsFile, IsStage, IsAny, shape_bytes, is_byte, is_name_length, is_name_byte, name_tests, fault_of, stop_at};
 ghost use Rattle.sl_code.specs.Proper.{IsInRange, IsProper};
-ghost use Rattle.sl_code.specs.Reading.{FailsAhead, Refuses, IsName};
+ghost use Rattle.sl_code.specs.Reading.{FailsAhead, IsReading, Refuses, IsName};
 
 use crate::code::{Code, CodeStage, MAX_INSTRS, MAX_SLOTS};
 use crate::fault::{Cause, CodeFault, Refusal, Stop};
@@ -249,7 +249,8 @@ fn fault_of(total: usize, stop: Stop) -> CodeFault
     }
 }
 
-/// The code that these bytes spell (docs/code.md, section 1). Bytes spell at most one (`laws::one_code`).
+/// The code that these bytes spell (docs/code.md, section 1). Bytes spell at most one (`laws::one_code`), and what was written reads
+/// back (`laws::reads_back`).
 ///
 /// # Errors
 ///
@@ -259,9 +260,7 @@ fn fault_of(total: usize, stop: Stop) -> CodeFault
 /// missing, [`CodeFault::Trailing`] at the first byte too many. Bytes have at most one fault (`laws::one_fault`).
 /// [`CodeFault::NoMemory`] where a stage, a slot or an instruction before such a place finds no room.
 pub fn from_bytes(alloc: Global, bytes: &[u8]) -> Result<Code, CodeFault>
-    ensures code { IfOk result (λ c. bytes.now ≡ spelling_of c) }
-    ensures proper { IfOk result IsProper }
-    ensures fault { IfErr result (IsRefusal bytes.now) }
+    ensures { IsReading bytes.now result }
 {
     match Reader::new(bytes).code(alloc) {
         Ok(code) => Ok(code),

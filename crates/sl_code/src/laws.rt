@@ -1,23 +1,28 @@
 //! Laws of code files, over their definitions alone. Each function does nothing: its contract is the law.
 
-ghost use Rattle.std.specs.Prelude.{◌≡◌, ℕ, List, All};
-ghost use Rattle.sl_code.specs.declared.fault.CodeFault.{CodeFault};
-ghost use Rattle.sl_code.specs.Codes.{CountingCode, IsCode};
-ghost use Rattle.sl_code.specs.Spelling.{spelling_of};
-ghost use Rattle.sl_code.specs.Faults.{IsFault, IsStage};
-ghost use Rattle.sl_code.specs.Proper.{IsProper};
+ghost use Rattle.sl_code.specs.Laws.{Limits, OneCode, OneFault, SpellingOrFault, ReadsBack};
+
+/// The limits of codes.
+pub fn limits()
+    ensures { Limits }
+{}
 
 /// Bytes spell at most one code.
 pub fn one_code()
-    ensures { (a b : CountingCode) → IsProper a → IsProper b → spelling_of a ≡ spelling_of b → a ≡ b }
+    ensures { OneCode }
 {}
 
 /// Bytes have at most one fault.
 pub fn one_fault()
-    ensures { (bytes : List ℕ) (a b : CodeFault) → IsFault bytes a → IsFault bytes b → a ≡ b }
+    ensures { OneFault }
 {}
 
 /// The spelling of a code has no fault.
 pub fn spelling_or_fault()
-    ensures { (c : CountingCode) (fault : CodeFault) → IsCode c → All IsStage c.stages → IsFault (spelling_of c) fault → ⊥ }
+    ensures { SpellingOrFault }
+{}
+
+/// What is written reads back: from the spelling of a code, reading gives that code alone, or memory runs out.
+pub fn reads_back()
+    ensures { ReadsBack }
 {}

@@ -14,6 +14,7 @@ mod number;
 mod operand;
 mod parts;
 mod reader;
+mod rows;
 mod spelling;
 
 pub use code::{Code, CodeStage, MAX_INSTRS, MAX_SLOTS};

@@ -2,8 +2,9 @@
 
 ghost use Rattle.std.specs.Prelude.{◌≡◌, ◌+◌, ◌<◌, ◌≤◌, ◌^◌, ◌∷◌, ◌++◌, [], length, IsTrue, IfOk, IfErr};
 ghost use Rattle.sl_code.specs.declared.fault.Cause.TheVariants as causes;
+ghost use Rattle.sl_code.specs.declared.parts.Operand.TheVariants as operands;
 ghost use Rattle.sl_code.specs.Numbers.{scope_number, entries_number, ranking_number, input_number, method_number, rounding_number, fault_number, shape_number, cursors_number, table_number};
-ghost use Rattle.sl_code.specs.Operands.{two_bytes, four_bytes, eight_bytes, is_any, is_below, is_rounding, is_end_fault};
+ghost use Rattle.sl_code.specs.Operands.{two_bytes, four_bytes, eight_bytes, is_any, is_below, is_rounding, is_end_fault, tests_of};
 ghost use Rattle.sl_code.specs.Faults.{FailsTests, stop_at};
 ghost use Rattle.sl_code.specs.Reading.{Ends, FailsAhead};
 
@@ -105,7 +106,7 @@ impl<'a> Reader<'a> {
 
     pub fn target(&mut self) -> Result<u32, Stop>
         ensures ok { IfOk result (λ x. self.old ≡ four_bytes x ++ self.new) }
-        ensures err { IfErr result (FailsAhead (is_any ∷ is_any ∷ is_any ∷ is_any ∷ []) self.old) }
+        ensures err { IfErr result (FailsAhead (tests_of (operands.Target 0)) self.old) }
     {
         let Some((bytes, rest)) = self.rest.split_first_chunk::<4>() else {
             return Err(self.end());
@@ -116,7 +117,7 @@ impl<'a> Reader<'a> {
 
     pub fn value(&mut self) -> Result<u64, Stop>
         ensures ok { IfOk result (λ x. self.old ≡ eight_bytes x ++ self.new) }
-        ensures err { IfErr result (FailsAhead (is_any ∷ is_any ∷ is_any ∷ is_any ∷ is_any ∷ is_any ∷ is_any ∷ is_any ∷ []) self.old) }
+        ensures err { IfErr result (FailsAhead (tests_of (operands.Value 0)) self.old) }
     {
         let Some((bytes, rest)) = self.rest.split_first_chunk::<8>() else {
             return Err(self.end());

@@ -11,9 +11,8 @@ pub mod PlainExprs
 pub mod StageLists
 pub mod KeptTables
 pub mod OneTable
-pub mod Rising
 pub mod Writing
 pub mod BookFacts
-pub mod CountFacts
+pub mod Order
+pub mod Delivering
 pub mod OneOutput
-pub mod OneCheck

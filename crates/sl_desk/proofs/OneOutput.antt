@@ -1,5 +1,5 @@
 -- Two outputs of the same inputs are one, by the laws of the layers below.
-use Rattle.std.proofs.Common.{◌≡◌, ℕ, List, [], ◌∷◌, length, codes, Option, Some, None, Ok, Err, Result, Bool, true, false, IsTrue, inl, inr, refl, sym, ◌∙◌, ap, subst, arith}
+use Rattle.std.proofs.Common.{◌≡◌, ◌≢◌, ℕ, List, [], ◌∷◌, length, codes, Option, Some, None, Ok, Err, Result, Bool, true, false, IsTrue, inl, inr, refl, sym, ◌∙◌, ap, subst, arith}
 use Rattle.sl_lex.specs.declared.fault.LexFault.{LexFault}
 use Rattle.sl_lex.specs.declared.token.Token.{Token}
 use Rattle.sl_lex.specs.Tokens as lex
@@ -10,7 +10,7 @@ use Rattle.sl_parse.specs.declared.fault.Cause.TheVariants.{Expected, TooDeep, T
 use Rattle.sl_parse.specs.Grammar.{IsBook}
 use Rattle.sl_parse.specs.Faults.{IsFault}
 use Rattle.sl_parse.specs.Parsing.{limits, offset, fault_at, IsFaultOf}
-use Rattle.sl_returns.specs.Faults.{fault_number}
+use Rattle.sl_returns.specs.declared.fault.ReturnsFault.{ReturnsFault}
 use Rattle.sl_stages.specs.declared.check_fault.CheckFault.{CheckFault}
 use Rattle.sl_stages.specs.book.Trees.{BookTree}
 use Rattle.sl_stages.specs.book.Limits.{is_within_limits}
@@ -22,18 +22,24 @@ use Rattle.sl_stages.specs.meaning.PlainBooks.{is_plain}
 use Rattle.sl_stages.specs.meaning.Means.{Means}
 use Rattle.sl_stages.proofs.meaning.PlainMeaning.{plain_outcomes}
 use Rattle.sl_table.specs.Short.{short_text}
+use Rattle.sl_desk.specs.declared.refusal.BookRefusal.{BookRefusal}
+use Rattle.sl_desk.specs.declared.refusal.BookRefusal.TheVariants.{UnknownLaw, TooLong, Tokens, Grammar, Test}
+use Rattle.sl_desk.specs.declared.refusal.ReturnsRefusal.{ReturnsRefusal}
+use Rattle.sl_desk.specs.declared.refusal.ReturnsRefusal.TheVariants as returns
 use Rattle.sl_desk.specs.declared.status.Status.{Status}
-use Rattle.sl_desk.specs.declared.status.Status.TheVariants.{Done, Refused, Legal, Budget}
-use Rattle.sl_desk.specs.Refusals.{numbered, lex_fault, parse_fault, checked_fault, refused_at}
-use Rattle.sl_desk.specs.Output.{IsBookText, HasParseFault, HasCheckFault, IsBookRefusal, BookInput, library, text, IsGoodBook, IsBadBook, AreGoodReturns, AreBadReturns, IsTableText, IsCount}
-use Rattle.sl_desk.specs.Laws.{HasOneOutput}
+use Rattle.sl_desk.specs.declared.verdict.Verdict.{Verdict}
+use Rattle.sl_desk.specs.declared.verdict.Verdict.TheVariants.{Good, Refused}
+use Rattle.sl_desk.specs.Refusals.{refused}
+use Rattle.sl_desk.specs.Verdicts.{HasTokens, HasTree, library, text, IsTextVerdict, IsBookVerdict, book_line, IsReturnsVerdict}
+use Rattle.sl_desk.specs.Output.{IsTableText, IsTreeOutput, IsCount, IsCheck}
+use Rattle.sl_desk.specs.Laws.{HasOneOutput, HasOneCheck}
 use Rattle.sl_desk.proofs.OneTable.{one_table}
 
 -- what the layers below say
 pub record LowerLaws : Type 0 where
   pub one_list : (source : List ℕ) (a b : List Token) → lex.AreTokens source a → lex.AreTokens source b → a ≡ b
   pub one_lex_fault : (source : List ℕ) (a b : LexFault) → lex.IsFault source a → lex.IsFault source b → a ≡ b
-  pub tokens_or_fault : (source : List ℕ) (tokens : List Token) (fault : LexFault) → lex.AreTokens source tokens → lex.IsFault source fault → ⊥
+  pub no_fault_of_tokens : (source : List ℕ) (tokens : List Token) (fault : LexFault) → lex.AreTokens source tokens → lex.IsFault source fault → ⊥
   pub one_tree : (source : List ℕ) (tokens : List Token) (a b : BookTree) → IsBook source a tokens [] → IsBook source b tokens [] → a ≡ b
   pub one_parse_fault : (source : List ℕ) (tokens : List Token) (a b : Cause) (x y : List Token) → IsFault source limits tokens a x → IsFault source limits tokens b y → (a ≡ b) × (x ≡ y)
   pub tree_or_fault : (source : List ℕ) (tokens : List Token) (tree : BookTree) (cause : Cause) (rest : List Token)
@@ -56,7 +62,7 @@ record ByCause (source : List ℕ) (tokens : List Token) (fault : ParseFault) : 
   is : IsFault source limits tokens cause rest
   same : fault ≡ fault_at cause (offset (length source) rest)
 
-by_cause : (source : List ℕ) (tokens : List Token) (fault : ParseFault) → IsFaultOf source tokens fault → (fault ≡ parse.NoMemory → ⊥) → ByCause source tokens fault
+by_cause : (source : List ℕ) (tokens : List Token) (fault : ParseFault) → IsFaultOf source tokens fault → fault ≢ parse.NoMemory → ByCause source tokens fault
 by_cause source tokens (parse.Expected at) h told = record { cause = Expected; rest = h.0; is = h.1; same = ap (λ n. parse.Expected n) h.2 }
 by_cause source tokens (parse.TooDeep at) h told = record { cause = TooDeep; rest = h.0; is = h.1; same = ap (λ n. parse.TooDeep n) h.2 }
 by_cause source tokens (parse.TooManyStages at) h told = record { cause = TooManyStages; rest = h.0; is = h.1; same = ap (λ n. parse.TooManyStages n) h.2 }
@@ -75,119 +81,133 @@ same_ok r a b h k = cc
 true_or_false : (b : Bool) → b ≡ true → b ≡ false → ⊥
 true_or_false b h k = cc
 
+ok_or_err : {X Y : Type 0} (r : Result X Y) (a : X) (b : Y) → r ≡ Ok a → r ≡ Err b → ⊥
+ok_or_err r a b h k = cc
+
+-- ---- a name of the library
+
+unknown_law : (name : List ℕ) (v : Verdict BookTree BookRefusal) → IsBookVerdict (library name) v
+    → (why : BookRefusal) × (v ≡ Refused why) × (book_line why ≡ refused (codes "law" ∷ name ∷ []))
+unknown_law name (Refused (UnknownLaw unknown)) h = (UnknownLaw unknown, refl, ap (λ (n : List ℕ). refused (codes "law" ∷ n ∷ [])) h)
+unknown_law name (Refused TooLong) h = absurd h
+unknown_law name (Refused (Tokens f)) h = absurd h
+unknown_law name (Refused (Grammar f)) h = absurd h
+unknown_law name (Refused (Test f)) h = absurd h
+unknown_law name (Good tree) h = absurd h
+
+-- ---- one output of a verdict
+
+one_returns_verdict : (bytes : List ℕ) (a b : Verdict Election ReturnsRefusal) → IsReturnsVerdict bytes a → IsReturnsVerdict bytes b → a ≡ b
+one_returns_verdict bytes (Refused returns.TooLong) (Refused returns.TooLong) h k = refl
+one_returns_verdict bytes (Refused returns.TooLong) (Refused (returns.Records g)) h k = let fits = k.0 in absurd (omega arith)
+one_returns_verdict bytes (Refused returns.TooLong) (Good e) h k = let fits = k.0 in absurd (omega arith)
+one_returns_verdict bytes (Refused (returns.Records f)) (Refused returns.TooLong) h k = let fits = h.0 in absurd (omega arith)
+one_returns_verdict bytes (Refused (returns.Records f)) (Refused (returns.Records g)) h k = ap (λ (x : ReturnsFault). Refused (returns.Records x)) (same_err _ f g h.1 k.1)
+one_returns_verdict bytes (Refused (returns.Records f)) (Good e) h k = absurd (ok_or_err _ e f k.1 h.1)
+one_returns_verdict bytes (Good d) (Refused returns.TooLong) h k = let fits = h.0 in absurd (omega arith)
+one_returns_verdict bytes (Good d) (Refused (returns.Records g)) h k = absurd (ok_or_err _ d g h.1 k.1)
+one_returns_verdict bytes (Good d) (Good e) h k = ap (λ (x : Election). Good x) (same_ok _ d e h.1 k.1)
+
+one_table_text : (tree : BookTree) (e : Election) (s t : List ℕ) → is_plain tree ≡ true → IsTableText tree e s → IsTableText tree e t → s ≡ t
+one_table_text tree e s t plain h k = h.2 ∙ ap (λ (x : SeatTable). short_text x e) (one_meaning tree e h.0 k.0 plain h.1 k.1) ∙ sym k.2
+
+one_tree_output : (tree : BookTree) (v : Verdict Election ReturnsRefusal) (a b : Status) (s t : List ℕ) → is_plain tree ≡ true
+    → IsTreeOutput tree v a s → IsTreeOutput tree v b t → (a ≡ b) × (s ≡ t)
+one_tree_output tree (Refused why) a b s t plain h k = (h.0 ∙ sym k.0, h.1 ∙ sym k.1)
+one_tree_output tree (Good e) a b s t plain h k = (h.0 ∙ sym k.0, one_table_text tree e s t plain h.1 k.1)
+
+one_count : (v : Verdict BookTree BookRefusal) (bytes : List ℕ) (a b : Status) (s t : List ℕ) → IsCount v bytes a s → IsCount v bytes b t → (a ≡ b) × (s ≡ t)
+one_count (Refused why) bytes a b s t h k = (h.0 ∙ sym k.0, h.1 ∙ sym k.1)
+one_count (Good tree) bytes a b s t (inl h) (inl k) = (h.1 ∙ sym k.1, h.2 ∙ sym k.2)
+one_count (Good tree) bytes a b s t (inl h) (inr k) = absurd (true_or_false _ k.0 h.0)
+one_count (Good tree) bytes a b s t (inr h) (inl k) = absurd (true_or_false _ h.0 k.0)
+one_count (Good tree) bytes a b s t (inr h) (inr k) =
+    let same = one_returns_verdict bytes h.1 k.1 h.2 k.2 in
+    one_tree_output tree h.1 a b s t h.0 h.3 (subst (λ (v : Verdict Election ReturnsRefusal). IsTreeOutput tree v b t) (sym same) k.3)
+
+one_checked : (v : Verdict BookTree BookRefusal) (a b : Status) (s t : List ℕ) → IsCheck v a s → IsCheck v b t → (a ≡ b) × (s ≡ t)
+one_checked (Refused why) a b s t h k = (h.0 ∙ sym k.0, h.1 ∙ sym k.1)
+one_checked (Good tree) a b s t h k = (h.0 ∙ sym k.0, h.1 ∙ sym k.1)
+
 module _ (laws : LowerLaws) where
-  one_book_text : (source : List ℕ) (a b : BookTree) → IsBookText source a → IsBookText source b → a ≡ b
-  one_book_text source a b h k =
-      laws.one_tree source h.tokens a b h.parsed (subst (λ (ts : List Token). IsBook source b ts []) (laws.one_list source k.tokens h.tokens k.lexed h.lexed) k.parsed)
+  -- ---- one verdict of a text
 
-  no_parse_fault : (source : List ℕ) (tree : BookTree) (tokens : List Token) (f : ParseFault) → lex.AreTokens source tokens → IsBook source tree tokens []
-      → IsTrue (is_within_limits tree.stages) → HasParseFault source f → ⊥
-  no_parse_fault source tree tokens f lexed parsed within k =
-      let here : IsBook source tree k.tokens [] = subst (λ (ts : List Token). IsBook source tree ts []) (laws.one_list source tokens k.tokens lexed k.lexed) parsed in
-      let c = by_cause source k.tokens f k.parsed k.told in
-      laws.tree_or_fault source k.tokens tree c.cause c.rest here within c.is
+  one_tree : (source : List ℕ) (a b : BookTree) → HasTree source a → HasTree source b → a ≡ b
+  one_tree source a b h k =
+      laws.one_tree source h.tokens a b h.parsed (subst (λ (ts : List Token). IsBook source b ts []) (laws.one_list source k.tokens h.tokens k.lexed.lexed h.lexed.lexed) k.parsed)
 
-  same_parse_fault : (source : List ℕ) (f g : ParseFault) → HasParseFault source f → HasParseFault source g → f ≡ g
-  same_parse_fault source f g h k =
-      let same = laws.one_list source k.tokens h.tokens k.lexed h.lexed in
-      let c = by_cause source h.tokens f h.parsed h.told in
-      let d = by_cause source h.tokens g (subst (λ (ts : List Token). IsFaultOf source ts g) same k.parsed) k.told in
-      let both = laws.one_parse_fault source h.tokens c.cause d.cause c.rest d.rest c.is d.is in
+  no_fault : (source : List ℕ) (tree : BookTree) (tokens : List Token) (f : ParseFault) → HasTree source tree → HasTokens source tokens
+      → IsFaultOf source tokens f → f ≢ parse.NoMemory → ⊥
+  no_fault source tree tokens f h lexed k told =
+      let here : IsBook source tree tokens [] = subst (λ (ts : List Token). IsBook source tree ts []) (laws.one_list source h.tokens tokens h.lexed.lexed lexed.lexed) h.parsed in
+      let c = by_cause source tokens f k told in
+      laws.tree_or_fault source tokens tree c.cause c.rest here h.within c.is
+
+  one_fault : (source : List ℕ) (x y : List Token) (f g : ParseFault) → HasTokens source x → HasTokens source y → IsFaultOf source x f → IsFaultOf source y g
+      → f ≢ parse.NoMemory → g ≢ parse.NoMemory → f ≡ g
+  one_fault source x y f g lexed also h k told untold =
+      let same = laws.one_list source y x also.lexed lexed.lexed in
+      let c = by_cause source x f h told in
+      let d = by_cause source x g (subst (λ (ts : List Token). IsFaultOf source ts g) same k) untold in
+      let both = laws.one_parse_fault source x c.cause d.cause c.rest d.rest c.is d.is in
       let e : fault_at c.cause (offset (length source) c.rest) ≡ fault_at d.cause (offset (length source) d.rest) = rw (both.0, both.1) refl in
       c.same ∙ e ∙ sym d.same
 
-  same_check_fault : (source : List ℕ) (f g : CheckFault) → HasCheckFault source f → HasCheckFault source g → f ≡ g
-  same_check_fault source f g h k =
-      let tree : h.book ≡ k.book = laws.one_tree source h.tokens h.book k.book h.parsed (subst (λ (ts : List Token). IsBook source k.book ts []) (laws.one_list source k.tokens h.tokens k.lexed h.lexed) k.parsed) in
-      let e : Some f ≡ Some g = sym h.checked ∙ ap check_fault tree ∙ k.checked in cc
+  one_test : (source : List ℕ) (t u : BookTree) (f g : CheckFault) → HasTree source t → HasTree source u → check_fault t ≡ Some f → check_fault u ≡ Some g → f ≡ g
+  one_test source t u f g h k x y = let same = ap check_fault (one_tree source t u h k) in cc
 
-  no_check_fault : (source : List ℕ) (tree : BookTree) (f : CheckFault) → IsBookText source tree → HasCheckFault source f → ⊥
-  no_check_fault source tree f h k =
-      let same : tree ≡ k.book = laws.one_tree source h.tokens tree k.book h.parsed (subst (λ (ts : List Token). IsBook source k.book ts []) (laws.one_list source k.tokens h.tokens k.lexed h.lexed) k.parsed) in
-      some_or_none (check_fault tree) f h.checked (ap check_fault same ∙ k.checked)
+  no_test : (source : List ℕ) (t u : BookTree) (f : CheckFault) → HasTree source t → HasTree source u → check_fault t ≡ None → check_fault u ≡ Some f → ⊥
+  no_test source t u f h k x y = some_or_none (check_fault u) f (sym (ap check_fault (one_tree source t u h k)) ∙ x) y
 
-  no_refusal : (source : List ℕ) (tree : BookTree) (line : List ℕ) → IsBookText source tree → IsBookRefusal source line → ⊥
-  no_refusal source tree line h (inl r) = let over = r.0 in let fits = h.fits in absurd (omega arith)
-  no_refusal source tree line h (inr (inl r)) = laws.tokens_or_fault source h.tokens r.0 h.lexed r.1.lexed
-  no_refusal source tree line h (inr (inr (inl r))) = no_parse_fault source tree h.tokens r.0 h.lexed h.parsed h.within r.1
-  no_refusal source tree line h (inr (inr (inr r))) = no_check_fault source tree r.0 h r.1
+  one_text_verdict : (source : List ℕ) (a b : Verdict BookTree BookRefusal) → IsTextVerdict source a → IsTextVerdict source b → a ≡ b
+  one_text_verdict source (Refused (UnknownLaw u)) b h k = absurd h
+  one_text_verdict source a (Refused (UnknownLaw u)) h k = absurd k
+  one_text_verdict source (Refused TooLong) (Refused TooLong) h k = refl
+  one_text_verdict source (Refused TooLong) (Refused (Tokens g)) h k = let fits = k.0 in absurd (omega arith)
+  one_text_verdict source (Refused TooLong) (Refused (Grammar g)) h k = let fits = k.1.fits in absurd (omega arith)
+  one_text_verdict source (Refused TooLong) (Refused (Test g)) h k = let fits = k.1.lexed.fits in absurd (omega arith)
+  one_text_verdict source (Refused TooLong) (Good u) h k = let fits = k.0.lexed.fits in absurd (omega arith)
+  one_text_verdict source (Refused (Tokens f)) (Refused TooLong) h k = let fits = h.0 in absurd (omega arith)
+  one_text_verdict source (Refused (Tokens f)) (Refused (Tokens g)) h k = ap (λ (x : LexFault). Refused (Tokens x)) (laws.one_lex_fault source f g h.1 k.1)
+  one_text_verdict source (Refused (Tokens f)) (Refused (Grammar g)) h k = absurd (laws.no_fault_of_tokens source k.0 f k.1.lexed h.1)
+  one_text_verdict source (Refused (Tokens f)) (Refused (Test g)) h k = absurd (laws.no_fault_of_tokens source k.1.tokens f k.1.lexed.lexed h.1)
+  one_text_verdict source (Refused (Tokens f)) (Good u) h k = absurd (laws.no_fault_of_tokens source k.0.tokens f k.0.lexed.lexed h.1)
+  one_text_verdict source (Refused (Grammar f)) (Refused TooLong) h k = let fits = h.1.fits in absurd (omega arith)
+  one_text_verdict source (Refused (Grammar f)) (Refused (Tokens g)) h k = absurd (laws.no_fault_of_tokens source h.0 g h.1.lexed k.1)
+  one_text_verdict source (Refused (Grammar f)) (Refused (Grammar g)) h k = ap (λ (x : ParseFault). Refused (Grammar x)) (one_fault source h.0 k.0 f g h.1 k.1 h.2 k.2 h.3 k.3)
+  one_text_verdict source (Refused (Grammar f)) (Refused (Test g)) h k = absurd (no_fault source k.0 h.0 f k.1 h.1 h.2 h.3)
+  one_text_verdict source (Refused (Grammar f)) (Good u) h k = absurd (no_fault source u h.0 f k.0 h.1 h.2 h.3)
+  one_text_verdict source (Refused (Test f)) (Refused TooLong) h k = let fits = h.1.lexed.fits in absurd (omega arith)
+  one_text_verdict source (Refused (Test f)) (Refused (Tokens g)) h k = absurd (laws.no_fault_of_tokens source h.1.tokens g h.1.lexed.lexed k.1)
+  one_text_verdict source (Refused (Test f)) (Refused (Grammar g)) h k = absurd (no_fault source h.0 k.0 g h.1 k.1 k.2 k.3)
+  one_text_verdict source (Refused (Test f)) (Refused (Test g)) h k = ap (λ (x : CheckFault). Refused (Test x)) (one_test source h.0 k.0 f g h.1 k.1 h.2 k.2)
+  one_text_verdict source (Refused (Test f)) (Good u) h k = absurd (no_test source u h.0 f k.0 h.1 k.1 h.2)
+  one_text_verdict source (Good t) (Refused TooLong) h k = let fits = h.0.lexed.fits in absurd (omega arith)
+  one_text_verdict source (Good t) (Refused (Tokens g)) h k = absurd (laws.no_fault_of_tokens source h.0.tokens g h.0.lexed.lexed k.1)
+  one_text_verdict source (Good t) (Refused (Grammar g)) h k = absurd (no_fault source t k.0 g h.0 k.1 k.2 k.3)
+  one_text_verdict source (Good t) (Refused (Test g)) h k = absurd (no_test source t k.0 g h.0 k.1 h.1 k.2)
+  one_text_verdict source (Good t) (Good u) h k = ap (λ (x : BookTree). Good x) (one_tree source t u h.0 k.0)
 
-  one_refusal : (source : List ℕ) (l m : List ℕ) → IsBookRefusal source l → IsBookRefusal source m → l ≡ m
-  one_refusal source l m (inl h) (inl k) = h.1 ∙ sym k.1
-  one_refusal source l m (inl h) (inr (inl k)) = let over = h.0 in let fits = k.1.fits in absurd (omega arith)
-  one_refusal source l m (inl h) (inr (inr (inl k))) = let over = h.0 in let fits = k.1.fits in absurd (omega arith)
-  one_refusal source l m (inl h) (inr (inr (inr k))) = let over = h.0 in let fits = k.1.fits in absurd (omega arith)
-  one_refusal source l m (inr (inl h)) (inl k) = let over = k.0 in let fits = h.1.fits in absurd (omega arith)
-  one_refusal source l m (inr (inl h)) (inr (inl k)) =
-      h.2 ∙ ap (λ f. refused_at (codes "book" ∷ codes "lex" ∷ []) (lex_fault f)) (laws.one_lex_fault source h.0 k.0 h.1.lexed k.1.lexed) ∙ sym k.2
-  one_refusal source l m (inr (inl h)) (inr (inr (inl k))) = absurd (laws.tokens_or_fault source k.1.tokens h.0 k.1.lexed h.1.lexed)
-  one_refusal source l m (inr (inl h)) (inr (inr (inr k))) = absurd (laws.tokens_or_fault source k.1.tokens h.0 k.1.lexed h.1.lexed)
-  one_refusal source l m (inr (inr (inl h))) (inl k) = let over = k.0 in let fits = h.1.fits in absurd (omega arith)
-  one_refusal source l m (inr (inr (inl h))) (inr (inl k)) = absurd (laws.tokens_or_fault source h.1.tokens k.0 h.1.lexed k.1.lexed)
-  one_refusal source l m (inr (inr (inl h))) (inr (inr (inl k))) =
-      h.2 ∙ ap (λ f. refused_at (codes "book" ∷ codes "parse" ∷ []) (parse_fault f)) (same_parse_fault source h.0 k.0 h.1 k.1) ∙ sym k.2
-  one_refusal source l m (inr (inr (inl h))) (inr (inr (inr k))) = absurd (no_parse_fault source k.1.book k.1.tokens h.0 k.1.lexed k.1.parsed k.1.within h.1)
-  one_refusal source l m (inr (inr (inr h))) (inl k) = let over = k.0 in let fits = h.1.fits in absurd (omega arith)
-  one_refusal source l m (inr (inr (inr h))) (inr (inl k)) = absurd (laws.tokens_or_fault source h.1.tokens k.0 h.1.lexed k.1.lexed)
-  one_refusal source l m (inr (inr (inr h))) (inr (inr (inl k))) = absurd (no_parse_fault source h.1.book h.1.tokens k.0 h.1.lexed h.1.parsed h.1.within k.1)
-  one_refusal source l m (inr (inr (inr h))) (inr (inr (inr k))) =
-      h.2 ∙ ap (λ f. refused_at (codes "book" ∷ codes "check" ∷ []) (checked_fault f)) (same_check_fault source h.0 k.0 h.1 k.1) ∙ sym k.2
-
-  pub one_bad_book : (input : BookInput) (l m : List ℕ) → IsBadBook input l → IsBadBook input m → l ≡ m
-  one_bad_book (library name) l m h k = h ∙ sym k
-  one_bad_book (text bytes) l m h k = one_refusal bytes l m h k
-
-  pub no_bad_book : (input : BookInput) (tree : BookTree) (l : List ℕ) → IsGoodBook input tree → IsBadBook input l → ⊥
-  no_bad_book (library name) tree l h k = absurd h
-  no_bad_book (text bytes) tree l h k = no_refusal bytes tree l h k
-
-  pub one_good_book : (input : BookInput) (a b : BookTree) → IsGoodBook input a → IsGoodBook input b → a ≡ b
-  one_good_book (library name) a b h k = absurd h
-  one_good_book (text bytes) a b h k = one_book_text bytes a b h k
-
-  ok_or_err : {X Y : Type 0} (r : Result X Y) (x : X) (y : Y) → r ≡ Ok x → r ≡ Err y → ⊥
-  ok_or_err r x y a b = cc
-
-  one_bad_returns : (bytes l m : List ℕ) → AreBadReturns bytes l → AreBadReturns bytes m → l ≡ m
-  one_bad_returns bytes l m (inl h) (inl k) = h.1 ∙ sym k.1
-  one_bad_returns bytes l m (inl h) (inr k) = let over = h.0 in let fits = k.0 in absurd (omega arith)
-  one_bad_returns bytes l m (inr h) (inl k) = let over = k.0 in let fits = h.0 in absurd (omega arith)
-  one_bad_returns bytes l m (inr h) (inr k) =
-      let same : h.1 ≡ k.1 = same_err _ h.1 k.1 h.2 k.2 in
-      h.3 ∙ ap (λ f. refused_at (codes "returns" ∷ []) (numbered (fault_number f.kind) f.row)) same ∙ sym k.3
-
-  no_bad_returns : (bytes l : List ℕ) (e : Election) → AreGoodReturns bytes e → AreBadReturns bytes l → ⊥
-  no_bad_returns bytes l e h (inl k) = let over = k.0 in let fits = h.0 in absurd (omega arith)
-  no_bad_returns bytes l e h (inr k) = ok_or_err _ e k.1 h.1 k.2
-
-  one_good_returns : (bytes : List ℕ) (d e : Election) → AreGoodReturns bytes d → AreGoodReturns bytes e → d ≡ e
-  one_good_returns bytes d e h k = same_ok _ d e h.1 k.1
-
-  one_table_text : (b : BookTree) (d e : Election) (s t : List ℕ) → is_plain b ≡ true → d ≡ e → IsTableText b d s → IsTableText b e t → s ≡ t
-  one_table_text b d e s t plain same h k =
-      let one : h.0 ≡ k.0 = one_meaning b d h.0 k.0 plain h.1 (subst (λ (x : Election). Means b x (outcome.Table k.0)) (sym same) k.1) in
-      h.2 ∙ ap (λ x. short_text x d) one ∙ ap (λ x. short_text k.0 x) same ∙ sym k.2
-
-  one_count : (b : BookTree) (bytes : List ℕ) (x y : Status) (s t : List ℕ) → IsCount b bytes x s → IsCount b bytes y t → (x ≡ y) × (s ≡ t)
-  one_count b bytes Refused Refused s t (inl h) (inl k) = (refl, h.1 ∙ sym k.1)
-  one_count b bytes Refused Refused s t (inl h) (inr k) = absurd (true_or_false _ k.0 h.0)
-  one_count b bytes Refused Refused s t (inr h) (inl k) = absurd (true_or_false _ h.0 k.0)
-  one_count b bytes Refused Refused s t (inr h) (inr k) = (refl, one_bad_returns bytes s t h.1 k.1)
-  one_count b bytes Refused Done s t (inl h) k = absurd (true_or_false _ k.0 h.0)
-  one_count b bytes Refused Done s t (inr h) k = absurd (no_bad_returns bytes s k.1 k.2 h.1)
-  one_count b bytes Refused Legal s t h k = absurd k
-  one_count b bytes Refused Budget s t h k = absurd k
-  one_count b bytes Done Refused s t h (inl k) = absurd (true_or_false _ h.0 k.0)
-  one_count b bytes Done Refused s t h (inr k) = absurd (no_bad_returns bytes t h.1 h.2 k.1)
-  one_count b bytes Done Done s t h k = (refl, one_table_text b h.1 k.1 s t h.0 (one_good_returns bytes h.1 k.1 h.2 k.2) h.3 k.3)
-  one_count b bytes Done Legal s t h k = absurd k
-  one_count b bytes Done Budget s t h k = absurd k
-  one_count b bytes Legal y s t h k = absurd h
-  one_count b bytes Budget y s t h k = absurd h
+  -- ---- one output
 
   pub one_output : HasOneOutput
-  one_output input bytes a b s t (inl h) (inl k) = (h.0 ∙ sym k.0, one_bad_book input s t h.1 k.1)
-  one_output input bytes a b s t (inl h) (inr k) = absurd (no_bad_book input k.0 s k.1 h.1)
-  one_output input bytes a b s t (inr h) (inl k) = absurd (no_bad_book input h.0 t h.1 k.1)
-  one_output input bytes a b s t (inr h) (inr k) =
-      one_count k.0 bytes a b s t (subst (λ (x : BookTree). IsCount x bytes a s) (one_good_book input h.0 k.0 h.1 k.1) h.2) k.2
+  one_output (text source) bytes a b s t h k =
+      let same = one_text_verdict source h.0 k.0 h.1 k.1 in
+      one_count h.0 bytes a b s t h.2 (subst (λ (v : Verdict BookTree BookRefusal). IsCount v bytes b t) (sym same) k.2)
+  one_output (library name) bytes a b s t h k =
+      let x = unknown_law name h.0 h.1 in
+      let y = unknown_law name k.0 k.1 in
+      let c : IsCount (Refused x.0) bytes a s = subst (λ (v : Verdict BookTree BookRefusal). IsCount v bytes a s) x.1 h.2 in
+      let d : IsCount (Refused y.0) bytes b t = subst (λ (v : Verdict BookTree BookRefusal). IsCount v bytes b t) y.1 k.2 in
+      (c.0 ∙ sym d.0, c.1 ∙ x.2 ∙ sym y.2 ∙ sym d.1)
+
+  pub one_check : HasOneCheck
+  one_check (text source) a b s t h k =
+      let same = one_text_verdict source h.0 k.0 h.1 k.1 in
+      one_checked h.0 a b s t h.2 (subst (λ (v : Verdict BookTree BookRefusal). IsCheck v b t) (sym same) k.2)
+  one_check (library name) a b s t h k =
+      let x = unknown_law name h.0 h.1 in
+      let y = unknown_law name k.0 k.1 in
+      let c : IsCheck (Refused x.0) a s = subst (λ (v : Verdict BookTree BookRefusal). IsCheck v a s) x.1 h.2 in
+      let d : IsCheck (Refused y.0) b t = subst (λ (v : Verdict BookTree BookRefusal). IsCheck v b t) y.1 k.2 in
+      (c.0 ∙ sym d.0, c.1 ∙ x.2 ∙ sym y.2 ∙ sym d.1)

@@ -4,7 +4,8 @@ use Rattle.std.proofs.lemmas.Option.{same_Some}
 use Rattle.sl_stages.specs.book.Trees.{ExprTree, house, counted, winners, outside, independents, population, name, sum, larger, less, split, split_from, grow, StageTree, BookTree}
 use Rattle.sl_stages.specs.returns.Election.{Election}
 use Rattle.sl_stages.specs.meaning.Tables.{SeatTable}
-use Rattle.sl_stages.specs.meaning.Columns.{NamedColumn, IsColumn, AreColumns, sum_over, larger_of, less_of}
+use Rattle.sl_stages.specs.meaning.Columns.{NamedColumn, sum_over, larger_of, less_of}
+use Rattle.sl_stages.specs.meaning.PlainBooks.{IsColumn, AreColumns}
 use Rattle.sl_stages.specs.meaning.PlainBooks.{ComesTo, kept_table}
 use Rattle.sl_stages.specs.meaning.Seating.{base_of}
 

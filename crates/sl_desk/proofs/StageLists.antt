@@ -11,8 +11,9 @@ use Rattle.sl_stages.specs.book.Books.{book_of}
 use Rattle.sl_stages.specs.returns.Election.{Election}
 use Rattle.sl_stages.specs.book.Trees.{StageTree, BookTree, stage_of}
 use Rattle.sl_stages.specs.book.Tests.{first_failing}
-use Rattle.sl_stages.specs.book.Typing.{Column, column_of, columns_of, expr_tests, stages_tests, base_tests, type_of, splits_in, is_typed, tests_of, condition_tests, version_tests}
-use Rattle.sl_stages.specs.meaning.Columns.{NamedColumn, IsColumn, AreColumns}
+use Rattle.sl_stages.specs.book.Typing.{Column, stage_column as column_of, columns_of, expr_tests, stages_tests, base_tests, type_of, splits_in, is_typed, tests_of, condition_tests, version_tests}
+use Rattle.sl_stages.specs.meaning.Columns.{NamedColumn}
+use Rattle.sl_stages.specs.meaning.PlainBooks.{IsColumn, AreColumns}
 use Rattle.sl_desk.specs.declared.evaluate.stages.StageColumn.{StageColumn}
 use Rattle.sl_desk.specs.Shapes.{IsShaped}
 use Rattle.sl_desk.specs.StageColumns.{named_column, stage_tree, types_of, AreShaped, IsPlainExpr}

@@ -2,9 +2,6 @@
 use Rattle.std.specs.Prelude.{◌≡◌, ℕ, ◌<◌, ◌≤◌, List, length}
 use Rattle.sl_desk.specs.declared.input.Bytes.{Bytes}
 use Rattle.sl_desk.specs.declared.input.Bytes.TheVariants.{Whole, TooLong}
-use Rattle.sl_desk.specs.declared.input.ReadError.{ReadError}
-use Rattle.sl_desk.specs.declared.input.ReadError.TheVariants.{Failed, NoMemory}
-use Rattle.sl_desk.specs.Failures.{HasFailed}
 
 -- what was read of these bytes: all, or that they are over the limit
 abbrev pub Holds : ℕ → Bytes → List ℕ → Type 0
@@ -15,8 +12,3 @@ Holds limit TooLong bytes = limit < length bytes
 abbrev pub IsWithin : ℕ → Bytes → Type 0
 IsWithin limit (Whole v) = length v.items ≤ limit
 IsWithin limit TooLong = Unit {0}
-
--- a failure is one of the source
-abbrev pub Explains : ℕ → ℕ → ReadError → Type 0
-Explains before after Failed = HasFailed before after
-Explains before after NoMemory = Unit {0}

@@ -1,7 +1,8 @@
 -- The laws of what is written.
 use Rattle.std.specs.Prelude.{◌≡◌, ℕ, List}
 use Rattle.sl_desk.specs.declared.status.Status.{Status}
-use Rattle.sl_desk.specs.Output.{BookInput, IsOutput, IsCheckOutput}
+use Rattle.sl_desk.specs.Verdicts.{BookInput}
+use Rattle.sl_desk.specs.Output.{IsOutput, IsCheckOutput}
 
 -- two outputs of the same inputs are one
 abbrev pub HasOneOutput : Type 0

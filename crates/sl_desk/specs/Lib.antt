@@ -1,13 +1,15 @@
 pub mod Statuses
 pub mod Failures
+pub mod Writing
 pub mod Inputs
 pub mod Refusals
+pub mod Verdicts
 pub mod Output
-pub mod Judging
-pub mod Calls
+pub mod Reading
 pub mod Adapters
 pub mod Laws
 pub mod Standings
 pub mod Shapes
 pub mod Places
 pub mod StageColumns
+pub mod inner

@@ -5,7 +5,8 @@ use Rattle.sl_stages.specs.returns.Election.{Election}
 use Rattle.sl_stages.specs.book.Tests.{first_failing}
 use Rattle.sl_stages.specs.book.Typing.{Column, columns_of, expr_tests, splits_in}
 use Rattle.sl_stages.specs.book.Books.{book_of}
-use Rattle.sl_stages.specs.meaning.Columns.{NamedColumn, IsColumn}
+use Rattle.sl_stages.specs.meaning.Columns.{NamedColumn}
+use Rattle.sl_stages.specs.meaning.PlainBooks.{IsColumn}
 use Rattle.sl_desk.specs.declared.evaluate.stages.Evaluator.{Evaluator}
 use Rattle.sl_desk.specs.declared.evaluate.stages.StageColumn.{StageColumn}
 use Rattle.sl_desk.specs.Shapes.{IsShaped}

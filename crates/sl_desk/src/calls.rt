@@ -1,8 +1,8 @@
 //! The calls of the desk: what each writes, and how it ends.
 
-ghost use Rattle.std.specs.Prelude.{◌≡◌, OnOk, IfErr};
-ghost use Rattle.std.specs.Io.KnownBytes.{Appends};
-ghost use Rattle.sl_desk.specs.Failures.{AppendsFront, HasFailed};
+ghost use Rattle.std.specs.Prelude.{◌≡◌};
+ghost use Rattle.sl_desk.specs.Failures.{counts, counts_after};
+ghost use Rattle.sl_desk.specs.Writing.{Delivers};
 
 pub mod check;
 pub mod count;
@@ -11,7 +11,7 @@ use crate::input::write_all;
 use crate::sink::Sink;
 use crate::status::{DeskError, Status};
 
-// A text to be written, and what it is.
+// A text to be written, and the status that stands for it.
 #[derive(Drop)]
 struct Answer {
     status: Status,
@@ -19,7 +19,7 @@ struct Answer {
 }
 
 impl Answer {
-    // The table to which a book comes, or the line that tells of one.
+    // The table to which a book comes, or the line of a good book.
     fn done(text: Vec<u8>) -> Answer
         ensures status { result.status ≡ Status.Done }
         ensures text { result.text ≡ text }
@@ -41,14 +41,13 @@ impl Answer {
         }
     }
 
-    // Writes the text.
-    fn write<W: Sink>(&self, out: &mut W) -> Result<(), DeskError>
-        ensures whole { OnOk result (Appends (W.contents out.old) (W.contents out.new) self.now.text.items) }
-        ensures front { AppendsFront (W.contents out.old) (W.contents out.new) self.now.text.items }
-        ensures fault { IfErr result (λ e. (e ≡ DeskError.Write) × HasFailed (W.failed out.old) (W.failed out.new)) }
+    // Writes the text, and answers its status.
+    fn deliver<W: Sink>(&self, out: &mut W) -> Result<Status, DeskError>
+        ensures delivers { Delivers (λ status text. (status ≡ self.now.status) × (text ≡ self.now.text.items)) (W.contents out.old) (W.contents out.new) result }
+        ensures failures { counts 0 0 0 (W.failed out.new) ≡ counts_after (counts 0 0 0 (W.failed out.old)) result }
     {
         match write_all(out, self.text.as_slice()) {
-            Ok(()) => Ok(()),
+            Ok(()) => Ok(self.status),
             Err(_) => Err(DeskError::Write),
         }
     }

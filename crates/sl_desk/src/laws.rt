@@ -1,6 +1,14 @@
 //! Laws of what is written.
 
+ghost use Rattle.std.specs.Prelude.{◌≡◌};
 ghost use Rattle.sl_desk.specs.Laws.{HasOneOutput, HasOneCheck};
+
+use crate::limits::{MAX_BOOK_BYTES, MAX_RETURNS_BYTES};
+
+/// A book may have 65,536 bytes, and returns 4,194,304.
+pub fn limits()
+    ensures { (MAX_BOOK_BYTES ≡ 65536) × (MAX_RETURNS_BYTES ≡ 4194304) }
+{}
 
 /// The bytes of a book and of returns have at most one output: a status and a text.
 pub fn inputs_have_one_output()
@@ -8,7 +16,7 @@ pub fn inputs_have_one_output()
 {
     sl_lex::laws::one_list();
     sl_lex::laws::one_fault();
-    sl_lex::laws::tokens_or_fault();
+    sl_lex::laws::no_fault_of_tokens();
     sl_parse::laws::one_tree();
     sl_parse::laws::one_fault();
     sl_parse::laws::no_fault_of_a_book();
@@ -20,7 +28,7 @@ pub fn books_have_one_check()
 {
     sl_lex::laws::one_list();
     sl_lex::laws::one_fault();
-    sl_lex::laws::tokens_or_fault();
+    sl_lex::laws::no_fault_of_tokens();
     sl_parse::laws::one_tree();
     sl_parse::laws::one_fault();
     sl_parse::laws::no_fault_of_a_book();

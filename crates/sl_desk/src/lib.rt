@@ -5,7 +5,6 @@ mod book;
 mod calls;
 mod evaluate;
 mod input;
-mod judged;
 pub mod laws;
 mod limits;
 mod refusal;
@@ -13,6 +12,7 @@ mod returns;
 mod sink;
 mod source;
 mod status;
+mod verdict;
 
 pub use calls::check::check_book;
 pub use calls::count::count;

@@ -1,24 +1,82 @@
-//! The lines of refusals.
+//! Why inputs are refused, and the lines that say so.
 
-ghost use Rattle.std.specs.Prelude.{◌≡◌, ◌∷◌, [], IfOk, OnOk, codes, map};
-ghost use Rattle.sl_desk.specs.Refusals.{numbered, lex_fault, parse_fault, checked_fault, refused, refused_at, too_long};
+ghost use Rattle.std.specs.Prelude.{◌≡◌, ◌∷◌, [], IfOk, codes};
+ghost use Rattle.sl_returns.specs.Faults.{fault_number};
+ghost use Rattle.sl_desk.specs.Output.{later_line};
+ghost use Rattle.sl_desk.specs.Refusals.{numbered, lex_fault, parse_fault, checked_fault, refused, refused_at};
 
 use sl_check::CheckFault;
 use sl_lex::LexFault;
 use sl_parse::ParseFault;
 use sl_ratio::NoMemory;
+use sl_returns::ReturnsFault;
 use sl_table::Text;
 use std::alloc::Global;
 
-/// A fault by its number, and where it shows: an offset in bytes, or a row.
-#[derive(Clone, Copy, Debug, PartialEq, Eq)]
+/// Why a rulebook is refused.
+#[derive(Clone, Copy)]
+pub(crate) enum BookRefusal<'a> {
+    /// The library has no book of that name.
+    UnknownLaw(&'a str),
+    /// The text has too many bytes.
+    TooLong,
+    /// The text has no tokens.
+    Tokens(LexFault),
+    /// The tokens are no tree.
+    Grammar(ParseFault),
+    /// The tree fails a test.
+    Test(CheckFault),
+}
+
+impl BookRefusal<'_> {
+    ghost use Rattle.sl_desk.specs.Verdicts.{book_line};
+
+    /// The line that refuses the book.
+    pub fn line(self, alloc: Global) -> Result<Vec<u8>, NoMemory>
+        ensures { IfOk result (λ line. line.items ≡ book_line self.entry) }
+    {
+        match self {
+            BookRefusal::UnknownLaw(name) => refused(alloc, b"law", name.as_bytes()),
+            BookRefusal::TooLong => refused(alloc, b"book", b"toolong"),
+            BookRefusal::Tokens(fault) => refused_book(alloc, b"lex", lex_fault(fault)),
+            BookRefusal::Grammar(fault) => refused_book(alloc, b"parse", parse_fault(fault)),
+            BookRefusal::Test(fault) => refused_book(alloc, b"check", checked_fault(fault)),
+        }
+    }
+}
+
+/// Why returns are refused.
+#[derive(Clone, Copy)]
+pub(crate) enum ReturnsRefusal {
+    /// They have too many bytes.
+    TooLong,
+    /// The records have a fault.
+    Records(ReturnsFault),
+}
+
+impl ReturnsRefusal {
+    ghost use Rattle.sl_desk.specs.Verdicts.{returns_line};
+
+    /// The line that refuses the returns.
+    pub fn line(self, alloc: Global) -> Result<Vec<u8>, NoMemory>
+        ensures { IfOk result (λ line. line.items ≡ returns_line self) }
+    {
+        match self {
+            ReturnsRefusal::TooLong => refused(alloc, b"returns", b"toolong"),
+            ReturnsRefusal::Records(fault) => refused_returns(alloc, fault),
+        }
+    }
+}
+
+/// A fault of a rulebook by its number, and the offset in bytes where it shows.
+#[derive(Clone, Copy)]
 pub(crate) struct Numbered {
     pub number: u64,
     pub at: u64,
 }
 
-/// The number of a fault of the lexer, and its offset.
-pub(crate) fn lex_fault(fault: LexFault) -> Numbered
+// The number of a fault of the lexer, and its offset.
+fn lex_fault(fault: LexFault) -> Numbered
     ensures { result ≡ lex_fault fault }
 {
     let (number, at) = match fault {
@@ -34,8 +92,8 @@ pub(crate) fn lex_fault(fault: LexFault) -> Numbered
     }
 }
 
-/// The number of a fault of the parser, and its offset.
-pub(crate) fn parse_fault(fault: ParseFault) -> Numbered
+// The number of a fault of the parser, and its offset.
+fn parse_fault(fault: ParseFault) -> Numbered
     ensures { result ≡ parse_fault fault }
 {
     let (number, at) = match fault {
@@ -51,8 +109,8 @@ pub(crate) fn parse_fault(fault: ParseFault) -> Numbered
     }
 }
 
-/// The number of a test that a book fails, and its offset.
-pub(crate) fn checked_fault(fault: CheckFault) -> Numbered
+// The number of a test that a book fails, and its offset.
+fn checked_fault(fault: CheckFault) -> Numbered
     ensures { result ≡ checked_fault fault }
 {
     let (number, at) = match fault {
@@ -74,8 +132,8 @@ pub(crate) fn checked_fault(fault: CheckFault) -> Numbered
     }
 }
 
-/// `refused`, and two words.
-pub(crate) fn refused(alloc: Global, first: &[u8], second: &[u8]) -> Result<Vec<u8>, NoMemory>
+// `refused`, and two words.
+fn refused(alloc: Global, first: &[u8], second: &[u8]) -> Result<Vec<u8>, NoMemory>
     ensures { IfOk result (λ text. text.items ≡ refused (first.now ∷ second.now ∷ [])) }
 {
     let mut text = Text::new(alloc);
@@ -86,25 +144,21 @@ pub(crate) fn refused(alloc: Global, first: &[u8], second: &[u8]) -> Result<Vec<
     Ok(text.into_bytes())
 }
 
-/// A refusal of returns, with the number of the fault and its row.
-pub(crate) fn refused_returns(alloc: Global, fault: Numbered) -> Result<Vec<u8>, NoMemory>
-    ensures { IfOk result (λ text. text.items ≡ refused_at (codes "returns" ∷ []) fault) }
+// A refusal of returns, with the number of the fault and its row.
+fn refused_returns(alloc: Global, fault: ReturnsFault) -> Result<Vec<u8>, NoMemory>
+    ensures { IfOk result (λ text. text.items ≡ refused_at (codes "returns" ∷ []) (numbered (fault_number fault.kind) fault.row)) }
 {
     let mut text = Text::new(alloc);
     text.word(b"refused")?;
     text.word(b"returns")?;
-    text.number(fault.number)?;
-    text.number(fault.at)?;
+    text.number(u64::from(fault.kind.number()))?;
+    text.number(u64::from(fault.row))?;
     text.end_line()?;
     Ok(text.into_bytes())
 }
 
-/// A refusal of a rulebook by one of its readers, with the number of the fault and its offset.
-pub(crate) fn refused_book(
-    alloc: Global,
-    reader: &[u8],
-    fault: Numbered,
-) -> Result<Vec<u8>, NoMemory>
+// A refusal of a rulebook by one of its readers, with the number of the fault and its offset.
+fn refused_book(alloc: Global, reader: &[u8], fault: Numbered) -> Result<Vec<u8>, NoMemory>
     ensures { IfOk result (λ text. text.items ≡ refused_at (codes "book" ∷ reader.now ∷ []) fault) }
 {
     let mut text = Text::new(alloc);
@@ -119,7 +173,7 @@ pub(crate) fn refused_book(
 
 /// A refusal of a rulebook that is not counted yet.
 pub(crate) fn refused_later(alloc: Global) -> Result<Vec<u8>, NoMemory>
-    ensures { IfOk result (λ text. text.items ≡ refused (codes "book" ∷ codes "later" ∷ codes "0" ∷ [])) }
+    ensures { IfOk result (λ text. text.items ≡ later_line) }
 {
     let mut text = Text::new(alloc);
     text.word(b"refused")?;

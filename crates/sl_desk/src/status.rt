@@ -4,6 +4,7 @@ ghost use Rattle.std.specs.Prelude.{◌≡◌};
 ghost use Rattle.sl_desk.specs.declared.status.DeskError.TheVariants.{NoMemory as OutOfMemory};
 
 use sl_ratio::NoMemory;
+use std::fmt;
 use thiserror::Error;
 
 /// What was written: a table, a refusal, a legal fault, or that the steps ran out.
@@ -39,10 +40,20 @@ pub enum Input {
     Code,
 }
 
+impl fmt::Display for Input {
+    fn fmt<W: fmt::Write>(&self, f: &mut fmt::Formatter<W>) -> fmt::Result {
+        match self {
+            Input::Book => write!(f, "book"),
+            Input::Returns => write!(f, "returns"),
+            Input::Code => write!(f, "code"),
+        }
+    }
+}
+
 /// Why a call did not come to its end.
 #[derive(Clone, Copy, Debug, PartialEq, Eq, Error)]
 pub enum DeskError {
-    #[error("read fault")]
+    #[error("read fault {0}")]
     Read(Input),
     #[error("write fault")]
     Write,

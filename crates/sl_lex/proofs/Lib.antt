@@ -1,3 +1,4 @@
+pub mod AllCuts
 pub mod ByteTests
 pub mod Cuts
 pub mod Forms

@@ -65,8 +65,8 @@ one_list source a b h k =
     let same = one_cut h.0 k.0 source [] [] stop_at_end stop_at_end h.1 k.1 in
     h.2 ∙ ap (tokens_from 0) same.0 ∙ sym k.2
 
-pub tokens_or_fault : (source : List ℕ) (tokens : List Token) (fault : LexFault) → AreTokens source tokens → IsFault source fault → ⊥
-tokens_or_fault source tokens fault h k =
+pub no_fault_of_tokens : (source : List ℕ) (tokens : List Token) (fault : LexFault) → AreTokens source tokens → IsFault source fault → ⊥
+no_fault_of_tokens source tokens fault h k =
     let same = one_cut h.0 k.0 source [] k.1 stop_at_end (stop_at_fault (length source - length k.1) k.1 fault k.3) h.1 k.2 in
     rw (← same.1) at k.3
 

@@ -88,6 +88,14 @@ ShowsAt at (b ∷ bytes) NoMemory = ⊥
 abbrev pub IsFault : List ℕ → LexFault → Type 0
 IsFault source fault = (pieces : List Piece) × (rest : List ℕ) × IsCut pieces source rest × ShowsAt (length source - length rest) rest fault
 
+-- the text has tokens
+abbrev pub HasTokens : List ℕ → Type 0
+HasTokens source = (tokens : List Token) × AreTokens source tokens
+
+-- it has a fault
+abbrev pub HasFault : List ℕ → Type 0
+HasFault source = (fault : LexFault) × IsFault source fault
+
 -- memory ran out, or the text has that fault
 abbrev pub IsRefusal : List ℕ → LexFault → Type 0
 IsRefusal source NoMemory = Unit {0}

@@ -1,9 +1,9 @@
 //! Laws of tokens, over their definitions alone.
 
-ghost use Rattle.std.specs.Prelude.{◌≡◌, ℕ, List, Some};
+ghost use Rattle.std.specs.Prelude.{◌≡◌, ℕ, List, Some, ◌⊎◌};
 ghost use Rattle.sl_lex.specs.Keywords.{spelling, keyword_of};
 ghost use Rattle.sl_lex.specs.Spans.{AreSpans};
-ghost use Rattle.sl_lex.specs.Tokens.{AreTokens, IsFault};
+ghost use Rattle.sl_lex.specs.Tokens.{AreTokens, IsFault, HasTokens, HasFault};
 ghost use Rattle.sl_lex.specs.declared.fault.LexFault.{LexFault};
 ghost use Rattle.sl_lex.specs.declared.keyword.Keyword.{Keyword};
 ghost use Rattle.sl_lex.specs.declared.token.Token.{Token};
@@ -19,8 +19,13 @@ pub fn one_fault()
 {}
 
 /// A text that has tokens has no fault.
-pub fn tokens_or_fault()
+pub fn no_fault_of_tokens()
     ensures { (text : List ℕ) (tokens : List Token) (fault : LexFault) → AreTokens text tokens → IsFault text fault → ⊥ }
+{}
+
+/// A text has tokens or a fault.
+pub fn tokens_or_fault()
+    ensures { (text : List ℕ) → HasTokens text ⊎ HasFault text }
 {}
 
 /// The tokens of a text stand in it one behind the other, and the bytes of each are those of its kind.

@@ -8,7 +8,7 @@ use Rattle.std.proofs.lemmas.Cmp.{tied_itself}
 use Rattle.std.proofs.lemmas.List.Elements.{All-cons, All-head, All-tail}
 use Rattle.std.proofs.lemmas.List.Sorted.{All-permutation, IsPermutation-sym}
 use Rattle.sl_ratio.specs.Entry.{entry_cmp}
-use Rattle.sl_ratio.specs.EntryLaws.{entry_total}
+use Rattle.sl_ratio.specs.inner.EntryLaws.{entry_total}
 use Rattle.sl_ratio.specs.declared.entry.Entry.{Entry}
 use Rattle.sl_stages.specs.returns.Election.{Election}
 use Rattle.sl_prio.specs.Ranking.{ranked, insert_ranked}
@@ -17,10 +17,10 @@ use Rattle.sl_prio.specs.Lot.{drawn}
 use Rattle.sl_prio.specs.Laws.{AnswersAlike}
 use Rattle.sl_prio.specs.Lot.{lot_cmp}
 use Rattle.sl_prio.proofs.Greatest.{greatest-None}
-use Rattle.sl_prio.proofs.Orders.{entry_order, lot_order}
-use Rattle.sl_prio.proofs.Orders.{same_entry as is_same}
-use Rattle.sl_prio.proofs.Rankings.{ranked-permutation, counts_alike, ranked-unique}
+use Rattle.sl_prio.proofs.Orders.{lot_order}
+use Rattle.sl_prio.proofs.Rankings.{ranked-permutation}
 use Rattle.sl_prio.proofs.LawProofs.{order_is_free, first_peers}
+use Rattle.sl_prio.proofs.RankedEntries.{ranked_with_one_more, ranked_without_one}
 use Rattle.sl_machine.specs.declared.priority.TableKind.{TableKind}
 use Rattle.sl_machine.specs.declared.priority.PriorityTable.TheInside.{Inside}
 use Rattle.sl_machine.specs.declared.priority.Taken.{Taken}
@@ -28,7 +28,6 @@ use Rattle.sl_machine.specs.State.{State, PriorityTable}
 use Rattle.sl_machine.specs.Places.{at_entry}
 use Rattle.sl_machine.specs.Effects.{Goes, given, takes, mark_of, with_entry}
 use Rattle.sl_machine.specs.Safe.{entries_in}
-use Rattle.sl_machine.specs.Priority.{same_entry, without}
 use Rattle.sl_machine.specs.inner.Tables.{table_in}
 
 -- ---- a table that is on
@@ -65,34 +64,7 @@ drawn_some lot xs None h some =
 pub drawn_there : (lot : List ℕ) (xs : List Entry) → IsSome (top xs) → IsSome (drawn lot xs)
 drawn_there lot xs some = drawn_some lot xs (drawn lot xs) refl some
 
--- ---- entries that go in
-
-pub entered : (x : Entry) (xs ys : List Entry) → IsPermutation (x ∷ xs) ys → ranked ys ≡ insert_ranked x (ranked xs)
-entered x xs ys h = sym (ranked-unique entry_order (x ∷ xs) ys (counts_alike (x ∷ xs) ys h))
-
--- ---- entries that are taken
-
-same_itself : (x : Entry) → same_entry x x ≡ true
-same_itself x = grind (arith)
-
-same_is : (x y : Entry) → same_entry x y ≡ true → y ≡ x
-same_is x y h = sym (is_same x y h)
-
-not_same : (x y : Entry) → is_gt (entry_cmp y x) ≡ true → same_entry x y ≡ false
-not_same x y h = false_from_ne_true _ (λ e.
-    let above : is_gt (entry_cmp x x) ≡ true = subst (λ (z : Entry). is_gt (entry_cmp z x) ≡ true) (same_is x y e) h in
-    true≢false (sym above ∙ ap is_gt (tied_itself entry_total x)))
-
-without_inserted : (x : Entry) (ys : List Entry) → without x (insert_ranked x ys) ≡ ys
-without_inserted x [] = rw (same_itself x) refl
-without_inserted x (y ∷ ys) =
-    elim (cases_Bool (is_gt (entry_cmp y x))) [
-      | inl t ↦ rw t (rw (not_same x y t) (ap (λ zs. y ∷ zs) (without_inserted x ys)))
-      | inr f ↦ rw f (rw (same_itself x) refl)
-    ]
-
-pub without_ranked : (x : Entry) (xs ys : List Entry) → IsPermutation xs (x ∷ ys) → without x (ranked xs) ≡ ranked ys
-without_ranked x xs ys h = ap (without x) (ranked-unique entry_order xs (x ∷ ys) (counts_alike xs (x ∷ ys) h)) ∙ without_inserted x (ranked ys)
+-- ---- entries that go in and are taken
 
 pub taken_fits : (P : Entry → Type 0) (xs ys : List Entry) (x : Entry) → IsPermutation xs (x ∷ ys) → All P xs → P x × All P ys
 taken_fits P xs ys x h all =
@@ -102,7 +74,7 @@ taken_fits P xs ys x h all =
 pub takes_from : (k : TableKind) (xs ys : List Entry) (x : Entry) (o : Option Entry) (e : Election) (s : State) → o ≡ Some x → IsPermutation xs (x ∷ ys)
     → takes e (table_with k xs) o s ≡ Goes (at_entry e k.entries x.index (record s { table = Some (table_with k ys); mark = mark_of k.ranking x.ratio }))
 takes_from k xs ys x o e s is h =
-    rw is (ap (λ (zs : List Entry). Goes (at_entry e k.entries x.index (record s { table = Some (record { entries = k.entries; ranking = k.ranking; contents = zs }); mark = mark_of k.ranking x.ratio }))) (without_ranked x xs ys h))
+    rw is (ap (λ (zs : List Entry). Goes (at_entry e k.entries x.index (record s { table = Some (record { entries = k.entries; ranking = k.ranking; contents = zs }); mark = mark_of k.ranking x.ratio }))) (ranked_without_one x xs ys h))
 
 pub taken_is : (kind : Option TableKind) (k : TableKind) (xs ys : List Entry) (x : Entry) (taken : Taken) (now : Option PriorityTable) (pick : List Entry → Option Entry)
     → kind ≡ Some k → option_map (λ k. table_with k xs) kind ≡ now → taken ≡ record { entries = k.entries; index = x.index; mark = mark_of k.ranking x.ratio }
@@ -129,5 +101,5 @@ module _ {T E : Type 0} where
       → OnOk r (IsPermutation (x ∷ xs) ys) → option_map (λ k. table_with k xs) kind ≡ now → OnOk r (option_map (λ k. table_with k ys) kind ≡ option_map (with_entry x) now)
   put_enters None xs ys x now (Ok u) added view = rw (← view) refl
   put_enters (Some k) xs ys x now (Ok u) added view =
-      rw (← view) (ap (λ (zs : List Entry). Some (record { entries = k.entries; ranking = k.ranking; contents = zs })) (entered x xs ys added))
+      rw (← view) (ap (λ (zs : List Entry). Some (record { entries = k.entries; ranking = k.ranking; contents = zs })) (ranked_with_one_more x xs ys added))
   put_enters kind xs ys x now (Err e) added view = tt

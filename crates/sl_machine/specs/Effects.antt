@@ -38,7 +38,7 @@ use Rattle.sl_machine.specs.Places.{both, cell_at, index_at, item_of, at_entry, 
 use Rattle.sl_prio.specs.Prio.{top, peers, is_covered}
 use Rattle.sl_prio.specs.Lot.{drawn}
 use Rattle.sl_prio.specs.Ranking.{insert_ranked}
-use Rattle.sl_machine.specs.Priority.{without}
+use Rattle.sl_prio.specs.Ranking.{without}
 use Rattle.sl_machine.specs.Drawn.{lot_of}
 
 -- the machine goes on after the instruction, or at its target, or the run ends, or no case applies
@@ -125,10 +125,10 @@ abbrev pub to_party : Option ℕ → State → Effect
 to_party None s = Jumps (with_party None s)
 to_party (Some p) s = Goes (with_party (Some p) s)
 
--- the winner of that number is seated on the list of the party, if it has a party with a list
-abbrev pub seats : ℕ → Option ℕ → (ℕ → Bool) → State → Effect
-seats w None listed s = Goes s
-seats w (Some p) listed s = if listed p then Goes (with_place w placed.OnList s) else Goes s
+-- the winner of that number is seated on the list of its party, if it has one with a list
+abbrev pub seat_winner : ℕ → Option ℕ → (ℕ → Bool) → State → Effect
+seat_winner w None listed s = Goes s
+seat_winner w (Some p) listed s = if listed p then Goes (with_place w placed.OnList s) else Goes s
 
 -- ---- the priority table
 
@@ -252,7 +252,7 @@ module _ (c : CountingCode) (e : Election) where
   effect (instr.Fault n kind f) s = faults n kind (kind_of f) s
   effect (instr.Tie n kind r) s = given s.table (λ t. given (top t.contents) (λ first.
       faults n kind (fault.Tie (s.registers r) (map (λ x. item_of e t.entries x.index) (peers t.contents))) s))
-  effect instr.Seat s = given s.win (λ w. given (slice_get e.wins w) (λ winner. seats w winner.party (has_list e winner.land) s))
+  effect instr.Seat s = given s.win (λ w. given (slice_get e.wins w) (λ winner. seat_winner w winner.party (has_list e winner.land) s))
   effect instr.Single s = given s.win (λ w. Goes (with_place w placed.Single s))
   effect (instr.Halt k) s = given (slice_get c.slots k) (λ shape. Ends (Halted k None s))
   effect (instr.At kinds) s = Goes s

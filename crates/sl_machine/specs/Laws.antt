@@ -4,8 +4,8 @@ use Rattle.sl_stages.specs.returns.Election.{Election, IsElection}
 use Rattle.sl_code.specs.declared.instr.Instr.{Instr}
 use Rattle.sl_code.specs.Codes.{CountingCode}
 use Rattle.sl_verify.specs.Needs.{has_columns}
-use Rattle.sl_verify.specs.Leaves.{target_of}
-use Rattle.sl_verify.specs.WellKinded.{IsWellKinded}
+use Rattle.sl_code.specs.Rows.{target_of}
+use Rattle.sl_verify.specs.WellKinded.{IsWellKinded, context_of}
 use Rattle.sl_machine.specs.State.{State, End, start}
 use Rattle.sl_machine.specs.Effects.{Goes, Jumps, Ends, effect}
 use Rattle.sl_machine.specs.Fits.{FitsEnd}
@@ -28,7 +28,7 @@ pub record LandsSafely (c : CountingCode) (e : Election) (i : Instr) (s : State)
 pub record StepsSafely (c : CountingCode) (e : Election) (place : ℕ) (s : State) : Type 0 where
   pub instr : Instr
   pub stands : slice_get c.instrs place ≡ Some instr
-  pub columns : IsTrue (has_columns c instr)
+  pub columns : IsTrue (has_columns (context_of c) instr)
   pub may : MayStep c e instr s
   pub goes : (t : State) → effect c e instr s ≡ Goes t → IsSafe c e (place + 1) t
   pub jumps : (t : State) → effect c e instr s ≡ Jumps t → LandsSafely c e instr t

@@ -1,7 +1,7 @@
 pub mod State
-pub mod Priority
 pub mod Places
 pub mod Drawn
+pub mod SameLots
 pub mod Effects
 pub mod Runs
 pub mod Comes

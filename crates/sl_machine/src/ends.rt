@@ -4,6 +4,7 @@ ghost use Rattle.std.specs.Prelude.{◌≡◌, ◌<◌, ℕ, None, Some, IsTrue,
 ghost use Rattle.std.specs.Option.{option_and_then};
 ghost use Rattle.sl_verify.specs.declared.known.TheConstants.{REGISTERS};
 ghost use Rattle.sl_verify.specs.Needs.{has_stage};
+ghost use Rattle.sl_verify.specs.WellKinded.{context_of};
 ghost use Rattle.sl_code.specs.Codes.{CountingCode};
 ghost use Rattle.sl_code.specs.declared.instr.Instr.TheVariants as instr;
 ghost use Rattle.sl_prio.specs.Prio.{top};
@@ -57,7 +58,7 @@ fn kind_of(fault: EndFault) -> FaultKind
 impl Store {
     // Ends with a legal fault of that kind.
     fn fault(&self, code: &Code, stage: u8, scope: ScopeKind, kind: FaultKind) -> Effect
-        requires stage { IsTrue (has_stage code.now stage) }
+        requires stage { IsTrue (has_stage (context_of code.now) stage) }
         requires scope { IsSome (scope_at scope (state_of self.now)) }
         ensures { (e : Election) → effect_of result (state_of self.now) ≡ faults code.now e stage scope kind (state_of self.now) }
     {
@@ -76,7 +77,7 @@ impl Store {
         scope: ScopeKind,
         fault: EndFault,
     ) -> Effect
-        requires stage { IsTrue (has_stage code.now stage) }
+        requires stage { IsTrue (has_stage (context_of code.now) stage) }
         requires scope { IsSome (scope_at scope (state_of self.now)) }
         ensures { (e : Election) → effect_of result (state_of self.now) ≡ effect code.now e (instr.Fault stage scope fault) (state_of self.now) }
     {
@@ -92,7 +93,7 @@ impl Store {
         scope: ScopeKind,
         seats: u8,
     ) -> Result<Effect, NoMemory>
-        requires stage { IsTrue (has_stage code.now stage) }
+        requires stage { IsTrue (has_stage (context_of code.now) stage) }
         requires scope { IsSome (scope_at scope (state_of self.old)) }
         requires seats { seats < REGISTERS }
         requires top { IsSome (option_and_then (λ t. top t.contents) self.old.table) }

@@ -1,6 +1,7 @@
 //! Laws of the counting machine. Each function does nothing: its contract is the law.
 
 ghost use Rattle.sl_machine.specs.Laws.{StartsAreSafe, SafeSteps, NeverStuck};
+ghost use Rattle.sl_machine.specs.SameLots.{SameLots, SameCovers, SameDraws};
 
 /// A run of a code that the verifier accepts may begin (docs/machine.md, section 5).
 pub fn starts_are_safe()
@@ -16,4 +17,20 @@ pub fn safe_steps()
 /// No run of a code that the verifier accepts is ever stuck, whatever the returns and the steps (docs/machine.md, section 5).
 pub fn never_stuck()
     ensures { NeverStuck }
+{}
+
+/// The lot of a stage in the machine's table is the lot that the meaning of a rulebook has among the same entries (docs/machine.md,
+/// section 3).
+pub fn same_lots()
+    ensures { SameLots }
+{}
+
+/// Such a lot covers a table exactly if the meaning's lot names all the peers (docs/machine.md, section 3).
+pub fn same_covers()
+    ensures { SameCovers }
+{}
+
+/// Such a lot draws, of the tied entries that are left, the one that the meaning's lot draws next (docs/machine.md, section 3).
+pub fn same_draws()
+    ensures { SameDraws }
 {}

@@ -1,12 +1,13 @@
 //! The lots of a code's stages, as numbers of entries of the priority table.
 
-ghost use Rattle.std.specs.Prelude.{◌≡◌, ◌<◌, ◌≤◌, Some, None, IfOk, length, slice_get, option_map, if◌then◌else◌};
+ghost use Rattle.std.specs.Prelude.{◌≡◌, ◌<◌, ◌≤◌, ◌++◌, Some, None, IfOk, OnOk, length, slice_get, option_map, if◌then◌else◌};
+ghost use Rattle.std.specs.Option.{option_to_list};
 ghost use Rattle.sl_stages.specs.returns.Election.{IsElection, IsLot, lands_of, parties_of, wins_of};
 ghost use Rattle.std.specs.Str.{bytes_eq};
 ghost use Rattle.sl_stages.specs.meaning.Lots.{is_winner_of};
 ghost use Rattle.sl_stages.specs.meaning.Scopes.{place};
-ghost use Rattle.sl_machine.specs.Drawn.{lot_of, given_in};
-ghost use Rattle.sl_machine.specs.inner.Lots.{lot_in, stage_lots, lots_for};
+ghost use Rattle.sl_machine.specs.Drawn.{given_in};
+ghost use Rattle.sl_machine.specs.inner.Lots.{lot_in, with_lot, stage_lots, lots_for};
 
 use crate::store::append;
 use sl_code::{Code, Entries};
@@ -74,48 +75,55 @@ fn given_winner(returns: &Returns, land: usize, party: usize, win: usize) -> Opt
     (winner.land == land && winner.party == Some(party)).then_some(win as u32)
 }
 
-// The entry that a lot gives, if it has the name.
-fn given_by(returns: &Returns, entries: Entries, name: &[u8], lot: &Lot) -> Option<u32>
-    requires lot { IsLot (lands_of returns.now) (parties_of returns.now) (wins_of returns.now) lot.now }
-    requires election { IsElection returns.now }
-    ensures { result ≡ (if bytes_eq name.now lot.now.stage then option_map (place returns.now) (given_in returns.now entries lot.now) else None) }
+// Adds an entry, if there is one.
+fn append_some(entries: &mut Vec<u32>, entry: Option<u32>) -> Result<(), NoMemory>
+    ensures { OnOk result (entries.new.items ≡ entries.old.items ++ option_to_list entry) }
 {
-    if name == lot.stage.as_bytes() {
-        given_in(returns, entries, lot)
-    } else {
-        None
+    if let Some(entry) = entry {
+        append(entries, entry)?;
     }
-}
-
-// The entries that the lots of that name give.
-fn lot_of(
-    alloc: Global,
-    returns: &Returns,
-    entries: Entries,
-    name: &[u8],
-) -> Result<Vec<u32>, NoMemory>
-    ensures { IfOk result (λ lot. lot.items ≡ lot_of returns.now entries name.now) }
-{
-    let mut drawn = Vec::new(alloc);
-    for lot in returns.lots() {
-        if let Some(index) = given_by(returns, entries, name, lot) {
-            append(&mut drawn, index)?;
-        }
-    }
-    Ok(drawn)
+    Ok(())
 }
 
 impl StageLot {
+    // Adds the entries that a lot gives in each kind of table.
+    fn add(&mut self, returns: &Returns, lot: &Lot) -> Result<(), NoMemory>
+        requires lot { IsLot (lands_of returns.now) (parties_of returns.now) (wins_of returns.now) lot.now }
+        requires election { IsElection returns.now }
+        ensures { OnOk result (self.new ≡ with_lot returns.now lot.now self.old) }
+    {
+        append_some(&mut self.party, given_in(returns, Entries::Party, lot))?;
+        append_some(&mut self.land, given_in(returns, Entries::Land, lot))?;
+        append_some(&mut self.list, given_in(returns, Entries::List, lot))?;
+        append_some(&mut self.win, given_in(returns, Entries::Win, lot))
+    }
+
+    // Adds them if the lot has the name.
+    fn add_named(&mut self, returns: &Returns, name: &[u8], lot: &Lot) -> Result<(), NoMemory>
+        requires lot { IsLot (lands_of returns.now) (parties_of returns.now) (wins_of returns.now) lot.now }
+        requires election { IsElection returns.now }
+        ensures { OnOk result (self.new ≡ (if bytes_eq name.now lot.now.stage then with_lot returns.now lot.now self.old else self.old)) }
+    {
+        if name == lot.stage.as_bytes() {
+            self.add(returns, lot)?;
+        }
+        Ok(())
+    }
+
     // The lot of the stage of that name.
     fn named(alloc: Global, returns: &Returns, name: &[u8]) -> Result<StageLot, NoMemory>
         ensures { IfOk result (λ lot. lot ≡ stage_lots returns.now name.now) }
     {
-        Ok(StageLot {
-            party: lot_of(alloc, returns, Entries::Party, name)?,
-            land: lot_of(alloc, returns, Entries::Land, name)?,
-            list: lot_of(alloc, returns, Entries::List, name)?,
-            win: lot_of(alloc, returns, Entries::Win, name)?,
-        })
+        let mut stage = StageLot {
+            party: Vec::new(alloc),
+            land: Vec::new(alloc),
+            list: Vec::new(alloc),
+            win: Vec::new(alloc),
+        };
+        for lot in returns.lots() {
+            stage.add_named(returns, name, lot)?;
+        }
+        Ok(stage)
     }
 }
 

@@ -2,7 +2,6 @@
 
 ghost use Rattle.std.specs.Prelude.{◌≡◌, ◌≤◌, Some, IfOk, IsSome};
 ghost use Rattle.sl_stages.specs.declared.limits.TheConstants.{MAX_STAGES};
-ghost use Rattle.sl_verify.specs.Leaves.{target_of};
 ghost use Rattle.sl_machine.specs.Agrees.{IsSafe};
 ghost use Rattle.sl_machine.specs.Answers.{answer_of};
 ghost use Rattle.sl_machine.specs.Fits.{Fits};
@@ -15,7 +14,7 @@ use crate::lots::Lots;
 use crate::memory::Memory;
 use crate::step::{Effect, End};
 use crate::store::Store;
-use sl_code::{Code, Instr};
+use sl_code::Code;
 use sl_ratio::NoMemory;
 use sl_stages::{LegalFault, Returns};
 use sl_verify::Verified;
@@ -51,28 +50,6 @@ pub fn budget(stages: usize, returns: &Returns) -> u64
     (stages as u64 + 2) * share(returns)
 }
 
-// The place to which an instruction jumps, if it may.
-fn target_of(instr: Instr) -> Option<usize>
-    ensures { result ≡ target_of instr }
-{
-    match instr {
-        Instr::Jmp(target)
-        | Instr::Jz(_, target)
-        | Instr::Jlt(_, _, target)
-        | Instr::Jnl(target)
-        | Instr::Wparty(target)
-        | Instr::Fparty(target)
-        | Instr::Nparty(target)
-        | Instr::Fland(target)
-        | Instr::Nland(target)
-        | Instr::Fwin(target)
-        | Instr::Nwin(target)
-        | Instr::Peers(_, target)
-        | Instr::Lot(_, target) => Some(target as usize),
-        _ => None,
-    }
-}
-
 // Where a step comes to: a place of the code, or the end of the run.
 #[derive(Drop)]
 enum Step {
@@ -97,7 +74,7 @@ fn step_from(
     let instr = code.instrs()[place];
     match store.step(code, returns, lots, instr)? {
         Effect::Goes => Ok(Step::To(place + 1)),
-        Effect::Jumps => Ok(Step::To(target_of(instr).unwrap())),
+        Effect::Jumps => Ok(Step::To(instr.target().unwrap() as usize)),
         Effect::Ends(end) => Ok(Step::Over(end)),
     }
 }

@@ -3,6 +3,7 @@
 ghost use Rattle.std.specs.Prelude.{◌≡◌, ◌<◌, Some, IsTrue, IsSome, IfOk};
 ghost use Rattle.sl_verify.specs.declared.known.TheConstants.{REGISTERS};
 ghost use Rattle.sl_verify.specs.Needs.{has_stage};
+ghost use Rattle.sl_verify.specs.WellKinded.{context_of};
 ghost use Rattle.sl_code.specs.declared.instr.Instr.TheVariants as instr;
 ghost use Rattle.sl_machine.specs.Places.{scope_at};
 ghost use Rattle.sl_machine.specs.Effects.{effect, stage_of, divisor_of};
@@ -20,7 +21,7 @@ use sl_verify::LAST_CLAUSE;
 
 /// The number of the stage that an instruction names, which is the number of stages for the last clause.
 pub(crate) fn stage_number(code: &Code, stage: u8) -> usize
-    requires { IsTrue (has_stage code.now stage) }
+    requires { IsTrue (has_stage (context_of code.now) stage) }
     ensures { stage_of code.now.stages stage ≡ Some result }
 {
     if stage == LAST_CLAUSE {
@@ -63,7 +64,7 @@ impl Store {
         number: u8,
         step: u8,
     ) -> Result<Effect, NoMemory>
-        requires stage { IsTrue (has_stage code.now stage) }
+        requires stage { IsTrue (has_stage (context_of code.now) stage) }
         requires scope { IsSome (scope_at scope (state_of self.old)) }
         requires entry { IsSome (item_at returns.now (state_of self.old)) }
         requires number { number < REGISTERS }
@@ -94,7 +95,7 @@ impl Store {
         scope: ScopeKind,
         number: u8,
     ) -> Result<Effect, NoMemory>
-        requires stage { IsTrue (has_stage code.now stage) }
+        requires stage { IsTrue (has_stage (context_of code.now) stage) }
         requires scope { IsSome (scope_at scope (state_of self.old)) }
         requires entry { IsSome (item_at returns.now (state_of self.old)) }
         requires number { number < REGISTERS }
@@ -125,7 +126,7 @@ impl Store {
         rounding: Rounding,
         weight: u8,
     ) -> Result<Effect, NoMemory>
-        requires stage { IsTrue (has_stage code.now stage) }
+        requires stage { IsTrue (has_stage (context_of code.now) stage) }
         requires scope { IsSome (scope_at scope (state_of self.old)) }
         requires entry { IsSome (item_at returns.now (state_of self.old)) }
         requires weight { weight < REGISTERS }

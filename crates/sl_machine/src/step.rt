@@ -2,6 +2,7 @@
 
 ghost use Rattle.std.specs.Prelude.{◌≡◌, IsTrue, IfOk};
 ghost use Rattle.sl_verify.specs.Needs.{has_columns};
+ghost use Rattle.sl_verify.specs.WellKinded.{context_of};
 ghost use Rattle.sl_machine.specs.Effects.{effect};
 ghost use Rattle.sl_stages.specs.returns.Election.{IsElection};
 ghost use Rattle.sl_machine.specs.inner.Lots.{lots_for};
@@ -47,7 +48,7 @@ impl Store {
         requires step { MayStep code.now returns.now instr (state_of self.old) }
         requires election { IsElection returns.now }
         requires lots { lots.now ≡ lots_for code.now returns.now }
-        requires columns { IsTrue (has_columns code.now instr) }
+        requires columns { IsTrue (has_columns (context_of code.now) instr) }
         requires sizes { sizes_of self.old ≡ sizes_for code.now returns.now }
         ensures follows { IfOk result (λ next. effect_of next (state_of self.new) ≡ effect code.now returns.now instr (state_of self.old)) }
         ensures kept { sizes_of self.new ≡ sizes_of self.old }

@@ -6,6 +6,7 @@ ghost use Rattle.sl_ratio.specs.Quotient.{quotient};
 ghost use Rattle.sl_ratio.specs.declared.limits.TheConstants.{MAX_WEIGHT, MAX_SEATS};
 ghost use Rattle.sl_verify.specs.declared.known.TheConstants.{REGISTERS};
 ghost use Rattle.sl_verify.specs.Needs.{has_stage};
+ghost use Rattle.sl_verify.specs.WellKinded.{context_of};
 ghost use Rattle.sl_code.specs.Codes.{CountingCode};
 ghost use Rattle.sl_code.specs.declared.instr.Instr.TheVariants as instr;
 ghost use Rattle.sl_code.specs.declared.operand.Ranking.TheVariants as ranking;
@@ -164,7 +165,7 @@ impl Store {
 
     // The lot of a stage in such a table.
     fn lot<'a>(&self, code: &Code, lots: &'a Lots, stage: u8) -> &'a [u32]
-        requires stage { IsTrue (has_stage code.now stage) }
+        requires stage { IsTrue (has_stage (context_of code.now) stage) }
         requires table { IsSome self.now.table }
         requires lots { (e : Election) × (lots.now ≡ lots_for code.now e) }
         ensures { (e : Election) → lots.now ≡ lots_for code.now e →
@@ -175,7 +176,7 @@ impl Store {
 
     /// Jumps unless the stage's lot names every peer.
     pub(crate) fn jump_without_lot(&self, code: &Code, lots: &Lots, stage: u8) -> Effect
-        requires stage { IsTrue (has_stage code.now stage) }
+        requires stage { IsTrue (has_stage (context_of code.now) stage) }
         requires top { IsSome (option_and_then (λ t. top t.contents) self.now.table) }
         requires lots { (e : Election) × (lots.now ≡ lots_for code.now e) }
         ensures { (e : Election) → lots.now ≡ lots_for code.now e →
@@ -196,7 +197,7 @@ impl Store {
         lots: &Lots,
         stage: u8,
     ) -> Effect
-        requires stage { IsTrue (has_stage code.now stage) }
+        requires stage { IsTrue (has_stage (context_of code.now) stage) }
         requires top { IsSome (option_and_then (λ t. top t.contents) self.old.table) }
         requires lots { lots.now ≡ lots_for code.now returns.now }
         requires range { IsInRange returns.now (state_of self.old) }

@@ -1,5 +1,5 @@
 -- What is among the elements of a list, and what a search finds there.
-use Rattle.std.proofs.Common.{◌≡◌, ℕ, zero, suc, ◌+◌, ◌<◌, ◌⊎◌, ◌&&◌, Bool, true, false, cond, List, [], ◌∷◌, length, Some, slice_get, All, Contains, count_by, refl, sym, ap, subst, ◌∙◌, inl, inr, arith}
+use Rattle.std.proofs.Common.{◌≡◌, ℕ, zero, suc, ◌+◌, ◌<◌, ◌⊎◌, ◌&&◌, Bool, true, false, cond, List, [], ◌∷◌, ◌++◌, length, Some, slice_get, All, Contains, count_by, refl, sym, ap, subst, ◌∙◌, inl, inr, arith}
 use Rattle.std.specs.List.{find, filter}
 use Rattle.std.proofs.lemmas.Bool.{cases_Bool}
 use Rattle.std.proofs.lemmas.List.Sums.{sum_by-cons}
@@ -18,6 +18,17 @@ module _ {X : Type 0} where
 
   pub Contains-none : (x : X) → Contains [] x → ⊥
   Contains-none x h = let l : h.0 < 0 = h.1 in omega arith
+
+  pub Contains-append_left : (xs ys : List X) (x : X) → Contains xs x → Contains (xs ++ ys) x
+  Contains-append_left [] ys x h = absurd (Contains-none x h)
+  Contains-append_left (z ∷ zs) ys x h = elim (Contains-cases z zs x h) [
+    | inl e ↦ subst (λ (w : X). Contains (z ∷ (zs ++ ys)) w) e (Contains-head z (zs ++ ys))
+    | inr k ↦ Contains-tail z (zs ++ ys) x (Contains-append_left zs ys x k)
+  ]
+
+  pub Contains-append_right : (xs ys : List X) (x : X) → Contains ys x → Contains (xs ++ ys) x
+  Contains-append_right [] ys x h = h
+  Contains-append_right (z ∷ zs) ys x h = Contains-tail z (zs ++ ys) x (Contains-append_right zs ys x h)
 
   pub All-at : (P : X → Type 0) (xs : List X) (x : X) → All P xs → Contains xs x → P x
   All-at P xs x all h = subst P h.2 (all h.0 x h.1)

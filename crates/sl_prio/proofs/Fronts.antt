@@ -11,7 +11,7 @@ use Rattle.std.proofs.lemmas.List.Sorted.{All-permutation}
 use Rattle.sl_ratio.specs.declared.entry.Entry.{Entry}
 use Rattle.sl_ratio.specs.Quotient.{FitsRatio, compare}
 use Rattle.sl_ratio.specs.Entry.{quotient_cmp, entry_cmp}
-use Rattle.sl_ratio.specs.EntryLaws.{quotient_total, quotient_cmp-positive}
+use Rattle.sl_ratio.specs.inner.EntryLaws.{quotient_total, quotient_cmp-positive}
 use Rattle.sl_prio.specs.Ranking.{insert_ranked, ranked}
 use Rattle.sl_prio.specs.Prio.{top, peers, has_quotient_of}
 use Rattle.sl_prio.specs.Laws.{PeersInFront}
@@ -36,22 +36,22 @@ ranked_behind x xs ys first h =
     ranked-unique entry_order xs (x ∷ ys) (counts_alike xs (x ∷ ys) h)
     ∙ inserted_first x (ranked ys) (All-permutation (AtMost entry_cmp x) ys (ranked ys) (ranked-permutation ys) behind)
 
-ranked-falling : (xs : List Entry) → Falls xs → ranked xs ≡ xs
+pub ranked-falling : (xs : List Entry) → Falls xs → ranked xs ≡ xs
 ranked-falling [] h = refl
 ranked-falling (x ∷ xs) h = ap (insert_ranked x) (ranked-falling xs h.1) ∙ inserted_first x xs h.0
 
 -- ---- quotients along a ranking
 
-le_first : (r s : Ordering) → is_le (ordering_then r s) ≡ true → is_le r ≡ true
+pub le_first : (r s : Ordering) → is_le (ordering_then r s) ≡ true → is_le r ≡ true
 le_first Less s h = refl
 le_first Equal s h = refl
 le_first Greater s h = cc
 
-quotient_at_most : (x y : Entry) → is_le (entry_cmp x y) ≡ true → is_le (quotient_cmp x.ratio y.ratio) ≡ true
+pub quotient_at_most : (x y : Entry) → is_le (entry_cmp x y) ≡ true → is_le (quotient_cmp x.ratio y.ratio) ≡ true
 quotient_at_most x y h =
     le_first (quotient_cmp x.ratio y.ratio) (nat_cmp y.index x.index) (le_first _ (nat_cmp x.ratio.num y.ratio.num) (le_first _ (nat_cmp x.ratio.den y.ratio.den) h))
 
-abbrev HasRatio : Entry → Type 0
+abbrev pub HasRatio : Entry → Type 0
 HasRatio x = FitsRatio x.ratio
 
 -- between two entries with one quotient are only entries with that quotient
@@ -65,7 +65,7 @@ peer_between x y z fits_x fits_y fits_z below_x below_y tied =
 -- ---- the front of a ranking
 
 module _ (x : Entry) (fits : HasRatio x) where
-  none_behind : (y : Entry) (ys : List Entry) → HasRatio y → AtMost entry_cmp x y → has_quotient_of x y ≡ false → All HasRatio ys → All (AtMost entry_cmp y) ys
+  pub none_behind : (y : Entry) (ys : List Entry) → HasRatio y → AtMost entry_cmp x y → has_quotient_of x y ≡ false → All HasRatio ys → All (AtMost entry_cmp y) ys
       → filter (has_quotient_of x) ys ≡ []
   none_behind y [] fits_y below other ratios most = refl
   none_behind y (z ∷ zs) fits_y below other ratios most =

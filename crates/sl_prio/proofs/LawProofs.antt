@@ -8,11 +8,11 @@ use Rattle.std.proofs.lemmas.List.Sorted.{IsPermutation-sym, IsPermutation-trans
 use Rattle.std.proofs.lemmas.Bool.{and_from, and_right}
 use Rattle.sl_ratio.specs.declared.entry.Entry.{Entry}
 use Rattle.sl_ratio.specs.Entry.{entry_cmp}
-use Rattle.sl_ratio.specs.EntryLaws.{entry_total}
+use Rattle.sl_ratio.specs.inner.EntryLaws.{entry_total}
 use Rattle.sl_prio.specs.Ranking.{greatest, ranked}
 use Rattle.sl_prio.specs.Prio.{top, peers, has_quotient_of}
 use Rattle.sl_prio.specs.Lot.{lot_cmp, drawn}
-use Rattle.sl_prio.specs.Laws.{OrderIsFree, Remainders, Tops, Rankings, FirstPeers, Draws}
+use Rattle.sl_prio.specs.Laws.{OrderIsFree, LeftAlike, Tops, Rankings, FirstPeers, Draws}
 use Rattle.sl_prio.proofs.Finding.{count_by-cons, count_by-filter, count_by-none, some_counted, All-at}
 use Rattle.sl_prio.proofs.Greatest.{AtMost, not_gt, greatest-Some, greatest-None, greatest-permutation}
 use Rattle.sl_prio.proofs.Orders.{entry_order, lot_order}
@@ -38,14 +38,14 @@ order_is_free xs ys h =
       same_drawn = λ lot. ap (greatest (lot_cmp lot)) same_peers;
     }
 
-same_entries : (xs ys : List Entry) → CountsAlike xs ys → IsPermutation xs ys
+pub same_entries : (xs ys : List Entry) → CountsAlike xs ys → IsPermutation xs ys
 same_entries xs ys same =
     let back = IsPermutation-sym ys (ranked ys) (ranked-permutation ys) in
     let rest = subst (λ (zs : List Entry). IsPermutation zs ys) (sym (ranked-unique entry_order xs ys same)) back in
     IsPermutation-trans xs (ranked xs) ys (ranked-permutation xs) rest
 
-pub remainders : Remainders
-remainders entry xs ys h =
+pub left_alike : LeftAlike
+left_alike entry xs ys h =
     same_entries xs ys (λ p.
     let one = count_by-cons p entry xs in
     let other = count_by-cons p entry ys in

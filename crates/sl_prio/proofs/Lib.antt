@@ -6,3 +6,8 @@ pub mod Tables
 pub mod Draws
 pub mod LawProofs
 pub mod Fronts
+pub mod RankedEntries
+pub mod PeerLaws
+pub mod Heaps
+pub mod Subtrees
+pub mod Seen

@@ -1,5 +1,5 @@
 -- Entries and lots order entries, so that none but equal entries tie.
-use Rattle.std.proofs.Common.{◌≡◌, ℕ, Bool, true, List, ◌&&◌, nat_eq, ap, ◌∙◌}
+use Rattle.std.proofs.Common.{◌≡◌, ℕ, true, List, ◌&&◌, nat_eq, ap, ◌∙◌}
 use Rattle.std.specs.Cmp.{nat_cmp_total, then_total, on_total, back_total}
 use Rattle.std.specs.declared.cmp.Ordering.{Ordering}
 use Rattle.std.specs.declared.cmp.Ordering.TheVariants.{Less, Equal, Greater}
@@ -7,16 +7,14 @@ use Rattle.std.specs.Ordering.{is_eq, ordering_then}
 use Rattle.std.proofs.lemmas.Bool.{and_parts, eqb-true}
 use Rattle.sl_ratio.specs.declared.entry.Entry.{Entry}
 use Rattle.sl_ratio.specs.Entry.{entry_cmp}
-use Rattle.sl_ratio.specs.EntryLaws.{entry_total, entry_ties}
+use Rattle.sl_ratio.specs.inner.EntryLaws.{entry_total, entry_ties}
+use Rattle.sl_prio.specs.Ranking.{same_entry}
 use Rattle.sl_prio.specs.Lot.{place_in_lot, lot_cmp}
 use Rattle.sl_prio.proofs.Greatest.{IsEntryOrder}
 
--- what `==` answers
-abbrev pub is_same : Entry → Entry → Bool
-is_same x y = nat_eq x.ratio.num y.ratio.num && nat_eq x.ratio.den y.ratio.den && nat_eq x.index y.index
-
-pub same_entry : (x y : Entry) → is_same x y ≡ true → x ≡ y
-same_entry x y h =
+-- entries that are the same in all their parts are one
+pub same_entry-is : (x y : Entry) → same_entry x y ≡ true → x ≡ y
+same_entry-is x y h =
     let all = and_parts (nat_eq x.ratio.num y.ratio.num && nat_eq x.ratio.den y.ratio.den) (nat_eq x.index y.index) h in
     let parts = and_parts (nat_eq x.ratio.num y.ratio.num) (nat_eq x.ratio.den y.ratio.den) all.0 in
     let num = eqb-true x.ratio.num y.ratio.num parts.0 in
@@ -27,7 +25,7 @@ same_entry x y h =
 pub entry_order : IsEntryOrder entry_cmp
 entry_order = record {
   total = entry_total;
-  ties = λ x y h. same_entry x y (entry_ties x y ∙ ap is_eq h);
+  ties = λ x y h. same_entry-is x y (entry_ties x y ∙ ap is_eq h);
 }
 
 last_equal : (r s : Ordering) → ordering_then r s ≡ Equal → s ≡ Equal

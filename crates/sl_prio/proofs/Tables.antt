@@ -1,10 +1,9 @@
 -- The peers of a table, and what scans of a table answer.
-use Rattle.std.proofs.Common.{◌≡◌, ℕ, ◌<◌, ◌*◌, ◌≤◌, ◌&&◌, Bool, true, false, List, [], ◌∷◌, length, MatchOption, Option, Some, None, slice_get, All, Contains, count_by, refl, sym, ap, subst, ◌∙◌, arith}
+use Rattle.std.proofs.Common.{◌≡◌, ℕ, ◌<◌, ◌*◌, ◌≤◌, ◌&&◌, Bool, true, List, [], length, MatchOption, Option, Some, None, slice_get, All, Contains, count_by, refl, sym, ap, subst, ◌∙◌, arith}
 use Rattle.std.specs.Cmp.{nat_cmp_total, tied_itself, both_ways}
 use Rattle.std.specs.List.{AllWithin, HoldsAt, filter, list_all}
 use Rattle.std.specs.Option.{option_map_or}
 use Rattle.std.specs.Ordering.{is_eq, is_gt, is_ge}
-use Rattle.std.proofs.lemmas.List.Elements.{All-weaker}
 use Rattle.std.proofs.lemmas.List.Sorted.{All-permutation, Contains-permutation, IsPermutation-sym, length_permutation}
 use Rattle.std.proofs.lemmas.List.Sums.{AllPass-from_list_all, list_all-from_AllPass}
 use Rattle.sl_ratio.specs.declared.entry.Entry.{Entry}
@@ -12,8 +11,8 @@ use Rattle.sl_ratio.specs.Entry.{entry_cmp}
 use Rattle.sl_prio.specs.Ranking.{greatest, ranked}
 use Rattle.sl_prio.specs.Prio.{top, peers, has_quotient_of}
 use Rattle.sl_prio.specs.Lot.{lot_cmp, drawn}
-use Rattle.sl_prio.proofs.Finding.{Contains-filter, filter-Contains, count_by-filter, Contains-none, slice_get-Contains}
-use Rattle.sl_prio.proofs.Greatest.{AtMost, le_not_gt, greatest-is, greatest-Some}
+use Rattle.sl_prio.proofs.Finding.{Contains-filter, filter-Contains, count_by-filter, slice_get-Contains}
+use Rattle.sl_prio.proofs.Greatest.{AtMost, greatest-is, greatest-Some}
 use Rattle.sl_prio.proofs.Orders.{entry_order, lot_order}
 use Rattle.sl_prio.proofs.Rankings.{counts_alike, ranked-permutation, ranked-falls, stands_at, placed_at}
 
@@ -51,19 +50,6 @@ module _ (xs : List Entry) (first : Entry) (is_top : top xs ≡ Some first) wher
       ap (greatest (lot_cmp lot)) peers-at_top ∙
       greatest-is (lot_cmp lot) (lot_order lot) (ranked listed) x (Contains-permutation listed (ranked listed) x p here) (All-permutation (AtMost (lot_cmp lot) x) listed (ranked listed) p most)
 
-  peer-Contains : (x : Entry) → Contains (peers xs) x → Contains xs x
-  peer-Contains x here =
-      let there = subst (λ (ys : List Entry). Contains ys x) peers-at_top here in
-      (filter-Contains (has_quotient_of first) xs x (Contains-permutation (ranked listed) listed x (IsPermutation-sym listed (ranked listed) (ranked-permutation listed)) there)).0
-
--- a lot draws an entry of the table
-pub drawn-Contains : (xs : List Entry) (lot : List ℕ) (x : Entry) → drawn lot xs ≡ Some x → Contains xs x
-drawn-Contains xs lot x h = among (top xs) refl (greatest-Some (lot_cmp lot) (lot_order lot) (peers xs) x h).0
-  where
-    among : (o : Option Entry) → top xs ≡ o → Contains (peers xs) x → Contains xs x
-    among None e here = absurd (Contains-none x (subst (λ (ys : List Entry). Contains ys x) (ap (λ o. option_map_or (λ t. ranked (filter (has_quotient_of t) xs)) o []) e) here))
-    among (Some t) e here = peer-Contains xs t e x here
-
 -- the entries with the quotient of one of them, by how many of them are greater and how many are no smaller
 module _ (xs : List Entry) (first : Entry) (i : ℕ) (x : Entry) where
   abbrev peers_of : List Entry
@@ -97,13 +83,6 @@ module _ (xs : List Entry) (first : Entry) (i : ℕ) (x : Entry) where
 
   pub place-peer : slice_get (ranked peers_of) i ≡ Some x → has_quotient_of first x ≡ true
   place-peer h = (filter-Contains (has_quotient_of first) xs x (place-Contains h)).1
-
--- what a scan for the greatest answers
-pub top-from_scan : (xs : List Entry) (r : Option Entry) → MatchOption r (length xs ≡ 0) (λ m. Contains xs m × All (λ x. is_gt (entry_cmp x m) ≡ false) xs) → r ≡ top xs
-top-from_scan [] None h = refl
-top-from_scan (x ∷ xs) None h = absurd (omega (arith, h))
-top-from_scan xs (Some m) h =
-    sym (greatest-is entry_cmp entry_order xs m h.0 (All-weaker (λ x. is_gt (entry_cmp x m) ≡ false) (AtMost entry_cmp m) (λ x k. le_not_gt (entry_cmp x m) k) xs h.1))
 
 -- what a search for the peer at a place answers
 pub member-from_find : (xs : List Entry) (first : Entry) (i : ℕ) (r : Option Entry)

@@ -1,5 +1,5 @@
--- The greatest of a list of entries, and the list from the greatest to the smallest.
-use Rattle.std.specs.Prelude.{List, [], ◌∷◌, Option, if◌then◌else◌}
+-- The greatest of a list of entries, the list from the greatest to the smallest, and a list without one of its entries.
+use Rattle.std.specs.Prelude.{Bool, List, [], ◌∷◌, ◌&&◌, Option, nat_eq, if◌then◌else◌}
 use Rattle.std.specs.List.{find, list_all}
 use Rattle.std.specs.declared.cmp.Ordering.{Ordering}
 use Rattle.std.specs.Ordering.{is_le, is_gt}
@@ -19,3 +19,12 @@ insert_ranked entry (x ∷ xs) = if is_gt (entry_cmp x entry) then x ∷ insert_
 abbrev pub ranked : List Entry → List Entry
 ranked [] = []
 ranked (x ∷ xs) = insert_ranked x (ranked xs)
+
+-- whether two entries are the same in all their parts, as `==` answers
+abbrev pub same_entry : Entry → Entry → Bool
+same_entry x y = nat_eq x.ratio.num y.ratio.num && nat_eq x.ratio.den y.ratio.den && nat_eq x.index y.index
+
+-- the entries without the first that is x
+abbrev pub without : Entry → List Entry → List Entry
+without x [] = []
+without x (y ∷ ys) = if same_entry x y then ys else y ∷ without x ys

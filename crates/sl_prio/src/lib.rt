@@ -1,8 +1,10 @@
 //! Priority tables: entries of a scope, of which the greatest and those with its quotient are found.
 #![tactic(auto)]
 
+mod heap;
 pub mod laws;
 mod lot;
+mod peers;
 mod prio;
 
 pub use prio::Prio;

@@ -1,6 +1,6 @@
 //! The entries of a scope, from which the greatest is taken first.
 
-ghost use Rattle.std.specs.Prelude.{◌≡◌, ◌&&◌, ◌↔◌, IsTrue, [], ◌∷◌, length, slice_get, OnOk, OnErr, IfSome, IfNone, IsPermutation, Contains};
+ghost use Rattle.std.specs.Prelude.{◌≡◌, ◌<◌, ◌&&◌, ◌↔◌, IsTrue, [], ◌∷◌, length, slice_get, slice_index_or, OnOk, OnErr, IfSome, IfNone, IsPermutation};
 ghost use Rattle.std.specs.List.{count_by, filter};
 ghost use Rattle.std.specs.Ordering.{is_gt, is_ge};
 ghost use Rattle.sl_ratio.specs.Entry.{entry_cmp};
@@ -8,17 +8,11 @@ ghost use Rattle.sl_prio.specs.Ranking.{ranked};
 ghost use Rattle.sl_prio.specs.Prio.{has_quotient_of, top, peers, is_covered};
 ghost use Rattle.sl_prio.specs.Lot.{drawn};
 
-use crate::lot::lot_cmp;
+use crate::heap::{mend, sift_up};
+use crate::peers::{are_named, count, draw, is_peer};
 use sl_ratio::{Entry, NoMemory};
 use std::alloc::Global;
 use std::marker::Model;
-
-// Whether an entry has the quotient of the top.
-fn is_peer(top: &Entry, entry: &Entry) -> bool
-    ensures { result ≡ has_quotient_of top.now entry.now }
-{
-    top.ratio.cmp(&entry.ratio).is_eq()
-}
 
 /// A priority table: the entries that it holds, of which the greatest is the top. The peers of the top are the entries with its
 /// quotient, the top among them.
@@ -30,10 +24,13 @@ pub struct Prio {
 impl Model for Prio {
     ghost use Rattle.std.specs.Prelude.{List};
     ghost use Rattle.sl_ratio.specs.declared.entry.Entry.{Entry};
+    ghost use Rattle.sl_prio.specs.inner.Heap.{IsKept};
 
     ghost Value = { List Entry };
 
     ghost view = { λ p. p.entries.items };
+
+    ghost invariant = { λ p. IsKept p.entries.items };
 }
 
 impl Prio {
@@ -62,7 +59,11 @@ impl Prio {
         ensures added { OnOk result (IsPermutation (entry ∷ self.old) self.new) }
         ensures unchanged { OnErr result (self.new ≡ self.old) }
     {
+        // no ratio has numerator 0: in order, only entries with their quotient come between two entries with one quotient
+        prove!(entry.ratio.num() > 0);
+        let place = self.entries.len();
         self.entries.push(entry)?;
+        sift_up(&mut self.entries, place);
         Ok(())
     }
 
@@ -84,19 +85,15 @@ impl Prio {
     pub fn top(&self) -> Option<Entry>
         ensures { result ≡ top self.now }
     {
-        self.entries.iter().copied().max()
+        self.entries.first().copied()
     }
 
     /// The number of entries with the quotient of the top, which is 0 where there is no entry.
     pub fn peers(&self) -> usize
         ensures { result ≡ length (peers self.now) }
     {
-        match self.top() {
-            Some(top) => self
-                .entries
-                .iter()
-                .filter(|held| is_peer(&top, held))
-                .count(),
+        match self.entries.first() {
+            Some(top) => count(&self.entries, top, 0),
             None => 0,
         }
     }
@@ -146,21 +143,18 @@ impl Prio {
         ensures rest { IfSome result (λ entry. IsPermutation self.old (entry ∷ self.new)) }
         ensures none { IfNone result (self.new ≡ self.old) }
     {
-        let top = self.top()?;
-        self.remove(&top);
-        Some(top)
+        if self.entries.is_empty() {
+            return None;
+        }
+        Some(self.remove(0))
     }
 
     /// Whether a lot names the index of each peer of the top, as it does where there is no entry.
     pub fn covers(&self, lot: &[u32]) -> bool
         ensures { result ≡ is_covered lot.now self.now }
     {
-        match self.top() {
-            Some(top) => self
-                .entries
-                .iter()
-                .filter(|entry| is_peer(&top, entry))
-                .all(|peer| lot.contains(&peer.index)),
+        match self.entries.first() {
+            Some(top) => are_named(&self.entries, top, lot, 0),
             None => true,
         }
     }
@@ -174,32 +168,21 @@ impl Prio {
         ensures rest { IfSome result (λ entry. IsPermutation self.old (entry ∷ self.new)) }
         ensures none { IfNone result (self.new ≡ self.old) }
     {
-        let drawn = self.drawn(lot)?;
-        self.remove(&drawn);
-        Some(drawn)
+        let top = *self.entries.first()?;
+        let place = draw(&self.entries, &top, lot, 0, 0);
+        Some(self.remove(place))
     }
 
-    // The peer that a lot draws.
-    fn drawn(&self, lot: &[u32]) -> Option<Entry>
-        ensures { result ≡ drawn lot.now self.now }
+    // Takes the entry at a place away.
+    fn remove(&mut self, place: usize) -> Entry
+        requires { place < length self.old }
+        ensures value { result ≡ slice_index_or self.old place result }
+        ensures rest { IsPermutation self.old (result ∷ self.new) }
     {
-        let top = self.top()?;
-        let mut drawn = top;
-        for entry in &self.entries {
-            if is_peer(&top, entry) && lot_cmp(lot, entry, &drawn).is_gt() {
-                drawn = *entry;
-            }
+        let removed = self.entries.swap_remove(place);
+        if place < self.entries.len() {
+            mend(&mut self.entries, place);
         }
-        Some(drawn)
-    }
-
-    // Takes one entry away that the table holds.
-    fn remove(&mut self, entry: &Entry)
-        requires { Contains self.old entry.now }
-        ensures { IsPermutation self.old (entry.now ∷ self.new) }
-    {
-        if let Some(place) = self.entries.iter().position(|held| held == entry) {
-            self.entries.swap_remove(place);
-        }
+        removed
     }
 }

@@ -5,9 +5,9 @@ use Rattle.std.specs.Cmp.{nat_cmp_is}
 use Rattle.std.specs.declared.cmp.Ordering.{Ordering}
 use Rattle.std.specs.declared.cmp.Ordering.TheVariants.{Less, Equal, Greater}
 use Rattle.std.specs.Ordering.{nat_cmp, ordering_then}
-use Rattle.sl_ratio.specs.EntryLaws.{quotient_cmp-positive}
-use Rattle.sl_ratio.specs.Laws.{FiveMethods, InfiniteQuotients, QuotientsChain, EntryOrder}
-use Rattle.sl_ratio.specs.QuotientLaws.{quotient_positive, quotient_fits, quotient_falls, quotient_rises}
+use Rattle.sl_ratio.specs.inner.EntryLaws.{quotient_cmp-positive}
+use Rattle.sl_ratio.specs.Laws.{FiveMethods, InfiniteQuotients, QuotientsChain, EntryOrder, Limits}
+use Rattle.sl_ratio.specs.inner.QuotientLaws.{quotient_positive, quotient_fits, quotient_falls, quotient_rises}
 use Rattle.sl_ratio.proofs.Order.{AtMost-trans}
 
 pub five_methods : FiveMethods
@@ -47,3 +47,6 @@ entry_order x y fx fy =
     let den = nat_cmp x.ratio.den y.ratio.den in
     ap (λ (o : Ordering). ordering_then (ordering_then (ordering_then o index) num) den) (quotient_cmp-positive x.ratio y.ratio fx.positive fy.positive) ∙
     nested _ index num den
+
+pub limits : Limits
+limits = record { seats = refl; weight = refl; number = refl; name_bytes = refl; numerator = refl; denominator = refl }

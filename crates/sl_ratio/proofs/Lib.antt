@@ -1,3 +1,6 @@
 pub mod NameLists
 pub mod Order
+pub mod Firsts
+pub mod Searches
+pub mod Rounding
 pub mod LawProofs

@@ -1,9 +1,13 @@
 -- The laws of the definitions, each of them the contract of a function of `laws`.
-use Rattle.std.specs.Prelude.{◌≡◌, nat_eq, if◌then◌else◌}
+use Rattle.std.specs.Prelude.{◌≡◌, ℕ, ◌^◌, ◌<◌, List, nat_eq, if◌then◌else◌}
 use Rattle.std.specs.declared.cmp.Ordering.TheVariants.{Equal, Greater}
 use Rattle.std.specs.Ordering.{nat_cmp, ordering_then}
 use Rattle.sl_ratio.specs.declared.entry.Entry.{Entry}
+use Rattle.sl_ratio.specs.declared.limits.TheConstants.{MAX_NUMBER, MAX_SEATS, MAX_WEIGHT}
 use Rattle.sl_ratio.specs.declared.method.Divisor.{Divisor}
+use Rattle.sl_ratio.specs.declared.names.TheConstants.{MAX_NAME_BYTES}
+use Rattle.sl_ratio.specs.declared.ratio.TheConstants.{MAX_NUMERATOR, MAX_DENOMINATOR}
+use Rattle.sl_ratio.specs.Bounds.{Rounds}
 use Rattle.sl_ratio.specs.Entry.{entry_cmp}
 use Rattle.sl_ratio.specs.Quotient.{Quotient, FitsRatio, AtMost, compare, quotient}
 use Rattle.sl_ratio.specs.Signpost.{IsSignpost}
@@ -28,3 +32,19 @@ EntryOrder =
     ordering_then (nat_cmp y.index x.index) (
     ordering_then (nat_cmp x.ratio.num y.ratio.num) (
     nat_cmp x.ratio.den y.ratio.den)))
+
+-- every divisor strictly between the bounds rounds each weight to its seats
+abbrev pub EveryDivisorBetween : Type 0
+EveryDivisorBetween = (v s : List ℕ) (d : Quotient) → 0 < d.num → Rounds v s d
+
+-- the limits as numbers
+pub record AreLimits : Type 0 where
+  pub seats : MAX_SEATS ≡ 4000
+  pub weight : MAX_WEIGHT ≡ 1638400000000
+  pub number : MAX_NUMBER ≡ 999999999
+  pub name_bytes : MAX_NAME_BYTES ≡ 12
+  pub numerator : MAX_NUMERATOR ≡ 10 ^ 25
+  pub denominator : MAX_DENOMINATOR ≡ 10 ^ 12
+
+abbrev pub Limits : Type 0
+Limits = AreLimits

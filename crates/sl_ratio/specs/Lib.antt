@@ -1,7 +1,7 @@
 pub mod Quotient
-pub mod QuotientLaws
 pub mod Signpost
 pub mod Entry
-pub mod EntryLaws
+pub mod Bounds
 pub mod Names
 pub mod Laws
+pub mod inner

@@ -1,5 +1,5 @@
 -- Quotients, their order by cross products, and those of the divisor methods (docs/methods.md, section 1).
-use Rattle.std.specs.Prelude.{ℕ, ◌+◌, ◌*◌, ◌<◌, ◌≤◌}
+use Rattle.std.specs.Prelude.{◌≡◌, ℕ, ◌+◌, ◌*◌, ◌<◌, ◌≤◌}
 use Rattle.std.specs.declared.cmp.Ordering.{Ordering}
 use Rattle.std.specs.Ordering.{nat_cmp}
 use Rattle.sl_ratio.specs.declared.ratio.TheConstants.{MAX_NUMERATOR, MAX_DENOMINATOR}
@@ -25,6 +25,10 @@ compare x y = nat_cmp (x.num * y.den) (y.num * x.den)
 -- x is no greater than y
 abbrev pub AtMost : Quotient → Quotient → Type 0
 AtMost x y = x.num * y.den ≤ y.num * x.den
+
+-- two quotients are equal
+abbrev pub SameQuotient : Quotient → Quotient → Type 0
+SameQuotient x y = x.num * y.den ≡ y.num * x.den
 
 -- x is smaller than y
 abbrev pub Below : Quotient → Quotient → Type 0

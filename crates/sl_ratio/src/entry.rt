@@ -4,7 +4,7 @@ ghost use Rattle.std.specs.Prelude.{refl};
 ghost use Rattle.std.specs.Cmp.{po};
 ghost use Rattle.std.specs.Ordering.{as_partial_cmp};
 ghost use Rattle.sl_ratio.specs.Entry.{entry_cmp};
-ghost use Rattle.sl_ratio.specs.EntryLaws.{entry_ties, entry_total};
+ghost use Rattle.sl_ratio.specs.inner.EntryLaws.{entry_ties, entry_total};
 
 use crate::ratio::Ratio;
 use std::cmp::Ordering;

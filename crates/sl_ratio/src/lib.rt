@@ -1,6 +1,7 @@
-//! Quotients as ratios of whole numbers, the methods of apportionment, and lists of names.
+//! Quotients as ratios of whole numbers, the methods of apportionment, the bounds of an allocation, and lists of names.
 #![tactic(auto)]
 
+mod bound;
 mod entry;
 pub mod laws;
 mod limits;
@@ -11,6 +12,7 @@ mod ratio;
 mod remainder;
 mod signpost;
 
+pub use bound::bounds;
 pub use entry::Entry;
 pub use limits::{MAX_NUMBER, MAX_SEATS, MAX_WEIGHT};
 pub use memory::NoMemory;

@@ -4,7 +4,7 @@ ghost use Rattle.std.specs.Prelude.{◌≡◌, ℕ, ◌+◌, ◌<◌, ◌≤◌}
 ghost use Rattle.sl_ratio.specs.declared.method.Divisor.{Divisor};
 ghost use Rattle.sl_ratio.specs.declared.limits.TheConstants.{MAX_WEIGHT, MAX_SEATS};
 ghost use Rattle.sl_ratio.specs.Quotient.{Quotient, FitsRatio, Below, quotient};
-ghost use Rattle.sl_ratio.specs.QuotientLaws.{quotient_fits, quotient_falls, quotient_rises};
+ghost use Rattle.sl_ratio.specs.inner.QuotientLaws.{quotient_fits, quotient_falls, quotient_rises};
 
 use crate::method::Divisor;
 use crate::ratio::Ratio;

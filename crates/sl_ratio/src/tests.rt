@@ -32,6 +32,28 @@ fn shares_by_hare(rt: HostRuntime) {
     assert_eq!(rt; hare(8, 100, 210), (3, 170));
 }
 
+#[test]
+fn bounds_of_the_rows(rt: HostRuntime) {
+    let weights = [100, 80, 30];
+    let jefferson = Some((Ratio::new(100, 4), Ratio::new(100, 5)));
+    assert_eq!(rt; bounds(Divisor::Jefferson, &weights, &[4, 3, 1]), jefferson);
+    assert_eq!(rt; bounds(Divisor::Jefferson, &weights, &[3, 3, 2]), None);
+    let webster = Some((Ratio::new(200, 7), Ratio::new(160, 7)));
+    assert_eq!(rt; bounds(Divisor::Webster, &weights, &[4, 3, 1]), webster);
+    let infinite = Some((Ratio::new(3, 0), Ratio::new(3, 1)));
+    assert_eq!(rt; bounds(Divisor::Adams, &[3, 2], &[1, 1]), infinite);
+}
+
+#[test]
+fn bounds_of_equal_quotients(rt: HostRuntime) {
+    let first = Some((Ratio::new(60, 3), Ratio::new(60, 5)));
+    assert_eq!(rt; bounds(Divisor::Webster, &[30, 10], &[2, 1]), first);
+    let equal = Some((Ratio::new(20, 1), Ratio::new(60, 3)));
+    assert_eq!(rt; bounds(Divisor::Webster, &[30, 10], &[1, 1]), equal);
+    let tied = Some((Ratio::new(20, 1), Ratio::new(20, 1)));
+    assert_eq!(rt; bounds(Divisor::Webster, &[10, 10, 10], &[0, 1, 1]), tied);
+}
+
 fn hash_of(entry: &Entry) -> u64 {
     let mut state = DefaultHasher::new();
     entry.hash(&mut state);

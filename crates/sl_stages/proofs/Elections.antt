@@ -1,15 +1,17 @@
 -- What joins an election leaves it an election.
-use Rattle.std.proofs.Common.{◌≡◌, ℕ, zero, suc, ◌+◌, ◌<◌, ◌≤◌, Bool, List, [], ◌∷◌, length, get_or, set, replicate, Option, Some, None, arith, refl, sym, ap, subst, ◌∙◌}
-use Rattle.std.proofs.lemmas.List.{length_push, length-set, length-replicate, get_or-set_same, set-set}
+use Rattle.std.proofs.Common.{◌≡◌, ℕ, zero, suc, ◌+◌, ◌<◌, ◌≤◌, Bool, List, [], ◌∷◌, ◌++◌, length, get_or, set, replicate, Option, Some, None, arith, refl, sym, ap, subst, ◌∙◌}
+use Rattle.std.proofs.lemmas.List.{length_push, length-set, length-replicate, get_or-set_same, get_or-set_other, set-set}
 use Rattle.std.proofs.lemmas.List.Elements.{All-push, All-replicate, All-set, All-get_or, All-weaker}
 use Rattle.std.specs.List.{All}
 use Rattle.std.proofs.lemmas.Option.{none-some, same_Some}
+use Rattle.sl_ratio.specs.Names.{name_fault}
+use Rattle.sl_ratio.proofs.NameLists.{joins, with_name}
 use Rattle.sl_stages.specs.declared.limits.TheConstants.{MAX_LANDS, MAX_PARTIES, MAX_WINS, MAX_LOTS, MAX_VOTES, MAX_SLATE}
 use Rattle.sl_stages.specs.declared.returns.ListVotes.{ListVotes}
 use Rattle.sl_stages.specs.declared.returns.Win.{Win}
 use Rattle.sl_stages.specs.declared.returns.Lot.{Lot}
 use Rattle.sl_stages.specs.returns.Votes.{IsListVotes, valid_in, counted_in}
-use Rattle.sl_stages.specs.returns.Election.{Election, IsElection, IsWin, IsLot, IsCell, with_land, with_party, with_list, with_win, with_slate, with_lot, list_at}
+use Rattle.sl_stages.specs.returns.Election.{Election, IsElection, IsWin, IsLot, IsCell, EndsBefore, with_land, with_party, with_list, with_win, with_slate, with_lot, list_at}
 
 -- a winner stays one as Länder and parties join
 win_stays : (lands parties more_lands more_parties : ℕ) → lands ≤ more_lands → parties ≤ more_parties → (w : Win) → IsWin lands parties w → IsWin more_lands more_parties w
@@ -28,6 +30,7 @@ wins_stay e lands parties is lands_grow parties_grow =
 -- a lot stays one as Länder, parties and winners join
 lot_stays : (lands parties winners more_lands more_parties more_winners : ℕ) → lands ≤ more_lands → parties ≤ more_parties → winners ≤ more_winners → (l : Lot) → IsLot lands parties winners l → IsLot more_lands more_parties more_winners l
 lot_stays lands parties winners more_lands more_parties more_winners lands_grow parties_grow winners_grow l is = record {
+  stage = is.stage;
   land = λ n e. let h = is.land n e in omega arith;
   party = λ n e. let h = is.party n e in omega arith;
   win = λ n e. let h = is.win n e in omega arith;
@@ -42,14 +45,24 @@ lots_stay e lands parties winners is lands_grow parties_grow winners_grow =
 blank_cell : IsCell None
 blank_cell v e = absurd (none-some v e)
 
-pub is_with_land : (e : Election) (name : List ℕ) (people : ℕ) → IsElection e → length e.land_names < MAX_LANDS → people ≤ MAX_VOTES → IsElection (with_land e name people)
-is_with_land e name people is free most =
+-- no list stands in a blank row
+blank_row : (width n : ℕ) → EndsBefore n (replicate width None)
+blank_row zero n party above = refl
+blank_row (suc width) n zero above = refl
+blank_row (suc width) n (suc party) above = blank_row width zero party (omega arith)
+
+pub is_with_land : (e : Election) (name : List ℕ) (people : ℕ) → IsElection e → name_fault (record { limit = MAX_LANDS; names = e.land_names }) name ≡ None → people ≤ MAX_VOTES → IsElection (with_land e name people)
+is_with_land e name people is may most =
+    let free = (joins (record { limit = MAX_LANDS; names = e.land_names }) name may).free in
     let named = length_push e.land_names name in
     record {
       house = is.house;
       lands = omega arith;
       parties = is.parties;
       winners = is.winners;
+      land_names = with_name (record { limit = MAX_LANDS; names = e.land_names }) name may is.land_names;
+      party_names = is.party_names;
+      win_names = is.win_names;
       populations = length_push e.populations people ∙ ap (λ n. n + 1) is.populations ∙ sym named;
       rows = length_push {X = List (Option ListVotes)} e.cells (replicate MAX_PARTIES None) ∙ ap (λ n. n + 1) is.rows ∙ sym named;
       minorities = is.minorities;
@@ -57,19 +70,24 @@ is_with_land e name people is free most =
       people = All-push (λ n. n ≤ MAX_VOTES) e.populations people is.people most;
       widths = All-push (λ row. length row ≡ MAX_PARTIES) e.cells (replicate MAX_PARTIES None) is.widths (length-replicate {A = Option ListVotes} MAX_PARTIES None);
       votes = All-push (All IsCell) e.cells (replicate MAX_PARTIES None) is.votes (All-replicate IsCell MAX_PARTIES None blank_cell);
+      ends = All-push (EndsBefore (length e.party_names)) e.cells (replicate MAX_PARTIES None) is.ends (blank_row MAX_PARTIES (length e.party_names));
       places = wins_stay e _ _ is (omega arith) (omega arith);
       drawn = is.drawn;
       lots = lots_stay e _ _ _ is (omega arith) (omega arith) (omega arith);
     }
 
-pub is_with_party : (e : Election) (name : List ℕ) (minority : Bool) → IsElection e → length e.party_names < MAX_PARTIES → IsElection (with_party e name minority)
-is_with_party e name minority is free =
+pub is_with_party : (e : Election) (name : List ℕ) (minority : Bool) → IsElection e → name_fault (record { limit = MAX_PARTIES; names = e.party_names }) name ≡ None → IsElection (with_party e name minority)
+is_with_party e name minority is may =
+    let free = (joins (record { limit = MAX_PARTIES; names = e.party_names }) name may).free in
     let named = length_push e.party_names name in
     record {
       house = is.house;
       lands = is.lands;
       parties = omega arith;
       winners = is.winners;
+      land_names = is.land_names;
+      party_names = with_name (record { limit = MAX_PARTIES; names = e.party_names }) name may is.party_names;
+      win_names = is.win_names;
       populations = is.populations;
       rows = is.rows;
       minorities = length_push e.minorities minority ∙ ap (λ n. n + 1) is.minorities ∙ sym named;
@@ -77,6 +95,7 @@ is_with_party e name minority is free =
       people = is.people;
       widths = is.widths;
       votes = is.votes;
+      ends = All-weaker (EndsBefore (length e.party_names)) (EndsBefore (length (e.party_names ++ name ∷ []))) (λ row end party above. end party (omega (arith, named, above))) e.cells is.ends;
       places = wins_stay e _ _ is (omega arith) (omega arith);
       drawn = is.drawn;
       lots = lots_stay e _ _ _ is (omega arith) (omega arith) (omega arith);
@@ -86,8 +105,12 @@ is_with_party e name minority is free =
 list_cell : (v : ListVotes) → IsListVotes v → IsCell (Some v)
 list_cell v is w e = subst IsListVotes (same_Some v w e) is
 
-pub is_with_list : (e : Election) (land party : ℕ) (votes : ListVotes) → IsElection e → land < length e.land_names → IsListVotes votes → IsElection (with_list e land party votes)
-is_with_list e land party votes is within of_list =
+-- a list of a party before the end leaves the end where it is
+list_within : (row : List (Option ListVotes)) (party n : ℕ) (cell : Option ListVotes) → party < n → EndsBefore n row → EndsBefore n (set row party cell)
+list_within row party n cell before ends other above = get_or-set_other row party other cell None (omega arith) ∙ ends other above
+
+pub is_with_list : (e : Election) (land party : ℕ) (votes : ListVotes) → IsElection e → land < length e.land_names → party < length e.party_names → IsListVotes votes → IsElection (with_list e land party votes)
+is_with_list e land party votes is within of_party of_list =
     let row = get_or e.cells land [] in
     let there : land < length e.cells = omega (arith, is.rows) in
     record {
@@ -95,6 +118,9 @@ is_with_list e land party votes is within of_list =
       lands = is.lands;
       parties = is.parties;
       winners = is.winners;
+      land_names = is.land_names;
+      party_names = is.party_names;
+      win_names = is.win_names;
       populations = is.populations;
       rows = length-set e.cells land _ ∙ is.rows;
       minorities = is.minorities;
@@ -102,6 +128,7 @@ is_with_list e land party votes is within of_list =
       people = is.people;
       widths = All-set (λ row. length row ≡ MAX_PARTIES) e.cells land _ (length-set row party (Some votes) ∙ All-get_or (λ row. length row ≡ MAX_PARTIES) e.cells land [] there is.widths) is.widths;
       votes = All-set (All IsCell) e.cells land _ (All-set IsCell row party (Some votes) (list_cell votes of_list) (All-get_or (All IsCell) e.cells land [] there is.votes)) is.votes;
+      ends = All-set (EndsBefore (length e.party_names)) e.cells land _ (list_within row party (length e.party_names) (Some votes) of_party (All-get_or (EndsBefore (length e.party_names)) e.cells land [] there is.ends)) is.ends;
       places = is.places;
       drawn = is.drawn;
       lots = is.lots;
@@ -146,16 +173,20 @@ pub is_with_slate : (e : Election) (land party names : ℕ) → IsElection e →
 is_with_slate e land party names is of_land of_party few =
     let there : land < length e.cells = omega (arith, is.rows) in
     let cell = All-get_or IsCell (get_or e.cells land []) party None (cell_within e land party is of_land of_party) (All-get_or (All IsCell) e.cells land [] there is.votes) in
-    is_with_list e land party _ is of_land (with_names (list_at e land party) names cell few)
+    is_with_list e land party _ is of_land of_party (with_names (list_at e land party) names cell few)
 
-pub is_with_win : (e : Election) (name : List ℕ) (win : Win) → IsElection e → length e.win_names < MAX_WINS → IsWin (length e.land_names) (length e.party_names) win → IsElection (with_win e name win)
-is_with_win e name win is free placed =
+pub is_with_win : (e : Election) (name : List ℕ) (win : Win) → IsElection e → name_fault (record { limit = MAX_WINS; names = e.win_names }) name ≡ None → IsWin (length e.land_names) (length e.party_names) win → IsElection (with_win e name win)
+is_with_win e name win is may placed =
+    let free = (joins (record { limit = MAX_WINS; names = e.win_names }) name may).free in
     let named = length_push e.win_names name in
     record {
       house = is.house;
       lands = is.lands;
       parties = is.parties;
       winners = omega arith;
+      land_names = is.land_names;
+      party_names = is.party_names;
+      win_names = with_name (record { limit = MAX_WINS; names = e.win_names }) name may is.win_names;
       populations = is.populations;
       rows = is.rows;
       minorities = is.minorities;
@@ -163,6 +194,7 @@ is_with_win e name win is free placed =
       people = is.people;
       widths = is.widths;
       votes = is.votes;
+      ends = is.ends;
       places = All-push (IsWin (length e.land_names) (length e.party_names)) e.wins win is.places placed;
       drawn = is.drawn;
       lots = lots_stay e _ _ _ is (omega arith) (omega arith) (omega arith);
@@ -174,6 +206,9 @@ is_with_lot e lot is free named = record {
   lands = is.lands;
   parties = is.parties;
   winners = is.winners;
+  land_names = is.land_names;
+  party_names = is.party_names;
+  win_names = is.win_names;
   populations = is.populations;
   rows = is.rows;
   minorities = is.minorities;
@@ -181,6 +216,7 @@ is_with_lot e lot is free named = record {
   people = is.people;
   widths = is.widths;
   votes = is.votes;
+  ends = is.ends;
   places = is.places;
   drawn = let more = length_push e.lots lot in omega arith;
   lots = All-push (IsLot (length e.land_names) (length e.party_names) (length e.win_names)) e.lots lot is.lots named;

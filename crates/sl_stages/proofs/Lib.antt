@@ -1,5 +1,7 @@
 pub mod Tests
 pub mod Shapes
 pub mod Elections
+pub mod FactReadings
+pub mod typing
 pub mod methods
 pub mod meaning

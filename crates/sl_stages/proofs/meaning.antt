@@ -17,3 +17,6 @@ pub mod CoveredWinners
 pub mod TypedColumns
 pub mod TypedSplits
 pub mod TypedMeaning
+pub mod ChangedPieces
+pub mod JoinedScopes
+pub mod AwardedEntries

@@ -10,6 +10,7 @@ pub mod ChoiceLaw
 pub mod ManyBatches
 pub mod StepLaw
 pub mod LadderProofs
+pub mod WalkProofs
 pub mod FallingQuotients
 pub mod DivisorProofs
 pub mod HamiltonProofs

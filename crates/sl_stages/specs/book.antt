@@ -5,3 +5,4 @@ pub mod Limits
 pub mod Books
 pub mod Tests
 pub mod Typing
+pub mod HasType

@@ -43,9 +43,9 @@ pub enum Axis {
 pub enum Majority {
     /// None is written.
     Free,
-    /// An entry with more than half of the votes and no more than half of the seats comes first.
+    /// An entry with more than half of the votes whose whole part is no more than half of the seats comes before all remainders.
     Prefer,
-    /// Such an entry ends the count.
+    /// An entry with more than half of the votes that gets no more than half of the seats ends the count.
     Refuse,
 }
 

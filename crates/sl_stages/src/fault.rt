@@ -60,7 +60,7 @@ pub enum FaultKind {
     Limit,
     /// The minima sum to more than the seats.
     Short,
-    /// Nobody has votes.
+    /// No entry has weight, and there are seats to give beyond the minima, or it is a growth.
     NoList,
     /// So many seats fall to more items with equal claims, and no lot names them all.
     Tie { seats: u64, names: Items },

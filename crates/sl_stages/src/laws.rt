@@ -1,10 +1,20 @@
-//! Laws of the definitions of a seat law's methods (docs/methods.md). Each function does nothing: its contract is the law.
+//! Laws of the definitions: here those of the methods (docs/methods.md) and of the limits, and in each module those of one subject.
+//! Each function does nothing: its contract is the law.
 
+pub mod book;
 pub mod bounds;
 pub mod meaning;
+pub mod returns;
 
 ghost use Rattle.sl_stages.specs.laws.MethodLaws.{EmptyFields, DivisorAllocations, HamiltonAllocations, Coverings, FullCoverings, Growths};
+ghost use Rattle.sl_stages.specs.laws.LimitLaws.{Limits};
 ghost use Rattle.sl_stages.specs.laws.Awards.{Draws, Batches, DivisorLadders, HamiltonLadders, CoveringLadders, GrowthBatches};
+ghost use Rattle.sl_stages.specs.laws.Walks.{Walks};
+
+/// The value of each limit of rulebooks and returns (docs/limits.md).
+pub fn limits()
+    ensures { Limits }
+{}
 
 /// A field is empty exactly where its weights sum to 0 (docs/methods.md, section 2).
 pub fn empty_fields()
@@ -44,6 +54,11 @@ pub fn draws()
 /// (docs/methods.md, section 7).
 pub fn batches()
     ensures { Batches }
+{}
+
+/// Within a batch the peers get their seats one by one, in any order (docs/methods.md, section 7).
+pub fn walks()
+    ensures { Walks }
 {}
 
 /// The divisor allocations are the tops of their ladders (docs/methods.md, section 7).

@@ -13,8 +13,8 @@ mod table;
 mod word;
 
 pub use book::{
-    Axis, Base, Book, ColumnType, Cond, Expr, LastClause, Majority, Number, Seating, Shape,
-    Stage, Unit,
+    Axis, Base, Book, ColumnType, Cond, Expr, LastClause, Majority, Number, Seating, Shape, Stage,
+    Unit,
 };
 pub use check_fault::CheckFault;
 pub use checked::CheckedBook;

@@ -30,7 +30,7 @@ pub struct SeatStep {
     pub mark: Mark,
 }
 
-/// The votes of an entry in a scope of a stage that a divisor method splits.
+/// The weight of an entry of the field, in a scope of a stage that Adams', Webster's or Jefferson's method splits without minima.
 #[derive(Clone, Copy, Debug)]
 pub struct Weight {
     pub stage: usize,

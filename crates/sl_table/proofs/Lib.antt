@@ -1,3 +1,3 @@
 pub mod LineLoops
-pub mod ListOrder
+pub mod Lists
 pub mod Winners

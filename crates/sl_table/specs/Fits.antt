@@ -1,14 +1,14 @@
 -- Which tables fit which returns (docs/output.md, section 1).
-use Rattle.std.specs.Prelude.{◌≡◌, ℕ, List, length, map, flat_map, filter}
-use Rattle.sl_stages.specs.returns.Election.{Election, has_list}
-use Rattle.sl_stages.specs.returns.Facts.{lands, parties}
+use Rattle.std.specs.Prelude.{◌≡◌, ◌<◌, All, length}
+use Rattle.sl_stages.specs.declared.table.ListSeats.{ListSeats}
+use Rattle.sl_stages.specs.returns.Election.{Election, lands_of, parties_of}
 use Rattle.sl_stages.specs.meaning.Tables.{SeatTable}
 
--- the lists of an election in list order: by Land, and then by party
-abbrev pub list_order : Election → List (ℕ × ℕ)
-list_order e = flat_map (λ land. map (λ party. (land, party)) (filter (has_list e land) (parties e))) (lands e)
+-- a list is of a Land and of a party of the election
+abbrev pub IsOf : Election → ListSeats → Type 0
+IsOf e l = (l.land < lands_of e) × (l.party < parties_of e)
 
--- the table has the election's lists, in list order, and a place for each winner
+-- the lists, in any order, are of the election's Länder and parties, and each winner has a place
 pub record Fits (t : SeatTable) (e : Election) : Type 0 where
-  pub lists : map (λ l. (l.land, l.party)) t.lists ≡ list_order e
+  pub lists : All (IsOf e) t.lists
   pub placed : length t.placed ≡ length e.wins

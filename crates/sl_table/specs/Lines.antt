@@ -16,7 +16,7 @@ pub record Draft : Type 0 where
 abbrev pub no_text : Draft
 no_text = record { bytes = []; begun = false }
 
--- one more word in the last line, behind a blank if the line has begun
+-- one more word in the last line, after a blank if the line has begun
 abbrev pub with_word : Draft → List ℕ → Draft
 with_word d word = record { bytes = d.bytes ++ (if d.begun then 32 ∷ word else word); begun = true }
 
@@ -24,6 +24,6 @@ with_word d word = record { bytes = d.bytes ++ (if d.begun then 32 ∷ word else
 abbrev pub with_end : Draft → Draft
 with_end d = record { bytes = d.bytes ++ 10 ∷ []; begun = false }
 
--- whole lines behind the text
+-- whole lines after the text
 abbrev pub with_lines : Draft → List ℕ → Draft
 with_lines d lines = record { bytes = d.bytes ++ lines; begun = false }

@@ -8,7 +8,7 @@ use sl_ratio::NoMemory;
 use std::alloc::Global;
 use std::marker::Model;
 
-/// A text that is written word by word. A line is words parted by one blank, with LF behind the last of them (docs/output.md, section 1).
+/// A text that is written word by word. A line is words parted by one blank, with LF after the last of them (docs/output.md, section 1).
 #[derive(Debug, Drop)]
 pub struct Text {
     alloc: Global,
@@ -37,7 +37,7 @@ impl Text {
         }
     }
 
-    /// Adds a word to the line, behind a blank if it is not the line's first.
+    /// Adds a word to the line, after a blank if it is not the line's first.
     ///
     /// # Errors
     ///

@@ -2,4 +2,6 @@
 pub mod Walking
 pub mod Passing
 pub mod Kinded
+pub mod PieceFacts
 pub mod RegisterSets
+pub mod Rows

@@ -6,9 +6,15 @@ use Rattle.sl_code.specs.Codes.{CountingCode}
 use Rattle.sl_code.specs.declared.kinds.Kinds.{Kinds}
 use Rattle.sl_verify.specs.declared.fault.VerifyFault.{VerifyFault}
 use Rattle.sl_verify.specs.Kinds.{implies}
-use Rattle.sl_verify.specs.WellKinded.{declared_at, leads_well, Stands}
+use Rattle.sl_verify.specs.WellKinded.{declared_at, context_of, leads_well, Stands}
+use Rattle.sl_verify.specs.Pieces.{kinds_here, meets}
 use Rattle.sl_stages.specs.book.Tests.{test, first_failing}
-use Rattle.sl_verify.specs.Faults.{coming_tests, kinds_here, landing_tests, jump_tests, end_tests}
+use Rattle.sl_verify.specs.Faults.{coming_tests, landing_tests, jump_tests, end_tests}
+
+pub both_hold : (a b : Bool) → IsTrue a → IsTrue b → IsTrue (a && b)
+both_hold true true h k = refl
+both_hold true false h k = cc
+both_hold false b h k = cc
 
 -- ---- lists
 
@@ -41,35 +47,48 @@ four_pass false b c d e f g h p = cc
 
 -- ---- the tests of an instruction
 
-pub coming_stands : (p : ℕ) (comes declared : Option Kinds) → first_failing (coming_tests p comes declared) ≡ None
-    → Stands comes declared (kinds_here comes declared)
-coming_stands p None None h = cc
-coming_stands p None (Some d) h = refl
-coming_stands p (Some c) None h = refl
-coming_stands p (Some c) (Some d) h = (refl, one_holds (implies c d) _ h)
+pub coming_meets : (p : ℕ) (comes declared : Option Kinds) → first_failing (coming_tests p comes declared) ≡ None → IsTrue (meets comes declared)
+coming_meets p None None h = cc
+coming_meets p None (Some d) h = refl
+coming_meets p (Some c) None h = refl
+coming_meets p (Some c) (Some d) h = one_holds (implies c d) _ h
 
-pub stands_coming : (p : ℕ) (comes declared : Option Kinds) (k : Kinds) → Stands comes declared k
-    → (first_failing (coming_tests p comes declared) ≡ None) × (k ≡ kinds_here comes declared)
-stands_coming p None None k h = absurd h
-stands_coming p None (Some d) k h = (refl, h)
-stands_coming p (Some c) None k h = (refl, h)
-stands_coming p (Some c) (Some d) k h = (one_passes (implies c d) _ h.1, h.0)
+pub meets_coming : (p : ℕ) (comes declared : Option Kinds) → IsTrue (meets comes declared) → first_failing (coming_tests p comes declared) ≡ None
+meets_coming p None None h = cc
+meets_coming p None (Some d) h = refl
+meets_coming p (Some c) None h = refl
+meets_coming p (Some c) (Some d) h = one_passes (implies c d) _ h
+
+pub meets_stands : (comes declared : Option Kinds) → IsTrue (meets comes declared) → Stands comes declared (kinds_here comes declared)
+meets_stands None None h = cc
+meets_stands None (Some d) h = refl
+meets_stands (Some c) None h = refl
+meets_stands (Some c) (Some d) h = (refl, h)
+
+pub stands_meets : (comes declared : Option Kinds) (k : Kinds) → Stands comes declared k → IsTrue (meets comes declared) × (k ≡ kinds_here comes declared)
+stands_meets None None k h = absurd h
+stands_meets None (Some d) k h = (refl, h)
+stands_meets (Some c) None k h = (refl, h)
+stands_meets (Some c) (Some d) k h = (h.1, h.0)
 
 landing_leads : (code : CountingCode) (p : ℕ) (k : Kinds) (t : ℕ) → first_failing (landing_tests p k (declared_at code t)) ≡ None
-    → IsTrue (leads_well code k (Some t))
+    → IsTrue (leads_well (context_of code) k (Some t))
 landing_leads code p k t = elim (declared_at code t) as (λ o. first_failing (landing_tests p k o) ≡ None → IsTrue (option_map_or (implies k) o false))
     [ None ↦ λ h. cc | Some d ↦ λ h. one_holds (implies k d) _ h ]
 
-pub jump_leads : (code : CountingCode) (p : ℕ) (k : Kinds) (t : Option ℕ) → first_failing (jump_tests code p k t) ≡ None → IsTrue (leads_well code k t)
+pub jump_leads : (code : CountingCode) (p : ℕ) (k : Kinds) (t : Option ℕ) → first_failing (jump_tests code p k t) ≡ None → IsTrue (leads_well (context_of code) k t)
 jump_leads code p k None h = refl
 jump_leads code p k (Some t) h = landing_leads code p k t h
 
-pub leads_jump : (code : CountingCode) (p : ℕ) (k : Kinds) (t : Option ℕ) → IsTrue (leads_well code k t) → first_failing (jump_tests code p k t) ≡ None
+pub leads_jump : (code : CountingCode) (p : ℕ) (k : Kinds) (t : Option ℕ) → IsTrue (leads_well (context_of code) k t) → first_failing (jump_tests code p k t) ≡ None
 leads_jump code p k None h = refl
 leads_jump code p k (Some t) h = elim (declared_at code t) as (λ o. IsTrue (option_map_or (implies k) o false) → first_failing (landing_tests p k o) ≡ None)
     [ None ↦ λ h. cc | Some d ↦ λ h. one_passes (implies k d) _ h ] h
 
 -- ---- the end
+
+pub nothing_ends : (p : ℕ) (comes : Option Kinds) → comes ≡ None → first_failing (end_tests p comes) ≡ None
+nothing_ends p comes h = rw h refl
 
 pub nothing_comes : (p : ℕ) (comes : Option Kinds) → first_failing (end_tests p comes) ≡ None → comes ≡ None
 nothing_comes p None h = refl

@@ -1,37 +1,33 @@
 -- What keeps a code from being well kinded: each test in its order, and the fault that it gives (docs/verifier.md, section 4).
-use Rattle.std.specs.Prelude.{ℕ, suc, ◌-◌, false, List, [], ◌∷◌, ◌++◌, Option, Some, None}
+use Rattle.std.specs.Prelude.{ℕ, suc, ◌-◌, false, List, [], ◌∷◌, ◌++◌, length, Option, Some, None}
 use Rattle.sl_stages.specs.book.Tests.{Test, test, first_failing}
 use Rattle.sl_code.specs.Codes.{CountingCode}
+use Rattle.sl_code.specs.Rows.{target_of}
 use Rattle.sl_code.specs.declared.instr.Instr.{Instr}
 use Rattle.sl_code.specs.declared.kinds.Kinds.{Kinds}
 use Rattle.sl_verify.specs.declared.fault.VerifyFault.{VerifyFault}
 use Rattle.sl_verify.specs.declared.fault.VerifyFault.TheVariants as fault
 use Rattle.sl_verify.specs.Kinds.{start_kinds, implies}
 use Rattle.sl_verify.specs.Needs.{has_registers, has_columns, has_kinds, has_table}
-use Rattle.sl_verify.specs.Leaves.{behind, target_of, carried}
-use Rattle.sl_verify.specs.WellKinded.{declared_by, declared_at, has_stage_slots}
+use Rattle.sl_verify.specs.Leaves.{carried}
+use Rattle.sl_verify.specs.WellKinded.{declared_by, declared_at, context_of, has_stage_slots}
+use Rattle.sl_verify.specs.Pieces.{kinds_here, comes_next, comes_after}
 
 -- ---- an instruction
 
 -- what comes to place p implies what is declared there, if anything is; something comes where nothing is declared.
--- Meet is told of the instruction before, and of the first one at the start
+-- Meet names the instruction before, and at the start the first
 abbrev pub coming_tests : ℕ → Option Kinds → Option Kinds → List (Test VerifyFault)
 coming_tests p None None = test false (fault.Meet p) ∷ []
 coming_tests p None (Some d) = []
 coming_tests p (Some c) None = []
 coming_tests p (Some c) (Some d) = test (implies c d) (fault.Meet (p - 1)) ∷ []
 
--- the kinds at a place to which these come, and where those are declared
-abbrev pub kinds_here : Option Kinds → Option Kinds → Kinds
-kinds_here comes (Some d) = d
-kinds_here (Some c) None = c
-kinds_here None None = start_kinds
-
 abbrev pub need_tests : CountingCode → ℕ → Kinds → Instr → List (Test VerifyFault)
 need_tests code p k i =
     test (has_registers i) (fault.Register p)
-    ∷ test (has_columns code i) (fault.Slot p)
-    ∷ test (has_kinds code.slots k i) (fault.Kind p)
+    ∷ test (has_columns (context_of code) i) (fault.Slot p)
+    ∷ test (has_kinds (context_of code) k i) (fault.Kind p)
     ∷ test (has_table k i) (fault.TableKind p) ∷ []
 
 -- a jump at place p comes to what is declared at its target
@@ -53,19 +49,20 @@ instr_tests code p comes i = coming_tests p comes (declared_by i) ++ own_tests c
 
 -- ---- a code
 
--- nothing comes to place p, behind the last instruction; RunsOff is told of the instruction before, and at the start of the first
+-- the tests of the instructions from place p on, where these kinds come to the first of them
+abbrev pub pass_tests : CountingCode → ℕ → Option Kinds → List Instr → List (Test VerifyFault)
+pass_tests code p comes [] = []
+pass_tests code p comes (i ∷ is) = instr_tests code p comes i ++ pass_tests code (suc p) (comes_next comes i) is
+
+-- nothing comes to place p, after the last instruction; RunsOff names the instruction before, and at the start the first
 abbrev pub end_tests : ℕ → Option Kinds → List (Test VerifyFault)
 end_tests p None = []
 end_tests p (Some c) = test false (fault.RunsOff (p - 1)) ∷ []
 
--- the tests of the instructions from place p on, where these kinds come to the first of them
-abbrev pub pass_tests : CountingCode → ℕ → Option Kinds → List Instr → List (Test VerifyFault)
-pass_tests code p comes [] = end_tests p comes
-pass_tests code p comes (i ∷ is) =
-    instr_tests code p comes i ++ pass_tests code (suc p) (behind (kinds_here comes (declared_by i)) i) is
-
 abbrev pub verify_tests : CountingCode → List (Test VerifyFault)
-verify_tests code = test (has_stage_slots code) (fault.Slot 0) ∷ pass_tests code 0 (Some start_kinds) code.instrs
+verify_tests code =
+    test (has_stage_slots code) (fault.Slot 0)
+    ∷ (pass_tests code 0 (Some start_kinds) code.instrs ++ end_tests (length code.instrs) (comes_after (Some start_kinds) code.instrs))
 
 -- the fault of a code
 abbrev pub verify_fault : CountingCode → Option VerifyFault

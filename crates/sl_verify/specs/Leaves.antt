@@ -1,5 +1,5 @@
--- What is known behind an instruction, and where it jumps (docs/verifier.md, section 2).
-use Rattle.std.specs.Prelude.{ℕ, Bool, true, false, ◌&&◌, ◌||◌, nat_lt, Option, Some, None, if◌then◌else◌}
+-- What is known after an instruction, and where it jumps to (docs/verifier.md, section 2).
+use Rattle.std.specs.Prelude.{Bool, true, false, ◌&&◌, ◌||◌, nat_lt, Option, Some, None, if◌then◌else◌}
 use Rattle.sl_code.specs.declared.instr.Instr.{Instr}
 use Rattle.sl_code.specs.declared.instr.Instr.TheVariants as op
 use Rattle.sl_code.specs.declared.kinds.Registers.{Registers}
@@ -78,23 +78,6 @@ behind k i =
     else Some (record { positive = positive_behind k.positive i; cursors = cursors_behind k i; table = table_behind k.table i })
 
 -- ---- jumps
-
--- where an instruction may jump
-abbrev pub target_of : Instr → Option ℕ
-target_of (op.Jmp t) = Some t
-target_of (op.Jz r t) = Some t
-target_of (op.Jlt r s t) = Some t
-target_of (op.Jnl t) = Some t
-target_of (op.Wparty t) = Some t
-target_of (op.Fparty t) = Some t
-target_of (op.Nparty t) = Some t
-target_of (op.Fland t) = Some t
-target_of (op.Nland t) = Some t
-target_of (op.Fwin t) = Some t
-target_of (op.Nwin t) = Some t
-target_of (op.Peers r t) = Some t
-target_of (op.Lot n t) = Some t
-target_of _ = None
 
 -- the cursors that are set where it jumps
 abbrev pub cursors_carried : Cursors → Instr → Cursors

@@ -1,10 +1,10 @@
 -- What an instruction needs (docs/verifier.md, section 2).
-use Rattle.std.specs.Prelude.{ℕ, Bool, true, false, not, ◌&&◌, ◌||◌, ◌==◌, nat_lt, List, length, Option, Some, None, slice_get}
+use Rattle.std.specs.Prelude.{ℕ, Bool, true, false, not, ◌&&◌, ◌||◌, ◌==◌, nat_lt, List, [], ◌∷◌, ◌++◌, map, Option, Some, None, is_some}
 use Rattle.std.specs.Option.{option_map_or}
 use Rattle.sl_stages.specs.declared.book.Shape.{Shape}
 use Rattle.sl_stages.specs.declared.book.Shape.TheVariants as shape
 use Rattle.sl_stages.specs.book.Typing.{same_shape}
-use Rattle.sl_code.specs.Codes.{CountingCode}
+use Rattle.sl_code.specs.Rows.{registers_of, slots_of, stages_of}
 use Rattle.sl_code.specs.declared.instr.Instr.{Instr}
 use Rattle.sl_code.specs.declared.instr.Instr.TheVariants as op
 use Rattle.sl_code.specs.declared.kinds.Cursors.{Cursors}
@@ -21,43 +21,37 @@ use Rattle.sl_code.specs.declared.operand.Ranking.TheVariants as ranking
 use Rattle.sl_verify.specs.declared.needs.TheConstants.{LAST_CLAUSE}
 use Rattle.sl_verify.specs.Kinds.{is_register, contains, no_cursors, party_cursor, land_cursor, list_cursors, win_cursor, covers, same_entries, same_ranking}
 
+-- What the instructions of a code are judged by.
+pub record Context : Type 0 where
+  -- the shape of each slot that is there
+  pub slots : ℕ → Option Shape
+  -- how many stages there are
+  pub stages : ℕ
+  -- the kinds that the `at` at each place declares
+  pub declared : ℕ → Option Kinds
+
+abbrev pub all_hold : List Bool → Bool
+all_hold [] = true
+all_hold (b ∷ []) = b
+all_hold (b ∷ c ∷ bs) = b && all_hold (c ∷ bs)
+
 -- ---- registers
 
 -- the machine has the registers that the instruction names
 abbrev pub has_registers : Instr → Bool
-has_registers (op.Set r x) = is_register r
-has_registers (op.Mov r s) = is_register r && is_register s
-has_registers (op.Add r s) = is_register r && is_register s
-has_registers (op.Sub r s) = is_register r && is_register s
-has_registers (op.Mul r s) = is_register r && is_register s
-has_registers (op.Div r s) = is_register r && is_register s
-has_registers (op.Rem r s) = is_register r && is_register s
-has_registers (op.Max r s) = is_register r && is_register s
-has_registers (op.Jz r t) = is_register r
-has_registers (op.Jlt r s t) = is_register r && is_register s
-has_registers (op.Get r k) = is_register r
-has_registers (op.Store k r) = is_register r
-has_registers (op.House r) = is_register r
-has_registers (op.Prio m r s) = is_register r && is_register s
-has_registers (op.Rest r) = is_register r
-has_registers (op.Peers r t) = is_register r
-has_registers (op.Emit n c r s) = is_register r && is_register s
-has_registers (op.Given n c r) = is_register r
-has_registers (op.Tie n c r) = is_register r
-has_registers (op.Weigh n c m r) = is_register r
-has_registers _ = true
+has_registers i = all_hold (map is_register (registers_of i))
 
 -- ---- columns and stages
 
-abbrev pub has_slot : CountingCode → ℕ → Bool
-has_slot code k = nat_lt k (length code.slots)
+abbrev pub has_slot : Context → ℕ → Bool
+has_slot x k = is_some (x.slots k)
 
 -- the slot's column has that shape
-abbrev pub has_column : CountingCode → ℕ → Shape → Bool
-has_column code k s = option_map_or (same_shape s) (slice_get code.slots k) false
+abbrev pub has_column : Context → ℕ → Shape → Bool
+has_column x k s = option_map_or (same_shape s) (x.slots k) false
 
-abbrev pub has_stage : CountingCode → ℕ → Bool
-has_stage code n = (n == LAST_CLAUSE) || nat_lt n (length code.stages)
+abbrev pub has_stage : Context → ℕ → Bool
+has_stage x n = (n == LAST_CLAUSE) || nat_lt n x.stages
 
 -- the shape of a column of the returns
 abbrev pub input_shape : Input → Shape
@@ -67,22 +61,21 @@ input_shape input.Minority = shape.Party
 input_shape input.Population = shape.Land
 input_shape input.Names = shape.List
 
--- the code has the columns and the stage that the instruction names
-abbrev pub has_columns : CountingCode → Instr → Bool
-has_columns code (op.Get r k) = has_slot code k
-has_columns code (op.Store k r) = has_slot code k
-has_columns code (op.Zero k) = has_slot code k
-has_columns code (op.Input k i) = has_column code k (input_shape i)
-has_columns code (op.Halt k) = has_column code k shape.List
-has_columns code (op.Haltv k v) = has_column code k shape.List && has_column code v shape.List
-has_columns code (op.Lot n t) = has_stage code n
-has_columns code (op.Takelot n) = has_stage code n
-has_columns code (op.Emit n c r s) = has_stage code n
-has_columns code (op.Given n c r) = has_stage code n
-has_columns code (op.Fault n c f) = has_stage code n
-has_columns code (op.Tie n c r) = has_stage code n
-has_columns code (op.Weigh n c m r) = has_stage code n
-has_columns code _ = true
+-- the shape that the columns must have, if any does not do
+abbrev pub needed_shape : Instr → Option Shape
+needed_shape (op.Input k i) = Some (input_shape i)
+needed_shape (op.Halt k) = Some shape.List
+needed_shape (op.Haltv k v) = Some shape.List
+needed_shape _ = None
+
+-- the slot is there, with that shape, if one is needed
+abbrev pub suits : Context → Option Shape → ℕ → Bool
+suits x None k = has_slot x k
+suits x (Some s) k = has_column x k s
+
+-- the columns and the stage that the instruction names are there
+abbrev pub has_columns : Context → Instr → Bool
+has_columns x i = all_hold (map (suits x (needed_shape i)) (slots_of i) ++ map (has_stage x) (stages_of i))
 
 -- ---- positive registers and cursors
 
@@ -116,39 +109,39 @@ entry_cursors entries.List = list_cursors
 entry_cursors entries.Win = win_cursor
 
 -- those of a slot's column; none, where it is not there
-abbrev pub slot_cursors : List Shape → ℕ → Cursors
-slot_cursors slots k = option_map_or shape_cursors (slice_get slots k) no_cursors
+abbrev pub slot_cursors : Context → ℕ → Cursors
+slot_cursors x k = option_map_or shape_cursors (x.slots k) no_cursors
 
 -- those of the table's entries; none, where it is off
 abbrev pub table_cursors : Option TableState → Cursors
 table_cursors table = option_map_or (λ t. entry_cursors t.entries) table no_cursors
 
--- the cursors that must be set, where the slots have these shapes and that is known of the table
-abbrev pub needed_cursors : List Shape → Option TableState → Instr → Cursors
-needed_cursors slots table (op.Jnl t) = list_cursors
-needed_cursors slots table (op.Get r k) = slot_cursors slots k
-needed_cursors slots table (op.Store k r) = slot_cursors slots k
-needed_cursors slots table (op.Wparty t) = win_cursor
-needed_cursors slots table op.Wland = win_cursor
-needed_cursors slots table (op.Nparty t) = party_cursor
-needed_cursors slots table (op.Nland t) = land_cursor
-needed_cursors slots table (op.Nwin t) = win_cursor
-needed_cursors slots table (op.Prio m r s) = table_cursors table
-needed_cursors slots table (op.Rest r) = table_cursors table
-needed_cursors slots table op.Lead = table_cursors table
-needed_cursors slots table op.Share = win_cursor
-needed_cursors slots table (op.Emit n c r s) = scope_cursors c
-needed_cursors slots table (op.Given n c r) = scope_cursors c
-needed_cursors slots table (op.Fault n c f) = scope_cursors c
-needed_cursors slots table (op.Tie n c r) = scope_cursors c
-needed_cursors slots table op.Seat = win_cursor
-needed_cursors slots table op.Single = win_cursor
-needed_cursors slots table (op.Weigh n c m r) = scope_cursors c
-needed_cursors slots table _ = no_cursors
+-- the cursors that must be set, where that is known of the table
+abbrev pub needed_cursors : Context → Option TableState → Instr → Cursors
+needed_cursors x table (op.Jnl t) = list_cursors
+needed_cursors x table (op.Get r k) = slot_cursors x k
+needed_cursors x table (op.Store k r) = slot_cursors x k
+needed_cursors x table (op.Wparty t) = win_cursor
+needed_cursors x table op.Wland = win_cursor
+needed_cursors x table (op.Nparty t) = party_cursor
+needed_cursors x table (op.Nland t) = land_cursor
+needed_cursors x table (op.Nwin t) = win_cursor
+needed_cursors x table (op.Prio m r s) = table_cursors table
+needed_cursors x table (op.Rest r) = table_cursors table
+needed_cursors x table op.Lead = table_cursors table
+needed_cursors x table op.Share = win_cursor
+needed_cursors x table (op.Emit n c r s) = scope_cursors c
+needed_cursors x table (op.Given n c r) = scope_cursors c
+needed_cursors x table (op.Fault n c f) = scope_cursors c
+needed_cursors x table (op.Tie n c r) = scope_cursors c
+needed_cursors x table op.Seat = win_cursor
+needed_cursors x table op.Single = win_cursor
+needed_cursors x table (op.Weigh n c m r) = scope_cursors c
+needed_cursors x table _ = no_cursors
 
 -- the register that must be positive is, and the cursors that must be set are
-abbrev pub has_kinds : List Shape → Kinds → Instr → Bool
-has_kinds slots k i = option_map_or (contains k.positive) (needed_positive i) true && covers k.cursors (needed_cursors slots k.table i)
+abbrev pub has_kinds : Context → Kinds → Instr → Bool
+has_kinds x k i = option_map_or (contains k.positive) (needed_positive i) true && covers k.cursors (needed_cursors x k.table i)
 
 -- ---- the table
 
@@ -187,5 +180,5 @@ has_table k _ = true
 -- ---- all of it
 
 -- an instruction with these kinds before it has what it needs
-abbrev pub has_needs : CountingCode → Kinds → Instr → Bool
-has_needs code k i = has_registers i && has_columns code i && has_kinds code.slots k i && has_table k i
+abbrev pub has_needs : Context → Kinds → Instr → Bool
+has_needs x k i = has_registers i && has_columns x i && has_kinds x k i && has_table k i

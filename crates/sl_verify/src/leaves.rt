@@ -1,8 +1,8 @@
-//! What is known behind an instruction, and where it jumps.
+//! What is known after an instruction, and where it jumps to.
 
 ghost use Rattle.std.specs.Prelude.{◌≡◌, IsTrue};
 ghost use Rattle.sl_verify.specs.Needs.{has_registers};
-ghost use Rattle.sl_verify.specs.Leaves.{ends, positive_behind, cursors_behind, with_ready, table_behind, behind, target_of, carried};
+ghost use Rattle.sl_verify.specs.Leaves.{ends, positive_behind, cursors_behind, with_ready, table_behind, behind, carried};
 
 use crate::known::{contains, join, with_register};
 use crate::needs::table_cursors;
@@ -14,11 +14,7 @@ fn ends(instr: Instr) -> bool
 {
     matches!(
         instr,
-        Instr::Jmp(..)
-            | Instr::Fault(..)
-            | Instr::Tie(..)
-            | Instr::Halt(..)
-            | Instr::Haltv(..)
+        Instr::Jmp(..) | Instr::Fault(..) | Instr::Tie(..) | Instr::Halt(..) | Instr::Haltv(..)
     )
 }
 
@@ -107,28 +103,6 @@ pub fn behind(kinds: Kinds, instr: Instr) -> Option<Kinds>
         cursors: cursors_behind(kinds, instr),
         table: table_behind(kinds.table, instr),
     })
-}
-
-/// Where the instruction may jump.
-pub fn target_of(instr: Instr) -> Option<u32>
-    ensures { result ≡ target_of instr }
-{
-    match instr {
-        Instr::Jmp(target)
-        | Instr::Jz(_, target)
-        | Instr::Jlt(_, _, target)
-        | Instr::Jnl(target)
-        | Instr::Wparty(target)
-        | Instr::Fparty(target)
-        | Instr::Nparty(target)
-        | Instr::Fland(target)
-        | Instr::Nland(target)
-        | Instr::Fwin(target)
-        | Instr::Nwin(target)
-        | Instr::Peers(_, target)
-        | Instr::Lot(_, target) => Some(target),
-        _ => None,
-    }
 }
 
 /// The kinds that the instruction's jump carries.

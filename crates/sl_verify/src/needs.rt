@@ -1,48 +1,47 @@
 //! What an instruction needs.
 
 ghost use Rattle.std.specs.Prelude.{◌≡◌, IsTrue, true};
+ghost use Rattle.std.specs.List.{list_all};
 ghost use Rattle.std.specs.Option.{option_map_or};
-ghost use Rattle.sl_verify.specs.Kinds.{contains};
+ghost use Rattle.sl_verify.specs.Kinds.{contains, is_register};
+ghost use Rattle.sl_verify.specs.WellKinded.{context_of};
 ghost use Rattle.sl_stages.specs.book.Typing.{same_shape};
-ghost use Rattle.sl_verify.specs.Needs.{has_registers, has_slot, has_column, has_stage, input_shape, has_columns, needed_positive, shape_cursors, scope_cursors, entry_cursors, slot_cursors, table_cursors, needed_cursors, has_kinds, takes_entry, takes_share, points_at, has_table};
+ghost use Rattle.sl_code.specs.Rows.{register_in, slot_in, stage_in};
+ghost use Rattle.sl_verify.specs.Needs.{has_registers, has_slot, has_column, has_stage, input_shape, needed_shape, suits, has_columns, needed_positive, shape_cursors, scope_cursors, entry_cursors, slot_cursors, table_cursors, needed_cursors, has_kinds, takes_entry, takes_share, points_at, has_table};
 
 use crate::known::{
     LAND_CURSOR, LIST_CURSORS, NO_CURSORS, PARTY_CURSOR, WIN_CURSOR, contains, covers, is_register,
     same_entries, same_ranking,
 };
-use sl_code::{Code, Cursors, Entries, Input, Instr, Kinds, Ranking, ScopeKind, TableState};
+use sl_code::{
+    Code, Cursors, Entries, Input, Instr, Kinds, Operand, Ranking, ScopeKind, TableState,
+};
 use sl_stages::Shape;
 
 /// The stage number that stands for the last clause.
 pub const LAST_CLAUSE: u8 = 255;
 
+/// Whether the machine has the register, if the operand is one.
+fn has_register(operand: Operand) -> bool
+    ensures { result ≡ option_map_or is_register (register_in operand) true }
+{
+    match operand {
+        Operand::Register(register) => is_register(register),
+        _ => true,
+    }
+}
+
+fn each_register(operands: &[Operand]) -> bool
+    ensures { result ≡ list_all (λ operand. option_map_or is_register (register_in operand) true) operands.now }
+{
+    operands.iter().all(|operand| has_register(*operand))
+}
+
 /// Whether the machine has the registers that the instruction names.
 pub fn has_registers(instr: Instr) -> bool
     ensures { result ≡ has_registers instr }
 {
-    match instr {
-        Instr::Set(register, _)
-        | Instr::Jz(register, _)
-        | Instr::Get(register, _)
-        | Instr::Store(_, register)
-        | Instr::House(register)
-        | Instr::Rest(register)
-        | Instr::Peers(register, _) => is_register(register),
-        Instr::Mov(register, from) => is_register(register) && is_register(from),
-        Instr::Add(register, by)
-        | Instr::Sub(register, by)
-        | Instr::Mul(register, by)
-        | Instr::Div(register, by)
-        | Instr::Rem(register, by)
-        | Instr::Max(register, by) => is_register(register) && is_register(by),
-        Instr::Jlt(left, right, _) => is_register(left) && is_register(right),
-        Instr::Prio(_, weight, seats) => is_register(weight) && is_register(seats),
-        Instr::Emit(_, _, number, step) => is_register(number) && is_register(step),
-        Instr::Given(_, _, number) => is_register(number),
-        Instr::Tie(_, _, seats) => is_register(seats),
-        Instr::Weigh(_, _, _, weight) => is_register(weight),
-        _ => true,
-    }
+    each_register(instr.operands().as_slice())
 }
 
 fn same_shape(a: Shape, b: Shape) -> bool
@@ -53,14 +52,14 @@ fn same_shape(a: Shape, b: Shape) -> bool
 
 /// Whether the code has the slot.
 pub fn has_slot(code: &Code, slot: u8) -> bool
-    ensures { result ≡ has_slot code.now slot }
+    ensures { result ≡ has_slot (context_of code.now) slot }
 {
-    (slot as usize) < code.slots().len()
+    code.slots().get(slot as usize).is_some()
 }
 
 /// Whether the slot's column has that shape.
 fn has_column(code: &Code, slot: u8, shape: Shape) -> bool
-    ensures { result ≡ has_column code.now slot shape }
+    ensures { result ≡ has_column (context_of code.now) slot shape }
 {
     match code.slots().get(slot as usize) {
         None => false,
@@ -69,7 +68,7 @@ fn has_column(code: &Code, slot: u8, shape: Shape) -> bool
 }
 
 fn has_stage(code: &Code, stage: u8) -> bool
-    ensures { result ≡ has_stage code.now stage }
+    ensures { result ≡ has_stage (context_of code.now) stage }
 {
     stage == LAST_CLAUSE || (stage as usize) < code.stages().len()
 }
@@ -84,28 +83,69 @@ fn input_shape(input: Input) -> Shape
     }
 }
 
-/// Whether the code has the columns and the stage that the instruction names.
-pub fn has_columns(code: &Code, instr: Instr) -> bool
-    ensures { result ≡ has_columns code.now instr }
+/// The shape that the columns must have, if any does not do.
+fn needed_shape(instr: Instr) -> Option<Shape>
+    ensures { result ≡ needed_shape instr }
 {
     match instr {
-        Instr::Get(_, slot) | Instr::Store(slot, _) | Instr::Zero(slot) => {
-            has_slot(code, slot)
-        }
-        Instr::Input(slot, input) => has_column(code, slot, input_shape(input)),
-        Instr::Halt(slot) => has_column(code, slot, Shape::List),
-        Instr::Haltv(slot, vacant) => {
-            has_column(code, slot, Shape::List) && has_column(code, vacant, Shape::List)
-        }
-        Instr::Lot(stage, _)
-        | Instr::Takelot(stage)
-        | Instr::Emit(stage, _, _, _)
-        | Instr::Given(stage, _, _)
-        | Instr::Fault(stage, _, _)
-        | Instr::Tie(stage, _, _)
-        | Instr::Weigh(stage, _, _, _) => has_stage(code, stage),
+        Instr::Input(_, input) => Some(input_shape(input)),
+        Instr::Halt(..) | Instr::Haltv(..) => Some(Shape::List),
+        _ => None,
+    }
+}
+
+/// Whether the slot is there, with that shape, if one is needed.
+fn suits(code: &Code, shape: Option<Shape>, slot: u8) -> bool
+    ensures { result ≡ suits (context_of code.now) shape slot }
+{
+    match shape {
+        None => has_slot(code, slot),
+        Some(shape) => has_column(code, slot, shape),
+    }
+}
+
+/// Whether the operand is no slot, or one that suits.
+fn has_suited(code: &Code, shape: Option<Shape>, operand: Operand) -> bool
+    ensures { result ≡ option_map_or (suits (context_of code.now) shape) (slot_in operand) true }
+{
+    match operand {
+        Operand::Slot(slot) => suits(code, shape, slot),
         _ => true,
     }
+}
+
+/// Whether the operand is no stage, or one that is there.
+fn has_staged(code: &Code, operand: Operand) -> bool
+    ensures { result ≡ option_map_or (has_stage (context_of code.now)) (stage_in operand) true }
+{
+    match operand {
+        Operand::Stage(stage) => has_stage(code, stage),
+        _ => true,
+    }
+}
+
+fn each_slot(code: &Code, shape: Option<Shape>, operands: &[Operand]) -> bool
+    ensures { result ≡ list_all (λ operand. option_map_or (suits (context_of code.now) shape) (slot_in operand) true) operands.now }
+{
+    operands
+        .iter()
+        .all(|operand| has_suited(code, shape, *operand))
+}
+
+fn each_stage(code: &Code, operands: &[Operand]) -> bool
+    ensures { result ≡ list_all (λ operand. option_map_or (has_stage (context_of code.now)) (stage_in operand) true) operands.now }
+{
+    operands.iter().all(|operand| has_staged(code, *operand))
+}
+
+/// Whether the code has the columns and the stage that the instruction names.
+pub fn has_columns(code: &Code, instr: Instr) -> bool
+    ensures { result ≡ has_columns (context_of code.now) instr }
+{
+    let operands = instr.operands();
+    let slots = each_slot(code, needed_shape(instr), operands.as_slice());
+    let stages = each_stage(code, operands.as_slice());
+    slots && stages
 }
 
 /// The register that must be positive.
@@ -153,10 +193,10 @@ fn entry_cursors(entries: Entries) -> Cursors
 }
 
 /// The cursors that say a cell of the slot's column.
-fn slot_cursors(slots: &[Shape], slot: u8) -> Cursors
-    ensures { result ≡ slot_cursors slots.now slot }
+fn slot_cursors(code: &Code, slot: u8) -> Cursors
+    ensures { result ≡ slot_cursors (context_of code.now) slot }
 {
-    match slots.get(slot as usize) {
+    match code.slots().get(slot as usize) {
         None => NO_CURSORS,
         Some(shape) => shape_cursors(*shape),
     }
@@ -172,13 +212,13 @@ pub fn table_cursors(table: Option<TableState>) -> Cursors
     }
 }
 
-/// The cursors that must be set, where the slots have these shapes and that is known of the table.
-fn needed_cursors(slots: &[Shape], table: Option<TableState>, instr: Instr) -> Cursors
-    ensures { result ≡ needed_cursors slots.now table instr }
+/// The cursors that must be set, where that is known of the table.
+fn needed_cursors(code: &Code, table: Option<TableState>, instr: Instr) -> Cursors
+    ensures { result ≡ needed_cursors (context_of code.now) table instr }
 {
     match instr {
         Instr::Jnl(..) => LIST_CURSORS,
-        Instr::Get(_, slot) | Instr::Store(slot, _) => slot_cursors(slots, slot),
+        Instr::Get(_, slot) | Instr::Store(slot, _) => slot_cursors(code, slot),
         Instr::Nparty(..) => PARTY_CURSOR,
         Instr::Nland(..) => LAND_CURSOR,
         Instr::Wparty(..)
@@ -208,12 +248,12 @@ fn is_needed_positive(kinds: Kinds, instr: Instr) -> bool
 }
 
 /// Whether the register that must be positive is, and the cursors that must be set are.
-pub fn has_kinds(slots: &[Shape], kinds: Kinds, instr: Instr) -> bool
+pub fn has_kinds(code: &Code, kinds: Kinds, instr: Instr) -> bool
     requires { IsTrue (has_registers instr) }
-    ensures { result ≡ has_kinds slots.now kinds instr }
+    ensures { result ≡ has_kinds (context_of code.now) kinds instr }
 {
     is_needed_positive(kinds, instr)
-        && covers(kinds.cursors, needed_cursors(slots, kinds.table, instr))
+        && covers(kinds.cursors, needed_cursors(code, kinds.table, instr))
 }
 
 /// Whether it is a table of parties, Länder or lists, ranked so.

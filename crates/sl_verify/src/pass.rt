@@ -3,15 +3,15 @@
 ghost use Rattle.std.specs.Prelude.{◌≡◌, [], ◌∷◌, Some, IsTrue, OnOk};
 ghost use Rattle.sl_verify.specs.Kinds.{start_kinds};
 ghost use Rattle.sl_verify.specs.Needs.{has_registers};
-ghost use Rattle.sl_verify.specs.Leaves.{behind};
+ghost use Rattle.sl_verify.specs.Pieces.{kinds_here, comes_next, comes_after};
 ghost use Rattle.sl_verify.specs.WellKinded.{declared_by, declared_at, has_stage_slots};
 ghost use Rattle.sl_stages.specs.book.Tests.{test};
-ghost use Rattle.sl_verify.specs.Faults.{coming_tests, kinds_here, need_tests, landing_tests, jump_tests, own_tests, instr_tests, end_tests, pass_tests, verify_tests};
+ghost use Rattle.sl_verify.specs.Faults.{coming_tests, need_tests, landing_tests, jump_tests, own_tests, instr_tests, end_tests, pass_tests, verify_tests};
 ghost use Rattle.sl_stages.specs.book.Tests.{Judges};
 
 use crate::fault::VerifyFault;
 use crate::known::{START, implies};
-use crate::leaves::{behind, carried, target_of};
+use crate::leaves::{behind, carried};
 use crate::needs::{has_columns, has_kinds, has_registers, has_slot, has_table};
 use sl_code::{Code, Instr, Kinds};
 
@@ -69,10 +69,7 @@ fn check_needs(code: &Code, place: usize, kinds: Kinds, instr: Instr) -> Result<
 {
     test(has_registers(instr), VerifyFault::Register(place))?;
     test(has_columns(code, instr), VerifyFault::Slot(place))?;
-    test(
-        has_kinds(code.slots(), kinds, instr),
-        VerifyFault::Kind(place),
-    )?;
+    test(has_kinds(code, kinds, instr), VerifyFault::Kind(place))?;
     test(has_table(kinds, instr), VerifyFault::TableKind(place))
 }
 
@@ -107,10 +104,10 @@ fn check_own(code: &Code, place: usize, kinds: Kinds, instr: Instr) -> Result<()
     ensures registers { OnOk result (IsTrue (has_registers instr)) }
 {
     check_needs(code, place, kinds, instr)?;
-    check_jump(code, place, carried(kinds, instr), target_of(instr))
+    check_jump(code, place, carried(kinds, instr), instr.target())
 }
 
-/// The kinds behind an instruction, where these come to it.
+/// The kinds after an instruction, where these come to it.
 #[tactic(auto, using(sl_stages::proofs::Tests::fails_in_row))]
 fn check_instr(
     code: &Code,
@@ -118,11 +115,23 @@ fn check_instr(
     comes: Option<Kinds>,
     instr: Instr,
 ) -> Result<Option<Kinds>, VerifyFault>
-    ensures { Judges result (instr_tests code.now place comes instr) (behind (kinds_here comes (declared_by instr)) instr) }
+    ensures { Judges result (instr_tests code.now place comes instr) (comes_next comes instr) }
 {
     let kinds = check_coming(place, comes, declared_by(instr))?;
     check_own(code, place, kinds, instr)?;
     Ok(behind(kinds, instr))
+}
+
+/// What comes to the place after the last instruction, where each of them passes.
+fn check_instrs(code: &Code) -> Result<Option<Kinds>, VerifyFault>
+    ensures { Judges result (pass_tests code.now 0 (Some start_kinds) code.now.instrs) (comes_after (Some start_kinds) code.now.instrs) }
+{
+    let instrs = code.instrs();
+    let mut comes = Some(START);
+    for (place, instr) in instrs.iter().enumerate() {
+        comes = check_instr(code, place, comes, *instr)?;
+    }
+    Ok(comes)
 }
 
 /// Refuses a code whose last instruction goes on.
@@ -135,17 +144,6 @@ fn check_end(place: usize, comes: Option<Kinds>) -> Result<(), VerifyFault>
     }
 }
 
-fn check_instrs(code: &Code) -> Result<(), VerifyFault>
-    ensures { Judges result (pass_tests code.now 0 (Some start_kinds) code.now.instrs) tt }
-{
-    let instrs = code.instrs();
-    let mut comes = Some(START);
-    for (place, instr) in instrs.iter().enumerate() {
-        comes = check_instr(code, place, comes, *instr)?;
-    }
-    check_end(instrs.len(), comes)
-}
-
 /// Whether each stage's column is in a slot that is there.
 fn has_stage_slots(code: &Code) -> bool
     ensures { result ≡ has_stage_slots code.now }
@@ -154,9 +152,11 @@ fn has_stage_slots(code: &Code) -> bool
 }
 
 /// The tests of a whole code.
+#[tactic(auto, using(sl_stages::proofs::Tests::fails_in_row))]
 pub fn check_code(code: &Code) -> Result<(), VerifyFault>
     ensures { Judges result (verify_tests code.now) tt }
 {
     test(has_stage_slots(code), VerifyFault::Slot(0))?;
-    check_instrs(code)
+    let comes = check_instrs(code)?;
+    check_end(code.instrs().len(), comes)
 }

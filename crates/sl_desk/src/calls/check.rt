@@ -1,23 +1,24 @@
-//! Checking a rulebook: from its bytes to the line that tells of it.
+//! Checking a rulebook: from its bytes to the line of a good book.
 
-ghost use Rattle.std.specs.Prelude.{◌≡◌, ◌≢◌, IfOk, IfErr, IfSome, IsErrOf};
-ghost use Rattle.std.specs.Io.KnownBytes.{Keeps};
+ghost use Rattle.std.specs.Prelude.{◌≡◌, IfOk, IfSome};
 ghost use Rattle.sl_stages.specs.book.Books.{book_of};
+ghost use Rattle.sl_desk.specs.Failures.{counts, counts_after};
 ghost use Rattle.sl_desk.specs.Output.{IsCheckOutput, check_line};
-ghost use Rattle.sl_desk.specs.Calls.{Counts, book_input, book_failures, IsBookFault, IsFaultOf, Writes, WritesFront};
+ghost use Rattle.sl_desk.specs.Reading.{book_input, book_failures, ReadsBook};
+ghost use Rattle.sl_desk.specs.Writing.{Delivers};
 
 use crate::book::read_book;
 use crate::calls::Answer;
-use crate::judged::Judged;
 use crate::sink::Sink;
 use crate::source::{BookSource, Source};
 use crate::status::{DeskError, Status};
+use crate::verdict::Verdict;
 use sl_ratio::NoMemory;
 use sl_stages::Book;
 use sl_table::Text;
 use std::alloc::Global;
 
-// The line that tells of a well-formed book.
+// The line of a good book.
 fn check_line(alloc: Global, book: &Book) -> Result<Vec<u8>, NoMemory>
     ensures { IfOk result (λ line. line.items ≡ check_line (book_of book.now)) }
 {
@@ -37,15 +38,16 @@ fn check_line(alloc: Global, book: &Book) -> Result<Vec<u8>, NoMemory>
 // What checking a book writes.
 fn answer_to<B: Source>(alloc: Global, book: &mut BookSource<'_, B>) -> Result<Answer, DeskError>
     ensures answer { IfOk result (λ a. IfSome (book_input B.remaining book.old) (λ input. IsCheckOutput input a.status a.text.items)) }
-    ensures fault { IfErr result (IsBookFault (book_failures B.failed book.old) (book_failures B.failed book.new)) }
+    ensures failures { counts (book_failures B.failed book.new) 0 0 0 ≡ counts_after (counts (book_failures B.failed book.old) 0 0 0) result }
+    ensures book { ReadsBook B.remaining book.old book.new }
 {
     match read_book(alloc, book)? {
-        Judged::Good(book) => Ok(Answer::done(check_line(alloc, &book.book)?)),
-        Judged::Refused(line) => Ok(Answer::refused(line)),
+        Verdict::Good(book) => Ok(Answer::done(check_line(alloc, &book.book)?)),
+        Verdict::Refused(why) => Ok(Answer::refused(why.line(alloc)?)),
     }
 }
 
-/// Checks a rulebook: reads it, and writes the line that tells of it, or the line that refuses it (docs/output.md).
+/// Checks a rulebook: reads it, and writes the line of a good book, or the line that refuses it (docs/output.md).
 ///
 /// # Errors
 ///
@@ -55,21 +57,17 @@ pub fn check_book<B: Source, W: Sink>(
     book: &mut BookSource<'_, B>,
     out: &mut W,
 ) -> Result<Status, DeskError>
-    // Where the bytes of the book are known, their output is written behind what was there.
-    ensures written { IfOk result (λ status. IfSome (book_input B.remaining book.old) (λ input.
-        Writes (IsCheckOutput input status) (W.contents out.old) (W.contents out.new))) }
+    // The text that is delivered is the output of the book, where its bytes are known.
+    ensures delivers { Delivers (λ status text. IfSome (book_input B.remaining book.old) (λ input.
+        IsCheckOutput input status text)) (W.contents out.old) (W.contents out.new) result }
 
-    // After Write, a front of it is; after any other error, nothing.
-    ensures front { IsErrOf result DeskError.Write → IfSome (book_input B.remaining book.old) (λ input.
-        WritesFront (IsCheckOutput input) (W.contents out.old) (W.contents out.new)) }
-    ensures nothing { IfErr result (λ e. e ≢ DeskError.Write → Keeps (W.contents out.old) (W.contents out.new)) }
+    // No call of the source or of the sink failed, or that one of which the error speaks.
+    ensures failures { counts (book_failures B.failed book.new) 0 0 (W.failed out.new)
+        ≡ counts_after (counts (book_failures B.failed book.old) 0 0 (W.failed out.old)) result }
 
-    // Read comes only where the source failed, Write only where the sink did.
-    ensures fault { IfErr result (IsFaultOf
-        (record { book = book_failures B.failed book.old; returns = 0; out = W.failed out.old })
-        (record { book = book_failures B.failed book.new; returns = 0; out = W.failed out.new })) }
+    // What is taken of the book.
+    ensures book { ReadsBook B.remaining book.old book.new }
 {
     let answer = answer_to(alloc, book)?;
-    answer.write(out)?;
-    Ok(answer.status)
+    answer.deliver(out)
 }

@@ -1,51 +1,55 @@
 //! Counting an election: from a rulebook and returns to the text of a table.
 
-ghost use Rattle.std.specs.Prelude.{◌≡◌, ◌≢◌, true, IfOk, IfErr, IfSome, IsErrOf};
-ghost use Rattle.std.specs.Io.KnownBytes.{Keeps};
+ghost use Rattle.std.specs.Prelude.{◌≡◌, ◌+◌, true, IfOk, IfErr, IfSome};
 ghost use Rattle.sl_stages.specs.book.Books.{book_of};
 ghost use Rattle.sl_stages.specs.meaning.PlainBooks.{is_plain};
+ghost use Rattle.sl_desk.specs.declared.verdict.Verdict.TheVariants as verdict;
+ghost use Rattle.sl_desk.specs.Failures.{counts, counts_after};
 ghost use Rattle.sl_desk.specs.Output.{IsOutput, IsCount, IsTableText};
-ghost use Rattle.sl_desk.specs.Calls.{Counts, book_input, book_failures, IsFaultOf, IsInputFault, IsReturnsFault, ForKnown, Writes, WritesFront};
+ghost use Rattle.sl_desk.specs.Reading.{book_input, book_failures, ForKnown, ReadsBook, ReadsReturns, TakesAtMost};
+ghost use Rattle.sl_desk.specs.Writing.{Delivers};
 
 use crate::book::read_book;
 use crate::calls::Answer;
 use crate::evaluate::{evaluate, is_plain};
-use crate::judged::Judged;
+use crate::limits::MAX_RETURNS_BYTES;
 use crate::refusal::refused_later;
 use crate::returns::read_election;
 use crate::sink::Sink;
 use crate::source::{BookSource, Source};
 use crate::status::{DeskError, Status};
+use crate::verdict::Verdict;
 use sl_check::CheckedBook;
-use sl_ratio::NoMemory;
 use sl_stages::Returns;
 use sl_table::short_text;
 use std::alloc::Global;
 
 // The table to which a plain book comes on returns.
-fn table(alloc: Global, book: &CheckedBook, returns: &Returns) -> Result<Answer, NoMemory>
+fn table(alloc: Global, book: &CheckedBook, returns: &Returns) -> Result<Answer, DeskError>
     requires { is_plain (book_of book.now.book) ≡ true }
-    ensures { IfOk result (λ a. (a.status ≡ Status.Done) × IsTableText (book_of book.now.book) returns.now a.text.items) }
+    ensures table { IfOk result (λ a. (a.status ≡ Status.Done) × IsTableText (book_of book.now.book) returns.now a.text.items) }
+    ensures memory { IfErr result (λ e. e ≡ DeskError.NoMemory) }
 {
     let table = evaluate(alloc, book, returns)?;
     Ok(Answer::done(short_text(alloc, &table, returns)?))
 }
 
-// What a well-formed book comes to on the returns of a source.
+// What a good book comes to on the returns of a source.
 fn counted<S: Source>(
     alloc: Global,
     book: &CheckedBook,
     returns: &mut S,
 ) -> Result<Answer, DeskError>
-    ensures answer { IfOk result (λ a. IfSome (S.remaining returns.old) (λ bytes. IsCount (book_of book.now.book) bytes a.status a.text.items)) }
-    ensures fault { IfErr result (IsReturnsFault (S.failed returns.old) (S.failed returns.new)) }
+    ensures answer { IfOk result (λ a. IfSome (S.remaining returns.old) (λ bytes. IsCount (verdict.Good (book_of book.now.book)) bytes a.status a.text.items)) }
+    ensures failures { counts 0 (S.failed returns.new) 0 0 ≡ counts_after (counts 0 (S.failed returns.old) 0 0) result }
+    ensures limited { TakesAtMost (MAX_RETURNS_BYTES + 1) (S.remaining returns.old) (S.remaining returns.new) }
 {
     if !is_plain(&book.book) {
         return Ok(Answer::refused(refused_later(alloc)?));
     }
     match read_election(alloc, returns)? {
-        Judged::Good(returns) => Ok(table(alloc, book, &returns)?),
-        Judged::Refused(line) => Ok(Answer::refused(line)),
+        Verdict::Good(returns) => table(alloc, book, &returns),
+        Verdict::Refused(why) => Ok(Answer::refused(why.line(alloc)?)),
     }
 }
 
@@ -57,11 +61,14 @@ fn answer_to<B: Source, R: Source>(
 ) -> Result<Answer, DeskError>
     ensures answer { IfOk result (λ a. ForKnown (book_input B.remaining book.old) (R.remaining returns.old) (λ input bytes.
         IsOutput input bytes a.status a.text.items)) }
-    ensures fault { IfErr result (IsInputFault (book_failures B.failed book.old) (book_failures B.failed book.new) (R.failed returns.old) (R.failed returns.new)) }
+    ensures failures { counts (book_failures B.failed book.new) (R.failed returns.new) 0 0
+        ≡ counts_after (counts (book_failures B.failed book.old) (R.failed returns.old) 0 0) result }
+    ensures book { ReadsBook B.remaining book.old book.new }
+    ensures returns { ReadsReturns R.remaining (book_input B.remaining book.old) returns.old returns.new result }
 {
     match read_book(alloc, book)? {
-        Judged::Good(book) => counted(alloc, &book, returns),
-        Judged::Refused(line) => Ok(Answer::refused(line)),
+        Verdict::Good(book) => counted(alloc, &book, returns),
+        Verdict::Refused(why) => Ok(Answer::refused(why.line(alloc)?)),
     }
 }
 
@@ -77,21 +84,18 @@ pub fn count<B: Source, R: Source, W: Sink>(
     returns: &mut R,
     out: &mut W,
 ) -> Result<Status, DeskError>
-    // Where the bytes of both inputs are known, their output is written behind what was there.
-    ensures written { IfOk result (λ status. ForKnown (book_input B.remaining book.old) (R.remaining returns.old) (λ input bytes.
-        Writes (IsOutput input bytes status) (W.contents out.old) (W.contents out.new))) }
+    // The text that is delivered is the output of the two inputs, where their bytes are known.
+    ensures delivers { Delivers (λ status text. ForKnown (book_input B.remaining book.old) (R.remaining returns.old) (λ input bytes.
+        IsOutput input bytes status text)) (W.contents out.old) (W.contents out.new) result }
 
-    // After Write, a front of it is; after any other error, nothing.
-    ensures front { IsErrOf result DeskError.Write → ForKnown (book_input B.remaining book.old) (R.remaining returns.old) (λ input bytes.
-        WritesFront (IsOutput input bytes) (W.contents out.old) (W.contents out.new)) }
-    ensures nothing { IfErr result (λ e. e ≢ DeskError.Write → Keeps (W.contents out.old) (W.contents out.new)) }
+    // No call of a source or of the sink failed, or that one of which the error speaks.
+    ensures failures { counts (book_failures B.failed book.new) (R.failed returns.new) 0 (W.failed out.new)
+        ≡ counts_after (counts (book_failures B.failed book.old) (R.failed returns.old) 0 (W.failed out.old)) result }
 
-    // Read comes only where that source failed, Write only where the sink did.
-    ensures fault { IfErr result (IsFaultOf
-        (record { book = book_failures B.failed book.old; returns = R.failed returns.old; out = W.failed out.old })
-        (record { book = book_failures B.failed book.new; returns = R.failed returns.new; out = W.failed out.new })) }
+    // What is taken of the inputs, the returns only after a good book.
+    ensures book { ReadsBook B.remaining book.old book.new }
+    ensures returns { ReadsReturns R.remaining (book_input B.remaining book.old) returns.old returns.new result }
 {
     let answer = answer_to(alloc, book, returns)?;
-    answer.write(out)?;
-    Ok(answer.status)
+    answer.deliver(out)
 }

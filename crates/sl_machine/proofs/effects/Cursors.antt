@@ -8,7 +8,7 @@ use Rattle.sl_code.specs.declared.instr.Instr.TheVariants as instr
 use Rattle.sl_code.specs.Codes.{CountingCode}
 use Rattle.sl_machine.specs.State.{State}
 use Rattle.sl_machine.specs.Places.{both}
-use Rattle.sl_machine.specs.Effects.{Effect, Goes, Jumps, given, winner_at, to_party, first_of, next_of, with_party, with_land, with_win, effect}
+use Rattle.sl_machine.specs.Effects.{Goes, Jumps, winner_at, to_party, first_of, next_of, with_party, with_land, with_win, effect}
 use Rattle.sl_machine.proofs.effects.Registers.{given_is}
 
 pub both_are : {A : Type 0} (a b : Option ℕ) (f : ℕ → ℕ → A) (x y : ℕ) → a ≡ Some x → b ≡ Some y → both a b f ≡ Some (f x y)

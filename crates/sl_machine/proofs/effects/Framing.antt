@@ -1,5 +1,5 @@
 -- What an instruction cannot write stays.
-use Rattle.std.proofs.Common.{◌≡◌, ℕ, zero, suc, ◌+◌, ◌*◌, Bool, true, false, ◌==◌, ◌&&◌, nat_lt, min, List, [], ◌∷◌, length, Option, Some, None, slice_get, if◌then◌else◌, refl, sym, ap, ◌∙◌, append-nil}
+use Rattle.std.proofs.Common.{◌≡◌, ℕ, zero, suc, ◌+◌, Bool, true, false, ◌==◌, ◌&&◌, nat_lt, min, List, [], ◌∷◌, length, Option, Some, None, slice_get, if◌then◌else◌, refl, sym, ap, ◌∙◌, append-nil}
 use Rattle.std.specs.Option.{option_and_then}
 use Rattle.std.proofs.lemmas.Bool.{true≢false}
 use Rattle.sl_ratio.specs.declared.entry.Entry.{Entry}
@@ -26,9 +26,9 @@ use Rattle.sl_prio.specs.Lot.{drawn}
 use Rattle.sl_machine.specs.State.{State, PriorityTable, with_register, with_column, with_cell, with_place}
 use Rattle.sl_machine.specs.Places.{both, cell_at, index_at, at_entry, scope_at}
 use Rattle.sl_machine.specs.Drawn.{lot_of}
-use Rattle.sl_machine.specs.Effects.{Effect, Goes, Jumps, Ends, NoCase, effect, given, where_positive, sets, winner_at, to_party, first_of, next_of, with_party, with_land, with_win, seats, sets_house, counts_peers, stage_of, name_of, at_scope, with_lot, with_table, with_entry, with_step, with_weight, after_take, takes, enters}
+use Rattle.sl_machine.specs.Effects.{Effect, Goes, Jumps, NoCase, effect, given, where_positive, winner_at, to_party, first_of, next_of, with_party, with_land, with_win, seat_winner, sets_house, counts_peers, stage_of, name_of, at_scope, with_lot, with_table, with_entry, with_step, with_weight, after_take, takes, enters}
 use Rattle.sl_machine.specs.inner.Seen.{place_at}
-use Rattle.sl_machine.specs.inner.Frames.{writes_register, writes_slot, writes_cell, is_at, moves_party, moves_land, moves_win, writes_table, writes_mark, writes_place, records_step, records_weight, KeepsOthers, Frames}
+use Rattle.sl_machine.specs.inner.Frames.{writes_register, writes_cell, is_at, moves_party, moves_land, moves_win, writes_table, writes_mark, writes_place, records_step, records_weight, KeepsOthers, Frames}
 
 -- ---- states that differ in one part
 module _ (c : CountingCode) (e : Election) (i : Instr) (s : State) where
@@ -302,7 +302,7 @@ module _ (c : CountingCode) (e : Election) (s : State) (i : Instr) where
   count_kept r zero is = keeps_all c e i s
   count_kept r (suc n) is = keeps_register c e i s r (suc n) is
 
-  seats_kept : (w : ℕ) (party : Option ℕ) (listed : ℕ → Bool) → ((v : ℕ) → writes_place s i v ≡ (v == w)) → Frames c e i s (seats w party listed s)
+  seats_kept : (w : ℕ) (party : Option ℕ) (listed : ℕ → Bool) → ((v : ℕ) → writes_place s i v ≡ (v == w)) → Frames c e i s (seat_winner w party listed s)
   seats_kept w None listed is = keeps_all c e i s
   seats_kept w (Some p) listed is = in_if (listed p) _ _ (keeps_placed c e i s w placed.OnList is) (keeps_all c e i s)
 

@@ -1,5 +1,5 @@
 -- The instructions that record seats and weights, that seat winners, and that end a run.
-use Rattle.std.proofs.Common.{◌≡◌, ℕ, suc, min, Bool, true, false, map, Option, Some, None, slice_get, if◌then◌else◌, refl, ap, ◌∙◌}
+use Rattle.std.proofs.Common.{◌≡◌, ℕ, suc, min, Bool, true, false, map, Option, Some, None, slice_get, if◌then◌else◌, ap, ◌∙◌}
 use Rattle.sl_ratio.specs.declared.entry.Entry.{Entry}
 use Rattle.sl_ratio.specs.declared.limits.TheConstants.{MAX_WEIGHT}
 use Rattle.sl_stages.specs.declared.book.Shape.{Shape}
@@ -21,7 +21,7 @@ use Rattle.sl_code.specs.Codes.{CountingCode}
 use Rattle.sl_prio.specs.Prio.{top, peers}
 use Rattle.sl_machine.specs.State.{State, PriorityTable, Halted, Faulted, with_place}
 use Rattle.sl_machine.specs.Places.{index_at, item_of, scope_at}
-use Rattle.sl_machine.specs.Effects.{Effect, Goes, Ends, given, at_scope, records, weighs, faults, seats, stage_of, kind_of, divisor_of, with_step, with_weight, effect}
+use Rattle.sl_machine.specs.Effects.{Effect, Goes, Ends, given, at_scope, records, weighs, faults, seat_winner, stage_of, kind_of, divisor_of, with_step, with_weight, effect}
 use Rattle.sl_machine.proofs.effects.Registers.{given_is, positive_is}
 
 module _ (c : CountingCode) (e : Election) (s : State) where
@@ -80,11 +80,11 @@ module _ (c : CountingCode) (e : Election) (s : State) where
     single_does = given_is s.win w (λ v. Goes (with_place v placed.Single s)) win
 
     module _ (winner : Win) (is : slice_get e.wins w ≡ Some winner) where
-      seats_is : (party : Option ℕ) → winner.party ≡ party → effect c e instr.Seat s ≡ seats w party (has_list e winner.land) s
+      seats_is : (party : Option ℕ) → winner.party ≡ party → effect c e instr.Seat s ≡ seat_winner w party (has_list e winner.land) s
       seats_is party of =
-          given_is s.win w (λ v. given (slice_get e.wins v) (λ y. seats v y.party (has_list e y.land) s)) win
-          ∙ given_is (slice_get e.wins w) winner (λ y. seats w y.party (has_list e y.land) s) is
-          ∙ ap (λ (o : Option ℕ). seats w o (has_list e winner.land) s) of
+          given_is s.win w (λ v. given (slice_get e.wins v) (λ y. seat_winner v y.party (has_list e y.land) s)) win
+          ∙ given_is (slice_get e.wins w) winner (λ y. seat_winner w y.party (has_list e y.land) s) is
+          ∙ ap (λ (o : Option ℕ). seat_winner w o (has_list e winner.land) s) of
 
       -- on the list of a party that has one there
       pub seat_does : (p : ℕ) → winner.party ≡ Some p → has_list e winner.land p ≡ true → effect c e instr.Seat s ≡ Goes (with_place w placed.OnList s)

@@ -1,5 +1,5 @@
 -- The instructions on the priority table.
-use Rattle.std.proofs.Common.{◌≡◌, ℕ, zero, suc, ◌+◌, min, Bool, true, false, List, [], length, Option, Some, if◌then◌else◌, refl, ap, ◌∙◌}
+use Rattle.std.proofs.Common.{◌≡◌, ℕ, suc, ◌+◌, min, Bool, true, false, List, [], length, Some, if◌then◌else◌, refl, ap, ◌∙◌}
 use Rattle.sl_ratio.specs.declared.entry.Entry.{Entry}
 use Rattle.sl_ratio.specs.declared.limits.TheConstants.{MAX_WEIGHT, MAX_SEATS}
 use Rattle.sl_ratio.specs.declared.method.Divisor.{Divisor}
@@ -18,7 +18,7 @@ use Rattle.sl_machine.specs.State.{State, PriorityTable, with_register}
 use Rattle.sl_machine.specs.Places.{index_at, at_entry}
 use Rattle.sl_machine.specs.Drawn.{lot_of}
 use Rattle.sl_machine.specs.Effects.{Effect, Goes, Jumps, NoCase, given, winner_at, enters, takes, counts_peers, with_table, with_entry, after_take, name_of, with_lot, effect}
-use Rattle.sl_machine.proofs.Keeping.{same_ranking-itself}
+use Rattle.sl_machine.proofs.soundness.Keeping.{same_ranking-itself}
 use Rattle.sl_machine.proofs.effects.Registers.{given_is, positive_is}
 
 -- the entry with that quotient that is put in at the cursors

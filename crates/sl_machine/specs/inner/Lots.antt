@@ -1,10 +1,13 @@
 -- The lots of a code's stages in tables of each kind of entries.
 use Rattle.std.specs.Prelude.{ℕ, List, [], ◌∷◌, ◌++◌, map, codes}
+use Rattle.std.specs.Option.{option_map, option_to_list}
+use Rattle.sl_stages.specs.declared.returns.Lot.{Lot}
 use Rattle.sl_stages.specs.returns.Election.{Election}
+use Rattle.sl_stages.specs.meaning.Scopes.{place}
 use Rattle.sl_code.specs.Codes.{CountingCode}
 use Rattle.sl_code.specs.declared.operand.Entries.{Entries}
 use Rattle.sl_code.specs.declared.operand.Entries.TheVariants as entries
-use Rattle.sl_machine.specs.Drawn.{lot_of}
+use Rattle.sl_machine.specs.Drawn.{given_in, lot_of}
 
 -- the lot of a stage, in a table of parties, of Länder, of lists, of winners
 pub record StageLots : Type 0 where
@@ -18,6 +21,15 @@ lot_in entries.Party l = l.party
 lot_in entries.Land l = l.land
 lot_in entries.List l = l.list
 lot_in entries.Win l = l.win
+
+-- with the entries that one more lot gives
+abbrev pub with_lot : Election → Lot → StageLots → StageLots
+with_lot e l s = record {
+  party = s.party ++ option_to_list (option_map (place e) (given_in e entries.Party l));
+  land = s.land ++ option_to_list (option_map (place e) (given_in e entries.Land l));
+  list = s.list ++ option_to_list (option_map (place e) (given_in e entries.List l));
+  win = s.win ++ option_to_list (option_map (place e) (given_in e entries.Win l));
+}
 
 -- the lots of that name
 abbrev pub stage_lots : Election → List ℕ → StageLots

@@ -13,11 +13,10 @@ use Rattle.sl_stages.specs.declared.table.Placed.TheVariants as placed
 use Rattle.sl_stages.specs.declared.fault.LegalFault.{LegalFault}
 use Rattle.sl_stages.specs.declared.table.Outcome.TheVariants as outcome
 use Rattle.sl_stages.specs.meaning.Tables.{SeatTable}
-use Rattle.sl_stages.specs.book.Trees.{BookTree}
 use Rattle.sl_stages.specs.returns.Election.{Election, IsElection, lands_of, parties_of, has_list}
-use Rattle.sl_stages.specs.returns.Facts.{lands, parties, list_cell, list_winners, is_in, is_of, is_on_list, takes_part}
+use Rattle.sl_stages.specs.returns.Facts.{lists_of, lands, parties, list_cell, is_in, is_of, is_eligible, is_eligible_list, has_eligible_list}
 use Rattle.sl_stages.specs.methods.Ties.{Choice, Decided, Tied}
-use Rattle.sl_stages.specs.meaning.Seating.{is_on, placed_on, lists_of, winners_of, IsSeating, tie_of, seated_on, cover_place, cover_table}
+use Rattle.sl_stages.specs.meaning.Seating.{is_on, placed_on, winners_of, IsSeating, tie_of, seated_on, cover_place, covered_places, cover_table}
 use Rattle.sl_stages.specs.laws.MeaningLaws.{IsListOf, CoveredWinners}
 use Rattle.sl_stages.proofs.methods.SeatSums.{sum-cons}
 use Rattle.sl_stages.proofs.meaning.DistinctLists.{number_flips, every_weaker, every_passes, every_map, every_filter, every_zipped, distinct_filter}
@@ -112,9 +111,9 @@ numbers_differ n (w ∷ wins) = (numbers_above n (n + 1) wins (omega arith), num
 
 -- ---- a list and its choice
 
-decided_if : (b : BookTree) (e : Election) (l : ℕ × ℕ) (c : Choice) → tie_of b e (l, c) ≡ None → (s : List ℕ) × (c ≡ Decided s)
-decided_if b e l (Decided s) none = (s, refl)
-decided_if b e l (Tied k tied) none = cc
+decided_if : (eligible : ℕ → Bool) (e : Election) (stage : ℕ) (l : ℕ × ℕ) (c : Choice) → tie_of eligible e stage (l, c) ≡ None → (s : List ℕ) × (c ≡ Decided s)
+decided_if eligible e stage l (Decided s) none = (s, refl)
+decided_if eligible e stage l (Tied k tied) none = cc
 
 is_on_when : (t u : Bool) → is_on (if t then placed.OnList else if u then placed.Single else placed.Unseated) ≡ t
 is_on_when true u = refl
@@ -127,30 +126,30 @@ both_sides true false f g = sym (f refl)
 both_sides false true f g = g refl
 both_sides false false f g = refl
 
-module _ (b : BookTree) (e : Election) where
+module _ (eligible : ℕ → Bool) (e : Election) where
   -- the winner is of the list
   of_list : ℕ × ℕ → Win → Bool
-  of_list l w = is_on_list b.eligible e w && (is_in l.0 w && is_of l.1 w)
+  of_list l w = has_eligible_list eligible e w && (is_in l.0 w && is_of l.1 w)
 
   -- who is seated on a list is a winner of it
-  seated_is : (l : ℕ × ℕ) (c : Choice) (y : ℕ × Win) → IsNumbered e.wins y → among (seated_on b e (l, c)) y.0 ≡ true → of_list l y.1 ≡ true
+  seated_is : (l : ℕ × ℕ) (c : Choice) (y : ℕ × Win) → IsNumbered e.wins y → among (seated_on eligible e (l, c)) y.0 ≡ true → of_list l y.1 ≡ true
   unfolding of_list
   seated_is l (Tied k tied) y numbered is = absurd (false≢true is)
   seated_is l (Decided s) y numbered is =
       let P : (ℕ × Win) × ℕ → Type 0 = λ z. IsNumbered e.wins z.0 × (of_list l z.0.1 ≡ true) in
-      let each : Every (λ z. IsNumbered e.wins z × (of_list l z.1 ≡ true)) (winners_of b e l.0 l.1) =
-      every_passes (IsNumbered e.wins) (λ z. is_on_list b.eligible e z.1 && (is_in l.0 z.1 && is_of l.1 z.1)) (enumerate_from 0 e.wins) (are_numbered e.wins) in
-      let found = among_numbers P (λ z. z.0.0) y.0 (filter (λ z. nat_eq z.1 1) (zip (winners_of b e l.0 l.1) s))
-      (every_filter P (λ z. nat_eq z.1 1) (zip (winners_of b e l.0 l.1) s) (every_zipped (λ z. IsNumbered e.wins z × (of_list l z.1 ≡ true)) (winners_of b e l.0 l.1) s each)) is in
+      let each : Every (λ z. IsNumbered e.wins z × (of_list l z.1 ≡ true)) (winners_of eligible e l.0 l.1) =
+      every_passes (IsNumbered e.wins) (λ z. has_eligible_list eligible e z.1 && (is_in l.0 z.1 && is_of l.1 z.1)) (enumerate_from 0 e.wins) (are_numbered e.wins) in
+      let found = among_numbers P (λ z. z.0.0) y.0 (filter (λ z. nat_eq z.1 1) (zip (winners_of eligible e l.0 l.1) s))
+      (every_filter P (λ z. nat_eq z.1 1) (zip (winners_of eligible e l.0 l.1) s) (every_zipped (λ z. IsNumbered e.wins z × (of_list l z.1 ≡ true)) (winners_of eligible e l.0 l.1) s each)) is in
       let same : found.0.0.1 ≡ y.1 = sym (found.1.0 y.1) ∙ ap (λ k. get_or e.wins k y.1) found.2 ∙ numbered y.1 in
       subst (λ w. of_list l w ≡ true) same found.1.1
 
   -- the winners of a list are as many as the column of the winners says
   of_land_and_party : (land party : ℕ) (w : Win) (o : Option ℕ) →
-      of_list (land, party) (record w { party = o }) ≡ takes_part b.eligible e land party && (is_in land (record w { party = o }) && is_of party (record w { party = o }))
+      of_list (land, party) (record w { party = o }) ≡ is_eligible_list eligible e land party && (is_in land (record w { party = o }) && is_of party (record w { party = o }))
   unfolding of_list
-  of_land_and_party land party w None = sym (and_right (takes_part b.eligible e land party) (nat_eq w.land land && false) (and_right (nat_eq w.land land) false refl))
-  of_land_and_party land party w (Some p) = sym (rearranged (nat_eq w.land land) (nat_eq p party) (takes_part b.eligible e w.land p)) ∙ when_both b e land party w p
+  of_land_and_party land party w None = sym (and_right (is_eligible_list eligible e land party) (nat_eq w.land land && false) (and_right (nat_eq w.land land) false refl))
+  of_land_and_party land party w (Some p) = sym (rearranged (nat_eq w.land land) (nat_eq p party) (is_eligible_list eligible e w.land p)) ∙ when_both eligible e land party w p
 
   count_numbered : (test : Win → Bool) (n : ℕ) (wins : List Win) → count_by (λ y. test y.1) (enumerate_from n wins) ≡ count_by test wins
   count_numbered test n [] = refl
@@ -158,56 +157,55 @@ module _ (b : BookTree) (e : Election) where
       let rest = count_numbered test (n + 1) wins in
       sum_by-cons (λ y. cond (test y.1) 1 0) (n, w) (enumerate_from (n + 1) wins) ∙ omega (arith, rest, sum_by-cons (λ w. cond (test w) 1 0) w wins)
 
-  pub how_many : (land party : ℕ) → land < lands_of e → party < parties_of e → length (winners_of b e land party) ≡ list_cell e (list_winners b.eligible e) land party
+  how_many : (land party : ℕ) → length (winners_of eligible e land party) ≡ (if is_eligible_list eligible e land party then count_by (λ w. is_in land w && is_of party w) e.wins else 0)
   unfolding of_list
-  how_many land party in_lands in_parties =
+  how_many land party =
       length-filter (λ y. of_list (land, party) y.1) (enumerate_from 0 e.wins)
       ∙ count_numbered (of_list (land, party)) 0 e.wins
-      ∙ count_agree (of_list (land, party)) (λ w. takes_part b.eligible e land party && (is_in land w && is_of party w)) (λ w. of_land_and_party land party w w.party) e.wins
-      ∙ count_if (takes_part b.eligible e land party) (λ w. is_in land w && is_of party w) e.wins
-      ∙ sym (by_list_at e (λ land party. if takes_part b.eligible e land party then count_by (λ w. is_in land w && is_of party w) e.wins else 0) land party in_lands in_parties)
+      ∙ count_agree (of_list (land, party)) (λ w. is_eligible_list eligible e land party && (is_in land w && is_of party w)) (λ w. of_land_and_party land party w w.party) e.wins
+      ∙ count_if (is_eligible_list eligible e land party) (λ w. is_in land w && is_of party w) e.wins
 
 of_one_party : (w : Win) (p q : ℕ) (o : Option ℕ) → is_of p (record w { party = o }) ≡ true → is_of q (record w { party = o }) ≡ true → p ≡ q
 of_one_party w p q None h k = absurd (false≢true h)
 of_one_party w p q (Some x) h k = sym (eqb-true x p h) ∙ eqb-true x q k
 
-module _ (b : BookTree) (e : Election) (is : IsElection e) (base : List ℕ) (pairs : List ((ℕ × ℕ) × Choice)) (each : Every (λ z. IsSeating b e base z.0 z.1) pairs)
-    (l : ℕ × ℕ) (s : List ℕ) (there : In (l, Decided s) pairs) (seating : IsSeating b e base l (Decided s)) where
+module _ (eligible : ℕ → Bool) (e : Election) (is : IsElection e) (base : List ℕ) (pairs : List ((ℕ × ℕ) × Choice)) (each : Every (λ z. IsSeating eligible e base z.0 z.1) pairs)
+    (l : ℕ × ℕ) (s : List ℕ) (there : In (l, Decided s) pairs) (seating : IsSeating eligible e base l (Decided s)) where
   all_seated : List ℕ
-  all_seated = flat_map (seated_on b e) pairs
+  all_seated = flat_map (seated_on eligible e) pairs
 
   -- a pair in which a winner of the list is seated is the list's own
-  own_pair : (y : ℕ × Win) → IsNumbered e.wins y → (is_in l.0 y.1 && is_of l.1 y.1) ≡ true → among all_seated y.0 ≡ true → (of_list b e l y.1 ≡ true) × (among (seated_on b e (l, Decided s)) y.0 ≡ true)
+  own_pair : (y : ℕ × Win) → IsNumbered e.wins y → (is_in l.0 y.1 && is_of l.1 y.1) ≡ true → among all_seated y.0 ≡ true → (of_list eligible e l y.1 ≡ true) × (among (seated_on eligible e (l, Decided s)) y.0 ≡ true)
   unfolding all_seated of_list
   own_pair y numbered both seated =
-      let found = some_piece (λ z. IsSeating b e base z.0 z.1) (seated_on b e) y.0 pairs each seated in
+      let found = some_piece (λ z. IsSeating eligible e base z.0 z.1) (seated_on eligible e) y.0 pairs each seated in
       let z = found.0 in
-      let winner = seated_is b e z.0 z.1 y numbered found.2 in
-      let parts = and_parts (is_on_list b.eligible e y.1) (is_in z.0.0 y.1 && is_of z.0.1 y.1) winner in
+      let winner = seated_is eligible e z.0 z.1 y numbered found.2 in
+      let parts = and_parts (has_eligible_list eligible e y.1) (is_in z.0.0 y.1 && is_of z.0.1 y.1) winner in
       let here = and_parts (is_in z.0.0 y.1) (is_of z.0.1 y.1) parts.1 in
       let mine = and_parts (is_in l.0 y.1) (is_of l.1 y.1) both in
       let same_land : z.0.0 ≡ l.0 = sym (eqb-true y.1.land z.0.0 here.0) ∙ eqb-true y.1.land l.0 mine.0 in
       let same_party : z.0.1 ≡ l.1 = of_one_party y.1 z.0.1 l.1 y.1.party here.1 mine.1 in
       let same : z.0 ≡ l = λ i. (same_land i, same_party i) in
-      let choice : z.1 ≡ Decided s = same_ones (IsSeating b e base l) (one_seating b e is base l) z.1 (Decided s) (subst (λ k. IsSeating b e base k z.1) same found.1) seating in (
-        subst (λ k. of_list b e k y.1 ≡ true) same winner,
-        subst (λ c. among (seated_on b e (l, c)) y.0 ≡ true) choice (subst (λ k. among (seated_on b e (k, z.1)) y.0 ≡ true) same found.2),
+      let choice : z.1 ≡ Decided s = same_ones (IsSeating eligible e base l) (one_seating eligible e is base l) z.1 (Decided s) (subst (λ k. IsSeating eligible e base k z.1) same found.1) seating in (
+        subst (λ k. of_list eligible e k y.1 ≡ true) same winner,
+        subst (λ c. among (seated_on eligible e (l, c)) y.0 ≡ true) choice (subst (λ k. among (seated_on eligible e (k, z.1)) y.0 ≡ true) same found.2),
       )
 
   agree : (y : ℕ × Win) → IsNumbered e.wins y →
-      (is_in l.0 y.1 && is_of l.1 y.1) && is_on (cover_place b e all_seated y) ≡ of_list b e l y.1 && among (seated_on b e (l, Decided s)) y.0
+      (is_in l.0 y.1 && is_of l.1 y.1) && is_on (cover_place all_seated y) ≡ of_list eligible e l y.1 && among (seated_on eligible e (l, Decided s)) y.0
   unfolding all_seated of_list
   agree y numbered =
       let on = is_on_when (among all_seated y.0) (is_none y.1.party) in
       both_sides _ _
       (λ h.
-      let parts = and_parts (is_in l.0 y.1 && is_of l.1 y.1) (is_on (cover_place b e all_seated y)) h in
+      let parts = and_parts (is_in l.0 y.1 && is_of l.1 y.1) (is_on (cover_place all_seated y)) h in
       let own = own_pair y numbered parts.0 (sym on ∙ parts.1) in
-      and_from (of_list b e l y.1) (among (seated_on b e (l, Decided s)) y.0) own.0 own.1)
+      and_from (of_list eligible e l y.1) (among (seated_on eligible e (l, Decided s)) y.0) own.0 own.1)
       (λ h.
-      let parts = and_parts (of_list b e l y.1) (among (seated_on b e (l, Decided s)) y.0) h in
-      let both = and_parts (is_on_list b.eligible e y.1) (is_in l.0 y.1 && is_of l.1 y.1) parts.0 in
-      and_from (is_in l.0 y.1 && is_of l.1 y.1) (is_on (cover_place b e all_seated y)) both.1 (on ∙ among_piece (seated_on b e) y.0 (l, Decided s) pairs there parts.1))
+      let parts = and_parts (of_list eligible e l y.1) (among (seated_on eligible e (l, Decided s)) y.0) h in
+      let both = and_parts (has_eligible_list eligible e y.1) (is_in l.0 y.1 && is_of l.1 y.1) parts.0 in
+      and_from (is_in l.0 y.1 && is_of l.1 y.1) (is_on (cover_place all_seated y)) both.1 (on ∙ among_piece (seated_on eligible e) y.0 (l, Decided s) pairs there parts.1))
 
   count_placed : (n : ℕ) (wins : List Win) (p : Win × Placed → Bool) (g : ℕ × Win → Placed) → count_by p (zip wins (map g (enumerate_from n wins))) ≡ count_by (λ y. p (y.1, g y)) (enumerate_from n wins)
   count_placed n [] p g = refl
@@ -215,17 +213,17 @@ module _ (b : BookTree) (e : Election) (is : IsElection e) (base : List ℕ) (pa
       let rest = count_placed (n + 1) wins p g in
       sum_by-cons (λ x. cond (p x) 1 0) (w, g (n, w)) (zip wins (map g (enumerate_from (n + 1) wins))) ∙ omega (arith, rest, sum_by-cons (λ y. cond (p (y.1, g y)) 1 0) (n, w) (enumerate_from (n + 1) wins))
 
-  pub seated_of : placed_on e (map (cover_place b e (flat_map (seated_on b e) pairs)) (enumerate_from 0 e.wins)) l.0 l.1 ≡ min (list_cell e base l.0 l.1) (length (winners_of b e l.0 l.1))
+  pub seated_of : placed_on e (covered_places eligible e pairs) l.0 l.1 ≡ min (list_cell e base l.0 l.1) (length (winners_of eligible e l.0 l.1))
   unfolding all_seated of_list
   seated_of =
-      let won = winners_of b e l.0 l.1 in
+      let won = winners_of eligible e l.0 l.1 in
       let covering = seating.4 in
       let long : length s ≡ length won = covering.same_length ∙ length-map won (λ x. x.1.first) in
-      let distinct : IsDistinct (λ x y. nat_eq x.0 y.0) won = distinct_filter (λ x y. nat_eq x.0 y.0) (λ y. of_list b e l y.1) (enumerate_from 0 e.wins) (numbers_differ 0 e.wins) in
-      count_placed 0 e.wins (λ x. (is_in l.0 x.0 && is_of l.1 x.0) && is_on x.1) (cover_place b e all_seated)
-      ∙ count_each (λ y. (is_in l.0 y.1 && is_of l.1 y.1) && is_on (cover_place b e all_seated y)) (λ y. of_list b e l y.1 && among (seated_on b e (l, Decided s)) y.0) (enumerate_from 0 e.wins)
-      (every_weaker (IsNumbered e.wins) (λ y. (is_in l.0 y.1 && is_of l.1 y.1) && is_on (cover_place b e all_seated y) ≡ of_list b e l y.1 && among (seated_on b e (l, Decided s)) y.0) agree (enumerate_from 0 e.wins) (are_numbered e.wins))
-      ∙ count_filter (λ y. of_list b e l y.1) (λ y. among (seated_on b e (l, Decided s)) y.0) (enumerate_from 0 e.wins)
+      let distinct : IsDistinct (λ x y. nat_eq x.0 y.0) won = distinct_filter (λ x y. nat_eq x.0 y.0) (λ y. of_list eligible e l y.1) (enumerate_from 0 e.wins) (numbers_differ 0 e.wins) in
+      count_placed 0 e.wins (λ x. (is_in l.0 x.0 && is_of l.1 x.0) && is_on x.1) (cover_place all_seated)
+      ∙ count_each (λ y. (is_in l.0 y.1 && is_of l.1 y.1) && is_on (cover_place all_seated y)) (λ y. of_list eligible e l y.1 && among (seated_on eligible e (l, Decided s)) y.0) (enumerate_from 0 e.wins)
+      (every_weaker (IsNumbered e.wins) (λ y. (is_in l.0 y.1 && is_of l.1 y.1) && is_on (cover_place all_seated y) ≡ of_list eligible e l y.1 && among (seated_on eligible e (l, Decided s)) y.0) agree (enumerate_from 0 e.wins) (are_numbered e.wins))
+      ∙ count_filter (λ y. of_list eligible e l y.1) (λ y. among (seated_on eligible e (l, Decided s)) y.0) (enumerate_from 0 e.wins)
       ∙ all_chosen won s long covering.one_place distinct
       ∙ covering.total
 
@@ -242,11 +240,13 @@ listed e land party there =
 
 pub covered_winners : CoveredWinners
 covered_winners b e base records t is covered land party there =
+    let eligible = is_eligible b.eligible e in
     let pairs = zip (lists_of e) covered.choices in
-    let table = table_without_faults (filter_map (tie_of b e) pairs) t (cover_table b e base records pairs) covered.is in
-    let own = in_zip (IsSeating b e base) (land, party) (lists_of e) covered.choices covered.each (listed e land party there) in
-    let decided = decided_if b e (land, party) own.0 (none_mapped (tie_of b e) ((land, party), own.0) pairs table.0 own.1) in
+    let table = table_without_faults (filter_map (tie_of eligible e (length b.stages)) pairs) t (cover_table b e base records pairs) covered.is in
+    let own = in_zip (IsSeating eligible e base) (land, party) (lists_of e) covered.choices covered.each (listed e land party there) in
+    let decided = decided_if eligible e (length b.stages) (land, party) own.0 (none_mapped (tie_of eligible e (length b.stages)) ((land, party), own.0) pairs table.0 own.1) in
     ap (λ u. placed_on e u.placed land party) table.1
-    ∙ seated_of b e is base pairs (zip_each (IsSeating b e base) (lists_of e) covered.choices covered.each) (land, party) decided.0
-    (subst (λ c. In ((land, party), c) pairs) decided.1 own.1) (subst (IsSeating b e base (land, party)) decided.1 own.2)
-    ∙ ap (min (list_cell e base land party)) (how_many b e land party there.in_lands there.in_parties)
+    ∙ seated_of eligible e is base pairs (zip_each (IsSeating eligible e base) (lists_of e) covered.choices covered.each) (land, party) decided.0
+    (subst (λ c. In ((land, party), c) pairs) decided.1 own.1) (subst (IsSeating eligible e base (land, party)) decided.1 own.2)
+    ∙ ap (min (list_cell e base land party)) (how_many eligible e land party
+    ∙ sym (by_list_at e (λ land party. if is_eligible_list eligible e land party then count_by (λ w. is_in land w && is_of party w) e.wins else 0) land party there.in_lands there.in_parties))

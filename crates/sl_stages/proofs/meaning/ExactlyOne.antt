@@ -2,12 +2,8 @@
 use Rattle.std.proofs.Common.{◌≡◌, ℕ, List, [], ◌∷◌, Option, Some, None, refl, ap, subst, ◌∙◌}
 use Rattle.std.specs.Prelude.{MatchOption}
 use Rattle.std.specs.List.{AllZip}
+use Rattle.sl_stages.specs.laws.OneLaws.{ExactlyOne}
 use Rattle.sl_stages.specs.meaning.Results.{ExprResult, Column, Fault, behind, Continues, Then}
-
-pub record ExactlyOne {A : Type 0} (P : A → Type 0) : Type 0 where
-  pub one : A
-  pub is : P one
-  pub only : (x : A) → P x → x ≡ one
 
 pub same_ones : {A : Type 0} (P : A → Type 0) → ExactlyOne P → (x y : A) → P x → P y → x ≡ y
 same_ones P h x y p q = cc (h.only x p, h.only y q)

@@ -1,5 +1,5 @@
 -- A typed book comes to exactly one outcome on an election.
-use Rattle.std.proofs.Common.{◌≡◌, ℕ, ◌+◌, ◌≤◌, true, List, [], ◌∷◌, ◌++◌, None, length, map, min, arith, refl, sym, ap, subst, ◌∙◌}
+use Rattle.std.proofs.Common.{◌≡◌, ℕ, ◌+◌, ◌≤◌, Bool, true, List, [], ◌∷◌, ◌++◌, None, length, map, min, arith, refl, sym, ap, subst, ◌∙◌}
 use Rattle.std.specs.Prelude.{slice_get, filter_map, unwrap_or, option_map}
 use Rattle.std.specs.List.{All, zip, enumerate_from}
 use Rattle.std.proofs.lemmas.List.{length-map}
@@ -16,19 +16,20 @@ use Rattle.sl_stages.specs.declared.table.Outcome.TheVariants as outcome
 use Rattle.sl_stages.specs.book.Trees.{StageTree, BookTree}
 use Rattle.sl_stages.specs.returns.Election.{Election, IsElection, IsWin}
 use Rattle.sl_stages.specs.book.Tests.{first_failing, test}
-use Rattle.sl_stages.specs.book.Typing.{is_seat_number, columns_of, column_of as typed_column, base_tests, tests_of, version_tests, condition_tests, stages_tests, is_typed}
-use Rattle.sl_stages.specs.meaning.Columns.{IsColumn}
+use Rattle.sl_stages.specs.book.Typing.{is_seat_number, columns_of, stage_column, base_tests, tests_of, version_tests, condition_tests, stages_tests, is_typed}
+use Rattle.sl_stages.specs.meaning.Columns.{IsLeaf}
 use Rattle.sl_stages.specs.meaning.Seating.{base_of}
-use Rattle.sl_stages.specs.returns.Facts.{list_cell}
+use Rattle.sl_stages.specs.returns.Facts.{lists_of, list_cell, is_eligible}
 use Rattle.sl_stages.specs.laws.MethodLaws.{AllHaveVotes}
 use Rattle.sl_stages.specs.methods.Ties.{Choice}
 use Rattle.sl_stages.specs.meaning.Lots.{seats_lot}
 use Rattle.sl_stages.specs.meaning.Records.{Records}
 use Rattle.sl_stages.specs.meaning.Results.{ExprResult, Column, Fault}
-use Rattle.sl_stages.specs.meaning.Seating.{winners_of, winner_items, IsSeating, lists_of, tie_of, cover_table, keep_table}
-use Rattle.sl_stages.specs.meaning.Means.{Known, nothing_known, Run, Through, Stopped, with_stage, StagesMean, IsCovered, GoesOn, IsSeated, IsEnd, EndsAs, IsOutcome}
+use Rattle.sl_stages.specs.meaning.Seating.{winners_of, winner_items, IsSeating, tie_of, cover_table, keep_table}
+use Rattle.sl_stages.specs.meaning.Means.{Known, nothing_known, StagesResult, Through, Stopped, with_stage, StagesMean, IsCovered, GoesOn, IsSeated, IsEnd, EndsAs, IsOutcome}
+use Rattle.sl_stages.specs.laws.OneLaws.{ExactlyOne, OneStagesResult, OneSeating}
 use Rattle.sl_stages.proofs.methods.CoveringProofs.{coverings}
-use Rattle.sl_stages.proofs.meaning.ExactlyOne.{ExactlyOne, one_equal, one_zip}
+use Rattle.sl_stages.proofs.meaning.ExactlyOne.{one_equal, one_zip}
 use Rattle.sl_stages.proofs.meaning.OneAward.{mentions_distinct}
 use Rattle.sl_stages.proofs.Tests.{no_fault, head_holds, pass_parts}
 use Rattle.sl_stages.proofs.meaning.OneResult.{SameNames, more_names, one_column, one_run}
@@ -41,30 +42,33 @@ votes_numbered n lands parties (w ∷ wins) each =
     All-cons (λ x. 1 ≤ x.1.first) (n, w) (enumerate_from (n + 1) wins) (All-head (IsWin lands parties) w wins each).least
     (votes_numbered (n + 1) lands parties wins (All-tail (IsWin lands parties) w wins each))
 
-module _ (b : BookTree) (e : Election) (is : IsElection e) (base : List ℕ) (l : ℕ × ℕ) where
-  have_votes : AllHaveVotes (map (λ x. x.1.first) (winners_of b e l.0 l.1))
+module _ (eligible : ℕ → Bool) (e : Election) (is : IsElection e) (base : List ℕ) (l : ℕ × ℕ) where
+  have_votes : AllHaveVotes (map (λ x. x.1.first) (winners_of eligible e l.0 l.1))
   have_votes i within =
-      All-get_or (λ n. 1 ≤ n) (map (λ x. x.1.first) (winners_of b e l.0 l.1)) i 0 within
-      (All-map (λ n. 1 ≤ n) (λ x. x.1.first) (winners_of b e l.0 l.1)
+      All-get_or (λ n. 1 ≤ n) (map (λ x. x.1.first) (winners_of eligible e l.0 l.1)) i 0 within
+      (All-map (λ n. 1 ≤ n) (λ x. x.1.first) (winners_of eligible e l.0 l.1)
       (All-filter _ (λ x. 1 ≤ x.1.first) (enumerate_from 0 e.wins) (votes_numbered 0 (length e.land_names) (length e.party_names) e.wins is.places)))
 
-  few : (n : ℕ) → min n (length (winners_of b e l.0 l.1)) ≤ length (map {B = ℕ} (λ x. x.1.first) (winners_of b e l.0 l.1))
-  few n = let long : length (map {B = ℕ} (λ x. x.1.first) (winners_of b e l.0 l.1)) ≡ length (winners_of b e l.0 l.1) = length-map (winners_of b e l.0 l.1) (λ x. x.1.first) in omega (arith, long)
+  few : (n : ℕ) → min n (length (winners_of eligible e l.0 l.1)) ≤ length (map {B = ℕ} (λ x. x.1.first) (winners_of eligible e l.0 l.1))
+  few n = let long : length (map {B = ℕ} (λ x. x.1.first) (winners_of eligible e l.0 l.1)) ≡ length (winners_of eligible e l.0 l.1) = length-map (winners_of eligible e l.0 l.1) (λ x. x.1.first) in omega (arith, long)
 
-  pub one_seating : ExactlyOne (IsSeating b e base l)
-  one_seating =
-      let won = winners_of b e l.0 l.1 in
+  one_chosen : ExactlyOne (IsSeating eligible e base l)
+  one_chosen =
+      let won = winners_of eligible e l.0 l.1 in
       let defined = (coverings (map (λ x. x.1.first) won) (map (λ x. x.1.valid) won) (min (list_cell e base l.0 l.1) (length won)) have_votes).1 (few (list_cell e base l.0 l.1)) in
-      let chosen = defined.one_choice (seats_lot e (winner_items b e l.0 l.1)) (mentions_distinct _) in
+      let chosen = defined.one_choice (seats_lot e (winner_items eligible e l.0 l.1)) (mentions_distinct _) in
       record { one = chosen.0; is = chosen.1; only = chosen.2 }
+
+pub one_seating : OneSeating
+one_seating = one_chosen
 
 -- ---- the last clause
 
 module _ (b : BookTree) (e : Election) (is : IsElection e) (base : List ℕ) (records : Records) where
   one_covered : ExactlyOne (IsCovered b e base records)
   one_covered =
-      let all = one_zip (IsSeating b e base) (lists_of e) (one_seating b e is base) in
-      let end : List Choice → Outcome = λ choices. unwrap_or (option_map (λ f. outcome.Fault f) (slice_get (filter_map (tie_of b e) (zip (lists_of e) choices)) 0))
+      let all = one_zip (IsSeating (is_eligible b.eligible e) e base) (lists_of e) (one_seating (is_eligible b.eligible e) e is base) in
+      let end : List Choice → Outcome = λ choices. unwrap_or (option_map (λ f. outcome.Fault f) (slice_get (filter_map (tie_of (is_eligible b.eligible e) e (length b.stages)) (zip (lists_of e) choices)) 0))
       (outcome.Table (cover_table b e base records (zip (lists_of e) choices))) in
       record {
         one = end all.one;
@@ -78,7 +82,7 @@ module _ (b : BookTree) (e : Election) (is : IsElection e) (base : List ℕ) (re
 
 module _ (b : BookTree) (e : Election) where
   base_column : (k : Known) (last : LastClause) (x : Base) → SameNames k.types k.columns → first_failing (base_tests k.types last.at x) ≡ None →
-      ExactlyOne (IsColumn b e k.columns (base_of (record last { base = x })))
+      ExactlyOne (IsLeaf b e k.columns (base_of (record last { base = x })))
   base_column k last base.Winners names pass = one_equal _
   base_column k last (base.Stage n) names pass = one_column k.types k.columns names n (head_holds _ _ _ pass).0
 
@@ -105,10 +109,10 @@ module _ (b : BookTree) (e : Election) where
   through k [] end names run = let same : end ≡ k = cc in (subst (λ j. SameNames j.types j.columns) (sym same) names, ap (λ j. j.types) same)
   through k (s ∷ ss) end names run =
       goes k s ss end run.0
-      (λ values records. through (with_stage k s values records) ss end (more_names k.types k.columns (typed_column k.types s) (record { name = s.name; values = values }) refl names))
+      (λ values records. through (with_stage k s values records) ss end (more_names k.types k.columns (stage_column k.types s) (record { name = s.name; values = values }) refl names))
       run.2
 
-  one_ending : IsElection e → first_failing (base_tests (columns_of [] b.stages) b.last.at b.last.base) ≡ None → (r : Run) → StagesMean b e nothing_known b.stages r → ExactlyOne (EndsAs b e r)
+  one_ending : IsElection e → first_failing (base_tests (columns_of [] b.stages) b.last.at b.last.base) ≡ None → (r : StagesResult) → StagesMean b e nothing_known b.stages r → ExactlyOne (EndsAs b e r)
   one_ending is pass (Stopped f) run = one_equal (outcome.Fault f)
   one_ending is pass (Through k) run =
       let known = through nothing_known b.stages k tt run in
@@ -122,14 +126,19 @@ module _ (b : BookTree) (e : Election) where
       let conditions = (pass_parts (condition_tests b.eligible) (stages_tests [] b.stages ++ ends) (head_holds _ _ _ house).1).1 in
       pass_parts (stages_tests [] b.stages) ends conditions
 
+  one_through : is_typed b ≡ true → ExactlyOne (StagesMean b e nothing_known b.stages)
+  one_through typed = one_run b e nothing_known b.stages tt (typed_parts (no_fault (tests_of b) typed)).0
+
   pub one_outcome : is_typed b ≡ true → IsElection e → ExactlyOne (IsOutcome b e)
   one_outcome typed is =
-      let tests = no_fault (tests_of b) typed in
-      let parts = typed_parts tests in
-      let run = one_run b e nothing_known b.stages tt parts.0 in
+      let parts = typed_parts (no_fault (tests_of b) typed) in
+      let run = one_through typed in
       let end = one_ending is parts.1 run.one run.is in
       record {
         one = end.one;
         is = record { run = run.one; stages = run.is; ends = end.is };
         only = λ o h. end.only o (subst (λ r. EndsAs b e r o) (run.only h.run h.stages) h.ends);
       }
+
+pub one_stages_result : OneStagesResult
+one_stages_result = one_through

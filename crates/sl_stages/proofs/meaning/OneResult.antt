@@ -6,6 +6,7 @@ use Rattle.std.specs.Str.{bytes_eq}
 use Rattle.std.proofs.lemmas.Bool.{cases_Bool, cond-true, cond-false, false≢true, both_ways, or_cases, not-true, and_parts}
 use Rattle.std.proofs.lemmas.List.{length-map}
 use Rattle.std.proofs.lemmas.Option.{same_Some}
+use Rattle.sl_ratio.specs.declared.method.Divisor.{Divisor}
 use Rattle.sl_ratio.specs.declared.method.Method.{Method}
 use Rattle.sl_ratio.specs.declared.method.Method.TheVariants as by
 use Rattle.sl_stages.specs.declared.book.Majority.{Majority}
@@ -15,7 +16,7 @@ use Rattle.sl_stages.specs.declared.fault.FaultKind.TheVariants as fault
 use Rattle.sl_stages.specs.book.Trees.{ExprTree, house, counted, winners, outside, independents, population, name, sum as sum_tree, larger, less, split, split_from, grow, StageTree, BookTree}
 use Rattle.sl_stages.specs.returns.Election.{Election}
 use Rattle.sl_stages.specs.book.Tests.{first_failing}
-use Rattle.sl_stages.specs.book.Typing.{Column as TypedColumn, expr_tests, stages_tests, is_named, is_hamilton, is_prefer, column_of as typed_column}
+use Rattle.sl_stages.specs.book.Typing.{Column as TypedColumn, expr_tests, stages_tests, is_named, is_hamilton, is_prefer, stage_column}
 use Rattle.sl_stages.proofs.Tests.{head_holds, pass_parts}
 use Rattle.sl_stages.specs.meaning.Columns.{NamedColumn, is_column_of, sum_over, larger_of, less_of}
 use Rattle.sl_stages.specs.meaning.Scopes.{Group, cells, place, scopes}
@@ -23,9 +24,10 @@ use Rattle.sl_stages.specs.meaning.Records.{Records}
 use Rattle.sl_stages.specs.meaning.Splits.{Award}
 use Rattle.sl_stages.specs.meaning.Results.{ExprResult, Column, Fault, plain, Then, Stand, amount_of, first_over, fault_at, joined, AreJoined, IsShared}
 use Rattle.sl_stages.specs.meaning.Expressions.{minima_at, IsSplitIn, split_records, IsGrowthIn, growth_records, IsSplit, IsGrown, Context, ExprMeans, stand, shape_in}
-use Rattle.sl_stages.specs.meaning.Means.{Known, Run, Through, Stopped, context_of, with_stage, GoesOn, StagesMean}
+use Rattle.sl_stages.specs.meaning.Means.{Known, StagesResult, Through, Stopped, context_of, with_stage, GoesOn, StagesMean}
+use Rattle.sl_stages.specs.laws.OneLaws.{ExactlyOne, FitsMethod, OneSplitAward, OneGrowthAward}
 use Rattle.sl_stages.proofs.methods.SeatSums.{length_zeros, sum_zeros}
-use Rattle.sl_stages.proofs.meaning.ExactlyOne.{ExactlyOne, one_equal, one_image, one_matched, one_zip, one_then}
+use Rattle.sl_stages.proofs.meaning.ExactlyOne.{one_equal, one_image, one_matched, one_zip, one_then}
 use Rattle.sl_stages.proofs.meaning.OneAward.{mentions_distinct, TakesMinima, one_split, one_growth}
 
 -- ---- scopes
@@ -45,12 +47,6 @@ module _ (e : Election) (at : Stand) (amounts : List ℕ) (IsAward : Group → A
       one_matched (first_over e at amounts groups) (AreJoined e at amounts IsAward records groups) (λ g r. r ≡ Fault (fault_at at.stage g.scope fault.Limit))
       (λ none. one_joined each) (λ g. one_equal (Fault (fault_at at.stage g.scope fault.Limit)))
 
--- a split by Hamilton's method has no minima
-abbrev pub FitsMethod : Method → Option (List ℕ) → Type 0
-FitsMethod method None = Unit {0}
-FitsMethod (by.Divisor d) (Some m) = Unit {0}
-FitsMethod by.Hamilton (Some m) = ⊥
-
 module _ (e : Election) (at : Stand) (amounts votes : List ℕ) where
   length_cells : (g : Group) (column : List ℕ) → length (cells e g.entries column) ≡ length g.entries
   length_cells g column = length-map g.entries (λ i. slice_index column (place e i))
@@ -64,10 +60,15 @@ module _ (e : Election) (at : Stand) (amounts votes : List ℕ) where
   takes g by.Hamilton None fits = sum_zeros (length (cells e g.entries votes))
   takes g by.Hamilton (Some m) fits = absurd fits
 
-  pub one_in_scope : (method : Method) (majority : Majority) (minima : Option (List ℕ)) → FitsMethod method minima → (g : Group) → ExactlyOne (IsSplitIn e at amounts votes method majority minima g)
+  one_in_scope : (method : Method) (majority : Majority) (minima : Option (List ℕ)) → FitsMethod method minima → (g : Group) → ExactlyOne (IsSplitIn e at amounts votes method majority minima g)
   one_in_scope method majority minima fits g =
       one_split method majority g.entries _ (cells e g.entries votes) (minima_at e g votes minima) (amount_of e at amounts g)
       (mentions_distinct _) (as_long g minima) (takes g method minima fits)
+
+  one_growth_in_scope : (d : Divisor) (majority : Majority) (minima : List ℕ) (cap : ℕ) (g : Group) → ExactlyOne (IsGrowthIn e at amounts votes d majority minima cap g)
+  one_growth_in_scope d majority minima cap g =
+      one_growth d majority g.entries _ (cells e g.entries votes) (cells e g.entries minima) (amount_of e at amounts g) cap
+      (mentions_distinct _) (length_cells g minima ∙ sym (length_cells g votes))
 
   pub one_split_result : (over : Shape) (method : Method) (majority : Majority) (minima : Option (List ℕ)) → FitsMethod method minima → ExactlyOne (IsSplit e at amounts votes over method majority minima)
   one_split_result over method majority minima fits =
@@ -77,9 +78,16 @@ module _ (e : Election) (at : Stand) (amounts votes : List ℕ) where
   pub one_grown : (method : Method) (majority : Majority) (minima : List ℕ) (cap : ℕ) → is_hamilton method ≡ false → ExactlyOne (IsGrown e at amounts votes method majority minima cap)
   one_grown (by.Divisor d) majority minima cap divisor =
       one_shared e at amounts (IsGrowthIn e at amounts votes d majority minima cap) (growth_records e at amounts votes d minima) (scopes e shape.One at.shape)
-      (λ g. one_growth d majority g.entries _ (cells e g.entries votes) (cells e g.entries minima) (amount_of e at amounts g) cap
-      (mentions_distinct _) (length_cells g minima ∙ sym (length_cells g votes)))
+      (one_growth_in_scope d majority minima cap)
   one_grown by.Hamilton majority minima cap divisor = absurd (false≢true (sym divisor))
+
+-- ---- each scope has one award
+
+pub one_split_award : OneSplitAward
+one_split_award e at amounts votes method majority minima fits g = one_in_scope e at amounts votes method majority minima fits g
+
+pub one_growth_award : OneGrowthAward
+one_growth_award e at amounts votes d majority minima cap g = one_growth_in_scope e at amounts votes d majority minima cap g
 
 -- ---- names
 
@@ -181,7 +189,7 @@ module _ (b : BookTree) (e : Election) (c : Context) (names : SameNames c.types 
 
 -- ---- stages
 
-goes_once : (p : ExprResult) (Next : List ℕ → Records → Run → Type 0) → ((values : List ℕ) (records : Records) → ExactlyOne (Next values records)) → ExactlyOne (λ r. GoesOn p (λ values records. Next values records r) r)
+goes_once : (p : ExprResult) (Next : List ℕ → Records → StagesResult → Type 0) → ((values : List ℕ) (records : Records) → ExactlyOne (Next values records)) → ExactlyOne (λ r. GoesOn p (λ values records. Next values records r) r)
 goes_once (Fault f) Next next = one_equal (Stopped f)
 goes_once (Column values records) Next next = next values records
 
@@ -193,9 +201,9 @@ module _ (b : BookTree) (e : Election) where
       let single = head_holds _ _ _ once.1 in
       let parts = pass_parts (expr_tests k.types s.expr) _ single.1 in
       let first = one_means b e (context_of k s) names s.expr parts.0 in
-      let Next : List ℕ → Records → Run → Type 0 = λ values records. StagesMean b e (with_stage k s values records) ss in
+      let Next : List ℕ → Records → StagesResult → Type 0 = λ values records. StagesMean b e (with_stage k s values records) ss in
       let after = goes_once first.one Next
-      (λ values records. one_run (with_stage k s values records) ss (more_names k.types k.columns (typed_column k.types s) (record { name = s.name; values = values }) refl names) parts.1) in
+      (λ values records. one_run (with_stage k s values records) ss (more_names k.types k.columns (stage_column k.types s) (record { name = s.name; values = values }) refl names) parts.1) in
       record {
         one = after.one;
         is = (first.one, first.is, after.is);

@@ -8,7 +8,7 @@ use Rattle.sl_stages.specs.declared.returns.Win.{Win}
 use Rattle.sl_stages.specs.declared.table.Placed.TheVariants as placed
 use Rattle.sl_stages.specs.book.Trees.{BookTree}
 use Rattle.sl_stages.specs.returns.Election.{Election, lands_of, parties_of}
-use Rattle.sl_stages.specs.returns.Facts.{list_cell, list_winners, is_in, is_of, takes_part}
+use Rattle.sl_stages.specs.returns.Facts.{list_cell, list_winners, is_in, is_of, is_eligible, is_eligible_list, takes_part}
 use Rattle.sl_stages.specs.meaning.Seating.{kept_place}
 use Rattle.sl_stages.specs.meaning.Seating.{is_on, placed_on}
 use Rattle.sl_stages.specs.laws.MeaningLaws.{KeptWinners}
@@ -52,24 +52,25 @@ rearranged false true false = refl
 rearranged false false true = refl
 rearranged false false false = refl
 
-module _ (b : BookTree) (e : Election) (land party : ℕ) where
+module _ (eligible : ℕ → Bool) (e : Election) (land party : ℕ) where
   -- a winner of that Land and party, of whom a test says what it says of the list
-  pub when_both : (w : Win) (p : ℕ) → (nat_eq w.land land && nat_eq p party) && takes_part b.eligible e w.land p ≡ takes_part b.eligible e land party && (nat_eq w.land land && nat_eq p party)
+  pub when_both : (w : Win) (p : ℕ) → (nat_eq w.land land && nat_eq p party) && is_eligible_list eligible e w.land p ≡ is_eligible_list eligible e land party && (nat_eq w.land land && nat_eq p party)
   when_both w p =
       elim (cases_Bool (nat_eq w.land land && nat_eq p party)) [
         | inl both ↦
             (let parts = and_parts (nat_eq w.land land) (nat_eq p party) both in
-            ap (λ t. (nat_eq w.land land && nat_eq p party) && t) (ap (λ l. takes_part b.eligible e l p) (eqb-true w.land land parts.0) ∙ ap (takes_part b.eligible e land) (eqb-true p party parts.1))
-            ∙ rearranged (nat_eq w.land land) (nat_eq p party) (takes_part b.eligible e land party))
-        | inr not ↦ ap (λ t. t && takes_part b.eligible e w.land p) not ∙ sym (and_right (takes_part b.eligible e land party) (nat_eq w.land land && nat_eq p party) not)
+            ap (λ t. (nat_eq w.land land && nat_eq p party) && t) (ap (λ l. is_eligible_list eligible e l p) (eqb-true w.land land parts.0) ∙ ap (is_eligible_list eligible e land) (eqb-true p party parts.1))
+            ∙ rearranged (nat_eq w.land land) (nat_eq p party) (is_eligible_list eligible e land party))
+        | inr not ↦ ap (λ t. t && is_eligible_list eligible e w.land p) not ∙ sym (and_right (is_eligible_list eligible e land party) (nat_eq w.land land && nat_eq p party) not)
       ]
 
+module _ (b : BookTree) (e : Election) (land party : ℕ) where
   on_list : (w : Win) (o : Option ℕ) →
       (is_in land (record w { party = o }) && is_of party (record w { party = o })) && is_on (kept_place b e (record w { party = o }))
       ≡ takes_part b.eligible e land party && (is_in land (record w { party = o }) && is_of party (record w { party = o }))
   on_list w None =
       ap (λ t. t && false) (and_right (nat_eq w.land land) false refl) ∙ sym (and_right (takes_part b.eligible e land party) (nat_eq w.land land && false) (and_right (nat_eq w.land land) false refl))
-  on_list w (Some p) = ap (λ t. (nat_eq w.land land && nat_eq p party) && t) (on_if (takes_part b.eligible e w.land p)) ∙ when_both w p
+  on_list w (Some p) = ap (λ t. (nat_eq w.land land && nat_eq p party) && t) (on_if (takes_part b.eligible e w.land p)) ∙ when_both (is_eligible b.eligible e) e land party w p
 
   -- so many winners sit on the list as the column of the winners says
   pub kept_direct : land < lands_of e → party < parties_of e → placed_on e (map (kept_place b e) e.wins) land party ≡ list_cell e (list_winners b.eligible e) land party

@@ -7,6 +7,9 @@ use Rattle.std.proofs.lemmas.List.{nil_from_length}
 use Rattle.std.proofs.lemmas.List.Elements.{All-head, All-tail, All-filter, All-weaker, All-from_get_or}
 use Rattle.std.proofs.lemmas.List.FromFn.{length-range_with_len, get_or-range_with_len}
 use Rattle.std.proofs.lemmas.List.Sorted.{length_permutation}
+use Rattle.sl_stages.specs.declared.book.Base.{Base}
+use Rattle.sl_stages.specs.declared.book.Base.TheVariants as base
+use Rattle.sl_stages.specs.declared.book.LastClause.{LastClause}
 use Rattle.sl_stages.specs.declared.book.Seating.{Seating}
 use Rattle.sl_stages.specs.declared.book.Seating.TheVariants as seating
 use Rattle.sl_stages.specs.declared.table.ListSeats.{ListSeats}
@@ -18,8 +21,9 @@ use Rattle.sl_stages.specs.returns.Votes.{slate_in}
 use Rattle.sl_stages.specs.returns.Election.{Election, lands_of, parties_of, list_at, has_list}
 use Rattle.sl_stages.specs.returns.Facts.{lands, parties}
 use Rattle.sl_stages.specs.book.Typing.{splits_in}
-use Rattle.sl_stages.specs.meaning.PlainBooks.{ComesTo, is_keep, kept_list, kept_lists, kept_table}
-use Rattle.sl_stages.specs.meaning.Seating.{kept_place}
+use Rattle.sl_stages.specs.meaning.PlainBooks.{IsColumn, ComesTo, is_keep, kept_list, kept_lists, kept_table}
+use Rattle.sl_stages.specs.meaning.Columns.{NamedColumn, IsLeaf}
+use Rattle.sl_stages.specs.meaning.Seating.{base_of, kept_place}
 use Rattle.sl_stages.specs.meaning.Records.{no_records}
 use Rattle.sl_stages.specs.meaning.Seating.{placed_on, vacant_of, table_line, kept_seats, keep_table}
 use Rattle.sl_stages.specs.meaning.Means.{Through, SameOutcome, IsSeated, EndsAs, Means}
@@ -90,6 +94,12 @@ only_table (outcome.Table u) t steps weights h =
     same_parts x y l p s w = λ i. record { lists = l i; placed = p i; steps = s i; weights = w i }
 
 module _ (b : BookTree) (e : Election) where
+  -- the base of the last clause is a leaf
+  base_column : (columns : List NamedColumn) (last : LastClause) (x : Base) (c : List ℕ) →
+      IsLeaf b e columns (base_of (record last { base = x })) c ↔ IsColumn b e columns (base_of (record last { base = x })) c
+  base_column columns last base.Winners c = (λ h. h, λ h. h)
+  base_column columns last (base.Stage n) c = (λ h. h, λ h. h)
+
   kept_end : (s : Seating) → is_keep s ≡ true → (base : List ℕ) (o : Outcome) → IsSeated b e s base no_records o ↔ (o ≡ outcome.Table (keep_table b e base no_records))
   kept_end seating.Keep keep base o = (λ h. h, λ h. h)
   kept_end seating.Cover keep base o = absurd (false≢true keep)
@@ -101,7 +111,7 @@ module _ (b : BookTree) (e : Election) where
         let end = subst (λ r. EndsAs b e r means.ordered) run.2 means.is.ends in
         let ordered = (kept_end b.last.seating keep end.base means.ordered).0 end.seated ∙ ap (λ (x : SeatTable). outcome.Table x) (same_table b e end.base none) in
         let t = kept_table b e end.base in
-        (t, (run.1, end.base, run.3, end.is_base, refl), only_table o t refl refl (subst (SameOutcome o) ordered means.same))
+        (t, (run.1, end.base, run.3, (base_column run.1 b.last b.last.base end.base).0 end.is_base, refl), only_table o t refl refl (subst (SameOutcome o) ordered means.same))
 
     to_plain : (t : SeatTable) × ComesTo b e t × (o ≡ outcome.Table t) → Means b e o
     to_plain it =
@@ -113,7 +123,7 @@ module _ (b : BookTree) (e : Election) where
           is = record {
             run = Through (bare run.0 comes.0);
             stages = run.1;
-            ends = record { base = comes.1; is_base = comes.3; seated = (kept_end b.last.seating keep comes.1 (outcome.Table t)).1 refl };
+            ends = record { base = comes.1; is_base = (base_column comes.0 b.last b.last.base comes.1).1 comes.3; seated = (kept_end b.last.seating keep comes.1 (outcome.Table t)).1 refl };
           };
           same = subst (λ x. SameOutcome x (outcome.Table t)) (sym (it.2 ∙ ap (λ (x : SeatTable). outcome.Table x) (comes.4 ∙ sym (same_table b e comes.1 none)))) (same_itself (outcome.Table t));
         }

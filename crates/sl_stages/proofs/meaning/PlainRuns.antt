@@ -4,12 +4,13 @@ use Rattle.std.specs.List.{list_all}
 use Rattle.std.proofs.lemmas.Bool.{and_parts, eqb-true}
 use Rattle.sl_stages.specs.book.Trees.{ExprTree, house, counted, winners, outside, independents, population, name, sum, larger, less, split, split_from, grow, StageTree, BookTree}
 use Rattle.sl_stages.specs.returns.Election.{Election}
-use Rattle.sl_stages.specs.book.Typing.{Column as TypedColumn, splits_in, column_of as typed_column}
-use Rattle.sl_stages.specs.meaning.Columns.{NamedColumn, IsColumn, AreColumns, sum_over, larger_of, less_of}
+use Rattle.sl_stages.specs.book.Typing.{Column as TypedColumn, splits_in, stage_column}
+use Rattle.sl_stages.specs.meaning.Columns.{NamedColumn, sum_over, larger_of, less_of}
+use Rattle.sl_stages.specs.meaning.PlainBooks.{IsColumn, AreColumns}
 use Rattle.sl_stages.specs.meaning.Records.{no_records}
 use Rattle.sl_stages.specs.meaning.Results.{ExprResult, Column, Fault, plain, behind, Continues, Then}
 use Rattle.sl_stages.specs.meaning.Expressions.{Context, ExprMeans}
-use Rattle.sl_stages.specs.meaning.Means.{Known, Run, Through, context_of, with_stage, GoesOn, StagesMean}
+use Rattle.sl_stages.specs.meaning.Means.{Known, StagesResult, Through, context_of, with_stage, GoesOn, StagesMean}
 
 behind_nothing : (q : ExprResult) → behind no_records q ≡ q
 behind_nothing (Column c records) = refl
@@ -85,14 +86,14 @@ abbrev pub AllPlain : List StageTree → Type 0
 AllPlain ss = list_all (λ s. nat_eq (splits_in s.expr) 0) ss ≡ true
 
 module _ (b : BookTree) (e : Election) where
-  pub from_run : (types : List TypedColumn) (columns : List NamedColumn) (ss : List StageTree) → AllPlain ss → (r : Run) → StagesMean b e (bare types columns) ss r →
+  pub from_run : (types : List TypedColumn) (columns : List NamedColumn) (ss : List StageTree) → AllPlain ss → (r : StagesResult) → StagesMean b e (bare types columns) ss r →
       (after : List TypedColumn) × (all : List NamedColumn) × (r ≡ Through (bare after all)) × AreColumns b e columns ss all
   from_run types columns [] plain r h = (types, columns, h, refl)
   from_run types columns (s ∷ ss) each r h =
       let parts = and_parts (nat_eq (splits_in s.expr) 0) (list_all (λ s. nat_eq (splits_in s.expr) 0) ss) each in
       let f = from_means b e (context_of (bare types columns) s) s.expr (eqb-true (splits_in s.expr) 0 parts.0) h.0 h.1 in
       let on = subst (λ p. GoesOn p (λ values records. StagesMean b e (with_stage (bare types columns) s values records) ss r) r) f.2 h.2 in
-      let rest = from_run (types ++ typed_column types s ∷ []) (columns ++ record { name = s.name; values = f.0 } ∷ []) ss parts.1 r on in
+      let rest = from_run (types ++ stage_column types s ∷ []) (columns ++ record { name = s.name; values = f.0 } ∷ []) ss parts.1 r on in
       (rest.0, rest.1, rest.2, (f.0, f.1, rest.3))
 
   pub to_run : (types : List TypedColumn) (columns : List NamedColumn) (ss : List StageTree) → AllPlain ss → (all : List NamedColumn) → AreColumns b e columns ss all →
@@ -101,5 +102,5 @@ module _ (b : BookTree) (e : Election) where
   to_run types columns (s ∷ ss) each all are =
       let parts = and_parts (nat_eq (splits_in s.expr) 0) (list_all (λ s. nat_eq (splits_in s.expr) 0) ss) each in
       let first = to_means b e (context_of (bare types columns) s) s.expr (eqb-true (splits_in s.expr) 0 parts.0) are.0 are.1 in
-      let rest = to_run (types ++ typed_column types s ∷ []) (columns ++ record { name = s.name; values = are.0 } ∷ []) ss parts.1 all are.2 in
+      let rest = to_run (types ++ stage_column types s ∷ []) (columns ++ record { name = s.name; values = are.0 } ∷ []) ss parts.1 all are.2 in
       (rest.0, (plain are.0, first, rest.1))

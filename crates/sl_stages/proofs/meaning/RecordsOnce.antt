@@ -26,6 +26,7 @@ use Rattle.sl_stages.specs.declared.table.Outcome.TheVariants as outcome
 use Rattle.sl_stages.specs.meaning.Tables.{SeatTable}
 use Rattle.sl_stages.specs.book.Trees.{ExprTree, house, counted, winners, outside, independents, population, name, sum, larger, less, split, split_from, grow, StageTree, BookTree}
 use Rattle.sl_stages.specs.returns.Election.{Election}
+use Rattle.sl_stages.specs.returns.Facts.{lists_of, is_eligible}
 use Rattle.sl_stages.specs.book.Tests.{first_failing}
 use Rattle.sl_stages.specs.book.Typing.{splits_in, tests_of, stages_tests, expr_tests}
 use Rattle.sl_stages.specs.meaning.Columns.{sum_over, larger_of, less_of}
@@ -33,9 +34,9 @@ use Rattle.sl_stages.specs.meaning.Scopes.{same_item, Group, scopes}
 use Rattle.sl_stages.specs.meaning.Records.{Records, no_records, both_records}
 use Rattle.sl_stages.specs.meaning.Splits.{Award}
 use Rattle.sl_stages.specs.meaning.Results.{ExprResult, Column, Fault, plain, behind, Continues, Then, Stand, fault_at, fault_of, first_over, AreJoined, IsShared}
-use Rattle.sl_stages.specs.meaning.Expressions.{IsSplitIn, split_records, IsGrowthIn, growth_records, IsSplit, IsGrown, Context, ExprMeans, IsNamed, stand, shape_in}
-use Rattle.sl_stages.specs.meaning.Seating.{keep_table, cover_table, lists_of, tie_of}
-use Rattle.sl_stages.specs.meaning.Means.{Known, nothing_known, Run, Through, Stopped, context_of, with_stage, GoesOn, StagesMean, IsSeated, EndsAs, IsOutcome, SameOutcome}
+use Rattle.sl_stages.specs.meaning.Expressions.{IsSplitIn, split_records, IsGrowthIn, growth_records, IsSplit, IsGrown, Context, ExprMeans, IsLeafResult, stand, shape_in}
+use Rattle.sl_stages.specs.meaning.Seating.{keep_table, cover_table, tie_of}
+use Rattle.sl_stages.specs.meaning.Means.{Known, nothing_known, StagesResult, Through, Stopped, context_of, with_stage, GoesOn, StagesMean, IsSeated, EndsAs, IsOutcome, SameOutcome}
 use Rattle.sl_stages.specs.laws.MeaningLaws.{same_scope, same_seat, same_entry, RecordsComeOnce, RecordsOnce}
 use Rattle.sl_stages.proofs.meaning.DistinctLists.{number_flips, every_weaker, every_append, distinct_nil, distinct_append}
 use Rattle.sl_stages.proofs.meaning.ScopeRecords.{scopes_differ, entries_once, AtScope, Once}
@@ -111,7 +112,7 @@ module _ (e : Election) (at : Stand) (amounts votes : List ℕ) where
 -- ---- expressions
 
 module _ (b : BookTree) (e : Election) (c : Context) where
-  leaf_few : (x : ExprTree) (n : ℕ) (r : ExprResult) → IsNamed b e c x r → HasFew c.stage n r
+  leaf_few : (x : ExprTree) (n : ℕ) (r : ExprResult) → IsLeafResult b e c x r → HasFew c.stage n r
   leaf_few x n r h = plain_has c.stage n h.0 r h.2
 
   few_records : (x : ExprTree) (r : ExprResult) → ExprMeans b e c x r → HasFew c.stage (splits_in x) r
@@ -218,9 +219,9 @@ module _ (b : BookTree) (e : Election) where
   seated_has : (s : Seating) (base : List ℕ) (r : Records) (t : SeatTable) → IsSeated b e s base r (outcome.Table t) → HasRecords r t
   seated_has seating.Keep base r t is = of_table t (keep_table b e base r) r is refl refl
   seated_has seating.Cover base r t is =
-      unwrapped_table (slice_get (filter_map (tie_of b e) (zip (lists_of e) is.choices)) 0) t (cover_table b e base r (zip (lists_of e) is.choices)) r refl refl is.is
+      unwrapped_table (slice_get (filter_map (tie_of (is_eligible b.eligible e) e (length b.stages)) (zip (lists_of e) is.choices)) 0) t (cover_table b e base r (zip (lists_of e) is.choices)) r refl refl is.is
 
-  comes_once : (run : Run) (t : SeatTable) → first_failing (stages_tests [] b.stages) ≡ None → StagesMean b e nothing_known b.stages run → EndsAs b e run (outcome.Table t) → RecordsComeOnce t
+  comes_once : (run : StagesResult) (t : SeatTable) → first_failing (stages_tests [] b.stages) ≡ None → StagesMean b e nothing_known b.stages run → EndsAs b e run (outcome.Table t) → RecordsComeOnce t
   comes_once (Stopped f) t pass stages ends = cc
   comes_once (Through k) t pass stages ends =
       let once = run_before nothing_known b.stages k pass (record { steps_below = tt; weights_below = tt; once = record { steps = distinct_nil same_seat; weights = distinct_nil same_entry } }) stages in

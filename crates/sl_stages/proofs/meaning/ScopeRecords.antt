@@ -22,17 +22,17 @@ use Rattle.sl_stages.proofs.meaning.DistinctLists.{always, every_map, every_piec
 
 -- ---- entries and scopes
 
-lists_in_land_differ : (e : Election) (land : ℕ) → IsDistinct same_item (lists_in_land e land)
+pub lists_in_land_differ : (e : Election) (land : ℕ) → IsDistinct same_item (lists_in_land e land)
 lists_in_land_differ e land =
     distinct_map nat_eq same_item (λ party. item.List land party) (λ p q differ. and_right (nat_eq land land) (nat_eq p q) differ)
     (filter (has_list e land) (parties e)) (distinct_filter nat_eq (has_list e land) (parties e) (distinct_range 0 (parties_of e)))
 
-lists_of_party_differ : (e : Election) (party : ℕ) → IsDistinct same_item (lists_of_party e party)
+pub lists_of_party_differ : (e : Election) (party : ℕ) → IsDistinct same_item (lists_of_party e party)
 lists_of_party_differ e party =
     distinct_map nat_eq same_item (λ land. item.List land party) (λ l k differ. and_left (nat_eq l k) (nat_eq party party) differ)
     (filter (λ land. has_list e land party) (lands e)) (distinct_filter nat_eq (λ land. has_list e land party) (lands e) (distinct_range 0 (lands_of e)))
 
-lands_apart : (e : Election) (l k : ℕ) → nat_eq l k ≡ false → Apart same_item (lists_in_land e l) (lists_in_land e k)
+pub lands_apart : (e : Election) (l k : ℕ) → nat_eq l k ≡ false → Apart same_item (lists_in_land e l) (lists_in_land e k)
 lands_apart e l k differ =
     every_map (λ x. Every (λ y. same_item x y ≡ false) (lists_in_land e k)) (λ party. item.List l party) (filter (has_list e l) (parties e))
     (always (λ p. Every (λ y. same_item (item.List l p) y ≡ false) (lists_in_land e k))
@@ -40,7 +40,7 @@ lands_apart e l k differ =
     (always (λ q. nat_eq l k && nat_eq p q ≡ false) (λ q. and_left (nat_eq l k) (nat_eq p q) differ) (filter (has_list e k) (parties e))))
     (filter (has_list e l) (parties e)))
 
-entries_differ : (e : Election) (s : Shape) → IsDistinct same_item (entries_of e s)
+pub entries_differ : (e : Election) (s : Shape) → IsDistinct same_item (entries_of e s)
 entries_differ e shape.One = distinct_nil same_item
 entries_differ e shape.Party = distinct_map nat_eq same_item (λ party. item.Party party) (λ p q differ. differ) (parties e) (distinct_range 0 (parties_of e))
 entries_differ e shape.Land = distinct_map nat_eq same_item (λ land. item.Land land) (λ l k differ. differ) (lands e) (distinct_range 0 (lands_of e))

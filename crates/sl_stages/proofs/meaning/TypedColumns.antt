@@ -24,7 +24,7 @@ use Rattle.sl_stages.specs.returns.Election.{Election, IsElection, IsCell, lands
 use Rattle.sl_stages.specs.returns.Facts.{lands, parties, by_party, by_land, by_list, list_cell, is_in, is_of, is_eligible, takes_part, is_on_list, counted_votes, list_winners, outside_winners, independent_winners}
 use Rattle.sl_stages.specs.book.Typing.{can_sum, shape_over, column}
 use Rattle.sl_stages.specs.meaning.Columns.{sum_over, larger_of, less_of}
-use Rattle.sl_stages.specs.laws.ColumnLaws.{most_of_list, most_of, HasType}
+use Rattle.sl_stages.specs.laws.ColumnLaws.{most_of_list, most_of, FitsType}
 use Rattle.sl_stages.proofs.meaning.ListPlaces.{by_list_at, length_by_list}
 use Rattle.sl_stages.proofs.methods.SeatSums.{sum-cons}
 
@@ -38,28 +38,28 @@ all_made : (f : ℕ → ℕ) (m : ℕ) (xs : List ℕ) → ((k : ℕ) → f k �
 all_made f m xs each = All-map (λ n. n ≤ m) f xs (λ k d within. each (get_or xs k d))
 
 module _ (e : Election) (u : Units) where
-  pub made_by_list : (f : ℕ → ℕ → ℕ) → ((land party : ℕ) → f land party ≤ most_of_list u) → ((land party : ℕ) → has_list e land party ≡ false → f land party ≡ 0) → HasType e (column shape.List u) (by_list e f)
+  pub made_by_list : (f : ℕ → ℕ → ℕ) → ((land party : ℕ) → f land party ≤ most_of_list u) → ((land party : ℕ) → has_list e land party ≡ false → f land party ≡ 0) → FitsType e (column shape.List u) (by_list e f)
   made_by_list f few alone = record {
     size = length_by_list e f;
     most = all_pieces (λ n. n ≤ 1 * most_of_list u) (λ land. by_party e (f land)) (λ land. all_made (f land) (1 * most_of_list u) (parties e) (λ party. omega (arith, few land party))) (lands e);
     lists_alone = λ same land party in_lands in_parties none. by_list_at e f land party in_lands in_parties ∙ alone land party none;
   }
 
-  pub made_by_land : (f : ℕ → ℕ) → ((land : ℕ) → f land ≤ MAX_PARTIES * most_of_list u) → HasType e (column shape.Land u) (by_land e f)
+  pub made_by_land : (f : ℕ → ℕ) → ((land : ℕ) → f land ≤ MAX_PARTIES * most_of_list u) → FitsType e (column shape.Land u) (by_land e f)
   made_by_land f few = record {
     size = length-map-range_with_len f 0 (lands_of e);
     most = all_made f (MAX_PARTIES * most_of_list u) (lands e) few;
     lists_alone = λ same. cc;
   }
 
-  pub made_by_party : (f : ℕ → ℕ) → ((party : ℕ) → f party ≤ MAX_LANDS * most_of_list u) → HasType e (column shape.Party u) (by_party e f)
+  pub made_by_party : (f : ℕ → ℕ) → ((party : ℕ) → f party ≤ MAX_LANDS * most_of_list u) → FitsType e (column shape.Party u) (by_party e f)
   made_by_party f few = record {
     size = length-map-range_with_len f 0 (parties_of e);
     most = all_made f (MAX_LANDS * most_of_list u) (parties e) few;
     lists_alone = λ same. cc;
   }
 
-  pub made_one : (n : ℕ) → n ≤ MAX_LANDS * MAX_PARTIES * most_of_list u → HasType e (column shape.One u) (n ∷ [])
+  pub made_one : (n : ℕ) → n ≤ MAX_LANDS * MAX_PARTIES * most_of_list u → FitsType e (column shape.One u) (n ∷ [])
   made_one n few = record {
     size = refl;
     most = All-cons (λ m. m ≤ MAX_LANDS * MAX_PARTIES * most_of_list u) n [] few (All-nil (λ m. m ≤ MAX_LANDS * MAX_PARTIES * most_of_list u));
@@ -100,25 +100,25 @@ module _ (conditions : List Cond) (e : Election) (is : IsElection e) where
   winners_within : (test : Win → Bool) → count_by test e.wins ≤ MAX_WINS
   winners_within test = omega (arith, count_by-le-length test e.wins, is.wins, is.winners)
 
-  pub counted_typed : HasType e (column shape.List unit.Votes) (counted_votes conditions e)
+  pub counted_typed : FitsType e (column shape.List unit.Votes) (counted_votes conditions e)
   counted_typed = made_by_list e unit.Votes (λ land party. cond (is_eligible conditions e party) (counted_in (list_at e land party)) 0)
       (λ land party. either_within (is_eligible conditions e party) (counted_in (list_at e land party)) MAX_VOTES (cell_within (list_at e land party) (some_cell (get_or e.cells land []) party (some_row e.cells land is.votes))))
       (λ land party none. nothing_counted (is_eligible conditions e party) (list_at e land party) none)
 
-  pub winners_typed : HasType e (column shape.List unit.Seats) (list_winners conditions e)
+  pub winners_typed : FitsType e (column shape.List unit.Seats) (list_winners conditions e)
   winners_typed = made_by_list e unit.Seats (λ land party. cond (takes_part conditions e land party) (count_by (λ w. is_in land w && is_of party w) e.wins) 0)
       (λ land party. either_within (takes_part conditions e land party) (count_by (λ w. is_in land w && is_of party w) e.wins) MAX_SEATS (let few = winners_within (λ w. is_in land w && is_of party w) in omega (arith, few)))
       (λ land party none. ap (λ t. cond t (count_by (λ w. is_in land w && is_of party w) e.wins) 0) (and_right (is_eligible conditions e party) (has_list e land party) none))
 
-  pub outside_typed : HasType e (column shape.Land unit.Seats) (outside_winners conditions e)
+  pub outside_typed : FitsType e (column shape.Land unit.Seats) (outside_winners conditions e)
   outside_typed = made_by_land e unit.Seats (λ land. count_by (λ w. is_in land w && not (is_on_list conditions e w)) e.wins)
       (λ land. let few = winners_within (λ w. is_in land w && not (is_on_list conditions e w)) in omega (arith, few))
 
-  pub independents_typed : HasType e (column shape.Land unit.Seats) (independent_winners conditions e)
+  pub independents_typed : FitsType e (column shape.Land unit.Seats) (independent_winners conditions e)
   independents_typed = made_by_land e unit.Seats (λ land. count_by (λ w. is_in land w && is_none w.party) e.wins)
       (λ land. let few = winners_within (λ w. is_in land w && is_none w.party) in omega (arith, few))
 
-  pub population_typed : HasType e (column shape.Land unit.Votes) e.populations
+  pub population_typed : FitsType e (column shape.Land unit.Votes) e.populations
   population_typed = record {
     size = is.populations;
     most = All-weaker (λ n. n ≤ MAX_VOTES) (λ n. n ≤ MAX_PARTIES * MAX_VOTES) (λ n h. omega arith) e.populations is.people;
@@ -142,7 +142,7 @@ at_most_times : (n most m k : ℕ) → n ≤ most → k ≤ n * m → k ≤ most
 at_most_times n most m k few h = let wide : n * m ≤ most * m = mul-le-mul few (le_refl m) in omega (arith, wide)
 
 module _ (e : Election) (is : IsElection e) (u : Units) where
-  pub sum_typed : (s : Shape) (over : Axis) (xs : List ℕ) → can_sum s over ≡ true → HasType e (column s u) xs → HasType e (column (shape_over over) u) (sum_over e over xs)
+  pub sum_typed : (s : Shape) (over : Axis) (xs : List ℕ) → can_sum s over ≡ true → FitsType e (column s u) xs → FitsType e (column (shape_over over) u) (sum_over e over xs)
   sum_typed shape.One over xs can t = absurd (false≢true can)
   sum_typed shape.List axis.Party xs can t =
       made_by_party e u _ (λ party.
@@ -186,11 +186,11 @@ zipped_at f (x ∷ xs) [] k same none = absurd (omega (arith, same))
 zipped_at f (x ∷ xs) (y ∷ ys) zero same none = none
 zipped_at f (x ∷ xs) (y ∷ ys) (suc k) same none = zipped_at f xs ys k (omega (arith, same)) none
 
-module _ (e : Election) (t : ColumnType) (xs ys : List ℕ) (left : HasType e t xs) (right : HasType e t ys) where
+module _ (e : Election) (t : ColumnType) (xs ys : List ℕ) (left : FitsType e t xs) (right : FitsType e t ys) where
   as_long : length xs ≡ length ys
   as_long = left.size ∙ sym right.size
 
-  pub larger_typed : HasType e t (larger_of xs ys)
+  pub larger_typed : FitsType e t (larger_of xs ys)
   larger_typed =
       let both = zipped (λ x. max x.0 x.1) (most_of t) (λ x y h k. omega arith) xs ys as_long left.most right.most in
       record {
@@ -202,7 +202,7 @@ module _ (e : Election) (t : ColumnType) (xs ys : List ℕ) (left : HasType e t 
             zipped_at (λ x. max x.0 x.1) xs ys (land * parties_of e + party) as_long (omega (arith, a, c));
       }
 
-  pub less_typed : HasType e t (less_of xs ys)
+  pub less_typed : FitsType e t (less_of xs ys)
   less_typed =
       let both = zipped (λ x. x.0 - x.1) (most_of t) (λ x y h k. omega arith) xs ys as_long left.most right.most in
       record {

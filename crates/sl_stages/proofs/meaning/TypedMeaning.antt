@@ -17,7 +17,7 @@ use Rattle.sl_stages.specs.declared.book.ColumnType.{ColumnType}
 use Rattle.sl_stages.specs.book.Trees.{ExprTree, house, counted, winners, outside, independents, population, name, sum, larger, less, split, split_from, grow, StageTree, BookTree}
 use Rattle.sl_stages.specs.returns.Election.{Election, IsElection}
 use Rattle.sl_stages.specs.book.Tests.{first_failing}
-use Rattle.sl_stages.specs.book.Typing.{Column as TypedColumn, type_of, type_or_one, column, tests_of, version_tests, expr_tests, stages_tests, is_named, same_shape, same_unit, can_split, column_of as typed_column}
+use Rattle.sl_stages.specs.book.Typing.{Column as TypedColumn, type_of, type_or_one, column, tests_of, version_tests, expr_tests, stages_tests, is_named, same_shape, same_unit, can_split, stage_column}
 use Rattle.sl_stages.specs.meaning.Columns.{NamedColumn, is_column_of, sum_over, larger_of, less_of}
 use Rattle.sl_stages.specs.meaning.Scopes.{cells}
 use Rattle.sl_stages.specs.meaning.Lots.{stage_lot}
@@ -25,7 +25,7 @@ use Rattle.sl_stages.specs.meaning.Records.{Records}
 use Rattle.sl_stages.specs.meaning.Results.{ExprResult, Column, Fault, plain, behind, Continues, Then, Stand, amount_of}
 use Rattle.sl_stages.specs.meaning.Expressions.{minima_at, IsSplitIn, split_records, IsGrowthIn, growth_records, IsSplit, IsGrown, Context, ExprMeans, stand, shape_in}
 use Rattle.sl_stages.specs.meaning.Means.{Known, nothing_known, Through, context_of, with_stage, GoesOn, StagesMean}
-use Rattle.sl_stages.specs.laws.ColumnLaws.{HasType, IsTypedAs, TypedExpressions, TypedStages}
+use Rattle.sl_stages.specs.laws.ColumnLaws.{FitsType, IsTypedAs, TypedExpressions, TypedStages}
 use Rattle.sl_stages.proofs.Shapes.{same_shape_is, same_unit_is}
 use Rattle.sl_stages.proofs.Tests.{no_fault, head_holds, pass_parts}
 use Rattle.sl_stages.proofs.meaning.OneOutcome.{typed_parts}
@@ -65,7 +65,7 @@ no_one shape.List v can = absurd (false≢true can)
 -- ---- names
 
 named_typed : (e : Election) (n : List ℕ) (types : List TypedColumn) (columns : List NamedColumn) → AllZip (IsTypedAs e) types columns → (values : List ℕ) →
-    option_map (λ s. s.values) (find (is_column_of n) columns) ≡ Some values → HasType e (type_or_one (find (is_named n) types)) values
+    option_map (λ s. s.values) (find (is_column_of n) columns) ≡ Some values → FitsType e (type_or_one (find (is_named n) types)) values
 named_typed e n [] [] all values is = cc
 named_typed e n [] (d ∷ columns) all values is = absurd all
 named_typed e n (t ∷ types) [] all values is = absurd all
@@ -74,22 +74,22 @@ named_typed e n (t ∷ types) (d ∷ columns) all values is =
       | inl this ↦
           (let same : d.values ≡ values = same_Some d.values values (sym (ap (option_map (λ (s : NamedColumn). s.values)) (cond-true (bytes_eq n d.name) (Some d) (find (is_column_of n) columns) this)) ∙ is) in
           let type = cond-true (bytes_eq n t.name) (Some t) (find (is_named n) types) (ap (bytes_eq n) all.0.name ∙ this) in
-          subst (λ o. HasType e (type_or_one o) values) (sym type) (subst (HasType e t.type) same all.0.type))
+          subst (λ o. FitsType e (type_or_one o) values) (sym type) (subst (FitsType e t.type) same all.0.type))
       | inr other ↦
           (let rest = named_typed e n types columns all.1 values (sym (ap (option_map (λ (s : NamedColumn). s.values)) (cond-false (bytes_eq n d.name) (Some d) (find (is_column_of n) columns) other)) ∙ is) in
           let type = cond-false (bytes_eq n t.name) (Some t) (find (is_named n) types) (ap (bytes_eq n) all.0.name ∙ other) in
-          subst (λ o. HasType e (type_or_one o) values) (sym type) rest)
+          subst (λ o. FitsType e (type_or_one o) values) (sym type) rest)
     ]
 
 -- ---- splits and growths
 
 module _ (e : Election) (at : Stand) (amounts votes : List ℕ) (ok : same_shape at.shape shape.One ≡ false) (values : List ℕ) (r : Records) where
-  split_typed : (over : Shape) (method : Method) (m : Majority) (minima : Option (List ℕ)) → IsSplit e at amounts votes over method m minima (Column values r) → HasType e (column at.shape unit.Seats) values
+  split_typed : (over : Shape) (method : Method) (m : Majority) (minima : Option (List ℕ)) → IsSplit e at amounts votes over method m minima (Column values r) → FitsType e (column at.shape unit.Seats) values
   split_typed over method m minima h =
       shared_typed e at amounts over (IsSplitIn e at amounts votes method m minima) (split_records e at amounts votes method m minima)
       (λ g a few is. let sum = split_sum method m g.entries (stage_lot e at.name at.shape g.entries) (cells e g.entries votes) (minima_at e g votes minima) (amount_of e at amounts g) a is in omega (arith, few, sum)) ok values r h
 
-  grown_typed : (method : Method) (m : Majority) (minima : List ℕ) (limit : ℕ) → limit ≤ MAX_SEATS → IsGrown e at amounts votes method m minima limit (Column values r) → HasType e (column at.shape unit.Seats) values
+  grown_typed : (method : Method) (m : Majority) (minima : List ℕ) (limit : ℕ) → limit ≤ MAX_SEATS → IsGrown e at amounts votes method m minima limit (Column values r) → FitsType e (column at.shape unit.Seats) values
   grown_typed (by.Divisor d) m minima limit within h =
       shared_typed e at amounts shape.One (IsGrowthIn e at amounts votes d m minima limit) (growth_records e at amounts votes d minima)
       (λ g a few is. let sum = growth_sum d m g.entries (stage_lot e at.name at.shape g.entries) (cells e g.entries votes) (cells e g.entries minima) (amount_of e at amounts g) limit a is in omega (arith, within, sum)) ok values r h
@@ -105,10 +105,10 @@ house_few None seats is few = few
 house_few (Some h) seats is few = (is h refl).1
 
 module _ (b : BookTree) (e : Election) (is : IsElection e) (few : b.house.value ≤ MAX_SEATS) (c : Context) (known : AllZip (IsTypedAs e) c.types c.columns) where
-  leaf : (t : ColumnType) (k : List ℕ) → HasType e t k → (values : List ℕ) (r : Records) → (cs : List ℕ) × (cs ≡ k) × (Column values r ≡ plain cs) → HasType e t values
-  leaf t k type values r h = subst (HasType e t) (sym (named_values h.0 values r h.2 ∙ h.1)) type
+  leaf : (t : ColumnType) (k : List ℕ) → FitsType e t k → (values : List ℕ) (r : Records) → (cs : List ℕ) × (cs ≡ k) × (Column values r ≡ plain cs) → FitsType e t values
+  leaf t k type values r h = subst (FitsType e t) (sym (named_values h.0 values r h.2 ∙ h.1)) type
 
-  typed_means : (x : ExprTree) → first_failing (expr_tests c.types x) ≡ None → (values : List ℕ) (r : Records) → ExprMeans b e c x (Column values r) → HasType e (type_of c.types x) values
+  typed_means : (x : ExprTree) → first_failing (expr_tests c.types x) ≡ None → (values : List ℕ) (r : Records) → ExprMeans b e c x (Column values r) → FitsType e (type_of c.types x) values
   typed_means (house at) pass values r h = leaf (column shape.One unit.Seats) (unwrap_or e.house b.house.value ∷ []) (made_one e unit.Seats (unwrap_or e.house b.house.value) (let n = house_few e.house b.house.value is.house few in omega (arith, n))) values r h
   typed_means (counted at) pass values r h = leaf (column shape.List unit.Votes) _ (counted_typed b.eligible e is) values r h
   typed_means (winners at) pass values r h = leaf (column shape.List unit.Seats) _ (winners_typed b.eligible e is) values r h
@@ -116,12 +116,12 @@ module _ (b : BookTree) (e : Election) (is : IsElection e) (few : b.house.value 
   typed_means (independents at) pass values r h = leaf (column shape.Land unit.Seats) _ (independents_typed b.eligible e is) values r h
   typed_means (population at) pass values r h = leaf (column shape.Land unit.Votes) _ (population_typed b.eligible e is) values r h
   typed_means (name at n) pass values r h =
-      subst (HasType e (type_of c.types (name at n))) (sym (named_values h.0 values r h.2)) (named_typed e n c.types c.columns known h.0 h.1)
+      subst (FitsType e (type_of c.types (name at n))) (sym (named_values h.0 values r h.2)) (named_typed e n c.types c.columns known h.0 h.1)
   typed_means (sum at x over) pass values r h =
       let parts = pass_parts (expr_tests c.types x) _ pass in
       let on = then_column (ExprMeans b e c x) (λ xs r. r ≡ plain (sum_over e over xs)) values r h in
       let can = (head_holds _ _ _ parts.1).0 in
-      subst (HasType e (type_of c.types (sum at x over))) (sym (named_values (sum_over e over on.0) values on.3 on.4))
+      subst (FitsType e (type_of c.types (sum at x over))) (sym (named_values (sum_over e over on.0) values on.3 on.4))
       (sum_typed e is (type_of c.types x).unit (type_of c.types x).shape over on.0 can (typed_means x parts.0 on.0 on.1 on.2))
   typed_means (larger at x y) pass values r h =
       let px = pass_parts (expr_tests c.types x) _ pass in
@@ -131,8 +131,8 @@ module _ (b : BookTree) (e : Election) (is : IsElection e) (few : b.house.value 
       let one = then_column (ExprMeans b e c x) (λ xs. Then (ExprMeans b e c y) (λ ys r. r ≡ plain (larger_of xs ys))) values r h in
       let two = then_column (ExprMeans b e c y) (λ ys r. r ≡ plain (larger_of one.0 ys)) values one.3 one.4 in
       let same = one_type (type_of c.types x) (type_of c.types y) shapes.0 units.0 in
-      subst (HasType e (type_of c.types x)) (sym (named_values (larger_of one.0 two.0) values two.3 two.4))
-      (larger_typed e (type_of c.types x) one.0 two.0 (typed_means x px.0 one.0 one.1 one.2) (subst (λ t. HasType e t two.0) same (typed_means y py.0 two.0 two.1 two.2)))
+      subst (FitsType e (type_of c.types x)) (sym (named_values (larger_of one.0 two.0) values two.3 two.4))
+      (larger_typed e (type_of c.types x) one.0 two.0 (typed_means x px.0 one.0 one.1 one.2) (subst (λ t. FitsType e t two.0) same (typed_means y py.0 two.0 two.1 two.2)))
   typed_means (less at x y) pass values r h =
       let px = pass_parts (expr_tests c.types x) _ pass in
       let py = pass_parts (expr_tests c.types y) _ px.1 in
@@ -141,8 +141,8 @@ module _ (b : BookTree) (e : Election) (is : IsElection e) (few : b.house.value 
       let one = then_column (ExprMeans b e c x) (λ xs. Then (ExprMeans b e c y) (λ ys r. r ≡ plain (less_of xs ys))) values r h in
       let two = then_column (ExprMeans b e c y) (λ ys r. r ≡ plain (less_of one.0 ys)) values one.3 one.4 in
       let same = one_type (type_of c.types x) (type_of c.types y) shapes.0 units.0 in
-      subst (HasType e (type_of c.types x)) (sym (named_values (less_of one.0 two.0) values two.3 two.4))
-      (less_typed e (type_of c.types x) one.0 two.0 (typed_means x px.0 one.0 one.1 one.2) (subst (λ t. HasType e t two.0) same (typed_means y py.0 two.0 two.1 two.2)))
+      subst (FitsType e (type_of c.types x)) (sym (named_values (less_of one.0 two.0) values two.3 two.4))
+      (less_typed e (type_of c.types x) one.0 two.0 (typed_means x px.0 one.0 one.1 one.2) (subst (λ t. FitsType e t two.0) same (typed_means y py.0 two.0 two.1 two.2)))
   typed_means (split at s v method majority) pass values r h =
       let ps = pass_parts (expr_tests c.types s) _ pass in
       let pv = pass_parts (expr_tests c.types v) _ ps.1 in
@@ -207,7 +207,7 @@ module _ (b : BookTree) (e : Election) (is : IsElection e) (few : b.house.value 
       (λ values records same on.
       let type = typed_means b e is few (context_of k s) known s.expr parts.0 values records (subst (ExprMeans b e (context_of k s) s.expr) same run.1) in
       run_typed (with_stage k s values records) ss end parts.1
-      (all_and_one (IsTypedAs e) k.types k.columns (typed_column k.types s) (record { name = s.name; values = values }) (record { name = refl; type = type }) known) on)
+      (all_and_one (IsTypedAs e) k.types k.columns (stage_column k.types s) (record { name = s.name; values = values }) (record { name = refl; type = type }) known) on)
       run.2
 
 pub typed_expressions : TypedExpressions

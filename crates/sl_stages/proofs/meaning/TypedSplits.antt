@@ -21,11 +21,11 @@ use Rattle.sl_stages.specs.returns.Facts.{lands, parties}
 use Rattle.sl_stages.specs.book.Typing.{column, same_shape}
 use Rattle.sl_stages.specs.methods.LeastHouse.{Growth, GrownTo, EmptyField, AboveCap, IsGrowth}
 use Rattle.sl_stages.specs.methods.Ties.{Choice, Decided, Tied, IsChoice}
-use Rattle.sl_stages.specs.meaning.Scopes.{same_item, lists_in_land, lists_of_party, Group, scopes, told_of, column_of}
+use Rattle.sl_stages.specs.meaning.Scopes.{same_item, lists_in_land, lists_of_party, Group, scopes, told_of, pair_column}
 use Rattle.sl_stages.specs.meaning.Records.{Records}
 use Rattle.sl_stages.specs.meaning.Splits.{Award, Seats, Refused, awarded, is_refused, award_of, IsChosen, IsAllocation, refusal, IsSplitAward, IsHouseAward, IsGrowthAward}
 use Rattle.sl_stages.specs.meaning.Results.{Column, Fault, Stand, fault_at, fault_of, amount_of, first_over, AreJoined, IsShared}
-use Rattle.sl_stages.specs.laws.ColumnLaws.{HasType}
+use Rattle.sl_stages.specs.laws.ColumnLaws.{FitsType}
 use Rattle.sl_stages.proofs.methods.SeatSums.{sum-cons}
 use Rattle.sl_stages.proofs.meaning.DistinctLists.{always, every_weaker, every_map, every_pieces, every_passes, every_zipped, every_second, every_both}
 use Rattle.sl_stages.proofs.meaning.Members.{zip_each}
@@ -74,7 +74,7 @@ told_most m (p ∷ pairs) i all =
       | inr other ↦ subst (λ o. unwrap_or (option_map (λ x. x.1) o) 0 ≤ m) (sym (cond-false (same_item i p.0) (Some p) (find (λ x. same_item i x.0) pairs) other)) (told_most m pairs i all.1)
     ]
 
-told_none : (pairs : List (Item × ℕ)) (i : Item) → Every (λ p. same_item i p.0 ≡ false) pairs → told_of pairs i ≡ 0
+pub told_none : (pairs : List (Item × ℕ)) (i : Item) → Every (λ p. same_item i p.0 ≡ false) pairs → told_of pairs i ≡ 0
 told_none [] i all = refl
 told_none (p ∷ pairs) i all = ap (λ (o : Option (Item × ℕ)). unwrap_or (option_map (λ x. x.1) o) 0) (cond-false (same_item i p.0) (Some p) (find (λ x. same_item i x.0) pairs) all.0) ∙ told_none pairs i all.1
 
@@ -132,7 +132,7 @@ module _ (e : Election) (over s : Shape) (awards : List Award) (all : Every (λ 
       (every_weaker (λ x. sum (awarded x.1) ≤ MAX_SEATS) (λ x. Every (λ p. p.1 ≤ MAX_SEATS) (zip x.0.entries (awarded x.1)))
       (λ x h. every_second (λ n. n ≤ MAX_SEATS) x.0.entries (awarded x.1) (every_no_more MAX_SEATS (awarded x.1) h)) (zip (scopes e over s) awards) all)
 
-no_pair : (e : Election) (over : Shape) (awards : List Award) (land party : ℕ) → has_list e land party ≡ false →
+pub no_pair : (e : Election) (over : Shape) (awards : List Award) (land party : ℕ) → has_list e land party ≡ false →
     Every (λ p. same_item (item.List land party) p.0 ≡ false) (flat_map (λ x. zip x.0.entries (awarded x.1)) (zip (scopes e over shape.List) awards))
 no_pair e over awards land party none =
     every_pieces (λ p. same_item (item.List land party) p.0 ≡ false) (λ x. zip x.0.entries (awarded x.1)) (zip (scopes e over shape.List) awards)
@@ -141,7 +141,7 @@ no_pair e over awards land party none =
     (every_zipped (λ g. Every (λ i. same_item (item.List land party) i ≡ false) g.entries) (scopes e over shape.List) awards (no_entry e land party none over)))
 
 awarded_column : (e : Election) (over s : Shape) → same_shape s shape.One ≡ false → (awards : List Award) → Every (λ x. sum (awarded x.1) ≤ MAX_SEATS) (zip (scopes e over s) awards) →
-    HasType e (column s unit.Seats) (column_of e s (flat_map (λ x. zip x.0.entries (awarded x.1)) (zip (scopes e over s) awards)))
+    FitsType e (column s unit.Seats) (pair_column e s (flat_map (λ x. zip x.0.entries (awarded x.1)) (zip (scopes e over s) awards)))
 unfolding pairs
 awarded_column e over shape.One ok awards all = absurd (false≢true (sym ok))
 awarded_column e over shape.Party ok awards all =
@@ -155,14 +155,14 @@ awarded_column e over shape.List ok awards all =
 -- where no award has more seats than its amount, or than a limit
 pub shared_typed : (e : Election) (at : Stand) (amounts : List ℕ) (over : Shape) (IsAward : Group → Award → Type 0) (records : Group → List ℕ → Records) →
     ((g : Group) (a : Award) → amount_of e at amounts g ≤ MAX_SEATS → IsAward g a → sum (awarded a) ≤ MAX_SEATS) → same_shape at.shape shape.One ≡ false →
-    (values : List ℕ) (r : Records) → IsShared e at amounts IsAward records (scopes e over at.shape) (Column values r) → HasType e (column at.shape unit.Seats) values
+    (values : List ℕ) (r : Records) → IsShared e at amounts IsAward records (scopes e over at.shape) (Column values r) → FitsType e (column at.shape unit.Seats) values
 shared_typed e at amounts over IsAward records few ok values r h = of (first_over e at amounts (scopes e over at.shape)) refl h where
   of : (o : Option Group) → first_over e at amounts (scopes e over at.shape) ≡ o →
-      MatchOption o (AreJoined e at amounts IsAward records (scopes e over at.shape) (Column values r)) (λ g. Column values r ≡ Fault (fault_at at.stage g.scope fault.Limit)) → HasType e (column at.shape unit.Seats) values
+      MatchOption o (AreJoined e at amounts IsAward records (scopes e over at.shape) (Column values r)) (λ g. Column values r ≡ Fault (fault_at at.stage g.scope fault.Limit)) → FitsType e (column at.shape unit.Seats) values
   of (Some g) same is = cc
   of None same j =
       let under = each_under e at amounts (scopes e over at.shape) same in
       let all = every_both (λ x. amount_of e at amounts x.0 ≤ MAX_SEATS) (λ x. IsAward x.0 x.1) (λ x. sum (awarded x.1) ≤ MAX_SEATS) (λ x few' is. few x.0 x.1 few' is) (zip (scopes e over at.shape) j.awards)
       (every_zipped (λ g. amount_of e at amounts g ≤ MAX_SEATS) (scopes e over at.shape) j.awards under) (zip_each IsAward (scopes e over at.shape) j.awards j.each) in
       let is = column_values (slice_get (filter_map (fault_of at.stage) (zip (scopes e over at.shape) j.awards)) 0) values _ r _ j.is in
-      subst (HasType e (column at.shape unit.Seats)) (sym is) (awarded_column e over at.shape ok j.awards all)
+      subst (FitsType e (column at.shape unit.Seats)) (sym is) (awarded_column e over at.shape ok j.awards all)

@@ -1,16 +1,16 @@
--- The bounds of an allocation.
-use Rattle.std.proofs.Common.{◌≡◌, ◌≢◌, ℕ, zero, suc, ◌+◌, ◌-◌, ◌*◌, ◌/◌, ◌<◌, ◌≤◌, ◌⊎◌, List, [], ◌∷◌, length, get_or, sum, inl, inr, arith, refl, sym, ap, ◌∙◌, subst}
-use Rattle.std.proofs.Math.Nat.{div-eq_of_lt-le, mul-le-mul_right}
+-- The bounds of an allocation are equal where there is another one.
+use Rattle.std.proofs.Common.{◌≡◌, ◌≢◌, ℕ, zero, suc, ◌-◌, ◌<◌, ◌≤◌, ◌⊎◌, List, [], ◌∷◌, length, get_or, sum, inl, inr, arith, refl, sym, ap, ◌∙◌, subst}
 use Rattle.std.proofs.lemmas.Bool.{cases_lt, cases_eq}
 use Rattle.std.proofs.lemmas.List.Elements.{Contains-get_or}
 use Rattle.sl_ratio.specs.declared.method.Divisor.{Divisor}
-use Rattle.sl_ratio.specs.Quotient.{AtMost, quotient}
+use Rattle.sl_ratio.specs.Quotient.{AtMost, SameQuotient}
+use Rattle.sl_ratio.specs.Bounds.{IsLast, IsNext, last_quotient, next_quotient}
+use Rattle.sl_ratio.proofs.Order.{AtMost-trans}
 use Rattle.sl_stages.specs.methods.Field.{no_minima}
 use Rattle.sl_stages.specs.methods.Allocations.{IsDivisorAllocation}
 use Rattle.sl_stages.specs.laws.Ladders.{IsTop, IsSettled, divisor_ladders}
 use Rattle.sl_stages.specs.laws.Awards.{DivisorTops}
-use Rattle.sl_stages.specs.laws.EqualBounds.{IsLast, IsNext, SameQuotient, EqualBounds, EveryDivisorBetween}
-use Rattle.sl_stages.proofs.methods.QuotientOrder.{AtMost-trans}
+use Rattle.sl_stages.specs.laws.EqualBounds.{EqualBounds}
 use Rattle.sl_stages.proofs.methods.SeatSums.{some_greater, none_needed, length_zeros, sum_zeros}
 use Rattle.sl_stages.proofs.methods.RaisedSeats.{increasing_distinct}
 use Rattle.sl_stages.proofs.methods.ListedEntries.{cases_all}
@@ -51,7 +51,7 @@ module _ (method : Divisor) (v : List ℕ) (seats : ℕ) (s : List ℕ) (hs : Is
   module _ (i j : ℕ) (last : IsLast method v s i) (next : IsNext method v s j) where
     -- an allocation has a greater entry than another, and a smaller one: the last seat is worth no more than the next one
     worth : (t : List ℕ) → IsDivisorAllocation method v (no_minima v) seats t → (a : ℕ) → get_or s a 0 < get_or t a 0 →
-        AtMost (quotient method (get_or v i 0) (get_or s i 0 - 1)) (quotient method (get_or v j 0) (get_or s j 0))
+        AtMost (last_quotient method v s i) (next_quotient method v s j)
     worth t ht a more =
         let law = tops_law.falling in
         let S = (tops_law.tops seats s).0 hs in
@@ -75,17 +75,17 @@ module _ (method : Divisor) (v : List ℕ) (seats : ℕ) (s : List ℕ) (hs : Is
         let ta = has_of method v (no_minima v) a (get_or t a 0 - 1) fa in
         let four = falls_to_weak l law a (get_or s a 0) (get_or t a 0 - 1) (omega (arith, za)) (omega arith) ta in
         let five = next.greatest a fa in
-        let A = quotient method (get_or v i 0) (get_or s i 0 - 1) in
-        let B = quotient method (get_or v b 0) (get_or s b 0 - 1) in
-        let C = quotient method (get_or v b 0) (get_or t b 0) in
-        let D = quotient method (get_or v a 0) (get_or t a 0 - 1) in
-        let E = quotient method (get_or v a 0) (get_or s a 0) in
-        let F = quotient method (get_or v j 0) (get_or s j 0) in
+        let A = last_quotient method v s i in
+        let B = last_quotient method v s b in
+        let C = next_quotient method v t b in
+        let D = last_quotient method v t a in
+        let E = next_quotient method v s a in
+        let F = next_quotient method v s j in
         AtMost-trans A B F (law.positive b (get_or s b 0 - 1) sb) one
         (AtMost-trans B C F (law.positive b (get_or t b 0) tb) two (AtMost-trans C D F (law.positive a (get_or t a 0 - 1) ta) three (AtMost-trans D E F (law.positive a (get_or s a 0) sa) four five)))
 
     meets_from : (t : List ℕ) → IsDivisorAllocation method v (no_minima v) seats t → (t ≢ s) →
-        SameQuotient (quotient method (get_or v i 0) (get_or s i 0 - 1)) (quotient method (get_or v j 0) (get_or s j 0))
+        SameQuotient (last_quotient method v s i) (next_quotient method v s j)
     meets_from t ht ne =
         let found = differ_at s t (hs.same_length ∙ sym ht.same_length) ne in
         let more : (a : ℕ) × (get_or s a 0 < get_or t a 0) = elim (cases_lt (get_or s found.0 0) (get_or t found.0 0)) [
@@ -97,15 +97,15 @@ module _ (method : Divisor) (v : List ℕ) (seats : ℕ) (s : List ℕ) (hs : Is
         let up = worth t ht more.0 more.1 in
         let z = none_needed (length v) i in
         let awarded = last.awarded in
-        let down = hs.min_max i j last.in_field next.in_field (omega arith) in
+        let down = hs.min_max i j last.weight next.weight (omega arith) in
         omega (arith, up, down)
 
-    meets_to : SameQuotient (quotient method (get_or v i 0) (get_or s i 0 - 1)) (quotient method (get_or v j 0) (get_or s j 0)) →
+    meets_to : SameQuotient (last_quotient method v s i) (next_quotient method v s j) →
         (t : List ℕ) × IsDivisorAllocation method v (no_minima v) seats t × (t ≢ s)
     meets_to same =
         let law = tops_law.falling in
         let l = divisor_ladders method v (no_minima v) in
-        let f = last.in_field in
+        let f = last.weight in
         let b = last_batch l law seats (tops_law.room seats i f) (omega (arith, sum_zeros (length v))) in
         let d = increasing_distinct b.peers b.listed.in_order in
         let within = peers_within l law b.start b.peers b.settled b.listed in
@@ -114,7 +114,7 @@ module _ (method : Divisor) (v : List ℕ) (seats : ℕ) (s : List ℕ) (hs : Is
         let settled : IsSettled l s = subst (λ y. IsSettled l y) (sym e) b.settled in
         let zi = none_needed (length v) i in
         let awarded = last.awarded in
-        let apart = settled.apart i j (omega arith) (has_of method v (no_minima v) j (get_or s j 0) next.in_field) in
+        let apart = settled.apart i j (omega arith) (has_of method v (no_minima v) j (get_or s j 0) next.weight) in
         omega (arith, apart, same) in
         elim (cases_lt 0 b.k) [
           | inr g ↦ absurd (unique (omega arith))
@@ -131,44 +131,3 @@ module _ (method : Divisor) (v : List ℕ) (seats : ℕ) (s : List ℕ) (hs : Is
 
 pub equal_bounds : EqualBounds
 equal_bounds method v seats s hs i j last next = (meets_to method v seats s hs i j last next, λ other. meets_from method v seats s hs i j last next other.0 other.1 other.2)
-
--- rounding
-rounded : (n d k : ℕ) → 0 < d → k * d ≤ n → n < (k + 1) * d → n / d ≡ k
-rounded n d k pos low high = div-eq_of_lt-le d low high
-
-up_to : (v s p r : ℕ) → 0 < p → v * r < p * s → (0 < s → p * (s - 1) < v * r) → (v * r + (p - 1)) / p ≡ s
-up_to v zero p r pos below above = absurd (omega arith)
-up_to v (suc s) p r pos below above =
-    let above' : p * s < v * r = (let h = above (omega arith) in let e : suc s - 1 ≡ s = omega arith in rw e at h) in
-    rounded (v * r + (p - 1)) p (suc s) pos (omega arith) (omega arith)
-
-down_to : (v s p r : ℕ) → 0 < p → v * r < p * (s + 1) → (0 < s → p * (s - 1 + 1) < v * r) → v * r / p ≡ s
-down_to v zero p r pos below above = rounded (v * r) p 0 pos (omega arith) (omega arith)
-down_to v (suc s) p r pos below above =
-    let above' : p * (s + 1) < v * r = (let h = above (omega arith) in let e : suc s - 1 ≡ s = omega arith in rw e at h) in
-    rounded (v * r) p (suc s) pos (omega arith) (omega arith)
-
-nearest_to : (v s p r : ℕ) → 0 < p → 2 * v * r < p * (2 * s + 1) → (0 < s → p * (2 * (s - 1) + 1) < 2 * v * r) → (2 * (v * r) + p) / (2 * p) ≡ s
-nearest_to v zero p r pos below above = rounded (2 * (v * r) + p) (2 * p) 0 (omega arith) (omega arith) (omega arith)
-nearest_to v (suc s) p r pos below above =
-    let above' : p * (2 * s + 1) < 2 * v * r = (let h = above (omega arith) in let e : suc s - 1 ≡ s = omega arith in rw e at h) in
-    rounded (2 * (v * r) + p) (2 * p) (suc s) (omega arith) (omega arith) (omega arith)
-
--- half of an odd number of dividers is not between
-not_half : (v s p r n : ℕ) → 0 < p → 2 * v * r < p * (2 * s + 1) → (0 < s → p * (2 * (s - 1) + 1) < 2 * v * r) → 2 * (v * r) ≡ (2 * n + 1) * p → ⊥
-not_half v zero p r n pos below above e =
-    let least : 1 * p ≤ (2 * n + 1) * p = mul-le-mul_right p (omega arith) in omega arith
-not_half v (suc s) p r n pos below above e =
-    let above' : p * (2 * s + 1) < 2 * v * r = (let h = above (omega arith) in let e' : suc s - 1 ≡ s = omega arith in rw e' at h) in
-    elim (cases_lt n (suc s)) [
-      | inl l ↦ (let most : (2 * n + 1) * p ≤ (2 * s + 1) * p = mul-le-mul_right p (omega arith) in omega arith)
-      | inr g ↦ (let least : (2 * suc s + 1) * p ≤ (2 * n + 1) * p = mul-le-mul_right p (omega arith) in omega arith)
-    ]
-
-pub every_divisor_between : EveryDivisorBetween
-every_divisor_between v s d pos = record {
-  adams = λ h i f. up_to (get_or v i 0) (get_or s i 0) d.num d.den pos (h.above_next i f) (h.below_last i f);
-  webster = λ h i f. nearest_to (get_or v i 0) (get_or s i 0) d.num d.den pos (h.above_next i f) (h.below_last i f);
-  no_half = λ h i f n. not_half (get_or v i 0) (get_or s i 0) d.num d.den n pos (h.above_next i f) (h.below_last i f);
-  jefferson = λ h i f. down_to (get_or v i 0) (get_or s i 0) d.num d.den pos (h.above_next i f) (h.below_last i f);
-}

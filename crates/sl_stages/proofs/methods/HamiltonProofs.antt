@@ -26,7 +26,7 @@ sum_times : (k : ℕ) (xs : List ℕ) → sum (map (λ x. k * x) xs) ≡ k * sum
 sum_times k [] = omega arith
 sum_times k (x ∷ xs) = sum-cons (k * x) (map (λ y. k * y) xs) ∙ (let rest = sum_times k xs in rw (sum-cons x xs) (omega (arith, rest)))
 
-zero_div : (n : ℕ) → 0 / n ≡ 0
+pub zero_div : (n : ℕ) → 0 / n ≡ 0
 zero_div zero = refl
 zero_div (suc n) = omega arith
 

@@ -104,21 +104,44 @@ is_prefer _ = false
 abbrev pub is_seat_number : ℕ → Bool
 is_seat_number n = nat_le 1 n && nat_le n MAX_SEATS
 
+-- ---- the tests of a node of an expression, by the types of its arguments
+
+-- a stage's name: it is one of those columns
+abbrev pub name_tests : List Column → ℕ → List ℕ → List (Test CheckFault)
+name_tests cs at n = test (list_any (is_named n) cs) (fault.StageUnknown at) ∷ []
+
+abbrev pub sum_tests : ℕ → ColumnType → Axis → List (Test CheckFault)
+sum_tests at e over = test (can_sum e.shape over) (fault.Shape at) ∷ []
+
+-- two columns of one shape, and of one unit
+abbrev pub pair_tests : ℕ → ColumnType → ColumnType → List (Test CheckFault)
+pair_tests at l r = test (same_shape l.shape r.shape) (fault.Shape at) ∷ test (same_unit l.unit r.unit) (fault.Unit at) ∷ []
+
+abbrev pub split_tests : ℕ → ColumnType → ColumnType → Method → Majority → List (Test CheckFault)
+split_tests at s v method m =
+    test (not (is_prefer m) || is_hamilton method) (fault.MethodOption at)
+    ∷ test (can_split s.shape v.shape) (fault.Shape at)
+    ∷ test (same_unit s.unit unit.Seats && same_unit v.unit unit.Votes) (fault.Unit at) ∷ []
+
+abbrev pub share_from_tests : ℕ → ColumnType → ColumnType → ColumnType → List (Test CheckFault)
+share_from_tests at s v f =
+    test (can_split s.shape v.shape && same_shape f.shape v.shape) (fault.Shape at)
+    ∷ test (same_unit s.unit unit.Seats && same_unit v.unit unit.Votes && same_unit f.unit unit.Seats) (fault.Unit at) ∷ []
+
+abbrev pub split_from_tests : ℕ → ColumnType → ColumnType → ColumnType → Method → Majority → List (Test CheckFault)
+split_from_tests at s v f method m = test (not (is_prefer m) && not (is_hamilton method)) (fault.MethodOption at) ∷ share_from_tests at s v f
+
+abbrev pub grow_tests : ℕ → ColumnType → ColumnType → ColumnType → Method → Number → Majority → List (Test CheckFault)
+grow_tests at s v f method cap m =
+    test (not (is_prefer m) && not (is_hamilton method)) (fault.MethodOption at)
+    ∷ test (is_seat_number cap.value) (fault.CapRange cap.at)
+    ∷ test (same_shape s.shape shape.One && can_split s.shape v.shape && same_shape f.shape v.shape) (fault.Shape at)
+    ∷ test (same_unit s.unit unit.Seats && same_unit v.unit unit.Votes && same_unit f.unit unit.Seats) (fault.Unit at) ∷ []
+
 module _ (cs : List Column) where
-  abbrev pub shape_of : ExprTree → Shape
-  shape_of e = (type_of cs e).shape
-
-  abbrev pub is_seats : ExprTree → Bool
-  is_seats e = same_unit (type_of cs e).unit unit.Seats
-
-  abbrev pub is_votes : ExprTree → Bool
-  is_votes e = same_unit (type_of cs e).unit unit.Votes
-
-  -- two columns of one shape, and of one unit
+  -- two expressions of one shape, and of one unit
   abbrev pub alike_tests : ℕ → ExprTree → ExprTree → List (Test CheckFault)
-  alike_tests at l r =
-      test (same_shape (shape_of l) (shape_of r)) (fault.Shape at)
-      ∷ test (same_unit (type_of cs l).unit (type_of cs r).unit) (fault.Unit at) ∷ []
+  alike_tests at l r = pair_tests at (type_of cs l) (type_of cs r)
 
   -- the tests of an expression: those of its arguments from left to right, and then its own
   abbrev pub expr_tests : ExprTree → List (Test CheckFault)
@@ -128,23 +151,15 @@ module _ (cs : List Column) where
   expr_tests (outside at) = []
   expr_tests (independents at) = []
   expr_tests (population at) = []
-  expr_tests (name at n) = test (list_any (is_named n) cs) (fault.StageUnknown at) ∷ []
-  expr_tests (sum at e over) = expr_tests e ++ test (can_sum (shape_of e) over) (fault.Shape at) ∷ []
+  expr_tests (name at n) = name_tests cs at n
+  expr_tests (sum at e over) = expr_tests e ++ sum_tests at (type_of cs e) over
   expr_tests (larger at l r) = expr_tests l ++ (expr_tests r ++ alike_tests at l r)
   expr_tests (less at l r) = expr_tests l ++ (expr_tests r ++ alike_tests at l r)
-  expr_tests (split at s v method m) = expr_tests s ++ (expr_tests v ++ (
-      test (not (is_prefer m) || is_hamilton method) (fault.MethodOption at)
-      ∷ test (can_split (shape_of s) (shape_of v)) (fault.Shape at)
-      ∷ test (is_seats s && is_votes v) (fault.Unit at) ∷ []))
-  expr_tests (split_from at s v method f m) = expr_tests s ++ (expr_tests v ++ (expr_tests f ++ (
-      test (not (is_prefer m) && not (is_hamilton method)) (fault.MethodOption at)
-      ∷ test (can_split (shape_of s) (shape_of v) && same_shape (shape_of f) (shape_of v)) (fault.Shape at)
-      ∷ test (is_seats s && is_votes v && is_seats f) (fault.Unit at) ∷ [])))
-  expr_tests (grow at s v method f cap m) = expr_tests s ++ (expr_tests v ++ (expr_tests f ++ (
-      test (not (is_prefer m) && not (is_hamilton method)) (fault.MethodOption at)
-      ∷ test (is_seat_number cap.value) (fault.CapRange cap.at)
-      ∷ test (same_shape (shape_of s) shape.One && can_split (shape_of s) (shape_of v) && same_shape (shape_of f) (shape_of v)) (fault.Shape at)
-      ∷ test (is_seats s && is_votes v && is_seats f) (fault.Unit at) ∷ [])))
+  expr_tests (split at s v method m) = expr_tests s ++ (expr_tests v ++ split_tests at (type_of cs s) (type_of cs v) method m)
+  expr_tests (split_from at s v method f m) =
+      expr_tests s ++ (expr_tests v ++ (expr_tests f ++ split_from_tests at (type_of cs s) (type_of cs v) (type_of cs f) method m))
+  expr_tests (grow at s v method f cap m) =
+      expr_tests s ++ (expr_tests v ++ (expr_tests f ++ grow_tests at (type_of cs s) (type_of cs v) (type_of cs f) method cap m))
 
 -- how many splits and growths an expression has
 abbrev pub splits_in : ExprTree → ℕ
@@ -162,22 +177,26 @@ splits_in (split at s v method m) = 1 + splits_in s + splits_in v
 splits_in (split_from at s v method f m) = 1 + splits_in s + splits_in v + splits_in f
 splits_in (grow at s v method f cap m) = 1 + splits_in s + splits_in v + splits_in f
 
--- the column of a stage behind those
-abbrev pub column_of : List Column → StageTree → Column
-column_of cs s = record { name = s.name; type = type_of cs s.expr }
+-- the column of a stage after those
+abbrev pub stage_column : List Column → StageTree → Column
+stage_column cs s = record { name = s.name; type = type_of cs s.expr }
 
--- the columns behind these stages
+-- the columns after these stages
 abbrev pub columns_of : List Column → List StageTree → List Column
 columns_of cs [] = cs
-columns_of cs (s ∷ ss) = columns_of (cs ++ column_of cs s ∷ []) ss
+columns_of cs (s ∷ ss) = columns_of (cs ++ stage_column cs s ∷ []) ss
 
--- the tests of the stages behind those columns
-abbrev pub stages_tests : List Column → List StageTree → List (Test CheckFault)
-stages_tests cs [] = []
-stages_tests cs (s ∷ ss) =
+-- the tests of a stage after those columns: its name, the number of its splits, and its expression
+abbrev pub stage_tests : List Column → StageTree → List (Test CheckFault)
+stage_tests cs s =
     test (not (list_any (is_named s.name) cs)) (fault.StageTwice s.at)
     ∷ test (nat_le (splits_in s.expr) 1) (fault.TwoSplits s.at)
-    ∷ (expr_tests cs s.expr ++ stages_tests (cs ++ column_of cs s ∷ []) ss)
+    ∷ expr_tests cs s.expr
+
+-- the tests of the stages after those columns
+abbrev pub stages_tests : List Column → List StageTree → List (Test CheckFault)
+stages_tests cs [] = []
+stages_tests cs (s ∷ ss) = stage_tests cs s ++ stages_tests (cs ++ stage_column cs s ∷ []) ss
 
 -- a number is 1 or 2; and `vacate`, at its offset, stands in version 2 alone
 abbrev pub version_tests : Number → Option ℕ → List (Test CheckFault)
@@ -195,8 +214,8 @@ condition_tests (condition.All ∷ rest) = condition_tests rest
 abbrev pub base_tests : List Column → ℕ → Base → List (Test CheckFault)
 base_tests cs at base.Winners = []
 base_tests cs at (base.Stage n) =
-    test (list_any (is_named n) cs) (fault.StageUnknown at)
-    ∷ test (same_shape (type_of cs (name at n)).shape shape.List && same_unit (type_of cs (name at n)).unit unit.Seats) (fault.SeatsShape at) ∷ []
+    name_tests cs at n
+    ++ test (same_shape (type_of cs (name at n)).shape shape.List && same_unit (type_of cs (name at n)).unit unit.Seats) (fault.SeatsShape at) ∷ []
 
 -- every test of a book, in order
 abbrev pub tests_of : BookTree → List (Test CheckFault)

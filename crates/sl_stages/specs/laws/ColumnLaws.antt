@@ -41,7 +41,7 @@ abbrev pub most_of : ColumnType → ℕ
 most_of t = lists_in t.shape * most_of_list t.unit
 
 -- the column has a number for each entry of its shape, none of them too great, and 0 for a pair of Land and party without a list
-pub record HasType (e : Election) (t : ColumnType) (c : List ℕ) : Type 0 where
+pub record FitsType (e : Election) (t : ColumnType) (c : List ℕ) : Type 0 where
   pub size : length c ≡ size_of e t.shape
   pub most : All (λ n. n ≤ most_of t) c
   pub lists_alone : t.shape ≡ shape.List → (land party : ℕ) → land < lands_of e → party < parties_of e → has_list e land party ≡ false →
@@ -50,14 +50,14 @@ pub record HasType (e : Election) (t : ColumnType) (c : List ℕ) : Type 0 where
 -- each column has its name and its type
 pub record IsTypedAs (e : Election) (t : TypedColumn) (c : NamedColumn) : Type 0 where
   pub name : t.name ≡ c.name
-  pub type : HasType e t.type c.values
+  pub type : FitsType e t.type c.values
 
 -- behind columns of their types, a well-formed expression is a column of its type
 abbrev pub TypedExpressions : Type 0
 TypedExpressions =
     (b : BookTree) (e : Election) (c : Context) (x : ExprTree) (values : List ℕ) (records : Records) →
     is_typed b ≡ true → IsElection e → AllZip (IsTypedAs e) c.types c.columns → first_failing (expr_tests c.types x) ≡ None →
-    ExprMeans b e c x (Column values records) → HasType e (type_of c.types x) values
+    ExprMeans b e c x (Column values records) → FitsType e (type_of c.types x) values
 
 -- so the columns of a well-formed book have their types
 abbrev pub TypedStages : Type 0

@@ -1,10 +1,10 @@
 -- What the expressions of a rulebook mean on returns (docs/meaning.md, sections 2 and 3).
-use Rattle.std.specs.Prelude.{◌≡◌, ℕ, ◌-◌, Bool, List, [], ◌∷◌, ◌++◌, Some, find, map, max, sum, sum_by, unwrap_or, option_map}
+use Rattle.std.specs.Prelude.{◌≡◌, ℕ, ◌-◌, Bool, List, [], ◌∷◌, Some, find, map, max, sum, sum_by, unwrap_or, option_map}
 use Rattle.std.specs.List.{zip}
 use Rattle.std.specs.Str.{bytes_eq}
 use Rattle.sl_stages.specs.declared.book.Axis.{Axis}
 use Rattle.sl_stages.specs.declared.book.Axis.TheVariants as axis
-use Rattle.sl_stages.specs.book.Trees.{ExprTree, house, counted, winners, outside, independents, population, name, sum as sum_tree, larger, less, split, split_from, grow, StageTree, BookTree}
+use Rattle.sl_stages.specs.book.Trees.{ExprTree, house, counted, winners, outside, independents, population, name, BookTree}
 use Rattle.sl_stages.specs.returns.Election.{Election}
 use Rattle.sl_stages.specs.returns.Facts.{lands, parties, by_party, by_land, list_cell, counted_votes, list_winners, outside_winners, independent_winners}
 
@@ -30,23 +30,13 @@ abbrev pub less_of : List ℕ → List ℕ → List ℕ
 less_of left right = map (λ x. x.0 - x.1) (zip left right)
 
 module _ (b : BookTree) (e : Election) where
-  -- the expression, one without splits and growths, is that column, where those are the columns of the stages before it
-  abbrev pub IsColumn : List NamedColumn → ExprTree → List ℕ → Type 0
-  IsColumn stages (house at) c = c ≡ unwrap_or e.house b.house.value ∷ []
-  IsColumn stages (counted at) c = c ≡ counted_votes b.eligible e
-  IsColumn stages (winners at) c = c ≡ list_winners b.eligible e
-  IsColumn stages (outside at) c = c ≡ outside_winners b.eligible e
-  IsColumn stages (independents at) c = c ≡ independent_winners b.eligible e
-  IsColumn stages (population at) c = c ≡ e.populations
-  IsColumn stages (name at n) c = option_map (λ s. s.values) (find (is_column_of n) stages) ≡ Some c
-  IsColumn stages (sum_tree at x over) c = (xs : List ℕ) × IsColumn stages x xs × (c ≡ sum_over e over xs)
-  IsColumn stages (larger at x y) c = (xs : List ℕ) × (ys : List ℕ) × IsColumn stages x xs × IsColumn stages y ys × (c ≡ larger_of xs ys)
-  IsColumn stages (less at x y) c = (xs : List ℕ) × (ys : List ℕ) × IsColumn stages x xs × IsColumn stages y ys × (c ≡ less_of xs ys)
-  IsColumn stages (split at s v method m) c = ⊥
-  IsColumn stages (split_from at s v method f m) c = ⊥
-  IsColumn stages (grow at s v method f cap m) c = ⊥
-
-  -- these stages, behind those columns, have in the end all of these columns
-  abbrev pub AreColumns : List NamedColumn → List StageTree → List NamedColumn → Type 0
-  AreColumns before [] all = all ≡ before
-  AreColumns before (s ∷ ss) all = (c : List ℕ) × IsColumn before s.expr c × AreColumns (before ++ record { name = s.name; values = c } ∷ []) ss all
+  -- a leaf of an expression is that column, where those are the columns of the stages before it
+  abbrev pub IsLeaf : List NamedColumn → ExprTree → List ℕ → Type 0
+  IsLeaf stages (house at) c = c ≡ unwrap_or e.house b.house.value ∷ []
+  IsLeaf stages (counted at) c = c ≡ counted_votes b.eligible e
+  IsLeaf stages (winners at) c = c ≡ list_winners b.eligible e
+  IsLeaf stages (outside at) c = c ≡ outside_winners b.eligible e
+  IsLeaf stages (independents at) c = c ≡ independent_winners b.eligible e
+  IsLeaf stages (population at) c = c ≡ e.populations
+  IsLeaf stages (name at n) c = option_map (λ s. s.values) (find (is_column_of n) stages) ≡ Some c
+  IsLeaf stages _ c = ⊥

@@ -12,7 +12,7 @@ use Rattle.sl_stages.specs.returns.Election.{Election}
 use Rattle.sl_stages.specs.book.Typing.{Column as TypedColumn, type_of, is_prefer}
 use Rattle.sl_stages.specs.methods.Field.{no_minima}
 use Rattle.sl_stages.specs.methods.LeastHouse.{outside_minima}
-use Rattle.sl_stages.specs.meaning.Columns.{NamedColumn, IsColumn, sum_over, larger_of, less_of}
+use Rattle.sl_stages.specs.meaning.Columns.{NamedColumn, IsLeaf, sum_over, larger_of, less_of}
 use Rattle.sl_stages.specs.meaning.Scopes.{Group, cells, scopes}
 use Rattle.sl_stages.specs.meaning.Lots.{stage_lot}
 use Rattle.sl_stages.specs.meaning.Records.{Records, divisor_steps, hamilton_steps, field_weights, tells_weights}
@@ -82,18 +82,18 @@ abbrev pub stand : Context → ExprTree → Stand
 stand c votes = record { stage = c.stage; name = c.name; shape = shape_in c votes }
 
 module _ (b : BookTree) (e : Election) (c : Context) where
-  -- a column that is no expression of others
-  abbrev pub IsNamed : ExprTree → ExprResult → Type 0
-  IsNamed x r = (values : List ℕ) × IsColumn b e c.columns x values × (r ≡ plain values)
+  -- a leaf comes to its column
+  abbrev pub IsLeafResult : ExprTree → ExprResult → Type 0
+  IsLeafResult x r = (values : List ℕ) × IsLeaf b e c.columns x values × (r ≡ plain values)
 
   abbrev pub ExprMeans : ExprTree → ExprResult → Type 0
-  ExprMeans (house at) = IsNamed (house at)
-  ExprMeans (counted at) = IsNamed (counted at)
-  ExprMeans (winners at) = IsNamed (winners at)
-  ExprMeans (outside at) = IsNamed (outside at)
-  ExprMeans (independents at) = IsNamed (independents at)
-  ExprMeans (population at) = IsNamed (population at)
-  ExprMeans (name at n) = IsNamed (name at n)
+  ExprMeans (house at) = IsLeafResult (house at)
+  ExprMeans (counted at) = IsLeafResult (counted at)
+  ExprMeans (winners at) = IsLeafResult (winners at)
+  ExprMeans (outside at) = IsLeafResult (outside at)
+  ExprMeans (independents at) = IsLeafResult (independents at)
+  ExprMeans (population at) = IsLeafResult (population at)
+  ExprMeans (name at n) = IsLeafResult (name at n)
   ExprMeans (sum at x over) = Then (ExprMeans x) (λ xs r. r ≡ plain (sum_over e over xs))
   ExprMeans (larger at x y) = Then (ExprMeans x) (λ xs. Then (ExprMeans y) (λ ys r. r ≡ plain (larger_of xs ys)))
   ExprMeans (less at x y) = Then (ExprMeans x) (λ xs. Then (ExprMeans y) (λ ys r. r ≡ plain (less_of xs ys)))

@@ -9,14 +9,15 @@ use Rattle.sl_stages.specs.declared.table.Outcome.TheVariants as outcome
 use Rattle.sl_stages.specs.meaning.Tables.{SeatTable}
 use Rattle.sl_stages.specs.book.Trees.{StageTree, BookTree}
 use Rattle.sl_stages.specs.returns.Election.{Election}
-use Rattle.sl_stages.specs.book.Typing.{Column as TypedColumn, column_of as typed_column}
+use Rattle.sl_stages.specs.returns.Facts.{lists_of, is_eligible}
+use Rattle.sl_stages.specs.book.Typing.{Column as TypedColumn, stage_column}
 use Rattle.sl_stages.specs.methods.Ties.{Choice}
-use Rattle.sl_stages.specs.meaning.Columns.{NamedColumn, IsColumn}
+use Rattle.sl_stages.specs.meaning.Columns.{NamedColumn, IsLeaf}
 use Rattle.sl_stages.specs.meaning.Seating.{base_of}
 use Rattle.sl_stages.specs.meaning.Records.{Records, no_records, both_records}
 use Rattle.sl_stages.specs.meaning.Results.{ExprResult, Column, Fault}
 use Rattle.sl_stages.specs.meaning.Expressions.{Context, ExprMeans}
-use Rattle.sl_stages.specs.meaning.Seating.{keep_table, lists_of, IsSeating, tie_of, cover_table}
+use Rattle.sl_stages.specs.meaning.Seating.{keep_table, IsSeating, tie_of, cover_table}
 
 -- ---- stages
 
@@ -36,22 +37,22 @@ context_of k s = record { stage = length k.columns; name = s.name; types = k.typ
 -- what is known behind that stage too
 abbrev pub with_stage : Known → StageTree → List ℕ → Records → Known
 with_stage k s values records = record {
-  types = k.types ++ typed_column k.types s ∷ [];
+  types = k.types ++ stage_column k.types s ∷ [];
   columns = k.columns ++ record { name = s.name; values = values } ∷ [];
   records = both_records k.records records;
 }
 
 -- what stages come to: their columns, or the first fault
-pub data Run : Type 0 where
-  Through : (known : Known) → Run
-  Stopped : (fault : LegalFault) → Run
+pub data StagesResult : Type 0 where
+  Through : (known : Known) → StagesResult
+  Stopped : (fault : LegalFault) → StagesResult
 
 -- a fault stops the run, and a column goes on
-abbrev pub GoesOn : ExprResult → (List ℕ → Records → Type 0) → Run → Type 0
+abbrev pub GoesOn : ExprResult → (List ℕ → Records → Type 0) → StagesResult → Type 0
 GoesOn (Fault f) OnColumn r = r ≡ Stopped f
 GoesOn (Column values records) OnColumn r = OnColumn values records
 
-abbrev pub StagesMean : BookTree → Election → Known → List StageTree → Run → Type 0
+abbrev pub StagesMean : BookTree → Election → Known → List StageTree → StagesResult → Type 0
 StagesMean b e k [] r = r ≡ Through k
 StagesMean b e k (s ∷ ss) r =
     (first : ExprResult) × ExprMeans b e (context_of k s) s.expr first ×
@@ -62,8 +63,8 @@ StagesMean b e k (s ∷ ss) r =
 -- under `cover` each list, in list order, comes to a choice between its winners; the first tie is the outcome
 pub record IsCovered (b : BookTree) (e : Election) (base : List ℕ) (records : Records) (o : Outcome) : Type 0 where
   pub choices : List Choice
-  pub each : AllZip (IsSeating b e base) (lists_of e) choices
-  pub is : o ≡ unwrap_or (option_map (λ f. outcome.Fault f) (slice_get (filter_map (tie_of b e) (zip (lists_of e) choices)) 0))
+  pub each : AllZip (IsSeating (is_eligible b.eligible e) e base) (lists_of e) choices
+  pub is : o ≡ unwrap_or (option_map (λ f. outcome.Fault f) (slice_get (filter_map (tie_of (is_eligible b.eligible e) e (length b.stages)) (zip (lists_of e) choices)) 0))
       (outcome.Table (cover_table b e base records (zip (lists_of e) choices)))
 
 abbrev pub IsSeated : BookTree → Election → Seating → List ℕ → Records → Outcome → Type 0
@@ -73,16 +74,16 @@ IsSeated b e seating.Cover base records o = IsCovered b e base records o
 -- the last clause, behind the stages
 pub record IsEnd (b : BookTree) (e : Election) (k : Known) (o : Outcome) : Type 0 where
   pub base : List ℕ
-  pub is_base : IsColumn b e k.columns (base_of b.last) base
+  pub is_base : IsLeaf b e k.columns (base_of b.last) base
   pub seated : IsSeated b e b.last.seating base k.records o
 
-abbrev pub EndsAs : BookTree → Election → Run → Outcome → Type 0
+abbrev pub EndsAs : BookTree → Election → StagesResult → Outcome → Type 0
 EndsAs b e (Stopped f) o = o ≡ outcome.Fault f
 EndsAs b e (Through k) o = IsEnd b e k o
 
 -- the outcome, with a table's steps and weights in the order of stages, scopes and entries
 pub record IsOutcome (b : BookTree) (e : Election) (o : Outcome) : Type 0 where
-  pub run : Run
+  pub run : StagesResult
   pub stages : StagesMean b e nothing_known b.stages run
   pub ends : EndsAs b e run o
 

@@ -9,7 +9,7 @@ use Rattle.sl_stages.specs.declared.fault.FaultKind.{FaultKind}
 use Rattle.sl_stages.specs.declared.fault.FaultKind.TheVariants as fault
 use Rattle.sl_stages.specs.declared.fault.LegalFault.{LegalFault}
 use Rattle.sl_stages.specs.returns.Election.{Election}
-use Rattle.sl_stages.specs.meaning.Scopes.{Group, column_of}
+use Rattle.sl_stages.specs.meaning.Scopes.{Group, pair_column}
 use Rattle.sl_stages.specs.meaning.Records.{Records, no_records, both_records}
 use Rattle.sl_stages.specs.meaning.Splits.{Award, Seats, Refused, awarded}
 
@@ -57,7 +57,7 @@ fault_of n x = in_scope x.1 where
 module _ (e : Election) (at : Stand) (amounts : List ℕ) where
   -- the amount of seats of a scope
   abbrev pub amount_of : Group → ℕ
-  amount_of g = slice_index amounts g.amount
+  amount_of g = slice_index amounts g.amount_place
 
   -- the first scope that has more seats to give out than the limit
   abbrev pub first_over : List Group → Option Group
@@ -68,7 +68,7 @@ module _ (e : Election) (at : Stand) (amounts : List ℕ) where
   joined records groups awards =
       let given = zip groups awards in
       unwrap_or (option_map (λ f. Fault f) (slice_get (filter_map (fault_of at.stage) given) 0))
-      (Column (column_of e at.shape (flat_map (λ x. zip x.0.entries (awarded x.1)) given))
+      (Column (pair_column e at.shape (flat_map (λ x. zip x.0.entries (awarded x.1)) given))
       (record {
         steps = flat_map (λ x. (records x.0 (awarded x.1)).steps) given;
         weights = flat_map (λ x. (records x.0 (awarded x.1)).weights) given;

@@ -1,5 +1,5 @@
 -- The scopes of a split: in each of them an amount of seats is given out among entries (docs/meaning.md, section 4).
-use Rattle.std.specs.Prelude.{ℕ, ◌+◌, ◌*◌, Bool, false, ◌&&◌, List, [], ◌∷◌, map, filter, flat_map, nat_eq, slice_index, unwrap_or, option_map, find}
+use Rattle.std.specs.Prelude.{ℕ, ◌+◌, ◌*◌, Bool, false, ◌&&◌, List, [], ◌∷◌, map, filter, nat_eq, slice_index, unwrap_or, option_map, find}
 use Rattle.sl_stages.specs.declared.book.Shape.{Shape}
 use Rattle.sl_stages.specs.declared.book.Shape.TheVariants as shape
 use Rattle.sl_stages.specs.declared.fault.Scope.{Scope}
@@ -7,7 +7,7 @@ use Rattle.sl_stages.specs.declared.fault.Scope.TheVariants as scope
 use Rattle.sl_stages.specs.declared.fault.Item.{Item}
 use Rattle.sl_stages.specs.declared.fault.Item.TheVariants as item
 use Rattle.sl_stages.specs.returns.Election.{Election, parties_of, has_list}
-use Rattle.sl_stages.specs.returns.Facts.{lands, parties, by_party, by_land, by_list}
+use Rattle.sl_stages.specs.returns.Facts.{lands, parties, each_list, by_party, by_land, by_list}
 
 -- ---- entries
 
@@ -38,7 +38,7 @@ abbrev pub lists_of_party : Election → ℕ → List Item
 lists_of_party e party = map (λ land. item.List land party) (filter (λ land. has_list e land party) (lands e))
 
 abbrev pub all_lists : Election → List Item
-all_lists e = flat_map (lists_in_land e) (lands e)
+all_lists e = each_list e (λ land party. item.List land party)
 
 -- the entries of a column of parties, of Länder or of lists. Pairs of Land and party without a list are none
 abbrev pub entries_of : Election → Shape → List Item
@@ -52,15 +52,15 @@ entries_of e shape.List = all_lists e
 -- a scope: its name, where its amount stands in the column of the amounts, and its entries in entry order
 pub record Group : Type 0 where
   pub scope : Scope
-  pub amount : ℕ
+  pub amount_place : ℕ
   pub entries : List Item
 
 -- the scopes in which amounts of one shape are given out among entries of another, in order: one scope for all entries; for each party
 -- one of its lists; for each Land one of the lists in it
 abbrev pub scopes : Election → Shape → Shape → List Group
-scopes e shape.One votes = record { scope = scope.All; amount = 0; entries = entries_of e votes } ∷ []
-scopes e shape.Party votes = map (λ party. record { scope = scope.Party party; amount = party; entries = lists_of_party e party }) (parties e)
-scopes e shape.Land votes = map (λ land. record { scope = scope.Land land; amount = land; entries = lists_in_land e land }) (lands e)
+scopes e shape.One votes = record { scope = scope.All; amount_place = 0; entries = entries_of e votes } ∷ []
+scopes e shape.Party votes = map (λ party. record { scope = scope.Party party; amount_place = party; entries = lists_of_party e party }) (parties e)
+scopes e shape.Land votes = map (λ land. record { scope = scope.Land land; amount_place = land; entries = lists_in_land e land }) (lands e)
 scopes e shape.List votes = []
 
 -- ---- columns of seats
@@ -70,8 +70,8 @@ abbrev pub told_of : List (Item × ℕ) → Item → ℕ
 told_of pairs i = unwrap_or (option_map (λ x. x.1) (find (λ x. same_item i x.0) pairs)) 0
 
 -- the column of that shape that these pairs of an entry and its number make, 0 where there is no entry
-abbrev pub column_of : Election → Shape → List (Item × ℕ) → List ℕ
-column_of e shape.One pairs = []
-column_of e shape.Party pairs = by_party e (λ party. told_of pairs (item.Party party))
-column_of e shape.Land pairs = by_land e (λ land. told_of pairs (item.Land land))
-column_of e shape.List pairs = by_list e (λ land party. told_of pairs (item.List land party))
+abbrev pub pair_column : Election → Shape → List (Item × ℕ) → List ℕ
+pair_column e shape.One pairs = []
+pair_column e shape.Party pairs = by_party e (λ party. told_of pairs (item.Party party))
+pair_column e shape.Land pairs = by_land e (λ land. told_of pairs (item.Land land))
+pair_column e shape.List pairs = by_list e (λ land party. told_of pairs (item.List land party))

@@ -16,8 +16,8 @@ use Rattle.sl_stages.specs.declared.table.Placed.TheVariants as placed
 use Rattle.sl_stages.specs.meaning.Tables.{SeatTable}
 use Rattle.sl_stages.specs.book.Trees.{ExprTree, winners, name, BookTree}
 use Rattle.sl_stages.specs.returns.Votes.{slate_in}
-use Rattle.sl_stages.specs.returns.Election.{Election, list_at, has_list}
-use Rattle.sl_stages.specs.returns.Facts.{lands, parties, list_cell, list_winners, is_of, is_in, is_on_list}
+use Rattle.sl_stages.specs.returns.Election.{Election, list_at}
+use Rattle.sl_stages.specs.returns.Facts.{each_list, list_cell, list_winners, is_of, is_in, is_eligible, has_eligible_list, is_on_list}
 use Rattle.sl_stages.specs.methods.Covering.{IsCovering}
 use Rattle.sl_stages.specs.methods.Ties.{Choice, Decided, Tied, IsChoice}
 use Rattle.sl_stages.specs.meaning.Lots.{seats_lot}
@@ -48,10 +48,6 @@ abbrev pub vacant_of : Option ℕ → Option ℕ → ℕ → ℕ → ℕ
 vacant_of (Some vacate) (Some names) seats direct = seats - direct - names
 vacant_of _ _ seats direct = 0
 
--- the lists, each by its Land and its party, in list order
-abbrev pub lists_of : Election → List (ℕ × ℕ)
-lists_of e = flat_map (λ land. map (λ party. (land, party)) (filter (has_list e land) (parties e))) (lands e)
-
 -- under `keep` a winner with a list sits on it, and every other winner as a single
 abbrev pub kept_place : BookTree → Election → Win → Placed
 kept_place b e w = if is_on_list b.eligible e w then placed.OnList else placed.Single
@@ -68,7 +64,7 @@ module _ (b : BookTree) (e : Election) where
 
   abbrev pub table_of : (ℕ → ℕ → ℕ) → List Placed → Records → SeatTable
   table_of seats places records = record {
-    lists = flat_map (λ land. map (table_line seats places land) (filter (has_list e land) (parties e))) (lands e);
+    lists = each_list e (table_line seats places);
     placed = places;
     steps = records.steps;
     weights = records.weights;
@@ -82,28 +78,29 @@ module _ (b : BookTree) (e : Election) where
   abbrev pub keep_table : List ℕ → Records → SeatTable
   keep_table base records = table_of (kept_seats base) (map (kept_place b e) e.wins) records
 
-  -- ---- `cover`: a list has its base, and as many winners sit on it as it has seats
+-- ---- `cover`: a list has its base, and as many winners sit on it as it has seats
 
-  -- the winners of a list, with their numbers, in file order
+module _ (eligible : ℕ → Bool) (e : Election) where
+  -- the winners of a list, where these parties are eligible, with their numbers, in file order
   abbrev pub winners_of : ℕ → ℕ → List (ℕ × Win)
-  winners_of land party = filter (λ x. is_on_list b.eligible e x.1 && (is_in land x.1 && is_of party x.1)) (enumerate_from 0 e.wins)
+  winners_of land party = filter (λ x. has_eligible_list eligible e x.1 && (is_in land x.1 && is_of party x.1)) (enumerate_from 0 e.wins)
 
   abbrev pub winner_items : ℕ → ℕ → List Item
   winner_items land party = map (λ x. item.Win x.0) (winners_of land party)
 
-  -- the choice between the winners of a list of so many seats: 1 for each who is seated
+  -- the choice between the winners of a list that has so many seats in the base: 1 for each who is seated
   abbrev pub IsSeating : List ℕ → ℕ × ℕ → Choice → Type 0
   IsSeating base l c =
       let won = winners_of l.0 l.1 in
       IsChoice (IsCovering (map (λ x. x.1.first) won) (map (λ x. x.1.valid) won) (min (list_cell e base l.0 l.1) (length won)))
       (seats_lot e (winner_items l.0 l.1)) c
 
-  -- the tie of a list, if there is one
-  abbrev pub tie_of : (ℕ × ℕ) × Choice → Option LegalFault
-  tie_of x = in_choice x.1 where
+  -- the tie of a list, if there is one, as a fault of the stage of that number
+  abbrev pub tie_of : ℕ → (ℕ × ℕ) × Choice → Option LegalFault
+  tie_of stage x = in_choice x.1 where
     in_choice : Choice → Option LegalFault
     in_choice (Decided s) = None
-    in_choice (Tied k tied) = Some (fault_at (length b.stages) (scope.List x.0.0 x.0.1) (fault.Tie k (entries_at (winner_items x.0.0 x.0.1) tied)))
+    in_choice (Tied k tied) = Some (fault_at stage (scope.List x.0.0 x.0.1) (fault.Tie k (entries_at (winner_items x.0.0 x.0.1) tied)))
 
   -- the winners who are seated on a list
   abbrev pub seated_on : (ℕ × ℕ) × Choice → List ℕ
@@ -112,11 +109,15 @@ module _ (b : BookTree) (e : Election) where
     in_choice (Decided s) = map (λ y. y.0.0) (filter (λ y. nat_eq y.1 1) (zip (winners_of x.0.0 x.0.1) s))
     in_choice (Tied k tied) = []
 
-  -- a winner who is seated on a list; an independent is a single; all others are not seated
-  abbrev pub cover_place : List ℕ → ℕ × Win → Placed
-  cover_place seated x =
-      if list_any (nat_eq x.0) seated then placed.OnList else if is_none x.1.party then placed.Single else placed.Unseated
+-- a winner who is seated on a list; an independent is a single; all others are not seated
+abbrev pub cover_place : List ℕ → ℕ × Win → Placed
+cover_place seated x =
+    if list_any (nat_eq x.0) seated then placed.OnList else if is_none x.1.party then placed.Single else placed.Unseated
 
-  abbrev pub cover_table : List ℕ → Records → List ((ℕ × ℕ) × Choice) → SeatTable
-  cover_table base records choices =
-      table_of (list_cell e base) (map (cover_place (flat_map seated_on choices)) (enumerate_from 0 e.wins)) records
+-- where a winner is seated, if those are the lists and their choices
+abbrev pub covered_places : (ℕ → Bool) → Election → List ((ℕ × ℕ) × Choice) → List Placed
+covered_places eligible e choices = map (cover_place (flat_map (seated_on eligible e) choices)) (enumerate_from 0 e.wins)
+
+-- the table by a book, whose conditions say who is eligible
+abbrev pub cover_table : BookTree → Election → List ℕ → Records → List ((ℕ × ℕ) × Choice) → SeatTable
+cover_table b e base records choices = table_of b e (list_cell e base) (covered_places (is_eligible b.eligible e) e choices) records

@@ -1,6 +1,7 @@
 -- The returns of an election, as the definitions see them (docs/returns.md, section 2).
 use Rattle.std.specs.Prelude.{◌≡◌, ℕ, ◌<◌, ◌≤◌, Bool, List, [], ◌∷◌, ◌++◌, length, replicate, Option, Some, None, is_some, slice_index_or, slice_set, All}
 use Rattle.std.specs.Option.{ForSome}
+use Rattle.sl_ratio.specs.Names.{spelling_fault, IsNameList}
 use Rattle.sl_ratio.specs.declared.limits.TheConstants.{MAX_SEATS}
 use Rattle.sl_stages.specs.declared.limits.TheConstants.{MAX_LANDS, MAX_PARTIES, MAX_WINS, MAX_LOTS, MAX_VOTES}
 use Rattle.sl_stages.specs.declared.returns.ListVotes.{ListVotes}
@@ -51,11 +52,20 @@ pub record IsWin (lands parties : ℕ) (w : Win) : Type 0 where
 abbrev pub IsCell : Option ListVotes → Type 0
 IsCell cell = ForSome cell IsListVotes
 
--- what each lot keeps: it names a Land, a party and a winner of the election
+-- what each lot keeps: a stage's name, and a Land, a party and a winner of the election
 pub record IsLot (lands parties winners : ℕ) (l : Lot) : Type 0 where
+  pub stage : spelling_fault l.stage ≡ None
   pub land : ForSome l.land (λ n. n < lands)
   pub party : ForSome l.party (λ n. n < parties)
   pub win : ForSome l.win (λ n. n < winners)
+
+-- a row has no list for a party of that number or a greater one
+abbrev pub EndsBefore : ℕ → List (Option ListVotes) → Type 0
+EndsBefore n row = (party : ℕ) → n ≤ party → slice_index_or row party None ≡ None
+
+-- at most so many names, each well spelled, and none twice
+abbrev pub AreNames : ℕ → List (List ℕ) → Type 0
+AreNames limit names = IsNameList (record { limit = limit; names = names })
 
 -- what every election keeps
 pub record IsElection (e : Election) : Type 0 where
@@ -63,6 +73,9 @@ pub record IsElection (e : Election) : Type 0 where
   pub lands : length e.land_names ≤ MAX_LANDS
   pub parties : length e.party_names ≤ MAX_PARTIES
   pub winners : length e.win_names ≤ MAX_WINS
+  pub land_names : AreNames MAX_LANDS e.land_names
+  pub party_names : AreNames MAX_PARTIES e.party_names
+  pub win_names : AreNames MAX_WINS e.win_names
   pub populations : length e.populations ≡ length e.land_names
   pub rows : length e.cells ≡ length e.land_names
   pub minorities : length e.minorities ≡ length e.party_names
@@ -70,6 +83,7 @@ pub record IsElection (e : Election) : Type 0 where
   pub people : All (λ n. n ≤ MAX_VOTES) e.populations
   pub widths : All (λ row. length row ≡ MAX_PARTIES) e.cells
   pub votes : All (All IsCell) e.cells
+  pub ends : All (EndsBefore (length e.party_names)) e.cells
   pub places : All (IsWin (length e.land_names) (length e.party_names)) e.wins
   pub drawn : length e.lots ≤ MAX_LOTS
   pub lots : All (IsLot (length e.land_names) (length e.party_names) (length e.win_names)) e.lots

@@ -1,5 +1,5 @@
 -- What the returns say of parties, lists and winners (docs/meaning.md, section 1).
-use Rattle.std.specs.Prelude.{ℕ, ◌+◌, ◌*◌, Bool, true, false, not, ◌&&◌, List, Option, Some, None, is_none, map, sum_by, count_by, flat_map, nat_eq, nat_le, slice_index, slice_index_or, if◌then◌else◌}
+use Rattle.std.specs.Prelude.{ℕ, ◌+◌, ◌*◌, Bool, true, false, not, ◌&&◌, List, Option, Some, None, is_none, map, filter, sum_by, count_by, flat_map, nat_eq, nat_le, slice_index, slice_index_or, if◌then◌else◌}
 use Rattle.std.specs.List.{list_any, range_with_len}
 use Rattle.sl_stages.specs.declared.book.Cond.{Cond}
 use Rattle.sl_stages.specs.declared.book.Cond.TheVariants as condition
@@ -13,6 +13,16 @@ lands e = range_with_len 0 (lands_of e)
 
 abbrev pub parties : Election → List ℕ
 parties e = range_with_len 0 (parties_of e)
+
+-- ---- lists, in list order: by Land, then by party
+
+-- what f gives for each list
+abbrev pub each_list : {X : Type 0} → Election → (ℕ → ℕ → X) → List X
+each_list e f = flat_map (λ land. map (f land) (filter (has_list e land) (parties e))) (lands e)
+
+-- the lists, each by its Land and its party
+abbrev pub lists_of : Election → List (ℕ × ℕ)
+lists_of e = each_list e (λ land party. (land, party))
 
 -- ---- columns: a number for each party, for each Land, or for each pair of Land and party, in the order of Länder and then of parties
 
@@ -61,16 +71,26 @@ meets e party condition.All = true
 abbrev pub is_eligible : List Cond → Election → ℕ → Bool
 is_eligible conditions e party = list_any (meets e party) conditions
 
--- an eligible party's list in a Land
-abbrev pub takes_part : List Cond → Election → ℕ → ℕ → Bool
-takes_part conditions e land party = is_eligible conditions e party && has_list e land party
+-- ---- lists of eligible parties
 
--- the winner is of an eligible party that has a list in the Land
+module _ (eligible : ℕ → Bool) (e : Election) where
+  -- an eligible party's list in a Land
+  abbrev pub is_eligible_list : ℕ → ℕ → Bool
+  is_eligible_list land party = eligible party && has_list e land party
+
+  -- the winner is of an eligible party that has a list in the Land
+  abbrev pub has_eligible_list : Win → Bool
+  has_eligible_list w = is_taken w.party where
+    is_taken : Option ℕ → Bool
+    is_taken None = false
+    is_taken (Some p) = is_eligible_list w.land p
+
+-- the same, where the parties that meet one of these conditions are eligible
+abbrev pub takes_part : List Cond → Election → ℕ → ℕ → Bool
+takes_part conditions e = is_eligible_list (is_eligible conditions e) e
+
 abbrev pub is_on_list : List Cond → Election → Win → Bool
-is_on_list conditions e w = is_taken w.party where
-  is_taken : Option ℕ → Bool
-  is_taken None = false
-  is_taken (Some p) = takes_part conditions e w.land p
+is_on_list conditions e = has_eligible_list (is_eligible conditions e) e
 
 -- ---- the columns that a book can name
 

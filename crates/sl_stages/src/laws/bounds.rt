@@ -1,13 +1,8 @@
-//! Laws of the bounds. Each function does nothing: its contract is the law.
+//! The law of the bounds. The function does nothing: its contract is the law.
 
-ghost use Rattle.sl_stages.specs.laws.EqualBounds.{EqualBounds, EveryDivisorBetween};
+ghost use Rattle.sl_stages.specs.laws.EqualBounds.{EqualBounds};
 
 /// The bounds of an allocation are equal exactly where there is another allocation.
 pub fn equal_bounds()
     ensures { EqualBounds }
-{}
-
-/// Every divisor strictly between the bounds rounds each weight to its seats.
-pub fn every_divisor_between()
-    ensures { EveryDivisorBetween }
 {}

@@ -2,6 +2,7 @@
 
 ghost use Rattle.sl_stages.specs.laws.MeaningLaws.{SomeOutcome, AtMostOneOutcome, AnyOrder, RecordsOnce, KeptWinners, CoveredWinners, PlainOutcomes};
 ghost use Rattle.sl_stages.specs.laws.ColumnLaws.{TypedExpressions, TypedStages};
+ghost use Rattle.sl_stages.specs.laws.OneLaws.{OneStagesResult, OneSplitAward, OneGrowthAward, OneSeating};
 
 /// A rulebook that passes the checks means some outcome on every election.
 pub fn some_outcome()
@@ -11,6 +12,22 @@ pub fn some_outcome()
 /// It means no two outcomes, up to the order of a table's steps and weights.
 pub fn at_most_one_outcome()
     ensures { AtMostOneOutcome }
+{}
+
+/// Its stages come to exactly one result: to their columns, or to the first fault.
+pub fn one_stages_result()
+    ensures { OneStagesResult }
+{}
+
+/// Each scope of a split, and each of a growth, comes to exactly one award.
+pub fn one_award()
+    ensures splits { OneSplitAward }
+    ensures growths { OneGrowthAward }
+{}
+
+/// Each list comes to exactly one choice between the winners whom it covers, whoever is eligible.
+pub fn one_seating()
+    ensures { OneSeating }
 {}
 
 /// The steps and the weights of a table may stand in any order.

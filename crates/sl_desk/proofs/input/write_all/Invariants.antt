@@ -5,7 +5,7 @@ use Rattle.sl_desk.proofs.input.write_all.Given as goal
 -- what is written and what is left are the text, and no call has failed
 abbrev pub invariant-writing : goal.invariant-writing
 invariant-writing g l = record {
-  written : (front : List ℕ) × (l.text ≡ front ++ l.rest) × Appends (g.W.Sink.contents l.fn.out) (g.W.Sink.contents l.out) front;
+  written : (prefix : List ℕ) × (l.text ≡ prefix ++ l.rest) × Appends (g.W.Sink.contents l.fn.out) (g.W.Sink.contents l.out) prefix;
   unfailed : g.W.Sink.failed l.out ≡ g.W.Sink.failed l.fn.out;
 }
 

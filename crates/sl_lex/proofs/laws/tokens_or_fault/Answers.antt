@@ -1,4 +1,4 @@
-use Rattle.sl_lex.proofs.OneCut.{tokens_or_fault}
+use Rattle.sl_lex.proofs.AllCuts.{tokens_or_fault}
 use Rattle.sl_lex.proofs.laws.tokens_or_fault.Goals as goal
 
 pub returns : goal.returns

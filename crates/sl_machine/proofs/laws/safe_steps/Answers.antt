@@ -1,4 +1,4 @@
-use Rattle.sl_machine.proofs.Soundness.{safe_steps}
+use Rattle.sl_machine.proofs.soundness.Soundness.{safe_steps}
 use Rattle.sl_machine.proofs.laws.safe_steps.Goals as goal
 
 pub returns : goal.returns

@@ -1,4 +1,4 @@
-use Rattle.sl_machine.proofs.Soundness.{starts_are_safe}
+use Rattle.sl_machine.proofs.soundness.Soundness.{starts_are_safe}
 use Rattle.sl_machine.proofs.laws.starts_are_safe.Goals as goal
 
 pub returns : goal.returns

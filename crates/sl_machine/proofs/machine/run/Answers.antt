@@ -1,5 +1,5 @@
 -- A run from the start is safe, and what is held at its end fits.
-use Rattle.std.proofs.Common.{◌≡◌, ℕ, ◌<◌, List, length, map, Option, Some, slice_get, refl, sym, ap, subst, ◌∙◌, arith}
+use Rattle.std.proofs.Common.{◌≡◌, ℕ, length, Option, Some, sym, ap, subst, ◌∙◌, arith}
 use Rattle.std.proofs.lemmas.List.{length-map}
 use Rattle.std.proofs.lemmas.Option.{slice_get_within}
 use Rattle.sl_stages.specs.declared.book.Shape.TheVariants as shape
@@ -10,12 +10,12 @@ use Rattle.sl_machine.specs.declared.step.End.{End}
 use Rattle.sl_machine.specs.declared.step.End.TheVariants as end
 use Rattle.sl_machine.specs.Agrees.{IsSafe}
 use Rattle.sl_machine.specs.Fits.{FitsHalt, FitsMemory}
-use Rattle.sl_machine.specs.Memories.{Held, held_of}
+use Rattle.sl_machine.specs.Memories.{Held}
 use Rattle.sl_machine.specs.State.{State}
 use Rattle.sl_machine.specs.inner.Leading.{FitsWith}
-use Rattle.sl_machine.specs.inner.Stores.{Sizes, state_of, sizes_of}
-use Rattle.sl_machine.proofs.Holding.{held_fits}
-use Rattle.sl_machine.proofs.Soundness.{starts_are_safe}
+use Rattle.sl_machine.specs.inner.Stores.{Sizes, state_of}
+use Rattle.sl_machine.proofs.stores.Holding.{held_fits}
+use Rattle.sl_machine.proofs.soundness.Soundness.{starts_are_safe}
 use Rattle.sl_machine.proofs.machine.run.Goals as goal
 
 pub steps-requires-clause-safe : goal.steps-requires-clause-safe

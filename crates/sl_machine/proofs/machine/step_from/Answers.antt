@@ -6,7 +6,7 @@ use Rattle.sl_code.specs.declared.instr.Instr.TheVariants as instr
 use Rattle.sl_machine.specs.declared.step.Effect.{Effect}
 use Rattle.sl_machine.specs.Effects.{effect}
 use Rattle.sl_machine.specs.inner.Stores.{state_of, effect_of}
-use Rattle.sl_machine.proofs.Running.{may_here, columns_here, goes_on, has_target, jumps_to, ends_with}
+use Rattle.sl_machine.proofs.runs.Leading.{may_here, columns_here, goes_on, has_target, jumps_to, ends_with}
 use Rattle.sl_machine.proofs.machine.step_from.Goals as goal
 
 pub step-requires-clause-step : goal.step-requires-clause-step
@@ -36,7 +36,7 @@ step-requires-clause-columns c =
 pub overflow_add-result : goal.overflow_add-result
 overflow_add-result c =
     let there = slice_get_within c.args.code.now.instrs c.args.place c.requires.safe.instr c.requires.safe.stands in
-    let small : c.args.place + 1 < 2 ^ 64 = omega (arith, there, c.instrs.ensures.kept.instrs) in
+    let small : c.args.place + 1 < 2 ^ 64 = omega (arith, there, c.instrs.ensures.kept.limits.instrs) in
     search rules
 
 pub unwrap-requires : goal.unwrap-requires
@@ -51,7 +51,7 @@ unwrap-requires c =
     let at : slice_get code.instrs place ≡ Some i = ap (λ (is : List Instr). slice_get is place) (sym c.instrs.ensures.instrs) ∙ slice_get-get_or c.instrs.result.now place (instr.Set 0 0) there in
     let t = state_of c.step.new.self in
     let follows = subst (λ (n : Effect). effect_of n t ≡ effect code e i s) c.in-Jumps.is c.in_ok-step.ensures.follows in
-    subst (λ (o : Option ℕ). IsSome o) (sym c.target_of.ensures) (has_target code e place s safe i at t follows)
+    subst (λ (o : Option ℕ). IsSome o) (sym c.target.ensures) (has_target code e place s safe i at t follows)
 
 pub returns-in-Goes-clause-leads : goal.returns-in-Goes-clause-leads
 returns-in-Goes-clause-leads c =
@@ -79,7 +79,7 @@ returns-in-Jumps-clause-leads c =
     let at : slice_get code.instrs place ≡ Some i = ap (λ (is : List Instr). slice_get is place) (sym c.instrs.ensures.instrs) ∙ slice_get-get_or c.instrs.result.now place (instr.Set 0 0) there in
     let t = state_of c.step.new.self in
     let follows = subst (λ (n : Effect). effect_of n t ≡ effect code e i s) c.in-Jumps.is c.in_ok-step.ensures.follows in
-    jumps_to code e place s safe i at t c.unwrap.result follows (sym c.target_of.ensures ∙ c.unwrap.ensures)
+    jumps_to code e place s safe i at t c.unwrap.result follows (sym c.target.ensures ∙ c.unwrap.ensures)
 
 pub returns-in-Ends-clause-leads : goal.returns-in-Ends-clause-leads
 returns-in-Ends-clause-leads c =

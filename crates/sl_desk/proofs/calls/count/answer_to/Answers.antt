@@ -1,9 +1,16 @@
-use Rattle.std.proofs.Common.{ap}
-use Rattle.sl_desk.specs.Calls.{book_input}
-use Rattle.sl_desk.proofs.CountFacts.{refusal_counts}
+use Rattle.std.proofs.Common.{ap, ◌∙◌}
+use Rattle.sl_stages.specs.book.Books.{book_of}
+use Rattle.sl_desk.specs.Reading.{book_input}
+use Rattle.sl_desk.proofs.Order.{refusal_counts, reads_after_good}
 use Rattle.sl_desk.proofs.calls.count.answer_to.Goals as goal
 
-pub returns-in-Refused-clause-answer : goal.returns-in-Refused-clause-answer
-returns-in-Refused-clause-answer g c =
-    refusal_counts (book_input g.B.Source.remaining c.args.book.now) (g.R.Source.remaining c.args.returns.now) c.refused.result.status c.in-Refused.line.items
-    c.refused.result.text.items (rw c.in-Refused.is at c.in_ok-book.ensures.judged) c.refused.ensures.status (ap (λ v. v.items) c.refused.ensures.text)
+pub returns-in-Good-clause-returns : goal.returns-in-Good-clause-returns
+returns-in-Good-clause-returns g c =
+    reads_after_good g.R.Source.remaining (book_input g.B.Source.remaining c.args.book.now) (book_of c.in-Good.book.book) c.args.returns.now c.counted.new.returns
+    (g.R.Source.failed c.args.returns.now) (g.R.Source.failed c.counted.new.returns) c.counted.result
+    (rw c.in-Good.is at c.in_ok-book.ensures.verdict) c.counted.ensures.limited c.counted.ensures.failures
+
+pub returns-in_ok-line-in-Refused-clause-answer : goal.returns-in_ok-line-in-Refused-clause-answer
+returns-in_ok-line-in-Refused-clause-answer g c =
+    refusal_counts (book_input g.B.Source.remaining c.args.book.now) (g.R.Source.remaining c.args.returns.now) c.in-Refused.why c.refused.result.status c.refused.result.text.items
+    (rw c.in-Refused.is at c.in_ok-book.ensures.verdict) c.refused.ensures.status (ap (λ v. v.items) c.refused.ensures.text ∙ c.in_ok-line-in-Refused.ensures)

@@ -2,8 +2,8 @@
 use Rattle.std.proofs.Common.{◌≡◌, ◌<◌, ℕ, length, replicate, ap, ◌∙◌, arith}
 use Rattle.std.proofs.lemmas.List.{length-map}
 use Rattle.sl_machine.specs.inner.Stores.{columns_of}
-use Rattle.sl_machine.proofs.Cells.{row_items}
-use Rattle.sl_machine.proofs.Leavings.{held_column, held_nowhere}
+use Rattle.sl_machine.proofs.stores.Cells.{row_items}
+use Rattle.sl_machine.proofs.stores.Leavings.{held_column, held_nowhere}
 use Rattle.sl_machine.proofs.memory.Memory.new.Goals as goal
 
 pub returns-in-Some : goal.returns-in-Some

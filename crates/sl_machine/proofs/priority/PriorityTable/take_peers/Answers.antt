@@ -11,7 +11,7 @@ use Rattle.sl_machine.specs.Places.{item_of}
 use Rattle.sl_machine.specs.Safe.{entries_in}
 use Rattle.sl_machine.specs.inner.Tables.{FitsMark}
 use Rattle.sl_machine.proofs.Priorities.{taken_fits}
-use Rattle.sl_machine.proofs.PeerLists.{top_left, peers_taken, rest_behind, one_more, range_held, peers_told, rest_told}
+use Rattle.sl_machine.proofs.drawing.PeerLists.{top_left, peers_taken, rest_behind, one_more, range_held, peers_told, rest_told}
 use Rattle.sl_machine.proofs.priority.PriorityTable.take_peers.Goals as goal
 
 pub loop-init : goal.loop-init

@@ -1,7 +1,7 @@
 -- The cell is in the column.
 use Rattle.std.proofs.Common.{◌<◌, ◌≡◌, ℕ, length, map, get_or, arith, ap, ◌∙◌}
 use Rattle.std.proofs.lemmas.List.{length-map}
-use Rattle.sl_machine.proofs.Cells.{row_width}
+use Rattle.sl_machine.proofs.stores.Cells.{row_width}
 use Rattle.sl_machine.specs.inner.Stores.{columns_of}
 use Rattle.sl_machine.proofs.store.Store.cell.Goals as goal
 

@@ -13,7 +13,7 @@ use Rattle.sl_machine.specs.State.{State, PriorityTable}
 use Rattle.sl_machine.specs.Places.{item_of, scope_at}
 use Rattle.sl_machine.specs.Effects.{faults}
 use Rattle.sl_machine.specs.inner.Stores.{state_of}
-use Rattle.sl_machine.proofs.Drawing.{said_there}
+use Rattle.sl_machine.proofs.drawing.Drawing.{said_there}
 use Rattle.sl_machine.proofs.store.Store.end_with_tie.Goals as goal
 
 same_scope : (k : ScopeKind) (s : State) (table : Option PriorityTable) → scope_at k s ≡ scope_at k (record s { table = table })

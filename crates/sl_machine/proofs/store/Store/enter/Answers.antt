@@ -2,7 +2,7 @@
 use Rattle.std.proofs.Common.{rules, ℕ, ◌^◌, ◌<◌, Option, subst}
 use Rattle.std.specs.Option.{IfSome}
 use Rattle.sl_machine.specs.Safe.{entries_in}
-use Rattle.sl_machine.proofs.Bounds.{entries_fit}
+use Rattle.sl_machine.proofs.stores.Bounds.{entries_fit}
 use Rattle.sl_machine.proofs.store.Store.enter.Goals as goal
 
 pub overflow_cast-index : goal.overflow_cast-index

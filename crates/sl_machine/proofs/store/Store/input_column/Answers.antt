@@ -8,8 +8,8 @@ use Rattle.sl_machine.specs.Places.{cells_of}
 use Rattle.sl_machine.specs.State.{with_column}
 use Rattle.sl_machine.specs.Effects.{Goes, input_of}
 use Rattle.sl_machine.specs.inner.Stores.{state_of, columns_of}
-use Rattle.sl_machine.proofs.Cells.{same_columns, row_width, widths_kept, column_written}
-use Rattle.sl_machine.proofs.Inputs.{input_at}
+use Rattle.sl_machine.proofs.stores.Cells.{same_columns, row_width, widths_kept, column_written}
+use Rattle.sl_machine.proofs.stores.Inputs.{input_at}
 use Rattle.sl_machine.proofs.store.Store.input_column.Goals as goal
 
 pub read_column-requires : goal.read_column-requires

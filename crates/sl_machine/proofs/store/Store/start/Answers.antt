@@ -4,7 +4,7 @@ use Rattle.std.proofs.lemmas.List.{length-replicate}
 use Rattle.sl_stages.specs.declared.table.Mark.TheVariants as mark
 use Rattle.sl_stages.specs.declared.table.Placed.{Placed}
 use Rattle.sl_stages.specs.declared.table.Placed.TheVariants as placed
-use Rattle.sl_machine.proofs.Starting.{zero_at, unseated_at, blank, blank_at, blank_widths, started}
+use Rattle.sl_machine.proofs.stores.Starting.{zero_at, unseated_at, blank, blank_at, blank_widths, started}
 use Rattle.sl_machine.proofs.store.Store.start.Goals as goal
 
 pub returns-clause-state : goal.returns-clause-state

@@ -2,7 +2,7 @@
 use Rattle.sl_machine.specs.Effects.{stage_of}
 use Rattle.sl_machine.specs.Places.{scope_at, index_at, item_of}
 use Rattle.sl_machine.specs.inner.Stores.{state_of}
-use Rattle.sl_machine.proofs.Drawing.{entry_there}
+use Rattle.sl_machine.proofs.drawing.Drawing.{entry_there}
 use Rattle.sl_machine.proofs.store.Store.step.Goals as goal
 
 pub weigh-requires-clause-entry : goal.weigh-requires-clause-entry

@@ -6,7 +6,7 @@ use Rattle.sl_machine.specs.State.{with_cell}
 use Rattle.sl_machine.specs.Places.{cell_at}
 use Rattle.sl_machine.specs.Effects.{Goes}
 use Rattle.sl_machine.specs.inner.Stores.{state_of, columns_of, Sizes}
-use Rattle.sl_machine.proofs.Cells.{found_behind, same_columns, row_width, widths_kept, cells_written}
+use Rattle.sl_machine.proofs.stores.Cells.{found_behind, same_columns, row_width, widths_kept, cells_written}
 use Rattle.sl_machine.proofs.store.Store.store_cell.Goals as goal
 
 pub index_mut-requires : goal.index_mut-requires

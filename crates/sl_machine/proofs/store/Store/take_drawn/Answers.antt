@@ -3,7 +3,7 @@ use Rattle.std.proofs.Common.{sym, ◌∙◌}
 use Rattle.sl_prio.specs.Lot.{drawn}
 use Rattle.sl_machine.specs.Effects.{name_of, takes}
 use Rattle.sl_machine.specs.inner.Stores.{state_of}
-use Rattle.sl_machine.proofs.Drawing.{lot_there}
+use Rattle.sl_machine.proofs.drawing.Drawing.{lot_there}
 use Rattle.sl_machine.proofs.store.Store.take_drawn.Goals as goal
 
 pub returns-clause-follows : goal.returns-clause-follows

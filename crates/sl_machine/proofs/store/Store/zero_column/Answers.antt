@@ -5,7 +5,7 @@ use Rattle.std.proofs.lemmas.List.{length-map, length-replicate}
 use Rattle.sl_machine.specs.State.{with_column}
 use Rattle.sl_machine.specs.Effects.{Goes}
 use Rattle.sl_machine.specs.inner.Stores.{state_of, columns_of}
-use Rattle.sl_machine.proofs.Cells.{same_columns, widths_kept, column_written}
+use Rattle.sl_machine.proofs.stores.Cells.{same_columns, widths_kept, column_written}
 use Rattle.sl_machine.proofs.store.Store.zero_column.Goals as goal
 
 zeros_at : (xs : List ℕ) (n : ℕ) → xs ≡ replicate n 0 → (p : ℕ) → get_or xs p 0 ≡ 0

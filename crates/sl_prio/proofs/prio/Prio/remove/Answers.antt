@@ -1,21 +1,42 @@
-use Rattle.std.proofs.Common.{rules, ◌≡◌, get_or, sym, ◌∙◌}
-use Rattle.std.specs.List.{position}
-use Rattle.std.proofs.lemmas.Iterator.{YieldsList-from_slice}
-use Rattle.std.proofs.lemmas.Iterator.Search.{position_from_yields_List}
-use Rattle.std.proofs.lemmas.List.Quantifiers.{position-Some}
-use Rattle.std.proofs.lemmas.List.Sorted.{IsPermutation-swap_remove}
-use borrow.Author.Tests.{tests}
+use Rattle.std.proofs.Common.{◌∷◌, List, length, IsPermutation, ap, subst, arith}
+use Rattle.std.proofs.lemmas.List.Sorted.{IsPermutation-cons, IsPermutation-trans}
 use Rattle.sl_ratio.specs.declared.entry.Entry.{Entry}
-use Rattle.sl_prio.proofs.Orders.{is_same, same_entry}
+use Rattle.sl_prio.proofs.Heaps.{given_back, kept_after, left, swapped_out}
 use Rattle.sl_prio.proofs.prio.Prio.remove.Goals as goal
 
-pub returns-in-Some : goal.returns-in-Some
-returns-in-Some c =
-    let entries = c.self.inside.entries.items in
-    let taken = c.swap_remove.result in
-    let test = λ (held : Entry). is_same held c.args.entry.now in
-    let found : c.position.result ≡ position test entries =
-    position_from_yields_List test _ _ c.position.result c.position.ensures.ran (YieldsList-from_slice entries (cc)) (λ x b q k. search (rules, tests)) in
-    let at = position-Some test entries c.in-Some.place taken (sym found ∙ c.in-Some.is) in
-    let same : taken ≡ c.args.entry.now = c.swap_remove.ensures.value ∙ same_entry (get_or entries c.in-Some.place taken) c.args.entry.now at.1 in
-    rw (c.swap_remove.ensures.items, ← same, ← c.self.view_is) (IsPermutation-swap_remove entries c.in-Some.place taken at.0 c.swap_remove.ensures.value)
+pub mend-requires-clause-others : goal.mend-requires-clause-others
+mend-requires-clause-others c =
+    rw c.deref_mut.ensures.value
+    (left c.self.inside.entries.items c.swap_remove-removed.new.self.items c.args.place (omega arith) (λ k d z l. c.swap_remove-removed.ensures.by_index.1 k d z (omega arith)) c.self.invariant.heap)
+
+pub invariant_of-self : goal.invariant_of-self
+invariant_of-self c =
+    let held = c.self.inside.entries.items in
+    let removed = c.swap_remove-removed.result in
+    let others = c.swap_remove-removed.new.self.items in
+    let after = c.mend.new.entries in
+    let out = swapped_out held others c.args.place removed (omega arith) c.swap_remove-removed.ensures.value c.swap_remove-removed.ensures.items in
+    let moved = subst (λ (xs : List Entry). IsPermutation xs after) c.deref_mut.ensures.value c.mend.ensures.moved in
+    rw (given_back c.swap_remove-removed.new.self.len others after (omega arith) (omega arith))
+    (kept_after held after removed (IsPermutation-trans held (removed ∷ others) (removed ∷ after) out (IsPermutation-cons removed others after moved)) c.self.invariant.ratios c.mend.ensures.heap)
+
+pub returns-then-place-len-clause-rest : goal.returns-then-place-len-clause-rest
+returns-then-place-len-clause-rest c =
+    let held = c.self.inside.entries.items in
+    let removed = c.swap_remove-removed.result in
+    let others = c.swap_remove-removed.new.self.items in
+    let after = c.mend.new.entries in
+    let out = swapped_out held others c.args.place removed (omega arith) c.swap_remove-removed.ensures.value c.swap_remove-removed.ensures.items in
+    let moved = subst (λ (xs : List Entry). IsPermutation xs after) c.deref_mut.ensures.value c.mend.ensures.moved in
+    rw (given_back c.swap_remove-removed.new.self.len others after (omega arith) (omega arith))
+    (subst (λ (xs : List Entry). IsPermutation xs (removed ∷ after)) c.self.view_is
+    (IsPermutation-trans held (removed ∷ others) (removed ∷ after) out (IsPermutation-cons removed others after moved)))
+
+pub returns-else-place-len-clause-rest : goal.returns-else-place-len-clause-rest
+returns-else-place-len-clause-rest c =
+    let held = c.self.inside.entries.items in
+    let removed = c.swap_remove-removed.result in
+    let others = c.swap_remove-removed.new.self.items in
+    let same = ap length c.self.view_is in
+    subst (λ (xs : List Entry). IsPermutation xs (removed ∷ others)) c.self.view_is
+    (swapped_out held others c.args.place removed (omega (arith, same)) c.swap_remove-removed.ensures.value c.swap_remove-removed.ensures.items)

@@ -1,6 +1,21 @@
-use Rattle.std.proofs.Common.{sym, ◌∙◌}
-use Rattle.sl_prio.proofs.Tables.{drawn-Contains}
+use Rattle.std.proofs.Common.{◌≡◌, List, Some, get_or, slice_get, sym, ap, subst, ◌∙◌}
+use Rattle.std.proofs.lemmas.Option.{get_or_from_slice_get}
+use Rattle.sl_ratio.specs.declared.entry.Entry.{Entry}
+use Rattle.sl_prio.specs.inner.Heap.{IsHeap, IsDrawnOf, IsDrawnFrom, peers_under}
+use Rattle.sl_prio.proofs.Seen.{seen_drawn}
 use Rattle.sl_prio.proofs.prio.Prio.take_lot.Goals as goal
 
-pub remove-requires : goal.remove-requires
-remove-requires c = drawn-Contains c.args.self.now c.args.lot.now c.in_ok-drawn.drawn (sym c.drawn.ensures ∙ c.in_ok-drawn.was)
+pub returns-clause-drawn : goal.returns-clause-drawn
+returns-clause-drawn c =
+    let lot = c.args.lot.now in
+    let held = c.args.self.now in
+    let first = c.in_ok-top.field-0.now in
+    let taken = c.remove.result in
+    let place = c.draw-place.result in
+    let heap : IsHeap held = subst (λ (xs : List Entry). IsHeap xs) c.self.view_is c.self.invariant.heap in
+    let at : slice_get held 0 ≡ Some first = sym (ap (λ (xs : List Entry). slice_get xs 0) (c.deref.ensures.value ∙ c.self.view_is)) ∙ sym c.in_ok-top.ensures.value in
+    let from : IsDrawnFrom lot held (peers_under first held 0) 0 place =
+    subst (λ (xs : List Entry). IsDrawnFrom lot xs (peers_under first xs 0) 0 place) (c.deref-2.ensures.value ∙ c.self.view_is) c.draw-place.ensures in
+    let of_first = subst (λ (x : Entry). IsDrawnOf lot (peers_under first held 0) x (get_or held place taken)) (get_or_from_slice_get held 0 first taken at) (from.drawn taken) in
+    let of_taken = subst (λ (x : Entry). IsDrawnOf lot (peers_under first held 0) first x) (sym c.remove.ensures.value) of_first in
+    sym (seen_drawn held heap first at lot taken of_taken)

@@ -1,7 +1,9 @@
-use Rattle.std.proofs.Common.{arith}
-use Rattle.std.proofs.lemmas.Grind.{common_steps}
-use Rattle.sl_prio.proofs.Tables.{top-from_scan}
+use Rattle.std.proofs.Common.{◌∙◌, List, ap, slice_get}
+use Rattle.sl_ratio.specs.declared.entry.Entry.{Entry}
+use Rattle.sl_prio.specs.Prio.{top}
+use Rattle.sl_prio.proofs.Heaps.{top_at_first}
 use Rattle.sl_prio.proofs.prio.Prio.top.Goals as goal
 
 pub returns : goal.returns
-returns c = top-from_scan c.args.self.now c.max.result (grind (arith, common_steps))
+returns c =
+    c.copied.ensures ∙ c.first.ensures.value ∙ ap (λ (xs : List Entry). slice_get xs 0) c.deref.ensures.value ∙ top_at_first c.self.inside.entries.items c.self.invariant.heap ∙ ap top c.self.view_is

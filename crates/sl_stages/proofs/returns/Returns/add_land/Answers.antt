@@ -1,8 +1,7 @@
 -- The returns with a Land more.
-use Rattle.std.proofs.Common.{◌≡◌, ◌<◌, ◌++◌, ◌∷◌, [], List, ℕ, None, map, length, replicate, rules, ap, sym, subst, ◌∙◌}
+use Rattle.std.proofs.Common.{◌≡◌, ◌++◌, ◌∷◌, [], List, ℕ, None, map, replicate, rules, ap, sym, subst, ◌∙◌}
 use Rattle.std.proofs.lemmas.List.{map_push}
 use Rattle.sl_ratio.specs.Names.{name_fault}
-use Rattle.sl_ratio.proofs.NameLists.{joins}
 use Rattle.sl_stages.specs.declared.limits.TheConstants.{MAX_LANDS, MAX_PARTIES}
 use Rattle.sl_stages.specs.returns.Election.{Election, IsElection, with_land}
 use Rattle.sl_stages.specs.inner.Kept.{election_of}
@@ -34,10 +33,9 @@ pub invariant_of-self-2 : goal.invariant_of-self-2
 invariant_of-self-2 c =
     let e = election_of c.self.inside in
     let limits = c.self.invariant.0 in
-    let may = subst (λ (names : List (List ℕ)). name_fault (record { limit = MAX_LANDS; names = names }) c.args.name.now ≡ None) (sym (ap (λ e. e.land_names) c.self.view_is)) c.requires.name in
-    let free : length e.land_names < MAX_LANDS = (joins (record { limit = MAX_LANDS; names = e.land_names }) c.args.name.now may).free in (
+    let may = subst (λ (names : List (List ℕ)). name_fault (record { limit = MAX_LANDS; names = names }) c.args.name.now ≡ None) (sym (ap (λ e. e.land_names) c.self.view_is)) c.requires.name in (
       record { lands = ap (λ names. names.limit) (named c) ∙ limits.lands; parties = limits.parties; winners = limits.winners },
-      subst IsElection (sym (joined c)) (is_with_land e c.args.name.now c.args.population c.self.invariant.1 free c.requires.population),
+      subst IsElection (sym (joined c)) (is_with_land e c.args.name.now c.args.population c.self.invariant.1 may c.requires.population),
     )
 
 pub returns-clause-added : goal.returns-clause-added

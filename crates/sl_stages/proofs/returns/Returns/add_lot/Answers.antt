@@ -1,5 +1,6 @@
 -- The returns with a lot more.
-use Rattle.std.proofs.Common.{◌≡◌, ◌<◌, ◌++◌, ◌∷◌, [], length, ap, sym, subst, ◌∙◌}
+use Rattle.std.proofs.Common.{◌≡◌, ◌<◌, ◌++◌, ◌∷◌, [], None, length, ap, sym, subst, ◌∙◌}
+use Rattle.sl_ratio.specs.Names.{spelling_fault}
 use Rattle.sl_stages.specs.declared.limits.TheConstants.{MAX_LOTS}
 use Rattle.sl_stages.specs.declared.returns.Lot.{Lot}
 use Rattle.sl_stages.specs.returns.Election.{Election, IsElection, IsLot, with_lot}
@@ -23,6 +24,7 @@ named c =
     let wins = c.self.invariant.1.wins in
     let e = election_of c.self.inside in
     let kept = subst (λ (e : Election). IsLot (length e.land_names) (length e.party_names) (length e.wins) (lot c)) (sym c.self.view_is) (record {
+      stage = subst (λ stage. spelling_fault stage ≡ None) (sym c.in_ok-stage.ensures) c.requires.stage;
       land = c.requires.land;
       party = c.requires.party;
       win = c.requires.win;

@@ -1,7 +1,6 @@
 -- The returns with a party more.
-use Rattle.std.proofs.Common.{◌≡◌, ◌<◌, ◌++◌, ◌∷◌, [], List, ℕ, None, length, rules, ap, sym, subst, ◌∙◌}
+use Rattle.std.proofs.Common.{◌≡◌, ◌++◌, ◌∷◌, [], List, ℕ, None, rules, ap, sym, subst, ◌∙◌}
 use Rattle.sl_ratio.specs.Names.{name_fault}
-use Rattle.sl_ratio.proofs.NameLists.{joins}
 use Rattle.sl_stages.specs.declared.limits.TheConstants.{MAX_PARTIES}
 use Rattle.sl_stages.specs.returns.Election.{Election, IsElection, with_party}
 use Rattle.sl_stages.specs.inner.Kept.{election_of}
@@ -27,8 +26,7 @@ pub invariant_of-self-2 : goal.invariant_of-self-2
 invariant_of-self-2 c =
     let e = election_of c.self.inside in
     let limits = c.self.invariant.0 in
-    let may = subst (λ (names : List (List ℕ)). name_fault (record { limit = MAX_PARTIES; names = names }) c.args.name.now ≡ None) (sym (ap (λ e. e.party_names) c.self.view_is)) c.requires in
-    let free : length e.party_names < MAX_PARTIES = (joins (record { limit = MAX_PARTIES; names = e.party_names }) c.args.name.now may).free in (
+    let may = subst (λ (names : List (List ℕ)). name_fault (record { limit = MAX_PARTIES; names = names }) c.args.name.now ≡ None) (sym (ap (λ e. e.party_names) c.self.view_is)) c.requires in (
       record { lands = limits.lands; parties = ap (λ names. names.limit) (named c) ∙ limits.parties; winners = limits.winners },
-      subst IsElection (sym (joined c)) (is_with_party e c.args.name.now c.args.minority c.self.invariant.1 free),
+      subst IsElection (sym (joined c)) (is_with_party e c.args.name.now c.args.minority c.self.invariant.1 may),
     )

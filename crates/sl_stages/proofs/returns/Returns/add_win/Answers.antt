@@ -1,7 +1,6 @@
 -- The returns with a winner more.
-use Rattle.std.proofs.Common.{◌≡◌, ◌<◌, ◌++◌, ◌∷◌, [], List, ℕ, None, length, rules, ap, sym, subst, ◌∙◌}
+use Rattle.std.proofs.Common.{◌≡◌, ◌++◌, ◌∷◌, [], List, ℕ, None, length, rules, ap, sym, subst, ◌∙◌}
 use Rattle.sl_ratio.specs.Names.{name_fault}
-use Rattle.sl_ratio.proofs.NameLists.{joins}
 use Rattle.sl_stages.specs.declared.limits.TheConstants.{MAX_WINS}
 use Rattle.sl_stages.specs.declared.returns.Win.{Win}
 use Rattle.sl_stages.specs.returns.Election.{Election, IsElection, IsWin, with_win}
@@ -41,8 +40,7 @@ pub invariant_of-self-2 : goal.invariant_of-self-2
 invariant_of-self-2 c =
     let e = election_of c.self.inside in
     let limits = c.self.invariant.0 in
-    let may = subst (λ (names : List (List ℕ)). name_fault (record { limit = MAX_WINS; names = names }) c.args.name.now ≡ None) (sym (ap (λ e. e.win_names) c.self.view_is)) c.requires.name in
-    let free : length e.win_names < MAX_WINS = (joins (record { limit = MAX_WINS; names = e.win_names }) c.args.name.now may).free in (
+    let may = subst (λ (names : List (List ℕ)). name_fault (record { limit = MAX_WINS; names = names }) c.args.name.now ≡ None) (sym (ap (λ e. e.win_names) c.self.view_is)) c.requires.name in (
       record { lands = limits.lands; parties = limits.parties; winners = ap (λ names. names.limit) (named c) ∙ limits.winners },
-      subst IsElection (sym (joined c)) (is_with_win e c.args.name.now (win c) c.self.invariant.1 free (placed c)),
+      subst IsElection (sym (joined c)) (is_with_win e c.args.name.now (win c) c.self.invariant.1 may (placed c)),
     )

@@ -1,0 +1,5 @@
+-- Steps and runs: one step, pieces of runs, and what a step of the program leads to.
+pub mod Stepping
+pub mod Coming
+pub mod Reading
+pub mod Leading

@@ -1,0 +1,2 @@
+-- What the bodies and proofs of this crate cite beside the definitions.
+pub mod Heap

@@ -1,0 +1,77 @@
+-- Entries in a binary heap. The children of place p stand at 2p + 1 and 2p + 2.
+use Rattle.std.specs.Prelude.{◌≡◌, ℕ, Bool, Some, nat_eq, zero, suc, ◌+◌, ◌*◌, ◌<◌, ◌≤◌, ◌≢◌, List, [], ◌∷◌, ◌++◌, IsTrue, All, Contains, length, option_to_list, slice_get, slice_index_or}
+use Rattle.std.specs.List.{filter, list_all, list_any}
+use Rattle.std.specs.Ordering.{is_le}
+use Rattle.sl_ratio.specs.declared.entry.Entry.{Entry}
+use Rattle.sl_ratio.specs.Entry.{entry_cmp}
+use Rattle.sl_ratio.specs.Quotient.{FitsRatio}
+use Rattle.sl_prio.specs.Prio.{has_quotient_of}
+use Rattle.sl_prio.specs.Lot.{lot_cmp}
+
+-- the entry at k is no greater than the one at p
+abbrev pub IsUnder : List Entry → ℕ → ℕ → Type 0
+IsUnder xs p k = (d : Entry) → IsTrue (is_le (entry_cmp (slice_index_or xs k d) (slice_index_or xs p d)))
+
+-- no entry is greater than the one at its parent's place
+abbrev pub IsHeap : List Entry → Type 0
+IsHeap xs = (p k : ℕ) → p * 2 + 1 ≤ k → k ≤ p * 2 + 2 → k < length xs → IsUnder xs p k
+
+-- the others would be a heap, were the entry at j not there
+pub record IsHeapBut (xs : List Entry) (j : ℕ) : Type 0 where
+  pub apart : (p k : ℕ) → p * 2 + 1 ≤ k → k ≤ p * 2 + 2 → k < length xs → p ≢ j → k ≢ j → IsUnder xs p k
+  pub across : (p k : ℕ) → p * 2 + 1 ≤ j → j ≤ p * 2 + 2 → j * 2 + 1 ≤ k → k ≤ j * 2 + 2 → k < length xs → IsUnder xs p k
+
+-- no child of j is greater than the entry at c
+abbrev pub HasChildrenUnder : List Entry → ℕ → ℕ → Type 0
+HasChildrenUnder xs j c = (k : ℕ) → j * 2 + 1 ≤ k → k ≤ j * 2 + 2 → k < length xs → IsUnder xs c k
+
+-- only the entry at j may be greater than its parent
+pub record MayRise (xs : List Entry) (j : ℕ) : Type 0 where
+  pub within : j < length xs
+  pub others : IsHeapBut xs j
+  pub below : HasChildrenUnder xs j j
+
+-- c is the place of the greatest child of j
+pub record IsGreatestChild (xs : List Entry) (j c : ℕ) : Type 0 where
+  pub from : j * 2 + 1 ≤ c
+  pub to : c ≤ j * 2 + 2
+  pub within : c < length xs
+  pub greatest : HasChildrenUnder xs j c
+
+-- what a table keeps
+pub record IsKept (xs : List Entry) : Type 0 where
+  pub heap : IsHeap xs
+  pub ratios : All (λ entry. FitsRatio entry.ratio) xs
+
+-- the entries at place p and below it, as far as n levels
+abbrev pub levels : ℕ → List Entry → ℕ → List Entry
+levels zero xs p = []
+levels (suc n) xs p = option_to_list (slice_get xs p) ++ (levels n xs (2 * p + 1) ++ levels n xs (2 * p + 2))
+
+-- the entries at place p and below it
+abbrev pub subtree : List Entry → ℕ → List Entry
+subtree xs p = levels (length xs) xs p
+
+-- the peers at place p and below it
+abbrev pub peers_under : Entry → List Entry → ℕ → List Entry
+peers_under first xs p = filter (has_quotient_of first) (subtree xs p)
+
+-- x stands at place p, and is a peer, to which those below come
+pub record IsPeerAt (first : Entry) (xs : List Entry) (p : ℕ) (x : Entry) : Type 0 where
+  pub within : p < length xs
+  pub here : slice_get xs p ≡ Some x
+  pub peers : peers_under first xs p ≡ x ∷ (peers_under first xs (2 * p + 1) ++ peers_under first xs (2 * p + 2))
+
+-- whether a lot names the index of each entry
+abbrev pub are_named : List ℕ → List Entry → Bool
+are_named lot xs = list_all (λ x. list_any (λ named. nat_eq named x.index) lot) xs
+
+-- y is the one that the lot draws first of x and the others
+pub record IsDrawnOf (lot : List ℕ) (others : List Entry) (x y : Entry) : Type 0 where
+  pub among : Contains (x ∷ others) y
+  pub most : All (λ other. IsTrue (is_le (lot_cmp lot other y))) (x ∷ others)
+
+-- the entry at place r is the one that the lot draws first of the one at `best` and the others
+pub record IsDrawnFrom (lot : List ℕ) (xs others : List Entry) (best r : ℕ) : Type 0 where
+  pub within : r < length xs
+  pub drawn : (d : Entry) → IsDrawnOf lot others (slice_index_or xs best d) (slice_index_or xs r d)

@@ -1,0 +1,79 @@
+//! A binary heap of entries in a slice, whose greatest entry stands first: no entry is greater than the one at its parent's place.
+//! The children of place `p` stand at `2 * p + 1` and `2 * p + 2`.
+
+ghost use Rattle.std.specs.Prelude.{◌+◌, ◌*◌, ◌<◌, ◌≤◌, length, IsPermutation, MatchOption};
+ghost use Rattle.sl_prio.specs.inner.Heap.{IsHeap, IsHeapBut, MayRise, IsGreatestChild, HasChildrenUnder};
+
+use sl_ratio::Entry;
+
+// Moves the entry at a place up, until its parent is no smaller.
+pub(crate) fn sift_up(entries: &mut [Entry], place: usize)
+    requires { MayRise entries.old place }
+    ensures moved { IsPermutation entries.old entries.new }
+    ensures heap { IsHeap entries.new }
+{
+    let mut place = place;
+    while place > 0 {
+        let parent = (place - 1) / 2;
+        if entries[place] <= entries[parent] {
+            return;
+        }
+        entries.swap(parent, place);
+        place = parent;
+    }
+}
+
+// Makes a heap again of entries that would be one, were the entry at a place not there.
+pub(crate) fn mend(entries: &mut [Entry], place: usize)
+    requires within { place < length entries.old }
+    requires others { IsHeapBut entries.old place }
+    ensures moved { IsPermutation entries.old entries.new }
+    ensures heap { IsHeap entries.new }
+{
+    let settled = sift_down(entries, place);
+    sift_up(entries, settled);
+}
+
+// Moves the entry at a place down, until no child is greater, and answers the place at which it then stands.
+fn sift_down(entries: &mut [Entry], place: usize) -> usize
+    requires within { place < length entries.old }
+    requires others { IsHeapBut entries.old place }
+    ensures moved { IsPermutation entries.old entries.new }
+    ensures settled { MayRise entries.new result }
+{
+    let mut place = place;
+    while let Some(child) = exceeding_child(entries, place) {
+        entries.swap(place, child);
+        place = child;
+    }
+    place
+}
+
+// The place of the greatest child of a place, where that is greater than the entry at the place.
+fn exceeding_child(entries: &[Entry], place: usize) -> Option<usize>
+    requires { place < length entries.now }
+    ensures { MatchOption result (HasChildrenUnder entries.now place place) (λ child. IsGreatestChild entries.now place child) }
+{
+    let child = greatest_child(entries, place)?;
+    if entries[child] > entries[place] {
+        Some(child)
+    } else {
+        None
+    }
+}
+
+// The place of the greatest child of a place, where that has one.
+fn greatest_child(entries: &[Entry], place: usize) -> Option<usize>
+    requires { place < length entries.now }
+    ensures { MatchOption result (length entries.now ≤ place * 2 + 1) (λ child. IsGreatestChild entries.now place child) }
+{
+    let left = 2 * place + 1;
+    if left >= entries.len() {
+        return None;
+    }
+    let right = left + 1;
+    if right < entries.len() && entries[right] > entries[left] {
+        return Some(right);
+    }
+    Some(left)
+}

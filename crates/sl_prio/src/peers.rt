@@ -1,0 +1,74 @@
+//! The peers of a heap's top. They stand together from the first place on: an entry with the top's quotient has a parent with it,
+//! and so a place is visited only where its parent's quotient is the top's.
+
+ghost use Rattle.std.specs.Prelude.{◌≡◌, ◌<◌, [], MatchOption, Some, length, slice_get};
+ghost use Rattle.sl_prio.specs.Prio.{has_quotient_of};
+ghost use Rattle.sl_prio.specs.inner.Heap.{IsKept, IsPeerAt, IsDrawnFrom, are_named, peers_under};
+
+use crate::lot::lot_cmp;
+use sl_ratio::Entry;
+
+// Whether an entry has the quotient of the top.
+pub(crate) fn is_peer(top: &Entry, entry: &Entry) -> bool
+    ensures { result ≡ has_quotient_of top.now entry.now }
+{
+    top.ratio.cmp(&entry.ratio).is_eq()
+}
+
+// The entry at a place, where it is a peer. Where it is none, there is none below it.
+fn peer_at(entries: &[Entry], top: &Entry, place: usize) -> Option<Entry>
+    requires kept { IsKept entries.now }
+    requires first { slice_get entries.now 0 ≡ Some top.now }
+    ensures { MatchOption result (peers_under top.now entries.now place ≡ []) (IsPeerAt top.now entries.now place) }
+{
+    let entry = *entries.get(place)?;
+    if is_peer(top, &entry) {
+        Some(entry)
+    } else {
+        None
+    }
+}
+
+// The number of peers at a place and below it.
+pub(crate) fn count(entries: &[Entry], top: &Entry, place: usize) -> usize
+    requires kept { IsKept entries.now }
+    requires first { slice_get entries.now 0 ≡ Some top.now }
+    ensures { result ≡ length (peers_under top.now entries.now place) }
+{
+    match peer_at(entries, top, place) {
+        Some(_) => 1 + count(entries, top, 2 * place + 1) + count(entries, top, 2 * place + 2),
+        None => 0,
+    }
+}
+
+// Whether a lot names the index of each peer at a place and below it.
+pub(crate) fn are_named(entries: &[Entry], top: &Entry, lot: &[u32], place: usize) -> bool
+    requires kept { IsKept entries.now }
+    requires first { slice_get entries.now 0 ≡ Some top.now }
+    ensures { result ≡ are_named lot.now (peers_under top.now entries.now place) }
+{
+    match peer_at(entries, top, place) {
+        Some(peer) => {
+            lot.contains(&peer.index)
+                && are_named(entries, top, lot, 2 * place + 1)
+                && are_named(entries, top, lot, 2 * place + 2)
+        }
+        None => true,
+    }
+}
+
+// The place of the one that a lot draws first of the entry at `best` and the peers at a place and below it.
+pub(crate) fn draw(entries: &[Entry], top: &Entry, lot: &[u32], place: usize, best: usize) -> usize
+    requires kept { IsKept entries.now }
+    requires first { slice_get entries.now 0 ≡ Some top.now }
+    requires within { best < length entries.now }
+    ensures { IsDrawnFrom lot.now entries.now (peers_under top.now entries.now place) best result }
+{
+    let Some(peer) = peer_at(entries, top, place) else {
+        return best;
+    };
+    let earlier = lot_cmp(lot, &peer, &entries[best]).is_gt();
+    let here = if earlier { place } else { best };
+    let left = draw(entries, top, lot, 2 * place + 1, here);
+    draw(entries, top, lot, 2 * place + 2, left)
+}

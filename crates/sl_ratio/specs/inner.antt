@@ -1,0 +1,4 @@
+-- What only code and proofs cite: the proofs that `impl` blocks give for the laws of their traits, and the steps of a search.
+pub mod QuotientLaws
+pub mod EntryLaws
+pub mod Picks

@@ -1,0 +1,252 @@
+-- What the facts of the returns say: who is eligible, and how the winners of a Land are parted.
+use Rattle.std.proofs.Common.{◌≡◌, ℕ, zero, suc, ◌+◌, ◌*◌, ◌<◌, ◌≤◌, ◌&&◌, Bool, true, false, not, cond, List, [], ◌∷◌, Option, Some, None, is_none, is_some, nat_eq, length, get_or, count_by, arith, refl, sym, ap, subst, ◌∙◌, inl, inr}
+use Rattle.std.specs.Prelude.{if◌then◌else◌, Contains, slice_get, slice_index_or, sum_by}
+use Rattle.std.specs.List.{All, list_any, range_with_len}
+use Rattle.std.proofs.lemmas.Bool.{cases_eq, cases_lt, or_cases, or_left, or_right, and_parts, and_left, and_right, eq-eqb, ne_eqb, leb-true, le-leb, both_ways, false≢true}
+use Rattle.std.proofs.lemmas.List.{get_or_past}
+use Rattle.std.proofs.lemmas.List.Sums.{sum_by-cons}
+use Rattle.std.proofs.lemmas.List.Elements.{All-head, All-tail, All-get_or}
+use Rattle.std.proofs.lemmas.List.FromFn.{get_or-map-range_with_len}
+use Rattle.sl_stages.specs.declared.book.Cond.{Cond}
+use Rattle.sl_stages.specs.declared.book.Cond.TheVariants as condition
+use Rattle.sl_stages.specs.declared.returns.ListVotes.{ListVotes}
+use Rattle.sl_stages.specs.declared.returns.Win.{Win}
+use Rattle.sl_stages.specs.returns.Votes.{counted_in}
+use Rattle.sl_stages.specs.returns.Election.{Election, IsWin, EndsBefore, lands_of, parties_of, list_at, has_list}
+use Rattle.sl_stages.specs.returns.Facts.{parties, list_cell, is_of, is_in, valid_votes, all_valid_votes, meets, is_eligible, takes_part, is_on_list, counted_votes, list_winners, outside_winners, independent_winners}
+use Rattle.sl_stages.specs.laws.ReturnsLaws.{ListsAreNamed, MeetsCondition, EligibleParties, FactsOfLists, FactsOfLands}
+use Rattle.sl_stages.proofs.meaning.ListPlaces.{by_list_at}
+use Rattle.sl_stages.proofs.meaning.PlacedWinners.{when_both}
+
+-- ---- lists
+
+some_list : (cells : List (List (Option ListVotes))) (lands parties land party : ℕ) → length cells ≡ lands → All (EndsBefore parties) cells →
+    is_some (get_or (get_or cells land []) party None) ≡ true → (land < lands) × (party < parties)
+some_list cells lands parties land party long ends h =
+    elim (cases_lt land lands) [
+      | inr past ↦ absurd (false≢true (sym (ap (λ row. is_some (get_or row party None)) (get_or_past cells land [] (omega (arith, past, long)))) ∙ h))
+      | inl in_lands ↦ elim (cases_lt party parties) [
+        | inl in_parties ↦ (in_lands, in_parties)
+        | inr past ↦
+            absurd (false≢true (sym (ap is_some (All-get_or (EndsBefore parties) cells land [] (omega (arith, in_lands, long)) ends party past)) ∙ h))
+      ]
+    ]
+
+pub lists_are_named : ListsAreNamed
+lists_are_named e land party is h = some_list e.cells (lands_of e) (parties_of e) land party is.rows is.ends h
+
+-- ---- who is eligible
+
+flag_at : (flags : List Bool) (i : ℕ) → slice_index_or flags i false ≡ true → slice_get flags i ≡ Some true
+flag_at [] i h = absurd (false≢true h)
+flag_at (x ∷ flags) zero h = ap Some h
+flag_at (x ∷ flags) (suc i) h = flag_at flags i h
+
+at_flag : (flags : List Bool) (i : ℕ) → slice_get flags i ≡ Some true → slice_index_or flags i false ≡ true
+at_flag [] i h = cc
+at_flag (x ∷ flags) zero h = cc
+at_flag (x ∷ flags) (suc i) h = at_flag flags i h
+
+condition_met : (e : Election) (party : ℕ) (c : Cond) → meets e party c ≡ true → MeetsCondition e party c
+condition_met e party (condition.Valid n d) h = leb-true (n.value * all_valid_votes e) (d * valid_votes e party) h
+condition_met e party (condition.Winners least) h = leb-true least (count_by (is_of party) e.wins) h
+condition_met e party condition.Minority h = flag_at e.minorities party h
+condition_met e party condition.All h = tt
+
+met_condition : (e : Election) (party : ℕ) (c : Cond) → MeetsCondition e party c → meets e party c ≡ true
+met_condition e party (condition.Valid n d) h = le-leb (n.value * all_valid_votes e) (d * valid_votes e party) h
+met_condition e party (condition.Winners least) h = le-leb least (count_by (is_of party) e.wins) h
+met_condition e party condition.Minority h = at_flag e.minorities party h
+met_condition e party condition.All h = refl
+
+some_condition : (p : Cond → Bool) (conditions : List Cond) → list_any p conditions ≡ true → (c : Cond) × Contains conditions c × (p c ≡ true)
+some_condition p [] h = absurd (false≢true h)
+some_condition p (c ∷ conditions) h =
+    elim (or_cases (p c) (list_any p conditions) h) [
+      | inl this ↦ (c, (0, omega arith, refl), this)
+      | inr other ↦
+          (let found = some_condition p conditions other in
+          (found.0, (suc found.1.0, (let within : found.1.0 < length conditions = found.1.1 in omega arith), found.1.2), found.2))
+    ]
+
+any_condition : (p : Cond → Bool) (conditions : List Cond) (c : Cond) (i : ℕ) → i < length conditions → get_or conditions i c ≡ c → p c ≡ true → list_any p conditions ≡ true
+any_condition p [] c i within is h = absurd (omega arith)
+any_condition p (d ∷ conditions) c zero within is h = or_left (p d) (list_any p conditions) (ap p is ∙ h)
+any_condition p (d ∷ conditions) c (suc i) within is h = or_right (p d) (list_any p conditions) (any_condition p conditions c i (omega arith) is h)
+
+pub eligible_parties : EligibleParties
+eligible_parties conditions e party = (
+  λ h. let found = some_condition (meets e party) conditions h in (found.0, found.1, condition_met e party found.0 found.2),
+  λ h. any_condition (meets e party) conditions h.0 h.1.0 h.1.1 h.1.2 (met_condition e party h.0 h.2),
+)
+
+-- ---- of a pair of Land and party
+
+when : (t : Bool) (n : ℕ) → t ≡ true → (if t then n else 0) ≡ n
+when true n h = refl
+when false n h = absurd (false≢true h)
+
+unless : (t : Bool) (n : ℕ) → t ≡ false → (if t then n else 0) ≡ 0
+unless false n h = refl
+unless true n h = absurd (false≢true (sym h))
+
+either_zero : (t : Bool) → (if t then 0 else 0) ≡ zero
+either_zero true = refl
+either_zero false = refl
+
+no_votes : (o : Option ListVotes) → is_some o ≡ false → counted_in o ≡ 0
+no_votes None h = refl
+no_votes (Some v) h = absurd (false≢true (sym h))
+
+pub facts_of_lists : FactsOfLists
+facts_of_lists conditions e land party in_lands in_parties =
+    let eligible = is_eligible conditions e party in
+    let votes = counted_in (list_at e land party) in
+    let won = count_by (λ w. is_in land w && is_of party w) e.wins in
+    let counted : list_cell e (counted_votes conditions e) land party ≡ (if eligible then votes else 0) =
+    by_list_at e (λ land party. if is_eligible conditions e party then counted_in (list_at e land party) else 0) land party in_lands in_parties in
+    let winners : list_cell e (list_winners conditions e) land party ≡ (if takes_part conditions e land party then won else 0) =
+    by_list_at e (λ land party. if takes_part conditions e land party then count_by (λ w. is_in land w && is_of party w) e.wins else 0) land party in_lands in_parties in
+    let none = no_votes (list_at e land party) in
+    record {
+      counted = λ part. counted ∙ when eligible votes (and_parts eligible (has_list e land party) part).0;
+      winners = λ part. winners ∙ when (takes_part conditions e land party) won part;
+      no_list = λ no. (
+        counted ∙ ap (λ n. if eligible then n else 0) (none no) ∙ either_zero eligible,
+        winners ∙ unless (takes_part conditions e land party) won (and_right eligible (has_list e land party) no),
+      );
+      not_eligible = λ no. (
+        counted ∙ unless eligible votes no,
+        winners ∙ unless (takes_part conditions e land party) won (and_left eligible (has_list e land party) no),
+      );
+    }
+
+-- ---- of a Land
+
+-- a sum in which only one number has a term
+no_term : (f : ℕ → ℕ) (q a n : ℕ) → ((p : ℕ) → ¬ (q ≡ p) → f p ≡ 0) → q < a → sum_by f (range_with_len a n) ≡ 0
+no_term f q a zero none before = refl
+no_term f q a (suc n) none before =
+    let first = none a (λ is. let h : q ≡ a = is in omega (arith, h)) in
+    sum_by-cons f a (range_with_len (a + 1) n) ∙ omega (arith, first, no_term f q (a + 1) n none (omega arith))
+
+one_term : (f : ℕ → ℕ) (q a n : ℕ) → ((p : ℕ) → ¬ (q ≡ p) → f p ≡ 0) → a ≤ q → q < a + n → sum_by f (range_with_len a n) ≡ f q
+one_term f q a zero none from within = absurd (omega arith)
+one_term f q a (suc n) none from within =
+    elim (cases_eq q a) [
+      | inl here ↦ sum_by-cons f a (range_with_len (a + 1) n) ∙ omega (arith, no_term f q (a + 1) n none (omega (arith, here)), ap f here)
+      | inr later ↦ sum_by-cons f a (range_with_len (a + 1) n) ∙ omega (arith, none a later, one_term f q (a + 1) n none (omega arith) (omega arith))
+    ]
+
+sum_each : (f g : ℕ → ℕ) → ((p : ℕ) → f p ≡ g p) → (ps : List ℕ) → sum_by f ps ≡ sum_by g ps
+sum_each f g same [] = refl
+sum_each f g same (p ∷ ps) = sum_by-cons f p ps ∙ omega (arith, same p, sum_each f g same ps, sum_by-cons g p ps)
+
+sum_both : (f g : ℕ → ℕ) (ps : List ℕ) → sum_by (λ p. f p + g p) ps ≡ sum_by f ps + sum_by g ps
+sum_both f g [] = refl
+sum_both f g (p ∷ ps) = sum_by-cons (λ p. f p + g p) p ps ∙ omega (arith, sum_both f g ps, sum_by-cons f p ps, sum_by-cons g p ps)
+
+sum_zeros_by : (ps : List ℕ) → sum_by (λ p. 0) ps ≡ 0
+sum_zeros_by [] = refl
+sum_zeros_by (p ∷ ps) = sum_by-cons (λ p. 0) p ps ∙ omega (arith, sum_zeros_by ps)
+
+count_more : (q : Win → Bool) (w : Win) (wins : List Win) → count_by q (w ∷ wins) ≡ cond (q w) 1 0 + count_by q wins
+count_more q w wins = sum_by-cons (λ w. cond (q w) 1 0) w wins
+
+-- the winners of whom two things hold, and those of whom but the first does
+count_parted : (p q : Win → Bool) (wins : List Win) → count_by (λ w. p w && q w) wins + count_by (λ w. p w && not (q w)) wins ≡ count_by p wins
+count_parted p q [] = refl
+count_parted p q (w ∷ wins) =
+    let this : cond {A = ℕ} (p w && q w) 1 0 + cond (p w && not (q w)) 1 0 ≡ cond (p w) 1 0 = parted (p w) (q w) in
+    omega (arith, count_parted p q wins, this, count_more (λ w. p w && q w) w wins, count_more (λ w. p w && not (q w)) w wins, count_more p w wins) where
+      parted : (x y : Bool) → cond {A = ℕ} (x && y) 1 0 + cond (x && not y) 1 0 ≡ cond x 1 0
+      parted true true = refl
+      parted true false = refl
+      parted false true = refl
+      parted false false = refl
+
+count_within : (p q : Win → Bool) → ((w : Win) → p w ≡ true → q w ≡ true) → (wins : List Win) → count_by p wins ≤ count_by q wins
+count_within p q implies [] = omega arith
+count_within p q implies (w ∷ wins) =
+    let this : cond {A = ℕ} (p w) 1 0 ≤ cond (q w) 1 0 = no_more (p w) (q w) (implies w) in
+    omega (arith, count_within p q implies wins, this, count_more p w wins, count_more q w wins) where
+      no_more : (x y : Bool) → (x ≡ true → y ≡ true) → cond {A = ℕ} x 1 0 ≤ cond y 1 0
+      no_more false y h = omega arith
+      no_more true y h = subst (λ z. 1 ≤ cond z 1 0) (sym (h refl)) (omega arith)
+
+module _ (conditions : List Cond) (e : Election) (land : ℕ) where
+  -- the winner is of a list of that party in the Land
+  of_list : Win → ℕ → Bool
+  of_list w p = takes_part conditions e land p && (is_in land w && is_of p w)
+
+  -- at most one party has the winner on its list
+  one_list : (w : Win) (o : Option ℕ) → ((q : ℕ) → o ≡ Some q → q < parties_of e) →
+      sum_by (λ p. cond (of_list (record w { party = o }) p) 1 0) (parties e) ≡ cond (is_in land w && is_on_list conditions e (record w { party = o })) 1 0
+  unfolding of_list
+  one_list w None within =
+      sum_each (λ p. cond (takes_part conditions e land p && (nat_eq w.land land && false)) 1 0) (λ p. 0)
+      (λ p. ap (λ t. cond {A = ℕ} t 1 0) (and_right (takes_part conditions e land p) (nat_eq w.land land && false) (and_right (nat_eq w.land land) false refl))) (parties e)
+      ∙ sum_zeros_by (parties e) ∙ sym (ap (λ t. cond {A = ℕ} t 1 0) (and_right (nat_eq w.land land) false refl))
+  one_list w (Some q) within =
+      let f : ℕ → ℕ = λ p. cond (takes_part conditions e land p && (nat_eq w.land land && nat_eq q p)) 1 0 in
+      one_term f q 0 (parties_of e)
+      (λ p other. ap (λ t. cond {A = ℕ} t 1 0) (and_right (takes_part conditions e land p) (nat_eq w.land land && nat_eq q p) (and_right (nat_eq w.land land) (nat_eq q p) (ne_eqb q p other))))
+      (omega arith) (let h = within q refl in omega (arith, h))
+      ∙ ap (λ t. cond {A = ℕ} t 1 0) (sym (when_both (is_eligible conditions e) e land q w q) ∙ ap (λ t. (nat_eq w.land land && t) && takes_part conditions e w.land q) (eq-eqb q q refl) ∙ dropped (nat_eq w.land land) (takes_part conditions e w.land q)) where
+        dropped : (x y : Bool) → (x && true) && y ≡ x && y
+        dropped true y = refl
+        dropped false y = refl
+
+  more_on : (p : ℕ) (w : Win) (wins : List Win) →
+      (if takes_part conditions e land p then count_by (λ w. is_in land w && is_of p w) (w ∷ wins) else 0)
+      ≡ cond (of_list w p) 1 0 + (if takes_part conditions e land p then count_by (λ w. is_in land w && is_of p w) wins else 0)
+  unfolding of_list
+  more_on p w wins = by_part (takes_part conditions e land p) where
+    by_part : (t : Bool) → (if t then count_by (λ w. is_in land w && is_of p w) (w ∷ wins) else 0) ≡ cond (t && (is_in land w && is_of p w)) 1 0 + (if t then count_by (λ w. is_in land w && is_of p w) wins else 0)
+    by_part true = count_more (λ w. is_in land w && is_of p w) w wins
+    by_part false = refl
+
+  on_lists : (wins : List Win) → All (IsWin (lands_of e) (parties_of e)) wins →
+      sum_by (λ p. if takes_part conditions e land p then count_by (λ w. is_in land w && is_of p w) wins else 0) (parties e)
+      ≡ count_by (λ w. is_in land w && is_on_list conditions e w) wins
+  on_lists [] each =
+      sum_each (λ p. if takes_part conditions e land p then 0 else 0) (λ p. 0) (λ p. either_zero (takes_part conditions e land p)) (parties e) ∙ sum_zeros_by (parties e)
+  on_lists (w ∷ wins) each =
+      let here : ℕ → ℕ = λ p. cond (of_list w p) 1 0 in
+      let rest : ℕ → ℕ = λ p. if takes_part conditions e land p then count_by (λ w. is_in land w && is_of p w) wins else 0 in
+      sum_each (λ p. if takes_part conditions e land p then count_by (λ w. is_in land w && is_of p w) (w ∷ wins) else 0) (λ p. here p + rest p) (λ p. more_on p w wins) (parties e)
+      ∙ sum_both here rest (parties e)
+      ∙ omega (
+        arith,
+        one_list w w.party (λ q is. (All-head (IsWin (lands_of e) (parties_of e)) w wins each).party q is),
+        on_lists wins (All-tail (IsWin (lands_of e) (parties_of e)) w wins each),
+        count_more (λ w. is_in land w && is_on_list conditions e w) w wins,
+      )
+
+pub facts_of_lands : FactsOfLands
+facts_of_lands conditions e land is in_lands =
+    let on : Win → Bool = λ w. is_on_list conditions e w in
+    let outside : get_or (outside_winners conditions e) land 0 ≡ count_by (λ w. is_in land w && not (on w)) e.wins =
+    get_or-map-range_with_len (λ land. count_by (λ w. is_in land w && not (is_on_list conditions e w)) e.wins) 0 (lands_of e) land land 0 in_lands (omega arith) in
+    let alone : get_or (independent_winners conditions e) land 0 ≡ count_by (λ w. is_in land w && is_none w.party) e.wins =
+    get_or-map-range_with_len (λ land. count_by (λ w. is_in land w && is_none w.party) e.wins) 0 (lands_of e) land land 0 in_lands (omega arith) in
+    record {
+      all_winners = all outside;
+      independents = omega (arith, outside, alone, count_within (λ w. is_in land w && is_none w.party) (λ w. is_in land w && not (on w)) (λ w. apart w w.party) e.wins);
+    } where
+      apart : (w : Win) (o : Option ℕ) → is_in land w && is_none o ≡ true → is_in land w && not (is_on_list conditions e (record w { party = o })) ≡ true
+      apart w None h = h
+      apart w (Some q) h = absurd (both_ways (is_in land w && false) (and_right (is_in land w) false refl) h)
+
+      in_range : (f g : ℕ → ℕ) (a n : ℕ) → ((p : ℕ) → p < a + n → f p ≡ g p) → sum_by f (range_with_len a n) ≡ sum_by g (range_with_len a n)
+      in_range f g a zero same = refl
+      in_range f g a (suc n) same =
+          sum_by-cons f a (range_with_len (a + 1) n)
+          ∙ omega (arith, same a (omega arith), in_range f g (a + 1) n (λ p less. same p (omega (arith, less))), sum_by-cons g a (range_with_len (a + 1) n))
+
+      all : get_or (outside_winners conditions e) land 0 ≡ count_by (λ w. is_in land w && not (is_on_list conditions e w)) e.wins →
+          sum_by (λ party. list_cell e (list_winners conditions e) land party) (parties e) + get_or (outside_winners conditions e) land 0 ≡ count_by (is_in land) e.wins
+      all outside =
+          let lists = in_range (λ party. list_cell e (list_winners conditions e) land party) (λ p. if takes_part conditions e land p then count_by (λ w. is_in land w && is_of p w) e.wins else 0) 0 (parties_of e)
+          (λ party less. by_list_at e (λ land party. if takes_part conditions e land party then count_by (λ w. is_in land w && is_of party w) e.wins else 0) land party in_lands (omega (arith, less))) in
+          omega (arith, outside, lists, on_lists conditions e land e.wins is.places, count_parted (is_in land) (is_on_list conditions e) e.wins)
