@@ -8,11 +8,11 @@ use Rattle.sl_code.specs.declared.kinds.Kinds.{Kinds}
 use Rattle.sl_code.specs.Codes.{CountingCode}
 use Rattle.sl_code.specs.Standing.{HasAt}
 use Rattle.sl_code.proofs.Standing.{first_stands}
-use Rattle.sl_verify.specs.Leaves.{target_of}
+use Rattle.sl_code.specs.Rows.{target_of}
 use Rattle.sl_machine.specs.State.{State, with_register}
 use Rattle.sl_machine.specs.Comes.{Comes}
 use Rattle.sl_machine.specs.Effects.{Effect, Goes, Jumps, effect, first_of, next_of}
-use Rattle.sl_machine.proofs.Coming.{goes, jumps, after, comes_at}
+use Rattle.sl_machine.proofs.runs.Coming.{goes, jumps, after, comes_at}
 use Rattle.sl_machine.proofs.effects.Registers.{jz_jumps, jz_falls}
 use Rattle.sl_plans.specs.declared.plan.Test.{Test}
 use Rattle.sl_plans.specs.declared.plan.Cursor.{Cursor}

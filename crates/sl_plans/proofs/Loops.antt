@@ -6,7 +6,7 @@ use Rattle.sl_stages.specs.returns.Election.{Election}
 use Rattle.sl_code.specs.Codes.{CountingCode}
 use Rattle.sl_machine.specs.State.{State}
 use Rattle.sl_machine.specs.Comes.{Comes}
-use Rattle.sl_machine.proofs.Coming.{after, wider}
+use Rattle.sl_machine.proofs.runs.Coming.{after, wider}
 use Rattle.sl_plans.specs.declared.plan.Cursor.{Cursor}
 use Rattle.sl_plans.specs.Meaning.{Course, Onward, Final, Unsaid, then_do, cursor_of, set_cursor, held, turn_at, for_each, each_of, at_zero, turns}
 use Rattle.sl_plans.specs.Following.{Follows}

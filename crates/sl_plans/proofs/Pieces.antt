@@ -7,11 +7,11 @@ use Rattle.sl_code.specs.declared.kinds.Kinds.{Kinds}
 use Rattle.sl_code.specs.Codes.{CountingCode}
 use Rattle.sl_code.specs.Standing.{HasAt}
 use Rattle.sl_code.proofs.Standing.{first_stands, next_stand}
-use Rattle.sl_verify.specs.Leaves.{target_of}
+use Rattle.sl_code.specs.Rows.{target_of}
 use Rattle.sl_machine.specs.State.{State, End}
 use Rattle.sl_machine.specs.Comes.{Comes, Finishes}
 use Rattle.sl_machine.specs.Effects.{Effect, Goes, Jumps, Ends, NoCase, effect}
-use Rattle.sl_machine.proofs.Coming.{stays, goes, jumps, ends, after, ends_after, wider, ends_wider, comes_at}
+use Rattle.sl_machine.proofs.runs.Coming.{stays, goes, jumps, ends, after, ends_after, wider, ends_wider, comes_at}
 use Rattle.sl_machine.proofs.effects.Registers.{jz_jumps, jz_falls}
 use Rattle.sl_plans.specs.declared.plan.Test.{Test}
 use Rattle.sl_plans.specs.declared.plan.Test.TheVariants as test
