@@ -10,3 +10,4 @@ pub mod Prices
 pub mod Laying
 pub mod Reaching
 pub mod Sums
+pub mod Kinded

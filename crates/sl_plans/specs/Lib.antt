@@ -6,4 +6,5 @@ pub mod Achieves
 pub mod Costs
 pub mod Layout
 pub mod Sums
+pub mod Fine
 pub mod inner

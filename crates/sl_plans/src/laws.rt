@@ -1,6 +1,7 @@
 //! What holds of every plan.
 
 ghost use Rattle.sl_plans.specs.Costs.{PlansCostTheirPrice, SharesSuffice};
+ghost use Rattle.sl_plans.specs.Fine.{FinePlansPass};
 ghost use Rattle.sl_plans.specs.Following.{PlansAreFollowed};
 ghost use Rattle.sl_plans.specs.Sums.{ColumnsAreSummed};
 ghost use Rattle.sl_plans.specs.inner.Frames.{PlansKeepTheRest};
@@ -28,4 +29,9 @@ pub fn shares_suffice()
 /// A plan of 11 instructions sums a column over all lists.
 pub fn columns_are_summed()
     ensures { ColumnsAreSummed }
+{}
+
+/// The verifier accepts the instructions of a fine plan, and finds the plan's kinds after them.
+pub fn fine_plans_pass()
+    ensures { FinePlansPass }
 {}
