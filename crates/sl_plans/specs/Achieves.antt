@@ -1,7 +1,9 @@
 -- What is shown of a plan: it goes on in a state of which one thing holds, or ends the run so that another holds (docs/plans.md, section 5).
+use Rattle.std.specs.Prelude.{ℕ, ◌⊎◌}
 use Rattle.sl_stages.specs.returns.Election.{Election}
 use Rattle.sl_code.specs.Codes.{CountingCode}
 use Rattle.sl_machine.specs.State.{State, End}
+use Rattle.sl_machine.specs.Comes.{Comes, Finishes}
 use Rattle.sl_plans.specs.Trees.{Tree}
 use Rattle.sl_plans.specs.Meaning.{Course, Onward, Final, Unsaid, does}
 
@@ -17,3 +19,7 @@ pub record Achieves (c : CountingCode) (e : Election) (tree : Tree) (s : State) 
 -- a plan that never ends the run
 abbrev pub Never : End → Type 0
 Never x = ⊥
+
+-- from place p and state s the machine comes within so many steps to place q in such a state, or it ends so
+abbrev pub Reaches : CountingCode → Election → ℕ → ℕ → State → ℕ → (State → Type 0) → (End → Type 0) → Type 0
+Reaches c e bound p s q Q E = ((t : State) × Comes c e bound p s q t × Q t) ⊎ ((x : End) × Finishes c e bound p s x × E x)

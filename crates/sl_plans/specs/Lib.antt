@@ -5,4 +5,6 @@ pub mod Following
 pub mod Achieves
 pub mod Costs
 pub mod Layout
+pub mod Sums
+pub mod Fine
 pub mod inner

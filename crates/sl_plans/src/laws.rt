@@ -1,7 +1,9 @@
 //! What holds of every plan.
 
 ghost use Rattle.sl_plans.specs.Costs.{PlansCostTheirPrice, SharesSuffice};
+ghost use Rattle.sl_plans.specs.Fine.{FinePlansPass};
 ghost use Rattle.sl_plans.specs.Following.{PlansAreFollowed};
+ghost use Rattle.sl_plans.specs.Sums.{ColumnsAreSummed};
 ghost use Rattle.sl_plans.specs.inner.Frames.{PlansKeepTheRest};
 
 /// Wherever the instructions of a plan stand, the machine does what the plan says, within the plan's cost.
@@ -22,4 +24,14 @@ pub fn plans_cost_their_price()
 /// A plan with no number of its price above a share's takes at most a share.
 pub fn shares_suffice()
     ensures { SharesSuffice }
+{}
+
+/// A plan of 11 instructions sums a column over all lists.
+pub fn columns_are_summed()
+    ensures { ColumnsAreSummed }
+{}
+
+/// The verifier accepts the instructions of a fine plan, and finds the plan's kinds after them.
+pub fn fine_plans_pass()
+    ensures { FinePlansPass }
 {}

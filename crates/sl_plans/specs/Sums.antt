@@ -1,0 +1,33 @@
+-- A worked plan: the sum of a column over all lists (docs/plans.md, section 8).
+use Rattle.std.specs.Prelude.{◌≡◌, ℕ, ◌+◌, ◌*◌, ◌≤◌, List, [], ◌∷◌, map, Some, slice_get}
+use Rattle.std.specs.List.{sum, range_with_len}
+use Rattle.sl_stages.specs.declared.book.Shape.TheVariants as shape
+use Rattle.sl_stages.specs.returns.Election.{Election, lands_of, parties_of}
+use Rattle.sl_code.specs.declared.instr.Instr.TheVariants.{Set, Get, Add}
+use Rattle.sl_code.specs.declared.kinds.Kinds.{Kinds}
+use Rattle.sl_code.specs.Codes.{CountingCode}
+use Rattle.sl_code.specs.Standing.{HasAt}
+use Rattle.sl_machine.specs.State.{State}
+use Rattle.sl_machine.specs.Comes.{Comes}
+use Rattle.sl_machine.specs.Effects.{most}
+use Rattle.sl_plans.specs.declared.plan.Cursor.TheVariants as cursor
+use Rattle.sl_plans.specs.Trees.{Tree, Line, Then, Each, flat}
+use Rattle.sl_plans.specs.Meaning.{cost}
+
+-- register 1 is more by the cell at the cursors
+abbrev pub add_cell : ℕ → Tree
+add_cell k = Line (Get 0 k ∷ (Add 1 0 ∷ []))
+
+-- register 1 is the sum of the column's cells: 11 instructions
+abbrev pub sum_tree : ℕ → Tree
+sum_tree k = Then (Line (Set 1 0 ∷ [])) (Each cursor.Land (Each cursor.Party (add_cell k)))
+
+-- the sum of the first n cells
+abbrev pub sum_of_first : ℕ → (ℕ → ℕ) → ℕ
+sum_of_first n cells = sum (map cells (range_with_len 0 n))
+
+abbrev pub ColumnsAreSummed : Type 0
+ColumnsAreSummed =
+    (c : CountingCode) (e : Election) (k p : ℕ) (known : Kinds) (s : State) →
+    slice_get c.slots k ≡ Some shape.List → sum_of_first (lands_of e * parties_of e) (s.columns k) ≤ most → HasAt c p (flat known p (sum_tree k)) →
+    (t : State) × Comes c e (cost e (sum_tree k)) p s (p + 11) t × (t.registers 1 ≡ sum_of_first (lands_of e * parties_of e) (s.columns k))
