@@ -8,3 +8,5 @@ mod parse;
 mod returns;
 #[cfg(test)]
 mod stages;
+#[cfg(test)]
+mod texts;

@@ -43,7 +43,7 @@ fn returns_are_read(rt: HostRuntime) -> Result<(), Fail> {
     Ok(())
 }
 
-// Whether two Länder have the lists that the second version tells, and the house is told between them.
+// Whether two Länder have the lists that the second version gives, and the house is given between them.
 fn have_slates(returns: &Returns) -> bool {
     if returns.lands() != 2 || returns.parties() != 2 {
         return false;

@@ -39,7 +39,7 @@ fn are_read_back(returns: &Returns) -> bool {
 }
 
 // Whether these are the names left on a list, and a lot of the only winner.
-fn are_told(returns: &Returns) -> bool {
+fn are_kept(returns: &Returns) -> bool {
     if returns.lands() != 1 || returns.parties() != 1 {
         return false;
     }
@@ -69,6 +69,6 @@ fn records_are_read_back(rt: HostRuntime) -> Result<(), Fail> {
     returns.set_house(598);
     returns.set_slate(0, 0, 7);
     returns.add_lot(Some(0), None, b"seats", Some(0))?;
-    assert!(rt; are_told(&returns));
+    assert!(rt; are_kept(&returns));
     Ok(())
 }

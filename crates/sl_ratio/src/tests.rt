@@ -82,7 +82,12 @@ fn entries_of_equal_quotients(rt: HostRuntime) {
         index: 9,
     };
     assert!(rt; greater > first);
-    assert_eq!(rt; hash_of(&first), hash_of(&first));
+    let again = Entry {
+        ratio: Ratio::new(60, 3),
+        index: 0,
+    };
+    assert!(rt; first == again && hash_of(&first) == hash_of(&again));
+    assert!(rt; hash_of(&first) != hash_of(&second) && hash_of(&first) != hash_of(&reduced));
 }
 
 #[test]

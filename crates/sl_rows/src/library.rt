@@ -1,7 +1,8 @@
 //! The books of the library, as they lie in examples/library: each is read and accepted.
 
-use crate::memory::{Narrow, Slow};
-use sl_desk::{BookSource, Status, check_book};
+use crate::inputs::Text;
+use crate::rows::{CheckRow, assert_checks};
+use sl_desk::Status;
 use std::test::Fail;
 
 const BOOK_1956: &str = "\
@@ -67,40 +68,47 @@ stage upper = split(pool, sum(counted, party), webster, majority refuse);\n\
 stage lower = split(upper, counted, webster);\n\
 seats lower cover;\n";
 
+const BOOKS: [CheckRow; 6] = [
+    (
+        "1956",
+        Text::Of(BOOK_1956),
+        "book 2 house 494 stages 3 law Bundeswahlgesetz 1956\n",
+        Status::Done,
+    ),
+    (
+        "1985",
+        Text::Of(BOOK_1985),
+        "book 2 house 496 stages 3 law Bundeswahlgesetz 1985\n",
+        Status::Done,
+    ),
+    (
+        "2008",
+        Text::Of(BOOK_2008),
+        "book 2 house 598 stages 3 law Bundeswahlgesetz 2008\n",
+        Status::Done,
+    ),
+    (
+        "2013",
+        Text::Of(BOOK_2013),
+        "book 2 house 598 stages 6 law Bundeswahlgesetz 2013\n",
+        Status::Done,
+    ),
+    (
+        "2023",
+        Text::Of(BOOK_2023),
+        "book 1 house 630 stages 3 law Bundeswahlgesetz 2023\n",
+        Status::Done,
+    ),
+    (
+        "2023 as ordered",
+        Text::Of(BOOK_2023_ORDER),
+        "book 1 house 630 stages 3 law Bundeswahlgesetz 2023, order of 2024\n",
+        Status::Done,
+    ),
+];
+
 #[test]
 fn books_of_the_library(rt: HostRuntime) -> Result<(), Fail> {
-    let cases = [
-        (
-            BOOK_1956,
-            "book 2 house 494 stages 3 law Bundeswahlgesetz 1956\n",
-        ),
-        (
-            BOOK_1985,
-            "book 2 house 496 stages 3 law Bundeswahlgesetz 1985\n",
-        ),
-        (
-            BOOK_2008,
-            "book 2 house 598 stages 3 law Bundeswahlgesetz 2008\n",
-        ),
-        (
-            BOOK_2013,
-            "book 2 house 598 stages 6 law Bundeswahlgesetz 2013\n",
-        ),
-        (
-            BOOK_2023,
-            "book 1 house 630 stages 3 law Bundeswahlgesetz 2023\n",
-        ),
-        (
-            BOOK_2023_ORDER,
-            "book 1 house 630 stages 3 law Bundeswahlgesetz 2023, order of 2024\n",
-        ),
-    ];
-    for (book, line) in cases {
-        let mut book = BookSource::Reader(Slow::new(book.as_bytes(), 4096, 0));
-        let mut out = Narrow::new(rt.alloc(), 4096, 0);
-        let result = check_book(rt.alloc(), &mut book, &mut out);
-        assert_eq!(rt; result, Ok(Status::Done), "{line}");
-        assert_eq!(rt; out.taken.as_slice(), line.as_bytes(), "{line}");
-    }
+    assert_checks(&rt, rt.alloc(), &BOOKS)?;
     Ok(())
 }

@@ -1,4 +1,6 @@
-//! A source and a sink over memory that go in small steps, and fail at a call of one's choice.
+//! A source and a sink over memory that go in small steps, and fail at a call of one's choice. Their bytes are known.
+
+ghost use Rattle.std.specs.Prelude.{Some};
 
 use sl_desk::{DeskError, Failed, Sink, Source, Status};
 use std::alloc::Global;
@@ -33,6 +35,8 @@ impl<'a> Slow<'a> {
 }
 
 impl<'a> Source for Slow<'a> {
+    ghost remaining = { λ s. Some s.rest.now };
+
     ghost failed = { λ s. s.failures };
 
     fn fetch(&mut self, buf: &mut [u8]) -> Result<usize, Failed> {
@@ -41,10 +45,10 @@ impl<'a> Source for Slow<'a> {
             self.failures = self.failures.saturating_add(1);
             return Err(Failed);
         }
-        let n = self.step.min(buf.len()).min(self.rest.len());
-        let (front, behind) = self.rest.split_at(n);
-        buf[..n].copy_from_slice(front);
-        self.rest = behind;
+        let n = self.step.max(1).min(buf.len()).min(self.rest.len());
+        let (prefix, rest) = self.rest.split_at(n);
+        buf[..n].copy_from_slice(prefix);
+        self.rest = rest;
         Ok(n)
     }
 
@@ -76,6 +80,8 @@ impl Narrow {
 }
 
 impl Sink for Narrow {
+    ghost contents = { λ s. Some s.taken.items };
+
     ghost failed = { λ s. s.failures };
 
     fn put(&mut self, piece: &[u8]) -> Result<usize, Failed> {

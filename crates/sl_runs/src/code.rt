@@ -1,6 +1,6 @@
 //! Code files from outside, read, written and listed, and bytes that are none.
 
-use sl_code::{Code, CodeFault, Instr, from_bytes, listing, to_bytes};
+use sl_code::{CodeFault, Instr, from_bytes, listing, to_bytes};
 use sl_stages::Shape;
 use std::alloc::Global;
 use std::test::*;
@@ -12,18 +12,9 @@ const HALT: [u8; 13] = *b"SLC\x01\x00\x01\x03\x01\x00\x00\x00\x29\x00";
 const MIXED: [u8; 45] =
     *b"SLC\x01\x01\x02up\x00\x04\x00\x01\x02\x03\x05\x00\x00\x00\x01\x01\x02\x01\x00\x00\x00\x00\x00\x00\x09\x07\x00\x00\x00\x2a\x05\x00\x03\x07\x23\xff\x02\x03\x04\x29\x00";
 
-// The code of the first file.
-fn halt(alloc: Global) -> Result<Code, Fail> {
-    Ok(Code::new(
-        Vec::from_slice(alloc, &[Instr::Halt(0)])?,
-        Vec::new(alloc),
-        Vec::from_slice(alloc, &[Shape::List])?,
-    ))
-}
-
 #[test]
 fn the_smallest_file_written(rt: HostRuntime) -> Result<(), Fail> {
-    let code = halt(rt.alloc())?;
+    let code = from_bytes(rt.alloc(), &HALT)?;
     assert_eq!(rt; to_bytes(rt.alloc(), &code)?.as_slice(), HALT.as_slice());
     assert_eq!(rt;
         listing(rt.alloc(), &code)?.as_slice(),
@@ -53,41 +44,129 @@ fn operands_of_every_width(rt: HostRuntime) -> Result<(), Fail> {
     Ok(())
 }
 
+// Files, each with its first fault.
+const FAULTS: [(&[u8], CodeFault); 30] = [
+    (b"", CodeFault::Short(0)),
+    (b"SM", CodeFault::Magic(0)),
+    (b"SL", CodeFault::Short(2)),
+    (b"SLC\x02", CodeFault::Version(3)),
+    (b"SLC\x01\x21", CodeFault::Limit(4)),
+    (b"SLC\x01\x01\x00", CodeFault::Op(5)),
+    (b"SLC\x01\x01\x0d", CodeFault::Op(5)),
+    (b"SLC\x01\x01\x022", CodeFault::Op(6)),
+    (b"SLC\x01\x01\x02u-", CodeFault::Op(7)),
+    (b"SLC\x01\x00\xc9", CodeFault::Limit(5)),
+    (b"SLC\x01\x00\x01\x04", CodeFault::Op(6)),
+    (b"SLC\x01\x00\x00\xff\xff\xff", CodeFault::Short(9)),
+    (b"SLC\x01\x00\x00\x41\x0d\x03\x00", CodeFault::Limit(6)),
+    (b"SLC\x01\x00\x00\x40\x0d\x03\x00", CodeFault::Short(10)),
+    (b"SLC\x01\x00\x00\x01\x00\x00\x00\x00", CodeFault::Op(10)),
+    (b"SLC\x01\x00\x00\x01\x00\x00\x00\x2d", CodeFault::Op(10)),
+    (
+        b"SLC\x01\x00\x00\x01\x00\x00\x00\x10\x00\x05",
+        CodeFault::Op(12),
+    ),
+    (
+        b"SLC\x01\x00\x00\x01\x00\x00\x00\x1a\x04\x00",
+        CodeFault::Op(11),
+    ),
+    (
+        b"SLC\x01\x00\x00\x01\x00\x00\x00\x1a\x03\x02",
+        CodeFault::Op(12),
+    ),
+    (
+        b"SLC\x01\x00\x00\x01\x00\x00\x00\x1b\x05\x00\x00",
+        CodeFault::Op(11),
+    ),
+    (
+        b"SLC\x01\x00\x00\x01\x00\x00\x00\x23\xff\x04\x00\x00",
+        CodeFault::Op(12),
+    ),
+    (
+        b"SLC\x01\x00\x00\x01\x00\x00\x00\x25\xff\x00\x00",
+        CodeFault::Op(13),
+    ),
+    (
+        b"SLC\x01\x00\x00\x01\x00\x00\x00\x25\xff\x00\x04",
+        CodeFault::Op(13),
+    ),
+    (
+        b"SLC\x01\x00\x00\x01\x00\x00\x00\x25\xff\x00\x07",
+        CodeFault::Op(13),
+    ),
+    (
+        b"SLC\x01\x00\x00\x01\x00\x00\x00\x2a\x00\x00\x08\x00",
+        CodeFault::Op(13),
+    ),
+    (
+        b"SLC\x01\x00\x00\x01\x00\x00\x00\x2a\x00\x00\x07\x11",
+        CodeFault::Op(14),
+    ),
+    (
+        b"SLC\x01\x00\x00\x01\x00\x00\x00\x2c\xff\x00\x01\x00",
+        CodeFault::Op(13),
+    ),
+    (
+        b"SLC\x01\x00\x00\x01\x00\x00\x00\x2c\xff\x00\x05\x00",
+        CodeFault::Op(13),
+    ),
+    (
+        b"SLC\x01\x00\x00\x00\x00\x00\x00\x29",
+        CodeFault::Trailing(10),
+    ),
+    (
+        b"SLC\x01\x00\x01\x03\x01\x00\x00\x00\x29\x00\x00",
+        CodeFault::Trailing(13),
+    ),
+];
+
 #[test]
 fn the_first_fault(rt: HostRuntime) {
-    let alloc = rt.alloc();
-    for (bytes, fault) in [
-        (b"".as_slice(), CodeFault::Short(0)),
-        (b"SM".as_slice(), CodeFault::Magic(0)),
-        (b"SL".as_slice(), CodeFault::Short(2)),
-        (b"SLC\x02".as_slice(), CodeFault::Version(3)),
-        (b"SLC\x01\x21".as_slice(), CodeFault::Limit(4)),
-        (b"SLC\x01\x01\x0d".as_slice(), CodeFault::Op(5)),
-        (b"SLC\x01\x01\x02u-".as_slice(), CodeFault::Op(7)),
-        (b"SLC\x01\x00\x01\x04".as_slice(), CodeFault::Op(6)),
-        (
-            b"SLC\x01\x00\x00\xff\xff\xff".as_slice(),
-            CodeFault::Short(9),
-        ),
-        (
-            b"SLC\x01\x00\x00\x41\x0d\x03\x00".as_slice(),
-            CodeFault::Limit(6),
-        ),
-        (
-            b"SLC\x01\x00\x00\x40\x0d\x03\x00".as_slice(),
-            CodeFault::Short(10),
-        ),
-        (
-            b"SLC\x01\x00\x00\x01\x00\x00\x00\x2d".as_slice(),
-            CodeFault::Op(10),
-        ),
-        (&HALT[..12], CodeFault::Short(12)),
-        (
-            b"SLC\x01\x00\x01\x03\x01\x00\x00\x00\x29\x00\x00".as_slice(),
-            CodeFault::Trailing(13),
-        ),
-    ] {
-        let found = from_bytes(alloc, bytes);
-        assert!(rt; matches!(found, Err(e) if e == fault));
+    for (bytes, fault) in FAULTS {
+        let found = from_bytes(rt.alloc(), bytes);
+        assert!(rt; matches!(found, Err(e) if e == fault), "{fault:?}");
     }
+}
+
+#[test]
+fn a_file_that_is_cut(rt: HostRuntime) {
+    for n in 0..MIXED.len() {
+        let found = from_bytes(rt.alloc(), &MIXED[..n]);
+        assert!(rt;
+            matches!(found, Err(CodeFault::Short(at)) if at == n),
+            "{n} bytes"
+        );
+    }
+}
+
+// As many stages, slots or instructions as a code may have, and nothing else: a stage is `s` with slot 0, a slot is One, an instruction
+// is `take`.
+const GREATEST: [(&[u8], &[u8], usize, &[u8]); 3] = [
+    (b"SLC\x01\x20", b"\x01s\x00", 32, b"\x00\x00\x00\x00\x00"),
+    (b"SLC\x01\x00\xc8", b"\x00", 200, b"\x00\x00\x00\x00"),
+    (b"SLC\x01\x00\x00\x40\x0d\x03\x00", b"\x20", 200_000, b""),
+];
+
+// How many stages, slots and instructions the code of a file has in all.
+fn parts_in(alloc: Global, file: &[u8]) -> Result<usize, Fail> {
+    let code = from_bytes(alloc, file)?;
+    Ok(
+        code.stages()
+            .len()
+            .saturating_add(code.slots().len())
+            .saturating_add(code.instrs().len()),
+    )
+}
+
+#[test]
+fn the_greatest_files(rt: HostRuntime) -> Result<(), Fail> {
+    for (before, part, count, after) in GREATEST {
+        let mut file = Vec::from_slice(rt.alloc(), before)?;
+        for _ in 0..count {
+            file.extend_from_slice(part)?;
+        }
+        file.extend_from_slice(after)?;
+        assert_eq!(rt; parts_in(rt.alloc(), file.as_slice())?, count);
+    }
+    Ok(())
 }

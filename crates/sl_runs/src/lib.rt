@@ -5,6 +5,8 @@
 #[cfg(test)]
 mod code;
 #[cfg(test)]
+mod files;
+#[cfg(test)]
 mod machine;
 #[cfg(test)]
 mod verify;

@@ -1,12 +1,16 @@
 //! Runs of small code files, with ample memory.
 
 mod awards;
+mod numbers;
+mod records;
+mod winners;
 
+use crate::files::joined;
 use sl_code::from_bytes;
 use sl_machine::{Ending, Memory, budget, run};
 use sl_ratio::NoMemory;
 use sl_returns::read_returns;
-use sl_stages::{FaultKind, Returns, Scope};
+use sl_stages::{FaultKind, Item, Returns, Scope};
 use sl_verify::{Verified, verify};
 use std::alloc::Global;
 use std::test::*;
@@ -41,6 +45,17 @@ fn held(alloc: Global, file: &[u8], text: &str) -> Result<Memory, Fail> {
     }
 }
 
+// The seats and the names of the tie in which such a run ends.
+fn tie_of(alloc: Global, file: &[u8], text: &str) -> Result<(u64, Vec<Item>), Fail> {
+    let Ending::Fault(fault) = ending(alloc, file, text)? else {
+        return Err("no legal fault")?;
+    };
+    match fault.kind {
+        FaultKind::Tie { seats, names } => Ok((seats, Vec::from_slice(alloc, names.as_slice())?)),
+        _ => Err("no tie")?,
+    }
+}
+
 // A Land X with a list of the party A.
 const ONE_LIST: &str = "kind,land,party,a,b,c\nland,X,,100,,\nparty,,A,0,,\nlist,X,A,10,4,\n";
 
@@ -51,12 +66,8 @@ const HALT: [u8; 13] = *b"SLC\x01\x00\x01\x03\x01\x00\x00\x00\x29\x00";
 const ENDLESS: [u8; 20] =
     *b"SLC\x01\x00\x00\x02\x00\x00\x00\x2a\x00\x00\x00\x00\x09\x00\x00\x00\x00";
 
-// Two List slots; `input 0 0`, `input 1 1`, `haltv 0 1`.
-const VACANT: [u8; 21] =
-    *b"SLC\x01\x00\x02\x03\x03\x03\x00\x00\x00\x10\x00\x00\x10\x01\x01\x2b\x00\x01";
-
 // `fault 255 0 6`.
-const CAP: [u8; 14] = *b"SLC\x01\x00\x00\x01\x00\x00\x00\x25\xff\x00\x06";
+const FAULT: [u8; 14] = *b"SLC\x01\x00\x00\x01\x00\x00\x00\x25\xff\x00\x06";
 
 #[test]
 fn budget_of_one_list(rt: HostRuntime) -> Result<(), Fail> {
@@ -74,22 +85,46 @@ fn a_code_that_halts_at_once(rt: HostRuntime) -> Result<(), Fail> {
     Ok(())
 }
 
-#[test]
-fn a_code_with_vacant_seats(rt: HostRuntime) -> Result<(), Fail> {
-    let halted = held(rt.alloc(), &VACANT, ONE_LIST)?;
-    assert_eq!(rt; halted.base(), [10].as_slice());
-    assert_eq!(rt; halted.vacant(), [4].as_slice());
-    Ok(())
+// The number of a fault's kind, but for a tie.
+fn kind_number(kind: &FaultKind) -> u8 {
+    match kind {
+        FaultKind::Limit => 1,
+        FaultKind::Short => 2,
+        FaultKind::NoList => 3,
+        FaultKind::Tie { .. } => 4,
+        FaultKind::Majority => 5,
+        FaultKind::Cap => 6,
+    }
 }
 
 #[test]
-fn codes_that_are_not_done(rt: HostRuntime) -> Result<(), Fail> {
-    let end = ending(rt.alloc(), &ENDLESS, ONE_LIST)?;
-    assert!(rt; matches!(end, Ending::OutOfBudget));
-    let Ending::Fault(fault) = ending(rt.alloc(), &CAP, ONE_LIST)? else {
-        panic!(rt; "no legal fault");
-    };
-    assert_eq!(rt; (fault.stage, fault.scope), (0, Scope::All));
-    assert!(rt; matches!(fault.kind, FaultKind::Cap));
+fn codes_that_end_with_a_fault(rt: HostRuntime) -> Result<(), Fail> {
+    for number in [1, 2, 3, 5, 6] {
+        let mut file = FAULT;
+        file[13] = number;
+        let Ending::Fault(fault) = ending(rt.alloc(), &file, ONE_LIST)? else {
+            panic!(rt; "no legal fault");
+        };
+        assert_eq!(rt; (fault.stage, fault.scope), (0, Scope::All));
+        assert_eq!(rt; kind_number(&fault.kind), number);
+    }
+    Ok(())
+}
+
+// Whether the run of a code file ends within so many steps.
+fn ends_within(alloc: Global, file: &[u8], steps: u64) -> Result<bool, Fail> {
+    let returns = read_returns(alloc, ONE_LIST.as_bytes())?;
+    let code = accepted(alloc, file)?;
+    match run(alloc, &code, &returns, steps)? {
+        Ending::OutOfBudget => Ok(false),
+        _ => Ok(true),
+    }
+}
+
+#[test]
+fn codes_that_run_out_of_steps(rt: HostRuntime) -> Result<(), Fail> {
+    let alloc = rt.alloc();
+    assert!(rt; !ends_within(alloc, &HALT, 0)? && ends_within(alloc, &HALT, 1)?);
+    assert!(rt; !ends_within(alloc, &ENDLESS, 100_000)?);
     Ok(())
 }

@@ -1,266 +1,200 @@
-//! Codes built by hand, and the first fault of each.
+//! Codes of small files, and the first fault of each.
 
-ghost use Rattle.std.specs.Prelude.{◌≤◌, length};
-ghost use Rattle.sl_code.specs.declared.code.TheConstants.{MAX_SLOTS, MAX_INSTRS};
-
-use sl_code::{
-    Code, CodeStage, Cursors, EndFault, Entries, Input, Instr, Kinds, Ranking, Registers, Rounding,
-    ScopeKind, TableState,
-};
-use sl_ratio::Divisor;
-use sl_stages::{Shape, Word};
+use crate::files::joined;
+use sl_code::{Code, from_bytes};
+use sl_stages::Shape;
 use sl_verify::{VerifyFault, verify};
 use std::alloc::Global;
-use std::test::Fail;
+use std::test::*;
 
-fn code(alloc: Global, instrs: &[Instr], slots: &[Shape]) -> Result<Code, Fail>
-    requires instrs { length instrs.now ≤ MAX_INSTRS }
-    requires slots { length slots.now ≤ MAX_SLOTS }
-{
-    Ok(Code::new(
-        Vec::from_slice(alloc, instrs)?,
-        Vec::new(alloc),
-        Vec::from_slice(alloc, slots)?,
-    ))
+// The code of these slots and instructions, without stages.
+fn code(alloc: Global, slots: &[u8], instrs: &[&[u8]]) -> Result<Code, Fail> {
+    let mut file = Vec::from_slice(alloc, b"SLC\x01\x00")?;
+    file.push(u8::try_from(slots.len()).unwrap_or(u8::MAX))?;
+    file.extend_from_slice(slots)?;
+    let count = u32::try_from(instrs.len()).unwrap_or(u32::MAX);
+    file.extend_from_slice(&count.to_le_bytes())?;
+    file.extend_from_slice(joined(alloc, instrs)?.as_slice())?;
+    Ok(from_bytes(alloc, file.as_slice())?)
 }
 
-/// The fault of a code.
-fn fault(code: Code) -> Option<VerifyFault> {
+// The fault of a code.
+fn fault_of(code: Code) -> Option<VerifyFault> {
     verify(code).err().map(|refused| refused.1)
 }
 
-/// The fault of these instructions with one List slot and no stages.
-fn fault_of(alloc: Global, instrs: &[Instr]) -> Result<Option<VerifyFault>, Fail>
-    requires { length instrs.now ≤ MAX_INSTRS }
-{
-    Ok(fault(code(alloc, instrs, &[Shape::List])?))
-}
-
-/// `at` with those registers positive, no cursor set, and the table off.
-fn at(mask: u16) -> Instr {
-    Instr::At(Kinds {
-            positive: Registers { mask },
-            cursors: Cursors {
-                party: false,
-                land: false,
-                win: false,
-            },
-            table: None,
-        })
-}
-
-/// `at` with these cursors set and a table of lists, ranked by quotients.
-fn at_table(party: bool, land: bool) -> Instr {
-    Instr::At(Kinds {
-            positive: Registers { mask: 0 },
-            cursors: Cursors {
-                party,
-                land,
-                win: false,
-            },
-            table: Some(TableState {
-                entries: Entries::List,
-                ranking: Ranking::Quotients,
-                ready: false,
-            }),
-        })
-}
-
-const HALT: Instr = Instr::Halt(0);
+// The shapes of the slots, the instructions, and the fault.
+const CODES: [(&[u8], &[&[u8]], Option<VerifyFault>); 14] = [
+    (&[3], &[b"\x02\x0f\x00", b"\x29\x00"], None), // mov 15 0; halt 0
+    (
+        &[3],
+        &[b"\x02\x10\x00", b"\x29\x00"],
+        Some(VerifyFault::Register(0)),
+    ), // mov 16 0; halt 0
+    (
+        &[3],
+        &[b"\x20", b"\x29\x00"],
+        Some(VerifyFault::TableKind(0)),
+    ), // take; halt 0
+    (
+        &[3],
+        &[b"\x01\x00\x01\x00\x00\x00\x00\x00\x00\x00"],
+        Some(VerifyFault::RunsOff(0)),
+    ), // set 0 1
+    (&[3], &[], Some(VerifyFault::RunsOff(0))), // no instruction
+    (&[3], &[b"\x09\x09\x00\x00\x00"], Some(VerifyFault::Jump(0))), // jmp 9
+    (
+        &[3],
+        &[b"\x2a\x01\x00\x00\x00", b"\x29\x00"],
+        Some(VerifyFault::Meet(0)),
+    ), // at 1 0 0; halt 0
+    (
+        &[3],
+        &[b"\x29\x00", b"\x29\x00"],
+        Some(VerifyFault::Meet(1)),
+    ), // halt 0; halt 0
+    (&[], &[b"\x29\x00"], Some(VerifyFault::Slot(0))), // halt 0
+    (&[1], &[b"\x29\x00"], Some(VerifyFault::Slot(0))), // halt 0
+    (&[3], &[b"\x29\x01"], Some(VerifyFault::Slot(0))), // halt 1
+    (
+        &[3],
+        &[
+            b"\x01\x00\x01\x00\x00\x00\x00\x00\x00\x00",
+            b"\x0a\x01\x03\x00\x00\x00",
+            b"\x01\x00\x00\x00\x00\x00\x00\x00\x00\x00",
+            b"\x2a\x01\x00\x00\x00",
+            b"\x06\x02\x00",
+            b"\x29\x00",
+        ],
+        Some(VerifyFault::Meet(2)),
+    ), // set 0 1; jz 1 3; set 0 0; at 1 0 0; div 2 0; halt 0
+    (
+        &[3],
+        &[
+            b"\x01\x00\x01\x00\x00\x00\x00\x00\x00\x00",
+            b"\x0a\x01\x03\x00\x00\x00",
+            b"\x01\x00\x00\x00\x00\x00\x00\x00\x00\x00",
+            b"\x2a\x00\x00\x00\x00",
+            b"\x06\x02\x00",
+            b"\x29\x00",
+        ],
+        Some(VerifyFault::Kind(4)),
+    ), // set 0 1; jz 1 3; set 0 0; at 0 0 0; div 2 0; halt 0
+    (
+        &[3],
+        &[
+            b"\x01\x00\x01\x00\x00\x00\x00\x00\x00\x00",
+            b"\x0a\x01\x03\x00\x00\x00",
+            b"\x01\x00\x02\x00\x00\x00\x00\x00\x00\x00",
+            b"\x2a\x01\x00\x00\x00",
+            b"\x06\x02\x00",
+            b"\x29\x00",
+        ],
+        None,
+    ), // set 0 1; jz 1 3; set 0 2; at 1 0 0; div 2 0; halt 0
+];
 
 #[test]
-fn single_instructions(rt: HostRuntime) -> Result<(), Fail> {
-    let alloc = rt.alloc();
-    let high = Instr::Mov(16, 0);
-    let set = Instr::Set(0, 1);
-    assert_eq!(rt;
-        fault_of(alloc, &[high, HALT])?,
-        Some(VerifyFault::Register(0))
-    );
-    assert_eq!(rt;
-        fault_of(alloc, &[Instr::Take, HALT])?,
-        Some(VerifyFault::TableKind(0))
-    );
-    assert_eq!(rt; fault_of(alloc, &[set])?, Some(VerifyFault::RunsOff(0)));
-    assert_eq!(rt; fault_of(alloc, &[])?, Some(VerifyFault::RunsOff(0)));
-    assert_eq!(rt;
-        fault_of(alloc, &[Instr::Jmp(9)])?,
-        Some(VerifyFault::Jump(0))
-    );
-    assert_eq!(rt;
-        fault_of(alloc, &[at(1), HALT])?,
-        Some(VerifyFault::Meet(0))
-    );
-    assert_eq!(rt; fault_of(alloc, &[HALT, HALT])?, Some(VerifyFault::Meet(1)));
-    Ok(())
-}
-
-#[test]
-fn slots(rt: HostRuntime) -> Result<(), Fail> {
-    let without = code(rt.alloc(), &[HALT], &[])?;
-    assert_eq!(rt; fault(without), Some(VerifyFault::Slot(0)));
-    let of_parties = code(rt.alloc(), &[HALT], &[Shape::Party])?;
-    assert_eq!(rt; fault(of_parties), Some(VerifyFault::Slot(0)));
+fn small_codes(rt: HostRuntime) -> Result<(), Fail> {
+    for (slots, instrs, fault) in CODES {
+        let code = code(rt.alloc(), slots, instrs)?;
+        assert_eq!(rt; fault_of(code), fault);
+    }
     Ok(())
 }
 
 #[test]
 fn an_accepted_code(rt: HostRuntime) -> Result<(), Fail> {
-    let code = code(rt.alloc(), &[HALT], &[Shape::List])?;
-    let verified = verify(code).ok().ok_or("refused")?;
-    assert_eq!(rt; verified.code().instrs(), [HALT].as_slice());
-    assert_eq!(rt; verified.into_code().slots(), [Shape::List].as_slice());
-    Ok(())
-}
-
-/// `set 0 1`, `jz 1 3`, `set 0 0`, an `at`, `div 2 0`, `halt 0`: register 0 is 0 on one of two paths.
-#[test]
-fn paths_meet(rt: HostRuntime) -> Result<(), Fail> {
-    let alloc = rt.alloc();
-    for (mask, fault) in [(1, VerifyFault::Meet(2)), (0, VerifyFault::Kind(4))] {
-        let instrs = [
-            Instr::Set(0, 1),
-            Instr::Jz(1, 3),
-            Instr::Set(0, 0),
-            at(mask),
-            Instr::Div(2, 0),
-            HALT,
-        ];
-        assert_eq!(rt; fault_of(alloc, &instrs)?, Some(fault));
+    let code = code(rt.alloc(), &[3], &[b"\x29\x00"])?;
+    match verify(code) {
+        Ok(verified) => {
+            assert_eq!(rt; verified.code().instrs().len(), 1);
+            assert_eq!(rt; verified.into_code().slots(), [Shape::List].as_slice());
+        }
+        Err(_) => panic!(rt; "refused"),
     }
     Ok(())
 }
 
-/// Enters each list with votes into a table, takes the greatest, and records its seat.
-fn seat_of_the_greatest() -> [Instr; 19] {
-    [
-        Instr::Table(Entries::List, Ranking::Quotients),
-        Instr::Fland(13),
-        at_table(false, true),
-        Instr::Fparty(11),
-        at_table(true, true),
-        Instr::Jnl(9),
-        Instr::Get(5, 0),
-        Instr::Jz(5, 9),
-        Instr::Prio(Divisor::Webster, 5, 6),
-        at_table(true, true),
-        Instr::Nparty(4),
-        at_table(false, true),
-        Instr::Nland(2),
-        at_table(false, false),
-        Instr::Peers(1, 17),
-        Instr::Take,
-        Instr::Emit(255, ScopeKind::All, 1, 1),
-        at(0),
-        HALT,
-    ]
-}
+// Enters each list with votes into a table, takes the greatest, and records its seat.
+const SEAT_OF_THE_GREATEST: [&[u8]; 19] = [
+    b"\x1a\x02\x00", // 0 table 2 0
+    b"\x16\x0d\x00\x00\x00", // 1 fland 13
+    b"\x2a\x00\x00\x02\x03", // 2 at 0 2 3
+    b"\x14\x0b\x00\x00\x00", // 3 fparty 11
+    b"\x2a\x00\x00\x03\x03", // 4 at 0 3 3
+    b"\x0c\x09\x00\x00\x00", // 5 jnl 9
+    b"\x0d\x05\x00", // 6 get 5 0
+    b"\x0a\x05\x09\x00\x00\x00", // 7 jz 5 9
+    b"\x1b\x03\x05\x06", // 8 prio 3 5 6
+    b"\x2a\x00\x00\x03\x03", // 9 at 0 3 3
+    b"\x15\x04\x00\x00\x00", // 10 nparty 4
+    b"\x2a\x00\x00\x02\x03", // 11 at 0 2 3
+    b"\x17\x02\x00\x00\x00", // 12 nland 2
+    b"\x2a\x00\x00\x00\x03", // 13 at 0 0 3
+    b"\x1f\x01\x11\x00\x00\x00", // 14 peers 1 17
+    b"\x20", // 15 take
+    b"\x23\xff\x00\x01\x01", // 16 emit 255 0 1 1
+    b"\x2a\x00\x00\x00\x00", // 17 at 0 0 0
+    b"\x29\x00", // 18 halt 0
+];
 
-/// The same with another instruction at one place.
-fn fault_with(alloc: Global, place: usize, instr: Instr) -> Result<Option<VerifyFault>, Fail> {
-    let mut instrs = seat_of_the_greatest();
-    if let Some(old) = instrs.get_mut(place) {
-        *old = instr;
-    }
-    fault_of(alloc, &instrs)
-}
+// Instructions in the place of one of these, and the fault.
+const OTHERS: [(usize, &[u8], VerifyFault); 21] = [
+    (6, b"\x0f\x01", VerifyFault::Slot(6)), // zero 1
+    (6, b"\x10\x00\x02", VerifyFault::Slot(6)), // input 0 2
+    (6, b"\x13", VerifyFault::Kind(6)), // wland
+    (6, b"\x27", VerifyFault::Kind(6)), // seat
+    (7, b"\x11\x05", VerifyFault::Kind(8)), // house 5
+    (8, b"\x1c\x05", VerifyFault::TableKind(8)), // rest 5
+    (8, b"\x1d", VerifyFault::TableKind(8)), // lead
+    (8, b"\x1e", VerifyFault::Kind(8)), // share
+    (10, b"\x19\x04\x00\x00\x00", VerifyFault::Kind(10)), // nwin 4
+    (10, b"\x17\x04\x00\x00\x00", VerifyFault::Meet(10)), // nland 4
+    (12, b"\x09\x03\x00\x00\x00", VerifyFault::Jump(12)), // jmp 3
+    (14, b"\x28", VerifyFault::Kind(14)), // single
+    (14, b"\x08\x01\x11", VerifyFault::Register(14)), // max 1 17
+    (14, b"\x04\x01\x02", VerifyFault::TableKind(15)), // sub 1 2
+    (15, b"\x22\x00", VerifyFault::Slot(15)), // takelot 0
+    (15, b"\x21\xff\x11\x00\x00\x00", VerifyFault::TableKind(16)), // lot 255 17
+    (16, b"\x24\xff\x03\x10", VerifyFault::Register(16)), // given 255 3 16
+    (16, b"\x2c\xff\x00\x00\x05", VerifyFault::Kind(16)), // weigh 255 0 0 5
+    (16, b"\x26\xff\x00\x01", VerifyFault::TableKind(16)), // tie 255 0 1
+    (18, b"\x25\xff\x01\x01", VerifyFault::Kind(18)), // fault 255 1 1
+    (18, b"\x2b\x00\x01", VerifyFault::Slot(18)), // haltv 0 1
+];
 
 #[test]
 fn needs(rt: HostRuntime) -> Result<(), Fail> {
-    let alloc = rt.alloc();
-    assert_eq!(rt; fault_of(alloc, &seat_of_the_greatest())?, None);
-    let stage = 255;
-    let scope = ScopeKind::All;
-    let cases = [
-        (6, Instr::Zero(1), VerifyFault::Slot(6)),
-        (
-            6,
-            Instr::Input(0, Input::Minority),
-            VerifyFault::Slot(6),
-        ),
-        (6, Instr::Wland, VerifyFault::Kind(6)),
-        (6, Instr::Seat, VerifyFault::Kind(6)),
-        (7, Instr::House(5), VerifyFault::Kind(8)),
-        (8, Instr::Rest(5), VerifyFault::TableKind(8)),
-        (8, Instr::Lead, VerifyFault::TableKind(8)),
-        (8, Instr::Share, VerifyFault::Kind(8)),
-        (10, Instr::Nwin(4), VerifyFault::Kind(10)),
-        (10, Instr::Nland(4), VerifyFault::Meet(10)),
-        (12, Instr::Jmp(3), VerifyFault::Jump(12)),
-        (14, Instr::Single, VerifyFault::Kind(14)),
-        (
-            14,
-            Instr::Max(1, 17),
-            VerifyFault::Register(14),
-        ),
-        (
-            14,
-            Instr::Sub(1, 2),
-            VerifyFault::TableKind(15),
-        ),
-        (15, Instr::Takelot(0), VerifyFault::Slot(15)),
-        (
-            15,
-            Instr::Lot(stage, 17),
-            VerifyFault::TableKind(16),
-        ),
-        (
-            16,
-            Instr::Given(stage, ScopeKind::List, 16),
-            VerifyFault::Register(16),
-        ),
-        (
-            16,
-            Instr::Weigh(stage, scope, Rounding::Adams, 5),
-            VerifyFault::Kind(16),
-        ),
-        (
-            16,
-            Instr::Tie(stage, scope, 1),
-            VerifyFault::TableKind(16),
-        ),
-        (
-            18,
-            Instr::Fault(stage, ScopeKind::Land, EndFault::Limit),
-            VerifyFault::Kind(18),
-        ),
-        (
-            18,
-            Instr::Haltv(0, 1),
-            VerifyFault::Slot(18),
-        ),
-    ];
-    for (place, instr, fault) in cases {
-        assert_eq!(rt; fault_with(alloc, place, instr)?, Some(fault), "at {place}");
+    let whole = code(rt.alloc(), &[3], &SEAT_OF_THE_GREATEST)?;
+    assert_eq!(rt; fault_of(whole), None);
+    for (place, instr, fault) in OTHERS {
+        let mut instrs = SEAT_OF_THE_GREATEST;
+        if let Some(old) = instrs.get_mut(place) {
+            *old = instr;
+        }
+        let code = code(rt.alloc(), &[3], &instrs)?;
+        assert_eq!(rt; fault_of(code), Some(fault), "at {place}");
     }
     Ok(())
 }
 
+// A stage with the slot 1 of one slot, and `halt 0`.
 #[test]
-fn stages_without_slots(rt: HostRuntime) -> Result<(), Fail> {
-    let alloc = rt.alloc();
-    let mut stages = Vec::new(alloc);
-    stages.push(CodeStage {
-        name: Word::new(alloc, b"s")?,
-        slot: 1,
-    })?;
-    let code = Code::new(
-        Vec::from_slice(alloc, &[HALT])?,
-        stages,
-        Vec::from_slice(alloc, &[Shape::List])?,
-    );
-    assert_eq!(rt; fault(code), Some(VerifyFault::Slot(0)));
+fn a_stage_without_its_slot(rt: HostRuntime) -> Result<(), Fail> {
+    let file = b"SLC\x01\x01\x01s\x01\x01\x03\x01\x00\x00\x00\x29\x00";
+    let code = from_bytes(rt.alloc(), file)?;
+    assert_eq!(rt; fault_of(code), Some(VerifyFault::Slot(0)));
     Ok(())
 }
 
 #[test]
 fn many_instructions(rt: HostRuntime) -> Result<(), Fail> {
-    let alloc = rt.alloc();
-    let code = Code::new(
-        vec![in alloc; at(0); 200_000]?,
-        Vec::new(alloc),
-        Vec::new(alloc),
-    );
-    assert_eq!(rt; fault(code), Some(VerifyFault::RunsOff(199_999)));
+    let mut file = Vec::from_slice(rt.alloc(), b"SLC\x01\x00\x00\x40\x0d\x03\x00")?;
+    for _ in 0..200_000 {
+        file.extend_from_slice(b"\x2a\x00\x00\x00\x00")?;
+    }
+    let code = from_bytes(rt.alloc(), file.as_slice())?;
+    assert_eq!(rt; fault_of(code), Some(VerifyFault::RunsOff(199_999)));
     Ok(())
 }

@@ -5,7 +5,7 @@ use std::alloc::AllocError;
 use std::process::Abort;
 
 // The number and the row of a fault, 0 where there is none.
-fn told(fault: Option<ReturnsFault>) -> (u32, u32) {
+fn number_and_row(fault: Option<ReturnsFault>) -> (u32, u32) {
     match fault {
         None => (0, 0),
         Some(fault) => (fault.kind.number(), fault.row),
@@ -15,12 +15,16 @@ fn told(fault: Option<ReturnsFault>) -> (u32, u32) {
 // Asserts that the returns of each text have this fault.
 fn assert_faults(rt: &impl Abort, alloc: Global, faults: &[(&str, (u32, u32))]) {
     for (text, fault) in faults {
-        assert_eq!(rt; told(returns_in(alloc, text).err()), *fault, "{text}");
+        assert_eq!(rt;
+            number_and_row(returns_in(alloc, text).err()),
+            *fault,
+            "{text}"
+        );
     }
 }
 
 #[test]
-fn the_first_fault_is_told(rt: HostRuntime) {
+fn the_first_fault(rt: HostRuntime) {
     assert_faults(
         &rt,
         rt.alloc(),
@@ -53,31 +57,35 @@ fn the_first_fault_is_told(rt: HostRuntime) {
 const KNOWN: &str =
     ",land,party,a,b,c\nland,X,,1,,\nparty,,A,0,,\nlist,X,A,9,9,\nwin,X,A,w1,5,9\nlot,X,,s,,\n";
 
-// A text with these records behind the known ones, the first of which has row 7.
-fn text_behind(alloc: Global, header: &str, records: &str) -> Result<String, AllocError> {
+// A text with these records after the known ones, the first of which has row 7.
+fn text_after(alloc: Global, header: &str, records: &str) -> Result<String, AllocError> {
     let mut text = String::from_str(alloc, header)?;
     text.push_str(KNOWN)?;
     text.push_str(records)?;
     Ok(text)
 }
 
-// Asserts that the returns of the known records have this fault with each of these records behind.
-fn assert_faults_behind(
+// Asserts that the returns of the known records have this fault with each of these records after them.
+fn assert_faults_after(
     rt: &impl Abort,
     alloc: Global,
     header: &str,
     faults: &[(&str, (u32, u32))],
 ) -> Result<(), AllocError> {
     for (records, fault) in faults {
-        let text = text_behind(alloc, header, records)?;
-        assert_eq!(rt; told(returns_in(alloc, &text).err()), *fault, "{records}");
+        let text = text_after(alloc, header, records)?;
+        assert_eq!(rt;
+            number_and_row(returns_in(alloc, &text).err()),
+            *fault,
+            "{records}"
+        );
     }
     Ok(())
 }
 
 #[test]
 fn a_house_is_tested_in_order(rt: HostRuntime) -> Result<(), Fail> {
-    assert_faults_behind(
+    assert_faults_after(
         &rt,
         rt.alloc(),
         "kind",
@@ -97,7 +105,7 @@ fn a_house_is_tested_in_order(rt: HostRuntime) -> Result<(), Fail> {
 
 #[test]
 fn lands_parties_and_winners_are_tested_in_order(rt: HostRuntime) -> Result<(), Fail> {
-    assert_faults_behind(
+    assert_faults_after(
         &rt,
         rt.alloc(),
         "kind",
@@ -123,7 +131,7 @@ fn lands_parties_and_winners_are_tested_in_order(rt: HostRuntime) -> Result<(), 
 
 #[test]
 fn a_list_is_tested_in_order(rt: HostRuntime) -> Result<(), Fail> {
-    assert_faults_behind(
+    assert_faults_after(
         &rt,
         rt.alloc(),
         "kind",
@@ -136,7 +144,7 @@ fn a_list_is_tested_in_order(rt: HostRuntime) -> Result<(), Fail> {
             ("list,X,A,6,6,", (8, 7)),
         ],
     )?;
-    assert_faults_behind(
+    assert_faults_after(
         &rt,
         rt.alloc(),
         "kind2",
@@ -153,7 +161,7 @@ fn a_list_is_tested_in_order(rt: HostRuntime) -> Result<(), Fail> {
 
 #[test]
 fn a_lot_is_tested_in_order(rt: HostRuntime) -> Result<(), Fail> {
-    assert_faults_behind(
+    assert_faults_after(
         &rt,
         rt.alloc(),
         "kind",
@@ -187,13 +195,16 @@ fn no_more_lands_than_the_limit_are_taken(rt: HostRuntime) -> Result<(), Fail> {
     for n in 1..66 {
         write!(lands, "land,L{n},,1,,\n")?;
     }
-    assert_eq!(rt; told(returns_in(rt.alloc(), &lands).err()), (10, 66));
+    assert_eq!(rt;
+        number_and_row(returns_in(rt.alloc(), &lands).err()),
+        (10, 66)
+    );
     Ok(())
 }
 
 // The number and the row of the fault that a builder answers to a record, 0 where there is none.
 fn fed(builder: &mut ReturnsBuilder, record: &ByteRecord) -> (u32, u32) {
-    told(builder.feed(record).err())
+    number_and_row(builder.feed(record).err())
 }
 
 #[test]
@@ -207,6 +218,6 @@ fn a_refusal_is_final(rt: HostRuntime) -> Result<(), Fail> {
     assert_eq!(rt; fed(&mut builder, &land), (0, 0));
     assert_eq!(rt; fed(&mut builder, &land), (8, 3));
     assert_eq!(rt; fed(&mut builder, &header), (8, 3));
-    assert_eq!(rt; told(builder.finish().err()), (8, 3));
+    assert_eq!(rt; number_and_row(builder.finish().err()), (8, 3));
     Ok(())
 }

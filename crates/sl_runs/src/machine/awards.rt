@@ -2,7 +2,7 @@
 
 use super::*;
 use sl_ratio::Ratio;
-use sl_stages::{Item, LegalFault, Mark, SeatStep};
+use sl_stages::{Item, Mark, SeatStep};
 
 // The stage `up` with slot 0, two List slots, and 40 instructions. They enter each list with votes, and then award each seat
 // of the house to the greatest entry; where there are more peers than seats, the lot decides.
@@ -52,15 +52,6 @@ const AWARDS: [&[u8]; 43] = [
     b"\x29\x00", // 39 halt 0
 ];
 
-// The file of that code.
-fn awards(alloc: Global) -> Result<Vec<u8>, Fail> {
-    let mut file = Vec::new(alloc);
-    for piece in AWARDS {
-        file.extend_from_slice(piece)?;
-    }
-    Ok(file)
-}
-
 // Lists of 60 and of 30 votes, for three seats.
 const THREE_SEATS: &str =
     "kind,land,party,a,b,c\nhouse,,,3,,\nland,X,,100,,\nparty,,A,0,,\nparty,,B,0,,\nlist,X,A,60,60,\nlist,X,B,30,30,\n";
@@ -83,7 +74,11 @@ fn won(step: &SeatStep) -> Option<(Item, u64, u64, Ratio)> {
 
 #[test]
 fn three_seats(rt: HostRuntime) -> Result<(), Fail> {
-    let halted = held(rt.alloc(), awards(rt.alloc())?.as_slice(), THREE_SEATS)?;
+    let halted = held(
+        rt.alloc(),
+        joined(rt.alloc(), &AWARDS)?.as_slice(),
+        THREE_SEATS,
+    )?;
     assert_eq!(rt; halted.base(), [2, 1].as_slice());
     let [first, second, third] = halted.steps() else {
         panic!(rt; "there are not three steps");
@@ -106,22 +101,15 @@ fn three_seats(rt: HostRuntime) -> Result<(), Fail> {
 
 #[test]
 fn a_lot_that_is_drawn(rt: HostRuntime) -> Result<(), Fail> {
-    let halted = held(rt.alloc(), awards(rt.alloc())?.as_slice(), DRAWN)?;
+    let halted = held(rt.alloc(), joined(rt.alloc(), &AWARDS)?.as_slice(), DRAWN)?;
     assert_eq!(rt; halted.base(), [0, 1].as_slice());
     Ok(())
 }
 
 #[test]
 fn a_tie(rt: HostRuntime) -> Result<(), Fail> {
-    let end = ending(rt.alloc(), awards(rt.alloc())?.as_slice(), TIED)?;
-    let Ending::Fault(fault) = end else {
-        panic!(rt; "no legal fault");
-    };
-    let LegalFault { stage, scope, kind } = fault;
-    let FaultKind::Tie { seats, names } = kind else {
-        panic!(rt; "no tie");
-    };
-    assert_eq!(rt; (stage, scope, seats), (0, Scope::All, 1));
+    let (seats, names) = tie_of(rt.alloc(), joined(rt.alloc(), &AWARDS)?.as_slice(), TIED)?;
+    assert_eq!(rt; seats, 1);
     assert_eq!(rt;
         names.as_slice(),
         [Item::List(0, 0), Item::List(0, 1)].as_slice()

@@ -1,0 +1,52 @@
+//! What a row asks of a call of the desk, and how it is tested.
+
+use crate::calls::{Pace, checked, counted};
+use crate::inputs::Text;
+use sl_desk::Status;
+use std::alloc::{AllocError, Global};
+use std::process::Abort;
+
+/// A book of plain stages.
+pub const FIRST_BOOK: &str =
+    "rulebook 1; law \"t\"; house 8; eligible all; stage pool = less(house, sum(outside, all)); seats winners keep;";
+
+/// Returns of a Land, a party, its list and two winners, one of whom has no party.
+pub const RETURNS: &str =
+    "kind,land,party,a,b,c\nland,X,,1000,,\nparty,,A,0,,\nlist,X,A,10,10,\nwin,X,A,w1,5,9\nwin,X,,w2,5,9\n";
+
+/// What the first book comes to on them.
+pub const TABLE: &str = "total 2\nparty A 1 1\nlist X A 1 1\nsingle w2\n";
+
+// Bytes that a source gives, or a sink takes, at once.
+const STEP: usize = 4096;
+
+/// A row: its name, the book, the returns, what `count` writes, and its status.
+pub type CountRow = (&'static str, Text, Text, Text, Status);
+
+/// A row: its name, the book, what `check` writes, and its status.
+pub type CheckRow = (&'static str, Text, &'static str, Status);
+
+/// Asserts that `count` writes and ends as each of these rows says.
+pub fn assert_counts(rt: &impl Abort, alloc: Global, rows: &[CountRow]) -> Result<(), AllocError> {
+    for (name, book, returns, text, status) in rows {
+        let ending = counted(
+            alloc,
+            book.bytes(alloc)?.as_slice(),
+            returns.bytes(alloc)?.as_slice(),
+            Pace::of(STEP),
+        );
+        assert_eq!(rt; ending.result, Ok(*status), "{name}");
+        assert_eq!(rt; ending.written, text.bytes(alloc)?, "{name}");
+    }
+    Ok(())
+}
+
+/// Asserts that `check` writes and ends as each of these rows says.
+pub fn assert_checks(rt: &impl Abort, alloc: Global, rows: &[CheckRow]) -> Result<(), AllocError> {
+    for (name, book, text, status) in rows {
+        let ending = checked(alloc, book.bytes(alloc)?.as_slice(), Pace::of(STEP));
+        assert_eq!(rt; ending.result, Ok(*status), "{name}");
+        assert_eq!(rt; ending.written.as_slice(), text.as_bytes(), "{name}");
+    }
+    Ok(())
+}
