@@ -3,6 +3,8 @@
 
 mod command_line;
 mod run;
+#[cfg(test)]
+mod tests;
 
 use command_line::request_of;
 use std::process::ExitCode;
