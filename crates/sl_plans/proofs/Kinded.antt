@@ -2,6 +2,7 @@
 use Rattle.std.proofs.Common.{◌≡◌, ℕ, ◌+◌, Bool, true, false, not, ◌&&◌, List, [], ◌∷◌, ◌++◌, Option, Some, None, slice_get, if◌then◌else◌, refl, sym, ap, subst, ◌∙◌}
 use Rattle.std.specs.Prelude.{is_some, option_and_then}
 use Rattle.std.specs.Option.{option_map_or}
+use Rattle.sl_stages.specs.declared.book.Shape.{Shape}
 use Rattle.sl_code.specs.declared.instr.Instr.{Instr}
 use Rattle.sl_code.specs.declared.instr.Instr.TheVariants.{Set, Sub, Jmp, Jz, At}
 use Rattle.sl_code.specs.declared.kinds.Kinds.{Kinds}
@@ -11,9 +12,9 @@ use Rattle.sl_code.specs.Standing.{HasAt}
 use Rattle.sl_verify.specs.Kinds.{implies}
 use Rattle.sl_verify.specs.Leaves.{ends, behind, carried}
 use Rattle.sl_verify.specs.Needs.{Context, has_needs}
-use Rattle.sl_verify.specs.Pieces.{kinds_here, comes_next, comes_after, meets, has_own, is_passed, are_passed}
+use Rattle.sl_verify.specs.Pieces.{kinds_here, comes_next, comes_after, meets, has_own, is_passed, are_passed, IsWithin}
 use Rattle.sl_verify.specs.WellKinded.{declared_by, declared_at, context_of, leads_well}
-use Rattle.sl_verify.proofs.PieceFacts.{comes_in_row, passed_in_row}
+use Rattle.sl_verify.proofs.PieceFacts.{comes_in_row, passed_in_row, passed_within}
 use Rattle.sl_plans.specs.declared.plan.Test.{Test}
 use Rattle.sl_plans.specs.declared.plan.Test.TheVariants as test
 use Rattle.sl_plans.specs.declared.plan.Bound.{Bound}
@@ -161,9 +162,10 @@ bare_turn k cursor.Land = refl
 bare_turn k cursor.Win = refl
 
 -- ---- plans
-module _ (code : CountingCode) where
+module _ (code : CountingCode) (slots : ℕ → Option Shape) (stages : ℕ) where
+  -- the code's declarations, with these slots and stages
   abbrev all : Context
-  all = context_of code
+  all = record { slots = slots; stages = stages; declared = declared_at code }
 
   abbrev Pass : Tree → Type 0
   Pass tree = (k : Kinds) (p : ℕ) → HasAt code p (flat (bare k) p tree) → is_fine all k tree ≡ true → ArePassed all (Some k) (flat (bare k) p tree) (Some (kinds_along k tree))
@@ -308,4 +310,7 @@ module _ (code : CountingCode) where
   plan_passes (Times r m a) k p has fine = times_passes r m a (plan_passes a) k p has fine
 
 pub fine_plans_pass : FinePlansPass
-fine_plans_pass code k p tree has fine = plan_passes code tree k p has fine
+fine_plans_pass code slots stages k p tree has there enough fine =
+    let inside : IsWithin (all code slots stages) (context_of code) = record { slots = there; stages = enough; declared = λ t d h. h } in
+    let passes = plan_passes code slots stages tree k p has fine in
+    record { passed = passed_within (all code slots stages) (context_of code) (Some k) (flat (bare k) p tree) inside passes.passed; after = passes.after }
