@@ -1,5 +1,5 @@
 -- The plan that sums a column.
-use Rattle.std.proofs.Common.{◌≡◌, ℕ, zero, suc, ◌+◌, ◌-◌, ◌*◌, ◌<◌, ◌≤◌, min, List, map, Option, Some, None, slice_get, refl, sym, ap, ◌∙◌, inl, inr, arith}
+use Rattle.std.proofs.Common.{◌≡◌, ℕ, zero, suc, ◌+◌, ◌-◌, ◌*◌, ◌<◌, ◌≤◌, min, List, map, Option, Some, None, slice_get, true, refl, sym, ap, ◌∙◌, inl, inr, arith}
 use Rattle.std.specs.List.{range_with_len}
 use Rattle.std.proofs.Math.Nat.{mul-le-mul_left}
 use Rattle.std.proofs.lemmas.List.FromFn.{sum_by-map-range_with_len_more}
@@ -13,6 +13,9 @@ use Rattle.sl_machine.proofs.effects.Cursors.{both_are}
 use Rattle.sl_plans.specs.declared.plan.Cursor.TheVariants as cursor
 use Rattle.sl_plans.specs.Trees.{Tree, Line, Then, Each}
 use Rattle.sl_plans.specs.Achieves.{Achieves, Never}
+use Rattle.sl_verify.specs.Kinds.{start_kinds}
+use Rattle.sl_plans.specs.Fine.{is_fine, judged_by, has_quiet_lines}
+use Rattle.sl_plans.specs.inner.Prices.{price_of, has_price, is_in_share}
 use Rattle.sl_plans.specs.Sums.{add_cell, sum_tree, sum_of_first, ColumnsAreSummed}
 use Rattle.sl_plans.proofs.Rules.{line_ends, line_goes, then_achieves}
 use Rattle.sl_plans.proofs.KeepingRules.{each_keeping}
@@ -83,3 +86,10 @@ columns_are_summed c e k p known s slot small has =
       | inl done ↦ done
       | inr never ↦ absurd never.2
     ]
+
+-- it is fine from the start on, its jumps stay within, and it takes at most a share
+pub sum_is_fine : (k : ℕ) → is_fine (judged_by (λ slot. Some shape.List) 0) start_kinds (sum_tree k) ≡ true
+sum_is_fine k = refl
+
+pub sum_is_in_share : (k : ℕ) → (has_quiet_lines (sum_tree k) ≡ true) × (has_price (sum_tree k) ≡ true) × (is_in_share (price_of (sum_tree k)) ≡ true)
+sum_is_in_share k = (refl, refl, refl)

@@ -1,5 +1,6 @@
 -- Which plans the verifier accepts where certain kinds are known (docs/plans.md, section 9).
 use Rattle.std.specs.Prelude.{◌≡◌, ◌≤◌, ℕ, Bool, true, not, ◌&&◌, List, [], ◌∷◌, length, Option, Some, None, is_some, slice_get}
+use Rattle.std.specs.List.{list_all}
 use Rattle.sl_stages.specs.declared.book.Shape.{Shape}
 use Rattle.sl_code.specs.declared.instr.Instr.{Instr}
 use Rattle.sl_code.specs.declared.instr.Instr.TheVariants.{Set, Sub, Jmp, Jz, At}
@@ -10,7 +11,7 @@ use Rattle.sl_code.specs.Standing.{HasAt}
 use Rattle.sl_verify.specs.Kinds.{implies}
 use Rattle.sl_verify.specs.Leaves.{ends, positive_behind, cursors_behind, table_behind, carried}
 use Rattle.sl_verify.specs.Needs.{Context, has_needs}
-use Rattle.sl_verify.specs.Pieces.{are_passed, comes_after}
+use Rattle.sl_verify.specs.Pieces.{are_passed, comes_after, JumpsWithin}
 use Rattle.sl_verify.specs.WellKinded.{declared_by, context_of}
 use Rattle.sl_plans.specs.Trees.{Tree, Line, Stop, Then, If, Each, Times, flat, jump_of, to_first, to_next, ones, at_join, known_in_arm, known_in_turn, known_after_loop}
 
@@ -86,3 +87,21 @@ abbrev pub FinePlansPass : Type 0
 FinePlansPass = (code : CountingCode) (slots : ℕ → Option Shape) (stages : ℕ) (k : Kinds) (p : ℕ) (tree : Tree) → HasAt code p (flat (bare k) p tree)
     → ((n : ℕ) (s : Shape) → slots n ≡ Some s → slice_get code.slots n ≡ Some s) → stages ≤ length code.stages → is_fine (judged_by slots stages) k tree ≡ true
     → ArePassed (context_of code) (Some k) (flat (bare k) p tree) (Some (kinds_along k tree))
+
+-- ---- targets
+
+-- no instruction of a line, and none that ends a run, jumps
+abbrev pub jumps_nowhere : Instr → Bool
+jumps_nowhere i = not (is_some (target_of i))
+
+abbrev pub has_quiet_lines : Tree → Bool
+has_quiet_lines (Line is) = list_all jumps_nowhere is
+has_quiet_lines (Stop i) = jumps_nowhere i
+has_quiet_lines (Then a b) = has_quiet_lines a && has_quiet_lines b
+has_quiet_lines (If t a b) = has_quiet_lines a && has_quiet_lines b
+has_quiet_lines (Each over a) = has_quiet_lines a
+has_quiet_lines (Times r m a) = has_quiet_lines a
+
+-- the jumps of a plan stay within its instructions
+abbrev pub PlansJumpWithin : Type 0
+PlansJumpWithin = (k : Kinds) (p : ℕ) (tree : Tree) → has_quiet_lines tree ≡ true → JumpsWithin p (flat k p tree)
