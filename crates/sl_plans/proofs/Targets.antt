@@ -1,22 +1,16 @@
 -- The jumps of a plan stay within its instructions.
-use Rattle.std.proofs.Common.{◌≡◌, ℕ, zero, suc, ◌+◌, ◌<◌, ◌≤◌, Bool, true, false, not, ◌&&◌, List, [], ◌∷◌, ◌++◌, length, Option, Some, None, slice_get, refl, sym, ap, ◌∙◌, arith}
+use Rattle.std.proofs.Common.{◌≡◌, ℕ, zero, suc, ◌+◌, ◌<◌, ◌≤◌, true, not, List, [], ◌∷◌, ◌++◌, length, Option, Some, None, slice_get, refl, sym, ap, ◌∙◌, arith}
+use Rattle.std.proofs.lemmas.Bool.{and_parts}
 use Rattle.std.specs.Prelude.{is_some, unwrap_or}
 use Rattle.std.specs.List.{list_all}
 use Rattle.sl_code.specs.declared.instr.Instr.{Instr}
 use Rattle.sl_code.specs.declared.instr.Instr.TheVariants.{Set, Sub, Jmp, Jz, At}
 use Rattle.sl_code.specs.declared.kinds.Kinds.{Kinds}
 use Rattle.sl_code.specs.Rows.{target_of}
-use Rattle.sl_verify.specs.Pieces.{JumpsWithin}
-use Rattle.sl_plans.specs.declared.plan.Cursor.{Cursor}
-use Rattle.sl_plans.specs.declared.plan.Cursor.TheVariants as cursor
 use Rattle.sl_plans.specs.Trees.{Tree, Line, Stop, Then, If, Each, Times, size_of, flat, jump_of, to_first, to_next, ones, at_join, kinds_after, known_in_arm, known_in_other, known_in_turn, known_after_loop}
 use Rattle.sl_plans.specs.Fine.{jumps_nowhere, has_quiet_lines, PlansJumpWithin}
 use Rattle.sl_plans.proofs.Places.{length-flat}
-use Rattle.sl_plans.proofs.Pieces.{jump_target}
-
-split : (a b : Bool) → (a && b) ≡ true → (a ≡ true) × (b ≡ true)
-split true b h = (refl, h)
-split false b h = cc
+use Rattle.sl_plans.proofs.Pieces.{jump_target, first_target, next_target}
 
 -- each target lies from the one place on and before the other
 record Targets (lo hi : ℕ) (is : List Instr) : Type 0 where
@@ -64,30 +58,20 @@ wider lo hi low high is below above h = record { each = λ n t i at is_target. l
 line_targets : (lo hi : ℕ) (is : List Instr) → list_all jumps_nowhere is ≡ true → Targets lo hi is
 line_targets lo hi [] h = no_targets lo hi
 line_targets lo hi (i ∷ is) h =
-    let parts = split (jumps_nowhere i) (list_all jumps_nowhere is) h in
+    let parts = and_parts (jumps_nowhere i) (list_all jumps_nowhere is) h in
     also lo hi i is (leads_nowhere lo hi i parts.0) (line_targets lo hi is parts.1)
-
-first_target : (over : Cursor) (to : ℕ) → target_of (to_first over to) ≡ Some to
-first_target cursor.Party to = refl
-first_target cursor.Land to = refl
-first_target cursor.Win to = refl
-
-next_target : (over : Cursor) (to : ℕ) → target_of (to_next over to) ≡ Some to
-next_target cursor.Party to = refl
-next_target cursor.Land to = refl
-next_target cursor.Win to = refl
 
 plan_targets : (tree : Tree) (k : Kinds) (p : ℕ) → has_quiet_lines tree ≡ true → Targets p (p + size_of tree) (flat k p tree)
 plan_targets (Line is) k p h = line_targets p (p + length is) is h
 plan_targets (Stop i) k p h = also p (p + 2) i (At (at_join k) ∷ []) (leads_nowhere p (p + 2) i h) (also p (p + 2) (At (at_join k)) [] (leads_nowhere p (p + 2) (At (at_join k)) refl) (no_targets p (p + 2)))
 plan_targets (Then a b) k p h =
-    let parts = split (has_quiet_lines a) (has_quiet_lines b) h in
+    let parts = and_parts (has_quiet_lines a) (has_quiet_lines b) h in
     let hi = p + (size_of a + size_of b) in
     let q = p + size_of a in
     in_row p hi (flat k p a) (flat (kinds_after k a) q b) (wider p q p hi (flat k p a) (omega arith) (omega arith) (plan_targets a k p parts.0))
     (wider q (q + size_of b) p hi (flat (kinds_after k a) q b) (omega arith) (omega arith) (plan_targets b (kinds_after k a) q parts.1))
 plan_targets (If t a b) k p h =
-    let parts = split (has_quiet_lines a) (has_quiet_lines b) h in
+    let parts = and_parts (has_quiet_lines a) (has_quiet_lines b) h in
     let arm = p + size_of b + 2 in
     let end = arm + size_of a + 1 in
     let hi = p + (size_of a + size_of b + 4) in
