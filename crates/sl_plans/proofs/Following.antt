@@ -1,28 +1,26 @@
 -- The machine follows a plan.
-use Rattle.std.proofs.Common.{◌≡◌, ℕ, zero, suc, ◌+◌, ◌-◌, ◌*◌, ◌<◌, ◌≤◌, List, [], ◌∷◌, length, Option, Some, None, true, false, nat_lt, if◌then◌else◌, refl, sym, ap, ◌∙◌, arith}
+use Rattle.std.proofs.Common.{◌≡◌, ℕ, zero, suc, ◌+◌, ◌-◌, ◌<◌, ◌≤◌, [], ◌∷◌, Option, Some, None, nat_lt, if◌then◌else◌, refl, ap, ◌∙◌, arith}
 use Rattle.std.proofs.lemmas.Bool.{lt-ltb, le-ltb}
 use Rattle.sl_stages.specs.returns.Election.{Election}
-use Rattle.sl_code.specs.declared.instr.Instr.{Instr}
-use Rattle.sl_code.specs.declared.instr.Instr.TheVariants.{Set, Sub, Jmp, Jz, At}
+use Rattle.sl_code.specs.declared.instr.Instr.TheVariants.{Set, Sub, Jz, At}
 use Rattle.sl_code.specs.declared.kinds.Kinds.{Kinds}
 use Rattle.sl_code.specs.Codes.{CountingCode}
 use Rattle.sl_code.specs.Standing.{HasAt}
 use Rattle.sl_code.proofs.Standing.{first_stands}
-use Rattle.sl_code.specs.Rows.{target_of}
 use Rattle.sl_machine.specs.State.{State, with_register}
 use Rattle.sl_machine.specs.Comes.{Comes}
-use Rattle.sl_machine.specs.Effects.{Effect, Goes, Jumps, effect, first_of, next_of}
+use Rattle.sl_machine.specs.Effects.{Goes, Jumps, effect, first_of, next_of}
 use Rattle.sl_machine.proofs.runs.Coming.{goes, jumps, after, comes_at}
 use Rattle.sl_machine.proofs.effects.Registers.{jz_jumps, jz_falls}
 use Rattle.sl_plans.specs.declared.plan.Test.{Test}
 use Rattle.sl_plans.specs.declared.plan.Cursor.{Cursor}
 use Rattle.sl_plans.specs.declared.plan.Cursor.TheVariants as cursor
 use Rattle.sl_plans.specs.declared.plan.Bound.{Bound}
-use Rattle.sl_plans.specs.Trees.{Tree, Line, Stop, Then, If, Each, Times, size_of, flat, jump_of, to_first, to_next, ones, count_down, at_join, kinds_after, known_in_arm, known_in_other, known_in_turn, known_after_loop}
-use Rattle.sl_plans.specs.Meaning.{Course, Onward, then_do, stops, branches, count_of, cursor_of, set_cursor, each_of, turns, turns_in, in_turn, counted, does, cost}
+use Rattle.sl_plans.specs.Trees.{Tree, Line, Stop, Then, If, Each, Times, size_of, flat, jump_of, to_first, to_next, ones, at_join, kinds_after, known_in_arm, known_in_other, known_in_turn, known_after_loop}
+use Rattle.sl_plans.specs.Meaning.{Course, count_of, cursor_of, set_cursor, turns_in, counted, does, cost}
 use Rattle.sl_plans.specs.Following.{Follows, PlansAreFollowed}
-use Rattle.sl_plans.proofs.Places.{IfStands, EachStands, TimesStands, first_plan, second_plan, if_stands, each_stands, times_stands}
-use Rattle.sl_plans.proofs.Pieces.{same_jump, jump_target, follows_after, follows_wider, follows_at, in_order, and_on, passes_of, stops_of, branches_of, declares, leaves_for, line_run}
+use Rattle.sl_plans.proofs.Places.{first_plan, second_plan, if_stands, each_stands, times_stands}
+use Rattle.sl_plans.proofs.Pieces.{same_jump, jump_target, first_target, next_target, follows_after, follows_wider, follows_at, in_order, and_on, stops_of, branches_of, declares, leaves_for, line_run}
 use Rattle.sl_plans.proofs.Loops.{each_runs, turns_run}
 
 -- ---- cursors
@@ -52,16 +50,6 @@ next_does : (over : Cursor) (to : ℕ) (c : CountingCode) (e : Election) (s : St
 next_does cursor.Party to c e s = refl
 next_does cursor.Land to c e s = refl
 next_does cursor.Win to c e s = refl
-
-first_target : (over : Cursor) (to : ℕ) → target_of (to_first over to) ≡ Some to
-first_target cursor.Party to = refl
-first_target cursor.Land to = refl
-first_target cursor.Win to = refl
-
-next_target : (over : Cursor) (to : ℕ) → target_of (to_next over to) ≡ Some to
-next_target cursor.Party to = refl
-next_target cursor.Land to = refl
-next_target cursor.Win to = refl
 
 module _ (c : CountingCode) (e : Election) where
   abbrev Runs : Tree → Type 0

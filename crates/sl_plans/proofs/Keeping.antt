@@ -1,5 +1,6 @@
 -- What a plan cannot write stays: once for every part of a state, as a relation of two states.
-use Rattle.std.proofs.Common.{◌≡◌, ℕ, zero, suc, ◌+◌, Bool, true, false, ◌==◌, ◌||◌, ◌&&◌, List, [], ◌∷◌, ◌++◌, Option, Some, None, if◌then◌else◌, refl, sym, ap, subst, ◌∙◌, append_assoc}
+use Rattle.std.proofs.Common.{◌≡◌, ℕ, zero, suc, Bool, true, false, ◌==◌, ◌||◌, List, [], ◌∷◌, ◌++◌, Option, Some, None, if◌then◌else◌, refl, sym, ap, subst, ◌∙◌, append_assoc}
+use Rattle.std.proofs.lemmas.Bool.{or_parts}
 use Rattle.std.proofs.lemmas.List.{append-nil}
 use Rattle.std.specs.List.{range_with_len, list_any}
 use Rattle.sl_stages.specs.declared.table.SeatStep.{SeatStep}
@@ -12,16 +13,11 @@ use Rattle.sl_machine.specs.State.{State}
 use Rattle.sl_machine.specs.Effects.{Effect, Goes, Jumps, Ends, NoCase, effect}
 use Rattle.sl_machine.specs.inner.Frames.{writes_register, writes_slot, writes_cell, writes_place, moves_party, moves_land, moves_win, writes_table, writes_mark, records_step, records_weight, KeepsOthers, Frames}
 use Rattle.sl_machine.proofs.effects.Framing.{frames}
-use Rattle.sl_plans.specs.declared.plan.Test.{Test}
 use Rattle.sl_plans.specs.declared.plan.Cursor.{Cursor}
 use Rattle.sl_plans.specs.declared.plan.Cursor.TheVariants as cursor
 use Rattle.sl_plans.specs.Trees.{Tree, Line, Stop, Then, If, Each, Times, jump_of, to_first, count_down}
-use Rattle.sl_plans.specs.Meaning.{Course, Onward, Final, Unsaid, then_do, passes, stops, branches, count_of, cursor_of, set_cursor, held, turn_at, for_each, each_of, turns_in, at_zero, turns, in_turn, counted, does}
-use Rattle.sl_plans.specs.inner.Frames.{has_instr, seats_winner, KeepsRest, PlansKeepTheRest}
-
-neither : (a b : Bool) → (a || b) ≡ false → (a ≡ false) × (b ≡ false)
-neither true b h = cc
-neither false b h = (refl, h)
+use Rattle.sl_plans.specs.Meaning.{Course, Onward, Final, Unsaid, then_do, passes, stops, branches, count_of, cursor_of, set_cursor, held, turn_at, for_each, turns_in, at_zero, turns, in_turn, counted, does}
+use Rattle.sl_plans.specs.inner.Frames.{has_instr, seats_winner, PlansKeepTheRest}
 
 module _ (c : CountingCode) (e : Election) (writes : Instr → Bool) (Same : State → State → Type 0)
     (itself : (s : State) → Same s s)
@@ -66,7 +62,7 @@ module _ (c : CountingCode) (e : Election) (writes : Instr → Bool) (Same : Sta
   line_stays : (is : List Instr) → list_any writes is ≡ false → (s : State) → Stays s (in_turn c e is s)
   line_stays [] free s = itself s
   line_stays (i ∷ is) free s =
-      let nor = neither (writes i) (list_any writes is) free in
+      let nor = or_parts (writes i) (list_any writes is) free in
       stays_then s (passes (effect c e i s)) (in_turn c e is) (passes_stays i s nor.0 (effect c e i s) (frames c e s i)) (line_stays is nor.1)
 
   -- ---- loops
@@ -100,18 +96,18 @@ module _ (c : CountingCode) (e : Election) (writes : Instr → Bool) (Same : Sta
   plan_stays (Line is) free s = line_stays is free s
   plan_stays (Stop i) free s = stops_stays s (effect c e i s)
   plan_stays (Then a b) free s =
-      let nor = neither (has_instr writes a) (has_instr writes b) free in
+      let nor = or_parts (has_instr writes a) (has_instr writes b) free in
       stays_then s (does c e a s) (does c e b) (plan_stays a nor.0 s) (plan_stays b nor.1)
   plan_stays (If t a b) free s =
-      let nor = neither (writes (jump_of t 0)) (has_instr writes a || has_instr writes b) free in
-      let arms = neither (has_instr writes a) (has_instr writes b) nor.1 in
+      let nor = or_parts (writes (jump_of t 0)) (has_instr writes a || has_instr writes b) free in
+      let arms = or_parts (has_instr writes a) (has_instr writes b) nor.1 in
       branches_stays (jump_of t 0) s (does c e a) (does c e b) nor.0 (plan_stays a arms.0) (plan_stays b arms.1) (effect c e (jump_of t 0) s) (frames c e s (jump_of t 0))
   plan_stays (Each over a) free s =
-      let nor = neither (writes (to_first over 0)) (has_instr writes a) free in
+      let nor = or_parts (writes (to_first over 0)) (has_instr writes a) free in
       stays_then s (for_each (range_with_len 0 (count_of e over)) (turn_at over (does c e a)) s) (λ t. Onward (set_cursor over None t))
       (each_stays over (does c e a) nor.0 (plan_stays a nor.1) (range_with_len 0 (count_of e over)) s) (λ t. by_cursor over None t nor.0)
   plan_stays (Times r m a) free s =
-      let nor = neither (list_any writes (count_down r)) (has_instr writes a) free in
+      let nor = or_parts (list_any writes (count_down r)) (has_instr writes a) free in
       turns_stay r (counted c e r (does c e a)) (λ t. stays_then t (in_turn c e (count_down r) t) (does c e a) (line_stays (count_down r) nor.0 t) (plan_stays a nor.1)) (turns_in e m) s
 
   pub same_after : (tree : Tree) (s t : State) → does c e tree s ≡ Onward t → has_instr writes tree ≡ false → Same s t

@@ -1,7 +1,9 @@
 -- The verifier accepts the instructions of a fine plan.
 use Rattle.std.proofs.Common.{◌≡◌, ℕ, ◌+◌, Bool, true, false, not, ◌&&◌, List, [], ◌∷◌, ◌++◌, Option, Some, None, slice_get, if◌then◌else◌, refl, sym, ap, subst, ◌∙◌}
+use Rattle.std.proofs.lemmas.Bool.{and_parts}
 use Rattle.std.specs.Prelude.{is_some, option_and_then}
 use Rattle.std.specs.Option.{option_map_or}
+use Rattle.sl_stages.specs.declared.book.Shape.{Shape}
 use Rattle.sl_code.specs.declared.instr.Instr.{Instr}
 use Rattle.sl_code.specs.declared.instr.Instr.TheVariants.{Set, Sub, Jmp, Jz, At}
 use Rattle.sl_code.specs.declared.kinds.Kinds.{Kinds}
@@ -11,27 +13,21 @@ use Rattle.sl_code.specs.Standing.{HasAt}
 use Rattle.sl_verify.specs.Kinds.{implies}
 use Rattle.sl_verify.specs.Leaves.{ends, behind, carried}
 use Rattle.sl_verify.specs.Needs.{Context, has_needs}
-use Rattle.sl_verify.specs.Pieces.{kinds_here, comes_next, comes_after, meets, has_own, is_passed, are_passed}
+use Rattle.sl_verify.specs.Pieces.{kinds_here, comes_next, comes_after, meets, has_own, is_passed, are_passed, IsWithin}
 use Rattle.sl_verify.specs.WellKinded.{declared_by, declared_at, context_of, leads_well}
-use Rattle.sl_verify.proofs.PieceFacts.{comes_in_row, passed_in_row}
+use Rattle.sl_verify.proofs.Passing.{both_hold}
+use Rattle.sl_verify.proofs.PieceFacts.{comes_in_row, passed_in_row, passed_within}
 use Rattle.sl_plans.specs.declared.plan.Test.{Test}
 use Rattle.sl_plans.specs.declared.plan.Test.TheVariants as test
 use Rattle.sl_plans.specs.declared.plan.Bound.{Bound}
 use Rattle.sl_plans.specs.declared.plan.Cursor.{Cursor}
 use Rattle.sl_plans.specs.declared.plan.Cursor.TheVariants as cursor
-use Rattle.sl_plans.specs.Trees.{Tree, Line, Stop, Then, If, Each, Times, size_of, flat, jump_of, to_first, to_next, ones, at_join, known_after, known_after_all, kinds_after, known_in_arm, known_in_other, known_in_turn, known_after_loop}
+use Rattle.sl_plans.specs.Trees.{Tree, Line, Stop, Then, If, Each, Times, size_of, flat, jump_of, to_first, to_next, ones, at_join, known_after_all, kinds_after, known_in_arm, known_in_other, known_in_turn, known_after_loop}
 use Rattle.sl_plans.specs.Fine.{bare, kinds_next, kinds_in_turn, kinds_along_all, kinds_along, is_plain, is_fine_line, is_fine, ArePassed, FinePlansPass}
 use Rattle.sl_plans.proofs.Places.{first_plan, second_plan, if_stands, each_stands, times_stands}
 use Rattle.sl_plans.proofs.Pieces.{jump_target}
 
 -- ---- tests
-
-split : (a b : Bool) → (a && b) ≡ true → (a ≡ true) × (b ≡ true)
-split true b h = (refl, h)
-split false b h = cc
-
-joined : (a b : Bool) → a ≡ true → b ≡ true → (a && b) ≡ true
-joined a b h k = rw (h, k) refl
 
 not_so : (b : Bool) → not b ≡ true → b ≡ false
 not_so true h = cc
@@ -48,7 +44,7 @@ module _ (x : Context) where
 
   in_row : (o m n : Option Kinds) (a b : List Instr) → ArePassed x o a m → ArePassed x m b n → ArePassed x o (a ++ b) n
   in_row o m n a b first rest = record {
-    passed = passed_in_row x o a b ∙ joined (are_passed x o a) (are_passed x (comes_after o a) b) first.passed (ap (λ c. are_passed x c b) first.after ∙ rest.passed);
+    passed = passed_in_row x o a b ∙ both_hold (are_passed x o a) (are_passed x (comes_after o a) b) first.passed (ap (λ c. are_passed x c b) first.after ∙ rest.passed);
     after = comes_in_row o a b ∙ ap (λ c. comes_after c b) first.after ∙ rest.after;
   }
 
@@ -56,10 +52,10 @@ module _ (x : Context) where
   module _ (k : Kinds) (i : Instr) (none : declared_by i ≡ None) (needs : has_needs x k i ≡ true) (leads : leads_well x (carried k i) (target_of i) ≡ true) where
     one : (m n : Option Kinds) (is : List Instr) → behind k i ≡ m → ArePassed x m is n → ArePassed x (Some k) (i ∷ is) n
     one m n is next rest =
-        let own : is_passed x (Some k) i ≡ true = ap (λ d. meets (Some k) d && has_own x (kinds_here (Some k) d) i) none ∙ joined (has_needs x k i) (leads_well x (carried k i) (target_of i)) needs leads in
+        let own : is_passed x (Some k) i ≡ true = ap (λ d. meets (Some k) d && has_own x (kinds_here (Some k) d) i) none ∙ both_hold (has_needs x k i) (leads_well x (carried k i) (target_of i)) needs leads in
         let after : comes_next (Some k) i ≡ m = ap (λ d. behind (kinds_here (Some k) d) i) none ∙ next in
         record {
-          passed = joined (is_passed x (Some k) i) (are_passed x (comes_next (Some k) i) is) own (ap (λ c. are_passed x c is) after ∙ rest.passed);
+          passed = both_hold (is_passed x (Some k) i) (are_passed x (comes_next (Some k) i) is) own (ap (λ c. are_passed x c is) after ∙ rest.passed);
           after = ap (λ c. comes_after c is) after ∙ rest.after;
         }
 
@@ -72,7 +68,7 @@ module _ (x : Context) where
   -- a declaration
   declares : (o n : Option Kinds) (d : Kinds) (is : List Instr) → meets o (Some d) ≡ true → has_needs x d (At d) ≡ true → ArePassed x (Some d) is n → ArePassed x o (At d ∷ is) n
   declares o n d is implied needs rest = record {
-    passed = joined (is_passed x o (At d)) (are_passed x (Some d) is) (joined (meets o (Some d)) (has_own x d (At d)) implied (joined (has_needs x d (At d)) true needs refl)) rest.passed;
+    passed = both_hold (is_passed x o (At d)) (are_passed x (Some d) is) (both_hold (meets o (Some d)) (has_own x d (At d)) implied (both_hold (has_needs x d (At d)) true needs refl)) rest.passed;
     after = rest.after;
   }
 
@@ -161,9 +157,10 @@ bare_turn k cursor.Land = refl
 bare_turn k cursor.Win = refl
 
 -- ---- plans
-module _ (code : CountingCode) where
+module _ (code : CountingCode) (slots : ℕ → Option Shape) (stages : ℕ) where
+  -- the code's declarations, with these slots and stages
   abbrev all : Context
-  all = context_of code
+  all = record { slots = slots; stages = stages; declared = declared_at code }
 
   abbrev Pass : Tree → Type 0
   Pass tree = (k : Kinds) (p : ℕ) → HasAt code p (flat (bare k) p tree) → is_fine all k tree ≡ true → ArePassed all (Some k) (flat (bare k) p tree) (Some (kinds_along k tree))
@@ -181,20 +178,20 @@ module _ (code : CountingCode) where
   line_passes : (is : List Instr) (k : Kinds) → is_fine_line all k is ≡ true → ArePassed all (Some k) is (Some (kinds_along_all k is))
   line_passes [] k fine = nothing all (Some k)
   line_passes (i ∷ is) k fine =
-      let plain = split (is_plain i) _ fine in
-      let parts = split (not (is_some (target_of i))) (not (is_some (declared_by i))) plain.0 in
-      let on = split (not (ends i)) _ plain.1 in
-      let needs = split (has_needs all k i) (is_fine_line all (kinds_next k i) is) on.1 in
+      let plain = and_parts (is_plain i) _ fine in
+      let parts = and_parts (not (is_some (target_of i))) (not (is_some (declared_by i))) plain.0 in
+      let on = and_parts (not (ends i)) _ plain.1 in
+      let needs = and_parts (has_needs all k i) (is_fine_line all (kinds_next k i) is) on.1 in
       goes_on all k i (is_none (declared_by i) (not_so _ parts.1)) needs.0 (leads_nowhere (carried k i) (target_of i) (is_none (target_of i) (not_so _ parts.0)))
       (Some (kinds_along_all k (i ∷ is))) is (not_so (ends i) on.0) (line_passes is (kinds_next k i) needs.1)
 
   stop_passes : (i : Instr) → Pass (Stop i)
   stop_passes i k p has fine =
       let d = at_join (bare k) in
-      let plain = split (is_plain i) _ fine in
-      let parts = split (not (is_some (target_of i))) (not (is_some (declared_by i))) plain.0 in
-      let over = split (ends i) _ plain.1 in
-      let needs = split (has_needs all k i) (has_needs all d (At d)) over.1 in
+      let plain = and_parts (is_plain i) _ fine in
+      let parts = and_parts (not (is_some (target_of i))) (not (is_some (declared_by i))) plain.0 in
+      let over = and_parts (ends i) _ plain.1 in
+      let needs = and_parts (has_needs all k i) (has_needs all d (At d)) over.1 in
       ends_there all k i (is_none (declared_by i) (not_so _ parts.1)) needs.0 (leads_nowhere (carried k i) (target_of i) (is_none (target_of i) (not_so _ parts.0)))
       (Some d) (At d ∷ []) over.0 (declares all None (Some d) d [] refl needs.1 (nothing all (Some d)))
 
@@ -210,14 +207,14 @@ module _ (code : CountingCode) where
       let after_b = kinds_along in_other b in
       let fa = flat in_arm (arm + 1) a in
       let fb = flat (known_in_other (bare k) t) (p + 1) b in
-      let f1 = split (has_needs all k (jump_of t 0)) _ fine in
-      let f2 = split (implies (carried k (jump_of t 0)) in_arm) _ f1.1 in
-      let f3 = split (is_fine all in_other b) _ f2.1 in
-      let f4 = split (has_needs all after_b (Jmp 0)) _ f3.1 in
-      let f5 = split (implies (carried after_b (Jmp 0)) d) _ f4.1 in
-      let f6 = split (has_needs all in_arm (At in_arm)) _ f5.1 in
-      let f7 = split (is_fine all in_arm a) _ f6.1 in
-      let f8 = split (implies after_a d) (has_needs all d (At d)) f7.1 in
+      let f1 = and_parts (has_needs all k (jump_of t 0)) _ fine in
+      let f2 = and_parts (implies (carried k (jump_of t 0)) in_arm) _ f1.1 in
+      let f3 = and_parts (is_fine all in_other b) _ f2.1 in
+      let f4 = and_parts (has_needs all after_b (Jmp 0)) _ f3.1 in
+      let f5 = and_parts (implies (carried after_b (Jmp 0)) d) _ f4.1 in
+      let f6 = and_parts (has_needs all in_arm (At in_arm)) _ f5.1 in
+      let f7 = and_parts (is_fine all in_arm a) _ f6.1 in
+      let f8 = and_parts (implies after_a d) (has_needs all d (At d)) f7.1 in
       let last : ArePassed all (Some after_a) (At d ∷ []) (Some d) = declares all (Some after_a) (Some d) d [] f8.0 f8.1 (nothing all (Some d)) in
       let from_arm : ArePassed all None (At in_arm ∷ (fa ++ (At d ∷ []))) (Some d) =
       declares all None (Some d) in_arm (fa ++ (At d ∷ [])) refl f6.0
@@ -242,14 +239,14 @@ module _ (code : CountingCode) where
       let fa = flat here (p + 2) a in
       let first = first_jump over end in
       let next = next_jump over (p + 1) in
-      let f1 = split (has_needs all k (to_first over 0)) _ fine in
-      let f2 = split (implies (carried k (to_first over 0)) d) _ f1.1 in
-      let f3 = split (implies (kinds_next k (to_first over 0)) here) _ f2.1 in
-      let f4 = split (has_needs all here (At here)) _ f3.1 in
-      let f5 = split (is_fine all here a) _ f4.1 in
-      let f6 = split (has_needs all last (to_next over 0)) _ f5.1 in
-      let f7 = split (implies (carried last (to_next over 0)) here) _ f6.1 in
-      let f8 = split (implies (kinds_next last (to_next over 0)) d) (has_needs all d (At d)) f7.1 in
+      let f1 = and_parts (has_needs all k (to_first over 0)) _ fine in
+      let f2 = and_parts (implies (carried k (to_first over 0)) d) _ f1.1 in
+      let f3 = and_parts (implies (kinds_next k (to_first over 0)) here) _ f2.1 in
+      let f4 = and_parts (has_needs all here (At here)) _ f3.1 in
+      let f5 = and_parts (is_fine all here a) _ f4.1 in
+      let f6 = and_parts (has_needs all last (to_next over 0)) _ f5.1 in
+      let f7 = and_parts (implies (carried last (to_next over 0)) here) _ f6.1 in
+      let f8 = and_parts (implies (kinds_next last (to_next over 0)) d) (has_needs all d (At d)) f7.1 in
       let carried_out : implies (carried k (to_first over end)) d ≡ true = ap (λ m. implies m d) (first.carries k) ∙ f2.0 in
       let carried_back : implies (carried last (to_next over (p + 1))) here ≡ true = ap (λ m. implies m here) (next.carries last) ∙ f7.0 in
       let comes_in : implies (kinds_next k (to_first over end)) here ≡ true = ap (λ m. implies m here) (first.next k) ∙ f3.0 in
@@ -276,14 +273,14 @@ module _ (code : CountingCode) where
       let last = kinds_along inside a in
       let fa = flat head (p + 4) a in
       let from_jump = Jmp p ∷ (At head ∷ []) in
-      let f1 = split (implies k head) _ fine in
-      let f2 = split (has_needs all head (At head)) _ f1.1 in
-      let f3 = split (has_needs all head (Jz r 0)) _ f2.1 in
-      let f4 = split (implies (carried head (Jz r 0)) head) _ f3.1 in
-      let f5 = split (has_needs all tested (Set ones 1)) _ f4.1 in
-      let f6 = split (has_needs all counted (Sub r ones)) _ f5.1 in
-      let f7 = split (is_fine all inside a) _ f6.1 in
-      let f8 = split (has_needs all last (Jmp 0)) (implies (carried last (Jmp 0)) head) f7.1 in
+      let f1 = and_parts (implies k head) _ fine in
+      let f2 = and_parts (has_needs all head (At head)) _ f1.1 in
+      let f3 = and_parts (has_needs all head (Jz r 0)) _ f2.1 in
+      let f4 = and_parts (implies (carried head (Jz r 0)) head) _ f3.1 in
+      let f5 = and_parts (has_needs all tested (Set ones 1)) _ f4.1 in
+      let f6 = and_parts (has_needs all counted (Sub r ones)) _ f5.1 in
+      let f7 = and_parts (is_fine all inside a) _ f6.1 in
+      let f8 = and_parts (has_needs all last (Jmp 0)) (implies (carried last (Jmp 0)) head) f7.1 in
       let jump_back : ArePassed all (Some last) from_jump (Some head) =
       ends_there all last (Jmp p) refl f8.0 (leads_to (carried last (Jmp p)) head (Some p) p refl parts.declared f8.1) (Some head) (At head ∷ []) refl
       (declares all None (Some head) head [] refl f2.0 (nothing all (Some head))) in
@@ -298,7 +295,7 @@ module _ (code : CountingCode) where
   plan_passes (Line is) k p has fine = line_passes is k fine
   plan_passes (Stop i) k p has fine = stop_passes i k p has fine
   plan_passes (Then a b) k p has fine =
-      let parts = split (is_fine all k a) (is_fine all (kinds_along k a) b) fine in
+      let parts = and_parts (is_fine all k a) (is_fine all (kinds_along k a) b) fine in
       let q = p + size_of a in
       in_row all (Some k) (Some (kinds_along k a)) (Some (kinds_along k (Then a b))) (flat (bare k) p a) (flat (kinds_after (bare k) a) q b)
       (plan_passes a k p (first_plan code a b (bare k) p has) parts.0)
@@ -308,4 +305,7 @@ module _ (code : CountingCode) where
   plan_passes (Times r m a) k p has fine = times_passes r m a (plan_passes a) k p has fine
 
 pub fine_plans_pass : FinePlansPass
-fine_plans_pass code k p tree has fine = plan_passes code tree k p has fine
+fine_plans_pass code slots stages k p tree has there enough fine =
+    let inside : IsWithin (all code slots stages) (context_of code) = record { slots = there; stages = enough; declared = λ t d h. h } in
+    let passes = plan_passes code slots stages tree k p has fine in
+    record { passed = passed_within (all code slots stages) (context_of code) (Some k) (flat (bare k) p tree) inside passes.passed; after = passes.after }

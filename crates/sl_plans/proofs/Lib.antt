@@ -11,3 +11,4 @@ pub mod Laying
 pub mod Reaching
 pub mod Sums
 pub mod Kinded
+pub mod Targets

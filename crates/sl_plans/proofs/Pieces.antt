@@ -1,22 +1,23 @@
 -- Pieces of runs that follow a plan: one after another, single instructions, lines.
-use Rattle.std.proofs.Common.{◌≡◌, ℕ, zero, suc, ◌+◌, ◌*◌, ◌<◌, ◌≤◌, List, [], ◌∷◌, length, Some, slice_get, refl, sym, ap, subst, ◌∙◌, arith}
+use Rattle.std.proofs.Common.{◌≡◌, ℕ, suc, ◌+◌, ◌≤◌, List, [], ◌∷◌, length, Some, slice_get, refl, sym, subst, arith}
 use Rattle.sl_stages.specs.returns.Election.{Election}
 use Rattle.sl_code.specs.declared.instr.Instr.{Instr}
-use Rattle.sl_code.specs.declared.instr.Instr.TheVariants.{Set, Sub, Jmp, Jz, At}
+use Rattle.sl_code.specs.declared.instr.Instr.TheVariants.{Jmp, At}
 use Rattle.sl_code.specs.declared.kinds.Kinds.{Kinds}
 use Rattle.sl_code.specs.Codes.{CountingCode}
 use Rattle.sl_code.specs.Standing.{HasAt}
 use Rattle.sl_code.proofs.Standing.{first_stands, next_stand}
 use Rattle.sl_code.specs.Rows.{target_of}
-use Rattle.sl_machine.specs.State.{State, End}
-use Rattle.sl_machine.specs.Comes.{Comes, Finishes}
+use Rattle.sl_machine.specs.State.{State}
+use Rattle.sl_machine.specs.Comes.{Comes}
 use Rattle.sl_machine.specs.Effects.{Effect, Goes, Jumps, Ends, NoCase, effect}
 use Rattle.sl_machine.proofs.runs.Coming.{stays, goes, jumps, ends, after, ends_after, wider, ends_wider, comes_at}
-use Rattle.sl_machine.proofs.effects.Registers.{jz_jumps, jz_falls}
+use Rattle.sl_plans.specs.declared.plan.Cursor.{Cursor}
+use Rattle.sl_plans.specs.declared.plan.Cursor.TheVariants as cursor
 use Rattle.sl_plans.specs.declared.plan.Test.{Test}
 use Rattle.sl_plans.specs.declared.plan.Test.TheVariants as test
-use Rattle.sl_plans.specs.Trees.{Tree, Line, Stop, Then, If, Each, Times, size_of, flat, jump_of, ones, count_down}
-use Rattle.sl_plans.specs.Meaning.{Course, Onward, Final, Unsaid, then_do, passes, stops, branches, at_zero, turns, in_turn, counted}
+use Rattle.sl_plans.specs.Trees.{jump_of, to_first, to_next}
+use Rattle.sl_plans.specs.Meaning.{Course, Onward, Final, Unsaid, then_do, passes, stops, branches, in_turn}
 use Rattle.sl_plans.specs.Following.{Follows}
 
 -- ---- jumps
@@ -37,6 +38,16 @@ jump_target test.NoList to = refl
 jump_target test.NoParty to = refl
 jump_target (test.Empty r) to = refl
 jump_target (test.NotCovered n) to = refl
+
+pub first_target : (over : Cursor) (to : ℕ) → target_of (to_first over to) ≡ Some to
+first_target cursor.Party to = refl
+first_target cursor.Land to = refl
+first_target cursor.Win to = refl
+
+pub next_target : (over : Cursor) (to : ℕ) → target_of (to_next over to) ≡ Some to
+next_target cursor.Party to = refl
+next_target cursor.Land to = refl
+next_target cursor.Win to = refl
 
 module _ (c : CountingCode) (e : Election) where
   -- ---- one piece after another

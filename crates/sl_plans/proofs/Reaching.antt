@@ -1,5 +1,5 @@
 -- What a plan achieves the machine does, wherever the plan's instructions stand.
-use Rattle.std.proofs.Common.{◌≡◌, ℕ, ◌+◌, refl, inl, inr}
+use Rattle.std.proofs.Common.{ℕ, ◌+◌, inl, inr}
 use Rattle.sl_stages.specs.returns.Election.{Election}
 use Rattle.sl_code.specs.declared.kinds.Kinds.{Kinds}
 use Rattle.sl_code.specs.Codes.{CountingCode}

@@ -10,17 +10,16 @@ use Rattle.sl_code.specs.Codes.{CountingCode}
 use Rattle.sl_prio.specs.Prio.{top, peers, is_covered}
 use Rattle.sl_machine.specs.State.{State, End, PriorityTable, with_register}
 use Rattle.sl_machine.specs.Drawn.{lot_of}
-use Rattle.sl_machine.specs.Effects.{Effect, Goes, Jumps, Ends, NoCase, effect, with_party, winner_at, name_of}
+use Rattle.sl_machine.specs.Effects.{Effect, Goes, Jumps, Ends, effect, with_party, winner_at, name_of}
 use Rattle.sl_machine.proofs.effects.Registers.{jz_jumps, jz_falls, jlt_jumps, jlt_falls}
 use Rattle.sl_machine.proofs.effects.Cursors.{jnl_jumps, jnl_falls, wparty_jumps, wparty_falls}
 use Rattle.sl_machine.proofs.effects.Table.{peers_jumps, peers_falls, lot_jumps, lot_falls}
 use Rattle.sl_plans.specs.declared.plan.Test.{Test}
 use Rattle.sl_plans.specs.declared.plan.Test.TheVariants as test
 use Rattle.sl_plans.specs.declared.plan.Cursor.{Cursor}
-use Rattle.sl_plans.specs.declared.plan.Cursor.TheVariants as cursor
 use Rattle.sl_plans.specs.declared.plan.Bound.{Bound}
 use Rattle.sl_plans.specs.Trees.{Tree, Line, Stop, Then, If, Each, Times, jump_of, ones}
-use Rattle.sl_plans.specs.Meaning.{Course, Onward, Final, Unsaid, then_do, passes, stops, branches, count_of, cursor_of, set_cursor, held, turn_at, for_each, each_of, turns_in, at_zero, turns, counted, does}
+use Rattle.sl_plans.specs.Meaning.{Course, Onward, Final, Unsaid, then_do, passes, stops, branches, count_of, cursor_of, set_cursor, held, turn_at, for_each, turns_in, at_zero, turns, counted, does}
 use Rattle.sl_plans.specs.Achieves.{Meets, Achieves}
 
 -- ---- courses

@@ -1,18 +1,20 @@
 -- The plan that sums a column.
-use Rattle.std.proofs.Common.{◌≡◌, ℕ, zero, suc, ◌+◌, ◌-◌, ◌*◌, ◌<◌, ◌≤◌, min, List, map, Option, Some, None, slice_get, refl, sym, ap, ◌∙◌, inl, inr, arith}
-use Rattle.std.specs.List.{range_with_len}
+use Rattle.std.proofs.Common.{◌≡◌, ℕ, zero, suc, ◌+◌, ◌-◌, ◌*◌, ◌<◌, ◌≤◌, min, Some, slice_get, true, refl, sym, ap, ◌∙◌, inl, inr, arith}
 use Rattle.std.proofs.Math.Nat.{mul-le-mul_left}
 use Rattle.std.proofs.lemmas.List.FromFn.{sum_by-map-range_with_len_more}
 use Rattle.sl_stages.specs.declared.book.Shape.TheVariants as shape
 use Rattle.sl_stages.specs.returns.Election.{Election, lands_of, parties_of}
 use Rattle.sl_code.specs.Codes.{CountingCode}
-use Rattle.sl_machine.specs.State.{State, End, with_register}
+use Rattle.sl_machine.specs.State.{State, with_register}
 use Rattle.sl_machine.specs.Effects.{most, with_party, with_land}
 use Rattle.sl_machine.proofs.effects.Registers.{set_does, add_does, get_does}
 use Rattle.sl_machine.proofs.effects.Cursors.{both_are}
 use Rattle.sl_plans.specs.declared.plan.Cursor.TheVariants as cursor
-use Rattle.sl_plans.specs.Trees.{Tree, Line, Then, Each}
+use Rattle.sl_plans.specs.Trees.{Each}
 use Rattle.sl_plans.specs.Achieves.{Achieves, Never}
+use Rattle.sl_verify.specs.Kinds.{start_kinds}
+use Rattle.sl_plans.specs.Fine.{is_fine, judged_by, has_quiet_lines}
+use Rattle.sl_plans.specs.inner.Prices.{price_of, has_price, is_in_share}
 use Rattle.sl_plans.specs.Sums.{add_cell, sum_tree, sum_of_first, ColumnsAreSummed}
 use Rattle.sl_plans.proofs.Rules.{line_ends, line_goes, then_achieves}
 use Rattle.sl_plans.proofs.KeepingRules.{each_keeping}
@@ -83,3 +85,10 @@ columns_are_summed c e k p known s slot small has =
       | inl done ↦ done
       | inr never ↦ absurd never.2
     ]
+
+-- it is fine from the start on, its jumps stay within, and it takes at most a share
+pub sum_is_fine : (k : ℕ) → is_fine (judged_by (λ slot. Some shape.List) 0) start_kinds (sum_tree k) ≡ true
+sum_is_fine k = refl
+
+pub sum_is_in_share : (k : ℕ) → (has_quiet_lines (sum_tree k) ≡ true) × (has_price (sum_tree k) ≡ true) × (is_in_share (price_of (sum_tree k)) ≡ true)
+sum_is_in_share k = (refl, refl, refl)

@@ -1,5 +1,7 @@
 -- Which plans the verifier accepts where certain kinds are known (docs/plans.md, section 9).
-use Rattle.std.specs.Prelude.{◌≡◌, ℕ, ◌+◌, Bool, true, not, ◌&&◌, List, [], ◌∷◌, Option, Some, is_some}
+use Rattle.std.specs.Prelude.{◌≡◌, ◌≤◌, ℕ, Bool, true, not, ◌&&◌, List, [], ◌∷◌, length, Option, Some, None, is_some, slice_get}
+use Rattle.std.specs.List.{list_all}
+use Rattle.sl_stages.specs.declared.book.Shape.{Shape}
 use Rattle.sl_code.specs.declared.instr.Instr.{Instr}
 use Rattle.sl_code.specs.declared.instr.Instr.TheVariants.{Set, Sub, Jmp, Jz, At}
 use Rattle.sl_code.specs.declared.kinds.Kinds.{Kinds}
@@ -9,7 +11,7 @@ use Rattle.sl_code.specs.Standing.{HasAt}
 use Rattle.sl_verify.specs.Kinds.{implies}
 use Rattle.sl_verify.specs.Leaves.{ends, positive_behind, cursors_behind, table_behind, carried}
 use Rattle.sl_verify.specs.Needs.{Context, has_needs}
-use Rattle.sl_verify.specs.Pieces.{are_passed, comes_after}
+use Rattle.sl_verify.specs.Pieces.{are_passed, comes_after, JumpsWithin}
 use Rattle.sl_verify.specs.WellKinded.{declared_by, context_of}
 use Rattle.sl_plans.specs.Trees.{Tree, Line, Stop, Then, If, Each, Times, flat, jump_of, to_first, to_next, ones, at_join, known_in_arm, known_in_turn, known_after_loop}
 
@@ -42,6 +44,10 @@ kinds_along k (Times r m a) = at_join (bare k)
 abbrev pub is_plain : Instr → Bool
 is_plain i = not (is_some (target_of i)) && not (is_some (declared_by i))
 
+-- with slots of these shapes, where there are some, and so many stages
+abbrev pub judged_by : (ℕ → Option Shape) → ℕ → Context
+judged_by slots stages = record { slots = slots; stages = stages; declared = λ place. None }
+
 module _ (x : Context) where
   abbrev pub is_fine_line : Kinds → List Instr → Bool
   is_fine_line k [] = true
@@ -71,11 +77,31 @@ module _ (x : Context) where
       implies k head && (has_needs x head (At head) && (has_needs x head (Jz r 0) && (implies (carried head (Jz r 0)) head && (has_needs x tested (Set ones 1) && (has_needs x (kinds_next tested (Set ones 1)) (Sub r ones)
       && (is_fine (kinds_in_turn head r) a && (has_needs x last (Jmp 0) && implies (carried last (Jmp 0)) head)))))))
 
--- the instructions of a fine plan pass wherever they stand, and leave its kinds
+-- the instructions pass where the first kinds come to them, and leave the second ones
 pub record ArePassed (x : Context) (comes : Option Kinds) (is : List Instr) (leaves : Option Kinds) : Type 0 where
   pub passed : are_passed x comes is ≡ true
   pub after : comes_after comes is ≡ leaves
 
+-- the instructions of a plan that is fine with some slots and stages pass in each code that has them, wherever they stand, and leave the plan's kinds
 abbrev pub FinePlansPass : Type 0
-FinePlansPass = (code : CountingCode) (k : Kinds) (p : ℕ) (tree : Tree) → HasAt code p (flat (bare k) p tree) → is_fine (context_of code) k tree ≡ true
+FinePlansPass = (code : CountingCode) (slots : ℕ → Option Shape) (stages : ℕ) (k : Kinds) (p : ℕ) (tree : Tree) → HasAt code p (flat (bare k) p tree)
+    → ((n : ℕ) (s : Shape) → slots n ≡ Some s → slice_get code.slots n ≡ Some s) → stages ≤ length code.stages → is_fine (judged_by slots stages) k tree ≡ true
     → ArePassed (context_of code) (Some k) (flat (bare k) p tree) (Some (kinds_along k tree))
+
+-- ---- targets
+
+-- no instruction of a line, and none that ends a run, jumps
+abbrev pub jumps_nowhere : Instr → Bool
+jumps_nowhere i = not (is_some (target_of i))
+
+abbrev pub has_quiet_lines : Tree → Bool
+has_quiet_lines (Line is) = list_all jumps_nowhere is
+has_quiet_lines (Stop i) = jumps_nowhere i
+has_quiet_lines (Then a b) = has_quiet_lines a && has_quiet_lines b
+has_quiet_lines (If t a b) = has_quiet_lines a && has_quiet_lines b
+has_quiet_lines (Each over a) = has_quiet_lines a
+has_quiet_lines (Times r m a) = has_quiet_lines a
+
+-- the jumps of a plan stay within its instructions
+abbrev pub PlansJumpWithin : Type 0
+PlansJumpWithin = (k : Kinds) (p : ℕ) (tree : Tree) → has_quiet_lines tree ≡ true → JumpsWithin p (flat k p tree)

@@ -15,7 +15,8 @@ pub const ONES: u8 = 15;
 /// Appends a plan's instructions, with what is known where it begins, and says what is known after it. The parts of the plan that are
 /// numbers stand for the instructions given.
 ///
-/// It asks for memory once, before the first instruction.
+/// It asks for memory once, before the first instruction. The registers that are known to be positive where the plan begins are
+/// declared to be so all along it: give none.
 ///
 /// # Errors
 /// Without memory, the code is as it was.

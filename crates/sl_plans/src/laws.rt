@@ -1,7 +1,7 @@
 //! What holds of every plan.
 
 ghost use Rattle.sl_plans.specs.Costs.{PlansCostTheirPrice, SharesSuffice};
-ghost use Rattle.sl_plans.specs.Fine.{FinePlansPass};
+ghost use Rattle.sl_plans.specs.Fine.{FinePlansPass, PlansJumpWithin};
 ghost use Rattle.sl_plans.specs.Following.{PlansAreFollowed};
 ghost use Rattle.sl_plans.specs.Sums.{ColumnsAreSummed};
 ghost use Rattle.sl_plans.specs.inner.Frames.{PlansKeepTheRest};
@@ -34,4 +34,9 @@ pub fn columns_are_summed()
 /// The verifier accepts the instructions of a fine plan, and finds the plan's kinds after them.
 pub fn fine_plans_pass()
     ensures { FinePlansPass }
+{}
+
+/// The jumps of a plan stay within its instructions.
+pub fn plans_jump_within()
+    ensures { PlansJumpWithin }
 {}

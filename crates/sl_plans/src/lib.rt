@@ -5,6 +5,8 @@ mod emitter;
 mod known;
 pub mod laws;
 mod plan;
+mod totals;
 
 pub use emitter::{ONES, emit, put, size};
 pub use plan::{Bound, Cursor, Part, Plan, Test};
+pub use totals::sum_column;

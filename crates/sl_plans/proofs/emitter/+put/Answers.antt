@@ -1,4 +1,4 @@
-use Rattle.std.proofs.Common.{◌+◌, ◌++◌, refl, sym, ap, ◌∙◌, vec_len, arith}
+use Rattle.std.proofs.Common.{◌+◌, ◌++◌, sym, ap, ◌∙◌, vec_len, arith}
 use Rattle.sl_plans.specs.Layout.{tree_of}
 use Rattle.sl_plans.specs.Trees.{flat}
 use Rattle.sl_plans.proofs.Laying.{if_laid}
