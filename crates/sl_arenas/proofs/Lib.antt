@@ -1,0 +1,5 @@
+-- The lemmas of arenas.
+pub mod Pieces
+pub mod Waiting
+pub mod Peers
+pub mod Taken
