@@ -3,3 +3,4 @@ pub mod Pieces
 pub mod Waiting
 pub mod Peers
 pub mod Taken
+pub mod MethodArenas

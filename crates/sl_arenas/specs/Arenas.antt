@@ -1,15 +1,20 @@
 -- Arenas: the ladders of the entries of a scope, and how their next seats wait in the machine's priority table (docs/methods.md,
 -- section 7; docs/machine.md, section 2).
-use Rattle.std.specs.Prelude.{◌≡◌, ℕ, ◌≤◌, Bool, List, [], ◌∷◌, Some, length, flat_map, slice_index, if◌then◌else◌}
+use Rattle.std.specs.Prelude.{◌≡◌, ℕ, ◌≤◌, Bool, List, [], ◌∷◌, Some, All, length, map, flat_map, slice_index, if◌then◌else◌}
 use Rattle.std.specs.List.{range_with_len}
 use Rattle.std.specs.List.Sorted.{IsStrictlyIncreasing}
 use Rattle.sl_ratio.specs.declared.entry.Entry.{Entry}
+use Rattle.sl_ratio.specs.declared.limits.TheConstants.{MAX_WEIGHT}
 use Rattle.sl_ratio.specs.declared.method.Divisor.{Divisor}
 use Rattle.sl_ratio.specs.Quotient.{FitsRatio}
+use Rattle.sl_stages.specs.declared.returns.Win.{Win}
 use Rattle.sl_stages.specs.declared.table.Mark.{Mark}
+use Rattle.sl_stages.specs.declared.table.Mark.TheVariants as mark
+use Rattle.sl_stages.specs.methods.Covering.{share}
 use Rattle.sl_stages.specs.meaning.Records.{quotient_mark, remainder_mark}
-use Rattle.sl_stages.specs.laws.Ladders.{Ladders, Has, AreFalling, divisor_ladders, hamilton_ladders}
+use Rattle.sl_stages.specs.laws.Ladders.{Ladders, Has, AreFalling, divisor_ladders, hamilton_ladders, covering_ladders}
 use Rattle.sl_code.specs.declared.operand.Entries.{Entries}
+use Rattle.sl_code.specs.declared.operand.Entries.TheVariants as entries
 use Rattle.sl_code.specs.declared.operand.Ranking.{Ranking}
 use Rattle.sl_code.specs.declared.operand.Ranking.TheVariants as ranking
 use Rattle.sl_prio.specs.Ranking.{ranked}
@@ -68,3 +73,19 @@ hamilton_arena prefer v seats entries places = record {
   ranking = ranking.Remainders;
   won = remainder_mark prefer v seats;
 }
+
+-- winners with their numbers
+abbrev pub covering_arena : List (ℕ × Win) → Arena
+covering_arena winners = record {
+  ladders = covering_ladders (map (λ x. x.1.first) winners) (map (λ x. x.1.valid) winners);
+  places = map (λ x. x.0) winners;
+  entries = entries.Win;
+  ranking = ranking.Quotients;
+  won = λ i held. mark.Quotient (share (map (λ x. x.1.first) winners) (map (λ x. x.1.valid) winners) i);
+}
+
+-- the weights of a scope's entries, and their numbers in the table
+pub record AreWeighed (v places : List ℕ) : Type 0 where
+  pub weights : All (λ weight. weight ≤ MAX_WEIGHT) v
+  pub numbers : length places ≡ length v
+  pub increasing : IsStrictlyIncreasing places
