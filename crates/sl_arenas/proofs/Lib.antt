@@ -4,3 +4,5 @@ pub mod Waiting
 pub mod Peers
 pub mod Taken
 pub mod MethodArenas
+pub mod Lots
+pub mod Turns

@@ -1,6 +1,6 @@
 //! Laws of the definitions. Each function does nothing: its contract is the law.
 
-ghost use Rattle.sl_arenas.specs.Laws.{WaitingPeers, WaitingTaken, DivisorArenas, HamiltonArenas, CoveringArenas};
+ghost use Rattle.sl_arenas.specs.Laws.{WaitingPeers, WaitingTaken, DivisorArenas, HamiltonArenas, CoveringArenas, WaitingCovered, WaitingDrawn, WaitingTurns};
 
 /// The peers of the table are the next seats of the peers of the ladders.
 pub fn waiting_peers()
@@ -26,4 +26,19 @@ pub fn hamilton_arenas()
 /// The winners of a list, to whom its seats go by their shares, have an arena.
 pub fn covering_arenas()
     ensures { CoveringArenas }
+{}
+
+/// A stage's lot covers the table exactly if it names all peers.
+pub fn waiting_covered()
+    ensures { WaitingCovered }
+{}
+
+/// A stage's lot draws the peers from the table one after the other, as it draws them from the entries.
+pub fn waiting_drawn()
+    ensures { WaitingDrawn }
+{}
+
+/// Until a batch is over the table's top is the next seat of a peer of the batch.
+pub fn waiting_turns()
+    ensures { WaitingTurns }
 {}
