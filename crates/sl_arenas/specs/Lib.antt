@@ -1,0 +1,3 @@
+-- The definitions of arenas.
+pub mod Arenas
+pub mod Laws
