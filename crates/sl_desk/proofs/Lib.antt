@@ -16,3 +16,4 @@ pub mod BookFacts
 pub mod Order
 pub mod Delivering
 pub mod OneOutput
+pub mod OneVerdict

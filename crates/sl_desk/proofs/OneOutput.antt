@@ -97,7 +97,7 @@ unknown_law name (Good tree) h = absurd h
 
 -- ---- one output of a verdict
 
-one_returns_verdict : (bytes : List ℕ) (a b : Verdict Election ReturnsRefusal) → IsReturnsVerdict bytes a → IsReturnsVerdict bytes b → a ≡ b
+pub one_returns_verdict : (bytes : List ℕ) (a b : Verdict Election ReturnsRefusal) → IsReturnsVerdict bytes a → IsReturnsVerdict bytes b → a ≡ b
 one_returns_verdict bytes (Refused returns.TooLong) (Refused returns.TooLong) h k = refl
 one_returns_verdict bytes (Refused returns.TooLong) (Refused (returns.Records g)) h k = let fits = k.0 in absurd (omega arith)
 one_returns_verdict bytes (Refused returns.TooLong) (Good e) h k = let fits = k.0 in absurd (omega arith)
@@ -159,7 +159,7 @@ module _ (laws : LowerLaws) where
   no_test : (source : List ℕ) (t u : BookTree) (f : CheckFault) → HasTree source t → HasTree source u → check_fault t ≡ None → check_fault u ≡ Some f → ⊥
   no_test source t u f h k x y = some_or_none (check_fault u) f (sym (ap check_fault (one_tree source t u h k)) ∙ x) y
 
-  one_text_verdict : (source : List ℕ) (a b : Verdict BookTree BookRefusal) → IsTextVerdict source a → IsTextVerdict source b → a ≡ b
+  pub one_text_verdict : (source : List ℕ) (a b : Verdict BookTree BookRefusal) → IsTextVerdict source a → IsTextVerdict source b → a ≡ b
   one_text_verdict source (Refused (UnknownLaw u)) b h k = absurd h
   one_text_verdict source a (Refused (UnknownLaw u)) h k = absurd k
   one_text_verdict source (Refused TooLong) (Refused TooLong) h k = refl

@@ -1,8 +1,17 @@
--- The laws of what is written.
+-- The laws of verdicts, and of what is written.
 use Rattle.std.specs.Prelude.{◌≡◌, ℕ, List}
+use Rattle.sl_stages.specs.laws.OneLaws.{ExactlyOne}
 use Rattle.sl_desk.specs.declared.status.Status.{Status}
-use Rattle.sl_desk.specs.Verdicts.{BookInput}
+use Rattle.sl_desk.specs.Verdicts.{BookInput, IsTextVerdict, IsReturnsVerdict}
 use Rattle.sl_desk.specs.Output.{IsOutput, IsCheckOutput}
+
+-- each text of a book comes to exactly one verdict
+abbrev pub OneBookVerdict : Type 0
+OneBookVerdict = (bytes : List ℕ) → ExactlyOne (IsTextVerdict bytes)
+
+-- so do the bytes of returns
+abbrev pub OneReturnsVerdict : Type 0
+OneReturnsVerdict = (bytes : List ℕ) → ExactlyOne (IsReturnsVerdict bytes)
 
 -- two outputs of the same inputs are one
 abbrev pub HasOneOutput : Type 0

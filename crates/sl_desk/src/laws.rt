@@ -1,13 +1,32 @@
-//! Laws of what is written.
+//! Laws of verdicts, and of what is written.
 
 ghost use Rattle.std.specs.Prelude.{◌≡◌};
-ghost use Rattle.sl_desk.specs.Laws.{HasOneOutput, HasOneCheck};
+ghost use Rattle.sl_desk.specs.Laws.{OneBookVerdict, OneReturnsVerdict, HasOneOutput, HasOneCheck};
 
 use crate::limits::{MAX_BOOK_BYTES, MAX_RETURNS_BYTES};
 
 /// A book may have 65,536 bytes, and returns 4,194,304.
 pub fn limits()
     ensures { (MAX_BOOK_BYTES ≡ 65536) × (MAX_RETURNS_BYTES ≡ 4194304) }
+{}
+
+/// Each text of a book comes to exactly one verdict: a good book, or one refusal.
+pub fn books_have_one_verdict()
+    ensures { OneBookVerdict }
+{
+    sl_lex::laws::one_list();
+    sl_lex::laws::one_fault();
+    sl_lex::laws::no_fault_of_tokens();
+    sl_lex::laws::tokens_or_fault();
+    sl_parse::laws::one_tree();
+    sl_parse::laws::one_fault();
+    sl_parse::laws::no_fault_of_a_book();
+    sl_parse::laws::book_or_fault();
+}
+
+/// The bytes of returns come to exactly one verdict: an election, or one refusal.
+pub fn returns_have_one_verdict()
+    ensures { OneReturnsVerdict }
 {}
 
 /// The bytes of a book and of returns have at most one output: a status and a text.
