@@ -1,0 +1,4 @@
+-- The lemmas of walks over scopes and entries.
+pub mod Pieces
+pub mod Walking
+pub mod Forms

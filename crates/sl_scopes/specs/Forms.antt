@@ -1,0 +1,97 @@
+-- The five forms of a split or a growth, and the plans that go over their scopes and over the entries of a scope.
+use Rattle.std.specs.Prelude.{◌≡◌, List, [], Some}
+use Rattle.sl_stages.specs.declared.book.Shape.{Shape}
+use Rattle.sl_stages.specs.declared.book.Shape.TheVariants as shape
+use Rattle.sl_stages.specs.declared.fault.Scope.{Scope}
+use Rattle.sl_stages.specs.declared.fault.Scope.TheVariants as scope
+use Rattle.sl_stages.specs.declared.fault.Item.{Item}
+use Rattle.sl_stages.specs.declared.fault.Item.TheVariants as item
+use Rattle.sl_stages.specs.returns.Election.{Election}
+use Rattle.sl_stages.specs.meaning.Scopes.{Group, scopes}
+use Rattle.sl_code.specs.declared.operand.Entries.{Entries}
+use Rattle.sl_code.specs.declared.operand.Entries.TheVariants as entries
+use Rattle.sl_code.specs.declared.operand.ScopeKind.{ScopeKind}
+use Rattle.sl_code.specs.declared.operand.ScopeKind.TheVariants as kind
+use Rattle.sl_machine.specs.State.{State}
+use Rattle.sl_plans.specs.declared.plan.Test.TheVariants as test
+use Rattle.sl_plans.specs.declared.plan.Cursor.TheVariants as cursor
+use Rattle.sl_plans.specs.Trees.{Tree, Line, If, Each}
+
+-- what the entries are, and in which scopes: all parties, all Länder or all lists in one scope; the lists of each party; the lists in each Land
+pub data Form : Type 0 where
+  AllParties : Form
+  AllLands : Form
+  AllLists : Form
+  ListsOfParty : Form
+  ListsInLand : Form
+
+-- the shape of the amounts, and that of the votes
+abbrev pub amounts_of : Form → Shape
+amounts_of AllParties = shape.One
+amounts_of AllLands = shape.One
+amounts_of AllLists = shape.One
+amounts_of ListsOfParty = shape.Party
+amounts_of ListsInLand = shape.Land
+
+abbrev pub votes_of : Form → Shape
+votes_of AllParties = shape.Party
+votes_of AllLands = shape.Land
+votes_of AllLists = shape.List
+votes_of ListsOfParty = shape.List
+votes_of ListsInLand = shape.List
+
+-- what the entries of the priority table are, and the code of the scope
+abbrev pub table_of : Form → Entries
+table_of AllParties = entries.Party
+table_of AllLands = entries.Land
+table_of AllLists = entries.List
+table_of ListsOfParty = entries.List
+table_of ListsInLand = entries.List
+
+abbrev pub kind_of : Form → ScopeKind
+kind_of AllParties = kind.All
+kind_of AllLands = kind.All
+kind_of AllLists = kind.All
+kind_of ListsOfParty = kind.Party
+kind_of ListsInLand = kind.Land
+
+abbrev pub groups_of : Election → Form → List Group
+groups_of e f = scopes e (amounts_of f) (votes_of f)
+
+-- ---- plans
+
+-- the plan where the Land and the party of the cursors have a list
+abbrev pub on_list : Tree → Tree
+on_list x = If test.NoList (Line []) x
+
+-- the plan for each scope
+abbrev pub scopes_plan : Form → Tree → Tree
+scopes_plan AllParties x = x
+scopes_plan AllLands x = x
+scopes_plan AllLists x = x
+scopes_plan ListsOfParty x = Each cursor.Party x
+scopes_plan ListsInLand x = Each cursor.Land x
+
+-- the plan for each entry of the scope at the cursors
+abbrev pub entries_plan : Form → Tree → Tree
+entries_plan AllParties x = Each cursor.Party x
+entries_plan AllLands x = Each cursor.Land x
+entries_plan AllLists x = Each cursor.Land (Each cursor.Party (on_list x))
+entries_plan ListsOfParty x = Each cursor.Land (on_list x)
+entries_plan ListsInLand x = Each cursor.Party (on_list x)
+
+-- ---- cursors
+
+-- the cursors of a scope stand at it; the scope of all entries has none
+abbrev pub OnScope : Scope → State → Type 0
+OnScope scope.All s = Unit {0}
+OnScope (scope.Party party) s = s.party ≡ Some party
+OnScope (scope.Land land) s = s.land ≡ Some land
+OnScope (scope.List land party) s = (s.land ≡ Some land) × (s.party ≡ Some party)
+
+-- the cursors of an entry stand at it
+abbrev pub OnItem : Item → State → Type 0
+OnItem (item.Party party) s = s.party ≡ Some party
+OnItem (item.Land land) s = s.land ≡ Some land
+OnItem (item.List land party) s = (s.land ≡ Some land) × (s.party ≡ Some party)
+OnItem (item.Win win) s = s.win ≡ Some win

@@ -1,0 +1,3 @@
+-- The definitions of walks over scopes and entries.
+pub mod Forms
+pub mod Walks
