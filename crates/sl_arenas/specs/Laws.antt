@@ -99,6 +99,7 @@ pub record Turn (a : Arena) (s tied given t : List ℕ) : Type 0 where
   pub left : ¬ Contains given entry
   pub has : Has a.ladders entry (slice_index t entry)
   pub held : slice_index t entry ≡ slice_index s entry
+  pub some : 0 < length (peers (ranked (waiting a t)))
   pub first : top (ranked (waiting a t)) ≡ Some (seat_of a entry (slice_index t entry))
   pub mark : mark_of a.ranking (a.ladders.rank entry (slice_index t entry)) ≡ a.won entry (slice_index t entry)
   pub goes : (u : List ℕ) → RaisesEach (entry ∷ []) t u → MidBatch a.ladders s tied (entry ∷ given) u × SeatTaken a entry t u
