@@ -24,7 +24,7 @@ use Rattle.sl_prio.proofs.Finding.{Contains-none, Contains-cases, Contains-head,
 use Rattle.sl_prio.proofs.LawProofs.{draws}
 use Rattle.sl_machine.specs.SameLots.{SameLot, PeersAre}
 use Rattle.sl_machine.proofs.drawing.LotDraws.{same_covers, same_draws}
-use Rattle.sl_arenas.specs.Arenas.{Arena, IsArena, seat_of, waiting}
+use Rattle.sl_arenas.specs.Arenas.{Arena, IsArena, waiting}
 use Rattle.sl_arenas.specs.Laws.{WaitingCovered, WaitingDrawn}
 use Rattle.sl_arenas.proofs.Peers.{waiting_peers}
 use Rattle.sl_arenas.proofs.Waiting.{next_of, within}

@@ -1,21 +1,16 @@
 -- A turn within a batch.
-use Rattle.std.proofs.Common.{◌≡◌, ℕ, ◌<◌, ◌≤◌, List, [], ◌∷◌, length, Contains, Some, refl, sym, ap, subst, ◌∙◌, arith}
+use Rattle.std.proofs.Common.{ℕ, ◌<◌, ◌≤◌, List, [], ◌∷◌, length, arith}
 use Rattle.std.specs.Prelude.{slice_index}
-use Rattle.std.specs.Option.{option_map}
-use Rattle.std.specs.Prelude.{slice_get}
 use Rattle.sl_stages.specs.methods.Ties.{Lists}
 use Rattle.sl_stages.specs.laws.Ladders.{IsPeer}
 use Rattle.sl_stages.specs.laws.Walks.{MidBatch}
 use Rattle.sl_stages.proofs.methods.LadderProofs.{batches}
 use Rattle.sl_stages.proofs.methods.WalkProofs.{walks}
-use Rattle.sl_prio.specs.Ranking.{ranked}
-use Rattle.sl_prio.specs.Prio.{top}
 use Rattle.sl_prio.proofs.Finding.{Contains-head, Contains-none}
-use Rattle.sl_arenas.specs.Arenas.{Arena, IsArena, waiting}
+use Rattle.sl_arenas.specs.Arenas.{Arena, IsArena}
 use Rattle.sl_arenas.specs.Laws.{PeersWait, Turn, WaitingTurns}
 use Rattle.sl_arenas.proofs.Peers.{waiting_peers}
 use Rattle.sl_arenas.proofs.Taken.{waiting_taken}
-use Rattle.sl_arenas.proofs.Waiting.{next_of}
 
 module _ (most : ℕ) (a : Arena) (s tied given t : List ℕ) (arena : IsArena most a) (few : (i : ℕ) → slice_index t i ≤ most) (mid : MidBatch a.ladders s tied given t)
     (more : length given < length tied) where
