@@ -20,6 +20,7 @@ pub record IsWaiting (a : Arena) (t : List ℕ) (i : ℕ) (others : List Entry) 
   pub has : Has a.ladders i (slice_index t i)
   pub seats : IsPermutation (waiting a t) (seat_of a i (slice_index t i) ∷ others)
 
+-- what the instructions on the table do in a state where the next seats wait in it
 pub record TableEffects (c : CountingCode) (e : Election) (a : Arena) (t : List ℕ) (state : State) : Type 0 where
   -- `peers` counts the peers of the ladders
   pub counts : (tied : List ℕ) → Lists (IsPeer a.ladders t) tied → (r target : ℕ) →

@@ -34,7 +34,7 @@ pub fn waiting_covered()
     ensures { WaitingCovered }
 {}
 
-/// A stage's lot draws the peers from the table one after the other, as it draws them from the entries.
+/// A stage's lot draws the peers of a last batch from the table one after the other, as it draws them from the entries.
 pub fn waiting_drawn()
     ensures { WaitingDrawn }
 {}
