@@ -6,3 +6,4 @@ pub mod Taken
 pub mod MethodArenas
 pub mod Lots
 pub mod Turns
+pub mod TableEffects

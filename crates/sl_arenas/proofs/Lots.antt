@@ -1,18 +1,19 @@
 -- What a stage's lot covers and draws of the seats that wait.
-use Rattle.std.proofs.Common.{◌≡◌, ◌↔◌, ℕ, ◌<◌, ◌≤◌, List, [], ◌∷◌, length, map, get_or, All, Contains, Option, Some, None, IsTrue, MatchOption, refl, sym, ap, subst, ◌∙◌, inl, inr, arith}
+use Rattle.std.proofs.Common.{IsPermutation, ◌+◌, ◌≡◌, ◌↔◌, ℕ, ◌<◌, ◌≤◌, List, [], ◌∷◌, length, map, get_or, All, Contains, Option, Some, None, IsTrue, MatchOption, refl, sym, ap, subst, ◌∙◌, inl, inr, arith}
 use Rattle.std.specs.Prelude.{slice_index}
 use Rattle.std.specs.Ordering.{is_le}
 use Rattle.std.specs.List.Sorted.{IsStrictlyIncreasing}
 use Rattle.std.proofs.lemmas.Bool.{cases_lt}
 use Rattle.std.proofs.lemmas.List.Kept.{AllPairs-from_increasing}
+use Rattle.std.proofs.lemmas.List.Sorted.{Contains-permutation, IsPermutation-append_comm, IsPermutation-sym}
 use Rattle.std.proofs.lemmas.Option.{none-some, same_Some}
 use Rattle.sl_ratio.specs.declared.entry.Entry.{Entry}
 use Rattle.sl_stages.specs.methods.Ties.{Distinct, Lists, NamesAll}
 use Rattle.sl_stages.specs.methods.Ties as meaning
 use Rattle.sl_stages.specs.laws.Awards.{DrawsNext}
-use Rattle.sl_stages.specs.laws.Ladders.{IsPeer}
+use Rattle.sl_stages.specs.laws.Ladders.{Has, IsPeer, RaisesEach}
 use Rattle.sl_stages.specs.laws.Walks.{MidBatch}
-use Rattle.sl_stages.proofs.methods.DrawnLots.{drawn_length}
+use Rattle.sl_stages.proofs.methods.DrawnLots.{drawn_only, drawn_distinct, drawn_length}
 use Rattle.sl_stages.proofs.methods.LadderProofs.{batches}
 use Rattle.sl_stages.proofs.methods.RaisedSeats.{increasing_distinct}
 use Rattle.sl_stages.proofs.methods.WalkProofs.{walks}
@@ -24,9 +25,10 @@ use Rattle.sl_prio.proofs.Finding.{Contains-none, Contains-cases, Contains-head,
 use Rattle.sl_prio.proofs.LawProofs.{draws}
 use Rattle.sl_machine.specs.SameLots.{SameLot, PeersAre}
 use Rattle.sl_machine.proofs.drawing.LotDraws.{same_covers, same_draws}
-use Rattle.sl_arenas.specs.Arenas.{Arena, IsArena, seat_of, waiting}
-use Rattle.sl_arenas.specs.Laws.{WaitingCovered, WaitingDrawn}
+use Rattle.sl_arenas.specs.Arenas.{Arena, IsArena, waiting}
+use Rattle.sl_arenas.specs.Laws.{SeatTaken, WaitingCovered, WaitingDrawn}
 use Rattle.sl_arenas.proofs.Peers.{waiting_peers}
+use Rattle.sl_arenas.proofs.Taken.{waiting_taken}
 use Rattle.sl_arenas.proofs.Waiting.{next_of, within}
 
 -- ---- elements of a mapped list
@@ -121,8 +123,43 @@ module _ (most : ℕ) (a : Arena) (s tied t lot meant : List ℕ) (k : ℕ) (are
       let same_one = same_Some found.0 y (sym found.1 ∙ is) in
       found.1 ∙ ap Some (drawn_peer found.0 found.2 (subst (λ (z : Entry). Contains (peers (ranked (waiting a t))) z) (sym same_one) one.0))
 
+  -- the same entries, the one drawn next as the last of them or as the first
+  last_first : IsPermutation (meaning.drawn meant (k + 1) tied) (next.entry ∷ meaning.drawn meant k tied)
+  last_first =
+      subst (λ is. IsPermutation is (next.entry ∷ meaning.drawn meant k tied)) (sym next.drawn_too)
+      (IsPermutation-append_comm (meaning.drawn meant k tied) (next.entry ∷ []))
+
+  drawn_more : (u : List ℕ) → MidBatch a.ladders s tied (next.entry ∷ meaning.drawn meant k tied) u → MidBatch a.ladders s tied (meaning.drawn meant (k + 1) tied) u
+  drawn_more u later =
+      let first = next.entry ∷ meaning.drawn meant k tied in
+      let last = meaning.drawn meant (k + 1) tied in
+      record {
+        settled = later.settled;
+        listed = later.listed;
+        distinct = drawn_distinct meant (k + 1) tied same.distinct;
+        some = λ i c. drawn_only meant (k + 1) tied i c;
+        raised = record {
+          same_length = later.raised.same_length;
+          raised = λ i c. later.raised.raised i (Contains-permutation last first i last_first c);
+          others = λ i out. later.raised.others i (λ c. out (Contains-permutation first last i (IsPermutation-sym last first last_first) c));
+        };
+      }
+
+  drawn_goes : (u : List ℕ) → Has a.ladders next.entry (slice_index t next.entry) → RaisesEach (next.entry ∷ []) t u →
+      MidBatch a.ladders s tied (meaning.drawn meant (k + 1) tied) u × SeatTaken a next.entry t u
+  drawn_goes u has raised = (
+    drawn_more u (((walks a.ladders arena.falling).within s tied (meaning.drawn meant k tied) t mid).next next.entry u next.one_of next.left raised).0,
+    waiting_taken most a next.entry t u arena has raised,
+  )
+
 pub waiting_drawn : WaitingDrawn
 unfolding Left
 waiting_drawn most a s tied t lot meant k arena few same all mid more next =
-    drawn_is most a s tied t lot meant k arena few same all mid more next (machine.drawn lot (ranked (waiting a t))) refl (draws (ranked (waiting a t)) lot)
-    (same_draws lot meant a.places tied k (ranked (waiting a t)) same arena.increasing all next (at_left most a s tied t lot meant k arena few same all mid more next))
+    let has = ((are_left most a s tied t lot meant k arena few same all mid more next next.entry).1 (next.one_of, next.left)).next in
+    record {
+      has = has;
+      held = mid.raised.others next.entry next.left;
+      draws = drawn_is most a s tied t lot meant k arena few same all mid more next (machine.drawn lot (ranked (waiting a t))) refl (draws (ranked (waiting a t)) lot)
+          (same_draws lot meant a.places tied k (ranked (waiting a t)) same arena.increasing all next (at_left most a s tied t lot meant k arena few same all mid more next));
+      goes = λ u raised. drawn_goes most a s tied t lot meant k arena few same all mid more next u has raised;
+    }

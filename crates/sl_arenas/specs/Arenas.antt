@@ -11,6 +11,7 @@ use Rattle.sl_stages.specs.declared.returns.Win.{Win}
 use Rattle.sl_stages.specs.declared.table.Mark.{Mark}
 use Rattle.sl_stages.specs.declared.table.Mark.TheVariants as mark
 use Rattle.sl_stages.specs.methods.Covering.{share}
+use Rattle.sl_stages.specs.returns.Election.{Election}
 use Rattle.sl_stages.specs.meaning.Records.{quotient_mark, remainder_mark}
 use Rattle.sl_stages.specs.laws.Ladders.{Ladders, Has, AreFalling, divisor_ladders, hamilton_ladders, covering_ladders}
 use Rattle.sl_code.specs.declared.operand.Entries.{Entries}
@@ -18,7 +19,8 @@ use Rattle.sl_code.specs.declared.operand.Entries.TheVariants as entries
 use Rattle.sl_code.specs.declared.operand.Ranking.{Ranking}
 use Rattle.sl_code.specs.declared.operand.Ranking.TheVariants as ranking
 use Rattle.sl_prio.specs.Ranking.{ranked}
-use Rattle.sl_machine.specs.State.{State}
+use Rattle.sl_machine.specs.State.{State, PriorityTable}
+use Rattle.sl_machine.specs.Places.{at_entry}
 use Rattle.sl_machine.specs.Effects.{mark_of}
 
 -- the ladders of a scope's entries; for the table their numbers in it, its kind of entries and its ranking; and the mark of the seat
@@ -50,9 +52,17 @@ next_seat a t i = if a.ladders.has i (slice_index t i) then seat_of a i (slice_i
 abbrev pub waiting : Arena → List ℕ → List Entry
 waiting a t = flat_map (next_seat a t) (range_with_len 0 (length a.places))
 
+-- the table where it holds these seats
+abbrev pub table_of : Arena → List Entry → PriorityTable
+table_of a seats = record { entries = a.entries; ranking = a.ranking; contents = ranked seats }
+
 -- the state's table is on, for such entries by that ranking, and it holds the next seats
 abbrev pub HasWaiting : Arena → List ℕ → State → Type 0
-HasWaiting a t state = state.table ≡ Some (record { entries = a.entries; ranking = a.ranking; contents = ranked (waiting a t) })
+HasWaiting a t state = state.table ≡ Some (table_of a (waiting a t))
+
+-- the state after the seat that entry i gets when it holds so many is taken, and these are left
+abbrev pub seat_taken : Election → Arena → ℕ → ℕ → List Entry → State → State
+seat_taken e a i held others state = at_entry e a.entries (slice_index a.places i) (record state { table = Some (table_of a others); mark = a.won i held })
 
 -- ---- the arenas of the methods, for a table with these numbers of the entries
 

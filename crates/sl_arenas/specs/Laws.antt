@@ -1,5 +1,5 @@
 -- The laws of arenas, each of them the contract of a function of `laws`.
-use Rattle.std.specs.Prelude.{◌≡◌, ◌↔◌, ℕ, ◌<◌, ◌≤◌, Bool, Some, IsTrue, Contains, List, [], ◌∷◌, ◌++◌, length, map, slice_get, slice_index, IsPermutation}
+use Rattle.std.specs.Prelude.{◌≡◌, ◌↔◌, ℕ, ◌+◌, ◌<◌, ◌≤◌, Bool, Some, IsTrue, Contains, List, [], ◌∷◌, ◌++◌, length, map, slice_get, slice_index, IsPermutation}
 use Rattle.std.specs.Option.{option_map}
 use Rattle.sl_ratio.specs.declared.entry.Entry.{Entry}
 use Rattle.sl_ratio.specs.declared.limits.TheConstants.{MAX_SEATS}
@@ -82,14 +82,20 @@ WaitingCovered =
     Lists (IsPeer a.ladders t) tied → SameLot lot meant a.places →
     IsTrue (is_covered lot (ranked (waiting a t))) ↔ NamesAll meant tied
 
--- and when the entries that the meaning's lot drew first have got their seats, it draws the next seat of the entry that the meaning's
--- draws next
+-- a turn within a last batch, when the entries that the meaning's lot drew first have got their seats: the machine's lot draws the next
+-- seat of the entry that the meaning's draws next; once that has got it, the others wait
+pub record DrawnTurn (a : Arena) (s tied t lot meant : List ℕ) (k entry : ℕ) : Type 0 where
+  pub has : Has a.ladders entry (slice_index t entry)
+  pub held : slice_index t entry ≡ slice_index s entry
+  pub draws : machine.drawn lot (ranked (waiting a t)) ≡ Some (seat_of a entry (slice_index t entry))
+  pub goes : (u : List ℕ) → RaisesEach (entry ∷ []) t u →
+      MidBatch a.ladders s tied (meaning.drawn meant (k + 1) tied) u × SeatTaken a entry t u
+
 abbrev pub WaitingDrawn : Type 0
 WaitingDrawn =
     (most : ℕ) (a : Arena) (s tied t lot meant : List ℕ) (k : ℕ) → IsArena most a → ((i : ℕ) → slice_index t i ≤ most) →
     SameLot lot meant a.places → NamesAll meant tied → MidBatch a.ladders s tied (meaning.drawn meant k tied) t → k < length tied →
-    (next : DrawsNext meant tied k) →
-    machine.drawn lot (ranked (waiting a t)) ≡ Some (seat_of a next.entry (slice_index t next.entry))
+    (next : DrawsNext meant tied k) → DrawnTurn a s tied t lot meant k next.entry
 
 -- a turn within a batch: the top is the next seat of a peer who has not got its seat of the batch, with its mark; once it has got it, the
 -- others wait
@@ -99,6 +105,7 @@ pub record Turn (a : Arena) (s tied given t : List ℕ) : Type 0 where
   pub left : ¬ Contains given entry
   pub has : Has a.ladders entry (slice_index t entry)
   pub held : slice_index t entry ≡ slice_index s entry
+  pub some : 0 < length (peers (ranked (waiting a t)))
   pub first : top (ranked (waiting a t)) ≡ Some (seat_of a entry (slice_index t entry))
   pub mark : mark_of a.ranking (a.ladders.rank entry (slice_index t entry)) ≡ a.won entry (slice_index t entry)
   pub goes : (u : List ℕ) → RaisesEach (entry ∷ []) t u → MidBatch a.ladders s tied (entry ∷ given) u × SeatTaken a entry t u

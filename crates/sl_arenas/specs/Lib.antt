@@ -1,3 +1,4 @@
 -- The definitions of arenas.
 pub mod Arenas
 pub mod Laws
+pub mod Effects

@@ -1,5 +1,6 @@
 //! Laws of the definitions. Each function does nothing: its contract is the law.
 
+ghost use Rattle.sl_arenas.specs.Effects.{WaitingAgain, WaitingEffects};
 ghost use Rattle.sl_arenas.specs.Laws.{WaitingPeers, WaitingTaken, DivisorArenas, HamiltonArenas, CoveringArenas, WaitingCovered, WaitingDrawn, WaitingTurns};
 
 /// The peers of the table are the next seats of the peers of the ladders.
@@ -33,7 +34,7 @@ pub fn waiting_covered()
     ensures { WaitingCovered }
 {}
 
-/// A stage's lot draws the peers from the table one after the other, as it draws them from the entries.
+/// A stage's lot draws the peers of a last batch from the table one after the other, as it draws them from the entries.
 pub fn waiting_drawn()
     ensures { WaitingDrawn }
 {}
@@ -41,4 +42,14 @@ pub fn waiting_drawn()
 /// Until a batch is over the table's top is the next seat of a peer of the batch.
 pub fn waiting_turns()
     ensures { WaitingTurns }
+{}
+
+/// Where next seats wait in the machine's table, `peers` counts the peers of the ladders, and `take` and `takelot` take a seat out.
+pub fn waiting_effects()
+    ensures { WaitingEffects }
+{}
+
+/// After a seat is taken the next seats wait again, once the entry's next one is entered if there is one.
+pub fn waiting_again()
+    ensures { WaitingAgain }
 {}
