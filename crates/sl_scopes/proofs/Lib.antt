@@ -2,3 +2,5 @@
 pub mod Pieces
 pub mod Walking
 pub mod Forms
+pub mod Rising
+pub mod Scopes

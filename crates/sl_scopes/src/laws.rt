@@ -1,0 +1,14 @@
+//! What holds of the scopes of every form.
+
+ghost use Rattle.sl_scopes.specs.Scopes.{ScopesApart, ScopesHold};
+
+/// The cursors of a scope stand at its amount, and those of an entry at the entry's place and at its scope; the places of a scope's entries
+/// increase.
+pub fn scopes_hold()
+    ensures { ScopesHold }
+{}
+
+/// No two scopes have entries in one place.
+pub fn scopes_apart()
+    ensures { ScopesApart }
+{}
