@@ -4,3 +4,4 @@ pub mod Walking
 pub mod Forms
 pub mod Rising
 pub mod Scopes
+pub mod Staying
