@@ -5,3 +5,4 @@ pub mod Forms
 pub mod Rising
 pub mod Scopes
 pub mod Staying
+pub mod Sums

@@ -2,3 +2,4 @@
 pub mod Forms
 pub mod Walks
 pub mod Scopes
+pub mod Sums
