@@ -27,9 +27,9 @@ module _ {X : Type 0} where
   only_one x y zero at = sym (same_Some x y at)
   only_one x y (suc m) at = absurd (none-some y at)
 
-  pub made_of : {Y : Type 0} (f : Y → X) (ys : List Y) (m : ℕ) (x : X) → slice_get (map f ys) m ≡ Some x → (y : Y) × (x ≡ f y)
+  pub made_of : {Y : Type 0} (f : Y → X) (ys : List Y) (m : ℕ) (x : X) → slice_get (map f ys) m ≡ Some x → (y : Y) × (slice_get ys m ≡ Some y) × (x ≡ f y)
   made_of f [] m x at = absurd (none-some x at)
-  made_of f (y ∷ ys) zero x at = (y, sym (same_Some (f y) x at))
+  made_of f (y ∷ ys) zero x at = (y, refl, sym (same_Some (f y) x at))
   made_of f (y ∷ ys) (suc m) x at = made_of f ys m x at
 
 abbrev pub all_group : Election → Form → Group
@@ -94,11 +94,11 @@ module _ (c : CountingCode) (e : Election) (body : Tree) (Inv : ℕ → State �
   takes AllLands m g at = subst (Takes AllLands) (sym (only_one (all_group e AllLands) g m at)) all_lands
   takes AllLists m g at = subst (Takes AllLists) (sym (only_one (all_group e AllLists) g m at)) all_of_lists
   takes ListsOfParty m g at =
-      let made : (p : ℕ) × (g ≡ party_group e p) = made_of (party_group e) (parties e) m g at in
-      subst (Takes ListsOfParty) (sym made.1) (of_party (lists_of_party e made.0) made.0)
+      let made : (p : ℕ) × (slice_get (parties e) m ≡ Some p) × (g ≡ party_group e p) = made_of (party_group e) (parties e) m g at in
+      subst (Takes ListsOfParty) (sym made.2) (of_party (lists_of_party e made.0) made.0)
   takes ListsInLand m g at =
-      let made : (l : ℕ) × (g ≡ land_group e l) = made_of (land_group e) (lands e) m g at in
-      subst (Takes ListsInLand) (sym made.1) (in_land (lists_in_land e made.0) made.0)
+      let made : (l : ℕ) × (slice_get (lands e) m ≡ Some l) × (g ≡ land_group e l) = made_of (land_group e) (lands e) m g at in
+      subst (Takes ListsInLand) (sym made.2) (in_land (lists_in_land e made.0) made.0)
 
 pub each_entry : EachEntry
 each_entry c e f m g body Inv E s at h on inv =

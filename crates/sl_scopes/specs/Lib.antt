@@ -1,3 +1,5 @@
 -- The definitions of walks over scopes and entries.
 pub mod Forms
 pub mod Walks
+pub mod Scopes
+pub mod Sums
