@@ -1,5 +1,8 @@
-//! Runs a loop of four instructions on the machine, for as many steps as its argument says.
+//! Runs a loop of four instructions on the machine, for as many steps as its argument says. With the words `award`, `cover` or `draw`,
+//! a size and a number of times: calls of a priority table of that size.
 #![tactic(auto)]
+
+mod prio;
 
 use sl_code::from_bytes;
 use sl_machine::{Ending, run};
@@ -19,9 +22,9 @@ fn accepted(alloc: Global) -> anyhow::Result<Verified> {
     }
 }
 
-// The number of steps that the command line asks for.
-fn steps(rt: &HostRuntime) -> anyhow::Result<u64> {
-    match std::env::args(rt)?.nth(1) {
+// The number that the command line has at a place, or 0 if it is shorter.
+fn number(rt: &HostRuntime, place: usize) -> anyhow::Result<u32> {
+    match std::env::args(rt)?.nth(place) {
         Some(word) => Ok(word.parse()?),
         None => Ok(0),
     }
@@ -29,9 +32,26 @@ fn steps(rt: &HostRuntime) -> anyhow::Result<u64> {
 
 fn main(rt: HostRuntime) -> anyhow::Result<()> {
     let alloc = rt.alloc();
+    let size = number(&rt, 2)?;
+    let times = number(&rt, 3)?;
+    match std::env::args(&rt)?.nth(1) {
+        Some(word) => match word.as_str() {
+            "award" => println!(rt; "{}", prio::award(alloc, size, times)?)?,
+            "cover" => println!(rt; "{}", prio::cover(alloc, size, times)?)?,
+            "draw" => println!(rt; "{}", prio::draw(alloc, size, times)?)?,
+            steps => run_loop(&rt, steps.parse()?)?,
+        },
+        None => run_loop(&rt, 0)?,
+    }
+    Ok(())
+}
+
+// Runs the loop for so many steps.
+fn run_loop(rt: &HostRuntime, steps: u64) -> anyhow::Result<()> {
+    let alloc = rt.alloc();
     let code = accepted(alloc)?;
     let returns = Returns::empty(alloc);
-    match run(alloc, &code, &returns, steps(&rt)?)? {
+    match run(alloc, &code, &returns, steps)? {
         Ending::OutOfBudget => println!(rt; "out of budget")?,
         Ending::Done(_) | Ending::Fault(_) => println!(rt; "ended")?,
     }

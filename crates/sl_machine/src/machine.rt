@@ -71,7 +71,8 @@ fn step_from(
     ensures leads { IfOk result (λ step. Leads code.now returns.now place (state_of store.old) step (state_of store.new)) }
     ensures kept { sizes_of store.new ≡ sizes_of store.old }
 {
-    let instr = code.instrs()[place];
+    // read where it stands: a copy is written in parts and read in others, which costs more than the step
+    let instr = &code.instrs()[place];
     match store.step(code, returns, lots, instr)? {
         Effect::Goes => Ok(Step::To(place + 1)),
         Effect::Jumps => Ok(Step::To(instr.target().unwrap() as usize)),

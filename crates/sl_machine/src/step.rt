@@ -43,17 +43,17 @@ impl Store {
         code: &Code,
         returns: &Returns,
         lots: &Lots,
-        instr: Instr,
+        instr: &Instr,
     ) -> Result<Effect, NoMemory>
-        requires step { MayStep code.now returns.now instr (state_of self.old) }
+        requires step { MayStep code.now returns.now instr.now (state_of self.old) }
         requires election { IsElection returns.now }
         requires lots { lots.now ≡ lots_for code.now returns.now }
-        requires columns { IsTrue (has_columns (context_of code.now) instr) }
+        requires columns { IsTrue (has_columns (context_of code.now) instr.now) }
         requires sizes { sizes_of self.old ≡ sizes_for code.now returns.now }
-        ensures follows { IfOk result (λ next. effect_of next (state_of self.new) ≡ effect code.now returns.now instr (state_of self.old)) }
+        ensures follows { IfOk result (λ next. effect_of next (state_of self.new) ≡ effect code.now returns.now instr.now (state_of self.old)) }
         ensures kept { sizes_of self.new ≡ sizes_of self.old }
     {
-        match instr {
+        match *instr {
             Instr::Set(register, value) => Ok(self.set(register, value)),
             Instr::Mov(register, from) => Ok(self.copy(register, from)),
             Instr::Add(register, by) => Ok(self.add(register, by)),

@@ -9,5 +9,6 @@ pub mod Fronts
 pub mod RankedEntries
 pub mod PeerLaws
 pub mod Heaps
+pub mod Marks
 pub mod Subtrees
 pub mod Seen

@@ -1,2 +1,3 @@
 -- What the bodies and proofs of this crate cite beside the definitions.
 pub mod Heap
+pub mod Marks

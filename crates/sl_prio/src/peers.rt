@@ -4,8 +4,9 @@
 ghost use Rattle.std.specs.Prelude.{◌≡◌, ◌<◌, [], MatchOption, Some, length, slice_get};
 ghost use Rattle.sl_prio.specs.Prio.{has_quotient_of};
 ghost use Rattle.sl_prio.specs.inner.Heap.{IsKept, IsPeerAt, IsDrawnFrom, are_named, peers_under};
+ghost use Rattle.sl_prio.specs.inner.Marks.{AreMarks};
 
-use crate::lot::lot_cmp;
+use crate::lot::{Marks, is_named, lot_cmp};
 use sl_ratio::Entry;
 
 // Whether an entry has the quotient of the top.
@@ -41,17 +42,24 @@ pub(crate) fn count(entries: &[Entry], top: &Entry, place: usize) -> usize
     }
 }
 
-// Whether a lot names the index of each peer at a place and below it.
-pub(crate) fn are_named(entries: &[Entry], top: &Entry, lot: &[u32], place: usize) -> bool
+// Whether a lot with these marks names the index of each peer at a place and below it.
+pub(crate) fn are_named(
+    entries: &[Entry],
+    top: &Entry,
+    lot: &[u32],
+    marks: &Marks,
+    place: usize,
+) -> bool
+    requires marks { AreMarks lot.now marks.now }
     requires kept { IsKept entries.now }
     requires first { slice_get entries.now 0 ≡ Some top.now }
     ensures { result ≡ are_named lot.now (peers_under top.now entries.now place) }
 {
     match peer_at(entries, top, place) {
         Some(peer) => {
-            lot.contains(&peer.index)
-                && are_named(entries, top, lot, 2 * place + 1)
-                && are_named(entries, top, lot, 2 * place + 2)
+            is_named(lot, marks, peer.index)
+                && are_named(entries, top, lot, marks, 2 * place + 1)
+                && are_named(entries, top, lot, marks, 2 * place + 2)
         }
         None => true,
     }

@@ -9,6 +9,7 @@ ghost use Rattle.sl_prio.specs.Prio.{has_quotient_of, top, peers, is_covered};
 ghost use Rattle.sl_prio.specs.Lot.{drawn};
 
 use crate::heap::{mend, sift_up};
+use crate::lot::marks;
 use crate::peers::{are_named, count, draw, is_peer};
 use sl_ratio::{Entry, NoMemory};
 use std::alloc::Global;
@@ -154,7 +155,7 @@ impl Prio {
         ensures { result ≡ is_covered lot.now self.now }
     {
         match self.entries.first() {
-            Some(top) => are_named(&self.entries, top, lot, 0),
+            Some(top) => are_named(&self.entries, top, lot, &marks(lot), 0),
             None => true,
         }
     }
