@@ -1,5 +1,5 @@
 -- The text of a book, and the bytes of returns, come to exactly one verdict, by the laws of the layers below.
-use Rattle.std.proofs.Common.{◌≡◌, ◌≢◌, ℕ, ◌<◌, ◌≤◌, List, [], length, ◌⊎◌, inl, inr, Option, Some, None, Ok, Err, Result, IsTrue, refl, ap}
+use Rattle.std.proofs.Common.{◌≡◌, ℕ, ◌<◌, ◌≤◌, List, length, ◌⊎◌, inl, inr, Option, Some, None, Ok, Err, Result, refl}
 use Rattle.std.proofs.lemmas.Bool.{cases_lt}
 use Rattle.sl_lex.specs.declared.token.Token.{Token}
 use Rattle.sl_lex.specs.Tokens as lex
@@ -14,7 +14,6 @@ use Rattle.sl_returns.specs.declared.fault.ReturnsFault.{ReturnsFault}
 use Rattle.sl_stages.specs.declared.check_fault.CheckFault.{CheckFault}
 use Rattle.sl_stages.specs.book.Trees.{BookTree}
 use Rattle.sl_stages.specs.book.Typing.{check_fault}
-use Rattle.sl_stages.specs.laws.OneLaws.{ExactlyOne}
 use Rattle.sl_stages.specs.returns.Election.{Election}
 use Rattle.sl_desk.specs.declared.limits.TheConstants.{MAX_BOOK_BYTES, MAX_RETURNS_BYTES}
 use Rattle.sl_desk.specs.declared.refusal.BookRefusal.{BookRefusal}

@@ -15,7 +15,7 @@ pub trait Sink {
     // How many calls failed.
     ghost failed: { Self → ℕ };
 
-    /// Takes bytes from the front of a piece, and answers how many: at least one, if the piece is not empty. A failure takes none.
+    /// Takes a prefix of a piece, and answers its length: at least one, if the piece is not empty. A failure takes none.
     fn put(&mut self, piece: &[u8]) -> Result<usize, Failed>
         ensures bound { IfOk result (λ n. n ≤ length piece.now) }
         ensures some { IfOk result (λ n. 0 < length piece.now → 0 < n) }

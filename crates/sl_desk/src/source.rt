@@ -18,7 +18,7 @@ pub trait Source {
     // How many calls failed.
     ghost failed: { Self → ℕ };
 
-    /// Puts bytes at the front of `buf`, and answers how many. 0 for a buffer that is not empty is the end.
+    /// Puts bytes into `buf`, from its start on, and answers how many. 0 for a buffer that is not empty is the end.
     fn fetch(&mut self, buf: &mut [u8]) -> Result<usize, Failed>
         ensures bound { IfOk result (λ n. n ≤ length buf.new) }
         ensures bytes { ReadConsumes (remaining self.old) (remaining self.new) result buf.new }

@@ -28,7 +28,7 @@ pub fn tokens_or_fault()
     ensures { (text : List ℕ) → HasTokens text ⊎ HasFault text }
 {}
 
-/// The tokens of a text stand in it one behind the other, and the bytes of each are those of its kind.
+/// The tokens of a text stand in it one after the other, and the bytes of each are those of its kind.
 pub fn tokens_are_spans()
     ensures { (text : List ℕ) (tokens : List Token) → AreTokens text tokens → AreSpans 0 text tokens }
 {}

@@ -190,7 +190,7 @@ fn piece_at(here: &[u8], at: usize) -> Result<Front, LexFault>
 /// The tokens of a text, in order, with the offsets in bytes at which they stand.
 ///
 /// From the front on, the longest piece is cut off again and again: a blank (space, tab, carriage return or line feed), a
-/// comment (from `#` on, up to the end of its line), a word (a letter first, and letters, digits and `_` behind it), a number
+/// comment (from `#` on, up to the end of its line), a word (a letter first, and letters, digits and `_` after it), a number
 /// (digits, of which the first may be 0), a text (two quotes, with printable ASCII other than a quote between them) or a mark
 /// (`;`, `=`, `,`, `(`, `)`). Blanks and comments give no token.
 ///

@@ -22,7 +22,7 @@ pub enum Kind {
     Mark(Mark),
 }
 
-/// A token, and where it stands: the offset of its first byte, and that behind its last one.
+/// A token, and where it stands: the offset of its first byte, and that after its last one.
 #[derive(Clone, Copy, Debug, PartialEq, Eq)]
 pub struct Token {
     pub kind: Kind,

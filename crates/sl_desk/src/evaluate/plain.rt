@@ -1,4 +1,4 @@
-//! Which rulebooks are plain: no splits or growths, all winners kept, no vacant seats told.
+//! Which rulebooks are plain: no splits or growths, all winners kept, no vacant seats.
 
 ghost use Rattle.std.specs.Prelude.{◌≡◌, nat_eq, map};
 ghost use Rattle.std.specs.List.{list_all};
