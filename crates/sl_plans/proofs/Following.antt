@@ -1,5 +1,5 @@
 -- The machine follows a plan.
-use Rattle.std.proofs.Common.{◌≡◌, ℕ, zero, suc, ◌+◌, ◌-◌, ◌<◌, ◌≤◌, [], ◌∷◌, Option, Some, None, nat_lt, if◌then◌else◌, refl, ap, ◌∙◌, arith}
+use Rattle.std.proofs.Common.{◌≡◌, ℕ, ◌+◌, ◌-◌, [], ◌∷◌, Option, Some, None, refl, ◌∙◌, arith, true, false}
 use Rattle.std.proofs.lemmas.Bool.{lt-ltb, le-ltb}
 use Rattle.sl_stages.specs.returns.Election.{Election}
 use Rattle.sl_code.specs.declared.instr.Instr.TheVariants.{Set, Sub, Jz, At}
@@ -9,7 +9,8 @@ use Rattle.sl_code.specs.Standing.{HasAt}
 use Rattle.sl_code.proofs.Standing.{first_stands}
 use Rattle.sl_machine.specs.State.{State, with_register}
 use Rattle.sl_machine.specs.Comes.{Comes}
-use Rattle.sl_machine.specs.Effects.{Goes, Jumps, effect, first_of, next_of}
+use Rattle.sl_machine.specs.Effects.{effect, first_of, next_of}
+use Rattle.sl_machine.proofs.effects.Cursors.{first_none, first_some, next_is}
 use Rattle.sl_machine.proofs.runs.Coming.{goes, jumps, after, comes_at}
 use Rattle.sl_machine.proofs.effects.Registers.{jz_jumps, jz_falls}
 use Rattle.sl_plans.specs.declared.plan.Test.{Test}
@@ -24,22 +25,6 @@ use Rattle.sl_plans.proofs.Pieces.{same_jump, jump_target, first_target, next_ta
 use Rattle.sl_plans.proofs.Loops.{each_runs, turns_run}
 
 -- ---- cursors
-
-first_none : (n : ℕ) (set : Option ℕ → State → State) (s : State) → n ≡ 0 → first_of n set s ≡ Jumps (set None s)
-first_none n set s h = ap (λ (m : ℕ). first_of m set s) h
-
-first_some : (n : ℕ) (set : Option ℕ → State → State) (s : State) → 0 < n → first_of n set s ≡ Goes (set (Some 0) s)
-first_some zero set s h = absurd (omega arith)
-first_some (suc n) set s h = refl
-
-next_is : (n i : ℕ) (at : Option ℕ) (set : Option ℕ → State → State) (s : State) → at ≡ Some i → next_of n at set s ≡ (if nat_lt (i + 1) n then Jumps (set (Some (i + 1)) s) else Goes (set None s))
-next_is n i at set s is = ap (λ (o : Option ℕ). next_of n o set s) is
-
-next_again : (n i : ℕ) (at : Option ℕ) (set : Option ℕ → State → State) (s : State) → at ≡ Some i → i + 1 < n → next_of n at set s ≡ Jumps (set (Some (i + 1)) s)
-next_again n i at set s is h = next_is n i at set s is ∙ ap (λ b. if b then Jumps (set (Some (i + 1)) s) else Goes (set None s)) (lt-ltb (i + 1) n h)
-
-next_done : (n i : ℕ) (at : Option ℕ) (set : Option ℕ → State → State) (s : State) → at ≡ Some i → n ≤ i + 1 → next_of n at set s ≡ Goes (set None s)
-next_done n i at set s is h = next_is n i at set s is ∙ ap (λ b. if b then Jumps (set (Some (i + 1)) s) else Goes (set None s)) (le-ltb (i + 1) n h)
 
 first_does : (over : Cursor) (to : ℕ) (c : CountingCode) (e : Election) (s : State) → effect c e (to_first over to) s ≡ first_of (count_of e over) (set_cursor over) s
 first_does cursor.Party to c e s = refl
@@ -88,13 +73,13 @@ module _ (c : CountingCode) (e : Election) where
       let inside = known_in_turn k over in
       let to_back : p + 2 + size_of a ≡ back = omega arith in
       each_runs c e over size (cost e a) p (p + 1) (p + 2) back end (p + (size_of a + 4)) (does c e a)
-      (λ t h. jumps c e p t (to_first over end) parts.start (set None t) end (first_does over end c e t ∙ first_none size set t h) (first_target over end))
-      (λ t h. goes c e p t (to_first over end) parts.start (set (Some 0) t) (first_does over end c e t ∙ first_some size set t h))
+      (λ t h. jumps c e p t (to_first over end) parts.start (set None t) end (first_does over end c e t ∙ first_none t size set h) (first_target over end))
+      (λ t h. goes c e p t (to_first over end) parts.start (set (Some 0) t) (first_does over end c e t ∙ first_some t size set h))
       (declares c e (p + 1) (p + 2) inside (omega arith) parts.declared)
       (λ t. follows_at c e (cost e a) (p + 2) (p + 2 + size_of a) back t (does c e a t) to_back (run_a inside (p + 2) t parts.body))
-      (λ i t at h. jumps c e back t (to_next over (p + 1)) parts.on (set (Some (i + 1)) t) (p + 1) (next_does over (p + 1) c e t ∙ next_again size i (cursor_of over t) set t at h) (next_target over (p + 1)))
+      (λ i t at h. jumps c e back t (to_next over (p + 1)) parts.on (set (Some (i + 1)) t) (p + 1) (next_does over (p + 1) c e t ∙ next_is t size set (cursor_of over t) i true at (lt-ltb (i + 1) size h)) (next_target over (p + 1)))
       (λ i t at h. comes_at c e 1 back (back + 1) end t (set None t) (omega arith)
-      (goes c e back t (to_next over (p + 1)) parts.on (set None t) (next_does over (p + 1) c e t ∙ next_done size i (cursor_of over t) set t at (omega arith))))
+      (goes c e back t (to_next over (p + 1)) parts.on (set None t) (next_does over (p + 1) c e t ∙ next_is t size set (cursor_of over t) i false at (le-ltb (i + 1) size (omega arith)))))
       (declares c e end (p + (size_of a + 4)) (known_after_loop k over) (omega arith) parts.joined)
       s
 

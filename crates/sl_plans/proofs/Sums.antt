@@ -1,7 +1,8 @@
 -- The plan that sums a column.
-use Rattle.std.proofs.Common.{◌≡◌, ℕ, zero, suc, ◌+◌, ◌-◌, ◌*◌, ◌<◌, ◌≤◌, min, Some, slice_get, true, refl, sym, ap, ◌∙◌, inl, inr, arith}
+use Rattle.std.proofs.Common.{◌≡◌, ℕ, zero, suc, ◌+◌, ◌-◌, ◌*◌, ◌<◌, ◌≤◌, min, Option, Some, slice_get, true, refl, sym, ap, ◌∙◌, inl, inr, arith}
 use Rattle.std.proofs.Math.Nat.{mul-le-mul_left}
 use Rattle.std.proofs.lemmas.List.FromFn.{sum_by-map-range_with_len_more}
+use Rattle.sl_stages.specs.declared.book.Shape.{Shape}
 use Rattle.sl_stages.specs.declared.book.Shape.TheVariants as shape
 use Rattle.sl_stages.specs.returns.Election.{Election, lands_of, parties_of}
 use Rattle.sl_code.specs.Codes.{CountingCode}
@@ -13,12 +14,14 @@ use Rattle.sl_plans.specs.declared.plan.Cursor.TheVariants as cursor
 use Rattle.sl_plans.specs.Trees.{Each}
 use Rattle.sl_plans.specs.Achieves.{Achieves, Never}
 use Rattle.sl_verify.specs.Kinds.{start_kinds}
-use Rattle.sl_plans.specs.Fine.{is_fine, judged_by, has_quiet_lines}
+use Rattle.sl_plans.specs.Fine.{bare, is_fine, judged_by}
 use Rattle.sl_plans.specs.inner.Prices.{price_of, has_price, is_in_share}
-use Rattle.sl_plans.specs.Sums.{add_cell, sum_tree, sum_of_first, ColumnsAreSummed}
+use Rattle.sl_plans.specs.Sums.{add_cell, sum_tree, sum_of_first, ColumnsAreSummed, SumsAreAccepted}
 use Rattle.sl_plans.proofs.Rules.{line_ends, line_goes, then_achieves}
 use Rattle.sl_plans.proofs.KeepingRules.{each_keeping}
 use Rattle.sl_plans.proofs.Reaching.{reaches}
+use Rattle.sl_plans.proofs.Kinded.{fine_plans_pass}
+use Rattle.sl_plans.proofs.Targets.{plans_jump_within}
 
 sum_more : (cells : ℕ → ℕ) (n : ℕ) → sum_of_first (n + 1) cells ≡ sum_of_first n cells + cells n
 sum_more cells n = sum_by-map-range_with_len_more (λ x. x) cells 0 n n (omega arith)
@@ -86,9 +89,14 @@ columns_are_summed c e k p known s slot small has =
       | inr never ↦ absurd never.2
     ]
 
--- it is fine from the start on, its jumps stay within, and it takes at most a share
-pub sum_is_fine : (k : ℕ) → is_fine (judged_by (λ slot. Some shape.List) 0) start_kinds (sum_tree k) ≡ true
-sum_is_fine k = refl
+sum_is_fine : (slots : ℕ → Option Shape) (k : ℕ) → slots k ≡ Some shape.List → is_fine (judged_by slots 0) start_kinds (sum_tree k) ≡ true
+sum_is_fine slots k h = rw h refl
 
-pub sum_is_in_share : (k : ℕ) → (has_quiet_lines (sum_tree k) ≡ true) × (has_price (sum_tree k) ≡ true) × (is_in_share (price_of (sum_tree k)) ≡ true)
-sum_is_in_share k = (refl, refl, refl)
+pub sums_are_accepted : SumsAreAccepted
+sums_are_accepted code k p slot has = record {
+  passed = fine_plans_pass code (slice_get code.slots) 0 start_kinds p (sum_tree k) has (λ n s h. h) (omega arith) (sum_is_fine (slice_get code.slots) k slot);
+  within = plans_jump_within (bare start_kinds) p (sum_tree k) refl;
+}
+
+pub sum_is_in_share : (k : ℕ) → (has_price (sum_tree k) ≡ true) × (is_in_share (price_of (sum_tree k)) ≡ true)
+sum_is_in_share k = (refl, refl)

@@ -3,7 +3,7 @@
 ghost use Rattle.sl_plans.specs.Costs.{PlansCostTheirPrice, SharesSuffice};
 ghost use Rattle.sl_plans.specs.Fine.{FinePlansPass, PlansJumpWithin};
 ghost use Rattle.sl_plans.specs.Following.{PlansAreFollowed};
-ghost use Rattle.sl_plans.specs.Sums.{ColumnsAreSummed};
+ghost use Rattle.sl_plans.specs.Sums.{ColumnsAreSummed, SumsAreAccepted};
 ghost use Rattle.sl_plans.specs.inner.Frames.{PlansKeepTheRest};
 
 /// Wherever the instructions of a plan stand, the machine does what the plan says, within the plan's cost.
@@ -39,4 +39,9 @@ pub fn fine_plans_pass()
 /// The jumps of a plan stay within its instructions.
 pub fn plans_jump_within()
     ensures { PlansJumpWithin }
+{}
+
+/// The verifier accepts the instructions of that plan.
+pub fn sums_are_accepted()
+    ensures { SumsAreAccepted }
 {}

@@ -48,7 +48,7 @@ fn positive_behind(positive: Registers, instr: Instr) -> Registers
 }
 
 /// The cursors that are set behind the instruction.
-fn cursors_behind(kinds: Kinds, instr: Instr) -> Cursors
+pub fn cursors_behind(kinds: Kinds, instr: Instr) -> Cursors
     ensures { result ≡ cursors_behind kinds instr }
 {
     let mut cursors = kinds.cursors;
@@ -68,14 +68,14 @@ fn cursors_behind(kinds: Kinds, instr: Instr) -> Cursors
 }
 
 /// The same table, known not to be empty, or not known so.
-fn with_ready(ready: bool, table: Option<TableState>) -> Option<TableState>
+pub fn with_ready(ready: bool, table: Option<TableState>) -> Option<TableState>
     ensures { result ≡ with_ready ready table }
 {
     table.map(|table| TableState { ready, ..table })
 }
 
 /// What is known of the table behind the instruction.
-fn table_behind(table: Option<TableState>, instr: Instr) -> Option<TableState>
+pub fn table_behind(table: Option<TableState>, instr: Instr) -> Option<TableState>
     ensures { result ≡ table_behind table instr }
 {
     match instr {

@@ -11,5 +11,6 @@ mod verifier;
 
 pub use fault::VerifyFault;
 pub use known::REGISTERS;
+pub use leaves::{cursors_behind, table_behind, with_ready};
 pub use needs::LAST_CLAUSE;
 pub use verifier::{Verified, verify};

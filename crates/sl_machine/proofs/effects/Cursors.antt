@@ -19,17 +19,17 @@ pub winner_is : (e : Election) (s : State) (n : ℕ) (w : Win) → s.win ≡ Som
 winner_is e s n w h g = ap (option_and_then (λ k. slice_get e.wins k)) h ∙ g
 
 module _ (s : State) (n : ℕ) (set : Option ℕ → State → State) where
-  first_none : n ≡ 0 → first_of n set s ≡ Jumps (set None s)
+  pub first_none : n ≡ 0 → first_of n set s ≡ Jumps (set None s)
   first_none h = ap (λ (m : ℕ). first_of m set s) h
 
-  first_some : 0 < n → first_of n set s ≡ Goes (set (Some 0) s)
+  pub first_some : 0 < n → first_of n set s ≡ Goes (set (Some 0) s)
   first_some h = of n h
     where
       of : (m : ℕ) → 0 < m → first_of m set s ≡ Goes (set (Some 0) s)
       of zero h = absurd (omega arith)
       of (suc m) h = refl
 
-  next_is : (cursor : Option ℕ) (i : ℕ) (b : Bool) → cursor ≡ Some i → nat_lt (i + 1) n ≡ b
+  pub next_is : (cursor : Option ℕ) (i : ℕ) (b : Bool) → cursor ≡ Some i → nat_lt (i + 1) n ≡ b
       → next_of n cursor set s ≡ (if b then Jumps (set (Some (i + 1)) s) else Goes (set None s))
   next_is cursor i b is test =
       ap (λ (o : Option ℕ). next_of n o set s) is ∙ ap (λ (t : Bool). if t then Jumps (set (Some (i + 1)) s) else Goes (set None s)) test
