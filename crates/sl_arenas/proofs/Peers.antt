@@ -18,7 +18,7 @@ use Rattle.sl_ratio.specs.Entry.{quotient_cmp, entry_cmp}
 use Rattle.sl_ratio.specs.inner.EntryLaws.{quotient_cmp-positive}
 use Rattle.sl_stages.specs.methods.Ties.{Lists}
 use Rattle.sl_stages.specs.laws.Ladders.{IsPeer}
-use Rattle.sl_stages.proofs.methods.QuotientOrder.{AtMost-trans}
+use Rattle.sl_ratio.proofs.Order.{AtMost-trans}
 use Rattle.sl_stages.proofs.methods.DrawnLots.{same_entries}
 use Rattle.sl_prio.specs.Ranking.{ranked}
 use Rattle.sl_prio.specs.Prio.{top, peers, has_quotient_of}

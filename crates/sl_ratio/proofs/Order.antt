@@ -1,5 +1,5 @@
 -- The order of quotients. Each lemma says of which quotient the numerator has to be positive.
-use Rattle.std.proofs.Common.{◌≡◌, ℕ, zero, suc, ◌*◌, ◌<◌, ◌≤◌, inl, inr, arith}
+use Rattle.std.proofs.Common.{◌≡◌, ℕ, zero, suc, ◌*◌, ◌<◌, ◌≤◌, ◌⊎◌, inl, inr, arith}
 use Rattle.std.proofs.Math.Nat.{mul-le-mul_right, le_of_mul-le-mul_right}
 use Rattle.std.proofs.lemmas.Bool.{cases_lt}
 use Rattle.sl_ratio.specs.Quotient.{Quotient, AtMost, Below}
@@ -26,3 +26,22 @@ Below-AtMost x y z pos h k =
 pub AtMost-Below : (x y z : Quotient) → 0 < x.num → AtMost x y → Below y z → Below x z
 AtMost-Below x y z pos h k =
     elim (cases_lt (x.num * z.den) (z.num * x.den)) [ inl l ↦ l | inr g ↦ absurd (let back = AtMost-trans z x y pos g h in omega (arith, back)) ]
+
+pub Below-AtMost_weak : (x y : Quotient) → Below x y → AtMost x y
+Below-AtMost_weak x y h = omega arith
+
+pub Below-irrefl : (x : Quotient) → Below x x → ⊥
+Below-irrefl x h = omega arith
+
+pub decide_AtMost : (x y : Quotient) → AtMost x y ⊎ (AtMost x y → ⊥)
+decide_AtMost x y = elim (cases_lt (y.num * x.den) (x.num * y.den)) [ inl l ↦ inr (λ h. omega arith) | inr g ↦ inl g ]
+
+-- of two quotients one is at most the other
+pub not-AtMost : (x y : Quotient) → (AtMost x y → ⊥) → AtMost y x
+not-AtMost x y h = elim (cases_lt (y.num * x.den) (x.num * y.den)) [ inl l ↦ omega arith | inr g ↦ absurd (h g) ]
+
+pub not-Below : (x y : Quotient) → (Below x y → ⊥) → AtMost y x
+not-Below x y h = elim (cases_lt (x.num * y.den) (y.num * x.den)) [ inl l ↦ absurd (h l) | inr g ↦ g ]
+
+pub cases_below : (x y : Quotient) → Below x y ⊎ AtMost y x
+cases_below x y = cases_lt (x.num * y.den) (y.num * x.den)

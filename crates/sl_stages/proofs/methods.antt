@@ -1,5 +1,4 @@
 -- Lemmas on the methods of apportionment.
-pub mod QuotientOrder
 pub mod SeatSums
 pub mod RaisedSeats
 pub mod ListedEntries
@@ -11,7 +10,6 @@ pub mod ManyBatches
 pub mod StepLaw
 pub mod LadderProofs
 pub mod WalkProofs
-pub mod FallingQuotients
 pub mod DivisorProofs
 pub mod HamiltonProofs
 pub mod CoveringProofs

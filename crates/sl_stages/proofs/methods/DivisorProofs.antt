@@ -8,7 +8,7 @@ use Rattle.sl_stages.specs.methods.Ties.{IsWellDefined}
 use Rattle.sl_stages.specs.laws.Ladders.{Has, AreFalling, IsTop, HasRoom, divisor_ladders}
 use Rattle.sl_stages.specs.laws.MethodLaws.{EmptyFields, DivisorAllocations}
 use Rattle.sl_stages.specs.laws.Awards.{DivisorTops, DivisorLadders}
-use Rattle.sl_stages.proofs.methods.FallingQuotients.{quotient_positive, quotient_falls}
+use Rattle.sl_ratio.specs.inner.QuotientLaws.{quotient_positive, quotient_falls}
 use Rattle.sl_stages.proofs.methods.SeatSums.{sum_mono, entry_le_sum}
 use Rattle.sl_stages.proofs.methods.ListedEntries.{cases_all}
 use Rattle.sl_stages.proofs.methods.ManyBatches.{tops_well_defined}

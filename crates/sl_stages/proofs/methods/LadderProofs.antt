@@ -5,7 +5,7 @@ use Rattle.sl_ratio.specs.Quotient.{AtMost}
 use Rattle.sl_stages.specs.methods.Ties.{Distinct, Lists}
 use Rattle.sl_stages.specs.laws.Ladders.{Ladders, Has, AreFalling, IsTop, IsSettled, IsPeer, Raises, RaisesEach}
 use Rattle.sl_stages.specs.laws.Awards.{SettledLaws, BatchLaws, Batches}
-use Rattle.sl_stages.proofs.methods.QuotientOrder.{AtMost-trans, Below-AtMost}
+use Rattle.sl_ratio.proofs.Order.{AtMost-trans, Below-AtMost}
 use Rattle.sl_stages.proofs.methods.RaisedSeats.{raise, length-raise, sum-raise, raise_other, raise_at, increasing_distinct, cases_Contains}
 use Rattle.sl_stages.proofs.methods.OneBatch.{has_below, falls_to, falls_to_weak, settled_below, settled_above, batch_only, batch_each, batch_all, peers_within}
 use Rattle.sl_stages.proofs.methods.ManyBatches.{list_peers, some_peer, begin, tops_well_defined}

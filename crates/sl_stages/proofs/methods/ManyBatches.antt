@@ -4,7 +4,7 @@ use Rattle.std.proofs.lemmas.Bool.{cases_lt, cases_eq, cases_Bool, both_ways}
 use Rattle.sl_ratio.specs.Quotient.{AtMost}
 use Rattle.sl_stages.specs.methods.Ties.{Lists, IsWellDefined}
 use Rattle.sl_stages.specs.laws.Ladders.{Ladders, Has, AreFalling, IsTop, IsSettled, IsPeer, HasRoom, Raises}
-use Rattle.sl_stages.proofs.methods.QuotientOrder.{AtMost-trans, decide_AtMost, not-AtMost}
+use Rattle.sl_ratio.proofs.Order.{AtMost-trans, decide_AtMost, not-AtMost}
 use Rattle.sl_stages.proofs.methods.RaisedSeats.{raise, sum-raise, increasing_distinct}
 use Rattle.sl_stages.proofs.methods.ListedEntries.{find_all, cases_all}
 use Rattle.sl_stages.proofs.methods.OneBatch.{batch_only, batch_each, batch_all, peers_within}

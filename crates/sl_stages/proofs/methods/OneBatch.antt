@@ -5,7 +5,7 @@ use Rattle.std.proofs.lemmas.Bool.{cases_lt, cases_eq}
 use Rattle.sl_ratio.specs.Quotient.{AtMost, Below}
 use Rattle.sl_stages.specs.methods.Ties.{Distinct, Lists}
 use Rattle.sl_stages.specs.laws.Ladders.{Ladders, Has, AreFalling, IsOn, IsTop, IsSettled, IsPeer, Raises}
-use Rattle.sl_stages.proofs.methods.QuotientOrder.{AtMost-trans, Below-AtMost, AtMost-Below, Below-AtMost_weak, Below-irrefl, cases_below, not-Below}
+use Rattle.sl_ratio.proofs.Order.{AtMost-trans, Below-AtMost, AtMost-Below, Below-AtMost_weak, Below-irrefl, cases_below, not-Below}
 use Rattle.sl_stages.proofs.methods.SeatSums.{some_greater, sum_mono_strict}
 use Rattle.sl_stages.proofs.methods.RaisedSeats.{raise, length-raise, sum-raise, raise_other, raise_at, increasing_distinct, cases_Contains}
 

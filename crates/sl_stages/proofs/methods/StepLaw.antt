@@ -9,7 +9,7 @@ use Rattle.sl_ratio.specs.Quotient.{Quotient, AtMost, Below}
 use Rattle.sl_stages.specs.methods.Ties.{Lists}
 use Rattle.sl_stages.specs.methods.Steps.{is_below, awarded_seats, step_of}
 use Rattle.sl_stages.specs.laws.Ladders.{Ladders, AreFalling, IsTop, IsSettled, IsPeer}
-use Rattle.sl_stages.proofs.methods.QuotientOrder.{AtMost-trans, Below-AtMost}
+use Rattle.sl_ratio.proofs.Order.{AtMost-trans, Below-AtMost}
 use Rattle.sl_stages.proofs.methods.OneBatch.{has_below, falls_to_weak, settled_below}
 
 below_holds : (x y : Quotient) → Below x y → is_below x y ≡ true
