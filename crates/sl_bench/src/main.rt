@@ -1,5 +1,5 @@
-//! Runs a loop of four instructions on the machine, for as many steps as its argument says. With the words `award`, `cover` or `draw`,
-//! a size and a number of times: calls of a priority table of that size.
+//! Runs a loop of four instructions on the machine, for as many steps as its argument says. With the words `award`, `count`, `cover` or
+//! `draw`, numbers of entries, of peers, of a lot's names, and of times: calls of a priority table of that size.
 #![tactic(auto)]
 
 mod prio;
@@ -32,11 +32,16 @@ fn number(rt: &HostRuntime, place: usize) -> anyhow::Result<u32> {
 
 fn main(rt: HostRuntime) -> anyhow::Result<()> {
     let alloc = rt.alloc();
-    let size = number(&rt, 2)?;
-    let times = number(&rt, 3)?;
+    let size = prio::Size {
+        entries: number(&rt, 2)?,
+        peers: number(&rt, 3)?,
+        lot: number(&rt, 4)?,
+    };
+    let times = number(&rt, 5)?;
     match std::env::args(&rt)?.nth(1) {
         Some(word) => match word.as_str() {
             "award" => println!(rt; "{}", prio::award(alloc, size, times)?)?,
+            "count" => println!(rt; "{}", prio::count(alloc, size, times)?)?,
             "cover" => println!(rt; "{}", prio::cover(alloc, size, times)?)?,
             "draw" => println!(rt; "{}", prio::draw(alloc, size, times)?)?,
             steps => run_loop(&rt, steps.parse()?)?,

@@ -4,6 +4,8 @@ pub mod Rankings
 pub mod Orders
 pub mod Tables
 pub mod Draws
+pub mod LotPlaces
+pub mod FirstNamed
 pub mod LawProofs
 pub mod Fronts
 pub mod RankedEntries

@@ -1,14 +1,14 @@
 -- Which entries are peers, and how they stand by index.
 use Rattle.std.specs.Prelude.{slice_index, slice_index_or}
 use Rattle.std.proofs.Common.{◌≡◌, ◌↔◌, ℕ, zero, suc, ◌+◌, ◌<◌, ◌≤◌, Bool, true, false, List, [], ◌∷◌, map, nat_eq, Option, Some, None, All, Contains, IsPermutation, IsTrue, refl, sym, ap, subst, ◌∙◌, inl, inr, arith}
-use Rattle.std.specs.Cmp.{Equal-is, ranks}
+use Rattle.std.specs.Cmp.{Equal-is, nat_eq_equiv, ranks}
 use Rattle.std.specs.List.{filter, IsDistinct, AllByRecursion}
 use Rattle.std.specs.List.Sorted.{IsStrictlyIncreasing}
 use Rattle.std.specs.Option.{option_map_or}
 use Rattle.std.specs.declared.cmp.Ordering.{Ordering}
 use Rattle.std.specs.declared.cmp.Ordering.TheVariants.{Less, Equal, Greater}
 use Rattle.std.specs.Ordering.{MatchOrdering, nat_cmp, is_le, is_eq, ordering_then, ordering_reverse}
-use Rattle.std.proofs.lemmas.Bool.{cases_Bool, cases_eq, eq-eqb, ne_eqb, true≢false}
+use Rattle.std.proofs.lemmas.Bool.{cases_Bool, eq-eqb, true≢false}
 use Rattle.std.proofs.lemmas.List.Elements.{All-head, All-tail, Contains-get_or}
 use Rattle.std.proofs.lemmas.List.Sorted.{All-permutation, Contains-permutation, IsPermutation-map, IsPermutation-sym}
 use Rattle.std.proofs.lemmas.Map.Keys.{IsDistinct-IsPermutation}
@@ -91,9 +91,6 @@ peers_are_greatest xs ratios peer = by_top (top xs) refl
 
 -- ---- peers by index
 
-number_flips : (m n : ℕ) → nat_eq m n ≡ nat_eq n m
-number_flips m n = elim (cases_eq m n) [ inl same ↦ eq-eqb m n same ∙ sym (eq-eqb n m (sym same)) | inr other ↦ ne_eqb m n other ∙ sym (ne_eqb n m (λ h. other (sym h))) ]
-
 abbrev indexes : List Entry → List ℕ
 indexes xs = map (λ entry. entry.index) xs
 
@@ -158,7 +155,7 @@ peers_by_index xs ratios distinct = by_top (top xs) refl
         let z = slice_index_or among k d in
         let c = filter-Contains (has_quotient_of first) xs z (Contains-get_or among k d l) in
         tied first z (fits_first xs ratios first h) (All-at HasRatio xs z ratios c.0) c.1 in
-        let apart = IsDistinct-IsPermutation nat_eq number_flips (indexes among) (indexes (ranked among)) (IsPermutation-map (λ entry. entry.index) among (ranked among) moved)
+        let apart = IsDistinct-IsPermutation nat_eq nat_eq_equiv.symm (indexes among) (indexes (ranked among)) (IsPermutation-map (λ entry. entry.index) among (ranked among) moved)
         (distinct_filter (has_quotient_of first) xs distinct) in
         subst (λ ys. IsStrictlyIncreasing (indexes ys)) (sym (peers-at_top xs first h))
         (rising first (ranked among) (ranked-falls entry_order among) (All-permutation (TiedTo first) among (ranked among) moved one_quotient) apart)

@@ -28,10 +28,14 @@ module _ (xs : List Entry) (heap : IsHeap xs) (first : Entry) (at : slice_get xs
   pub seen_named : (lot : List ℕ) → are_named lot (peers_under first xs 0) ≡ is_covered lot xs
   seen_named lot = peers-list_all (subtree xs 0) first first_is (λ peer. list_any (λ named. nat_eq named peer.index) lot) ∙ sym (same.same_covers lot)
 
+  -- the first is among its peers
+  pub seen_first : Contains (peers_under first xs 0) first
+  seen_first = top-peer (subtree xs 0) first first_is
+
   pub seen_drawn : (lot : List ℕ) (x : Entry) → IsDrawnOf lot (peers_under first xs 0) first x → drawn lot xs ≡ Some x
   seen_drawn lot x h =
       let here : Contains (peers_under first xs 0) x = elim (Contains-cases first (peers_under first xs 0) x h.among) [
-        | inl e ↦ subst (λ (z : Entry). Contains (peers_under first xs 0) z) e (top-peer (subtree xs 0) first first_is)
+        | inl e ↦ subst (λ (z : Entry). Contains (peers_under first xs 0) z) e seen_first
         | inr c ↦ c
       ] in
       same.same_drawn lot ∙ drawn-is (subtree xs 0) first first_is lot x here (All-tail (AtMost (lot_cmp lot) x) first (peers_under first xs 0) h.most)

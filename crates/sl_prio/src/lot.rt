@@ -1,37 +1,43 @@
-//! The order in which a lot draws entries of equal quotients.
+//! The order in which a lot draws entries of equal quotients, and marks of indexes.
 
-ghost use Rattle.std.specs.Prelude.{◌≡◌, nat_eq};
-ghost use Rattle.std.specs.List.{list_any};
+ghost use Rattle.std.specs.Prelude.{◌≡◌, ◌||◌, ℕ, Bool, false, nat_eq};
 ghost use Rattle.sl_prio.specs.Lot.{place_in_lot, lot_cmp};
-ghost use Rattle.sl_prio.specs.inner.Marks.{AreMarks};
+ghost use Rattle.sl_prio.specs.inner.Marks.{AreMarks, names};
 
 use sl_ratio::Entry;
 use std::cmp::Ordering;
 
 // How many indexes have a mark: those of the lists of the greatest election.
-const MARKS: usize = 16_384;
+pub(crate) const MARKS: usize = 16_384;
 
-/// A mark for each index below `MARKS`: whether a lot names it.
+/// A mark for each index below `MARKS`.
 pub(crate) type Marks = [bool; MARKS];
+
+// Marks an index, where it has a mark.
+pub(crate) fn mark(marks: &mut Marks, index: u32)
+    ensures { (before : ℕ → Bool) → AreMarks before marks.old → AreMarks (λ other. before other || nat_eq index other) marks.new }
+{
+    let place = index as usize;
+    if place < MARKS {
+        marks[place] = true;
+    }
+}
 
 // Marks the indexes that a lot names.
 pub(crate) fn marks(lot: &[u32]) -> Marks
-    ensures { AreMarks lot.now result }
+    ensures { AreMarks (names lot.now) result }
 {
     let mut marks = [false; MARKS];
     for named in lot {
-        let index = *named as usize;
-        if index < MARKS {
-            marks[index] = true;
-        }
+        mark(&mut marks, *named);
     }
     marks
 }
 
 // Whether a lot with these marks names an index. Only an index without a mark is searched for.
 pub(crate) fn is_named(lot: &[u32], marks: &Marks, index: u32) -> bool
-    requires { AreMarks lot.now marks.now }
-    ensures { result ≡ list_any (λ named. nat_eq named index) lot.now }
+    requires { AreMarks (names lot.now) marks.now }
+    ensures { result ≡ names lot.now index }
 {
     let place = index as usize;
     if place < MARKS {
@@ -54,8 +60,11 @@ fn place_in_lot(lot: &[u32], index: u32) -> usize
 pub(crate) fn lot_cmp(lot: &[u32], entry: &Entry, other: &Entry) -> Ordering
     ensures { result ≡ lot_cmp lot.now entry.now other.now }
 {
-    place_in_lot(lot, other.index)
+    let by_index = place_in_lot(lot, other.index)
         .cmp(&place_in_lot(lot, entry.index))
-        .then(other.index.cmp(&entry.index))
-        .then(entry.cmp(other))
+        .then(other.index.cmp(&entry.index));
+    match by_index {
+        Ordering::Equal => entry.cmp(other),
+        _ => by_index,
+    }
 }

@@ -10,7 +10,7 @@ ghost use Rattle.sl_prio.specs.Lot.{drawn};
 
 use crate::heap::{mend, sift_up};
 use crate::lot::marks;
-use crate::peers::{are_named, count, draw, is_peer};
+use crate::peers::{are_named, count, draw, first_named, is_peer};
 use sl_ratio::{Entry, NoMemory};
 use std::alloc::Global;
 use std::marker::Model;
@@ -170,7 +170,8 @@ impl Prio {
         ensures none { IfNone result (self.new ≡ self.old) }
     {
         let top = *self.entries.first()?;
-        let place = draw(&self.entries, &top, lot, 0, 0);
+        let named = first_named(&self.entries, &top, lot);
+        let place = draw(&self.entries, &top, named.as_slice(), 0, 0);
         Some(self.remove(place))
     }
 

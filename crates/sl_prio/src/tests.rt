@@ -81,3 +81,49 @@ fn equal_indexes(rt: HostRuntime) -> Result<(), Fail> {
     assert_eq!(rt; index_of(prio.take_lot(&[])), Some(4));
     Ok(())
 }
+
+#[test]
+fn indexes_with_and_without_a_mark(rt: HostRuntime) -> Result<(), Fail> {
+    let mut prio = Prio::new(rt.alloc());
+    for index in [16_384, 0, 4_294_967_295, 16_383] {
+        prio.put(Entry {
+            ratio: Ratio::new(1, 1),
+            index,
+        })?;
+    }
+    assert!(rt; prio.covers(&[16_383, 4_294_967_295, 0, 16_384]));
+    assert!(rt; !prio.covers(&[16_383, 4_294_967_295, 0, 16_385]));
+    assert_eq!(rt; index_of(prio.member(3)), Some(4_294_967_295));
+    assert_eq!(rt;
+        index_of(prio.take_lot(&[16_385, 1, 16_384, 16_383])),
+        Some(16_384)
+    );
+    assert_eq!(rt;
+        index_of(prio.take_lot(&[16_384, 4_294_967_295, 0])),
+        Some(4_294_967_295)
+    );
+    assert_eq!(rt; index_of(prio.take_lot(&[16_384, 16_383, 0])), Some(16_383));
+    assert_eq!(rt; index_of(prio.take_lot(&[16_384, 1])), Some(0));
+    Ok(())
+}
+
+#[test]
+fn more_peers_than_marks(rt: HostRuntime) -> Result<(), Fail> {
+    let mut prio = Prio::new(rt.alloc());
+    for index in 0..16_385u32 {
+        prio.put(Entry {
+            ratio: Ratio::new(1, 1),
+            index,
+        })?;
+    }
+    let mut lot = Vec::new(rt.alloc());
+    for index in (0..16_385u32).rev() {
+        lot.push(index)?;
+    }
+    assert!(rt; prio.covers(lot.as_slice()));
+    for index in (16_375..16_385u32).rev() {
+        assert_eq!(rt; index_of(prio.take_lot(lot.as_slice())), Some(index));
+    }
+    assert_eq!(rt; prio.peers(), 16_375);
+    Ok(())
+}

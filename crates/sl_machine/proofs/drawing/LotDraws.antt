@@ -1,19 +1,19 @@
 -- A lot covers and draws alike by places in a column and by numbers among entries.
-use Rattle.std.proofs.Common.{◌≡◌, ◌≢◌, ℕ, ◌<◌, ◌≤◌, true, false, nat_lt, List, [], length, get_or, All, Option, Some, None, IsTrue, Contains, MatchOption, refl, sym, subst, ◌∙◌, inl, inr, arith}
+use Rattle.std.proofs.Common.{◌≡◌, ℕ, ◌<◌, ◌≤◌, List, [], length, get_or, All, Option, Some, None, IsTrue, Contains, MatchOption, refl, sym, subst, ◌∙◌, inl, inr, arith}
 use Rattle.std.specs.Prelude.{nat_eq}
 use Rattle.std.specs.List.{list_any}
 use Rattle.std.specs.List.Sorted.{IsStrictlyIncreasing}
-use Rattle.std.specs.Ordering.{nat_cmp, is_le}
-use Rattle.std.specs.declared.cmp.Ordering.TheVariants.{Greater}
+use Rattle.std.specs.Ordering.{is_le}
 use Rattle.std.proofs.lemmas.List.Elements.{Contains-get_or}
 use Rattle.std.proofs.lemmas.List.Sums.{AllPass-from_list_all, list_all-from_AllPass}
-use Rattle.std.proofs.lemmas.Bool.{cases_lt, le-ltb, ne_eqb, true≢false}
+use Rattle.std.proofs.lemmas.Bool.{cases_lt}
 use Rattle.sl_ratio.specs.declared.entry.Entry.{Entry}
 use Rattle.sl_prio.specs.Lot.{place_in_lot, lot_cmp}
 use Rattle.sl_prio.specs.Lot as machine
 use Rattle.sl_prio.specs.Prio.{peers, is_covered}
 use Rattle.sl_prio.proofs.Finding.{All-at, Contains-none}
 use Rattle.sl_prio.proofs.LawProofs.{draws}
+use Rattle.sl_prio.proofs.LotPlaces.{not_later}
 use Rattle.sl_stages.specs.methods.Ties.{NamesAll}
 use Rattle.sl_stages.specs.methods.Ties as meaning
 use Rattle.sl_stages.specs.laws.Awards.{DrawsNext}
@@ -45,21 +45,6 @@ same_covers lot meant places tied contents same at = (
         (λ i d low. each (get_or (peers contents) i d) (Contains-get_or (peers contents) i d low))
 
 -- ---- drawing
-
--- what a lot draws before another stands no later in it
-not_later : (lot : List ℕ) (x y : Entry) → is_le (lot_cmp lot y x) ≡ true → place_in_lot lot x.index ≤ place_in_lot lot y.index
-not_later lot x y h =
-    let a = place_in_lot lot x.index in
-    let b = place_in_lot lot y.index in
-    elim (cases_lt b a) [
-      | inl earlier ↦
-          let low : nat_lt a b ≡ false = le-ltb a b (omega arith) in
-          let other : a ≢ b = λ e. omega arith in
-          let greater : nat_cmp a b ≡ Greater = rw (low, ne_eqb a b other) refl in
-          let refuted : false ≡ true = rw greater at h in
-          absurd (true≢false (sym refuted))
-      | inr later ↦ later
-    ]
 
 module _ (lot meant places tied : List ℕ) (k : ℕ) (contents : List Entry) (same : SameLot lot meant places) (increasing : IsStrictlyIncreasing places) (all : NamesAll meant tied)
     (next : DrawsNext meant tied k) (at : PeersAre places (λ j. Contains tied j × ¬ Contains (meaning.drawn meant k tied) j) contents) where

@@ -1,32 +1,18 @@
 -- Where lots name a number first, and which numbers are left of a lot.
-use Rattle.std.proofs.Common.{◌≡◌, ◌≢◌, ℕ, zero, suc, ◌+◌, ◌<◌, ◌≤◌, Bool, true, false, not, List, [], ◌∷◌, length, get_or, filter, filter_map, Option, Some, None, Contains, refl, sym, ap, subst, ◌∙◌, inl, inr, arith, eq-eqb, ne_eqb, eqb-true}
+use Rattle.std.proofs.Common.{◌≡◌, ◌≢◌, ℕ, zero, suc, ◌<◌, ◌≤◌, Bool, true, false, not, List, [], ◌∷◌, length, get_or, filter, filter_map, Option, Some, None, Contains, refl, sym, ap, subst, ◌∙◌, inl, inr, arith, eq-eqb, ne_eqb, eqb-true}
 use Rattle.std.specs.Prelude.{nat_eq, position}
 use Rattle.std.specs.List.{position_or_len}
 use Rattle.std.specs.List.Sorted.{IsStrictlyIncreasing}
-use Rattle.std.proofs.lemmas.Bool.{cases_Bool, cases_eq, cases_lt, lt-ltb, le-ltb, true≢false}
+use Rattle.std.proofs.lemmas.Bool.{cases_Bool, cases_eq, cases_lt, lt-ltb, true≢false}
 use Rattle.std.proofs.lemmas.List.Kept.{AllPairs-from_increasing}
 use Rattle.std.proofs.lemmas.List.Quantifiers.{position-Some}
-use Rattle.std.proofs.lemmas.List.Sums.{prefix_len-le-length, fails_before_first}
+use Rattle.std.proofs.lemmas.List.Sums.{fails_before_first}
 use Rattle.sl_prio.specs.Lot.{place_in_lot}
+use Rattle.sl_prio.proofs.LotPlaces.{place_is, place_here, place_later}
 use Rattle.sl_prio.proofs.Finding.{Contains-head, Contains-tail, Contains-cases, Contains-none, Contains-filter, filter-Contains}
 use Rattle.sl_stages.specs.meaning.Lots.{first_mentions}
 
 -- ---- the place in a lot, number by number
-
-place_is : (xs : List ℕ) (n : ℕ) → place_in_lot xs n ≡ position_or_len (λ x. nat_eq x n) xs
-place_is xs n =
-    let p : ℕ → Bool = λ x. nat_eq x n in
-    let most = prefix_len-le-length (λ x. not (p x)) xs in
-    elim (cases_lt (position_or_len p xs) (length xs)) [
-      | inl low ↦ rw (lt-ltb (position_or_len p xs) (length xs) low) refl
-      | inr high ↦ rw (le-ltb (position_or_len p xs) (length xs) high) (let all : length xs ≡ position_or_len p xs = omega (arith, most) in all)
-    ]
-
-pub place_here : (x : ℕ) (xs : List ℕ) (n : ℕ) → x ≡ n → place_in_lot (x ∷ xs) n ≡ 0
-place_here x xs n h = place_is (x ∷ xs) n ∙ rw (eq-eqb x n h) refl
-
-pub place_later : (x : ℕ) (xs : List ℕ) (n : ℕ) → x ≢ n → place_in_lot (x ∷ xs) n ≡ 1 + place_in_lot xs n
-place_later x xs n h = place_is (x ∷ xs) n ∙ (rw (ne_eqb x n h) refl) ∙ ap (λ (k : ℕ). 1 + k) (sym (place_is xs n))
 
 -- the number stands at its place
 pub place_at : (xs : List ℕ) (n : ℕ) → Contains xs n → (place_in_lot xs n < length xs) × (get_or xs (place_in_lot xs n) 0 ≡ n)

@@ -1,7 +1,20 @@
--- Marks of the indexes that a lot names.
-use Rattle.std.specs.Prelude.{◌≡◌, ◌<◌, ℕ, Bool, List, length, nat_eq, slice_index_or}
-use Rattle.std.specs.List.{list_any}
+-- Marks of indexes.
+use Rattle.std.specs.Prelude.{◌≡◌, ◌<◌, ℕ, Bool, List, Option, length, nat_eq, slice_index_or}
+use Rattle.std.specs.List.{find, list_any}
+use Rattle.sl_ratio.specs.declared.entry.Entry.{Entry}
 
--- each index that has a mark is marked exactly if the lot names it
-abbrev pub AreMarks : List ℕ → List Bool → Type 0
-AreMarks lot marks = (index : ℕ) (d : Bool) → index < length marks → slice_index_or marks index d ≡ list_any (λ named. nat_eq named index) lot
+-- whether a lot names an index
+abbrev pub names : List ℕ → ℕ → Bool
+names lot index = list_any (λ named. nat_eq named index) lot
+
+-- whether an entry has an index
+abbrev pub have_index : List Entry → ℕ → Bool
+have_index xs index = list_any (λ x. nat_eq x.index index) xs
+
+-- the first name of a lot that is the index of an entry
+abbrev pub first_named : List ℕ → List Entry → Option ℕ
+first_named lot xs = find (have_index xs) lot
+
+-- each index that has a mark is marked exactly if it passes
+abbrev pub AreMarks : (ℕ → Bool) → List Bool → Type 0
+AreMarks test marks = (index : ℕ) (d : Bool) → index < length marks → slice_index_or marks index d ≡ test index

@@ -1,6 +1,7 @@
 -- The column of the awards of a split or a growth: at an entry's place stand its seats.
 use Rattle.std.proofs.Common.{◌≡◌, ℕ, zero, suc, ◌<◌, ◌&&◌, Bool, true, false, List, [], ◌∷◌, ◌++◌, Option, Some, length, get_or, nat_eq, map, arith, refl, sym, ap, subst, ◌∙◌}
 use Rattle.std.specs.Prelude.{zip, flat_map, find, filter, slice_get, option_map, unwrap_or}
+use Rattle.std.specs.Cmp.{nat_eq_equiv}
 use Rattle.std.specs.List.{AllByRecursion as Every, AllZip, IsDistinct}
 use Rattle.std.proofs.lemmas.Bool.{cond-true, cond-false, eq-eqb, and_from, and_right}
 use Rattle.std.proofs.lemmas.List.{append-nil}
@@ -15,7 +16,7 @@ use Rattle.sl_stages.specs.returns.Election.{Election, lands_of, parties_of, has
 use Rattle.sl_stages.specs.returns.Facts.{lands, parties}
 use Rattle.sl_stages.specs.meaning.Scopes.{same_item, Group, scopes, entries_of, lists_in_land, lists_of_party, place, told_of, pair_column}
 use Rattle.sl_stages.specs.meaning.Splits.{Award, awarded}
-use Rattle.sl_stages.proofs.meaning.DistinctLists.{number_flips, always, every_weaker, every_map, Apart, distinct_nil, distinct_pieces, distinct_range}
+use Rattle.sl_stages.proofs.meaning.DistinctLists.{always, every_weaker, every_map, Apart, distinct_nil, distinct_pieces, distinct_range}
 use Rattle.sl_stages.proofs.meaning.ListPlaces.{by_list_at}
 use Rattle.sl_stages.proofs.meaning.ScopeRecords.{entries_differ, lists_in_land_differ, lists_of_party_differ, lands_apart}
 
@@ -28,10 +29,10 @@ item_itself (item.List l p) = and_from (nat_eq l l) (nat_eq p p) (eq-eqb l l ref
 item_itself (item.Win w) = eq-eqb w w refl
 
 pub item_flips : (i k : Item) → same_item i k ≡ same_item k i
-item_flips (item.Party p) (item.Party q) = number_flips p q
-item_flips (item.Land l) (item.Land k) = number_flips l k
-item_flips (item.List l p) (item.List k q) = ap (λ t. t && nat_eq p q) (number_flips l k) ∙ ap (λ t. nat_eq k l && t) (number_flips p q)
-item_flips (item.Win v) (item.Win w) = number_flips v w
+item_flips (item.Party p) (item.Party q) = nat_eq_equiv.symm p q
+item_flips (item.Land l) (item.Land k) = nat_eq_equiv.symm l k
+item_flips (item.List l p) (item.List k q) = ap (λ t. t && nat_eq p q) (nat_eq_equiv.symm l k) ∙ ap (λ t. nat_eq k l && t) (nat_eq_equiv.symm p q)
+item_flips (item.Win v) (item.Win w) = nat_eq_equiv.symm v w
 item_flips (item.Party p) (item.Land k) = refl
 item_flips (item.Party p) (item.List k q) = refl
 item_flips (item.Party p) (item.Win w) = refl

@@ -1,6 +1,7 @@
 -- How many winners sit on a list that covers them.
 use Rattle.std.proofs.Common.{◌≡◌, ℕ, suc, ◌+◌, ◌<◌, ◌≤◌, ◌&&◌, ◌||◌, Bool, true, false, cond, List, [], ◌∷◌, Option, Some, None, is_none, nat_eq, length, map, filter, get_or, min, sum, count_by, arith, refl, sym, ap, subst, ◌∙◌, inl, inr}
 use Rattle.std.specs.Prelude.{if◌then◌else◌, filter_map, slice_get, option_map, unwrap_or}
+use Rattle.std.specs.Cmp.{nat_eq_equiv}
 use Rattle.std.specs.List.{AllByRecursion as Every, IsDistinct, flat_map, zip, enumerate_from}
 use Rattle.std.proofs.lemmas.Bool.{cases_Bool, cases_eq, and_parts, and_from, and_right, eq-eqb, ne_eqb, eqb-true, cond-true, cond-false, false≢true}
 use Rattle.std.proofs.lemmas.List.{length-map, get_or_default}
@@ -19,7 +20,7 @@ use Rattle.sl_stages.specs.methods.Ties.{Choice, Decided, Tied}
 use Rattle.sl_stages.specs.meaning.Seating.{is_on, placed_on, winners_of, IsSeating, tie_of, seated_on, cover_place, covered_places, cover_table}
 use Rattle.sl_stages.specs.laws.MeaningLaws.{IsListOf, CoveredWinners}
 use Rattle.sl_stages.proofs.methods.SeatSums.{sum-cons}
-use Rattle.sl_stages.proofs.meaning.DistinctLists.{number_flips, every_weaker, every_passes, every_map, every_filter, every_zipped, distinct_filter}
+use Rattle.sl_stages.proofs.meaning.DistinctLists.{every_weaker, every_passes, every_map, every_filter, every_zipped, distinct_filter}
 use Rattle.sl_stages.proofs.meaning.ExactlyOne.{same_ones}
 use Rattle.sl_stages.proofs.meaning.ListPlaces.{by_list_at}
 use Rattle.sl_stages.proofs.meaning.PlacedWinners.{count_each, count_agree, count_if, rearranged, when_both}
@@ -75,7 +76,7 @@ all_chosen (y ∷ won) (n ∷ s) long ones differ =
           let others : count_by (λ z. among now z.0) won ≡ count_by (λ z. among (chosen_numbers won s) z.0) won =
           count_each (λ z. among now z.0) (λ z. among (chosen_numbers won s) z.0) won
           (every_weaker (λ z. nat_eq y.0 z.0 ≡ false) (λ z. among now z.0 ≡ among (chosen_numbers won s) z.0)
-          (λ z other. ap (λ ks. among ks z.0) is ∙ ap (λ t. t || among (chosen_numbers won s) z.0) (number_flips z.0 y.0 ∙ other)) won differ.0) in
+          (λ z other. ap (λ ks. among ks z.0) is ∙ ap (λ t. t || among (chosen_numbers won s) z.0) (nat_eq_equiv.symm z.0 y.0 ∙ other)) won differ.0) in
           sum_by-cons (λ z. cond (among now z.0) 1 0) y won ∙ omega (arith, this, others, rest, one, sum-cons n s))
       | inr other ↦
           (let is = chosen_rest y won n s other in

@@ -1,11 +1,8 @@
 -- Lists without an element that comes twice: as maps, filters and pieces of others.
-use Rattle.std.proofs.Common.{◌≡◌, ℕ, zero, suc, ◌+◌, ◌<◌, Bool, true, false, List, [], ◌∷◌, ◌++◌, map, filter, nat_eq, arith, subst, sym, ◌∙◌, inl, inr}
+use Rattle.std.proofs.Common.{◌≡◌, ℕ, zero, suc, ◌+◌, ◌<◌, Bool, true, false, List, [], ◌∷◌, ◌++◌, map, filter, nat_eq, arith, subst, sym, inl, inr}
 use Rattle.std.specs.Prelude.{zip, flat_map}
 use Rattle.std.specs.List.{AllByRecursion as Every, IsDistinct, range_with_len, enumerate_from}
-use Rattle.std.proofs.lemmas.Bool.{cases_Bool, cases_eq, cond-true, cond-false, eq-eqb, ne_eqb}
-
-pub number_flips : (m n : ℕ) → nat_eq m n ≡ nat_eq n m
-number_flips m n = elim (cases_eq m n) [ inl same ↦ eq-eqb m n same ∙ sym (eq-eqb n m (sym same)) | inr other ↦ ne_eqb m n other ∙ sym (ne_eqb n m (λ h. other (sym h))) ]
+use Rattle.std.proofs.lemmas.Bool.{cases_Bool, cond-true, cond-false, ne_eqb}
 
 -- ---- what holds of every element
 

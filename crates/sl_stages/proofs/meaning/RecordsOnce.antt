@@ -1,6 +1,7 @@
 -- No record of a table comes twice.
 use Rattle.std.proofs.Common.{◌≡◌, ℕ, ◌+◌, ◌<◌, ◌≤◌, ◌&&◌, false, List, [], ◌∷◌, Option, Some, None, length, nat_eq, arith, refl, sym, ap, subst, ◌∙◌, inl, inr}
 use Rattle.std.specs.Prelude.{zip, filter_map, slice_get, option_map, unwrap_or, MatchOption}
+use Rattle.std.specs.Cmp.{nat_eq_equiv}
 use Rattle.std.specs.List.{AllByRecursion as Every, IsDistinct}
 use Rattle.std.proofs.lemmas.Bool.{cases_eq, and_left, ne_eqb, leb-true}
 use Rattle.std.proofs.lemmas.List.{append-nil, length-append}
@@ -38,7 +39,7 @@ use Rattle.sl_stages.specs.meaning.Expressions.{IsSplitIn, split_records, IsGrow
 use Rattle.sl_stages.specs.meaning.Seating.{keep_table, cover_table, tie_of}
 use Rattle.sl_stages.specs.meaning.Means.{Known, nothing_known, StagesResult, Through, Stopped, context_of, with_stage, GoesOn, StagesMean, IsSeated, EndsAs, IsOutcome, SameOutcome}
 use Rattle.sl_stages.specs.laws.MeaningLaws.{same_scope, same_seat, same_entry, RecordsComeOnce, RecordsOnce}
-use Rattle.sl_stages.proofs.meaning.DistinctLists.{number_flips, every_weaker, every_append, distinct_nil, distinct_append}
+use Rattle.sl_stages.proofs.meaning.DistinctLists.{every_weaker, every_append, distinct_nil, distinct_append}
 use Rattle.sl_stages.proofs.meaning.ScopeRecords.{scopes_differ, entries_once, AtScope, Once}
 use Rattle.sl_stages.proofs.meaning.StageRecords.{split_at, split_once, growth_at, growth_once, OfStage, of_stage, all_apart}
 use Rattle.sl_stages.proofs.Tests.{no_fault, head_holds, pass_parts}
@@ -231,24 +232,24 @@ module _ (b : BookTree) (e : Election) where
 -- ---- in any order
 
 item_flips : (x y : Item) → same_item x y ≡ same_item y x
-item_flips (item.Party p) (item.Party q) = number_flips p q
-item_flips (item.Land l) (item.Land k) = number_flips l k
-item_flips (item.List l p) (item.List k q) = cc (number_flips l k, number_flips p q)
-item_flips (item.Win v) (item.Win w) = number_flips v w
+item_flips (item.Party p) (item.Party q) = nat_eq_equiv.symm p q
+item_flips (item.Land l) (item.Land k) = nat_eq_equiv.symm l k
+item_flips (item.List l p) (item.List k q) = cc (nat_eq_equiv.symm l k, nat_eq_equiv.symm p q)
+item_flips (item.Win v) (item.Win w) = nat_eq_equiv.symm v w
 item_flips _ _ = refl
 
 scope_flips : (x y : Scope) → same_scope x y ≡ same_scope y x
 scope_flips scope.All scope.All = refl
-scope_flips (scope.Land l) (scope.Land k) = number_flips l k
-scope_flips (scope.Party p) (scope.Party q) = number_flips p q
-scope_flips (scope.List l p) (scope.List k q) = cc (number_flips l k, number_flips p q)
+scope_flips (scope.Land l) (scope.Land k) = nat_eq_equiv.symm l k
+scope_flips (scope.Party p) (scope.Party q) = nat_eq_equiv.symm p q
+scope_flips (scope.List l p) (scope.List k q) = cc (nat_eq_equiv.symm l k, nat_eq_equiv.symm p q)
 scope_flips _ _ = refl
 
 seat_flips : (x y : SeatStep) → same_seat x y ≡ same_seat y x
-seat_flips x y = cc (number_flips x.stage y.stage, scope_flips x.scope y.scope, item_flips x.entry y.entry, number_flips x.n y.n)
+seat_flips x y = cc (nat_eq_equiv.symm x.stage y.stage, scope_flips x.scope y.scope, item_flips x.entry y.entry, nat_eq_equiv.symm x.n y.n)
 
 entry_flips : (x y : Weight) → same_entry x y ≡ same_entry y x
-entry_flips x y = cc (number_flips x.stage y.stage, scope_flips x.scope y.scope, item_flips x.entry y.entry)
+entry_flips x y = cc (nat_eq_equiv.symm x.stage y.stage, scope_flips x.scope y.scope, item_flips x.entry y.entry)
 
 pub records_once : RecordsOnce
 records_once b e t typed means = ordered means.ordered means.is means.same where
