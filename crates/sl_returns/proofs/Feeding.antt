@@ -29,7 +29,7 @@ module _ {X : Type 0} where
   or_assoc None b c = refl
   or_assoc (Some x) b c = refl
 
-  neither : (a b : Option X) → option_or a b ≡ None → (a ≡ None) × (b ≡ None)
+  pub neither : (a b : Option X) → option_or a b ≡ None → (a ≡ None) × (b ≡ None)
   neither None b h = (refl, h)
   neither (Some x) b h = absurd (none-some x (sym h))
 
@@ -46,7 +46,7 @@ first_fault-push v before (x ∷ rest) r =
     ap (option_or (fault_behind v before x)) more ∙ sym (or_assoc (fault_behind v before x) (first_fault v (before ++ x ∷ []) rest) (fault_behind v (before ++ (x ∷ rest)) r))
 
 -- records none of which is refused are good
-good_from : (v : Version) (before rest : List Record) → IsGood before → first_fault v before rest ≡ None → IsGood (before ++ rest)
+pub good_from : (v : Version) (before rest : List Record) → IsGood before → first_fault v before rest ≡ None → IsGood (before ++ rest)
 good_from v before [] good h = subst IsGood (sym (append-nil before)) good
 good_from v before (x ∷ rest) good h =
     let (none, more) = neither (fault_behind v before x) (first_fault v (before ++ x ∷ []) rest) h in
@@ -55,12 +55,12 @@ good_from v before (x ∷ rest) good h =
     subst IsGood (append_assoc before (x ∷ []) rest) (good_from v (before ++ x ∷ []) rest next more)
 
 -- records behind a header, none of which is refused
-record Sound (h : Record) (rest : List Record) : Type 0 where
-  version : Version
-  header : version_of h ≡ Some version
-  none : first_fault version [] rest ≡ None
+pub record Sound (h : Record) (rest : List Record) : Type 0 where
+  pub version : Version
+  pub header : version_of h ≡ Some version
+  pub none : first_fault version [] rest ≡ None
 
-sound : (h : Record) (rest : List Record) → refusal_of (h ∷ rest) ≡ None → Sound h rest
+pub sound : (h : Record) (rest : List Record) → refusal_of (h ∷ rest) ≡ None → Sound h rest
 sound h rest accepted = go (version_of h) refl accepted
   where
     go : (o : Option Version) → version_of h ≡ o → refusal_under o rest ≡ None → Sound h rest

@@ -16,6 +16,7 @@ use Rattle.sl_returns.specs.Records.{column, is_minority, list_from, rows_from, 
 use Rattle.sl_returns.specs.Joining.{with_house_of, with_land_of, with_party_of, with_list_of, with_win_of, with_lot_of}
 use Rattle.sl_returns.proofs.Places.{Known, KnownOrNone, Keeps, at_place, keeps_or_none, keeps_push, keeps_same}
 use Rattle.sl_returns.proofs.Rows.{NamesKnown, list_at_places, map_agree, rows_with_land, rows_with_party, rows_with_list}
+use Rattle.sl_returns.proofs.ToldVotes.{AreVotesTold, list_told}
 
 -- records, by their kinds
 pub record Sorted : Type 0 where
@@ -65,6 +66,7 @@ pub record AreGoodBy (lands parties winners : List (List ℕ)) (of_lists of_winn
   pub lands_once : IsNameList (record { limit = MAX_LANDS; names = lands })
   pub parties_once : IsNameList (record { limit = MAX_PARTIES; names = parties })
   pub lists_known : All (NamesKnown lands parties) of_lists
+  pub votes_told : AreVotesTold of_lists
   pub winners_known : All (BackedByKnown lands parties) of_winners
   pub lots_known : All (DrawnOfKnown lands parties winners) of_lots
 
@@ -114,6 +116,7 @@ module _ (lands parties more_lands more_parties : List (List ℕ)) (keeps_lands 
       lands_once = lands_once;
       parties_once = parties_once;
       lists_known = All-weaker (NamesKnown lands parties) (NamesKnown more_lands more_parties) list_stays lists good.lists_known;
+      votes_told = good.votes_told;
       winners_known = All-weaker (BackedByKnown lands parties) (BackedByKnown more_lands more_parties) winner_stays of_winners good.winners_known;
       lots_known = All-weaker (DrawnOfKnown lands parties winners) (DrawnOfKnown more_lands more_parties more_winners) drawn_stays lots good.lots_known;
     }
@@ -215,6 +218,7 @@ module _ (s : Sorted) (good : AreGood s) (r : Record) where
       lands_once = good.lands_once;
       parties_once = good.parties_once;
       lists_known = All-push (NamesKnown lands parties) s.lists r good.lists_known named;
+      votes_told = list_told s.lists r good.votes_told not_told;
       winners_known = good.winners_known;
       lots_known = good.lots_known;
     }
@@ -241,6 +245,7 @@ module _ (s : Sorted) (good : AreGood s) (r : Record) where
           lands_once = good.lands_once;
           parties_once = good.parties_once;
           lists_known = good.lists_known;
+          votes_told = good.votes_told;
           winners_known = All-push (BackedByKnown lands parties) s.winners r good.winners_known backed;
           lots_known = good.lots_known;
         } in
@@ -262,6 +267,7 @@ module _ (s : Sorted) (good : AreGood s) (r : Record) where
       lands_once = good.lands_once;
       parties_once = good.parties_once;
       lists_known = good.lists_known;
+      votes_told = good.votes_told;
       winners_known = good.winners_known;
       lots_known = All-push (DrawnOfKnown lands parties winners) s.lots r good.lots_known drawn;
     }

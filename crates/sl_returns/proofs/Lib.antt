@@ -4,11 +4,13 @@ pub mod NameTests
 pub mod Joins
 pub mod Places
 pub mod Rows
+pub mod ToldVotes
 pub mod Growing
 pub mod Sorting
 pub mod PassedTests
 pub mod Steps
 pub mod Feeding
+pub mod Accepted
 pub mod AllRecords
 pub mod Prefixes
 pub mod Reading

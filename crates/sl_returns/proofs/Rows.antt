@@ -136,7 +136,7 @@ module _ (lists : List Record) (lands parties : List (List ℕ)) where
     P = cell r PARTY
 
     -- it says nothing of other lists
-    told_other : (land party : List ℕ) → names_both land party r ≡ false → list_from (lists ++ r ∷ []) land party ≡ list_from lists land party
+    pub told_other : (land party : List ℕ) → names_both land party r ≡ false → list_from (lists ++ r ∷ []) land party ≡ list_from lists land party
     told_other land party other = ap (option_map votes_of) (find_push_other (names_both land party) lists r other)
 
     row_other : (land : List ℕ) → bytes_eq L land ≡ false → row_from (lists ++ r ∷ []) parties land ≡ row_from lists parties land
@@ -144,7 +144,7 @@ module _ (lists : List Record) (lands parties : List (List ℕ)) where
         let cells = map_agree (list_from (lists ++ r ∷ []) land) (list_from lists land) parties (λ k d l. told_other land (get_or parties k d) (and_left (bytes_eq L land) (bytes_eq P (get_or parties k d)) other)) in
         ap (λ cells. cells ++ replicate (MAX_PARTIES - length parties) None) cells
 
-    told_here : list_from lists L P ≡ None → list_from (lists ++ r ∷ []) L P ≡ Some (votes_of r)
+    pub told_here : list_from lists L P ≡ None → list_from (lists ++ r ∷ []) L P ≡ Some (votes_of r)
     told_here new =
         let both : names_both L P r ≡ true = and_from (bytes_eq L L) (bytes_eq P P) (same_bytes L) (same_bytes P) in
         ap (option_map votes_of) (find_push_first (names_both L P) lists r (unmapped (find (names_both L P) lists) new) both)

@@ -20,6 +20,7 @@ use Rattle.sl_returns.specs.Joining as joining
 use Rattle.sl_returns.proofs.TestLemmas.{parts, holds}
 use Rattle.sl_returns.proofs.NameTests.{is_new, may_join}
 use Rattle.sl_returns.proofs.Rows.{NamesKnown}
+use Rattle.sl_returns.proofs.ToldVotes.{no_lists_told}
 use Rattle.sl_returns.proofs.Growing.{Sorted, AreGood, BackedByKnown, DrawnOfKnown, election_from, election_with_house, election_with_land, election_with_party, election_with_list, election_with_win, election_with_lot, good_with_land, good_with_party, good_with_list, good_with_win, good_with_lot}
 use Rattle.sl_returns.proofs.PassedTests.{passed_house, passed_land, passed_party, passed_list, passed_win, passed_lot}
 use Rattle.sl_returns.proofs.Sorting.{sorted, sorted_with, with_kind}
@@ -41,6 +42,7 @@ no_records = record {
     lands_once = empty_names MAX_LANDS;
     parties_once = empty_names MAX_PARTIES;
     lists_known = All-nil (NamesKnown [] []);
+    votes_told = no_lists_told;
     winners_known = All-nil (BackedByKnown [] []);
     lots_known = All-nil (DrawnOfKnown [] [] []);
   };

@@ -8,3 +8,4 @@ pub mod Lots
 pub mod Joining
 pub mod Returns
 pub mod Building
+pub mod Laws

@@ -61,6 +61,10 @@ row_from lists parties land = map (list_from lists land) parties ++ replicate (M
 abbrev pub rows_from : List Record → List (List ℕ) → List (List ℕ) → List (List (Option ListVotes))
 rows_from lists lands parties = map (row_from lists parties) lands
 
+-- those of these records that name the party
+abbrev pub of_party : List ℕ → List Record → List Record
+of_party party rs = filter (λ r. bytes_eq (cell r PARTY) party) rs
+
 -- ---- winners
 
 abbrev pub win_of : List (List ℕ) → List (List ℕ) → Record → Win

@@ -7,6 +7,7 @@ mod fault;
 mod header;
 mod join;
 mod kind;
+pub mod laws;
 mod lot;
 mod read;
 
