@@ -12,3 +12,4 @@ pub mod Reaching
 pub mod Sums
 pub mod Kinded
 pub mod Targets
+pub mod LaidPlans

@@ -5,6 +5,7 @@ pub mod Following
 pub mod Achieves
 pub mod Costs
 pub mod Layout
+pub mod Laid
 pub mod Sums
 pub mod Fine
 pub mod inner
