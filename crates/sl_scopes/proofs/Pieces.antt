@@ -1,17 +1,20 @@
--- Lists in pieces, one for each number below another: where the pieces stand.
+-- The elements of a list at their places; and lists in pieces, one for each number below another: where the pieces stand.
 use Rattle.std.proofs.Common.{◌≡◌, ℕ, zero, suc, ◌+◌, ◌<◌, Bool, List, [], ◌∷◌, ◌++◌, length, map, filter, if◌then◌else◌, Some, refl, sym, ap, subst, ◌∙◌, inl, inr, arith}
 use Rattle.std.specs.Prelude.{flat_map, slice_get}
-use Rattle.std.specs.List.{range_with_len}
+use Rattle.std.specs.List.{AllByRecursion as Every, range_with_len}
 use Rattle.std.proofs.lemmas.Bool.{cases_Bool, cond-true, cond-false}
 use Rattle.std.proofs.lemmas.List.{length-append, append-nil}
-use Rattle.std.proofs.lemmas.Option.{slice_get_within}
+use Rattle.std.proofs.lemmas.Option.{none-some, same_Some}
+
+-- what holds of each element holds of the one at a place
+pub every_there : {X : Type 0} (P : X → Type 0) (xs : List X) (i : ℕ) (x : X) → Every P xs → slice_get xs i ≡ Some x → P x
+every_there P [] i x all at = absurd (none-some x at)
+every_there P (y ∷ ys) zero x all at = subst P (same_Some y x at) all.0
+every_there P (y ∷ ys) (suc i) x all at = every_there P ys i x all.1 at
 
 module _ {X : Type 0} where
   get_left : (xs ys : List X) (i : ℕ) (x : X) → slice_get xs i ≡ Some x → slice_get (xs ++ ys) i ≡ Some x
-  get_left [] ys i x at = absurd (none_some at)
-    where
-      none_some : slice_get [] i ≡ Some x → ⊥
-      none_some h = let within : i < 0 = slice_get_within [] i x h in omega (arith, within)
+  get_left [] ys i x at = absurd (none-some x at)
   get_left (y ∷ xs) ys zero x at = at
   get_left (y ∷ xs) ys (suc i) x at = get_left xs ys i x at
 

@@ -1,9 +1,9 @@
 -- The sum of a column over the entries of a scope.
-use Rattle.std.proofs.Common.{◌≡◌, ◌≢◌, ℕ, zero, suc, ◌+◌, List, [], ◌∷◌, length, take, Some, refl, ap, ◌∙◌, arith}
-use Rattle.std.specs.Prelude.{min, fold, sum_by, slice_get}
-use Rattle.std.proofs.lemmas.Option.{none-some, same_Some}
-use Rattle.sl_stages.specs.declared.fault.Scope.{Scope}
-use Rattle.sl_stages.specs.declared.fault.Scope.TheVariants as scope
+use Rattle.std.proofs.Common.{◌≡◌, ◌≢◌, ℕ, ◌+◌, length, take, Some, refl, ap, ◌∙◌, arith}
+use Rattle.std.specs.Prelude.{min, sum_by, slice_get}
+use Rattle.std.proofs.lemmas.List.{take_all}
+use Rattle.std.proofs.lemmas.List.Sums.{sum_by_more}
+use Rattle.std.proofs.lemmas.Option.{slice_get_within, get_or_from_slice_get}
 use Rattle.sl_stages.specs.declared.fault.Item.{Item}
 use Rattle.sl_stages.specs.returns.Election.{Election}
 use Rattle.sl_stages.specs.meaning.Scopes.{Group, place}
@@ -20,21 +20,7 @@ use Rattle.sl_scopes.specs.Scopes.{IsEntry}
 use Rattle.sl_scopes.specs.Sums.{add_cell, EntriesAreSummed}
 use Rattle.sl_scopes.proofs.Forms.{each_entry}
 use Rattle.sl_scopes.proofs.Scopes.{scopes_hold}
-use Rattle.sl_scopes.proofs.Staying.{entries_visited}
-
--- ---- sums of the first elements
-
-module _ {X : Type 0} (f : X → ℕ) where
-  one_more : (a j : ℕ) (x : X) (xs : List X) → slice_get xs j ≡ Some x → fold (λ b y. b + f y) a (take (suc j) xs) ≡ fold (λ b y. b + f y) a (take j xs) + f x
-  one_more a j x [] at = absurd (none-some x at)
-  one_more a zero x (y ∷ ys) at = ap (λ z. a + f z) (same_Some y x at)
-  one_more a (suc j) x (y ∷ ys) at = one_more (a + f y) j x ys at
-
-  in_all : (a : ℕ) (xs : List X) → fold (λ b y. b + f y) a (take (length xs) xs) ≡ fold (λ b y. b + f y) a xs
-  in_all a [] = refl
-  in_all a (x ∷ xs) = in_all (a + f x) xs
-
--- ---- the plan
+use Rattle.sl_scopes.proofs.Staying.{scope_stays, entries_visited}
 
 module _ (c : CountingCode) (e : Election) (f : Form) (g : Group) (total cell slot : ℕ) (column : ℕ → ℕ) (known : slice_get c.slots slot ≡ Some (votes_of f)) (other : total ≢ cell)
     (entry : (j : ℕ) (i : Item) → slice_get g.entries j ≡ Some i → IsEntry e (table_of f) (votes_of f) g.scope i) where
@@ -48,8 +34,7 @@ module _ (c : CountingCode) (e : Election) (f : Form) (g : Group) (total cell sl
   next_sum : (j : ℕ) (i : Item) → slice_get g.entries j ≡ Some i → first_sum (j + 1) ≡ first_sum j + column (place e i)
   unfolding first_sum
   next_sum j i at =
-      let order : j + 1 ≡ suc j = omega arith in
-      ap (λ n. sum_by (λ i. column (place e i)) (take n g.entries)) order ∙ one_more (λ i. column (place e i)) 0 j i g.entries at
+      sum_by_more (λ y. column (place e y)) g.entries j i (slice_get_within g.entries j i at) ∙ ap (λ y. first_sum j + column (place e y)) (get_or_from_slice_get g.entries j i i at)
 
   one_cell : (j : ℕ) (i : Item) (s : State) → slice_get g.entries j ≡ Some i → OnItem i s → Summed j (bare s) → Achieves c e (add_cell total cell slot) s (λ t. Summed (j + 1) (bare t)) Never
   one_cell j i s at on h =
@@ -75,14 +60,7 @@ module _ (c : CountingCode) (e : Election) (f : Form) (g : Group) (total cell sl
 
   ends : (t : State) → Summed (length g.entries) t → t.registers total ≡ min (sum_by (λ i. column (place e i)) g.entries) most
   unfolding first_sum
-  ends t h = h.total_is ∙ ap (λ n. min n most) (in_all (λ i. column (place e i)) 0 g.entries)
-
--- a register is no cursor
-on_scope_kept : (on : Scope) (r x : ℕ) (s : State) → OnScope on s → OnScope on (with_register r x s)
-on_scope_kept scope.All r x s h = h
-on_scope_kept (scope.Party p) r x s h = h
-on_scope_kept (scope.Land l) r x s h = h
-on_scope_kept (scope.List l p) r x s h = h
+  ends t h = h.total_is ∙ ap (λ xs. min (sum_by (λ i. column (place e i)) xs) most) (take_all (length g.entries) g.entries (omega arith))
 
 pub entries_are_summed : EntriesAreSummed
 entries_are_summed c e f m g total cell slot s at known other on =
@@ -90,6 +68,6 @@ entries_are_summed c e f m g total cell slot s at known other on =
     let entry : (j : ℕ) (i : Item) → slice_get g.entries j ≡ Some i → IsEntry e (table_of f) (votes_of f) g.scope i = (scopes_hold e f m g at).entry in
     let Inv : ℕ → State → Type 0 = Summed c e f g total cell slot column known other entry in
     then_achieves {Q = λ t. OnScope g.scope t × Inv 0 (bare t)}
-    (line_goes (set_does c e s total 0) (line_ends (on_scope_kept g.scope total 0 s on, begins c e f g total cell slot column known other entry (bare (with_register total 0 s)) refl (register_same s total 0))))
+    (line_goes (set_does c e s total 0) (line_ends (scope_stays g.scope s (with_register total 0 s) refl refl on, begins c e f g total cell slot column known other entry (bare (with_register total 0 s)) refl (register_same s total 0))))
     (λ t h. achieves_more (each_entry c e f m g (add_cell total cell slot) Inv Never t at (visits c e f g total cell slot column known other entry) h.0 h.1)
     (λ u r. (r.0, ends c e f g total cell slot column known other entry (bare u) r.1)) (λ x r. r))
