@@ -1,0 +1,52 @@
+-- Plans that go over the cells of columns: copies, the larger ones, differences, sums (docs/compiler.md, section 1).
+use Rattle.std.specs.Prelude.{ℕ, [], ◌∷◌}
+use Rattle.sl_stages.specs.declared.book.Axis.{Axis}
+use Rattle.sl_stages.specs.declared.book.Axis.TheVariants as axis
+use Rattle.sl_stages.specs.declared.book.Shape.{Shape}
+use Rattle.sl_stages.specs.declared.book.Shape.TheVariants as shape
+use Rattle.sl_code.specs.declared.instr.Instr.TheVariants.{Set, Add, Sub, Max, Get, Store}
+use Rattle.sl_plans.specs.declared.plan.Cursor.TheVariants as cursor
+use Rattle.sl_plans.specs.Trees.{Tree, Line, Then, Each}
+
+-- the registers: of a sum, of a cell, of another cell
+abbrev pub total : ℕ
+total = 1
+
+abbrev pub cell : ℕ
+cell = 5
+
+abbrev pub other : ℕ
+other = 6
+
+-- the plan for each cell of a column of that shape
+abbrev pub cells_plan : Shape → Tree → Tree
+cells_plan shape.One x = x
+cells_plan shape.Party x = Each cursor.Party x
+cells_plan shape.Land x = Each cursor.Land x
+cells_plan shape.List x = Each cursor.Land (Each cursor.Party x)
+
+abbrev pub copy_tree : Shape → (from to : ℕ) → Tree
+copy_tree s from to = cells_plan s (Line (Get cell from ∷ (Store to cell ∷ [])))
+
+-- of two columns, cell by cell, the larger one; and the first less the second, at least 0
+abbrev pub larger_tree : Shape → (left right to : ℕ) → Tree
+larger_tree s left right to = cells_plan s (Line (Get cell left ∷ (Get other right ∷ (Max cell other ∷ (Store to cell ∷ [])))))
+
+abbrev pub less_tree : Shape → (left right to : ℕ) → Tree
+less_tree s left right to = cells_plan s (Line (Get cell left ∷ (Get other right ∷ (Sub cell other ∷ (Store to cell ∷ [])))))
+
+-- the sum of the cells that the inner plan goes over
+abbrev pub add_cells : (Tree → Tree) → (from to : ℕ) → Tree
+add_cells over from to = Then (Line (Set total 0 ∷ [])) (Then (over (Line (Get cell from ∷ (Add total cell ∷ [])))) (Line (Store to total ∷ [])))
+
+-- by party, by Land, or of all cells of a column of that shape
+abbrev pub sum_tree : Axis → Shape → (from to : ℕ) → Tree
+sum_tree axis.Party s from to = Each cursor.Party (add_cells (Each cursor.Land) from to)
+sum_tree axis.Land s from to = Each cursor.Land (add_cells (Each cursor.Party) from to)
+sum_tree axis.All s from to = add_cells (cells_plan s) from to
+
+-- the shape of a sum
+abbrev pub summed : Axis → Shape
+summed axis.Party = shape.Party
+summed axis.Land = shape.Land
+summed axis.All = shape.One

@@ -1,0 +1,11 @@
+-- The lemmas of facts over code.
+pub mod Counts
+pub mod Holding
+pub mod Lines
+pub mod Cells
+pub mod Loops
+pub mod Winners
+pub mod Facts
+pub mod Votes
+pub mod Conditions
+pub mod Eligible

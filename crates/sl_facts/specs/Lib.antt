@@ -1,0 +1,3 @@
+-- The definitions of a rulebook's facts over code.
+pub mod Trees
+pub mod Laws
