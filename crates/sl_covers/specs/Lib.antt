@@ -1,0 +1,3 @@
+-- The definitions of coverings over code.
+pub mod Trees
+pub mod Covering
