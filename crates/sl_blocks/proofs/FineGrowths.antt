@@ -1,0 +1,73 @@
+-- What the verifier finds in the plan of a growth, and what it costs.
+use Rattle.std.proofs.Common.{◌≡◌, ℕ, zero, suc, ◌≤◌, Bool, true, false, ◌==◌, Option, Some, if◌then◌else◌, refl, sym, subst, ◌∙◌, arith}
+use Rattle.std.specs.Prelude.{nat_lt}
+use Rattle.std.proofs.lemmas.Bool.{eqb-true, lt-ltb}
+use Rattle.sl_ratio.specs.declared.method.Divisor.{Divisor}
+use Rattle.sl_stages.specs.declared.book.Shape.{Shape}
+use Rattle.sl_stages.specs.declared.book.Majority.{Majority}
+use Rattle.sl_stages.specs.declared.book.Majority.TheVariants as majority
+use Rattle.sl_verify.specs.Kinds.{start_kinds}
+use Rattle.sl_plans.specs.Trees.{size_of}
+use Rattle.sl_plans.specs.Fine.{is_fine, judged_by, has_quiet_lines}
+use Rattle.sl_plans.specs.inner.Prices.{price_of, has_price, is_in_share}
+use Rattle.sl_scopes.specs.Forms.{Form, AllParties}
+use Rattle.sl_seats.specs.Slots.{Slots}
+use Rattle.sl_nodes.specs.Trees.{grow_tree}
+use Rattle.sl_blocks.proofs.FineRoles.{roles, names_of, before_one, IsFineAs, HasShapes, fine_of, small_is_quiet, small_is_priced, small_is_short}
+
+-- the cap in the plan of roles: 0, or 2 for all others, which is no other number of the plan
+abbrev role_of_cap : ℕ → ℕ
+role_of_cap zero = 0
+role_of_cap (suc n) = 2
+
+abbrev number_of_role : ℕ → ℕ → ℕ
+number_of_role zero k = k
+number_of_role (suc n) k = if k == 2 then suc n else k
+
+numbers : (cap k : ℕ) → nat_lt 0 (number_of_role cap k) ≡ nat_lt 0 k
+numbers zero k = refl
+numbers (suc n) k = by_case (k == 2) refl
+  where
+    by_case : (b : Bool) → (k == 2) ≡ b → nat_lt 0 (if b then suc n else k) ≡ nat_lt 0 k
+    by_case true e = lt-ltb 0 (suc n) (omega arith) ∙ sym (lt-ltb 0 k (omega (arith, eqb-true k 2 e)))
+    by_case false e = refl
+
+module _ (x : Slots) where
+  abbrev IsFineGrowth : ℕ → ℕ → Form → Divisor → Majority → Type 0
+  IsFineGrowth slot cap f d m =
+      IsFineAs f (names_of x (Some slot) (number_of_role cap)) (grow_tree f (roles (Some slot)) d m (role_of_cap cap)) (grow_tree f (record x { minima = Some slot }) d m cap)
+
+  -- each form and each majority clause is a case of its own: first one of them, then the others
+  growth_as : (slot cap : ℕ) (f : Form) (d : Divisor) (m : Majority) → IsFineGrowth slot cap f d m
+  growth_as slot zero AllParties d majority.Free = record { fine = refl; same = refl; small = refl }
+  growth_as slot zero AllParties d _ = record { fine = refl; same = refl; small = refl }
+  growth_as slot zero _ d majority.Free = record { fine = refl; same = refl; small = refl }
+  growth_as slot zero _ d _ = record { fine = refl; same = refl; small = refl }
+  growth_as slot (suc n) AllParties d majority.Free = record { fine = refl; same = refl; small = refl }
+  growth_as slot (suc n) AllParties d _ = record { fine = refl; same = refl; small = refl }
+  growth_as slot (suc n) _ d majority.Free = record { fine = refl; same = refl; small = refl }
+  growth_as slot (suc n) _ d _ = record { fine = refl; same = refl; small = refl }
+
+  -- with the slots' own minima
+  with_own : (slot cap : ℕ) (f : Form) (d : Divisor) (m : Majority) → x.minima ≡ Some slot
+      → IsFineAs f (names_of x x.minima (number_of_role cap)) (grow_tree f (roles x.minima) d m (role_of_cap cap)) (grow_tree f x d m cap)
+  with_own slot cap f d m is =
+      subst (λ o. IsFineAs f (names_of x o (number_of_role cap)) (grow_tree f (roles o) d m (role_of_cap cap)) (grow_tree f (record x { minima = o }) d m cap)) (sym is)
+      (growth_as slot cap f d m)
+
+-- where the slots have their shapes and there is the stage, its instructions have what they need
+pub growth_fine : (slots : ℕ → Option Shape) (stages : ℕ) (f : Form) (x : Slots) (d : Divisor) (m : Majority) (cap slot : ℕ)
+    → x.minima ≡ Some slot → HasShapes slots stages f x → is_fine (judged_by slots stages) start_kinds (grow_tree f x d m cap) ≡ true
+growth_fine slots stages f x d m cap slot is has =
+    fine_of slots stages f x has (number_of_role cap) (numbers cap) (grow_tree f (roles x.minima) d m (role_of_cap cap)) (grow_tree f x d m cap) (with_own x slot cap f d m is)
+
+module _ (f : Form) (x : Slots) (d : Divisor) (m : Majority) (cap slot : ℕ) (is : x.minima ≡ Some slot) where
+  pub growth_quiet : has_quiet_lines (grow_tree f x d m cap) ≡ true
+  growth_quiet = small_is_quiet (grow_tree f x d m cap) (with_own x slot cap f d m is).small
+
+  -- it takes at cap a share, with one step more
+  pub growth_priced : (has_price (before_one (grow_tree f x d m cap)) ≡ true) × (is_in_share (price_of (before_one (grow_tree f x d m cap))) ≡ true)
+  growth_priced = small_is_priced (grow_tree f x d m cap) (with_own x slot cap f d m is).small
+
+  pub growth_short : size_of (grow_tree f x d m cap) ≤ 999
+  growth_short = small_is_short (grow_tree f x d m cap) (with_own x slot cap f d m is).small

@@ -1,0 +1,74 @@
+-- What the verifier finds in the plan of a split, and what it costs.
+use Rattle.std.proofs.Common.{◌≡◌, ℕ, ◌≤◌, true, Option, None, Some, refl}
+use Rattle.sl_ratio.specs.declared.method.Divisor.{Divisor}
+use Rattle.sl_ratio.specs.declared.method.Divisor.TheVariants as divisor
+use Rattle.sl_ratio.specs.declared.method.Method.{Method}
+use Rattle.sl_ratio.specs.declared.method.Method.TheVariants as by
+use Rattle.sl_stages.specs.declared.book.Shape.{Shape}
+use Rattle.sl_stages.specs.declared.book.Majority.{Majority}
+use Rattle.sl_stages.specs.declared.book.Majority.TheVariants as majority
+use Rattle.sl_verify.specs.Kinds.{start_kinds}
+use Rattle.sl_plans.specs.Trees.{size_of}
+use Rattle.sl_plans.specs.Fine.{is_fine, judged_by, has_quiet_lines}
+use Rattle.sl_plans.specs.inner.Prices.{price_of, has_price, is_in_share}
+use Rattle.sl_scopes.specs.Forms.{Form, AllParties}
+use Rattle.sl_seats.specs.Slots.{Slots}
+use Rattle.sl_nodes.specs.Trees.{split_tree}
+use Rattle.sl_blocks.proofs.FineRoles.{roles, names_of, before_one, IsFineAs, HasShapes, fine_of, small_is_quiet, small_is_priced, small_is_short}
+
+module _ (x : Slots) where
+  abbrev IsFineSplit : Option ℕ → Form → Method → Majority → Type 0
+  IsFineSplit minima f method m = IsFineAs f (names_of x minima (λ n. n)) (split_tree f (roles minima) method m) (split_tree f (record x { minima = minima }) method m)
+
+  -- each form and each majority clause is a case of its own: first one of them, then the others
+  by_hamilton : (f : Form) (m : Majority) → IsFineSplit None f by.Hamilton m
+  by_hamilton AllParties majority.Free = record { fine = refl; same = refl; small = refl }
+  by_hamilton AllParties _ = record { fine = refl; same = refl; small = refl }
+  by_hamilton _ majority.Free = record { fine = refl; same = refl; small = refl }
+  by_hamilton _ _ = record { fine = refl; same = refl; small = refl }
+
+  by_hamilton_from : (slot : ℕ) (f : Form) (m : Majority) → IsFineSplit (Some slot) f by.Hamilton m
+  by_hamilton_from slot AllParties majority.Free = record { fine = refl; same = refl; small = refl }
+  by_hamilton_from slot AllParties _ = record { fine = refl; same = refl; small = refl }
+  by_hamilton_from slot _ majority.Free = record { fine = refl; same = refl; small = refl }
+  by_hamilton_from slot _ _ = record { fine = refl; same = refl; small = refl }
+
+  by_divisor_from : (slot : ℕ) (d : Divisor) (f : Form) (m : Majority) → IsFineSplit (Some slot) f (by.Divisor d) m
+  by_divisor_from slot d AllParties majority.Free = record { fine = refl; same = refl; small = refl }
+  by_divisor_from slot d AllParties _ = record { fine = refl; same = refl; small = refl }
+  by_divisor_from slot d _ majority.Free = record { fine = refl; same = refl; small = refl }
+  by_divisor_from slot d _ _ = record { fine = refl; same = refl; small = refl }
+
+  -- without minima weights are told, by some divisors
+  by_divisor : (d : Divisor) (f : Form) (m : Majority) → IsFineSplit None f (by.Divisor d) m
+  by_divisor divisor.Adams AllParties majority.Free = record { fine = refl; same = refl; small = refl }
+  by_divisor divisor.Adams AllParties _ = record { fine = refl; same = refl; small = refl }
+  by_divisor divisor.Adams _ majority.Free = record { fine = refl; same = refl; small = refl }
+  by_divisor divisor.Adams _ _ = record { fine = refl; same = refl; small = refl }
+  by_divisor _ AllParties majority.Free = record { fine = refl; same = refl; small = refl }
+  by_divisor _ AllParties _ = record { fine = refl; same = refl; small = refl }
+  by_divisor _ _ majority.Free = record { fine = refl; same = refl; small = refl }
+  by_divisor _ _ _ = record { fine = refl; same = refl; small = refl }
+
+  split_as : (minima : Option ℕ) (f : Form) (method : Method) (m : Majority) → IsFineSplit minima f method m
+  split_as None f (by.Divisor d) m = by_divisor d f m
+  split_as None f by.Hamilton m = by_hamilton f m
+  split_as (Some slot) f (by.Divisor d) m = by_divisor_from slot d f m
+  split_as (Some slot) f by.Hamilton m = by_hamilton_from slot f m
+
+-- where the slots have their shapes and there is the stage, its instructions have what they need
+pub split_fine : (slots : ℕ → Option Shape) (stages : ℕ) (f : Form) (x : Slots) (method : Method) (m : Majority)
+    → HasShapes slots stages f x → is_fine (judged_by slots stages) start_kinds (split_tree f x method m) ≡ true
+split_fine slots stages f x method m has =
+    fine_of slots stages f x has (λ n. n) (λ n. refl) (split_tree f (roles x.minima) method m) (split_tree f x method m) (split_as x x.minima f method m)
+
+module _ (f : Form) (x : Slots) (method : Method) (m : Majority) where
+  pub split_quiet : has_quiet_lines (split_tree f x method m) ≡ true
+  split_quiet = small_is_quiet (split_tree f x method m) (split_as x x.minima f method m).small
+
+  -- it takes at most a share, with one step more
+  pub split_priced : (has_price (before_one (split_tree f x method m)) ≡ true) × (is_in_share (price_of (before_one (split_tree f x method m))) ≡ true)
+  split_priced = small_is_priced (split_tree f x method m) (split_as x x.minima f method m).small
+
+  pub split_short : size_of (split_tree f x method m) ≤ 999
+  split_short = small_is_short (split_tree f x method m) (split_as x x.minima f method m).small

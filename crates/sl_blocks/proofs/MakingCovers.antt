@@ -1,0 +1,65 @@
+-- The plan of a covering makes a block.
+use Rattle.std.proofs.Common.{◌≡◌, ℕ, ◌*◌, ◌<◌, List, ◌++◌, map, length, Some, slice_get, sym, ap, subst, ◌∙◌, arith}
+use Rattle.std.specs.Prelude.{slice_index, slice_index_or}
+use Rattle.std.specs.List.{range_with_len}
+use Rattle.std.proofs.lemmas.Option.{get_or_from_slice_get}
+use Rattle.std.proofs.lemmas.List.FromFn.{get_or-map-range_with_len}
+use Rattle.sl_stages.specs.declared.book.Shape.{Shape}
+use Rattle.sl_stages.specs.declared.book.Shape.TheVariants as shape
+use Rattle.sl_stages.specs.returns.Election.{Election, lands_of, parties_of}
+use Rattle.sl_code.specs.declared.instr.Instr.{Instr}
+use Rattle.sl_code.specs.Codes.{CountingCode}
+use Rattle.sl_machine.specs.State.{State}
+use Rattle.sl_machine.specs.Places.{cells_of}
+use Rattle.sl_machine.specs.Memories.{column_of}
+use Rattle.sl_plans.specs.Laid.{laid}
+use Rattle.sl_covers.specs.Trees.{CoverSlots, cover_tree}
+use Rattle.sl_covers.specs.Covering.{HasCoverSlots, BeginsCovering, AreCovered, EndsInTie}
+use Rattle.sl_covers.proofs.Covering.{coverings_achieve}
+use Rattle.sl_blocks.specs.Covers.{IsCoverJob, HasSlotsOf, flagged, BeginsCover, IsCoverBlock}
+use Rattle.sl_blocks.proofs.FineCovers.{HasCoverShapes, cover_fine, cover_quiet, cover_priced, cover_short}
+use Rattle.sl_blocks.proofs.Standing.{MakesBlock, is_block}
+
+module _ (shapes : List Shape) (x : CoverSlots) (job : IsCoverJob shapes x) where
+  module _ (code : CountingCode) (has : HasSlotsOf shapes code) where
+    -- a slot among those shapes is a slot of the code
+    slot_there : (k : ℕ) (s : Shape) → slice_get shapes k ≡ Some s → slice_get code.slots k ≡ Some s
+    slot_there k s there = ap (λ (xs : List Shape). slice_get xs k) has.slots ∙ there
+
+    has_shapes : HasCoverShapes (slice_get code.slots) x
+    has_shapes = record {
+      base = slot_there x.base shape.List job.base;
+      eligible = slot_there x.eligible shape.Party job.eligible;
+      numbers = slot_there x.numbers shape.List job.numbers;
+    }
+
+    has_slots : HasCoverSlots code x
+    has_slots = record { base = has_shapes.base; eligible = has_shapes.eligible; numbers = has_shapes.numbers; apart = job.apart }
+
+    -- the seats of the lists are what the state holds in their slot
+    seats_held : (e : Election) (state : State) (q : ℕ) → q < lands_of e * parties_of e → state.columns x.base q ≡ slice_index (column_of code e state x.base) q
+    seats_held e state q within =
+        let shape_is : slice_index_or code.slots x.base shape.One ≡ shape.List = get_or_from_slice_get code.slots x.base shape.List shape.One has_shapes.base in
+        subst (λ (s : Shape). state.columns x.base q ≡ slice_index (map (state.columns x.base) (range_with_len 0 (cells_of e s))) q) (sym shape_is)
+        (sym (get_or-map-range_with_len (state.columns x.base) 0 (lands_of e * parties_of e) q q 0 within (omega arith)))
+
+    begins_covering : (e : Election) (state : State) → BeginsCover x e state → BeginsCovering e x (flagged x state) (column_of code e state x.base) state
+    begins_covering e state begins = record { nobody = begins.nobody; seats = seats_held e state; flags = begins.flags }
+
+  cover_makes : MakesBlock (HasSlotsOf shapes) (λ code e state. BeginsCover x e state)
+      (λ code e state. AreCovered code e x (flagged x state) (column_of code e state x.base) state)
+      (λ code e state. EndsInTie code e (flagged x state) (column_of code e state x.base)) (cover_tree x)
+  cover_makes = record {
+    short = cover_short x;
+    quiet = cover_quiet x;
+    fine = λ code has. cover_fine x (slice_get code.slots) (length code.stages) (has_shapes code has);
+    priced = (cover_priced x).0;
+    in_share = (cover_priced x).1;
+    achieves = λ code e state has is begins.
+        coverings_achieve code e x (flagged x state) (column_of code e state x.base) state is (has_slots code has) (begins_covering code has e state begins);
+  }
+
+-- the instructions of its plan behind a declaration are the block of a covering
+pub is_cover_block : (shapes : List Shape) (x : CoverSlots) → IsCoverJob shapes x → (before after : List Instr) →
+    after ≡ before ++ laid (length before) (cover_tree x) → IsCoverBlock shapes x before after
+is_cover_block shapes x job before after is = is_block _ _ _ _ (cover_tree x) (cover_makes shapes x job) before after is

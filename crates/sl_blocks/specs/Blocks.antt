@@ -1,0 +1,28 @@
+-- What a block of counting code is: it stands behind the code before it, passes the verifier's tests wherever its slots and its stage are, and
+-- does within a share what it is asked for (docs/blocks.md, section 5).
+use Rattle.std.specs.Prelude.{◌≡◌, ◌≤◌, true, List, ◌∷◌, ◌++◌, Option, length}
+use Rattle.sl_stages.specs.returns.Election.{Election, IsElection}
+use Rattle.sl_code.specs.declared.instr.Instr.{Instr}
+use Rattle.sl_code.specs.declared.instr.Instr.TheVariants.{At}
+use Rattle.sl_code.specs.declared.kinds.Kinds.{Kinds}
+use Rattle.sl_code.specs.Codes.{CountingCode}
+use Rattle.sl_code.specs.Standing.{HasAt}
+use Rattle.sl_verify.specs.Kinds.{start_kinds}
+use Rattle.sl_verify.specs.Pieces.{are_passed, JumpsWithin}
+use Rattle.sl_verify.specs.WellKinded.{context_of}
+use Rattle.sl_machine.specs.State.{State, End}
+use Rattle.sl_machine.specs.Runs.{share_of}
+use Rattle.sl_plans.specs.Achieves.{Reaches}
+
+-- `Stands` is what a code has for the block to stand there, `Begins` what holds of a state where it begins, and `Does` and `Ends` are what then
+-- holds of the state that it comes to, or of the end of the run
+pub record IsBlock (Stands : CountingCode → Type 0) (Begins : CountingCode → Election → State → Type 0) (Does : CountingCode → Election → State → State → Type 0)
+    (Ends : CountingCode → Election → State → End → Type 0) (before after : List Instr) : Type 0 where
+  pub block : List Instr
+  pub kept : after ≡ before ++ block
+  pub begins : (rest : List Instr) × (block ≡ At start_kinds ∷ rest)
+  pub short : length block ≤ 1000
+  pub within : JumpsWithin (length before) block
+  pub passed : (code : CountingCode) → Stands code → HasAt code (length before) block → (comes : Option Kinds) → are_passed (context_of code) comes block ≡ true
+  pub runs : (code : CountingCode) (e : Election) (state : State) → Stands code → HasAt code (length before) block → IsElection e → Begins code e state →
+      Reaches code e (share_of e) (length before) state (length after) (Does code e state) (Ends code e state)

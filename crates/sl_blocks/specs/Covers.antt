@@ -1,0 +1,40 @@
+-- A covering as a block: the caller's conditions, and what the block does (docs/blocks.md, section 6).
+use Rattle.std.specs.Prelude.{◌≡◌, ◌≢◌, ℕ, ◌<◌, Bool, List, Some, nat_eq, slice_get}
+use Rattle.sl_stages.specs.declared.book.Shape.{Shape}
+use Rattle.sl_stages.specs.declared.book.Shape.TheVariants as shape
+use Rattle.sl_stages.specs.declared.table.Placed.TheVariants as placed
+use Rattle.sl_stages.specs.returns.Election.{Election, parties_of}
+use Rattle.sl_code.specs.declared.instr.Instr.{Instr}
+use Rattle.sl_code.specs.Codes.{CountingCode}
+use Rattle.sl_machine.specs.State.{State}
+use Rattle.sl_machine.specs.Effects.{one_if}
+use Rattle.sl_machine.specs.Memories.{column_of}
+use Rattle.sl_covers.specs.Trees.{CoverSlots}
+use Rattle.sl_covers.specs.Covering.{AreCovered, EndsInTie}
+use Rattle.sl_blocks.specs.Blocks.{IsBlock}
+
+-- among slots of these shapes those of the covering are there, and the one that it writes is not that of the seats
+pub record IsCoverJob (shapes : List Shape) (x : CoverSlots) : Type 0 where
+  pub base : slice_get shapes x.base ≡ Some shape.List
+  pub eligible : slice_get shapes x.eligible ≡ Some shape.Party
+  pub numbers : slice_get shapes x.numbers ≡ Some shape.List
+  pub apart : x.base ≢ x.numbers
+
+-- a code with slots of these shapes
+pub record HasSlotsOf (shapes : List Shape) (code : CountingCode) : Type 0 where
+  pub slots : code.slots ≡ shapes
+
+-- the parties whose cell is 1
+abbrev pub flagged : CoverSlots → State → ℕ → Bool
+flagged x s party = nat_eq (s.columns x.eligible party) 1
+
+-- where the block begins, no winner is placed, and each cell of the eligible parties is 0 or 1
+pub record BeginsCover (x : CoverSlots) (e : Election) (s : State) : Type 0 where
+  pub nobody : (winner : ℕ) → s.placed winner ≡ placed.Unseated
+  pub flags : (party : ℕ) → party < parties_of e → s.columns x.eligible party ≡ one_if (flagged x s party)
+
+-- the code after is the code before with the block of that covering
+abbrev pub IsCoverBlock : (shapes : List Shape) → CoverSlots → List Instr → List Instr → Type 0
+IsCoverBlock shapes x before after =
+    IsBlock (HasSlotsOf shapes) (λ code e s. BeginsCover x e s)
+    (λ code e s. AreCovered code e x (flagged x s) (column_of code e s x.base) s) (λ code e s. EndsInTie code e (flagged x s) (column_of code e s x.base)) before after

@@ -1,0 +1,111 @@
+-- Splits and growths as blocks: the caller's conditions, and what the blocks do (docs/blocks.md, section 5).
+use Rattle.std.specs.Prelude.{◌≡◌, ◌≢◌, ℕ, ◌≤◌, List, Option, None, Some, All, slice_get, option_map}
+use Rattle.sl_ratio.specs.declared.limits.TheConstants.{MAX_WEIGHT}
+use Rattle.sl_ratio.specs.declared.method.Divisor.{Divisor}
+use Rattle.sl_ratio.specs.declared.method.Method.{Method}
+use Rattle.sl_ratio.specs.declared.method.Method.TheVariants as by
+use Rattle.sl_stages.specs.declared.book.Shape.{Shape}
+use Rattle.sl_stages.specs.declared.book.Shape.TheVariants as shape
+use Rattle.sl_stages.specs.returns.Election.{Election}
+use Rattle.sl_stages.specs.meaning.Results.{ExprResult}
+use Rattle.sl_stages.specs.meaning.Expressions.{IsSplit, IsGrown}
+use Rattle.sl_code.specs.declared.instr.Instr.{Instr}
+use Rattle.sl_code.specs.declared.code.CodeStage.{CodeStage}
+use Rattle.sl_code.specs.Codes.{CountingCode}
+use Rattle.sl_machine.specs.State.{State}
+use Rattle.sl_machine.specs.Memories.{column_of}
+use Rattle.sl_scopes.specs.Forms.{Form, AllParties, AllLands, AllLists, ListsOfParty, ListsInLand, amounts_of, votes_of}
+use Rattle.sl_seats.specs.Slots.{Slots}
+use Rattle.sl_nodes.specs.Scopes.{stand}
+use Rattle.sl_nodes.specs.Nodes.{HasResult, EndsWith}
+use Rattle.sl_blocks.specs.declared.job.Job.{Job}
+use Rattle.sl_blocks.specs.Blocks.{IsBlock}
+
+-- ---- the caller's conditions
+
+abbrev pub slots_of : Job → Slots
+slots_of j = record { stage = j.stage; amounts = j.amount; votes = j.weights; minima = j.minima; result = j.result }
+
+-- the form by the shapes of the amounts and of the votes, if seats can be split so
+abbrev pub form_by : Shape → Shape → Option Form
+form_by shape.One shape.Party = Some AllParties
+form_by shape.One shape.Land = Some AllLands
+form_by shape.One shape.List = Some AllLists
+form_by shape.Party shape.List = Some ListsOfParty
+form_by shape.Land shape.List = Some ListsInLand
+form_by _ _ = None
+
+-- among slots of these shapes the job's are there, with the shapes of the form; its result is no other's; and a stage may have its number
+pub record IsJob (shapes : List Shape) (f : Form) (j : Job) : Type 0 where
+  pub amounts : slice_get shapes j.amount ≡ Some (amounts_of f)
+  pub votes : slice_get shapes j.weights ≡ Some (votes_of f)
+  pub minima : (slot : ℕ) → j.minima ≡ Some slot → slice_get shapes slot ≡ Some (votes_of f)
+  pub result : slice_get shapes j.result ≡ Some (votes_of f)
+  pub not_amounts : j.amount ≢ j.result
+  pub not_votes : j.weights ≢ j.result
+  pub not_minima : (slot : ℕ) → j.minima ≡ Some slot → slot ≢ j.result
+  pub stage : j.stage ≤ 31
+
+-- a method and whether there are minima: Hamilton's method takes none
+abbrev pub TakesMinima : Method → Option ℕ → Type 0
+TakesMinima method None = Unit {0}
+TakesMinima (by.Divisor d) (Some slot) = Unit {0}
+TakesMinima by.Hamilton (Some slot) = ⊥
+
+-- a split
+pub record IsSplitJob (shapes : List Shape) (j : Job) (method : Method) : Type 0 where
+  pub form : Form
+  pub job : IsJob shapes form j
+  pub takes : TakesMinima method j.minima
+
+-- a growth: there is one amount, there are minima, and the cap is a number of seats
+pub record IsGrowthJob (shapes : List Shape) (j : Job) (cap : ℕ) : Type 0 where
+  pub form : Form
+  pub job : IsJob shapes form j
+  pub one : amounts_of form ≡ shape.One
+  pub slot : ℕ
+  pub minima : j.minima ≡ Some slot
+  pub few : cap ≤ 4000
+
+-- ---- what the blocks do
+
+-- a code with slots of these shapes, and with the job's stage
+pub record HasJob (shapes : List Shape) (j : Job) (code : CountingCode) : Type 0 where
+  pub slots : code.slots ≡ shapes
+  pub stage : CodeStage
+  pub staged : slice_get code.stages j.stage ≡ Some stage
+
+-- where the block begins, no weight is above the limit
+pub record HasWeights (j : Job) (code : CountingCode) (e : Election) (state : State) : Type 0 where
+  pub weights : All (λ weight. weight ≤ MAX_WEIGHT) (column_of code e state j.weights)
+
+-- the name of the job's stage
+abbrev pub name_in : CountingCode → Job → List ℕ → Type 0
+name_in code j name = option_map (λ stage. stage.name) (slice_get code.stages j.stage) ≡ Some name
+
+-- what a split comes to by the columns that the state holds
+pub record SplitMeans (f : Form) (j : Job) (method : Method) (code : CountingCode) (e : Election) (state : State) (r : ExprResult) : Type 0 where
+  pub name : List ℕ
+  pub named : name_in code j name
+  pub is : IsSplit e (stand f (slots_of j) name) (column_of code e state j.amount) (column_of code e state j.weights) (amounts_of f) method j.majority
+      (option_map (column_of code e state) j.minima) r
+
+-- and what a growth comes to
+pub record GrowthMeans (f : Form) (j : Job) (slot : ℕ) (d : Divisor) (cap : ℕ) (code : CountingCode) (e : Election) (state : State) (r : ExprResult) : Type 0 where
+  pub name : List ℕ
+  pub named : name_in code j name
+  pub is : IsGrown e (stand f (slots_of j) name) (column_of code e state j.amount) (column_of code e state j.weights) (by.Divisor d) j.majority
+      (column_of code e state slot) cap r
+
+-- a block does as the result says: its column and its records, or its fault
+abbrev pub IsResultBlock : (shapes : List Shape) (f : Form) (j : Job) → (CountingCode → Election → State → ExprResult → Type 0) → List Instr → List Instr → Type 0
+IsResultBlock shapes f j Means before after =
+    IsBlock (HasJob shapes j) (HasWeights j) (λ code e state. HasResult e f (slots_of j) (Means code e state) state) (λ code e state. EndsWith (Means code e state)) before after
+
+-- the code after is the code before with the block of that split, or of that growth
+abbrev pub IsSplitBlock : (shapes : List Shape) (j : Job) (method : Method) → List Instr → List Instr → Type 0
+IsSplitBlock shapes j method before after = (f : Form) → IsJob shapes f j → IsResultBlock shapes f j (SplitMeans f j method) before after
+
+abbrev pub IsGrowthBlock : (shapes : List Shape) (j : Job) (d : Divisor) (cap : ℕ) → List Instr → List Instr → Type 0
+IsGrowthBlock shapes j d cap before after =
+    (f : Form) (slot : ℕ) → IsJob shapes f j → j.minima ≡ Some slot → IsResultBlock shapes f j (GrowthMeans f j slot d cap) before after

@@ -1,0 +1,40 @@
+//! A block: first what comes in each of its scopes after the first seats.
+
+ghost use Rattle.std.specs.Prelude.{◌≡◌, ◌+◌, ◌<◌, IfOk, OnErr, IsSome, vec_len};
+ghost use Rattle.sl_plans.specs.Trees.{size_of};
+ghost use Rattle.sl_blocks.specs.Layout.{IsLaid};
+ghost use Rattle.sl_blocks.specs.LayoutParts.{block_tree};
+
+use crate::awards::{COUNT_LEFT, ENDS_BY_TIE, drawn_batch, whole_batches};
+use crate::blanks::Block;
+use crate::entries::NOTHING;
+use crate::growths::lay_growth_with;
+use crate::majority::refuse;
+use crate::registers::{LEFT, PEERS};
+use crate::splits::lay_split_with;
+use sl_code::{Instr, MAX_INSTRS};
+use sl_plans::{Plan, Test};
+use sl_ratio::NoMemory;
+
+/// Appends a block.
+///
+/// # Errors
+/// Without memory, the code is as it was.
+pub fn lay_block(code: &mut Vec<Instr>, block: &Block) -> Result<(), NoMemory>
+    requires fits { vec_len code.old + size_of (block_tree block.now) < MAX_INSTRS }
+    requires minima { IsSome block.now.cap → IsSome block.now.job.minima }
+    ensures ok { IfOk result (λ _. IsLaid (block_tree block.now) (vec_len code.old) code.old.items code.new.items) }
+    ensures err { OnErr result (code.new.items ≡ code.old.items) }
+{
+    let unnamed = Plan::If(Test::NotCovered(block.job.stage), ENDS_BY_TIE, NOTHING);
+    let tie = Plan::If(Test::Empty(PEERS), NOTHING, &unnamed);
+    let drawn = Plan::Then(&tie, drawn_batch(block));
+    let last_batch = Plan::If(Test::Zero(LEFT), NOTHING, &drawn);
+    let batches = Plan::Then(whole_batches(block), &last_batch);
+    let awards = Plan::Then(COUNT_LEFT, &batches);
+    let rest = Plan::Then(&awards, refuse(block));
+    match block.cap {
+        None => lay_split_with(code, block, &rest),
+        Some(_) => lay_growth_with(code, block, &rest),
+    }
+}

@@ -1,0 +1,179 @@
+//! The first seats of each entry, and how it enters the table.
+
+ghost use Rattle.std.specs.Prelude.{◌≡◌, IsSome};
+ghost use Rattle.sl_plans.specs.Layout.{tree_of};
+ghost use Rattle.sl_blocks.specs.Given.{given_of};
+ghost use Rattle.sl_blocks.specs.LayoutParts.{fill_entries, fill_outside};
+
+use crate::blanks::{Block, ENTER_BASE, GET_MINIMUM, GET_WEIGHT, GIVE, STORE_BASE, TABLE, WEIGH};
+use crate::entries::{NOTHING, each_entry};
+use crate::registers::{
+    AMOUNT, BASE, FIRST_PASSING, LEFT, NUMBER, SECOND_PASSING, STEP, TOTAL, TURNS, WEIGHT,
+};
+use sl_code::Instr;
+use sl_plans::Part::Fixed;
+use sl_plans::{Bound, Cursor, ONES, Plan, Test};
+use sl_ratio::{Divisor, MAX_SEATS, Method};
+use sl_stages::Majority;
+
+pub const CLEAR_TABLE: &Plan<'static> = &Plan::Line(&[TABLE, Fixed(Instr::Mov(LEFT, AMOUNT))]);
+
+const TAKE_MINIMUM: &Plan<'static> = &Plan::Line(&[GET_MINIMUM]);
+
+/// The whole part of the share, and what remains of it.
+const TAKE_WHOLE: &Plan<'static> = &Plan::Then(
+    &Plan::Line(&[
+        Fixed(Instr::Mov(BASE, AMOUNT)),
+        Fixed(Instr::Mul(BASE, WEIGHT)),
+        Fixed(Instr::Mov(STEP, BASE)),
+    ]),
+    &Plan::If(
+        Test::Zero(TOTAL),
+        NOTHING,
+        &Plan::Line(&[
+            Fixed(Instr::Div(BASE, TOTAL)),
+            Fixed(Instr::Rem(STEP, TOTAL)),
+        ]),
+    ),
+);
+
+/// A minimum where there is no weight.
+const TAKE_OUTSIDE: &Plan<'static> = &Plan::If(
+    Test::Zero(WEIGHT),
+    TAKE_MINIMUM,
+    &Plan::Line(&[Fixed(Instr::Set(BASE, 0))]),
+);
+
+const ENTER_QUOTIENT: &Plan<'static> = &Plan::Line(&[ENTER_BASE]);
+
+const WEIGH_AND_ENTER: &Plan<'static> = &Plan::Line(&[WEIGH, ENTER_BASE]);
+
+const ENTER_REMAINDER: &Plan<'static> = &Plan::Line(&[Fixed(Instr::Rest(STEP))]);
+
+/// Ahead of all, where the entry has more than half of the votes and its whole part is no more than half of the seats.
+const ENTER_PREFERRED: &Plan<'static> = &Plan::Then(
+    &Plan::Line(&[
+        Fixed(Instr::Mov(FIRST_PASSING, WEIGHT)),
+        Fixed(Instr::Add(FIRST_PASSING, WEIGHT)),
+        Fixed(Instr::Mov(SECOND_PASSING, BASE)),
+        Fixed(Instr::Add(SECOND_PASSING, BASE)),
+    ]),
+    &Plan::If(
+        Test::Less(TOTAL, FIRST_PASSING),
+        &Plan::If(
+            Test::Less(AMOUNT, SECOND_PASSING),
+            ENTER_REMAINDER,
+            &Plan::Line(&[Fixed(Instr::Lead)]),
+        ),
+        ENTER_REMAINDER,
+    ),
+);
+
+const START_BASE: &Plan<'static> = &Plan::Line(&[
+    STORE_BASE,
+    Fixed(Instr::Sub(LEFT, BASE)),
+    Fixed(Instr::Set(NUMBER, 0)),
+    Fixed(Instr::Mov(TURNS, BASE)),
+]);
+
+const GIVE_BASE: &Plan<'static> = &Plan::Times(
+    TURNS,
+    Bound::AtMost(MAX_SEATS),
+    &Plan::Line(&[
+        Fixed(Instr::Set(ONES, 1)),
+        Fixed(Instr::Add(NUMBER, ONES)),
+        GIVE,
+    ]),
+);
+
+/// An entry gets its first seats, and the table its next one.
+macro_rules! fill_entry {
+    ($take:expr, $enter:expr) => {
+        &Plan::Then(
+            &Plan::Line(&[GET_WEIGHT]),
+            &Plan::Then(
+                $take,
+                &Plan::Then(
+                    START_BASE,
+                    &Plan::Then(GIVE_BASE, &Plan::If(Test::Zero(WEIGHT), NOTHING, $enter)),
+                ),
+            ),
+        )
+    };
+}
+
+const FILL_QUOTIENT: &Plan<'static> = fill_entry!(TAKE_MINIMUM, ENTER_QUOTIENT);
+
+const FILL_AND_WEIGH: &Plan<'static> = fill_entry!(TAKE_MINIMUM, WEIGH_AND_ENTER);
+
+const FILL_REMAINDER: &Plan<'static> = fill_entry!(TAKE_WHOLE, ENTER_REMAINDER);
+
+const FILL_PREFERRED: &Plan<'static> = fill_entry!(TAKE_WHOLE, ENTER_PREFERRED);
+
+const FILL_OUTSIDE: &Plan<'static> = fill_entry!(TAKE_OUTSIDE, ENTER_QUOTIENT);
+
+const FILL_QUOTIENT_ON_LIST: &Plan<'static> = &Plan::If(Test::NoList, NOTHING, FILL_QUOTIENT);
+
+const FILL_AND_WEIGH_ON_LIST: &Plan<'static> = &Plan::If(Test::NoList, NOTHING, FILL_AND_WEIGH);
+
+const FILL_REMAINDER_ON_LIST: &Plan<'static> = &Plan::If(Test::NoList, NOTHING, FILL_REMAINDER);
+
+const FILL_PREFERRED_ON_LIST: &Plan<'static> = &Plan::If(Test::NoList, NOTHING, FILL_PREFERRED);
+
+const FILL_OUTSIDE_ON_LIST: &Plan<'static> = &Plan::If(Test::NoList, NOTHING, FILL_OUTSIDE);
+
+const FILL_QUOTIENT_BY_PARTY: &Plan<'static> = &Plan::Each(Cursor::Party, FILL_QUOTIENT_ON_LIST);
+
+const FILL_AND_WEIGH_BY_PARTY: &Plan<'static> = &Plan::Each(Cursor::Party, FILL_AND_WEIGH_ON_LIST);
+
+const FILL_REMAINDER_BY_PARTY: &Plan<'static> = &Plan::Each(Cursor::Party, FILL_REMAINDER_ON_LIST);
+
+const FILL_PREFERRED_BY_PARTY: &Plan<'static> = &Plan::Each(Cursor::Party, FILL_PREFERRED_ON_LIST);
+
+const FILL_OUTSIDE_BY_PARTY: &Plan<'static> = &Plan::Each(Cursor::Party, FILL_OUTSIDE_ON_LIST);
+
+/// Gives each entry its first seats, and enters its next one.
+pub fn fill_entries(block: &Block) -> Plan<'static>
+    ensures { tree_of (given_of block.now) result ≡ fill_entries block.now }
+{
+    match (block.method, block.job.minima, block.job.majority) {
+        (Method::Hamilton, _, Majority::Prefer) => each_entry(
+            block.form,
+            FILL_PREFERRED,
+            FILL_PREFERRED_ON_LIST,
+            FILL_PREFERRED_BY_PARTY,
+        ),
+        (Method::Hamilton, _, _) => each_entry(
+            block.form,
+            FILL_REMAINDER,
+            FILL_REMAINDER_ON_LIST,
+            FILL_REMAINDER_BY_PARTY,
+        ),
+        (Method::Divisor(Divisor::Adams | Divisor::Webster | Divisor::Jefferson), None, _) =>
+            each_entry(
+                block.form,
+                FILL_AND_WEIGH,
+                FILL_AND_WEIGH_ON_LIST,
+                FILL_AND_WEIGH_BY_PARTY,
+            ),
+        _ => each_entry(
+            block.form,
+            FILL_QUOTIENT,
+            FILL_QUOTIENT_ON_LIST,
+            FILL_QUOTIENT_BY_PARTY,
+        ),
+    }
+}
+
+/// The same in a growth, where only entries without weight have seats before any is awarded.
+pub fn fill_outside(block: &Block) -> Plan<'static>
+    requires { IsSome block.now.job.minima }
+    ensures { tree_of (given_of block.now) result ≡ fill_outside block.now }
+{
+    each_entry(
+        block.form,
+        FILL_OUTSIDE,
+        FILL_OUTSIDE_ON_LIST,
+        FILL_OUTSIDE_BY_PARTY,
+    )
+}

@@ -1,0 +1,79 @@
+//! The block of a growth.
+
+ghost use Rattle.std.specs.Prelude.{◌≡◌, ◌+◌, ◌<◌, ◌≤◌, IfOk, OnErr, vec_len, IsSome, unwrap_or};
+ghost use Rattle.sl_plans.specs.Layout.{tree_of};
+ghost use Rattle.sl_plans.specs.Trees.{size_of};
+ghost use Rattle.sl_blocks.specs.Given.{given_of};
+ghost use Rattle.sl_blocks.specs.Jobs.{IsGrowthBlock, IsGrowthJob};
+ghost use Rattle.sl_blocks.specs.Layout.{IsLaid};
+ghost use Rattle.sl_blocks.specs.LayoutParts.{growth_all};
+
+use crate::blanks::Block;
+use crate::blocks::lay_block;
+use crate::fills::{CLEAR_TABLE, fill_outside};
+use crate::form::form_of;
+use crate::houses::{CLEAR_SEARCH, TAKE_HOUSE, WITHIN_CAP, search_batches, search_entries};
+use crate::job::Job;
+use crate::scopes::{START_SCOPE, lay_scopes};
+use crate::sums::{CLEAR_SUMS, SOME_VOTES, sum_entries};
+use sl_code::{Instr, MAX_INSTRS};
+use sl_plans::Plan;
+use sl_ratio::{Divisor, Method, NoMemory};
+use sl_stages::Shape;
+
+/// Appends the block of a growth by a divisor method up to a cap of seats (docs/blocks.md, section 5): at most 1,000 instructions that
+/// leave the entries' seats in the slot of the result, or end the run with the growth's fault.
+///
+/// The slots of the job are among those given and have the shapes of a growth: one amount, and minima; the cap is at most 4,000; at most
+/// 199,000 instructions stand before.
+///
+/// # Errors
+/// Without memory, the code is as it was.
+pub fn grow_block(
+    code: &mut Vec<Instr>,
+    slots: &[Shape],
+    job: &Job,
+    method: Divisor,
+    cap: u32,
+) -> Result<(), NoMemory>
+    requires job { IsGrowthJob slots.now job.now cap }
+    requires room { vec_len code.old ≤ 199000 }
+    ensures ok { IfOk result (λ _. IsGrowthBlock slots.now job.now method cap code.old.items code.new.items) }
+    ensures err { OnErr result (code.new.items ≡ code.old.items) }
+{
+    let block = Block {
+        form: form_of(slots, job),
+        job: *job,
+        method: Method::Divisor(method),
+        cap: Some(cap),
+    };
+    lay_block(code, &block)
+}
+
+/// Appends the block of a growth, of which this is what comes in each scope after the first seats.
+pub fn lay_growth_with(
+    code: &mut Vec<Instr>,
+    block: &Block,
+    rest: &Plan<'_>,
+) -> Result<(), NoMemory>
+    requires fits { vec_len code.old + size_of (growth_all block.now (unwrap_or block.now.cap 0) (tree_of (given_of block.now) rest.now)) < MAX_INSTRS }
+    requires minima { IsSome block.now.job.minima }
+    ensures ok { IfOk result (λ _. IsLaid (growth_all block.now (unwrap_or block.now.cap 0) (tree_of (given_of block.now) rest.now)) (vec_len code.old) code.old.items code.new.items) }
+    ensures err { OnErr result (code.new.items ≡ code.old.items) }
+{
+    let sum_entries = sum_entries(block);
+    let sums = Plan::Then(CLEAR_SUMS, &sum_entries);
+    let search_entries = search_entries(block);
+    let searched = Plan::Then(&search_entries, search_batches());
+    let search = Plan::Then(CLEAR_SEARCH, &searched);
+    let house = Plan::Then(&search, TAKE_HOUSE);
+    let fill_entries = fill_outside(block);
+    let fill = Plan::Then(CLEAR_TABLE, &fill_entries);
+    let filled = Plan::Then(&fill, &*rest);
+    let grown = Plan::Then(&house, &filled);
+    let capped = Plan::Then(WITHIN_CAP, &grown);
+    let voted = Plan::Then(SOME_VOTES, &capped);
+    let summed = Plan::Then(&sums, &voted);
+    let scope = Plan::Then(START_SCOPE, &summed);
+    lay_scopes(code, block, &scope)
+}

@@ -1,0 +1,21 @@
+//! What a block of code is asked for.
+
+use sl_stages::Majority;
+
+/// A split or a growth: its stage, the slots of its columns, and the majority clause.
+#[derive(Clone, Copy, Debug, PartialEq, Eq)]
+pub struct Job {
+    /// The number of the stage, at most 31.
+    pub stage: u8,
+    /// The slot of the seats to give out.
+    pub amount: u8,
+    /// The slot of the votes.
+    pub weights: u8,
+    /// The slot of the minima, if there are any.
+    pub minima: Option<u8>,
+    /// The slot in which the block leaves the seats of the entries.
+    pub result: u8,
+    pub majority: Majority,
+    /// Eight slots of each shape that a block may use as it likes: of one number, by party, by Land, by list.
+    pub scratch: [[u8; 8]; 4],
+}

@@ -1,0 +1,22 @@
+//! Blocks of counting code: a split, a growth, a covering.
+#![tactic(auto)]
+
+mod awards;
+mod batches;
+mod blanks;
+mod blocks;
+mod entries;
+mod fills;
+mod form;
+mod growths;
+mod houses;
+mod job;
+mod majority;
+mod registers;
+mod scopes;
+mod splits;
+mod sums;
+
+pub use growths::grow_block;
+pub use job::Job;
+pub use splits::split_block;

@@ -1,0 +1,77 @@
+//! A block over all its scopes.
+
+ghost use Rattle.std.specs.Prelude.{◌≡◌, ◌+◌, ◌<◌, ◌≤◌, [], ◌∷◌, ◌++◌, IfOk, OnErr, vec_len, vec_capacity};
+ghost use Rattle.sl_verify.specs.Kinds.{start_kinds};
+ghost use Rattle.sl_plans.specs.Layout.{tree_of};
+ghost use Rattle.sl_plans.specs.Trees.{size_of};
+ghost use Rattle.sl_blocks.specs.Given.{given_of};
+ghost use Rattle.sl_blocks.specs.Layout.{IsLaid};
+ghost use Rattle.sl_blocks.specs.LayoutParts.{all_with};
+
+use crate::blanks::{Block, GET_AMOUNT, OVER_LIMIT, ZERO_RESULT, given_of};
+use crate::entries::{NOTHING, each_scope};
+use crate::registers::{AMOUNT, FIRST_PASSING};
+use sl_code::{Cursors, Instr, Kinds, MAX_INSTRS, Registers};
+use sl_plans::Part::Fixed;
+use sl_plans::{Plan, Test, put, size};
+use sl_ratio::{MAX_SEATS, NoMemory};
+
+/// Nothing is known where a block begins.
+const START: Kinds = Kinds {
+    positive: Registers { mask: 0 },
+    cursors: Cursors {
+        party: false,
+        land: false,
+        win: false,
+    },
+    table: None,
+};
+
+/// Ends where there are more seats than a scope may have.
+const WITHIN_LIMIT: &Plan<'static> = &Plan::Then(
+    &Plan::Line(&[GET_AMOUNT]),
+    &Plan::Then(
+        &Plan::Line(&[Fixed(Instr::Set(FIRST_PASSING, MAX_SEATS as u64))]),
+        &Plan::If(
+            Test::Less(FIRST_PASSING, AMOUNT),
+            &Plan::Stop(OVER_LIMIT),
+            NOTHING,
+        ),
+    ),
+);
+
+/// Each scope begins with its amount.
+pub const START_SCOPE: &Plan<'static> = &Plan::Line(&[GET_AMOUNT]);
+
+const CLEAR_RESULT: &Plan<'static> = &Plan::Line(&[ZERO_RESULT]);
+
+/// Appends a block with this plan for each of its scopes.
+pub fn lay_scopes<'a>(
+    code: &mut Vec<Instr>,
+    block: &Block,
+    scope: &'a Plan<'a>,
+) -> Result<(), NoMemory>
+    requires { vec_len code.old + size_of (all_with block.now (tree_of (given_of block.now) scope.now)) < MAX_INSTRS }
+    ensures ok { IfOk result (λ _. IsLaid (all_with block.now (tree_of (given_of block.now) scope.now)) (vec_len code.old) code.old.items code.new.items) }
+    ensures err { OnErr result (code.new.items ≡ code.old.items) }
+{
+    let given = given_of(block);
+    let limits = each_scope(block.form, WITHIN_LIMIT);
+    let scopes = each_scope(block.form, scope);
+    let counted = Plan::Then(CLEAR_RESULT, &scopes);
+    let all = Plan::Then(&limits, &counted);
+    code.reserve(size(&all, &given) as usize + 1)?;
+    declare(code);
+    put(code, &all, &given, START);
+    Ok(())
+}
+
+/// Declares that nothing is known, where there is room.
+fn declare(code: &mut Vec<Instr>)
+    requires { vec_len code.old < vec_capacity code.old }
+    ensures items { code.new.items ≡ code.old.items ++ Instr.At start_kinds ∷ [] }
+    ensures len { vec_len code.new ≡ vec_len code.old + 1 }
+    ensures capacity { vec_capacity code.old ≤ vec_capacity code.new }
+{
+    code.push(Instr::At(START)).unwrap()
+}

@@ -1,0 +1,66 @@
+//! The block of a split.
+
+ghost use Rattle.std.specs.Prelude.{◌≡◌, ◌+◌, ◌<◌, ◌≤◌, IfOk, OnErr, vec_len};
+ghost use Rattle.sl_plans.specs.Layout.{tree_of};
+ghost use Rattle.sl_plans.specs.Trees.{size_of};
+ghost use Rattle.sl_blocks.specs.Given.{given_of};
+ghost use Rattle.sl_blocks.specs.Jobs.{IsSplitBlock, IsSplitJob};
+ghost use Rattle.sl_blocks.specs.Layout.{IsLaid};
+ghost use Rattle.sl_blocks.specs.LayoutParts.{split_all};
+
+use crate::blanks::Block;
+use crate::blocks::lay_block;
+use crate::fills::{CLEAR_TABLE, fill_entries};
+use crate::form::form_of;
+use crate::job::Job;
+use crate::scopes::{START_SCOPE, lay_scopes};
+use crate::sums::{CLEAR_SUMS, REFUSES_SEATS, sum_entries};
+use sl_code::{Instr, MAX_INSTRS};
+use sl_plans::Plan;
+use sl_ratio::{Method, NoMemory};
+use sl_stages::Shape;
+
+/// Appends the block of a split by a method (docs/blocks.md, section 5): at most 1,000 instructions that leave the entries' seats in the
+/// slot of the result, or end the run with the split's fault.
+///
+/// The slots of the job are among those given and have the shapes of a split; Hamilton's method takes no minima; at most 199,000
+/// instructions stand before.
+///
+/// # Errors
+/// Without memory, the code is as it was.
+pub fn split_block(
+    code: &mut Vec<Instr>,
+    slots: &[Shape],
+    job: &Job,
+    method: Method,
+) -> Result<(), NoMemory>
+    requires job { IsSplitJob slots.now job.now method }
+    requires room { vec_len code.old ≤ 199000 }
+    ensures ok { IfOk result (λ _. IsSplitBlock slots.now job.now method code.old.items code.new.items) }
+    ensures err { OnErr result (code.new.items ≡ code.old.items) }
+{
+    let block = Block {
+        form: form_of(slots, job),
+        job: *job,
+        method,
+        cap: None,
+    };
+    lay_block(code, &block)
+}
+
+/// Appends the block of a split, of which this is what comes in each scope after the first seats.
+pub fn lay_split_with(code: &mut Vec<Instr>, block: &Block, rest: &Plan<'_>) -> Result<(), NoMemory>
+    requires { vec_len code.old + size_of (split_all block.now (tree_of (given_of block.now) rest.now)) < MAX_INSTRS }
+    ensures ok { IfOk result (λ _. IsLaid (split_all block.now (tree_of (given_of block.now) rest.now)) (vec_len code.old) code.old.items code.new.items) }
+    ensures err { OnErr result (code.new.items ≡ code.old.items) }
+{
+    let sum_entries = sum_entries(block);
+    let sums = Plan::Then(CLEAR_SUMS, &sum_entries);
+    let fill_entries = fill_entries(block);
+    let fill = Plan::Then(CLEAR_TABLE, &fill_entries);
+    let filled = Plan::Then(&fill, &*rest);
+    let refused = Plan::Then(REFUSES_SEATS, &filled);
+    let summed = Plan::Then(&sums, &refused);
+    let scope = Plan::Then(START_SCOPE, &summed);
+    lay_scopes(code, block, &scope)
+}
