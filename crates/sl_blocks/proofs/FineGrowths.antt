@@ -10,9 +10,9 @@ use Rattle.sl_verify.specs.Kinds.{start_kinds}
 use Rattle.sl_plans.specs.Trees.{size_of}
 use Rattle.sl_plans.specs.Fine.{is_fine, judged_by, has_quiet_lines}
 use Rattle.sl_plans.specs.inner.Prices.{price_of, has_price, is_in_share}
-use Rattle.sl_scopes.specs.Forms.{Form, AllParties}
-use Rattle.sl_seats.specs.Slots.{Slots}
-use Rattle.sl_nodes.specs.Trees.{grow_tree}
+use Rattle.sl_pieces.specs.scopes.Forms.{Form, AllParties}
+use Rattle.sl_pieces.specs.seats.Slots.{Slots}
+use Rattle.sl_pieces.specs.nodes.Trees.{grow_tree}
 use Rattle.sl_blocks.proofs.FineRoles.{roles, names_of, before_one, IsFineAs, HasShapes, fine_of, small_is_quiet, small_is_priced, small_is_short}
 
 -- the cap in the plan of roles: 0, or 2 for all others, which is no other number of the plan

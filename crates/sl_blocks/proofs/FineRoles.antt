@@ -11,8 +11,8 @@ use Rattle.sl_verify.specs.Needs.{Context}
 use Rattle.sl_plans.specs.Trees.{Tree, Line, Then, size_of, ones}
 use Rattle.sl_plans.specs.Fine.{is_fine, judged_by, has_quiet_lines}
 use Rattle.sl_plans.specs.inner.Prices.{price_of, has_price, is_in_share}
-use Rattle.sl_scopes.specs.Forms.{Form, amounts_of, votes_of}
-use Rattle.sl_seats.specs.Slots.{Slots}
+use Rattle.sl_pieces.specs.scopes.Forms.{Form, amounts_of, votes_of}
+use Rattle.sl_pieces.specs.seats.Slots.{Slots}
 use Rattle.sl_blocks.proofs.Renaming.{Renaming, renamed, Renames, renamed_is_fine}
 
 -- ---- roles

@@ -18,10 +18,10 @@ use Rattle.sl_machine.specs.State.{State}
 use Rattle.sl_machine.specs.Places.{cells_of}
 use Rattle.sl_machine.specs.Memories.{column_of}
 use Rattle.sl_machine.specs.Effects.{name_of}
-use Rattle.sl_scopes.specs.Forms.{Form, amounts_of, votes_of}
-use Rattle.sl_columns.specs.Columns.{HoldsColumn}
-use Rattle.sl_seats.specs.Slots.{HasSlots}
-use Rattle.sl_nodes.specs.Scopes.{HoldsMinima, HoldsArguments}
+use Rattle.sl_pieces.specs.scopes.Forms.{Form, amounts_of, votes_of}
+use Rattle.sl_pieces.specs.columns.Columns.{HoldsColumn}
+use Rattle.sl_pieces.specs.seats.Slots.{HasSlots}
+use Rattle.sl_pieces.specs.nodes.Scopes.{HoldsMinima, HoldsArguments}
 use Rattle.sl_blocks.specs.declared.job.Job.{Job}
 use Rattle.sl_blocks.specs.Jobs.{slots_of, IsJob, TakesMinima, HasJob, HasWeights, name_in}
 

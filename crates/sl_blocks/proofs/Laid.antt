@@ -1,46 +1,42 @@
 -- Blocks as they are laid out: their plans, put together from those of their parts.
-use Rattle.std.proofs.Common.{◌≡◌, ℕ, ◌+◌, List, [], ◌∷◌, ◌++◌, None, Some, unwrap_or, Result, Ok, Err, IfOk, refl, ap, ◌∙◌, subst, append_assoc}
+use Rattle.std.proofs.Common.{◌≡◌, ℕ, List, [], ◌∷◌, length, None, Some, unwrap_or, Result, Ok, Err, IfOk, refl, subst}
 use Rattle.sl_stages.specs.declared.book.Shape.{Shape}
 use Rattle.sl_code.specs.declared.instr.Instr.{Instr}
-use Rattle.sl_code.specs.declared.instr.Instr.TheVariants.{Set, Mov, Get, Zero, Table, At}
+use Rattle.sl_code.specs.declared.instr.Instr.TheVariants.{Set, Mov, Get, Zero, Table}
 use Rattle.sl_code.specs.declared.operand.EndFault.TheVariants as end
 use Rattle.sl_code.specs.declared.operand.Ranking.TheVariants as ranking
-use Rattle.sl_verify.specs.Kinds.{start_kinds}
 use Rattle.sl_plans.specs.declared.plan.Test.TheVariants as test
-use Rattle.sl_plans.specs.Trees.{Tree, Line, Then, If, flat}
-use Rattle.sl_scopes.specs.Forms.{Form, table_of, scopes_plan}
-use Rattle.sl_awards.specs.Registers as reg
-use Rattle.sl_seats.specs.Trees.{nothing, faulty, not_over, ranking_of, tied}
-use Rattle.sl_nodes.specs.Trees.{within_limit, take_house}
+use Rattle.sl_plans.specs.Trees.{Tree, Line, Then, If}
+use Rattle.sl_pieces.specs.scopes.Forms.{Form, table_of, scopes_plan}
+use Rattle.sl_pieces.specs.awards.Registers as reg
+use Rattle.sl_pieces.specs.seats.Trees.{not_over, ranking_of, tied}
+use Rattle.sl_pieces.specs.nodes.Trees.{within_limit, take_house}
 use Rattle.sl_blocks.specs.declared.job.Job.{Job}
 use Rattle.sl_blocks.specs.declared.blanks.Block.{Block}
 use Rattle.sl_blocks.specs.Jobs.{IsJob}
 use Rattle.sl_blocks.specs.Layout.{IsLaid}
-use Rattle.sl_blocks.specs.LayoutParts.{form_in, slots_in, sum_entries, fill_outside, search_entries, search_batches, whole_batches, drawn_batch, refuse_in}
-use Rattle.sl_blocks.specs.LayoutParts.{rest_in, growth_with, all_with, split_all, growth_all, block_tree}
+use Rattle.sl_blocks.specs.inner.LayoutParts.{form_in, slots_in, sum_entries, fill_outside, search_entries, search_batches, some_votes, count_left}
+use Rattle.sl_blocks.specs.inner.LayoutParts.{whole_batches, drawn_batch, refuse_in, rest_in, growth_with, all_with, split_all, growth_all, block_tree}
 
 -- ---- laid out
-
--- a declaration, and behind it a plan that names the instructions given
-pub block_laid : (all : Tree) (tree : List Instr → Tree) (given instrs start reserved declared after : List Instr) (p n : ℕ) →
-    given ≡ instrs → tree instrs ≡ all → reserved ≡ start → declared ≡ reserved ++ At start_kinds ∷ [] → n ≡ p + 1 →
-    after ≡ declared ++ flat start_kinds n (tree given) → IsLaid all p start after
-block_laid all tree given instrs start reserved declared after p n given_is tree_is reserved_is declared_is n_is after_is =
-    let same : tree given ≡ all = ap tree given_is ∙ tree_is in
-    after_is
-    ∙ rw (same, declared_is, reserved_is, n_is) (append_assoc start (At start_kinds ∷ []) (flat start_kinds (p + 1) all))
 
 -- one tree is another
 pub laid_as : {R E : Type 0} (r : Result R E) (t u : Tree) (p : ℕ) (before after : List Instr) → t ≡ u →
     IfOk r (λ _. IsLaid t p before after) → IfOk r (λ _. IsLaid u p before after)
 laid_as r t u p before after same laid = subst (λ v. IfOk r (λ _. IsLaid v p before after)) same laid
 
+-- one place is another
+pub laid_at : {R E : Type 0} (r : Result R E) (t : Tree) (p q : ℕ) (before after : List Instr) → p ≡ q →
+    IfOk r (λ _. IsLaid t p before after) → IfOk r (λ _. IsLaid t q before after)
+laid_at r t p q before after same laid = subst (λ (n : ℕ). IfOk r (λ _. IsLaid t n before after)) same laid
+
 -- the form of the job is one
 pub form_laid : {R E : Type 0} (r : Result R E) (shapes : List Shape) (j : Job) (tree : Form → Tree) (p : ℕ) (before after : List Instr) (found : Form) →
-    ((f : Form) → IsJob shapes f j → found ≡ f) → IfOk r (λ _. IsLaid (tree found) p before after) →
-    IfOk r (λ _. (f : Form) → IsJob shapes f j → IsLaid (tree f) p before after)
-form_laid (Ok y) shapes j tree p before after found is laid = λ f job. subst (λ g. IsLaid (tree g) p before after) (is f job) laid
-form_laid (Err y) shapes j tree p before after found is laid = laid
+    p ≡ length before → ((f : Form) → IsJob shapes f j → found ≡ f) → IfOk r (λ _. IsLaid (tree found) p before after) →
+    IfOk r (λ _. (f : Form) → IsJob shapes f j → IsLaid (tree f) (length before) before after)
+form_laid (Ok y) shapes j tree p before after found place is laid =
+    λ f job. subst (λ g. IsLaid (tree g) (length before) before after) (is f job) (subst (λ (n : ℕ). IsLaid (tree found) n before after) place laid)
+form_laid (Err y) shapes j tree p before after found place is laid = laid
 
 -- ---- put together
 
@@ -51,22 +47,22 @@ module _ (b : Block) where
   all_as scope limits scopes limits_is scopes_is = rw (limits_is, scopes_is) refl
 
   -- the seats that are awarded and the majority clause
-  pub rest_as : (whole drawn refused : Tree) → whole ≡ whole_batches b → drawn ≡ drawn_batch b → refused ≡ refuse_in b →
+  pub rest_as : (counted whole drawn refused : Tree) → counted ≡ count_left → whole ≡ whole_batches b → drawn ≡ drawn_batch b → refused ≡ refuse_in b →
       Then
-      (Then (Line (Mov reg.all_left reg.left ∷ (Mov reg.turns reg.left ∷ [])))
+      (Then counted
       (Then whole
       (If (test.Zero reg.left) (Line [])
       (Then (If (test.Empty reg.peers) (Line []) (If (test.NotCovered b.job.stage) (tied (form_in b) (slots_in b)) (Line []))) drawn))))
       refused
       ≡ rest_in b
-  rest_as whole drawn refused whole_is drawn_is refused_is = rw (whole_is, drawn_is, refused_is) refl
+  rest_as counted whole drawn refused counted_is whole_is drawn_is refused_is = rw (counted_is, whole_is, drawn_is, refused_is) refl
 
   -- a scope of a growth, from its sums, its search and its first seats
-  pub growth_as : (cap : ℕ) (summed searched batched filled rest : Tree) →
-      summed ≡ sum_entries b → searched ≡ search_entries b → batched ≡ search_batches b cap → filled ≡ fill_outside b →
+  pub growth_as : (cap : ℕ) (summed voted searched batched filled rest : Tree) →
+      summed ≡ sum_entries b → voted ≡ some_votes b → searched ≡ search_entries b → batched ≡ search_batches b cap → filled ≡ fill_outside b →
       Then (Line (Get reg.amount b.job.amount ∷ []))
       (Then (Then (Line (Set reg.total 0 ∷ (Set reg.needed 0 ∷ []))) summed)
-      (Then (If (test.Zero reg.total) (faulty (form_in b) (slots_in b) end.NoList) nothing)
+      (Then voted
       (Then (not_over (form_in b) (slots_in b) reg.needed cap end.Cap)
       (Then
       (Then
@@ -74,8 +70,8 @@ module _ (b : Block) where
       (take_house (form_in b) (slots_in b) cap))
       (Then (Then (Line (Table (table_of (form_in b)) (ranking_of b.method) ∷ (Mov reg.left reg.amount ∷ []))) filled) rest)))))
       ≡ growth_with b cap rest
-  growth_as cap summed searched batched filled rest summed_is searched_is batched_is filled_is =
-      rw (summed_is, searched_is, batched_is, filled_is) refl
+  growth_as cap summed voted searched batched filled rest summed_is voted_is searched_is batched_is filled_is =
+      rw (summed_is, voted_is, searched_is, batched_is, filled_is) refl
 
   -- a block without a cap is a split, and one with a cap a growth
   pub block_as_split : (rest : Tree) → b.cap ≡ None → rest ≡ rest_in b → split_all b rest ≡ block_tree b

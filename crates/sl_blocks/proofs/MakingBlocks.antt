@@ -9,10 +9,10 @@ use Rattle.sl_code.specs.declared.code.CodeStage.{CodeStage}
 use Rattle.sl_code.specs.declared.instr.Instr.{Instr}
 use Rattle.sl_code.specs.Codes.{CountingCode}
 use Rattle.sl_plans.specs.Laid.{laid}
-use Rattle.sl_scopes.specs.Forms.{Form, amounts_of}
-use Rattle.sl_nodes.specs.Trees.{split_tree, grow_tree}
-use Rattle.sl_nodes.specs.Nodes.{HasResult, EndsWith}
-use Rattle.sl_nodes.proofs.Nodes.{splits_achieve, growths_achieve}
+use Rattle.sl_pieces.specs.scopes.Forms.{Form, amounts_of}
+use Rattle.sl_pieces.specs.nodes.Trees.{split_tree, grow_tree}
+use Rattle.sl_pieces.specs.nodes.Nodes.{HasResult, EndsWith}
+use Rattle.sl_pieces.proofs.nodes.Nodes.{splits_achieve, growths_achieve}
 use Rattle.sl_blocks.specs.declared.job.Job.{Job}
 use Rattle.sl_blocks.specs.Jobs.{slots_of, IsJob, TakesMinima, HasJob, HasWeights, SplitMeans, GrowthMeans, IsResultBlock}
 use Rattle.sl_blocks.proofs.FineRoles.{HasShapes}

@@ -13,9 +13,9 @@ use Rattle.sl_machine.specs.State.{State}
 use Rattle.sl_machine.specs.Places.{cells_of}
 use Rattle.sl_machine.specs.Memories.{column_of}
 use Rattle.sl_plans.specs.Laid.{laid}
-use Rattle.sl_covers.specs.Trees.{CoverSlots, cover_tree}
-use Rattle.sl_covers.specs.Covering.{HasCoverSlots, BeginsCovering, AreCovered, EndsInTie}
-use Rattle.sl_covers.proofs.Covering.{coverings_achieve}
+use Rattle.sl_pieces.specs.covers.Trees.{CoverSlots, cover_tree}
+use Rattle.sl_pieces.specs.covers.Covering.{HasCoverSlots, BeginsCovering, AreCovered, EndsInTie}
+use Rattle.sl_pieces.proofs.covers.Covering.{coverings_achieve}
 use Rattle.sl_blocks.specs.Covers.{IsCoverJob, HasSlotsOf, flagged, BeginsCover, IsCoverBlock}
 use Rattle.sl_blocks.proofs.FineCovers.{HasCoverShapes, cover_fine, cover_quiet, cover_priced, cover_short}
 use Rattle.sl_blocks.proofs.Standing.{MakesBlock, is_block}

@@ -14,11 +14,11 @@ use Rattle.sl_machine.specs.State.{State, End}
 use Rattle.sl_machine.specs.Memories.{column_of}
 use Rattle.sl_plans.specs.Achieves.{Achieves}
 use Rattle.sl_plans.proofs.Rules.{achieves_more}
-use Rattle.sl_scopes.specs.Forms.{Form, amounts_of}
-use Rattle.sl_seats.specs.Slots.{Slots}
-use Rattle.sl_nodes.specs.Trees.{split_tree, grow_tree}
-use Rattle.sl_nodes.specs.Scopes.{HoldsArguments}
-use Rattle.sl_nodes.specs.Nodes.{HasResult, EndsWith, SplitsAchieve, GrowthsAchieve}
+use Rattle.sl_pieces.specs.scopes.Forms.{Form, amounts_of}
+use Rattle.sl_pieces.specs.seats.Slots.{Slots}
+use Rattle.sl_pieces.specs.nodes.Trees.{split_tree, grow_tree}
+use Rattle.sl_pieces.specs.nodes.Scopes.{HoldsArguments}
+use Rattle.sl_pieces.specs.nodes.Nodes.{HasResult, EndsWith, SplitsAchieve, GrowthsAchieve}
 use Rattle.sl_blocks.specs.declared.job.Job.{Job}
 use Rattle.sl_blocks.specs.Jobs.{slots_of, IsJob, TakesMinima, HasJob, HasWeights, name_in, SplitMeans, GrowthMeans}
 use Rattle.sl_blocks.proofs.JobSlots.{has_slots, holds_arguments, fits_method}

@@ -1,5 +1,5 @@
 -- A covering as a block: the caller's conditions, and what the block does (docs/blocks.md, section 6).
-use Rattle.std.specs.Prelude.{◌≡◌, ◌≢◌, ℕ, ◌<◌, Bool, List, Some, nat_eq, slice_get}
+use Rattle.std.specs.Prelude.{◌≡◌, ◌≢◌, ℕ, ◌<◌, Bool, List, [], Some, nat_eq, slice_get, slice_index, slice_index_or}
 use Rattle.sl_stages.specs.declared.book.Shape.{Shape}
 use Rattle.sl_stages.specs.declared.book.Shape.TheVariants as shape
 use Rattle.sl_stages.specs.declared.table.Placed.TheVariants as placed
@@ -9,8 +9,8 @@ use Rattle.sl_code.specs.Codes.{CountingCode}
 use Rattle.sl_machine.specs.State.{State}
 use Rattle.sl_machine.specs.Effects.{one_if}
 use Rattle.sl_machine.specs.Memories.{column_of}
-use Rattle.sl_covers.specs.Trees.{CoverSlots}
-use Rattle.sl_covers.specs.Covering.{AreCovered, EndsInTie}
+use Rattle.sl_pieces.specs.covers.Trees.{CoverSlots}
+use Rattle.sl_pieces.specs.covers.Covering.{AreCovered, EndsInTie}
 use Rattle.sl_blocks.specs.Blocks.{IsBlock}
 
 -- among slots of these shapes those of the covering are there, and the one that it writes is not that of the seats
@@ -19,6 +19,10 @@ pub record IsCoverJob (shapes : List Shape) (x : CoverSlots) : Type 0 where
   pub eligible : slice_get shapes x.eligible ≡ Some shape.Party
   pub numbers : slice_get shapes x.numbers ≡ Some shape.List
   pub apart : x.base ≢ x.numbers
+
+-- the slots of a covering: the numbers of the pairs stand in the first scratch slot by list
+abbrev pub cover_slots : (base eligible : ℕ) (scratch : List (List ℕ)) → CoverSlots
+cover_slots base eligible scratch = record { base = base; eligible = eligible; numbers = slice_index (slice_index_or scratch 3 []) 0 }
 
 -- a code with slots of these shapes
 pub record HasSlotsOf (shapes : List Shape) (code : CountingCode) : Type 0 where

@@ -10,9 +10,9 @@ use Rattle.sl_code.specs.declared.operand.EndFault.TheVariants as end
 use Rattle.sl_code.specs.declared.operand.Ranking.TheVariants as ranking
 use Rattle.sl_code.specs.declared.operand.Rounding.{Rounding}
 use Rattle.sl_code.specs.declared.operand.Rounding.TheVariants as rounding
-use Rattle.sl_scopes.specs.Forms.{Form, AllParties, AllLands, AllLists, ListsOfParty, ListsInLand, table_of, kind_of}
-use Rattle.sl_awards.specs.Registers as reg
-use Rattle.sl_seats.specs.Trees.{ranking_of}
+use Rattle.sl_pieces.specs.scopes.Forms.{Form, AllParties, AllLands, AllLists, ListsOfParty, ListsInLand, table_of, kind_of}
+use Rattle.sl_pieces.specs.awards.Registers as reg
+use Rattle.sl_pieces.specs.seats.Trees.{ranking_of}
 use Rattle.sl_blocks.specs.declared.form.Form.{Form as CodeForm}
 use Rattle.sl_blocks.specs.declared.form.Form.TheVariants as code
 use Rattle.sl_blocks.specs.declared.blanks.Block.{Block}

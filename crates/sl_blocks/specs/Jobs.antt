@@ -14,10 +14,10 @@ use Rattle.sl_code.specs.declared.code.CodeStage.{CodeStage}
 use Rattle.sl_code.specs.Codes.{CountingCode}
 use Rattle.sl_machine.specs.State.{State}
 use Rattle.sl_machine.specs.Memories.{column_of}
-use Rattle.sl_scopes.specs.Forms.{Form, AllParties, AllLands, AllLists, ListsOfParty, ListsInLand, amounts_of, votes_of}
-use Rattle.sl_seats.specs.Slots.{Slots}
-use Rattle.sl_nodes.specs.Scopes.{stand}
-use Rattle.sl_nodes.specs.Nodes.{HasResult, EndsWith}
+use Rattle.sl_pieces.specs.scopes.Forms.{Form, AllParties, AllLands, AllLists, ListsOfParty, ListsInLand, amounts_of, votes_of}
+use Rattle.sl_pieces.specs.seats.Slots.{Slots}
+use Rattle.sl_pieces.specs.nodes.Scopes.{stand}
+use Rattle.sl_pieces.specs.nodes.Nodes.{HasResult, EndsWith}
 use Rattle.sl_blocks.specs.declared.job.Job.{Job}
 use Rattle.sl_blocks.specs.Blocks.{IsBlock}
 

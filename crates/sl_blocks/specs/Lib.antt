@@ -4,4 +4,4 @@ pub mod Jobs
 pub mod Covers
 pub mod Given
 pub mod Layout
-pub mod LayoutParts
+pub mod inner

@@ -1,9 +1,10 @@
 //! The seats that are awarded.
 
-ghost use Rattle.std.specs.Prelude.{◌≡◌};
+ghost use Rattle.std.specs.Prelude.{◌≡◌, List};
+ghost use Rattle.sl_code.specs.declared.instr.Instr.{Instr};
 ghost use Rattle.sl_plans.specs.Layout.{tree_of};
 ghost use Rattle.sl_blocks.specs.Given.{given_of};
-ghost use Rattle.sl_blocks.specs.LayoutParts.{whole_batches, drawn_batch};
+ghost use Rattle.sl_blocks.specs.inner.LayoutParts.{count_left, whole_batches, drawn_batch};
 
 use crate::batches::batches;
 use crate::blanks::{Block, DRAW, EMIT, ENTER_HELD, GET_HELD, GET_WEIGHT, STORE_HELD, TIE};
@@ -18,6 +19,13 @@ pub const COUNT_LEFT: &Plan<'static> = &Plan::Line(&[
     Fixed(Instr::Mov(ALL_LEFT, LEFT)),
     Fixed(Instr::Mov(TURNS, LEFT)),
 ]);
+
+/// Counts the seats to award, and as many turns.
+pub fn count_left() -> &'static Plan<'static>
+    ensures { (given : List Instr) → tree_of given result.now ≡ count_left }
+{
+    COUNT_LEFT
+}
 
 pub const ENDS_BY_TIE: &Plan<'static> = &Plan::Stop(TIE);
 
@@ -39,7 +47,7 @@ const SEAT_BY_QUOTIENTS: &Plan<'static> = &Plan::Then(ONE_MORE, ENTER_AGAIN);
 
 const SEAT_BY_REMAINDERS: &Plan<'static> = &Plan::Then(ONE_MORE, NOTHING);
 
-const COUNT_STEP: &Plan<'static> = &Plan::Line(&[
+pub const COUNT_STEP: &Plan<'static> = &Plan::Line(&[
     Fixed(Instr::Mov(STEP, ALL_LEFT)),
     Fixed(Instr::Sub(STEP, LEFT)),
     Fixed(Instr::Set(ONES, 1)),
@@ -47,7 +55,7 @@ const COUNT_STEP: &Plan<'static> = &Plan::Line(&[
 ]);
 
 /// A batch begins if there are seats for all peers.
-const WHOLE_BATCH: &Plan<'static> = &Plan::If(
+pub const WHOLE_BATCH: &Plan<'static> = &Plan::If(
     Test::Empty(PEERS),
     NOTHING,
     &Plan::If(
@@ -63,19 +71,21 @@ const WHOLE_BATCH: &Plan<'static> = &Plan::If(
     ),
 );
 
-const LESS_LEFT: &Plan<'static> = &Plan::Line(&[
+pub const LESS_LEFT: &Plan<'static> = &Plan::Line(&[
     Fixed(Instr::Set(ONES, 1)),
     Fixed(Instr::Sub(LEFT, ONES)),
 ]);
 
 const BATCHES_BY_QUOTIENTS: &Plan<'static> = batches!(
     TURNS,
+    Bound::AtMost(MAX_SEATS),
     WHOLE_BATCH,
     &Plan::Then(LESS_LEFT, SEAT_BY_QUOTIENTS)
 );
 
 const BATCHES_BY_REMAINDERS: &Plan<'static> = batches!(
     TURNS,
+    Bound::AtMost(MAX_SEATS),
     WHOLE_BATCH,
     &Plan::Then(LESS_LEFT, SEAT_BY_REMAINDERS)
 );
@@ -90,23 +100,33 @@ pub fn whole_batches(block: &Block) -> &'static Plan<'static>
     }
 }
 
-/// Awards the seats that are left by lot.
+/// Awards the seats that are left, at most the bound, by lot.
 macro_rules! draw_seats {
-    ($seat:expr) => {
+    ($bound:expr, $draw:expr, $seat:expr) => {
         &Plan::Then(
             COUNT_STEP,
             &Plan::Times(
                 LEFT,
-                Bound::AtMost(MAX_SEATS),
-                &Plan::If(Test::Empty(PEERS), NOTHING, &Plan::Then(&Plan::Line(&[DRAW]), $seat)),
+                $bound,
+                &Plan::If(Test::Empty(PEERS), NOTHING, &Plan::Then(&Plan::Line(&[$draw]), $seat)),
             ),
         )
     };
 }
 
-const DRAWN_BY_QUOTIENTS: &Plan<'static> = draw_seats!(SEAT_BY_QUOTIENTS);
+pub(crate) use draw_seats;
 
-const DRAWN_BY_REMAINDERS: &Plan<'static> = draw_seats!(SEAT_BY_REMAINDERS);
+const DRAWN_BY_QUOTIENTS: &Plan<'static> = draw_seats!(
+    Bound::AtMost(MAX_SEATS),
+    DRAW,
+    SEAT_BY_QUOTIENTS
+);
+
+const DRAWN_BY_REMAINDERS: &Plan<'static> = draw_seats!(
+    Bound::AtMost(MAX_SEATS),
+    DRAW,
+    SEAT_BY_REMAINDERS
+);
 
 /// Awards the seats that are left as the lot draws them.
 pub fn drawn_batch(block: &Block) -> &'static Plan<'static>

@@ -1,13 +1,13 @@
 //! Seats by batches of peers.
 
-/// So many turns, each of which may begin a batch and gives out a seat of it.
+/// So many turns, at most the bound, each of which may begin a batch and gives out a seat of it.
 macro_rules! batches {
-    ($turns:expr, $begin:expr, $seat:expr) => {
+    ($turns:expr, $bound:expr, $begin:expr, $seat:expr) => {
         &Plan::Then(
             &Plan::Line(&[Fixed(Instr::Set(IN_BATCH, 0))]),
             &Plan::Times(
                 $turns,
-                Bound::AtMost(MAX_SEATS),
+                $bound,
                 &Plan::Then(
                     &Plan::If(Test::Zero(IN_BATCH), $begin, NOTHING),
                     &Plan::If(

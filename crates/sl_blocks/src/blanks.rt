@@ -1,9 +1,9 @@
 //! The instructions that are given to the plans of a block: those that name its slots, its stage, its form or its method.
 
 ghost use Rattle.std.specs.Prelude.{◌≡◌};
-ghost use Rattle.sl_scopes.specs.Forms.{table_of, kind_of};
+ghost use Rattle.sl_pieces.specs.scopes.Forms.{table_of, kind_of};
 ghost use Rattle.sl_blocks.specs.Given.{meant, minimum_of, divisor_of, rounding_of, given_of};
-ghost use Rattle.sl_seats.specs.Trees.{ranking_of};
+ghost use Rattle.sl_pieces.specs.seats.Trees.{ranking_of};
 
 use crate::form::{Form, kind_of, table_of};
 use crate::job::Job;

@@ -3,9 +3,9 @@
 ghost use Rattle.std.specs.Prelude.{◌≡◌, ◌+◌, ◌<◌, IfOk, OnErr, IsSome, vec_len};
 ghost use Rattle.sl_plans.specs.Trees.{size_of};
 ghost use Rattle.sl_blocks.specs.Layout.{IsLaid};
-ghost use Rattle.sl_blocks.specs.LayoutParts.{block_tree};
+ghost use Rattle.sl_blocks.specs.inner.LayoutParts.{block_tree};
 
-use crate::awards::{COUNT_LEFT, ENDS_BY_TIE, drawn_batch, whole_batches};
+use crate::awards::{ENDS_BY_TIE, count_left, drawn_batch, whole_batches};
 use crate::blanks::Block;
 use crate::entries::NOTHING;
 use crate::growths::lay_growth_with;
@@ -31,7 +31,7 @@ pub fn lay_block(code: &mut Vec<Instr>, block: &Block) -> Result<(), NoMemory>
     let drawn = Plan::Then(&tie, drawn_batch(block));
     let last_batch = Plan::If(Test::Zero(LEFT), NOTHING, &drawn);
     let batches = Plan::Then(whole_batches(block), &last_batch);
-    let awards = Plan::Then(COUNT_LEFT, &batches);
+    let awards = Plan::Then(count_left(), &batches);
     let rest = Plan::Then(&awards, refuse(block));
     match block.cap {
         None => lay_split_with(code, block, &rest),

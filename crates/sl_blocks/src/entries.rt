@@ -5,7 +5,7 @@ ghost use Rattle.sl_code.specs.declared.instr.Instr.{Instr};
 ghost use Rattle.sl_plans.specs.Layout.{tree_of};
 ghost use Rattle.sl_plans.specs.declared.plan.Cursor.TheVariants as cursor;
 ghost use Rattle.sl_plans.specs.Trees.{Each};
-ghost use Rattle.sl_scopes.specs.Forms.{on_list, entries_plan, scopes_plan};
+ghost use Rattle.sl_pieces.specs.scopes.Forms.{on_list, entries_plan, scopes_plan};
 ghost use Rattle.sl_blocks.specs.Given.{meant};
 
 use crate::form::Form;

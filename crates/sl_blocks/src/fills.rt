@@ -3,7 +3,7 @@
 ghost use Rattle.std.specs.Prelude.{◌≡◌, IsSome};
 ghost use Rattle.sl_plans.specs.Layout.{tree_of};
 ghost use Rattle.sl_blocks.specs.Given.{given_of};
-ghost use Rattle.sl_blocks.specs.LayoutParts.{fill_entries, fill_outside};
+ghost use Rattle.sl_blocks.specs.inner.LayoutParts.{fill_entries, fill_outside};
 
 use crate::blanks::{Block, ENTER_BASE, GET_MINIMUM, GET_WEIGHT, GIVE, STORE_BASE, TABLE, WEIGH};
 use crate::entries::{NOTHING, each_entry};

@@ -1,7 +1,7 @@
 //! The forms of splits and growths: what the entries are, and in which scopes.
 
 ghost use Rattle.std.specs.Prelude.{◌≡◌};
-ghost use Rattle.sl_scopes.specs.Forms.{Form as SpecForm, table_of, kind_of};
+ghost use Rattle.sl_pieces.specs.scopes.Forms.{Form as SpecForm, table_of, kind_of};
 ghost use Rattle.sl_blocks.specs.Given.{meant};
 ghost use Rattle.sl_blocks.specs.Jobs.{IsJob};
 

@@ -5,8 +5,8 @@ ghost use Rattle.sl_plans.specs.Layout.{tree_of};
 ghost use Rattle.sl_plans.specs.Trees.{size_of};
 ghost use Rattle.sl_blocks.specs.Given.{given_of};
 ghost use Rattle.sl_blocks.specs.Jobs.{IsGrowthBlock, IsGrowthJob};
-ghost use Rattle.sl_blocks.specs.Layout.{IsLaid};
-ghost use Rattle.sl_blocks.specs.LayoutParts.{growth_all};
+ghost use Rattle.sl_blocks.specs.Layout.{IsLaid, IsLaidGrowth};
+ghost use Rattle.sl_blocks.specs.inner.LayoutParts.{growth_all};
 
 use crate::blanks::Block;
 use crate::blocks::lay_block;
@@ -15,14 +15,15 @@ use crate::form::form_of;
 use crate::houses::{CLEAR_SEARCH, TAKE_HOUSE, WITHIN_CAP, search_batches, search_entries};
 use crate::job::Job;
 use crate::scopes::{START_SCOPE, lay_scopes};
-use crate::sums::{CLEAR_SUMS, SOME_VOTES, sum_entries};
+use crate::sums::{CLEAR_SUMS, some_votes, sum_entries};
 use sl_code::{Instr, MAX_INSTRS};
 use sl_plans::Plan;
 use sl_ratio::{Divisor, Method, NoMemory};
 use sl_stages::Shape;
 
 /// Appends the block of a growth by a divisor method up to a cap of seats (docs/blocks.md, section 5): at most 1,000 instructions that
-/// leave the entries' seats in the slot of the result, or end the run with the growth's fault.
+/// leave the entries' seats in the slot of the result, or end the run with the growth's fault. It is the plan of `sl_pieces` behind a
+/// declaration.
 ///
 /// The slots of the job are among those given and have the shapes of a growth: one amount, and minima; the cap is at most 4,000; at most
 /// 199,000 instructions stand before.
@@ -39,6 +40,7 @@ pub fn grow_block(
     requires job { IsGrowthJob slots.now job.now cap }
     requires room { vec_len code.old ≤ 199000 }
     ensures ok { IfOk result (λ _. IsGrowthBlock slots.now job.now method cap code.old.items code.new.items) }
+    ensures laid { IfOk result (λ _. IsLaidGrowth slots.now job.now method cap code.old.items code.new.items) }
     ensures err { OnErr result (code.new.items ≡ code.old.items) }
 {
     let block = Block {
@@ -72,7 +74,7 @@ pub fn lay_growth_with(
     let filled = Plan::Then(&fill, &*rest);
     let grown = Plan::Then(&house, &filled);
     let capped = Plan::Then(WITHIN_CAP, &grown);
-    let voted = Plan::Then(SOME_VOTES, &capped);
+    let voted = Plan::Then(some_votes(), &capped);
     let summed = Plan::Then(&sums, &voted);
     let scope = Plan::Then(START_SCOPE, &summed);
     lay_scopes(code, block, &scope)

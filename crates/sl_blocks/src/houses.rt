@@ -4,7 +4,7 @@ ghost use Rattle.std.specs.Prelude.{◌≡◌, unwrap_or};
 ghost use Rattle.sl_plans.specs.Layout.{tree_of};
 ghost use Rattle.sl_blocks.specs.declared.blanks.Block.{Block as SpecBlock};
 ghost use Rattle.sl_blocks.specs.Given.{given_of};
-ghost use Rattle.sl_blocks.specs.LayoutParts.{search_entries, search_batches};
+ghost use Rattle.sl_blocks.specs.inner.LayoutParts.{search_entries, search_batches};
 
 use crate::awards::ENTER_AGAIN;
 use crate::batches::batches;
@@ -112,7 +112,7 @@ const SEARCH_SEAT: &Plan<'static> = &Plan::Then(
 
 const SEARCH_BATCHES: &Plan<'static> = &Plan::Then(
     &Plan::Line(&[Fixed(Instr::Set(ALL_LEFT, 0)), CAP_LEFT]),
-    batches!(LEFT, SEARCH_BATCH, SEARCH_SEAT),
+    batches!(LEFT, Bound::AtMost(MAX_SEATS), SEARCH_BATCH, SEARCH_SEAT),
 );
 
 /// The entries get seats until each minimum is met.

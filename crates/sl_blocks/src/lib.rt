@@ -5,6 +5,7 @@ mod awards;
 mod batches;
 mod blanks;
 mod blocks;
+mod covers;
 mod entries;
 mod fills;
 mod form;
@@ -17,6 +18,7 @@ mod scopes;
 mod splits;
 mod sums;
 
+pub use covers::cover_block;
 pub use growths::grow_block;
 pub use job::Job;
 pub use splits::split_block;

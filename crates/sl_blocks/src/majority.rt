@@ -3,7 +3,7 @@
 ghost use Rattle.std.specs.Prelude.{◌≡◌};
 ghost use Rattle.sl_plans.specs.Layout.{tree_of};
 ghost use Rattle.sl_blocks.specs.Given.{given_of};
-ghost use Rattle.sl_blocks.specs.LayoutParts.{refuse_in};
+ghost use Rattle.sl_blocks.specs.inner.LayoutParts.{refuse_in};
 
 use crate::blanks::{Block, GET_HELD, GET_WEIGHT, NO_MAJORITY};
 use crate::entries::NOTHING;

@@ -1,31 +1,19 @@
 //! A block over all its scopes.
 
-ghost use Rattle.std.specs.Prelude.{◌≡◌, ◌+◌, ◌<◌, ◌≤◌, [], ◌∷◌, ◌++◌, IfOk, OnErr, vec_len, vec_capacity};
-ghost use Rattle.sl_verify.specs.Kinds.{start_kinds};
+ghost use Rattle.std.specs.Prelude.{◌≡◌, ◌+◌, ◌<◌, IfOk, OnErr, vec_len};
 ghost use Rattle.sl_plans.specs.Layout.{tree_of};
 ghost use Rattle.sl_plans.specs.Trees.{size_of};
 ghost use Rattle.sl_blocks.specs.Given.{given_of};
 ghost use Rattle.sl_blocks.specs.Layout.{IsLaid};
-ghost use Rattle.sl_blocks.specs.LayoutParts.{all_with};
+ghost use Rattle.sl_blocks.specs.inner.LayoutParts.{all_with};
 
 use crate::blanks::{Block, GET_AMOUNT, OVER_LIMIT, ZERO_RESULT, given_of};
 use crate::entries::{NOTHING, each_scope};
 use crate::registers::{AMOUNT, FIRST_PASSING};
-use sl_code::{Cursors, Instr, Kinds, MAX_INSTRS, Registers};
+use sl_code::{Instr, MAX_INSTRS};
 use sl_plans::Part::Fixed;
-use sl_plans::{Plan, Test, put, size};
+use sl_plans::{Plan, Test, lay};
 use sl_ratio::{MAX_SEATS, NoMemory};
-
-/// Nothing is known where a block begins.
-const START: Kinds = Kinds {
-    positive: Registers { mask: 0 },
-    cursors: Cursors {
-        party: false,
-        land: false,
-        win: false,
-    },
-    table: None,
-};
 
 /// Ends where there are more seats than a scope may have.
 const WITHIN_LIMIT: &Plan<'static> = &Plan::Then(
@@ -60,18 +48,5 @@ pub fn lay_scopes<'a>(
     let scopes = each_scope(block.form, scope);
     let counted = Plan::Then(CLEAR_RESULT, &scopes);
     let all = Plan::Then(&limits, &counted);
-    code.reserve(size(&all, &given) as usize + 1)?;
-    declare(code);
-    put(code, &all, &given, START);
-    Ok(())
-}
-
-/// Declares that nothing is known, where there is room.
-fn declare(code: &mut Vec<Instr>)
-    requires { vec_len code.old < vec_capacity code.old }
-    ensures items { code.new.items ≡ code.old.items ++ Instr.At start_kinds ∷ [] }
-    ensures len { vec_len code.new ≡ vec_len code.old + 1 }
-    ensures capacity { vec_capacity code.old ≤ vec_capacity code.new }
-{
-    code.push(Instr::At(START)).unwrap()
+    lay(code, &all, &given)
 }

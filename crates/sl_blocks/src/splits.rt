@@ -5,8 +5,8 @@ ghost use Rattle.sl_plans.specs.Layout.{tree_of};
 ghost use Rattle.sl_plans.specs.Trees.{size_of};
 ghost use Rattle.sl_blocks.specs.Given.{given_of};
 ghost use Rattle.sl_blocks.specs.Jobs.{IsSplitBlock, IsSplitJob};
-ghost use Rattle.sl_blocks.specs.Layout.{IsLaid};
-ghost use Rattle.sl_blocks.specs.LayoutParts.{split_all};
+ghost use Rattle.sl_blocks.specs.Layout.{IsLaid, IsLaidSplit};
+ghost use Rattle.sl_blocks.specs.inner.LayoutParts.{split_all};
 
 use crate::blanks::Block;
 use crate::blocks::lay_block;
@@ -21,7 +21,7 @@ use sl_ratio::{Method, NoMemory};
 use sl_stages::Shape;
 
 /// Appends the block of a split by a method (docs/blocks.md, section 5): at most 1,000 instructions that leave the entries' seats in the
-/// slot of the result, or end the run with the split's fault.
+/// slot of the result, or end the run with the split's fault. It is the plan of `sl_pieces` behind a declaration.
 ///
 /// The slots of the job are among those given and have the shapes of a split; Hamilton's method takes no minima; at most 199,000
 /// instructions stand before.
@@ -37,6 +37,7 @@ pub fn split_block(
     requires job { IsSplitJob slots.now job.now method }
     requires room { vec_len code.old ≤ 199000 }
     ensures ok { IfOk result (λ _. IsSplitBlock slots.now job.now method code.old.items code.new.items) }
+    ensures laid { IfOk result (λ _. IsLaidSplit slots.now job.now method code.old.items code.new.items) }
     ensures err { OnErr result (code.new.items ≡ code.old.items) }
 {
     let block = Block {

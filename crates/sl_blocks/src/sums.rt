@@ -2,8 +2,9 @@
 
 ghost use Rattle.std.specs.Prelude.{◌≡◌};
 ghost use Rattle.sl_plans.specs.Layout.{tree_of};
+ghost use Rattle.sl_blocks.specs.declared.blanks.Block.{Block as SpecBlock};
 ghost use Rattle.sl_blocks.specs.Given.{given_of};
-ghost use Rattle.sl_blocks.specs.LayoutParts.{sum_entries};
+ghost use Rattle.sl_blocks.specs.inner.LayoutParts.{sum_entries, some_votes};
 
 use crate::blanks::{Block, GET_MINIMUM, GET_WEIGHT, NO_LIST, SHORT};
 use crate::entries::{NOTHING, each_entry};
@@ -59,5 +60,11 @@ pub const REFUSES_SEATS: &Plan<'static> = &Plan::Then(
     ),
 );
 
+const SOME_VOTES: &Plan<'static> = &Plan::If(Test::Zero(TOTAL), &Plan::Stop(NO_LIST), NOTHING);
+
 /// Ends where there are no votes.
-pub const SOME_VOTES: &Plan<'static> = &Plan::If(Test::Zero(TOTAL), &Plan::Stop(NO_LIST), NOTHING);
+pub fn some_votes() -> &'static Plan<'static>
+    ensures { (b : SpecBlock) → tree_of (given_of b) result.now ≡ some_votes b }
+{
+    SOME_VOTES
+}

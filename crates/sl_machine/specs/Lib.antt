@@ -6,6 +6,7 @@ pub mod Effects
 pub mod Runs
 pub mod Comes
 pub mod Memories
+pub mod Tables
 pub mod Answers
 pub mod Fits
 pub mod Safe

@@ -4,9 +4,11 @@ use Rattle.std.proofs.lemmas.List.{take_more, map-append}
 use Rattle.sl_code.specs.declared.instr.Instr.{Instr}
 use Rattle.sl_code.specs.declared.kinds.Kinds.{Kinds}
 use Rattle.sl_code.specs.declared.instr.Instr.TheVariants.{Jmp, At}
+use Rattle.sl_verify.specs.Kinds.{start_kinds}
 use Rattle.sl_plans.specs.declared.plan.Test.{Test}
 use Rattle.sl_plans.specs.declared.plan.Test.TheVariants as test
 use Rattle.sl_plans.specs.Trees.{Tree, If, size_of, flat, jump_of, at_join, known_after, known_after_all, known_in_arm, known_in_other}
+use Rattle.sl_plans.specs.Laid.{laid}
 
 known_after-append : (k : Kinds) (xs ys : List Instr) → known_after_all k (xs ++ ys) ≡ known_after_all (known_after_all k xs) ys
 known_after-append k [] ys = refl
@@ -58,3 +60,9 @@ if_laid k p t a b start one two three four five six jump in_other in_arm joined 
 
     in_one : (s fb fa : List Instr) (x y z w : Instr) → ((((((s ++ x ∷ []) ++ fb) ++ y ∷ []) ++ z ∷ []) ++ fa) ++ w ∷ []) ≡ s ++ (x ∷ (fb ++ (y ∷ (z ∷ (fa ++ (w ∷ []))))))
     in_one s fb fa x y z w = simp append_assoc refl
+
+-- a declaration, and behind it a plan
+pub laid_behind : (t : Tree) (start reserved declared after : List Instr) (p n : ℕ) → reserved ≡ start → declared ≡ reserved ++ At start_kinds ∷ [] → n ≡ p + 1
+    → after ≡ declared ++ flat start_kinds n t → after ≡ start ++ laid p t
+laid_behind t start reserved declared after p n reserved_is declared_is n_is after_is =
+    after_is ∙ rw (declared_is, reserved_is, n_is) (append_assoc start (At start_kinds ∷ []) (flat start_kinds (p + 1) t))

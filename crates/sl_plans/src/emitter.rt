@@ -1,12 +1,14 @@
 //! From plans to instructions.
 
 ghost use Rattle.std.specs.Prelude.{◌≡◌, ◌+◌, ◌<◌, ◌≤◌, [], ◌∷◌, ◌++◌, map, length, IfOk, OnErr, vec_len, vec_capacity};
+ghost use Rattle.sl_verify.specs.Kinds.{start_kinds};
+ghost use Rattle.sl_plans.specs.Laid.{laid};
 ghost use Rattle.sl_plans.specs.Layout.{filled, tree_of};
 ghost use Rattle.sl_plans.specs.Trees.{size_of, flat, jump_of, to_first, to_next, known_after_all, kinds_after};
 
 use crate::known::{at_join, known_after, known_in_arm, with_cursor_known};
 use crate::plan::{Cursor, Part, Plan, Test};
-use sl_code::{Instr, Kinds, MAX_INSTRS};
+use sl_code::{Cursors, Instr, Kinds, MAX_INSTRS, Registers};
 use sl_ratio::NoMemory;
 
 /// The register of the number 1, by which other registers count.
@@ -32,6 +34,35 @@ pub fn emit(
 {
     code.reserve(size(plan, given) as usize)?;
     Ok(put(code, plan, given, known))
+}
+
+/// Nothing is known.
+const START: Kinds = Kinds {
+    positive: Registers { mask: 0 },
+    cursors: Cursors {
+        party: false,
+        land: false,
+        win: false,
+    },
+    table: None,
+};
+
+/// Appends a declaration that nothing is known, and behind it a plan's instructions (docs/plans.md, section 10). The parts of the plan
+/// that are numbers stand for the instructions given.
+///
+/// It asks for memory once, before the first instruction.
+///
+/// # Errors
+/// Without memory, the code is as it was.
+pub fn lay(code: &mut Vec<Instr>, plan: &Plan<'_>, given: &[Instr]) -> Result<(), NoMemory>
+    requires { vec_len code.old + size_of (tree_of given.now plan.now) < MAX_INSTRS }
+    ensures ok { IfOk result (λ _. code.new.items ≡ code.old.items ++ laid (vec_len code.old) (tree_of given.now plan.now)) }
+    ensures err { OnErr result (code.new.items ≡ code.old.items) }
+{
+    code.reserve(size(plan, given) as usize + 1)?;
+    push(code, Instr::At(START));
+    put(code, plan, given, START);
+    Ok(())
 }
 
 /// How many instructions a plan is.

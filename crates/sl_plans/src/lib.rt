@@ -7,6 +7,6 @@ pub mod laws;
 mod plan;
 mod totals;
 
-pub use emitter::{ONES, emit, put, size};
+pub use emitter::{ONES, emit, lay, put, size};
 pub use plan::{Bound, Cursor, Part, Plan, Test};
 pub use totals::sum_column;

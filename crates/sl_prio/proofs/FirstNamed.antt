@@ -27,7 +27,7 @@ module _ (lot : List ℕ) (y z : Entry) where
       ap (nat_cmp (place_in_lot lot y.index)) (sym e) ∙ tied_itself nat_cmp_total (place_in_lot lot y.index) in
       ap (λ r. ordering_then (ordering_then r (nat_cmp y.index z.index)) (entry_cmp z y)) tied
 
-  before_later : place_in_lot lot y.index < place_in_lot lot z.index → AtMost (lot_cmp lot) y z
+  pub before_later : place_in_lot lot y.index < place_in_lot lot z.index → AtMost (lot_cmp lot) y z
   before_later l =
       let less : nat_cmp (place_in_lot lot y.index) (place_in_lot lot z.index) ≡ Less = rw (lt-ltb (place_in_lot lot y.index) (place_in_lot lot z.index) l) refl in
       ap (λ r. is_le (ordering_then (ordering_then r (nat_cmp y.index z.index)) (entry_cmp z y))) less

@@ -14,3 +14,6 @@ pub mod Heaps
 pub mod Marks
 pub mod Subtrees
 pub mod Seen
+pub mod PeerCounts
+pub mod PeerMarks
+pub mod OnlyPeers

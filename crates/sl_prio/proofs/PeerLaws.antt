@@ -28,7 +28,7 @@ use Rattle.sl_prio.proofs.Fronts.{HasRatio, quotient_at_most, le_first}
 
 -- ---- entries with one quotient
 
-tied : (x y : Entry) → HasRatio x → HasRatio y → has_quotient_of x y ≡ true → quotient_cmp x.ratio y.ratio ≡ Equal
+pub tied : (x y : Entry) → HasRatio x → HasRatio y → has_quotient_of x y ≡ true → quotient_cmp x.ratio y.ratio ≡ Equal
 tied x y fits_x fits_y h = quotient_cmp-positive x.ratio y.ratio fits_x.positive fits_y.positive ∙ (Equal-is (compare x.ratio y.ratio)).0 h
 
 -- what is compared with y answers as with x
@@ -40,10 +40,10 @@ module _ (xs : List Entry) (ratios : All HasRatio xs) (first : Entry) (is_top : 
   here : Contains xs first
   here = (greatest-Some entry_cmp entry_order xs first is_top).0
 
-  fits_first : HasRatio first
+  pub fits_first : HasRatio first
   fits_first = All-at HasRatio xs first ratios here
 
-  up_to_top : (z : Entry) → Contains xs z → is_le (quotient_cmp z.ratio first.ratio) ≡ true
+  pub up_to_top : (z : Entry) → Contains xs z → is_le (quotient_cmp z.ratio first.ratio) ≡ true
   up_to_top z c = quotient_at_most z first (All-at (AtMost entry_cmp first) xs z (greatest-Some entry_cmp entry_order xs first is_top).1 c)
 
   listed : List Entry
@@ -53,10 +53,14 @@ module _ (xs : List Entry) (ratios : All HasRatio xs) (first : Entry) (is_top : 
   unfolding listed
   peers_listed = subst (λ (ys : List Entry). IsPermutation listed ys) (sym (peers-at_top xs first is_top)) (ranked-permutation listed)
 
-  none_exceeds : (x : Entry) → Contains (peers xs) x → Contains xs x × All (λ other. IsTrue (is_le (compare other.ratio x.ratio))) xs
+  -- a peer has the quotient of the top
+  pub has_top_quotient : (x : Entry) → Contains (peers xs) x → Contains xs x × (has_quotient_of first x ≡ true)
   unfolding listed
+  has_top_quotient x c = filter-Contains (has_quotient_of first) xs x (Contains-permutation (peers xs) listed x (IsPermutation-sym listed (peers xs) peers_listed) c)
+
+  none_exceeds : (x : Entry) → Contains (peers xs) x → Contains xs x × All (λ other. IsTrue (is_le (compare other.ratio x.ratio))) xs
   none_exceeds x c =
-      let there = filter-Contains (has_quotient_of first) xs x (Contains-permutation (peers xs) listed x (IsPermutation-sym listed (peers xs) peers_listed) c) in
+      let there = has_top_quotient x c in
       let fits = All-at HasRatio xs x ratios there.0 in
       let one : quotient_cmp first.ratio x.ratio ≡ Equal = tied first x fits_first fits there.1 in (
         there.0,

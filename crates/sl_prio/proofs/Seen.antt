@@ -3,7 +3,9 @@ use Rattle.std.proofs.Common.{◌≡◌, ℕ, List, length, slice_get, Some, Con
 use Rattle.std.specs.List.{list_any}
 use Rattle.std.specs.Prelude.{nat_eq}
 use Rattle.std.proofs.lemmas.List.Elements.{All-tail}
+use Rattle.std.proofs.lemmas.List.Sorted.{Contains-permutation, IsPermutation-sym}
 use Rattle.sl_ratio.specs.declared.entry.Entry.{Entry}
+use Rattle.sl_prio.specs.Ranking.{ranked}
 use Rattle.sl_prio.specs.Prio.{top, peers, is_covered}
 use Rattle.sl_prio.specs.Lot.{drawn, lot_cmp}
 use Rattle.sl_prio.specs.Laws.{AnswersAlike}
@@ -12,8 +14,9 @@ use Rattle.sl_prio.proofs.Finding.{Contains-cases}
 use Rattle.sl_prio.proofs.Greatest.{AtMost}
 use Rattle.sl_prio.proofs.Heaps.{top_at_first}
 use Rattle.sl_prio.proofs.LawProofs.{order_is_free}
+use Rattle.sl_prio.proofs.Rankings.{ranked-permutation}
 use Rattle.sl_prio.proofs.Subtrees.{subtree_permutation}
-use Rattle.sl_prio.proofs.Tables.{peers-length, peers-list_all, top-peer, drawn-is}
+use Rattle.sl_prio.proofs.Tables.{peers-at_top, peers-length, peers-list_all, top-peer, drawn-is}
 
 module _ (xs : List Entry) (heap : IsHeap xs) (first : Entry) (at : slice_get xs 0 ≡ Some first) where
   same : AnswersAlike xs (subtree xs 0)
@@ -31,6 +34,25 @@ module _ (xs : List Entry) (heap : IsHeap xs) (first : Entry) (at : slice_get xs
   -- the first is among its peers
   pub seen_first : Contains (peers_under first xs 0) first
   seen_first = top-peer (subtree xs 0) first first_is
+
+  -- the peers below the first place are those of the table
+  pub seen_peer : (x : Entry) → Contains (peers_under first xs 0) x → Contains (peers xs) x
+  seen_peer x c =
+      let under = peers_under first xs 0 in
+      subst (λ (ps : List Entry). Contains ps x) (sym (same.same_peers ∙ peers-at_top (subtree xs 0) first first_is)) (Contains-permutation under (ranked under) x (ranked-permutation under) c)
+
+  pub seen_under : (x : Entry) → Contains (peers xs) x → Contains (peers_under first xs 0) x
+  seen_under x c =
+      let under = peers_under first xs 0 in
+      Contains-permutation (ranked under) under x (IsPermutation-sym under (ranked under) (ranked-permutation under))
+      (subst (λ (ps : List Entry). Contains ps x) (same.same_peers ∙ peers-at_top (subtree xs 0) first first_is) c)
+
+  -- what a lot draws is one of them
+  pub seen_among : (lot : List ℕ) (x : Entry) → IsDrawnOf lot (peers_under first xs 0) first x → Contains (peers xs) x
+  seen_among lot x h = elim (Contains-cases first (peers_under first xs 0) x h.among) [
+    | inl e ↦ subst (λ (z : Entry). Contains (peers xs) z) e (seen_peer first seen_first)
+    | inr c ↦ seen_peer x c
+  ]
 
   pub seen_drawn : (lot : List ℕ) (x : Entry) → IsDrawnOf lot (peers_under first xs 0) first x → drawn lot xs ≡ Some x
   seen_drawn lot x h =

@@ -1,7 +1,7 @@
 //! A binary heap of entries in a slice, whose greatest entry stands first: no entry is greater than the one at its parent's place.
 //! The children of place `p` stand at `2 * p + 1` and `2 * p + 2`.
 
-ghost use Rattle.std.specs.Prelude.{◌+◌, ◌*◌, ◌<◌, ◌≤◌, length, IsPermutation, MatchOption};
+ghost use Rattle.std.specs.Prelude.{◌≡◌, ◌+◌, ◌*◌, ◌<◌, ◌≤◌, ◌∷◌, length, slice_index_or, IsPermutation, MatchOption};
 ghost use Rattle.sl_prio.specs.inner.Heap.{IsHeap, IsHeapBut, MayRise, IsGreatestChild, HasChildrenUnder};
 
 use sl_ratio::Entry;
@@ -32,6 +32,21 @@ pub(crate) fn mend(entries: &mut [Entry], place: usize)
 {
     let settled = sift_down(entries, place);
     sift_up(entries, settled);
+}
+
+// Takes the entry at a place out of a heap.
+pub(crate) fn take_out(entries: &mut Vec<Entry>, place: usize) -> Entry
+    requires within { place < length entries.old.items }
+    requires heap { IsHeap entries.old.items }
+    ensures value { result ≡ slice_index_or entries.old.items place result }
+    ensures rest { IsPermutation entries.old.items (result ∷ entries.new.items) }
+    ensures heap { IsHeap entries.new.items }
+{
+    let removed = entries.swap_remove(place);
+    if place < entries.len() {
+        mend(entries, place);
+    }
+    removed
 }
 
 // Moves the entry at a place down, until no child is greater, and answers the place at which it then stands.

@@ -1,12 +1,13 @@
 //! The peers of a heap's top. They stand together from the first place on: an entry with the top's quotient has a parent with it,
 //! and so a place is visited only where its parent's quotient is the top's.
 
-ghost use Rattle.std.specs.Prelude.{◌≡◌, ◌<◌, ◌||◌, ℕ, Bool, [], MatchOption, Some, length, slice_get};
-ghost use Rattle.sl_prio.specs.Prio.{has_quotient_of};
-ghost use Rattle.sl_prio.specs.inner.Heap.{IsKept, IsPeerAt, IsDrawnFrom, are_named, peers_under};
-ghost use Rattle.sl_prio.specs.inner.Marks.{AreMarks, names, have_index, first_named};
+ghost use Rattle.std.specs.Prelude.{◌≡◌, ◌+◌, ◌<◌, ◌||◌, ℕ, Bool, [], MatchOption, IfSome, IsTrue, None, Some, false, length, slice_get, slice_index_or};
+ghost use Rattle.sl_ratio.specs.declared.entry.Entry.{Entry};
+ghost use Rattle.sl_prio.specs.Prio.{has_quotient_of, peers};
+ghost use Rattle.sl_prio.specs.inner.Heap.{IsKept, IsPeerAt, IsFirstAt, IsFirstNamed, IsOnly, IsDrawnFrom, are_named, is_peer_with, peers_under};
+ghost use Rattle.sl_prio.specs.inner.Marks.{AreMarks, HaveMarks, names, have_index, first_named};
 
-use crate::lot::{MARKS, Marks, is_named, lot_cmp, mark};
+use crate::lot::{MARKS, Marks, is_named, lot_cmp, mark, unmark};
 use sl_ratio::Entry;
 
 // Whether an entry has the quotient of the top.
@@ -31,7 +32,7 @@ fn peer_at(entries: &[Entry], top: &Entry, place: usize) -> Option<Entry>
 }
 
 // The number of peers at a place and below it.
-pub(crate) fn count(entries: &[Entry], top: &Entry, place: usize) -> usize
+fn count(entries: &[Entry], top: &Entry, place: usize) -> usize
     requires kept { IsKept entries.now }
     requires first { slice_get entries.now 0 ≡ Some top.now }
     ensures { result ≡ length (peers_under top.now entries.now place) }
@@ -40,6 +41,64 @@ pub(crate) fn count(entries: &[Entry], top: &Entry, place: usize) -> usize
         Some(_) => 1 + count(entries, top, 2 * place + 1) + count(entries, top, 2 * place + 2),
         None => 0,
     }
+}
+
+// Takes the marks of `before` peers away, if one entry alone exceeds them. `top` is their top.
+pub(crate) fn clear_exceeded(marks: &mut Marks, count: usize, top: Option<Entry>, before: usize)
+    ensures { 1 < count → marks.new ≡ marks.old }
+{
+    if count > 1 {
+        return;
+    }
+    if before == 1 {
+        unmark(marks, top.map(|top| top.index));
+    } else {
+        clear_stale(marks, before > 1);
+    }
+}
+
+// Takes all marks away, if some may be stale.
+fn clear_stale(marks: &mut Marks, stale: bool) {
+    if stale {
+        *marks = [false; MARKS];
+    }
+}
+
+// Counts the peers of a heap, and marks their indexes.
+fn count_anew(entries: &[Entry], marks: &mut Marks, stale: bool) -> usize
+    requires kept { IsKept entries.now }
+    ensures count { result ≡ length (peers entries.now) }
+    ensures marks { HaveMarks (peers entries.now) marks.new }
+{
+    let Some(top) = entries.first() else {
+        return 0;
+    };
+    clear_stale(marks, stale);
+    mark_indexes(entries, top, marks, 0);
+    count(entries, top, 0)
+}
+
+// The number of peers in a heap that had so many before one of them was taken, and their marks. `gone` is its index, if no other peer
+// had that. Where it was the only peer, they are counted anew.
+pub(crate) fn peers_left(
+    entries: &[Entry],
+    marks: &mut Marks,
+    stale: bool,
+    before: usize,
+    gone: Option<u32>,
+) -> usize
+    requires kept { IsKept entries.now }
+    requires one { 1 < before → before ≡ length (peers entries.now) + 1 }
+    requires marks { 1 < before → HaveMarks (peers entries.now) marks.old }
+    requires gone { 1 < before → IfSome gone (λ index. have_index (peers entries.now) index ≡ false) }
+    ensures count { result ≡ length (peers entries.now) }
+    ensures marks { HaveMarks (peers entries.now) marks.new }
+{
+    unmark(marks, gone);
+    if before > 1 {
+        return before - 1;
+    }
+    count_anew(entries, marks, stale)
 }
 
 // Whether a lot with these marks names the index of each peer at a place and below it.
@@ -78,55 +137,49 @@ fn mark_indexes(entries: &[Entry], top: &Entry, marks: &mut Marks, place: usize)
     }
 }
 
-// Whether a peer at a place or below it has an index.
-fn have_index(entries: &[Entry], top: &Entry, index: u32, place: usize) -> bool
+// The first place at which a peer with an index stands. An index without a mark is not searched for.
+fn place_of(entries: &[Entry], top: &Entry, marks: &Marks, index: u32) -> Option<usize>
     requires kept { IsKept entries.now }
-    requires first { slice_get entries.now 0 ≡ Some top.now }
-    ensures { result ≡ have_index (peers_under top.now entries.now place) index }
-{
-    match peer_at(entries, top, place) {
-        Some(peer) => {
-            peer.index == index
-                || have_index(entries, top, index, 2 * place + 1)
-                || have_index(entries, top, index, 2 * place + 2)
-        }
-        None => false,
-    }
-}
-
-// Whether a peer has an index. These are the marks of the peers' indexes, and only an index without a mark is searched for.
-fn is_marked(entries: &[Entry], top: &Entry, marks: &Marks, index: u32) -> bool
-    requires marks { AreMarks (have_index (peers_under top.now entries.now 0)) marks.now }
-    requires kept { IsKept entries.now }
-    requires first { slice_get entries.now 0 ≡ Some top.now }
-    ensures { result ≡ have_index (peers_under top.now entries.now 0) index }
+    requires marks { HaveMarks (peers_under top.now entries.now 0) marks.now }
+    ensures { MatchOption result (have_index (peers_under top.now entries.now 0) index ≡ false) (IsFirstAt (is_peer_with top.now index) entries.now) }
 {
     let place = index as usize;
-    if place < MARKS {
-        marks[place]
-    } else {
-        have_index(entries, top, index, 0)
+    if place < MARKS && !marks[place] {
+        return None;
     }
+    entries
+        .iter()
+        .position(|entry| entry.index == index && is_peer(top, entry))
 }
 
-// The first name of a lot that is the index of a peer.
-pub(crate) fn first_named(entries: &[Entry], top: &Entry, lot: &[u32]) -> Option<u32>
+// The first place at which a peer stands that has the first name of a lot that is the index of a peer.
+fn first_named(entries: &[Entry], top: &Entry, marks: &Marks, lot: &[u32]) -> Option<usize>
     requires kept { IsKept entries.now }
-    requires first { slice_get entries.now 0 ≡ Some top.now }
-    ensures { result ≡ first_named lot.now (peers_under top.now entries.now 0) }
+    requires marks { HaveMarks (peers_under top.now entries.now 0) marks.now }
+    ensures { MatchOption result (first_named lot.now (peers_under top.now entries.now 0) ≡ None) (IsFirstNamed lot.now top.now entries.now) }
 {
-    let mut marks = [false; MARKS];
-    mark_indexes(entries, top, &mut marks, 0);
     for named in lot {
-        if is_marked(entries, top, &marks, *named) {
-            return Some(*named);
+        if let Some(place) = place_of(entries, top, marks, *named) {
+            return Some(place);
         }
     }
     None
 }
 
+// Whether the entry at a place is the only peer with its index, where no peer before it has that.
+fn is_only(entries: &[Entry], top: &Entry, place: usize) -> bool
+    requires within { place < length entries.now }
+    ensures { (d : Entry) → IsFirstAt (is_peer_with top.now (slice_index_or entries.now place d).index) entries.now place → IsTrue result →
+        IsOnly top.now entries.now place (slice_index_or entries.now place d).index }
+{
+    let index = entries[place].index;
+    !entries[place + 1..]
+        .iter()
+        .any(|entry| entry.index == index && is_peer(top, entry))
+}
+
 // The place of the one that a lot draws first of the entry at `best` and the peers at a place and below it.
-pub(crate) fn draw(entries: &[Entry], top: &Entry, lot: &[u32], place: usize, best: usize) -> usize
+fn draw(entries: &[Entry], top: &Entry, lot: &[u32], place: usize, best: usize) -> usize
     requires kept { IsKept entries.now }
     requires first { slice_get entries.now 0 ≡ Some top.now }
     requires within { best < length entries.now }
@@ -139,4 +192,27 @@ pub(crate) fn draw(entries: &[Entry], top: &Entry, lot: &[u32], place: usize, be
     let here = if earlier { place } else { best };
     let left = draw(entries, top, lot, 2 * place + 1, here);
     draw(entries, top, lot, 2 * place + 2, left)
+}
+
+// The place of the peer that a lot draws, and its index, if no other peer has that.
+pub(crate) fn drawn_at(
+    entries: &[Entry],
+    top: &Entry,
+    marks: &Marks,
+    lot: &[u32],
+) -> (usize, Option<u32>)
+    requires kept { IsKept entries.now }
+    requires first { slice_get entries.now 0 ≡ Some top.now }
+    requires marks { HaveMarks (peers_under top.now entries.now 0) marks.now }
+    ensures drawn { IsDrawnFrom lot.now entries.now (peers_under top.now entries.now 0) 0 result.0 }
+    ensures gone { IfSome result.1 (IsOnly top.now entries.now result.0) }
+{
+    let Some(place) = first_named(entries, top, marks, lot) else {
+        return (draw(entries, top, &[], 0, 0), None);
+    };
+    let index = entries[place].index;
+    if is_only(entries, top, place) {
+        return (place, Some(index));
+    }
+    (draw(entries, top, &[index], 0, 0), None)
 }

@@ -1,18 +1,21 @@
 //! The entries of a scope, from which the greatest is taken first.
 
-ghost use Rattle.std.specs.Prelude.{◌≡◌, ◌<◌, ◌&&◌, ◌↔◌, IsTrue, [], ◌∷◌, length, slice_get, slice_index_or, OnOk, OnErr, IfSome, IfNone, IsPermutation};
+ghost use Rattle.std.specs.Prelude.{◌≡◌, ◌<◌, ◌&&◌, ◌↔◌, IsTrue, Contains, [], ◌∷◌, length, slice_get, slice_index_or, OnOk, OnErr, IfSome, IfNone, IsPermutation, MatchOption, Some};
+ghost use Rattle.sl_prio.specs.inner.Heap.{IsOnly, IsNewPeer, IsPassed};
 ghost use Rattle.std.specs.List.{count_by, filter};
 ghost use Rattle.std.specs.Ordering.{is_gt, is_ge};
+ghost use Rattle.sl_ratio.specs.Quotient.{FitsRatio};
 ghost use Rattle.sl_ratio.specs.Entry.{entry_cmp};
 ghost use Rattle.sl_prio.specs.Ranking.{ranked};
 ghost use Rattle.sl_prio.specs.Prio.{has_quotient_of, top, peers, is_covered};
 ghost use Rattle.sl_prio.specs.Lot.{drawn};
 
-use crate::heap::{mend, sift_up};
-use crate::lot::marks;
-use crate::peers::{are_named, count, draw, first_named, is_peer};
+use crate::heap::{sift_up, take_out};
+use crate::lot::{MARKS, Marks, mark, marks};
+use crate::peers::{are_named, clear_exceeded, drawn_at, is_peer, peers_left};
 use sl_ratio::{Entry, NoMemory};
 use std::alloc::Global;
+use std::cmp::Ordering;
 use std::marker::Model;
 
 /// A priority table: the entries that it holds, of which the greatest is the top. The peers of the top are the entries with its
@@ -20,18 +23,24 @@ use std::marker::Model;
 #[derive(Debug, Drop)]
 pub struct Prio {
     entries: Vec<Entry>,
+    // how many peers the top has, itself among them
+    count: usize,
+    // the peers' indexes have marks; another may have one that a peer left behind
+    marks: Marks,
+    // whether one may
+    stale: bool,
 }
 
 impl Model for Prio {
     ghost use Rattle.std.specs.Prelude.{List};
     ghost use Rattle.sl_ratio.specs.declared.entry.Entry.{Entry};
-    ghost use Rattle.sl_prio.specs.inner.Heap.{IsKept};
+    ghost use Rattle.sl_prio.specs.inner.Heap.{IsTable};
 
     ghost Value = { List Entry };
 
     ghost view = { λ p. p.entries.items };
 
-    ghost invariant = { λ p. IsKept p.entries.items };
+    ghost invariant = { λ p. IsTable p.entries.items p.count p.marks };
 }
 
 impl Prio {
@@ -41,6 +50,9 @@ impl Prio {
     {
         Prio {
             entries: Vec::new(alloc),
+            count: 0,
+            marks: [false; MARKS],
+            stale: false,
         }
     }
 
@@ -49,6 +61,9 @@ impl Prio {
         ensures { self.new ≡ [] }
     {
         self.entries.clear();
+        self.count = 0;
+        self.marks = [false; MARKS];
+        self.stale = false;
     }
 
     /// Puts an entry into the table, beside those that it holds, an equal one too.
@@ -62,10 +77,33 @@ impl Prio {
     {
         // no ratio has numerator 0: in order, only entries with their quotient come between two entries with one quotient
         prove!(entry.ratio.num() > 0);
+        let joined = self.peers_with(&entry);
+        let exceeded = self.top();
         let place = self.entries.len();
         self.entries.push(entry)?;
         sift_up(&mut self.entries, place);
+        let Some(count) = joined else {
+            return Ok(());
+        };
+        clear_exceeded(&mut self.marks, count, exceeded, self.count);
+        mark(&mut self.marks, entry.index);
+        self.count = count;
         Ok(())
+    }
+
+    // The number of peers that there are with one entry more, or `None` where that is none of them.
+    fn peers_with(&self, entry: &Entry) -> Option<usize>
+        requires { FitsRatio entry.now.ratio }
+        ensures { MatchOption result (IsPassed self.now entry.now) (IsNewPeer self.now entry.now) }
+    {
+        let Some(top) = self.entries.first() else {
+            return Some(1);
+        };
+        match entry.ratio.cmp(&top.ratio) {
+            Ordering::Less => None,
+            Ordering::Equal => Some(self.count + 1),
+            Ordering::Greater => Some(1),
+        }
     }
 
     /// The number of entries.
@@ -93,10 +131,7 @@ impl Prio {
     pub fn peers(&self) -> usize
         ensures { result ≡ length (peers self.now) }
     {
-        match self.entries.first() {
-            Some(top) => count(&self.entries, top, 0),
-            None => 0,
-        }
+        self.count
     }
 
     /// The peer at place `i` from the greatest, counted from 0, or `None` where there are no more than `i` peers. Peers have equal
@@ -144,10 +179,10 @@ impl Prio {
         ensures rest { IfSome result (λ entry. IsPermutation self.old (entry ∷ self.new)) }
         ensures none { IfNone result (self.new ≡ self.old) }
     {
-        if self.entries.is_empty() {
-            return None;
-        }
-        Some(self.remove(0))
+        let top = *self.entries.first()?;
+        // an only peer leaves no other with its index
+        let gone = (self.count == 1).then_some(top.index);
+        Some(self.remove(0, gone))
     }
 
     /// Whether a lot names the index of each peer of the top, as it does where there is no entry.
@@ -170,21 +205,22 @@ impl Prio {
         ensures none { IfNone result (self.new ≡ self.old) }
     {
         let top = *self.entries.first()?;
-        let named = first_named(&self.entries, &top, lot);
-        let place = draw(&self.entries, &top, named.as_slice(), 0, 0);
-        Some(self.remove(place))
+        let (place, gone) = drawn_at(&self.entries, &top, &self.marks, lot);
+        Some(self.remove(place, gone))
     }
 
-    // Takes the entry at a place away.
-    fn remove(&mut self, place: usize) -> Entry
-        requires { place < length self.old }
+    // Takes the peer at a place away. `gone` is its index, if no other peer has that.
+    fn remove(&mut self, place: usize, gone: Option<u32>) -> Entry
+        requires within { place < length self.old }
+        requires peer { (d : Entry) → Contains (peers self.old) (slice_index_or self.old place d) }
+        requires gone { 1 < length (peers self.old) → IfSome gone (λ index. (first : Entry) → top self.old ≡ Some first → IsOnly first self.old place index) }
         ensures value { result ≡ slice_index_or self.old place result }
         ensures rest { IsPermutation self.old (result ∷ self.new) }
     {
-        let removed = self.entries.swap_remove(place);
-        if place < self.entries.len() {
-            mend(&mut self.entries, place);
-        }
+        let removed = take_out(&mut self.entries, place);
+        let before = self.count;
+        self.count = peers_left(&self.entries, &mut self.marks, self.stale, before, gone);
+        self.stale = before > 1 && (self.stale || gone.is_none());
         removed
     }
 }

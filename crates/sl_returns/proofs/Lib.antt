@@ -14,3 +14,4 @@ pub mod Accepted
 pub mod AllRecords
 pub mod Prefixes
 pub mod Reading
+pub mod ReadElections

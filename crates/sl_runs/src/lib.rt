@@ -1,5 +1,5 @@
-//! Worked cases of counting code, as tests, a module a layer: its bytes, its verifier, and runs on the machine. So each layer is proved
-//! once.
+//! Worked cases of counting code, as tests, a module a layer: its bytes, its verifier, runs on the machine, and the texts of what they
+//! hold. So each layer is proved once.
 #![tactic(auto)]
 
 #[cfg(test)]
@@ -8,5 +8,7 @@ mod code;
 mod files;
 #[cfg(test)]
 mod machine;
+#[cfg(test)]
+mod texts;
 #[cfg(test)]
 mod verify;

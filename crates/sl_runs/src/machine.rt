@@ -15,8 +15,8 @@ use sl_verify::{Verified, verify};
 use std::alloc::Global;
 use std::test::*;
 
-// The code of a file that the verifier accepts.
-fn accepted(alloc: Global, file: &[u8]) -> Result<Verified, Fail> {
+/// The code of a file that the verifier accepts.
+pub fn accepted(alloc: Global, file: &[u8]) -> Result<Verified, Fail> {
     let code = from_bytes(alloc, file)?;
     match verify(code) {
         Ok(verified) => Ok(verified),

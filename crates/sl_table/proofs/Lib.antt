@@ -1,3 +1,11 @@
 pub mod LineLoops
 pub mod Lists
 pub mod Winners
+pub mod Words
+pub mod Counting
+pub mod Pieces
+pub mod Cells
+pub mod SeatedWinners
+pub mod HeldTables
+pub mod EntryLines
+pub mod StageSlots

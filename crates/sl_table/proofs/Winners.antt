@@ -1,5 +1,5 @@
 -- Loops over the winners, each beside the place.
-use Rattle.std.proofs.Common.{◌≡◌, ℕ, ◌+◌, ◌<◌, ◌≤◌, ◌&&◌, Bool, cond, List, length, take, count_by, get_or, slice_get, Some, sym, ap, ◌∙◌, arith}
+use Rattle.std.proofs.Common.{◌≡◌, ℕ, ◌+◌, ◌<◌, ◌≤◌, ◌&&◌, Bool, cond, List, length, take, count_by, get_or, slice_get, Some, sym, ap, subst, ◌∙◌, arith}
 use Rattle.std.specs.List.{zip}
 use Rattle.std.proofs.lemmas.List.{get_or_default, take_all}
 use Rattle.std.proofs.lemmas.List.Sums.{sum_by_more}
@@ -27,6 +27,11 @@ module _ {A B : Type 0} (ks : List A) (vs : List B) (i : ℕ) (k : A) (d : B) (k
       → n ≡ count_by (λ p. of_key p.0 && of_place p.1) (take i (zip ks vs)) → m ≡ n + cond (x && y) 1 0 → m ≡ count_by (λ p. of_key p.0 && of_place p.1) (take (i + 1) (zip ks vs))
   count_both_more of_key of_place x y n m x_is y_is so_far m_is =
       m_is ∙ ap (λ b. n + cond (b && y) 1 0) x_is ∙ ap (λ b. n + cond (of_key k && b) 1 0) (sym y_is) ∙ sym (count_more (λ p. of_key p.0 && of_place p.1) n so_far)
+
+-- the pair of two that are known
+pub pair_here : {A B : Type 0} (ks : List A) (vs : List B) (i : ℕ) (k : A) (v : B) → slice_get ks i ≡ Some k → slice_get vs i ≡ Some v → get_or (zip ks vs) i (k, v) ≡ (k, v)
+pair_here ks vs i k v key at =
+    subst (λ y. get_or (zip ks vs) i (k, y) ≡ (k, y)) (get_or_from_slice_get vs i v v at) (pair_at ks vs i k v key (slice_get_within vs i v at))
 
 -- all pairs
 pub all_pairs : {A B : Type 0} (ks : List A) (vs : List B) (i : ℕ) → length vs ≤ i → take i (zip ks vs) ≡ zip ks vs

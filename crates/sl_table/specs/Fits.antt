@@ -1,8 +1,9 @@
--- Which tables fit which returns (docs/output.md, section 1).
-use Rattle.std.specs.Prelude.{◌≡◌, ◌<◌, All, length}
+-- Which tables, and which of what runs hold, fit which returns (docs/output.md, section 1).
+use Rattle.std.specs.Prelude.{◌≡◌, ◌<◌, ◌*◌, All, length}
 use Rattle.sl_stages.specs.declared.table.ListSeats.{ListSeats}
-use Rattle.sl_stages.specs.returns.Election.{Election, lands_of, parties_of}
+use Rattle.sl_stages.specs.returns.Election.{Election, lands_of, parties_of, wins_of}
 use Rattle.sl_stages.specs.meaning.Tables.{SeatTable}
+use Rattle.sl_machine.specs.Memories.{Held}
 
 -- a list is of a Land and of a party of the election
 abbrev pub IsOf : Election → ListSeats → Type 0
@@ -12,3 +13,9 @@ IsOf e l = (l.land < lands_of e) × (l.party < parties_of e)
 pub record Fits (t : SeatTable) (e : Election) : Type 0 where
   pub lists : All (IsOf e) t.lists
   pub placed : length t.placed ≡ length e.wins
+
+-- what a run holds has the seats and the vacant seats of each pair of Land and party, and a place for each winner
+pub record FitsHeld (h : Held) (e : Election) : Type 0 where
+  pub base : length h.base ≡ lands_of e * parties_of e
+  pub vacant : length h.vacant ≡ lands_of e * parties_of e
+  pub placed : length h.placed ≡ wins_of e

@@ -20,6 +20,11 @@ no_text = record { bytes = []; begun = false }
 abbrev pub with_word : Draft → List ℕ → Draft
 with_word d word = record { bytes = d.bytes ++ (if d.begun then 32 ∷ word else word); begun = true }
 
+-- so many more words in the last line
+abbrev pub with_words : Draft → List (List ℕ) → Draft
+with_words d [] = d
+with_words d (word ∷ words) = with_words (with_word d word) words
+
 -- the end of the last line
 abbrev pub with_end : Draft → Draft
 with_end d = record { bytes = d.bytes ++ 10 ∷ []; begun = false }

@@ -1,11 +1,14 @@
-//! The texts of seat tables.
+//! Seat tables from what a run holds, and the texts of tables, of stages and of legal faults.
 #![tactic(auto)]
 
+mod fault_form;
 mod line;
 mod short_form;
+mod stage_form;
+mod tables;
 
+pub use fault_form::fault_text;
 pub use line::Text;
 pub use short_form::short_text;
-
-#[cfg(test)]
-mod tests;
+pub use stage_form::stage_text;
+pub use tables::table_of;

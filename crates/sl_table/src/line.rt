@@ -1,6 +1,6 @@
 //! Texts of lines, written word by word.
 
-ghost use Rattle.std.specs.Prelude.{◌≡◌, OnOk, OnErr};
+ghost use Rattle.std.specs.Prelude.{◌≡◌, ◌++◌, OnOk, OnErr, codes};
 ghost use Rattle.std.specs.Fmt.{decimal};
 ghost use Rattle.sl_table.specs.Lines.{no_text, with_word, with_end};
 
@@ -56,6 +56,21 @@ impl Text {
         }
         self.begun = true;
         Ok(())
+    }
+
+    /// Adds two names to the line as one word, parted by a slash.
+    ///
+    /// # Errors
+    ///
+    /// Want of memory. The text is then unchanged.
+    pub fn pair(&mut self, first: &[u8], second: &[u8]) -> Result<(), NoMemory>
+        ensures added { OnOk result (self.new ≡ with_word self.old (first.now ++ (codes "/" ++ second.now))) }
+        ensures unchanged { OnErr result (self.new ≡ self.old) }
+    {
+        let mut word = Vec::from_slice(self.alloc, first)?;
+        word.push(b'/')?;
+        word.extend_from_slice(second)?;
+        self.word(&word)
     }
 
     /// Adds a number to the line, in plain decimal, as a word of its own.

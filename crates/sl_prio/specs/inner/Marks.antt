@@ -1,5 +1,5 @@
 -- Marks of indexes.
-use Rattle.std.specs.Prelude.{◌≡◌, ◌<◌, ℕ, Bool, List, Option, length, nat_eq, slice_index_or}
+use Rattle.std.specs.Prelude.{◌≡◌, ◌<◌, ℕ, Bool, true, Contains, List, Option, length, nat_eq, slice_index_or}
 use Rattle.std.specs.List.{find, list_any}
 use Rattle.sl_ratio.specs.declared.entry.Entry.{Entry}
 
@@ -18,3 +18,7 @@ first_named lot xs = find (have_index xs) lot
 -- each index that has a mark is marked exactly if it passes
 abbrev pub AreMarks : (ℕ → Bool) → List Bool → Type 0
 AreMarks test marks = (index : ℕ) (d : Bool) → index < length marks → slice_index_or marks index d ≡ test index
+
+-- the index of each of some entries has a mark, as far as there are marks; others may have one, too
+abbrev pub HaveMarks : List Entry → List Bool → Type 0
+HaveMarks xs marks = (x : Entry) → Contains xs x → (d : Bool) → x.index < length marks → slice_index_or marks x.index d ≡ true

@@ -10,8 +10,8 @@ returns-in-None-clause-ok c =
     let given = given_of b in
     laid_as c.lay_split_with.result _ _ (vec_len c.args.code.now) c.args.code.now.items c.lay_split_with.new.code.items
     (block_as_split b _ c.in-None.is
-    (rest_as b (tree_of given c.whole_batches.result.now) (tree_of given c.drawn_batch.result.now) (tree_of given c.refuse.result.now)
-    c.whole_batches.ensures c.drawn_batch.ensures c.refuse.ensures))
+    (rest_as b (tree_of given c.count_left.result.now) (tree_of given c.whole_batches.result.now) (tree_of given c.drawn_batch.result.now) (tree_of given c.refuse.result.now)
+    (c.count_left.ensures given) c.whole_batches.ensures c.drawn_batch.ensures c.refuse.ensures))
     c.lay_split_with.ensures.ok
 
 pub returns-in-Some-clause-ok : goal.returns-in-Some-clause-ok
@@ -20,6 +20,6 @@ returns-in-Some-clause-ok c =
     let given = given_of b in
     laid_as c.lay_growth_with.result _ _ (vec_len c.args.code.now) c.args.code.now.items c.lay_growth_with.new.code.items
     (block_as_growth b c.in-Some.field-0 _ c.in-Some.is
-    (rest_as b (tree_of given c.whole_batches.result.now) (tree_of given c.drawn_batch.result.now) (tree_of given c.refuse.result.now)
-    c.whole_batches.ensures c.drawn_batch.ensures c.refuse.ensures))
+    (rest_as b (tree_of given c.count_left.result.now) (tree_of given c.whole_batches.result.now) (tree_of given c.drawn_batch.result.now) (tree_of given c.refuse.result.now)
+    (c.count_left.ensures given) c.whole_batches.ensures c.drawn_batch.ensures c.refuse.ensures))
     c.lay_growth_with.ensures.ok

@@ -1,7 +1,7 @@
 use Rattle.std.proofs.Common.{vec_len, unwrap_or, ap}
 use Rattle.sl_plans.specs.Layout.{tree_of}
 use Rattle.sl_blocks.specs.Given.{given_of}
-use Rattle.sl_blocks.specs.LayoutParts.{all_with}
+use Rattle.sl_blocks.specs.inner.LayoutParts.{all_with}
 use Rattle.sl_blocks.proofs.Laid.{laid_as, growth_as}
 use Rattle.sl_blocks.proofs.growths.lay_growth_with.Goals as goal
 
@@ -10,7 +10,7 @@ returns-clause-ok c =
     let b = c.args.block.now in
     let given = given_of b in
     laid_as c.lay_scopes.result _ _ (vec_len c.args.code.now) c.args.code.now.items c.lay_scopes.new.code.items
-    (ap (all_with b) (growth_as b (unwrap_or b.cap 0) (tree_of given c.sum_entries-sum_entries.result) (tree_of given c.search_entries-search_entries.result)
+    (ap (all_with b) (growth_as b (unwrap_or b.cap 0) (tree_of given c.sum_entries-sum_entries.result) (tree_of given c.some_votes.result.now) (tree_of given c.search_entries-search_entries.result)
     (tree_of given c.search_batches.result.now) (tree_of given c.fill_outside-fill_entries.result) (tree_of given c.args.rest.now)
-    c.sum_entries-sum_entries.ensures c.search_entries-search_entries.ensures (c.search_batches.ensures b) c.fill_outside-fill_entries.ensures))
+    c.sum_entries-sum_entries.ensures (c.some_votes.ensures b) c.search_entries-search_entries.ensures (c.search_batches.ensures b) c.fill_outside-fill_entries.ensures))
     c.lay_scopes.ensures.ok

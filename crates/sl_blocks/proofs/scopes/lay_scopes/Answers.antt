@@ -1,11 +1,11 @@
-use Rattle.std.proofs.Common.{List, [], ◌∷◌, vec_len, arith}
+use Rattle.std.proofs.Common.{List, [], ◌∷◌, vec_len, ap, ◌∙◌}
 use Rattle.sl_code.specs.declared.instr.Instr.{Instr}
 use Rattle.sl_plans.specs.declared.plan.Part.TheVariants as part
 use Rattle.sl_plans.specs.Layout.{filled, tree_of}
 use Rattle.sl_plans.specs.Trees.{Tree, Line, Then}
 use Rattle.sl_blocks.specs.Given.{given_of}
-use Rattle.sl_blocks.specs.LayoutParts.{all_with}
-use Rattle.sl_blocks.proofs.Laid.{block_laid, all_as}
+use Rattle.sl_blocks.specs.inner.LayoutParts.{all_with}
+use Rattle.sl_blocks.proofs.Laid.{laid_as, all_as}
 use Rattle.sl_blocks.proofs.scopes.lay_scopes.Goals as goal
 
 pub returns-clause-ok : goal.returns-clause-ok
@@ -14,8 +14,7 @@ returns-clause-ok c =
     let scope = tree_of (given_of b) c.args.scope.now in
     let tree : List Instr → Tree =
     λ given. Then (tree_of given c.each_scope-limits.result) (Then (Line (filled given (part.Given 6) ∷ [])) (tree_of given c.each_scope-scopes.result)) in
-    block_laid (all_with b scope) tree c.given_of-given.result (given_of b) c.args.code.now.items c.reserve.new.self.items c.declare.new.code.items
-    c.put.new.code.items (vec_len c.args.code.now) (vec_len c.declare.new.code) c.given_of-given.ensures
-    (all_as b scope (tree_of (given_of b) c.each_scope-limits.result) (tree_of (given_of b) c.each_scope-scopes.result)
+    laid_as c.lay.result (tree c.given_of-given.result) (all_with b scope) (vec_len c.args.code.now) c.args.code.now.items c.lay.new.code.items
+    (ap tree c.given_of-given.ensures ∙ all_as b scope (tree_of (given_of b) c.each_scope-limits.result) (tree_of (given_of b) c.each_scope-scopes.result)
     (c.each_scope-limits.ensures (given_of b)) (c.each_scope-scopes.ensures (given_of b)))
-    c.reserve.ensures.items c.declare.ensures.items (omega (arith, c.declare.ensures.len, c.reserve.ensures.len)) c.put.ensures.items
+    c.lay.ensures.ok

@@ -11,4 +11,4 @@ pub loop-named-preserved : goal.loop-named-preserved
 loop-named-preserved c =
     let lot = c.args.lot.now in
     let k = c.loop-named.named-index in
-    one_more_marked lot c.mark.new.marks k c.loop-named-test.true (c.mark.ensures (names (take k lot)) c.loop-named.invariant)
+    one_more_marked lot c.mark.new.marks k c.loop-named-test.true (c.mark.ensures.marked (names (take k lot)) c.loop-named.invariant)

@@ -13,7 +13,7 @@ returns-in-Some t c = λ before held.
     let left = peers_under first xs (2 * p + 1) in
     let right = peers_under first xs (2 * p + 2) in
     let after = c.mark_indexes-in-Some.new.marks in
-    let one = c.mark.ensures before held in
+    let one = c.mark.ensures.marked before held in
     let two = c.mark_indexes.ensures (λ index. before index || nat_eq peer.index index) one in
     let three = c.mark_indexes-in-Some.ensures (λ index. (before index || nat_eq peer.index index) || have_index left index) two in
     subst (λ ys. AreMarks (λ index. before index || have_index ys index) after) (sym c.in-Some.ensures.peers) (all_marked before peer left right after three)

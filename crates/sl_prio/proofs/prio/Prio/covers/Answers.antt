@@ -12,4 +12,4 @@ returns-in-Some c =
     let held = c.self.inside.entries.items in
     let at = sym (ap (λ (xs : List Entry). slice_get xs 0) c.deref.ensures.value) ∙ sym c.in-Some.ensures.value in
     c.are_named.ensures ∙ ap (λ (xs : List Entry). are_named lot (peers_under first xs 0)) c.deref-in-Some.ensures.value ∙
-    seen_named held c.self.invariant.heap first at lot ∙ ap (is_covered lot) c.self.view_is
+    seen_named held c.self.invariant.kept.heap first at lot ∙ ap (is_covered lot) c.self.view_is

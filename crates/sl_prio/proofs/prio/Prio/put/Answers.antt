@@ -1,22 +1,65 @@
-use Rattle.std.proofs.Common.{List, [], ◌∷◌, ◌++◌, IsPermutation, subst, ◌∙◌, arith}
+use Rattle.std.proofs.Common.{List, [], ◌∷◌, ◌++◌, IsPermutation, length, sym, ap, subst, ◌∙◌, arith}
 use Rattle.std.proofs.lemmas.List.Elements.{All-push}
 use Rattle.std.proofs.lemmas.List.Sorted.{IsPermutation-to_front, IsPermutation-sym, IsPermutation-trans}
 use Rattle.sl_ratio.specs.Quotient.{FitsRatio}
 use Rattle.sl_ratio.specs.declared.entry.Entry.{Entry}
+use Rattle.sl_prio.specs.inner.Heap.{IsNewPeer, IsPassed}
+use Rattle.sl_prio.proofs.LawProofs.{order_is_free}
 use Rattle.sl_prio.proofs.Heaps.{given_back, kept_by}
+use Rattle.sl_prio.proofs.PeerCounts.{joined_marked, passed_marked}
 use Rattle.sl_prio.proofs.prio.Prio.put.Goals as goal
 
 pub invariant_of-self-2 : goal.invariant_of-self-2
 invariant_of-self-2 c =
     let pushed = c.push.new.self.items in
     let after = c.sift_up.new.entries in
-    let more = c.self.inside.entries.items ++ c.args.entry ∷ [] in
-    let ratios = All-push (λ (x : Entry). FitsRatio x.ratio) c.self.inside.entries.items c.args.entry c.self.invariant.ratios c.num.ensures.fits in
+    let held = c.self.inside.entries.items in
+    let more = held ++ c.args.entry ∷ [] in
+    let ratios = All-push (λ (x : Entry). FitsRatio x.ratio) held c.args.entry c.self.invariant.kept.ratios c.num.ensures.fits in
     let moved = subst (λ (xs : List Entry). IsPermutation xs after) (c.deref_mut.ensures.value ∙ c.in_ok-push.ensures.items) c.sift_up.ensures.moved in
-    rw (given_back c.push.new.self.len pushed after (omega arith) (omega arith)) (kept_by more after moved ratios c.sift_up.ensures.heap)
+    let first = IsPermutation-sym more (c.args.entry ∷ held) (IsPermutation-to_front held c.args.entry) in
+    let both = IsPermutation-trans (c.args.entry ∷ held) more after first moved in
+    let same = (order_is_free (c.args.entry ∷ held) after both).same_peers in
+    let joined = subst (λ (xs : List Entry). IsNewPeer xs c.args.entry c.in-Some.count) (sym c.self.view_is) c.in-Some.ensures in
+    rw (given_back c.push.new.self.len pushed after (omega arith) (omega arith)) (record {
+      kept = kept_by more after moved ratios c.sift_up.ensures.heap;
+      counted = joined.count ∙ ap length same;
+      marked =
+          joined_marked held c.self.invariant.kept.ratios c.args.entry c.num.ensures.fits after c.in-Some.count c.self.inside.marks c.clear_exceeded.new.marks c.mark.new.marks joined same
+          c.self.invariant.marked c.clear_exceeded.ensures c.mark.ensures.kept;
+    })
+
+pub invariant_of-self-in_default : goal.invariant_of-self-in_default
+invariant_of-self-in_default c =
+    let pushed = c.push.new.self.items in
+    let after = c.sift_up.new.entries in
+    let held = c.self.inside.entries.items in
+    let more = held ++ c.args.entry ∷ [] in
+    let ratios = All-push (λ (x : Entry). FitsRatio x.ratio) held c.args.entry c.self.invariant.kept.ratios c.num.ensures.fits in
+    let moved = subst (λ (xs : List Entry). IsPermutation xs after) (c.deref_mut.ensures.value ∙ c.in_ok-push.ensures.items) c.sift_up.ensures.moved in
+    let first = IsPermutation-sym more (c.args.entry ∷ held) (IsPermutation-to_front held c.args.entry) in
+    let both = IsPermutation-trans (c.args.entry ∷ held) more after first moved in
+    let same = (order_is_free (c.args.entry ∷ held) after both).same_peers in
+    let passed = subst (λ (xs : List Entry). IsPassed xs c.args.entry) (sym c.self.view_is) c.in_default.ensures in
+    rw (given_back c.push.new.self.len pushed after (omega arith) (omega arith)) (record {
+      kept = kept_by more after moved ratios c.sift_up.ensures.heap;
+      counted = c.self.invariant.counted ∙ sym passed.count ∙ ap length same;
+      marked = passed_marked held after c.args.entry c.self.inside.marks passed same c.self.invariant.marked;
+    })
 
 pub returns-clause-added : goal.returns-clause-added
 returns-clause-added c =
+    let pushed = c.push.new.self.items in
+    let after = c.sift_up.new.entries in
+    let held = c.self.inside.entries.items in
+    let more = held ++ c.args.entry ∷ [] in
+    let moved = subst (λ (xs : List Entry). IsPermutation xs after) (c.deref_mut.ensures.value ∙ c.in_ok-push.ensures.items) c.sift_up.ensures.moved in
+    let first = IsPermutation-sym more (c.args.entry ∷ held) (IsPermutation-to_front held c.args.entry) in
+    rw (given_back c.push.new.self.len pushed after (omega arith) (omega arith))
+    (subst (λ (xs : List Entry). IsPermutation (c.args.entry ∷ xs) after) c.self.view_is (IsPermutation-trans (c.args.entry ∷ held) more after first moved))
+
+pub returns-in_default-clause-added : goal.returns-in_default-clause-added
+returns-in_default-clause-added c =
     let pushed = c.push.new.self.items in
     let after = c.sift_up.new.entries in
     let held = c.self.inside.entries.items in

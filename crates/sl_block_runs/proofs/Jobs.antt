@@ -1,0 +1,59 @@
+-- The jobs of the tests are those of splits and of growths.
+use Rattle.std.proofs.Common.{◌≡◌, ℕ, ◌≤◌, List, [], ◌∷◌, None, Some, slice_get, refl, sym, ap, ◌∙◌, arith}
+use Rattle.std.proofs.lemmas.Option.{none-some, same_Some}
+use Rattle.sl_ratio.specs.declared.method.Divisor.{Divisor}
+use Rattle.sl_ratio.specs.declared.method.Method.{Method}
+use Rattle.sl_ratio.specs.declared.method.Method.TheVariants as by
+use Rattle.sl_stages.specs.declared.book.Shape.{Shape}
+use Rattle.sl_stages.specs.declared.book.Shape.TheVariants as shape
+use Rattle.sl_pieces.specs.scopes.Forms.{AllLists}
+use Rattle.sl_blocks.specs.declared.job.Job.{Job}
+use Rattle.sl_blocks.specs.Jobs.{IsJob, IsSplitJob, IsGrowthJob}
+
+-- one amount, and votes, results and minima of lists
+abbrev pub shapes : List Shape
+shapes = shape.One ∷ shape.List ∷ shape.List ∷ shape.List ∷ []
+
+module _ (j : Job) (stage : j.stage ≡ 0) (amount : j.amount ≡ 0) (weights : j.weights ≡ 1) (result : j.result ≡ 2) where
+  -- a job in these slots, whose minima are the lists' if there are any
+  job_with : ((slot : ℕ) → j.minima ≡ Some slot → slot ≡ 3) → IsJob shapes AllLists j
+  job_with third = record {
+    amounts = ap (slice_get shapes) amount;
+    votes = ap (slice_get shapes) weights;
+    minima = λ slot is. ap (slice_get shapes) (third slot is);
+    result = ap (slice_get shapes) result;
+    not_amounts = λ same. omega (arith, same, amount, result);
+    not_votes = λ same. omega (arith, same, weights, result);
+    not_minima = λ slot is same. let s : slot ≡ 3 = third slot is in omega (arith, same, s, result);
+    stage = omega (arith, stage);
+  }
+
+  -- a split without minima, by any method
+  pub plain_split : (method : Method) → j.minima ≡ None → IsSplitJob shapes j method
+  plain_split method none = record {
+    form = AllLists;
+    job = job_with (λ slot is. absurd (none-some slot (sym none ∙ is)));
+    takes = rw none tt;
+  }
+
+  third_slot : j.minima ≡ Some 3 → (slot : ℕ) → j.minima ≡ Some slot → slot ≡ 3
+  third_slot some slot is = same_Some slot 3 (sym is ∙ some)
+
+  -- a split with minima, by a divisor method
+  pub split_with_minima : (divisor : Divisor) → j.minima ≡ Some 3 → IsSplitJob shapes j (by.Divisor divisor)
+  split_with_minima divisor some = record {
+    form = AllLists;
+    job = job_with (third_slot some);
+    takes = rw some tt;
+  }
+
+  -- a growth up to a cap
+  pub growth : (cap : ℕ) → j.minima ≡ Some 3 → cap ≤ 4000 → IsGrowthJob shapes j cap
+  growth cap some few = record {
+    form = AllLists;
+    job = job_with (third_slot some);
+    one = refl;
+    slot = 3;
+    minima = some;
+    few = few;
+  }

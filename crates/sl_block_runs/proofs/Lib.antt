@@ -1,0 +1,2 @@
+-- The lemmas of tests of single blocks.
+pub mod Jobs

@@ -1,0 +1,139 @@
+//! Codes of one block: seats, votes and minima in their slots, the block, and a halt; and their files.
+
+ghost use Rattle.std.specs.Prelude.{◌≤◌, IfOk, vec_len};
+
+use sl_blocks::{Job, grow_block, split_block};
+use sl_code::{Input, Instr, Operand};
+use sl_ratio::{Divisor, Method};
+use sl_stages::{Majority, Shape};
+use std::alloc::{AllocError, Global};
+use std::test::*;
+
+// The slots of the seats, the votes, the result and the minima.
+const AMOUNT: u8 = 0;
+
+const VOTES: u8 = 1;
+
+const RESULT: u8 = 2;
+
+const MINIMA: u8 = 3;
+
+// Their shapes.
+const SLOTS: [Shape; 4] = [Shape::One, Shape::List, Shape::List, Shape::List];
+
+// All lists in one scope, without minima.
+const PLAIN: Job = Job {
+    stage: 0,
+    amount: AMOUNT,
+    weights: VOTES,
+    minima: None,
+    result: RESULT,
+    majority: Majority::Free,
+    scratch: [[0; 8]; 4],
+};
+
+// The same with minima.
+const AT_LEAST: Job = Job {
+    minima: Some(MINIMA),
+    ..PLAIN
+};
+
+// What stands before a block: so many seats, the counted votes, and the names left on the lists as minima.
+fn before(alloc: Global, seats: u64) -> Result<Vec<Instr>, AllocError>
+    ensures { IfOk result (λ code. vec_len code ≤ 199000) }
+{
+    Vec::from_slice(
+        alloc,
+        &[
+            Instr::Set(0, seats),
+            Instr::Store(AMOUNT, 0),
+            Instr::Input(VOTES, Input::Counted),
+            Instr::Input(MINIMA, Input::Names),
+        ],
+    )
+}
+
+// The code of a split of so many seats.
+fn split(
+    alloc: Global,
+    seats: u64,
+    method: Method,
+    majority: Majority,
+) -> Result<Vec<Instr>, Fail> {
+    let mut code = before(alloc, seats)?;
+    let job = Job { majority, ..PLAIN };
+    split_block(&mut code, &SLOTS, &job, method)?;
+    code.push(Instr::Halt(RESULT))?;
+    Ok(code)
+}
+
+// The same with minima.
+fn split_at_least(alloc: Global, seats: u64, divisor: Divisor) -> Result<Vec<Instr>, Fail> {
+    let mut code = before(alloc, seats)?;
+    split_block(&mut code, &SLOTS, &AT_LEAST, Method::Divisor(divisor))?;
+    code.push(Instr::Halt(RESULT))?;
+    Ok(code)
+}
+
+// The code of a growth from so many seats, by Webster's method.
+fn growth(alloc: Global, seats: u64, cap: u32) -> Result<Vec<Instr>, Fail>
+    requires { cap ≤ 4000 }
+{
+    let mut code = before(alloc, seats)?;
+    grow_block(&mut code, &SLOTS, &AT_LEAST, Divisor::Webster, cap)?;
+    code.push(Instr::Halt(RESULT))?;
+    Ok(code)
+}
+
+/// A block: a split without minima or with them, or a growth by Webster's method up to a cap.
+#[derive(Clone, Copy, Debug)]
+pub enum Block {
+    Split(Method, Majority),
+    AtLeast(Divisor),
+    Growth(u32),
+}
+
+/// The code of a block that gives out so many seats.
+pub fn code_of(alloc: Global, seats: u64, block: Block) -> Result<Vec<Instr>, Fail> {
+    match block {
+        Block::Split(method, majority) => split(alloc, seats, method, majority),
+        Block::AtLeast(divisor) => split_at_least(alloc, seats, divisor),
+        Block::Growth(cap) if cap <= 4000 => growth(alloc, seats, cap),
+        Block::Growth(_) => Err("a cap of more than 4000 seats")?,
+    }
+}
+
+// The stage `s` with the slot of the result, and the four slots.
+const HEADER: [u8; 13] = *b"SLC\x01\x01\x01s\x02\x04\x00\x03\x03\x03";
+
+// The bytes in which an operand is spelled.
+fn width(operand: Operand) -> usize
+    ensures { result ≤ 8 }
+{
+    match operand {
+        Operand::Value(_) => 8,
+        Operand::Target(_) => 4,
+        Operand::Positive(_) => 2,
+        _ => 1,
+    }
+}
+
+// Appends the bytes of an instruction.
+fn spell(file: &mut Vec<u8>, instr: Instr) -> Result<(), AllocError> {
+    file.push(instr.opcode())?;
+    for operand in instr.operands().as_slice() {
+        let bytes = operand.value().to_le_bytes();
+        file.extend_from_slice(&bytes[..width(*operand)])?;
+    }
+    Ok(())
+}
+
+/// The file of such a code.
+pub fn file_of(alloc: Global, code: &[Instr]) -> Result<Vec<u8>, AllocError> {
+    let mut file = Vec::from_slice(alloc, &HEADER)?;
+    file.extend_from_slice(&(code.len() as u64).to_le_bytes()[..4])?;
+    for instr in code {
+        spell(&mut file, *instr)?;
+    }
+    Ok(file)
+}

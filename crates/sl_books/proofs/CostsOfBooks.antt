@@ -1,0 +1,238 @@
+-- What the plans of a rulebook take together, by a measure of each of them: its steps, or its instructions.
+use Rattle.std.proofs.Common.{◌≡◌, ℕ, suc, ◌+◌, ◌*◌, ◌≤◌, true, List, [], ◌∷◌, ◌++◌, length, Option, None, Some, arith}
+use Rattle.std.specs.Prelude.{nat_le}
+use Rattle.std.specs.List.{list_all}
+use Rattle.std.proofs.lemmas.Bool.{and_parts, leb-true}
+use Rattle.std.proofs.lemmas.Nat.{mul-le}
+use Rattle.sl_ratio.specs.declared.method.Method.{Method}
+use Rattle.sl_ratio.specs.declared.method.Method.TheVariants as by
+use Rattle.sl_stages.specs.declared.book.Cond.{Cond}
+use Rattle.sl_stages.specs.declared.book.LastClause.{LastClause}
+use Rattle.sl_stages.specs.declared.book.Majority.{Majority}
+use Rattle.sl_stages.specs.declared.book.Seating.{Seating}
+use Rattle.sl_stages.specs.declared.book.Seating.TheVariants as seating
+use Rattle.sl_stages.specs.declared.book.Shape.{Shape}
+use Rattle.sl_stages.specs.declared.book.Shape.TheVariants as shape
+use Rattle.sl_stages.specs.declared.check_fault.CheckFault.TheVariants as fault
+use Rattle.sl_stages.specs.declared.limits.TheConstants.{MAX_STAGES, MAX_DEPTH, MAX_PARTS}
+use Rattle.sl_stages.specs.book.Tests.{test, first_failing}
+use Rattle.sl_stages.specs.book.Trees.{ExprTree, house, counted, winners, outside, independents, population, name, sum, larger, less, split, split_from, grow, StageTree, BookTree}
+use Rattle.sl_stages.specs.book.Limits.{depth_of, parts_of, is_within_stage}
+use Rattle.sl_stages.specs.book.Typing.{Column, splits_in, is_seat_number, expr_tests, stage_column, columns_of, stages_tests, version_tests, condition_tests, base_tests, tests_of, is_typed}
+use Rattle.sl_stages.proofs.Tests.{no_fault, pass_parts, head_holds}
+use Rattle.sl_code.specs.declared.instr.Instr.TheVariants.{Zero, Input}
+use Rattle.sl_code.specs.declared.operand.Input.TheVariants as input
+use Rattle.sl_plans.specs.Trees.{Tree, Line, Then}
+use Rattle.sl_pieces.specs.columns.Trees.{copy_tree}
+use Rattle.sl_pieces.specs.facts.Trees.{FactSlots, condition_tree, conditions_tree, eligible_tree}
+use Rattle.sl_pieces.specs.exprs.Slots.{fact_slots, passing, names_left, vacant_seats}
+use Rattle.sl_pieces.specs.exprs.Pieces.{form_by, shape_of, node_slots, split_piece, grow_piece, pieces}
+use Rattle.sl_pieces.specs.exprs.Stages.{stage_pieces, stages_pieces}
+use Rattle.sl_pieces.specs.closing.Trees.{base_slot, final_seats, cover_slots, seating_pieces, vacant_pieces, last_pieces}
+use Rattle.sl_books.specs.Codes.{facts_pieces, book_pieces}
+use Rattle.sl_books.specs.Laws.{CanCompile}
+use Rattle.sl_books.proofs.CostsOfPlans.{IsNodePlan, IsColumnPlan, IsFactPlan, IsCoverPlan, copy_modest, larger_modest, less_modest, sum_modest, line_modest, nothing_modest, condition_modest, house_modest, counted_modest, winners_modest, outside_modest, independents_modest, population_modest, placing_modest, cover_modest, split_modest, growth_modest}
+
+-- the sum of a measure over some plans
+abbrev pub total : (Tree → ℕ) → List Tree → ℕ
+total f [] = 0
+total f (t ∷ ts) = f t + total f ts
+
+-- the measure of a split or a growth is at most the first number, of any other plan of an expression the second, of a fact the third, and of a
+-- covering the fourth; and two plans in a row measure no more than both
+pub record IsMeasure (f : Tree → ℕ) (node column fact cover : ℕ) : Type 0 where
+  pub nodes : (t : Tree) → IsNodePlan t → f t ≤ node
+  pub columns : (t : Tree) → IsColumnPlan t → f t ≤ column
+  pub facts : (t : Tree) → IsFactPlan t → f t ≤ fact
+  pub covers : (t : Tree) → IsCoverPlan t → f t ≤ cover
+  pub joins : (a b : Tree) → f (Then a b) ≤ f a + f b
+
+-- the tests of the stages hold
+stages_hold : (b : BookTree) → is_typed b ≡ true → first_failing (stages_tests [] b.stages) ≡ None
+stages_hold b typed =
+    let ends = base_tests (columns_of [] b.stages) b.last.at b.last.base in
+    let behind = condition_tests b.eligible ++ (stages_tests [] b.stages ++ ends) in
+    let house = (pass_parts (version_tests b.version b.last.vacate) (test (is_seat_number b.house.value) (fault.HouseRange b.house.at) ∷ behind) (no_fault (tests_of b) typed)).1 in
+    let conditions = (pass_parts (condition_tests b.eligible) (stages_tests [] b.stages ++ ends) (head_holds _ _ _ house).1).1 in
+    (pass_parts (stages_tests [] b.stages) ends conditions).0
+
+module _ (f : Tree → ℕ) where
+  total-append : (xs ys : List Tree) → total f (xs ++ ys) ≡ total f xs + total f ys
+  total-append [] ys = omega arith
+  total-append (x ∷ xs) ys = omega (arith, total-append xs ys)
+
+  both_at_most : (xs ys : List Tree) (a b : ℕ) → total f xs ≤ a → total f ys ≤ b → total f (xs ++ ys) ≤ a + b
+  both_at_most xs ys a b hx hy = omega (arith, total-append xs ys, hx, hy)
+
+  one_at_most : (t : Tree) (a : ℕ) → f t ≤ a → total f (t ∷ []) ≤ a
+  one_at_most t a h = omega (arith, h)
+
+-- ---- sums of splits and parts
+module _ (node column : ℕ) where
+  -- the most of an expression with so many splits and growths, and so many parts
+  abbrev at_most : ℕ → ℕ → ℕ
+  at_most splits parts = splits * node + parts * column
+
+  leaf : (c : ℕ) → c ≤ column → c ≤ at_most 0 1
+  leaf c h = omega (arith, h)
+
+  after_one : (c a p : ℕ) → c ≤ at_most a p + column → c ≤ at_most a (1 + p)
+  after_one c a p h = omega (arith, h)
+
+  after_two : (c a b p q : ℕ) → c ≤ at_most a p + (at_most b q + column) → c ≤ at_most (a + b) (1 + p + q)
+  after_two c a b p q h = omega (arith, h)
+
+  split_of_two : (c a b p q : ℕ) → c ≤ at_most a p + (at_most b q + node) → c ≤ at_most (1 + a + b) (1 + p + q)
+  split_of_two c a b p q h = omega (arith, h)
+
+  split_of_three : (c a b d p q r : ℕ) → c ≤ at_most a p + (at_most b q + (at_most d r + node)) → c ≤ at_most (1 + a + b + d) (1 + p + q + r)
+  split_of_three c a b d p q r h = omega (arith, h)
+
+  stage_sum : (c a p : ℕ) → a ≤ 1 → p ≤ 64 → c ≤ at_most a p + column → c ≤ node + 65 * column
+  stage_sum c a p ha hp h = omega (arith, h, mul-le a node 1 node ha (omega arith), mul-le p column 64 column hp (omega arith))
+
+one_more : (c n x : ℕ) → c ≤ x + n * x → c ≤ suc n * x
+one_more c n x h = omega (arith, h)
+
+module _ (f : Tree → ℕ) (node column fact cover : ℕ) (m : IsMeasure f node column fact cover) where
+  -- ---- expressions
+  module _ (types : List Column) (stage : ℕ) where
+    fact_at_most : (level : ℕ) (s : Shape) (slot : ℕ) → total f (copy_tree s slot (passing level s) ∷ []) ≤ at_most node column 0 1
+    fact_at_most level s slot = leaf node column _ (one_at_most f _ column (m.columns _ (copy_modest s slot (passing level s))))
+
+    split_at_most : (level : ℕ) (seats votes : Shape) (minima : Option ℕ) (method : Method) (major : Majority) →
+        total f (split_piece types stage level seats votes minima method major) ≤ node
+    split_at_most level seats votes minima method major =
+        one_at_most f _ node (m.nodes _ (split_modest (form_by seats votes) (node_slots types stage level seats votes minima) method major))
+
+    grow_at_most : (level : ℕ) (seats votes : Shape) (slot : ℕ) (method : Method) (major : Majority) (most : ℕ) →
+        total f (grow_piece types stage level seats votes (Some slot) method major most) ≤ node
+    grow_at_most level seats votes slot (by.Divisor d) major most =
+        one_at_most f _ node (m.nodes _ (growth_modest (node_slots types stage level seats votes (Some slot)) slot (form_by seats votes) d major most))
+    grow_at_most level seats votes slot by.Hamilton major most = omega arith
+
+    -- each part has one plan of its own
+    pieces_at_most : (level : ℕ) (x : ExprTree) → total f (pieces types stage level x) ≤ at_most node column (splits_in x) (parts_of x)
+    pieces_at_most level (house at) = fact_at_most level shape.One fact_slots.house
+    pieces_at_most level (counted at) = fact_at_most level shape.List fact_slots.counted
+    pieces_at_most level (winners at) = fact_at_most level shape.List fact_slots.winners
+    pieces_at_most level (outside at) = fact_at_most level shape.Land fact_slots.outside
+    pieces_at_most level (independents at) = fact_at_most level shape.Land fact_slots.independents
+    pieces_at_most level (population at) = fact_at_most level shape.Land fact_slots.population
+    pieces_at_most level (name at n) = fact_at_most level _ _
+    pieces_at_most level (sum at x over) =
+        after_one node column _ (splits_in x) (parts_of x)
+        (both_at_most f (pieces types stage level x) _ _ column (pieces_at_most level x) (one_at_most f _ column (m.columns _ (sum_modest over _ _ _))))
+    pieces_at_most level (larger at l r) =
+        after_two node column _ (splits_in l) (splits_in r) (parts_of l) (parts_of r)
+        (both_at_most f (pieces types stage level l) _ _ _ (pieces_at_most level l)
+        (both_at_most f (pieces types stage (level + 1) r) _ _ column (pieces_at_most (level + 1) r) (one_at_most f _ column (m.columns _ (larger_modest _ _ _ _)))))
+    pieces_at_most level (less at l r) =
+        after_two node column _ (splits_in l) (splits_in r) (parts_of l) (parts_of r)
+        (both_at_most f (pieces types stage level l) _ _ _ (pieces_at_most level l)
+        (both_at_most f (pieces types stage (level + 1) r) _ _ column (pieces_at_most (level + 1) r) (one_at_most f _ column (m.columns _ (less_modest _ _ _ _)))))
+    pieces_at_most level (split at s v method major) =
+        split_of_two node column _ (splits_in s) (splits_in v) (parts_of s) (parts_of v)
+        (both_at_most f (pieces types stage level s) _ _ _ (pieces_at_most level s)
+        (both_at_most f (pieces types stage (level + 1) v) _ _ node (pieces_at_most (level + 1) v) (split_at_most level (shape_of types stage s) (shape_of types stage v) None method major)))
+    pieces_at_most level (split_from at s v method g major) =
+        split_of_three node column _ (splits_in s) (splits_in v) (splits_in g) (parts_of s) (parts_of v) (parts_of g)
+        (both_at_most f (pieces types stage level s) _ _ _ (pieces_at_most level s)
+        (both_at_most f (pieces types stage (level + 1) v) _ _ _ (pieces_at_most (level + 1) v)
+        (both_at_most f (pieces types stage (level + 2) g) _ _ node (pieces_at_most (level + 2) g)
+        (split_at_most level (shape_of types stage s) (shape_of types stage v) (Some (passing (level + 2) (shape_of types stage v))) method major))))
+    pieces_at_most level (grow at s v method g most major) =
+        split_of_three node column _ (splits_in s) (splits_in v) (splits_in g) (parts_of s) (parts_of v) (parts_of g)
+        (both_at_most f (pieces types stage level s) _ _ _ (pieces_at_most level s)
+        (both_at_most f (pieces types stage (level + 1) v) _ _ _ (pieces_at_most (level + 1) v)
+        (both_at_most f (pieces types stage (level + 2) g) _ _ node (pieces_at_most (level + 2) g)
+        (grow_at_most level (shape_of types stage s) (shape_of types stage v) (passing (level + 2) (shape_of types stage v)) method major most.value))))
+
+  -- ---- stages
+  -- at most one split or growth, 64 other plans, and a copy
+  stage_at_most : (types : List Column) (k : ℕ) (s : StageTree) → splits_in s.expr ≤ 1 → is_within_stage s ≡ true → total f (stage_pieces types k s) ≤ node + 65 * column
+  stage_at_most types k s single within =
+      let few : parts_of s.expr ≤ 64 = leb-true (parts_of s.expr) 64 (and_parts (nat_le (depth_of s.expr) MAX_DEPTH) (nat_le (parts_of s.expr) MAX_PARTS) within).1 in
+      stage_sum node column (total f (stage_pieces types k s)) (splits_in s.expr) (parts_of s.expr) single few
+      (both_at_most f (pieces types k 0 s.expr) _ _ column (pieces_at_most types k 0 s.expr) (one_at_most f _ column (m.columns _ (copy_modest _ _ _))))
+
+  stages_at_most : (types : List Column) (k : ℕ) (ss : List StageTree) → first_failing (stages_tests types ss) ≡ None → list_all is_within_stage ss ≡ true
+      → total f (stages_pieces types k ss) ≤ length ss * (node + 65 * column)
+  stages_at_most types k [] pass within = omega arith
+  stages_at_most types k (s ∷ ss) pass within =
+      let once = head_holds _ _ _ pass in
+      let single = head_holds _ _ _ once.1 in
+      let parts = pass_parts (expr_tests types s.expr) _ single.1 in
+      let kept = and_parts (is_within_stage s) (list_all is_within_stage ss) within in
+      one_more _ (length ss) (node + 65 * column)
+      (both_at_most f (stage_pieces types k s) _ _ _ (stage_at_most types k s (leb-true (splits_in s.expr) 1 single.0) kept.0)
+      (stages_at_most (types ++ stage_column types s ∷ []) (k + 1) ss parts.1 kept.1))
+
+  -- ---- facts
+  conditions_at_most : (x : FactSlots) (few : List Cond) → f (conditions_tree x few) ≤ suc (length few) * fact
+  conditions_at_most x [] = let none = m.facts _ nothing_modest in omega (arith, none)
+  conditions_at_most x (c ∷ few) =
+      one_more _ (suc (length few)) fact
+      (let one = m.facts _ (condition_modest x c) in omega (arith, one, conditions_at_most x few, m.joins (condition_tree x c) (conditions_tree x few)))
+
+  -- there are at most four conditions
+  eligible_at_most : (x : FactSlots) (few : List Cond) → length few ≤ 4 → f (eligible_tree x few) ≤ 6 * fact
+  eligible_at_most x few long =
+      let first = m.facts (Line (Zero x.eligible ∷ [])) (line_modest (Zero x.eligible)) in
+      let five : suc (length few) ≤ 5 = omega (arith, long) in
+      let rest = mul-le (suc (length few)) fact 5 fact five (omega arith) in
+      omega (arith, first, rest, conditions_at_most x few, m.joins (Line (Zero x.eligible ∷ [])) (conditions_tree x few))
+
+  facts_at_most : (few : List Cond) (b : BookTree) → length few ≤ 4 → total f (facts_pieces few b) ≤ 12 * fact
+  facts_at_most few b long =
+      let one = eligible_at_most fact_slots few long in
+      let two = m.facts _ (house_modest fact_slots b.house.value) in
+      let three = m.facts _ (counted_modest fact_slots) in
+      let four = m.facts _ (winners_modest fact_slots) in
+      let five = m.facts _ (outside_modest fact_slots) in
+      let six = m.facts _ (independents_modest fact_slots) in
+      let seven = m.facts _ (population_modest fact_slots) in
+      of_seven _ _ _ _ _ _ _ one two three four five six seven
+    where
+      of_seven : (a b c d g h i : ℕ) → a ≤ 6 * fact → b ≤ fact → c ≤ fact → d ≤ fact → g ≤ fact → h ≤ fact → i ≤ fact
+          → a + (b + (c + (d + (g + (h + (i + 0)))))) ≤ 12 * fact
+      of_seven a b c d g h i ha hb hc hd hg hh hi = omega (arith, ha, hb, hc, hd, hg, hh, hi)
+
+  -- ---- the last clause
+  seating_at_most : (from : ℕ) (s : Seating) → total f (seating_pieces from s) ≤ fact + (column + cover)
+  seating_at_most from seating.Keep =
+      let one = m.columns _ (larger_modest shape.List from fact_slots.winners final_seats) in
+      let two = m.facts _ placing_modest in
+      omega (arith, one, two)
+  seating_at_most from seating.Cover =
+      let one = m.columns _ (copy_modest shape.List from final_seats) in
+      let two = m.covers _ (cover_modest cover_slots) in
+      omega (arith, one, two)
+
+  vacant_at_most : (vacate : Option ℕ) → total f (vacant_pieces vacate) ≤ fact + 2 * column
+  vacant_at_most None = omega arith
+  vacant_at_most (Some vacate) =
+      let one = m.facts (Line (Input names_left input.Names ∷ [])) (line_modest (Input names_left input.Names)) in
+      let two = m.columns _ (less_modest shape.List final_seats fact_slots.winners vacant_seats) in
+      let three = m.columns _ (less_modest shape.List vacant_seats names_left vacant_seats) in
+      omega (arith, one, two, three)
+
+  last_at_most : (types : List Column) (last : LastClause) → total f (last_pieces types last) ≤ 2 * fact + (3 * column + cover)
+  last_at_most types last =
+      let both = both_at_most f (seating_pieces (base_slot types last.base) last.seating) (vacant_pieces last.vacate) _ _
+      (seating_at_most (base_slot types last.base) last.seating) (vacant_at_most last.vacate) in
+      omega (arith, both)
+
+  -- ---- the whole book
+  pub book_at_most : (few : List Cond) (b : BookTree) → CanCompile few b
+      → total f (book_pieces few b) ≤ length b.stages * (node + 65 * column) + (14 * fact + (3 * column + cover))
+  book_at_most few b can =
+      let within = (and_parts (nat_le (length b.stages) MAX_STAGES) (list_all is_within_stage b.stages) can.limits).1 in
+      let stages = stages_at_most [] 0 b.stages (stages_hold b can.typed) within in
+      let last = last_at_most (columns_of [] b.stages) b.last in
+      let all = both_at_most f (facts_pieces few b) _ _ _ (facts_at_most few b can.same.long)
+      (both_at_most f (stages_pieces [] 0 b.stages) (last_pieces (columns_of [] b.stages) b.last) _ _ stages last) in
+      of_three (total f (book_pieces few b)) (length b.stages * (node + 65 * column)) all
+    where
+      of_three : (c stages : ℕ) → c ≤ 12 * fact + (stages + (2 * fact + (3 * column + cover))) → c ≤ stages + (14 * fact + (3 * column + cover))
+      of_three c stages h = omega (arith, h)

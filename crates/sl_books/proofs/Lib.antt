@@ -1,0 +1,24 @@
+-- The lemmas of whole rulebooks over code.
+pub mod Wanted
+pub mod Slots
+pub mod Told
+pub mod Facts
+pub mod Runs
+pub mod Ends
+pub mod Outcomes
+pub mod Books
+pub mod FineTrees
+pub mod FineColumns
+pub mod FineFacts
+pub mod FineExprs
+pub mod FineStages
+pub mod KindsLaid
+pub mod KindsOfBooks
+pub mod CostsOfPlans
+pub mod CostsOfBooks
+pub mod Costs
+pub mod Sizes
+pub mod ProperLists
+pub mod ProperTrees
+pub mod ProperPlans
+pub mod Proper

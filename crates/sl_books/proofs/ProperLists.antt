@@ -1,0 +1,51 @@
+-- What holds of each element of a list, by recursion: of lists in a row, and of numbers below 2^64.
+use Rattle.std.proofs.Common.{◌≡◌, ℕ, ◌<◌, ◌≤◌, ◌^◌, Bool, true, false, ◌==◌, if◌then◌else◌, List, [], ◌∷◌, ◌++◌, map, arith}
+use Rattle.std.specs.Prelude.{nat_lt, nat_le}
+use Rattle.std.specs.List.{AllByRecursion, list_all}
+use Rattle.std.proofs.lemmas.Bool.{and_parts, ltb-true, leb-true}
+use Rattle.sl_ratio.specs.declared.limits.TheConstants.{MAX_NUMBER}
+
+module _ {X : Type 0} (P : X → Type 0) where
+  pub all_append : (xs ys : List X) → AllByRecursion P xs → AllByRecursion P ys → AllByRecursion P (xs ++ ys)
+  all_append [] ys hx hy = hy
+  all_append (x ∷ xs) ys hx hy = (hx.0, all_append xs ys hx.1 hy)
+
+  pub all_parts : (xs ys : List X) → AllByRecursion P (xs ++ ys) → AllByRecursion P xs × AllByRecursion P ys
+  all_parts [] ys h = (tt, h)
+  all_parts (x ∷ xs) ys h = let rest = all_parts xs ys h.1 in ((h.0, rest.0), rest.1)
+
+-- ---- numbers
+
+-- a register can be set to it
+abbrev pub Fits : ℕ → Type 0
+Fits n = n < 2 ^ 64
+
+abbrev pub AllFit : List ℕ → Type 0
+AllFit = AllByRecursion Fits
+
+pub small_fit : (xs : List ℕ) → list_all (λ n. nat_lt n 5000) xs ≡ true → AllFit xs
+small_fit [] h = tt
+small_fit (x ∷ xs) h =
+    let parts = and_parts (nat_lt x 5000) (list_all (λ n. nat_lt n 5000) xs) h in
+    let below : x < 5000 = ltb-true x 5000 parts.0 in
+    (omega (arith, below), small_fit xs parts.1)
+
+-- the numbers of a rulebook are small
+pub written_fit : (xs : List ℕ) → list_all (λ n. nat_le n MAX_NUMBER) xs ≡ true → AllFit xs
+written_fit [] h = tt
+written_fit (x ∷ xs) h =
+    let parts = and_parts (nat_le x MAX_NUMBER) (list_all (λ n. nat_le n MAX_NUMBER) xs) h in
+    let below : x ≤ 999999999 = leb-true x 999999999 parts.0 in
+    (omega (arith, below), written_fit xs parts.1)
+
+-- a number in the place of 2, and all others as they are
+abbrev pub in_place : ℕ → ℕ → ℕ
+in_place most n = if n == 2 then most else n
+
+pub placed_fit : (most : ℕ) → Fits most → (xs : List ℕ) → AllFit xs → AllFit (map (in_place most) xs)
+placed_fit most fits [] h = tt
+placed_fit most fits (x ∷ xs) h = (by_case (x == 2), placed_fit most fits xs h.1)
+  where
+    by_case : (b : Bool) → Fits (if b then most else x)
+    by_case true = fits
+    by_case false = h.0

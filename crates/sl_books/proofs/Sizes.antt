@@ -1,0 +1,61 @@
+-- The instructions of a rulebook are no more than 50,000.
+use Rattle.std.proofs.Common.{◌≡◌, ℕ, ◌+◌, ◌*◌, ◌≤◌, ◌<◌, true, List, [], ◌∷◌, length, refl, ap, arith, length-append}
+use Rattle.std.specs.Prelude.{nat_lt, nat_le}
+use Rattle.std.specs.List.{list_all}
+use Rattle.std.proofs.lemmas.Bool.{and_parts, ltb-true, leb-true}
+use Rattle.sl_stages.specs.declared.limits.TheConstants.{MAX_STAGES}
+use Rattle.sl_stages.specs.book.Limits.{is_within_stage, is_within_limits}
+use Rattle.sl_stages.specs.book.Trees.{StageTree}
+use Rattle.sl_verify.specs.Kinds.{start_kinds}
+use Rattle.sl_plans.specs.Trees.{Tree, size_of}
+use Rattle.sl_plans.specs.inner.Prices.{price_of, has_price, up_to}
+use Rattle.sl_plans.specs.Laid.{laid, laid_all, size_all}
+use Rattle.sl_plans.proofs.Places.{length-flat}
+use Rattle.sl_pieces.specs.closing.Trees.{halting}
+use Rattle.sl_books.specs.Codes.{book_pieces, book_instrs}
+use Rattle.sl_books.specs.Laws.{BooksAreShort}
+use Rattle.sl_books.proofs.CostsOfPlans.{IsModest}
+use Rattle.sl_books.proofs.CostsOfBooks.{total, IsMeasure, book_at_most}
+
+size_at_most : (plain by_win size : ℕ) (tree : Tree) → IsModest plain by_win size tree → size_of tree + 1 ≤ size + 1
+size_at_most plain by_win size tree modest =
+    let priced = and_parts (has_price tree) _ modest.is in
+    let rates = and_parts (up_to plain (price_of tree).plain) _ priced.1 in
+    let wins = and_parts (up_to by_win (price_of tree).by_win) (nat_lt (size_of tree) (size + 1)) rates.1 in
+    let few : size_of tree < size + 1 = ltb-true (size_of tree) (size + 1) wins.1 in
+    omega (arith, few)
+
+-- instructions as a measure of plans
+sizes_measured : IsMeasure (λ t. size_of t + 1) 351 15 41 161
+sizes_measured = record {
+  nodes = size_at_most 500000 0 350;
+  columns = size_at_most 19 0 14;
+  facts = size_at_most 30 30 40;
+  covers = size_at_most 60 70 160;
+  joins = λ a b. omega arith;
+}
+
+sizes_total : (ts : List Tree) → size_all ts ≡ total (λ t. size_of t + 1) ts
+sizes_total [] = refl
+sizes_total (t ∷ ts) = ap (λ (n : ℕ). size_of t + 1 + n) (sizes_total ts)
+
+-- what is laid out has that size
+pub length-laid_all : (p : ℕ) (ts : List Tree) → length (laid_all p ts) ≡ size_all ts
+length-laid_all p [] = refl
+length-laid_all p (t ∷ ts) =
+    let rest = laid_all (p + (size_of t + 1)) ts in
+    omega (arith, length-append (laid p t) rest, length-flat t start_kinds (p + 1), length-laid_all (p + (size_of t + 1)) ts)
+
+-- a book within the limits has at most 32 stages
+pub few_stages : (ss : List StageTree) → is_within_limits ss ≡ true → length ss ≤ 32
+few_stages ss within = leb-true (length ss) 32 (and_parts (nat_le (length ss) MAX_STAGES) (list_all is_within_stage ss) within).0
+
+pub books_are_short : BooksAreShort
+books_are_short few b can =
+    let ts = book_pieces few b in
+    let all = book_at_most (λ t. size_of t + 1) 351 15 41 161 sizes_measured few b can in
+    of (length (book_instrs few b)) (total (λ t. size_of t + 1) ts) (length b.stages) (few_stages b.stages can.limits)
+    (let halt = length-append (laid_all 0 ts) (halting b.last.vacate ∷ []) in omega (arith, halt, length-laid_all 0 ts, sizes_total ts)) all
+  where
+    of : (long all stages : ℕ) → stages ≤ 32 → long ≡ all + 1 → all ≤ stages * (351 + 65 * 15) + (14 * 41 + (3 * 15 + 161)) → long ≤ 50000
+    of long all stages few is h = omega (arith, few, is, h)

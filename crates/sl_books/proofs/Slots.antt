@@ -1,0 +1,142 @@
+-- The slots and the stages of a book's code are where its plans look for them.
+use Rattle.std.proofs.Common.{◌≡◌, ℕ, zero, suc, ◌+◌, ◌*◌, ◌<◌, ◌≤◌, true, List, [], ◌∷◌, ◌++◌, length, map, Some, slice_get, flat_map, nat_le, refl, sym, ap, ◌∙◌, arith}
+use Rattle.std.specs.List.{range_with_len, list_all}
+use Rattle.std.proofs.lemmas.Bool.{and_parts, leb-true}
+use Rattle.std.proofs.lemmas.Option.{none-some, same_Some, slice_get-map}
+use Rattle.sl_stages.specs.declared.book.Cond.{Cond}
+use Rattle.sl_stages.specs.declared.book.Shape.{Shape}
+use Rattle.sl_stages.specs.declared.book.Shape.TheVariants as shape
+use Rattle.sl_stages.specs.declared.limits.TheConstants.{MAX_STAGES}
+use Rattle.sl_stages.specs.book.Trees.{StageTree, BookTree}
+use Rattle.sl_stages.specs.book.Limits.{is_within_stage, is_within_limits}
+use Rattle.sl_stages.specs.book.Typing.{Column, columns_of}
+use Rattle.sl_code.specs.declared.code.CodeStage.{CodeStage}
+use Rattle.sl_pieces.specs.exprs.Slots.{fact_slots, number_of, passing, stage_slot, HasBookSlots}
+use Rattle.sl_pieces.specs.exprs.Stages.{HasStages}
+use Rattle.sl_pieces.specs.facts.Laws.{HasFactSlots}
+use Rattle.sl_books.specs.Codes.{code_stages, fact_shapes, closing_shapes, level_shapes, passing_shapes, book_slots, book_code}
+
+-- ---- slots
+
+-- what stands behind the first of two lists
+behind : {X : Type 0} (xs ys : List X) (n : ℕ) → slice_get (xs ++ ys) (length xs + n) ≡ slice_get ys n
+behind [] ys n = let same : 0 + n ≡ n = omega arith in ap (λ (m : ℕ). slice_get ys m) same
+behind (x ∷ xs) ys n =
+    let same : suc (length xs) + n ≡ suc (length xs + n) = omega arith in
+    ap (λ (m : ℕ). slice_get (x ∷ (xs ++ ys)) m) same ∙ behind xs ys n
+
+-- the shapes of some levels, the first of that number, and what stands behind them
+abbrev levels_then : ℕ → ℕ → List Shape → List Shape
+levels_then n count rest = flat_map (λ (level : ℕ). level_shapes) (range_with_len n count) ++ rest
+
+-- the column of a shape on the first of some levels
+on_first : (n count : ℕ) (rest : List Shape) (s : Shape) → slice_get (levels_then n (suc count) rest) (4 * 0 + number_of s) ≡ Some s
+on_first n count rest shape.One = refl
+on_first n count rest shape.Party = refl
+on_first n count rest shape.Land = refl
+on_first n count rest shape.List = refl
+
+-- and on any of them
+on_level : (n count level : ℕ) (rest : List Shape) (s : Shape) → level < count → slice_get (levels_then n count rest) (4 * level + number_of s) ≡ Some s
+on_level n zero level rest s below = absurd (omega (arith, below))
+on_level n (suc count) zero rest s below = on_first n count rest s
+on_level n (suc count) (suc level) rest s below =
+    let place : 4 * suc level + number_of s ≡ suc (suc (suc (suc (4 * level + number_of s)))) = omega arith in
+    ap (λ (m : ℕ). slice_get (levels_then n (suc count) rest) m) place ∙ on_level (n + 1) count level rest s (omega (arith, below))
+
+module _ (types : List Column) where
+  abbrev stage_shapes : List Shape
+  stage_shapes = map (λ c. c.type.shape) types
+
+  passing_there : (level : ℕ) (s : Shape) → level ≤ 16 → slice_get (book_slots types) (passing level s) ≡ Some s
+  passing_there level s low =
+      let place : passing level s ≡ 9 + (3 + (4 * level + number_of s)) = omega arith in
+      ap (λ (m : ℕ). slice_get (book_slots types) m) place
+      ∙ behind fact_shapes (closing_shapes ++ (passing_shapes ++ stage_shapes)) (3 + (4 * level + number_of s))
+      ∙ behind closing_shapes (passing_shapes ++ stage_shapes) (4 * level + number_of s)
+      ∙ on_level 0 17 level stage_shapes s (omega (arith, low))
+
+  stage_there : (k : ℕ) (t : Column) → slice_get types k ≡ Some t → slice_get (book_slots types) (stage_slot k) ≡ Some t.type.shape
+  stage_there k t at =
+      let place : stage_slot k ≡ 9 + (3 + (68 + k)) = omega arith in
+      ap (λ (m : ℕ). slice_get (book_slots types) m) place
+      ∙ behind fact_shapes (closing_shapes ++ (passing_shapes ++ stage_shapes)) (3 + (68 + k))
+      ∙ behind closing_shapes (passing_shapes ++ stage_shapes) (68 + k)
+      ∙ behind passing_shapes stage_shapes k
+      ∙ slice_get-map (λ c. c.type.shape) types k
+      ∙ rw at refl
+
+module _ (few : List Cond) (b : BookTree) where
+  facts_there : HasFactSlots (book_code few b) fact_slots
+  facts_there = record {
+    eligible = refl;
+    house = refl;
+    counted = refl;
+    winners = refl;
+    outside = refl;
+    independents = refl;
+    population = refl;
+    votes = refl;
+    numbers = refl;
+    apart = λ same. omega (arith, same);
+  }
+
+  pub book_has_slots : HasBookSlots (book_code few b) (columns_of [] b.stages)
+  book_has_slots = record {
+    facts = facts_there;
+    pair_numbers_are = refl;
+    names_left_are = refl;
+    vacant_seats_are = refl;
+    passing_are = passing_there (columns_of [] b.stages);
+    stages_are = stage_there (columns_of [] b.stages);
+  }
+
+-- ---- stages
+
+-- the stage at a place has its name, and the slot of its number
+stage_at : (k j : ℕ) (ss : List StageTree) (s : StageTree) → slice_get ss j ≡ Some s →
+    (stage : CodeStage) × (slice_get (code_stages k ss) j ≡ Some stage) × (stage.name ≡ s.name)
+stage_at k j [] s at = absurd (none-some s at)
+stage_at k zero (r ∷ ss) s at = (record { name = r.name; slot = stage_slot k }, refl, ap (λ (x : StageTree). x.name) (same_Some r s at))
+stage_at k (suc j) (r ∷ ss) s at = stage_at (k + 1) j ss s at
+
+slot_at : (k j : ℕ) (ss : List StageTree) (stage : CodeStage) → slice_get (code_stages k ss) j ≡ Some stage → stage.slot ≡ stage_slot (k + j)
+slot_at k j [] stage at = absurd (none-some stage at)
+slot_at k zero (r ∷ ss) stage at =
+    let here : k ≡ k + 0 = omega arith in
+    sym (ap (λ (x : CodeStage). x.slot) (same_Some (record { name = r.name; slot = stage_slot k }) stage at)) ∙ ap stage_slot here
+slot_at k (suc j) (r ∷ ss) stage at = let next : k + 1 + j ≡ k + suc j = omega arith in slot_at (k + 1) j ss stage at ∙ ap stage_slot next
+
+as_many : (k : ℕ) (ss : List StageTree) → length (code_stages k ss) ≡ length ss
+as_many k [] = refl
+as_many k (s ∷ ss) = ap suc (as_many (k + 1) ss)
+
+same_names : (k : ℕ) (ss : List StageTree) → map (λ s. s.name) (code_stages k ss) ≡ map (λ s. s.name) ss
+same_names k [] = refl
+same_names k (s ∷ ss) = ap (λ (names : List (List ℕ)). s.name ∷ names) (same_names (k + 1) ss)
+
+-- the limits of a book, apart
+pub limits_apart : (ss : List StageTree) → is_within_limits ss ≡ true → (length ss ≤ 32) × (list_all is_within_stage ss ≡ true)
+limits_apart ss within =
+    let parts = and_parts (nat_le (length ss) MAX_STAGES) (list_all is_within_stage ss) within in
+    (leb-true (length ss) 32 parts.0, parts.1)
+
+module _ (few : List Cond) (b : BookTree) where
+  pub book_has_stages : is_within_limits b.stages ≡ true → HasStages (book_code few b) 0 b.stages
+  book_has_stages within = record {
+    few = let most = (limits_apart b.stages within).0 in omega (arith, most);
+    each = λ j s at.
+        let one = stage_at 0 j b.stages s at in
+        let here : j ≡ 0 + j = omega arith in
+        (one.0, ap (λ (m : ℕ). slice_get (code_stages 0 b.stages) m) (sym here) ∙ one.1, one.2);
+  }
+
+  pub book_has_as_many : length (book_code few b).stages ≡ length b.stages
+  book_has_as_many = as_many 0 b.stages
+
+  pub book_has_names : map (λ s. s.name) (book_code few b).stages ≡ map (λ s. s.name) b.stages
+  book_has_names = same_names 0 b.stages
+
+  -- the slot of a stage is that of its number
+  pub book_stage_slot : (n : ℕ) (stage : CodeStage) → slice_get (book_code few b).stages n ≡ Some stage → stage.slot ≡ stage_slot n
+  book_stage_slot n stage at = let here : 0 + n ≡ n = omega arith in slot_at 0 n b.stages stage at ∙ ap stage_slot here

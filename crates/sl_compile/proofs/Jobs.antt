@@ -1,0 +1,149 @@
+-- The slots of splits and growths are there, and their plans are laid out.
+use Rattle.std.proofs.Common.{◌≡◌, ℕ, zero, suc, ◌+◌, ◌*◌, ◌<◌, ◌≤◌, Bool, true, false, List, [], ◌++◌, length, Some, slice_get, Result, Ok, Err, IfOk, refl, sym, ap, subst, ◌∙◌, arith}
+use Rattle.std.specs.Prelude.{flat_map}
+use Rattle.std.specs.List.{range_with_len}
+use Rattle.std.proofs.lemmas.List.{append-nil}
+use Rattle.std.proofs.lemmas.Option.{same_Some}
+use Rattle.sl_ratio.specs.declared.method.Divisor.{Divisor}
+use Rattle.sl_ratio.specs.declared.method.Method.{Method}
+use Rattle.sl_ratio.specs.declared.method.Method.TheVariants as by
+use Rattle.sl_stages.specs.declared.book.Majority.{Majority}
+use Rattle.sl_stages.specs.declared.book.Shape.{Shape}
+use Rattle.sl_stages.specs.declared.book.Shape.TheVariants as shape
+use Rattle.sl_stages.specs.book.Typing.{can_split}
+use Rattle.sl_code.specs.declared.instr.Instr.{Instr}
+use Rattle.sl_plans.specs.Laid.{laid}
+use Rattle.sl_pieces.specs.scopes.Forms.{Form, amounts_of, votes_of}
+use Rattle.sl_pieces.specs.seats.Slots.{Slots}
+use Rattle.sl_pieces.specs.nodes.Trees.{split_tree, grow_tree}
+use Rattle.sl_books.specs.Codes.{level_shapes}
+use Rattle.sl_blocks.specs.declared.job.Job.{Job}
+use Rattle.sl_blocks.specs.Jobs.{slots_of, IsJob, TakesMinima, IsSplitJob, IsGrowthJob}
+use Rattle.sl_pieces.specs.exprs.Slots.{number_of, passing}
+use Rattle.sl_pieces.specs.exprs.Pieces.{form_by, node_slots, split_piece, grow_piece}
+use Rattle.sl_pieces.proofs.exprs.Places.{amounts_apart, other_level}
+use Rattle.sl_compile.specs.Laying.{IsLaidAll}
+use Rattle.sl_compile.specs.Slots.{low_shapes}
+use Rattle.sl_compile.specs.Nodes.{minima_at, top_of, MayHave}
+use Rattle.sl_blocks.specs.Layout.{IsLaidSplit, IsLaidGrowth}
+
+-- ---- slots
+
+levels_there : (n first level : ℕ) (s : Shape) → level < n → slice_get (flat_map (λ l. level_shapes) (range_with_len first n)) (4 * level + number_of s) ≡ Some s
+levels_there zero first level s less = absurd (omega arith)
+levels_there (suc n) first zero shape.One less = refl
+levels_there (suc n) first zero shape.Party less = refl
+levels_there (suc n) first zero shape.Land less = refl
+levels_there (suc n) first zero shape.List less = refl
+levels_there (suc n) first (suc level) s less =
+    let next : 4 * suc level + number_of s ≡ suc (suc (suc (suc (4 * level + number_of s)))) = omega arith in
+    rw next (levels_there n (first + 1) level s (omega arith))
+
+-- each passing column is there
+pub passing_there : (level : ℕ) (s : Shape) → level ≤ 16 → slice_get low_shapes (passing level s) ≡ Some s
+passing_there level s low =
+    let k : ℕ = 4 * level + number_of s in
+    let there : passing level s ≡ suc (suc (suc (suc (suc (suc (suc (suc (suc (suc (suc (suc k))))))))))) = omega arith in
+    ap (slice_get low_shapes) there ∙ levels_there 17 0 level s (omega arith)
+
+-- ---- forms
+
+form_amounts : (s v : Shape) → can_split s v ≡ true → amounts_of (form_by s v) ≡ s
+form_amounts shape.One shape.Party can = refl
+form_amounts shape.One shape.Land can = refl
+form_amounts shape.One shape.List can = refl
+form_amounts shape.Party shape.List can = refl
+form_amounts shape.Land shape.List can = refl
+form_amounts _ _ can = cc
+
+form_votes : (s v : Shape) → can_split s v ≡ true → votes_of (form_by s v) ≡ v
+form_votes shape.One shape.Party can = refl
+form_votes shape.One shape.Land can = refl
+form_votes shape.One shape.List can = refl
+form_votes shape.Party shape.List can = refl
+form_votes shape.Land shape.List can = refl
+form_votes _ _ can = cc
+
+one_on : (level : ℕ) (m : Bool) → top_of level m ≤ 16 → level + 1 ≤ 16
+one_on level false low = low
+one_on level true low = omega (arith, low)
+
+minima_there : (level : ℕ) (v : Shape) (m : Bool) (slot : ℕ) → top_of level m ≤ 16 → minima_at level v m ≡ Some slot → (slot ≡ passing (level + 2) v) × (level + 2 ≤ 16)
+minima_there level v false slot low is = cc
+minima_there level v true slot low is = (sym (same_Some (passing (level + 2) v) slot is), low)
+
+takes : (level : ℕ) (v : Shape) (method : Method) (m : Bool) → MayHave method m → TakesMinima method (minima_at level v m)
+takes level v method false may = tt
+takes level v (by.Divisor d) true may = tt
+takes level v by.Hamilton true may = absurd may
+
+-- ---- jobs
+
+module _ (j : Job) (stage level : ℕ) (s v : Shape) (m : Bool) (is : slots_of j ≡ node_slots [] stage level s v (minima_at level v m))
+    (can : can_split s v ≡ true) (low : top_of level m ≤ 16) (few : stage ≤ 31) where
+  abbrev form : Form
+  form = form_by s v
+
+  amounts_is : j.amount ≡ passing level (amounts_of form)
+  amounts_is = ap (λ (x : Slots). x.amounts) is ∙ ap (passing level) (sym (form_amounts s v can))
+
+  votes_is : j.weights ≡ passing (level + 1) (votes_of form)
+  votes_is = ap (λ (x : Slots). x.votes) is ∙ ap (passing (level + 1)) (sym (form_votes s v can))
+
+  result_is : j.result ≡ passing level (votes_of form)
+  result_is = ap (λ (x : Slots). x.result) is ∙ ap (passing level) (sym (form_votes s v can))
+
+  minima_is : j.minima ≡ minima_at level v m
+  minima_is = ap (λ (x : Slots). x.minima) is
+
+  slot_is : (slot : ℕ) → j.minima ≡ Some slot → (slot ≡ passing (level + 2) (votes_of form)) × (level + 2 ≤ 16)
+  slot_is slot at =
+      let h = minima_there level v m slot low (sym minima_is ∙ at) in
+      (h.0 ∙ ap (passing (level + 2)) (sym (form_votes s v can)), h.1)
+
+  pub is_job : IsJob low_shapes form j
+  is_job = record {
+    amounts = ap (slice_get low_shapes) amounts_is ∙ passing_there level (amounts_of form) (omega (arith, one_on level m low));
+    votes = ap (slice_get low_shapes) votes_is ∙ passing_there (level + 1) (votes_of form) (one_on level m low);
+    minima = λ slot at. ap (slice_get low_shapes) (slot_is slot at).0 ∙ passing_there (level + 2) (votes_of form) (slot_is slot at).1;
+    result = ap (slice_get low_shapes) result_is ∙ passing_there level (votes_of form) (omega (arith, one_on level m low));
+    not_amounts = λ same. amounts_apart form level (sym amounts_is ∙ same ∙ result_is);
+    not_votes = λ same. other_level level (level + 1) (votes_of form) (votes_of form) (omega arith) (sym votes_is ∙ same ∙ result_is);
+    not_minima = λ slot at same. other_level level (level + 2) (votes_of form) (votes_of form) (omega arith) (sym (slot_is slot at).0 ∙ same ∙ result_is);
+    stage = omega (arith, ap (λ (x : Slots). x.stage) is, few);
+  }
+
+  pub is_split_job : (method : Method) → MayHave method m → IsSplitJob low_shapes j method
+  is_split_job method may = record { form = form; job = is_job; takes = subst (λ o. TakesMinima method o) (sym minima_is) (takes level v method m may) }
+
+  -- what is laid out
+  pub split_laid : {R E : Type 0} (r : Result R E) (method : Method) (majority : Majority) (before after : List Instr) → j.majority ≡ majority →
+      IfOk r (λ _. IsLaidSplit low_shapes j method before after) →
+      IfOk r (λ _. IsLaidAll (split_piece [] stage level s v (minima_at level v m) method majority) before after)
+  split_laid (Err e) method majority before after same h = h
+  split_laid (Ok y) method majority before after same h =
+      h form is_job
+      ∙ ap (λ (x : Slots). before ++ laid (length before) (split_tree form x method j.majority)) is
+      ∙ ap (λ (c : Majority). before ++ laid (length before) (split_tree form (node_slots [] stage level s v (minima_at level v m)) method c)) same
+      ∙ ap (λ (w : List Instr). before ++ w) (sym (append-nil _))
+
+  pub grow_laid : {R E : Type 0} (r : Result R E) (d : Divisor) (cap : ℕ) (majority : Majority) (before after : List Instr) → j.majority ≡ majority →
+      IfOk r (λ _. IsLaidGrowth low_shapes j d cap before after) →
+      IfOk r (λ _. IsLaidAll (grow_piece [] stage level s v (minima_at level v m) (by.Divisor d) majority cap) before after)
+  grow_laid (Err e) d cap majority before after same h = h
+  grow_laid (Ok y) d cap majority before after same h =
+      h form is_job
+      ∙ ap (λ (x : Slots). before ++ laid (length before) (grow_tree form x d j.majority cap)) is
+      ∙ ap (λ (c : Majority). before ++ laid (length before) (grow_tree form (node_slots [] stage level s v (minima_at level v m)) d c cap)) same
+      ∙ ap (λ (w : List Instr). before ++ w) (sym (append-nil _))
+
+pub is_growth_job : (j : Job) (stage level : ℕ) (s v : Shape) (cap : ℕ) → slots_of j ≡ node_slots [] stage level s v (minima_at level v true) →
+    can_split s v ≡ true → level + 2 ≤ 16 → stage ≤ 31 → s ≡ shape.One → cap ≤ 4000 → IsGrowthJob low_shapes j cap
+is_growth_job j stage level s v cap is can low few one small = record {
+  form = form_by s v;
+  job = is_job j stage level s v true is can low few;
+  one = form_amounts s v can ∙ one;
+  slot = passing (level + 2) v;
+  minima = ap (λ (x : Slots). x.minima) is;
+  few = small;
+}

@@ -1,0 +1,10 @@
+-- The lemmas of the compiler.
+pub mod Places
+pub mod Easier
+pub mod Levels
+pub mod Jobs
+pub mod Walks
+pub mod Arguments
+pub mod Wholes
+pub mod Found
+pub mod FactPlans

@@ -1,0 +1,71 @@
+-- The code of a book, from its parts.
+use Rattle.std.proofs.Common.{◌≡◌, ◌≤◌, List, [], ◌∷◌, ◌++◌, true, None, length, map, take, refl, ap, ◌∙◌, arith, append_assoc, length-append}
+use Rattle.sl_stages.specs.declared.book.Stage.{Stage}
+use Rattle.sl_stages.specs.declared.book.Shape.{Shape}
+use Rattle.sl_stages.specs.declared.book.ColumnType.{ColumnType}
+use Rattle.sl_stages.specs.book.Trees.{BookTree, stage_of}
+use Rattle.sl_stages.specs.book.Tests.{first_failing}
+use Rattle.sl_stages.specs.book.Typing.{Column, columns_of, version_tests, condition_tests, stages_tests, base_tests, tests_of, is_typed}
+use Rattle.sl_stages.proofs.Tests.{no_fault, pass_parts, head_holds}
+use Rattle.sl_code.specs.declared.instr.Instr.{Instr}
+use Rattle.sl_plans.specs.Trees.{Tree}
+use Rattle.sl_plans.specs.Laid.{laid_all}
+use Rattle.sl_books.specs.Codes.{book_slots, fact_shapes, closing_shapes, passing_shapes}
+use Rattle.sl_compile.specs.Laying.{IsLaidAll, HasRoom}
+use Rattle.sl_compile.specs.Slots.{low_shapes}
+use Rattle.sl_compile.specs.Earlier.{columns}
+use Rattle.sl_compile.proofs.Places.{length-laid_all, laid_then, room_first, room_rest}
+
+-- ---- tests
+
+-- the tests of a typed book hold, part by part
+pub record Passes (b : BookTree) : Type 0 where
+  pub conditions : first_failing (condition_tests b.eligible) ≡ None
+  pub stages : first_failing (stages_tests [] b.stages) ≡ None
+
+pub passes : (b : BookTree) → is_typed b ≡ true → Passes b
+passes b typed =
+    let all = no_fault (tests_of b) typed in
+    let rest = (pass_parts (version_tests b.version b.last.vacate) _ all).1 in
+    let behind = (head_holds _ _ _ rest).1 in
+    let conditions = pass_parts (condition_tests b.eligible) (stages_tests [] b.stages ++ base_tests (columns_of [] b.stages) b.last.at b.last.base) behind in
+    record { conditions = conditions.0; stages = (pass_parts (stages_tests [] b.stages) _ conditions.1).0 }
+
+-- ---- three lists of plans
+
+-- room for each of them, where all have room at the beginning
+module _ (facts stages last : List Tree) (room : HasRoom (facts ++ (stages ++ last)) []) where
+  pub facts_room : HasRoom facts []
+  facts_room = room_first facts (stages ++ last) [] room
+
+  module _ (x : List Instr) (first : IsLaidAll facts [] x) where
+    pub stages_room : HasRoom stages x
+    stages_room = room_first stages last x (room_rest facts (stages ++ last) [] x room first)
+
+    pub last_room : (y : List Instr) → IsLaidAll stages x y → HasRoom last y
+    last_room y second = room_rest stages last x y (room_rest facts (stages ++ last) [] x room first) second
+
+-- all of them and a last instruction
+pub three_laid : (facts stages last : List Tree) (end : Instr) (x y z w : List Instr) → IsLaidAll facts [] x → IsLaidAll stages x y → IsLaidAll last y z →
+    w ≡ z ++ end ∷ [] → w ≡ laid_all 0 (facts ++ (stages ++ last)) ++ end ∷ []
+three_laid facts stages last end x y z w first second third is =
+    is ∙ ap (λ (is' : List Instr). is' ++ end ∷ []) (laid_then facts (stages ++ last) [] x z first (laid_then stages last x y z second third))
+
+pub whole_room : (all : List Tree) (end : Instr) → length (laid_all 0 all ++ end ∷ []) ≤ 70000 → HasRoom all []
+whole_room all end short = omega (arith, short, length-append (laid_all 0 all) (end ∷ []), length-laid_all 0 all)
+
+-- ---- slots
+
+shapes_of : (ss : List Stage) (ts : List ColumnType) → length ss ≤ length ts → map (λ t. t.shape) (take (length ss) ts) ≡ map (λ c. c.type.shape) (columns ss ts)
+shapes_of [] ts long = refl
+shapes_of (s ∷ ss) [] long = absurd (omega arith)
+shapes_of (s ∷ ss) (t ∷ ts) long = ap (λ (xs : List Shape). t.shape ∷ xs) (shapes_of ss ts (omega arith))
+
+pub slots_are : (ss : List Stage) (ts : List ColumnType) (low all : List Shape) → length ss ≤ length ts → low ≡ low_shapes →
+    columns ss ts ≡ columns_of [] (map stage_of ss) → all ≡ low ++ map (λ t. t.shape) (take (length ss) ts) → all ≡ book_slots (columns_of [] (map stage_of ss))
+slots_are ss ts low all long low_is have is =
+    is
+    ∙ ap (λ (xs : List Shape). xs ++ map (λ t. t.shape) (take (length ss) ts)) low_is
+    ∙ ap (λ (xs : List Shape). low_shapes ++ xs) (shapes_of ss ts long ∙ ap (λ (cs : List Column). map (λ c. c.type.shape) cs) have)
+    ∙ append_assoc fact_shapes (closing_shapes ++ passing_shapes) (map (λ c. c.type.shape) (columns_of [] (map stage_of ss)))
+    ∙ ap (λ (xs : List Shape). fact_shapes ++ xs) (append_assoc closing_shapes passing_shapes (map (λ c. c.type.shape) (columns_of [] (map stage_of ss))))

@@ -1,0 +1,13 @@
+-- The code of a book, as the compiler makes it.
+use Rattle.std.specs.Prelude.{◌≡◌, List}
+use Rattle.sl_stages.specs.declared.book.Cond.{Cond}
+use Rattle.sl_stages.specs.book.Trees.{BookTree}
+use Rattle.sl_code.specs.Codes.{CountingCode}
+use Rattle.sl_books.specs.Conditions.{SayTheSame}
+use Rattle.sl_books.specs.Codes.{book_code}
+
+-- it is the book's for a few conditions that say what all of the book's say
+pub record IsCodeOf (b : BookTree) (c : CountingCode) : Type 0 where
+  pub few : List Cond
+  pub same : SayTheSame few b.eligible
+  pub is : c ≡ book_code few b

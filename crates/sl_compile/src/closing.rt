@@ -1,0 +1,114 @@
+//! The plans of a rulebook's last clause (docs/compiler.md, section 6).
+
+ghost use Rattle.std.specs.Prelude.{◌≡◌, IfOk};
+ghost use Rattle.sl_pieces.specs.closing.Trees.{base_slot, seating_pieces, vacant_pieces, last_pieces, halting};
+ghost use Rattle.sl_compile.specs.Laying.{IsLaidAll, HasRoom};
+ghost use Rattle.sl_compile.specs.Slots.{low_shapes};
+ghost use Rattle.sl_compile.specs.Earlier.{columns};
+
+use crate::columns::{lay_copy, lay_larger, lay_less};
+use crate::earlier::Earlier;
+use crate::facts::by_winner;
+use crate::laying::lay_one;
+use crate::registers::OTHER;
+use crate::slots::{ELIGIBLE, FINAL_SEATS, NAMES_LEFT, PAIR_NUMBERS, VACANT_SEATS, WINNERS};
+use sl_blocks::cover_block;
+use sl_code::{Input, Instr};
+use sl_plans::Part::Fixed;
+use sl_plans::{Cursor, Plan, Test};
+use sl_ratio::NoMemory;
+use sl_stages::{Base, LastClause, Seating, Shape};
+
+/// The slot of the base column: that of a fact, or of a stage.
+fn base_slot(earlier: &Earlier<'_>, base: &Base) -> u8
+    ensures { let known = columns earlier.now.stages.now earlier.now.types.now
+        in result ≡ base_slot known base.now }
+{
+    match base {
+        Base::Winners => WINNERS,
+        Base::Stage(name) => earlier.column(name).0,
+    }
+}
+
+/// Every winner of an eligible party with a list in the Land sits on it, and every other one as a single.
+const PLACE_KEPT: &Plan<'static> = &Plan::Each(
+    Cursor::Win,
+    by_winner!(
+        &Plan::Line(&[Fixed(Instr::Seat)]),
+        &Plan::Line(&[Fixed(Instr::Single)])
+    ),
+);
+
+/// Slots to work in, of which a covering takes the first one of lists.
+const SCRATCH: [[u8; 8]; 4] = [[0; 8], [0; 8], [0; 8], [PAIR_NUMBERS; 8]];
+
+/// Appends the seats of the lists, and who sits on them.
+fn lay_seating(
+    code: &mut Vec<Instr>,
+    slots: &[Shape],
+    from: u8,
+    seating: Seating,
+) -> Result<(), NoMemory>
+    requires slots { slots.now ≡ low_shapes }
+    requires room { HasRoom (seating_pieces from seating) code.old.items }
+    ensures { IfOk result (λ _. IsLaidAll (seating_pieces from seating) code.old.items code.new.items) }
+{
+    match seating {
+        Seating::Keep => {
+            lay_larger(code, Shape::List, from, WINNERS, FINAL_SEATS)?;
+            lay_one(code, PLACE_KEPT, &[])
+        }
+        Seating::Cover => {
+            lay_copy(code, Shape::List, from, FINAL_SEATS)?;
+            cover_block(code, slots, FINAL_SEATS, ELIGIBLE, SCRATCH)
+        }
+    }
+}
+
+const NAMES: &Plan<'static> = &Plan::Line(&[Fixed(Instr::Input(NAMES_LEFT, Input::Names))]);
+
+/// Appends, with `vacate`, the seats that neither winners nor names fill.
+fn lay_vacant(code: &mut Vec<Instr>, vacate: Option<usize>) -> Result<(), NoMemory>
+    requires { HasRoom (vacant_pieces vacate) code.old.items }
+    ensures { IfOk result (λ _. IsLaidAll (vacant_pieces vacate) code.old.items code.new.items) }
+{
+    match vacate {
+        None => Ok(()),
+        Some(_) => {
+            lay_one(code, NAMES, &[])?;
+            lay_less(code, Shape::List, FINAL_SEATS, WINNERS, VACANT_SEATS)?;
+            lay_less(code, Shape::List, VACANT_SEATS, NAMES_LEFT, VACANT_SEATS)
+        }
+    }
+}
+
+/// Appends the plans of the last clause.
+///
+/// # Errors
+/// No memory was found.
+pub fn lay_last(
+    code: &mut Vec<Instr>,
+    slots: &[Shape],
+    earlier: &Earlier<'_>,
+    last: &LastClause,
+) -> Result<(), NoMemory>
+    requires slots { slots.now ≡ low_shapes }
+    requires room { let known = columns earlier.now.stages.now earlier.now.types.now
+        in HasRoom (last_pieces known last.now) code.old.items }
+    ensures { let known = columns earlier.now.stages.now earlier.now.types.now
+        in IfOk result (λ _. IsLaidAll (last_pieces known last.now) code.old.items code.new.items) }
+{
+    let from = base_slot(earlier, &last.base);
+    lay_seating(code, slots, from, last.seating)?;
+    lay_vacant(code, last.vacate)
+}
+
+/// The run ends with the seats, and with the vacant ones if there are any.
+pub fn halting(vacate: Option<usize>) -> Instr
+    ensures { result ≡ halting vacate }
+{
+    match vacate {
+        None => Instr::Halt(FINAL_SEATS),
+        Some(_) => Instr::Haltv(FINAL_SEATS, VACANT_SEATS),
+    }
+}

@@ -1,0 +1,30 @@
+//! The stages of a code: their names, and the slots of their columns.
+
+ghost use Rattle.std.specs.Prelude.{◌≡◌, ◌≤◌, length, map, IfOk};
+ghost use Rattle.sl_stages.specs.book.Trees.{stage_of};
+ghost use Rattle.sl_books.specs.Codes.{code_stages};
+
+use crate::slots::stage_slot;
+use sl_code::CodeStage;
+use sl_ratio::NoMemory;
+use sl_stages::{Stage, Word};
+use std::alloc::Global;
+
+/// The stages of the code.
+///
+/// # Errors
+/// No memory was found.
+pub fn code_stages(alloc: Global, stages: &[Stage]) -> Result<Vec<CodeStage>, NoMemory>
+    requires { length stages.now ≤ 32 }
+    ensures { IfOk result (λ named. named.items ≡ code_stages 0 (map stage_of stages.now)) }
+{
+    let mut named = Vec::new(alloc);
+    for (i, stage) in stages.iter().enumerate() {
+        let name = Word::new(alloc, stage.name.as_bytes())?;
+        named.push(CodeStage {
+            name,
+            slot: stage_slot(i as u8),
+        })?;
+    }
+    Ok(named)
+}

@@ -1,0 +1,214 @@
+-- Whole batches of peers, while there are seats for all of them.
+use Rattle.std.proofs.Common.{◌≡◌, ℕ, suc, ◌+◌, ◌-◌, ◌<◌, ◌≤◌, Bool, false, ◌==◌, if◌then◌else◌, length, List, sum, refl, sym, ap, ◌∙◌, arith}
+use Rattle.std.specs.Prelude.{slice_index}
+use Rattle.sl_stages.specs.returns.Election.{Election}
+use Rattle.sl_stages.specs.methods.Ties.{Lists}
+use Rattle.sl_stages.specs.laws.Ladders.{Has, IsSettled, IsPeer, HasRoom}
+use Rattle.sl_stages.proofs.methods.LadderProofs.{batches}
+use Rattle.sl_code.specs.Codes.{CountingCode}
+use Rattle.sl_prio.specs.Ranking.{ranked}
+use Rattle.sl_prio.specs.Prio.{peers}
+use Rattle.sl_machine.specs.State.{State, with_register}
+use Rattle.sl_machine.specs.Effects as machine
+use Rattle.sl_machine.proofs.effects.Registers.{set_does, mov_does, sub_does}
+use Rattle.sl_plans.specs.Trees.{Tree, ones}
+use Rattle.sl_plans.specs.Achieves.{Achieves, Never}
+use Rattle.sl_plans.specs.inner.Frames.{KeepsRest}
+use Rattle.sl_plans.proofs.Rules.{achieves_from, achieves_more, line_ends, line_goes, then_achieves, if_empty, if_less}
+use Rattle.sl_plans.proofs.KeepingRules.{achieves_kept}
+use Rattle.sl_pieces.specs.arenas.Arenas.{Arena, IsArena, HasWaiting, waiting, seat_taken}
+use Rattle.sl_pieces.proofs.arenas.Peers.{waiting_peers}
+use Rattle.sl_pieces.specs.awards.Registers as reg
+use Rattle.sl_pieces.specs.awards.Trees.{whole_batch, counted_seat}
+use Rattle.sl_pieces.specs.awards.Batches.{Gets, GivesSeats, IsBlind, HasBegun, NoBatch, OneBegan, BeginsBatches, FitsLoop}
+use Rattle.sl_pieces.specs.awards.Awards.{IsCounted, FitsAwards}
+use Rattle.sl_pieces.proofs.awards.Turns.{holds_at_most, same_registers}
+use Rattle.sl_pieces.proofs.awards.AwardsTurns.{lessened, lessened_before, stepping, step_counted, step_is, base_within, as_many, TurnSums, turn_sums}
+
+-- what holds of a state while whole batches are awarded: the registers count the seats still to give
+pub record Counts (a : Arena) (seats : ℕ) (Held : List ℕ → State → Type 0) (t : List ℕ) (state : State) : Type 0 where
+  pub held : Held t state
+  pub left : state.registers reg.left + sum t ≡ seats
+  pub all_left : state.registers reg.all_left + sum a.ladders.base ≡ seats
+
+-- a batch that has begun: there are seats for all peers
+pub record IsWhole (a : Arena) (seats : ℕ) (s : List ℕ) (step : ℕ) : Type 0 where
+  pub counted : IsCounted a seats s step
+  pub enough : (tied : List ℕ) → Lists (IsPeer a.ladders s) tied → sum s + length tied ≤ seats
+
+-- the batch from t on is the last: there are fewer seats than peers
+pub record IsLast (a : Arena) (seats : ℕ) (t : List ℕ) : Type 0 where
+  pub scarce : (tied : List ℕ) → Lists (IsPeer a.ladders t) tied → seats < sum t + length tied
+
+module _ (c : CountingCode) (e : Election) (a : Arena) (most seats : ℕ) (on : Tree) (Held : List ℕ → State → Type 0) (fits : FitsAwards Held on) where
+  pub counts_blind : (r : ℕ) → (reg.left == r) ≡ false → (reg.all_left == r) ≡ false → IsBlind Held r → IsBlind (Counts a seats Held) r
+  counts_blind r not_left not_all blind = record {
+    blind = λ t value state h. record {
+      held = blind.blind t value state h.held;
+      left = ap (λ (b : Bool). (if b then value else state.registers reg.left) + sum t) not_left ∙ h.left;
+      all_left = ap (λ (b : Bool). (if b then value else state.registers reg.all_left) + sum a.ladders.base) not_all ∙ h.all_left;
+    };
+  }
+
+  -- ---- a seat
+
+  held_less : (t : List ℕ) (state : State) → Held t state → Held t (lessened state)
+  held_less t state h =
+      let s : State = with_register ones 1 state in
+      fits.blind_left.blind t (state.registers reg.left - 1) s (fits.blind_ones.blind t 1 state h)
+
+  module _ (arena : IsArena most a) (gives : GivesSeats c e a most (IsCounted a seats) Held on) (s tied given t u : List ℕ) (entry : ℕ) (state : State)
+      (gets : Gets a s tied given t u entry) where
+    -- the state of the machine where the plan for the seat begins
+    at_seat : State
+    at_seat = seat_taken e a entry (slice_index t entry) gets.taken.others (lessened state)
+
+    taken_first : lessened (seat_taken e a entry (slice_index t entry) gets.taken.others state) ≡ at_seat
+    unfolding at_seat
+    taken_first = lessened_before e a.entries (slice_index a.places entry) _
+
+    at_seat_registers : (r : ℕ) → at_seat.registers r ≡ (lessened state).registers r
+    unfolding at_seat
+    at_seat_registers r = ap (λ (f : ℕ → ℕ). f r) (same_registers e a.entries (slice_index a.places entry) _)
+
+    count_seat : (after : State) → IsWhole a seats s (state.registers reg.step) → Counts a seats Held t state → Held u after → KeepsRest on at_seat after → Counts a seats Held u after
+    count_seat after begun counts held kept =
+        let sums : TurnSums s tied given t u = turn_sums a.ladders arena.falling s tied given t u entry gets.batch gets.one_of gets.left gets.raised in
+        let left : after.registers reg.left ≡ state.registers reg.left - 1 = kept.registers reg.left fits.keeps_left ∙ at_seat_registers reg.left in
+        let all : after.registers reg.all_left ≡ state.registers reg.all_left = kept.registers reg.all_left fits.keeps_all_left ∙ at_seat_registers reg.all_left in
+        let enough : sum s + length tied ≤ seats = begun.enough tied gets.batch.listed in
+        record {
+          held = held;
+          left = omega (arith, left, counts.left, enough, sums.before, sums.after, sums.within);
+          all_left = omega (arith, all, counts.all_left);
+        }
+
+    seat_counted : ((i : ℕ) → slice_index u i ≤ most) → IsWhole a seats s (state.registers reg.step) → HasWaiting a t state → Counts a seats Held t state
+        → Achieves c e (counted_seat on) (seat_taken e a entry (slice_index t entry) gets.taken.others state) (λ after. HasWaiting a u after × Counts a seats Held u after) Never
+    unfolding at_seat
+    seat_counted few begun waits counts =
+        let start : State = seat_taken e a entry (slice_index t entry) gets.taken.others state in
+        then_achieves {Q = λ v. v ≡ at_seat}
+        (line_goes (set_does c e start ones 1) (line_goes (sub_does c e (with_register ones 1 start) reg.left ones) (line_ends taken_first)))
+        (λ v same.
+        achieves_from same
+        (achieves_more (achieves_kept (gives.gives s tied given t u entry (lessened state) gets few begun.counted waits (held_less t state counts.held)))
+        (λ after h. (h.0.0, count_seat after begun counts h.0.1 h.1)) (λ x h. h)))
+
+  pub gives_counted : IsArena most a → GivesSeats c e a most (IsCounted a seats) Held on → GivesSeats c e a most (IsWhole a seats) (Counts a seats Held) (counted_seat on)
+  gives_counted arena gives = record {
+    gives = λ s tied given t u entry state gets few begun waits counts. seat_counted arena gives s tied given t u entry state gets few begun waits counts;
+  }
+
+  -- ---- a batch
+
+  -- the plan that begins a batch goes one of three ways: there are no peers, too few seats for them, or a batch begins
+  module _ (t tied : List ℕ) (state : State) (Q : State → Type 0) (arena : IsArena most a) (few : (i : ℕ) → slice_index t i ≤ most) (listed : Lists (IsPeer a.ladders t) tied)
+      (waits : HasWaiting a t state) where
+    many : length (peers (ranked (waiting a t))) ≡ length tied
+    many = (waiting_peers most a t tied arena few listed).number
+
+    whole_batch_ways : (length tied ≡ 0 → Q state)
+        → ((n : ℕ) → length tied ≡ suc n → state.registers reg.left < suc n → Q (with_register reg.peers (suc n) state))
+        → ((n : ℕ) → length tied ≡ suc n → suc n ≤ state.registers reg.left → Q (stepping (with_register reg.in_batch (suc n) (with_register reg.peers (suc n) state))))
+        → Achieves c e whole_batch state Q Never
+    whole_batch_ways none scarce enough =
+        if_empty waits (λ is. line_ends (none (sym many ∙ is))) (λ n is.
+        let counted : State = with_register reg.peers (suc n) state in
+        if_less (λ less. line_ends (scarce n (sym many ∙ is) less)) (λ rest.
+        line_goes (mov_does c e counted reg.in_batch reg.peers) (step_counted (enough n (sym many ∙ is) rest))))
+
+  -- what holds does not depend on the registers of a batch,
+  pub counts_peers : (t : List ℕ) (n : ℕ) (state : State) → Counts a seats Held t state → Counts a seats Held t (with_register reg.peers n state)
+  counts_peers t n state h = (counts_blind reg.peers refl refl fits.blind_peers).blind t n state h
+
+  counts_batch : (t : List ℕ) (n : ℕ) (state : State) → Counts a seats Held t state → Counts a seats Held t (with_register reg.in_batch n state)
+  counts_batch t n state h = (counts_blind reg.in_batch refl refl fits.blind_batch).blind t n state h
+
+  held_stepping : (t : List ℕ) (state : State) → Held t state → Held t (stepping state)
+  held_stepping t state h =
+      let first : State = with_register reg.step (state.registers reg.all_left) state in
+      let second : State = with_register reg.step (state.registers reg.all_left - state.registers reg.left) first in
+      fits.blind_step.blind t _ (with_register ones 1 second) (fits.blind_ones.blind t 1 second (fits.blind_step.blind t _ first (fits.blind_step.blind t _ state h)))
+
+  pub counts_stepping : (t : List ℕ) (state : State) → Counts a seats Held t state → Counts a seats Held t (stepping state)
+  counts_stepping t state h = record { held = held_stepping t state h.held; left = h.left; all_left = h.all_left }
+
+  -- and the register of steps holds the step
+  pub counted_step : (t : List ℕ) (state : State) → IsSettled a.ladders t → sum t < seats → seats ≤ machine.most → Counts a seats Held t state
+      → IsCounted a seats t ((stepping state).registers reg.step)
+  counted_step t state settled less few h = record {
+    left = less;
+    counted = step_is (sum a.ladders.base) (sum t) seats (state.registers reg.all_left) (state.registers reg.left) machine.most h.all_left h.left (base_within a.ladders t settled) less few;
+  }
+
+  module _ (arena : IsArena most a) (room : HasRoom a.ladders seats) (few : seats ≤ most) (countable : seats ≤ machine.most) (t : List ℕ) (state : State) (settled : IsSettled a.ladders t)
+      (waits : HasWaiting a t state) (counts : Counts a seats Held t state) (between : state.registers reg.in_batch ≡ 0) where
+    -- what holds once a batch has begun or there is none any more, and what holds from then on
+    abbrev Begun : State → Type 0
+    Begun after = HasWaiting a t after × Counts a seats Held t after × HasBegun a (IsWhole a seats) (IsLast a seats) t after
+
+    abbrev AtRest : State → Type 0
+    AtRest after = HasWaiting a t after × Counts a seats Held t after × (after.registers reg.in_batch ≡ 0)
+
+    tied : List ℕ
+    tied = ((batches a.ladders arena.falling).peers t).0
+
+    listed : Lists (IsPeer a.ladders t) tied
+    unfolding tied
+    listed = ((batches a.ladders arena.falling).peers t).1
+
+    few_now : (i : ℕ) → slice_index t i ≤ most
+    few_now = holds_at_most most seats t (omega (arith, counts.left)) few
+
+    begin_batch : sum t < seats → Achieves c e whole_batch state Begun Never
+    begin_batch less =
+        let next : (i : ℕ) × Has a.ladders i (slice_index t i) = room t settled.on less in
+        let some : 0 < length tied = ((batches a.ladders arena.falling).batch t tied settled listed).more next.0 next.1 in
+        whole_batch_ways t tied state Begun arena few_now listed waits
+        (λ none. absurd (omega (arith, some, none)))
+        (λ n is scarce. (
+          waits,
+          counts_peers t (suc n) state counts,
+          NoBatch between (record { scarce = λ also h. omega (arith, is, scarce, counts.left, as_many a.ladders t tied also listed h) }),
+        ))
+        (λ n is enough.
+        let begun : State = with_register reg.in_batch (suc n) (with_register reg.peers (suc n) state) in
+        let now : Counts a seats Held t begun = counts_batch t (suc n) (with_register reg.peers (suc n) state) (counts_peers t (suc n) state counts) in (
+          waits,
+          counts_stepping t begun now,
+          OneBegan tied listed some (sym is) (record {
+            counted = counted_step t begun settled less countable now;
+            enough = λ also h. omega (arith, is, enough, counts.left, as_many a.ladders t tied also listed h);
+          }),
+        ))
+
+    rest_batch : IsLast a seats t → Achieves c e whole_batch state AtRest Never
+    rest_batch last =
+        whole_batch_ways t tied state AtRest arena few_now listed waits
+        (λ none. (waits, counts, between))
+        (λ n is scarce. (waits, counts_peers t (suc n) state counts, between))
+        (λ n is enough. absurd (let more : seats < sum t + length tied = last.scarce tied listed in omega (arith, is, enough, counts.left, more)))
+
+  pub begins_whole : IsArena most a → HasRoom a.ladders seats → seats ≤ most → seats ≤ machine.most
+      → BeginsBatches c e a seats (IsWhole a seats) (IsLast a seats) (Counts a seats Held) whole_batch
+  begins_whole arena room few countable = record {
+    begins = λ t state settled waits counts between less. begin_batch arena room few countable t state settled waits counts between less;
+    rests = λ t state settled waits counts between last. rest_batch arena room few countable t state settled waits counts between last;
+  }
+
+  pub fits_whole : FitsLoop (Counts a seats Held) reg.turns whole_batch (counted_seat on)
+  fits_whole = record {
+    own = λ h. omega (arith, h);
+    not_peers = λ h. omega (arith, h);
+    not_batch = λ h. omega (arith, h);
+    not_step = λ h. omega (arith, h);
+    blind = counts_blind reg.turns refl refl fits.blind_turns;
+    blind_ones = counts_blind ones refl refl fits.blind_ones;
+    blind_peers = counts_blind reg.peers refl refl fits.blind_peers;
+    blind_batch = counts_blind reg.in_batch refl refl fits.blind_batch;
+    begin_keeps = refl;
+    on_keeps = fits.keeps_turns;
+    on_keeps_batch = fits.keeps_batch;
+    on_keeps_step = fits.keeps_step;
+  }

@@ -1,0 +1,202 @@
+-- The plans of an expression leave its column and its records, or end the run with its fault: by induction over the expression.
+use Rattle.std.proofs.Common.{◌≡◌, ℕ, ◌+◌, ◌<◌, ◌≤◌, true, List, [], ◌∷◌, ◌++◌, All, None, Some, slice_get, refl, subst, inl, inr, arith}
+use Rattle.std.specs.Prelude.{position, unwrap_or}
+use Rattle.std.specs.List.{AllZip}
+use Rattle.sl_ratio.specs.declared.limits.TheConstants.{MAX_WEIGHT}
+use Rattle.sl_ratio.specs.declared.method.Method.TheVariants as by
+use Rattle.sl_stages.specs.declared.book.Axis.{Axis}
+use Rattle.sl_stages.specs.declared.book.Shape.{Shape}
+use Rattle.sl_stages.specs.declared.book.Shape.TheVariants as shape
+use Rattle.sl_stages.specs.book.Limits.{depth_of}
+use Rattle.sl_stages.specs.book.Tests.{first_failing}
+use Rattle.sl_stages.specs.book.Trees.{ExprTree, house, counted, winners, outside, independents, population, name, sum, larger, less, split, split_from, grow, BookTree}
+use Rattle.sl_stages.specs.book.Typing.{is_typed, type_of, expr_tests, splits_in, is_named}
+use Rattle.sl_stages.specs.returns.Election.{Election, IsElection}
+use Rattle.sl_stages.specs.meaning.Columns.{sum_over, larger_of, less_of}
+use Rattle.sl_stages.specs.meaning.Records.{Records, no_records, both_records}
+use Rattle.sl_stages.specs.meaning.Results.{Column, plain, Then}
+use Rattle.sl_stages.specs.meaning.Expressions.{Context, shape_in, stand, ExprMeans, IsSplit, IsGrown}
+use Rattle.sl_stages.specs.laws.ColumnLaws.{IsTypedAs}
+use Rattle.sl_stages.proofs.Tests.{head_holds, pass_parts}
+use Rattle.sl_stages.proofs.typing.TestLists.{pass_parts3, pass_parts4}
+use Rattle.sl_stages.proofs.meaning.TypedMeaning.{typed_expressions}
+use Rattle.sl_code.specs.Codes.{CountingCode}
+use Rattle.sl_machine.specs.State.{State}
+use Rattle.sl_machine.specs.Effects.{most}
+use Rattle.sl_pieces.specs.columns.Columns.{HoldsColumn}
+use Rattle.sl_pieces.specs.columns.Trees.{copy_tree}
+use Rattle.sl_plans.specs.Trees.{Tree}
+use Rattle.sl_pieces.specs.nodes.Nodes.{EndsWith}
+use Rattle.sl_pieces.specs.exprs.Slots.{fact_slots, passing, stage_slot}
+use Rattle.sl_pieces.specs.exprs.Pieces.{pieces}
+use Rattle.sl_pieces.specs.exprs.Meaning.{HoldsKnown, StandsIn, HasExpr, ExprsAchieve}
+use Rattle.sl_pieces.proofs.exprs.Following.{AllAchieve, all_more}
+use Rattle.sl_pieces.proofs.exprs.Places.{first_of, facts_below, first_same}
+use Rattle.sl_pieces.proofs.exprs.Arguments.{ComesTo, then_all, two_arguments, three_arguments}
+use Rattle.sl_pieces.proofs.exprs.Leaves.{known_kept, leaf_all, HasNamed, has_named}
+use Rattle.sl_pieces.proofs.exprs.Sums.{typed_weights, typed_numbers, sum_all, larger_all, less_all}
+use Rattle.sl_pieces.proofs.exprs.Nodes.{HasStage, has_stage, no_minima_at, some_minima_at, split_all, grow_all}
+use Rattle.sl_pieces.proofs.exprs.Levels.{low_level, one_level, two_levels, split_levels, three_levels, pair_passes, split_passes, Shares, split_from_passes, fits_minima, Grows, grow_passes, no_hamilton}
+
+-- a column in passing, under another name of its shape
+same_column : (e : Election) (level : ℕ) (s v : Shape) (u : State) (values : List ℕ) → s ≡ v → HoldsColumn e s (u.columns (passing level s)) values
+    → HoldsColumn e v (u.columns (passing level v)) values
+same_column e level s v u values same h = subst (λ x. HoldsColumn e x (u.columns (passing level x)) values) same h
+
+module _ (code : CountingCode) (b : BookTree) (e : Election) (c : Context) (typed : is_typed b ≡ true) (is : IsElection e)
+    (known : AllZip (IsTypedAs e) c.types c.columns) (stands : StandsIn code c) where
+  -- a fact is copied
+  fact : (x : ExprTree) (level : ℕ) (s : Shape) (from : ℕ) (values : List ℕ) (state : State) → level ≤ 16 → from < 12 → slice_get code.slots from ≡ Some s
+      → HoldsColumn e s (state.columns from) values → ExprMeans b e c x (plain values)
+      → AllAchieve code e (copy_tree s from (passing level s) ∷ []) state (ComesTo e (ExprMeans b e c x) s (passing level s) (first_of level) state) (EndsWith (ExprMeans b e c x))
+  fact x level s from values state low below there holds means =
+      let facts = facts_below level in
+      leaf_all level low s from values state there (stands.slots.passing_are level s low) (inl (omega (arith, facts, below))) holds means
+
+  -- the numbers of a sum
+  sum_small : (at : ℕ) (x : ExprTree) (over : Axis) (xs : List ℕ) (records : Records) → first_failing (expr_tests c.types (sum at x over)) ≡ None
+      → ExprMeans b e c x (Column xs records) → All (λ n. n ≤ most) (sum_over e over xs)
+  sum_small at x over xs records pass means =
+      typed_numbers e (type_of c.types (sum at x over)) (sum_over e over xs)
+      (typed_expressions b e c (sum at x over) (sum_over e over xs) (both_records records no_records) typed is known pass
+      (record { first = Column xs records; comes = means; goes_on = (plain (sum_over e over xs), refl, refl) }))
+
+  -- the numbers of votes
+  votes_small : (v : ExprTree) (ys : List ℕ) (records : Records) → first_failing (expr_tests c.types v) ≡ None → ExprMeans b e c v (Column ys records)
+      → All (λ n. n ≤ MAX_WEIGHT) ys
+  votes_small v ys records pass means = typed_weights e (type_of c.types v) ys (typed_expressions b e c v ys records typed is known pass means)
+
+  of_stage : HasStage code c.stage c.name
+  of_stage = has_stage code c.stage c.name stands.stage stands.few stands.staged stands.named
+
+  abbrev Goes : ExprTree → ℕ → State → Type 0
+  Goes x level s =
+      AllAchieve code e (pieces c.types c.stage level x) s (ComesTo e (ExprMeans b e c x) (shape_in c x) (passing level (shape_in c x)) (first_of level) s)
+      (EndsWith (ExprMeans b e c x))
+
+  -- two expressions of one shape. Their tests and their levels are the same in `larger` and in `less`
+  record PairParts (x y : ExprTree) (level : ℕ) : Type 0 where
+    left : first_failing (expr_tests c.types x) ≡ None
+    right : first_failing (expr_tests c.types y) ≡ None
+    same : shape_in c y ≡ shape_in c x
+    left_within : level + depth_of x + splits_in x ≤ 17
+    right_within : level + 1 + depth_of y + splits_in y ≤ 17
+
+  pair_parts : (at : ℕ) (x y : ExprTree) (level : ℕ) → first_failing (expr_tests c.types (larger at x y)) ≡ None
+      → level + depth_of (larger at x y) + splits_in (larger at x y) ≤ 17 → PairParts x y level
+  pair_parts at x y level pass within =
+      let p = pass_parts3 (expr_tests c.types x) (expr_tests c.types y) _ pass in
+      let levels = two_levels level (depth_of x) (depth_of y) (splits_in x) (splits_in y) within in
+      record { left = p.0; right = p.1; same = pair_passes at (type_of c.types x) (type_of c.types y) p.2; left_within = levels.0; right_within = levels.1 }
+
+  joined : (x y : ExprTree) (level : ℕ) (s : State) (join : List ℕ → List ℕ → List ℕ) {tree : Tree} → shape_in c y ≡ shape_in c x → HoldsKnown b e c.types c.columns s
+      → Goes x level s → ((t : State) → HoldsKnown b e c.types c.columns t → Goes y (level + 1) t)
+      → ((xs ys : List ℕ) (u : State) → HoldsColumn e (shape_in c x) (u.columns (passing level (shape_in c x))) xs
+      → HoldsColumn e (shape_in c x) (u.columns (passing (level + 1) (shape_in c x))) ys
+      → AllAchieve code e (tree ∷ []) u (ComesTo e (λ r. r ≡ plain (join xs ys)) (shape_in c x) (passing level (shape_in c x)) (first_of level) u) (EndsWith (λ r. r ≡ plain (join xs ys))))
+      → AllAchieve code e (pieces c.types c.stage level x ++ (pieces c.types c.stage (level + 1) y ++ tree ∷ [])) s
+      (ComesTo e (Then (ExprMeans b e c x) (λ xs. Then (ExprMeans b e c y) (λ ys r. r ≡ plain (join xs ys)))) (shape_in c x) (passing level (shape_in c x)) (first_of level) s)
+      (EndsWith (Then (ExprMeans b e c x) (λ xs. Then (ExprMeans b e c y) (λ ys r. r ≡ plain (join xs ys)))))
+  joined x y level s join same holds first second last =
+      two_arguments level (ExprMeans b e c x) (ExprMeans b e c y) (λ xs ys r. r ≡ plain (join xs ys)) first (λ t h. second t (known_kept level h holds))
+      (λ u xs ys one two. last xs ys u one.column (same_column e (level + 1) (shape_in c y) (shape_in c x) u ys same two.column))
+
+  goes : (x : ExprTree) (level : ℕ) (s : State) → first_failing (expr_tests c.types x) ≡ None → level + depth_of x + splits_in x ≤ 17 → HoldsKnown b e c.types c.columns s
+      → Goes x level s
+  goes (house at) level s pass within holds =
+      fact (house at) level shape.One fact_slots.house _ s (low_level (house at) level within) (omega arith) stands.slots.facts.house holds.house (_, refl, refl)
+  goes (counted at) level s pass within holds =
+      fact (counted at) level shape.List fact_slots.counted _ s (low_level (counted at) level within) (omega arith) stands.slots.facts.counted holds.counted (_, refl, refl)
+  goes (winners at) level s pass within holds =
+      fact (winners at) level shape.List fact_slots.winners _ s (low_level (winners at) level within) (omega arith) stands.slots.facts.winners holds.winners (_, refl, refl)
+  goes (outside at) level s pass within holds =
+      fact (outside at) level shape.Land fact_slots.outside _ s (low_level (outside at) level within) (omega arith) stands.slots.facts.outside holds.outside (_, refl, refl)
+  goes (independents at) level s pass within holds =
+      fact (independents at) level shape.Land fact_slots.independents _ s (low_level (independents at) level within) (omega arith) stands.slots.facts.independents holds.independents (_, refl, refl)
+  goes (population at) level s pass within holds =
+      fact (population at) level shape.Land fact_slots.population _ s (low_level (population at) level within) (omega arith) stands.slots.facts.population holds.population (_, refl, refl)
+  goes (name at n) level s pass within holds =
+      let low = low_level (name at n) level within in
+      let h : HasNamed code e n c.types c.columns s = has_named code b e n c.types c.columns s stands.slots known (head_holds _ _ _ pass).0 holds in
+      leaf_all level low (shape_in c (name at n)) (stage_slot (unwrap_or (position (is_named n) c.types) 0)) h.values s h.slot
+      (stands.slots.passing_are level (shape_in c (name at n)) low) (inr (omega arith)) h.holds (h.values, h.found, refl)
+  goes (sum at x over) level s pass within holds =
+      let low = low_level (sum at x over) level within in
+      let parts = pass_parts (expr_tests c.types x) _ pass in
+      then_all e (ExprMeans b e c x) (λ xs r. r ≡ plain (sum_over e over xs)) (first_same level) (first_same level)
+      (goes x level s parts.0 (one_level level (depth_of x) (splits_in x) within) holds)
+      (λ t h. sum_all level (λ k. stands.slots.passing_are level k low) low (shape_in c x) over h.values t (head_holds _ _ _ parts.1).0 h.column
+      (sum_small at x over h.values h.records pass h.result))
+  goes (larger at x y) level s pass within holds =
+      let p = pair_parts at x y level pass within in
+      let low = low_level y (level + 1) p.right_within in
+      joined x y level s larger_of p.same holds (goes x level s p.left p.left_within holds) (λ t h. goes y (level + 1) t p.right p.right_within h)
+      (larger_all level (λ k. stands.slots.passing_are level k (omega (arith, low))) (omega (arith, low)) (shape_in c x) (stands.slots.passing_are (level + 1) (shape_in c x) low))
+  goes (less at x y) level s pass within holds =
+      let p = pair_parts at x y level pass within in
+      let low = low_level y (level + 1) p.right_within in
+      joined x y level s less_of p.same holds (goes x level s p.left p.left_within holds) (λ t h. goes y (level + 1) t p.right p.right_within h)
+      (less_all level (λ k. stands.slots.passing_are level k (omega (arith, low))) (omega (arith, low)) (shape_in c x) (stands.slots.passing_are (level + 1) (shape_in c x) low))
+  goes (split at x v method majority) level s pass within holds =
+      let p = pass_parts3 (expr_tests c.types x) (expr_tests c.types v) _ pass in
+      let can = split_passes at (type_of c.types x) (type_of c.types v) method majority p.2 in
+      let levels = split_levels level (depth_of x) (depth_of v) (splits_in x) (splits_in v) within in
+      two_arguments level (ExprMeans b e c x) (ExprMeans b e c v) (λ amounts votes. IsSplit e (stand c v) amounts votes (shape_in c x) method majority None)
+      (goes x level s p.0 levels.0 holds)
+      (λ t h. goes v (level + 1) t p.1 levels.1 (known_kept level h holds))
+      (λ u amounts votes one two. split_all code c.types c.stage c.name level of_stage stands.slots.passing_are (low_level v (level + 1) levels.1) e is amounts votes u
+      (votes_small v votes two.records p.1 two.result) None None method majority tt (shape_in c x) (shape_in c v) can (no_minima_at level (shape_in c v))
+      (one.column, two.column, tt))
+  goes (split_from at x v method m majority) level s pass within holds =
+      let p = pass_parts4 (expr_tests c.types x) (expr_tests c.types v) (expr_tests c.types m) _ pass in
+      let tests : Shares (type_of c.types x) (type_of c.types v) (type_of c.types m) method =
+      split_from_passes at (type_of c.types x) (type_of c.types v) (type_of c.types m) method majority p.3 in
+      let levels = three_levels level (depth_of x) (depth_of v) (depth_of m) (splits_in x) (splits_in v) (splits_in m) within in
+      three_arguments level (ExprMeans b e c x) (ExprMeans b e c v) (ExprMeans b e c m)
+      (λ amounts votes minima. IsSplit e (stand c v) amounts votes (shape_in c x) method majority (Some minima))
+      (goes x level s p.0 levels.0 holds)
+      (λ t h. goes v (level + 1) t p.1 levels.1 (known_kept level h holds))
+      (λ t u h k. goes m (level + 2) u p.2 levels.2 (known_kept (level + 1) k (known_kept level h holds)))
+      (λ u amounts votes minima one two three. split_all code c.types c.stage c.name level of_stage stands.slots.passing_are (low_level v (level + 1) levels.1) e is amounts votes u
+      (votes_small v votes two.records p.1 two.result) (Some (passing (level + 2) (shape_in c v))) (Some minima) method majority
+      (fits_minima (type_of c.types x) (type_of c.types v) (type_of c.types m) method minima tests) (shape_in c x) (shape_in c v) tests.can
+      (some_minima_at level (shape_in c v) (low_level m (level + 2) levels.2))
+      (one.column, two.column, same_column e (level + 2) (shape_in c m) (shape_in c v) u minima tests.same three.column))
+  goes (grow at x v (by.Divisor d) m limit majority) level s pass within holds =
+      let p = pass_parts4 (expr_tests c.types x) (expr_tests c.types v) (expr_tests c.types m) _ pass in
+      let tests : Grows (type_of c.types x) (type_of c.types v) (type_of c.types m) (by.Divisor d) limit.value =
+      grow_passes at (type_of c.types x) (type_of c.types v) (type_of c.types m) (by.Divisor d) limit majority p.3 in
+      let levels = three_levels level (depth_of x) (depth_of v) (depth_of m) (splits_in x) (splits_in v) (splits_in m) within in
+      three_arguments level (ExprMeans b e c x) (ExprMeans b e c v) (ExprMeans b e c m)
+      (λ amounts votes minima. IsGrown e (stand c v) amounts votes (by.Divisor d) majority minima limit.value)
+      (goes x level s p.0 levels.0 holds)
+      (λ t h. goes v (level + 1) t p.1 levels.1 (known_kept level h holds))
+      (λ t u h k. goes m (level + 2) u p.2 levels.2 (known_kept (level + 1) k (known_kept level h holds)))
+      (λ u amounts votes minima one two three. grow_all code c.types c.stage c.name level of_stage stands.slots.passing_are (low_level v (level + 1) levels.1) e is amounts votes u
+      (votes_small v votes two.records p.1 two.result) (Some (passing (level + 2) (shape_in c v))) minima d majority limit.value tests.small
+      (shape_in c x) (shape_in c v) tests.shares.can tests.one
+      (some_minima_at level (shape_in c v) (low_level m (level + 2) levels.2))
+      (one.column, two.column, same_column e (level + 2) (shape_in c m) (shape_in c v) u minima tests.shares.same three.column))
+  goes (grow at x v by.Hamilton m limit majority) level s pass within holds =
+      let p = pass_parts4 (expr_tests c.types x) (expr_tests c.types v) (expr_tests c.types m) _ pass in
+      absurd (no_hamilton (type_of c.types x) (type_of c.types v) (type_of c.types m) limit.value
+      (grow_passes at (type_of c.types x) (type_of c.types v) (type_of c.types m) by.Hamilton limit majority p.3))
+
+has_expr : (b : BookTree) (e : Election) (c : Context) (x : ExprTree) (level : ℕ) (s t : State)
+    → ComesTo e (ExprMeans b e c x) (shape_in c x) (passing level (shape_in c x)) (first_of level) s t → HasExpr b e c x level s t
+has_expr b e c x level s t h = record {
+  values = h.values;
+  records = h.records;
+  means = h.result;
+  column = h.column;
+  columns = h.columns;
+  added = h.added;
+  steps = h.steps;
+  are = h.are;
+  weights = h.weights;
+  placed = h.placed;
+}
+
+pub exprs_achieve : ExprsAchieve
+exprs_achieve code b e c x level s typed is known pass within stands holds =
+    (all_more (goes code b e c typed is known stands x level s pass within holds) (λ t h. has_expr b e c x level s t h) (λ x h. h)).all

@@ -1,0 +1,177 @@
+-- Splits and growths, whose arguments are in passing columns.
+use Rattle.std.proofs.Common.{◌≡◌, ℕ, ◌+◌, ◌<◌, ◌≤◌, Bool, true, false, ◌==◌, if◌then◌else◌, List, [], ◌∷◌, All, length, Option, None, Some, slice_get, sym, ap, ◌∙◌, arith}
+use Rattle.std.specs.Prelude.{option_map}
+use Rattle.std.proofs.lemmas.Bool.{false≢true, ne_eqb}
+use Rattle.std.proofs.lemmas.Option.{same_Some}
+use Rattle.sl_ratio.specs.declared.limits.TheConstants.{MAX_SEATS, MAX_WEIGHT}
+use Rattle.sl_ratio.specs.declared.method.Divisor.{Divisor}
+use Rattle.sl_ratio.specs.declared.method.Method.{Method}
+use Rattle.sl_ratio.specs.declared.method.Method.TheVariants as by
+use Rattle.sl_stages.specs.declared.book.Majority.{Majority}
+use Rattle.sl_stages.specs.declared.book.Shape.{Shape}
+use Rattle.sl_stages.specs.declared.book.Shape.TheVariants as shape
+use Rattle.sl_stages.specs.book.Typing.{Column, can_split}
+use Rattle.sl_stages.specs.returns.Election.{Election, IsElection}
+use Rattle.sl_stages.specs.meaning.Results.{ExprResult, Stand}
+use Rattle.sl_stages.specs.meaning.Expressions.{IsSplit, IsGrown}
+use Rattle.sl_stages.specs.laws.OneLaws.{FitsMethod}
+use Rattle.sl_code.specs.declared.code.CodeStage.{CodeStage}
+use Rattle.sl_code.specs.Codes.{CountingCode}
+use Rattle.sl_verify.specs.declared.needs.TheConstants.{LAST_CLAUSE}
+use Rattle.sl_machine.specs.State.{State}
+use Rattle.sl_machine.specs.Effects.{stage_of, name_of}
+use Rattle.sl_plans.specs.Trees.{Tree}
+use Rattle.sl_plans.specs.Achieves.{Achieves}
+use Rattle.sl_plans.proofs.Rules.{achieves_more}
+use Rattle.sl_pieces.specs.columns.Columns.{HoldsColumn}
+use Rattle.sl_pieces.specs.scopes.Forms.{Form, AllParties, AllLands, AllLists, ListsOfParty, ListsInLand, amounts_of, votes_of}
+use Rattle.sl_pieces.specs.seats.Slots.{Slots, HasSlots}
+use Rattle.sl_pieces.specs.nodes.Scopes as node
+use Rattle.sl_pieces.specs.nodes.Nodes.{HasResult, EndsWith}
+use Rattle.sl_pieces.specs.nodes.Trees.{split_tree, grow_tree}
+use Rattle.sl_pieces.proofs.nodes.Nodes.{splits_achieve, growths_achieve}
+use Rattle.sl_pieces.specs.exprs.Slots.{passing}
+use Rattle.sl_pieces.specs.exprs.Pieces.{form_by, node_slots}
+use Rattle.sl_pieces.proofs.exprs.Following.{AllAchieve, all_one}
+use Rattle.sl_pieces.proofs.exprs.Places.{first_of, first_before, stages_above, other_level, outside, amounts_apart}
+use Rattle.sl_pieces.proofs.exprs.Arguments.{ComesTo}
+
+-- ---- the columns of arguments and of results
+
+comes_node : (e : Election) (f : Form) (x : Slots) (IsResult : ExprResult → Type 0) (first : ℕ) (s t : State) → first ≤ x.result → x.result < 80 → HasResult e f x IsResult s t
+    → ComesTo e IsResult (votes_of f) x.result first s t
+comes_node e f x IsResult first s t from within h = record {
+  values = h.values;
+  records = h.records;
+  result = h.result;
+  column = h.column;
+  columns = λ k q apart. h.columns k q (outside k first x.result apart from within);
+  added = h.added;
+  steps = h.steps;
+  are = h.are;
+  weights = h.weights;
+  placed = h.placed;
+}
+
+-- ---- the slots of a split or a growth
+
+-- the stage is one of the code, under its name
+pub record HasStage (c : CountingCode) (stage : ℕ) (name : List ℕ) : Type 0 where
+  pub stage_is : stage_of c.stages stage ≡ Some stage
+  pub named : name_of c.stages stage ≡ Some name
+
+pub has_stage : (c : CountingCode) (stage : ℕ) (name : List ℕ) (of : CodeStage) → stage ≤ 31 → slice_get c.stages stage ≡ Some of → of.name ≡ name → HasStage c stage name
+has_stage c stage name of few staged named =
+    let not_last : (stage == LAST_CLAUSE) ≡ false = ne_eqb stage LAST_CLAUSE (λ (same : stage ≡ LAST_CLAUSE). omega (arith, same, few)) in
+    record {
+      stage_is = ap (λ (b : Bool). if b then Some (length c.stages) else option_map (λ stage'. stage) (slice_get c.stages stage)) not_last ∙ ap (option_map (λ (s : CodeStage). stage)) staged;
+      named = ap (λ (b : Bool). if b then name_of c.stages LAST_CLAUSE else option_map (λ stage. stage.name) (slice_get c.stages stage)) not_last
+          ∙ ap (option_map (λ (s : CodeStage). s.name)) staged ∙ ap Some named;
+    }
+
+-- minima, if there are any, are in the passing column of the votes' shape two levels on
+pub record HasMinimaAt (level : ℕ) (votes : Shape) (minima : Option ℕ) : Type 0 where
+  pub there : (slot : ℕ) → minima ≡ Some slot → (slot ≡ passing (level + 2) votes) × (level + 2 ≤ 16)
+
+pub no_minima_at : (level : ℕ) (votes : Shape) → HasMinimaAt level votes None
+no_minima_at level votes = record { there = λ slot is. cc }
+
+pub some_minima_at : (level : ℕ) (votes : Shape) → level + 2 ≤ 16 → HasMinimaAt level votes (Some (passing (level + 2) votes))
+some_minima_at level votes low = record { there = λ slot is. (sym (same_Some (passing (level + 2) votes) slot is), low) }
+
+module _ (c : CountingCode) (types : List Column) (stage : ℕ) (name : List ℕ) (level : ℕ) (stands : HasStage c stage name)
+    (passing_are : (k : ℕ) (s : Shape) → k ≤ 16 → slice_get c.slots (passing k s) ≡ Some s) (low : level + 1 ≤ 16) where
+  has_slots : (f : Form) (minima : Option ℕ) → HasMinimaAt level (votes_of f) minima → HasSlots c f (node_slots types stage level (amounts_of f) (votes_of f) minima) name
+  has_slots f minima has = record {
+    amounts = passing_are level (amounts_of f) (omega (arith, low));
+    votes = passing_are (level + 1) (votes_of f) low;
+    minima = λ slot is. let at = has.there slot is in ap (slice_get c.slots) at.0 ∙ passing_are (level + 2) (votes_of f) at.1;
+    result = passing_are level (votes_of f) (omega (arith, low));
+    not_amounts = amounts_apart f level;
+    not_votes = other_level level (level + 1) (votes_of f) (votes_of f) (omega arith);
+    not_minima = λ slot is same. other_level level (level + 2) (votes_of f) (votes_of f) (omega arith) (sym (has.there slot is).0 ∙ same);
+    stage = stands.stage_is;
+    named = stands.named;
+  }
+
+  module _ (e : Election) (is : IsElection e) (amounts votes : List ℕ) (u : State) (weights : All (λ weight. weight ≤ MAX_WEIGHT) votes) where
+    -- the columns of the amounts, of the votes, and of the minima if there are any
+    abbrev pub Holds : (s v : Shape) (slot : Option ℕ) (minima : Option (List ℕ)) → Type 0
+    Holds s v slot minima =
+        HoldsColumn e s (u.columns (passing level s)) amounts × HoldsColumn e v (u.columns (passing (level + 1) v)) votes × node.HoldsMinima e v slot u minima
+
+    holds_arguments : (f : Form) (slot : Option ℕ) (minima : Option (List ℕ)) → Holds (amounts_of f) (votes_of f) slot minima
+        → node.HoldsArguments e f (node_slots types stage level (amounts_of f) (votes_of f) slot) amounts votes minima u
+    holds_arguments f slot minima h = record {
+      amounts_are = h.0;
+      votes_are = h.1;
+      minima_are = h.2;
+      weights = weights;
+    }
+
+    node_all : (f : Form) (slot : Option ℕ) (tree : Tree) (IsResult : ExprResult → Type 0)
+        → Achieves c e tree u (HasResult e f (node_slots types stage level (amounts_of f) (votes_of f) slot) IsResult u) (EndsWith IsResult)
+        → AllAchieve c e (tree ∷ []) u (ComesTo e IsResult (votes_of f) (passing level (votes_of f)) (first_of level) u) (EndsWith IsResult)
+    node_all f slot tree IsResult h =
+        all_one (achieves_more h
+        (λ t k. comes_node e f (node_slots types stage level (amounts_of f) (votes_of f) slot) IsResult (first_of level) u t (first_before level (votes_of f))
+        (stages_above level (votes_of f) (omega (arith, low))) k) (λ x k. k))
+
+    abbrev at_votes : Shape → Stand
+    at_votes v = record { stage = stage; name = name; shape = v }
+
+    -- what is shown of a split, and of a growth, in the form of these shapes
+    abbrev Splits : (slot : Option ℕ) (minima : Option (List ℕ)) (method : Method) (majority : Majority) → Form → (s v : Shape) → Type 0
+    Splits slot minima method majority f s v =
+        HasMinimaAt level v slot → Holds s v slot minima
+        → AllAchieve c e (split_tree f (node_slots types stage level s v slot) method majority ∷ []) u
+        (ComesTo e (IsSplit e (at_votes v) amounts votes s method majority minima) v (passing level v) (first_of level) u)
+        (EndsWith (IsSplit e (at_votes v) amounts votes s method majority minima))
+
+    abbrev Grows : (slot : Option ℕ) (minima : List ℕ) (d : Divisor) (majority : Majority) (cap : ℕ) → Form → (s v : Shape) → Type 0
+    Grows slot minima d majority cap f s v =
+        s ≡ shape.One → HasMinimaAt level v slot → Holds s v slot (Some minima)
+        → AllAchieve c e (grow_tree f (node_slots types stage level s v slot) d majority cap ∷ []) u
+        (ComesTo e (IsGrown e (at_votes v) amounts votes (by.Divisor d) majority minima cap) v (passing level v) (first_of level) u)
+        (EndsWith (IsGrown e (at_votes v) amounts votes (by.Divisor d) majority minima cap))
+
+    split_formed : (slot : Option ℕ) (minima : Option (List ℕ)) (method : Method) (majority : Majority) → FitsMethod method minima → (f : Form)
+        → Splits slot minima method majority f (amounts_of f) (votes_of f)
+    split_formed slot minima method majority fits f has holds =
+        node_all f slot _ _ (splits_achieve c e f (node_slots types stage level (amounts_of f) (votes_of f) slot) name amounts votes minima method majority u is
+        (has_slots f slot has) fits (holds_arguments f slot minima holds))
+
+    grow_formed : (slot : Option ℕ) (minima : List ℕ) (d : Divisor) (majority : Majority) (cap : ℕ) → cap ≤ MAX_SEATS → (f : Form)
+        → Grows slot minima d majority cap f (amounts_of f) (votes_of f)
+    grow_formed slot minima d majority cap small f one has holds =
+        node_all f slot _ _ (growths_achieve c e f (node_slots types stage level (amounts_of f) (votes_of f) slot) name amounts votes minima d majority cap u is
+        (has_slots f slot has) one small (holds_arguments f slot (Some minima) holds))
+
+    by_form : (P : Form → Shape → Shape → Type 0) → ((f : Form) → P f (amounts_of f) (votes_of f)) → (s v : Shape) → can_split s v ≡ true → P (form_by s v) s v
+    by_form P each shape.One shape.Party can = each AllParties
+    by_form P each shape.One shape.Land can = each AllLands
+    by_form P each shape.One shape.List can = each AllLists
+    by_form P each shape.One shape.One can = absurd (false≢true can)
+    by_form P each shape.Party shape.List can = each ListsOfParty
+    by_form P each shape.Party shape.One can = absurd (false≢true can)
+    by_form P each shape.Party shape.Party can = absurd (false≢true can)
+    by_form P each shape.Party shape.Land can = absurd (false≢true can)
+    by_form P each shape.Land shape.List can = each ListsInLand
+    by_form P each shape.Land shape.One can = absurd (false≢true can)
+    by_form P each shape.Land shape.Party can = absurd (false≢true can)
+    by_form P each shape.Land shape.Land can = absurd (false≢true can)
+    by_form P each shape.List v can = absurd (false≢true can)
+
+    pub split_all : (slot : Option ℕ) (minima : Option (List ℕ)) (method : Method) (majority : Majority) → FitsMethod method minima → (s v : Shape) → can_split s v ≡ true
+        → HasMinimaAt level v slot → Holds s v slot minima
+        → AllAchieve c e (split_tree (form_by s v) (node_slots types stage level s v slot) method majority ∷ []) u
+        (ComesTo e (IsSplit e (record { stage = stage; name = name; shape = v }) amounts votes s method majority minima) v (passing level v) (first_of level) u)
+        (EndsWith (IsSplit e (record { stage = stage; name = name; shape = v }) amounts votes s method majority minima))
+    split_all slot minima method majority fits s v can = by_form (Splits slot minima method majority) (split_formed slot minima method majority fits) s v can
+
+    pub grow_all : (slot : Option ℕ) (minima : List ℕ) (d : Divisor) (majority : Majority) (cap : ℕ) → cap ≤ MAX_SEATS → (s v : Shape) → can_split s v ≡ true
+        → s ≡ shape.One → HasMinimaAt level v slot → Holds s v slot (Some minima)
+        → AllAchieve c e (grow_tree (form_by s v) (node_slots types stage level s v slot) d majority cap ∷ []) u
+        (ComesTo e (IsGrown e (record { stage = stage; name = name; shape = v }) amounts votes (by.Divisor d) majority minima cap) v (passing level v) (first_of level) u)
+        (EndsWith (IsGrown e (record { stage = stage; name = name; shape = v }) amounts votes (by.Divisor d) majority minima cap))
+    grow_all slot minima d majority cap small s v can = by_form (Grows slot minima d majority cap) (grow_formed slot minima d majority cap small) s v can

@@ -1,0 +1,53 @@
+-- Where the columns in passing stand.
+use Rattle.std.proofs.Common.{◌≢◌, ◌⊎◌, ℕ, ◌+◌, ◌<◌, ◌≤◌, inl, inr, arith}
+use Rattle.sl_stages.specs.declared.book.Shape.{Shape}
+use Rattle.sl_stages.specs.declared.book.Shape.TheVariants as shape
+use Rattle.sl_pieces.specs.scopes.Forms.{Form, AllParties, AllLands, AllLists, ListsOfParty, ListsInLand, amounts_of, votes_of}
+use Rattle.sl_pieces.specs.exprs.Slots.{number_of, passing}
+
+number_few : (s : Shape) → number_of s ≤ 3
+number_few shape.One = omega arith
+number_few shape.Party = omega arith
+number_few shape.Land = omega arith
+number_few shape.List = omega arith
+
+-- the first column of a level
+abbrev pub first_of : ℕ → ℕ
+first_of level = passing level shape.One
+
+pub facts_below : (level : ℕ) → 12 ≤ first_of level
+facts_below level = omega arith
+
+pub first_before : (level : ℕ) (s : Shape) → first_of level ≤ passing level s
+first_before level s = omega arith
+
+pub first_same : (level : ℕ) → first_of level ≤ first_of level
+first_same level = omega arith
+
+pub first_next : (level more : ℕ) → first_of level ≤ first_of (level + more)
+first_next level more = omega arith
+
+pub stages_above : (level : ℕ) (s : Shape) → level ≤ 16 → passing level s < 80
+stages_above level s low = let few = number_few s in omega (arith, few, low)
+
+pub level_below : (k level : ℕ) (s : Shape) → k < level → passing k s < first_of level
+level_below k level s less = let few = number_few s in omega (arith, few, less)
+
+pub other_level : (k level : ℕ) (s v : Shape) → k < level → passing level v ≢ passing k s
+other_level k level s v less same = let below = level_below k level s less in omega (arith, below, same)
+
+-- no column in passing is changed on a later level, nor that of a fact or of a stage on any
+pub outside : (k first slot : ℕ) → (k < first) ⊎ (80 ≤ k) → first ≤ slot → slot < 80 → k ≢ slot
+outside k first slot (inl low) from within same = omega (arith, low, from, within, same)
+outside k first slot (inr high) from within same = omega (arith, high, from, within, same)
+
+pub wider : (k first later : ℕ) → first ≤ later → (k < first) ⊎ (80 ≤ k) → (k < later) ⊎ (80 ≤ k)
+wider k first later from (inl low) = inl (omega (arith, from, low))
+wider k first later from (inr high) = inr high
+
+pub amounts_apart : (f : Form) (level : ℕ) → passing level (amounts_of f) ≢ passing level (votes_of f)
+amounts_apart AllParties level same = omega (arith, same)
+amounts_apart AllLands level same = omega (arith, same)
+amounts_apart AllLists level same = omega (arith, same)
+amounts_apart ListsOfParty level same = omega (arith, same)
+amounts_apart ListsInLand level same = omega (arith, same)

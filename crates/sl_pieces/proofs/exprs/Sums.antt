@@ -1,0 +1,92 @@
+-- Sums, the larger of two columns, and differences.
+use Rattle.std.proofs.Common.{◌≡◌, ℕ, ◌+◌, ◌≤◌, true, List, [], ◌∷◌, All, Some, slice_get, refl, subst, arith}
+use Rattle.std.proofs.lemmas.Bool.{false≢true}
+use Rattle.std.proofs.lemmas.List.Elements.{All-weaker}
+use Rattle.sl_ratio.specs.declared.limits.TheConstants.{MAX_WEIGHT}
+use Rattle.sl_stages.specs.declared.book.Axis.{Axis}
+use Rattle.sl_stages.specs.declared.book.Axis.TheVariants as axis
+use Rattle.sl_stages.specs.declared.book.Shape.{Shape}
+use Rattle.sl_stages.specs.declared.book.Shape.TheVariants as shape
+use Rattle.sl_stages.specs.declared.book.Unit.{Unit as Units}
+use Rattle.sl_stages.specs.declared.book.Unit.TheVariants as unit
+use Rattle.sl_stages.specs.declared.book.ColumnType.{ColumnType}
+use Rattle.sl_stages.specs.book.Typing.{column, can_sum, shape_over}
+use Rattle.sl_stages.specs.returns.Election.{Election}
+use Rattle.sl_stages.specs.meaning.Columns.{sum_over, larger_of, less_of}
+use Rattle.sl_stages.specs.meaning.Results.{ExprResult, plain}
+use Rattle.sl_stages.specs.laws.ColumnLaws.{most_of, FitsType}
+use Rattle.sl_code.specs.Codes.{CountingCode}
+use Rattle.sl_machine.specs.State.{State}
+use Rattle.sl_machine.specs.Effects.{most}
+use Rattle.sl_pieces.specs.columns.Columns.{HoldsColumn}
+use Rattle.sl_pieces.specs.columns.Laws.{FitsAxis}
+use Rattle.sl_pieces.specs.columns.Trees.{sum_tree, larger_tree, less_tree, summed}
+use Rattle.sl_pieces.proofs.columns.Writing.{larger_are_taken, differences_are_taken}
+use Rattle.sl_pieces.proofs.columns.Sums.{sums_are_taken}
+use Rattle.sl_pieces.specs.nodes.Nodes.{EndsWith}
+use Rattle.sl_pieces.specs.exprs.Slots.{passing}
+use Rattle.sl_pieces.proofs.exprs.Following.{AllAchieve}
+use Rattle.sl_pieces.proofs.exprs.Places.{first_of, first_before, stages_above, other_level}
+use Rattle.sl_pieces.proofs.exprs.Arguments.{ComesTo, plain_all}
+
+-- ---- numbers of columns
+
+unit_few : (s : Shape) (u : Units) → most_of (column s u) ≤ MAX_WEIGHT
+unit_few shape.One unit.Seats = omega arith
+unit_few shape.One unit.Votes = omega arith
+unit_few shape.Party unit.Seats = omega arith
+unit_few shape.Party unit.Votes = omega arith
+unit_few shape.Land unit.Seats = omega arith
+unit_few shape.Land unit.Votes = omega arith
+unit_few shape.List unit.Seats = omega arith
+unit_few shape.List unit.Votes = omega arith
+
+-- the numbers of a column of a type are weights
+pub typed_weights : (e : Election) (t : ColumnType) (values : List ℕ) → FitsType e t values → All (λ n. n ≤ MAX_WEIGHT) values
+typed_weights e t values fits = All-weaker (λ n. n ≤ most_of t) (λ n. n ≤ MAX_WEIGHT) (λ n h. let few = unit_few t.shape t.unit in omega (arith, h, few)) values fits.most
+
+-- and a register holds each of them
+pub typed_numbers : (e : Election) (t : ColumnType) (values : List ℕ) → FitsType e t values → All (λ n. n ≤ most) values
+typed_numbers e t values fits = All-weaker (λ n. n ≤ MAX_WEIGHT) (λ n. n ≤ most) (λ n h. omega (arith, h)) values (typed_weights e t values fits)
+
+-- ---- shapes of sums
+
+fits_axis : (s : Shape) (over : Axis) → can_sum s over ≡ true → FitsAxis over s
+fits_axis s axis.All can = tt
+fits_axis shape.List axis.Party can = refl
+fits_axis shape.List axis.Land can = refl
+fits_axis shape.One axis.Party can = absurd (false≢true can)
+fits_axis shape.One axis.Land can = absurd (false≢true can)
+fits_axis shape.Party axis.Party can = absurd (false≢true can)
+fits_axis shape.Party axis.Land can = absurd (false≢true can)
+fits_axis shape.Land axis.Party can = absurd (false≢true can)
+fits_axis shape.Land axis.Land can = absurd (false≢true can)
+
+summed_is : (over : Axis) → summed over ≡ shape_over over
+summed_is axis.Party = refl
+summed_is axis.Land = refl
+summed_is axis.All = refl
+
+module _ {c : CountingCode} {e : Election} (level : ℕ) (there : (s : Shape) → slice_get c.slots (passing level s) ≡ Some s) (low : level ≤ 16) (s : Shape) where
+  pub sum_all : (over : Axis) (xs : List ℕ) (state : State) → can_sum s over ≡ true → HoldsColumn e s (state.columns (passing level s)) xs
+      → All (λ n. n ≤ most) (sum_over e over xs)
+      → AllAchieve c e (sum_tree over s (passing level s) (passing level (summed over)) ∷ []) state
+      (ComesTo e (λ r. r ≡ plain (sum_over e over xs)) (shape_over over) (passing level (shape_over over)) (first_of level) state) (EndsWith (λ r. r ≡ plain (sum_over e over xs)))
+  sum_all over xs state can holds small =
+      let Is : ExprResult → Type 0 = λ r. r ≡ plain (sum_over e over xs) in
+      subst (λ made. AllAchieve c e (sum_tree over s (passing level s) (passing level (summed over)) ∷ []) state (ComesTo e Is made (passing level made) (first_of level) state) (EndsWith Is))
+      (summed_is over)
+      (plain_all (first_before level (summed over)) (stages_above level (summed over) low) refl
+      (sums_are_taken c e over s (passing level s) (passing level (summed over)) xs state (fits_axis s over can) (there s) (there (summed over)) holds small))
+
+  module _ (next : slice_get c.slots (passing (level + 1) s) ≡ Some s) (xs ys : List ℕ) (state : State) (left : HoldsColumn e s (state.columns (passing level s)) xs)
+      (right : HoldsColumn e s (state.columns (passing (level + 1) s)) ys) where
+    pub larger_all : AllAchieve c e (larger_tree s (passing level s) (passing (level + 1) s) (passing level s) ∷ []) state
+        (ComesTo e (λ r. r ≡ plain (larger_of xs ys)) s (passing level s) (first_of level) state) (EndsWith (λ r. r ≡ plain (larger_of xs ys)))
+    larger_all = plain_all (first_before level s) (stages_above level s low) refl
+        (larger_are_taken c e s (passing level s) (passing (level + 1) s) (passing level s) xs ys state (there s) next (there s) (other_level level (level + 1) s s (omega arith)) left right)
+
+    pub less_all : AllAchieve c e (less_tree s (passing level s) (passing (level + 1) s) (passing level s) ∷ []) state
+        (ComesTo e (λ r. r ≡ plain (less_of xs ys)) s (passing level s) (first_of level) state) (EndsWith (λ r. r ≡ plain (less_of xs ys)))
+    less_all = plain_all (first_before level s) (stages_above level s low) refl
+        (differences_are_taken c e s (passing level s) (passing (level + 1) s) (passing level s) xs ys state (there s) next (there s) (other_level level (level + 1) s s (omega arith)) left right)

@@ -1,0 +1,110 @@
+-- The house of a growth is found, or there is none up to the cap.
+use Rattle.std.proofs.Common.{◌≡◌, ℕ, ◌+◌, ◌<◌, ◌≤◌, min, max, List, [], ◌∷◌, sum, refl, sym, subst, ◌∙◌, inl, inr, arith}
+use Rattle.sl_ratio.specs.declared.limits.TheConstants.{MAX_SEATS}
+use Rattle.sl_ratio.specs.declared.method.Divisor.{Divisor}
+use Rattle.sl_stages.specs.returns.Election.{Election}
+use Rattle.sl_stages.specs.methods.Field.{InField}
+use Rattle.sl_stages.specs.methods.LeastHouse.{outside_sum, AboveCap, IsGrowth}
+use Rattle.sl_stages.specs.meaning.Scopes.{Group}
+use Rattle.sl_stages.proofs.methods.SeatSums.{some_less}
+use Rattle.sl_code.specs.declared.instr.Instr.TheVariants.{Add, Max}
+use Rattle.sl_code.specs.declared.operand.EndFault.TheVariants as end
+use Rattle.sl_code.specs.Codes.{CountingCode}
+use Rattle.sl_machine.specs.State.{State, with_register}
+use Rattle.sl_machine.specs.Effects.{most}
+use Rattle.sl_machine.proofs.effects.Registers.{mov_does, add_does, max_does}
+use Rattle.sl_plans.specs.Trees.{Line, Then}
+use Rattle.sl_plans.specs.Achieves.{Achieves}
+use Rattle.sl_plans.proofs.Rules.{achieves_more, achieves_from, line_ends, line_goes, then_achieves, if_zero}
+use Rattle.sl_pieces.specs.scopes.Forms.{Form, OnScope}
+use Rattle.sl_pieces.proofs.scopes.Staying.{scope_stays}
+use Rattle.sl_pieces.specs.awards.Registers as reg
+use Rattle.sl_pieces.specs.awards.Batches.{Between, Within, EndOfBatches}
+use Rattle.sl_pieces.specs.seats.Slots.{Slots}
+use Rattle.sl_pieces.specs.seats.Filling.{IsReady}
+use Rattle.sl_pieces.specs.seats.Trees.{faulty, not_over}
+use Rattle.sl_pieces.proofs.seats.Refusing.{faulty_ends, not_over_achieves}
+use Rattle.sl_pieces.specs.nodes.Trees.{find_house, take_house}
+use Rattle.sl_pieces.specs.nodes.Houses.{HasHouse, EndsAboveCap, HousesAreFound}
+use Rattle.sl_pieces.proofs.nodes.Found.{IsLeast, IsFound, grows_to, above_least, above_within, above_between}
+use Rattle.sl_pieces.proofs.nodes.SearchScope.{with_minima, search_arena, CanSearch, scope_is, minimum_each}
+use Rattle.sl_pieces.proofs.nodes.SearchSeats.{IsSearched, BatchBegun}
+use Rattle.sl_pieces.proofs.nodes.Search.{HasEnded, searched_still, search_achieves}
+
+module _ {c : CountingCode} {e : Election} {f : Form} {x : Slots} {name : List ℕ} {slot k : ℕ} {g : Group} {d : Divisor} {v m : List ℕ} {seats cap : ℕ} {before : State}
+    (can : CanSearch c e f x name slot k g d v m seats cap before) (field : (i : ℕ) × InField v i) where
+  abbrev Ended : List ℕ → State → Type 0
+  Ended = EndOfBatches (search_arena e f g d v) cap (BatchBegun v m) (IsFound d v m)
+
+  ends : {Q : State → Type 0} (s : State) → OnScope g.scope s → IsGrowth d v m seats cap AboveCap → Achieves c e (faulty f (with_minima x slot) end.Cap) s Q (EndsAboveCap x g d v m seats cap)
+  ends s on above = faulty_ends can.ready.slots (scope_is can) s end.Cap on (record { above = above; is = refl })
+
+  -- where a batch is under way, or something is missing
+  unmet : (t : List ℕ) (s : State) → IsSearched e x g d v m seats before t s → Ended t s → 0 < s.registers reg.in_batch + s.registers reg.turns → IsGrowth d v m seats cap AboveCap
+  unmet t s h (Between settled none (inl all_given)) some = above_between d v m (minimum_each can) field.0 field.1 seats cap t settled (omega (arith, some, none, h.turns)) all_given
+  unmet t s h (Between settled none (inr found)) some = absurd (omega (arith, some, none, h.turns, found.none_missing))
+  unmet t s h (Within b peers given mid left more short all_given) some =
+      above_within d v m (minimum_each can) field.0 field.1 seats cap b peers given t mid short (omega (arith, left, more)) all_given
+
+  -- where neither is
+  is_least : (t : List ℕ) (s : State) → IsSearched e x g d v m seats before t s → Ended t s → s.registers reg.in_batch ≡ 0 → s.registers reg.turns ≡ 0 → IsLeast d v m t
+  is_least t s h (Between settled none last) no_batch none_missing = h.least settled (sym h.turns ∙ none_missing)
+  is_least t s h (Within b peers given mid left more short all_given) no_batch none_missing = absurd (omega (arith, more, no_batch))
+
+  -- the amount grows to the house, if that is not above the cap
+  grows : (t : List ℕ) (s : State) → IsSearched e x g d v m seats before t s → IsLeast d v m t
+      → Achieves c e (Then (Line (Add reg.all_left reg.number ∷ (Max reg.amount reg.all_left ∷ []))) (not_over f (with_minima x slot) reg.amount cap end.Cap)) s
+      (HasHouse e x g d v m seats cap before) (EndsAboveCap x g d v m seats cap)
+  grows t s h least =
+      let all : ℕ = min (s.registers reg.all_left + s.registers reg.number) most in
+      let house : ℕ = max (s.registers reg.amount) all in
+      let one : State = with_register reg.all_left all s in
+      let two : State = with_register reg.amount house one in
+      let on : OnScope g.scope two = scope_stays g.scope s two refl refl h.on in
+      let few : cap ≤ MAX_SEATS = can.few in
+      then_achieves {Q = λ u. u ≡ two} (line_goes (add_does c e s reg.all_left reg.number) (line_goes (max_does c e one reg.amount reg.all_left) (line_ends refl))) (λ u is. achieves_from is
+      (not_over_achieves can.ready.slots (scope_is can) two reg.amount cap end.Cap (λ z. omega (arith, z)) on
+      (λ over.
+      let above : cap < max seats (outside_sum v m + sum t) = omega (arith, over, h.amount, h.all_left, h.number) in
+      record { above = above_least d v m (minimum_each can) field.0 field.1 seats cap t least above; is = refl })
+      (λ under.
+      let within : house ≤ cap = omega (arith, under) in
+      let is_house : house ≡ max seats (outside_sum v m + sum t) = omega (arith, within, few, h.amount, h.all_left, h.number) in
+      record {
+        house = house;
+        grown = grows_to d v m (minimum_each can) field.0 field.1 seats cap t house least is_house within;
+        amount = refl;
+        total = h.total;
+        on = scope_stays g.scope two (with_register reg.first_passing cap two) refl refl on;
+        elsewhere = h.elsewhere;
+        columns = h.columns;
+        steps = h.steps;
+        weights = h.weights;
+        placed = h.placed;
+      })))
+
+  takes_house : (s : State) → HasEnded can s → Achieves c e (take_house f (with_minima x slot) cap) s (HasHouse e x g d v m seats cap before) (EndsAboveCap x g d v m seats cap)
+  takes_house s after =
+      let t : List ℕ = after.t in
+      let h : IsSearched e x g d v m seats before t s = after.held in
+      let one : State = with_register reg.first_passing (s.registers reg.in_batch) s in
+      let two : State = with_register reg.first_passing (min (s.registers reg.in_batch + s.registers reg.turns) most) one in
+      let still : IsSearched e x g d v m seats before t two = searched_still can t s two.registers h refl refl refl refl refl in
+      then_achieves {Q = λ u. u ≡ two} (line_goes (mov_does c e s reg.first_passing reg.in_batch) (line_goes (add_does c e one reg.first_passing reg.turns) (line_ends refl)))
+      (λ u is. achieves_from is
+      (then_achieves {Q = λ w. (w ≡ two) × (s.registers reg.in_batch ≡ 0) × (s.registers reg.turns ≡ 0)}
+      (if_zero (λ none. line_ends (refl, omega (arith, none), omega (arith, none))) (λ n some. ends two still.on (unmet t s h after.end (omega (arith, some)))))
+      (λ w r. achieves_from r.0 (grows t two still (is_least t s h after.end r.1 r.2)))))
+
+  finds_house : Achieves c e (find_house f (with_minima x slot) d cap) before (HasHouse e x g d v m seats cap before) (EndsAboveCap x g d v m seats cap)
+  finds_house = then_achieves {Q = HasEnded can} (achieves_more (search_achieves can) (λ s h. h) (λ y never. absurd never)) takes_house
+
+pub houses_are_found : HousesAreFound
+houses_are_found c e f x name slot k g d v m seats cap state election ready minima some enough few =
+    let same : x ≡ with_minima x slot = λ z. record x { minima = minima z } in
+    let can : CanSearch c e f x name slot k g d v m seats cap state = record {
+      ready = subst (λ (y : Slots). IsReady c e f y name k g v m seats state) same ready;
+      enough = enough;
+      few = few;
+    } in
+    subst (λ (y : Slots). Achieves c e (find_house f y d cap) state (HasHouse e x g d v m seats cap state) (EndsAboveCap x g d v m seats cap)) (sym same) (finds_house can (some_less [] v some))

@@ -1,0 +1,182 @@
+-- A scope whose seats can be given out: it gets the seats that the lot chooses, or it ends with a tie, or with what the majority clause refuses.
+use Rattle.std.proofs.Common.{◌≡◌, ℕ, ◌≤◌, List, ◌++◌, map, refl, sym, ap, subst, ◌∙◌, inl, inr, arith}
+use Rattle.std.specs.Prelude.{◌-◌, sum, IsPermutation}
+use Rattle.std.proofs.lemmas.Bool.{cond-true, cond-false}
+use Rattle.std.proofs.lemmas.List.Elements.{All-from_get_or}
+use Rattle.std.proofs.lemmas.Option.{slice_get-get_or}
+use Rattle.sl_ratio.specs.declared.limits.TheConstants.{MAX_SEATS}
+use Rattle.sl_ratio.specs.declared.method.Method.{Method}
+use Rattle.sl_stages.specs.declared.book.Majority.{Majority}
+use Rattle.sl_stages.specs.declared.fault.Item.{Item}
+use Rattle.sl_stages.specs.declared.fault.Item.TheVariants as item
+use Rattle.sl_stages.specs.declared.fault.FaultKind.TheVariants as fault
+use Rattle.sl_stages.specs.declared.table.Weight.{Weight}
+use Rattle.sl_stages.specs.returns.Election.{Election, IsElection}
+use Rattle.sl_stages.specs.methods.Field.{InField, IsEmptyField}
+use Rattle.sl_stages.specs.methods.Ties.{Decided, Tied, IsChoice}
+use Rattle.sl_stages.specs.meaning.Scopes.{Group, place}
+use Rattle.sl_stages.specs.meaning.Lots.{stage_lot}
+use Rattle.sl_stages.specs.meaning.Records.{Records}
+use Rattle.sl_stages.specs.meaning.Splits.{Award, Seats, Refused, IsChosen, is_refused, entries_at}
+use Rattle.sl_stages.specs.laws.Ladders.{Ladders, IsTop, HasRoom}
+use Rattle.sl_stages.proofs.methods.DivisorProofs.{cases_field}
+use Rattle.sl_stages.proofs.methods.SeatSums.{sum_mono}
+use Rattle.sl_code.specs.declared.operand.Entries.{Entries}
+use Rattle.sl_code.specs.Codes.{CountingCode}
+use Rattle.sl_machine.specs.State.{State, End}
+use Rattle.sl_machine.specs.Places.{item_of}
+use Rattle.sl_machine.specs.Drawn.{lot_of}
+use Rattle.sl_machine.specs.Effects.{most}
+use Rattle.sl_machine.specs.SameLots.{SameLot, lot_meant}
+use Rattle.sl_machine.proofs.drawing.LotProofs.{same_lots}
+use Rattle.sl_plans.specs.declared.plan.Bound.TheVariants as bound
+use Rattle.sl_plans.specs.Trees.{Tree, Then}
+use Rattle.sl_plans.specs.Achieves.{Achieves, Never}
+use Rattle.sl_plans.proofs.Rules.{achieves_more, then_achieves}
+use Rattle.sl_pieces.specs.scopes.Forms.{Form, AllParties, AllLands, AllLists, ListsOfParty, ListsInLand, votes_of, table_of}
+use Rattle.sl_pieces.specs.scopes.Scopes.{IsScope}
+use Rattle.sl_pieces.proofs.scopes.Scopes.{scopes_hold}
+use Rattle.sl_pieces.specs.arenas.Arenas.{Arena, IsArena}
+use Rattle.sl_pieces.specs.awards.Registers as reg
+use Rattle.sl_pieces.specs.awards.Trees.{awards}
+use Rattle.sl_pieces.specs.awards.Awards.{CanAward, AreAwarded}
+use Rattle.sl_pieces.proofs.awards.Awards.{awards_achieve}
+use Rattle.sl_pieces.specs.seats.Slots.{Slots}
+use Rattle.sl_pieces.specs.seats.Trees.{most_seats, again_of, seat, tied, refuse}
+use Rattle.sl_pieces.specs.seats.Seated.{IsSeated, steps_upto}
+use Rattle.sl_pieces.specs.seats.Summing.{StandsBy, EndsDeprived}
+use Rattle.sl_pieces.specs.seats.Filling.{IsFilled, IsReady}
+use Rattle.sl_pieces.specs.seats.Seating.{EndsInTie, AwardsSeats}
+use Rattle.sl_pieces.proofs.seats.Majority.{majority_is_kept}
+use Rattle.sl_pieces.specs.nodes.Scopes.{HasAward, EndsFaulty}
+
+-- ---- the arena
+
+-- an arena of the scope's entries, in which the seats can be given out
+pub record IsScopeArena (e : Election) (f : Form) (g : Group) (seats : ℕ) (a : Arena) : Type 0 where
+  pub arena : IsArena MAX_SEATS a
+  pub enough : sum a.ladders.base ≤ seats
+  pub room : HasRoom a.ladders seats
+  pub entries : a.entries ≡ table_of f
+  pub places : a.places ≡ map (place e) g.entries
+
+-- there is room for the seats if the ladders of a field have room, and without a field the base has them all
+pub room_of : (l : Ladders) (v : List ℕ) (seats : ℕ) → ((i : ℕ) → InField v i → HasRoom l seats) → (IsEmptyField v → seats ≤ sum l.base) → HasRoom l seats
+room_of l v seats some none s on less =
+    elim (cases_field v) [
+      | inl empty ↦ let base : seats ≤ sum l.base = none empty in let all : sum l.base ≤ sum s = sum_mono l.base s (λ i. on.above i) in absurd (omega (arith, base, all, less))
+      | inr field ↦ some field.0 field.1 s on less
+    ]
+
+lot_is : (e : Election) (name : List ℕ) (f : Form) (items : List Item) → lot_meant e name (table_of f) items ≡ stage_lot e name (votes_of f) items
+lot_is e name AllParties items = refl
+lot_is e name AllLands items = refl
+lot_is e name AllLists items = refl
+lot_is e name ListsOfParty items = refl
+lot_is e name ListsInLand items = refl
+
+module _ (c : CountingCode) (e : Election) (f : Form) (x : Slots) (name : List ℕ) (k : ℕ) (g : Group) (v m : List ℕ) (seats : ℕ) (a : Arena) (state : State)
+    (ready : IsReady c e f x name k g v m seats state) (is : IsScopeArena e f g seats a) where
+  scope_lot : IsElection e → SameLot (lot_of e (table_of f) name) (stage_lot e name (votes_of f) g.entries) (map (place e) g.entries)
+  scope_lot election =
+      let scope : IsScope e f g = scopes_hold e f k g ready.group in
+      subst (λ (meant : List ℕ). SameLot (lot_of e (table_of f) name) meant (map (place e) g.entries)) (lot_is e name f g.entries)
+      (same_lots e election name (table_of f) g.entries
+      (record {
+        items_of = All-from_get_or (λ i. item_of e (table_of f) (place e i) ≡ i) g.entries (item.Party 0) (λ j less. (scope.entry j _ (slice_get-get_or g.entries j (item.Party 0) less)).item);
+        increasing = scope.increasing;
+      }))
+
+  pub scope_awards : IsElection e → CanAward c e a MAX_SEATS seats x.stage (stage_lot e name (votes_of f) g.entries)
+  scope_awards election =
+      let meant : List ℕ = stage_lot e name (votes_of f) g.entries in
+      let few : seats ≤ MAX_SEATS = ready.few in
+      let big : MAX_SEATS ≤ most = omega arith in
+      record {
+        arena = is.arena;
+        few = few;
+        countable = omega (arith, few, big);
+        enough = is.enough;
+        room = is.room;
+        name = name;
+        named = ready.slots.named;
+        same_lot = subst (λ (n : Entries). SameLot (lot_of e n name) meant a.places) (sym is.entries)
+            (subst (λ (places : List ℕ). SameLot (lot_of e (table_of f) name) meant places) (sym is.places) (scope_lot election));
+      }
+
+-- ---- the seats
+
+-- what is chosen in the arena makes the scope's award, and the records of the arena are the scope's
+pub record MeansAward (x : Slots) (g : Group) (a : Arena) (v : List ℕ) (seats : ℕ) (told : List Weight) (meant : List ℕ) (majority : Majority)
+    (IsAward : Group → Award → Type 0) (records : Group → List ℕ → Records) : Type 0 where
+  pub award : (b : Award) → IsChosen (IsTop a.ladders seats) meant g.entries majority v seats b → IsAward g b
+  pub steps : (s : List ℕ) → (records g s).steps ≡ steps_upto x.stage g a.ladders a.won s s
+  pub weights : (s : List ℕ) → (records g s).weights ≡ told
+
+module _ (c : CountingCode) (e : Election) (f : Form) (x : Slots) (name : List ℕ) (k : ℕ) (g : Group) (v m : List ℕ) (seats : ℕ) (a : Arena) (told : List Weight)
+    (meant : List ℕ) (majority : Majority) (method : Method) (IsAward : Group → Award → Type 0) (records : Group → List ℕ → Records) (state : State) where
+  Held : List ℕ → State → Type 0
+  Held = IsSeated e x g a v seats told state
+
+  module _ (means : MeansAward x g a v seats told meant majority IsAward records) where
+    tie_ends : (y : End) → EndsInTie x g a seats meant y → EndsFaulty x IsAward g y
+    tie_ends y h = record {
+      kind = fault.Tie h.number (entries_at g.entries h.among);
+      refused = means.award (Refused (fault.Tie h.number (entries_at g.entries h.among))) (record { choice = Tied h.number h.among; chosen = h.choice; is = refl });
+      is = h.is;
+    }
+
+    module _ (s : List ℕ) (choice : IsChoice (IsTop a.ladders seats) meant (Decided s)) where
+      top : IsTop a.ladders seats s
+      top = choice.4
+
+      deprived_ends : (y : End) → EndsDeprived x g v seats majority s y → EndsFaulty x IsAward g y
+      deprived_ends y h = record {
+        kind = fault.Majority;
+        refused = means.award (Refused fault.Majority)
+            (record { choice = Decided s; chosen = choice; is = sym (cond-true (is_refused majority v seats s) (Refused fault.Majority) (Seats s) h.refused) });
+        is = h.is;
+      }
+
+      awarded : (t : State) → StandsBy e x g a v seats told majority state s t → HasAward e x IsAward records g state t
+      awarded t h = record {
+        seats = s;
+        award = means.award (Seats s)
+            (record { choice = Decided s; chosen = choice; is = sym (cond-false (is_refused majority v seats s) (Refused fault.Majority) (Seats s) h.allowed) });
+        on = h.seated.on;
+        cells = h.seated.cells;
+        elsewhere = h.seated.elsewhere;
+        columns = h.seated.columns;
+        added = h.seated.steps.added;
+        steps = h.seated.steps.steps;
+        are = subst (λ xs. IsPermutation h.seated.steps.added xs) (sym (means.steps s)) (h.seated.steps.are s top);
+        weights = h.seated.weights ∙ ap (λ xs. state.weights ++ xs) (sym (means.weights s));
+        placed = h.seated.placed;
+      }
+
+    module _ (ready : IsReady c e f x name k g v m seats state) (can : CanAward c e a MAX_SEATS seats x.stage meant)
+        (gives : AwardsSeats c e f x g a v seats told meant state method) where
+      -- when the scope is filled
+      filled_awards : (t : State) → IsFilled e x g a v seats told state t
+          → Achieves c e (awards x.stage (bound.AtMost most_seats) (tied f x) (seat f x (again_of x method))) t (AreAwarded a seats meant Held) (EndsInTie x g a seats meant)
+      unfolding Held
+      filled_awards t h =
+          let few : seats ≤ MAX_SEATS = ready.few in
+          let left : t.registers reg.left ≡ seats - sum a.ladders.base = h.left in
+          awards_achieve c e a MAX_SEATS seats x.stage meant (bound.AtMost most_seats) (tied f x) (seat f x (again_of x method)) Held (EndsInTie x g a seats meant) t can gives.gives gives.ends
+          gives.fits h.waiting h.seated left (omega (arith, left, few))
+
+      chosen_stands : (t : State) → AreAwarded a seats meant Held t → Achieves c e (refuse f x majority) t (HasAward e x IsAward records g state) (EndsFaulty x IsAward g)
+      unfolding Held
+      chosen_stands t h =
+          achieves_more
+          (majority_is_kept c e f x name k g a v seats told majority state h.s t ready.group ready.slots ready.votes ready.weights (top h.s h.choice).total ready.few h.held)
+          (awarded h.s h.choice) (deprived_ends h.s h.choice)
+
+      -- the scope is filled, then its seats are awarded, then the majority clause is asked
+      pub scope_awarded : (filling : Tree) → Achieves c e filling state (IsFilled e x g a v seats told state) Never
+          → Achieves c e (Then filling (Then (awards x.stage (bound.AtMost most_seats) (tied f x) (seat f x (again_of x method))) (refuse f x majority))) state
+          (HasAward e x IsAward records g state) (EndsFaulty x IsAward g)
+      scope_awarded filling fills =
+          then_achieves {Q = IsFilled e x g a v seats told state} (achieves_more fills (λ t h. h) (λ y never. absurd never))
+          (λ t h. then_achieves {Q = AreAwarded a seats meant Held} (achieves_more (filled_awards t h) (λ u w. w) tie_ends) chosen_stands)

@@ -1,0 +1,204 @@
+-- The search of a growth reads the entries of its scope: their minima are summed, outside the field and in it, and those of the field wait for
+-- their first seats.
+use Rattle.std.proofs.Common.{◌≡◌, ◌≢◌, ℕ, ◌+◌, ◌<◌, ◌≤◌, min, List, [], ◌∷◌, length, take, sum, Option, Some, slice_get, refl, sym, ap, ◌∙◌, inl, inr, arith}
+use Rattle.std.specs.Prelude.{slice_index}
+use Rattle.std.proofs.lemmas.Bool.{cases_eq}
+use Rattle.std.proofs.lemmas.Option.{same_Some, slice_get_within}
+use Rattle.sl_ratio.specs.declared.entry.Entry.{Entry}
+use Rattle.sl_ratio.specs.declared.limits.TheConstants.{MAX_SEATS}
+use Rattle.sl_ratio.specs.declared.method.Divisor.{Divisor}
+use Rattle.sl_stages.specs.declared.fault.Item.{Item}
+use Rattle.sl_stages.specs.returns.Election.{Election}
+use Rattle.sl_stages.specs.methods.Field.{InField, no_minima}
+use Rattle.sl_stages.specs.methods.LeastHouse.{outside_minima}
+use Rattle.sl_stages.specs.meaning.Scopes.{Group, place}
+use Rattle.sl_stages.proofs.methods.HouseProofs.{length-outside, outside_at, outside_in}
+use Rattle.sl_stages.proofs.methods.SeatSums.{none_needed, length_zeros}
+use Rattle.sl_code.specs.declared.instr.Instr.TheVariants.{Set, Add, Store, Prio}
+use Rattle.sl_code.specs.Codes.{CountingCode}
+use Rattle.sl_machine.specs.State.{State, PriorityTable, with_register, with_cell}
+use Rattle.sl_machine.specs.Effects.{most}
+use Rattle.sl_machine.proofs.effects.Registers.{set_does, add_does, get_does, store_does}
+use Rattle.sl_machine.proofs.effects.Storing.{cell_same, cell_other_place, cell_other_slot}
+use Rattle.sl_plans.specs.declared.plan.Test.TheVariants as test
+use Rattle.sl_plans.specs.Trees.{Line, Then, If}
+use Rattle.sl_plans.specs.Achieves.{Achieves, Never}
+use Rattle.sl_plans.proofs.Rules.{achieves_from, line_ends, line_goes, then_achieves, if_zero}
+use Rattle.sl_pieces.specs.scopes.Forms.{Form, votes_of, table_of, OnItem}
+use Rattle.sl_pieces.specs.scopes.Scopes.{IsEntry}
+use Rattle.sl_pieces.specs.scopes.Walks.{bare, Visits}
+use Rattle.sl_pieces.proofs.scopes.Staying.{item_stays, entries_visited}
+use Rattle.sl_pieces.specs.arenas.Arenas as arenas
+use Rattle.sl_pieces.specs.arenas.Arenas.{Arena, seat_of}
+use Rattle.sl_pieces.specs.awards.Registers as reg
+use Rattle.sl_pieces.specs.seats.Slots.{Slots}
+use Rattle.sl_pieces.specs.seats.Trees.{nothing}
+use Rattle.sl_pieces.proofs.seats.FilledEntries.{first_waiting, waiting_more, waiting_same}
+use Rattle.sl_pieces.proofs.seats.Lists.{sum_so_far}
+use Rattle.sl_pieces.proofs.seats.Quotients.{seat_enters}
+use Rattle.sl_pieces.proofs.seats.SeatingArenas.{places_differ}
+use Rattle.sl_pieces.specs.nodes.Trees.{search_entry}
+use Rattle.sl_pieces.proofs.nodes.Meeting.{lacking, lacking_at, lacking_in, length-lacking, lacking_within, outside_within}
+use Rattle.sl_pieces.proofs.nodes.SearchScope.{with_minima, search_arena, CanSearch, scope_is, weight_each, minimum_each, entries_wait}
+
+-- the minima of the first n entries are summed, and the first k of them hold no seats and wait
+pub record FirstSearched (e : Election) (f : Form) (x : Slots) (g : Group) (d : Divisor) (v m : List ℕ) (seats : ℕ) (before : State) (n k : ℕ) (s : State) : Type 0 where
+  pub amount : s.registers reg.amount ≡ seats
+  pub total : s.registers reg.total ≡ sum v
+  pub number : s.registers reg.number ≡ sum (take n (outside_minima v m))
+  pub turns : s.registers reg.turns ≡ sum (take n (lacking v m (no_minima v)))
+  pub cells : (q : ℕ) (i : Item) → q < k → slice_get g.entries q ≡ Some i → s.columns x.result (place e i) ≡ 0
+  pub elsewhere : (q : ℕ) → ((j : ℕ) (i : Item) → slice_get g.entries j ≡ Some i → place e i ≢ q) → s.columns x.result q ≡ before.columns x.result q
+  pub columns : (slot q : ℕ) → slot ≢ x.result → s.columns slot q ≡ before.columns slot q
+  pub table : s.table ≡ Some (arenas.table_of (search_arena e f g d v) (first_waiting (search_arena e f g d v) k))
+  pub steps : s.steps ≡ before.steps
+  pub weights : s.weights ≡ before.weights
+  pub placed : (winner : ℕ) → s.placed winner ≡ before.placed winner
+
+-- the minima of one entry more are summed
+pub record OneMore (v m : List ℕ) (j : ℕ) : Type 0 where
+  pub number : sum (take (j + 1) (outside_minima v m)) ≤ most
+  pub turns : sum (take (j + 1) (lacking v m (no_minima v))) ≤ most
+  pub outside : slice_index v j ≡ 0 → (sum (take (j + 1) (outside_minima v m)) ≡ sum (take j (outside_minima v m)) + slice_index m j)
+      × (sum (take (j + 1) (lacking v m (no_minima v))) ≡ sum (take j (lacking v m (no_minima v))))
+  pub inside : InField v j → (sum (take (j + 1) (outside_minima v m)) ≡ sum (take j (outside_minima v m)))
+      × (sum (take (j + 1) (lacking v m (no_minima v))) ≡ sum (take j (lacking v m (no_minima v))) + slice_index m j)
+
+one_more : (v m : List ℕ) (cap j : ℕ) → length m ≡ length v → sum m ≤ cap → cap ≤ MAX_SEATS → j < length v → OneMore v m j
+one_more v m cap j long enough few less =
+    let none : List ℕ = no_minima v in
+    let zeros : length none ≡ length v = length_zeros (length v) in
+    let outside : List ℕ = outside_minima v m in
+    let first : (sum (take (j + 1) outside) ≡ sum (take j outside) + slice_index outside j) × (sum (take (j + 1) outside) ≤ sum outside) =
+    sum_so_far outside j (omega (arith, less, length-outside v m long)) in
+    let lack : List ℕ = lacking v m none in
+    let second : (sum (take (j + 1) lack) ≡ sum (take j lack) + slice_index lack j) × (sum (take (j + 1) lack) ≤ sum lack) =
+    sum_so_far lack j (omega (arith, less, length-lacking v m none long zeros)) in
+    record {
+      number = omega (arith, first.1, outside_within v m long, enough, few);
+      turns = omega (arith, second.1, lacking_within v m long none zeros, enough, few);
+      outside = λ z. (omega (arith, first.0, outside_at v m j long z), omega (arith, second.0, lacking_at v m none j z));
+      inside = λ f. (omega (arith, first.0, outside_in v m j f), omega (arith, second.0, lacking_in v m none j long zeros f, none_needed (length v) j));
+    }
+
+module _ {c : CountingCode} {e : Election} {f : Form} {x : Slots} {name : List ℕ} {slot k : ℕ} {g : Group} {d : Divisor} {v m : List ℕ} {seats cap : ℕ} {before : State}
+    (can : CanSearch c e f x name slot k g d v m seats cap before) where
+  abbrev arena : Arena
+  arena = search_arena e f g d v
+
+  -- so many minima are summed, and so many entries wait
+  abbrev pub Searched : ℕ → ℕ → State → Type 0
+  Searched = FirstSearched e f x g d v m seats before
+
+  -- only registers changed
+  pub counted : (n p q : ℕ) (s : State) (registers : ℕ → ℕ) → Searched n q s → registers reg.amount ≡ s.registers reg.amount → registers reg.total ≡ s.registers reg.total
+      → registers reg.number ≡ sum (take p (outside_minima v m)) → registers reg.turns ≡ sum (take p (lacking v m (no_minima v))) → Searched p q (record s { registers = registers })
+  counted n p q s registers h amount total number turns = record {
+    amount = amount ∙ h.amount;
+    total = total ∙ h.total;
+    number = number;
+    turns = turns;
+    cells = h.cells;
+    elsewhere = h.elsewhere;
+    columns = h.columns;
+    table = h.table;
+    steps = h.steps;
+    weights = h.weights;
+    placed = h.placed;
+  }
+
+  module _ (j : ℕ) (i : Item) (at : slice_get g.entries j ≡ Some i) where
+    entry : IsEntry e (table_of f) (votes_of f) g.scope i
+    entry = (scope_is can).entry j i at
+
+    within : j < length g.entries
+    within = slice_get_within g.entries j i at
+
+    -- the entry holds no seat, and it may wait
+    stored : (n : ℕ) (s : State) (registers : ℕ → ℕ) (table : Option PriorityTable) → Searched n j s → registers reg.amount ≡ s.registers reg.amount
+        → registers reg.total ≡ s.registers reg.total → registers reg.number ≡ s.registers reg.number → registers reg.turns ≡ s.registers reg.turns
+        → table ≡ Some (arenas.table_of arena (first_waiting arena (j + 1)))
+        → Searched n (j + 1) (record (with_cell x.result (place e i) 0 s) { registers = registers; table = table })
+    stored n s registers table h amount total number turns waits = record {
+      amount = amount ∙ h.amount;
+      total = total ∙ h.total;
+      number = number ∙ h.number;
+      turns = turns ∙ h.turns;
+      cells = λ q y less there.
+          elim (cases_eq q j) [
+            | inl same ↦
+                let is : y ≡ i = same_Some y i (sym there ∙ ap (slice_get g.entries) same ∙ at) in
+                ap (λ h. (with_cell x.result (place e i) 0 s).columns x.result (place e h)) is ∙ cell_same s x.result (place e i) 0
+            | inr other ↦
+                cell_other_place s x.result (place e i) 0 (place e y) (places_differ e g f (scope_is can) q j y i there at other) ∙ h.cells q y (omega (arith, less, other)) there
+          ];
+      elsewhere = λ q none. cell_other_place s x.result (place e i) 0 q (λ same. none j i at (sym same)) ∙ h.elsewhere q none;
+      columns = λ y q other. cell_other_slot s x.result (place e i) 0 y q other ∙ h.columns y q other;
+      table = waits;
+      steps = h.steps;
+      weights = h.weights;
+      placed = h.placed;
+    }
+
+    -- the last part of the plan: the cell, and the table
+    enters : (s : State) → OnItem i s → s.registers reg.weight ≡ slice_index v j → Searched (j + 1) j (bare s)
+        → Achieves c e (Then (Line (Set reg.held 0 ∷ (Store x.result reg.held ∷ []))) (If (test.Zero reg.weight) nothing (Line (Prio d reg.weight reg.held ∷ [])))) s
+        (λ t. Searched (j + 1) (j + 1) (bare t)) Never
+    enters s on weight h =
+        let none : List ℕ = no_minima v in
+        let zero_held : State = with_register reg.held 0 s in
+        let here : State = with_cell x.result (place e i) 0 zero_held in
+        let others : List Entry = first_waiting arena j in
+        let seat : Entry = seat_of arena j (slice_index none j) in
+        then_achieves {Q = λ t. t ≡ here}
+        (line_goes (set_does c e s reg.held 0)
+        (line_goes (store_does c e zero_held x.result (votes_of f) can.ready.slots.result reg.held (place e i) (entry.cell zero_held (item_stays i s zero_held refl refl refl on)))
+        (line_ends refl)))
+        (λ t is. achieves_from is
+        (if_zero
+        (λ no_weight.
+        let empty : slice_index v j ≡ 0 = omega (arith, weight, no_weight) in
+        line_ends (stored (j + 1) (bare s) here.registers s.table h refl refl refl refl (h.table ∙ ap Some (waiting_same g j i at (entries_wait can) empty))))
+        (λ w some.
+        let field : InField v j = omega (arith, weight, some) in
+        line_goes
+        (seat_enters c e f g (scope_is can) d v none can.ready.weights j (slice_index none j) i here others reg.held at (item_stays i s here refl refl refl on) weight field
+        (sym (none_needed (length v) j)) (omega (arith, none_needed (length v) j)) h.table)
+        (line_ends
+        (stored (j + 1) (bare s) here.registers (Some (arenas.table_of arena (seat ∷ others))) h refl refl refl refl (ap Some (waiting_more g j i at (entries_wait can) field)))))))
+
+    -- the sums
+    sums : (s : State) → OnItem i s → s.registers reg.weight ≡ slice_index v j → s.registers reg.base ≡ slice_index m j → Searched j j (bare s)
+        → Achieves c e (If (test.Zero reg.weight) (Line (Add reg.number reg.base ∷ [])) (Line (Add reg.turns reg.base ∷ []))) s
+        (λ t. OnItem i t × (t.registers reg.weight ≡ slice_index v j) × Searched (j + 1) j (bare t)) Never
+    sums s on weight base h =
+        let more : OneMore v m j = one_more v m cap j (minimum_each can) can.enough can.few (omega (arith, within, weight_each can)) in
+        if_zero
+        (λ no_weight.
+        let empty : slice_index v j ≡ 0 = omega (arith, weight, no_weight) in
+        let t : State = with_register reg.number (min (s.registers reg.number + s.registers reg.base) most) s in
+        let number : min (s.registers reg.number + s.registers reg.base) most ≡ sum (take (j + 1) (outside_minima v m)) = omega (arith, h.number, base, more.number, (more.outside empty).0) in
+        line_goes (add_does c e s reg.number reg.base)
+        (line_ends (item_stays i s t refl refl refl on, weight, counted j (j + 1) j (bare s) t.registers h refl refl number (h.turns ∙ sym (more.outside empty).1))))
+        (λ w some.
+        let field : InField v j = omega (arith, weight, some) in
+        let t : State = with_register reg.turns (min (s.registers reg.turns + s.registers reg.base) most) s in
+        let turns : min (s.registers reg.turns + s.registers reg.base) most ≡ sum (take (j + 1) (lacking v m (no_minima v))) = omega (arith, h.turns, base, more.turns, (more.inside field).1) in
+        line_goes (add_does c e s reg.turns reg.base)
+        (line_ends (item_stays i s t refl refl refl on, weight, counted j (j + 1) j (bare s) t.registers h refl refl (h.number ∙ sym (more.inside field).0) turns)))
+
+    searches_entry : (s : State) → OnItem i s → Searched j j (bare s) → Achieves c e (search_entry f (with_minima x slot) d) s (λ t. Searched (j + 1) (j + 1) (bare t)) Never
+    searches_entry s on h =
+        let one : State = with_register reg.weight (s.columns x.votes (place e i)) s in
+        let two : State = with_register reg.base (s.columns slot (place e i)) one in
+        let weight : s.columns x.votes (place e i) ≡ slice_index v j = h.columns x.votes (place e i) can.ready.slots.not_votes ∙ can.ready.votes.at j i at in
+        let minimum : s.columns slot (place e i) ≡ slice_index m j = h.columns slot (place e i) (can.ready.slots.not_minima slot refl) ∙ can.ready.minima.at j i at in
+        then_achieves {Q = λ t. t ≡ one} (line_goes (get_does c e s x.votes (votes_of f) can.ready.slots.votes reg.weight (place e i) (entry.cell s on)) (line_ends refl)) (λ t is. achieves_from is
+        (then_achieves {Q = λ u. u ≡ two}
+        (line_goes (get_does c e one slot (votes_of f) (can.ready.slots.minima slot refl) reg.base (place e i) (entry.cell one (item_stays i s one refl refl refl on))) (line_ends refl))
+        (λ u are. achieves_from are
+        (then_achieves {Q = λ w. OnItem i w × (w.registers reg.weight ≡ slice_index v j) × Searched (j + 1) j (bare w)}
+        (sums two (item_stays i s two refl refl refl on) weight minimum (counted j j j (bare s) two.registers h refl refl h.number h.turns)) (λ w r. enters w r.0 r.1 r.2)))))
+
+  pub entries_searched : Visits c e (search_entry f (with_minima x slot) d) g.entries OnItem (λ n s. FirstSearched e f x g d v m seats before n n s) Never
+  entries_searched = entries_visited (record { party = refl; land = refl; win = refl }) (λ j i s at on h. searches_entry j i at s on h)

@@ -1,0 +1,246 @@
+-- A seat of the search: its entry holds one more, what is missing is counted, and the entry waits for its next seat.
+use Rattle.std.proofs.Common.{◌≡◌, ◌≢◌, ℕ, ◌+◌, ◌-◌, ◌≤◌, min, false, List, [], ◌∷◌, length, sum, Some, slice_get, refl, sym, ap, ◌∙◌, inl, inr, arith, ne_eqb}
+use Rattle.std.specs.Prelude.{slice_index}
+use Rattle.std.proofs.lemmas.Bool.{cases_eq}
+use Rattle.std.proofs.lemmas.Option.{same_Some}
+use Rattle.sl_ratio.specs.declared.limits.TheConstants.{MAX_SEATS}
+use Rattle.sl_ratio.specs.declared.method.Divisor.{Divisor}
+use Rattle.sl_stages.specs.declared.fault.Item.{Item}
+use Rattle.sl_stages.specs.declared.table.Mark.{Mark}
+use Rattle.sl_stages.specs.declared.table.Placed.{Placed}
+use Rattle.sl_stages.specs.returns.Election.{Election}
+use Rattle.sl_stages.specs.methods.Field.{InField, no_minima}
+use Rattle.sl_stages.specs.methods.LeastHouse.{outside_sum}
+use Rattle.sl_stages.specs.meaning.Scopes.{Group, place}
+use Rattle.sl_stages.specs.laws.Awards.{free_ladders}
+use Rattle.sl_stages.specs.laws.Ladders.{Has, AreFalling, IsSettled, RaisesEach}
+use Rattle.sl_stages.specs.laws.Walks.{MidBatch}
+use Rattle.sl_stages.proofs.methods.DivisorProofs.{field_of, has_of, in_range}
+use Rattle.sl_stages.proofs.methods.RaisedSeats.{Contains-head}
+use Rattle.sl_stages.proofs.methods.SeatSums.{none_needed, length_zeros}
+use Rattle.sl_stages.proofs.methods.WalkProofs.{walks}
+use Rattle.sl_code.specs.declared.instr.Instr.TheVariants.{Set, Add, Store}
+use Rattle.sl_code.specs.Codes.{CountingCode}
+use Rattle.sl_machine.specs.State.{State, PriorityTable, with_register, with_cell}
+use Rattle.sl_machine.specs.Effects.{most}
+use Rattle.sl_machine.proofs.effects.Registers.{set_does, add_does, sub_does, get_does, store_does}
+use Rattle.sl_machine.proofs.effects.Storing.{cell_same, cell_other_place, cell_other_slot}
+use Rattle.sl_plans.specs.declared.plan.Test.TheVariants as test
+use Rattle.sl_plans.specs.Trees.{Line, Then, If, ones, count_down}
+use Rattle.sl_plans.specs.Achieves.{Achieves, Never}
+use Rattle.sl_plans.specs.inner.Frames.{may_write_slot, KeepsRest}
+use Rattle.sl_plans.proofs.Rules.{achieves_more, achieves_from, line_ends, line_goes, then_achieves, if_less}
+use Rattle.sl_plans.proofs.KeepingRules.{achieves_kept}
+use Rattle.sl_pieces.specs.scopes.Forms.{Form, votes_of, table_of, OnScope, OnItem}
+use Rattle.sl_pieces.specs.scopes.Scopes.{IsEntry}
+use Rattle.sl_pieces.proofs.scopes.Staying.{item_stays}
+use Rattle.sl_pieces.specs.arenas.Arenas as arenas
+use Rattle.sl_pieces.specs.arenas.Arenas.{Arena, HasWaiting, seat_of, seat_taken}
+use Rattle.sl_pieces.specs.arenas.Laws.{SeatTaken}
+use Rattle.sl_pieces.specs.awards.Registers as reg
+use Rattle.sl_pieces.specs.awards.Batches.{GivesSeats}
+use Rattle.sl_pieces.specs.seats.Slots.{Slots, HasCells}
+use Rattle.sl_pieces.specs.seats.Trees.{nothing, enter_again}
+use Rattle.sl_pieces.proofs.seats.Again.{quotients_again}
+use Rattle.sl_pieces.proofs.seats.Seat.{ReEnters}
+use Rattle.sl_pieces.proofs.seats.SeatLine.{IsTaken, seat_is_taken}
+use Rattle.sl_pieces.proofs.seats.SeatingArenas.{places_differ, entry_there}
+use Rattle.sl_pieces.proofs.seats.Lists.{not_it}
+use Rattle.sl_pieces.specs.nodes.Trees.{search_seat}
+use Rattle.sl_pieces.proofs.nodes.Meeting.{missing, sum_one_more, one_less_missing, as_much_missing}
+use Rattle.sl_pieces.proofs.nodes.Found.{IsShort, IsLeast, least_after}
+use Rattle.sl_pieces.proofs.nodes.SearchScope.{with_minima, search_arena, CanSearch, scope_is, weight_each, minimum_each, arena_of}
+
+-- the entries of the scope hold t in the search, and all else is as it was before
+pub record IsSearched (e : Election) (x : Slots) (g : Group) (d : Divisor) (v m : List ℕ) (seats : ℕ) (before : State) (t : List ℕ) (s : State) : Type 0 where
+  pub on : OnScope g.scope s
+  pub amount : s.registers reg.amount ≡ seats
+  pub total : s.registers reg.total ≡ sum v
+  pub number : s.registers reg.number ≡ outside_sum v m
+  pub all_left : s.registers reg.all_left ≡ min (sum t) most
+  pub turns : s.registers reg.turns ≡ missing v m t
+  pub cells : HasCells e g.entries (s.columns x.result) t
+  pub elsewhere : (q : ℕ) → ((j : ℕ) (i : Item) → slice_get g.entries j ≡ Some i → place e i ≢ q) → s.columns x.result q ≡ before.columns x.result q
+  pub columns : (slot q : ℕ) → slot ≢ x.result → s.columns slot q ≡ before.columns slot q
+  pub steps : s.steps ≡ before.steps
+  pub weights : s.weights ≡ before.weights
+  pub placed : (winner : ℕ) → s.placed winner ≡ before.placed winner
+  pub least : IsSettled (free_ladders d v) t → missing v m t ≡ 0 → IsLeast d v m t
+
+-- what is known of a batch that has begun
+abbrev pub BatchBegun : List ℕ → List ℕ → List ℕ → ℕ → Type 0
+BatchBegun v m s step = IsShort v m s
+
+-- ---- the plan of a seat
+
+module _ {c : CountingCode} {e : Election} {f : Form} {x : Slots} {name : List ℕ} {slot k : ℕ} {g : Group} {d : Divisor} {v m : List ℕ} {seats cap : ℕ} {before : State}
+    (can : CanSearch c e f x name slot k g d v m seats cap before) where
+  abbrev arena : Arena
+  arena = search_arena e f g d v
+
+  module _ (j : ℕ) (i : Item) (t u : List ℕ) (at : slice_get g.entries j ≡ Some i) (field : InField v j) (long : length t ≡ length v) (raised : RaisesEach (j ∷ []) t u)
+      (few : slice_index u j ≤ MAX_SEATS) (taken : SeatTaken (search_arena e f g d v) j t u) where
+    entry : IsEntry e (table_of f) (votes_of f) g.scope i
+    entry = (scope_is can).entry j i at
+
+    next : slice_index u j ≡ slice_index t j + 1
+    next = raised.raised j (Contains-head j [])
+
+    one_seat_more : sum u ≡ sum t + 1
+    one_seat_more = sum_one_more t u j (omega (arith, in_range v j field, long)) raised.same_length next (λ k other. raised.others k (not_it j k other))
+
+    -- before the entry holds its seat: what is missing is counted
+    record IsCounted (s w : State) : Type 0 where
+      on_item : OnItem i w
+      held : w.registers reg.held ≡ slice_index t j
+      turns : w.registers reg.turns ≡ missing v m u
+      all_left : w.registers reg.all_left ≡ min (sum t) most
+      columns : w.columns ≡ s.columns
+      table : w.table ≡ Some (arenas.table_of arena taken.others)
+
+    -- after it
+    pub record IsGiven (s w : State) : Type 0 where
+      on_item : OnItem i w
+      cell : w.columns x.result (place e i) ≡ slice_index u j
+      elsewhere : (q : ℕ) → q ≢ place e i → w.columns x.result q ≡ s.columns x.result q
+      turns : w.registers reg.turns ≡ missing v m u
+      all_left : w.registers reg.all_left ≡ min (sum u) most
+
+    given_still : (s w y : State) → KeepsRest (enter_again (with_minima x slot) d) w y → IsGiven s w → IsGiven s y
+    given_still s w y kept h = record {
+      on_item = item_stays i w y (kept.party refl) (kept.land refl) (kept.win refl) h.on_item;
+      cell = kept.columns x.result refl (place e i) ∙ h.cell;
+      elsewhere = λ q other. kept.columns x.result refl q ∙ h.elsewhere q other;
+      turns = kept.registers reg.turns refl ∙ h.turns;
+      all_left = kept.registers reg.all_left refl ∙ h.all_left;
+    }
+
+    counts : (s w : State) → OnItem i w → w.registers reg.held ≡ slice_index t j → w.registers reg.base ≡ slice_index m j → w.registers reg.turns ≡ missing v m t
+        → w.registers reg.all_left ≡ min (sum t) most → w.columns ≡ s.columns → w.table ≡ Some (arenas.table_of arena taken.others)
+        → Achieves c e (If (test.Less reg.held reg.base) (Line (count_down reg.turns)) nothing) w (IsCounted s) Never
+    counts s w on held base turns all_left columns table =
+        if_less
+        (λ less.
+        let one : State = with_register ones 1 w in
+        let y : State = with_register reg.turns (w.registers reg.turns - 1) one in
+        let fewer : missing v m t ≡ missing v m u + 1 = one_less_missing v m (minimum_each can) t u j long raised field (omega (arith, less, held, base)) in
+        line_goes (set_does c e w ones 1)
+        (line_goes (sub_does c e one reg.turns ones)
+        (line_ends (record { on_item = item_stays i w y refl refl refl on; held = held; turns = omega (arith, turns, fewer); all_left = all_left; columns = columns; table = table }))))
+        (λ met.
+        let same : missing v m u ≡ missing v m t = as_much_missing v m (minimum_each can) t u j long raised field (omega (arith, met, held, base)) in
+        line_ends (record { on_item = on; held = held; turns = turns ∙ sym same; all_left = all_left; columns = columns; table = table }))
+
+    holds : (s w : State) → HasCells e g.entries (s.columns x.votes) v → IsCounted s w
+        → Achieves c e (Then (Line (Set ones 1 ∷ (Add reg.held ones ∷ (Store x.result reg.held ∷ (Set ones 1 ∷ (Add reg.all_left ones ∷ [])))))) (enter_again (with_minima x slot) d)) w
+        (λ y. HasWaiting arena u y × IsGiven s y) Never
+    holds s w votes h =
+        let p : ℕ = place e i in
+        let w1 : State = with_register ones 1 w in
+        let more : ℕ = min (w.registers reg.held + 1) most in
+        let w2 : State = with_register reg.held more w1 in
+        let w3 : State = with_cell x.result p more w2 in
+        let w4 : State = with_register ones 1 w3 in
+        let w5 : State = with_register reg.all_left (min (w.registers reg.all_left + 1) most) w4 in
+        let holds_more : more ≡ slice_index u j = omega (arith, h.held, next, few) in
+        let on : OnItem i w5 = item_stays i w w5 refl refl refl h.on_item in
+        let given : IsGiven s w5 = record {
+          on_item = on;
+          cell = cell_same w2 x.result p more ∙ holds_more;
+          elsewhere = λ q other. cell_other_place w2 x.result p more q other ∙ ap (λ (y : ℕ → ℕ → ℕ). y x.result q) h.columns;
+          turns = h.turns;
+          all_left = omega (arith, h.all_left, one_seat_more);
+        } in
+        let same_votes : HasCells e g.entries (w5.columns x.votes) v = record {
+          one_each = votes.one_each;
+          at = λ q y there. cell_other_slot w2 x.result p more x.votes (place e y) can.ready.slots.not_votes ∙ ap (λ (z : ℕ → ℕ → ℕ). z x.votes (place e y)) h.columns
+              ∙ votes.at q y there;
+        } in
+        let again : ReEnters c e (with_minima x slot) g arena v (enter_again (with_minima x slot) d) =
+        quotients_again c e f (with_minima x slot) name g d v (no_minima v) can.ready.slots can.ready.weights (arena_of can) in
+        let has : (held : ℕ) → Has arena.ladders j held = λ held. has_of d v (no_minima v) j held field in
+        let low : slice_index (no_minima v) j ≤ slice_index t j = omega (arith, none_needed (length v) j) in
+        then_achieves {Q = λ y. y ≡ w5}
+        (line_goes (set_does c e w ones 1)
+        (line_goes (add_does c e w1 reg.held ones)
+        (line_goes (store_does c e w2 x.result (votes_of f) can.ready.slots.result reg.held p (entry.cell w2 (item_stays i w w2 refl refl refl h.on_item)))
+        (line_goes (set_does c e w3 ones 1) (line_goes (add_does c e w4 reg.all_left ones) (line_ends refl))))))
+        (λ y is. achieves_from is
+        (achieves_more (achieves_kept (again.enters t u j i w5 taken at (has (slice_index t j)) low next few on holds_more same_votes h.table))
+        (λ z r. (r.0, given_still s w5 z r.1 given)) (λ z r. r)))
+
+    seat_is_given : (s : State) → OnItem i s → s.columns x.result (place e i) ≡ slice_index t j → s.columns slot (place e i) ≡ slice_index m j → HasCells e g.entries (s.columns x.votes) v
+        → s.registers reg.turns ≡ missing v m t → s.registers reg.all_left ≡ min (sum t) most → s.table ≡ Some (arenas.table_of arena taken.others)
+        → Achieves c e (search_seat (with_minima x slot) d) s (λ y. HasWaiting arena u y × IsGiven s y) Never
+    seat_is_given s on cell minimum votes turns all_left table =
+        let one : State = with_register reg.held (s.columns x.result (place e i)) s in
+        let two : State = with_register reg.base (s.columns slot (place e i)) one in
+        then_achieves {Q = λ w. w ≡ one} (line_goes (get_does c e s x.result (votes_of f) can.ready.slots.result reg.held (place e i) (entry.cell s on)) (line_ends refl)) (λ w is. achieves_from is
+        (then_achieves {Q = λ y. y ≡ two}
+        (line_goes (get_does c e one slot (votes_of f) (can.ready.slots.minima slot refl) reg.base (place e i) (entry.cell one (item_stays i s one refl refl refl on))) (line_ends refl))
+        (λ y are. achieves_from are
+        (then_achieves {Q = IsCounted s} (counts s two (item_stays i s two refl refl refl on) cell minimum turns all_left refl table) (λ z h. holds s z votes h)))))
+
+    -- what stands with t before the seat stands with u after it
+    searched_next : (tab : PriorityTable) (mark : Mark) (state now after : State) → IsTaken i tab mark state now → IsGiven now after → KeepsRest (search_seat (with_minima x slot) d) now after
+        → IsSearched e x g d v m seats before t state → (IsSettled (free_ladders d v) u → missing v m u ≡ 0 → IsLeast d v m u) → IsSearched e x g d v m seats before u after
+    searched_next tab mark state now after taken_now given kept h least =
+        let register : (r : ℕ) → now.registers r ≡ state.registers r = λ r. ap (λ (k : ℕ → ℕ). k r) taken_now.registers in
+        let column : (k q : ℕ) → now.columns k q ≡ state.columns k q = λ k q. ap (λ (y : ℕ → ℕ → ℕ). y k q) taken_now.columns in
+        record {
+          on = entry.scope after given.on_item;
+          amount = kept.registers reg.amount refl ∙ register reg.amount ∙ h.amount;
+          total = kept.registers reg.total refl ∙ register reg.total ∙ h.total;
+          number = kept.registers reg.number refl ∙ register reg.number ∙ h.number;
+          all_left = given.all_left;
+          turns = given.turns;
+          cells = record {
+            one_each = raised.same_length ∙ h.cells.one_each;
+            at = λ q y there.
+                elim (cases_eq q j) [
+                  | inl same ↦
+                      let is : y ≡ i = same_Some y i (sym there ∙ ap (slice_get g.entries) same ∙ at) in
+                      ap (λ z. after.columns x.result (place e z)) is ∙ given.cell ∙ ap (slice_index u) (sym same)
+                  | inr other ↦
+                      given.elsewhere (place e y) (places_differ e g f (scope_is can) q j y i there at other) ∙ column x.result (place e y) ∙ h.cells.at q y there
+                      ∙ sym (raised.others q (not_it j q other))
+                ];
+          };
+          elsewhere = λ q none. given.elsewhere q (λ same. none j i at (sym same)) ∙ column x.result q ∙ h.elsewhere q none;
+          columns = λ y q other.
+              let free : may_write_slot (search_seat (with_minima x slot) d) y ≡ false = rw (ne_eqb y x.result other) refl in
+              kept.columns y free q ∙ column y q ∙ h.columns y q other;
+          steps = kept.steps_kept refl ∙ taken_now.steps ∙ h.steps;
+          weights = kept.weights_kept refl ∙ taken_now.weights ∙ h.weights;
+          placed = λ winner. kept.placed refl winner ∙ ap (λ (y : ℕ → Placed). y winner) taken_now.placed ∙ h.placed winner;
+          least = least;
+        }
+
+  pub search_gives : GivesSeats c e (search_arena e f g d v) MAX_SEATS (BatchBegun v m) (IsSearched e x g d v m seats before) (search_seat (with_minima x slot) d)
+  search_gives = record {
+    gives = λ s peers given t u j state gets few short waits h.
+        let field : InField v j = field_of d v (no_minima v) j (slice_index t j) gets.has in
+        let there : (i : Item) × (slice_get g.entries j ≡ Some i) = entry_there e f g arena (arena_of can) j (slice_index t j) gets.has in
+        let i : Item = there.0 in
+        let at : slice_get g.entries j ≡ Some i = there.1 in
+        let long : length t ≡ length v = gets.batch.raised.same_length ∙ gets.batch.settled.on.same_length ∙ length_zeros (length v) in
+        let law : AreFalling (free_ladders d v) = (arena_of can).arena.falling in
+        let mid : MidBatch (free_ladders d v) s peers (j ∷ given) u = (((walks (free_ladders d v) law).within s peers given t gets.batch).next j u gets.one_of gets.left gets.raised).0 in
+        let tab : PriorityTable = arenas.table_of arena gets.taken.others in
+        let now : State = seat_taken e arena j (slice_index t j) gets.taken.others state in
+        let taken_now : IsTaken i tab (arena.won j (slice_index t j)) state now = seat_is_taken e f g arena j (slice_index t j) i gets.taken.others state (arena_of can) at in
+        let register : (r : ℕ) → now.registers r ≡ state.registers r = λ r. ap (λ (y : ℕ → ℕ). y r) taken_now.registers in
+        let column : (y q : ℕ) → now.columns y q ≡ state.columns y q = λ y q. ap (λ (z : ℕ → ℕ → ℕ). z y q) taken_now.columns in
+        let votes : HasCells e g.entries (now.columns x.votes) v = record {
+          one_each = weight_each can;
+          at = λ q y in_it. column x.votes (place e y) ∙ h.columns x.votes (place e y) can.ready.slots.not_votes ∙ can.ready.votes.at q y in_it;
+        } in
+        let least : IsSettled (free_ladders d v) u → missing v m u ≡ 0 → IsLeast d v m u = least_after d v m (minimum_each can) s peers (j ∷ given) u mid short in
+        achieves_more
+        (achieves_kept
+        (seat_is_given j i t u at field long gets.raised (few j) gets.taken now taken_now.on_item (column x.result (place e i) ∙ h.cells.at j i at)
+        (column slot (place e i) ∙ h.columns slot (place e i) (can.ready.slots.not_minima slot refl) ∙ can.ready.minima.at j i at) votes
+        (register reg.turns ∙ h.turns) (register reg.all_left ∙ h.all_left) taken_now.table))
+        (λ after r. (r.0.0, searched_next j i t u at field long gets.raised (few j) gets.taken tab (arena.won j (slice_index t j)) state now after taken_now r.0.1 r.1 h least))
+        (λ y r. r);
+  }

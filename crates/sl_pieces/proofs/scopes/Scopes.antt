@@ -1,0 +1,224 @@
+-- Scopes and entries of each form: their places and their cursors.
+use Rattle.std.proofs.Common.{◌≡◌, ℕ, zero, suc, ◌+◌, ◌*◌, ◌/◌, ◌%◌, ◌<◌, ◌≤◌, [], ◌∷◌, filter, Some, refl, sym, ap, subst, ◌∙◌, arith}
+use Rattle.std.specs.Prelude.{flat_map, slice_get}
+use Rattle.std.specs.List.{AllByRecursion as Every, range_with_len}
+use Rattle.std.specs.Option.{option_map}
+use Rattle.std.proofs.lemmas.Nat.{div-mul-add}
+use Rattle.std.proofs.Math.Nat.{add-mul-mod_self_right, mod-eq_of_lt, mul-le-mul_right}
+use Rattle.std.proofs.lemmas.Option.{none-some, same_Some}
+use Rattle.sl_stages.specs.declared.book.Shape.TheVariants as shape
+use Rattle.sl_stages.specs.declared.fault.Scope.{Scope}
+use Rattle.sl_stages.specs.declared.fault.Scope.TheVariants as scope
+use Rattle.sl_stages.specs.declared.fault.Item.{Item}
+use Rattle.sl_stages.specs.declared.fault.Item.TheVariants as item
+use Rattle.sl_stages.specs.returns.Election.{Election, lands_of, parties_of, has_list}
+use Rattle.sl_stages.specs.returns.Facts.{lands, parties}
+use Rattle.sl_stages.specs.meaning.Scopes.{place, entries_of, lists_in_land, lists_of_party, Group}
+use Rattle.sl_code.specs.declared.operand.Entries.TheVariants as entries
+use Rattle.sl_machine.specs.State.{State}
+use Rattle.sl_machine.specs.Places.{both}
+use Rattle.sl_stages.proofs.meaning.DistinctLists.{every_map, every_filter, every_pieces, every_weaker}
+use Rattle.sl_pieces.specs.scopes.Forms.{AllParties, AllLands, AllLists, ListsOfParty, ListsInLand, groups_of, OnScope, OnItem}
+use Rattle.sl_pieces.specs.scopes.Scopes.{IsEntry, IsScope, ScopesHold, ScopesApart}
+use Rattle.sl_pieces.proofs.scopes.Pieces.{every_there}
+use Rattle.sl_pieces.proofs.scopes.Rising.{Rises, between, rises_range, rises_filter, rises_map, rises_append, increasing}
+use Rattle.sl_pieces.proofs.scopes.Forms.{only_one, made_of, all_group, party_group, land_group}
+
+-- ---- the place of a pair
+
+module _ (e : Election) (land party : ℕ) (less : party < parties_of e) where
+  pub land_again : (land * parties_of e + party) / parties_of e ≡ land
+  land_again = div-mul-add land (parties_of e) party less
+
+  pub party_again : (land * parties_of e + party) % parties_of e ≡ party
+  party_again =
+      let turned : land * parties_of e + party ≡ party + land * parties_of e = omega arith in
+      ap (λ n. n % parties_of e) turned ∙ add-mul-mod_self_right party land (parties_of e) ∙ mod-eq_of_lt less
+
+  pub above_land : (k : ℕ) → land + 1 ≤ k → land * parties_of e + party < k * parties_of e
+  above_land k next =
+      let high : (land + 1) * parties_of e ≤ k * parties_of e = mul-le-mul_right (parties_of e) next in
+      omega (arith, high, less)
+
+-- ---- entries
+
+pub party_entry : (e : Election) (p : ℕ) → p < parties_of e → IsEntry e entries.Party shape.Party scope.All (item.Party p)
+party_entry e p less = record { within = less; item = refl; set = λ s. refl; index = λ s on. on; cell = λ s on. on; scope = λ s on. tt }
+
+pub land_entry : (e : Election) (l : ℕ) → l < lands_of e → IsEntry e entries.Land shape.Land scope.All (item.Land l)
+land_entry e l less = record { within = less; item = refl; set = λ s. refl; index = λ s on. on; cell = λ s on. on; scope = λ s on. tt }
+
+pub list_entry : (e : Election) (on : Scope) (l p : ℕ) → l < lands_of e → p < parties_of e → ((s : State) → OnItem (item.List l p) s → OnScope on s) → IsEntry e entries.List shape.List on (item.List l p)
+list_entry e on l p in_lands in_parties at =
+    let q : ℕ = l * parties_of e + p in
+    let number : ℕ → ℕ → ℕ = λ land party. land * parties_of e + party in
+    let there : (s : State) → OnItem (item.List l p) s → both s.land s.party number ≡ Some q =
+    λ s h. ap (λ o. both o s.party number) h.0 ∙ ap (λ o. both (Some l) o number) h.1 in
+    record {
+      within = above_land e l p in_parties (lands_of e) (omega (arith, in_lands));
+      item = ap (λ n. item.List n (q % parties_of e)) (land_again e l p in_parties) ∙ ap (item.List l) (party_again e l p in_parties);
+      set = λ s. (ap Some (land_again e l p in_parties), ap Some (party_again e l p in_parties));
+      index = there;
+      cell = there;
+      scope = at;
+    }
+
+-- what holds of each number below another holds of those that pass a test
+each_below : (P : ℕ → Type 0) (n : ℕ) → ((k : ℕ) → k < n → P k) → Every P (range_with_len 0 n)
+each_below P n each = every_weaker (λ k. (0 ≤ k) × (k < n)) P (λ k h. each k h.1) (range_with_len 0 n) (between 0 n 0 n (omega arith) (omega arith))
+
+module _ (e : Election) where
+  in_land_each : (P : Item → Type 0) (l : ℕ) → ((p : ℕ) → p < parties_of e → P (item.List l p)) → Every P (lists_in_land e l)
+  in_land_each P l each =
+      every_map P (item.List l) (filter (has_list e l) (parties e)) (every_filter (λ p. P (item.List l p)) (has_list e l) (parties e) (each_below (λ p. P (item.List l p)) (parties_of e) each))
+
+  of_party_each : (P : Item → Type 0) (p : ℕ) → ((l : ℕ) → l < lands_of e → P (item.List l p)) → Every P (lists_of_party e p)
+  of_party_each P p each =
+      every_map P (λ l. item.List l p) (filter (λ l. has_list e l p) (lands e))
+      (every_filter (λ l. P (item.List l p)) (λ l. has_list e l p) (lands e) (each_below (λ l. P (item.List l p)) (lands_of e) each))
+
+  -- ---- places rise
+
+  in_land_rises : (l : ℕ) → Rises (place e) (lists_in_land e l)
+  in_land_rises l =
+      rises_map (λ k. k) (place e) (item.List l) (λ p r less. omega (arith, less)) (filter (has_list e l) (parties e)) (rises_filter (λ k. k) (has_list e l) (parties e) (rises_range 0 (parties_of e)))
+
+  of_party_rises : (p : ℕ) → p < parties_of e → Rises (place e) (lists_of_party e p)
+  of_party_rises p in_parties =
+      rises_map (λ k. k) (place e) (λ l. item.List l p)
+      (λ l k less. let first : l * parties_of e + p < k * parties_of e = above_land e l p in_parties k (omega (arith, less)) in omega (arith, first))
+      (filter (λ l. has_list e l p) (lands e)) (rises_filter (λ k. k) (λ l. has_list e l p) (lands e) (rises_range 0 (lands_of e)))
+
+  lists_above : (a n : ℕ) → Every (λ i. a * parties_of e ≤ place e i) (flat_map (lists_in_land e) (range_with_len a n))
+  lists_above a n =
+      every_pieces (λ i. a * parties_of e ≤ place e i) (lists_in_land e) (range_with_len a n)
+      (every_weaker (λ k. (a ≤ k) × (k < a + n)) (λ l. Every (λ i. a * parties_of e ≤ place e i) (lists_in_land e l))
+      (λ l h. in_land_each (λ i. a * parties_of e ≤ place e i) l (λ p less. let low : a * parties_of e ≤ l * parties_of e = mul-le-mul_right (parties_of e) h.0 in omega (arith, low)))
+      (range_with_len a n) (between a n a (a + n) (omega arith) (omega arith)))
+
+  lists_rise : (a n : ℕ) → Rises (place e) (flat_map (lists_in_land e) (range_with_len a n))
+  lists_rise a zero = tt
+  lists_rise a (suc n) =
+      rises_append (place e) ((a + 1) * parties_of e) (lists_in_land e a) (flat_map (lists_in_land e) (range_with_len (a + 1) n))
+      (in_land_each (λ i. place e i < (a + 1) * parties_of e) a (λ p less. above_land e a p less (a + 1) (omega arith)))
+      (lists_above (a + 1) n) (in_land_rises a) (lists_rise (a + 1) n)
+
+-- ---- the number at a place of a range
+
+range_at : (a n m y : ℕ) → slice_get (range_with_len a n) m ≡ Some y → (y ≡ a + m) × (m < n)
+range_at a zero m y at = absurd (none-some y at)
+range_at a (suc n) zero y at = let same : a ≡ y = same_Some a y at in (omega (arith, same), omega arith)
+range_at a (suc n) (suc m) y at =
+    let rest : (y ≡ a + 1 + m) × (m < n) = range_at (a + 1) n m y at in
+    let is : y ≡ a + 1 + m = rest.0 in
+    let less : m < n = rest.1 in
+    (omega (arith, is), omega (arith, less))
+
+-- ---- scopes
+
+module _ (e : Election) where
+  all_parties_scope : IsScope e AllParties (all_group e AllParties)
+  all_parties_scope = record {
+    within = omega arith;
+    kind = λ s on. refl;
+    amount = λ s on. refl;
+    increasing = increasing (place e) (entries_of e shape.Party) (rises_map (λ k. k) (place e) item.Party (λ p r less. less) (parties e) (rises_range 0 (parties_of e)));
+    entry = λ j i at. every_there (IsEntry e entries.Party shape.Party scope.All) (entries_of e shape.Party) j i
+        (every_map (IsEntry e entries.Party shape.Party scope.All) item.Party (parties e) (each_below (λ p. IsEntry e entries.Party shape.Party scope.All (item.Party p)) (parties_of e) (party_entry e))) at;
+  }
+
+  all_lands_scope : IsScope e AllLands (all_group e AllLands)
+  all_lands_scope = record {
+    within = omega arith;
+    kind = λ s on. refl;
+    amount = λ s on. refl;
+    increasing = increasing (place e) (entries_of e shape.Land) (rises_map (λ k. k) (place e) item.Land (λ l k less. less) (lands e) (rises_range 0 (lands_of e)));
+    entry = λ j i at. every_there (IsEntry e entries.Land shape.Land scope.All) (entries_of e shape.Land) j i
+        (every_map (IsEntry e entries.Land shape.Land scope.All) item.Land (lands e) (each_below (λ l. IsEntry e entries.Land shape.Land scope.All (item.Land l)) (lands_of e) (land_entry e))) at;
+  }
+
+  all_lists_scope : IsScope e AllLists (all_group e AllLists)
+  all_lists_scope =
+      let P : Item → Type 0 = IsEntry e entries.List shape.List scope.All in
+      record {
+        within = omega arith;
+        kind = λ s on. refl;
+        amount = λ s on. refl;
+        increasing = increasing (place e) (entries_of e shape.List) (lists_rise e 0 (lands_of e));
+        entry = λ j i at. every_there P (entries_of e shape.List) j i
+            (every_pieces P (lists_in_land e) (lands e)
+            (each_below (λ l. Every P (lists_in_land e l)) (lands_of e) (λ l in_lands. in_land_each e P l (λ p in_parties. list_entry e scope.All l p in_lands in_parties (λ s on. tt))))) at;
+      }
+
+  party_scope : (p : ℕ) → p < parties_of e → IsScope e ListsOfParty (party_group e p)
+  party_scope p in_parties =
+      let P : Item → Type 0 = IsEntry e entries.List shape.List (scope.Party p) in
+      record {
+        within = in_parties;
+        kind = λ s on. ap (λ o. option_map scope.Party o) on;
+        amount = λ s on. on;
+        increasing = increasing (place e) (lists_of_party e p) (of_party_rises e p in_parties);
+        entry = λ j i at. every_there P (lists_of_party e p) j i (of_party_each e P p (λ l in_lands. list_entry e (scope.Party p) l p in_lands in_parties (λ s on. on.1))) at;
+      }
+
+  land_scope : (l : ℕ) → l < lands_of e → IsScope e ListsInLand (land_group e l)
+  land_scope l in_lands =
+      let P : Item → Type 0 = IsEntry e entries.List shape.List (scope.Land l) in
+      record {
+        within = in_lands;
+        kind = λ s on. ap (λ o. option_map scope.Land o) on;
+        amount = λ s on. on;
+        increasing = increasing (place e) (lists_in_land e l) (in_land_rises e l);
+        entry = λ j i at. every_there P (lists_in_land e l) j i (in_land_each e P l (λ p in_parties. list_entry e (scope.Land l) l p in_lands in_parties (λ s on. on.0))) at;
+      }
+
+  -- the scopes of parties, and of Länder, by their numbers
+  party_scope_at : (m : ℕ) (g : Group) → slice_get (groups_of e ListsOfParty) m ≡ Some g → (g ≡ party_group e m) × (m < parties_of e)
+  party_scope_at m g at =
+      let made : (p : ℕ) × (slice_get (parties e) m ≡ Some p) × (g ≡ party_group e p) = made_of (party_group e) (parties e) m g at in
+      let there : (made.0 ≡ 0 + m) × (m < parties_of e) = range_at 0 (parties_of e) m made.0 made.1 in
+      let number : 0 + m ≡ m = omega arith in
+      (made.2 ∙ ap (party_group e) (there.0 ∙ number), there.1)
+
+  land_scope_at : (m : ℕ) (g : Group) → slice_get (groups_of e ListsInLand) m ≡ Some g → (g ≡ land_group e m) × (m < lands_of e)
+  land_scope_at m g at =
+      let made : (l : ℕ) × (slice_get (lands e) m ≡ Some l) × (g ≡ land_group e l) = made_of (land_group e) (lands e) m g at in
+      let there : (made.0 ≡ 0 + m) × (m < lands_of e) = range_at 0 (lands_of e) m made.0 made.1 in
+      let number : 0 + m ≡ m = omega arith in
+      (made.2 ∙ ap (land_group e) (there.0 ∙ number), there.1)
+
+pub scopes_hold : ScopesHold
+scopes_hold e AllParties m g at = subst (IsScope e AllParties) (sym (only_one (all_group e AllParties) g m at)) (all_parties_scope e)
+scopes_hold e AllLands m g at = subst (IsScope e AllLands) (sym (only_one (all_group e AllLands) g m at)) (all_lands_scope e)
+scopes_hold e AllLists m g at = subst (IsScope e AllLists) (sym (only_one (all_group e AllLists) g m at)) (all_lists_scope e)
+scopes_hold e ListsOfParty m g at =
+    let there : (g ≡ party_group e m) × (m < parties_of e) = party_scope_at e m g at in
+    subst (IsScope e ListsOfParty) (sym there.0) (party_scope e m there.1)
+scopes_hold e ListsInLand m g at =
+    let there : (g ≡ land_group e m) × (m < lands_of e) = land_scope_at e m g at in
+    subst (IsScope e ListsInLand) (sym there.0) (land_scope e m there.1)
+
+-- ---- scopes apart
+
+only_zero : {X : Type 0} (x y : X) (m : ℕ) → slice_get (x ∷ []) m ≡ Some y → m ≡ 0
+only_zero x y zero at = refl
+only_zero x y (suc m) at = absurd (none-some y at)
+
+pub scopes_apart : ScopesApart
+scopes_apart e AllParties m n g h at there differ j k i x first second same = differ (only_zero (all_group e AllParties) g m at ∙ sym (only_zero (all_group e AllParties) h n there))
+scopes_apart e AllLands m n g h at there differ j k i x first second same = differ (only_zero (all_group e AllLands) g m at ∙ sym (only_zero (all_group e AllLands) h n there))
+scopes_apart e AllLists m n g h at there differ j k i x first second same = differ (only_zero (all_group e AllLists) g m at ∙ sym (only_zero (all_group e AllLists) h n there))
+scopes_apart e ListsOfParty m n g h at there differ j k i x first second same =
+    let one : (g ≡ party_group e m) × (m < parties_of e) = party_scope_at e m g at in
+    let other : (h ≡ party_group e n) × (n < parties_of e) = party_scope_at e n h there in
+    let P : ℕ → Item → Type 0 = λ p y. place e y % parties_of e ≡ p in
+    let is : P m i = every_there (P m) (lists_of_party e m) j i (of_party_each e (P m) m (λ l less. party_again e l m one.1)) (subst (λ (y : Group). slice_get y.entries j ≡ Some i) one.0 first) in
+    let are : P n x = every_there (P n) (lists_of_party e n) k x (of_party_each e (P n) n (λ l less. party_again e l n other.1)) (subst (λ (y : Group). slice_get y.entries k ≡ Some x) other.0 second) in
+    differ (sym is ∙ ap (λ q. q % parties_of e) same ∙ are)
+scopes_apart e ListsInLand m n g h at there differ j k i x first second same =
+    let one : (g ≡ land_group e m) × (m < lands_of e) = land_scope_at e m g at in
+    let other : (h ≡ land_group e n) × (n < lands_of e) = land_scope_at e n h there in
+    let P : ℕ → Item → Type 0 = λ l y. place e y / parties_of e ≡ l in
+    let is : P m i = every_there (P m) (lists_in_land e m) j i (in_land_each e (P m) m (λ p less. land_again e m p less)) (subst (λ (y : Group). slice_get y.entries j ≡ Some i) one.0 first) in
+    let are : P n x = every_there (P n) (lists_in_land e n) k x (in_land_each e (P n) n (λ p less. land_again e n p less)) (subst (λ (y : Group). slice_get y.entries k ≡ Some x) other.0 second) in
+    differ (sym is ∙ ap (λ q. q / parties_of e) same ∙ are)

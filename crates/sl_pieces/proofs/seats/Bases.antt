@@ -1,0 +1,143 @@
+-- The plans for the first seats of an entry find them.
+use Rattle.std.proofs.Common.{◌≡◌, ℕ, ◌*◌, ◌/◌, ◌%◌, ◌≤◌, Bool, false, List, length, All, Option, Some, None, min, sum, slice_get, refl, sym, ap, ◌∙◌, arith}
+use Rattle.std.specs.Prelude.{slice_index}
+use Rattle.std.proofs.Math.Nat.{mul-le-mul_right}
+use Rattle.sl_ratio.specs.declared.limits.TheConstants.{MAX_WEIGHT, MAX_SEATS}
+use Rattle.sl_stages.specs.declared.fault.Item.{Item}
+use Rattle.sl_stages.specs.returns.Election.{Election}
+use Rattle.sl_stages.specs.methods.Field.{InField}
+use Rattle.sl_stages.specs.methods.Hamilton.{whole, whole_parts, remainder}
+use Rattle.sl_stages.specs.methods.LeastHouse.{outside_minima}
+use Rattle.sl_stages.specs.meaning.Scopes.{Group, place}
+use Rattle.sl_stages.proofs.methods.HamiltonProofs.{zero_div, at_wholes}
+use Rattle.sl_stages.proofs.methods.HouseProofs.{outside_at, outside_in}
+use Rattle.sl_stages.proofs.methods.SeatSums.{none_needed, entry_le_sum}
+use Rattle.sl_code.specs.Codes.{CountingCode}
+use Rattle.sl_machine.specs.State.{State, with_register}
+use Rattle.sl_machine.specs.Effects.{most}
+use Rattle.sl_machine.proofs.effects.Registers.{set_does, mov_does, mul_does, div_does, rem_does, get_does}
+use Rattle.sl_plans.specs.declared.plan.Cursor.TheVariants as cursor
+use Rattle.sl_plans.specs.Trees.{Tree}
+use Rattle.sl_plans.specs.Achieves.{Achieves, Never}
+use Rattle.sl_plans.specs.inner.Frames.{may_write_register, may_write_slot, may_move, may_write_table, may_seat, may_record_step, may_record_weight}
+use Rattle.sl_plans.proofs.Rules.{achieves_more, achieves_from, line_ends, line_goes, then_achieves, if_zero}
+use Rattle.sl_pieces.specs.scopes.Forms.{Form, table_of, votes_of, OnItem}
+use Rattle.sl_pieces.specs.scopes.Scopes.{IsEntry}
+use Rattle.sl_pieces.specs.awards.Registers as reg
+use Rattle.sl_pieces.specs.seats.Slots.{Slots, HasMinima}
+use Rattle.sl_pieces.specs.seats.Trees.{minimum_base, outside_base, whole_base}
+use Rattle.sl_pieces.specs.seats.Filling.{AtEntry, FindsBase}
+use Rattle.sl_pieces.proofs.seats.Lists.{number_within}
+
+-- ---- what the plans leave as it was
+
+abbrev WritesRegisters : Tree → Type 0
+WritesRegisters tree =
+    (may_write_register tree reg.amount ≡ false) × (may_write_register tree reg.total ≡ false) × (may_write_register tree reg.left ≡ false) × (may_write_register tree reg.weight ≡ false)
+    × ((slot : ℕ) → may_write_slot tree slot ≡ false) × (may_move tree cursor.Party ≡ false) × (may_move tree cursor.Land ≡ false) × (may_move tree cursor.Win ≡ false)
+    × (may_write_table tree ≡ false) × (may_seat tree ≡ false) × (may_record_step tree ≡ false) × (may_record_weight tree ≡ false)
+
+minimum_writes : (o : Option ℕ) → WritesRegisters (minimum_base o)
+minimum_writes None = (refl, refl, refl, refl, λ slot. refl, refl, refl, refl, refl, refl, refl, refl)
+minimum_writes (Some slot) = (refl, refl, refl, refl, λ other. refl, refl, refl, refl, refl, refl, refl, refl)
+
+outside_writes : (o : Option ℕ) → WritesRegisters (outside_base o)
+outside_writes None = (refl, refl, refl, refl, λ slot. refl, refl, refl, refl, refl, refl, refl, refl)
+outside_writes (Some slot) = (refl, refl, refl, refl, λ other. refl, refl, refl, refl, refl, refl, refl, refl)
+
+module _ (c : CountingCode) (e : Election) (x : Slots) (g : Group) (v m : List ℕ) (seats : ℕ) where
+  -- what is left to show of such a plan
+  found : (b : List ℕ) (Rest : ℕ → ℕ → Type 0) (tree : Tree) → WritesRegisters tree
+      → ((j : ℕ) (i : Item) (s : State) → slice_get g.entries j ≡ Some i → AtEntry g v seats j i s → HasMinima e g.entries v x.minima s m →
+      Achieves c e tree s (λ after. (after.registers reg.base ≡ slice_index b j) × Rest j (after.registers reg.step)) Never)
+      → FindsBase c e x g v m seats b Rest tree
+  found b Rest tree (amount, total, left, weight, slots, party, land, win, table, seated, step, told) finds = record {
+    finds = finds;
+    keeps_amount = amount;
+    keeps_total = total;
+    keeps_left = left;
+    keeps_weight = weight;
+    keeps_slots = slots;
+    keeps_party = party;
+    keeps_land = land;
+    keeps_win = win;
+    keeps_table = table;
+    seats_nobody = seated;
+    tells_no_step = step;
+    tells_no_weight = told;
+  }
+
+  -- ---- minima
+
+  module _ (f : Form) (entry : (j : ℕ) (i : Item) → slice_get g.entries j ≡ Some i → IsEntry e (table_of f) (votes_of f) g.scope i) where
+    minimum_at : (o : Option ℕ) → ((slot : ℕ) → o ≡ Some slot → slice_get c.slots slot ≡ Some (votes_of f)) → (j : ℕ) (i : Item) (s : State) → slice_get g.entries j ≡ Some i
+        → OnItem i s → HasMinima e g.entries v o s m → Achieves c e (minimum_base o) s (λ t. t.registers reg.base ≡ slice_index m j) Never
+    minimum_at None known j i s at on minima =
+        let none : 0 ≡ slice_index m j = sym (ap (λ (xs : List ℕ). slice_index xs j) minima ∙ none_needed (length v) j) in
+        line_goes (set_does c e s reg.base 0) (line_ends none)
+    minimum_at (Some slot) known j i s at on minima =
+        line_goes (get_does c e s slot (votes_of f) (known slot refl) reg.base (place e i) ((entry j i at).cell s on)) (line_ends (minima.at j i at))
+
+    module _ (known : (slot : ℕ) → x.minima ≡ Some slot → slice_get c.slots slot ≡ Some (votes_of f)) where
+      -- the minimum of each entry
+      pub minimum_finds : FindsBase c e x g v m seats m (λ j n. Unit {0}) (minimum_base x.minima)
+      minimum_finds =
+          found m (λ j n. Unit {0}) (minimum_base x.minima) (minimum_writes x.minima)
+          (λ j i s at here minima. achieves_more (minimum_at x.minima known j i s at here.on_item minima) (λ t h. (h, tt)) (λ y r. r))
+
+      -- the minima outside the field
+      pub outside_finds : length m ≡ length v → FindsBase c e x g v m seats (outside_minima v m) (λ j n. Unit {0}) (outside_base x.minima)
+      outside_finds long =
+          found (outside_minima v m) (λ j n. Unit {0}) (outside_base x.minima) (outside_writes x.minima)
+          (λ j i s at here minima.
+          if_zero {r = reg.weight}
+          (λ none. achieves_more (minimum_at x.minima known j i s at here.on_item minima) (λ t h. (h ∙ sym (outside_at v m j long (sym here.weight ∙ none)), tt)) (λ y r. r))
+          (λ w some.
+          let field : InField v j = omega (arith, here.weight, some) in
+          line_goes (set_does c e s reg.base 0) (line_ends (sym (outside_in v m j field), tt))))
+
+  -- ---- whole parts
+
+  -- what the register of steps holds then: the remainder of an entry in the field
+  abbrev pub Remains : ℕ → ℕ → Type 0
+  Remains j n = InField v j → n ≡ remainder v seats j
+
+  whole_at : (j : ℕ) (s : State) → s.registers reg.amount ≡ seats → s.registers reg.total ≡ sum v → s.registers reg.weight ≡ slice_index v j → seats * slice_index v j ≤ most
+      → Achieves c e whole_base s (λ t. (t.registers reg.base ≡ whole v seats j) × Remains j (t.registers reg.step)) Never
+  whole_at j s amount total weight fits =
+      let n : ℕ = min (s.registers reg.amount * s.registers reg.weight) most in
+      let t : State = with_register reg.base (s.registers reg.amount) s in
+      let u : State = with_register reg.base n t in
+      let w : State = with_register reg.step n u in
+      let exact : n ≡ seats * slice_index v j = rw (amount, weight) (omega (arith, fits)) in
+      then_achieves {Q = λ y. y ≡ w}
+      (line_goes (mov_does c e s reg.base reg.amount) (line_goes (mul_does c e t reg.base reg.weight) (line_goes (mov_does c e u reg.step reg.base) (line_ends refl))))
+      (λ y is. achieves_from is
+      (if_zero {r = reg.total}
+      (λ none.
+      let low : slice_index v j ≤ sum v = entry_le_sum v j in
+      let without : slice_index v j ≡ 0 = omega (arith, low, none, total) in
+      line_ends (no_whole n (slice_index v j) exact without, λ field. absurd (omega (arith, field, without))))
+      (λ d some.
+      let all : w.registers reg.total ≡ sum v = total in
+      let q : State = with_register reg.base (n / w.registers reg.total) w in
+      line_goes (div_does c e w reg.base reg.total d some)
+      (line_goes (rem_does c e q reg.step reg.total d some)
+      (line_ends (
+        ap (λ k. k / w.registers reg.total) exact ∙ ap (λ k. seats * slice_index v j / k) all,
+        λ field. ap (λ k. k % w.registers reg.total) exact ∙ ap (λ k. seats * slice_index v j % k) all,
+      ))))))
+    where
+      no_whole : (n weight : ℕ) → n ≡ seats * weight → weight ≡ 0 → n ≡ seats * weight / sum v
+      no_whole n weight is none =
+          let product : seats * weight ≡ 0 = rw none (omega arith) in
+          is ∙ product ∙ sym (ap (λ k. k / sum v) product ∙ zero_div (sum v))
+
+  -- the whole part of each entry, and its remainder
+  pub whole_finds : (prefer : Bool) → All (λ weight. weight ≤ MAX_WEIGHT) v → seats ≤ MAX_SEATS → FindsBase c e x g v m seats (whole_parts v seats) Remains whole_base
+  whole_finds prefer weights few =
+      found (whole_parts v seats) Remains whole_base (refl, refl, refl, refl, λ slot. refl, refl, refl, refl, refl, refl, refl, refl)
+      (λ j i s at here minima.
+      let small : slice_index v j ≤ MAX_WEIGHT = number_within MAX_WEIGHT v j weights in
+      let high : seats * slice_index v j ≤ MAX_SEATS * slice_index v j = mul-le-mul_right (slice_index v j) few in
+      achieves_more (whole_at j s here.amount here.total here.weight (omega (arith, small, high))) (λ t h. (h.0 ∙ sym (at_wholes prefer v seats j), h.1)) (λ y r. r))

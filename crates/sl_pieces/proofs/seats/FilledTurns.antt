@@ -1,0 +1,251 @@
+-- An entry of a scope gets its first seats, and its next one enters the table.
+use Rattle.std.proofs.Common.{◌≡◌, ℕ, ◌+◌, ◌-◌, ◌<◌, ◌≤◌, List, length, map, take, Some, sum, refl, sym, ap, subst, ◌∙◌, [], ◌∷◌, ◌++◌, inl, inr, arith}
+use Rattle.std.specs.Prelude.{slice_get, slice_index}
+use Rattle.std.specs.List.{range_with_len}
+use Rattle.std.proofs.lemmas.Bool.{cases_lt}
+use Rattle.std.proofs.lemmas.Option.{same_Some, slice_get_within}
+use Rattle.sl_ratio.specs.declared.limits.TheConstants.{MAX_SEATS}
+use Rattle.sl_stages.specs.declared.fault.Item.{Item}
+use Rattle.sl_stages.specs.declared.table.Weight.{Weight}
+use Rattle.sl_stages.specs.returns.Election.{Election}
+use Rattle.sl_stages.specs.meaning.Scopes.{Group, place}
+use Rattle.sl_stages.proofs.methods.SeatSums.{entry_le_sum}
+use Rattle.sl_code.specs.declared.instr.Instr.TheVariants.{Set, Mov, Sub, Get, Store}
+use Rattle.sl_code.specs.declared.operand.Ranking.{Ranking}
+use Rattle.sl_code.specs.Codes.{CountingCode}
+use Rattle.sl_machine.specs.State.{State, with_register, with_cell}
+use Rattle.sl_machine.specs.Places.{index_at, item_of}
+use Rattle.sl_machine.proofs.effects.Registers.{get_does, store_does, sub_does, set_does, mov_does}
+use Rattle.sl_machine.proofs.effects.Storing.{cell_same, cell_other_place, cell_other_slot}
+use Rattle.sl_plans.specs.Trees.{Tree, Line}
+use Rattle.sl_plans.specs.Achieves.{Achieves, Never}
+use Rattle.sl_plans.specs.inner.Frames.{KeepsRest}
+use Rattle.sl_plans.proofs.Rules.{achieves_more, line_ends, line_goes, then_achieves, if_zero}
+use Rattle.sl_plans.proofs.KeepingRules.{achieves_kept}
+use Rattle.sl_pieces.specs.scopes.Forms.{Form, votes_of, table_of, kind_of, OnItem}
+use Rattle.sl_pieces.specs.scopes.Scopes.{IsEntry, IsScope}
+use Rattle.sl_pieces.specs.scopes.Walks.{bare}
+use Rattle.sl_pieces.proofs.scopes.Staying.{item_stays, Stays, item_kept}
+use Rattle.sl_pieces.specs.arenas.Arenas as arenas
+use Rattle.sl_pieces.specs.arenas.Arenas.{Arena}
+use Rattle.sl_pieces.specs.awards.Registers as reg
+use Rattle.sl_pieces.specs.seats.Slots.{Slots, HasSlots, HasCells, HasMinima}
+use Rattle.sl_pieces.specs.seats.Trees.{fill_entry, most_seats}
+use Rattle.sl_pieces.specs.seats.Filling.{AtEntry, FindsBase, EntersNext, IsOfScope}
+use Rattle.sl_pieces.proofs.seats.Lists.{row_more, sum_so_far, rises_far}
+use Rattle.sl_pieces.proofs.seats.Minima.{minima_kept}
+use Rattle.sl_pieces.proofs.seats.GivenSeats.{given_seat, records_all, seats_recorded}
+use Rattle.sl_pieces.proofs.seats.FilledEntries.{FirstFilled, filled_as, first_waiting, first_given, first_told, given_more, told_more, told_same, waiting_more, waiting_same}
+
+-- what is given of a scope that is filled, from the state before on
+pub record Fills (c : CountingCode) (e : Election) (f : Form) (x : Slots) (name : List ℕ) (g : Group) (a : Arena) (by : Ranking) (v m : List ℕ) (seats : ℕ) (Rest : ℕ → ℕ → Type 0)
+    (told : ℕ → Item → List Weight) (base enter : Tree) (before : State) : Type 0 where
+  pub scope : IsScope e f g
+  pub slots : HasSlots c f x name
+  pub arena : IsOfScope e f g by v a
+  pub finds : FindsBase c e x g v m seats a.ladders.base Rest base
+  pub enters : EntersNext c e g a v seats Rest told enter
+  pub fits : sum a.ladders.base ≤ seats
+  pub few : seats ≤ MAX_SEATS
+  pub votes : HasCells e g.entries (before.columns x.votes) v
+  pub minima : HasMinima e g.entries v x.minima before m
+
+module _ {c : CountingCode} {e : Election} {f : Form} {x : Slots} {name : List ℕ} {g : Group} {a : Arena} {by : Ranking} {v m : List ℕ} {seats : ℕ} {Rest : ℕ → ℕ → Type 0}
+    {told : ℕ → Item → List Weight} {base enter : Tree} {before : State} (given : Fills c e f x name g a by v m seats Rest told base enter before)
+    (j : ℕ) (i : Item) (at : slice_get g.entries j ≡ Some i) where
+  -- ---- the entry
+
+  entry : IsEntry e (table_of f) (votes_of f) g.scope i
+  entry = given.scope.entry j i at
+
+  seats_within : slice_index a.ladders.base j ≤ seats
+  seats_within = let fits : sum a.ladders.base ≤ seats = given.fits in omega (arith, entry_le_sum a.ladders.base j, fits)
+
+  base_within : j < length a.ladders.base
+  base_within = let long : length a.ladders.base ≡ length g.entries = given.arena.one_each in omega (arith, long, slice_get_within g.entries j i at)
+
+  -- ---- at the entry
+
+  -- its registers, and what stands
+  record Stands (n k l : ℕ) (s : State) : Type 0 where
+    at_entry : AtEntry g v seats j i s
+    filled : FirstFilled e x g a v seats told before n k l s
+    base_is : s.registers reg.base ≡ slice_index a.ladders.base j
+    rest : Rest j (s.registers reg.step)
+
+  at_entry_as : (s t : State) → AtEntry g v seats j i s → OnItem i t → t.registers reg.amount ≡ s.registers reg.amount → t.registers reg.total ≡ s.registers reg.total
+      → t.registers reg.weight ≡ s.registers reg.weight → AtEntry g v seats j i t
+  at_entry_as s t h on amount total weight = record {
+    on_item = on;
+    on_scope = entry.scope t on;
+    amount = amount ∙ h.amount;
+    total = total ∙ h.total;
+    weight = weight ∙ h.weight;
+  }
+
+  -- its votes
+  weighed : (s : State) → OnItem i s → FirstFilled e x g a v seats told before j j j (bare s)
+      → Achieves c e (Line (Get reg.weight x.votes ∷ [])) s (λ t. AtEntry g v seats j i t × FirstFilled e x g a v seats told before j j j t) Never
+  weighed s on h =
+      let p : ℕ = place e i in
+      let t : State = with_register reg.weight (s.columns x.votes p) s in
+      let here : OnItem i t = item_stays i s t refl refl refl on in
+      line_goes (get_does c e s x.votes (votes_of f) given.slots.votes reg.weight p (entry.cell s on))
+      (line_ends (
+        record { on_item = here; on_scope = entry.scope t here; amount = h.amount; total = h.total; weight = h.columns x.votes p given.slots.not_votes ∙ given.votes.at j i at },
+        filled_as j j t h (record { amount = refl; total = refl; left = refl; columns = λ slot q. refl; placed = λ winner. refl }) h.table h.steps h.weights,
+      ))
+
+  -- its first seats
+  based : (s : State) → AtEntry g v seats j i s → FirstFilled e x g a v seats told before j j j s → Achieves c e base s (Stands j j j) Never
+  based s here h =
+      let finds : FindsBase c e x g v m seats a.ladders.base Rest base = given.finds in
+      let minima : HasMinima e g.entries v x.minima s m = minima_kept e g.entries v m before s x.minima (λ slot is q. h.columns slot q (given.slots.not_minima slot is)) given.minima in
+      achieves_more (achieves_kept (finds.finds j i s at here minima))
+      (λ t r.
+      let kept : KeepsRest base s t = r.1 in
+      let stays : Stays base = record { party = finds.keeps_party; land = finds.keeps_land; win = finds.keeps_win } in
+      let amount : t.registers reg.amount ≡ s.registers reg.amount = kept.registers reg.amount finds.keeps_amount in
+      let total : t.registers reg.total ≡ s.registers reg.total = kept.registers reg.total finds.keeps_total in
+      record {
+        at_entry = at_entry_as s t here (item_kept base stays s t kept i here.on_item) amount total (kept.registers reg.weight finds.keeps_weight);
+        filled = filled_as j j t h
+            (record {
+              amount = amount;
+              total = total;
+              left = kept.registers reg.left finds.keeps_left;
+              columns = λ slot q. kept.columns slot (finds.keeps_slots slot) q;
+              placed = kept.placed finds.seats_nobody;
+            })
+            (kept.table finds.keeps_table ∙ h.table) (kept.steps_kept finds.tells_no_step ∙ h.steps) (kept.weights_kept finds.tells_no_weight ∙ h.weights);
+        base_is = r.0.0;
+        rest = r.0.1;
+      })
+      (λ end never. never)
+
+  -- they are written down
+  stored_cells : (s : State) → ((q : ℕ) (y : Item) → q < j → slice_get g.entries q ≡ Some y → s.columns x.result (place e y) ≡ slice_index a.ladders.base q)
+      → s.registers reg.base ≡ slice_index a.ladders.base j → (q : ℕ) (y : Item) → q < j + 1 → slice_get g.entries q ≡ Some y
+      → (with_cell x.result (place e i) (s.registers reg.base) s).columns x.result (place e y) ≡ slice_index a.ladders.base q
+  stored_cells s before_it is q y less there =
+      let u : State = with_cell x.result (place e i) (s.registers reg.base) s in
+      elim (cases_lt q j) [
+        | inl earlier ↦
+            let rises : place e y < place e i = rises_far (place e) g.entries given.scope.increasing q j y i there at earlier in
+            cell_other_place s x.result (place e i) (s.registers reg.base) (place e y) (λ same. omega (arith, rises, same)) ∙ before_it q y earlier there
+        | inr late ↦
+            let now : q ≡ j = omega (arith, less, late) in
+            let same : y ≡ i = same_Some y i (sym there ∙ ap (λ r. slice_get g.entries r) now ∙ at) in
+            ap (λ z. u.columns x.result (place e z)) same ∙ cell_same s x.result (place e i) (s.registers reg.base) ∙ is ∙ ap (slice_index a.ladders.base) (sym now)
+      ]
+
+  stored : (s : State) → Stands j j j s
+      → Achieves c e (Line (Store x.result reg.base ∷ (Sub reg.left reg.base ∷ (Set reg.number 0 ∷ (Mov reg.turns reg.base ∷ []))))) s
+      (λ t. Stands (j + 1) j j t × (t.registers reg.number ≡ 0) × (t.registers reg.turns ≡ slice_index a.ladders.base j)) Never
+  stored s h =
+      let p : ℕ = place e i in
+      let b : ℕ = s.registers reg.base in
+      let first : State = with_cell x.result p b s in
+      let second : State = with_register reg.left (s.registers reg.left - b) first in
+      let third : State = with_register reg.number 0 second in
+      let last : State = with_register reg.turns b third in
+      let is : b ≡ slice_index a.ladders.base j = h.base_is in
+      let so_far : s.registers reg.left ≡ seats - sum (take j a.ladders.base) = h.filled.left in
+      let sums = sum_so_far a.ladders.base j base_within in
+      let next : sum (take (j + 1) a.ladders.base) ≡ sum (take j a.ladders.base) + slice_index a.ladders.base j = sums.0 in
+      line_goes (store_does c e s x.result (votes_of f) given.slots.result reg.base p (entry.cell s h.at_entry.on_item))
+      (line_goes (sub_does c e first reg.left reg.base)
+      (line_goes (set_does c e second reg.number 0)
+      (line_goes (mov_does c e third reg.turns reg.base)
+      (line_ends (
+        record {
+          at_entry = at_entry_as s last h.at_entry (item_stays i s last refl refl refl h.at_entry.on_item) refl refl refl;
+          filled = record {
+            amount = h.filled.amount;
+            total = h.filled.total;
+            left = omega (arith, is, so_far, next);
+            cells = stored_cells s h.filled.cells is;
+            elsewhere = λ q none. cell_other_place s x.result p b q (λ same. none j i at (sym same)) ∙ h.filled.elsewhere q none;
+            columns = λ slot q other. cell_other_slot s x.result p b slot q other ∙ h.filled.columns slot q other;
+            placed = h.filled.placed;
+            table = h.filled.table;
+            steps = h.filled.steps;
+            weights = h.filled.weights;
+          };
+          base_is = is;
+          rest = h.rest;
+        },
+        refl,
+        is,
+      )))))
+
+  -- each of them is recorded
+  listed : (s : State) → Stands (j + 1) j j s → s.registers reg.number ≡ 0 → s.registers reg.turns ≡ slice_index a.ladders.base j
+      → Achieves c e (records_all x.stage (kind_of f)) s (Stands (j + 1) (j + 1) j) Never
+  listed s h number turns =
+      let n : ℕ = slice_index a.ladders.base j in
+      let few : seats ≤ MAX_SEATS = given.few in
+      let most : MAX_SEATS ≡ most_seats = refl in
+      let tree : Tree = records_all x.stage (kind_of f) in
+      achieves_more
+      (seats_recorded c e x.stage (kind_of f) g.scope i (arenas.table_of a (first_waiting a j)) (place e i) given.slots.stage
+      (λ u on. given.scope.kind u (entry.scope u on))
+      (λ u on. ap (λ k. index_at e k u) given.arena.entries ∙ entry.index u on)
+      (ap (λ k. item_of e k (place e i)) given.arena.entries ∙ entry.item)
+      n s (omega (arith, seats_within, few, most)) turns number h.filled.table h.at_entry.on_item)
+      (λ t r.
+      let kept : KeepsRest tree s t = r.1 in
+      let amount : t.registers reg.amount ≡ s.registers reg.amount = kept.registers reg.amount refl in
+      let total : t.registers reg.total ≡ s.registers reg.total = kept.registers reg.total refl in
+      record {
+        at_entry = at_entry_as s t h.at_entry (item_kept tree (record { party = refl; land = refl; win = refl }) s t kept i h.at_entry.on_item) amount total (kept.registers reg.weight refl);
+        filled = filled_as (j + 1) j t h.filled
+            (record { amount = amount; total = total; left = kept.registers reg.left refl; columns = λ slot q. kept.columns slot refl q; placed = kept.placed refl })
+            (kept.table refl ∙ h.filled.table)
+            (r.0 ∙ row_more before.steps (first_given x.stage g a j) (first_given x.stage g a (j + 1)) (map (given_seat x.stage g.scope i) (range_with_len 0 n)) s.steps h.filled.steps
+            (given_more g j i at x.stage a))
+            (kept.weights_kept refl ∙ h.filled.weights);
+        base_is = kept.registers reg.base refl ∙ h.base_is;
+        rest = subst (Rest j) (sym (kept.registers reg.step refl)) h.rest;
+      })
+      (λ end never. never)
+
+  -- its next one enters the table
+  entered : (s : State) → Stands (j + 1) (j + 1) j s → 0 < slice_index v j → Achieves c e enter s (λ t. FirstFilled e x g a v seats told before (j + 1) (j + 1) (j + 1) (bare t)) Never
+  entered s h some =
+      let enters : EntersNext c e g a v seats Rest told enter = given.enters in
+      achieves_more (achieves_kept (enters.enters j i s (first_waiting a j) at h.at_entry some h.base_is seats_within h.rest h.filled.table))
+      (λ t r.
+      let kept : KeepsRest enter s t = r.1 in
+      filled_as (j + 1) (j + 1) (bare t) h.filled
+      (record {
+        amount = kept.registers reg.amount enters.keeps_amount;
+        total = kept.registers reg.total enters.keeps_total;
+        left = kept.registers reg.left enters.keeps_left;
+        columns = λ slot q. kept.columns slot (enters.keeps_slots slot) q;
+        placed = kept.placed enters.seats_nobody;
+      })
+      (r.0.0 ∙ ap (λ table. Some table) (waiting_more g j i at given.arena some))
+      (kept.steps_kept enters.tells_no_step ∙ h.filled.steps)
+      (r.0.1 ∙ row_more before.weights (first_told g v told j) (first_told g v told (j + 1)) (told j i) s.weights h.filled.weights (told_more g j i at v told some)))
+      (λ end never. never)
+
+  skipped : (s : State) → Stands (j + 1) (j + 1) j s → slice_index v j ≡ 0 → FirstFilled e x g a v seats told before (j + 1) (j + 1) (j + 1) (bare s)
+  skipped s h none =
+      filled_as (j + 1) (j + 1) (bare s) h.filled (record { amount = refl; total = refl; left = refl; columns = λ slot q. refl; placed = λ winner. refl })
+      (h.filled.table ∙ ap (λ table. Some table) (waiting_same g j i at given.arena none))
+      h.filled.steps
+      (h.filled.weights ∙ ap (λ xs. before.weights ++ xs) (sym (told_same g j i at v told none)))
+
+  -- all of this
+  pub entry_filled : (s : State) → OnItem i s → FirstFilled e x g a v seats told before j j j (bare s)
+      → Achieves c e (fill_entry f x base enter) s (λ t. FirstFilled e x g a v seats told before (j + 1) (j + 1) (j + 1) (bare t)) Never
+  entry_filled s on h =
+      then_achieves (weighed s on h) (λ t w.
+      then_achieves (based t w.0 w.1) (λ u b.
+      then_achieves (stored u b) (λ y z.
+      then_achieves (listed y z.0 z.1 z.2) (λ last r.
+      let weight : last.registers reg.weight ≡ slice_index v j = r.at_entry.weight in
+      if_zero
+      (λ zero_is. line_ends (skipped last r (sym weight ∙ zero_is)))
+      (λ n is. entered last r (omega (arith, weight, is)))))))

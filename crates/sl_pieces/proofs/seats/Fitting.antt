@@ -1,0 +1,91 @@
+-- The weights of a scope's entries sum to a number that a register holds.
+use Rattle.std.proofs.Common.{◌≡◌, ℕ, zero, suc, ◌+◌, ◌*◌, ◌<◌, ◌≤◌, List, length, map, refl, sym, subst, inl, inr, arith, mul-le-mul_right}
+use Rattle.std.specs.Prelude.{sum, slice_index}
+use Rattle.std.specs.List.Sorted.{IsStrictlyIncreasing}
+use Rattle.std.proofs.lemmas.List.{length-map}
+use Rattle.std.proofs.lemmas.List.Sums.{sum_by-le}
+use Rattle.std.proofs.lemmas.Option.{slice_get_cases}
+use Rattle.sl_ratio.specs.declared.limits.TheConstants.{MAX_WEIGHT}
+use Rattle.sl_stages.specs.declared.limits.TheConstants.{MAX_LANDS, MAX_PARTIES}
+use Rattle.sl_stages.specs.returns.Election.{Election, IsElection, lands_of, parties_of}
+use Rattle.sl_stages.specs.meaning.Scopes.{Group, place}
+use Rattle.sl_machine.specs.Places.{cells_of}
+use Rattle.sl_machine.specs.Effects.{most}
+use Rattle.sl_pieces.specs.scopes.Forms.{Form, AllParties, AllLands, AllLists, ListsOfParty, ListsInLand, votes_of}
+use Rattle.sl_pieces.specs.scopes.Scopes.{IsScope}
+use Rattle.sl_pieces.proofs.scopes.Scopes.{scopes_hold}
+use Rattle.sl_pieces.specs.seats.Summing.{WeightsFit}
+use Rattle.sl_pieces.proofs.seats.Lists.{mapped_at}
+
+-- ---- numbers that rise
+
+least_at : (xs : List ℕ) (k : ℕ) → IsStrictlyIncreasing xs → k < length xs → k ≤ slice_index xs k
+least_at xs zero rise less = omega arith
+least_at xs (suc k) rise less =
+    let next : k + 1 ≡ suc k = omega arith in
+    let least : k ≤ slice_index xs k = least_at xs k rise (omega (arith, less)) in
+    let higher : slice_index xs k < slice_index xs (suc k) = subst (λ (n : ℕ). slice_index xs k < slice_index xs n) next (rise k (omega (arith, less))) in
+    omega (arith, least, higher)
+
+-- there are no more of them than numbers below their bound
+rising_few : (xs : List ℕ) (n : ℕ) → IsStrictlyIncreasing xs → ((k : ℕ) → k < length xs → slice_index xs k < n) → length xs ≤ n
+rising_few xs n rise below = of (length xs) refl
+  where
+    of : (m : ℕ) → length xs ≡ m → length xs ≤ n
+    of zero is = omega (arith, is)
+    of (suc k) is =
+        let less : k < length xs = omega (arith, is) in
+        let least : k ≤ slice_index xs k = least_at xs k rise less in
+        let high : slice_index xs k < n = below k less in
+        omega (arith, is, least, high)
+
+-- ---- entries
+
+module _ (e : Election) (f : Form) (g : Group) (h : IsScope e f g) where
+  place_below : (k : ℕ) → k < length (map (place e) g.entries) → slice_index (map (place e) g.entries) k < cells_of e (votes_of f)
+  place_below k less =
+      let long : length (map (place e) g.entries) ≡ length g.entries = length-map g.entries (place e) in
+      elim (slice_get_cases g.entries k).1 [
+        | inl some ↦
+            let is : slice_index (map (place e) g.entries) k ≡ place e some.0 = mapped_at (place e) g.entries k some.0 some.2 in
+            subst (λ (n : ℕ). n < cells_of e (votes_of f)) (sym is) (h.entry k some.0 some.2).within
+        | inr none ↦ let past : length g.entries ≤ k = none.0 in absurd (omega (arith, less, long, past))
+      ]
+
+  few_entries : length g.entries ≤ cells_of e (votes_of f)
+  few_entries =
+      let long : length (map (place e) g.entries) ≡ length g.entries = length-map g.entries (place e) in
+      let all : length (map (place e) g.entries) ≤ cells_of e (votes_of f) = rising_few (map (place e) g.entries) (cells_of e (votes_of f)) h.increasing place_below in
+      omega (arith, long, all)
+
+few_cells : (e : Election) (f : Form) → IsElection e → cells_of e (votes_of f) ≤ MAX_LANDS * MAX_PARTIES
+few_cells e f is = of f
+  where
+    l : lands_of e ≤ MAX_LANDS
+    l = is.lands
+
+    p : parties_of e ≤ MAX_PARTIES
+    p = is.parties
+
+    lists : lands_of e * parties_of e ≤ MAX_LANDS * MAX_PARTIES
+    lists =
+        let rows : lands_of e * parties_of e ≤ MAX_LANDS * parties_of e = mul-le-mul_right (parties_of e) l in
+        omega (arith, rows, p)
+
+    of : (f : Form) → cells_of e (votes_of f) ≤ MAX_LANDS * MAX_PARTIES
+    of AllParties = omega (arith, p)
+    of AllLands = omega (arith, l)
+    of AllLists = lists
+    of ListsOfParty = lists
+    of ListsInLand = lists
+
+pub weights_fit : WeightsFit
+weights_fit e f m g column v is at cells small =
+    let entries : length g.entries ≤ cells_of e (votes_of f) = few_entries e f g (scopes_hold e f m g at) in
+    let all : cells_of e (votes_of f) ≤ MAX_LANDS * MAX_PARTIES = few_cells e f is in
+    let one_each : length v ≡ length g.entries = cells.one_each in
+    let short : length v ≤ MAX_LANDS * MAX_PARTIES = omega (arith, entries, all, one_each) in
+    let each : sum v ≤ length v * MAX_WEIGHT = sum_by-le (λ x. x) MAX_WEIGHT v small in
+    let wide : length v * MAX_WEIGHT ≤ MAX_LANDS * MAX_PARTIES * MAX_WEIGHT = mul-le-mul_right MAX_WEIGHT short in
+    let fits : MAX_LANDS * MAX_PARTIES * MAX_WEIGHT ≤ most = omega arith in
+    omega (arith, each, wide, fits)

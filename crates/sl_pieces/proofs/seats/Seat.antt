@@ -1,0 +1,156 @@
+-- What stands while the seats of a scope are given out still stands after a seat more, and the plan of a seat leads there.
+use Rattle.std.proofs.Common.{◌≡◌, ◌≢◌, ℕ, ◌+◌, ◌≤◌, false, List, [], ◌∷◌, ◌++◌, Some, slice_get, refl, sym, ap, subst, ◌∙◌, inl, inr, arith}
+use Rattle.std.specs.Prelude.{slice_index}
+use Rattle.std.proofs.lemmas.Bool.{cases_eq}
+use Rattle.std.proofs.lemmas.Option.{same_Some}
+use Rattle.sl_ratio.specs.declared.limits.TheConstants.{MAX_SEATS}
+use Rattle.sl_stages.specs.declared.fault.Item.{Item}
+use Rattle.sl_stages.specs.declared.table.Mark.{Mark}
+use Rattle.sl_stages.specs.declared.table.SeatStep.{SeatStep}
+use Rattle.sl_stages.specs.declared.table.Weight.{Weight}
+use Rattle.sl_stages.specs.returns.Election.{Election}
+use Rattle.sl_stages.specs.meaning.Scopes.{Group, place}
+use Rattle.sl_stages.specs.laws.Ladders.{Has}
+use Rattle.sl_code.specs.Codes.{CountingCode}
+use Rattle.sl_machine.specs.State.{State, PriorityTable, with_register}
+use Rattle.sl_plans.specs.declared.plan.Cursor.TheVariants as cursor
+use Rattle.sl_plans.specs.Trees.{Tree, ones}
+use Rattle.sl_plans.specs.Achieves.{Achieves, Never}
+use Rattle.sl_plans.specs.inner.Frames.{may_write_register, may_write_slot, may_move, may_seat, may_record_step, may_record_weight, KeepsRest}
+use Rattle.sl_plans.proofs.Rules.{achieves_more, then_achieves}
+use Rattle.sl_plans.proofs.KeepingRules.{achieves_kept}
+use Rattle.sl_machine.proofs.effects.Storing.{register_other}
+use Rattle.sl_pieces.specs.scopes.Forms.{Form, OnItem}
+use Rattle.sl_pieces.proofs.scopes.Staying.{scope_stays}
+use Rattle.sl_pieces.specs.arenas.Arenas.{Arena, HasWaiting, table_of, seat_taken}
+use Rattle.sl_pieces.specs.arenas.Laws.{SeatTaken}
+use Rattle.sl_pieces.specs.awards.Registers as reg
+use Rattle.sl_pieces.specs.awards.Batches.{Gets, GivesSeats, IsBlind}
+use Rattle.sl_pieces.specs.awards.Awards.{IsCounted, FitsAwards}
+use Rattle.sl_pieces.specs.seats.Slots.{Slots, HasSlots, HasCells}
+use Rattle.sl_pieces.specs.seats.Trees.{seat}
+use Rattle.sl_pieces.specs.seats.Seated.{IsSeated}
+use Rattle.sl_pieces.proofs.seats.SeatingArenas.{OfScope, places_differ, entry_there}
+use Rattle.sl_pieces.proofs.seats.Unchanged.{LeavesAll, unchanged, seated_unchanged}
+use Rattle.sl_pieces.proofs.seats.SeatLine.{IsTaken, IsGiven, seat_is_taken, seat_is_given}
+use Rattle.sl_pieces.proofs.seats.Steps.{one_more, others_same, above_base, awarded_step, steps_grow}
+
+-- what is asked of the plan by which an entry's next seat waits again: it writes nothing that stands while seats are given out, and no register
+-- of the awards
+pub record ReEnters (c : CountingCode) (e : Election) (x : Slots) (g : Group) (a : Arena) (v : List ℕ) (again : Tree) : Type 0 where
+  pub enters : (t u : List ℕ) (j : ℕ) (i : Item) (s : State) (taken : SeatTaken a j t u) → slice_get g.entries j ≡ Some i → Has a.ladders j (slice_index t j) →
+      slice_index a.ladders.base j ≤ slice_index t j → slice_index u j ≡ slice_index t j + 1 → slice_index u j ≤ MAX_SEATS → OnItem i s →
+      s.registers reg.held ≡ slice_index u j → HasCells e g.entries (s.columns x.votes) v → s.table ≡ Some (table_of a taken.others) →
+      Achieves c e again s (HasWaiting a u) Never
+  pub keeps_amount : may_write_register again reg.amount ≡ false
+  pub keeps_total : may_write_register again reg.total ≡ false
+  pub keeps_left : may_write_register again reg.left ≡ false
+  pub keeps_all_left : may_write_register again reg.all_left ≡ false
+  pub keeps_turns : may_write_register again reg.turns ≡ false
+  pub keeps_batch : may_write_register again reg.in_batch ≡ false
+  pub keeps_step : may_write_register again reg.step ≡ false
+  pub keeps_slots : (slot : ℕ) → may_write_slot again slot ≡ false
+  pub keeps_party : may_move again cursor.Party ≡ false
+  pub keeps_land : may_move again cursor.Land ≡ false
+  pub seats_nobody : may_seat again ≡ false
+  pub tells_no_step : may_record_step again ≡ false
+  pub tells_no_weight : may_record_weight again ≡ false
+
+module _ (c : CountingCode) (e : Election) (f : Form) (x : Slots) (name : List ℕ) (g : Group) (a : Arena) (v : List ℕ) (seats : ℕ) (told : List Weight) (before : State)
+    (slots : HasSlots c f x name) (of : OfScope e f g a) where
+  -- a plan that writes none of it
+  seated_still : (again : Tree) (re : ReEnters c e x g a v again) (u : List ℕ) (s t : State) → KeepsRest again s t →
+      IsSeated e x g a v seats told before u s → IsSeated e x g a v seats told before u t
+  seated_still again re u s t kept seated =
+      let leaves : LeavesAll again = record { columns = re.keeps_slots; steps = re.tells_no_step; weights = re.tells_no_weight; placed = re.seats_nobody } in
+      seated_unchanged e x g a v seats told before u s t seated (unchanged again s t leaves kept) (scope_stays g.scope s t (kept.party re.keeps_party) (kept.land re.keeps_land) seated.on)
+      (kept.registers reg.amount re.keeps_amount) (kept.registers reg.total re.keeps_total)
+
+  -- registers other than two are no part of it
+  seated_blind : (r : ℕ) → reg.amount ≢ r → reg.total ≢ r → IsBlind (IsSeated e x g a v seats told before) r
+  seated_blind r not_amount not_total = record {
+    blind = λ t value s seated.
+        let u : State = with_register r value s in
+        seated_unchanged e x g a v seats told before t s u seated (record { columns = λ slot q. refl; steps = refl; weights = refl; placed = λ winner. refl })
+        (scope_stays g.scope s u refl refl seated.on) (register_other s r value reg.amount not_amount) (register_other s r value reg.total not_total);
+  }
+
+  -- ---- a seat more
+
+  module _ (s peers given t u : List ℕ) (j : ℕ) (i : Item) (gets : Gets a s peers given t u j) (at : slice_get g.entries j ≡ Some i) (tab : PriorityTable) (m : Mark) (r : SeatStep)
+      (state now next : State) (taken : IsTaken i tab m state now) (got : IsGiven x (place e i) (slice_index t j) i r now next) (seated : IsSeated e x g a v seats told before t state) where
+    cell_next : (k : ℕ) (h : Item) → slice_get g.entries k ≡ Some h → next.columns x.result (place e h) ≡ slice_index u k
+    cell_next k h there =
+        elim (cases_eq k j) [
+          | inl same ↦
+              let is : h ≡ i = same_Some h i (sym there ∙ ap (slice_get g.entries) same ∙ at) in
+              ap (λ y. next.columns x.result (place e y)) is ∙ got.cell ∙ sym (one_more gets) ∙ ap (slice_index u) (sym same)
+          | inr other ↦
+              got.elsewhere (place e h) (places_differ e g f of.scope k j h i there at other)
+              ∙ ap (λ (y : ℕ → ℕ → ℕ). y x.result (place e h)) taken.columns
+              ∙ seated.cells.at k h there
+              ∙ sym (others_same gets k other)
+        ]
+
+    seated_next : (step : ℕ) (begun : IsCounted a seats s step) → r ≡ awarded_step x.stage g.scope i (slice_index t j) step (a.won j (slice_index t j)) →
+        IsSeated e x g a v seats told before u next
+    seated_next step begun is = record {
+      on = (of.scope.entry j i at).scope next got.on_item;
+      amount = got.amount ∙ ap (λ (y : ℕ → ℕ). y reg.amount) taken.registers ∙ seated.amount;
+      total = got.total ∙ ap (λ (y : ℕ → ℕ). y reg.total) taken.registers ∙ seated.total;
+      cells = record { one_each = gets.raised.same_length ∙ seated.cells.one_each; at = cell_next };
+      elsewhere = λ q none. got.elsewhere q (λ same. none j i at (sym same)) ∙ ap (λ (y : ℕ → ℕ → ℕ). y x.result q) taken.columns ∙ seated.elsewhere q none;
+      columns = λ slot q other. got.columns slot q other ∙ ap (λ (y : ℕ → ℕ → ℕ). y slot q) taken.columns ∙ seated.columns slot q other;
+      steps = steps_grow gets of.arena.falling begun x g i before state next at seated.steps
+          (got.steps ∙ (λ z. taken.steps z ++ is z ∷ []));
+      weights = got.weights ∙ taken.weights ∙ seated.weights;
+      placed = λ w. ap (λ y. y w) (got.placed ∙ taken.placed) ∙ seated.placed w;
+    }
+
+  -- ---- the plan
+
+  module _ (again : Tree) (re : ReEnters c e x g a v again) (votes : HasCells e g.entries (before.columns x.votes) v) where
+    pub seats_are_given : GivesSeats c e a MAX_SEATS (IsCounted a seats) (IsSeated e x g a v seats told before) (seat f x again)
+    seats_are_given = record {
+      gives = λ s peers given t u j state gets few begun waits seated.
+          let entry : (i : Item) × (slice_get g.entries j ≡ Some i) = entry_there e f g a of j (slice_index t j) gets.has in
+          let i : Item = entry.0 in
+          let at : slice_get g.entries j ≡ Some i = entry.1 in
+          let held : ℕ = slice_index t j in
+          let now : State = seat_taken e a j held gets.taken.others state in
+          let taken : IsTaken i (table_of a gets.taken.others) (a.won j held) state now = seat_is_taken e f g a j held i gets.taken.others state of at in
+          let more : slice_index u j ≡ held + 1 = one_more gets in
+          let low : slice_index a.ladders.base j ≤ held = above_base gets in
+          let high : slice_index u j ≤ MAX_SEATS = few j in
+          let step : ℕ = now.registers reg.step in
+          let counted : IsCounted a seats s step = subst (λ (y : ℕ → ℕ). IsCounted a seats s (y reg.step)) (sym taken.registers) begun in
+          let mine : SeatStep = awarded_step x.stage g.scope i held step now.mark in
+          let is : mine ≡ awarded_step x.stage g.scope i held step (a.won j held) = ap (awarded_step x.stage g.scope i held step) taken.mark in
+          let had : now.columns x.result (place e i) ≡ held = ap (λ (y : ℕ → ℕ → ℕ). y x.result (place e i)) taken.columns ∙ seated.cells.at j i at in
+          then_achieves {Q = IsGiven x (place e i) held i mine now}
+          (seat_is_given c e f x name g a j held i slots of at now taken.on_item (table_of a gets.taken.others) of.entries taken.table had (omega (arith, more, high)))
+          (λ next got.
+          let after : IsSeated e x g a v seats told before u next =
+          seated_next s peers given t u j i gets at (table_of a gets.taken.others) (a.won j held) mine state now next taken got seated step counted is in
+          let still : HasCells e g.entries (next.columns x.votes) v =
+          record { one_each = votes.one_each; at = λ k h there. after.columns x.votes (place e h) slots.not_votes ∙ votes.at k h there } in
+          achieves_more
+          (achieves_kept (re.enters t u j i next gets.taken at gets.has low more high got.on_item (got.held ∙ sym more) still (got.table ∙ taken.table)))
+          (λ end r. (r.0, seated_still again re u next end r.1 after)) (λ y r. r));
+    }
+
+    pub seats_fit : FitsAwards (IsSeated e x g a v seats told before) (seat f x again)
+    seats_fit = record {
+      keeps_left = re.keeps_left;
+      keeps_all_left = re.keeps_all_left;
+      keeps_turns = re.keeps_turns;
+      keeps_batch = re.keeps_batch;
+      keeps_step = re.keeps_step;
+      blind_left = seated_blind reg.left (λ z. omega (arith, z)) (λ z. omega (arith, z));
+      blind_all_left = seated_blind reg.all_left (λ z. omega (arith, z)) (λ z. omega (arith, z));
+      blind_turns = seated_blind reg.turns (λ z. omega (arith, z)) (λ z. omega (arith, z));
+      blind_peers = seated_blind reg.peers (λ z. omega (arith, z)) (λ z. omega (arith, z));
+      blind_batch = seated_blind reg.in_batch (λ z. omega (arith, z)) (λ z. omega (arith, z));
+      blind_step = seated_blind reg.step (λ z. omega (arith, z)) (λ z. omega (arith, z));
+      blind_ones = seated_blind ones (λ z. omega (arith, z)) (λ z. omega (arith, z));
+    }

@@ -1,0 +1,65 @@
+-- What the plans of an expression achieve (docs/compiler.md, section 4).
+use Rattle.std.specs.Prelude.{◌≡◌, ◌⊎◌, ℕ, ◌+◌, ◌<◌, ◌≤◌, true, List, [], ◌∷◌, ◌++◌, None, Some, slice_get, unwrap_or, IsPermutation}
+use Rattle.std.specs.List.{AllZip}
+use Rattle.sl_stages.specs.declared.book.Shape.TheVariants as shape
+use Rattle.sl_stages.specs.declared.table.SeatStep.{SeatStep}
+use Rattle.sl_stages.specs.book.Tests.{first_failing}
+use Rattle.sl_stages.specs.book.Trees.{ExprTree, BookTree}
+use Rattle.sl_stages.specs.book.Limits.{depth_of}
+use Rattle.sl_stages.specs.book.Typing.{Column, type_of, expr_tests, splits_in, is_typed}
+use Rattle.sl_stages.specs.returns.Election.{Election, IsElection}
+use Rattle.sl_stages.specs.returns.Facts.{counted_votes, list_winners, outside_winners, independent_winners}
+use Rattle.sl_stages.specs.meaning.Columns.{NamedColumn}
+use Rattle.sl_stages.specs.meaning.Records.{Records}
+use Rattle.sl_stages.specs.meaning.Results as results
+use Rattle.sl_stages.specs.meaning.Expressions.{Context, ExprMeans}
+use Rattle.sl_stages.specs.laws.ColumnLaws.{IsTypedAs}
+use Rattle.sl_code.specs.declared.code.CodeStage.{CodeStage}
+use Rattle.sl_code.specs.Codes.{CountingCode}
+use Rattle.sl_machine.specs.State.{State}
+use Rattle.sl_plans.specs.Laid.{AchievesAll}
+use Rattle.sl_pieces.specs.columns.Columns.{HoldsColumn}
+use Rattle.sl_pieces.specs.nodes.Nodes.{EndsWith}
+use Rattle.sl_pieces.specs.exprs.Slots.{fact_slots, passing, stage_slot, HasBookSlots}
+use Rattle.sl_pieces.specs.exprs.Pieces.{pieces}
+
+-- the columns of facts, and those of the stages before, are in their slots
+pub record HoldsKnown (b : BookTree) (e : Election) (types : List Column) (columns : List NamedColumn) (s : State) : Type 0 where
+  pub house : HoldsColumn e shape.One (s.columns fact_slots.house) (unwrap_or e.house b.house.value ∷ [])
+  pub counted : HoldsColumn e shape.List (s.columns fact_slots.counted) (counted_votes b.eligible e)
+  pub winners : HoldsColumn e shape.List (s.columns fact_slots.winners) (list_winners b.eligible e)
+  pub outside : HoldsColumn e shape.Land (s.columns fact_slots.outside) (outside_winners b.eligible e)
+  pub independents : HoldsColumn e shape.Land (s.columns fact_slots.independents) (independent_winners b.eligible e)
+  pub population : HoldsColumn e shape.Land (s.columns fact_slots.population) e.populations
+  pub stages : (k : ℕ) (t : Column) (x : NamedColumn) → slice_get types k ≡ Some t → slice_get columns k ≡ Some x →
+      HoldsColumn e t.type.shape (s.columns (stage_slot k)) x.values
+
+-- the code has the slots, and the stage under its name
+pub record StandsIn (c : CountingCode) (x : Context) : Type 0 where
+  pub slots : HasBookSlots c x.types
+  pub few : x.stage ≤ 31
+  pub stage : CodeStage
+  pub staged : slice_get c.stages x.stage ≡ Some stage
+  pub named : stage.name ≡ x.name
+
+-- the expression comes to a column: it is in the passing column of that level, its records are added, and no other slot is changed but those of
+-- the same level and later ones
+pub record HasExpr (b : BookTree) (e : Election) (c : Context) (x : ExprTree) (level : ℕ) (before after : State) : Type 0 where
+  pub values : List ℕ
+  pub records : Records
+  pub means : ExprMeans b e c x (results.Column values records)
+  pub column : HoldsColumn e (type_of c.types x).shape (after.columns (passing level (type_of c.types x).shape)) values
+  pub columns : (k q : ℕ) → (k < passing level shape.One) ⊎ (80 ≤ k) → after.columns k q ≡ before.columns k q
+  pub added : List SeatStep
+  pub steps : after.steps ≡ before.steps ++ added
+  pub are : IsPermutation added records.steps
+  pub weights : after.weights ≡ before.weights ++ records.weights
+  pub placed : (winner : ℕ) → after.placed winner ≡ before.placed winner
+
+-- a typed expression of at most so many levels
+abbrev pub ExprsAchieve : Type 0
+ExprsAchieve =
+    (code : CountingCode) (b : BookTree) (e : Election) (c : Context) (x : ExprTree) (level : ℕ) (s : State) → is_typed b ≡ true → IsElection e →
+    AllZip (IsTypedAs e) c.types c.columns → first_failing (expr_tests c.types x) ≡ None → level + depth_of x + splits_in x ≤ 17 → StandsIn code c →
+    HoldsKnown b e c.types c.columns s →
+    AchievesAll code e (pieces c.types c.stage level x) s (HasExpr b e c x level s) (EndsWith (ExprMeans b e c x))

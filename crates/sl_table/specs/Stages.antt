@@ -1,0 +1,47 @@
+-- The text of a stage's column (docs/output.md, section 1).
+use Rattle.std.specs.Prelude.{ℕ, List, [], ◌∷◌, map, flat_map, filter, codes, slice_index, slice_index_or}
+use Rattle.std.specs.Fmt.{decimal}
+use Rattle.sl_stages.specs.declared.book.Shape.{Shape}
+use Rattle.sl_stages.specs.declared.book.Shape.TheVariants as shape
+use Rattle.sl_stages.specs.returns.Election.{Election, has_list}
+use Rattle.sl_stages.specs.returns.Facts.{lands, parties, list_cell}
+use Rattle.sl_code.specs.Codes.{CountingCode}
+use Rattle.sl_machine.specs.Memories.{Held}
+use Rattle.sl_table.specs.Faults.{list_word}
+use Rattle.sl_table.specs.Lines.{line}
+use Rattle.sl_table.specs.Short.{land_word, party_word}
+
+-- the line of an entry: its word and its value
+abbrev pub entry_line : List ℕ → ℕ → List ℕ
+entry_line entry value = line (entry ∷ decimal value ∷ [])
+
+module _ (e : Election) (column : List ℕ) where
+  abbrev pub party_entry : ℕ → List ℕ
+  party_entry party = entry_line (party_word e party) (slice_index column party)
+
+  abbrev pub land_entry : ℕ → List ℕ
+  land_entry land = entry_line (land_word e land) (slice_index column land)
+
+  abbrev pub list_entry : ℕ → ℕ → List ℕ
+  list_entry land party = entry_line (list_word e land party) (list_cell e column land party)
+
+  -- the lines of a Land's lists
+  abbrev pub land_lists : ℕ → List ℕ
+  land_lists land = flat_map (list_entry land) (filter (has_list e land) (parties e))
+
+-- a line for each entry of a column of that shape, in order; of the pairs of Land and party, for each list
+abbrev pub stage_text : Election → Shape → List ℕ → List ℕ
+stage_text e shape.One column = entry_line (codes "all") (slice_index column 0)
+stage_text e shape.Party column = flat_map (party_entry e column) (parties e)
+stage_text e shape.Land column = flat_map (land_entry e column) (lands e)
+stage_text e shape.List column = flat_map (land_lists e column) (lands e)
+
+-- ---- what a run of a code holds
+
+-- the slot of a stage's column
+abbrev pub stage_slot : CountingCode → ℕ → ℕ
+stage_slot c stage = slice_index (map (λ s. s.slot) c.stages) stage
+
+-- the text of the column of a stage's slot
+abbrev pub held_stage_text : CountingCode → Election → Held → ℕ → List ℕ
+held_stage_text c e h stage = stage_text e (slice_index_or c.slots (stage_slot c stage) shape.One) (slice_index_or h.columns (stage_slot c stage) [])
