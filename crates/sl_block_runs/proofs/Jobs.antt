@@ -1,4 +1,4 @@
--- The jobs of the tests are those of splits and of growths.
+-- The jobs of the tests are those of splits, of growths and of coverings.
 use Rattle.std.proofs.Common.{◌≡◌, ℕ, ◌≤◌, List, [], ◌∷◌, None, Some, slice_get, refl, sym, ap, ◌∙◌, arith}
 use Rattle.std.proofs.lemmas.Option.{none-some, same_Some}
 use Rattle.sl_ratio.specs.declared.method.Divisor.{Divisor}
@@ -10,9 +10,9 @@ use Rattle.sl_pieces.specs.scopes.Forms.{AllLists}
 use Rattle.sl_blocks.specs.declared.job.Job.{Job}
 use Rattle.sl_blocks.specs.Jobs.{IsJob, IsSplitJob, IsGrowthJob}
 
--- one amount, and votes, results and minima of lists
+-- one amount; votes, results and minima of lists; and the eligible parties
 abbrev pub shapes : List Shape
-shapes = shape.One ∷ shape.List ∷ shape.List ∷ shape.List ∷ []
+shapes = shape.One ∷ shape.List ∷ shape.List ∷ shape.List ∷ shape.Party ∷ []
 
 module _ (j : Job) (stage : j.stage ≡ 0) (amount : j.amount ≡ 0) (weights : j.weights ≡ 1) (result : j.result ≡ 2) where
   -- a job in these slots, whose minima are the lists' if there are any

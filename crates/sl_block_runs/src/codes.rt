@@ -2,7 +2,7 @@
 
 ghost use Rattle.std.specs.Prelude.{◌≤◌, IfOk, vec_len};
 
-use sl_blocks::{Job, grow_block, split_block};
+use sl_blocks::{Job, cover_block, grow_block, split_block};
 use sl_code::{Input, Instr, Operand};
 use sl_ratio::{Divisor, Method};
 use sl_stages::{Majority, Shape};
@@ -18,8 +18,20 @@ const RESULT: u8 = 2;
 
 const MINIMA: u8 = 3;
 
+// The parties whose winners a covering seats.
+const ELIGIBLE: u8 = 4;
+
 // Their shapes.
-const SLOTS: [Shape; 4] = [Shape::One, Shape::List, Shape::List, Shape::List];
+const SLOTS: [Shape; 5] = [
+    Shape::One,
+    Shape::List,
+    Shape::List,
+    Shape::List,
+    Shape::Party,
+];
+
+// A covering works in the slot of the votes.
+const SCRATCH: [[u8; 8]; 4] = [[0; 8], [0; 8], [0; 8], [VOTES; 8]];
 
 // All lists in one scope, without minima.
 const PLAIN: Job = Job {
@@ -85,6 +97,20 @@ fn growth(alloc: Global, seats: u64, cap: u32) -> Result<Vec<Instr>, Fail>
     Ok(code)
 }
 
+/// The code of a covering: the names left on a list are its seats, and the parties of minorities take part.
+pub fn covering(alloc: Global) -> Result<Vec<Instr>, Fail> {
+    let mut code = Vec::from_slice(
+        alloc,
+        &[
+            Instr::Input(RESULT, Input::Names),
+            Instr::Input(ELIGIBLE, Input::Minority),
+        ],
+    )?;
+    cover_block(&mut code, &SLOTS, RESULT, ELIGIBLE, SCRATCH)?;
+    code.push(Instr::Halt(RESULT))?;
+    Ok(code)
+}
+
 /// A block: a split without minima or with them, or a growth by Webster's method up to a cap.
 #[derive(Clone, Copy, Debug)]
 pub enum Block {
@@ -103,8 +129,8 @@ pub fn code_of(alloc: Global, seats: u64, block: Block) -> Result<Vec<Instr>, Fa
     }
 }
 
-// The stage `s` with the slot of the result, and the four slots.
-const HEADER: [u8; 13] = *b"SLC\x01\x01\x01s\x02\x04\x00\x03\x03\x03";
+// The stage `s` with the slot of the result, and the five slots.
+const HEADER: [u8; 14] = *b"SLC\x01\x01\x01s\x02\x05\x00\x03\x03\x03\x01";
 
 // The bytes in which an operand is spelled.
 fn width(operand: Operand) -> usize

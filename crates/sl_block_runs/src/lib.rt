@@ -4,6 +4,8 @@
 #[cfg(test)]
 mod codes;
 #[cfg(test)]
+mod covers;
+#[cfg(test)]
 mod growths;
 #[cfg(test)]
 mod runs;

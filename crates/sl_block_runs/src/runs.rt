@@ -46,8 +46,8 @@ fn told_of(alloc: Global, case: &Case) -> Result<String, Fail> {
     }
 }
 
-// The code as one that the verifier accepts.
-fn accepted(alloc: Global, code: &[Instr]) -> Result<Verified, Fail> {
+/// The code as one that the verifier accepts.
+pub fn accepted(alloc: Global, code: &[Instr]) -> Result<Verified, Fail> {
     let code = from_bytes(alloc, file_of(alloc, code)?.as_slice())?;
     match verify(code) {
         Ok(verified) => Ok(verified),
