@@ -130,3 +130,15 @@ module _ (types : List Column) (stage level : ℕ) (s v : ExprTree) (of by : Col
     node_laid own before mid late after both third last =
         two_then (pieces types stage level s) (pieces types stage (level + 1) v) (node own) before mid after both
         (laid_then (pieces types stage (level + 2) m) own mid late after third last)
+
+-- ---- plans in slots that equal these
+
+module _ (s : Shape) where
+  pub sum_at : (over : Axis) (from to from' to' : ℕ) → from ≡ from' → to ≡ to' → sum_tree over s from to ∷ [] ≡ sum_tree over s from' to' ∷ []
+  sum_at over from to from' to' p q = ap (λ (n : ℕ). sum_tree over s n to ∷ []) p ∙ ap (λ (n : ℕ). sum_tree over s from' n ∷ []) q
+
+  pub larger_at : (to right to' right' : ℕ) → to ≡ to' → right ≡ right' → larger_tree s to right to ∷ [] ≡ larger_tree s to' right' to' ∷ []
+  larger_at to right to' right' p q = ap (λ (n : ℕ). larger_tree s n right n ∷ []) p ∙ ap (λ (n : ℕ). larger_tree s to' n to' ∷ []) q
+
+  pub less_at : (to right to' right' : ℕ) → to ≡ to' → right ≡ right' → less_tree s to right to ∷ [] ≡ less_tree s to' right' to' ∷ []
+  less_at to right to' right' p q = ap (λ (n : ℕ). less_tree s n right n ∷ []) p ∙ ap (λ (n : ℕ). less_tree s to' n to' ∷ []) q

@@ -8,3 +8,6 @@ pub mod Arguments
 pub mod Wholes
 pub mod Found
 pub mod FactPlans
+pub mod Arms
+pub mod Splits
+pub mod Books

@@ -5,7 +5,7 @@ use Rattle.std.specs.Str.{bytes_eq}
 use Rattle.std.specs.List.{position_or_len, list_all}
 use Rattle.std.specs.Cmp.{first_so, second_so}
 use Rattle.std.proofs.Math.ListN.{set}
-use Rattle.std.proofs.lemmas.List.{append-nil}
+use Rattle.std.proofs.lemmas.List.{append-nil, length-map}
 use Rattle.std.proofs.Math.Seq.{drop-cons, drop-length, take-length}
 use Rattle.std.proofs.lemmas.Bool.{leb-true}
 use Rattle.sl_stages.specs.declared.book.Stage.{Stage}
@@ -19,10 +19,13 @@ use Rattle.sl_stages.specs.book.Typing.{Column, column, is_named, type_or_one, t
 use Rattle.sl_stages.proofs.Tests.{pass_parts, head_holds}
 use Rattle.sl_code.specs.declared.instr.Instr.{Instr}
 use Rattle.sl_plans.specs.Trees.{Tree}
+use Rattle.sl_pieces.specs.columns.Trees.{copy_tree}
+use Rattle.sl_pieces.specs.exprs.Slots.{passing, stage_slot}
+use Rattle.sl_pieces.specs.exprs.Pieces.{pieces}
 use Rattle.sl_pieces.specs.exprs.Stages.{stage_pieces, stages_pieces}
 use Rattle.sl_compile.specs.Laying.{IsLaidAll, HasRoom}
 use Rattle.sl_compile.specs.Earlier.{columns, Fits}
-use Rattle.sl_compile.proofs.Places.{laid_none, laid_then, room_first, room_rest}
+use Rattle.sl_compile.proofs.Places.{laid_none, laid_then, room_first, room_rest, room_as}
 use Rattle.std.proofs.Common.{append_assoc, subst}
 
 -- ---- names
@@ -95,7 +98,45 @@ columns_next (x ∷ ss) (y ∷ ts) (suc i) s t lt room here = ap (λ cs. record 
 pub drop_here : (ss : List Stage) (i : ℕ) (s : Stage) → i < length ss → s ≡ get_or ss i s → drop i ss ≡ s ∷ drop (suc i) ss
 drop_here ss i s lt here = rw (← here) at (drop-cons ss i s lt)
 
+-- ---- one stage
+
+-- there is room for its expression
+pub expr_room : (types : List Column) (k : ℕ) (s : StageTree) (x : List Instr) → HasRoom (stage_pieces types k s) x → HasRoom (pieces types k 0 s.expr) x
+expr_room types k s x room =
+    room_first (pieces types k 0 s.expr) (copy_tree (type_of types s.expr).shape (passing 0 (type_of types s.expr).shape) (stage_slot k) ∷ []) x room
+
+-- the copy into the stage's slot, by what the expression has
+copy_as : (of t : ColumnType) (k from to : ℕ) → of ≡ t → from ≡ passing 0 of.shape → to ≡ stage_slot k →
+    copy_tree of.shape from to ∷ [] ≡ copy_tree t.shape (passing 0 t.shape) (stage_slot k) ∷ []
+copy_as of t k from to is first second =
+    ap (λ (n : ℕ). copy_tree of.shape n to ∷ []) first
+    ∙ ap (λ (n : ℕ). copy_tree of.shape (passing 0 of.shape) n ∷ []) second
+    ∙ ap (λ (u : ColumnType). copy_tree u.shape (passing 0 u.shape) (stage_slot k) ∷ []) is
+
+module _ (types : List Column) (k : ℕ) (s : StageTree) (of : ColumnType) (from to : ℕ) (x y : List Instr)
+    (is : of ≡ type_of types s.expr) (first : from ≡ passing 0 of.shape) (second : to ≡ stage_slot k) (laid : IsLaidAll (pieces types k 0 s.expr) x y) where
+  abbrev own : List Tree
+  own = copy_tree (type_of types s.expr).shape (passing 0 (type_of types s.expr).shape) (stage_slot k) ∷ []
+
+  same : copy_tree of.shape from to ∷ [] ≡ own
+  same = copy_as of (type_of types s.expr) k from to is first second
+
+  -- there is room for the copy behind it, and then the stage is laid out
+  pub copy_room : HasRoom (stage_pieces types k s) x → HasRoom (copy_tree of.shape from to ∷ []) y
+  copy_room room = room_as (copy_tree of.shape from to ∷ []) own y same (room_rest (pieces types k 0 s.expr) own x y room laid)
+
+  pub stage_laid : (z : List Instr) → IsLaidAll (copy_tree of.shape from to ∷ []) y z → IsLaidAll (stage_pieces types k s) x z
+  stage_laid z copied = laid_then (pieces types k 0 s.expr) own x y z laid (subst (λ (ts : List Tree). IsLaidAll ts y z) same copied)
+
 -- ---- the walk
+
+-- a book within the limits has at most 32 stages
+pub few_stages : (ss : List Stage) → is_within_limits (map stage_of ss) ≡ true → length ss ≤ 32
+few_stages ss within = rw (← length-map ss stage_of) (leb-true _ _ (first_so _ _ within))
+
+-- the levels are enough for a stage's expression
+enough : (depth splits : ℕ) → depth ≤ 16 → splits ≤ 1 → 0 + depth + splits ≤ 17
+enough depth splits deep few = omega arith
 
 -- where the first i stages are laid out behind a start
 pub record LaidFirst (ss : List Stage) (ts : List ColumnType) (i : ℕ) (start code : List Instr) : Type 0 where
@@ -138,7 +179,7 @@ module _ (ss : List Stage) (ts : List ColumnType) (i : ℕ) (s : Stage) (start c
       let second = head_holds _ _ _ first.1 in
       let few : splits_in (tree_of s.expr) ≤ 1 = leb-true _ _ second.0 in
       let deep : depth_of (tree_of s.expr) ≤ 16 = leb-true _ _ (first_so _ _ within_here.0) in
-      record { typed = second.1; levels = omega (arith, few, deep) }
+      record { typed = second.1; levels = enough (depth_of (tree_of s.expr)) (splits_in (tree_of s.expr)) deep few }
 
   pieces_here : stages_pieces known i (map stage_of (drop i ss))
       ≡ stage_pieces known i (stage_of s) ++ stages_pieces (known ++ stage_column known (stage_of s) ∷ []) (i + 1) later

@@ -1,9 +1,12 @@
 -- The code of a book, from its parts.
-use Rattle.std.proofs.Common.{◌≡◌, ◌≤◌, List, [], ◌∷◌, ◌++◌, true, None, length, map, take, refl, ap, ◌∙◌, arith, append_assoc, length-append}
+use Rattle.std.proofs.Common.{◌≡◌, ℕ, ◌<◌, ◌≤◌, ◌^◌, List, [], ◌∷◌, ◌++◌, Bool, true, false, Option, None, Some, length, map, flat_map, take, refl, ap, ◌∙◌, arith, append_assoc, length-append}
+use Rattle.std.specs.List.{AllByRecursion}
+use Rattle.std.proofs.lemmas.List.Elements.{All-from_recursion}
 use Rattle.sl_stages.specs.declared.book.Stage.{Stage}
 use Rattle.sl_stages.specs.declared.book.Shape.{Shape}
 use Rattle.sl_stages.specs.declared.book.ColumnType.{ColumnType}
 use Rattle.sl_stages.specs.book.Trees.{BookTree, stage_of}
+use Rattle.sl_stages.specs.book.Limits.{condition_numbers}
 use Rattle.sl_stages.specs.book.Tests.{first_failing}
 use Rattle.sl_stages.specs.book.Typing.{Column, columns_of, version_tests, condition_tests, stages_tests, base_tests, tests_of, is_typed}
 use Rattle.sl_stages.proofs.Tests.{no_fault, pass_parts, head_holds}
@@ -11,10 +14,16 @@ use Rattle.sl_code.specs.declared.instr.Instr.{Instr}
 use Rattle.sl_plans.specs.Trees.{Tree}
 use Rattle.sl_plans.specs.Laid.{laid_all}
 use Rattle.sl_books.specs.Codes.{book_slots, fact_shapes, closing_shapes, passing_shapes}
+use Rattle.sl_compile.specs.declared.easiest.Share.{Share}
+use Rattle.sl_compile.specs.declared.easiest.Easiest.{Easiest}
+use Rattle.sl_compile.specs.Weakest.{share_in, winners_in, minority_in, all_in, few_of, IsFairIn, IsSmallIn, AreSmall}
 use Rattle.sl_compile.specs.Laying.{IsLaidAll, HasRoom}
 use Rattle.sl_compile.specs.Slots.{low_shapes}
 use Rattle.sl_compile.specs.Earlier.{columns}
 use Rattle.sl_compile.proofs.Places.{length-laid_all, laid_then, room_first, room_rest}
+
+abbrev IsSmall : ℕ → Type 0
+IsSmall n = n < 2 ^ 32
 
 -- ---- tests
 
@@ -69,3 +78,23 @@ slots_are ss ts low all long low_is have is =
     ∙ ap (λ (xs : List Shape). low_shapes ++ xs) (shapes_of ss ts long ∙ ap (λ (cs : List Column). map (λ c. c.type.shape) cs) have)
     ∙ append_assoc fact_shapes (closing_shapes ++ passing_shapes) (map (λ c. c.type.shape) (columns_of [] (map stage_of ss)))
     ∙ ap (λ (xs : List Shape). fact_shapes ++ xs) (append_assoc closing_shapes passing_shapes (map (λ c. c.type.shape) (columns_of [] (map stage_of ss))))
+
+-- ---- the numbers of the few conditions
+
+ends_small : (m a : Bool) → AllByRecursion IsSmall (flat_map condition_numbers (minority_in m ++ all_in a))
+ends_small false false = tt
+ends_small false true = tt
+ends_small true false = tt
+ends_small true true = tt
+
+winners_small : (w : Option ℕ) (m a : Bool) → IsSmallIn w → AllByRecursion IsSmall (flat_map condition_numbers (winners_in w ++ (minority_in m ++ all_in a)))
+winners_small None m a small = ends_small m a
+winners_small (Some n) m a small = (small, ends_small m a)
+
+all_small : (v : Option Share) (w : Option ℕ) (m a : Bool) → IsFairIn v → IsSmallIn w →
+    AllByRecursion IsSmall (flat_map condition_numbers (share_in v ++ (winners_in w ++ (minority_in m ++ all_in a))))
+all_small None w m a fair small = winners_small w m a small
+all_small (Some s) w m a fair small = (omega (arith, fair.1, fair.2), (omega (arith, fair.2), winners_small w m a small))
+
+pub few_small : (few : Easiest) → IsFairIn few.valid → IsSmallIn few.winners → AreSmall (few_of few)
+few_small few fair small = All-from_recursion IsSmall (flat_map condition_numbers (few_of few)) (all_small few.valid few.winners few.minority few.all fair small)

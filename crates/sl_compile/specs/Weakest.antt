@@ -1,7 +1,8 @@
 -- Few conditions: those that the compiler lays out.
-use Rattle.std.specs.Prelude.{ℕ, ◌≤◌, Bool, true, false, List, [], ◌∷◌, ◌++◌, Option, None, Some, unwrap_or}
+use Rattle.std.specs.Prelude.{ℕ, ◌<◌, ◌≤◌, ◌^◌, Bool, true, false, List, [], ◌∷◌, ◌++◌, flat_map, All, Option, None, Some, unwrap_or}
 use Rattle.sl_stages.specs.declared.book.Cond.{Cond}
 use Rattle.sl_stages.specs.declared.book.Cond.TheVariants as condition
+use Rattle.sl_stages.specs.book.Limits.{condition_numbers}
 use Rattle.sl_stages.specs.returns.Election.{Election}
 use Rattle.sl_stages.specs.returns.Facts.{meets}
 use Rattle.sl_code.specs.declared.instr.Instr.{Instr}
@@ -47,6 +48,15 @@ IsFairIn (Some s) = IsFairShare s
 abbrev pub IsFair : Cond → Type 0
 IsFair (condition.Valid share per) = (1 ≤ share.value) × (share.value ≤ per) × (per ≤ 1000)
 IsFair _ = Unit {0}
+
+-- a number of winners that fits four bytes
+abbrev pub IsSmallIn : Option ℕ → Type 0
+IsSmallIn None = Unit {0}
+IsSmallIn (Some n) = n < 2 ^ 32
+
+-- conditions whose numbers do
+abbrev pub AreSmall : List Cond → Type 0
+AreSmall few = All (λ n. n < 2 ^ 32) (flat_map condition_numbers few)
 
 -- the numbers of the share, 0 where there is none
 abbrev pub votes_of : Option Share → ℕ

@@ -6,7 +6,7 @@ ghost use Rattle.sl_stages.specs.book.Typing.{condition_tests};
 ghost use Rattle.sl_stages.specs.returns.Election.{Election};
 ghost use Rattle.sl_stages.specs.returns.Facts.{meets, is_eligible};
 ghost use Rattle.sl_books.specs.Conditions.{SayTheSame};
-ghost use Rattle.sl_compile.specs.Weakest.{few_of, is_met, IsFair, IsFairIn, IsFairShare};
+ghost use Rattle.sl_compile.specs.Weakest.{few_of, is_met, IsFair, IsFairIn, IsFairShare, IsSmallIn, AreSmall};
 
 use crate::easiest::{Easiest, Share};
 use sl_stages::Cond;
@@ -28,8 +28,10 @@ fn easier_share(first: Share, second: Share) -> Share
 /// With one more condition.
 fn add(few: Easiest, condition: Cond) -> Easiest
     requires few { IsFairIn few.valid }
+    requires small { IsSmallIn few.winners }
     requires condition { IsFair condition }
     ensures fair { IsFairIn result.valid }
+    ensures small { IsSmallIn result.winners }
     ensures same { (e : Election) (party : ℕ) → is_eligible (few_of result) e party ≡ (is_eligible (few_of few) e party || meets e party condition) }
 {
     match condition {
@@ -56,7 +58,8 @@ fn add(few: Easiest, condition: Cond) -> Easiest
 /// Of each kind of condition the one that is met most easily.
 pub fn easiest(conditions: &[Cond]) -> Easiest
     requires { first_failing (condition_tests conditions.now) ≡ None }
-    ensures { SayTheSame (few_of result) conditions.now }
+    ensures same { SayTheSame (few_of result) conditions.now }
+    ensures small { AreSmall (few_of result) }
 {
     let mut few = Easiest {
         valid: None,

@@ -1,17 +1,21 @@
-//! The compiler, as far as it is built: what lays out the plans of a rulebook's parts as instructions.
+//! The compiler: from a checked rulebook to counting code that the verifier accepts.
 #![tactic(auto)]
 
-pub mod closing;
-pub mod columns;
-pub mod conditions;
-pub mod earlier;
-pub mod easiest;
-pub mod eligible;
-pub mod exprs;
-pub mod facts;
-pub mod laying;
-pub mod naming;
+mod closing;
+mod columns;
+mod compiler;
+mod conditions;
+mod earlier;
+mod easiest;
+mod eligible;
+mod exprs;
+mod facts;
+mod laying;
+mod naming;
 mod nodes;
-pub mod registers;
-pub mod slots;
-pub mod types;
+mod registers;
+mod slots;
+mod stages;
+mod types;
+
+pub use compiler::compile;

@@ -1,7 +1,8 @@
 //! The stages of a code: their names, and the slots of their columns.
 
-ghost use Rattle.std.specs.Prelude.{◌≡◌, ◌≤◌, length, map, IfOk};
+ghost use Rattle.std.specs.Prelude.{◌≡◌, ◌≤◌, All, length, map, IfOk};
 ghost use Rattle.sl_stages.specs.book.Trees.{stage_of};
+ghost use Rattle.sl_code.specs.Faults.{IsStage};
 ghost use Rattle.sl_books.specs.Codes.{code_stages};
 
 use crate::slots::stage_slot;
@@ -16,7 +17,8 @@ use std::alloc::Global;
 /// No memory was found.
 pub fn code_stages(alloc: Global, stages: &[Stage]) -> Result<Vec<CodeStage>, NoMemory>
     requires { length stages.now ≤ 32 }
-    ensures { IfOk result (λ named. named.items ≡ code_stages 0 (map stage_of stages.now)) }
+    ensures named { IfOk result (λ named. named.items ≡ code_stages 0 (map stage_of stages.now)) }
+    ensures words { IfOk result (λ named. All IsStage named.items) }
 {
     let mut named = Vec::new(alloc);
     for (i, stage) in stages.iter().enumerate() {

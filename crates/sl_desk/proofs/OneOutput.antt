@@ -1,5 +1,5 @@
 -- Two outputs of the same inputs are one, by the laws of the layers below.
-use Rattle.std.proofs.Common.{◌≡◌, ◌≢◌, ℕ, List, [], ◌∷◌, length, codes, Option, Some, None, Ok, Err, Result, Bool, true, false, IsTrue, inl, inr, refl, sym, ◌∙◌, ap, subst, arith}
+use Rattle.std.proofs.Common.{◌≡◌, ◌≢◌, ℕ, List, [], ◌∷◌, length, codes, Option, Some, None, Ok, Err, Result, true, is_none, IsTrue, refl, sym, ◌∙◌, ap, subst, arith}
 use Rattle.sl_lex.specs.declared.fault.LexFault.{LexFault}
 use Rattle.sl_lex.specs.declared.token.Token.{Token}
 use Rattle.sl_lex.specs.Tokens as lex
@@ -11,17 +11,12 @@ use Rattle.sl_parse.specs.Grammar.{IsBook}
 use Rattle.sl_parse.specs.Faults.{IsFault}
 use Rattle.sl_parse.specs.Parsing.{limits, offset, fault_at, IsFaultOf}
 use Rattle.sl_returns.specs.declared.fault.ReturnsFault.{ReturnsFault}
+use Rattle.sl_returns.specs.Returns.{records_in}
 use Rattle.sl_stages.specs.declared.check_fault.CheckFault.{CheckFault}
 use Rattle.sl_stages.specs.book.Trees.{BookTree}
 use Rattle.sl_stages.specs.book.Limits.{is_within_limits}
-use Rattle.sl_stages.specs.book.Typing.{check_fault}
+use Rattle.sl_stages.specs.book.Typing.{check_fault, is_typed}
 use Rattle.sl_stages.specs.returns.Election.{Election}
-use Rattle.sl_stages.specs.meaning.Tables.{SeatTable}
-use Rattle.sl_stages.specs.declared.table.Outcome.TheVariants as outcome
-use Rattle.sl_stages.specs.meaning.PlainBooks.{is_plain}
-use Rattle.sl_stages.specs.meaning.Means.{Means}
-use Rattle.sl_stages.proofs.meaning.PlainMeaning.{plain_outcomes}
-use Rattle.sl_table.specs.Short.{short_text}
 use Rattle.sl_desk.specs.declared.refusal.BookRefusal.{BookRefusal}
 use Rattle.sl_desk.specs.declared.refusal.BookRefusal.TheVariants.{UnknownLaw, TooLong, Tokens, Grammar, Test}
 use Rattle.sl_desk.specs.declared.refusal.ReturnsRefusal.{ReturnsRefusal}
@@ -31,9 +26,10 @@ use Rattle.sl_desk.specs.declared.verdict.Verdict.{Verdict}
 use Rattle.sl_desk.specs.declared.verdict.Verdict.TheVariants.{Good, Refused}
 use Rattle.sl_desk.specs.Refusals.{refused}
 use Rattle.sl_desk.specs.Verdicts.{HasTokens, HasTree, library, text, IsTextVerdict, IsBookVerdict, book_line, IsReturnsVerdict}
-use Rattle.sl_desk.specs.Output.{IsTableText, IsTreeOutput, IsCount, IsCheck}
+use Rattle.sl_desk.specs.Output.{IsTreeOutput, IsCount, IsCheck}
 use Rattle.sl_desk.specs.Laws.{HasOneOutput, HasOneCheck}
-use Rattle.sl_desk.proofs.OneTable.{one_table}
+use Rattle.sl_returns.proofs.ReadElections.{read_is}
+use Rattle.sl_desk.proofs.OneMeaning.{one_good_output}
 
 -- what the layers below say
 pub record LowerLaws : Type 0 where
@@ -44,16 +40,6 @@ pub record LowerLaws : Type 0 where
   pub one_parse_fault : (source : List ℕ) (tokens : List Token) (a b : Cause) (x y : List Token) → IsFault source limits tokens a x → IsFault source limits tokens b y → (a ≡ b) × (x ≡ y)
   pub tree_or_fault : (source : List ℕ) (tokens : List Token) (tree : BookTree) (cause : Cause) (rest : List Token)
       → IsBook source tree tokens [] → IsTrue (is_within_limits tree.stages) → IsFault source limits tokens cause rest → ⊥
-
-same_tables : (t u : SeatTable) → outcome.Table t ≡ outcome.Table u → t ≡ u
-same_tables t u h = cc
-
--- a plain book means one table
-one_meaning : (b : BookTree) (e : Election) (t u : SeatTable) → is_plain b ≡ true → Means b e (outcome.Table t) → Means b e (outcome.Table u) → t ≡ u
-one_meaning b e t u plain h k =
-    let first = (plain_outcomes b e (outcome.Table t) plain).0 h in
-    let second = (plain_outcomes b e (outcome.Table u) plain).0 k in
-    same_tables t first.0 first.2 ∙ one_table b e first.0 second.0 first.1 second.1 ∙ sym (same_tables u second.0 second.2)
 
 -- a fault of the parser by its cause
 record ByCause (source : List ℕ) (tokens : List Token) (fault : ParseFault) : Type 0 where
@@ -77,9 +63,6 @@ same_err r a b h k = cc
 
 same_ok : {X Y : Type 0} (r : Result X Y) (a b : X) → r ≡ Ok a → r ≡ Ok b → a ≡ b
 same_ok r a b h k = cc
-
-true_or_false : (b : Bool) → b ≡ true → b ≡ false → ⊥
-true_or_false b h k = cc
 
 ok_or_err : {X Y : Type 0} (r : Result X Y) (a : X) (b : Y) → r ≡ Ok a → r ≡ Err b → ⊥
 ok_or_err r a b h k = cc
@@ -108,22 +91,29 @@ one_returns_verdict bytes (Good d) (Refused returns.TooLong) h k = let fits = h.
 one_returns_verdict bytes (Good d) (Refused (returns.Records g)) h k = absurd (ok_or_err _ d g h.1 k.1)
 one_returns_verdict bytes (Good d) (Good e) h k = ap (λ (x : Election). Good x) (same_ok _ d e h.1 k.1)
 
-one_table_text : (tree : BookTree) (e : Election) (s t : List ℕ) → is_plain tree ≡ true → IsTableText tree e s → IsTableText tree e t → s ≡ t
-one_table_text tree e s t plain h k = h.2 ∙ ap (λ (x : SeatTable). short_text x e) (one_meaning tree e h.0 k.0 plain h.1 k.1) ∙ sym k.2
+-- a book that passes its tests is well formed
+pub typed_tree : (tree : BookTree) → check_fault tree ≡ None → is_typed tree ≡ true
+typed_tree tree h = ap is_none h
 
-one_tree_output : (tree : BookTree) (v : Verdict Election ReturnsRefusal) (a b : Status) (s t : List ℕ) → is_plain tree ≡ true
+one_tree_output : (tree : BookTree) (bytes : List ℕ) (v : Verdict Election ReturnsRefusal) (a b : Status) (s t : List ℕ) → is_typed tree ≡ true → IsReturnsVerdict bytes v
     → IsTreeOutput tree v a s → IsTreeOutput tree v b t → (a ≡ b) × (s ≡ t)
-one_tree_output tree (Refused why) a b s t plain h k = (h.0 ∙ sym k.0, h.1 ∙ sym k.1)
-one_tree_output tree (Good e) a b s t plain h k = (h.0 ∙ sym k.0, one_table_text tree e s t plain h.1 k.1)
+one_tree_output tree bytes (Refused why) a b s t typed is h k = (h.0 ∙ sym k.0, h.1 ∙ sym k.1)
+one_tree_output tree bytes (Good e) a b s t typed is h k = one_good_output tree e typed (read_is (records_in bytes) e is.1) a b s t h k
 
-one_count : (v : Verdict BookTree BookRefusal) (bytes : List ℕ) (a b : Status) (s t : List ℕ) → IsCount v bytes a s → IsCount v bytes b t → (a ≡ b) × (s ≡ t)
-one_count (Refused why) bytes a b s t h k = (h.0 ∙ sym k.0, h.1 ∙ sym k.1)
-one_count (Good tree) bytes a b s t (inl h) (inl k) = (h.1 ∙ sym k.1, h.2 ∙ sym k.2)
-one_count (Good tree) bytes a b s t (inl h) (inr k) = absurd (true_or_false _ k.0 h.0)
-one_count (Good tree) bytes a b s t (inr h) (inl k) = absurd (true_or_false _ h.0 k.0)
-one_count (Good tree) bytes a b s t (inr h) (inr k) =
-    let same = one_returns_verdict bytes h.1 k.1 h.2 k.2 in
-    one_tree_output tree h.1 a b s t h.0 h.3 (subst (λ (v : Verdict Election ReturnsRefusal). IsTreeOutput tree v b t) (sym same) k.3)
+-- a verdict of a book that is good is one of a well-formed tree
+abbrev IsTypedVerdict : Verdict BookTree BookRefusal → Type 0
+IsTypedVerdict (Refused why) = Unit {0}
+IsTypedVerdict (Good tree) = is_typed tree ≡ true
+
+typed_text : (source : List ℕ) (v : Verdict BookTree BookRefusal) → IsTextVerdict source v → IsTypedVerdict v
+typed_text source (Refused why) h = tt
+typed_text source (Good tree) h = typed_tree tree h.1
+
+one_count : (v : Verdict BookTree BookRefusal) (bytes : List ℕ) (a b : Status) (s t : List ℕ) → IsTypedVerdict v → IsCount v bytes a s → IsCount v bytes b t → (a ≡ b) × (s ≡ t)
+one_count (Refused why) bytes a b s t typed h k = (h.0 ∙ sym k.0, h.1 ∙ sym k.1)
+one_count (Good tree) bytes a b s t typed h k =
+    let same = one_returns_verdict bytes h.0 k.0 h.1 k.1 in
+    one_tree_output tree bytes h.0 a b s t typed h.1 h.2 (subst (λ (v : Verdict Election ReturnsRefusal). IsTreeOutput tree v b t) (sym same) k.2)
 
 one_checked : (v : Verdict BookTree BookRefusal) (a b : Status) (s t : List ℕ) → IsCheck v a s → IsCheck v b t → (a ≡ b) × (s ≡ t)
 one_checked (Refused why) a b s t h k = (h.0 ∙ sym k.0, h.1 ∙ sym k.1)
@@ -193,7 +183,7 @@ module _ (laws : LowerLaws) where
   pub one_output : HasOneOutput
   one_output (text source) bytes a b s t h k =
       let same = one_text_verdict source h.0 k.0 h.1 k.1 in
-      one_count h.0 bytes a b s t h.2 (subst (λ (v : Verdict BookTree BookRefusal). IsCount v bytes b t) (sym same) k.2)
+      one_count h.0 bytes a b s t (typed_text source h.0 h.1) h.2 (subst (λ (v : Verdict BookTree BookRefusal). IsCount v bytes b t) (sym same) k.2)
   one_output (library name) bytes a b s t h k =
       let x = unknown_law name h.0 h.1 in
       let y = unknown_law name k.0 k.1 in

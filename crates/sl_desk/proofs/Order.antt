@@ -1,8 +1,7 @@
 -- The book is judged before the returns are read.
-use Rattle.std.proofs.Common.{◌≡◌, ℕ, ◌+◌, ◌-◌, ◌^◌, min, List, Option, Some, None, IfSome, IfOk, IfErr, Result, Ok, Err, true, ap, inr, arith}
+use Rattle.std.proofs.Common.{◌≡◌, ℕ, ◌+◌, ◌-◌, ◌^◌, min, List, Option, Some, None, IfSome, IfOk, IfErr, Result, Ok, Err, ap, arith}
 use Rattle.sl_stages.specs.book.Trees.{BookTree}
 use Rattle.sl_stages.specs.returns.Election.{Election}
-use Rattle.sl_stages.specs.meaning.PlainBooks.{is_plain}
 use Rattle.sl_desk.specs.declared.limits.TheConstants.{MAX_RETURNS_BYTES}
 use Rattle.sl_desk.specs.declared.calls.Answer.{Answer}
 use Rattle.sl_desk.specs.declared.refusal.BookRefusal.{BookRefusal}
@@ -13,7 +12,7 @@ use Rattle.sl_desk.specs.declared.status.DeskError.TheVariants.{Read, NoMemory}
 use Rattle.sl_desk.specs.declared.status.Input.TheVariants.{Book}
 use Rattle.sl_desk.specs.declared.verdict.Verdict.TheVariants.{Good, Refused}
 use Rattle.sl_desk.specs.Failures.{Counts, counts, counts_after}
-use Rattle.sl_desk.specs.Output.{IsTableText, IsCount, IsOutput}
+use Rattle.sl_desk.specs.Output.{IsTreeOutput, IsCount, IsOutput}
 use Rattle.sl_desk.specs.Reading.{TakesAtMost, IsNoGoodBook, ReadsReturns, ForKnown}
 use Rattle.sl_desk.specs.Verdicts.{BookInput, IsBookVerdict, IsReturnsVerdict, book_line}
 
@@ -22,13 +21,13 @@ pub memory_counts : {X : Type 0} (before after : Counts) (r : Result X DeskError
 memory_counts before after (Ok x) same h = same
 memory_counts before after (Err e) same h = rw h same
 
--- the table of a good book on good returns
-pub table_counts : (known : Option (List ℕ)) (tree : BookTree) (e : Election) (r : Result Answer DeskError) → is_plain tree ≡ true
-    → IfSome known (λ bytes. IsReturnsVerdict bytes (Good e)) → IfOk r (λ a. (a.status ≡ status.Done) × IsTableText tree e a.text.items)
+-- the output of a good book on good returns
+pub tree_counts : (known : Option (List ℕ)) (tree : BookTree) (e : Election) (r : Result Answer DeskError)
+    → IfSome known (λ bytes. IsReturnsVerdict bytes (Good e)) → IfOk r (λ a. IsTreeOutput tree (Good e) a.status a.text.items)
     → IfOk r (λ a. IfSome known (λ bytes. IsCount (Good tree) bytes a.status a.text.items))
-table_counts known tree e (Err x) plain good table = tt
-table_counts None tree e (Ok a) plain good table = tt
-table_counts (Some bytes) tree e (Ok a) plain good table = inr (plain, Good e, good, table)
+tree_counts known tree e (Err x) judged output = tt
+tree_counts None tree e (Ok a) judged output = tt
+tree_counts (Some bytes) tree e (Ok a) judged output = (Good e, judged, output)
 
 -- the line that refuses a book, whatever the returns are
 pub refusal_counts : (book : Option BookInput) (returns : Option (List ℕ)) (why : BookRefusal) (ends : Status) (output : List ℕ)

@@ -8,8 +8,4 @@ pub mod Output
 pub mod Reading
 pub mod Adapters
 pub mod Laws
-pub mod Standings
-pub mod Shapes
-pub mod Places
-pub mod StageColumns
 pub mod inner

@@ -1,12 +1,13 @@
 -- What each call writes for which bytes, and its status (docs/output.md).
-use Rattle.std.specs.Prelude.{◌≡◌, ℕ, ◌⊎◌, true, false, List, [], ◌∷◌, length, codes}
+use Rattle.std.specs.Prelude.{◌≡◌, ℕ, ◌⊎◌, List, [], ◌∷◌, length, map, codes}
 use Rattle.std.specs.Fmt.{decimal}
 use Rattle.sl_stages.specs.book.Trees.{BookTree}
 use Rattle.sl_stages.specs.returns.Election.{Election}
 use Rattle.sl_stages.specs.meaning.Tables.{SeatTable}
+use Rattle.sl_stages.specs.declared.fault.LegalFault.{LegalFault}
 use Rattle.sl_stages.specs.declared.table.Outcome.TheVariants as outcome
-use Rattle.sl_stages.specs.meaning.PlainBooks.{is_plain}
 use Rattle.sl_stages.specs.meaning.Means.{Means}
+use Rattle.sl_table.specs.Faults.{fault_text}
 use Rattle.sl_table.specs.Lines.{line}
 use Rattle.sl_table.specs.Short.{short_text}
 use Rattle.sl_desk.specs.declared.status.Status.{Status}
@@ -15,7 +16,6 @@ use Rattle.sl_desk.specs.declared.verdict.Verdict.{Verdict}
 use Rattle.sl_desk.specs.declared.verdict.Verdict.TheVariants.{Good, Refused}
 use Rattle.sl_desk.specs.declared.refusal.BookRefusal.{BookRefusal}
 use Rattle.sl_desk.specs.declared.refusal.ReturnsRefusal.{ReturnsRefusal}
-use Rattle.sl_desk.specs.Refusals.{refused}
 use Rattle.sl_desk.specs.Verdicts.{BookInput, IsBookVerdict, book_line, IsReturnsVerdict, returns_line}
 
 -- ---- counting
@@ -24,21 +24,21 @@ use Rattle.sl_desk.specs.Verdicts.{BookInput, IsBookVerdict, book_line, IsReturn
 abbrev pub IsTableText : BookTree → Election → List ℕ → Type 0
 IsTableText tree e output = (t : SeatTable) × Means tree e (outcome.Table t) × (output ≡ short_text t e)
 
+-- the text of a legal fault that the book means on the returns, with the names of its stages
+abbrev pub IsFaultText : BookTree → Election → List ℕ → Type 0
+IsFaultText tree e output = (f : LegalFault) × Means tree e (outcome.Fault f) × (output ≡ fault_text (map (λ s. s.name) tree.stages) e f)
+
 -- a good book on judged returns
 abbrev pub IsTreeOutput : BookTree → Verdict Election ReturnsRefusal → Status → List ℕ → Type 0
 IsTreeOutput tree (Refused why) ends output = (ends ≡ status.Refused) × (output ≡ returns_line why)
-IsTreeOutput tree (Good e) ends output = (ends ≡ status.Done) × IsTableText tree e output
-
--- the line of a good book that is not counted yet
-abbrev pub later_line : List ℕ
-later_line = refused (codes "book" ∷ codes "later" ∷ codes "0" ∷ [])
+IsTreeOutput tree (Good e) ends output =
+    ((ends ≡ status.Done) × IsTableText tree e output) ⊎ ((ends ≡ status.Legal) × IsFaultText tree e output)
 
 -- a judged book on the bytes of returns
 abbrev pub IsCount : Verdict BookTree BookRefusal → List ℕ → Status → List ℕ → Type 0
 IsCount (Refused why) returns ends output = (ends ≡ status.Refused) × (output ≡ book_line why)
 IsCount (Good tree) returns ends output =
-    ((is_plain tree ≡ false) × (ends ≡ status.Refused) × (output ≡ later_line))
-    ⊎ ((is_plain tree ≡ true) × (verdict : Verdict Election ReturnsRefusal) × IsReturnsVerdict returns verdict × IsTreeOutput tree verdict ends output)
+    (verdict : Verdict Election ReturnsRefusal) × IsReturnsVerdict returns verdict × IsTreeOutput tree verdict ends output
 
 -- what counting writes: the book is judged, and then the returns
 abbrev pub IsOutput : BookInput → List ℕ → Status → List ℕ → Type 0

@@ -30,6 +30,17 @@ impl Answer {
         }
     }
 
+    // The line of a legal fault to which a book comes.
+    fn legal(text: Vec<u8>) -> Answer
+        ensures status { result.status ≡ Status.Legal }
+        ensures text { result.text ≡ text }
+    {
+        Answer {
+            status: Status::Legal,
+            text,
+        }
+    }
+
     // The line that refuses an input.
     fn refused(text: Vec<u8>) -> Answer
         ensures status { result.status ≡ Status.Refused }

@@ -3,7 +3,6 @@
 
 mod book;
 mod calls;
-mod evaluate;
 mod input;
 pub mod laws;
 mod limits;

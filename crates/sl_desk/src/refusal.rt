@@ -2,7 +2,6 @@
 
 ghost use Rattle.std.specs.Prelude.{◌≡◌, ◌∷◌, [], IfOk, codes};
 ghost use Rattle.sl_returns.specs.Faults.{fault_number};
-ghost use Rattle.sl_desk.specs.Output.{later_line};
 ghost use Rattle.sl_desk.specs.Refusals.{numbered, lex_fault, parse_fault, checked_fault, refused, refused_at};
 
 use sl_check::CheckFault;
@@ -167,19 +166,6 @@ fn refused_book(alloc: Global, reader: &[u8], fault: Numbered) -> Result<Vec<u8>
     text.word(reader)?;
     text.number(fault.number)?;
     text.number(fault.at)?;
-    text.end_line()?;
-    Ok(text.into_bytes())
-}
-
-/// A refusal of a rulebook that is not counted yet.
-pub(crate) fn refused_later(alloc: Global) -> Result<Vec<u8>, NoMemory>
-    ensures { IfOk result (λ text. text.items ≡ later_line) }
-{
-    let mut text = Text::new(alloc);
-    text.word(b"refused")?;
-    text.word(b"book")?;
-    text.word(b"later")?;
-    text.word(b"0")?;
     text.end_line()?;
     Ok(text.into_bytes())
 }

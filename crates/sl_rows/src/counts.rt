@@ -1,4 +1,4 @@
-//! Counts: what is written for books of plain stages, and the refusals of books.
+//! Counts: what is written for small books, and the refusals of books.
 
 use crate::inputs::Text;
 use crate::rows::{CountRow, FIRST_BOOK, RETURNS, TABLE, assert_counts};
@@ -140,27 +140,27 @@ const COUNTS: [CountRow; 18] = [
         Status::Refused,
     ),
     (
-        "split, which is not counted yet",
+        "a split with winners",
         Text::Of(
             "rulebook 1; law \"t\"; house 8; eligible all; stage s = split(house, counted, webster); seats s keep;",
         ),
         Text::Of(RETURNS),
-        Text::Of("refused book later 0\n"),
-        Status::Refused,
+        Text::Of("total 9\nparty A 8 1\nlist X A 8 1\nsingle w2\n"),
+        Status::Done,
     ),
     (
-        "cover, which is not counted yet",
+        "winners covered by themselves",
         Text::Of("rulebook 1; law \"t\"; house 8; eligible all; seats winners cover;"),
         Text::Of(RETURNS),
-        Text::Of("refused book later 0\n"),
-        Status::Refused,
+        Text::Of(TABLE),
+        Status::Done,
     ),
     (
-        "vacate, which is not counted yet",
+        "vacant seats where no names are told",
         Text::Of("rulebook 2; law \"t\"; house 8; eligible all; seats winners keep vacate;"),
         Text::Of(RETURNS),
-        Text::Of("refused book later 0\n"),
-        Status::Refused,
+        Text::Of(TABLE),
+        Status::Done,
     ),
 ];
 

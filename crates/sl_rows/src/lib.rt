@@ -17,12 +17,18 @@ mod counts;
 #[cfg(test)]
 mod failures;
 #[cfg(test)]
+mod faults;
+#[cfg(test)]
 mod inputs;
 #[cfg(test)]
 mod library;
+#[cfg(test)]
+mod library_counts;
 #[cfg(test)]
 mod memory;
 #[cfg(test)]
 mod returns;
 #[cfg(test)]
 mod rows;
+#[cfg(test)]
+mod tables;

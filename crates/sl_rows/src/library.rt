@@ -5,7 +5,7 @@ use crate::rows::{CheckRow, assert_checks};
 use sl_desk::Status;
 use std::test::Fail;
 
-const BOOK_1956: &str = "\
+pub const BOOK_1956: &str = "\
 rulebook 2;\n\
 law \"Bundeswahlgesetz 1956\";\n\
 house 494;\n\
@@ -15,7 +15,7 @@ stage upper = split(pool, sum(counted, party), jefferson);\n\
 stage lower = split(upper, counted, jefferson);\n\
 seats lower keep vacate;\n";
 
-const BOOK_1985: &str = "\
+pub const BOOK_1985: &str = "\
 rulebook 2;\n\
 law \"Bundeswahlgesetz 1985\";\n\
 house 496;\n\
@@ -25,7 +25,7 @@ stage upper = split(pool, sum(counted, party), hamilton, majority prefer);\n\
 stage lower = split(upper, counted, hamilton);\n\
 seats lower keep vacate;\n";
 
-const BOOK_2008: &str = "\
+pub const BOOK_2008: &str = "\
 rulebook 2;\n\
 law \"Bundeswahlgesetz 2008\";\n\
 house 598;\n\
@@ -35,7 +35,7 @@ stage upper = split(pool, sum(counted, party), webster, majority refuse);\n\
 stage lower = split(upper, counted, webster);\n\
 seats lower keep vacate;\n";
 
-const BOOK_2013: &str = "\
+pub const BOOK_2013: &str = "\
 rulebook 2;\n\
 law \"Bundeswahlgesetz 2013\";\n\
 house 598;\n\
@@ -48,7 +48,7 @@ stage upper = grow(pool, sum(counted, party), webster, floor, 4000, majority ref
 stage lower = split(upper, counted, webster, atleast winners);\n\
 seats lower keep vacate;\n";
 
-const BOOK_2023: &str = "\
+pub const BOOK_2023: &str = "\
 rulebook 1;\n\
 law \"Bundeswahlgesetz 2023\";\n\
 house 630;\n\
@@ -58,7 +58,7 @@ stage upper = split(pool, sum(counted, party), webster, majority refuse);\n\
 stage lower = split(upper, counted, webster);\n\
 seats lower cover;\n";
 
-const BOOK_2023_ORDER: &str = "\
+pub const BOOK_2023_ORDER: &str = "\
 rulebook 1;\n\
 law \"Bundeswahlgesetz 2023, order of 2024\";\n\
 house 630;\n\

@@ -6,7 +6,7 @@ use sl_desk::Status;
 use std::alloc::{AllocError, Global};
 use std::process::Abort;
 
-/// A book of plain stages.
+/// A book of one stage, which keeps its winners.
 pub const FIRST_BOOK: &str =
     "rulebook 1; law \"t\"; house 8; eligible all; stage pool = less(house, sum(outside, all)); seats winners keep;";
 

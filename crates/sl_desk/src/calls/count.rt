@@ -1,37 +1,77 @@
 //! Counting an election: from a rulebook and returns to the text of a table.
 
-ghost use Rattle.std.specs.Prelude.{◌≡◌, ◌+◌, true, IfOk, IfErr, IfSome};
+ghost use Rattle.std.specs.Prelude.{◌≡◌, ◌+◌, Some, IfOk, IfErr, IfSome, length};
 ghost use Rattle.sl_stages.specs.book.Books.{book_of};
-ghost use Rattle.sl_stages.specs.meaning.PlainBooks.{is_plain};
+ghost use Rattle.sl_stages.specs.returns.Election.{IsElection};
+ghost use Rattle.sl_machine.specs.Answers.{answer_of};
+ghost use Rattle.sl_machine.specs.Fits.{Fits};
+ghost use Rattle.sl_machine.specs.Runs.{budget_of};
+ghost use Rattle.sl_books.specs.Compiled.{IsCompiled, ending_by};
 ghost use Rattle.sl_desk.specs.declared.verdict.Verdict.TheVariants as verdict;
 ghost use Rattle.sl_desk.specs.Failures.{counts, counts_after};
-ghost use Rattle.sl_desk.specs.Output.{IsOutput, IsCount, IsTableText};
+ghost use Rattle.sl_desk.specs.Output.{IsOutput, IsCount, IsTreeOutput};
 ghost use Rattle.sl_desk.specs.Reading.{book_input, book_failures, ForKnown, ReadsBook, ReadsReturns, TakesAtMost};
 ghost use Rattle.sl_desk.specs.Writing.{Delivers};
 
 use crate::book::read_book;
 use crate::calls::Answer;
-use crate::evaluate::{evaluate, is_plain};
 use crate::limits::MAX_RETURNS_BYTES;
-use crate::refusal::refused_later;
 use crate::returns::read_election;
 use crate::sink::Sink;
 use crate::source::{BookSource, Source};
 use crate::status::{DeskError, Status};
 use crate::verdict::Verdict;
 use sl_check::CheckedBook;
-use sl_stages::Returns;
-use sl_table::short_text;
+use sl_compile::compile;
+use sl_machine::{Ending, budget, run};
+use sl_ratio::NoMemory;
+use sl_stages::{Book, Returns};
+use sl_table::{fault_text, short_text, table_of};
+use sl_verify::Verified;
 use std::alloc::Global;
 
-// The table to which a plain book comes on returns.
-fn table(alloc: Global, book: &CheckedBook, returns: &Returns) -> Result<Answer, DeskError>
-    requires { is_plain (book_of book.now.book) ≡ true }
-    ensures table { IfOk result (λ a. (a.status ≡ Status.Done) × IsTableText (book_of book.now.book) returns.now a.text.items) }
-    ensures memory { IfErr result (λ e. e ≡ DeskError.NoMemory) }
+// What the end of a run of a book's code on returns writes.
+fn ended(
+    alloc: Global,
+    book: &CheckedBook,
+    returns: &Returns,
+    code: &Verified,
+    ending: &Ending,
+) -> Result<Answer, NoMemory>
+    requires election { IsElection returns.now }
+    requires compiled { IsCompiled (book_of book.now.book) code.now }
+    requires ending { answer_of code.now returns.now (ending_by (book_of book.now.book) code.now returns.now) ≡ Some ending.now }
+    requires fits { Fits code.now returns.now ending.now }
+    ensures { IfOk result (λ a. IsTreeOutput (book_of book.now.book) (verdict.Good returns.now) a.status a.text.items) }
 {
-    let table = evaluate(alloc, book, returns)?;
-    Ok(Answer::done(short_text(alloc, &table, returns)?))
+    match ending {
+        Ending::Done(memory) => {
+            let table = table_of(alloc, memory, returns)?;
+            Ok(Answer::done(short_text(alloc, &table, returns)?))
+        }
+        Ending::Fault(fault) => Ok(Answer::legal(fault_text(alloc, fault, returns, code.code())?)),
+        Ending::OutOfBudget => unreachable!(),
+    }
+}
+
+// The steps that the run of a book's code may take on returns.
+fn steps_of(book: &Book, returns: &Returns) -> u64
+    ensures steps { result ≡ budget_of (length (book_of book.now).stages) returns.now }
+    ensures kept { IsElection returns.now }
+{
+    let _lands = returns.lands();
+    budget(book.stages.len(), returns)
+}
+
+// What a good book comes to on good returns: its code is run with its budget.
+fn outcome(alloc: Global, book: &CheckedBook, returns: &Returns) -> Result<Answer, DeskError>
+    ensures memory { IfErr result (λ e. e ≡ DeskError.NoMemory) }
+    ensures output { IfOk result (λ a. IsTreeOutput (book_of book.now.book) (verdict.Good returns.now) a.status a.text.items) }
+{
+    let code = compile(alloc, book)?;
+    let steps = steps_of(&book.book, returns);
+    let ending = run(alloc, &code, returns, steps)?;
+    Ok(ended(alloc, book, returns, &code, &ending)?)
 }
 
 // What a good book comes to on the returns of a source.
@@ -44,11 +84,8 @@ fn counted<S: Source>(
     ensures failures { counts 0 (S.failed returns.new) 0 0 ≡ counts_after (counts 0 (S.failed returns.old) 0 0) result }
     ensures limited { TakesAtMost (MAX_RETURNS_BYTES + 1) (S.remaining returns.old) (S.remaining returns.new) }
 {
-    if !is_plain(&book.book) {
-        return Ok(Answer::refused(refused_later(alloc)?));
-    }
     match read_election(alloc, returns)? {
-        Verdict::Good(returns) => table(alloc, book, &returns),
+        Verdict::Good(returns) => outcome(alloc, book, &returns),
         Verdict::Refused(why) => Ok(Answer::refused(why.line(alloc)?)),
     }
 }
@@ -72,8 +109,8 @@ fn answer_to<B: Source, R: Source>(
     }
 }
 
-/// Counts an election: reads a rulebook and returns, and writes the table to which the book comes, or the line that refuses one of them. The book
-/// is read and judged before the returns (docs/output.md).
+/// Counts an election: reads a rulebook and returns, and writes the table or the legal fault to which the book comes, or the line that refuses one
+/// of them. The book is read and judged before the returns (docs/output.md).
 ///
 /// # Errors
 ///

@@ -1,17 +1,14 @@
-use Rattle.std.proofs.Common.{◌≡◌, true, rules}
 use Rattle.sl_stages.specs.book.Books.{book_of}
-use Rattle.sl_stages.specs.meaning.PlainBooks.{is_plain}
 use Rattle.sl_desk.specs.Failures.{counts}
-use Rattle.sl_desk.proofs.Order.{memory_counts, table_counts}
+use Rattle.sl_desk.proofs.Order.{memory_counts, tree_counts}
 use Rattle.sl_desk.proofs.calls.count.counted.Goals as goal
 
 pub returns-in-Good-clause-answer : goal.returns-in-Good-clause-answer
 returns-in-Good-clause-answer g c =
-    let plain : is_plain (book_of c.args.book.now.book) ≡ true = search rules in
-    table_counts (g.S.Source.remaining c.args.returns.now) (book_of c.args.book.now.book) c.in-Good.returns c.table.result plain
-    (rw c.in-Good.is at c.in_ok-returns.ensures.verdict) c.table.ensures.table
+    tree_counts (g.S.Source.remaining c.args.returns.now) (book_of c.args.book.now.book) c.in-Good.returns c.outcome.result
+    (rw c.in-Good.is at c.in_ok-returns.ensures.verdict) c.outcome.ensures.output
 
 pub returns-in-Good-clause-failures : goal.returns-in-Good-clause-failures
 returns-in-Good-clause-failures g c =
-    memory_counts (counts 0 (g.S.Source.failed c.args.returns.now) 0 0) (counts 0 (g.S.Source.failed c.read_election.new.source) 0 0) c.table.result
-    c.in_ok-returns.ensures.failures c.table.ensures.memory
+    memory_counts (counts 0 (g.S.Source.failed c.args.returns.now) 0 0) (counts 0 (g.S.Source.failed c.read_election.new.source) 0 0) c.outcome.result
+    c.in_ok-returns.ensures.failures c.outcome.ensures.memory

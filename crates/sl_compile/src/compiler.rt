@@ -1,0 +1,76 @@
+//! The code of a whole rulebook.
+
+ghost use Rattle.std.specs.Prelude.{◌≡◌, [], All, IfOk, IsTrue};
+ghost use Rattle.sl_stages.specs.book.Books.{book_of};
+ghost use Rattle.sl_stages.specs.book.Typing.{is_typed, columns_of};
+ghost use Rattle.sl_stages.specs.book.Words.{is_word};
+ghost use Rattle.sl_books.specs.Codes.{book_instrs};
+ghost use Rattle.sl_books.specs.Compiled.{IsCompiled};
+ghost use Rattle.sl_books.specs.Laws.{CanCompile};
+ghost use Rattle.sl_compile.specs.Codes.{IsCodeOf};
+ghost use Rattle.sl_compile.specs.Earlier.{columns};
+ghost use Rattle.sl_compile.specs.Slots.{low_shapes};
+ghost use Rattle.sl_compile.specs.Weakest.{few_of};
+
+use crate::closing::{halting, lay_last};
+use crate::conditions::easiest;
+use crate::earlier::Earlier;
+use crate::easiest::Easiest;
+use crate::facts::lay_facts;
+use crate::naming::code_stages;
+use crate::slots::{add_columns, low_slots};
+use crate::stages::lay_stages;
+use sl_code::{Code, Instr};
+use sl_ratio::NoMemory;
+use sl_stages::{Book, CheckedBook, ColumnType, MAX_STAGES, Shape, Stage};
+use sl_verify::{Verified, verify};
+use std::alloc::Global;
+
+/// Appends the plans of a book and its last instruction, and says what the column of each stage has.
+fn lay_book(
+    code: &mut Vec<Instr>,
+    slots: &[Shape],
+    few: &Easiest,
+    book: &Book,
+) -> Result<[ColumnType; MAX_STAGES], NoMemory>
+    requires empty { code.old.items ≡ [] }
+    requires slots { slots.now ≡ low_shapes }
+    requires can { CanCompile (few_of few.now) (book_of book.now) }
+    ensures have { IfOk result (λ types. columns book.now.stages.items types ≡ columns_of [] (book_of book.now).stages) }
+    ensures laid { IfOk result (λ _. code.new.items ≡ book_instrs (few_of few.now) (book_of book.now)) }
+{
+    lay_facts(code, few, book.house.value)?;
+    let types = lay_stages(code, slots, &book.stages)?;
+    let earlier = Earlier {
+        stages: &book.stages,
+        types: &types,
+    };
+    lay_last(code, slots, &earlier, &book.last)?;
+    code.push(halting(book.last.vacate))?;
+    Ok(types)
+}
+
+/// The code of a book.
+fn code_of(alloc: Global, book: &Book) -> Result<Code, NoMemory>
+    requires { IsTrue (is_typed (book_of book.now)) }
+    ensures { IfOk result (IsCodeOf (book_of book.now)) }
+{
+    let few = easiest(&book.eligible);
+    let mut slots = low_slots(alloc)?;
+    let mut instrs = Vec::new(alloc);
+    let types = lay_book(&mut instrs, &slots, &few, book)?;
+    add_columns(&mut slots, &types[..book.stages.len()])?;
+    let stages = code_stages(alloc, &book.stages)?;
+    Ok(Code::new(instrs, stages, slots))
+}
+
+/// The code of a book, whose runs end with what the book means (docs/compiler.md, section 8).
+///
+/// # Errors
+/// No memory was found.
+pub fn compile(alloc: Global, book: &CheckedBook) -> Result<Verified, NoMemory>
+    ensures { IfOk result (IsCompiled (book_of book.now.book)) }
+{
+    let code = code_of(alloc, &book.book)?;
+    verify(code).map_err(|_| NoMemory)
+}

@@ -1,0 +1,68 @@
+//! The plans of a rulebook's stages (docs/compiler.md, section 5).
+
+ghost use Rattle.std.specs.Prelude.{◌≡◌, [], map, None, IfOk, IsTrue};
+ghost use Rattle.sl_stages.specs.book.Trees.{tree_of, stage_of};
+ghost use Rattle.sl_stages.specs.book.Limits.{is_within_limits};
+ghost use Rattle.sl_stages.specs.book.Tests.{first_failing};
+ghost use Rattle.sl_stages.specs.book.Typing.{type_of, stages_tests, columns_of};
+ghost use Rattle.sl_pieces.specs.exprs.Stages.{stage_pieces, stages_pieces};
+ghost use Rattle.sl_compile.specs.Laying.{IsLaidAll, HasRoom};
+ghost use Rattle.sl_compile.specs.Slots.{low_shapes};
+ghost use Rattle.sl_compile.specs.Earlier.{columns, Fits};
+
+use crate::columns::lay_copy;
+use crate::earlier::Earlier;
+use crate::exprs::Site;
+use crate::slots::{passing, stage_slot};
+use crate::types::seats;
+use sl_code::Instr;
+use sl_ratio::NoMemory;
+use sl_stages::{ColumnType, MAX_STAGES, Shape, Stage};
+
+/// Appends the plans of a stage's expression, and the copy of its column into the stage's slot, and says what the column has.
+fn lay_stage(code: &mut Vec<Instr>, site: &Site<'_>, stage: &Stage) -> Result<ColumnType, NoMemory>
+    requires fits { let known = columns site.now.earlier.stages.now site.now.earlier.types.now
+        in Fits known 0 (tree_of stage.now.expr) }
+    requires room { let known = columns site.now.earlier.stages.now site.now.earlier.types.now
+        in HasRoom (stage_pieces known site.now.stage (stage_of stage.now)) code.old.items }
+    ensures has { let known = columns site.now.earlier.stages.now site.now.earlier.types.now
+        in IfOk result (λ has. has ≡ type_of known (tree_of stage.now.expr)) }
+    ensures laid { let known = columns site.now.earlier.stages.now site.now.earlier.types.now
+        in IfOk result (λ _. IsLaidAll (stage_pieces known site.now.stage (stage_of stage.now)) code.old.items code.new.items) }
+{
+    let of = site.expr(code, 0, &stage.expr)?;
+    lay_copy(code, of.shape, passing(0, of.shape), stage_slot(site.stage))?;
+    Ok(of)
+}
+
+/// Appends the plans of the stages, and says what the column of each has; what stands behind them is of no stage.
+///
+/// # Errors
+/// No memory was found.
+pub fn lay_stages<'a>(
+    code: &mut Vec<Instr>,
+    slots: &'a [Shape],
+    stages: &'a [Stage],
+) -> Result<[ColumnType; MAX_STAGES], NoMemory>
+    requires slots { slots.now ≡ low_shapes }
+    requires limits { IsTrue (is_within_limits (map stage_of stages.now)) }
+    requires typed { first_failing (stages_tests [] (map stage_of stages.now)) ≡ None }
+    requires room { HasRoom (stages_pieces [] 0 (map stage_of stages.now)) code.old.items }
+    ensures have { IfOk result (λ types. columns stages.now types ≡ columns_of [] (map stage_of stages.now)) }
+    ensures laid { IfOk result (λ _. IsLaidAll (stages_pieces [] 0 (map stage_of stages.now)) code.old.items code.new.items) }
+{
+    let mut types = [seats(Shape::One); MAX_STAGES];
+    for (i, stage) in stages.iter().enumerate() {
+        let earlier = Earlier {
+            stages: &stages[..i],
+            types: &types,
+        };
+        let site = Site {
+            slots,
+            earlier,
+            stage: i as u8,
+        };
+        types[i] = lay_stage(code, &site, stage)?;
+    }
+    Ok(types)
+}

@@ -1,5 +1,0 @@
-use Rattle.sl_desk.proofs.Ranges.{pieces_more}
-use Rattle.sl_desk.proofs.evaluate.table.kept_lists.Goals as goal
-
-pub loop-land-preserved : goal.loop-land-preserved
-loop-land-preserved c = pieces_more _ c.loop-land.land c.loop-land.lists.items _ c.loop-land.invariant c.in_ok-push_lists.ensures
