@@ -20,7 +20,7 @@ pub record IsCoverJob (shapes : List Shape) (x : CoverSlots) : Type 0 where
   pub numbers : slice_get shapes x.numbers ≡ Some shape.List
   pub apart : x.base ≢ x.numbers
 
--- the slots of a covering: the numbers of the pairs stand in the first scratch slot by list
+-- the slots of a covering: the numbers of the lists stand in the first scratch slot by list
 abbrev pub cover_slots : (base eligible : ℕ) (scratch : List (List ℕ)) → CoverSlots
 cover_slots base eligible scratch = record { base = base; eligible = eligible; numbers = slice_index (slice_index_or scratch 3 []) 0 }
 

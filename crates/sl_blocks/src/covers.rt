@@ -19,7 +19,7 @@ use sl_ratio::NoMemory;
 use sl_stages::Shape;
 use sl_verify::LAST_CLAUSE;
 
-/// The number of the pair at the cursors.
+/// How many winners the list at the cursors has; later, its number.
 const GET_NUMBER: Part = Part::Given(0);
 
 /// 1 where the party at the cursors is eligible.
@@ -30,7 +30,9 @@ const GET_SEATS: Part = Part::Given(2);
 
 const ZERO_NUMBERS: Part = Part::Given(3);
 
-const STORE_NUMBER: Part = Part::Given(4);
+const STORE_COUNT: Part = Part::Given(4);
+
+const STORE_NUMBER: Part = Part::Given(5);
 
 /// A winner waits by the share of first votes.
 const ENTER_BY_SHARE: Part = Fixed(Instr::Share);
@@ -41,23 +43,89 @@ const PLACE_SINGLES: &Plan<'static> = &Plan::Each(
     &Plan::If(Test::NoParty, &Plan::Line(&[Fixed(Instr::Single)]), NOTHING),
 );
 
-/// Numbers the pairs of a Land and a party from 1 on, in list order, and counts them.
-const NUMBER_PAIRS: &Plan<'static> = &Plan::Then(
-    &Plan::Line(&[ZERO_NUMBERS, Fixed(Instr::Set(NEEDED, 0))]),
-    &Plan::Each(
-        Cursor::Land,
-        &Plan::Each(
-            Cursor::Party,
-            &Plan::Line(&[
-                Fixed(Instr::Set(ONES, 1)),
-                Fixed(Instr::Add(NEEDED, ONES)),
-                STORE_NUMBER,
-            ]),
-        ),
+/// The plan for a winner whose party is eligible and has a list in the winner's Land, with the cursors at that list.
+macro_rules! if_seatable {
+    ($plan:expr) => {
+        &Plan::Then(
+            &Plan::Line(&[Fixed(Instr::Wland)]),
+            &Plan::If(
+                Test::NoParty,
+                NOTHING,
+                &Plan::If(
+                    Test::NoList,
+                    NOTHING,
+                    &Plan::Then(
+                        &Plan::Line(&[GET_ELIGIBLE]),
+                        &Plan::If(Test::Zero(BASE), NOTHING, $plan),
+                    ),
+                ),
+            ),
+        )
+    };
+}
+
+/// Counts the winner on the list.
+const COUNT_WINNER: &Plan<'static> = &Plan::Line(&[
+    GET_NUMBER,
+    Fixed(Instr::Set(ONES, 1)),
+    Fixed(Instr::Add(WEIGHT, ONES)),
+    STORE_COUNT,
+]);
+
+const COUNT_WINNERS: &Plan<'static> = &Plan::Then(
+    &Plan::Line(&[ZERO_NUMBERS]),
+    &Plan::Each(Cursor::Win, if_seatable!(COUNT_WINNER)),
+);
+
+/// The winners of the list for whom it has no seat, its seats, and the number 0.
+const WINNERS_LEFT: &Plan<'static> = &Plan::Line(&[
+    GET_NUMBER,
+    GET_SEATS,
+    Fixed(Instr::Sub(WEIGHT, LEFT)),
+    Fixed(Instr::Set(SECOND_PASSING, 0)),
+]);
+
+/// A list is contested if it has seats, but fewer than winners. It is counted, and that is its number.
+const TAKE_NUMBER: &Plan<'static> = &Plan::If(
+    Test::Zero(WEIGHT),
+    NOTHING,
+    &Plan::If(
+        Test::Zero(LEFT),
+        NOTHING,
+        &Plan::Line(&[
+            Fixed(Instr::Set(ONES, 1)),
+            Fixed(Instr::Add(NEEDED, ONES)),
+            Fixed(Instr::Mov(SECOND_PASSING, NEEDED)),
+        ]),
     ),
 );
 
-/// A winner of the pair is entered and counted, and brings the seats of the list.
+const NUMBER_LIST: &Plan<'static> = &Plan::Then(
+    WINNERS_LEFT,
+    &Plan::Then(TAKE_NUMBER, &Plan::Line(&[STORE_NUMBER])),
+);
+
+/// Numbers the contested lists from 1 on, in list order, and counts them. All other lists have the number 0.
+const NUMBER_CONTESTED: &Plan<'static> = &Plan::Then(
+    &Plan::Line(&[Fixed(Instr::Set(NEEDED, 0))]),
+    &Plan::Each(Cursor::Land, &Plan::Each(Cursor::Party, NUMBER_LIST)),
+);
+
+const SEAT_WINNER: &Plan<'static> = &Plan::Line(&[Fixed(Instr::Seat)]);
+
+/// On a list with seats that is not contested, there is one for each winner.
+const SEAT_FITTING: &Plan<'static> = &Plan::Then(
+    &Plan::Line(&[GET_NUMBER, GET_SEATS]),
+    &Plan::If(
+        Test::Zero(WEIGHT),
+        &Plan::If(Test::Zero(LEFT), NOTHING, SEAT_WINNER),
+        NOTHING,
+    ),
+);
+
+const SEAT_UNCONTESTED: &Plan<'static> = &Plan::Each(Cursor::Win, if_seatable!(SEAT_FITTING));
+
+/// A winner of the list is entered and counted, and brings its seats.
 const ENTER_WINNER: &Plan<'static> = &Plan::Line(&[
     ENTER_BY_SHARE,
     Fixed(Instr::Set(ONES, 1)),
@@ -65,7 +133,7 @@ const ENTER_WINNER: &Plan<'static> = &Plan::Line(&[
     GET_SEATS,
 ]);
 
-/// Is the winner one of the pair? Its number and the pair's have no difference.
+/// Is the winner one of the list whose turn it is? The number of the winner's list and that one have no difference.
 const OF_PAIR: &Plan<'static> = &Plan::Then(
     &Plan::Line(&[
         GET_NUMBER,
@@ -76,23 +144,6 @@ const OF_PAIR: &Plan<'static> = &Plan::Then(
         Fixed(Instr::Add(FIRST_PASSING, SECOND_PASSING)),
     ]),
     &Plan::If(Test::Zero(FIRST_PASSING), ENTER_WINNER, NOTHING),
-);
-
-/// Only an eligible party's winner, where it has a list, can be one of the pair.
-const SEE_WINNER: &Plan<'static> = &Plan::Then(
-    &Plan::Line(&[Fixed(Instr::Wland)]),
-    &Plan::If(
-        Test::NoParty,
-        NOTHING,
-        &Plan::If(
-            Test::NoList,
-            NOTHING,
-            &Plan::Then(
-                &Plan::Line(&[GET_ELIGIBLE]),
-                &Plan::If(Test::Zero(BASE), NOTHING, OF_PAIR),
-            ),
-        ),
-    ),
 );
 
 /// The smaller one of the list's seats and its winners.
@@ -117,8 +168,6 @@ const TIED_WINNERS: &Plan<'static> = &Plan::Then(
     ),
 );
 
-const SEAT_WINNER: &Plan<'static> = &Plan::Line(&[Fixed(Instr::Seat)]);
-
 const WHOLE_BATCHES: &Plan<'static> = batches!(
     TURNS,
     Bound::Wins,
@@ -139,7 +188,7 @@ const LAST_BATCH: &Plan<'static> = &Plan::If(
     ),
 );
 
-/// Seats winners of the next pair.
+/// Seats winners of the next contested list.
 const COVER_PAIR: &Plan<'static> = &Plan::Then(
     &Plan::Line(&[
         Fixed(Instr::Set(ONES, 1)),
@@ -149,7 +198,7 @@ const COVER_PAIR: &Plan<'static> = &Plan::Then(
         Fixed(Instr::Table(Entries::Win, Ranking::Quotients)),
     ]),
     &Plan::Then(
-        &Plan::Each(Cursor::Win, SEE_WINNER),
+        &Plan::Each(Cursor::Win, if_seatable!(OF_PAIR)),
         &Plan::Then(
             SEATS_TO_GIVE,
             &Plan::Then(COUNT_LEFT, &Plan::Then(WHOLE_BATCHES, LAST_BATCH)),
@@ -157,19 +206,24 @@ const COVER_PAIR: &Plan<'static> = &Plan::Then(
     ),
 );
 
+const COVER_CONTESTED: &Plan<'static> = &Plan::Then(
+    &Plan::Line(&[Fixed(Instr::Set(AMOUNT, 0))]),
+    &Plan::Times(NEEDED, Bound::Lists, COVER_PAIR),
+);
+
 const COVERING: &Plan<'static> = &Plan::Then(
     PLACE_SINGLES,
     &Plan::Then(
-        NUMBER_PAIRS,
+        COUNT_WINNERS,
         &Plan::Then(
-            &Plan::Line(&[Fixed(Instr::Set(AMOUNT, 0))]),
-            &Plan::Times(NEEDED, Bound::Lists, COVER_PAIR),
+            NUMBER_CONTESTED,
+            &Plan::Then(SEAT_UNCONTESTED, COVER_CONTESTED),
         ),
     ),
 );
 
 /// Appends the block of a covering (docs/blocks.md, section 6): at most 1,000 instructions that place each winner, or end the run with the
-/// first tie. It is the plan of `sl_pieces` behind a declaration. The numbers of the pairs stand in the first scratch slot by list.
+/// first tie. It is the plan of `sl_pieces` behind a declaration. The numbers of the lists stand in the first scratch slot by list.
 ///
 /// `base` is the slot of the seats of the lists, `eligible` that of the eligible parties, 1 for such a party and 0 for others. They and the
 /// scratch slot are among the slots given and have their shapes; at most 199,000 instructions stand before.
@@ -195,7 +249,8 @@ pub fn cover_block(
         Instr::Get(BASE, eligible),
         Instr::Get(LEFT, base),
         Instr::Zero(numbers),
-        Instr::Store(numbers, NEEDED),
+        Instr::Store(numbers, WEIGHT),
+        Instr::Store(numbers, SECOND_PASSING),
     ];
     lay(code, COVERING, &given)
 }

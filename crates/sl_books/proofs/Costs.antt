@@ -58,12 +58,12 @@ module _ (e : Election) where
       of p l c w h = omega (arith, h)
 
   -- steps as a measure of plans
-  costs_measured : IsMeasure (λ t. cost e t + 1) (steps 500001 0) (steps 20 0) (steps 31 30) (steps 61 70)
+  costs_measured : IsMeasure (λ t. cost e t + 1) (steps 500001 0) (steps 20 0) (steps 31 30) (steps 71 70)
   costs_measured = record {
     nodes = with_one 500000 0 350;
     columns = with_one 19 0 14;
     facts = with_one 30 30 40;
-    covers = with_one 60 70 160;
+    covers = with_one 70 70 220;
     joins = λ a b. omega arith;
   }
 
@@ -76,11 +76,11 @@ module _ (e : Election) where
   book_costs few b can =
       rw (costs_total (book_pieces few b))
       (of (parties_of e) (lands_of e) (wins_of e) (length b.stages) (total (λ t. cost e t + 1) (book_pieces few b))
-      (book_at_most (λ t. cost e t + 1) (steps 500001 0) (steps 20 0) (steps 31 30) (steps 61 70) costs_measured few b can))
+      (book_at_most (λ t. cost e t + 1) (steps 500001 0) (steps 20 0) (steps 31 30) (steps 71 70) costs_measured few b can))
     where
       -- with so many for each winner in all: q is the number of pairs
       in_pairs : (q w n c : ℕ) → 1 ≤ q
-          → c ≤ n * (q * (500001 + 0 * w) + 65 * (q * (20 + 0 * w))) + (14 * (q * (31 + 30 * w)) + (3 * (q * (20 + 0 * w)) + q * (61 + 70 * w)))
+          → c ≤ n * (q * (500001 + 0 * w) + 65 * (q * (20 + 0 * w))) + (14 * (q * (31 + 30 * w)) + (3 * (q * (20 + 0 * w)) + q * (71 + 70 * w)))
           → c + 1 ≤ (n + 2) * (400 * q * (4000 + w + 2))
       in_pairs q w n c some h = omega (arith, h, some)
 
@@ -89,7 +89,7 @@ module _ (e : Election) where
 
       of : (p l w n c : ℕ)
           → c ≤ n * ((p + 1) * (l + 1) * (500001 + 0 * w) + 65 * ((p + 1) * (l + 1) * (20 + 0 * w)))
-          + (14 * ((p + 1) * (l + 1) * (31 + 30 * w)) + (3 * ((p + 1) * (l + 1) * (20 + 0 * w)) + (p + 1) * (l + 1) * (61 + 70 * w)))
+          + (14 * ((p + 1) * (l + 1) * (31 + 30 * w)) + (3 * ((p + 1) * (l + 1) * (20 + 0 * w)) + (p + 1) * (l + 1) * (71 + 70 * w)))
           → c + 1 ≤ (n + 2) * (400 * (p + 1) * (l + 1) * (4000 + w + 2))
       of p l w n c h =
           let some : 1 ≤ (p + 1) * (l + 1) = omega arith in

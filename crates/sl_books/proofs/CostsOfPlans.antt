@@ -43,7 +43,7 @@ abbrev pub IsFactPlan : Tree → Type 0
 IsFactPlan = IsModest 30 30 40
 
 abbrev pub IsCoverPlan : Tree → Type 0
-IsCoverPlan = IsModest 60 70 160
+IsCoverPlan = IsModest 70 70 220
 
 -- ---- columns
 

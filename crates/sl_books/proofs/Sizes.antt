@@ -26,12 +26,12 @@ size_at_most plain by_win size tree modest =
     omega (arith, few)
 
 -- instructions as a measure of plans
-sizes_measured : IsMeasure (λ t. size_of t + 1) 351 15 41 161
+sizes_measured : IsMeasure (λ t. size_of t + 1) 351 15 41 221
 sizes_measured = record {
   nodes = size_at_most 500000 0 350;
   columns = size_at_most 19 0 14;
   facts = size_at_most 30 30 40;
-  covers = size_at_most 60 70 160;
+  covers = size_at_most 70 70 220;
   joins = λ a b. omega arith;
 }
 
@@ -53,9 +53,9 @@ few_stages ss within = leb-true (length ss) 32 (and_parts (nat_le (length ss) MA
 pub books_are_short : BooksAreShort
 books_are_short few b can =
     let ts = book_pieces few b in
-    let all = book_at_most (λ t. size_of t + 1) 351 15 41 161 sizes_measured few b can in
+    let all = book_at_most (λ t. size_of t + 1) 351 15 41 221 sizes_measured few b can in
     of (length (book_instrs few b)) (total (λ t. size_of t + 1) ts) (length b.stages) (few_stages b.stages can.limits)
     (let halt = length-append (laid_all 0 ts) (halting b.last.vacate ∷ []) in omega (arith, halt, length-laid_all 0 ts, sizes_total ts)) all
   where
-    of : (long all stages : ℕ) → stages ≤ 32 → long ≡ all + 1 → all ≤ stages * (351 + 65 * 15) + (14 * 41 + (3 * 15 + 161)) → long ≤ 50000
+    of : (long all stages : ℕ) → stages ≤ 32 → long ≡ all + 1 → all ≤ stages * (351 + 65 * 15) + (14 * 41 + (3 * 15 + 221)) → long ≤ 50000
     of long all stages few is h = omega (arith, few, is, h)

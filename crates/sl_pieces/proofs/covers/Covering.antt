@@ -1,129 +1,80 @@
 -- The plan of a covering: list by list the winners come to a choice, up to the first tie.
-use Rattle.std.proofs.Common.{◌≡◌, ◌≢◌, ℕ, zero, suc, ◌+◌, ◌-◌, ◌*◌, ◌<◌, Bool, false, List, [], ◌∷◌, ◌++◌, length, Some, slice_get, refl, sym, ap, ap₂, subst, append_assoc, ◌∙◌, inl, inr, arith}
-use Rattle.std.specs.Prelude.{zip, flat_map, filter_map}
-use Rattle.std.specs.List.{AllZip}
-use Rattle.std.proofs.lemmas.Bool.{cases_Bool, false≢true}
-use Rattle.std.proofs.lemmas.Grind.{flat_map-append}
-use Rattle.std.proofs.lemmas.List.{append-nil, nil_from_length}
-use Rattle.std.proofs.lemmas.List.Elements.{filter_map-append}
+use Rattle.std.proofs.Common.{◌≡◌, ◌≢◌, ◌⊎◌, ℕ, zero, suc, ◌+◌, ◌-◌, ◌*◌, ◌<◌, ◌≤◌, Bool, true, false, List, [], ◌∷◌, ◌++◌, Some, slice_get, is_none, nat_eq, refl, sym, ap, subst, append_assoc, ◌∙◌, inl, inr, arith}
+use Rattle.std.specs.Prelude.{if◌then◌else◌}
+use Rattle.std.proofs.Math.Bool.{or_comm}
+use Rattle.std.proofs.lemmas.Bool.{cases_Bool}
+use Rattle.std.proofs.lemmas.List.{append-nil}
+use Rattle.std.proofs.lemmas.List.Folds.{list_any-append}
 use Rattle.std.proofs.lemmas.Nat.{div-add-mod', div_below, mod_below}
-use Rattle.std.proofs.lemmas.Option.{slice_get_cases}
 use Rattle.sl_stages.specs.declared.book.Shape.TheVariants as shape
-use Rattle.sl_stages.specs.declared.fault.LegalFault.{LegalFault}
-use Rattle.sl_stages.specs.declared.fault.FaultKind.TheVariants as fault
-use Rattle.sl_stages.specs.declared.fault.Scope.TheVariants as scope
 use Rattle.sl_stages.specs.declared.returns.Win.{Win}
+use Rattle.sl_stages.specs.declared.table.Placed.{Placed}
+use Rattle.sl_stages.specs.declared.table.Placed.TheVariants as placed
 use Rattle.sl_stages.specs.returns.Election.{Election, IsElection, lands_of, parties_of, has_list}
 use Rattle.sl_stages.specs.returns.Facts.{lists_of}
-use Rattle.sl_stages.specs.methods.Ties.{Choice, Decided, Tied}
-use Rattle.sl_stages.specs.meaning.Splits.{entries_at}
-use Rattle.sl_stages.specs.meaning.Results.{fault_at}
-use Rattle.sl_stages.specs.meaning.Seating.{winner_items, IsSeating, tie_of, seated_on, cover_place}
-use Rattle.sl_stages.specs.laws.OneLaws.{ExactlyOne}
-use Rattle.sl_stages.proofs.meaning.ExactlyOne.{one_zip}
-use Rattle.sl_stages.proofs.meaning.OneOutcome.{one_seating}
+use Rattle.sl_stages.specs.methods.Ties.{Decided}
+use Rattle.sl_stages.specs.meaning.Seating.{IsSeating, seated_on, cover_place}
+use Rattle.sl_stages.proofs.meaning.Members.{among}
 use Rattle.sl_code.specs.Codes.{CountingCode}
 use Rattle.sl_machine.specs.State.{State, End, with_register}
+use Rattle.sl_machine.specs.Effects.{one_if}
 use Rattle.sl_machine.proofs.effects.Registers.{set_does}
-use Rattle.sl_plans.specs.declared.plan.Bound.TheVariants as bound
-use Rattle.sl_plans.specs.Trees.{Times, ones}
+use Rattle.sl_plans.specs.Trees.{ones}
 use Rattle.sl_plans.specs.Achieves.{Achieves}
 use Rattle.sl_plans.proofs.Rules.{achieves_more, achieves_from, line_ends, line_goes, then_achieves}
 use Rattle.sl_plans.proofs.KeepingRules.{achieves_kept, times_keeping}
 use Rattle.sl_pieces.specs.awards.Registers as reg
-use Rattle.sl_pieces.specs.covers.Trees.{CoverSlots, cover_pair, cover_tree}
+use Rattle.sl_pieces.specs.covers.Trees.{CoverSlots, cover_pair, cover_contested, cover_tree}
 use Rattle.sl_pieces.specs.covers.Covering.{HasCoverSlots, BeginsCovering, AreCovered, EndsInTie, CoveringsAchieve}
-use Rattle.sl_pieces.proofs.covers.Pairs.{all_zip_both, zip_both, pair_at, lists_among, all_lists, no_lists, listed_more, unlisted_more, lists_behind}
-use Rattle.sl_pieces.proofs.covers.Numbers.{singles_placed, pairs_numbered, numbers_alone}
-use Rattle.sl_pieces.proofs.covers.Winners.{won, each_winner}
+use Rattle.sl_pieces.proofs.covers.Pairs.{pair_at, lists_among, all_lists, no_lists, listed_more, unlisted_more, lists_behind}
+use Rattle.sl_pieces.proofs.covers.Singles.{singles_placed}
+use Rattle.sl_pieces.proofs.covers.Contested.{is_contested, contested_before, before_none, before_contested, before_other, before_up_to, before_few, nobody_contested}
+use Rattle.sl_pieces.proofs.covers.Counting.{winners_counted}
+use Rattle.sl_pieces.proofs.covers.Numbers.{contested_numbered, counts_alone, numbers_alone}
+use Rattle.sl_pieces.proofs.covers.Uncontested.{uncontested_choice}
+use Rattle.sl_pieces.proofs.covers.Fitting.{fitting_from, fitting_more, fitting_none, uncontested_seated}
 use Rattle.sl_pieces.proofs.covers.Entering.{AreRead}
 use Rattle.sl_pieces.proofs.covers.Chosen.{chosen}
 use Rattle.sl_pieces.proofs.covers.Ties.{EndsInListTie}
 use Rattle.sl_pieces.proofs.covers.Pair.{pair_covered}
+use Rattle.sl_pieces.proofs.covers.Decided.{AreDecided, decided_first, decided_more, first_tie, nobody_without}
 
--- ---- lists that come to choices
-
-module _ (c : CountingCode) (eligible : ℕ → Bool) (e : Election) (base : List ℕ) where
-  -- the choices of these lists are made, without a tie, and these winners are seated
-  record AreDecided (ls : List (ℕ × ℕ)) (seated : List ℕ) : Type 0 where
-    choices : List Choice
-    chosen : AllZip (IsSeating eligible e base) ls choices
-    no_tie : filter_map (tie_of eligible e (length c.stages)) (zip ls choices) ≡ []
-    seated_are : flat_map (seated_on eligible e) (zip ls choices) ≡ seated
-
-  decided_first : (ls : List (ℕ × ℕ)) → ls ≡ [] → AreDecided ls []
-  decided_first ls none = record {
-    choices = [];
-    chosen = subst (λ ks. AllZip (IsSeating eligible e base) ks []) (sym none) tt;
-    no_tie = ap (λ ks. filter_map (tie_of eligible e (length c.stages)) (zip ks [])) none;
-    seated_are = ap (λ ks. flat_map (seated_on eligible e) (zip ks [])) none;
-  }
-
-  decided_more : (ls : List (ℕ × ℕ)) (seated : List ℕ) (l : ℕ × ℕ) (s : List ℕ) → AreDecided ls seated → IsSeating eligible e base l (Decided s) →
-      AreDecided (ls ++ l ∷ []) (seated ++ seated_on eligible e (l, Decided s))
-  decided_more ls seated l s d choice =
-      let R = IsSeating eligible e base in
-      let pairs = zip_both R ls (l ∷ []) d.choices (Decided s ∷ []) d.chosen in
-      let tie = tie_of eligible e (length c.stages) in
-      record {
-        choices = d.choices ++ Decided s ∷ [];
-        chosen = all_zip_both R ls (l ∷ []) d.choices (Decided s ∷ []) d.chosen (choice, tt);
-        no_tie = ap (filter_map tie) pairs ∙ filter_map-append tie (zip ls d.choices) ((l, Decided s) ∷ []) ∙ ap (λ (fs : List LegalFault). fs ++ []) d.no_tie;
-        seated_are = ap (flat_map (seated_on eligible e)) pairs ∙ flat_map-append (seated_on eligible e) (zip ls d.choices) ((l, Decided s) ∷ [])
-            ∙ ap₂ (λ (ks ns : List ℕ). ks ++ ns) d.seated_are (append-nil (seated_on eligible e (l, Decided s)));
-      }
-
-  -- the first list with a tie ends the run: those behind it come to some choice
-  first_tie : (ls : List (ℕ × ℕ)) (seated : List ℕ) (l : ℕ × ℕ) (behind : List (ℕ × ℕ)) (end : End) → IsElection e → AreDecided ls seated → EndsInListTie c eligible e base l end →
-      lists_of e ≡ (ls ++ l ∷ []) ++ behind → EndsInTie c e eligible base end
-  first_tie ls seated l behind end is d h all =
-      let R = IsSeating eligible e base in
-      let tie = tie_of eligible e (length c.stages) in
-      let rest : ExactlyOne (AllZip R behind) = one_zip R behind (one_seating eligible e is base) in
-      let more : List Choice = Tied h.number h.among ∷ rest.one in
-      let lists : lists_of e ≡ ls ++ l ∷ behind = all ∙ append_assoc ls (l ∷ []) behind in
-      let chosen : AllZip R (ls ++ l ∷ behind) (d.choices ++ more) = all_zip_both R ls (l ∷ behind) d.choices more d.chosen (h.choice, rest.is) in
-      let this : LegalFault = fault_at (length c.stages) (scope.List l.0 l.1) (fault.Tie h.number (entries_at (winner_items eligible e l.0 l.1) h.among)) in
-      let faults : filter_map tie (zip (ls ++ l ∷ behind) (d.choices ++ more)) ≡ this ∷ filter_map tie (zip behind rest.one) =
-      ap (filter_map tie) (zip_both R ls (l ∷ behind) d.choices more d.chosen) ∙ filter_map-append tie (zip ls d.choices) ((l, Tied h.number h.among) ∷ zip behind rest.one)
-      ∙ ap (λ (fs : List LegalFault). fs ++ this ∷ filter_map tie (zip behind rest.one)) d.no_tie in
-      record {
-        choices = d.choices ++ more;
-        chosen = record { each = subst (λ ks. AllZip R ks (d.choices ++ more)) (sym lists) chosen };
-        fault = this;
-        first = (λ z. slice_get (filter_map tie (zip (lists z) (d.choices ++ more))) 0) ∙ ap (λ (fs : List LegalFault). slice_get fs 0) faults;
-        is = h.is;
-      }
-
-  -- a pair without a list has no winners
-  nobody_without : (l : ℕ × ℕ) → has_list e l.0 l.1 ≡ false → won eligible e l ≡ []
-  nobody_without l bare =
-      elim (slice_get_cases (won eligible e l) 0).1 [
-        | inl found ↦ absurd (false≢true (sym bare ∙ (each_winner eligible e l 0 found.0 found.2).listed))
-        | inr past ↦ nil_from_length (won eligible e l) (let none = past.0 in omega (arith, none))
-      ]
-
--- ---- all pairs
+-- the same numbers in another order
+rotated : (ks ms ns : List ℕ) (n : ℕ) → among ((ks ++ ms) ++ ns) n ≡ among (ms ++ (ns ++ ks)) n
+rotated ks ms ns n =
+    ap (λ ls. among ls n) (append_assoc ks ms ns) ∙ list_any-append (nat_eq n) ks (ms ++ ns) ∙ or_comm (among ks n) (among (ms ++ ns) n)
+    ∙ sym (list_any-append (nat_eq n) (ms ++ ns) ks) ∙ ap (λ ls. among ls n) (append_assoc ms ns ks)
 
 module _ (c : CountingCode) (e : Election) (x : CoverSlots) (eligible : ℕ → Bool) (base : List ℕ) (is : IsElection e) (slots : HasCoverSlots c x) (before : State) where
   abbrev pairs : ℕ
   pairs = lands_of e * parties_of e
 
-  -- the lists among the first k pairs are covered
+  abbrev contested : ℕ → Bool
+  contested = is_contested e eligible base
+
+  -- so many of the first pairs are contested
+  abbrev count : ℕ → ℕ
+  count = contested_before e eligible base
+
+  abbrev fitting : ℕ → List ℕ
+  fitting = fitting_from eligible e base
+
+  -- the lists among the first k pairs are covered; on the others the winners sit who are seated at once
   record AreCoveredUpTo (k : ℕ) (t : State) : Type 0 where
     seated : List ℕ
     decided : AreDecided c eligible e base (lists_among e k) seated
-    placed : (n : ℕ) (w : Win) → slice_get e.wins n ≡ Some w → t.placed n ≡ cover_place seated (n, w)
-    amount : t.registers reg.amount ≡ k
+    placed : (n : ℕ) (w : Win) → slice_get e.wins n ≡ Some w → t.placed n ≡ cover_place (fitting k ++ seated) (n, w)
+    amount : t.registers reg.amount ≡ count k
     read : AreRead e x eligible base t.columns
     columns : (slot q : ℕ) → slot ≢ x.numbers → t.columns slot q ≡ before.columns slot q
     steps : t.steps ≡ before.steps
     weights : t.weights ≡ before.weights
 
-  -- with so many still to come
+  -- with so many contested ones still to come
   record Inv (w : ℕ) (t : State) : Type 0 where
     done : ℕ
-    all : done + w ≡ pairs
+    within : done ≤ pairs
+    all : count done + w ≡ count pairs
     covered : AreCoveredUpTo done t
 
   module _ (k : ℕ) (low : k < pairs) (t : State) (h : AreCoveredUpTo k t) where
@@ -168,19 +119,42 @@ module _ (c : CountingCode) (e : Election) (x : CoverSlots) (eligible : ℕ → 
         all_lists e ∙ ap (lists_among e) (sym whole) ∙ rest.1 ∙ ap (λ ls. ls ++ rest.0) (listed_more e k l refl tied.there) in
         first_tie c eligible e base (lists_among e k) h.seated l rest.0 end is h.decided tied all
 
-    covers_next : (u : State) → u.columns ≡ t.columns → u.placed ≡ t.placed → u.registers reg.amount ≡ t.registers reg.amount → u.steps ≡ t.steps → u.weights ≡ t.weights →
+    -- a pair that is not contested is passed over
+    passed_over : contested k ≡ false → AreCoveredUpTo (k + 1) t
+    passed_over not =
+        let choice = uncontested_choice eligible e is base k not in
+        let own : List ℕ = seated_on eligible e (l, Decided choice.0) in
+        let first : fitting k ≡ own ++ fitting (k + 1) = fitting_more eligible e base k low ∙ ap (λ ks. ks ++ fitting (k + 1)) (sym choice.2) in
+        record {
+          seated = h.seated ++ own;
+          decided = decided_next choice.0 choice.1;
+          placed = λ n w at.
+              let lone : Placed = if is_none w.party then placed.Single else placed.Unseated in
+              h.placed n w at
+              ∙ ap (λ (b : Bool). if b then placed.OnList else lone) (ap (λ ks. among (ks ++ h.seated) n) first ∙ rotated own (fitting (k + 1)) h.seated n);
+          amount = h.amount ∙ sym (before_other e eligible base k not);
+          read = h.read;
+          columns = h.columns;
+          steps = h.steps;
+          weights = h.weights;
+        }
+
+    covers_next : contested k ≡ true → (u : State) → u.columns ≡ t.columns → u.placed ≡ t.placed → u.registers reg.amount ≡ t.registers reg.amount → u.steps ≡ t.steps → u.weights ≡ t.weights →
         Achieves c e (cover_pair x) u (AreCoveredUpTo (k + 1)) (EndsInTie c e eligible base)
-    covers_next u columns placed amount steps weights =
+    covers_next some u columns placed amount steps weights =
+        let nobody : fitting k ≡ fitting (k + 1) = fitting_more eligible e base k low ∙ ap (λ ks. ks ++ fitting (k + 1)) (nobody_contested e eligible base k some) in
         achieves_more
-        (achieves_kept (pair_covered c e x eligible base l is slots in_land in_party h.seated u (subst (AreRead e x eligible base) (sym columns) h.read) (amount ∙ h.amount ∙ sym place_is)
-        (λ n w at. ap (λ f. f n) placed ∙ h.placed n w at)))
+        (achieves_kept (pair_covered c e x eligible base l is slots in_land in_party (fitting k ++ h.seated) u (subst (AreRead e x eligible base) (sym columns) h.read)
+        (ap contested place_is ∙ some) (amount ∙ h.amount ∙ ap count (sym place_is)) (λ n w at. ap (λ f. f n) placed ∙ h.placed n w at)))
         (λ v g.
         let kept : (slot q : ℕ) → v.columns slot q ≡ t.columns slot q = (λ slot q. g.1.columns slot refl q ∙ ap (λ (f : ℕ → ℕ → ℕ). f slot q) columns) in
+        let own : List ℕ = seated_on eligible e (l, Decided g.0.0.s) in
+        let same : (fitting k ++ h.seated) ++ own ≡ fitting (k + 1) ++ (h.seated ++ own) = ap (λ ks. (ks ++ h.seated) ++ own) nobody ∙ append_assoc (fitting (k + 1)) h.seated own in
         record {
-          seated = h.seated ++ seated_on eligible e (l, Decided g.0.0.s);
+          seated = h.seated ++ own;
           decided = decided_next g.0.0.s g.0.0.choice;
-          placed = g.0.0.placed;
-          amount = g.0.1 ∙ ap (λ (n : ℕ). n + 1) place_is;
+          placed = λ n w at. g.0.0.placed n w at ∙ (λ z. cover_place (same z) (n, w));
+          amount = g.0.1 ∙ ap (λ q. count q + 1) place_is ∙ sym (before_contested e eligible base k some);
           read = record {
             numbers = λ q less. kept x.numbers q ∙ h.read.numbers q less;
             seats = λ q less. kept x.base q ∙ h.read.seats q less;
@@ -192,30 +166,81 @@ module _ (c : CountingCode) (e : Election) (x : CoverSlots) (eligible : ℕ → 
         })
         (λ end tied. tie_next end tied)
 
-  covers_all : (t : State) → t.registers reg.needed ≡ pairs → AreCoveredUpTo 0 t →
-      Achieves c e (Times reg.needed bound.Lists (cover_pair x)) t (AreCovered c e x eligible base before) (EndsInTie c e eligible base)
-  covers_all t count first =
-      times_keeping Inv refl refl (omega (arith, count)) (record { done = 0; all = omega (arith, count); covered = first })
-      (λ w u some h.
+  -- the state is behind all pairs, or at the next contested one
+  Reached : ℕ → State → Type 0
+  Reached k t = (AreCoveredUpTo pairs t × (count pairs ≡ count k)) ⊎ ((m : ℕ) × (m < pairs) × (contested m ≡ true) × (count m ≡ count k) × AreCoveredUpTo m t)
+
+  on_to_next : (more k : ℕ) → k + more ≡ pairs → (t : State) → AreCoveredUpTo k t → Reached k t
+  unfolding Reached
+  on_to_next zero k all t h = let last : k ≡ pairs = omega (arith, all) in inl (subst (λ (m : ℕ). AreCoveredUpTo m t) last h, ap count (sym last))
+  on_to_next (suc more) k all t h =
+      let low : k < pairs = omega (arith, all) in
+      elim (cases_Bool (contested k)) [
+        | inl here ↦ inr (k, low, here, refl, h)
+        | inr not ↦
+            (let next = before_other e eligible base k not in
+            elim (on_to_next more (k + 1) (omega (arith, all)) t (passed_over k low t h not)) [
+              | inl last ↦ inl (last.0, last.1 ∙ next)
+              | inr found ↦ inr (found.0, found.1, found.2, found.3 ∙ next, found.4)
+            ])
+      ]
+
+  reached : (w : ℕ) (t : State) (h : Inv w t) → Reached h.done t
+  reached w t h = let within = h.within in on_to_next (pairs - h.done) h.done (omega (arith, within)) t h.covered
+
+  covers_one : (w : ℕ) (t : State) → Inv (suc w) t → Achieves c e (cover_pair x) (with_register reg.needed w (with_register ones 1 t)) (Inv w) (EndsInTie c e eligible base)
+  unfolding Reached
+  covers_one w t h =
       let all = h.all in
-      let low : h.done < pairs = omega (arith, all) in
-      achieves_more (covers_next h.done low u h.covered (with_register reg.needed w (with_register ones 1 u)) refl refl refl refl refl)
-      (λ v g. record { done = h.done + 1; all = omega (arith, all); covered = g }) (λ end tied. tied))
-      (λ u none h.
+      elim (reached (suc w) t h) [
+        | inl last ↦ absurd (let none = last.1 in omega (arith, none, all))
+        | inr found ↦
+            achieves_more (covers_next found.0 found.1 t found.4 found.2 (with_register reg.needed w (with_register ones 1 t)) refl refl refl refl refl)
+            (λ v g.
+            let low = found.1 in
+            let same = found.3 in
+            let next = before_contested e eligible base found.0 found.2 in
+            record { done = found.0 + 1; within = omega (arith, low); all = omega (arith, all, same, next); covered = g }) (λ end tied. tied)
+      ]
+
+  covers_last : (t : State) → Inv 0 t → AreCovered c e x eligible base before t
+  unfolding Reached
+  covers_last t h =
       let all = h.all in
-      let done : h.done ≡ pairs = omega (arith, all) in
-      let last : AreCoveredUpTo pairs u = subst (λ (k : ℕ). AreCoveredUpTo k u) done h.covered in
-      let lists : lists_among e pairs ≡ lists_of e = sym (all_lists e) in
-      let decided : AreDecided c eligible e base (lists_of e) last.seated = subst (λ ls. AreDecided c eligible e base ls last.seated) lists last.decided in
-      record {
-        choices = decided.choices;
-        chosen = record { each = decided.chosen };
-        no_tie = decided.no_tie;
-        placed = λ n w at. last.placed n w at ∙ (λ z. cover_place (sym decided.seated_are z) (n, w));
-        columns = last.columns;
-        steps = last.steps;
-        weights = last.weights;
-      })
+      elim (reached 0 t h) [
+        | inl last ↦ whole last.0
+        | inr found ↦
+            absurd (let low = found.1 in
+            let same = found.3 in
+            let next = before_contested e eligible base found.0 found.2 in
+            let rest = before_up_to e eligible base (found.0 + 1) pairs (omega (arith, low)) in
+            omega (arith, all, same, next, rest))
+      ]
+    where
+      whole : AreCoveredUpTo pairs t → AreCovered c e x eligible base before t
+      whole last =
+          let lists : lists_among e pairs ≡ lists_of e = sym (all_lists e) in
+          let decided : AreDecided c eligible e base (lists_of e) last.seated = subst (λ ls. AreDecided c eligible e base ls last.seated) lists last.decided in
+          let seated : fitting pairs ++ last.seated ≡ last.seated = ap (λ ks. ks ++ last.seated) (fitting_none eligible e base) in
+          record {
+            choices = decided.choices;
+            chosen = record { each = decided.chosen };
+            no_tie = decided.no_tie;
+            placed = λ n w at. last.placed n w at ∙ (λ z. cover_place ((seated ∙ sym decided.seated_are) z) (n, w));
+            columns = last.columns;
+            steps = last.steps;
+            weights = last.weights;
+          }
+
+  covers_all : (t : State) → t.registers reg.needed ≡ count pairs → AreCoveredUpTo 0 (with_register reg.amount 0 t) →
+      Achieves c e (cover_contested x) t (AreCovered c e x eligible base before) (EndsInTie c e eligible base)
+  covers_all t needed first =
+      then_achieves {Q = λ v. v ≡ with_register reg.amount 0 t} (line_goes (set_does c e t reg.amount 0) (line_ends refl))
+      (λ v same. achieves_from same
+      (times_keeping Inv refl refl (let few = before_few e eligible base pairs in omega (arith, needed, few))
+      (let none = before_none e eligible base in
+      record { done = 0; within = omega arith; all = omega (arith, needed, none); covered = first })
+      (λ w u some h. covers_one w u h) (λ u none h. covers_last u h)))
 
   -- the party slot is not that of the numbers
   flags_apart : x.eligible ≢ x.numbers
@@ -224,26 +249,41 @@ module _ (c : CountingCode) (e : Election) (x : CoverSlots) (eligible : ℕ → 
   covered : BeginsCovering e x eligible base before → Achieves c e (cover_tree x) before (AreCovered c e x eligible base before) (EndsInTie c e eligible base)
   covered begins =
       then_achieves (achieves_more (achieves_kept (singles_placed c e before begins.nobody)) (λ t h. h) (λ y never. absurd never))
-      (λ t h.
-      then_achieves (achieves_more (achieves_kept (pairs_numbered c e x is slots t)) (λ u g. g) (λ y never. absurd never))
-      (λ u g.
-      let zeroed : State = with_register reg.amount 0 u in
-      let kept : (slot q : ℕ) → slot ≢ x.numbers → u.columns slot q ≡ before.columns slot q = (λ slot q other. g.1.columns slot (numbers_alone x slot other) q ∙ h.1.columns slot refl q) in
-      then_achieves {Q = λ v. v ≡ zeroed} (line_goes (set_does c e u reg.amount 0) (line_ends refl))
-      (λ v same. achieves_from same
-      (covers_all zeroed g.0.count (record {
+      (λ t singles.
+      let flags : (party : ℕ) → party < parties_of e → t.columns x.eligible party ≡ one_if (eligible party) = (λ party less. singles.1.columns x.eligible refl party ∙ begins.flags party less) in
+      then_achieves (achieves_more (achieves_kept (winners_counted c e x eligible is slots flags_apart t flags)) (λ u h. h) (λ y never. absurd never))
+      (λ u counts.
+      let counted : (slot q : ℕ) → slot ≢ x.numbers → u.columns slot q ≡ before.columns slot q =
+      (λ slot q other. counts.1.columns slot (counts_alone x slot other) q ∙ singles.1.columns slot refl q) in
+      then_achieves
+      (achieves_more (achieves_kept (contested_numbered c e x eligible base is slots u counts.0 (λ q less. counted x.base q slots.apart ∙ begins.seats q less))) (λ v h. h) (λ y never. absurd never))
+      (λ v numbers.
+      let kept : (slot q : ℕ) → slot ≢ x.numbers → v.columns slot q ≡ before.columns slot q =
+      (λ slot q other. numbers.1.columns slot (numbers_alone x slot other) q ∙ counted slot q other) in
+      let read : AreRead e x eligible base v.columns = record {
+        numbers = numbers.0.numbers;
+        seats = λ q less. kept x.base q slots.apart ∙ begins.seats q less;
+        flags = λ party less. kept x.eligible party flags_apart ∙ begins.flags party less;
+      } in
+      then_achieves
+      (achieves_more
+      (achieves_kept (uncontested_seated c e x eligible base is slots v read (λ n w at. numbers.1.placed refl n ∙ counts.1.placed refl n ∙ singles.0 n w at))) (λ s h. h) (λ y never. absurd never))
+      (λ s fits.
+      let stay : (slot q : ℕ) → s.columns slot q ≡ v.columns slot q = (λ slot q. fits.1.columns slot refl q) in
+      covers_all s (fits.1.registers reg.needed refl ∙ numbers.0.count)
+      (record {
         seated = [];
         decided = decided_first c eligible e base (lists_among e 0) (no_lists e);
-        placed = λ n w at. g.1.placed refl n ∙ h.0 n w at;
-        amount = refl;
+        placed = λ n w at. fits.0 n w at ∙ (λ z. cover_place (sym (append-nil (fitting 0)) z) (n, w));
+        amount = sym (before_none e eligible base);
         read = record {
-          numbers = g.0.numbers;
-          seats = λ q less. kept x.base q slots.apart ∙ begins.seats q less;
-          flags = λ party less. kept x.eligible party flags_apart ∙ begins.flags party less;
+          numbers = λ q less. stay x.numbers q ∙ read.numbers q less;
+          seats = λ q less. stay x.base q ∙ read.seats q less;
+          flags = λ party less. stay x.eligible party ∙ read.flags party less;
         };
-        columns = kept;
-        steps = g.1.steps_kept refl ∙ h.1.steps_kept refl;
-        weights = g.1.weights_kept refl ∙ h.1.weights_kept refl;
+        columns = λ slot q other. stay slot q ∙ kept slot q other;
+        steps = fits.1.steps_kept refl ∙ numbers.1.steps_kept refl ∙ counts.1.steps_kept refl ∙ singles.1.steps_kept refl;
+        weights = fits.1.weights_kept refl ∙ numbers.1.weights_kept refl ∙ counts.1.weights_kept refl ∙ singles.1.weights_kept refl;
       })))))
 
 pub coverings_achieve : CoveringsAchieve

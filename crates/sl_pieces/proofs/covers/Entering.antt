@@ -1,11 +1,8 @@
 -- The winners of a list enter the table, each by its share, and are counted.
-use Rattle.std.proofs.Common.{◌≡◌, ℕ, ◌+◌, ◌*◌, ◌<◌, ◌≤◌, Bool, true, false, cond, min, List, [], ◌∷◌, ◌++◌, map, take, length, Some, slice_get, refl, sym, ap, subst, ◌∙◌, arith}
-use Rattle.std.specs.Prelude.{filter, slice_index}
-use Rattle.std.specs.List.{enumerate_from}
-use Rattle.std.proofs.lemmas.Option.{slice_get_within, get_or_from_slice_get}
-use Rattle.std.proofs.lemmas.List.{append-nil, length-append, map-append, take_all}
-use Rattle.std.proofs.lemmas.List.Elements.{filter_more}
-use Rattle.std.proofs.lemmas.List.FromFn.{length-enumerate_from, get_or-enumerate_from}
+use Rattle.std.proofs.Common.{◌≡◌, ℕ, ◌+◌, ◌*◌, ◌<◌, ◌≤◌, Bool, true, false, cond, min, List, [], ◌∷◌, ◌++◌, map, length, Some, slice_get, refl, sym, ap, subst, ◌∙◌, arith}
+use Rattle.std.specs.Prelude.{slice_index}
+use Rattle.std.proofs.lemmas.Option.{slice_get_within}
+use Rattle.std.proofs.lemmas.List.{append-nil, length-append, map-append}
 use Rattle.std.proofs.lemmas.List.Sorted.{IsPermutation-sym, IsPermutation-to_front}
 use Rattle.sl_ratio.specs.declared.entry.Entry.{Entry}
 use Rattle.sl_stages.specs.declared.book.Shape.TheVariants as shape
@@ -19,7 +16,7 @@ use Rattle.sl_code.specs.declared.operand.Ranking.TheVariants as ranking
 use Rattle.sl_prio.specs.Ranking.{ranked}
 use Rattle.sl_prio.proofs.RankedEntries.{ranked_alike}
 use Rattle.sl_machine.specs.State.{State, PriorityTable, with_register}
-use Rattle.sl_machine.specs.Effects.{most, one_if}
+use Rattle.sl_machine.specs.Effects.{most}
 use Rattle.sl_machine.proofs.effects.Registers.{set_does, add_does, get_does}
 use Rattle.sl_machine.proofs.effects.Cursors.{both_are, winner_is}
 use Rattle.sl_machine.proofs.effects.Table.{entered, share_does}
@@ -27,16 +24,18 @@ use Rattle.sl_plans.specs.Trees.{ones}
 use Rattle.sl_plans.specs.Achieves.{Achieves, Never}
 use Rattle.sl_plans.proofs.Rules.{line_ends, line_goes}
 use Rattle.sl_pieces.specs.awards.Registers as reg
-use Rattle.sl_pieces.specs.covers.Trees.{CoverSlots, nothing, enter_winner}
+use Rattle.sl_pieces.specs.covers.Trees.{CoverSlots, enter_winner}
 use Rattle.sl_pieces.specs.covers.Covering.{HasCoverSlots}
 use Rattle.sl_pieces.proofs.covers.Pairs.{cell_within}
-use Rattle.sl_pieces.proofs.covers.Winners.{of_list, won, entry_of}
+use Rattle.sl_pieces.proofs.covers.Winners.{of_list, front, front_more, entry_of}
+use Rattle.sl_pieces.proofs.covers.Seatable.{HasFlags}
+use Rattle.sl_pieces.proofs.covers.Contested.{number_of}
 
 -- what the columns hold that are read: the numbers of the pairs, the lists' seats, and which parties are eligible
 pub record AreRead (e : Election) (x : CoverSlots) (eligible : ℕ → Bool) (base : List ℕ) (columns : ℕ → ℕ → ℕ) : Type 0 where
-  pub numbers : (q : ℕ) → q < lands_of e * parties_of e → columns x.numbers q ≡ q + 1
+  pub numbers : (q : ℕ) → q < lands_of e * parties_of e → columns x.numbers q ≡ number_of e eligible base q
   pub seats : (q : ℕ) → q < lands_of e * parties_of e → columns x.base q ≡ slice_index base q
-  pub flags : (party : ℕ) → party < parties_of e → columns x.eligible party ≡ one_if (eligible party)
+  pub flags : HasFlags e x eligible columns
 
 -- a table of winners that holds these
 abbrev pub table_with : List (ℕ × Win) → PriorityTable
@@ -45,7 +44,7 @@ table_with winners = record { entries = entries.Win; ranking = ranking.Quotients
 -- of the first j winners these are the list's: they wait, and are counted, and there are so many seats
 pub record AreEntered (e : Election) (x : CoverSlots) (eligible : ℕ → Bool) (base : List ℕ) (l : ℕ × ℕ) (j : ℕ) (winners : List (ℕ × Win)) (t : State) : Type 0 where
   pub read : AreRead e x eligible base t.columns
-  pub amount : t.registers reg.amount ≡ l.0 * parties_of e + l.1 + 1
+  pub amount : t.registers reg.amount ≡ number_of e eligible base (l.0 * parties_of e + l.1)
   pub table : t.table ≡ Some (table_with winners)
   pub total : t.registers reg.total ≡ length winners
   pub few : length winners ≤ j
@@ -55,43 +54,18 @@ module _ (c : CountingCode) (e : Election) (x : CoverSlots) (eligible : ℕ → 
   abbrev says : ℕ × Win → Bool
   says = of_list eligible e l
 
-  -- the list's winners among the first j
-  pub front : ℕ → List (ℕ × Win)
-  front j = filter says (take j (enumerate_from 0 e.wins))
-
-  pub front_none : front 0 ≡ []
-  unfolding front
-  front_none = refl
-
-  pub front_all : front (wins_of e) ≡ won eligible e l
-  unfolding front
-  front_all =
-      let long : length (enumerate_from 0 e.wins) ≡ length e.wins = length-enumerate_from 0 e.wins in
-      ap (filter says) (take_all (wins_of e) (enumerate_from 0 e.wins) (omega (arith, long)))
-
-  front_more : (j : ℕ) (w : Win) → slice_get e.wins j ≡ Some w → front (j + 1) ≡ front j ++ cond (says (j, w)) ((j, w) ∷ []) []
-  unfolding front
-  front_more j w at =
-      let within : j < length e.wins = slice_get_within e.wins j w at in
-      let here : 0 + j ≡ j = omega arith in
-      let long : length (enumerate_from 0 e.wins) ≡ length e.wins = length-enumerate_from 0 e.wins in
-      let step = filter_more says (enumerate_from 0 e.wins) j (j, w) (omega (arith, within, long)) in
-      let winner = get_or-enumerate_from 0 e.wins j (j, w) within in
-      let same = get_or_from_slice_get e.wins j w w at in
-      step ∙ (λ z. front j ++ cond (says (winner z)) (winner z ∷ []) []) ∙ (λ z. front j ++ cond (says (here z, same z)) ((here z, same z) ∷ []) [])
-
   abbrev pub Entered : ℕ → State → Type 0
-  Entered j t = AreEntered e x eligible base l j (front j) t
+  Entered j t = AreEntered e x eligible base l j (front eligible e l j) t
 
   module _ (j : ℕ) (w : Win) (at : slice_get e.wins j ≡ Some w) where
     -- another winner leaves all as it was
     pub not_entered : (t u : State) → Entered j t → says (j, w) ≡ false → u.columns ≡ t.columns → u.registers reg.amount ≡ t.registers reg.amount →
-        u.table ≡ t.table → u.registers reg.total ≡ t.registers reg.total → u.registers reg.left ≡ t.registers reg.left → Achieves c e nothing u (Entered (j + 1)) Never
+        u.table ≡ t.table → u.registers reg.total ≡ t.registers reg.total → u.registers reg.left ≡ t.registers reg.left → Entered (j + 1) u
     not_entered t u h not columns amount table total left =
-        let same : front (j + 1) ≡ front j = front_more j w at ∙ ap (λ b. front j ++ cond b ((j, w) ∷ []) []) not ∙ append-nil (front j) in
+        let same : front eligible e l (j + 1) ≡ front eligible e l j =
+        front_more eligible e l j w at ∙ ap (λ b. front eligible e l j ++ cond b ((j, w) ∷ []) []) not ∙ append-nil (front eligible e l j) in
         let few = h.few in
-        line_ends
-        (subst (λ ys. AreEntered e x eligible base l (j + 1) ys u) (sym same)
+        subst (λ ys. AreEntered e x eligible base l (j + 1) ys u) (sym same)
         (record {
           read = subst (AreRead e x eligible base) (sym columns) h.read;
           amount = amount ∙ h.amount;
@@ -99,31 +73,31 @@ module _ (c : CountingCode) (e : Election) (x : CoverSlots) (eligible : ℕ → 
           total = total ∙ h.total;
           few = omega (arith, few);
           left = λ some. left ∙ h.left some;
-        }))
+        })
 
     -- a winner of the list enters
     module _ (is : IsElection e) (slots : HasCoverSlots c x) (in_land : l.0 < lands_of e) (in_party : l.1 < parties_of e) where
       -- the table with one more
-      entered_too : ranked (entry_of (j, w) ∷ map entry_of (front j)) ≡ ranked (map entry_of (front j ++ (j, w) ∷ []))
+      entered_too : ranked (entry_of (j, w) ∷ map entry_of (front eligible e l j)) ≡ ranked (map entry_of (front eligible e l j ++ (j, w) ∷ []))
       entered_too =
           let y : Entry = entry_of (j, w) in
-          ranked_alike (y ∷ map entry_of (front j)) (map entry_of (front j) ++ y ∷ []) (IsPermutation-sym _ _ (IsPermutation-to_front (map entry_of (front j)) y))
-          ∙ ap ranked (sym (map-append entry_of (front j) ((j, w) ∷ [])))
+          ranked_alike (y ∷ map entry_of (front eligible e l j)) (map entry_of (front eligible e l j) ++ y ∷ []) (IsPermutation-sym _ _ (IsPermutation-to_front (map entry_of (front eligible e l j)) y))
+          ∙ ap ranked (sym (map-append entry_of (front eligible e l j) ((j, w) ∷ [])))
 
       pub enters : (t v : State) → Entered j t → says (j, w) ≡ true → v.columns ≡ t.columns → v.registers reg.amount ≡ t.registers reg.amount → v.table ≡ t.table →
           v.registers reg.total ≡ t.registers reg.total → v.party ≡ Some l.1 → v.land ≡ Some l.0 → v.win ≡ Some j → Achieves c e (enter_winner x) v (Entered (j + 1)) Never
       enters t v h yes' columns amount table total party land win =
           let cell : ℕ = l.0 * parties_of e + l.1 in
-          let more : front (j + 1) ≡ front j ++ (j, w) ∷ [] = front_more j w at ∙ ap (λ b. front j ++ cond b ((j, w) ∷ []) []) yes' in
-          let tab : PriorityTable = table_with (front j) in
+          let more : front eligible e l (j + 1) ≡ front eligible e l j ++ (j, w) ∷ [] = front_more eligible e l j w at ∙ ap (λ b. front eligible e l j ++ cond b ((j, w) ∷ []) []) yes' in
+          let tab : PriorityTable = table_with (front eligible e l j) in
           let one : State = entered (record { num = w.first; den = w.valid }) j tab v in
           let two : State = with_register ones 1 one in
           let three : State = with_register reg.total (min (v.registers reg.total + 1) most) two in
           let four : State = with_register reg.left (v.columns x.base cell) three in
-          let few : length (front j) ≤ j = h.few in
+          let few : length (front eligible e l j) ≤ j = h.few in
           let below : j < wins_of e = slice_get_within e.wins j w at in
           let winners : wins_of e ≤ MAX_WINS = (let many = is.winners in let same = is.wins in omega (arith, many, same)) in
-          let longer : length (front j ++ (j, w) ∷ []) ≡ length (front j) + 1 = length-append (front j) ((j, w) ∷ []) in
+          let longer : length (front eligible e l j ++ (j, w) ∷ []) ≡ length (front eligible e l j) + 1 = length-append (front eligible e l j) ((j, w) ∷ []) in
           let at_cell = both_are v.land v.party (λ land party. land * parties_of e + party) l.0 l.1 land party in
           line_goes (share_does c e v tab (table ∙ h.table) j win w (winner_is e v j w win at) refl)
           (line_goes (set_does c e one ones 1)

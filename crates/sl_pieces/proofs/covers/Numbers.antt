@@ -1,90 +1,28 @@
--- The winners without a party are singles, and the pairs of a Land and a party have their numbers.
-use Rattle.std.proofs.Common.{◌≡◌, ◌≢◌, ℕ, ◌+◌, ◌*◌, ◌<◌, ◌≤◌, Bool, false, ◌==◌, min, [], ◌∷◌, ◌++◌, Option, Some, None, is_none, slice_get, refl, sym, ap, ◌∙◌, inl, inr, arith, ne_eqb}
-use Rattle.std.specs.Prelude.{if◌then◌else◌}
+-- The contested pairs of a Land and a party have their numbers, and all others have 0.
+use Rattle.std.proofs.Common.{◌≡◌, ◌≢◌, ℕ, ◌+◌, ◌-◌, ◌*◌, ◌<◌, ◌≤◌, Bool, false, min, List, Some, refl, sym, ap, ◌∙◌, inl, inr, arith, ne_eqb}
+use Rattle.std.specs.Prelude.{slice_index}
 use Rattle.std.proofs.Math.Nat.{mul-le-mul_left}
-use Rattle.std.proofs.lemmas.Bool.{cases_eq, eq-eqb}
-use Rattle.std.proofs.lemmas.Option.{same_Some, slice_get_cases, slice_get_within}
+use Rattle.std.proofs.lemmas.Bool.{cases_eq}
 use Rattle.sl_stages.specs.declared.limits.TheConstants.{MAX_LANDS}
 use Rattle.sl_stages.specs.declared.book.Shape.TheVariants as shape
-use Rattle.sl_stages.specs.declared.returns.Win.{Win}
-use Rattle.sl_stages.specs.declared.table.Placed.TheVariants as placed
 use Rattle.sl_stages.specs.returns.Election.{Election, IsElection, lands_of, parties_of}
-use Rattle.sl_stages.specs.meaning.Seating.{cover_place}
 use Rattle.sl_code.specs.Codes.{CountingCode}
-use Rattle.sl_code.specs.declared.instr.Instr.TheVariants.{Store, Single}
-use Rattle.sl_machine.specs.State.{State, with_register, with_cell, with_column, with_place}
-use Rattle.sl_machine.specs.Effects.{most, with_party, with_land, with_win}
-use Rattle.sl_machine.proofs.effects.Registers.{set_does, add_does, store_does, zero_does}
-use Rattle.sl_machine.proofs.effects.Records.{single_does}
-use Rattle.sl_machine.proofs.effects.Cursors.{both_are, winner_is}
-use Rattle.sl_machine.proofs.effects.Storing.{cell_same, cell_other_place}
+use Rattle.sl_machine.specs.State.{State, with_register, with_cell}
+use Rattle.sl_machine.specs.Effects.{most, with_party, with_land}
+use Rattle.sl_machine.proofs.effects.Registers.{set_does, mov_does, add_does, sub_does, get_does, store_does}
+use Rattle.sl_machine.proofs.effects.Cursors.{both_are}
+use Rattle.sl_machine.proofs.effects.Storing.{cell_same, cell_other_place, cell_other_slot}
 use Rattle.sl_plans.specs.declared.plan.Cursor.TheVariants as cursor
-use Rattle.sl_plans.specs.declared.plan.Test.TheVariants as test
-use Rattle.sl_plans.specs.Trees.{Line, If, Each, ones}
+use Rattle.sl_plans.specs.Trees.{Each, ones}
 use Rattle.sl_plans.specs.Achieves.{Achieves, Never}
 use Rattle.sl_plans.specs.inner.Frames.{may_write_slot}
-use Rattle.sl_plans.proofs.Rules.{line_ends, line_goes, then_achieves, if_no_party}
+use Rattle.sl_plans.proofs.Rules.{achieves_from, line_ends, line_goes, then_achieves, if_zero}
 use Rattle.sl_plans.proofs.KeepingRules.{each_keeping}
 use Rattle.sl_pieces.specs.awards.Registers as reg
-use Rattle.sl_pieces.specs.awards.Trees.{count_up}
-use Rattle.sl_pieces.specs.covers.Trees.{CoverSlots, nothing, place_singles, number_pairs}
+use Rattle.sl_pieces.specs.covers.Trees.{CoverSlots, count_winners, number_list, number_contested}
 use Rattle.sl_pieces.specs.covers.Covering.{HasCoverSlots}
 use Rattle.sl_pieces.proofs.covers.Pairs.{cell_within}
-
--- ---- singles
-
--- of the first winners those without a party are singles, and nobody else is placed
-pub record ArePlaced (e : Election) (j : ℕ) (t : State) : Type 0 where
-  pub first : (n : ℕ) (w : Win) → slice_get e.wins n ≡ Some w → n < j → t.placed n ≡ cover_place [] (n, w)
-  pub rest : (n : ℕ) → j ≤ n → t.placed n ≡ placed.Unseated
-
-place_next : (e : Election) (i : ℕ) (w : Win) (t u : State) → slice_get e.wins i ≡ Some w → ArePlaced e i t → u.placed i ≡ cover_place [] (i, w) →
-    ((n : ℕ) → n ≢ i → u.placed n ≡ t.placed n) → ArePlaced e (i + 1) u
-place_next e i w t u at h here others = record {
-  first = λ n v there less.
-      elim (cases_eq n i) [
-        | inl same ↦
-            let is : w ≡ v = same_Some w v (sym at ∙ ap (slice_get e.wins) (sym same) ∙ there) in
-            ap u.placed same ∙ here ∙ (λ z. cover_place [] (sym same z, is z))
-        | inr other ↦ others n other ∙ h.first n v there (omega (arith, less, other))
-      ];
-  rest = λ n high. others n (λ same. omega (arith, high, same)) ∙ h.rest n (omega (arith, high));
-}
-
-module _ (c : CountingCode) (e : Election) where
-  places_one : (i : ℕ) (w : Win) (t : State) → slice_get e.wins i ≡ Some w → ArePlaced e i t →
-      Achieves c e (If test.NoParty (Line (Single ∷ [])) nothing) (with_win (Some i) t) (ArePlaced e (i + 1)) Never
-  places_one i w t at h =
-      if_no_party (winner_is e (with_win (Some i) t) i w refl at)
-      (λ none.
-      let u : State = with_party None (with_win (Some i) t) in
-      let here : (if i == i then placed.Single else t.placed i) ≡ cover_place [] (i, w) =
-      ap (λ (b : Bool). if b then placed.Single else t.placed i) (eq-eqb i i refl) ∙ ap (λ (o : Option ℕ). if is_none o then placed.Single else placed.Unseated) (sym none) in
-      line_goes (single_does c e u i refl)
-      (line_ends (place_next e i w t (with_place i placed.Single u) at h here (λ n other. ap (λ (b : Bool). if b then placed.Single else t.placed n) (ne_eqb n i other)))))
-      (λ p some.
-      let u : State = with_party (Some p) (with_win (Some i) t) in
-      let here : t.placed i ≡ cover_place [] (i, w) = h.rest i (omega arith) ∙ ap (λ (o : Option ℕ). if is_none o then placed.Single else placed.Unseated) (sym some) in
-      line_ends (place_next e i w t u at h here (λ n other. refl)))
-
-  pub singles_placed : (s : State) → ((n : ℕ) → s.placed n ≡ placed.Unseated) →
-      Achieves c e place_singles s (λ t. (n : ℕ) (w : Win) → slice_get e.wins n ≡ Some w → t.placed n ≡ cover_place [] (n, w)) Never
-  singles_placed s nobody =
-      each_keeping (ArePlaced e) refl
-      (record { first = λ n w at less. absurd (omega (arith, less)); rest = λ n high. nobody n })
-      (λ i t below h.
-      elim (slice_get_cases e.wins i).1 [
-        | inl found ↦ places_one i found.0 t found.2 h
-        | inr past ↦ absurd (let far = past.0 in omega (arith, below, far))
-      ])
-      (λ t h n w at. h.first n w at (slice_get_within e.wins n w at))
-
--- ---- numbers
-
--- the first pairs have their numbers, and they are counted
-pub record AreNumbered (x : CoverSlots) (n : ℕ) (t : State) : Type 0 where
-  pub numbers : (q : ℕ) → q < n → t.columns x.numbers q ≡ q + 1
-  pub count : t.registers reg.needed ≡ n
+use Rattle.sl_pieces.proofs.covers.Contested.{many_at, is_contested, contested_before, number_of, contested_by, no_seats_uncontested, all_fit_uncontested, before_none, before_contested, before_other, before_few, number_contested_is, number_other_is}
 
 -- pairs can be counted in a register
 pub pairs_countable : (e : Election) → IsElection e → lands_of e * parties_of e ≤ most
@@ -92,54 +30,157 @@ pairs_countable e is =
     let few : parties_of e * lands_of e ≤ parties_of e * MAX_LANDS = mul-le-mul_left (parties_of e) is.lands in
     omega (arith, few, is.parties)
 
-module _ (c : CountingCode) (e : Election) (x : CoverSlots) (is : IsElection e) (slots : HasCoverSlots c x) where
+-- the first n pairs have their numbers, the others still the number of their winners; and so many are contested
+pub record AreNumbered (e : Election) (x : CoverSlots) (eligible : ℕ → Bool) (base : List ℕ) (n : ℕ) (t : State) : Type 0 where
+  pub numbers : (q : ℕ) → q < n → t.columns x.numbers q ≡ number_of e eligible base q
+  pub counts : (q : ℕ) → n ≤ q → q < lands_of e * parties_of e → t.columns x.numbers q ≡ many_at e eligible q
+  pub seats : (q : ℕ) → q < lands_of e * parties_of e → t.columns x.base q ≡ slice_index base q
+  pub count : t.registers reg.needed ≡ contested_before e eligible base n
+
+-- the number of pair n is in its register, and the pair is counted if it is contested
+record HasNumber (e : Election) (eligible : ℕ → Bool) (base : List ℕ) (l p n : ℕ) (t u : State) : Type 0 where
+  columns : u.columns ≡ t.columns
+  land : u.land ≡ Some l
+  party : u.party ≡ Some p
+  number : u.registers reg.second_passing ≡ number_of e eligible base n
+  count : u.registers reg.needed ≡ contested_before e eligible base (n + 1)
+
+module _ (c : CountingCode) (e : Election) (x : CoverSlots) (eligible : ℕ → Bool) (base : List ℕ) (is : IsElection e) (slots : HasCoverSlots c x) where
+  abbrev Numbered : ℕ → State → Type 0
+  Numbered = AreNumbered e x eligible base
+
   abbrev InLand : ℕ → ℕ → State → Type 0
-  InLand l p t = AreNumbered x (l * parties_of e + p) t × (t.land ≡ Some l)
+  InLand l p t = Numbered (l * parties_of e + p) t × (t.land ≡ Some l)
 
-  numbers_one : (l p : ℕ) (t : State) → l < lands_of e → p < parties_of e → InLand l p t →
-      Achieves c e (Line (count_up reg.needed ++ Store x.numbers reg.needed ∷ [])) (with_party (Some p) t) (InLand l (p + 1)) Never
-  numbers_one l p t hl hp h =
-      let u : State = with_party (Some p) t in
-      let n : ℕ = l * parties_of e + p in
-      let one : State = with_register ones 1 u in
-      let more : ℕ = min (t.registers reg.needed + 1) most in
-      let counted : State = with_register reg.needed more one in
-      let within : n < lands_of e * parties_of e = cell_within e l p hl hp in
-      let value : more ≡ n + 1 = omega (arith, h.0.count, within, pairs_countable e is) in
-      let next : l * parties_of e + (p + 1) ≡ n + 1 = omega arith in
-      line_goes (set_does c e u ones 1)
-      (line_goes (add_does c e one reg.needed ones)
-      (line_goes (store_does c e counted x.numbers shape.List slots.numbers reg.needed n (both_are u.land u.party (λ land party. land * parties_of e + party) l p h.1 refl))
-      (line_ends (
-        record {
-          numbers = λ q less. elim (cases_eq q n) [
-            | inl same ↦ ap ((with_cell x.numbers n more counted).columns x.numbers) same ∙ cell_same counted x.numbers n more ∙ value ∙ ap (λ (m : ℕ). m + 1) (sym same)
-            | inr other ↦ cell_other_place counted x.numbers n more q other ∙ h.0.numbers q (omega (arith, less, next, other))
-          ];
-          count = value ∙ sym next;
-        },
-        h.1,
-      ))))
+  -- the same for so many pairs under another name
+  numbered_at : (m n : ℕ) (t : State) → m ≡ n → Numbered m t → Numbered n t
+  numbered_at m n t same h = record {
+    numbers = λ q less. h.numbers q (omega (arith, less, same));
+    counts = λ q high low. h.counts q (omega (arith, high, same)) low;
+    seats = h.seats;
+    count = h.count ∙ ap (contested_before e eligible base) same;
+  }
 
-  numbers_land : (l : ℕ) (t : State) → l < lands_of e → AreNumbered x (l * parties_of e) t →
-      Achieves c e (Each cursor.Party (Line (count_up reg.needed ++ Store x.numbers reg.needed ∷ []))) (with_land (Some l) t) (AreNumbered x ((l + 1) * parties_of e)) Never
+  module _ (l p : ℕ) (t : State) (in_land : l < lands_of e) (in_party : p < parties_of e) (h : Numbered (l * parties_of e + p) t) (land : t.land ≡ Some l) where
+    abbrev n : ℕ
+    n = l * parties_of e + p
+
+    within : n < lands_of e * parties_of e
+    within = cell_within e l p in_land in_party
+
+    abbrev here : State
+    here = with_party (Some p) t
+
+    abbrev counted : State
+    counted = with_register reg.weight (t.columns x.numbers n) here
+
+    abbrev seated : State
+    seated = with_register reg.left (t.columns x.base n) counted
+
+    -- the winners for whom there is no seat
+    abbrev over : State
+    over = with_register reg.weight (t.columns x.numbers n - t.columns x.base n) seated
+
+    abbrev begun : State
+    begun = with_register reg.second_passing 0 over
+
+    many : t.columns x.numbers n ≡ many_at e eligible n
+    many = h.counts n (omega arith) within
+
+    seats : t.columns x.base n ≡ slice_index base n
+    seats = h.seats n within
+
+    other_number : is_contested e eligible base n ≡ false → HasNumber e eligible base l p n t begun
+    other_number not = record {
+      columns = refl;
+      land = land;
+      party = refl;
+      number = sym (number_other_is e eligible base n not);
+      count = h.count ∙ sym (before_other e eligible base n not);
+    }
+
+    takes_number : Achieves c e (number_list x) here (InLand l (p + 1)) Never
+    takes_number =
+        let cell = both_are here.land here.party (λ land party. land * parties_of e + party) l p land refl in
+        then_achieves {Q = λ v. v ≡ begun}
+        (line_goes (get_does c e here x.numbers shape.List slots.numbers reg.weight n cell)
+        (line_goes (get_does c e counted x.base shape.List slots.base reg.left n cell)
+        (line_goes (sub_does c e seated reg.weight reg.left)
+        (line_goes (set_does c e over reg.second_passing 0)
+        (line_ends refl)))))
+        (λ v same. achieves_from same
+        (then_achieves {Q = HasNumber e eligible base l p n t}
+        (if_zero {r = reg.weight}
+        (λ none. line_ends (other_number (all_fit_uncontested e eligible base n (omega (arith, none, many, seats)))))
+        (λ k more.
+        if_zero {r = reg.left}
+        (λ none. line_ends (other_number (no_seats_uncontested e eligible base n (sym seats ∙ none))))
+        (λ m some.
+        let contested = contested_by e eligible base n (omega (arith, some, seats)) (omega (arith, more, many, seats)) in
+        let one : State = with_register ones 1 begun in
+        let value : ℕ = min (t.registers reg.needed + 1) most in
+        let two : State = with_register reg.needed value one in
+        let next : value ≡ contested_before e eligible base n + 1 =
+        (let few = before_few e eligible base n in let all = pairs_countable e is in let so_far = h.count in omega (arith, few, all, so_far, within)) in
+        line_goes (set_does c e begun ones 1)
+        (line_goes (add_does c e one reg.needed ones)
+        (line_goes (mov_does c e two reg.second_passing reg.needed)
+        (line_ends (record {
+          columns = refl;
+          land = land;
+          party = refl;
+          number = next ∙ sym (number_contested_is e eligible base n contested);
+          count = next ∙ sym (before_contested e eligible base n contested);
+        })))))))
+        (λ u g.
+        let value : ℕ = u.registers reg.second_passing in
+        let stored : State = with_cell x.numbers n value u in
+        line_goes (store_does c e u x.numbers shape.List slots.numbers reg.second_passing n (both_are u.land u.party (λ land party. land * parties_of e + party) l p g.land g.party))
+        (line_ends (
+          numbered_at (n + 1) (l * parties_of e + (p + 1)) stored (omega arith) (record {
+            numbers = λ q less. elim (cases_eq q n) [
+              | inl same ↦ ap (stored.columns x.numbers) same ∙ cell_same u x.numbers n value ∙ g.number ∙ ap (number_of e eligible base) (sym same)
+              | inr other ↦ cell_other_place u x.numbers n value q other ∙ ap (λ (f : ℕ → ℕ → ℕ). f x.numbers q) g.columns ∙ h.numbers q (omega (arith, less, other))
+            ];
+            counts = λ q high low.
+                cell_other_place u x.numbers n value q (λ same. omega (arith, same, high)) ∙ ap (λ (f : ℕ → ℕ → ℕ). f x.numbers q) g.columns ∙ h.counts q (omega (arith, high)) low;
+            seats = λ q low. cell_other_slot u x.numbers n value x.base q slots.apart ∙ ap (λ (f : ℕ → ℕ → ℕ). f x.base q) g.columns ∙ h.seats q low;
+            count = g.count;
+          }),
+          g.land,
+        )))))
+
+  numbers_land : (l : ℕ) (t : State) → l < lands_of e → Numbered (l * parties_of e) t →
+      Achieves c e (Each cursor.Party (number_list x)) (with_land (Some l) t) (Numbered ((l + 1) * parties_of e)) Never
   numbers_land l t hl h =
-      let start : l * parties_of e ≡ l * parties_of e + 0 = omega arith in
-      let last : l * parties_of e + parties_of e ≡ (l + 1) * parties_of e = omega arith in
-      each_keeping (InLand l) refl
-      (record { numbers = λ q less. h.numbers q (omega (arith, less)); count = h.count ∙ start }, refl)
-      (λ p u hp inv. numbers_one l p u hl hp inv)
-      (λ u inv. record { numbers = λ q less. inv.0.numbers q (omega (arith, less, last)); count = inv.0.count ∙ last })
+      each_keeping (InLand l) refl (
+        let begun = numbered_at (l * parties_of e) (l * parties_of e + 0) t (omega arith) h in
+            record { numbers = begun.numbers; counts = begun.counts; seats = begun.seats; count = begun.count },
+        refl,
+      )
+      (λ p u hp inv. takes_number l p u hl hp inv.0 inv.1)
+      (λ u inv.
+      let done = numbered_at (l * parties_of e + parties_of e) ((l + 1) * parties_of e) u (omega arith) inv.0 in
+      record { numbers = done.numbers; counts = done.counts; seats = done.seats; count = done.count })
 
-  pub pairs_numbered : (s : State) → Achieves c e (number_pairs x) s (AreNumbered x (lands_of e * parties_of e)) Never
-  pairs_numbered s =
-      let none : 0 ≡ 0 * parties_of e = omega arith in
-      then_achieves {Q = AreNumbered x (0 * parties_of e)}
-      (line_goes (zero_does c e s x.numbers shape.List slots.numbers)
-      (line_goes (set_does c e (with_column x.numbers (λ q. 0) s) reg.needed 0)
-      (line_ends (record { numbers = λ q less. absurd (omega (arith, less, none)); count = none }))))
-      (λ t h. each_keeping (λ l. AreNumbered x (l * parties_of e)) refl h (λ l u hl inv. numbers_land l u hl inv) (λ u inv. record { numbers = inv.numbers; count = inv.count }))
+  -- from the winners of each list on
+  pub contested_numbered : (s : State) → ((q : ℕ) → q < lands_of e * parties_of e → s.columns x.numbers q ≡ many_at e eligible q) →
+      ((q : ℕ) → q < lands_of e * parties_of e → s.columns x.base q ≡ slice_index base q) → Achieves c e (number_contested x) s (Numbered (lands_of e * parties_of e)) Never
+  contested_numbered s counts seats =
+      then_achieves {Q = Numbered (0 * parties_of e)}
+      (line_goes (set_does c e s reg.needed 0)
+      (line_ends (record {
+        numbers = λ q less. absurd (omega (arith, less));
+        counts = λ q high low. counts q low;
+        seats = seats;
+        count = sym (before_none e eligible base) ∙ (let none : 0 ≡ 0 * parties_of e = omega arith in ap (contested_before e eligible base) none);
+      })))
+      (λ t h. each_keeping (λ l. Numbered (l * parties_of e)) refl h (λ l u hl inv. numbers_land l u hl inv)
+      (λ u inv. record { numbers = inv.numbers; counts = inv.counts; seats = inv.seats; count = inv.count }))
 
--- they are all that is written
-pub numbers_alone : (x : CoverSlots) (slot : ℕ) → slot ≢ x.numbers → may_write_slot (number_pairs x) slot ≡ false
+-- the slot of the numbers is all that is written
+pub counts_alone : (x : CoverSlots) (slot : ℕ) → slot ≢ x.numbers → may_write_slot (count_winners x) slot ≡ false
+counts_alone x slot other = rw (ne_eqb slot x.numbers other) refl
+
+pub numbers_alone : (x : CoverSlots) (slot : ℕ) → slot ≢ x.numbers → may_write_slot (number_contested x) slot ≡ false
 numbers_alone x slot other = rw (ne_eqb slot x.numbers other) refl

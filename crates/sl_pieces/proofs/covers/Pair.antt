@@ -1,5 +1,5 @@
--- The plan of a pair of a Land and a party: the winners of its list are seated by their shares.
-use Rattle.std.proofs.Common.{◌≡◌, ℕ, zero, suc, ◌+◌, ◌-◌, ◌*◌, ◌<◌, ◌≤◌, Bool, min, List, [], ◌∷◌, ◌++◌, length, Some, slice_get, refl, sym, ap, ◌∙◌, arith}
+-- The plan of a contested pair of a Land and a party: the winners of its list are seated by their shares.
+use Rattle.std.proofs.Common.{◌≡◌, ℕ, zero, suc, ◌+◌, ◌-◌, ◌*◌, ◌<◌, ◌≤◌, Bool, true, min, List, [], ◌∷◌, ◌++◌, length, Some, slice_get, refl, sym, ap, ◌∙◌, arith}
 use Rattle.std.proofs.lemmas.List.{append-nil}
 use Rattle.sl_stages.specs.declared.returns.Win.{Win}
 use Rattle.sl_stages.specs.returns.Election.{Election, IsElection, lands_of, parties_of, wins_of}
@@ -29,6 +29,7 @@ use Rattle.sl_pieces.proofs.awards.Awards.{awards_achieve}
 use Rattle.sl_pieces.specs.covers.Trees.{CoverSlots, see_winner, seats_to_give, tied_winners, cover_pair}
 use Rattle.sl_pieces.specs.covers.Covering.{HasCoverSlots}
 use Rattle.sl_pieces.proofs.covers.Pairs.{cell_within}
+use Rattle.sl_pieces.proofs.covers.Contested.{is_contested, contested_before, before_few, number_contested_is}
 use Rattle.sl_pieces.proofs.covers.Numbers.{pairs_countable}
 use Rattle.sl_pieces.proofs.covers.Winners.{won, nothing_held, all_wait}
 use Rattle.sl_pieces.proofs.covers.Entering.{AreRead, AreEntered, table_with}
@@ -92,23 +93,30 @@ module _ (c : CountingCode) (e : Election) (x : CoverSlots) (eligible : ℕ → 
       (λ v same. achieves_from same (list_awarded four h.few h.table to before))
 
   -- the whole plan
-  pub pair_covered : (t : State) → AreRead e x eligible base t.columns → t.registers reg.amount ≡ l.0 * parties_of e + l.1 →
+  pub pair_covered : (t : State) → AreRead e x eligible base t.columns → is_contested e eligible base (l.0 * parties_of e + l.1) ≡ true →
+      t.registers reg.amount ≡ contested_before e eligible base (l.0 * parties_of e + l.1) →
       ((n : ℕ) (w : Win) → slice_get e.wins n ≡ Some w → t.placed n ≡ cover_place earlier (n, w)) →
-      Achieves c e (cover_pair x) t (λ u. IsListSeated eligible e base l earlier u × (u.registers reg.amount ≡ l.0 * parties_of e + l.1 + 1)) (EndsInListTie c eligible e base l)
-  pair_covered t read amount before =
+      Achieves c e (cover_pair x) t (λ u. IsListSeated eligible e base l earlier u × (u.registers reg.amount ≡ contested_before e eligible base (l.0 * parties_of e + l.1) + 1)) (EndsInListTie c eligible e base l)
+  pair_covered t read contested amount placed =
+      let place : ℕ = l.0 * parties_of e + l.1 in
       let more : ℕ = min (t.registers reg.amount + 1) most in
       let one : State = with_register ones 1 t in
       let two : State = with_register reg.amount more one in
       let three : State = with_register reg.total 0 two in
       let four : State = with_register reg.left 0 three in
       let begun : State = with_table (record { entries = entries.Win; ranking = ranking.Quotients; contents = [] }) four in
-      let counted : more ≡ l.0 * parties_of e + l.1 + 1 =
-      (let within = cell_within e l.0 l.1 in_land in_party in let few = pairs_countable e is in omega (arith, amount, within, few)) in
+      let counted : more ≡ contested_before e eligible base place + 1 =
+      (let within = cell_within e l.0 l.1 in_land in_party in
+      let few = pairs_countable e is in
+      let below = before_few e eligible base place in
+      omega (arith, amount, within, few, below)) in
       let after : Achieves c e (Then (Each cursor.Win (see_winner x)) (Then seats_to_give (awards LAST_CLAUSE bound.Wins tied_winners (Line (Seat ∷ []))))) begun
       (IsListSeated eligible e base l earlier) (EndsInListTie c eligible e base l) =
       then_achieves
-      (achieves_more (achieves_kept (winners_enter c e x eligible base l is slots in_land in_party begun read counted refl refl)) (λ u h. h) (λ y never. absurd never))
-      (λ u h. entered_awarded u h.0 (λ n w at. h.1.placed refl n ∙ before n w at)) in
+      (achieves_more
+      (achieves_kept (winners_enter c e x eligible base l is slots in_land in_party contested begun read (counted ∙ sym (number_contested_is e eligible base place contested)) refl refl))
+      (λ u h. h) (λ y never. absurd never))
+      (λ u h. entered_awarded u h.0 (λ n w at. h.1.placed refl n ∙ placed n w at)) in
       then_achieves {Q = λ v. v ≡ begun}
       (line_goes (set_does c e t ones 1)
       (line_goes (add_does c e one reg.amount ones)

@@ -1,15 +1,16 @@
 -- The winners of a list, and how their seats wait in the table.
-use Rattle.std.proofs.Common.{◌≡◌, ℕ, zero, suc, ◌+◌, ◌<◌, ◌&&◌, Bool, true, List, [], ◌∷◌, map, length, All, Option, Some, None, option_map, nat_eq, nat_lt, slice_get, get_or, refl, sym, ap, ◌∙◌, inl, inr, arith}
-use Rattle.std.specs.Prelude.{flat_map, slice_index, if◌then◌else◌}
+use Rattle.std.proofs.Common.{◌≡◌, ℕ, zero, suc, ◌+◌, ◌<◌, ◌≤◌, ◌&&◌, Bool, true, List, [], ◌∷◌, map, length, All, Option, Some, None, option_map, nat_eq, nat_lt, slice_get, get_or, take, cond, ◌++◌, refl, sym, ap, ◌∙◌, inl, inr, arith}
+use Rattle.std.specs.Prelude.{filter, flat_map, slice_index, if◌then◌else◌}
 use Rattle.std.specs.List.{range_with_len, enumerate_from}
 use Rattle.std.proofs.lemmas.Bool.{and_parts, and_from, eqb-true, eq-eqb, lt-ltb, ltb-true, false≢true}
 use Rattle.std.proofs.lemmas.Option.{slice_get-get_or, get_or_from_slice_get, slice_get-map, slice_get_within, slice_get_cases}
-use Rattle.std.proofs.lemmas.List.{length-map}
-use Rattle.std.proofs.lemmas.List.Elements.{All-get_or, All-filter, filter_passes}
+use Rattle.std.proofs.lemmas.List.{length-map, length-take, take_all}
+use Rattle.std.proofs.lemmas.List.Elements.{All-get_or, All-filter, filter_passes, filter_more}
+use Rattle.std.proofs.lemmas.List.Sums.{length-filter, count_by-le-length}
 use Rattle.std.proofs.lemmas.List.FromFn.{length-enumerate_from, get_or-enumerate_from, fill_by_all}
 use Rattle.sl_ratio.specs.declared.entry.Entry.{Entry}
 use Rattle.sl_stages.specs.declared.returns.Win.{Win}
-use Rattle.sl_stages.specs.returns.Election.{Election, has_list}
+use Rattle.sl_stages.specs.returns.Election.{Election, wins_of, has_list}
 use Rattle.sl_stages.specs.returns.Facts.{is_in, is_of, has_eligible_list}
 use Rattle.sl_stages.specs.meaning.Seating.{winners_of}
 use Rattle.sl_stages.proofs.methods.SeatSums.{none_needed}
@@ -74,6 +75,41 @@ module _ (eligible : ℕ → Bool) (e : Election) (l : ℕ × ℕ) where
       let there = All-get_or (λ x. slice_get e.wins x.0 ≡ Some x.1) won i y within (All-filter of_list (λ x. slice_get e.wins x.0 ≡ Some x.1) (enumerate_from 0 e.wins) numbered) in
       let says = All-get_or (λ x. of_list x ≡ true) won i y within (filter_passes of_list (enumerate_from 0 e.wins)) in
       is_winner y ((λ z. slice_get e.wins (sym is z).0) ∙ there ∙ (λ z. Some (is z).1)) ((λ z. of_list (sym is z)) ∙ says)
+
+  -- ---- those among the first j winners
+
+  pub front : ℕ → List (ℕ × Win)
+  front j = filter of_list (take j (enumerate_from 0 e.wins))
+
+  pub front_none : front 0 ≡ []
+  unfolding front
+  front_none = refl
+
+  pub front_all : front (wins_of e) ≡ won
+  unfolding front
+  front_all =
+      let long : length (enumerate_from 0 e.wins) ≡ length e.wins = length-enumerate_from 0 e.wins in
+      ap (filter of_list) (take_all (wins_of e) (enumerate_from 0 e.wins) (omega (arith, long)))
+
+  pub front_more : (j : ℕ) (w : Win) → slice_get e.wins j ≡ Some w → front (j + 1) ≡ front j ++ cond (of_list (j, w)) ((j, w) ∷ []) []
+  unfolding front
+  front_more j w at =
+      let within : j < length e.wins = slice_get_within e.wins j w at in
+      let here : 0 + j ≡ j = omega arith in
+      let long : length (enumerate_from 0 e.wins) ≡ length e.wins = length-enumerate_from 0 e.wins in
+      let step = filter_more of_list (enumerate_from 0 e.wins) j (j, w) (omega (arith, within, long)) in
+      let winner = get_or-enumerate_from 0 e.wins j (j, w) within in
+      let same = get_or_from_slice_get e.wins j w w at in
+      step ∙ (λ z. front j ++ cond (of_list (winner z)) (winner z ∷ []) []) ∙ (λ z. front j ++ cond (of_list (here z, same z)) ((here z, same z) ∷ []) [])
+
+  -- they are no more
+  pub front_few : (j : ℕ) → length (front j) ≤ j
+  unfolding front
+  front_few j =
+      let some = count_by-le-length of_list (take j (enumerate_from 0 e.wins)) in
+      let same = length-filter of_list (take j (enumerate_from 0 e.wins)) in
+      let long = length-take j (enumerate_from 0 e.wins) in
+      omega (arith, some, same, long)
 
 -- ---- the seats that wait
 

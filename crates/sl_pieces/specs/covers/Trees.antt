@@ -25,17 +25,44 @@ nothing = Line []
 abbrev pub place_singles : Tree
 place_singles = Each cursor.Win (If test.NoParty (Line (Single ∷ [])) nothing)
 
--- the pairs of a Land and a party are numbered from 1 on, in list order, and counted
-abbrev pub number_pairs : CoverSlots → Tree
-number_pairs x =
-    Then (Line (Zero x.numbers ∷ (Set reg.needed 0 ∷ [])))
-    (Each cursor.Land (Each cursor.Party (Line (count_up reg.needed ++ Store x.numbers reg.needed ∷ []))))
+-- the plan for a winner whose party is eligible and has a list in the winner's Land, with the cursors at that list
+abbrev pub if_seatable : CoverSlots → Tree → Tree
+if_seatable x body =
+    Then (Line (Wland ∷ []))
+    (If test.NoParty nothing (If test.NoList nothing (Then (Line (Get reg.base x.eligible ∷ [])) (If (test.Zero reg.base) nothing body))))
 
--- a winner of the pair of this number waits in the table by the share, is counted, and brings the list's seats
+-- how many such winners there are of each list
+abbrev pub count_winner : CoverSlots → Tree
+count_winner x = Line (Get reg.weight x.numbers ∷ (count_up reg.weight ++ Store x.numbers reg.weight ∷ []))
+
+abbrev pub count_winners : CoverSlots → Tree
+count_winners x = Then (Line (Zero x.numbers ∷ [])) (Each cursor.Win (if_seatable x (count_winner x)))
+
+-- a list is contested if it has seats, but fewer than winners: then it is counted, and has that as its number in place of the winners'; any other has 0
+abbrev pub number_list : CoverSlots → Tree
+number_list x =
+    Then (Line (Get reg.weight x.numbers ∷ (Get reg.left x.base ∷ (Sub reg.weight reg.left ∷ (Set reg.second_passing 0 ∷ [])))))
+    (Then (If (test.Zero reg.weight) nothing (If (test.Zero reg.left) nothing (Line (count_up reg.needed ++ Mov reg.second_passing reg.needed ∷ []))))
+    (Line (Store x.numbers reg.second_passing ∷ [])))
+
+-- so the contested lists are numbered from 1 on, in list order
+abbrev pub number_contested : CoverSlots → Tree
+number_contested x = Then (Line (Set reg.needed 0 ∷ [])) (Each cursor.Land (Each cursor.Party (number_list x)))
+
+-- on a list that has seats and is not contested every such winner is seated
+abbrev pub seat_fitting : CoverSlots → Tree
+seat_fitting x =
+    Then (Line (Get reg.weight x.numbers ∷ (Get reg.left x.base ∷ [])))
+    (If (test.Zero reg.weight) (If (test.Zero reg.left) nothing (Line (Seat ∷ []))) nothing)
+
+abbrev pub seat_uncontested : CoverSlots → Tree
+seat_uncontested x = Each cursor.Win (if_seatable x (seat_fitting x))
+
+-- a winner of the list of this number waits in the table by the share, is counted, and brings the list's seats
 abbrev pub enter_winner : CoverSlots → Tree
 enter_winner x = Line (Share ∷ (count_up reg.total ++ Get reg.left x.base ∷ []))
 
--- is it one: the party is eligible and has a list in the Land, and the pair has the number
+-- is it one: the list has the number
 abbrev pub of_pair : CoverSlots → Tree
 of_pair x =
     Then (Line (Get reg.weight x.numbers ∷ (Mov reg.first_passing reg.weight ∷ (Sub reg.first_passing reg.amount ∷ (Mov reg.second_passing reg.amount ∷
@@ -43,9 +70,7 @@ of_pair x =
     (If (test.Zero reg.first_passing) (enter_winner x) nothing)
 
 abbrev pub see_winner : CoverSlots → Tree
-see_winner x =
-    Then (Line (Wland ∷ []))
-    (If test.NoParty nothing (If test.NoList nothing (Then (Line (Get reg.base x.eligible ∷ [])) (If (test.Zero reg.base) nothing (of_pair x)))))
+see_winner x = if_seatable x (of_pair x)
 
 -- the smaller one of the list's seats and its winners are to be given out
 abbrev pub seats_to_give : Tree
@@ -60,5 +85,9 @@ cover_pair x =
     Then (Line (count_up reg.amount ++ (Set reg.total 0 ∷ (Set reg.left 0 ∷ (Table entries.Win ranking.Quotients ∷ [])))))
     (Then (Each cursor.Win (see_winner x)) (Then seats_to_give (awards LAST_CLAUSE bound.Wins tied_winners (Line (Seat ∷ [])))))
 
+-- the contested lists, one after the other
+abbrev pub cover_contested : CoverSlots → Tree
+cover_contested x = Then (Line (Set reg.amount 0 ∷ [])) (Times reg.needed bound.Lists (cover_pair x))
+
 abbrev pub cover_tree : CoverSlots → Tree
-cover_tree x = Then place_singles (Then (number_pairs x) (Then (Line (Set reg.amount 0 ∷ [])) (Times reg.needed bound.Lists (cover_pair x))))
+cover_tree x = Then place_singles (Then (count_winners x) (Then (number_contested x) (Then (seat_uncontested x) (cover_contested x))))
