@@ -12,5 +12,4 @@ pub mod Operations
 pub mod Pieces
 pub mod StageFacts
 pub mod Standing
-pub mod Targets
 pub mod Values

@@ -2,7 +2,6 @@
 
 ghost use Rattle.std.specs.Prelude.{◌≡◌, [], ◌∷◌};
 ghost use Rattle.sl_code.specs.Operands.{value_of};
-ghost use Rattle.sl_code.specs.Rows.{target_in};
 
 use crate::kinds::{Cursors, Registers, TableState};
 use crate::number::method_number;
@@ -51,15 +50,6 @@ impl Operand {
             Operand::Positive(registers) => u64::from(registers.mask),
             Operand::Cursors(cursors) => u64::from(cursors.number()),
             Operand::Table(table) => u64::from(TableState::number(table)),
-        }
-    }
-
-    pub(crate) fn target(self) -> Option<u32>
-        ensures { result ≡ target_in self }
-    {
-        match self {
-            Operand::Target(target) => Some(target),
-            _ => None,
         }
     }
 }

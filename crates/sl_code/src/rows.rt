@@ -53,12 +53,22 @@ impl Instr {
     pub fn target(self) -> Option<u32>
         ensures { result ≡ target_of self }
     {
-        for operand in self.operands().as_slice() {
-            if let Some(target) = operand.target() {
-                return Some(target);
-            }
+        match self {
+            Instr::Jmp(target)
+            | Instr::Jz(_, target)
+            | Instr::Jlt(_, _, target)
+            | Instr::Jnl(target)
+            | Instr::Wparty(target)
+            | Instr::Fparty(target)
+            | Instr::Nparty(target)
+            | Instr::Fland(target)
+            | Instr::Nland(target)
+            | Instr::Fwin(target)
+            | Instr::Nwin(target)
+            | Instr::Peers(_, target)
+            | Instr::Lot(_, target) => Some(target),
+            _ => None,
         }
-        None
     }
 
     fn row(self) -> Facts

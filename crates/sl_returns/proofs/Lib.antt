@@ -5,6 +5,7 @@ pub mod Joins
 pub mod Places
 pub mod Rows
 pub mod ToldVotes
+pub mod ToldLots
 pub mod Growing
 pub mod Sorting
 pub mod PassedTests

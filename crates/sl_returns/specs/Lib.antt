@@ -9,3 +9,4 @@ pub mod Joining
 pub mod Returns
 pub mod Building
 pub mod Laws
+pub mod inner

@@ -8,6 +8,7 @@ ghost use Rattle.sl_returns.specs.Joining.{TakesRecord, RefusesRecord};
 use crate::fault::{FaultKind, ReturnsFault};
 use crate::header::Version;
 use crate::join::join;
+use crate::told::ToldLots;
 use csv::ByteRecord;
 use sl_stages::Returns;
 use std::alloc::Global;
@@ -17,6 +18,8 @@ use std::marker::Model;
 #[derive(Drop)]
 pub struct ReturnsBuilder {
     returns: Returns,
+    // the lots of the returns
+    told: ToldLots,
     // the version that the header told
     version: Option<Version>,
     // the row of the last record
@@ -25,11 +28,15 @@ pub struct ReturnsBuilder {
 }
 
 impl Model for ReturnsBuilder {
+    ghost use Rattle.std.specs.Prelude.{◌≡◌, None};
     ghost use Rattle.sl_returns.specs.Building.{Building};
 
     ghost Value = { Building };
 
     ghost view = { λ b. record { election = b.returns; version = b.version; row = b.row; fault = b.fault } };
+
+    // until it has failed, it finds just the lots of the returns
+    ghost invariant = { λ b. b.fault ≡ None → b.told ≡ b.returns.lots };
 }
 
 impl ReturnsBuilder {
@@ -42,6 +49,7 @@ impl ReturnsBuilder {
     {
         ReturnsBuilder {
             returns: Returns::empty(alloc),
+            told: ToldLots::new(alloc),
             version: None,
             row: 0,
             fault: None,
@@ -66,7 +74,7 @@ impl ReturnsBuilder {
             return Err(fault);
         }
         let row = self.row.saturating_add(1);
-        match take(&mut self.returns, self.version, fields) {
+        match take(&mut self.returns, &mut self.told, self.version, fields) {
             Ok(version) => {
                 self.version = Some(version);
                 self.row = row;
@@ -105,16 +113,19 @@ impl ReturnsBuilder {
 // Takes a record, which must be the header where none has told its version, and answers the version.
 fn take(
     returns: &mut Returns,
+    told: &mut ToldLots,
     version: Option<Version>,
     fields: &ByteRecord,
 ) -> Result<Version, FaultKind>
+    requires told { told.old ≡ returns.old.lots }
     ensures taken { IfOk result (λ v. TakesRecord version v returns.old returns.new (fields_of fields.now)) }
+    ensures told { OnOk result (told.new ≡ returns.new.lots) }
     ensures refused { IfErr result (RefusesRecord version returns.old (fields_of fields.now)) }
 {
     match version {
         None => Version::of(fields).ok_or(FaultKind::Header),
         Some(version) => {
-            join(returns, version, fields)?;
+            join(returns, told, version, fields)?;
             Ok(version)
         }
     }

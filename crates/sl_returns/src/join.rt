@@ -15,6 +15,7 @@ use crate::fault::FaultKind;
 use crate::header::Version;
 use crate::kind::Kind;
 use crate::lot::ToldLot;
+use crate::told::ToldLots;
 use csv::ByteRecord;
 use sl_ratio::NoMemory;
 use sl_stages::{
@@ -141,29 +142,39 @@ fn join_win(returns: &mut Returns, fields: &ByteRecord) -> Result<(), FaultKind>
     kept(returns.add_win(land, party, name, first, valid))
 }
 
-// Joins a lot.
+// Joins a lot, to the returns and to those told.
 #[tactic(auto, using(crate::proofs::TestLemmas::passes))]
-fn join_lot(returns: &mut Returns, fields: &ByteRecord) -> Result<(), FaultKind>
+fn join_lot(
+    returns: &mut Returns,
+    told: &mut ToldLots,
+    fields: &ByteRecord,
+) -> Result<(), FaultKind>
+    requires told { told.old ≡ returns.old.lots }
     ensures joined { OnOk result (Pass (lot_tests returns.old (fields_of fields.now)) × (returns.new ≡ with_lot_of returns.old (fields_of fields.now))) }
+    ensures told { OnOk result (told.new ≡ returns.new.lots) }
     ensures refused { IfErr result (Refuse (lot_tests returns.old (fields_of fields.now))) }
 {
     let lot = ToldLot::read(returns, fields)?;
-    ensure(!lot.is_among(returns.lots()), FaultKind::Twice)?;
+    ensure(!told.contains(&lot), FaultKind::Twice)?;
     ensure(returns.lots().len() < MAX_LOTS, FaultKind::TooMany)?;
-    kept(returns.add_lot(lot.land, lot.party, lot.stage, lot.win))
+    kept(returns.add_lot(lot.land, lot.party, lot.stage, lot.win))?;
+    kept(told.add(&lot))
 }
 
-/// Joins a record behind a header of that version to the returns.
+/// Joins a record behind a header of that version to the returns, and its lot to those told.
 ///
 /// # Errors
 ///
 /// The fault of the first test that the record fails; or, where it passes, want of memory.
 pub(crate) fn join(
     returns: &mut Returns,
+    told: &mut ToldLots,
     version: Version,
     fields: &ByteRecord,
 ) -> Result<(), FaultKind>
+    requires told { told.old ≡ returns.old.lots }
     ensures joined { OnOk result (Pass (record_tests version returns.old (fields_of fields.now)) × (returns.new ≡ with_record returns.old (fields_of fields.now))) }
+    ensures told { OnOk result (told.new ≡ returns.new.lots) }
     ensures refused { IfErr result (Refuse (record_tests version returns.old (fields_of fields.now))) }
 {
     ensure(fields.len() == COLUMNS, FaultKind::Fields)?;
@@ -173,7 +184,7 @@ pub(crate) fn join(
         Some(Kind::Party) => join_party(returns, fields),
         Some(Kind::List) => join_list(returns, version, fields),
         Some(Kind::Win) => join_win(returns, fields),
-        Some(Kind::Lot) => join_lot(returns, fields),
+        Some(Kind::Lot) => join_lot(returns, told, fields),
         None => Err(FaultKind::Kind),
     }
 }

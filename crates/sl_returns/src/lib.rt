@@ -10,6 +10,7 @@ mod kind;
 pub mod laws;
 mod lot;
 mod read;
+mod told;
 
 pub use builder::ReturnsBuilder;
 pub use fault::{FaultKind, ReturnsFault};

@@ -1,20 +1,20 @@
-//! The lots of the returns.
+//! The lot that a record tells.
 
 ghost use Rattle.std.specs.Prelude.{◌≡◌, IfOk, IfErr, OnOk, None};
 ghost use Rattle.csv.specs.Records.{fields_of};
 ghost use Rattle.sl_ratio.specs.Names.{spelling_fault};
 ghost use Rattle.sl_stages.specs.returns.Election.{IsLot, lands_of, parties_of, wins_of};
 ghost use Rattle.sl_returns.specs.Records.{lot_of};
-ghost use Rattle.sl_returns.specs.Tests.{Pass, FailBy, lot_cell_tests, fills_lot, same_lot, has_lot};
+ghost use Rattle.sl_returns.specs.Tests.{Pass, FailBy, lot_cell_tests, fills_lot};
 ghost use Rattle.sl_returns.specs.Lots.{lot_told};
 
 use crate::cells::{A, B, C, LAND, PARTY, cell, ensure, is_name, known_or_none};
 use crate::fault::FaultKind;
 use csv::ByteRecord;
-use sl_stages::{Lot, Returns};
+use sl_stages::Returns;
 
 // What a record tells of a lot, by the numbers of what it names.
-#[derive(Clone, Copy)]
+#[derive(Clone, Copy, PartialEq, Eq, Hash)]
 pub(crate) struct ToldLot<'a> {
     pub(crate) land: Option<usize>,
     pub(crate) party: Option<usize>,
@@ -46,23 +46,6 @@ impl<'a> ToldLot<'a> {
             stage,
             win,
         })
-    }
-
-    // Whether it is one of these lots.
-    pub(crate) fn is_among(&self, lots: &[Lot]) -> bool
-        ensures { result ≡ has_lot lots.now (lot_told self.now) }
-    {
-        lots.iter().any(|lot| self.is_same(lot))
-    }
-
-    // Whether it is that lot.
-    fn is_same(&self, lot: &Lot) -> bool
-        ensures { result ≡ same_lot lot.now (lot_told self.now) }
-    {
-        lot.land == self.land
-            && lot.party == self.party
-            && lot.stage.as_bytes() == self.stage
-            && lot.win == self.win
     }
 }
 

@@ -13,6 +13,6 @@ pub returns-in_err-ensure-clause-refused : goal.returns-in_err-ensure-clause-ref
 returns-in_err-ensure-clause-refused c =
     let cells = c.in_ok-lot.ensures.passed in
     let e = c.args.returns.now in
-    let among = c.is_among.ensures ∙ ap (λ (ls : List Lot). has_lot ls (lot_told c.in_ok-lot.lot)) c.lots.ensures.lots ∙ ap (has_lot e.lots) c.in_ok-lot.ensures.told in
+    let among = c.contains.ensures ∙ ap (λ (ls : List Lot). has_lot ls (lot_told c.in_ok-lot.lot)) c.requires.told ∙ ap (has_lot e.lots) c.in_ok-lot.ensures.told in
     let new = rw among at c.in_err-ensure.ensures.failed in
     exit c.from_residual-in_err-ensure.result c.from_residual-in_err-ensure.ensures.1 (after cells (here _ new))
