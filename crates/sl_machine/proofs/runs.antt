@@ -2,4 +2,6 @@
 pub mod Stepping
 pub mod Coming
 pub mod Reading
+pub mod Dropping
+pub mod Unrecorded
 pub mod Leading

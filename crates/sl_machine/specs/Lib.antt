@@ -5,6 +5,7 @@ pub mod SameLots
 pub mod Effects
 pub mod Runs
 pub mod Comes
+pub mod Unrecorded
 pub mod Memories
 pub mod Tables
 pub mod Answers

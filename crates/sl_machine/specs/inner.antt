@@ -2,6 +2,7 @@
 pub mod Stores
 pub mod Seen
 pub mod Frames
+pub mod Recording
 pub mod Memories
 pub mod Leaving
 pub mod Lots

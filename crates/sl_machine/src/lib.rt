@@ -15,5 +15,5 @@ mod step;
 mod store;
 mod table;
 
-pub use machine::{Ending, budget, run};
+pub use machine::{Ending, budget, run, run_unrecorded};
 pub use memory::Memory;

@@ -7,12 +7,14 @@ ghost use Rattle.sl_machine.specs.Answers.{answer_of};
 ghost use Rattle.sl_machine.specs.Fits.{Fits};
 ghost use Rattle.sl_machine.specs.inner.Leading.{Leads, ending_with, FitsWith};
 ghost use Rattle.sl_machine.specs.inner.Lots.{lots_for};
+ghost use Rattle.sl_machine.specs.inner.Recording.{state_by, ending_by};
 ghost use Rattle.sl_machine.specs.Runs.{run, ending, share_of, budget_of};
+ghost use Rattle.sl_machine.specs.Unrecorded.{without_records};
 ghost use Rattle.sl_machine.specs.inner.Stores.{state_of, sizes_of, sizes_for};
 
 use crate::lots::Lots;
 use crate::memory::Memory;
-use crate::step::{Effect, End};
+use crate::step::{Effect, End, Records};
 use crate::store::Store;
 use sl_code::Code;
 use sl_ratio::NoMemory;
@@ -63,17 +65,19 @@ fn step_from(
     code: &Code,
     returns: &Returns,
     lots: &Lots,
+    records: Records,
     place: usize,
 ) -> Result<Step, NoMemory>
     requires safe { IsSafe code.now returns.now place (state_of store.old) }
     requires lots { lots.now ≡ lots_for code.now returns.now }
     requires sizes { sizes_of store.old ≡ sizes_for code.now returns.now }
-    ensures leads { IfOk result (λ step. Leads code.now returns.now place (state_of store.old) step (state_of store.new)) }
+    requires records { state_by records (state_of store.old) ≡ state_of store.old }
+    ensures leads { IfOk result (λ step. Leads records code.now returns.now place (state_of store.old) step (state_of store.new)) }
     ensures kept { sizes_of store.new ≡ sizes_of store.old }
 {
     // read where it stands: a copy is written in parts and read in others, which costs more than the step
     let instr = &code.instrs()[place];
-    match store.step(code, returns, lots, instr)? {
+    match store.step(code, returns, lots, records, instr)? {
         Effect::Goes => Ok(Step::To(place + 1)),
         Effect::Jumps => Ok(Step::To(instr.target().unwrap() as usize)),
         Effect::Ends(end) => Ok(Step::Over(end)),
@@ -86,12 +90,14 @@ fn steps(
     code: &Code,
     returns: &Returns,
     lots: &Lots,
+    records: Records,
     budget: u64,
 ) -> Result<Option<End>, NoMemory>
     requires safe { IsSafe code.now returns.now 0 (state_of store.old) }
     requires lots { lots.now ≡ lots_for code.now returns.now }
     requires sizes { sizes_of store.old ≡ sizes_for code.now returns.now }
-    ensures end { IfOk result (λ end. run code.now returns.now budget 0 (state_of store.old) ≡ ending_with end (state_of store.new)) }
+    requires records { state_by records (state_of store.old) ≡ state_of store.old }
+    ensures end { IfOk result (λ end. ending_by records (run code.now returns.now budget 0 (state_of store.old)) ≡ ending_with end (state_of store.new)) }
     ensures fits { IfOk result (λ end. FitsWith code.now returns.now end (state_of store.new)) }
     ensures kept { IfOk result (λ end. sizes_of store.new ≡ sizes_for code.now returns.now) }
 {
@@ -99,12 +105,33 @@ fn steps(
     let mut left = budget;
     while left > 0 {
         left -= 1;
-        match step_from(store, code, returns, lots, place)? {
+        match step_from(store, code, returns, lots, records, place)? {
             Step::To(next) => place = next,
             Step::Over(end) => return Ok(Some(end)),
         }
     }
     Ok(None)
+}
+
+// Runs accepted code on returns, and keeps what it records or drops it.
+fn run_with(
+    alloc: Global,
+    code: &Verified,
+    returns: &Returns,
+    records: Records,
+    budget: u64,
+) -> Result<Ending, NoMemory>
+    ensures ending { IfOk result (λ answer. answer_of code.now returns.now (ending_by records (ending code.now returns.now budget)) ≡ Some answer) }
+    ensures fits { IfOk result (Fits code.now returns.now) }
+{
+    let code = code.code();
+    let lots = Lots::of(alloc, code, returns)?;
+    let mut store = Store::start(alloc, code, returns)?;
+    match steps(&mut store, code, returns, &lots, records, budget)? {
+        Some(End::Halted { base, vacant }) => Ok(Ending::Done(Memory::new(store, base, vacant)?)),
+        Some(End::Faulted(fault)) => Ok(Ending::Fault(fault)),
+        None => Ok(Ending::OutOfBudget),
+    }
 }
 
 /// Runs accepted code on returns, for at most so many steps (docs/machine.md, section 4).
@@ -121,12 +148,22 @@ pub fn run(
     ensures ending { IfOk result (λ answer. answer_of code.now returns.now (ending code.now returns.now budget) ≡ Some answer) }
     ensures fits { IfOk result (Fits code.now returns.now) }
 {
-    let code = code.code();
-    let lots = Lots::of(alloc, code, returns)?;
-    let mut store = Store::start(alloc, code, returns)?;
-    match steps(&mut store, code, returns, &lots, budget)? {
-        Some(End::Halted { base, vacant }) => Ok(Ending::Done(Memory::new(store, base, vacant)?)),
-        Some(End::Faulted(fault)) => Ok(Ending::Fault(fault)),
-        None => Ok(Ending::OutOfBudget),
-    }
+    run_with(alloc, code, returns, Records::Kept, budget)
+}
+
+/// Runs accepted code on returns as `run` does, but keeps no seat steps and no weights.
+///
+/// # Errors
+///
+/// Want of memory.
+pub fn run_unrecorded(
+    alloc: Global,
+    code: &Verified,
+    returns: &Returns,
+    budget: u64,
+) -> Result<Ending, NoMemory>
+    ensures ending { IfOk result (λ answer. answer_of code.now returns.now (without_records (ending code.now returns.now budget)) ≡ Some answer) }
+    ensures fits { IfOk result (Fits code.now returns.now) }
+{
+    run_with(alloc, code, returns, Records::Dropped, budget)
 }

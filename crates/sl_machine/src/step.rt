@@ -6,6 +6,7 @@ ghost use Rattle.sl_verify.specs.WellKinded.{context_of};
 ghost use Rattle.sl_machine.specs.Effects.{effect};
 ghost use Rattle.sl_stages.specs.returns.Election.{IsElection};
 ghost use Rattle.sl_machine.specs.inner.Lots.{lots_for};
+ghost use Rattle.sl_machine.specs.inner.Recording.{state_by, left_by};
 ghost use Rattle.sl_machine.specs.Safe.{MayStep};
 ghost use Rattle.sl_machine.specs.inner.Stores.{state_of, sizes_of, sizes_for, effect_of};
 
@@ -32,6 +33,13 @@ pub(crate) enum Effect {
     Ends(End),
 }
 
+/// Whether seat steps and weights are kept.
+#[derive(Clone, Copy, Debug)]
+pub(crate) enum Records {
+    Kept,
+    Dropped,
+}
+
 impl Store {
     /// Makes one step.
     ///
@@ -43,6 +51,7 @@ impl Store {
         code: &Code,
         returns: &Returns,
         lots: &Lots,
+        records: Records,
         instr: &Instr,
     ) -> Result<Effect, NoMemory>
         requires step { MayStep code.now returns.now instr.now (state_of self.old) }
@@ -50,7 +59,9 @@ impl Store {
         requires lots { lots.now ≡ lots_for code.now returns.now }
         requires columns { IsTrue (has_columns (context_of code.now) instr.now) }
         requires sizes { sizes_of self.old ≡ sizes_for code.now returns.now }
-        ensures follows { IfOk result (λ next. effect_of next (state_of self.new) ≡ effect code.now returns.now instr.now (state_of self.old)) }
+        requires records { state_by records (state_of self.old) ≡ state_of self.old }
+        ensures follows { IfOk result (λ next. effect_of next (state_of self.new)
+            ≡ left_by records instr.now (effect code.now returns.now instr.now (state_of self.old))) }
         ensures kept { sizes_of self.new ≡ sizes_of self.old }
     {
         match *instr {
@@ -90,12 +101,14 @@ impl Store {
             Instr::Take => Ok(self.take_top(returns)),
             Instr::Lot(stage, _) => Ok(self.jump_without_lot(code, lots, stage)),
             Instr::Takelot(stage) => Ok(self.take_drawn(code, returns, lots, stage)),
-            Instr::Emit(stage, scope, number, step) => self.emit(
-                code, returns, stage, scope, number, step,
-            ),
-            Instr::Given(stage, scope, number) => self.emit_given(
-                code, returns, stage, scope, number,
-            ),
+            Instr::Emit(stage, scope, number, step) => match records {
+                Records::Kept => self.emit(code, returns, stage, scope, number, step),
+                Records::Dropped => Ok(Effect::Goes),
+            },
+            Instr::Given(stage, scope, number) => match records {
+                Records::Kept => self.emit_given(code, returns, stage, scope, number),
+                Records::Dropped => Ok(Effect::Goes),
+            },
             Instr::Fault(stage, scope, fault) => Ok(self.end_with_fault(code, stage, scope, fault)),
             Instr::Tie(stage, scope, seats) => self.end_with_tie(
                 code, returns, stage, scope, seats,
@@ -105,9 +118,10 @@ impl Store {
             Instr::Halt(slot) => Ok(halt(slot)),
             Instr::At(..) => Ok(Effect::Goes),
             Instr::Haltv(slot, vacant) => Ok(halt_with_vacant(slot, vacant)),
-            Instr::Weigh(stage, scope, rounding, weight) => self.weigh(
-                code, returns, stage, scope, rounding, weight,
-            ),
+            Instr::Weigh(stage, scope, rounding, weight) => match records {
+                Records::Kept => self.weigh(code, returns, stage, scope, rounding, weight),
+                Records::Dropped => Ok(Effect::Goes),
+            },
         }
     }
 }

@@ -1,5 +1,5 @@
--- What a step from a safe place comes to.
-use Rattle.std.proofs.Common.{◌≡◌, ℕ, ◌+◌, Some, IsSome, IsTrue, is_some, slice_get, sym, ap, subst, ◌∙◌}
+-- What a step from a safe place comes to, by a run that keeps what it records or drops it.
+use Rattle.std.proofs.Common.{◌≡◌, ℕ, suc, ◌+◌, Option, Some, IsSome, IsTrue, is_some, slice_get, refl, sym, ap, subst, ◌∙◌}
 use Rattle.std.proofs.lemmas.Option.{same_Some}
 use Rattle.sl_stages.specs.returns.Election.{Election}
 use Rattle.sl_code.specs.Codes.{CountingCode}
@@ -9,15 +9,21 @@ use Rattle.sl_verify.specs.WellKinded.{context_of}
 use Rattle.sl_code.specs.Rows.{target_of}
 use Rattle.sl_machine.specs.declared.machine.Step.TheVariants as step
 use Rattle.sl_machine.specs.declared.step.End.{End}
+use Rattle.sl_machine.specs.declared.step.Records.{Records}
+use Rattle.sl_machine.specs.declared.step.Records.TheVariants as records
 use Rattle.sl_machine.specs.Agrees.{IsSafe}
-use Rattle.sl_machine.specs.Effects.{Effect, Goes, Jumps, Ends, effect}
+use Rattle.sl_machine.specs.Effects.{Effect, Goes, Jumps, Ends, NoCase, effect}
+use Rattle.sl_machine.specs.Fits.{FitsEnd}
 use Rattle.sl_machine.specs.Laws.{StepsSafely, LandsSafely}
+use Rattle.sl_machine.specs.Runs.{Step, follow, to_target, after_step, run}
 use Rattle.sl_machine.specs.inner.Leading.{Leads}
+use Rattle.sl_machine.specs.inner.Recording.{state_by, effect_by, ending_by, left_by}
 use Rattle.sl_machine.specs.Safe.{MayStep}
 use Rattle.sl_machine.specs.State.{State}
 use Rattle.sl_machine.specs.inner.Stores.{end_with}
 use Rattle.sl_machine.proofs.soundness.Soundness.{safe_steps}
-use Rattle.sl_machine.proofs.runs.Stepping.{step_goes, step_jumps, step_ends, run_on, run_over}
+use Rattle.sl_machine.proofs.runs.Stepping.{step_is}
+use Rattle.sl_machine.proofs.runs.Unrecorded.{still_safe, still_fits, left_is, goes_by, ends_by}
 
 module _ (c : CountingCode) (e : Election) (p : ℕ) (s : State) (safe : IsSafe c e p s) (i : Instr) (at : slice_get c.instrs p ≡ Some i) where
   next : StepsSafely c e p s
@@ -32,26 +38,57 @@ module _ (c : CountingCode) (e : Election) (p : ℕ) (s : State) (safe : IsSafe 
   pub columns_here : IsTrue (has_columns (context_of c) i)
   columns_here = subst (λ (j : Instr). IsTrue (has_columns (context_of c) j)) same next.columns
 
-  at_next : (x : Effect) → x ≡ effect c e i s → effect c e next.instr s ≡ x
-  at_next x h = ap (λ (j : Instr). effect c e j s) same ∙ sym h
+  at_next : (x : Effect) → effect c e i s ≡ x → effect c e next.instr s ≡ x
+  at_next x h = ap (λ (j : Instr). effect c e j s) same ∙ h
 
-  pub goes_on : (t : State) → Goes t ≡ effect c e i s → Leads c e p s (step.To (p + 1)) t
-  goes_on t h = (next.goes t (at_next (Goes t) h), run_on c e p (p + 1) s t (step_goes c e p s i at t (sym h)))
+  landing : (t : State) → effect c e i s ≡ Jumps t → LandsSafely c e i t
+  landing t h = subst (λ (j : Instr). LandsSafely c e j t) same (next.jumps t (at_next (Jumps t) h))
 
-  landing : (t : State) → Jumps t ≡ effect c e i s → LandsSafely c e next.instr t
-  landing t h = next.jumps t (at_next (Jumps t) h)
+  -- ---- by either kind of run
+  -- to go on from an effect is safe, with no records where they are dropped
+  abbrev IsGood : Records → Effect → Type 0
+  IsGood k (Goes t) = IsSafe c e (p + 1) t × (state_by k t ≡ t)
+  IsGood k (Jumps t) = LandsSafely c e i t × (state_by k t ≡ t)
+  IsGood k (Ends x) = FitsEnd c e x
+  IsGood k NoCase = Unit {0}
 
-  lands : (t : State) (h : Jumps t ≡ effect c e i s) → target_of i ≡ Some (landing t h).place
-  lands t h = ap target_of (sym same) ∙ (landing t h).target
+  good : (k : Records) (x : Effect) → effect c e i s ≡ x → IsGood k (effect_by k x)
+  good records.Kept (Goes t) h = (next.goes t (at_next (Goes t) h), refl)
+  good records.Kept (Jumps t) h = (landing t h, refl)
+  good records.Kept (Ends x) h = next.ends x (at_next (Ends x) h)
+  good records.Kept NoCase h = tt
+  good records.Dropped (Goes t) h = (still_safe c e (p + 1) t (next.goes t (at_next (Goes t) h)), refl)
+  good records.Dropped (Jumps t) h =
+      let there = landing t h in
+      (record { place = there.place; target = there.target; safe = still_safe c e there.place t there.safe }, refl)
+  good records.Dropped (Ends x) h = still_fits c e x (next.ends x (at_next (Ends x) h))
+  good records.Dropped NoCase h = tt
 
-  pub has_target : (t : State) → Jumps t ≡ effect c e i s → IsSome (target_of i)
-  has_target t h = ap is_some (lands t h)
+  module _ (k : Records) (none : state_by k s ≡ s) where
+    left : (x : Effect) → x ≡ left_by k i (effect c e i s) → x ≡ effect_by k (effect c e i s)
+    left x h = h ∙ left_is c e k i s none
 
-  pub jumps_to : (t : State) (q : ℕ) → Jumps t ≡ effect c e i s → target_of i ≡ Some q → Leads c e p s (step.To q) t
-  jumps_to t q h target =
-      let there : (landing t h).place ≡ q = same_Some (landing t h).place q (sym (lands t h) ∙ target) in
-      (subst (λ (r : ℕ). IsSafe c e r t) there (landing t h).safe, run_on c e p q s t (step_jumps c e p s i at t q (sym h) target))
+    is_good : (x : Effect) → x ≡ left_by k i (effect c e i s) → IsGood k x
+    is_good x h = subst (IsGood k) (sym (left x h)) (good k (effect c e i s) refl)
 
-  pub ends_with : (x : End) (t : State) → Ends (end_with x t) ≡ effect c e i s → Leads c e p s (step.Over x) t
-  ends_with x t h =
-      (next.ends (end_with x t) (at_next (Ends (end_with x t)) h), run_over c e p s (end_with x t) (step_ends c e p s i at (end_with x t) (sym h)))
+    first : (n : ℕ) → ending_by k (run c e (suc n) p s) ≡ ending_by k (after_step (follow p (target_of i) (effect c e i s)) (run c e n))
+    first n = ap (λ (y : Step). ending_by k (after_step y (run c e n))) (step_is c e p s i at (effect c e i s) refl)
+
+    runs_on : (x : Effect) → x ≡ left_by k i (effect c e i s) → (n : ℕ) → ending_by k (run c e (suc n) p s) ≡ ending_by k (after_step (follow p (target_of i) x) (run c e n))
+    runs_on x h n = first n ∙ goes_by c e k n p (target_of i) (effect c e i s) ∙ ap (λ (y : Effect). ending_by k (after_step (follow p (target_of i) y) (run c e n))) (sym (left x h))
+
+    pub goes_on : (t : State) → Goes t ≡ left_by k i (effect c e i s) → Leads k c e p s (step.To (p + 1)) t
+    goes_on t h = let there = is_good (Goes t) h in (there.0, there.1, runs_on (Goes t) h)
+
+    pub has_target : (t : State) → Jumps t ≡ left_by k i (effect c e i s) → IsSome (target_of i)
+    has_target t h = ap is_some (is_good (Jumps t) h).0.target
+
+    pub jumps_to : (t : State) (q : ℕ) → Jumps t ≡ left_by k i (effect c e i s) → target_of i ≡ Some q → Leads k c e p s (step.To q) t
+    jumps_to t q h target =
+        let there = is_good (Jumps t) h in
+        let place : there.0.place ≡ q = same_Some there.0.place q (sym there.0.target ∙ target) in
+        (subst (λ (r : ℕ). IsSafe c e r t) place there.0.safe, there.1, λ n. runs_on (Jumps t) h n ∙ ap (λ (o : Option ℕ). ending_by k (after_step (to_target o t) (run c e n))) target)
+
+    pub ends_with : (x : End) (t : State) → Ends (end_with x t) ≡ left_by k i (effect c e i s) → Leads k c e p s (step.Over x) t
+    ends_with x t h =
+        (is_good (Ends (end_with x t)) h, λ n. first n ∙ ends_by k p (target_of i) (effect c e i s) (run c e n) (end_with x t) (left (Ends (end_with x t)) h))

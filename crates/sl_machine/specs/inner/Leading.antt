@@ -5,16 +5,19 @@ use Rattle.sl_code.specs.Codes.{CountingCode}
 use Rattle.sl_machine.specs.declared.machine.Step.{Step}
 use Rattle.sl_machine.specs.declared.machine.Step.TheVariants as step
 use Rattle.sl_machine.specs.declared.step.End.{End}
+use Rattle.sl_machine.specs.declared.step.Records.{Records}
 use Rattle.sl_machine.specs.State.{State}
 use Rattle.sl_machine.specs.Agrees.{IsSafe}
 use Rattle.sl_machine.specs.Fits.{FitsEnd}
 use Rattle.sl_machine.specs.Runs.{Ending, Ended, OutOfBudget, run}
+use Rattle.sl_machine.specs.inner.Recording.{state_by, ending_by}
 use Rattle.sl_machine.specs.inner.Stores.{end_with}
 
--- a step from a place and a state leads to a place and a state that are safe, or to an end that fits: runs with one step less go on there
-abbrev pub Leads : CountingCode → Election → ℕ → State → Step → State → Type 0
-Leads c e p s (step.To q) t = IsSafe c e q t × ((n : ℕ) → run c e (suc n) p s ≡ run c e n q t)
-Leads c e p s (step.Over end) t = FitsEnd c e (end_with end t) × ((n : ℕ) → run c e (suc n) p s ≡ Ended (end_with end t))
+-- a step from a place and a state leads to a place and a state that are safe, or to an end that fits: runs with one step less go on there, but for
+-- the records where they are dropped, of which the state has none then
+abbrev pub Leads : Records → CountingCode → Election → ℕ → State → Step → State → Type 0
+Leads k c e p s (step.To q) t = IsSafe c e q t × (state_by k t ≡ t) × ((n : ℕ) → ending_by k (run c e (suc n) p s) ≡ ending_by k (run c e n q t))
+Leads k c e p s (step.Over end) t = FitsEnd c e (end_with end t) × ((n : ℕ) → ending_by k (run c e (suc n) p s) ≡ Ended (end_with end t))
 
 -- how steps end that come to a state
 abbrev pub ending_with : Option End → State → Ending

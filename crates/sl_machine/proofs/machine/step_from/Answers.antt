@@ -5,6 +5,7 @@ use Rattle.sl_code.specs.declared.instr.Instr.{Instr}
 use Rattle.sl_code.specs.declared.instr.Instr.TheVariants as instr
 use Rattle.sl_machine.specs.declared.step.Effect.{Effect}
 use Rattle.sl_machine.specs.Effects.{effect}
+use Rattle.sl_machine.specs.inner.Recording.{left_by}
 use Rattle.sl_machine.specs.inner.Stores.{state_of, effect_of}
 use Rattle.sl_machine.proofs.runs.Leading.{may_here, columns_here, goes_on, has_target, jumps_to, ends_with}
 use Rattle.sl_machine.proofs.machine.step_from.Goals as goal
@@ -49,9 +50,11 @@ unwrap-requires c =
     let there : place < length c.instrs.result.now = subst (λ (is : List Instr). place < length is) (sym c.instrs.ensures.instrs) (slice_get_within code.instrs place safe.instr safe.stands) in
     let i = get_or c.instrs.result.now place (instr.Set 0 0) in
     let at : slice_get code.instrs place ≡ Some i = ap (λ (is : List Instr). slice_get is place) (sym c.instrs.ensures.instrs) ∙ slice_get-get_or c.instrs.result.now place (instr.Set 0 0) there in
+    let k = c.args.records in
+    let none = c.requires.records in
     let t = state_of c.step.new.self in
-    let follows = subst (λ (n : Effect). effect_of n t ≡ effect code e i s) c.in-Jumps.is c.in_ok-step.ensures.follows in
-    subst (λ (o : Option ℕ). IsSome o) (sym c.target.ensures) (has_target code e place s safe i at t follows)
+    let follows = subst (λ (n : Effect). effect_of n t ≡ left_by k i (effect code e i s)) c.in-Jumps.is c.in_ok-step.ensures.follows in
+    subst (λ (o : Option ℕ). IsSome o) (sym c.target.ensures) (has_target code e place s safe i at k none t follows)
 
 pub returns-in-Goes-clause-leads : goal.returns-in-Goes-clause-leads
 returns-in-Goes-clause-leads c =
@@ -63,9 +66,11 @@ returns-in-Goes-clause-leads c =
     let there : place < length c.instrs.result.now = subst (λ (is : List Instr). place < length is) (sym c.instrs.ensures.instrs) (slice_get_within code.instrs place safe.instr safe.stands) in
     let i = get_or c.instrs.result.now place (instr.Set 0 0) in
     let at : slice_get code.instrs place ≡ Some i = ap (λ (is : List Instr). slice_get is place) (sym c.instrs.ensures.instrs) ∙ slice_get-get_or c.instrs.result.now place (instr.Set 0 0) there in
+    let k = c.args.records in
+    let none = c.requires.records in
     let t = state_of c.step.new.self in
-    let follows = subst (λ (n : Effect). effect_of n t ≡ effect code e i s) c.in-Goes.is c.in_ok-step.ensures.follows in
-    goes_on code e place s safe i at t follows
+    let follows = subst (λ (n : Effect). effect_of n t ≡ left_by k i (effect code e i s)) c.in-Goes.is c.in_ok-step.ensures.follows in
+    goes_on code e place s safe i at k none t follows
 
 pub returns-in-Jumps-clause-leads : goal.returns-in-Jumps-clause-leads
 returns-in-Jumps-clause-leads c =
@@ -77,9 +82,11 @@ returns-in-Jumps-clause-leads c =
     let there : place < length c.instrs.result.now = subst (λ (is : List Instr). place < length is) (sym c.instrs.ensures.instrs) (slice_get_within code.instrs place safe.instr safe.stands) in
     let i = get_or c.instrs.result.now place (instr.Set 0 0) in
     let at : slice_get code.instrs place ≡ Some i = ap (λ (is : List Instr). slice_get is place) (sym c.instrs.ensures.instrs) ∙ slice_get-get_or c.instrs.result.now place (instr.Set 0 0) there in
+    let k = c.args.records in
+    let none = c.requires.records in
     let t = state_of c.step.new.self in
-    let follows = subst (λ (n : Effect). effect_of n t ≡ effect code e i s) c.in-Jumps.is c.in_ok-step.ensures.follows in
-    jumps_to code e place s safe i at t c.unwrap.result follows (sym c.target.ensures ∙ c.unwrap.ensures)
+    let follows = subst (λ (n : Effect). effect_of n t ≡ left_by k i (effect code e i s)) c.in-Jumps.is c.in_ok-step.ensures.follows in
+    jumps_to code e place s safe i at k none t c.unwrap.result follows (sym c.target.ensures ∙ c.unwrap.ensures)
 
 pub returns-in-Ends-clause-leads : goal.returns-in-Ends-clause-leads
 returns-in-Ends-clause-leads c =
@@ -91,6 +98,8 @@ returns-in-Ends-clause-leads c =
     let there : place < length c.instrs.result.now = subst (λ (is : List Instr). place < length is) (sym c.instrs.ensures.instrs) (slice_get_within code.instrs place safe.instr safe.stands) in
     let i = get_or c.instrs.result.now place (instr.Set 0 0) in
     let at : slice_get code.instrs place ≡ Some i = ap (λ (is : List Instr). slice_get is place) (sym c.instrs.ensures.instrs) ∙ slice_get-get_or c.instrs.result.now place (instr.Set 0 0) there in
+    let k = c.args.records in
+    let none = c.requires.records in
     let t = state_of c.step.new.self in
-    let follows = subst (λ (n : Effect). effect_of n t ≡ effect code e i s) c.in-Ends.is c.in_ok-step.ensures.follows in
-    ends_with code e place s safe i at c.in-Ends.end t follows
+    let follows = subst (λ (n : Effect). effect_of n t ≡ left_by k i (effect code e i s)) c.in-Ends.is c.in_ok-step.ensures.follows in
+    ends_with code e place s safe i at k none c.in-Ends.end t follows

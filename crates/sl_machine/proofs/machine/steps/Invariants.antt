@@ -2,13 +2,15 @@
 use Rattle.std.proofs.Common.{◌≡◌}
 use Rattle.sl_machine.specs.Agrees.{IsSafe}
 use Rattle.sl_machine.specs.Runs.{run}
+use Rattle.sl_machine.specs.inner.Recording.{state_by, ending_by}
 use Rattle.sl_machine.specs.inner.Stores.{state_of, sizes_of, sizes_for}
 use Rattle.sl_machine.proofs.machine.steps.Given as goal
 
 abbrev pub invariant-loop-left : goal.invariant-loop-left
 invariant-loop-left l = record {
-  same : run l.code l.returns l.budget 0 (state_of l.fn.store) ≡ run l.code l.returns l.left l.place (state_of l.store);
+  same : ending_by l.records (run l.code l.returns l.budget 0 (state_of l.fn.store)) ≡ ending_by l.records (run l.code l.returns l.left l.place (state_of l.store));
   safe : IsSafe l.code l.returns l.place (state_of l.store);
+  none : state_by l.records (state_of l.store) ≡ state_of l.store;
   sizes : sizes_of l.store ≡ sizes_for l.code l.returns;
 }
 

@@ -13,10 +13,12 @@ use Rattle.sl_machine.specs.Fits.{FitsHalt, FitsMemory}
 use Rattle.sl_machine.specs.Memories.{Held}
 use Rattle.sl_machine.specs.State.{State}
 use Rattle.sl_machine.specs.inner.Leading.{FitsWith}
+use Rattle.sl_machine.specs.inner.Recording.{state_by}
 use Rattle.sl_machine.specs.inner.Stores.{Sizes, state_of}
+use Rattle.sl_machine.proofs.runs.Unrecorded.{start_by}
 use Rattle.sl_machine.proofs.stores.Holding.{held_fits}
 use Rattle.sl_machine.proofs.soundness.Soundness.{starts_are_safe}
-use Rattle.sl_machine.proofs.machine.run.Goals as goal
+use Rattle.sl_machine.proofs.machine.run_with.Goals as goal
 
 pub steps-requires-clause-safe : goal.steps-requires-clause-safe
 steps-requires-clause-safe c =
@@ -24,6 +26,9 @@ steps-requires-clause-safe c =
     let e = c.args.returns.now in
     let kinds = subst (λ (x : CountingCode). IsWellKinded x) (sym c.code-code.ensures.code) c.code-code.ensures.kinds in
     subst (λ (s : State). IsSafe code e 0 s) (sym c.in_ok-store.ensures.state) (starts_are_safe code e kinds c.in_ok-store.ensures.election)
+
+pub steps-requires-clause-records : goal.steps-requires-clause-records
+steps-requires-clause-records c = subst (λ (s : State). state_by c.args.records s ≡ s) (sym c.in_ok-store.ensures.state) (start_by c.args.records)
 
 -- an end that fits, and halts
 halted : (c : CountingCode) (e : Election) (s : State) (base : ℕ) (vacant : Option ℕ) (x : End) (o : Option End) → o ≡ Some x → x ≡ end.Halted base vacant → FitsWith c e o s → FitsHalt c e base vacant s
