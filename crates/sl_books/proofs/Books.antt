@@ -12,7 +12,7 @@ use Rattle.sl_books.specs.Codes.{book_pieces, book_code}
 use Rattle.sl_books.specs.Compiled.{ComesTo, ending_by, IsCompiled}
 use Rattle.sl_books.specs.Laws.{CanCompile, BooksAreCompiled}
 use Rattle.sl_books.proofs.Wanted.{BooksCost}
-use Rattle.sl_books.proofs.Slots.{book_has_slots, limits_apart, book_has_stages, book_has_as_many, book_has_names, book_stage_slot}
+use Rattle.sl_books.proofs.Slots.{book_has_slots, limits_apart, book_has_stages, book_has_as_many, book_has_names, book_stage_slot, book_has_shapes}
 use Rattle.sl_books.proofs.Runs.{book_achieves}
 use Rattle.sl_books.proofs.Ends.{IsBookEnd, book_ends}
 use Rattle.sl_books.proofs.Outcomes.{end_means, end_columns}
@@ -32,6 +32,7 @@ module _ (closings : ClosingsAchieve) (costs : BooksCost) (few : List Cond) (b :
   book_is_compiled : IsCompiled b (book_code few b)
   book_is_compiled = record {
     stages = book_has_names few b;
+    shapes = book_has_shapes few b;
     ends = λ e is. ((book_end e is).0, (book_end e is).1);
     means = λ e o is.
         let end = book_end e is in

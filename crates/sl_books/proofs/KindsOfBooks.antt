@@ -1,5 +1,5 @@
 -- The verifier accepts the code of a rulebook.
-use Rattle.std.proofs.Common.{◌≡◌, ℕ, suc, ◌+◌, true, List, [], ◌∷◌, ◌++◌, length, None, Some, refl, ap, arith}
+use Rattle.std.proofs.Common.{◌≡◌, ℕ, ◌+◌, true, List, [], ◌∷◌, ◌++◌, length, None, Some, refl, ap, arith}
 use Rattle.std.specs.Prelude.{is_some}
 use Rattle.std.specs.List.{list_all}
 use Rattle.std.proofs.lemmas.Bool.{and_parts}
@@ -23,16 +23,13 @@ use Rattle.sl_pieces.specs.exprs.Stages.{stages_pieces}
 use Rattle.sl_pieces.specs.closing.Trees.{last_pieces, halting}
 use Rattle.sl_books.specs.Codes.{facts_pieces, book_pieces, book_instrs, code_stages, book_code}
 use Rattle.sl_books.specs.Laws.{CanCompile, BooksAreKinded}
+use Rattle.sl_books.proofs.Slots.{as_many_stages}
 use Rattle.sl_books.proofs.FineTrees.{AreFine, three_fine}
 use Rattle.sl_books.proofs.FineFacts.{facts_fine}
 use Rattle.sl_books.proofs.FineStages.{stages_fine, last_fine, own_slot, one_more}
 use Rattle.sl_books.proofs.KindsLaid.{in_row, known_last, all_pass, halting_passes}
 
 -- ---- the stages of the code
-
-pub as_many_stages : (k : ℕ) (ss : List StageTree) → length (code_stages k ss) ≡ length ss
-as_many_stages k [] = refl
-as_many_stages k (s ∷ ss) = ap suc (as_many_stages (k + 1) ss)
 
 -- the slot of each is there
 slots_there : (code : CountingCode) (types : List Column) (k : ℕ) (ss : List StageTree) → k ≡ length types → HasBookSlots code (columns_of types ss)

@@ -1,5 +1,6 @@
 -- The lemmas of whole rulebooks over code.
 pub mod Wanted
+pub mod Known
 pub mod Slots
 pub mod Told
 pub mod Facts
@@ -7,6 +8,7 @@ pub mod Runs
 pub mod Ends
 pub mod Outcomes
 pub mod Books
+pub mod StageColumns
 pub mod FineTrees
 pub mod FineColumns
 pub mod FineFacts

@@ -20,7 +20,7 @@ use Rattle.sl_stages.specs.meaning.Columns.{NamedColumn}
 use Rattle.sl_stages.specs.meaning.Records.{Records}
 use Rattle.sl_stages.specs.meaning.Seating.{keep_table, cover_table, tie_of}
 use Rattle.sl_stages.specs.meaning.Tables.{SeatTable}
-use Rattle.sl_stages.specs.meaning.Means.{Through, nothing_known, IsSeated, IsOutcome, Means}
+use Rattle.sl_stages.specs.meaning.Means.{Through, IsSeated, IsOutcome, Means}
 use Rattle.sl_stages.specs.laws.ColumnLaws.{IsTypedAs}
 use Rattle.sl_stages.proofs.meaning.MeaningProofs.{same_itself, at_most_one_outcome, any_order}
 use Rattle.sl_stages.proofs.meaning.RecordsOnce.{records_once}
@@ -37,7 +37,8 @@ use Rattle.sl_pieces.specs.exprs.Slots.{stage_slot, HasBookSlots}
 use Rattle.sl_pieces.proofs.exprs.StageRules.{still_holds}
 use Rattle.sl_pieces.specs.closing.Trees.{final_seats, vacant_slot}
 use Rattle.sl_books.specs.Compiled.{ComesTo, HasStageColumns}
-use Rattle.sl_books.proofs.Runs.{IsDone, types_behind}
+use Rattle.sl_books.proofs.Known.{known_types}
+use Rattle.sl_books.proofs.Runs.{IsDone}
 use Rattle.sl_books.proofs.Ends.{IsBookEnd}
 
 -- ---- a table has the records of its stages
@@ -148,7 +149,7 @@ column_read c e s slot of values at h =
     sym (column_by_cells c e s slot values (h.long ∙ sym width) (λ q below. sym (h.at q (omega (arith, below, width)))))
 
 -- where a list is as long as another, it has an element at each place of that
-as_long : {X Y : Type 0} (xs : List X) (ys : List Y) (n : ℕ) (y : Y) → length ys ≡ length xs → slice_get ys n ≡ Some y → (x : X) × (slice_get xs n ≡ Some x)
+pub as_long : {X Y : Type 0} (xs : List X) (ys : List Y) (n : ℕ) (y : Y) → length ys ≡ length xs → slice_get ys n ≡ Some y → (x : X) × (slice_get xs n ≡ Some x)
 as_long xs ys n y long at =
     let below = slice_get_within ys n y at in
     elim ((slice_get_cases xs n).1) [ inl there ↦ (there.0, there.2) | inr past ↦ (let past_end = past.0 in absurd (omega (arith, below, long, past_end))) ]
@@ -166,7 +167,7 @@ module _ (c : CountingCode) (b : BookTree) (e : Election) (slots : HasBookSlots 
 
       column_there : (n : ℕ) (x : NamedColumn) → slice_get h.known.columns n ≡ Some x → column_of c e s (stage_slot n) ≡ x.values
       column_there n x named =
-          let types : h.known.types ≡ columns_of [] b.stages = types_behind b e nothing_known b.stages h.known h.means in
+          let types : h.known.types ≡ columns_of [] b.stages = known_types b e h.known h.means in
           let one = as_long h.known.types h.known.columns n x (AllZip-long (IsTypedAs e) h.known.types h.known.columns h.behind.typed) named in
           column_read c e s (stage_slot n) one.0.type.shape x.values
           (slots.stages_are n one.0 (subst (λ (ts : List Column). slice_get ts n ≡ Some one.0) types one.1))

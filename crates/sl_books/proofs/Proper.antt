@@ -26,6 +26,8 @@ use Rattle.sl_pieces.specs.exprs.Stages.{stage_pieces, stages_pieces}
 use Rattle.sl_pieces.specs.closing.Trees.{base_slot, final_seats, cover_slots, seating_pieces, vacant_pieces, last_pieces, halting}
 use Rattle.sl_books.specs.Codes.{facts_pieces, book_pieces, book_instrs, code_stages, book_slots, book_code}
 use Rattle.sl_books.specs.Laws.{CanCompile}
+use Rattle.sl_books.proofs.Known.{columns_long}
+use Rattle.sl_books.proofs.Slots.{as_many_stages}
 use Rattle.sl_books.proofs.Sizes.{length-laid_all, few_stages, books_are_short}
 use Rattle.sl_books.proofs.ProperLists.{all_append, all_parts, Fits, AllFit, written_fit}
 use Rattle.sl_books.proofs.ProperTrees.{IsRanged, laid_in_range}
@@ -151,17 +153,6 @@ book_in_range few b can ranged =
     all_append IsInRange (laid_all 0 ts) (halting b.last.vacate ∷ []) (laid_in_range 0 ts ranged below) (halt_in_range b.last.vacate, tt)
 
 -- ---- stages and slots
-length-code_stages : (k : ℕ) (ss : List StageTree) → length (code_stages k ss) ≡ length ss
-length-code_stages k [] = refl
-length-code_stages k (s ∷ ss) = let rest = length-code_stages (k + 1) ss in omega (arith, rest)
-
-length-columns_of : (types : List Column) (ss : List StageTree) → length (columns_of types ss) ≡ length types + length ss
-length-columns_of types [] = omega arith
-length-columns_of types (s ∷ ss) =
-    let one = length-append types (stage_column types s ∷ []) in
-    let rest = length-columns_of (types ++ stage_column types s ∷ []) ss in
-    omega (arith, one, rest)
-
 length-book_slots : (types : List Column) → length (book_slots types) ≡ 80 + length types
 length-book_slots types = let rest = length-map types (λ c. c.type.shape) in omega (arith, rest)
 
@@ -169,10 +160,10 @@ book_is_code : (few : List Cond) (b : BookTree) → CanCompile few b → IsCode 
 book_is_code few b can =
     let few_instrs = books_are_short few b can in
     let stages = few_stages b.stages can.limits in
-    let columns = length-columns_of [] b.stages in
+    let columns = columns_long b.stages in
     record {
       instrs = omega (arith, few_instrs);
-      stages = let same = length-code_stages 0 b.stages in omega (arith, same, stages);
+      stages = let same = as_many_stages 0 b.stages in omega (arith, same, stages);
       slots = let slots = length-book_slots (columns_of [] b.stages) in omega (arith, slots, columns, stages);
     }
 

@@ -1,18 +1,16 @@
 -- From the start on, all plans of a book come to the table that the book means, or end the run with the fault that it means.
-use Rattle.std.proofs.Common.{◌≡◌, ℕ, true, List, [], ◌∷◌, ◌++◌, None, length, refl, sym, ap, subst, ◌∙◌, arith}
+use Rattle.std.proofs.Common.{◌≡◌, true, List, [], ◌++◌, None, length, refl, sym, subst, ◌∙◌, arith}
 use Rattle.std.specs.List.{list_all}
 use Rattle.sl_stages.specs.declared.book.Cond.{Cond}
 use Rattle.sl_stages.specs.declared.book.Shape.TheVariants as shape
 use Rattle.sl_stages.specs.declared.fault.LegalFault.{LegalFault}
 use Rattle.sl_stages.specs.declared.table.Outcome.TheVariants as outcome
 use Rattle.sl_stages.specs.book.Tests.{first_failing}
-use Rattle.sl_stages.specs.book.Trees.{StageTree, BookTree}
+use Rattle.sl_stages.specs.book.Trees.{BookTree}
 use Rattle.sl_stages.specs.book.Limits.{is_within_stage}
 use Rattle.sl_stages.specs.book.Typing.{Column, columns_of, stages_tests, base_tests, tests_of, is_typed}
 use Rattle.sl_stages.specs.returns.Election.{Election, IsElection}
-use Rattle.sl_stages.specs.meaning.Records.{Records}
-use Rattle.sl_stages.specs.meaning.Results.{ExprResult, Column as Values, Fault}
-use Rattle.sl_stages.specs.meaning.Means.{Known, Through, Stopped, nothing_known, with_stage, GoesOn, StagesMean, IsOutcome}
+use Rattle.sl_stages.specs.meaning.Means.{Known, Through, Stopped, nothing_known, StagesMean, IsOutcome}
 use Rattle.sl_stages.proofs.Tests.{no_fault}
 use Rattle.sl_stages.proofs.meaning.OneOutcome.{typed_parts}
 use Rattle.sl_code.specs.Codes.{CountingCode}
@@ -29,6 +27,7 @@ use Rattle.sl_pieces.specs.closing.Trees.{last_pieces}
 use Rattle.sl_pieces.specs.closing.Closing.{BeginsClosing, HasClosed, EndsInOutcome, ClosingsAchieve}
 use Rattle.sl_books.specs.Conditions.{SayTheSame}
 use Rattle.sl_books.specs.Codes.{facts_pieces, book_pieces}
+use Rattle.sl_books.proofs.Known.{known_types}
 use Rattle.sl_books.proofs.Told.{IsBlank}
 use Rattle.sl_books.proofs.Facts.{HasFacts, facts_achieve}
 
@@ -48,18 +47,6 @@ pub record IsStopped (b : BookTree) (e : Election) (x : End) : Type 0 where
   pub means : IsOutcome b e (outcome.Fault fault)
   pub is : x ≡ Faulted fault
 
-module _ (b : BookTree) (e : Election) where
-  goes : (k : Known) (s : StageTree) (ss : List StageTree) (end : Known) (first : ExprResult) →
-      ((values : List ℕ) (records : Records) → StagesMean b e (with_stage k s values records) ss (Through end) → end.types ≡ columns_of k.types (s ∷ ss)) →
-      GoesOn first (λ values records. StagesMean b e (with_stage k s values records) ss (Through end)) (Through end) → end.types ≡ columns_of k.types (s ∷ ss)
-  goes k s ss end (Fault f) on stops = cc
-  goes k s ss end (Values values records) on run = on values records run
-
-  -- behind the stages the types are those of their columns
-  pub types_behind : (k : Known) (ss : List StageTree) (end : Known) → StagesMean b e k ss (Through end) → end.types ≡ columns_of k.types ss
-  types_behind k [] end run = let same : end ≡ k = cc in ap (λ (j : Known). j.types) same
-  types_behind k (s ∷ ss) end run = goes k s ss end run.0 (λ values records more. types_behind (with_stage k s values records) ss end more) run.2
-
 module _ (c : CountingCode) (few : List Cond) (b : BookTree) (e : Election) (is : IsElection e) (typed : is_typed b ≡ true) (within : list_all is_within_stage b.stages ≡ true)
     (same : SayTheSame few b.eligible) (slots : HasBookSlots c (columns_of [] b.stages)) (staged : HasStages c 0 b.stages) (long : length c.stages ≡ length b.stages)
     (closings : ClosingsAchieve)
@@ -76,7 +63,7 @@ module _ (c : CountingCode) (few : List Cond) (b : BookTree) (e : Election) (is 
     -- behind the stages
     last_achieves : (s : State) → HasFacts b e s → (t : State) → HasColumns b e nothing_known b.stages s t → AchievesAll c e last t (IsDone c b e) (IsStopped b e)
     last_achieves s told t h =
-        let types : h.known.types ≡ columns_of [] b.stages = types_behind b e nothing_known b.stages h.known h.means in
+        let types : h.known.types ≡ columns_of [] b.stages = known_types b e h.known h.means in
         let begins : BeginsClosing b e h.known s t = record {
           behind = h.behind;
           flags = still_holds e shape.Party (s.columns 0) (t.columns 0) (flags b.eligible e) (λ q. h.behind.low 0 q (omega arith)) told.flags;

@@ -1,5 +1,5 @@
 -- The slots and the stages of a book's code are where its plans look for them.
-use Rattle.std.proofs.Common.{◌≡◌, ℕ, zero, suc, ◌+◌, ◌*◌, ◌<◌, ◌≤◌, true, List, [], ◌∷◌, ◌++◌, length, map, Some, slice_get, flat_map, nat_le, refl, sym, ap, ◌∙◌, arith}
+use Rattle.std.proofs.Common.{◌≡◌, ℕ, zero, suc, ◌+◌, ◌*◌, ◌<◌, ◌≤◌, true, List, [], ◌∷◌, ◌++◌, length, map, Some, slice_get, flat_map, nat_le, refl, sym, ap, ap₂, ◌∙◌, arith}
 use Rattle.std.specs.List.{range_with_len, list_all}
 use Rattle.std.proofs.lemmas.Bool.{and_parts, leb-true}
 use Rattle.std.proofs.lemmas.Option.{none-some, same_Some, slice_get-map}
@@ -15,6 +15,7 @@ use Rattle.sl_pieces.specs.exprs.Slots.{fact_slots, number_of, passing, stage_sl
 use Rattle.sl_pieces.specs.exprs.Stages.{HasStages}
 use Rattle.sl_pieces.specs.facts.Laws.{HasFactSlots}
 use Rattle.sl_books.specs.Codes.{code_stages, fact_shapes, closing_shapes, level_shapes, passing_shapes, book_slots, book_code}
+use Rattle.sl_books.proofs.Known.{columns_long}
 
 -- ---- slots
 
@@ -107,13 +108,22 @@ slot_at k zero (r ∷ ss) stage at =
     sym (ap (λ (x : CodeStage). x.slot) (same_Some (record { name = r.name; slot = stage_slot k }) stage at)) ∙ ap stage_slot here
 slot_at k (suc j) (r ∷ ss) stage at = let next : k + 1 + j ≡ k + suc j = omega arith in slot_at (k + 1) j ss stage at ∙ ap stage_slot next
 
-as_many : (k : ℕ) (ss : List StageTree) → length (code_stages k ss) ≡ length ss
-as_many k [] = refl
-as_many k (s ∷ ss) = ap suc (as_many (k + 1) ss)
+pub as_many_stages : (k : ℕ) (ss : List StageTree) → length (code_stages k ss) ≡ length ss
+as_many_stages k [] = refl
+as_many_stages k (s ∷ ss) = ap suc (as_many_stages (k + 1) ss)
 
 same_names : (k : ℕ) (ss : List StageTree) → map (λ s. s.name) (code_stages k ss) ≡ map (λ s. s.name) ss
 same_names k [] = refl
 same_names k (s ∷ ss) = ap (λ (names : List (List ℕ)). s.name ∷ names) (same_names (k + 1) ss)
+
+-- lists of which the functions say the same at each place
+same_maps : {X Y Z : Type 0} (f : X → Z) (g : Y → Z) (xs : List X) (ys : List Y) → length xs ≡ length ys →
+    ((n : ℕ) (x : X) (y : Y) → slice_get xs n ≡ Some x → slice_get ys n ≡ Some y → f x ≡ g y) → map f xs ≡ map g ys
+same_maps f g [] [] long each = refl
+same_maps f g [] (y ∷ ys) long each = absurd (omega (arith, long))
+same_maps f g (x ∷ xs) [] long each = absurd (omega (arith, long))
+same_maps f g (x ∷ xs) (y ∷ ys) long each =
+    ap₂ (λ z zs. z ∷ zs) (each 0 x y refl refl) (same_maps f g xs ys (omega (arith, long)) (λ n u v at there. each (suc n) u v at there))
 
 -- the limits of a book, apart
 pub limits_apart : (ss : List StageTree) → is_within_limits ss ≡ true → (length ss ≤ 32) × (list_all is_within_stage ss ≡ true)
@@ -132,7 +142,7 @@ module _ (few : List Cond) (b : BookTree) where
   }
 
   pub book_has_as_many : length (book_code few b).stages ≡ length b.stages
-  book_has_as_many = as_many 0 b.stages
+  book_has_as_many = as_many_stages 0 b.stages
 
   pub book_has_names : map (λ s. s.name) (book_code few b).stages ≡ map (λ s. s.name) b.stages
   book_has_names = same_names 0 b.stages
@@ -140,3 +150,10 @@ module _ (few : List Cond) (b : BookTree) where
   -- the slot of a stage is that of its number
   pub book_stage_slot : (n : ℕ) (stage : CodeStage) → slice_get (book_code few b).stages n ≡ Some stage → stage.slot ≡ stage_slot n
   book_stage_slot n stage at = let here : 0 + n ≡ n = omega arith in slot_at 0 n b.stages stage at ∙ ap stage_slot here
+
+  -- and has the shape of its column
+  pub book_has_shapes : map (λ s. slice_get (book_code few b).slots s.slot) (book_code few b).stages ≡ map (λ x. Some x.type.shape) (columns_of [] b.stages)
+  book_has_shapes =
+      same_maps (λ (s : CodeStage). slice_get (book_code few b).slots s.slot) (λ (x : Column). Some x.type.shape) (book_code few b).stages (columns_of [] b.stages)
+      (book_has_as_many ∙ sym (columns_long b.stages))
+      (λ n stage x at typed. ap (slice_get (book_code few b).slots) (book_stage_slot n stage at) ∙ stage_there (columns_of [] b.stages) n x typed)

@@ -1,8 +1,9 @@
 -- What it is for a counting code to count as a rulebook means (docs/compiler.md, section 8).
-use Rattle.std.specs.Prelude.{◌≡◌, ◌↔◌, ℕ, Option, Some, length, map, slice_get}
+use Rattle.std.specs.Prelude.{◌≡◌, ◌↔◌, ℕ, [], Option, Some, length, map, slice_get}
 use Rattle.sl_stages.specs.declared.table.Outcome.{Outcome}
 use Rattle.sl_stages.specs.declared.table.Outcome.TheVariants as outcome
 use Rattle.sl_stages.specs.book.Trees.{BookTree}
+use Rattle.sl_stages.specs.book.Typing.{columns_of}
 use Rattle.sl_stages.specs.returns.Election.{Election, IsElection}
 use Rattle.sl_stages.specs.meaning.Columns.{NamedColumn}
 use Rattle.sl_stages.specs.meaning.Tables.{SeatTable}
@@ -37,10 +38,12 @@ pub record HasStageColumns (b : BookTree) (c : CountingCode) (e : Election) (s :
 abbrev pub ending_by : BookTree → CountingCode → Election → Ending
 ending_by b c e = ending c e (budget_of (length b.stages) e)
 
--- the code has the stages of the book, in order. On all returns its run ends within the budget; it comes to an outcome exactly if the book means
--- that outcome; and where it is done, the columns of the stages stand in their slots
+-- the code has the stages of the book, in order, and the slot of each is there and has the shape of the stage's column. On all returns its run
+-- ends within the budget; it comes to an outcome exactly if the book means that outcome; and where it is done, the columns of the stages stand in
+-- their slots
 pub record IsCompiled (b : BookTree) (c : CountingCode) : Type 0 where
   pub stages : map (λ s. s.name) c.stages ≡ map (λ s. s.name) b.stages
+  pub shapes : map (λ s. slice_get c.slots s.slot) c.stages ≡ map (λ x. Some x.type.shape) (columns_of [] b.stages)
   pub ends : (e : Election) → IsElection e → (end : End) × (ending_by b c e ≡ Ended end)
   pub means : (e : Election) (o : Outcome) → IsElection e → Means b e o ↔ ComesTo c e (ending_by b c e) o
   pub columns : (e : Election) (base : ℕ) (vacant : Option ℕ) (s : State) → IsElection e → ending_by b c e ≡ Ended (Halted base vacant s) → HasStageColumns b c e s

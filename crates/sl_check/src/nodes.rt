@@ -18,26 +18,6 @@ pub fn test(holds: bool, otherwise: CheckFault) -> Result<(), CheckFault>
     if holds { Ok(()) } else { Err(otherwise) }
 }
 
-/// A column of seats.
-pub fn seats(shape: Shape) -> ColumnType
-    ensures { result ≡ column shape unit.Seats }
-{
-    ColumnType {
-        shape,
-        unit: Unit::Seats,
-    }
-}
-
-/// A column of votes.
-pub fn votes(shape: Shape) -> ColumnType
-    ensures { result ≡ column shape unit.Votes }
-{
-    ColumnType {
-        shape,
-        unit: Unit::Votes,
-    }
-}
-
 /// Whether it is a number of seats: 1 to 4000.
 pub fn is_seat_number(n: u32) -> bool
     ensures { result ≡ is_seat_number n }
@@ -67,16 +47,6 @@ fn is_votes(of: ColumnType) -> bool
     ensures { result ≡ same_unit of.unit unit.Votes }
 {
     same_unit(of.unit, Unit::Votes)
-}
-
-fn shape_over(over: Axis) -> Shape
-    ensures { result ≡ shape_over over }
-{
-    match over {
-        Axis::Party => Shape::Party,
-        Axis::Land => Shape::Land,
-        Axis::All => Shape::One,
-    }
 }
 
 /// Whether a column of that shape can be summed so.
@@ -119,7 +89,7 @@ pub fn sum_type(at: usize, of: ColumnType, over: Axis) -> Result<ColumnType, Che
 {
     test(can_sum(of.shape, over), CheckFault::Shape(at))?;
     Ok(ColumnType {
-        shape: shape_over(over),
+        shape: over.shape(),
         unit: of.unit,
     })
 }
@@ -146,7 +116,7 @@ fn share_from_type(
     test(shapes, CheckFault::Shape(at))?;
     let units = is_seats(of) && is_votes(by) && is_seats(minima);
     test(units, CheckFault::Unit(at))?;
-    Ok(seats(by.shape))
+    Ok(ColumnType::seats(by.shape))
 }
 
 /// The type of a split without minima.
@@ -163,7 +133,7 @@ pub fn split_type(
     test(option, CheckFault::MethodOption(at))?;
     test(can_split(of.shape, by.shape), CheckFault::Shape(at))?;
     test(is_seats(of) && is_votes(by), CheckFault::Unit(at))?;
-    Ok(seats(by.shape))
+    Ok(ColumnType::seats(by.shape))
 }
 
 /// The type of a split with minima.

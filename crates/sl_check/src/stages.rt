@@ -9,7 +9,7 @@ ghost use Rattle.sl_stages.specs.book.Tests.{Judges};
 ghost use Rattle.sl_check.specs.Known.{columns};
 
 use crate::columns::Columns;
-use crate::nodes::{same_shape, same_unit, seats, test};
+use crate::nodes::{same_shape, same_unit, test};
 use crate::parts::splits_in;
 use sl_stages::{
     Base, CheckFault, ColumnType, LastClause, MAX_PARTS, MAX_STAGES, Shape, Stage, Unit,
@@ -52,7 +52,7 @@ pub fn stage_types(stages: &[Stage]) -> Result<[ColumnType; MAX_STAGES], CheckFa
         (λ types. (fault ≡ None) × (columns stages.now types ≡ columns_of [] trees))
         (λ f. fault ≡ Some f) }
 {
-    let mut types = [seats(Shape::One); MAX_STAGES];
+    let mut types = [ColumnType::seats(Shape::One); MAX_STAGES];
     for (i, stage) in stages.iter().enumerate() {
         let earlier = Columns {
             stages: &stages[..i],

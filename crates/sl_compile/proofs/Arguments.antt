@@ -1,144 +1,101 @@
--- The plans of an expression are laid out where those of its arguments and its own are.
-use Rattle.std.proofs.Common.{◌≡◌, ℕ, ◌+◌, List, [], ◌∷◌, ◌++◌, None, false, refl, sym, ap, ◌∙◌, subst, append_assoc}
-use Rattle.sl_ratio.specs.declared.method.Method.{Method}
-use Rattle.sl_stages.specs.declared.book.Axis.{Axis}
-use Rattle.sl_stages.specs.declared.book.Axis.TheVariants as axis
-use Rattle.sl_stages.specs.declared.book.Majority.{Majority}
-use Rattle.sl_stages.specs.declared.book.Shape.{Shape}
+-- The plans of an expression stand where those of its arguments and then its own do.
+use Rattle.std.proofs.Common.{◌≡◌, ℕ, ◌+◌, ◌*◌, ◌<◌, max, List, [], ◌∷◌, ◌++◌, Result, IfOk, sym, ap, ◌∙◌, subst, arith, append_assoc}
 use Rattle.sl_stages.specs.declared.book.ColumnType.{ColumnType}
-use Rattle.sl_stages.specs.book.Trees.{ExprTree, sum, larger, less, split}
-use Rattle.sl_stages.specs.book.Typing.{Column, type_of, shape_over}
+use Rattle.sl_stages.specs.book.Trees.{ExprTree}
+use Rattle.sl_stages.specs.book.Limits.{depth_of}
+use Rattle.sl_stages.specs.book.Typing.{Column, type_of}
 use Rattle.sl_code.specs.declared.instr.Instr.{Instr}
 use Rattle.sl_plans.specs.Trees.{Tree}
-use Rattle.sl_pieces.specs.columns.Trees.{sum_tree, larger_tree, less_tree, summed}
+use Rattle.sl_pieces.specs.columns.Trees.{copy_tree}
 use Rattle.sl_pieces.specs.exprs.Slots.{passing}
-use Rattle.sl_pieces.specs.exprs.Pieces.{pieces, split_piece}
+use Rattle.sl_pieces.specs.exprs.Pieces.{pieces}
 use Rattle.sl_compile.specs.Laying.{IsLaidAll, HasRoom}
-use Rattle.sl_compile.specs.Nodes.{minima_at}
-use Rattle.sl_compile.proofs.Places.{laid_then, room_first, room_rest}
+use Rattle.sl_compile.specs.Earlier.{Fits}
+use Rattle.sl_compile.proofs.Places.{laid_as, laid_behind, room_as, room_first, room_rest}
 
--- ---- plans of two arguments, and of three
+-- ---- plans of which some stand first
 
-pub two_then : (a b t : List Tree) (x y z : List Instr) → IsLaidAll (a ++ b) x y → IsLaidAll t y z → IsLaidAll (a ++ (b ++ t)) x z
-two_then a b t x y z both own = subst (λ (ts : List Tree). IsLaidAll ts x z) (append_assoc a b t) (laid_then (a ++ b) t x y z both own)
+module _ (whole first own : List Tree) (is : whole ≡ first ++ own) (before : List Instr) where
+  pub first_room : HasRoom whole before → HasRoom first before
+  first_room room = room_first first own before (room_as (first ++ own) whole before (sym is) room)
 
-pub two_room : (a b t : List Tree) (x : List Instr) → HasRoom (a ++ (b ++ t)) x → HasRoom (a ++ b) x
-two_room a b t x room = room_first (a ++ b) t x (subst (λ (ts : List Tree). HasRoom ts x) (sym (append_assoc a b t)) room)
+  pub own_room : (after : List Instr) → HasRoom whole before → IsLaidAll first before after → HasRoom own after
+  own_room after room there = room_rest first own before after (room_as (first ++ own) whole before (sym is) room) there
 
-pub two_rest : (a b t : List Tree) (x y : List Instr) → HasRoom (a ++ (b ++ t)) x → IsLaidAll (a ++ b) x y → HasRoom t y
-two_rest a b t x y room both = room_rest (a ++ b) t x y (subst (λ (ts : List Tree). HasRoom ts x) (sym (append_assoc a b t)) room) both
+  pub own_laid : {R E : Type 0} (r : Result R E) (mid after : List Instr) → IsLaidAll first before mid → IfOk r (λ _. IsLaidAll own mid after) → IfOk r (λ _. IsLaidAll whole before after)
+  own_laid r mid after there laid = laid_as r (first ++ own) whole before after (sym is) (laid_behind r first own before mid after there laid)
 
--- ---- sums
+-- what has this has that
+pub has_as : {E : Type 0} (r : Result ColumnType E) {of t : ColumnType} → of ≡ t → IfOk r (λ has. has ≡ of) → IfOk r (λ has. has ≡ t)
+has_as r is h = subst (λ (t : ColumnType). IfOk r (λ has. has ≡ t)) is h
 
-summed_is : (over : Axis) → shape_over over ≡ summed over
-summed_is axis.Party = refl
-summed_is axis.Land = refl
-summed_is axis.All = refl
+-- ---- no arguments: a copy of a column that has what the tree has
 
-module _ (types : List Column) (stage level : ℕ) (x : ExprTree) (over : Axis) (of : ColumnType) (is : of ≡ type_of types x) where
-  abbrev own_sum : List Tree
-  own_sum = sum_tree over of.shape (passing level of.shape) (passing level (shape_over over)) ∷ []
+module _ (types : List Column) {x y : ExprTree} {of : ColumnType} (is : x ≡ y) (of_is : of ≡ type_of types y) where
+  pub copy_has : {E : Type 0} (r : Result ColumnType E) → IfOk r (λ has. has ≡ of) → IfOk r (λ has. has ≡ type_of types x)
+  copy_has r h = has_as r (of_is ∙ ap (type_of types) (sym is)) h
 
-  own_sum_is : own_sum ≡ sum_tree over (type_of types x).shape (passing level (type_of types x).shape) (passing level (summed over)) ∷ []
-  own_sum_is =
-      ap (λ (t : ColumnType). sum_tree over t.shape (passing level t.shape) (passing level (shape_over over)) ∷ []) is
-      ∙ ap (λ (s : Shape). sum_tree over (type_of types x).shape (passing level (type_of types x).shape) (passing level s) ∷ []) (summed_is over)
+  module _ (stage level : ℕ) {slot from : ℕ} (copied : pieces types stage level y ≡ copy_tree (type_of types y).shape slot (passing level (type_of types y).shape) ∷ []) (from_is : from ≡ slot) where
+    abbrev own_copy : List Tree
+    own_copy = copy_tree of.shape from (passing level of.shape) ∷ []
 
-  pub sum_room : (before after : List Instr) → HasRoom (pieces types stage level (sum 0 x over)) before → IsLaidAll (pieces types stage level x) before after → HasRoom own_sum after
-  sum_room before after room first =
-      subst (λ (ts : List Tree). HasRoom ts after) (sym own_sum_is) (room_rest (pieces types stage level x) _ before after room first)
+    copy_is : own_copy ≡ pieces types stage level x
+    copy_is =
+        ap (λ (t : ColumnType). copy_tree t.shape from (passing level t.shape) ∷ []) of_is
+        ∙ ap (λ (n : ℕ). copy_tree (type_of types y).shape n (passing level (type_of types y).shape) ∷ []) from_is
+        ∙ sym copied
+        ∙ ap (λ (z : ExprTree). pieces types stage level z) (sym is)
 
-  pub sum_laid : (before mid after : List Instr) → IsLaidAll (pieces types stage level x) before mid → IsLaidAll own_sum mid after →
-      IsLaidAll (pieces types stage level (sum 0 x over)) before after
-  sum_laid before mid after first own =
-      laid_then (pieces types stage level x) _ before mid after first (subst (λ (ts : List Tree). IsLaidAll ts mid after) own_sum_is own)
+    pub copy_room : (code : List Instr) → HasRoom (pieces types stage level x) code → HasRoom own_copy code
+    copy_room code room = room_as own_copy (pieces types stage level x) code copy_is room
 
--- ---- two columns
+    pub copy_laid : {R E : Type 0} (r : Result R E) (before after : List Instr) → IfOk r (λ _. IsLaidAll own_copy before after) → IfOk r (λ _. IsLaidAll (pieces types stage level x) before after)
+    copy_laid r before after laid = laid_as r own_copy (pieces types stage level x) before after copy_is laid
 
-module _ (types : List Column) (stage level : ℕ) (l r : ExprTree) (of : ColumnType) (is : of ≡ type_of types l) where
-  abbrev arguments : List Tree
-  arguments = pieces types stage level l ++ pieces types stage (level + 1) r
+-- ---- two arguments, and what is by their types
 
-  abbrev own_larger : ColumnType → List Tree
-  own_larger t = larger_tree t.shape (passing level t.shape) (passing (level + 1) t.shape) (passing level t.shape) ∷ []
+-- the two fit, one a level on, and are less deep; the expression has what their types give, and behind their plans stand those that their types give
+pub record Over (types : List Column) (stage level : ℕ) (x l r : ExprTree) (has : ColumnType → ColumnType → ColumnType) (rest : ColumnType → ColumnType → List Tree) : Type 0 where
+  pub left : Fits types level l
+  pub right : Fits types (level + 1) r
+  pub falls : max (depth_of l) (depth_of r) < depth_of x
+  pub type : type_of types x ≡ has (type_of types l) (type_of types r)
+  pub plans : pieces types stage level x ≡ pieces types stage level l ++ (pieces types stage (level + 1) r ++ rest (type_of types l) (type_of types r))
 
-  abbrev own_less : ColumnType → List Tree
-  own_less t = less_tree t.shape (passing level t.shape) (passing (level + 1) t.shape) (passing level t.shape) ∷ []
+module _ {types : List Column} {stage level : ℕ} {x l r : ExprTree} {has : ColumnType → ColumnType → ColumnType} {rest : ColumnType → ColumnType → List Tree}
+    (over : Over types stage level x l r has rest) where
+  abbrev whole : List Tree
+  whole = pieces types stage level x
 
-  pub larger_room : (before after : List Instr) → HasRoom (pieces types stage level (larger 0 l r)) before → IsLaidAll arguments before after → HasRoom (own_larger of) after
-  larger_room before after room both =
-      subst (λ (t : ColumnType). HasRoom (own_larger t) after) (sym is)
-      (two_rest (pieces types stage level l) (pieces types stage (level + 1) r) (own_larger (type_of types l)) before after room both)
+  abbrev both : List Tree
+  both = pieces types stage level l ++ pieces types stage (level + 1) r
 
-  pub larger_laid : (before mid after : List Instr) → IsLaidAll arguments before mid → IsLaidAll (own_larger of) mid after →
-      IsLaidAll (pieces types stage level (larger 0 l r)) before after
-  larger_laid before mid after both own =
-      two_then (pieces types stage level l) (pieces types stage (level + 1) r) (own_larger (type_of types l)) before mid after both
-      (subst (λ (t : ColumnType). IsLaidAll (own_larger t) mid after) is own)
+  both_first : whole ≡ both ++ rest (type_of types l) (type_of types r)
+  both_first = over.plans ∙ sym (append_assoc (pieces types stage level l) (pieces types stage (level + 1) r) (rest (type_of types l) (type_of types r)))
 
-  pub less_room : (before after : List Instr) → HasRoom (pieces types stage level (less 0 l r)) before → IsLaidAll arguments before after → HasRoom (own_less of) after
-  less_room before after room both =
-      subst (λ (t : ColumnType). HasRoom (own_less t) after) (sym is)
-      (two_rest (pieces types stage level l) (pieces types stage (level + 1) r) (own_less (type_of types l)) before after room both)
+  pub pair_asks : {t : ℕ} (code : List Instr) → 2 * depth_of x ≡ t → HasRoom whole code →
+      (2 * max (depth_of l) (depth_of r) + 1 < t) × (Fits types level l × (Fits types (level + 1) r × HasRoom both code))
+  pair_asks code measure room =
+      (omega (arith, measure, over.falls), (over.left, (over.right, first_room whole both (rest (type_of types l) (type_of types r)) both_first code room)))
 
-  pub less_laid : (before mid after : List Instr) → IsLaidAll arguments before mid → IsLaidAll (own_less of) mid after →
-      IsLaidAll (pieces types stage level (less 0 l r)) before after
-  less_laid before mid after both own =
-      two_then (pieces types stage level l) (pieces types stage (level + 1) r) (own_less (type_of types l)) before mid after both
-      (subst (λ (t : ColumnType). IsLaidAll (own_less t) mid after) is own)
+  module _ {of by : ColumnType} (have : (of ≡ type_of types l) × (by ≡ type_of types r)) where
+    behind_both : whole ≡ both ++ rest of by
+    behind_both =
+        both_first
+        ∙ ap (λ (t : ColumnType). both ++ rest t (type_of types r)) (sym have.0)
+        ∙ ap (λ (t : ColumnType). both ++ rest of t) (sym have.1)
 
--- ---- splits and growths
+    pub rest_room : (before after : List Instr) → HasRoom whole before → IsLaidAll both before after → HasRoom (rest of by) after
+    rest_room before after room there = own_room whole both (rest of by) behind_both before after room there
 
-module _ (types : List Column) (stage level : ℕ) (s v : ExprTree) (of by : ColumnType) (of_is : of ≡ type_of types s) (by_is : by ≡ type_of types v) (method : Method) (majority : Majority) where
-  abbrev of_both : List Tree
-  of_both = pieces types stage level s ++ pieces types stage (level + 1) v
+    pub rest_laid : {R E : Type 0} (e : Result R E) (before mid after : List Instr) → IsLaidAll both before mid → IfOk e (λ _. IsLaidAll (rest of by) mid after) →
+        IfOk e (λ _. IsLaidAll whole before after)
+    rest_laid e before mid after there laid = own_laid whole both (rest of by) behind_both before e mid after there laid
 
-  pub split_room : (before after : List Instr) → HasRoom (pieces types stage level (split 0 s v method majority)) before → IsLaidAll of_both before after →
-      HasRoom (split_piece [] stage level of.shape by.shape (minima_at level by.shape false) method majority) after
-  split_room before after room both =
-      subst (λ (t : ColumnType). HasRoom (split_piece [] stage level t.shape by.shape None method majority) after) (sym of_is)
-      (subst (λ (t : ColumnType). HasRoom (split_piece [] stage level (type_of types s).shape t.shape None method majority) after) (sym by_is)
-      (two_rest (pieces types stage level s) (pieces types stage (level + 1) v) (split_piece [] stage level (type_of types s).shape (type_of types v).shape None method majority)
-      before after room both))
+    pub has_both : {E : Type 0} (e : Result ColumnType E) → IfOk e (λ h. h ≡ has of by) → IfOk e (λ h. h ≡ type_of types x)
+    has_both e h =
+        has_as e (ap (λ (t : ColumnType). has t by) have.0 ∙ ap (λ (t : ColumnType). has (type_of types l) t) have.1 ∙ sym over.type) h
 
-  pub split_laid_as : (before mid after : List Instr) → IsLaidAll of_both before mid →
-      IsLaidAll (split_piece [] stage level of.shape by.shape (minima_at level by.shape false) method majority) mid after →
-      IsLaidAll (pieces types stage level (split 0 s v method majority)) before after
-  split_laid_as before mid after both own =
-      two_then (pieces types stage level s) (pieces types stage (level + 1) v) (split_piece [] stage level (type_of types s).shape (type_of types v).shape None method majority)
-      before mid after both
-      (subst (λ (t : ColumnType). IsLaidAll (split_piece [] stage level (type_of types s).shape t.shape None method majority) mid after) by_is
-      (subst (λ (t : ColumnType). IsLaidAll (split_piece [] stage level t.shape by.shape None method majority) mid after) of_is own))
-
-  module _ (m : ExprTree) where
-    -- room for the minima and the node behind the first two arguments, and for the node behind all
-    abbrev node : List Tree → List Tree
-    node own = pieces types stage (level + 2) m ++ own
-
-    pub minima_room : (own : List Tree) (before after : List Instr) → HasRoom (pieces types stage level s ++ (pieces types stage (level + 1) v ++ node own)) before → IsLaidAll of_both before after →
-        HasRoom (pieces types stage (level + 2) m) after
-    minima_room own before after room both =
-        room_first (pieces types stage (level + 2) m) own after (two_rest (pieces types stage level s) (pieces types stage (level + 1) v) (node own) before after room both)
-
-    pub node_room : (own : List Tree) (before mid after : List Instr) → HasRoom (pieces types stage level s ++ (pieces types stage (level + 1) v ++ node own)) before → IsLaidAll of_both before mid →
-        IsLaidAll (pieces types stage (level + 2) m) mid after → HasRoom own after
-    node_room own before mid after room both third =
-        room_rest (pieces types stage (level + 2) m) own mid after (two_rest (pieces types stage level s) (pieces types stage (level + 1) v) (node own) before mid room both) third
-
-    pub node_laid : (own : List Tree) (before mid late after : List Instr) → IsLaidAll of_both before mid → IsLaidAll (pieces types stage (level + 2) m) mid late → IsLaidAll own late after →
-        IsLaidAll (pieces types stage level s ++ (pieces types stage (level + 1) v ++ node own)) before after
-    node_laid own before mid late after both third last =
-        two_then (pieces types stage level s) (pieces types stage (level + 1) v) (node own) before mid after both
-        (laid_then (pieces types stage (level + 2) m) own mid late after third last)
-
--- ---- plans in slots that equal these
-
-module _ (s : Shape) where
-  pub sum_at : (over : Axis) (from to from' to' : ℕ) → from ≡ from' → to ≡ to' → sum_tree over s from to ∷ [] ≡ sum_tree over s from' to' ∷ []
-  sum_at over from to from' to' p q = ap (λ (n : ℕ). sum_tree over s n to ∷ []) p ∙ ap (λ (n : ℕ). sum_tree over s from' n ∷ []) q
-
-  pub larger_at : (to right to' right' : ℕ) → to ≡ to' → right ≡ right' → larger_tree s to right to ∷ [] ≡ larger_tree s to' right' to' ∷ []
-  larger_at to right to' right' p q = ap (λ (n : ℕ). larger_tree s n right n ∷ []) p ∙ ap (λ (n : ℕ). larger_tree s to' n to' ∷ []) q
-
-  pub less_at : (to right to' right' : ℕ) → to ≡ to' → right ≡ right' → less_tree s to right to ∷ [] ≡ less_tree s to' right' to' ∷ []
-  less_at to right to' right' p q = ap (λ (n : ℕ). less_tree s n right n ∷ []) p ∙ ap (λ (n : ℕ). less_tree s to' n to' ∷ []) q
+-- each of two is less than the measure of both
+pub pair_falls : (d k : ℕ) {t : ℕ} → 2 * max d k + 1 ≡ t → (2 * d < t) × (2 * k < t)
+pair_falls d k measure = (omega (arith, measure), omega (arith, measure))

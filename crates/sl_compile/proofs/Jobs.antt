@@ -1,5 +1,5 @@
 -- The slots of splits and growths are there, and their plans are laid out.
-use Rattle.std.proofs.Common.{◌≡◌, ℕ, zero, suc, ◌+◌, ◌*◌, ◌<◌, ◌≤◌, Bool, true, false, List, [], ◌++◌, length, Some, slice_get, Result, Ok, Err, IfOk, refl, sym, ap, subst, ◌∙◌, arith}
+use Rattle.std.proofs.Common.{◌≡◌, ℕ, zero, suc, ◌+◌, ◌*◌, ◌<◌, ◌≤◌, Bool, true, false, List, [], ◌++◌, length, Some, slice_get, refl, sym, ap, subst, ◌∙◌, arith}
 use Rattle.std.specs.Prelude.{flat_map}
 use Rattle.std.specs.List.{range_with_len}
 use Rattle.std.proofs.lemmas.List.{append-nil}
@@ -117,25 +117,26 @@ module _ (j : Job) (stage level : ℕ) (s v : Shape) (m : Bool) (is : slots_of j
   is_split_job method may = record { form = form; job = is_job; takes = subst (λ o. TakesMinima method o) (sym minima_is) (takes level v method m may) }
 
   -- what is laid out
-  pub split_laid : {R E : Type 0} (r : Result R E) (method : Method) (majority : Majority) (before after : List Instr) → j.majority ≡ majority →
-      IfOk r (λ _. IsLaidSplit low_shapes j method before after) →
-      IfOk r (λ _. IsLaidAll (split_piece [] stage level s v (minima_at level v m) method majority) before after)
-  split_laid (Err e) method majority before after same h = h
-  split_laid (Ok y) method majority before after same h =
+  pub split_laid : (method : Method) (majority : Majority) (before after : List Instr) → j.majority ≡ majority → IsLaidSplit low_shapes j method before after →
+      IsLaidAll (split_piece [] stage level s v (minima_at level v m) method majority) before after
+  split_laid method majority before after same h =
       h form is_job
       ∙ ap (λ (x : Slots). before ++ laid (length before) (split_tree form x method j.majority)) is
       ∙ ap (λ (c : Majority). before ++ laid (length before) (split_tree form (node_slots [] stage level s v (minima_at level v m)) method c)) same
       ∙ ap (λ (w : List Instr). before ++ w) (sym (append-nil _))
 
-  pub grow_laid : {R E : Type 0} (r : Result R E) (d : Divisor) (cap : ℕ) (majority : Majority) (before after : List Instr) → j.majority ≡ majority →
-      IfOk r (λ _. IsLaidGrowth low_shapes j d cap before after) →
-      IfOk r (λ _. IsLaidAll (grow_piece [] stage level s v (minima_at level v m) (by.Divisor d) majority cap) before after)
-  grow_laid (Err e) d cap majority before after same h = h
-  grow_laid (Ok y) d cap majority before after same h =
-      h form is_job
-      ∙ ap (λ (x : Slots). before ++ laid (length before) (grow_tree form x d j.majority cap)) is
-      ∙ ap (λ (c : Majority). before ++ laid (length before) (grow_tree form (node_slots [] stage level s v (minima_at level v m)) d c cap)) same
-      ∙ ap (λ (w : List Instr). before ++ w) (sym (append-nil _))
+  module _ (method : Method) (cap : ℕ) (majority : Majority) (before after code : List Instr) (there : code ≡ after) where
+    pub growth_laid : (d : Divisor) → method ≡ by.Divisor d → j.majority ≡ majority → IsLaidGrowth low_shapes j d cap before after →
+        IsLaidAll (grow_piece [] stage level s v (minima_at level v m) method majority cap) before code
+    growth_laid d kind same h =
+        rw kind (there ∙ h form is_job
+        ∙ ap (λ (x : Slots). before ++ laid (length before) (grow_tree form x d j.majority cap)) is
+        ∙ ap (λ (c : Majority). before ++ laid (length before) (grow_tree form (node_slots [] stage level s v (minima_at level v m)) d c cap)) same
+        ∙ ap (λ (w : List Instr). before ++ w) (sym (append-nil _)))
+
+    -- by Hamilton's method none
+    pub growth_none : method ≡ by.Hamilton → after ≡ before → IsLaidAll (grow_piece [] stage level s v (minima_at level v m) method majority cap) before code
+    growth_none kind none = rw kind (there ∙ none ∙ sym (append-nil before))
 
 pub is_growth_job : (j : Job) (stage level : ℕ) (s v : Shape) (cap : ℕ) → slots_of j ≡ node_slots [] stage level s v (minima_at level v true) →
     can_split s v ≡ true → level + 2 ≤ 16 → stage ≤ 31 → s ≡ shape.One → cap ≤ 4000 → IsGrowthJob low_shapes j cap

@@ -13,8 +13,8 @@ use Rattle.sl_stages.proofs.typing.TestLists.{pass_parts3, pass_parts4}
 use Rattle.sl_pieces.proofs.exprs.Levels.{low_level, one_level, two_levels, split_levels, three_levels, split_passes, split_from_passes, grow_passes}
 use Rattle.sl_compile.specs.Earlier.{Fits, FitsSplit, FitsMinima, FitsGrowth}
 
-pub low : (types : List Column) (level : ℕ) (x : ExprTree) → Fits types level x → level ≤ 16
-low types level x h = low_level x level h.levels
+pub low : {types : List Column} {level : ℕ} {x : ExprTree} → Fits types level x → level ≤ 16
+low {types} {level} {x} h = low_level x level h.levels
 
 module _ (types : List Column) (level at : ℕ) where
   pub sum_fits : (x : ExprTree) (over : Axis) → Fits types level (sum at x over) → Fits types level x

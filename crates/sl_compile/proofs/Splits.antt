@@ -1,5 +1,7 @@
--- Splits and growths behind their arguments: what is asked of their plans, and what these leave.
-use Rattle.std.proofs.Common.{◌≡◌, ℕ, ◌+◌, List, [], ◌++◌, true, false, sym, ap, ◌∙◌, subst}
+-- Splits and growths: what is asked of their arguments and of their own plans.
+use Rattle.std.proofs.Common.{◌≡◌, ℕ, ◌+◌, ◌*◌, ◌<◌, ◌≤◌, max, true, false, List, [], ◌++◌, Result, IfOk, Option, Some, None, sym, ap, ◌∙◌, subst, arith}
+use Rattle.std.specs.Prelude.{is_some}
+use Rattle.std.specs.Global.{Box}
 use Rattle.sl_ratio.specs.declared.method.Divisor.{Divisor}
 use Rattle.sl_ratio.specs.declared.method.Method.{Method}
 use Rattle.sl_ratio.specs.declared.method.Method.TheVariants as kind
@@ -8,99 +10,171 @@ use Rattle.sl_stages.specs.declared.book.Number.{Number}
 use Rattle.sl_stages.specs.declared.book.Shape.{Shape}
 use Rattle.sl_stages.specs.declared.book.Unit.TheVariants as unit
 use Rattle.sl_stages.specs.declared.book.ColumnType.{ColumnType}
-use Rattle.sl_stages.specs.book.Trees.{ExprTree, split_from, grow}
+use Rattle.sl_stages.specs.declared.book.Expr.{Expr, Split, Grow}
+use Rattle.sl_stages.specs.book.Limits.{depth_of}
+use Rattle.sl_stages.specs.book.Trees.{ExprTree, tree_of, split, split_from, grow}
 use Rattle.sl_stages.specs.book.Typing.{Column, column, type_of, can_split}
 use Rattle.sl_code.specs.declared.instr.Instr.{Instr}
 use Rattle.sl_plans.specs.Trees.{Tree}
 use Rattle.sl_pieces.specs.exprs.Pieces.{pieces, split_piece, grow_piece}
 use Rattle.sl_compile.specs.Laying.{IsLaidAll, HasRoom}
-use Rattle.sl_compile.specs.Nodes.{minima_at, MayHave}
-use Rattle.sl_compile.proofs.Arguments.{two_room, minima_room, node_room, node_laid}
+use Rattle.sl_compile.specs.Earlier.{Fits, FitsMinima, FitsGrowth}
+use Rattle.sl_compile.specs.Nodes.{minima_at, top_of, MayHave}
+use Rattle.sl_compile.proofs.Arguments.{Over, first_room, rest_room, rest_laid}
+use Rattle.sl_compile.proofs.Levels.{low, split_fits, split_from_fits, grow_fits}
+use Rattle.sl_compile.proofs.Places.{laid_none, laid_behind, room_rest}
 
--- a method without minima, and a divisor method with them
-pub may_without : (method : Method) → MayHave method false
+-- ---- the tree of a split, without minima and with them, and of a growth
+
+module _ {e : Expr} {at : ℕ} {s v : Box Expr} {method : Method} {x y : Expr} (x_is : x ≡ s.value) (y_is : y ≡ v.value) where
+  split_is : {majority : Majority} → e ≡ Split at s v method None majority → tree_of e ≡ split at (tree_of x) (tree_of y) method majority
+  split_is is = rw (x_is, y_is) (ap tree_of is)
+
+  split_from_is : {m : Box Expr} {majority : Majority} → e ≡ Split at s v method (Some m) majority →
+      tree_of e ≡ split_from at (tree_of x) (tree_of y) method (tree_of m.value) majority
+  split_from_is is = rw (x_is, y_is) (ap tree_of is)
+
+  grow_is : {m : Box Expr} {cap : Number} {majority : Majority} → e ≡ Grow at s v method m cap majority →
+      tree_of e ≡ grow at (tree_of x) (tree_of y) method (tree_of m.value) cap majority
+  grow_is is = rw (x_is, y_is) (ap tree_of is)
+
+-- ---- what is asked of minima and of the own plan
+
+-- the plans of minima
+abbrev pub minima_plans : List Column → ℕ → ℕ → Option (Box Expr) → List Tree
+minima_plans types stage level None = []
+minima_plans types stage level (Some m) = pieces types stage (level + 2) (tree_of m.value)
+
+-- minima fit two levels on, and are less deep
+abbrev pub MinimaFit : List Column → ℕ → ExprTree → Option (Box Expr) → Type 0
+MinimaFit types level x None = Unit {0}
+MinimaFit types level x (Some m) = Fits types (level + 2) (tree_of m.value) × (depth_of (tree_of m.value) < depth_of x)
+
+-- a column of seats of the shape of the votes
+abbrev pub seats_by : ColumnType → ColumnType → ColumnType
+seats_by of by = column by.shape unit.Seats
+
+-- the plans behind those of seats and votes
+abbrev pub then_own : List Column → ℕ → ℕ → Option (Box Expr) → (Shape → Shape → List Tree) → ColumnType → ColumnType → List Tree
+then_own types stage level minima own of by = minima_plans types stage level minima ++ own of.shape by.shape
+
+-- an expression over seats, votes and minima if there are any, and what its own plan is asked
+pub record OverSplit (types : List Column) (stage level : ℕ) (x s v : ExprTree) (method : Method) (minima : Option (Box Expr)) (own : Shape → Shape → List Tree) : Type 0 where
+  pub over : Over types stage level x s v seats_by (then_own types stage level minima own)
+  pub can : can_split (type_of types s).shape (type_of types v).shape ≡ true
+  pub third : MinimaFit types level x minima
+  pub top : top_of level (is_some minima) ≤ 16
+  pub may : MayHave method (is_some minima)
+
+-- the own plans by the shapes of seats and votes
+abbrev pub own_split : ℕ → ℕ → Option (Box Expr) → Method → Majority → Shape → Shape → List Tree
+own_split stage level minima method majority a b = split_piece [] stage level a b (minima_at level b (is_some minima)) method majority
+
+abbrev pub own_growth : ℕ → ℕ → Method → Number → Majority → Shape → Shape → List Tree
+own_growth stage level method cap majority a b = grow_piece [] stage level a b (minima_at level b true) method majority cap.value
+
+may_without : (method : Method) → MayHave method false
 may_without kind.Hamilton = tt
 may_without (kind.Divisor d) = tt
 
-pub may_with : (method : Method) (d : Divisor) → method ≡ kind.Divisor d → MayHave method true
+may_with : (method : Method) (d : Divisor) → method ≡ kind.Divisor d → MayHave method true
 may_with method d is = subst (λ (m : Method). MayHave m true) (sym is) tt
 
--- a column of seats of the shape of the votes
-pub seats_over : (has by votes : ColumnType) → has ≡ column by.shape unit.Seats → by ≡ votes → has ≡ column votes.shape unit.Seats
-seats_over has by votes is same = is ∙ ap (λ (t : ColumnType). column t.shape unit.Seats) same
+-- with minima, by what is so of all three arguments
+over_minima : {types : List Column} {stage level : ℕ} {x s v : ExprTree} {m : Box Expr} {method : Method} {own : Shape → Shape → List Tree} →
+    depth_of x ≡ 1 + max (max (depth_of s) (depth_of v)) (depth_of (tree_of m.value)) → type_of types x ≡ column (type_of types v).shape unit.Seats →
+    pieces types stage level x ≡ pieces types stage level s ++ (pieces types stage (level + 1) v ++ then_own types stage level (Some m) own (type_of types s) (type_of types v)) →
+    FitsMinima types level s v (tree_of m.value) method → OverSplit types stage level x s v method (Some m) own
+over_minima {types} {stage} {level} {x} {s} {v} {m} {method} deep type plans h = record {
+  over = record { left = h.split.seats; right = h.split.votes; falls = omega (arith, deep); type = type; plans = plans };
+  can = h.split.can;
+  third = (h.minima, omega (arith, deep));
+  top = low h.minima;
+  may = may_with method h.divisor h.by_it;
+}
 
--- what holds by the shapes of two columns
-module _ (P : Shape → Shape → Type 0) (of by s v : ColumnType) (of_is : of ≡ s) (by_is : by ≡ v) where
-  pub shapes_to : P of.shape by.shape → P s.shape v.shape
-  shapes_to h = subst (λ (t : ColumnType). P s.shape t.shape) by_is (subst (λ (t : ColumnType). P t.shape by.shape) of_is h)
+pub growth_fits : {types : List Column} {level : ℕ} {e : Expr} {at : ℕ} {s v m : Box Expr} {method : Method} {cap : Number} {majority : Majority} {x y : Expr} →
+    x ≡ s.value → y ≡ v.value → Fits types level (tree_of e) → e ≡ Grow at s v method m cap majority → FitsGrowth types level (tree_of x) (tree_of y) (tree_of m.value) method cap.value
+growth_fits {types} {level} {e} {at} {s} {v} {m} {method} {cap} {majority} {x} {y} x_is y_is fits is =
+    grow_fits types level at (tree_of x) (tree_of y) (tree_of m.value) method cap majority (subst (λ (z : ExprTree). Fits types level z) (grow_is x_is y_is is) fits)
 
-  pub shapes_from : P s.shape v.shape → P of.shape by.shape
-  shapes_from h = subst (λ (t : ColumnType). P t.shape by.shape) (sym of_is) (subst (λ (t : ColumnType). P s.shape t.shape) (sym by_is) h)
+module _ {types : List Column} (stage : ℕ) {level : ℕ} {e : Expr} {at : ℕ} {s v : Box Expr} {method : Method} {majority : Majority} {x y : Expr}
+    (x_is : x ≡ s.value) (y_is : y ≡ v.value) (fits : Fits types level (tree_of e)) where
+  pub over_split : (minima : Option (Box Expr)) → e ≡ Split at s v method minima majority →
+      OverSplit types stage level (tree_of e) (tree_of x) (tree_of y) method minima (own_split stage level minima method majority)
+  over_split None is =
+      let tree = split_is x_is y_is is in
+      let deep : depth_of (tree_of e) ≡ 1 + max (depth_of (tree_of x)) (depth_of (tree_of y)) = ap depth_of tree in
+      let h = split_fits types level at (tree_of x) (tree_of y) method majority (subst (λ (z : ExprTree). Fits types level z) tree fits) in
+      record {
+        over = record { left = h.seats; right = h.votes; falls = omega (arith, deep); type = ap (type_of types) tree; plans = ap (pieces types stage level) tree };
+        can = h.can;
+        third = tt;
+        top = low h.votes;
+        may = may_without method;
+      }
+  over_split (Some m) is =
+      let tree = split_from_is x_is y_is is in
+      let deep : depth_of (tree_of e) ≡ 1 + max (max (depth_of (tree_of x)) (depth_of (tree_of y))) (depth_of (tree_of m.value)) = ap depth_of tree in
+      over_minima deep (ap (type_of types) tree) (ap (pieces types stage level) tree)
+      (split_from_fits types level at (tree_of x) (tree_of y) (tree_of m.value) method majority (subst (λ (z : ExprTree). Fits types level z) tree fits))
 
-pub can_as : (of by s v : ColumnType) → of ≡ s → by ≡ v → can_split s.shape v.shape ≡ true → can_split of.shape by.shape ≡ true
-can_as of by s v of_is by_is can = shapes_from (λ a b. can_split a b ≡ true) of by s v of_is by_is can
+  pub over_growth : {m : Box Expr} {cap : Number} → e ≡ Grow at s v method m cap majority →
+      OverSplit types stage level (tree_of e) (tree_of x) (tree_of y) method (Some m) (own_growth stage level method cap majority)
+  over_growth {m} is =
+      let tree = grow_is x_is y_is is in
+      let deep : depth_of (tree_of e) ≡ 1 + max (max (depth_of (tree_of x)) (depth_of (tree_of y))) (depth_of (tree_of m.value)) = ap depth_of tree in
+      over_minima deep (ap (type_of types) tree) (ap (pieces types stage level) tree) (growth_fits x_is y_is fits is).split
 
--- ---- with minima
+-- ---- minima behind seats and votes, and the own plan behind these
 
-module _ (types : List Column) (stage level : ℕ) (s v m : ExprTree) (method : Method) (majority : Majority) where
-  abbrev of_two : List Tree
-  of_two = pieces types stage level s ++ pieces types stage (level + 1) v
+pub can_as : {of by s v : ColumnType} → (of ≡ s) × (by ≡ v) → can_split s.shape v.shape ≡ true → can_split of.shape by.shape ≡ true
+can_as {of} {by} {s} {v} have can =
+    ap (λ (t : ColumnType). can_split t.shape by.shape) have.0 ∙ ap (λ (t : ColumnType). can_split s.shape t.shape) have.1 ∙ can
+
+module _ {types : List Column} {stage level : ℕ} {x s v : ExprTree} {method : Method} {minima : Option (Box Expr)} {own : Shape → Shape → List Tree}
+    (h : OverSplit types stage level x s v method minima own) where
+  abbrev whole : List Tree
+  whole = pieces types stage level x
+
+  abbrev of_both : List Tree
+  of_both = pieces types stage level s ++ pieces types stage (level + 1) v
 
   abbrev of_minima : List Tree
-  of_minima = pieces types stage (level + 2) m
+  of_minima = minima_plans types stage level minima
 
-  abbrev own_split : Shape → Shape → List Tree
-  own_split a b = split_piece [] stage level a b (minima_at level b true) method majority
+  -- none are laid out, or some are
+  pub minima_none : (before after : List Instr) → minima ≡ None → after ≡ before → IsLaidAll of_minima before after
+  minima_none before after is same = subst (λ (o : Option (Box Expr)). IsLaidAll (minima_plans types stage level o) before after) (sym is) (same ∙ laid_none before)
 
-  -- behind its arguments the node has its own plan, by the shapes of the first two
-  abbrev whole : (Shape → Shape → List Tree) → List Tree
-  whole own = pieces types stage level s ++ (pieces types stage (level + 1) v ++ (of_minima ++ own (type_of types s).shape (type_of types v).shape))
+  module _ {m : Box Expr} {z : Expr} (is : minima ≡ Some m) (z_is : z ≡ m.value) where
+    abbrev some : List Tree
+    some = pieces types stage (level + 2) (tree_of z)
 
-  own_room : (own : Shape → Shape → List Tree) (before : List Instr) → HasRoom (whole own) before → HasRoom of_two before
-  own_room own before room = two_room (pieces types stage level s) (pieces types stage (level + 1) v) (of_minima ++ own (type_of types s).shape (type_of types v).shape) before room
+    some_is : of_minima ≡ some
+    some_is = ap (minima_plans types stage level) is ∙ ap (λ (y : Expr). pieces types stage (level + 2) (tree_of y)) (sym z_is)
 
-  pub split_from_both : (before : List Instr) → HasRoom (pieces types stage level (split_from 0 s v method m majority)) before → HasRoom of_two before
-  split_from_both before room = own_room own_split before room
+    pub minima_some : (before mid after : List Instr) → after ≡ mid → IsLaidAll some before mid → IsLaidAll of_minima before after
+    minima_some before mid after same laid = same ∙ subst (λ (ts : List Tree). IsLaidAll ts before mid) (sym some_is) laid
 
-  module _ (of by : ColumnType) (of_is : of ≡ type_of types s) (by_is : by ≡ type_of types v) where
-    pub split_from_minima : (before after : List Instr) → HasRoom (pieces types stage level (split_from 0 s v method m majority)) before →
-        IsLaidAll of_two before after → HasRoom of_minima after
-    split_from_minima before after room both =
-        minima_room types stage level s v of by of_is by_is method majority m (own_split (type_of types s).shape (type_of types v).shape) before after room both
+    pub minima_asks : {of by : ColumnType} {t : ℕ} (have : (of ≡ type_of types s) × (by ≡ type_of types v)) (before after : List Instr) → 2 * depth_of x ≡ t → HasRoom whole before →
+        IsLaidAll of_both before after → (2 * depth_of (tree_of z) < t) × (Fits types (level + 2) (tree_of z) × HasRoom some after)
+    minima_asks {of} {by} have before after measure room there =
+        let fit = subst (λ (o : Option (Box Expr)). MinimaFit types level x o) is h.third in
+        let falls : depth_of (tree_of z) < depth_of x = subst (λ (y : Expr). depth_of (tree_of y) < depth_of x) (sym z_is) fit.1 in
+        let behind = ap (λ (ts : List Tree). ts ++ own of.shape by.shape) some_is in (
+          omega (arith, measure, falls),
+          (
+            subst (λ (y : Expr). Fits types (level + 2) (tree_of y)) (sym z_is) fit.0,
+            first_room (of_minima ++ own of.shape by.shape) some (own of.shape by.shape) behind after (rest_room h.over have before after room there),
+          ),
+        )
 
-    pub split_from_room : (before mid after : List Instr) → HasRoom (pieces types stage level (split_from 0 s v method m majority)) before →
-        IsLaidAll of_two before mid → IsLaidAll of_minima mid after → HasRoom (own_split of.shape by.shape) after
-    split_from_room before mid after room both third =
-        shapes_from (λ a b. HasRoom (own_split a b) after) of by (type_of types s) (type_of types v) of_is by_is
-        (node_room types stage level s v of by of_is by_is method majority m (own_split (type_of types s).shape (type_of types v).shape) before mid after room both third)
+  module _ {of by : ColumnType} (have : (of ≡ type_of types s) × (by ≡ type_of types v)) where
+    pub node_room : (before mid after : List Instr) → HasRoom whole before → IsLaidAll of_both before mid → IsLaidAll of_minima mid after → HasRoom (own of.shape by.shape) after
+    node_room before mid after room there third = room_rest of_minima (own of.shape by.shape) mid after (rest_room h.over have before mid room there) third
 
-    pub split_from_laid : (before mid late after : List Instr) → IsLaidAll of_two before mid → IsLaidAll of_minima mid late →
-        IsLaidAll (own_split of.shape by.shape) late after → IsLaidAll (pieces types stage level (split_from 0 s v method m majority)) before after
-    split_from_laid before mid late after both third own =
-        node_laid types stage level s v of by of_is by_is method majority m (own_split (type_of types s).shape (type_of types v).shape) before mid late after both third
-        (shapes_to (λ a b. IsLaidAll (own_split a b) late after) of by (type_of types s) (type_of types v) of_is by_is own)
-
-  module _ (cap : Number) where
-    abbrev own_grow : Shape → Shape → List Tree
-    own_grow a b = grow_piece [] stage level a b (minima_at level b true) method majority cap.value
-
-    pub grow_both : (before : List Instr) → HasRoom (pieces types stage level (grow 0 s v method m cap majority)) before → HasRoom of_two before
-    grow_both before room = own_room own_grow before room
-
-    module _ (of by : ColumnType) (of_is : of ≡ type_of types s) (by_is : by ≡ type_of types v) where
-      pub grow_minima : (before after : List Instr) → HasRoom (pieces types stage level (grow 0 s v method m cap majority)) before →
-          IsLaidAll of_two before after → HasRoom of_minima after
-      grow_minima before after room both =
-          minima_room types stage level s v of by of_is by_is method majority m (own_grow (type_of types s).shape (type_of types v).shape) before after room both
-
-      pub grow_room : (before mid after : List Instr) → HasRoom (pieces types stage level (grow 0 s v method m cap majority)) before →
-          IsLaidAll of_two before mid → IsLaidAll of_minima mid after → HasRoom (own_grow of.shape by.shape) after
-      grow_room before mid after room both third =
-          shapes_from (λ a b. HasRoom (own_grow a b) after) of by (type_of types s) (type_of types v) of_is by_is
-          (node_room types stage level s v of by of_is by_is method majority m (own_grow (type_of types s).shape (type_of types v).shape) before mid after room both third)
-
-      pub grow_laid : (before mid late after : List Instr) → IsLaidAll of_two before mid → IsLaidAll of_minima mid late →
-          IsLaidAll (own_grow of.shape by.shape) late after → IsLaidAll (pieces types stage level (grow 0 s v method m cap majority)) before after
-      grow_laid before mid late after both third own =
-          node_laid types stage level s v of by of_is by_is method majority m (own_grow (type_of types s).shape (type_of types v).shape) before mid late after both third
-          (shapes_to (λ a b. IsLaidAll (own_grow a b) late after) of by (type_of types s) (type_of types v) of_is by_is own)
+    pub node_laid : {R E : Type 0} (r : Result R E) (before mid late after : List Instr) → IsLaidAll of_both before mid → IfOk r (λ _. IsLaidAll (own of.shape by.shape) late after) →
+        IsLaidAll of_minima mid late → IfOk r (λ _. IsLaidAll whole before after)
+    node_laid r before mid late after there laid third =
+        rest_laid h.over have r before mid after there (laid_behind r of_minima (own of.shape by.shape) mid late after third laid)

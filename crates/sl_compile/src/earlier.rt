@@ -7,7 +7,6 @@ ghost use Rattle.sl_pieces.specs.exprs.Slots.{stage_slot};
 ghost use Rattle.sl_compile.specs.Earlier.{columns};
 
 use crate::slots::stage_slot;
-use crate::types::seats;
 use sl_stages::{ColumnType, Shape, Stage, Word};
 
 /// The stages before some place of a book, and what the column of each has.
@@ -38,7 +37,7 @@ impl<'a> Earlier<'a> {
     {
         match self.find(name) {
             Some(i) => (stage_slot(i as u8), self.types[i]),
-            None => (stage_slot(0), seats(Shape::One)),
+            None => (stage_slot(0), ColumnType::seats(Shape::One)),
         }
     }
 }

@@ -16,6 +16,5 @@ mod nodes;
 mod registers;
 mod slots;
 mod stages;
-mod types;
 
 pub use compiler::compile;

@@ -1,19 +1,90 @@
-//! The plans of splits and growths, whose arguments are in passing columns (docs/compiler.md, section 4).
+//! The own plans of expressions, whose arguments are in passing columns (docs/compiler.md, section 4). Each leaves its column in the passing
+//! one of its shape, and says what the column has.
 
-ghost use Rattle.std.specs.Prelude.{◌≡◌, ◌+◌, ◌≤◌, [], true, IfOk};
+ghost use Rattle.std.specs.Prelude.{◌≡◌, ◌+◌, ◌≤◌, [], ◌∷◌, true, IfOk};
 ghost use Rattle.sl_stages.specs.declared.book.Shape.TheVariants as shape;
-ghost use Rattle.sl_stages.specs.book.Typing.{can_split};
+ghost use Rattle.sl_stages.specs.declared.book.Unit.TheVariants as unit;
+ghost use Rattle.sl_stages.specs.book.Typing.{can_split, column, shape_over};
 ghost use Rattle.sl_blocks.specs.Jobs.{slots_of};
+ghost use Rattle.sl_pieces.specs.columns.Trees.{copy_tree, larger_tree, less_tree, sum_tree};
 ghost use Rattle.sl_pieces.specs.exprs.Pieces.{node_slots, split_piece, grow_piece};
+ghost use Rattle.sl_pieces.specs.exprs.Slots.{passing};
 ghost use Rattle.sl_compile.specs.Laying.{IsLaidAll, HasRoom};
 ghost use Rattle.sl_compile.specs.Nodes.{minima_at, top_of, MayHave};
 
+use crate::columns::{lay_copy, lay_larger, lay_less, lay_sum};
 use crate::exprs::Site;
 use crate::slots::passing;
 use sl_blocks::{Job, grow_block, split_block};
 use sl_code::Instr;
 use sl_ratio::{Method, NoMemory};
-use sl_stages::{Majority, Shape};
+use sl_stages::{Axis, ColumnType, Majority, Shape};
+
+/// Appends the copy of a column.
+pub fn copy(
+    code: &mut Vec<Instr>,
+    level: u8,
+    from: u8,
+    of: ColumnType,
+) -> Result<ColumnType, NoMemory>
+    requires level { level ≤ 16 }
+    requires room { HasRoom (copy_tree of.shape from (passing level of.shape) ∷ []) code.old.items }
+    ensures has { IfOk result (λ has. has ≡ of) }
+    ensures laid { IfOk result (λ _. IsLaidAll (copy_tree of.shape from (passing level of.shape) ∷ []) code.old.items code.new.items) }
+{
+    lay_copy(code, of.shape, from, passing(level, of.shape))?;
+    Ok(of)
+}
+
+/// Appends the sum of a column.
+pub fn sum(
+    code: &mut Vec<Instr>,
+    level: u8,
+    of: ColumnType,
+    over: Axis,
+) -> Result<ColumnType, NoMemory>
+    requires level { level ≤ 16 }
+    requires room { HasRoom (sum_tree over of.shape (passing level of.shape) (passing level (shape_over over)) ∷ []) code.old.items }
+    ensures has { IfOk result (λ has. has ≡ column (shape_over over) of.unit) }
+    ensures laid { IfOk result (λ _. IsLaidAll (sum_tree over of.shape (passing level of.shape) (passing level (shape_over over)) ∷ []) code.old.items code.new.items) }
+{
+    let shape = over.shape();
+    lay_sum(
+        code,
+        over,
+        of.shape,
+        passing(level, of.shape),
+        passing(level, shape),
+    )?;
+    Ok(ColumnType {
+        shape,
+        unit: of.unit,
+    })
+}
+
+/// Appends the larger numbers of a column and one a level on.
+pub fn larger(code: &mut Vec<Instr>, level: u8, of: ColumnType) -> Result<ColumnType, NoMemory>
+    requires level { level + 1 ≤ 16 }
+    requires room { HasRoom (larger_tree of.shape (passing level of.shape) (passing (level + 1) of.shape) (passing level of.shape) ∷ []) code.old.items }
+    ensures has { IfOk result (λ has. has ≡ of) }
+    ensures laid { IfOk result (λ _. IsLaidAll (larger_tree of.shape (passing level of.shape) (passing (level + 1) of.shape) (passing level of.shape) ∷ []) code.old.items code.new.items) }
+{
+    let to = passing(level, of.shape);
+    lay_larger(code, of.shape, to, passing(level + 1, of.shape), to)?;
+    Ok(of)
+}
+
+/// Appends a column less one a level on, at least 0.
+pub fn less(code: &mut Vec<Instr>, level: u8, of: ColumnType) -> Result<ColumnType, NoMemory>
+    requires level { level + 1 ≤ 16 }
+    requires room { HasRoom (less_tree of.shape (passing level of.shape) (passing (level + 1) of.shape) (passing level of.shape) ∷ []) code.old.items }
+    ensures has { IfOk result (λ has. has ≡ of) }
+    ensures laid { IfOk result (λ _. IsLaidAll (less_tree of.shape (passing level of.shape) (passing (level + 1) of.shape) (passing level of.shape) ∷ []) code.old.items code.new.items) }
+{
+    let to = passing(level, of.shape);
+    lay_less(code, of.shape, to, passing(level + 1, of.shape), to)?;
+    Ok(of)
+}
 
 /// No slot is needed but those of the columns.
 const NO_SCRATCH: [[u8; 8]; 4] = [[0; 8]; 4];
@@ -41,48 +112,51 @@ impl<'a> Site<'a> {
     }
 
     /// Appends the plan of a split.
-    pub fn lay_split(
+    pub fn split(
         &self,
         code: &mut Vec<Instr>,
         level: u8,
-        of: Shape,
-        by: Shape,
+        of: ColumnType,
+        by: ColumnType,
         minima: bool,
         method: Method,
         majority: Majority,
-    ) -> Result<(), NoMemory>
+    ) -> Result<ColumnType, NoMemory>
         requires levels { top_of level minima ≤ 16 }
-        requires can { can_split of by ≡ true }
+        requires can { can_split of.shape by.shape ≡ true }
         requires may { MayHave method minima }
-        requires room { HasRoom (split_piece [] self.now.stage level of by (minima_at level by minima) method majority) code.old.items }
-        ensures { IfOk result (λ _. IsLaidAll (split_piece [] self.now.stage level of by (minima_at level by minima) method majority) code.old.items code.new.items) }
+        requires room { HasRoom (split_piece [] self.now.stage level of.shape by.shape (minima_at level by.shape minima) method majority) code.old.items }
+        ensures has { IfOk result (λ has. has ≡ column by.shape unit.Seats) }
+        ensures laid { IfOk result (λ _. IsLaidAll (split_piece [] self.now.stage level of.shape by.shape (minima_at level by.shape minima) method majority) code.old.items code.new.items) }
     {
-        let job = self.job(level, of, by, minima, majority);
-        split_block(code, self.slots, &job, method)
+        let job = self.job(level, of.shape, by.shape, minima, majority);
+        split_block(code, self.slots, &job, method)?;
+        Ok(ColumnType::seats(by.shape))
     }
 
     /// Appends the plan of a growth; Hamilton's method has none.
-    pub fn lay_growth(
+    pub fn growth(
         &self,
         code: &mut Vec<Instr>,
         level: u8,
-        of: Shape,
-        by: Shape,
+        of: ColumnType,
+        by: ColumnType,
         method: Method,
         cap: u32,
         majority: Majority,
-    ) -> Result<(), NoMemory>
+    ) -> Result<ColumnType, NoMemory>
         requires levels { level + 2 ≤ 16 }
-        requires can { can_split of by ≡ true }
-        requires one { of ≡ shape.One }
+        requires can { can_split of.shape by.shape ≡ true }
+        requires one { of.shape ≡ shape.One }
         requires few { cap ≤ 4000 }
-        requires room { HasRoom (grow_piece [] self.now.stage level of by (minima_at level by true) method majority cap) code.old.items }
-        ensures { IfOk result (λ _. IsLaidAll (grow_piece [] self.now.stage level of by (minima_at level by true) method majority cap) code.old.items code.new.items) }
+        requires room { HasRoom (grow_piece [] self.now.stage level of.shape by.shape (minima_at level by.shape true) method majority cap) code.old.items }
+        ensures has { IfOk result (λ has. has ≡ column by.shape unit.Seats) }
+        ensures laid { IfOk result (λ _. IsLaidAll (grow_piece [] self.now.stage level of.shape by.shape (minima_at level by.shape true) method majority cap) code.old.items code.new.items) }
     {
-        let job = self.job(level, of, by, true, majority);
-        match method {
-            Method::Divisor(divisor) => grow_block(code, self.slots, &job, divisor, cap),
-            Method::Hamilton => Ok(()),
+        let job = self.job(level, of.shape, by.shape, true, majority);
+        if let Method::Divisor(divisor) = method {
+            grow_block(code, self.slots, &job, divisor, cap)?;
         }
+        Ok(ColumnType::seats(by.shape))
     }
 }

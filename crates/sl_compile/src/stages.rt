@@ -14,7 +14,6 @@ use crate::columns::lay_copy;
 use crate::earlier::Earlier;
 use crate::exprs::Site;
 use crate::slots::{passing, stage_slot};
-use crate::types::seats;
 use sl_code::Instr;
 use sl_ratio::NoMemory;
 use sl_stages::{ColumnType, MAX_STAGES, Shape, Stage};
@@ -51,7 +50,7 @@ pub fn lay_stages<'a>(
     ensures have { IfOk result (λ types. columns stages.now types ≡ columns_of [] (map stage_of stages.now)) }
     ensures laid { IfOk result (λ _. IsLaidAll (stages_pieces [] 0 (map stage_of stages.now)) code.old.items code.new.items) }
 {
-    let mut types = [seats(Shape::One); MAX_STAGES];
+    let mut types = [ColumnType::seats(Shape::One); MAX_STAGES];
     for (i, stage) in stages.iter().enumerate() {
         let earlier = Earlier {
             stages: &stages[..i],

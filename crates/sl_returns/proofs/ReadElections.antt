@@ -12,7 +12,7 @@ use Rattle.sl_ratio.specs.declared.limits.TheConstants.{MAX_SEATS}
 use Rattle.sl_stages.specs.declared.limits.TheConstants.{MAX_LANDS, MAX_PARTIES, MAX_WINS, MAX_LOTS, MAX_VOTES, MAX_SLATE}
 use Rattle.sl_stages.specs.book.Tests.{first_failing}
 use Rattle.sl_stages.specs.returns.Election.{Election, IsElection, IsWin, IsLot, IsCell, EndsBefore, has_list, wins_of, with_house}
-use Rattle.sl_stages.proofs.Elections.{is_with_land, is_with_party, is_with_list, is_with_win, is_with_lot}
+use Rattle.sl_stages.proofs.Elections.{is_with_house, is_with_land, is_with_party, is_with_list, is_with_win, is_with_lot}
 use Rattle.sl_returns.specs.declared.cells.TheConstants.{COLUMNS, KIND, LAND, PARTY, A, B, C}
 use Rattle.sl_returns.specs.declared.fault.FaultKind.TheVariants as fault
 use Rattle.sl_returns.specs.declared.fault.ReturnsFault.{ReturnsFault}
@@ -72,35 +72,13 @@ well_spelled name h =
 -- ---- a record that passes its tests
 
 module _ (e : Election) (is : IsElection e) (r : Record) where
-  with_seats : (n : ℕ) → 1 ≤ n → n ≤ MAX_SEATS → IsElection (with_house e n)
-  with_seats n least most = record {
-    house = λ h same. subst (λ m. (1 ≤ m) × (m ≤ MAX_SEATS)) (same_Some n h same) (least, most);
-    lands = is.lands;
-    parties = is.parties;
-    winners = is.winners;
-    land_names = is.land_names;
-    party_names = is.party_names;
-    win_names = is.win_names;
-    populations = is.populations;
-    rows = is.rows;
-    minorities = is.minorities;
-    wins = is.wins;
-    people = is.people;
-    widths = is.widths;
-    votes = is.votes;
-    ends = is.ends;
-    places = is.places;
-    drawn = is.drawn;
-    lots = is.lots;
-  }
-
   joins_house : Pass (house_tests e r) → IsElection (with_kind (Some kind.House) e r)
   joins_house h =
       let last = one_test (is_none e.house) fault.Twice in
       let numbers = number_tests (cell r A) 1 MAX_SEATS in
       let (blank, rest) = parts (one_test (are_blank r (LAND ∷ PARTY ∷ B ∷ C ∷ [])) fault.Fields) (numbers ++ last) h in
       let range = in_range (cell r A) 1 MAX_SEATS (parts numbers last rest).0 in
-      with_seats (number_of (cell r A)) range.0 range.1
+      is_with_house e (number_of (cell r A)) is range.0 range.1
 
   joins_land : Pass (land_tests e r) → IsElection (with_kind (Some kind.Land) e r)
   joins_land h =

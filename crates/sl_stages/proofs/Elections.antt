@@ -4,6 +4,7 @@ use Rattle.std.proofs.lemmas.List.{length_push, length-set, length-replicate, ge
 use Rattle.std.proofs.lemmas.List.Elements.{All-push, All-replicate, All-set, All-get_or, All-weaker}
 use Rattle.std.specs.List.{All}
 use Rattle.std.proofs.lemmas.Option.{none-some, same_Some}
+use Rattle.sl_ratio.specs.declared.limits.TheConstants.{MAX_SEATS}
 use Rattle.sl_ratio.specs.Names.{name_fault}
 use Rattle.sl_ratio.proofs.NameLists.{joins, with_name}
 use Rattle.sl_stages.specs.declared.limits.TheConstants.{MAX_LANDS, MAX_PARTIES, MAX_WINS, MAX_LOTS, MAX_VOTES, MAX_SLATE}
@@ -11,7 +12,7 @@ use Rattle.sl_stages.specs.declared.returns.ListVotes.{ListVotes}
 use Rattle.sl_stages.specs.declared.returns.Win.{Win}
 use Rattle.sl_stages.specs.declared.returns.Lot.{Lot}
 use Rattle.sl_stages.specs.returns.Votes.{IsListVotes, valid_in, counted_in}
-use Rattle.sl_stages.specs.returns.Election.{Election, IsElection, IsWin, IsLot, IsCell, EndsBefore, with_land, with_party, with_list, with_win, with_slate, with_lot, list_at}
+use Rattle.sl_stages.specs.returns.Election.{Election, IsElection, IsWin, IsLot, IsCell, EndsBefore, with_house, with_land, with_party, with_list, with_win, with_slate, with_lot, list_at}
 
 -- a winner stays one as Länder and parties join
 win_stays : (lands parties more_lands more_parties : ℕ) → lands ≤ more_lands → parties ≤ more_parties → (w : Win) → IsWin lands parties w → IsWin more_lands more_parties w
@@ -50,6 +51,28 @@ blank_row : (width n : ℕ) → EndsBefore n (replicate width None)
 blank_row zero n party above = refl
 blank_row (suc width) n zero above = refl
 blank_row (suc width) n (suc party) above = blank_row width zero party (omega arith)
+
+pub is_with_house : (e : Election) (seats : ℕ) → IsElection e → 1 ≤ seats → seats ≤ MAX_SEATS → IsElection (with_house e seats)
+is_with_house e seats is least most = record {
+  house = λ h same. subst (λ m. (1 ≤ m) × (m ≤ MAX_SEATS)) (same_Some seats h same) (least, most);
+  lands = is.lands;
+  parties = is.parties;
+  winners = is.winners;
+  land_names = is.land_names;
+  party_names = is.party_names;
+  win_names = is.win_names;
+  populations = is.populations;
+  rows = is.rows;
+  minorities = is.minorities;
+  wins = is.wins;
+  people = is.people;
+  widths = is.widths;
+  votes = is.votes;
+  ends = is.ends;
+  places = is.places;
+  drawn = is.drawn;
+  lots = is.lots;
+}
 
 pub is_with_land : (e : Election) (name : List ℕ) (people : ℕ) → IsElection e → name_fault (record { limit = MAX_LANDS; names = e.land_names }) name ≡ None → people ≤ MAX_VOTES → IsElection (with_land e name people)
 is_with_land e name people is may most =

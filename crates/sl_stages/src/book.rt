@@ -1,7 +1,9 @@
 //! Rulebooks as trees.
 
-ghost use Rattle.std.specs.Prelude.{IsTrue, map};
+ghost use Rattle.std.specs.Prelude.{◌≡◌, IsTrue, map};
+ghost use Rattle.sl_stages.specs.declared.book.Unit.TheVariants as unit;
 ghost use Rattle.sl_stages.specs.book.Trees.{stage_of};
+ghost use Rattle.sl_stages.specs.book.Typing.{column, shape_over};
 ghost use Rattle.sl_stages.specs.book.Limits.{is_within_limits, book_numbers, are_small};
 
 use crate::word::Word;
@@ -30,12 +32,47 @@ pub struct ColumnType {
     pub unit: Unit,
 }
 
+impl ColumnType {
+    /// A column of seats.
+    pub fn seats(shape: Shape) -> ColumnType
+        ensures { result ≡ column shape unit.Seats }
+    {
+        ColumnType {
+            shape,
+            unit: Unit::Seats,
+        }
+    }
+
+    /// A column of votes.
+    pub fn votes(shape: Shape) -> ColumnType
+        ensures { result ≡ column shape unit.Votes }
+    {
+        ColumnType {
+            shape,
+            unit: Unit::Votes,
+        }
+    }
+}
+
 /// What a sum leaves: a number for each party, for each Land, or one for all.
 #[derive(Clone, Copy, Debug, PartialEq, Eq)]
 pub enum Axis {
     Party,
     Land,
     All,
+}
+
+impl Axis {
+    /// The shape of a sum.
+    pub fn shape(self) -> Shape
+        ensures { result ≡ shape_over self }
+    {
+        match self {
+            Axis::Party => Shape::Party,
+            Axis::Land => Shape::Land,
+            Axis::All => Shape::One,
+        }
+    }
 }
 
 /// The majority clause of a split or a growth.

@@ -14,7 +14,7 @@ use Rattle.sl_stages.proofs.meaning.OneOutcome.{one_outcome}
 table-refl : (t : SeatTable) → SameTable t t
 table-refl t = record { lists = refl; placed = refl; steps = IsPermutation-refl t.steps; weights = IsPermutation-refl t.weights }
 
-table-sym : (t u : SeatTable) → SameTable t u → SameTable u t
+pub table-sym : (t u : SeatTable) → SameTable t u → SameTable u t
 table-sym t u h = record {
   lists = sym h.lists;
   placed = sym h.placed;

@@ -1,0 +1,26 @@
+use Rattle.std.proofs.Common.{true, ap, refl, subst, sym}
+use Rattle.sl_blocks.specs.Jobs.{IsGrowthJob}
+use Rattle.sl_blocks.specs.Layout.{IsLaidGrowth}
+use Rattle.sl_compile.proofs.Jobs.{is_growth_job, growth_laid, growth_none}
+use Rattle.sl_compile.proofs.exprs.Site.growth.Goals.{in-Divisor+in_ok-grow_block, in_default}
+use Rattle.sl_compile.proofs.exprs.Site.growth.Goals as goal
+
+pub grow_block-requires-clause-job : goal.grow_block-requires-clause-job
+grow_block-requires-clause-job c =
+    subst (λ shapes. IsGrowthJob shapes c.job-job.result c.args.cap) (sym c.args.self.now.low)
+    (is_growth_job c.job-job.result c.args.self.now.stage c.args.level c.args.of.shape c.args.by.shape c.args.cap c.job-job.ensures.slots c.requires.can c.requires.levels c.args.self.now.few
+    c.requires.one c.requires.few)
+
+pub returns-clause-laid : goal.returns-clause-laid
+returns-clause-laid c =
+    elim c.match-method.branch [
+      | in-Divisor+in_ok-grow_block w ↦
+          growth_laid c.job-job.result c.args.self.now.stage c.args.level c.args.of.shape c.args.by.shape true c.job-job.ensures.slots c.requires.can c.requires.levels c.args.self.now.few
+          c.args.method c.args.cap c.args.majority c.args.code.now.items w.grow_block.new.code.items c.match-method.code.items (ap (λ v. v.items) w.code-is)
+          w.in-Divisor.divisor w.in-Divisor.is c.job-job.ensures.majority
+          (subst (λ shapes. IsLaidGrowth shapes c.job-job.result w.in-Divisor.divisor c.args.cap c.args.code.now.items w.grow_block.new.code.items)
+          c.args.self.now.low w.in_ok-grow_block.ensures.laid)
+      | in_default w ↦
+          growth_none c.job-job.result c.args.self.now.stage c.args.level c.args.of.shape c.args.by.shape true c.job-job.ensures.slots c.requires.can c.requires.levels c.args.self.now.few
+          c.args.method c.args.cap c.args.majority c.args.code.now.items c.args.code.now.items c.match-method.code.items (ap (λ v. v.items) w.code-is) w.in_default.is refl
+    ]

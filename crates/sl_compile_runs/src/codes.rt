@@ -1,0 +1,119 @@
+//! The code of a book with a split holds the block of that split; that of a book without one opens no priority table; and a book of the
+//! greatest length has a code.
+
+use sl_blocks::{Job, split_block};
+use sl_check::check;
+use sl_code::Instr;
+use sl_compile::compile;
+use sl_lex::lex;
+use sl_parse::parse;
+use sl_ratio::{Divisor, Method};
+use sl_stages::Shape::{Land, List, One, Party};
+use sl_stages::{Majority, Shape};
+use sl_verify::Verified;
+use std::alloc::Global;
+use std::test::*;
+
+const SPLIT: &str =
+    "rulebook 1; law \"t\"; house 8; eligible all; stage s = split(house, counted, webster); seats s keep;";
+
+const WITHOUT_A_SPLIT: &str =
+    "rulebook 1; law \"t\"; house 8; eligible all; stage pool = less(house, sum(outside, all)); seats winners keep;";
+
+// The slots of a book of one stage, whose column is by list.
+const SLOTS: [Shape; 81] = [
+    Party, One, List, List, Land, Land, Land, List, Party, List, List, List, One, Party, Land,
+    List, One, Party, Land, List, One, Party, Land, List, One, Party, Land, List, One, Party, Land,
+    List, One, Party, Land, List, One, Party, Land, List, One, Party, Land, List, One, Party, Land,
+    List, One, Party, Land, List, One, Party, Land, List, One, Party, Land, List, One, Party, Land,
+    List, One, Party, Land, List, One, Party, Land, List, One, Party, Land, List, One, Party, Land,
+    List, List,
+];
+
+// The seats in the passing column of one number on the first level, the votes in that of lists on the second.
+const JOB: Job = Job {
+    stage: 0,
+    amount: 12,
+    weights: 19,
+    minima: None,
+    result: 15,
+    majority: Majority::Free,
+    scratch: [[0; 8]; 4],
+};
+
+// The code of the book of a text.
+fn compiled(alloc: Global, text: &[u8]) -> Result<Verified, Fail> {
+    let Ok(tokens) = lex(alloc, text) else {
+        return Err("no tokens")?;
+    };
+    let Ok(book) = parse(alloc, text, tokens.as_slice()) else {
+        return Err("no book")?;
+    };
+    let Ok(book) = check(book) else {
+        return Err("no checked book")?;
+    };
+    Ok(compile(alloc, &book)?)
+}
+
+// Whether the code begins with what stands before a place of its own and the block of the job behind that.
+fn holds_block_at(alloc: Global, code: &[Instr], place: usize) -> Result<bool, Fail> {
+    if place > code.len() || place > 199_000 {
+        return Ok(false);
+    }
+    let mut begin = Vec::from_slice(alloc, &code[..place])?;
+    split_block(&mut begin, &SLOTS, &JOB, Method::Divisor(Divisor::Webster))?;
+    Ok(begin.len() <= code.len() && begin.as_slice() == &code[..begin.len()])
+}
+
+// Whether it does so for some place.
+fn holds_block(alloc: Global, code: &[Instr]) -> Result<bool, Fail> {
+    for place in 0..code.len() {
+        if holds_block_at(alloc, code, place)? {
+            return Ok(true);
+        }
+    }
+    Ok(false)
+}
+
+fn tables_in(code: &[Instr]) -> usize {
+    code.iter()
+        .filter(|instr| matches!(instr, Instr::Table(..)))
+        .count()
+}
+
+// A book of 65,536 bytes, with 2,971 conditions.
+fn longest(alloc: Global) -> Result<Vec<u8>, Fail> {
+    let mut text = Vec::from_slice(alloc, b"rulebook 1; law \"t\"; house 8; eligible all")?;
+    for _ in 0..2970 {
+        text.extend_from_slice(b" or winners at least 3")?;
+    }
+    text.extend_from_slice(b"; seats winners keep;")?;
+    text.resize(65_536, b' ')?;
+    Ok(text)
+}
+
+#[test]
+fn split_in_its_book(rt: HostRuntime) -> Result<(), Fail> {
+    let alloc = rt.alloc();
+    let code = compiled(alloc, SPLIT.as_bytes())?;
+    assert!(rt; holds_block(alloc, code.code().instrs())?);
+    Ok(())
+}
+
+#[test]
+fn no_table_without_a_split(rt: HostRuntime) -> Result<(), Fail> {
+    let alloc = rt.alloc();
+    let code = compiled(alloc, WITHOUT_A_SPLIT.as_bytes())?;
+    assert_eq!(rt; tables_in(code.code().instrs()), 0);
+    Ok(())
+}
+
+#[test]
+fn longest_book(rt: HostRuntime) -> Result<(), Fail> {
+    let alloc = rt.alloc();
+    let text = longest(alloc)?;
+    assert_eq!(rt; text.len(), 65_536);
+    let code = compiled(alloc, text.as_slice())?;
+    assert!(rt; code.code().instrs().len() < 1_000);
+    Ok(())
+}

@@ -1,0 +1,5 @@
+//! Worked cases of compiled rulebooks, as tests: what their codes hold.
+#![tactic(auto)]
+
+#[cfg(test)]
+mod codes;
