@@ -9,3 +9,6 @@ pub mod SeatedWinners
 pub mod HeldTables
 pub mod EntryLines
 pub mod StageSlots
+pub mod StableSorts
+pub mod StepOrder
+pub mod AnyOrder

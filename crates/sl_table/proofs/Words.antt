@@ -1,7 +1,7 @@
 -- Lines of words, written one after the other.
-use Rattle.std.proofs.Common.{◌≡◌, ℕ, ◌+◌, ◌<◌, ◌≤◌, true, false, List, [], ◌∷◌, ◌++◌, length, take, map, get_or, refl, sym, ap, ◌∙◌, append_assoc}
+use Rattle.std.proofs.Common.{◌≡◌, ℕ, ◌+◌, ◌<◌, ◌≤◌, true, false, List, [], ◌∷◌, ◌++◌, length, take, map, get_or, refl, sym, ap, ◌∙◌, append_assoc, if◌then◌else◌}
 use Rattle.std.proofs.lemmas.List.{take_all, map_more}
-use Rattle.sl_table.specs.Lines.{Draft, line, no_text, with_word, with_words, with_end}
+use Rattle.sl_table.specs.Lines.{Draft, line, no_text, with_word, with_words, with_end, with_lines}
 
 -- words behind words
 pub words_append : (d : Draft) (xs ys : List (List ℕ)) → with_words d (xs ++ ys) ≡ with_words (with_words d xs) ys
@@ -44,3 +44,8 @@ one_line first second xs ys t0 t1 t2 t3 t4 t5 empty one two three four ended =
     ∙ ap (λ t. with_end (with_words (with_words t xs) ys)) (two ∙ ap (λ t. with_word t second) (one ∙ ap (λ t. with_word t first) empty))
     ∙ ap with_end (sym (words_append (with_word (with_word no_text first) second) xs ys))
     ∙ line_of first (second ∷ xs ++ ys)
+
+-- a line behind the last one
+pub line_behind : (d : Draft) (word : List ℕ) (words : List (List ℕ)) → d.begun ≡ false → with_end (with_words d (word ∷ words)) ≡ with_lines d (line (word ∷ words))
+line_behind d word words ended =
+    ap (λ b. with_end (with_words (record { bytes = d.bytes ++ (if b then 32 ∷ word else word); begun = true }) words)) ended ∙ line_from d.bytes word words

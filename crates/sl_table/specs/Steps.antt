@@ -1,6 +1,8 @@
--- The lines of the seat steps of a table (docs/output.md, section 1).
-use Rattle.std.specs.Prelude.{ℕ, Bool, false, List, [], ◌∷◌, ◌++◌, flat_map, codes, nat_eq, nat_lt, if◌then◌else◌}
+-- The text of the seat steps of a table (docs/output.md, section 1).
+use Rattle.std.specs.Prelude.{ℕ, Bool, List, [], ◌∷◌, ◌++◌, flat_map, codes, nat_eq, if◌then◌else◌}
+use Rattle.std.specs.Cmp.Lexicographic.{slice_cmp}
 use Rattle.std.specs.Fmt.{decimal}
+use Rattle.std.specs.Ordering.{is_lt, nat_cmp}
 use Rattle.sl_stages.specs.declared.fault.Item.{Item}
 use Rattle.sl_stages.specs.declared.fault.Item.TheVariants as item
 use Rattle.sl_stages.specs.declared.fault.Scope.{Scope}
@@ -12,6 +14,7 @@ use Rattle.sl_stages.specs.returns.Election.{Election}
 use Rattle.sl_stages.specs.meaning.Tables.{SeatTable}
 use Rattle.sl_table.specs.Faults.{stage_word, scope_words, item_word}
 use Rattle.sl_table.specs.Lines.{line}
+use Rattle.sl_table.specs.Short.{short_text}
 
 -- ---- the order of seat steps
 
@@ -33,16 +36,14 @@ item_key (item.Win win) = 3 ∷ win ∷ 0 ∷ []
 abbrev pub step_key : SeatStep → List ℕ
 step_key x = x.stage ∷ scope_key x.scope ++ (x.step ∷ item_key x.entry ++ x.n ∷ [])
 
--- the first number that differs is less
-abbrev pub is_before : List ℕ → List ℕ → Bool
-is_before [] ys = false
-is_before (x ∷ xs) [] = false
-is_before (x ∷ xs) (y ∷ ys) = if nat_eq x y then is_before xs ys else nat_lt x y
+-- whether a step has the lesser key: the first number that differs is less
+abbrev pub is_before : SeatStep → SeatStep → Bool
+is_before x y = is_lt (slice_cmp nat_cmp (step_key x) (step_key y))
 
 -- a step among steps in order, before those of the same key
 abbrev pub with_step : SeatStep → List SeatStep → List SeatStep
 with_step x [] = x ∷ []
-with_step x (y ∷ ys) = if is_before (step_key y) (step_key x) then y ∷ with_step x ys else x ∷ y ∷ ys
+with_step x (y ∷ ys) = if is_before y x then y ∷ with_step x ys else x ∷ y ∷ ys
 
 -- the steps in order, those of one key as they stood
 abbrev pub in_order : List SeatStep → List SeatStep
@@ -67,5 +68,9 @@ module _ (names : List (List ℕ)) (e : Election) where
   step_line x = line (codes "seat" ∷ stage_word names x.stage ∷ scope_words e x.scope ++ (item_word e x.entry ∷ decimal x.n ∷ decimal x.step ∷ mark_words x.mark))
 
 -- the lines of all seat steps, in order, where the stages have those names
-abbrev pub steps_lines : List (List ℕ) → Election → SeatTable → List ℕ
-steps_lines names e t = flat_map (step_line names e) (in_order t.steps)
+abbrev pub steps_lines : List (List ℕ) → SeatTable → Election → List ℕ
+steps_lines names t e = flat_map (step_line names e) (in_order t.steps)
+
+-- the lines of the seat steps, and the short text
+abbrev pub steps_text : List (List ℕ) → SeatTable → Election → List ℕ
+steps_text names t e = steps_lines names t e ++ short_text t e

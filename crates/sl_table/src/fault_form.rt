@@ -37,7 +37,7 @@ pub fn fault_text(
 // ---- words, each added to the last line of a text
 
 // The name of a stage, or `seats` for the last clause.
-fn stage_word(text: &mut Text, stage: usize, code: &Code) -> Result<(), NoMemory>
+pub(crate) fn stage_word(text: &mut Text, stage: usize, code: &Code) -> Result<(), NoMemory>
     ensures { OnOk result (text.new ≡ with_word text.old (stage_word (map (λ s. s.name) code.now.stages) stage)) }
 {
     match code.stages().get(stage) {
@@ -46,7 +46,7 @@ fn stage_word(text: &mut Text, stage: usize, code: &Code) -> Result<(), NoMemory
     }
 }
 
-fn scope_words(text: &mut Text, scope: Scope, returns: &Returns) -> Result<(), NoMemory>
+pub(crate) fn scope_words(text: &mut Text, scope: Scope, returns: &Returns) -> Result<(), NoMemory>
     requires { HasScope returns.now scope }
     ensures { OnOk result (text.new ≡ with_words text.old (scope_words returns.now scope)) }
 {
@@ -68,7 +68,7 @@ fn scope_words(text: &mut Text, scope: Scope, returns: &Returns) -> Result<(), N
     }
 }
 
-fn item_word(text: &mut Text, item: Item, returns: &Returns) -> Result<(), NoMemory>
+pub(crate) fn item_word(text: &mut Text, item: Item, returns: &Returns) -> Result<(), NoMemory>
     requires { HasItem returns.now item }
     ensures { OnOk result (text.new ≡ with_word text.old (item_word returns.now item)) }
 {

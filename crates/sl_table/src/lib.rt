@@ -2,13 +2,16 @@
 #![tactic(auto)]
 
 mod fault_form;
+pub mod laws;
 mod line;
 mod short_form;
 mod stage_form;
+mod steps_form;
 mod tables;
 
 pub use fault_form::fault_text;
 pub use line::Text;
 pub use short_form::short_text;
 pub use stage_form::stage_text;
+pub use steps_form::steps_text;
 pub use tables::table_of;

@@ -98,6 +98,20 @@ impl Text {
         self.word(digits.as_bytes())
     }
 
+    /// Adds two numbers to the line as one word, parted by a slash.
+    ///
+    /// # Errors
+    ///
+    /// Want of memory. The text is then unchanged.
+    pub fn number_pair(&mut self, first: u128, second: u128) -> Result<(), NoMemory>
+        ensures added { OnOk result (self.new ≡ with_word self.old (decimal first ++ (codes "/" ++ decimal second))) }
+        ensures unchanged { OnErr result (self.new ≡ self.old) }
+    {
+        let first = first.to_string(self.alloc)?;
+        let second = second.to_string(self.alloc)?;
+        self.pair(first.as_bytes(), second.as_bytes())
+    }
+
     /// Ends the line.
     ///
     /// # Errors

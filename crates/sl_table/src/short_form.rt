@@ -28,7 +28,7 @@ pub fn short_text(alloc: Global, table: &Table, returns: &Returns) -> Result<Vec
 }
 
 // The lines of the short text.
-fn short_lines(text: &mut Text, table: &Table, returns: &Returns) -> Result<(), NoMemory>
+pub(crate) fn short_lines(text: &mut Text, table: &Table, returns: &Returns) -> Result<(), NoMemory>
     requires begun { text.old.begun ≡ false }
     requires fits { Fits table.now returns.now }
     ensures { OnOk result (text.new ≡ with_lines text.old (short_text table.now returns.now)) }
