@@ -17,7 +17,12 @@ fn words_of(alloc: Global, line: &str) -> Result<Vec<String>, Fail> {
 fn text_of(alloc: Global, request: Option<Request<'_>>) -> Result<String, Fail> {
     Ok(match request {
         Some(Request::Count { book, returns }) => format!(in alloc; "{book} and {returns}")?,
+        Some(Request::Steps { book, returns }) => format!(in alloc;
+            "steps of {book} and {returns}"
+        )?,
         Some(Request::Check { book }) => format!(in alloc; "{book}")?,
+        Some(Request::Run { code, returns }) => format!(in alloc; "run of {code} and {returns}")?,
+        Some(Request::Law { name }) => format!(in alloc; "law {name}")?,
         None => String::new(alloc),
     })
 }
@@ -32,13 +37,22 @@ fn answer(alloc: Global, line: &str) -> Result<(String, bool), Fail> {
 }
 
 // Lines, each with the request as text.
-const REQUESTS: [(&str, &str); 3] = [
+const REQUESTS: [(&str, &str); 6] = [
     (
         "seatlaw count book.law returns.csv",
         "book.law and returns.csv",
     ),
     ("seatlaw count @2013 returns.csv", "@2013 and returns.csv"),
+    (
+        "seatlaw steps @2013 returns.csv",
+        "steps of @2013 and returns.csv",
+    ),
     ("seatlaw check book.law", "book.law"),
+    (
+        "seatlaw run book.slc returns.csv",
+        "run of book.slc and returns.csv",
+    ),
+    ("seatlaw law 2023-order", "law 2023-order"),
 ];
 
 #[test]
@@ -55,7 +69,7 @@ fn requests(rt: HostRuntime) -> Result<(), Fail> {
 const REFUSALS: [(&str, &str); 6] = [
     (
         "seatlaw",
-        "error: 'seatlaw' requires a subcommand but one was not provided\n  [subcommands: count, check, help]\n\nUsage: seatlaw <COMMAND>\n\nFor more information, try '--help'.\n",
+        "error: 'seatlaw' requires a subcommand but one was not provided\n  [subcommands: count, steps, check, run, law, help]\n\nUsage: seatlaw <COMMAND>\n\nFor more information, try '--help'.\n",
     ),
     (
         "seatlaw counts",
@@ -91,7 +105,7 @@ fn refusals(rt: HostRuntime) -> Result<(), Fail> {
 
 // The help, which is no error.
 const HELP: &str =
-    "Seat tables of the Bundestag by a rulebook and returns\n\nUsage: seatlaw <COMMAND>\n\nCommands:\n  count  Counts an election and writes its seat table\n  check  Checks a rulebook and writes a line about it\n  help   Print this message or the help of the given subcommand(s)\n\nOptions:\n  -h, --help  Print help\n";
+    "Seat tables of the Bundestag by a rulebook and returns\n\nUsage: seatlaw <COMMAND>\n\nCommands:\n  count  Counts an election and writes its seat table\n  steps  Counts an election and writes the step that won each seat, then its seat table\n  check  Checks a rulebook and writes a line about it\n  run    Runs a code file on returns and writes the seat table\n  law    Writes a rulebook of the library\n  help   Print this message or the help of the given subcommand(s)\n\nOptions:\n  -h, --help  Print help\n";
 
 const COUNT_HELP: &str =
     "Counts an election and writes its seat table\n\nUsage: seatlaw count <BOOK> <RETURNS>\n\nArguments:\n  <BOOK>     The rulebook, a path, or @NAME for one of the library\n  <RETURNS>  The returns, a path\n\nOptions:\n  -h, --help  Print help\n";

@@ -1,5 +1,6 @@
 -- Two outputs of the same inputs are one, by the laws of the layers below.
-use Rattle.std.proofs.Common.{◌≡◌, ◌≢◌, ℕ, List, [], ◌∷◌, length, codes, Option, Some, None, Ok, Err, Result, true, is_none, IsTrue, refl, sym, ◌∙◌, ap, subst, arith}
+use Rattle.std.proofs.Common.{◌≡◌, ◌≢◌, ℕ, List, [], length, ◌⊎◌, inl, inr, Option, Some, None, Ok, Err, Result, true, is_none, IsTrue, refl, sym, ◌∙◌, ap, subst, arith}
+use Rattle.sl_laws.specs.Books.{law_text}
 use Rattle.sl_lex.specs.declared.fault.LexFault.{LexFault}
 use Rattle.sl_lex.specs.declared.token.Token.{Token}
 use Rattle.sl_lex.specs.Tokens as lex
@@ -21,11 +22,11 @@ use Rattle.sl_desk.specs.declared.refusal.BookRefusal.{BookRefusal}
 use Rattle.sl_desk.specs.declared.refusal.BookRefusal.TheVariants.{UnknownLaw, TooLong, Tokens, Grammar, Test}
 use Rattle.sl_desk.specs.declared.refusal.ReturnsRefusal.{ReturnsRefusal}
 use Rattle.sl_desk.specs.declared.refusal.ReturnsRefusal.TheVariants as returns
+use Rattle.sl_desk.specs.declared.report.Report.{Report}
 use Rattle.sl_desk.specs.declared.status.Status.{Status}
 use Rattle.sl_desk.specs.declared.verdict.Verdict.{Verdict}
 use Rattle.sl_desk.specs.declared.verdict.Verdict.TheVariants.{Good, Refused}
-use Rattle.sl_desk.specs.Refusals.{refused}
-use Rattle.sl_desk.specs.Verdicts.{HasTokens, HasTree, library, text, IsTextVerdict, IsBookVerdict, book_line, IsReturnsVerdict}
+use Rattle.sl_desk.specs.Verdicts.{BookInput, HasTokens, HasTree, library, text, IsTextVerdict, IsLawVerdict, IsBookVerdict, unknown_law, book_line, IsReturnsVerdict}
 use Rattle.sl_desk.specs.Output.{IsTreeOutput, IsCount, IsCheck}
 use Rattle.sl_desk.specs.Laws.{HasOneOutput, HasOneCheck}
 use Rattle.sl_returns.proofs.ReadElections.{read_is}
@@ -69,14 +70,17 @@ ok_or_err r a b h k = cc
 
 -- ---- a name of the library
 
-unknown_law : (name : List ℕ) (v : Verdict BookTree BookRefusal) → IsBookVerdict (library name) v
-    → (why : BookRefusal) × (v ≡ Refused why) × (book_line why ≡ refused (codes "law" ∷ name ∷ []))
-unknown_law name (Refused (UnknownLaw unknown)) h = (UnknownLaw unknown, refl, ap (λ (n : List ℕ). refused (codes "law" ∷ n ∷ [])) h)
-unknown_law name (Refused TooLong) h = absurd h
-unknown_law name (Refused (Tokens f)) h = absurd h
-unknown_law name (Refused (Grammar f)) h = absurd h
-unknown_law name (Refused (Test f)) h = absurd h
-unknown_law name (Good tree) h = absurd h
+no_law : (name : List ℕ) (v : Verdict BookTree BookRefusal) → IsLawVerdict name None v → (why : BookRefusal) × (v ≡ Refused why) × (book_line why ≡ unknown_law name)
+no_law name (Refused (UnknownLaw unknown)) h = (UnknownLaw unknown, refl, ap unknown_law h)
+no_law name (Refused TooLong) h = absurd h
+no_law name (Refused (Tokens f)) h = absurd h
+no_law name (Refused (Grammar f)) h = absurd h
+no_law name (Refused (Test f)) h = absurd h
+no_law name (Good tree) h = absurd h
+
+-- two verdicts are one, or two refusals of one line
+AreAlike : (v w : Verdict BookTree BookRefusal) → Type 0
+AreAlike v w = (v ≡ w) ⊎ ((why : BookRefusal) × (reason : BookRefusal) × (v ≡ Refused why) × (w ≡ Refused reason) × (book_line why ≡ book_line reason))
 
 -- ---- one output of a verdict
 
@@ -95,10 +99,10 @@ one_returns_verdict bytes (Good d) (Good e) h k = ap (λ (x : Election). Good x)
 pub typed_tree : (tree : BookTree) → check_fault tree ≡ None → is_typed tree ≡ true
 typed_tree tree h = ap is_none h
 
-one_tree_output : (tree : BookTree) (bytes : List ℕ) (v : Verdict Election ReturnsRefusal) (a b : Status) (s t : List ℕ) → is_typed tree ≡ true → IsReturnsVerdict bytes v
-    → IsTreeOutput tree v a s → IsTreeOutput tree v b t → (a ≡ b) × (s ≡ t)
-one_tree_output tree bytes (Refused why) a b s t typed is h k = (h.0 ∙ sym k.0, h.1 ∙ sym k.1)
-one_tree_output tree bytes (Good e) a b s t typed is h k = one_good_output tree e typed (read_is (records_in bytes) e is.1) a b s t h k
+one_tree_output : (report : Report) (tree : BookTree) (bytes : List ℕ) (v : Verdict Election ReturnsRefusal) (a b : Status) (s t : List ℕ) → is_typed tree ≡ true → IsReturnsVerdict bytes v
+    → IsTreeOutput report tree v a s → IsTreeOutput report tree v b t → (a ≡ b) × (s ≡ t)
+one_tree_output report tree bytes (Refused why) a b s t typed is h k = (h.0 ∙ sym k.0, h.1 ∙ sym k.1)
+one_tree_output report tree bytes (Good e) a b s t typed is h k = one_good_output report tree e typed (read_is (records_in bytes) e is.1) a b s t h k
 
 -- a verdict of a book that is good is one of a well-formed tree
 abbrev IsTypedVerdict : Verdict BookTree BookRefusal → Type 0
@@ -109,15 +113,43 @@ typed_text : (source : List ℕ) (v : Verdict BookTree BookRefusal) → IsTextVe
 typed_text source (Refused why) h = tt
 typed_text source (Good tree) h = typed_tree tree h.1
 
-one_count : (v : Verdict BookTree BookRefusal) (bytes : List ℕ) (a b : Status) (s t : List ℕ) → IsTypedVerdict v → IsCount v bytes a s → IsCount v bytes b t → (a ≡ b) × (s ≡ t)
-one_count (Refused why) bytes a b s t typed h k = (h.0 ∙ sym k.0, h.1 ∙ sym k.1)
-one_count (Good tree) bytes a b s t typed h k =
+typed_law : (name : List ℕ) (o : Option (List ℕ)) (v : Verdict BookTree BookRefusal) → IsLawVerdict name o v → IsTypedVerdict v
+typed_law name (Some source) v h = typed_text source v h
+typed_law name None v h = subst IsTypedVerdict (sym (no_law name v h).1) tt
+
+typed_book : (input : BookInput) (v : Verdict BookTree BookRefusal) → IsBookVerdict input v → IsTypedVerdict v
+typed_book (text source) v h = typed_text source v h
+typed_book (library name) v h = typed_law name (law_text name) v h
+
+one_count : (report : Report) (v : Verdict BookTree BookRefusal) (bytes : List ℕ) (a b : Status) (s t : List ℕ) → IsTypedVerdict v → IsCount report v bytes a s → IsCount report v bytes b t → (a ≡ b) × (s ≡ t)
+one_count report (Refused why) bytes a b s t typed h k = (h.0 ∙ sym k.0, h.1 ∙ sym k.1)
+one_count report (Good tree) bytes a b s t typed h k =
     let same = one_returns_verdict bytes h.0 k.0 h.1 k.1 in
-    one_tree_output tree bytes h.0 a b s t typed h.1 h.2 (subst (λ (v : Verdict Election ReturnsRefusal). IsTreeOutput tree v b t) (sym same) k.2)
+    one_tree_output report tree bytes h.0 a b s t typed h.1 h.2 (subst (λ (v : Verdict Election ReturnsRefusal). IsTreeOutput report tree v b t) (sym same) k.2)
 
 one_checked : (v : Verdict BookTree BookRefusal) (a b : Status) (s t : List ℕ) → IsCheck v a s → IsCheck v b t → (a ≡ b) × (s ≡ t)
 one_checked (Refused why) a b s t h k = (h.0 ∙ sym k.0, h.1 ∙ sym k.1)
 one_checked (Good tree) a b s t h k = (h.0 ∙ sym k.0, h.1 ∙ sym k.1)
+
+-- two verdicts that are alike count alike, and check alike
+
+counts_alike : (report : Report) (v w : Verdict BookTree BookRefusal) (bytes : List ℕ) (a b : Status) (s t : List ℕ) → IsTypedVerdict v → AreAlike v w → IsCount report v bytes a s → IsCount report w bytes b t
+    → (a ≡ b) × (s ≡ t)
+unfolding AreAlike
+counts_alike report v w bytes a b s t typed (inl same) h k =
+    one_count report v bytes a b s t typed h (subst (λ (x : Verdict BookTree BookRefusal). IsCount report x bytes b t) (sym same) k)
+counts_alike report v w bytes a b s t typed (inr (why, reason, first, second, line)) h k =
+    let c : IsCount report (Refused why) bytes a s = subst (λ (x : Verdict BookTree BookRefusal). IsCount report x bytes a s) first h in
+    let d : IsCount report (Refused reason) bytes b t = subst (λ (x : Verdict BookTree BookRefusal). IsCount report x bytes b t) second k in
+    (c.0 ∙ sym d.0, c.1 ∙ line ∙ sym d.1)
+
+checks_alike : (v w : Verdict BookTree BookRefusal) (a b : Status) (s t : List ℕ) → AreAlike v w → IsCheck v a s → IsCheck w b t → (a ≡ b) × (s ≡ t)
+unfolding AreAlike
+checks_alike v w a b s t (inl same) h k = one_checked v a b s t h (subst (λ (x : Verdict BookTree BookRefusal). IsCheck x b t) (sym same) k)
+checks_alike v w a b s t (inr (why, reason, first, second, line)) h k =
+    let c : IsCheck (Refused why) a s = subst (λ (x : Verdict BookTree BookRefusal). IsCheck x a s) first h in
+    let d : IsCheck (Refused reason) b t = subst (λ (x : Verdict BookTree BookRefusal). IsCheck x b t) second k in
+    (c.0 ∙ sym d.0, c.1 ∙ line ∙ sym d.1)
 
 module _ (laws : LowerLaws) where
   -- ---- one verdict of a text
@@ -180,24 +212,18 @@ module _ (laws : LowerLaws) where
 
   -- ---- one output
 
+  alike_laws : (name : List ℕ) (o : Option (List ℕ)) (v w : Verdict BookTree BookRefusal) → IsLawVerdict name o v → IsLawVerdict name o w → AreAlike v w
+  unfolding AreAlike
+  alike_laws name (Some source) v w h k = inl (one_text_verdict source v w h k)
+  alike_laws name None v w h k = let x = no_law name v h in let y = no_law name w k in inr (x.0, y.0, x.1, y.1, x.2 ∙ sym y.2)
+
+  alike_books : (input : BookInput) (v w : Verdict BookTree BookRefusal) → IsBookVerdict input v → IsBookVerdict input w → AreAlike v w
+  unfolding AreAlike
+  alike_books (text source) v w h k = inl (one_text_verdict source v w h k)
+  alike_books (library name) v w h k = alike_laws name (law_text name) v w h k
+
   pub one_output : HasOneOutput
-  one_output (text source) bytes a b s t h k =
-      let same = one_text_verdict source h.0 k.0 h.1 k.1 in
-      one_count h.0 bytes a b s t (typed_text source h.0 h.1) h.2 (subst (λ (v : Verdict BookTree BookRefusal). IsCount v bytes b t) (sym same) k.2)
-  one_output (library name) bytes a b s t h k =
-      let x = unknown_law name h.0 h.1 in
-      let y = unknown_law name k.0 k.1 in
-      let c : IsCount (Refused x.0) bytes a s = subst (λ (v : Verdict BookTree BookRefusal). IsCount v bytes a s) x.1 h.2 in
-      let d : IsCount (Refused y.0) bytes b t = subst (λ (v : Verdict BookTree BookRefusal). IsCount v bytes b t) y.1 k.2 in
-      (c.0 ∙ sym d.0, c.1 ∙ x.2 ∙ sym y.2 ∙ sym d.1)
+  one_output report input bytes a b s t h k = counts_alike report h.0 k.0 bytes a b s t (typed_book input h.0 h.1) (alike_books input h.0 k.0 h.1 k.1) h.2 k.2
 
   pub one_check : HasOneCheck
-  one_check (text source) a b s t h k =
-      let same = one_text_verdict source h.0 k.0 h.1 k.1 in
-      one_checked h.0 a b s t h.2 (subst (λ (v : Verdict BookTree BookRefusal). IsCheck v b t) (sym same) k.2)
-  one_check (library name) a b s t h k =
-      let x = unknown_law name h.0 h.1 in
-      let y = unknown_law name k.0 k.1 in
-      let c : IsCheck (Refused x.0) a s = subst (λ (v : Verdict BookTree BookRefusal). IsCheck v a s) x.1 h.2 in
-      let d : IsCheck (Refused y.0) b t = subst (λ (v : Verdict BookTree BookRefusal). IsCheck v b t) y.1 k.2 in
-      (c.0 ∙ sym d.0, c.1 ∙ x.2 ∙ sym y.2 ∙ sym d.1)
+  one_check input a b s t h k = checks_alike h.0 k.0 a b s t (alike_books input h.0 k.0 h.1 k.1) h.2 k.2

@@ -1,20 +1,24 @@
--- The book is judged before the returns are read.
-use Rattle.std.proofs.Common.{◌≡◌, ℕ, ◌+◌, ◌-◌, ◌^◌, min, List, Option, Some, None, IfSome, IfOk, IfErr, Result, Ok, Err, ap, arith}
+-- The book, or the code file, is judged before the returns are read.
+use Rattle.std.proofs.Common.{◌≡◌, ◌≢◌, ℕ, ◌+◌, ◌-◌, ◌^◌, min, List, Option, Some, None, IfSome, IfOk, IfErr, Result, Ok, Err, refl, ap, arith}
+use Rattle.sl_code.specs.Codes.{CountingCode}
 use Rattle.sl_stages.specs.book.Trees.{BookTree}
 use Rattle.sl_stages.specs.returns.Election.{Election}
 use Rattle.sl_desk.specs.declared.limits.TheConstants.{MAX_RETURNS_BYTES}
 use Rattle.sl_desk.specs.declared.calls.Answer.{Answer}
 use Rattle.sl_desk.specs.declared.refusal.BookRefusal.{BookRefusal}
+use Rattle.sl_desk.specs.declared.refusal.CodeRefusal.{CodeRefusal}
+use Rattle.sl_desk.specs.declared.report.Report.{Report}
 use Rattle.sl_desk.specs.declared.status.Status.{Status}
 use Rattle.sl_desk.specs.declared.status.Status.TheVariants as status
 use Rattle.sl_desk.specs.declared.status.DeskError.{DeskError}
 use Rattle.sl_desk.specs.declared.status.DeskError.TheVariants.{Read, NoMemory}
-use Rattle.sl_desk.specs.declared.status.Input.TheVariants.{Book}
+use Rattle.sl_desk.specs.declared.status.Input.{Input}
+use Rattle.sl_desk.specs.declared.status.Input.TheVariants.{Book, Returns, Code}
 use Rattle.sl_desk.specs.declared.verdict.Verdict.TheVariants.{Good, Refused}
 use Rattle.sl_desk.specs.Failures.{Counts, counts, counts_after}
-use Rattle.sl_desk.specs.Output.{IsTreeOutput, IsCount, IsOutput}
-use Rattle.sl_desk.specs.Reading.{TakesAtMost, IsNoGoodBook, ReadsReturns, ForKnown}
-use Rattle.sl_desk.specs.Verdicts.{BookInput, IsBookVerdict, IsReturnsVerdict, book_line}
+use Rattle.sl_desk.specs.Output.{IsTreeOutput, IsCount, IsOutput, IsCodeOutput, IsRun, IsRunCode}
+use Rattle.sl_desk.specs.Reading.{TakesAtMost, IsNoGoodBook, IsNoGoodCode, ReadsBehind, ReadsReturns, ReadsBehindCode, ForKnown}
+use Rattle.sl_desk.specs.Verdicts.{BookInput, IsBookVerdict, IsReturnsVerdict, IsCodeVerdict, book_line, code_line}
 
 -- want of memory is no failure of a reader or a writer
 pub memory_counts : {X : Type 0} (before after : Counts) (r : Result X DeskError) → after ≡ before → IfErr r (λ e. e ≡ NoMemory) → after ≡ counts_after before r
@@ -22,40 +26,84 @@ memory_counts before after (Ok x) same h = same
 memory_counts before after (Err e) same h = rw h same
 
 -- the output of a good book on good returns
-pub tree_counts : (known : Option (List ℕ)) (tree : BookTree) (e : Election) (r : Result Answer DeskError)
-    → IfSome known (λ bytes. IsReturnsVerdict bytes (Good e)) → IfOk r (λ a. IsTreeOutput tree (Good e) a.status a.text.items)
-    → IfOk r (λ a. IfSome known (λ bytes. IsCount (Good tree) bytes a.status a.text.items))
-tree_counts known tree e (Err x) judged output = tt
-tree_counts None tree e (Ok a) judged output = tt
-tree_counts (Some bytes) tree e (Ok a) judged output = (Good e, judged, output)
+pub tree_counts : (report : Report) (known : Option (List ℕ)) (tree : BookTree) (e : Election) (r : Result Answer DeskError)
+    → IfSome known (λ bytes. IsReturnsVerdict bytes (Good e)) → IfOk r (λ a. IsTreeOutput report tree (Good e) a.status a.text.items)
+    → IfOk r (λ a. IfSome known (λ bytes. IsCount report (Good tree) bytes a.status a.text.items))
+tree_counts report known tree e (Err x) judged output = tt
+tree_counts report None tree e (Ok a) judged output = tt
+tree_counts report (Some bytes) tree e (Ok a) judged output = (Good e, judged, output)
 
 -- the line that refuses a book, whatever the returns are
-pub refusal_counts : (book : Option BookInput) (returns : Option (List ℕ)) (why : BookRefusal) (ends : Status) (output : List ℕ)
+pub refusal_counts : (report : Report) (book : Option BookInput) (returns : Option (List ℕ)) (why : BookRefusal) (ends : Status) (output : List ℕ)
     → IfSome book (λ input. IsBookVerdict input (Refused why)) → ends ≡ status.Refused → output ≡ book_line why
-    → ForKnown book returns (λ input bytes. IsOutput input bytes ends output)
-refusal_counts None returns why ends output bad refused same = tt
-refusal_counts (Some input) None why ends output bad refused same = tt
-refusal_counts (Some input) (Some bytes) why ends output bad refused same = (Refused why, bad, (refused, same))
+    → ForKnown book returns (λ input bytes. IsOutput report input bytes ends output)
+refusal_counts report None returns why ends output bad refused same = tt
+refusal_counts report (Some input) None why ends output bad refused same = tt
+refusal_counts report (Some input) (Some bytes) why ends output bad refused same = (Refused why, bad, (refused, same))
 
-good_book : (A : Type 0) (known : Option BookInput) (tree : BookTree) → IfSome known (λ i. IsBookVerdict i (Good tree)) → IfSome known (λ i. IsNoGoodBook i → A)
-good_book A None tree good = tt
-good_book A (Some i) tree good = λ none. absurd (none tree good)
+not_bad : {A : Type 0} (Z : Type 0) (IsBad : A → Type 0) (known : Option A) → IfSome known (λ a. IsBad a → ⊥) → IfSome known (λ a. IsBad a → Z)
+not_bad Z IsBad None good = tt
+not_bad Z IsBad (Some a) good = λ bad. absurd (good bad)
 
--- a reader of returns is not that of the book
-not_book : {X : Type 0} (n n' : ℕ) (r : Result X DeskError) → counts 0 n' 0 0 ≡ counts_after (counts 0 n 0 0) r → r ≡ Err (Read Book) → ⊥
-not_book n n' (Ok x) h e = absurd cc
-not_book n n' (Err x) h e =
+-- a reader of returns is not that of another input
+not_first : {X : Type 0} (first : Input) (n n' : ℕ) (r : Result X DeskError) → first ≢ Returns → counts 0 n' 0 0 ≡ counts_after (counts 0 n 0 0) r → r ≡ Err (Read first) → ⊥
+not_first first n n' (Ok x) other h e = absurd cc
+not_first Returns n n' (Err x) other h e = absurd (other refl)
+not_first Book n n' (Err x) other h e =
     let same : x ≡ Read Book = cc in
     let raised : 0 ≡ min (0 + 1) (2 ^ 64 - 1) = ap (λ (c : Counts). c.book) (rw same at h) in
     absurd (omega arith)
+not_first Code n n' (Err x) other h e =
+    let same : x ≡ Read Code = cc in
+    let raised : 0 ≡ min (0 + 1) (2 ^ 64 - 1) = ap (λ (c : Counts). c.code) (rw same at h) in
+    absurd (omega arith)
 
--- returns that are read after a good book
+-- returns that are read after a good input
+module _ {R A X : Type 0} (remaining : R → Option (List ℕ)) (old new : R) (n n' : ℕ) (r : Result X DeskError) where
+  reads_after : (first : Input) (known : Option A) (IsBad : A → Type 0) → first ≢ Returns → IfSome known (λ a. IsBad a → ⊥)
+      → TakesAtMost (MAX_RETURNS_BYTES + 1) (remaining old) (remaining new) → counts 0 n' 0 0 ≡ counts_after (counts 0 n 0 0) r
+      → ReadsBehind remaining first known IsBad old new r
+  reads_after first known IsBad other good limited counted = record {
+    limited = limited;
+    untouched = not_bad _ IsBad known good;
+    unread = not_bad _ IsBad known good;
+    second = λ e. absurd (not_first first n n' r other counted e);
+  }
+
+good_book : (known : Option BookInput) (tree : BookTree) → IfSome known (λ i. IsBookVerdict i (Good tree)) → IfSome known (λ i. IsNoGoodBook i → ⊥)
+good_book None tree good = tt
+good_book (Some i) tree good = λ none. none tree good
+
+good_code : (known : Option (List ℕ)) (c : CountingCode) → IfSome known (λ bytes. IsCodeVerdict bytes (Good c)) → IfSome known (λ bytes. IsNoGoodCode bytes → ⊥)
+good_code None c good = tt
+good_code (Some bytes) c good = λ none. none c good
+
 pub reads_after_good : {R X : Type 0} (remaining : R → Option (List ℕ)) (known : Option BookInput) (tree : BookTree) (old new : R) (n n' : ℕ) (r : Result X DeskError)
     → IfSome known (λ i. IsBookVerdict i (Good tree)) → TakesAtMost (MAX_RETURNS_BYTES + 1) (remaining old) (remaining new)
     → counts 0 n' 0 0 ≡ counts_after (counts 0 n 0 0) r → ReadsReturns remaining known old new r
-reads_after_good remaining known tree old new n n' r good limited counted = record {
-  limited = limited;
-  untouched = good_book _ known tree good;
-  unread = good_book _ known tree good;
-  second = λ e. absurd (not_book n n' r counted e);
-}
+reads_after_good remaining known tree old new n n' r good limited counted =
+    reads_after remaining old new n n' r Book known IsNoGoodBook (λ e. cc) (good_book known tree good) limited counted
+
+pub reads_after_code : {R X : Type 0} (remaining : R → Option (List ℕ)) (known : Option (List ℕ)) (c : CountingCode) (old new : R) (n n' : ℕ) (r : Result X DeskError)
+    → IfSome known (λ bytes. IsCodeVerdict bytes (Good c)) → TakesAtMost (MAX_RETURNS_BYTES + 1) (remaining old) (remaining new)
+    → counts 0 n' 0 0 ≡ counts_after (counts 0 n 0 0) r → ReadsBehindCode remaining known old new r
+reads_after_code remaining known c old new n n' r good limited counted =
+    reads_after remaining old new n n' r Code known IsNoGoodCode (λ e. cc) (good_code known c good) limited counted
+
+-- ---- code files
+
+-- the output of good code on good returns
+pub code_runs : (known : Option (List ℕ)) (c : CountingCode) (e : Election) (r : Result Answer DeskError)
+    → IfSome known (λ bytes. IsReturnsVerdict bytes (Good e)) → IfOk r (λ a. IsCodeOutput c (Good e) a.status a.text.items)
+    → IfOk r (λ a. IfSome known (λ bytes. IsRun (Good c) bytes a.status a.text.items))
+code_runs known c e (Err x) judged output = tt
+code_runs None c e (Ok a) judged output = tt
+code_runs (Some bytes) c e (Ok a) judged output = (Good e, judged, output)
+
+-- the line that refuses a code file, whatever the returns are
+pub refusal_runs : (file returns : Option (List ℕ)) (why : CodeRefusal) (ends : Status) (output : List ℕ)
+    → IfSome file (λ bytes. IsCodeVerdict bytes (Refused why)) → ends ≡ status.Refused → output ≡ code_line why
+    → ForKnown file returns (λ file bytes. IsRunCode file bytes ends output)
+refusal_runs None returns why ends output bad refused same = tt
+refusal_runs (Some file) None why ends output bad refused same = tt
+refusal_runs (Some file) (Some bytes) why ends output bad refused same = (Refused why, bad, (refused, same))

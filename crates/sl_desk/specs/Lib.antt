@@ -4,6 +4,7 @@ pub mod Writing
 pub mod Inputs
 pub mod Refusals
 pub mod Verdicts
+pub mod Endings
 pub mod Output
 pub mod Reading
 pub mod Adapters

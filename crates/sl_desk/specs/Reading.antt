@@ -8,9 +8,11 @@ use Rattle.sl_desk.specs.declared.source.BookSource.{BookSource}
 use Rattle.sl_desk.specs.declared.source.BookSource.TheVariants.{Library, Reader}
 use Rattle.sl_desk.specs.declared.status.DeskError.{DeskError}
 use Rattle.sl_desk.specs.declared.status.DeskError.TheVariants as fault
+use Rattle.sl_desk.specs.declared.status.Input.{Input}
 use Rattle.sl_desk.specs.declared.status.Input.TheVariants as input
 use Rattle.sl_desk.specs.declared.verdict.Verdict.TheVariants as verdict
-use Rattle.sl_desk.specs.Verdicts.{BookInput, library, text, IsBookVerdict}
+use Rattle.sl_code.specs.Codes.{CountingCode}
+use Rattle.sl_desk.specs.Verdicts.{BookInput, library, text, IsBookVerdict, IsCodeVerdict}
 
 -- ---- the source of a book
 
@@ -53,16 +55,29 @@ pub record ReadsBook {S : Type 0} (remaining : S → Option (List ℕ)) (old new
 abbrev pub IsNoGoodBook : BookInput → Type 0
 IsNoGoodBook input = (tree : BookTree) → IsBookVerdict input (verdict.Good tree) → ⊥
 
--- a call that reads a book first, and then returns
-pub record ReadsReturns {R X : Type 0} (remaining : R → Option (List ℕ)) (book : Option BookInput) (old new : R) (result : Result X DeskError) : Type 0 where
+-- no code makes the bytes a good code file
+abbrev pub IsNoGoodCode : List ℕ → Type 0
+IsNoGoodCode bytes = (c : CountingCode) → IsCodeVerdict bytes (verdict.Good c) → ⊥
+
+-- a call that reads another input first, of which some are bad, and then returns
+pub record ReadsBehind {R A X : Type 0} (remaining : R → Option (List ℕ)) (first : Input) (known : Option A) (IsBad : A → Type 0) (old new : R)
+    (result : Result X DeskError) : Type 0 where
   -- no more than one byte past the limit is taken
   pub limited : TakesAtMost (MAX_RETURNS_BYTES + 1) (remaining old) (remaining new)
-  -- where no tree makes the input a good book, the returns are as they were
-  pub untouched : IfSome book (λ b. IsNoGoodBook b → new ≡ old)
+  -- where the first input is bad, the returns are as they were
+  pub untouched : IfSome known (λ a. IsBad a → new ≡ old)
   -- and their reader is not what failed
-  pub unread : IfSome book (λ b. IsNoGoodBook b → result ≢ Err (fault.Read input.Returns))
-  -- they are as they were where the book was not read
-  pub second : result ≡ Err (fault.Read input.Book) → new ≡ old
+  pub unread : IfSome known (λ a. IsBad a → result ≢ Err (fault.Read input.Returns))
+  -- they are as they were where the first input was not read
+  pub second : result ≡ Err (fault.Read first) → new ≡ old
+
+-- first a book, and then returns
+abbrev pub ReadsReturns : {R X : Type 0} → (R → Option (List ℕ)) → Option BookInput → R → R → Result X DeskError → Type 0
+ReadsReturns remaining book old new result = ReadsBehind remaining input.Book book IsNoGoodBook old new result
+
+-- first a code file, and then returns
+abbrev pub ReadsBehindCode : {R X : Type 0} → (R → Option (List ℕ)) → Option (List ℕ) → R → R → Result X DeskError → Type 0
+ReadsBehindCode remaining file old new result = ReadsBehind remaining input.Code file IsNoGoodCode old new result
 
 -- ---- inputs that may be unknown
 

@@ -7,6 +7,10 @@ use Rattle.sl_parse.specs.declared.fault.ParseFault.{ParseFault}
 use Rattle.sl_parse.specs.declared.fault.ParseFault.TheVariants as parse
 use Rattle.sl_stages.specs.declared.check_fault.CheckFault.{CheckFault}
 use Rattle.sl_stages.specs.declared.check_fault.CheckFault.TheVariants as check
+use Rattle.sl_code.specs.declared.fault.CodeFault.{CodeFault}
+use Rattle.sl_code.specs.declared.fault.CodeFault.TheVariants as code
+use Rattle.sl_verify.specs.declared.fault.VerifyFault.{VerifyFault}
+use Rattle.sl_verify.specs.declared.fault.VerifyFault.TheVariants as verify
 use Rattle.sl_table.specs.Lines.{line}
 use Rattle.sl_desk.specs.declared.refusal.Numbered.{Numbered}
 
@@ -40,6 +44,24 @@ checked_fault (check.TwoSplits at) = numbered 8 at
 checked_fault (check.MethodOption at) = numbered 9 at
 checked_fault (check.CapRange at) = numbered 10 at
 checked_fault (check.SeatsShape at) = numbered 11 at
+
+abbrev pub code_fault : CodeFault → Numbered
+code_fault (code.Magic at) = numbered 1 at
+code_fault (code.Version at) = numbered 2 at
+code_fault (code.Op at) = numbered 3 at
+code_fault (code.Short at) = numbered 4 at
+code_fault (code.Trailing at) = numbered 5 at
+code_fault (code.Limit at) = numbered 6 at
+code_fault code.NoMemory = numbered 7 0
+
+abbrev pub kinds_fault : VerifyFault → Numbered
+kinds_fault (verify.Jump at) = numbered 1 at
+kinds_fault (verify.Register at) = numbered 2 at
+kinds_fault (verify.Kind at) = numbered 3 at
+kinds_fault (verify.Slot at) = numbered 4 at
+kinds_fault (verify.TableKind at) = numbered 5 at
+kinds_fault (verify.Meet at) = numbered 6 at
+kinds_fault (verify.RunsOff at) = numbered 7 at
 
 abbrev pub refused : List (List ℕ) → List ℕ
 refused words = line (codes "refused" ∷ words)

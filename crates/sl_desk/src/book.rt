@@ -1,9 +1,10 @@
 //! Judging a rulebook.
 
 ghost use Rattle.std.specs.Prelude.{◌≡◌, ◌≤◌, ◌+◌, length, IfOk, IfSome};
+ghost use Rattle.sl_laws.specs.Books.{law_text};
 ghost use Rattle.sl_desk.specs.Failures.{counts, counts_after};
 ghost use Rattle.sl_desk.specs.Reading.{book_input, book_failures, ReadsBook, TakesAtMost};
-ghost use Rattle.sl_desk.specs.Verdicts.{IsBookVerdict, IsTextVerdict};
+ghost use Rattle.sl_desk.specs.Verdicts.{IsBookVerdict, IsLawVerdict, IsTextVerdict};
 ghost use Rattle.sl_desk.specs.inner.Judging.{tree_verdict};
 
 use crate::input::{Bytes, read_all};
@@ -13,6 +14,7 @@ use crate::source::{BookSource, Source};
 use crate::status::{DeskError, Input};
 use crate::verdict::Verdict;
 use sl_check::{CheckedBook, check};
+use sl_laws::law;
 use sl_lex::{LexFault, lex};
 use sl_parse::{ParseFault, parse};
 use sl_ratio::NoMemory;
@@ -42,6 +44,19 @@ fn judge_text<'a>(
     }
 }
 
+// What a name comes to: the text of the library's book, if there is one.
+fn judge_law<'a>(
+    alloc: Global,
+    name: &'a str,
+) -> Result<Verdict<CheckedBook, BookRefusal<'a>>, NoMemory>
+    ensures { IfOk result (λ v. IsLawVerdict name.now (law_text name.now) (tree_verdict v)) }
+{
+    match law(name) {
+        Some(text) => judge_text(alloc, text.as_bytes()),
+        None => Ok(Verdict::Refused(BookRefusal::UnknownLaw(name))),
+    }
+}
+
 // Reads the text of a rulebook and judges it.
 fn read_text<'a, S: Source>(
     alloc: Global,
@@ -67,7 +82,7 @@ pub(crate) fn read_book<'a, S: Source>(
     ensures source { ReadsBook S.remaining source.old source.new }
 {
     match source {
-        BookSource::Library(name) => Ok(Verdict::Refused(BookRefusal::UnknownLaw(name))),
+        BookSource::Library(name) => Ok(judge_law(alloc, name)?),
         BookSource::Reader(reader) => read_text(alloc, reader),
     }
 }

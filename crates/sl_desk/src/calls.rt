@@ -6,6 +6,9 @@ ghost use Rattle.sl_desk.specs.Writing.{Delivers};
 
 pub mod check;
 pub mod count;
+mod ending;
+pub mod law;
+pub mod run;
 
 use crate::input::write_all;
 use crate::sink::Sink;
@@ -37,6 +40,17 @@ impl Answer {
     {
         Answer {
             status: Status::Legal,
+            text,
+        }
+    }
+
+    // The line of a run that needs more steps than it may take.
+    fn out_of_budget(text: Vec<u8>) -> Answer
+        ensures status { result.status ≡ Status.Budget }
+        ensures text { result.text ≡ text }
+    {
+        Answer {
+            status: Status::Budget,
             text,
         }
     }

@@ -3,11 +3,11 @@
 ghost use Rattle.std.specs.Prelude.{◌≡◌};
 ghost use Rattle.sl_desk.specs.Laws.{OneBookVerdict, OneReturnsVerdict, HasOneOutput, HasOneCheck};
 
-use crate::limits::{MAX_BOOK_BYTES, MAX_RETURNS_BYTES};
+use crate::limits::{MAX_BOOK_BYTES, MAX_CODE_BYTES, MAX_RETURNS_BYTES};
 
-/// A book may have 65,536 bytes, and returns 4,194,304.
+/// A book may have 65,536 bytes, a code file and returns 4,194,304 each.
 pub fn limits()
-    ensures { (MAX_BOOK_BYTES ≡ 65536) × (MAX_RETURNS_BYTES ≡ 4194304) }
+    ensures { (MAX_BOOK_BYTES ≡ 65536) × (MAX_CODE_BYTES ≡ 4194304) × (MAX_RETURNS_BYTES ≡ 4194304) }
 {}
 
 /// Each text of a book comes to exactly one verdict: a good book, or one refusal.

@@ -3,10 +3,12 @@
 
 mod book;
 mod calls;
+mod code;
 mod input;
 pub mod laws;
 mod limits;
 mod refusal;
+mod report;
 mod returns;
 mod sink;
 mod source;
@@ -14,8 +16,10 @@ mod status;
 mod verdict;
 
 pub use calls::check::check_book;
-pub use calls::count::count;
-pub use limits::{MAX_BOOK_BYTES, MAX_RETURNS_BYTES};
+pub use calls::count::{count, steps};
+pub use calls::law::law_text;
+pub use calls::run::run_code;
+pub use limits::{MAX_BOOK_BYTES, MAX_CODE_BYTES, MAX_RETURNS_BYTES};
 pub use sink::{Sink, ToWrite};
 pub use source::{BookSource, Failed, FromRead, Source};
 pub use status::{DeskError, Input, Status};

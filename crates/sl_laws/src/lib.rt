@@ -1,7 +1,7 @@
 //! The library: rulebooks by their names.
 #![tactic(auto)]
 
-ghost use Rattle.std.specs.Prelude.{◌≡◌, option_map};
+ghost use Rattle.std.specs.Prelude.{◌≡◌, ◌≤◌, IfSome, length, option_map};
 ghost use Rattle.sl_laws.specs.Books.{law_text};
 
 mod books;
@@ -10,7 +10,8 @@ use books::{LAW_1956, LAW_1985, LAW_2008, LAW_2013, LAW_2023, LAW_2023_ORDER};
 
 /// The text of the library's rulebook of that name, if there is one (docs/laws.md).
 pub fn law(name: &str) -> Option<&'static str>
-    ensures { option_map (λ text. text.now) result ≡ law_text name.now }
+    ensures text { option_map (λ text. text.now) result ≡ law_text name.now }
+    ensures short { IfSome result (λ text. length text.now ≤ 1000) }
 {
     if name == "1956" {
         Some(LAW_1956)

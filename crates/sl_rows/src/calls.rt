@@ -1,11 +1,11 @@
 //! The calls of the desk over memory.
 
 use crate::memory::{Ending, Narrow, Slow};
-use sl_desk::{BookSource, check_book, count};
+use sl_desk::{BookSource, check_book, count, law_text, run_code, steps};
 use std::alloc::Global;
 
 /// How a call over memory goes: the bytes that a source gives or a sink takes at once, and the call of each that fails, from 1, or 0 for
-/// none.
+/// none. A code file is read as a book is.
 #[derive(Clone, Copy)]
 pub struct Pace {
     pub step: usize,
@@ -38,9 +38,66 @@ pub fn counted(alloc: Global, book: &[u8], returns: &[u8], pace: Pace) -> Ending
     }
 }
 
+/// How a count by a book of the library ends, which is named and not read.
+pub fn counted_by(alloc: Global, law: &str, returns: &[u8], pace: Pace) -> Ending {
+    let mut book: BookSource<'_, Slow<'_>> = BookSource::Library(law);
+    let mut returns = Slow::new(returns, pace.step, pace.returns_fail);
+    let mut out = Narrow::new(alloc, pace.step, pace.out_fails);
+    let result = count(alloc, &mut book, &mut returns, &mut out);
+    Ending {
+        result,
+        written: out.taken,
+    }
+}
+
+/// How a count with its steps ends.
+pub fn stepped(alloc: Global, book: &[u8], returns: &[u8], pace: Pace) -> Ending {
+    let mut book = BookSource::Reader(Slow::new(book, pace.step, pace.book_fails));
+    let mut returns = Slow::new(returns, pace.step, pace.returns_fail);
+    let mut out = Narrow::new(alloc, pace.step, pace.out_fails);
+    let result = steps(alloc, &mut book, &mut returns, &mut out);
+    Ending {
+        result,
+        written: out.taken,
+    }
+}
+
+/// How a run of a code file ends.
+pub fn ran(alloc: Global, code: &[u8], returns: &[u8], pace: Pace) -> Ending {
+    let mut code = Slow::new(code, pace.step, pace.book_fails);
+    let mut returns = Slow::new(returns, pace.step, pace.returns_fail);
+    let mut out = Narrow::new(alloc, pace.step, pace.out_fails);
+    let result = run_code(alloc, &mut code, &mut returns, &mut out);
+    Ending {
+        result,
+        written: out.taken,
+    }
+}
+
+/// How writing a book of the library ends.
+pub fn told(alloc: Global, law: &str, pace: Pace) -> Ending {
+    let mut out = Narrow::new(alloc, pace.step, pace.out_fails);
+    let result = law_text(law, &mut out);
+    Ending {
+        result,
+        written: out.taken,
+    }
+}
+
 /// How a check ends.
 pub fn checked(alloc: Global, book: &[u8], pace: Pace) -> Ending {
     let mut book = BookSource::Reader(Slow::new(book, pace.step, pace.book_fails));
+    let mut out = Narrow::new(alloc, pace.step, pace.out_fails);
+    let result = check_book(alloc, &mut book, &mut out);
+    Ending {
+        result,
+        written: out.taken,
+    }
+}
+
+/// How a check of a book of the library ends.
+pub fn checked_by(alloc: Global, law: &str, pace: Pace) -> Ending {
+    let mut book: BookSource<'_, Slow<'_>> = BookSource::Library(law);
     let mut out = Narrow::new(alloc, pace.step, pace.out_fails);
     let result = check_book(alloc, &mut book, &mut out);
     Ending {

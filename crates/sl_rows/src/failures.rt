@@ -169,7 +169,7 @@ fn of_library(alloc: Global, name: &str) -> (Ending, Ending) {
 
 // The second call shows that the first leaves the name as it was.
 #[test]
-fn library_books_are_refused(rt: HostRuntime) {
+fn unknown_names_are_refused(rt: HostRuntime) {
     for (name, line) in [("1999", "refused law 1999\n"), ("", "refused law \n")] {
         let (counted, checked) = of_library(rt.alloc(), name);
         assert_ending(&rt, &counted, Ok(Status::Refused), line.as_bytes(), 0);

@@ -1,12 +1,11 @@
 //! Counts that end with a legal fault: at which stage, in which scope, and what is wrong there.
 
 use crate::inputs::Text;
-use crate::library::BOOK_2013;
 use crate::rows::{CountRow, assert_counts};
 use sl_desk::Status;
 use std::test::Fail;
 
-const FAULTS: [CountRow; 11] = [
+const FAULTS: [CountRow; 10] = [
     (
         "tie-and-lot: no lot",
         Text::Of(
@@ -111,15 +110,6 @@ const FAULTS: [CountRow; 11] = [
             "kind,land,party,a,b,c\nland,X,,1000,,\nland,Y,,0,,\nparty,,A,0,,\nlist,X,A,0,0,\nlist,Y,A,10,10,\n",
         ),
         Text::Of("fault c all limit\n"),
-        Status::Legal,
-    ),
-    (
-        "2013, a Land without a list",
-        Text::Of(BOOK_2013),
-        Text::Of(
-            "kind,land,party,a,b,c\nland,X,,1000,,\nparty,,A,0,,\nlist,X,A,10,10,\nland,Y,,1000,,\n",
-        ),
-        Text::Of("fault first land Y nolist\n"),
         Status::Legal,
     ),
 ];

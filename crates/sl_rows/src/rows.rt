@@ -1,6 +1,6 @@
 //! What a row asks of a call of the desk, and how it is tested.
 
-use crate::calls::{Pace, checked, counted};
+use crate::calls::{Pace, checked, counted, counted_by, ran, stepped};
 use crate::inputs::Text;
 use sl_desk::Status;
 use std::alloc::{AllocError, Global};
@@ -23,6 +23,33 @@ const STEP: usize = 4096;
 /// A row: its name, the book, the returns, what `count` writes, and its status.
 pub type CountRow = (&'static str, Text, Text, Text, Status);
 
+/// A row: its name, the name of a book of the library, the returns, what `count` writes, and its status.
+pub type LawRow = (
+    &'static str,
+    &'static str,
+    &'static str,
+    &'static str,
+    Status,
+);
+
+/// A row: its name, the book, the returns, what `steps` writes, and its status.
+pub type StepsRow = (
+    &'static str,
+    &'static str,
+    &'static str,
+    &'static str,
+    Status,
+);
+
+/// A row: its name, the bytes of the code file, the returns, what `run` writes, and its status.
+pub type RunRow = (
+    &'static str,
+    &'static [u8],
+    &'static str,
+    &'static str,
+    Status,
+);
+
 /// A row: its name, the book, what `check` writes, and its status.
 pub type CheckRow = (&'static str, Text, &'static str, Status);
 
@@ -39,6 +66,33 @@ pub fn assert_counts(rt: &impl Abort, alloc: Global, rows: &[CountRow]) -> Resul
         assert_eq!(rt; ending.written, text.bytes(alloc)?, "{name}");
     }
     Ok(())
+}
+
+/// Asserts that `count` by a book of the library writes and ends as each of these rows says.
+pub fn assert_counts_by(rt: &impl Abort, alloc: Global, rows: &[LawRow]) {
+    for (name, law, returns, text, status) in rows {
+        let ending = counted_by(alloc, law, returns.as_bytes(), Pace::of(STEP));
+        assert_eq!(rt; ending.result, Ok(*status), "{name}");
+        assert_eq!(rt; ending.written.as_slice(), text.as_bytes(), "{name}");
+    }
+}
+
+/// Asserts that `steps` writes and ends as each of these rows says.
+pub fn assert_steps(rt: &impl Abort, alloc: Global, rows: &[StepsRow]) {
+    for (name, book, returns, text, status) in rows {
+        let ending = stepped(alloc, book.as_bytes(), returns.as_bytes(), Pace::of(STEP));
+        assert_eq!(rt; ending.result, Ok(*status), "{name}");
+        assert_eq!(rt; ending.written.as_slice(), text.as_bytes(), "{name}");
+    }
+}
+
+/// Asserts that `run` writes and ends as each of these rows says.
+pub fn assert_runs(rt: &impl Abort, alloc: Global, rows: &[RunRow]) {
+    for (name, code, returns, text, status) in rows {
+        let ending = ran(alloc, code, returns.as_bytes(), Pace::of(STEP));
+        assert_eq!(rt; ending.result, Ok(*status), "{name}");
+        assert_eq!(rt; ending.written.as_slice(), text.as_bytes(), "{name}");
+    }
 }
 
 /// Asserts that `check` writes and ends as each of these rows says.

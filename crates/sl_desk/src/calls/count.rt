@@ -1,12 +1,9 @@
 //! Counting an election: from a rulebook and returns to the text of a table.
 
-ghost use Rattle.std.specs.Prelude.{◌≡◌, ◌+◌, Some, IfOk, IfErr, IfSome, length};
+ghost use Rattle.std.specs.Prelude.{◌≡◌, ◌+◌, IfOk, IfErr, IfSome, length};
 ghost use Rattle.sl_stages.specs.book.Books.{book_of};
 ghost use Rattle.sl_stages.specs.returns.Election.{IsElection};
-ghost use Rattle.sl_machine.specs.Answers.{answer_of};
-ghost use Rattle.sl_machine.specs.Fits.{Fits};
 ghost use Rattle.sl_machine.specs.Runs.{budget_of};
-ghost use Rattle.sl_books.specs.Compiled.{IsCompiled, ending_by};
 ghost use Rattle.sl_desk.specs.declared.verdict.Verdict.TheVariants as verdict;
 ghost use Rattle.sl_desk.specs.Failures.{counts, counts_after};
 ghost use Rattle.sl_desk.specs.Output.{IsOutput, IsCount, IsTreeOutput};
@@ -15,7 +12,9 @@ ghost use Rattle.sl_desk.specs.Writing.{Delivers};
 
 use crate::book::read_book;
 use crate::calls::Answer;
+use crate::calls::ending::ended;
 use crate::limits::MAX_RETURNS_BYTES;
+use crate::report::Report;
 use crate::returns::read_election;
 use crate::sink::Sink;
 use crate::source::{BookSource, Source};
@@ -23,36 +22,9 @@ use crate::status::{DeskError, Status};
 use crate::verdict::Verdict;
 use sl_check::CheckedBook;
 use sl_compile::compile;
-use sl_machine::{Ending, budget, run};
-use sl_ratio::NoMemory;
+use sl_machine::budget;
 use sl_stages::{Book, Returns};
-use sl_table::{fault_text, short_text, table_of};
-use sl_verify::Verified;
 use std::alloc::Global;
-
-// What the end of a run of a book's code on returns writes.
-fn ended(
-    alloc: Global,
-    book: &CheckedBook,
-    returns: &Returns,
-    code: &Verified,
-    ending: &Ending,
-) -> Result<Answer, NoMemory>
-    requires election { IsElection returns.now }
-    requires compiled { IsCompiled (book_of book.now.book) code.now }
-    requires ending { answer_of code.now returns.now (ending_by (book_of book.now.book) code.now returns.now) ≡ Some ending.now }
-    requires fits { Fits code.now returns.now ending.now }
-    ensures { IfOk result (λ a. IsTreeOutput (book_of book.now.book) (verdict.Good returns.now) a.status a.text.items) }
-{
-    match ending {
-        Ending::Done(memory) => {
-            let table = table_of(alloc, memory, returns)?;
-            Ok(Answer::done(short_text(alloc, &table, returns)?))
-        }
-        Ending::Fault(fault) => Ok(Answer::legal(fault_text(alloc, fault, returns, code.code())?)),
-        Ending::OutOfBudget => unreachable!(),
-    }
-}
 
 // The steps that the run of a book's code may take on returns.
 fn steps_of(book: &Book, returns: &Returns) -> u64
@@ -64,47 +36,54 @@ fn steps_of(book: &Book, returns: &Returns) -> u64
 }
 
 // What a good book comes to on good returns: its code is run with its budget.
-fn outcome(alloc: Global, book: &CheckedBook, returns: &Returns) -> Result<Answer, DeskError>
+fn outcome(
+    report: Report,
+    alloc: Global,
+    book: &CheckedBook,
+    returns: &Returns,
+) -> Result<Answer, DeskError>
     ensures memory { IfErr result (λ e. e ≡ DeskError.NoMemory) }
-    ensures output { IfOk result (λ a. IsTreeOutput (book_of book.now.book) (verdict.Good returns.now) a.status a.text.items) }
+    ensures output { IfOk result (λ a. IsTreeOutput report (book_of book.now.book) (verdict.Good returns.now) a.status a.text.items) }
 {
     let code = compile(alloc, book)?;
     let steps = steps_of(&book.book, returns);
-    let ending = run(alloc, &code, returns, steps)?;
-    Ok(ended(alloc, book, returns, &code, &ending)?)
+    let ending = report.run(alloc, &code, returns, steps)?;
+    Ok(ended(report, alloc, code.code(), returns, &ending)?)
 }
 
 // What a good book comes to on the returns of a source.
 fn counted<S: Source>(
+    report: Report,
     alloc: Global,
     book: &CheckedBook,
     returns: &mut S,
 ) -> Result<Answer, DeskError>
-    ensures answer { IfOk result (λ a. IfSome (S.remaining returns.old) (λ bytes. IsCount (verdict.Good (book_of book.now.book)) bytes a.status a.text.items)) }
+    ensures answer { IfOk result (λ a. IfSome (S.remaining returns.old) (λ bytes. IsCount report (verdict.Good (book_of book.now.book)) bytes a.status a.text.items)) }
     ensures failures { counts 0 (S.failed returns.new) 0 0 ≡ counts_after (counts 0 (S.failed returns.old) 0 0) result }
     ensures limited { TakesAtMost (MAX_RETURNS_BYTES + 1) (S.remaining returns.old) (S.remaining returns.new) }
 {
     match read_election(alloc, returns)? {
-        Verdict::Good(returns) => outcome(alloc, book, &returns),
+        Verdict::Good(returns) => outcome(report, alloc, book, &returns),
         Verdict::Refused(why) => Ok(Answer::refused(why.line(alloc)?)),
     }
 }
 
 // What counting a book on returns writes.
 fn answer_to<B: Source, R: Source>(
+    report: Report,
     alloc: Global,
     book: &mut BookSource<'_, B>,
     returns: &mut R,
 ) -> Result<Answer, DeskError>
     ensures answer { IfOk result (λ a. ForKnown (book_input B.remaining book.old) (R.remaining returns.old) (λ input bytes.
-        IsOutput input bytes a.status a.text.items)) }
+        IsOutput report input bytes a.status a.text.items)) }
     ensures failures { counts (book_failures B.failed book.new) (R.failed returns.new) 0 0
         ≡ counts_after (counts (book_failures B.failed book.old) (R.failed returns.old) 0 0) result }
     ensures book { ReadsBook B.remaining book.old book.new }
     ensures returns { ReadsReturns R.remaining (book_input B.remaining book.old) returns.old returns.new result }
 {
     match read_book(alloc, book)? {
-        Verdict::Good(book) => counted(alloc, &book, returns),
+        Verdict::Good(book) => counted(report, alloc, &book, returns),
         Verdict::Refused(why) => Ok(Answer::refused(why.line(alloc)?)),
     }
 }
@@ -123,7 +102,7 @@ pub fn count<B: Source, R: Source, W: Sink>(
 ) -> Result<Status, DeskError>
     // The text that is delivered is the output of the two inputs, where their bytes are known.
     ensures delivers { Delivers (λ status text. ForKnown (book_input B.remaining book.old) (R.remaining returns.old) (λ input bytes.
-        IsOutput input bytes status text)) (W.contents out.old) (W.contents out.new) result }
+        IsOutput Report.Seats input bytes status text)) (W.contents out.old) (W.contents out.new) result }
 
     // No call of a source or of the sink failed, or that one of which the error speaks.
     ensures failures { counts (book_failures B.failed book.new) (R.failed returns.new) 0 (W.failed out.new)
@@ -133,6 +112,33 @@ pub fn count<B: Source, R: Source, W: Sink>(
     ensures book { ReadsBook B.remaining book.old book.new }
     ensures returns { ReadsReturns R.remaining (book_input B.remaining book.old) returns.old returns.new result }
 {
-    let answer = answer_to(alloc, book, returns)?;
+    let answer = answer_to(Report::Seats, alloc, book, returns)?;
+    answer.deliver(out)
+}
+
+/// Counts an election as `count` does, and writes each seat with the step that won it before the table.
+///
+/// # Errors
+///
+/// `Read` where a source failed, `Write` where the sink did, and `NoMemory`.
+pub fn steps<B: Source, R: Source, W: Sink>(
+    alloc: Global,
+    book: &mut BookSource<'_, B>,
+    returns: &mut R,
+    out: &mut W,
+) -> Result<Status, DeskError>
+    // The text that is delivered is the output of the two inputs, where their bytes are known.
+    ensures delivers { Delivers (λ status text. ForKnown (book_input B.remaining book.old) (R.remaining returns.old) (λ input bytes.
+        IsOutput Report.Steps input bytes status text)) (W.contents out.old) (W.contents out.new) result }
+
+    // No call of a source or of the sink failed, or that one of which the error speaks.
+    ensures failures { counts (book_failures B.failed book.new) (R.failed returns.new) 0 (W.failed out.new)
+        ≡ counts_after (counts (book_failures B.failed book.old) (R.failed returns.old) 0 (W.failed out.old)) result }
+
+    // What is taken of the inputs, the returns only after a good book.
+    ensures book { ReadsBook B.remaining book.old book.new }
+    ensures returns { ReadsReturns R.remaining (book_input B.remaining book.old) returns.old returns.new result }
+{
+    let answer = answer_to(Report::Steps, alloc, book, returns)?;
     answer.deliver(out)
 }

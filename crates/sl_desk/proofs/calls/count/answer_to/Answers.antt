@@ -12,5 +12,5 @@ returns-in-Good-clause-returns g c =
 
 pub returns-in_ok-line-in-Refused-clause-answer : goal.returns-in_ok-line-in-Refused-clause-answer
 returns-in_ok-line-in-Refused-clause-answer g c =
-    refusal_counts (book_input g.B.Source.remaining c.args.book.now) (g.R.Source.remaining c.args.returns.now) c.in-Refused.why c.refused.result.status c.refused.result.text.items
+    refusal_counts c.args.report (book_input g.B.Source.remaining c.args.book.now) (g.R.Source.remaining c.args.returns.now) c.in-Refused.why c.refused.result.status c.refused.result.text.items
     (rw c.in-Refused.is at c.in_ok-book.ensures.verdict) c.refused.ensures.status (ap (λ v. v.items) c.refused.ensures.text ∙ c.in_ok-line-in-Refused.ensures)

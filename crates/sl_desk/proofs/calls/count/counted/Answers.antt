@@ -5,7 +5,7 @@ use Rattle.sl_desk.proofs.calls.count.counted.Goals as goal
 
 pub returns-in-Good-clause-answer : goal.returns-in-Good-clause-answer
 returns-in-Good-clause-answer g c =
-    tree_counts (g.S.Source.remaining c.args.returns.now) (book_of c.args.book.now.book) c.in-Good.returns c.outcome.result
+    tree_counts c.args.report (g.S.Source.remaining c.args.returns.now) (book_of c.args.book.now.book) c.in-Good.returns c.outcome.result
     (rw c.in-Good.is at c.in_ok-returns.ensures.verdict) c.outcome.ensures.output
 
 pub returns-in-Good-clause-failures : goal.returns-in-Good-clause-failures

@@ -1,0 +1,48 @@
+//! Judging a code file.
+
+ghost use Rattle.std.specs.Prelude.{◌≡◌, ◌≤◌, ◌+◌, length, IfOk, IfSome};
+ghost use Rattle.sl_desk.specs.Failures.{counts, counts_after};
+ghost use Rattle.sl_desk.specs.Reading.{TakesAtMost};
+ghost use Rattle.sl_desk.specs.Verdicts.{IsCodeVerdict};
+
+use crate::input::{Bytes, read_all};
+use crate::limits::MAX_CODE_BYTES;
+use crate::refusal::CodeRefusal;
+use crate::source::Source;
+use crate::status::{DeskError, Input};
+use crate::verdict::Verdict;
+use sl_code::{CodeFault, from_bytes};
+use sl_ratio::NoMemory;
+use sl_verify::{Verified, verify};
+use std::alloc::Global;
+
+// What bytes come to as a code file: the code that they spell, and the tests of the verifier.
+fn judge_file(alloc: Global, bytes: &[u8]) -> Result<Verdict<Verified, CodeRefusal>, NoMemory>
+    requires { length bytes.now ≤ MAX_CODE_BYTES }
+    ensures { IfOk result (IsCodeVerdict bytes.now) }
+{
+    let code = match from_bytes(alloc, bytes) {
+        Ok(code) => code,
+        Err(CodeFault::NoMemory) => return Err(NoMemory),
+        Err(fault) => return Ok(Verdict::Refused(CodeRefusal::File(fault))),
+    };
+    match verify(code) {
+        Ok(code) => Ok(Verdict::Good(code)),
+        Err((_, fault)) => Ok(Verdict::Refused(CodeRefusal::Kinds(fault))),
+    }
+}
+
+/// Reads a code file and judges it.
+pub(crate) fn read_code<S: Source>(
+    alloc: Global,
+    source: &mut S,
+) -> Result<Verdict<Verified, CodeRefusal>, DeskError>
+    ensures verdict { IfOk result (λ v. IfSome (S.remaining source.old) (λ bytes. IsCodeVerdict bytes v)) }
+    ensures failures { counts 0 0 (S.failed source.new) 0 ≡ counts_after (counts 0 0 (S.failed source.old) 0) result }
+    ensures limited { TakesAtMost (MAX_CODE_BYTES + 1) (S.remaining source.old) (S.remaining source.new) }
+{
+    match read_all(alloc, source, Input::Code, MAX_CODE_BYTES)? {
+        Bytes::Whole(bytes) => Ok(judge_file(alloc, bytes.as_slice())?),
+        Bytes::TooLong => Ok(Verdict::Refused(CodeRefusal::TooLong)),
+    }
+}
