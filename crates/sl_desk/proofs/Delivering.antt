@@ -1,9 +1,11 @@
--- A text that is delivered.
-use Rattle.std.proofs.Common.{◌≡◌, Result, Ok, Err, Option, List, ℕ, sym, subst}
+-- A text that is delivered, and two texts that are.
+use Rattle.std.proofs.Common.{◌≡◌, Result, Ok, Err, Option, List, ℕ, IfErr, refl, sym, ap, subst, ◌∙◌, inl, inr}
+use Rattle.std.specs.Io.KnownBytes.{Appends, Keeps}
 use Rattle.sl_desk.specs.declared.status.Status.{Status}
 use Rattle.sl_desk.specs.declared.status.DeskError.{DeskError}
 use Rattle.sl_desk.specs.declared.status.DeskError.TheVariants.{Read, Write, NoMemory}
-use Rattle.sl_desk.specs.Writing.{Delivers}
+use Rattle.sl_desk.specs.Failures.{Counts, counts, counts_after, one_more, FailsInOne}
+use Rattle.sl_desk.specs.Writing.{AppendsPrefix, Delivers, DeliversBoth}
 
 -- where the one text that was to be written is of the relation
 pub delivers_text : (IsText : Status → List ℕ → Type 0) (s : Status) (t : List ℕ) (old new : Option (List ℕ)) (r : Result Status DeskError)
@@ -14,3 +16,45 @@ delivers_text IsText s t old new (Err Write) h d =
     (d.0, d.1, subst (λ (x : Status). IsText x d.1) (sym d.2.0) (subst (λ (x : List ℕ). IsText s x) (sym d.2.1) h), d.3)
 delivers_text IsText s t old new (Err (Read input)) h d = d
 delivers_text IsText s t old new (Err NoMemory) h d = d
+
+-- ---- two texts
+
+-- these texts, with that status
+abbrev pub Are : Status → List ℕ → List ℕ → Status → List ℕ → List ℕ → Type 0
+Are s a b status x y = (status ≡ s) × (x ≡ a) × (y ≡ b)
+
+-- the first was written whole, and the second was delivered
+pub delivers_second : (s : Status) (a b : List ℕ) (first first' second second' : Option (List ℕ)) (r : Result Status DeskError) → Appends first first' a
+    → Delivers (λ status text. (status ≡ s) × (text ≡ b)) second second' r → IfErr r (λ e. e ≡ Write) → DeliversBoth (Are s a b) first first' second second' r
+delivers_second s a b first first' second second' (Ok status) written d is = (a, d.0, (d.1.0, refl, d.1.1), written, d.2)
+delivers_second s a b first first' second second' (Err Write) written d is = (d.0, a, d.1, (d.2.0, refl, d.2.1), inr (written, d.3))
+delivers_second s a b first first' second second' (Err (Read input)) written d is = absurd cc
+delivers_second s a b first first' second second' (Err NoMemory) written d is = absurd cc
+
+-- where the two texts that were to be written are of the relation
+pub delivers_texts : (AreTexts : Status → List ℕ → List ℕ → Type 0) (s : Status) (a b : List ℕ) (first first' second second' : Option (List ℕ)) (r : Result Status DeskError)
+    → AreTexts s a b → DeliversBoth (Are s a b) first first' second second' r → DeliversBoth AreTexts first first' second second' r
+delivers_texts AreTexts s a b first first' second second' (Ok status) h d = (d.0, d.1, are status d.0 d.1 h d.2, d.3, d.4)
+  where
+    are : (status : Status) (x y : List ℕ) → AreTexts s a b → Are s a b status x y → AreTexts status x y
+    are status x y h same = rw (same.0, same.1, same.2) h
+delivers_texts AreTexts s a b first first' second second' (Err Write) h d = (d.0, d.1, d.2, rw (d.3.0, d.3.1, d.3.2) h, d.4)
+delivers_texts AreTexts s a b first first' second second' (Err (Read input)) h d = d
+delivers_texts AreTexts s a b first first' second second' (Err NoMemory) h d = d
+
+-- ---- failures of one of two writers
+
+with_book : (book book' out out' : ℕ) (r : Result Status DeskError) → counts book' 0 0 0 ≡ counts book 0 0 0 → IfErr r (λ e. e ≡ Write)
+    → counts 0 0 0 out' ≡ counts_after (counts 0 0 0 out) r → counts book' 0 0 out' ≡ counts_after (counts book 0 0 out) r
+with_book book book' out out' (Ok status) same is h =
+    ap (λ (c : Counts). counts c.book 0 0 out') same ∙ ap (λ (c : Counts). counts book 0 0 c.out) h
+with_book book book' out out' (Err Write) same is h =
+    ap (λ (c : Counts). counts c.book 0 0 out') same ∙ ap (λ (c : Counts). counts book 0 0 c.out) h
+with_book book book' out out' (Err (Read input)) same is h = absurd cc
+with_book book book' out out' (Err NoMemory) same is h = absurd cc
+
+-- a book without a failure was read before
+pub fails_behind : (book book' first first' second second' : ℕ) (r : Result Status DeskError) → counts book' 0 0 0 ≡ counts book 0 0 0 → IfErr r (λ e. e ≡ Write)
+    → FailsInOne 0 0 first first' second second' r → FailsInOne book book' first first' second second' r
+fails_behind book book' first first' second second' r same is (inl h) = inl (with_book book book' first first' r same is h.0, h.1)
+fails_behind book book' first first' second second' r same is (inr h) = inr (with_book book book' second second' r same is h.0, h.1)

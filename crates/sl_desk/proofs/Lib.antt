@@ -3,6 +3,10 @@ pub mod BookFacts
 pub mod Order
 pub mod Delivering
 pub mod OneMeaning
+pub mod StageColumns
 pub mod Outcomes
 pub mod OneOutput
 pub mod OneVerdict
+pub mod CodeFiles
+pub mod CodeLengths
+pub mod RunIsCount

@@ -1,24 +1,29 @@
 -- A well-formed book has at most one text on an election.
-use Rattle.std.proofs.Common.{◌≡◌, ℕ, true, List, sym, ap, ◌∙◌, inl, inr}
+use Rattle.std.proofs.Common.{◌≡◌, ℕ, true, List, Some, slice_get, sym, ap, ◌∙◌, inl, inr}
+use Rattle.std.proofs.lemmas.Option.{same_Some}
 use Rattle.sl_stages.specs.declared.table.Outcome.TheVariants as outcome
 use Rattle.sl_stages.specs.book.Trees.{BookTree}
-use Rattle.sl_stages.specs.book.Typing.{is_typed}
+use Rattle.sl_stages.specs.book.Typing.{Column, is_typed}
 use Rattle.sl_stages.specs.returns.Election.{Election, IsElection}
 use Rattle.sl_stages.specs.meaning.Tables.{SeatTable}
-use Rattle.sl_stages.specs.meaning.Means.{SameTable}
+use Rattle.sl_stages.specs.meaning.Columns.{NamedColumn}
+use Rattle.sl_stages.specs.meaning.Means.{Known, StagesResult, Through, nothing_known, StagesMean, SameTable}
 use Rattle.std.specs.List.{IsDistinct}
 use Rattle.sl_stages.specs.laws.MeaningLaws.{same_seat}
+use Rattle.sl_stages.proofs.meaning.ExactlyOne.{same_ones}
 use Rattle.sl_stages.proofs.meaning.MeaningProofs.{at_most_one_outcome}
+use Rattle.sl_stages.proofs.meaning.OneOutcome.{one_stages_result}
 use Rattle.sl_stages.proofs.meaning.RecordsOnce.{records_once}
 use Rattle.sl_table.proofs.AnyOrder.{same_text}
 use Rattle.sl_table.specs.Short.{short_text}
+use Rattle.sl_table.specs.Stages.{stage_text}
 use Rattle.sl_table.specs.Faults.{fault_text}
 use Rattle.sl_desk.specs.declared.report.Report.{Report}
-use Rattle.sl_desk.specs.declared.report.Report.TheVariants.{Seats, Steps}
+use Rattle.sl_desk.specs.declared.report.Report.TheVariants.{Seats, Steps, Stage}
 use Rattle.sl_desk.specs.declared.status.Status.{Status}
 use Rattle.sl_desk.specs.declared.verdict.Verdict.TheVariants.{Good}
-use Rattle.sl_desk.specs.Endings.{report_text}
-use Rattle.sl_desk.specs.Output.{names_of, IsTableText, IsFaultText, IsTreeOutput}
+use Rattle.sl_desk.specs.Stages.{names_of}
+use Rattle.sl_desk.specs.Output.{IsColumnText, IsReported, IsTableText, IsFaultText, IsTreeOutput}
 
 -- the short text shows neither steps nor weights
 pub same_short : (t u : SeatTable) (e : Election) → t.lists ≡ u.lists → t.placed ≡ u.placed → short_text t e ≡ short_text u e
@@ -26,17 +31,30 @@ same_short t u e lists placed =
     ap (λ lists. short_text (record { lists = lists; placed = t.placed; steps = u.steps; weights = u.weights }) e) lists
     ∙ ap (λ placed. short_text (record { lists = u.lists; placed = placed; steps = u.steps; weights = u.weights }) e) placed
 
--- the text of a table does not show in which order its steps and weights stand
-same_report : (report : Report) (names : List (List ℕ)) (e : Election) (t u : SeatTable) → SameTable t u → IsDistinct same_seat t.steps →
-    report_text report names t e ≡ report_text report names u e
-same_report Seats names e t u same once = same_short t u e same.lists same.placed
-same_report Steps names e t u same once = same_text names e t u same once
+known_same : (h k : Known) → Through h ≡ Through k → h ≡ k
+known_same h k e = cc
+
+-- the column of a stage has one text
+one_column_text : (tree : BookTree) (e : Election) (n : ℕ) (s t : List ℕ) → is_typed tree ≡ true → IsColumnText tree e n s → IsColumnText tree e n t → s ≡ t
+one_column_text tree e n s t typed h k =
+    let same : h.known ≡ k.known = known_same h.known k.known
+        (same_ones (StagesMean tree e nothing_known tree.stages) (one_stages_result tree e typed) (Through h.known) (Through k.known) h.means k.means) in
+    let type : h.type ≡ k.type = same_Some h.type k.type (sym h.typed ∙ ap (λ (x : Known). slice_get x.types n) same ∙ k.typed) in
+    let column : h.column ≡ k.column = same_Some h.column k.column (sym h.there ∙ ap (λ (x : Known). slice_get x.columns n) same ∙ k.there) in
+    h.text ∙ ap (λ (x : Column). stage_text e x.type.shape h.column.values) type ∙ ap (λ (x : NamedColumn). stage_text e k.type.type.shape x.values) column ∙ sym k.text
+
+-- what is reported of a table does not show in which order its steps and weights stand
+same_report : (report : Report) (tree : BookTree) (e : Election) (t u : SeatTable) (x y : List ℕ) → is_typed tree ≡ true → SameTable t u → IsDistinct same_seat t.steps →
+    IsReported report tree e t x → IsReported report tree e u y → x ≡ y
+same_report Seats tree e t u x y typed same once h k = h ∙ same_short t u e same.lists same.placed ∙ sym k
+same_report Steps tree e t u x y typed same once h k = h ∙ same_text (names_of tree) e t u same once ∙ sym k
+same_report (Stage n) tree e t u x y typed same once h k = one_column_text tree e n x y typed h k
 
 module _ (report : Report) (tree : BookTree) (e : Election) (typed : is_typed tree ≡ true) (is : IsElection e) where
   one_table_text : (s t : List ℕ) → IsTableText report tree e s → IsTableText report tree e t → s ≡ t
   one_table_text s t h k =
       let same : SameTable h.0 k.0 = at_most_one_outcome tree e typed is (outcome.Table h.0) (outcome.Table k.0) h.1 k.1 in
-      h.2 ∙ same_report report (names_of tree) e h.0 k.0 same (records_once tree e h.0 typed h.1).steps ∙ sym k.2
+      same_report report tree e h.0 k.0 s t typed same (records_once tree e h.0 typed h.1).steps h.2 k.2
 
   one_fault_text : (s t : List ℕ) → IsFaultText tree e s → IsFaultText tree e t → s ≡ t
   one_fault_text s t h k =

@@ -23,12 +23,14 @@ use Rattle.sl_desk.specs.declared.refusal.BookRefusal.TheVariants.{UnknownLaw, T
 use Rattle.sl_desk.specs.declared.refusal.ReturnsRefusal.{ReturnsRefusal}
 use Rattle.sl_desk.specs.declared.refusal.ReturnsRefusal.TheVariants as returns
 use Rattle.sl_desk.specs.declared.report.Report.{Report}
+use Rattle.sl_desk.specs.declared.report.Report.TheVariants.{Stage}
 use Rattle.sl_desk.specs.declared.status.Status.{Status}
 use Rattle.sl_desk.specs.declared.verdict.Verdict.{Verdict}
 use Rattle.sl_desk.specs.declared.verdict.Verdict.TheVariants.{Good, Refused}
 use Rattle.sl_desk.specs.Verdicts.{BookInput, HasTokens, HasTree, library, text, IsTextVerdict, IsLawVerdict, IsBookVerdict, unknown_law, book_line, IsReturnsVerdict}
-use Rattle.sl_desk.specs.Output.{IsTreeOutput, IsCount, IsCheck}
-use Rattle.sl_desk.specs.Laws.{HasOneOutput, HasOneCheck}
+use Rattle.sl_desk.specs.Output.{IsTreeOutput, IsCount, IsNumbered, IsStage, IsCheck}
+use Rattle.sl_desk.specs.Stages.{stage_number}
+use Rattle.sl_desk.specs.Laws.{HasOneOutput, HasOneStage, HasOneCheck}
 use Rattle.sl_returns.proofs.ReadElections.{read_is}
 use Rattle.sl_desk.proofs.OneMeaning.{one_good_output}
 
@@ -127,6 +129,15 @@ one_count report (Good tree) bytes a b s t typed h k =
     let same = one_returns_verdict bytes h.0 k.0 h.1 k.1 in
     one_tree_output report tree bytes h.0 a b s t typed h.1 h.2 (subst (λ (v : Verdict Election ReturnsRefusal). IsTreeOutput report tree v b t) (sym same) k.2)
 
+one_numbered : (name : List ℕ) (tree : BookTree) (o : Option ℕ) (bytes : List ℕ) (a b : Status) (s t : List ℕ) → is_typed tree ≡ true
+    → IsNumbered name tree o bytes a s → IsNumbered name tree o bytes b t → (a ≡ b) × (s ≡ t)
+one_numbered name tree None bytes a b s t typed h k = (h.0 ∙ sym k.0, h.1 ∙ sym k.1)
+one_numbered name tree (Some n) bytes a b s t typed h k = one_count (Stage n) (Good tree) bytes a b s t typed h k
+
+one_shown : (name : List ℕ) (v : Verdict BookTree BookRefusal) (bytes : List ℕ) (a b : Status) (s t : List ℕ) → IsTypedVerdict v → IsStage name v bytes a s → IsStage name v bytes b t → (a ≡ b) × (s ≡ t)
+one_shown name (Refused why) bytes a b s t typed h k = (h.0 ∙ sym k.0, h.1 ∙ sym k.1)
+one_shown name (Good tree) bytes a b s t typed h k = one_numbered name tree (stage_number name tree) bytes a b s t typed h k
+
 one_checked : (v : Verdict BookTree BookRefusal) (a b : Status) (s t : List ℕ) → IsCheck v a s → IsCheck v b t → (a ≡ b) × (s ≡ t)
 one_checked (Refused why) a b s t h k = (h.0 ∙ sym k.0, h.1 ∙ sym k.1)
 one_checked (Good tree) a b s t h k = (h.0 ∙ sym k.0, h.1 ∙ sym k.1)
@@ -141,6 +152,16 @@ counts_alike report v w bytes a b s t typed (inl same) h k =
 counts_alike report v w bytes a b s t typed (inr (why, reason, first, second, line)) h k =
     let c : IsCount report (Refused why) bytes a s = subst (λ (x : Verdict BookTree BookRefusal). IsCount report x bytes a s) first h in
     let d : IsCount report (Refused reason) bytes b t = subst (λ (x : Verdict BookTree BookRefusal). IsCount report x bytes b t) second k in
+    (c.0 ∙ sym d.0, c.1 ∙ line ∙ sym d.1)
+
+shows_alike : (name : List ℕ) (v w : Verdict BookTree BookRefusal) (bytes : List ℕ) (a b : Status) (s t : List ℕ) → IsTypedVerdict v → AreAlike v w → IsStage name v bytes a s → IsStage name w bytes b t
+    → (a ≡ b) × (s ≡ t)
+unfolding AreAlike
+shows_alike name v w bytes a b s t typed (inl same) h k =
+    one_shown name v bytes a b s t typed h (subst (λ (x : Verdict BookTree BookRefusal). IsStage name x bytes b t) (sym same) k)
+shows_alike name v w bytes a b s t typed (inr (why, reason, first, second, line)) h k =
+    let c : IsStage name (Refused why) bytes a s = subst (λ (x : Verdict BookTree BookRefusal). IsStage name x bytes a s) first h in
+    let d : IsStage name (Refused reason) bytes b t = subst (λ (x : Verdict BookTree BookRefusal). IsStage name x bytes b t) second k in
     (c.0 ∙ sym d.0, c.1 ∙ line ∙ sym d.1)
 
 checks_alike : (v w : Verdict BookTree BookRefusal) (a b : Status) (s t : List ℕ) → AreAlike v w → IsCheck v a s → IsCheck w b t → (a ≡ b) × (s ≡ t)
@@ -224,6 +245,9 @@ module _ (laws : LowerLaws) where
 
   pub one_output : HasOneOutput
   one_output report input bytes a b s t h k = counts_alike report h.0 k.0 bytes a b s t (typed_book input h.0 h.1) (alike_books input h.0 k.0 h.1 k.1) h.2 k.2
+
+  pub one_stage : HasOneStage
+  one_stage name input bytes a b s t h k = shows_alike name h.0 k.0 bytes a b s t (typed_book input h.0 h.1) (alike_books input h.0 k.0 h.1 k.1) h.2 k.2
 
   pub one_check : HasOneCheck
   one_check input a b s t h k = checks_alike h.0 k.0 a b s t (alike_books input h.0 k.0 h.1 k.1) h.2 k.2

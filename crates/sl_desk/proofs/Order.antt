@@ -1,13 +1,20 @@
 -- The book, or the code file, is judged before the returns are read.
-use Rattle.std.proofs.Common.{◌≡◌, ◌≢◌, ℕ, ◌+◌, ◌-◌, ◌^◌, min, List, Option, Some, None, IfSome, IfOk, IfErr, Result, Ok, Err, refl, ap, arith}
+use Rattle.std.proofs.Common.{◌≡◌, ◌≢◌, ℕ, ◌+◌, ◌-◌, ◌^◌, min, List, [], map, Option, Some, None, IfSome, IfOk, IfErr, Result, Ok, Err, refl, sym, ap, subst, ◌∙◌, arith}
+use Rattle.std.proofs.lemmas.Simd.{map-map}
+use Rattle.std.specs.List.{position}
+use Rattle.std.specs.Result.{IsErrAnd}
+use Rattle.std.specs.Str.{bytes_eq}
+use Rattle.sl_ratio.proofs.NameLists.{position-map}
+use Rattle.sl_stages.specs.declared.book.Stage.{Stage as BookStage}
 use Rattle.sl_code.specs.Codes.{CountingCode}
-use Rattle.sl_stages.specs.book.Trees.{BookTree}
+use Rattle.sl_stages.specs.book.Trees.{StageTree, BookTree, stage_of}
 use Rattle.sl_stages.specs.returns.Election.{Election}
 use Rattle.sl_desk.specs.declared.limits.TheConstants.{MAX_RETURNS_BYTES}
 use Rattle.sl_desk.specs.declared.calls.Answer.{Answer}
 use Rattle.sl_desk.specs.declared.refusal.BookRefusal.{BookRefusal}
 use Rattle.sl_desk.specs.declared.refusal.CodeRefusal.{CodeRefusal}
 use Rattle.sl_desk.specs.declared.report.Report.{Report}
+use Rattle.sl_desk.specs.declared.report.Report.TheVariants.{Stage}
 use Rattle.sl_desk.specs.declared.status.Status.{Status}
 use Rattle.sl_desk.specs.declared.status.Status.TheVariants as status
 use Rattle.sl_desk.specs.declared.status.DeskError.{DeskError}
@@ -16,9 +23,10 @@ use Rattle.sl_desk.specs.declared.status.Input.{Input}
 use Rattle.sl_desk.specs.declared.status.Input.TheVariants.{Book, Returns, Code}
 use Rattle.sl_desk.specs.declared.verdict.Verdict.TheVariants.{Good, Refused}
 use Rattle.sl_desk.specs.Failures.{Counts, counts, counts_after}
-use Rattle.sl_desk.specs.Output.{IsTreeOutput, IsCount, IsOutput, IsCodeOutput, IsRun, IsRunCode}
-use Rattle.sl_desk.specs.Reading.{TakesAtMost, IsNoGoodBook, IsNoGoodCode, ReadsBehind, ReadsReturns, ReadsBehindCode, ForKnown}
-use Rattle.sl_desk.specs.Verdicts.{BookInput, IsBookVerdict, IsReturnsVerdict, IsCodeVerdict, book_line, code_line}
+use Rattle.sl_desk.specs.Output.{IsTreeOutput, IsCount, IsOutput, IsNumbered, IsStageOutput, IsCodeOutput, IsRun, IsRunCode}
+use Rattle.sl_desk.specs.Reading.{TakesAtMost, IsNoGoodBook, IsNoBookWith, IsNoGoodCode, ReadsBehind, ReadsReturns, ReadsBehindStage, ReadsBehindCode, ForKnown}
+use Rattle.sl_desk.specs.Stages.{stage_number}
+use Rattle.sl_desk.specs.Verdicts.{BookInput, IsBookVerdict, IsReturnsVerdict, IsCodeVerdict, unknown_stage, book_line, code_line}
 
 -- want of memory is no failure of a reader or a writer
 pub memory_counts : {X : Type 0} (before after : Counts) (r : Result X DeskError) → after ≡ before → IfErr r (λ e. e ≡ NoMemory) → after ≡ counts_after before r
@@ -70,6 +78,28 @@ module _ {R A X : Type 0} (remaining : R → Option (List ℕ)) (old new : R) (n
     second = λ e. absurd (not_first first n n' r other counted e);
   }
 
+-- returns that are not read, where something else goes wrong
+takes_none : (most : ℕ) (old : Option (List ℕ)) → TakesAtMost most old old
+takes_none most None = ([], omega arith, tt)
+takes_none most (Some bytes) = ([], omega arith, refl)
+
+for_any : {A : Type 0} (Z : A → Type 0) (known : Option A) → ((a : A) → Z a) → IfSome known Z
+for_any Z None h = tt
+for_any Z (Some a) h = h a
+
+not_returns : {X : Type 0} (r : Result X DeskError) → IsErrAnd r (λ e. e ≡ NoMemory) → r ≡ Err (Read Returns) → ⊥
+not_returns (Ok x) full same = absurd cc
+not_returns (Err e) full same = absurd cc
+
+pub reads_none : {R A X : Type 0} (remaining : R → Option (List ℕ)) (old : R) (first : Input) (known : Option A) (IsBad : A → Type 0) (r : Result X DeskError)
+    → IsErrAnd r (λ e. e ≡ NoMemory) → ReadsBehind remaining first known IsBad old old r
+reads_none remaining old first known IsBad r full = record {
+  limited = takes_none (MAX_RETURNS_BYTES + 1) (remaining old);
+  untouched = for_any _ known (λ a bad. refl);
+  unread = for_any _ known (λ a bad same. not_returns r full same);
+  second = λ e. refl;
+}
+
 good_book : (known : Option BookInput) (tree : BookTree) → IfSome known (λ i. IsBookVerdict i (Good tree)) → IfSome known (λ i. IsNoGoodBook i → ⊥)
 good_book None tree good = tt
 good_book (Some i) tree good = λ none. none tree good
@@ -89,6 +119,55 @@ pub reads_after_code : {R X : Type 0} (remaining : R → Option (List ℕ)) (kno
     → counts 0 n' 0 0 ≡ counts_after (counts 0 n 0 0) r → ReadsBehindCode remaining known old new r
 reads_after_code remaining known c old new n n' r good limited counted =
     reads_after remaining old new n n' r Code known IsNoGoodCode (λ e. cc) (good_code known c good) limited counted
+
+-- ---- a stage by its name
+
+-- among the names of a book's stages it has the number that it has among the stages
+pub number_among : (name : List ℕ) (stages : List BookStage) → position (λ s. bytes_eq name s.name) stages ≡ position (bytes_eq name) (map (λ s. s.name) (map stage_of stages))
+number_among name stages =
+    sym (position-map (λ (s : BookStage). s.name) (bytes_eq name) stages) ∙ ap (position (bytes_eq name)) (sym (map-map (λ (s : StageTree). s.name) stage_of stages))
+
+module _ (name : List ℕ) (tree : BookTree) where
+  -- the output of a good book that has the stage, or has not
+  stage_output : (book : Option BookInput) (returns : Option (List ℕ)) (number : Option ℕ) (ends : Status) (output : List ℕ)
+      → IfSome book (λ input. IsBookVerdict input (Good tree)) → number ≡ stage_number name tree
+      → IfSome returns (λ bytes. IsNumbered name tree number bytes ends output) → ForKnown book returns (λ input bytes. IsStageOutput name input bytes ends output)
+  stage_output None returns number ends output good same written = tt
+  stage_output (Some input) None number ends output good same written = tt
+  stage_output (Some input) (Some bytes) number ends output good same written =
+      (Good tree, good, subst (λ (o : Option ℕ). IsNumbered name tree o bytes ends output) same written)
+
+  pub counts_stage : (book : Option BookInput) (returns : Option (List ℕ)) (n : ℕ) (r : Result Answer DeskError)
+      → IfSome book (λ input. IsBookVerdict input (Good tree)) → Some n ≡ stage_number name tree
+      → IfOk r (λ a. IfSome returns (λ bytes. IsCount (Stage n) (Good tree) bytes a.status a.text.items))
+      → IfOk r (λ a. ForKnown book returns (λ input bytes. IsStageOutput name input bytes a.status a.text.items))
+  counts_stage book returns n (Ok a) good same counted = stage_output book returns (Some n) a.status a.text.items good same counted
+  counts_stage book returns n (Err x) good same counted = tt
+
+  pub refuses_name : (book : Option BookInput) (returns : Option (List ℕ)) (ends : Status) (output : List ℕ)
+      → IfSome book (λ input. IsBookVerdict input (Good tree)) → None ≡ stage_number name tree → ends ≡ status.Refused → output ≡ unknown_stage name
+      → ForKnown book returns (λ input bytes. IsStageOutput name input bytes ends output)
+  refuses_name book returns ends output good same refused line =
+      stage_output book returns None ends output good same (for_any (λ bytes. IsNumbered name tree None bytes ends output) returns (λ bytes. (refused, line)))
+
+  good_stage : (known : Option BookInput) (n : ℕ) → IfSome known (λ i. IsBookVerdict i (Good tree)) → stage_number name tree ≡ Some n
+      → IfSome known (λ i. IsNoBookWith name i → ⊥)
+  good_stage None n good is = tt
+  good_stage (Some i) n good is = λ none. none tree n good is
+
+  pub reads_after_stage : {R X : Type 0} (remaining : R → Option (List ℕ)) (known : Option BookInput) (n : ℕ) (old new : R) (count count' : ℕ) (r : Result X DeskError)
+      → IfSome known (λ i. IsBookVerdict i (Good tree)) → stage_number name tree ≡ Some n → TakesAtMost (MAX_RETURNS_BYTES + 1) (remaining old) (remaining new)
+      → counts 0 count' 0 0 ≡ counts_after (counts 0 count 0 0) r → ReadsBehindStage name remaining known old new r
+  reads_after_stage remaining known n old new count count' r good is limited counted =
+      reads_after remaining old new count count' r Book known (IsNoBookWith name) (λ e. cc) (good_stage known n good is) limited counted
+
+-- the line that refuses a book, whatever the returns are
+pub refusal_stages : (name : List ℕ) (book : Option BookInput) (returns : Option (List ℕ)) (why : BookRefusal) (ends : Status) (output : List ℕ)
+    → IfSome book (λ input. IsBookVerdict input (Refused why)) → ends ≡ status.Refused → output ≡ book_line why
+    → ForKnown book returns (λ input bytes. IsStageOutput name input bytes ends output)
+refusal_stages name None returns why ends output bad refused same = tt
+refusal_stages name (Some input) None why ends output bad refused same = tt
+refusal_stages name (Some input) (Some bytes) why ends output bad refused same = (Refused why, bad, (refused, same))
 
 -- ---- code files
 

@@ -1,5 +1,5 @@
 -- Readers and writers that count how often they failed (docs/output.md, section 3).
-use Rattle.std.specs.Prelude.{ℕ, ◌+◌, ◌-◌, ◌^◌, min, Result, Ok, Err}
+use Rattle.std.specs.Prelude.{◌≡◌, ℕ, ◌⊎◌, ◌+◌, ◌-◌, ◌^◌, min, Result, Ok, Err}
 use Rattle.sl_desk.specs.declared.status.DeskError.{DeskError}
 use Rattle.sl_desk.specs.declared.status.DeskError.TheVariants as fault
 use Rattle.sl_desk.specs.declared.status.Input.{Input}
@@ -42,3 +42,9 @@ counts_at before fault.NoMemory = before
 abbrev pub counts_after : {X : Type 0} → Counts → Result X DeskError → Counts
 counts_after before (Ok x) = before
 counts_after before (Err e) = counts_at before e
+
+-- a call that reads one book and has two writers fails as one with either of them alone, and the other had no failure
+abbrev pub FailsInOne : {X : Type 0} → (book book' first first' second second' : ℕ) → Result X DeskError → Type 0
+FailsInOne book book' first first' second second' result =
+    ((counts book' 0 0 first' ≡ counts_after (counts book 0 0 first) result) × (second' ≡ second))
+    ⊎ ((counts book' 0 0 second' ≡ counts_after (counts book 0 0 second) result) × (first' ≡ first))

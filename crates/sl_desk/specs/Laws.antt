@@ -1,10 +1,20 @@
 -- The laws of verdicts, and of what is written.
-use Rattle.std.specs.Prelude.{◌≡◌, ℕ, List}
+use Rattle.std.specs.Prelude.{◌≡◌, ◌↔◌, ℕ, true, List}
+use Rattle.sl_code.specs.Codes.{CountingCode}
+use Rattle.sl_code.specs.Proper.{IsProper}
+use Rattle.sl_code.specs.Spelling.{spelling_of}
+use Rattle.sl_stages.specs.book.Trees.{BookTree}
+use Rattle.sl_stages.specs.book.Typing.{is_typed}
 use Rattle.sl_stages.specs.laws.OneLaws.{ExactlyOne}
+use Rattle.sl_verify.specs.WellKinded.{IsWellKinded}
+use Rattle.sl_desk.specs.declared.refusal.CodeRefusal.{CodeRefusal}
 use Rattle.sl_desk.specs.declared.report.Report.{Report}
+use Rattle.sl_desk.specs.declared.report.Report.TheVariants.{Seats}
 use Rattle.sl_desk.specs.declared.status.Status.{Status}
-use Rattle.sl_desk.specs.Verdicts.{BookInput, IsTextVerdict, IsReturnsVerdict}
-use Rattle.sl_desk.specs.Output.{IsOutput, IsCheckOutput}
+use Rattle.sl_desk.specs.declared.verdict.Verdict.{Verdict}
+use Rattle.sl_desk.specs.declared.verdict.Verdict.TheVariants.{Good}
+use Rattle.sl_desk.specs.Verdicts.{BookInput, IsTextVerdict, IsReturnsVerdict, IsCodeVerdict}
+use Rattle.sl_desk.specs.Output.{IsCount, IsOutput, IsStageOutput, IsCheckOutput, IsCodeOf, IsRun, IsRunCode}
 
 -- each text of a book comes to exactly one verdict
 abbrev pub OneBookVerdict : Type 0
@@ -19,6 +29,29 @@ abbrev pub HasOneOutput : Type 0
 HasOneOutput = (report : Report) (input : BookInput) (returns : List ℕ) (a b : Status) (s t : List ℕ)
     → IsOutput report input returns a s → IsOutput report input returns b t → (a ≡ b) × (s ≡ t)
 
+-- two outputs of showing the stage of a name are one
+abbrev pub HasOneStage : Type 0
+HasOneStage = (name : List ℕ) (input : BookInput) (returns : List ℕ) (a b : Status) (s t : List ℕ)
+    → IsStageOutput name input returns a s → IsStageOutput name input returns b t → (a ≡ b) × (s ≡ t)
+
 -- two outputs of checking the same book are one
 abbrev pub HasOneCheck : Type 0
 HasOneCheck = (input : BookInput) (a b : Status) (s t : List ℕ) → IsCheckOutput input a s → IsCheckOutput input b t → (a ≡ b) × (s ≡ t)
+
+-- the bytes of a code file come to at most one verdict
+abbrev pub OneCodeVerdict : Type 0
+OneCodeVerdict = (bytes : List ℕ) (v w : Verdict CountingCode CodeRefusal) → IsCodeVerdict bytes v → IsCodeVerdict bytes w → v ≡ w
+
+-- two outputs of running the same inputs are one
+abbrev pub HasOneRun : Type 0
+HasOneRun = (file returns : List ℕ) (a b : Status) (s t : List ℕ) → IsRunCode file returns a s → IsRunCode file returns b t → (a ≡ b) × (s ≡ t)
+
+-- running the file of a well-kinded code writes how the run of that code ends, or the refusal of the returns
+abbrev pub RunsItsCode : Type 0
+RunsItsCode = (c : CountingCode) (returns : List ℕ) (ends : Status) (output : List ℕ) → IsProper c → IsWellKinded c
+    → IsRunCode (spelling_of c) returns ends output ↔ IsRun (Good c) returns ends output
+
+-- and where the code counts as a book means, it writes what counting by that book writes
+abbrev pub RunIsCount : Type 0
+RunIsCount = (tree : BookTree) (file text returns : List ℕ) (ends : Status) (output : List ℕ) → is_typed tree ≡ true → IsCodeOf tree file text
+    → IsRunCode file returns ends output → IsCount Seats (Good tree) returns ends output

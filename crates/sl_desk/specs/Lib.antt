@@ -3,6 +3,7 @@ pub mod Failures
 pub mod Writing
 pub mod Inputs
 pub mod Refusals
+pub mod Stages
 pub mod Verdicts
 pub mod Endings
 pub mod Output

@@ -12,6 +12,7 @@ use Rattle.sl_desk.specs.declared.status.Input.{Input}
 use Rattle.sl_desk.specs.declared.status.Input.TheVariants as input
 use Rattle.sl_desk.specs.declared.verdict.Verdict.TheVariants as verdict
 use Rattle.sl_code.specs.Codes.{CountingCode}
+use Rattle.sl_desk.specs.Stages.{stage_number}
 use Rattle.sl_desk.specs.Verdicts.{BookInput, library, text, IsBookVerdict, IsCodeVerdict}
 
 -- ---- the source of a book
@@ -55,6 +56,10 @@ pub record ReadsBook {S : Type 0} (remaining : S → Option (List ℕ)) (old new
 abbrev pub IsNoGoodBook : BookInput → Type 0
 IsNoGoodBook input = (tree : BookTree) → IsBookVerdict input (verdict.Good tree) → ⊥
 
+-- no tree that has a stage of that name makes the input a good book
+abbrev pub IsNoBookWith : List ℕ → BookInput → Type 0
+IsNoBookWith name input = (tree : BookTree) (n : ℕ) → IsBookVerdict input (verdict.Good tree) → stage_number name tree ≡ Some n → ⊥
+
 -- no code makes the bytes a good code file
 abbrev pub IsNoGoodCode : List ℕ → Type 0
 IsNoGoodCode bytes = (c : CountingCode) → IsCodeVerdict bytes (verdict.Good c) → ⊥
@@ -74,6 +79,10 @@ pub record ReadsBehind {R A X : Type 0} (remaining : R → Option (List ℕ)) (f
 -- first a book, and then returns
 abbrev pub ReadsReturns : {R X : Type 0} → (R → Option (List ℕ)) → Option BookInput → R → R → Result X DeskError → Type 0
 ReadsReturns remaining book old new result = ReadsBehind remaining input.Book book IsNoGoodBook old new result
+
+-- first a book, then the name of a stage, and then returns
+abbrev pub ReadsBehindStage : {R X : Type 0} → List ℕ → (R → Option (List ℕ)) → Option BookInput → R → R → Result X DeskError → Type 0
+ReadsBehindStage name remaining book old new result = ReadsBehind remaining input.Book book (IsNoBookWith name) old new result
 
 -- first a code file, and then returns
 abbrev pub ReadsBehindCode : {R X : Type 0} → (R → Option (List ℕ)) → Option (List ℕ) → R → R → Result X DeskError → Type 0

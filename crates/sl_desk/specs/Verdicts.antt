@@ -69,6 +69,10 @@ IsBookVerdict (text bytes) verdict = IsTextVerdict bytes verdict
 abbrev pub unknown_law : List ℕ → List ℕ
 unknown_law name = refused (codes "law" ∷ name ∷ [])
 
+-- the line of a name that no stage of the book has
+abbrev pub unknown_stage : List ℕ → List ℕ
+unknown_stage name = refused (codes "stage" ∷ name ∷ [])
+
 abbrev pub book_line : BookRefusal → List ℕ
 book_line (book.UnknownLaw name) = unknown_law name.now
 book_line book.TooLong = too_long (codes "book")

@@ -1,14 +1,16 @@
 //! The calls of the desk: what each writes, and how it ends.
 
-ghost use Rattle.std.specs.Prelude.{◌≡◌};
+ghost use Rattle.std.specs.Prelude.{◌≡◌, IfErr};
 ghost use Rattle.sl_desk.specs.Failures.{counts, counts_after};
 ghost use Rattle.sl_desk.specs.Writing.{Delivers};
 
 pub mod check;
+pub mod code;
 pub mod count;
 mod ending;
 pub mod law;
 pub mod run;
+pub mod stage;
 
 use crate::input::write_all;
 use crate::sink::Sink;
@@ -70,6 +72,7 @@ impl Answer {
     fn deliver<W: Sink>(&self, out: &mut W) -> Result<Status, DeskError>
         ensures delivers { Delivers (λ status text. (status ≡ self.now.status) × (text ≡ self.now.text.items)) (W.contents out.old) (W.contents out.new) result }
         ensures failures { counts 0 0 0 (W.failed out.new) ≡ counts_after (counts 0 0 0 (W.failed out.old)) result }
+        ensures error { IfErr result (λ e. e ≡ DeskError.Write) }
     {
         match write_all(out, self.text.as_slice()) {
             Ok(()) => Ok(self.status),

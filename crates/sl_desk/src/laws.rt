@@ -1,7 +1,7 @@
 //! Laws of verdicts, and of what is written.
 
 ghost use Rattle.std.specs.Prelude.{◌≡◌};
-ghost use Rattle.sl_desk.specs.Laws.{OneBookVerdict, OneReturnsVerdict, HasOneOutput, HasOneCheck};
+ghost use Rattle.sl_desk.specs.Laws.{OneBookVerdict, OneReturnsVerdict, OneCodeVerdict, HasOneOutput, HasOneStage, HasOneCheck, HasOneRun, RunsItsCode, RunIsCount};
 
 use crate::limits::{MAX_BOOK_BYTES, MAX_CODE_BYTES, MAX_RETURNS_BYTES};
 
@@ -41,6 +41,18 @@ pub fn inputs_have_one_output()
     sl_parse::laws::no_fault_of_a_book();
 }
 
+/// The bytes of a book and of returns, and the name of a stage, have at most one output: a status and a text.
+pub fn stages_have_one_output()
+    ensures { HasOneStage }
+{
+    sl_lex::laws::one_list();
+    sl_lex::laws::one_fault();
+    sl_lex::laws::no_fault_of_tokens();
+    sl_parse::laws::one_tree();
+    sl_parse::laws::one_fault();
+    sl_parse::laws::no_fault_of_a_book();
+}
+
 /// The bytes of a book have at most one line that checking writes: a status and a text.
 pub fn books_have_one_check()
     ensures { HasOneCheck }
@@ -51,4 +63,29 @@ pub fn books_have_one_check()
     sl_parse::laws::one_tree();
     sl_parse::laws::one_fault();
     sl_parse::laws::no_fault_of_a_book();
+}
+
+/// The bytes of a code file come to at most one verdict: a good code, or one refusal.
+pub fn code_files_have_one_verdict()
+    ensures { OneCodeVerdict }
+{
+    sl_code::laws::one_code();
+    sl_code::laws::one_fault();
+    sl_code::laws::spelling_or_fault();
+    sl_verify::laws::fault_or_kinds();
+}
+
+/// The bytes of a code file and of returns have at most one output: a status and a text.
+pub fn runs_have_one_output()
+    ensures { HasOneRun }
+{
+    code_files_have_one_verdict();
+}
+
+/// Running the file of a code writes how the run of that code ends; and of a code that counts as a book means, what counting by the book writes.
+pub fn run_is_count()
+    ensures code { RunsItsCode }
+    ensures book { RunIsCount }
+{
+    code_files_have_one_verdict();
 }

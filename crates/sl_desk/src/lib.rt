@@ -3,7 +3,7 @@
 
 mod book;
 mod calls;
-mod code;
+mod code_file;
 mod input;
 pub mod laws;
 mod limits;
@@ -16,9 +16,11 @@ mod status;
 mod verdict;
 
 pub use calls::check::check_book;
+pub use calls::code::code;
 pub use calls::count::{count, steps};
 pub use calls::law::law_text;
 pub use calls::run::run_code;
+pub use calls::stage::stage;
 pub use limits::{MAX_BOOK_BYTES, MAX_CODE_BYTES, MAX_RETURNS_BYTES};
 pub use sink::{Sink, ToWrite};
 pub use source::{BookSource, Failed, FromRead, Source};

@@ -2,12 +2,14 @@
 
 ghost use Rattle.std.specs.Prelude.{◌≡◌, ◌+◌, IfOk, IfErr, IfSome, length};
 ghost use Rattle.sl_stages.specs.book.Books.{book_of};
+ghost use Rattle.sl_stages.specs.book.Trees.{BookTree};
 ghost use Rattle.sl_stages.specs.returns.Election.{IsElection};
 ghost use Rattle.sl_machine.specs.Runs.{budget_of};
 ghost use Rattle.sl_desk.specs.declared.verdict.Verdict.TheVariants as verdict;
 ghost use Rattle.sl_desk.specs.Failures.{counts, counts_after};
 ghost use Rattle.sl_desk.specs.Output.{IsOutput, IsCount, IsTreeOutput};
 ghost use Rattle.sl_desk.specs.Reading.{book_input, book_failures, ForKnown, ReadsBook, ReadsReturns, TakesAtMost};
+ghost use Rattle.sl_desk.specs.Stages.{HasStage};
 ghost use Rattle.sl_desk.specs.Writing.{Delivers};
 
 use crate::book::read_book;
@@ -42,6 +44,7 @@ fn outcome(
     book: &CheckedBook,
     returns: &Returns,
 ) -> Result<Answer, DeskError>
+    requires asked { HasStage report (book_of book.now.book) }
     ensures memory { IfErr result (λ e. e ≡ DeskError.NoMemory) }
     ensures output { IfOk result (λ a. IsTreeOutput report (book_of book.now.book) (verdict.Good returns.now) a.status a.text.items) }
 {
@@ -52,12 +55,13 @@ fn outcome(
 }
 
 // What a good book comes to on the returns of a source.
-fn counted<S: Source>(
+pub(super) fn counted<S: Source>(
     report: Report,
     alloc: Global,
     book: &CheckedBook,
     returns: &mut S,
 ) -> Result<Answer, DeskError>
+    requires asked { HasStage report (book_of book.now.book) }
     ensures answer { IfOk result (λ a. IfSome (S.remaining returns.old) (λ bytes. IsCount report (verdict.Good (book_of book.now.book)) bytes a.status a.text.items)) }
     ensures failures { counts 0 (S.failed returns.new) 0 0 ≡ counts_after (counts 0 (S.failed returns.old) 0 0) result }
     ensures limited { TakesAtMost (MAX_RETURNS_BYTES + 1) (S.remaining returns.old) (S.remaining returns.new) }
@@ -68,13 +72,14 @@ fn counted<S: Source>(
     }
 }
 
-// What counting a book on returns writes.
+// What counting a book on returns writes, where no stage of the book is asked for.
 fn answer_to<B: Source, R: Source>(
     report: Report,
     alloc: Global,
     book: &mut BookSource<'_, B>,
     returns: &mut R,
 ) -> Result<Answer, DeskError>
+    requires asked { (tree : BookTree) → HasStage report tree }
     ensures answer { IfOk result (λ a. ForKnown (book_input B.remaining book.old) (R.remaining returns.old) (λ input bytes.
         IsOutput report input bytes a.status a.text.items)) }
     ensures failures { counts (book_failures B.failed book.new) (R.failed returns.new) 0 0

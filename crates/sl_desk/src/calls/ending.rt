@@ -1,8 +1,8 @@
 //! What the end of a run writes.
 
-ghost use Rattle.std.specs.Prelude.{◌≡◌, IfOk, map};
+ghost use Rattle.std.specs.Prelude.{◌≡◌, IfOk};
 ghost use Rattle.sl_machine.specs.Fits.{Fits};
-ghost use Rattle.sl_desk.specs.Endings.{IsEndingOutput, out_of_budget};
+ghost use Rattle.sl_desk.specs.Endings.{HasAsked, IsEndingOutput, out_of_budget};
 
 use crate::calls::Answer;
 use crate::report::Report;
@@ -10,7 +10,7 @@ use sl_code::Code;
 use sl_machine::Ending;
 use sl_ratio::NoMemory;
 use sl_stages::Returns;
-use sl_table::{Text, fault_text, table_of};
+use sl_table::{Text, fault_text};
 use std::alloc::Global;
 
 // The line of a run that needs more steps than it may take.
@@ -34,13 +34,11 @@ pub(crate) fn ended(
     ending: &Ending,
 ) -> Result<Answer, NoMemory>
     requires fits { Fits code.now returns.now ending.now }
-    ensures { IfOk result (λ a. IsEndingOutput report (map (λ s. s.name) code.now.stages) returns.now ending.now a.status a.text.items) }
+    requires asked { HasAsked report code.now }
+    ensures { IfOk result (λ a. IsEndingOutput report code.now returns.now ending.now a.status a.text.items) }
 {
     match ending {
-        Ending::Done(memory) => {
-            let table = table_of(alloc, memory, returns)?;
-            Ok(Answer::done(report.text(alloc, &table, returns, code)?))
-        }
+        Ending::Done(memory) => Ok(Answer::done(report.text(alloc, memory, returns, code)?)),
         Ending::Fault(fault) => Ok(Answer::legal(fault_text(alloc, fault, returns, code)?)),
         Ending::OutOfBudget => Ok(Answer::out_of_budget(out_of_budget(alloc)?)),
     }

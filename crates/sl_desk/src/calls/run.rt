@@ -9,7 +9,7 @@ ghost use Rattle.sl_desk.specs.Writing.{Delivers};
 
 use crate::calls::Answer;
 use crate::calls::ending::ended;
-use crate::code::read_code;
+use crate::code_file::read_code;
 use crate::limits::{MAX_CODE_BYTES, MAX_RETURNS_BYTES};
 use crate::report::Report;
 use crate::returns::read_election;

@@ -1,0 +1,94 @@
+-- What running the file of a code writes is how the run of the code ends, and of a book's code what counting by the book writes.
+use Rattle.std.proofs.Common.{◌≡◌, ℕ, true, List, length, Option, None, Some, refl, sym, ap, subst, ◌∙◌}
+use Rattle.sl_stages.specs.book.Trees.{BookTree}
+use Rattle.sl_stages.specs.book.Typing.{is_typed}
+use Rattle.sl_stages.specs.returns.Election.{Election, IsElection}
+use Rattle.sl_code.specs.Codes.{CountingCode}
+use Rattle.sl_code.specs.Proper.{IsProper}
+use Rattle.sl_code.specs.Spelling.{spelling_of}
+use Rattle.sl_machine.specs.declared.machine.Ending.{Ending as Answer}
+use Rattle.sl_machine.specs.declared.machine.Ending.TheVariants as answer
+use Rattle.sl_machine.specs.Answers.{answer_of}
+use Rattle.sl_machine.specs.Memories.{Held, held_of}
+use Rattle.sl_machine.specs.Runs.{Ended, budget_of, ending}
+use Rattle.sl_machine.specs.State.{State, End, Halted, Faulted}
+use Rattle.sl_machine.specs.Tables.{held_table}
+use Rattle.sl_machine.specs.Unrecorded.{unrecorded, without_records}
+use Rattle.sl_verify.specs.WellKinded.{IsWellKinded}
+use Rattle.sl_books.specs.Compiled.{IsCompiled, ending_by}
+use Rattle.sl_books.proofs.StageColumns.{code_stages_long}
+use Rattle.sl_returns.specs.Returns.{records_in}
+use Rattle.sl_returns.proofs.ReadElections.{read_is}
+use Rattle.sl_desk.specs.declared.refusal.CodeRefusal.{CodeRefusal}
+use Rattle.sl_desk.specs.declared.refusal.ReturnsRefusal.{ReturnsRefusal}
+use Rattle.sl_desk.specs.declared.report.Report.TheVariants.{Seats}
+use Rattle.sl_desk.specs.declared.status.Status.{Status}
+use Rattle.sl_desk.specs.declared.verdict.Verdict.{Verdict}
+use Rattle.sl_desk.specs.declared.verdict.Verdict.TheVariants.{Good, Refused}
+use Rattle.sl_desk.specs.Endings.{IsRunOutput}
+use Rattle.sl_desk.specs.Laws.{OneCodeVerdict, HasOneRun, RunsItsCode, RunIsCount}
+use Rattle.sl_desk.specs.Output.{IsTreeOutput, IsCount, IsCodeOutput, IsRun, IsRunCode}
+use Rattle.sl_desk.specs.Verdicts.{IsReturnsVerdict}
+use Rattle.sl_desk.proofs.CodeLengths.{file_fits}
+use Rattle.sl_desk.proofs.OneMeaning.{same_short}
+use Rattle.sl_desk.proofs.OneOutput.{one_returns_verdict}
+use Rattle.sl_desk.proofs.Outcomes.{tree_output}
+
+module _ (one_verdict : OneCodeVerdict) where
+  pub runs_its_code : RunsItsCode
+  runs_its_code c returns ends output proper kinded =
+      ((λ h. subst (λ (v : Verdict CountingCode CodeRefusal). IsRun v returns ends output)
+          (one_verdict (spelling_of c) h.0 (Good c) h.1 (file_fits c proper, (refl, proper), kinded)) h.2),
+      (λ h. (Good c, (file_fits c proper, (refl, proper), kinded), h)))
+
+  -- ---- one output
+
+  one_run_output : (c : CountingCode) (v : Verdict Election ReturnsRefusal) (a b : Status) (s t : List ℕ) → IsCodeOutput c v a s → IsCodeOutput c v b t → (a ≡ b) × (s ≡ t)
+  one_run_output c (Refused why) a b s t h k = (h.0 ∙ sym k.0, h.1 ∙ sym k.1)
+  one_run_output c (Good e) a b s t h k = go (answer_of c e (ending c e (budget_of (length c.stages) e))) h k
+    where
+      go : (o : Option Answer) → IsRunOutput c e o a s → IsRunOutput c e o b t → (a ≡ b) × (s ≡ t)
+      go (Some (answer.Done held)) h k = (h.0 ∙ sym k.0, h.1 ∙ sym k.1)
+      go (Some (answer.Fault f)) h k = (h.0 ∙ sym k.0, h.1 ∙ sym k.1)
+      go (Some answer.OutOfBudget) h k = (h.0 ∙ sym k.0, h.1 ∙ sym k.1)
+      go None h k = absurd h
+
+  one_run : (v : Verdict CountingCode CodeRefusal) (returns : List ℕ) (a b : Status) (s t : List ℕ) → IsRun v returns a s → IsRun v returns b t → (a ≡ b) × (s ≡ t)
+  one_run (Refused why) returns a b s t h k = (h.0 ∙ sym k.0, h.1 ∙ sym k.1)
+  one_run (Good c) returns a b s t h k =
+      one_run_output c h.0 a b s t h.2
+      (subst (λ (v : Verdict Election ReturnsRefusal). IsCodeOutput c v b t) (sym (one_returns_verdict returns h.0 k.0 h.1 k.1)) k.2)
+
+  pub one_output_of_runs : HasOneRun
+  one_output_of_runs file returns a b s t h k =
+      one_run h.0 returns a b s t h.2 (subst (λ (v : Verdict CountingCode CodeRefusal). IsRun v returns b t) (sym (one_verdict file h.0 k.0 h.1 k.1)) k.2)
+
+-- ---- the code of a book
+
+module _ (b : BookTree) (c : CountingCode) (is : IsCompiled b c) (typed : is_typed b ≡ true) where
+  ended_counts : (e : Election) (end : End) (ends : Status) (output : List ℕ) → IsElection e → ending_by b c e ≡ Ended end
+      → IsRunOutput c e (answer_of c e (Ended end)) ends output → IsTreeOutput Seats b (Good e) ends output
+  ended_counts e (Halted base vacant s) ends output in_range at written =
+      let held : Held = held_of c e base vacant s in
+      let bare : Held = held_of c e base vacant (unrecorded s) in
+      tree_output Seats b c e is in_range typed (answer.Done bare) ends output tt (ap (λ x. answer_of c e (without_records x)) at)
+      (written.0, written.1 ∙ same_short (held_table e held) (held_table e bare) e refl refl)
+  ended_counts e (Faulted f) ends output in_range at written =
+      tree_output Seats b c e is in_range typed (answer.Fault f) ends output tt (ap (λ x. answer_of c e (without_records x)) at) written
+
+  code_counts : (returns : List ℕ) (v : Verdict Election ReturnsRefusal) (ends : Status) (output : List ℕ) → IsReturnsVerdict returns v → IsCodeOutput c v ends output
+      → IsTreeOutput Seats b v ends output
+  code_counts returns (Refused why) ends output judged written = written
+  code_counts returns (Good e) ends output judged written =
+      let in_range = read_is (records_in returns) e judged.1 in
+      let end = is.ends e in_range in
+      let same : ending c e (budget_of (length c.stages) e) ≡ Ended end.0 = ap (λ (n : ℕ). ending c e (budget_of n e)) (code_stages_long b c is) ∙ end.1 in
+      ended_counts e end.0 ends output in_range end.1 (subst (λ x. IsRunOutput c e (answer_of c e x) ends output) same written)
+
+  pub run_counts : (returns : List ℕ) (ends : Status) (output : List ℕ) → IsRun (Good c) returns ends output → IsCount Seats (Good b) returns ends output
+  run_counts returns ends output h = (h.0, h.1, code_counts returns h.0 ends output h.1 h.2)
+
+pub run_is_count : OneCodeVerdict → RunIsCount
+run_is_count one_verdict b file text returns ends output typed h run =
+    run_counts b h.code h.compiled typed returns ends output
+    ((runs_its_code one_verdict h.code returns ends output h.proper h.kinded).0 (subst (λ bytes. IsRunCode bytes returns ends output) h.spelled run))

@@ -1,0 +1,19 @@
+-- The stages of a rulebook by their names.
+use Rattle.std.specs.Prelude.{ℕ, ◌<◌, List, length, Option, map, position}
+use Rattle.std.specs.Str.{bytes_eq}
+use Rattle.sl_stages.specs.book.Trees.{BookTree}
+use Rattle.sl_desk.specs.declared.report.Report.{Report}
+use Rattle.sl_desk.specs.declared.report.Report.TheVariants.{Stage}
+
+-- the names of a book's stages, in order
+abbrev pub names_of : BookTree → List (List ℕ)
+names_of tree = map (λ s. s.name) tree.stages
+
+-- the number of the stage of that name, if there is one
+abbrev pub stage_number : List ℕ → BookTree → Option ℕ
+stage_number name tree = position (bytes_eq name) (names_of tree)
+
+-- a book has the stage that is asked for
+abbrev pub HasStage : Report → BookTree → Type 0
+HasStage (Stage n) tree = n < length tree.stages
+HasStage _ tree = Unit {0}

@@ -1,0 +1,104 @@
+//! The column of a stage: from a rulebook, returns and a name to the text of the column.
+
+ghost use Rattle.std.specs.Prelude.{◌≡◌, IfOk, position};
+ghost use Rattle.std.specs.Str.{bytes_eq};
+ghost use Rattle.sl_stages.specs.book.Books.{book_of};
+ghost use Rattle.sl_desk.specs.Failures.{counts, counts_after};
+ghost use Rattle.sl_desk.specs.Output.{IsStageOutput};
+ghost use Rattle.sl_desk.specs.Reading.{book_input, book_failures, ForKnown, ReadsBook, ReadsBehindStage};
+ghost use Rattle.sl_desk.specs.Stages.{stage_number};
+ghost use Rattle.sl_desk.specs.Verdicts.{unknown_stage};
+ghost use Rattle.sl_desk.specs.Writing.{Delivers};
+
+use crate::book::read_book;
+use crate::calls::Answer;
+use crate::calls::count::counted;
+use crate::report::Report;
+use crate::sink::Sink;
+use crate::source::{BookSource, Source};
+use crate::status::{DeskError, Status};
+use crate::verdict::Verdict;
+use sl_ratio::NoMemory;
+use sl_stages::{Book, Stage};
+use sl_table::Text;
+use std::alloc::Global;
+
+// The number of the stage of that name among a book's stages.
+fn number_among(stages: &[Stage], name: &str) -> Option<usize>
+    ensures { result ≡ position (λ s. bytes_eq name.now s.name) stages.now }
+{
+    stages
+        .iter()
+        .position(|stage| name.as_bytes() == stage.name.as_bytes())
+}
+
+// The number of the stage of that name.
+fn stage_number(book: &Book, name: &str) -> Option<usize>
+    ensures { result ≡ stage_number name.now (book_of book.now) }
+{
+    number_among(&book.stages, name)
+}
+
+// The line that refuses a name without a stage.
+fn refusal(alloc: Global, name: &str) -> Result<Vec<u8>, NoMemory>
+    ensures { IfOk result (λ line. line.items ≡ unknown_stage name.now) }
+{
+    let mut line = Text::new(alloc);
+    line.word(b"refused")?;
+    line.word(b"stage")?;
+    line.word(name.as_bytes())?;
+    line.end_line()?;
+    Ok(line.into_bytes())
+}
+
+// What showing a stage of a book on returns writes.
+fn answer_to<B: Source, R: Source>(
+    alloc: Global,
+    book: &mut BookSource<'_, B>,
+    returns: &mut R,
+    name: &str,
+) -> Result<Answer, DeskError>
+    ensures answer { IfOk result (λ a. ForKnown (book_input B.remaining book.old) (R.remaining returns.old) (λ input bytes.
+        IsStageOutput name.now input bytes a.status a.text.items)) }
+    ensures failures { counts (book_failures B.failed book.new) (R.failed returns.new) 0 0
+        ≡ counts_after (counts (book_failures B.failed book.old) (R.failed returns.old) 0 0) result }
+    ensures book { ReadsBook B.remaining book.old book.new }
+    ensures returns { ReadsBehindStage name.now R.remaining (book_input B.remaining book.old) returns.old returns.new result }
+{
+    match read_book(alloc, book)? {
+        Verdict::Good(book) => match stage_number(&book.book, name) {
+            Some(stage) => counted(Report::Stage(stage), alloc, &book, returns),
+            None => Ok(Answer::refused(refusal(alloc, name)?)),
+        },
+        Verdict::Refused(why) => Ok(Answer::refused(why.line(alloc)?)),
+    }
+}
+
+/// Counts an election as `count` does, and writes the column of the stage of that name in place of the table. The book is read and judged first,
+/// then the name of the stage, and then the returns (docs/output.md).
+///
+/// # Errors
+///
+/// `Read` where a source failed, `Write` where the sink did, and `NoMemory`.
+pub fn stage<B: Source, R: Source, W: Sink>(
+    alloc: Global,
+    book: &mut BookSource<'_, B>,
+    returns: &mut R,
+    name: &str,
+    out: &mut W,
+) -> Result<Status, DeskError>
+    // The text that is delivered is the output of the two inputs and the name, where their bytes are known.
+    ensures delivers { Delivers (λ status text. ForKnown (book_input B.remaining book.old) (R.remaining returns.old) (λ input bytes.
+        IsStageOutput name.now input bytes status text)) (W.contents out.old) (W.contents out.new) result }
+
+    // No call of a source or of the sink failed, or that one of which the error speaks.
+    ensures failures { counts (book_failures B.failed book.new) (R.failed returns.new) 0 (W.failed out.new)
+        ≡ counts_after (counts (book_failures B.failed book.old) (R.failed returns.old) 0 (W.failed out.old)) result }
+
+    // What is taken of the inputs, the returns only after a good book with a stage of that name.
+    ensures book { ReadsBook B.remaining book.old book.new }
+    ensures returns { ReadsBehindStage name.now R.remaining (book_input B.remaining book.old) returns.old returns.new result }
+{
+    let answer = answer_to(alloc, book, returns, name)?;
+    answer.deliver(out)
+}
