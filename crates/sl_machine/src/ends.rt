@@ -13,7 +13,7 @@ ghost use Rattle.sl_machine.specs.State.{State, Halted, with_place};
 ghost use Rattle.sl_machine.specs.Places.{scope_at};
 ghost use Rattle.sl_machine.specs.Effects.{Goes, Ends, effect, given, faults, kind_of};
 ghost use Rattle.sl_machine.specs.Safe.{IsInRange};
-ghost use Rattle.sl_machine.specs.inner.Stores.{state_of, sizes_of, effect_of};
+ghost use Rattle.sl_machine.specs.inner.Stores.{state_of, sizes_of, effect_of, end_with};
 
 use crate::records::stage_number;
 use crate::step::{Effect, End};
@@ -23,23 +23,23 @@ use sl_ratio::NoMemory;
 use sl_stages::{FaultKind, Items, LegalFault, Placed, Returns};
 
 /// Ends with the seats of the lists.
-pub(crate) fn halt(slot: u8) -> Effect
-    ensures { (s : State) → effect_of result s ≡ Ends (Halted slot None s) }
+pub(crate) fn halt(slot: u8) -> End
+    ensures { (s : State) → end_with result s ≡ Halted slot None s }
 {
-    Effect::Ends(End::Halted {
+    End::Halted {
         base: usize::from(slot),
         vacant: None,
-    })
+    }
 }
 
 /// Ends with the seats of the lists, and with the vacant ones.
-pub(crate) fn halt_with_vacant(slot: u8, vacant: u8) -> Effect
-    ensures { (s : State) → effect_of result s ≡ Ends (Halted slot (Some vacant) s) }
+pub(crate) fn halt_with_vacant(slot: u8, vacant: u8) -> End
+    ensures { (s : State) → end_with result s ≡ Halted slot (Some vacant) s }
 {
-    Effect::Ends(End::Halted {
+    End::Halted {
         base: usize::from(slot),
         vacant: Some(usize::from(vacant)),
-    })
+    }
 }
 
 // The kind of a legal fault without names.
@@ -57,16 +57,16 @@ fn kind_of(fault: EndFault) -> FaultKind
 
 impl Store {
     // Ends with a legal fault of that kind.
-    fn fault(&self, code: &Code, stage: u8, scope: ScopeKind, kind: FaultKind) -> Effect
+    fn fault(&self, code: &Code, stage: u8, scope: ScopeKind, kind: FaultKind) -> End
         requires stage { IsTrue (has_stage (context_of code.now) stage) }
         requires scope { IsSome (scope_at scope (state_of self.now)) }
-        ensures { (e : Election) → effect_of result (state_of self.now) ≡ faults code.now e stage scope kind (state_of self.now) }
+        ensures { (e : Election) → Ends (end_with result (state_of self.now)) ≡ faults code.now e stage scope kind (state_of self.now) }
     {
-        Effect::Ends(End::Faulted(LegalFault {
+        End::Faulted(LegalFault {
             stage: stage_number(code, stage),
             scope: self.scope(scope).unwrap(),
             kind,
-        }))
+        })
     }
 
     /// Ends with a legal fault without names.
@@ -76,10 +76,10 @@ impl Store {
         stage: u8,
         scope: ScopeKind,
         fault: EndFault,
-    ) -> Effect
+    ) -> End
         requires stage { IsTrue (has_stage (context_of code.now) stage) }
         requires scope { IsSome (scope_at scope (state_of self.now)) }
-        ensures { (e : Election) → effect_of result (state_of self.now) ≡ effect code.now e (instr.Fault stage scope fault) (state_of self.now) }
+        ensures { (e : Election) → Ends (end_with result (state_of self.now)) ≡ effect code.now e (instr.Fault stage scope fault) (state_of self.now) }
     {
         self.fault(code, stage, scope, kind_of(fault))
     }
@@ -92,13 +92,13 @@ impl Store {
         stage: u8,
         scope: ScopeKind,
         seats: u8,
-    ) -> Result<Effect, NoMemory>
+    ) -> Result<End, NoMemory>
         requires stage { IsTrue (has_stage (context_of code.now) stage) }
         requires scope { IsSome (scope_at scope (state_of self.old)) }
         requires seats { seats < REGISTERS }
         requires top { IsSome (option_and_then (λ t. top t.contents) self.old.table) }
         requires range { IsInRange returns.now (state_of self.old) }
-        ensures follows { IfOk result (λ next. effect_of next (state_of self.new)
+        ensures follows { IfOk result (λ end. Ends (end_with end (state_of self.new))
             ≡ effect code.now returns.now (instr.Tie stage scope seats) (state_of self.old)) }
         ensures kept { sizes_of self.new ≡ sizes_of self.old }
     {

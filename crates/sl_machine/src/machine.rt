@@ -1,11 +1,11 @@
 //! Runs of a code on returns.
 
-ghost use Rattle.std.specs.Prelude.{◌≡◌, ◌≤◌, Some, IfOk, IsSome};
+ghost use Rattle.std.specs.Prelude.{◌≡◌, ◌≤◌, Some, IfOk, IfSome, IfNone, IsSome};
 ghost use Rattle.sl_stages.specs.declared.limits.TheConstants.{MAX_STAGES};
 ghost use Rattle.sl_machine.specs.Agrees.{IsSafe};
 ghost use Rattle.sl_machine.specs.Answers.{answer_of};
 ghost use Rattle.sl_machine.specs.Fits.{Fits};
-ghost use Rattle.sl_machine.specs.inner.Leading.{Leads, ending_with, FitsWith};
+ghost use Rattle.sl_machine.specs.inner.Leading.{LeadsTo, EndsAt, EndsWith, ending_with, FitsWith};
 ghost use Rattle.sl_machine.specs.inner.Lots.{lots_for};
 ghost use Rattle.sl_machine.specs.inner.Recording.{state_by, ending_by};
 ghost use Rattle.sl_machine.specs.Runs.{run, ending, share_of, budget_of};
@@ -14,7 +14,7 @@ ghost use Rattle.sl_machine.specs.inner.Stores.{state_of, sizes_of, sizes_for};
 
 use crate::lots::Lots;
 use crate::memory::Memory;
-use crate::step::{Effect, End, Records};
+use crate::step::{Drops, Effect, End, Keeps, Recording};
 use crate::store::Store;
 use sl_code::Code;
 use sl_ratio::NoMemory;
@@ -52,52 +52,60 @@ pub fn budget(stages: usize, returns: &Returns) -> u64
     (stages as u64 + 2) * share(returns)
 }
 
-// Where a step comes to: a place of the code, or the end of the run.
-#[derive(Drop)]
-enum Step {
-    To(usize),
-    Over(End),
-}
-
-// Makes a step from a place.
-fn step_from(
+// Makes a step from a place, and answers the place to which it comes, but for an instruction that ends the run.
+fn step_from<R: Recording>(
     store: &mut Store,
     code: &Code,
     returns: &Returns,
     lots: &Lots,
-    records: Records,
     place: usize,
-) -> Result<Step, NoMemory>
+) -> Result<Option<usize>, NoMemory>
     requires safe { IsSafe code.now returns.now place (state_of store.old) }
     requires lots { lots.now ≡ lots_for code.now returns.now }
     requires sizes { sizes_of store.old ≡ sizes_for code.now returns.now }
-    requires records { state_by records (state_of store.old) ≡ state_of store.old }
-    ensures leads { IfOk result (λ step. Leads records code.now returns.now place (state_of store.old) step (state_of store.new)) }
+    requires records { state_by R.records (state_of store.old) ≡ state_of store.old }
+    ensures leads { IfOk result (λ next. IfSome next (λ there. LeadsTo R.records code.now returns.now place (state_of store.old) there (state_of store.new))) }
+    ensures ends { IfOk result (λ next. IfNone next (EndsAt code.now place × (store.new ≡ store.old))) }
     ensures kept { sizes_of store.new ≡ sizes_of store.old }
 {
     // read where it stands: a copy is written in parts and read in others, which costs more than the step
     let instr = &code.instrs()[place];
-    match store.step(code, returns, lots, records, instr)? {
-        Effect::Goes => Ok(Step::To(place + 1)),
-        Effect::Jumps => Ok(Step::To(instr.target().unwrap() as usize)),
-        Effect::Ends(end) => Ok(Step::Over(end)),
+    match store.step::<R>(code, returns, lots, instr)? {
+        Some(Effect::Goes) => Ok(Some(place + 1)),
+        Some(Effect::Jumps) => Ok(Some(instr.target().unwrap() as usize)),
+        None => Ok(None),
     }
 }
 
+// The end that the instruction at a place gives the run.
+fn end_at<R: Recording>(
+    store: &mut Store,
+    code: &Code,
+    returns: &Returns,
+    place: usize,
+) -> Result<End, NoMemory>
+    requires safe { IsSafe code.now returns.now place (state_of store.old) }
+    requires records { state_by R.records (state_of store.old) ≡ state_of store.old }
+    requires ends { EndsAt code.now place }
+    ensures ends { IfOk result (λ end. EndsWith R.records code.now returns.now place (state_of store.old) end (state_of store.new)) }
+    ensures kept { sizes_of store.new ≡ sizes_of store.old }
+{
+    store.end(code, returns, &code.instrs()[place])
+}
+
 // Makes at most so many steps from the start, and answers how they end, if they do.
-fn steps(
+fn steps<R: Recording>(
     store: &mut Store,
     code: &Code,
     returns: &Returns,
     lots: &Lots,
-    records: Records,
     budget: u64,
 ) -> Result<Option<End>, NoMemory>
     requires safe { IsSafe code.now returns.now 0 (state_of store.old) }
     requires lots { lots.now ≡ lots_for code.now returns.now }
     requires sizes { sizes_of store.old ≡ sizes_for code.now returns.now }
-    requires records { state_by records (state_of store.old) ≡ state_of store.old }
-    ensures end { IfOk result (λ end. ending_by records (run code.now returns.now budget 0 (state_of store.old)) ≡ ending_with end (state_of store.new)) }
+    requires records { state_by R.records (state_of store.old) ≡ state_of store.old }
+    ensures end { IfOk result (λ end. ending_by R.records (run code.now returns.now budget 0 (state_of store.old)) ≡ ending_with end (state_of store.new)) }
     ensures fits { IfOk result (λ end. FitsWith code.now returns.now end (state_of store.new)) }
     ensures kept { IfOk result (λ end. sizes_of store.new ≡ sizes_for code.now returns.now) }
 {
@@ -105,29 +113,28 @@ fn steps(
     let mut left = budget;
     while left > 0 {
         left -= 1;
-        match step_from(store, code, returns, lots, records, place)? {
-            Step::To(next) => place = next,
-            Step::Over(end) => return Ok(Some(end)),
+        match step_from::<R>(store, code, returns, lots, place)? {
+            Some(next) => place = next,
+            None => return Ok(Some(end_at::<R>(store, code, returns, place)?)),
         }
     }
     Ok(None)
 }
 
 // Runs accepted code on returns, and keeps what it records or drops it.
-fn run_with(
+fn run_with<R: Recording>(
     alloc: Global,
     code: &Verified,
     returns: &Returns,
-    records: Records,
     budget: u64,
 ) -> Result<Ending, NoMemory>
-    ensures ending { IfOk result (λ answer. answer_of code.now returns.now (ending_by records (ending code.now returns.now budget)) ≡ Some answer) }
+    ensures ending { IfOk result (λ answer. answer_of code.now returns.now (ending_by R.records (ending code.now returns.now budget)) ≡ Some answer) }
     ensures fits { IfOk result (Fits code.now returns.now) }
 {
     let code = code.code();
     let lots = Lots::of(alloc, code, returns)?;
     let mut store = Store::start(alloc, code, returns)?;
-    match steps(&mut store, code, returns, &lots, records, budget)? {
+    match steps::<R>(&mut store, code, returns, &lots, budget)? {
         Some(End::Halted { base, vacant }) => Ok(Ending::Done(Memory::new(store, base, vacant)?)),
         Some(End::Faulted(fault)) => Ok(Ending::Fault(fault)),
         None => Ok(Ending::OutOfBudget),
@@ -148,7 +155,7 @@ pub fn run(
     ensures ending { IfOk result (λ answer. answer_of code.now returns.now (ending code.now returns.now budget) ≡ Some answer) }
     ensures fits { IfOk result (Fits code.now returns.now) }
 {
-    run_with(alloc, code, returns, Records::Kept, budget)
+    run_with::<Keeps>(alloc, code, returns, budget)
 }
 
 /// Runs accepted code on returns as `run` does, but keeps no seat steps and no weights.
@@ -165,5 +172,5 @@ pub fn run_unrecorded(
     ensures ending { IfOk result (λ answer. answer_of code.now returns.now (without_records (ending code.now returns.now budget)) ≡ Some answer) }
     ensures fits { IfOk result (Fits code.now returns.now) }
 {
-    run_with(alloc, code, returns, Records::Dropped, budget)
+    run_with::<Drops>(alloc, code, returns, budget)
 }

@@ -1,14 +1,16 @@
 //! One step of a run.
 
-ghost use Rattle.std.specs.Prelude.{◌≡◌, IsTrue, IfOk};
+ghost use Rattle.std.specs.Prelude.{◌≡◌, IsTrue, IfOk, IfSome, IfNone};
 ghost use Rattle.sl_verify.specs.Needs.{has_columns};
 ghost use Rattle.sl_verify.specs.WellKinded.{context_of};
-ghost use Rattle.sl_machine.specs.Effects.{effect};
+ghost use Rattle.sl_machine.specs.Effects.{Ends, effect};
 ghost use Rattle.sl_stages.specs.returns.Election.{IsElection};
 ghost use Rattle.sl_machine.specs.inner.Lots.{lots_for};
 ghost use Rattle.sl_machine.specs.inner.Recording.{state_by, left_by};
+ghost use Rattle.sl_machine.specs.declared.step.Records.{Records};
 ghost use Rattle.sl_machine.specs.Safe.{MayStep};
-ghost use Rattle.sl_machine.specs.inner.Stores.{state_of, sizes_of, sizes_for, effect_of};
+ghost use Rattle.sl_machine.specs.inner.Leading.{ends_run};
+ghost use Rattle.sl_machine.specs.inner.Stores.{state_of, sizes_of, sizes_for, effect_of, end_with};
 
 use crate::ends::{halt, halt_with_vacant};
 use crate::lots::Lots;
@@ -25,12 +27,11 @@ pub(crate) enum End {
     Faulted(LegalFault),
 }
 
-/// What an instruction did: the run goes on after it, or at its target, or ends.
-#[derive(Debug, Drop)]
+/// What an instruction did: the run goes on after it, or at its target. It is small, for each step writes one.
+#[derive(Clone, Copy, Debug)]
 pub(crate) enum Effect {
     Goes,
     Jumps,
-    Ends(End),
 }
 
 /// Whether seat steps and weights are kept.
@@ -40,88 +41,146 @@ pub(crate) enum Records {
     Dropped,
 }
 
+/// A run that keeps its records or drops them: a type for each, so that each has a loop of its own.
+pub(crate) trait Recording {
+    ghost records: { Records };
+
+    /// Which of the two it does.
+    fn records() -> Records
+        ensures { result ≡ records };
+}
+
+/// A run that keeps its records.
+pub(crate) struct Keeps;
+
+/// A run that drops its records.
+pub(crate) struct Drops;
+
+impl Recording for Keeps {
+    ghost records = { Records.Kept };
+
+    fn records() -> Records {
+        Records::Kept
+    }
+}
+
+impl Recording for Drops {
+    ghost records = { Records.Dropped };
+
+    fn records() -> Records {
+        Records::Dropped
+    }
+}
+
 impl Store {
-    /// Makes one step.
+    /// Makes one step, but for an instruction that ends the run: then it does nothing, and answers `None`.
     ///
     /// # Errors
     ///
     /// Want of memory.
-    pub(crate) fn step(
+    pub(crate) fn step<R: Recording>(
         &mut self,
         code: &Code,
         returns: &Returns,
         lots: &Lots,
-        records: Records,
         instr: &Instr,
-    ) -> Result<Effect, NoMemory>
+    ) -> Result<Option<Effect>, NoMemory>
         requires step { MayStep code.now returns.now instr.now (state_of self.old) }
         requires election { IsElection returns.now }
         requires lots { lots.now ≡ lots_for code.now returns.now }
         requires columns { IsTrue (has_columns (context_of code.now) instr.now) }
         requires sizes { sizes_of self.old ≡ sizes_for code.now returns.now }
-        requires records { state_by records (state_of self.old) ≡ state_of self.old }
-        ensures follows { IfOk result (λ next. effect_of next (state_of self.new)
-            ≡ left_by records instr.now (effect code.now returns.now instr.now (state_of self.old))) }
+        requires records { state_by R.records (state_of self.old) ≡ state_of self.old }
+        ensures follows { IfOk result (λ next. IfSome next (λ move. effect_of move (state_of self.new)
+            ≡ left_by R.records instr.now (effect code.now returns.now instr.now (state_of self.old)))) }
+        ensures ends { IfOk result (λ next. IfNone next (IsTrue (ends_run instr.now) × (self.new ≡ self.old))) }
         ensures kept { sizes_of self.new ≡ sizes_of self.old }
     {
         match *instr {
-            Instr::Set(register, value) => Ok(self.set(register, value)),
-            Instr::Mov(register, from) => Ok(self.copy(register, from)),
-            Instr::Add(register, by) => Ok(self.add(register, by)),
-            Instr::Sub(register, by) => Ok(self.subtract(register, by)),
-            Instr::Mul(register, by) => Ok(self.multiply(register, by)),
-            Instr::Div(register, by) => Ok(self.divide(register, by)),
-            Instr::Rem(register, by) => Ok(self.keep_rest(register, by)),
-            Instr::Max(register, by) => Ok(self.keep_greater(register, by)),
-            Instr::Jmp(..) => Ok(Effect::Jumps),
-            Instr::Jz(register, _) => Ok(self.jump_if_zero(register)),
-            Instr::Jlt(left, right, _) => Ok(self.jump_if_less(left, right)),
-            Instr::Jnl(..) => Ok(self.jump_without_list(returns)),
-            Instr::Get(register, slot) => Ok(self.get_cell(code, returns, register, slot)),
-            Instr::Store(slot, register) => Ok(self.store_cell(code, returns, slot, register)),
-            Instr::Zero(slot) => Ok(self.zero_column(slot)),
-            Instr::Input(slot, input) => Ok(self.input_column(returns, slot, input)),
-            Instr::House(register) => Ok(self.set_house(returns, register)),
-            Instr::Wparty(..) => Ok(self.to_winners_party(returns)),
-            Instr::Wland => Ok(self.to_winners_land(returns)),
-            Instr::Fparty(..) => Ok(self.first_party(returns)),
-            Instr::Nparty(..) => Ok(self.next_party(returns)),
-            Instr::Fland(..) => Ok(self.first_land(returns)),
-            Instr::Nland(..) => Ok(self.next_land(returns)),
-            Instr::Fwin(..) => Ok(self.first_win(returns)),
-            Instr::Nwin(..) => Ok(self.next_win(returns)),
-            Instr::Table(entries, ranking) => Ok(self.open_table(entries, ranking)),
-            Instr::Prio(method, weight, seats) => self.enter_quotient(
+            Instr::Set(register, value) => Ok(Some(self.set(register, value))),
+            Instr::Mov(register, from) => Ok(Some(self.copy(register, from))),
+            Instr::Add(register, by) => Ok(Some(self.add(register, by))),
+            Instr::Sub(register, by) => Ok(Some(self.subtract(register, by))),
+            Instr::Mul(register, by) => Ok(Some(self.multiply(register, by))),
+            Instr::Div(register, by) => Ok(Some(self.divide(register, by))),
+            Instr::Rem(register, by) => Ok(Some(self.keep_rest(register, by))),
+            Instr::Max(register, by) => Ok(Some(self.keep_greater(register, by))),
+            Instr::Jmp(..) => Ok(Some(Effect::Jumps)),
+            Instr::Jz(register, _) => Ok(Some(self.jump_if_zero(register))),
+            Instr::Jlt(left, right, _) => Ok(Some(self.jump_if_less(left, right))),
+            Instr::Jnl(..) => Ok(Some(self.jump_without_list(returns))),
+            Instr::Get(register, slot) => Ok(Some(self.get_cell(code, returns, register, slot))),
+            Instr::Store(slot, register) => Ok(Some(self.store_cell(
+                code, returns, slot, register,
+            ))),
+            Instr::Zero(slot) => Ok(Some(self.zero_column(slot))),
+            Instr::Input(slot, input) => Ok(Some(self.input_column(returns, slot, input))),
+            Instr::House(register) => Ok(Some(self.set_house(returns, register))),
+            Instr::Wparty(..) => Ok(Some(self.to_winners_party(returns))),
+            Instr::Wland => Ok(Some(self.to_winners_land(returns))),
+            Instr::Fparty(..) => Ok(Some(self.first_party(returns))),
+            Instr::Nparty(..) => Ok(Some(self.next_party(returns))),
+            Instr::Fland(..) => Ok(Some(self.first_land(returns))),
+            Instr::Nland(..) => Ok(Some(self.next_land(returns))),
+            Instr::Fwin(..) => Ok(Some(self.first_win(returns))),
+            Instr::Nwin(..) => Ok(Some(self.next_win(returns))),
+            Instr::Table(entries, ranking) => Ok(Some(self.open_table(entries, ranking))),
+            Instr::Prio(method, weight, seats) => Ok(Some(self.enter_quotient(
                 returns, method, weight, seats,
-            ),
-            Instr::Rest(register) => self.enter_remainder(returns, register),
-            Instr::Lead => self.enter_lead(returns),
-            Instr::Share => self.enter_share(returns),
-            Instr::Peers(register, _) => Ok(self.count_peers(register)),
-            Instr::Take => Ok(self.take_top(returns)),
-            Instr::Lot(stage, _) => Ok(self.jump_without_lot(code, lots, stage)),
-            Instr::Takelot(stage) => Ok(self.take_drawn(code, returns, lots, stage)),
-            Instr::Emit(stage, scope, number, step) => match records {
-                Records::Kept => self.emit(code, returns, stage, scope, number, step),
-                Records::Dropped => Ok(Effect::Goes),
+            )?)),
+            Instr::Rest(register) => Ok(Some(self.enter_remainder(returns, register)?)),
+            Instr::Lead => Ok(Some(self.enter_lead(returns)?)),
+            Instr::Share => Ok(Some(self.enter_share(returns)?)),
+            Instr::Peers(register, _) => Ok(Some(self.count_peers(register))),
+            Instr::Take => Ok(Some(self.take_top(returns))),
+            Instr::Lot(stage, _) => Ok(Some(self.jump_without_lot(code, lots, stage))),
+            Instr::Takelot(stage) => Ok(Some(self.take_drawn(code, returns, lots, stage))),
+            Instr::Emit(stage, scope, number, step) => match R::records() {
+                Records::Kept => Ok(Some(self.emit(code, returns, stage, scope, number, step)?)),
+                Records::Dropped => Ok(Some(Effect::Goes)),
             },
-            Instr::Given(stage, scope, number) => match records {
-                Records::Kept => self.emit_given(code, returns, stage, scope, number),
-                Records::Dropped => Ok(Effect::Goes),
+            Instr::Given(stage, scope, number) => match R::records() {
+                Records::Kept => Ok(Some(self.emit_given(code, returns, stage, scope, number)?)),
+                Records::Dropped => Ok(Some(Effect::Goes)),
             },
+            Instr::Fault(..) | Instr::Tie(..) | Instr::Halt(..) | Instr::Haltv(..) => Ok(None),
+            Instr::Seat => Ok(Some(self.seat_on_list(returns))),
+            Instr::Single => Ok(Some(self.seat_as_single(returns))),
+            Instr::At(..) => Ok(Some(Effect::Goes)),
+            Instr::Weigh(stage, scope, rounding, weight) => match R::records() {
+                Records::Kept => Ok(Some(self.weigh(
+                    code, returns, stage, scope, rounding, weight,
+                )?)),
+                Records::Dropped => Ok(Some(Effect::Goes)),
+            },
+        }
+    }
+
+    /// The end that an instruction gives the run.
+    ///
+    /// # Errors
+    ///
+    /// Want of memory.
+    pub(crate) fn end(
+        &mut self,
+        code: &Code,
+        returns: &Returns,
+        instr: &Instr,
+    ) -> Result<End, NoMemory>
+        requires step { MayStep code.now returns.now instr.now (state_of self.old) }
+        requires columns { IsTrue (has_columns (context_of code.now) instr.now) }
+        requires ends { IsTrue (ends_run instr.now) }
+        ensures follows { IfOk result (λ end. Ends (end_with end (state_of self.new)) ≡ effect code.now returns.now instr.now (state_of self.old)) }
+        ensures kept { sizes_of self.new ≡ sizes_of self.old }
+    {
+        match *instr {
             Instr::Fault(stage, scope, fault) => Ok(self.end_with_fault(code, stage, scope, fault)),
             Instr::Tie(stage, scope, seats) => self.end_with_tie(
                 code, returns, stage, scope, seats,
             ),
-            Instr::Seat => Ok(self.seat_on_list(returns)),
-            Instr::Single => Ok(self.seat_as_single(returns)),
             Instr::Halt(slot) => Ok(halt(slot)),
-            Instr::At(..) => Ok(Effect::Goes),
             Instr::Haltv(slot, vacant) => Ok(halt_with_vacant(slot, vacant)),
-            Instr::Weigh(stage, scope, rounding, weight) => match records {
-                Records::Kept => self.weigh(code, returns, stage, scope, rounding, weight),
-                Records::Dropped => Ok(Effect::Goes),
-            },
+            _ => unreachable!(),
         }
     }
 }

@@ -25,11 +25,6 @@ le_not_gt Less h = refl
 le_not_gt Equal h = refl
 le_not_gt Greater h = cc
 
-pub greater_from : (r : Ordering) → is_le r ≡ false → is_gt r ≡ true
-greater_from Less h = cc
-greater_from Equal h = cc
-greater_from Greater h = refl
-
 pub le_reverse : (r s : Ordering) → r ≡ ordering_reverse s → is_gt r ≡ true → is_le s ≡ true
 le_reverse Less s e h = cc
 le_reverse Equal s e h = cc

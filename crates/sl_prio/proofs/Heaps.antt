@@ -53,9 +53,6 @@ module _ (xs : List Entry) (j c : ℕ) (from : j * 2 + 1 ≤ c) (to : c ≤ j * 
     ];
   }
 
-pub under_greatest : (xs : List Entry) (j c : ℕ) → IsGreatestChild xs j c → IsUnder xs j c → HasChildrenUnder xs j j
-under_greatest xs j c g h = λ k a b l. under_chain xs j c k h (g.greatest k a b l)
-
 -- ---- an exchange of an entry with a child
 
 module _ (xs ys : List Entry) (j c : ℕ) (s : SwappedAt xs ys j c) (long : length ys ≡ length xs) where

@@ -2,9 +2,26 @@
 //! The children of place `p` stand at `2 * p + 1` and `2 * p + 2`.
 
 ghost use Rattle.std.specs.Prelude.{◌≡◌, ◌+◌, ◌*◌, ◌<◌, ◌≤◌, ◌∷◌, length, slice_index_or, IsPermutation, MatchOption};
-ghost use Rattle.sl_prio.specs.inner.Heap.{IsHeap, IsHeapBut, MayRise, IsGreatestChild, HasChildrenUnder};
+ghost use Rattle.std.specs.Ordering.{is_gt};
+ghost use Rattle.sl_ratio.specs.Entry.{entry_cmp};
+ghost use Rattle.sl_prio.specs.inner.Heap.{IsHeap, IsHeapBut, MayRise, IsGreatestChild};
 
 use sl_ratio::Entry;
+use std::cmp::Ordering;
+
+// Whether an entry is greater than another. All but those with equal quotients are told apart by these.
+fn exceeds(entry: &Entry, other: &Entry) -> bool
+    ensures { result ≡ is_gt (entry_cmp entry.now other.now) }
+{
+    // no ratio has numerator 0, so the quotients are ordered as they are compared
+    prove!(entry.ratio.num() > 0);
+    prove!(other.ratio.num() > 0);
+    match entry.ratio.cmp(&other.ratio) {
+        Ordering::Less => false,
+        Ordering::Equal => entry > other,
+        Ordering::Greater => true,
+    }
+}
 
 // Moves the entry at a place up, until its parent is no smaller.
 pub(crate) fn sift_up(entries: &mut [Entry], place: usize)
@@ -15,7 +32,7 @@ pub(crate) fn sift_up(entries: &mut [Entry], place: usize)
     let mut place = place;
     while place > 0 {
         let parent = (place - 1) / 2;
-        if entries[place] <= entries[parent] {
+        if !exceeds(&entries[place], &entries[parent]) {
             return;
         }
         entries.swap(parent, place);
@@ -49,7 +66,8 @@ pub(crate) fn take_out(entries: &mut Vec<Entry>, place: usize) -> Entry
     removed
 }
 
-// Moves the entry at a place down, until no child is greater, and answers the place at which it then stands.
+// Moves the entry at a place down to a place without children, and answers that. It stands too low then, if it is greater than its parent:
+// the last entry of a heap, which comes to the place of one that is taken, seldom is.
 fn sift_down(entries: &mut [Entry], place: usize) -> usize
     requires within { place < length entries.old }
     requires others { IsHeapBut entries.old place }
@@ -57,24 +75,11 @@ fn sift_down(entries: &mut [Entry], place: usize) -> usize
     ensures settled { MayRise entries.new result }
 {
     let mut place = place;
-    while let Some(child) = exceeding_child(entries, place) {
+    while let Some(child) = greatest_child(entries, place) {
         entries.swap(place, child);
         place = child;
     }
     place
-}
-
-// The place of the greatest child of a place, where that is greater than the entry at the place.
-fn exceeding_child(entries: &[Entry], place: usize) -> Option<usize>
-    requires { place < length entries.now }
-    ensures { MatchOption result (HasChildrenUnder entries.now place place) (λ child. IsGreatestChild entries.now place child) }
-{
-    let child = greatest_child(entries, place)?;
-    if entries[child] > entries[place] {
-        Some(child)
-    } else {
-        None
-    }
 }
 
 // The place of the greatest child of a place, where that has one.
@@ -87,7 +92,7 @@ fn greatest_child(entries: &[Entry], place: usize) -> Option<usize>
         return None;
     }
     let right = left + 1;
-    if right < entries.len() && entries[right] > entries[left] {
+    if right < entries.len() && exceeds(&entries[right], &entries[left]) {
         return Some(right);
     }
     Some(left)

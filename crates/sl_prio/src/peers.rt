@@ -31,18 +31,6 @@ fn peer_at(entries: &[Entry], top: &Entry, place: usize) -> Option<Entry>
     }
 }
 
-// The number of peers at a place and below it.
-fn count(entries: &[Entry], top: &Entry, place: usize) -> usize
-    requires kept { IsKept entries.now }
-    requires first { slice_get entries.now 0 ≡ Some top.now }
-    ensures { result ≡ length (peers_under top.now entries.now place) }
-{
-    match peer_at(entries, top, place) {
-        Some(_) => 1 + count(entries, top, 2 * place + 1) + count(entries, top, 2 * place + 2),
-        None => 0,
-    }
-}
-
 // Takes the marks of `before` peers away, if one entry alone exceeds them. `top` is their top.
 pub(crate) fn clear_exceeded(marks: &mut Marks, count: usize, top: Option<Entry>, before: usize)
     ensures { 1 < count → marks.new ≡ marks.old }
@@ -74,8 +62,7 @@ fn count_anew(entries: &[Entry], marks: &mut Marks, stale: bool) -> usize
         return 0;
     };
     clear_stale(marks, stale);
-    mark_indexes(entries, top, marks, 0);
-    count(entries, top, 0)
+    mark_peers(entries, top, marks, 0)
 }
 
 // The number of peers in a heap that had so many before one of them was taken, and their marks. `gone` is its index, if no other peer
@@ -124,17 +111,20 @@ pub(crate) fn are_named(
     }
 }
 
-// Marks the index of each peer at a place and below it.
-fn mark_indexes(entries: &[Entry], top: &Entry, marks: &mut Marks, place: usize)
+// Marks the index of each peer at a place and below it, and counts them.
+fn mark_peers(entries: &[Entry], top: &Entry, marks: &mut Marks, place: usize) -> usize
     requires kept { IsKept entries.now }
     requires first { slice_get entries.now 0 ≡ Some top.now }
-    ensures { (before : ℕ → Bool) → AreMarks before marks.old → AreMarks (λ index. before index || have_index (peers_under top.now entries.now place) index) marks.new }
+    ensures count { result ≡ length (peers_under top.now entries.now place) }
+    ensures marks { (before : ℕ → Bool) → AreMarks before marks.old → AreMarks (λ index. before index || have_index (peers_under top.now entries.now place) index) marks.new }
 {
-    if let Some(peer) = peer_at(entries, top, place) {
-        mark(marks, peer.index);
-        mark_indexes(entries, top, marks, 2 * place + 1);
-        mark_indexes(entries, top, marks, 2 * place + 2);
-    }
+    let Some(peer) = peer_at(entries, top, place) else {
+        return 0;
+    };
+    mark(marks, peer.index);
+    let left = mark_peers(entries, top, marks, 2 * place + 1);
+    let right = mark_peers(entries, top, marks, 2 * place + 2);
+    1 + left + right
 }
 
 // The first place at which a peer with an index stands. An index without a mark is not searched for.

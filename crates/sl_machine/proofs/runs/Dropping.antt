@@ -1,11 +1,12 @@
 -- An instruction reads no records: in a state without them it does what it does, but for those.
-use Rattle.std.proofs.Common.{◌≡◌, ℕ, zero, suc, ◌+◌, Bool, true, false, ◌==◌, nat_lt, min, List, length, Option, Some, None, slice_get, if◌then◌else◌, refl, ap, ◌∙◌}
+use Rattle.std.proofs.Common.{◌≡◌, ◌≢◌, sym, ℕ, zero, suc, ◌+◌, Bool, true, false, ◌==◌, nat_lt, min, List, length, Option, Some, None, slice_get, if◌then◌else◌, refl, ap, ◌∙◌}
 use Rattle.sl_ratio.specs.declared.entry.Entry.{Entry}
 use Rattle.sl_ratio.specs.declared.limits.TheConstants.{MAX_WEIGHT, MAX_SEATS}
 use Rattle.sl_ratio.specs.Quotient.{Quotient, quotient}
 use Rattle.sl_stages.specs.declared.book.Shape.{Shape}
 use Rattle.sl_stages.specs.declared.book.Shape.TheVariants as shape
 use Rattle.sl_stages.specs.declared.fault.Scope.{Scope}
+use Rattle.sl_stages.specs.declared.table.Weight.{Weight}
 use Rattle.sl_stages.specs.returns.Election.{Election, lands_of, parties_of, wins_of, has_list}
 use Rattle.sl_code.specs.declared.instr.Instr.{Instr}
 use Rattle.sl_code.specs.declared.instr.Instr.TheVariants as instr
@@ -23,7 +24,7 @@ use Rattle.sl_machine.specs.declared.step.Records.TheVariants as records
 use Rattle.sl_machine.specs.State.{State, PriorityTable}
 use Rattle.sl_machine.specs.Places.{both, cell_at, index_at, at_entry, scope_at}
 use Rattle.sl_machine.specs.Drawn.{lot_of}
-use Rattle.sl_machine.specs.Effects.{Effect, Goes, Jumps, effect, given, where_positive, winner_at, to_party, first_of, next_of, with_party, with_land, with_win, seat_winner, sets_house, counts_peers, stage_of, name_of, at_scope, with_lot, after_take, takes, enters}
+use Rattle.sl_machine.specs.Effects.{Effect, Goes, Jumps, NoCase, with_weight, effect, given, where_positive, winner_at, to_party, first_of, next_of, with_party, with_land, with_win, seat_winner, sets_house, counts_peers, stage_of, name_of, at_scope, with_lot, after_take, takes, enters}
 use Rattle.sl_machine.specs.Unrecorded.{unrecorded}
 use Rattle.sl_machine.specs.inner.Recording.{unrecorded_effect, left_by}
 
@@ -187,3 +188,19 @@ module _ (c : CountingCode) (e : Election) (s : State) where
   drops (instr.At kinds) = refl
   drops (instr.Haltv k v) = in_given (slice_get c.slots k) _ _ (λ x. in_given (slice_get c.slots v) _ _ (λ y. refl))
   drops (instr.Weigh n k by r) = both_positive (s.registers r) _ _ (both_record c e s n k _ _ (λ stage x t index. refl))
+
+-- ---- a weight that is dropped
+
+module _ (s : State) (bare : unrecorded s ≡ s) where
+  weight_there : (o : Option ℕ) (to : ℕ → Weight) → given o (λ i. Goes (with_weight (to i) s)) ≢ NoCase → Goes s ≡ unrecorded_effect (given o (λ i. Goes (with_weight (to i) s)))
+  weight_there None to h = absurd (h refl)
+  weight_there (Some i) to h = ap Goes (sym bare)
+
+  pub weight_dropped : (n : ℕ) (stage : Option ℕ) (scope : Option Scope) (table : Option PriorityTable) (index : PriorityTable → Option ℕ) (to : ℕ → Scope → PriorityTable → ℕ → Weight) →
+      where_positive n (given stage (λ a. given scope (λ b. given table (λ t. given (index t) (λ i. Goes (with_weight (to a b t i) s)))))) ≢ NoCase →
+      Goes s ≡ unrecorded_effect (where_positive n (given stage (λ a. given scope (λ b. given table (λ t. given (index t) (λ i. Goes (with_weight (to a b t i) s)))))))
+  weight_dropped zero stage scope table index to h = absurd (h refl)
+  weight_dropped (suc n) None scope table index to h = absurd (h refl)
+  weight_dropped (suc n) (Some a) None table index to h = absurd (h refl)
+  weight_dropped (suc n) (Some a) (Some b) None index to h = absurd (h refl)
+  weight_dropped (suc n) (Some a) (Some b) (Some t) index to h = weight_there (index t) (to a b t) h

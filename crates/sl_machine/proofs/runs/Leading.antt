@@ -1,13 +1,14 @@
 -- What a step from a safe place comes to, by a run that keeps what it records or drops it.
 use Rattle.std.proofs.Common.{◌≡◌, ℕ, suc, ◌+◌, Option, Some, IsSome, IsTrue, is_some, slice_get, refl, sym, ap, subst, ◌∙◌}
+use Rattle.std.proofs.lemmas.Bool.{true≢false}
 use Rattle.std.proofs.lemmas.Option.{same_Some}
 use Rattle.sl_stages.specs.returns.Election.{Election}
 use Rattle.sl_code.specs.Codes.{CountingCode}
 use Rattle.sl_code.specs.declared.instr.Instr.{Instr}
+use Rattle.sl_code.specs.declared.instr.Instr.TheVariants as op
 use Rattle.sl_verify.specs.Needs.{has_columns}
 use Rattle.sl_verify.specs.WellKinded.{context_of}
 use Rattle.sl_code.specs.Rows.{target_of}
-use Rattle.sl_machine.specs.declared.machine.Step.TheVariants as step
 use Rattle.sl_machine.specs.declared.step.End.{End}
 use Rattle.sl_machine.specs.declared.step.Records.{Records}
 use Rattle.sl_machine.specs.declared.step.Records.TheVariants as records
@@ -16,7 +17,7 @@ use Rattle.sl_machine.specs.Effects.{Effect, Goes, Jumps, Ends, NoCase, effect}
 use Rattle.sl_machine.specs.Fits.{FitsEnd}
 use Rattle.sl_machine.specs.Laws.{StepsSafely, LandsSafely}
 use Rattle.sl_machine.specs.Runs.{Step, follow, to_target, after_step, run}
-use Rattle.sl_machine.specs.inner.Leading.{Leads}
+use Rattle.sl_machine.specs.inner.Leading.{LeadsTo, EndsWith, ends_run}
 use Rattle.sl_machine.specs.inner.Recording.{state_by, effect_by, ending_by, left_by}
 use Rattle.sl_machine.specs.Safe.{MayStep}
 use Rattle.sl_machine.specs.State.{State}
@@ -24,6 +25,14 @@ use Rattle.sl_machine.specs.inner.Stores.{end_with}
 use Rattle.sl_machine.proofs.soundness.Soundness.{safe_steps}
 use Rattle.sl_machine.proofs.runs.Stepping.{step_is}
 use Rattle.sl_machine.proofs.runs.Unrecorded.{still_safe, still_fits, left_is, goes_by, ends_by}
+
+-- what ends a run records nothing
+no_record : (k : Records) (i : Instr) (x : Effect) → IsTrue (ends_run i) → left_by k i x ≡ x
+no_record k (op.Fault n scope f) x ends = refl
+no_record k (op.Tie n scope r) x ends = refl
+no_record k (op.Halt slot) x ends = refl
+no_record k (op.Haltv slot vacant) x ends = refl
+no_record k _ x ends = absurd (true≢false (sym ends))
 
 module _ (c : CountingCode) (e : Election) (p : ℕ) (s : State) (safe : IsSafe c e p s) (i : Instr) (at : slice_get c.instrs p ≡ Some i) where
   next : StepsSafely c e p s
@@ -77,18 +86,19 @@ module _ (c : CountingCode) (e : Election) (p : ℕ) (s : State) (safe : IsSafe 
     runs_on : (x : Effect) → x ≡ left_by k i (effect c e i s) → (n : ℕ) → ending_by k (run c e (suc n) p s) ≡ ending_by k (after_step (follow p (target_of i) x) (run c e n))
     runs_on x h n = first n ∙ goes_by c e k n p (target_of i) (effect c e i s) ∙ ap (λ (y : Effect). ending_by k (after_step (follow p (target_of i) y) (run c e n))) (sym (left x h))
 
-    pub goes_on : (t : State) → Goes t ≡ left_by k i (effect c e i s) → Leads k c e p s (step.To (p + 1)) t
+    pub goes_on : (t : State) → Goes t ≡ left_by k i (effect c e i s) → LeadsTo k c e p s (p + 1) t
     goes_on t h = let there = is_good (Goes t) h in (there.0, there.1, runs_on (Goes t) h)
 
     pub has_target : (t : State) → Jumps t ≡ left_by k i (effect c e i s) → IsSome (target_of i)
     has_target t h = ap is_some (is_good (Jumps t) h).0.target
 
-    pub jumps_to : (t : State) (q : ℕ) → Jumps t ≡ left_by k i (effect c e i s) → target_of i ≡ Some q → Leads k c e p s (step.To q) t
+    pub jumps_to : (t : State) (q : ℕ) → Jumps t ≡ left_by k i (effect c e i s) → target_of i ≡ Some q → LeadsTo k c e p s q t
     jumps_to t q h target =
         let there = is_good (Jumps t) h in
         let place : there.0.place ≡ q = same_Some there.0.place q (sym there.0.target ∙ target) in
         (subst (λ (r : ℕ). IsSafe c e r t) place there.0.safe, there.1, λ n. runs_on (Jumps t) h n ∙ ap (λ (o : Option ℕ). ending_by k (after_step (to_target o t) (run c e n))) target)
 
-    pub ends_with : (x : End) (t : State) → Ends (end_with x t) ≡ left_by k i (effect c e i s) → Leads k c e p s (step.Over x) t
-    ends_with x t h =
+    pub ends_with : (x : End) (t : State) → IsTrue (ends_run i) → Ends (end_with x t) ≡ effect c e i s → EndsWith k c e p s x t
+    ends_with x t ends same =
+        let h : Ends (end_with x t) ≡ left_by k i (effect c e i s) = same ∙ sym (no_record k i (effect c e i s) ends) in
         (is_good (Ends (end_with x t)) h, λ n. first n ∙ ends_by k p (target_of i) (effect c e i s) (run c e n) (end_with x t) (left (Ends (end_with x t)) h))

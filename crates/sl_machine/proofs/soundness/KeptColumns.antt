@@ -1,5 +1,5 @@
 -- The jumps on registers and the instructions on columns keep what is known.
-use Rattle.std.proofs.Common.{ℕ, zero, suc, ◌<◌, false, IsTrue, List, [], ◌∷◌, length, Option, Some, None, IsSome, IsSomeAnd, slice_get, nat_lt, ◌==◌, refl, sym, arith, ltb-true}
+use Rattle.std.proofs.Common.{ℕ, ◌<◌, false, IsTrue, Option, Some, None, IsSome, IsSomeAnd, slice_get, nat_lt, ◌==◌, refl, sym, arith}
 use Rattle.std.specs.Bool.{⊤}
 use Rattle.std.specs.Option.{option_map_or}
 use Rattle.std.proofs.lemmas.Bool.{and_parts, eqb-false, true≢false}
@@ -19,7 +19,7 @@ use Rattle.sl_machine.specs.Places.{both, cell_at}
 use Rattle.sl_machine.specs.Effects.{Goes, Jumps}
 use Rattle.sl_machine.specs.Agrees.{AreSet}
 use Rattle.sl_machine.proofs.soundness.Sets.{positive_written, positive_found, set_covered}
-use Rattle.sl_machine.proofs.soundness.Keeping.{Keeps, keeps_registers, keeps_records, follows_given, follows_either, get_some, IsSound}
+use Rattle.sl_machine.proofs.soundness.Keeping.{Keeps, keeps_registers, keeps_records, follows_given, follows_either, IsSound}
 
 -- a cursor that is set
 pub set_some : {A : Type 0} (o : Option A) → IsSome o → IsSomeAnd o (λ x. ⊤)

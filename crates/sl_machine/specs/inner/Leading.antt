@@ -1,9 +1,10 @@
 -- Where a step of the machine leads, and how its steps end.
-use Rattle.std.specs.Prelude.{◌≡◌, ℕ, suc, Option, Some, None}
+use Rattle.std.specs.Prelude.{◌≡◌, ℕ, suc, Bool, true, false, Option, Some, None, IsTrue, slice_get}
+use Rattle.std.specs.Option.{ForSome}
 use Rattle.sl_stages.specs.returns.Election.{Election}
 use Rattle.sl_code.specs.Codes.{CountingCode}
-use Rattle.sl_machine.specs.declared.machine.Step.{Step}
-use Rattle.sl_machine.specs.declared.machine.Step.TheVariants as step
+use Rattle.sl_code.specs.declared.instr.Instr.{Instr}
+use Rattle.sl_code.specs.declared.instr.Instr.TheVariants as op
 use Rattle.sl_machine.specs.declared.step.End.{End}
 use Rattle.sl_machine.specs.declared.step.Records.{Records}
 use Rattle.sl_machine.specs.State.{State}
@@ -13,11 +14,26 @@ use Rattle.sl_machine.specs.Runs.{Ending, Ended, OutOfBudget, run}
 use Rattle.sl_machine.specs.inner.Recording.{state_by, ending_by}
 use Rattle.sl_machine.specs.inner.Stores.{end_with}
 
--- a step from a place and a state leads to a place and a state that are safe, or to an end that fits: runs with one step less go on there, but for
--- the records where they are dropped, of which the state has none then
-abbrev pub Leads : Records → CountingCode → Election → ℕ → State → Step → State → Type 0
-Leads k c e p s (step.To q) t = IsSafe c e q t × (state_by k t ≡ t) × ((n : ℕ) → ending_by k (run c e (suc n) p s) ≡ ending_by k (run c e n q t))
-Leads k c e p s (step.Over end) t = FitsEnd c e (end_with end t) × ((n : ℕ) → ending_by k (run c e (suc n) p s) ≡ Ended (end_with end t))
+-- the instructions that end a run
+abbrev pub ends_run : Instr → Bool
+ends_run (op.Fault n k f) = true
+ends_run (op.Tie n k r) = true
+ends_run (op.Halt k) = true
+ends_run (op.Haltv k v) = true
+ends_run _ = false
+
+-- such a one stands at the place
+abbrev pub EndsAt : CountingCode → ℕ → Type 0
+EndsAt c p = ForSome (slice_get c.instrs p) (λ i. IsTrue (ends_run i))
+
+-- a step from a place and a state leads to a place and a state that are safe: runs with one step less go on there, but for the records where they are
+-- dropped, of which the state has none then
+abbrev pub LeadsTo : Records → CountingCode → Election → ℕ → State → ℕ → State → Type 0
+LeadsTo k c e p s q t = IsSafe c e q t × (state_by k t ≡ t) × ((n : ℕ) → ending_by k (run c e (suc n) p s) ≡ ending_by k (run c e n q t))
+
+-- it comes to an end that fits
+abbrev pub EndsWith : Records → CountingCode → Election → ℕ → State → End → State → Type 0
+EndsWith k c e p s end t = FitsEnd c e (end_with end t) × ((n : ℕ) → ending_by k (run c e (suc n) p s) ≡ Ended (end_with end t))
 
 -- how steps end that come to a state
 abbrev pub ending_with : Option End → State → Ending

@@ -10,7 +10,7 @@ use Rattle.sl_machine.specs.declared.step.Effect.TheVariants as move
 use Rattle.sl_machine.specs.declared.store.Store.{Store}
 use Rattle.sl_machine.specs.State.{State, End, Halted, Faulted}
 use Rattle.sl_machine.specs.Places.{cells_of}
-use Rattle.sl_machine.specs.Effects.{Effect, Goes, Jumps, Ends}
+use Rattle.sl_machine.specs.Effects.{Effect, Goes, Jumps}
 
 -- the columns, each as the list of its cells
 abbrev pub columns_of : Store → List (List ℕ)
@@ -43,7 +43,7 @@ sizes_of s = record { columns = map length (columns_of s); winners = length s.pl
 abbrev pub sizes_for : CountingCode → Election → Sizes
 sizes_for c e = record { columns = map (cells_of e) c.slots; winners = wins_of e }
 
--- the end and the effect that a body answers, with the state that it leaves
+-- the end that a body answers, and the effect, with the state that it leaves
 abbrev pub end_with : Answer → State → End
 end_with (end.Halted base vacant) s = Halted base vacant s
 end_with (end.Faulted fault) s = Faulted fault
@@ -51,4 +51,3 @@ end_with (end.Faulted fault) s = Faulted fault
 abbrev pub effect_of : Move → State → Effect
 effect_of move.Goes s = Goes s
 effect_of move.Jumps s = Jumps s
-effect_of (move.Ends end) s = Ends (end_with end s)

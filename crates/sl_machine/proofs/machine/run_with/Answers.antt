@@ -21,21 +21,21 @@ use Rattle.sl_machine.proofs.soundness.Soundness.{starts_are_safe}
 use Rattle.sl_machine.proofs.machine.run_with.Goals as goal
 
 pub steps-requires-clause-safe : goal.steps-requires-clause-safe
-steps-requires-clause-safe c =
+steps-requires-clause-safe g c =
     let code = c.code-code.result.now in
     let e = c.args.returns.now in
     let kinds = subst (λ (x : CountingCode). IsWellKinded x) (sym c.code-code.ensures.code) c.code-code.ensures.kinds in
     subst (λ (s : State). IsSafe code e 0 s) (sym c.in_ok-store.ensures.state) (starts_are_safe code e kinds c.in_ok-store.ensures.election)
 
 pub steps-requires-clause-records : goal.steps-requires-clause-records
-steps-requires-clause-records c = subst (λ (s : State). state_by c.args.records s ≡ s) (sym c.in_ok-store.ensures.state) (start_by c.args.records)
+steps-requires-clause-records g c = subst (λ (s : State). state_by g.R.Recording.records s ≡ s) (sym c.in_ok-store.ensures.state) (start_by g.R.Recording.records)
 
 -- an end that fits, and halts
 halted : (c : CountingCode) (e : Election) (s : State) (base : ℕ) (vacant : Option ℕ) (x : End) (o : Option End) → o ≡ Some x → x ≡ end.Halted base vacant → FitsWith c e o s → FitsHalt c e base vacant s
 halted c e s base vacant x o some is fits = subst (λ (y : End). FitsWith c e (Some y) s) is (subst (λ (p : Option End). FitsWith c e p s) some fits)
 
 pub new-requires-clause-vacant : goal.new-requires-clause-vacant
-new-requires-clause-vacant c = λ slot named.
+new-requires-clause-vacant g c = λ slot named.
     let code = c.code-code.result.now in
     let e = c.args.returns.now in
     let h = c.in-Some-Halted in
@@ -45,7 +45,7 @@ new-requires-clause-vacant c = λ slot named.
     omega (arith, columns, below)
 
 pub returns-in-Some-Halted-clause-fits : goal.returns-in-Some-Halted-clause-fits
-returns-in-Some-Halted-clause-fits c =
+returns-in-Some-Halted-clause-fits g c =
     let code = c.code-code.result.now in
     let e = c.args.returns.now in
     let h = c.in-Some-Halted in

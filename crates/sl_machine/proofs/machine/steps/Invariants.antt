@@ -7,12 +7,12 @@ use Rattle.sl_machine.specs.inner.Stores.{state_of, sizes_of, sizes_for}
 use Rattle.sl_machine.proofs.machine.steps.Given as goal
 
 abbrev pub invariant-loop-left : goal.invariant-loop-left
-invariant-loop-left l = record {
-  same : ending_by l.records (run l.code l.returns l.budget 0 (state_of l.fn.store)) ≡ ending_by l.records (run l.code l.returns l.left l.place (state_of l.store));
+invariant-loop-left g l = record {
+  same : ending_by g.R.Recording.records (run l.code l.returns l.budget 0 (state_of l.fn.store)) ≡ ending_by g.R.Recording.records (run l.code l.returns l.left l.place (state_of l.store));
   safe : IsSafe l.code l.returns l.place (state_of l.store);
-  none : state_by l.records (state_of l.store) ≡ state_of l.store;
+  none : state_by g.R.Recording.records (state_of l.store) ≡ state_of l.store;
   sizes : sizes_of l.store ≡ sizes_for l.code l.returns;
 }
 
 abbrev pub decreases-loop-left : goal.decreases-loop-left
-decreases-loop-left l = l.left
+decreases-loop-left g l = l.left

@@ -1,12 +1,14 @@
 -- The instructions whose methods see less than the whole code and the returns.
+use Rattle.std.proofs.Common.{sym, ◌∙◌}
 use Rattle.sl_machine.specs.Effects.{stage_of}
 use Rattle.sl_machine.specs.Places.{scope_at, index_at, item_of}
 use Rattle.sl_machine.specs.inner.Stores.{state_of}
 use Rattle.sl_machine.proofs.drawing.Drawing.{entry_there}
+use Rattle.sl_machine.proofs.runs.Dropping.{weight_dropped}
 use Rattle.sl_machine.proofs.store.Store.step.Goals as goal
 
 pub weigh-requires-clause-entry : goal.weigh-requires-clause-entry
-weigh-requires-clause-entry c =
+weigh-requires-clause-entry g c =
     let e = c.args.returns.now in
     let s = state_of c.args.self.now in
     let case = rw c.in-Weigh.is at c.requires.step.case in
@@ -14,22 +16,29 @@ weigh-requires-clause-entry c =
     (λ t. index_at e t.entries s) (λ t. item_of e t.entries) _ case
 
 pub returns-in-House-clause-follows : goal.returns-in-House-clause-follows
-returns-in-House-clause-follows c = rw c.in-House.is (c.set_house.ensures.follows c.args.code.now)
+returns-in-House-clause-follows g c = rw c.in-House.is (c.set_house.ensures.follows c.args.code.now)
 
 pub returns-in-Table-clause-follows : goal.returns-in-Table-clause-follows
-returns-in-Table-clause-follows c = rw c.in-Table.is (c.open_table.ensures.follows c.args.code.now c.args.returns.now)
+returns-in-Table-clause-follows g c = rw c.in-Table.is (c.open_table.ensures.follows c.args.code.now c.args.returns.now)
 
 pub returns-in-Peers-clause-follows : goal.returns-in-Peers-clause-follows
-returns-in-Peers-clause-follows c = rw c.in-Peers.is (c.count_peers.ensures.follows c.args.code.now c.args.returns.now)
+returns-in-Peers-clause-follows g c = rw c.in-Peers.is (c.count_peers.ensures.follows c.args.code.now c.args.returns.now)
 
 pub returns-in-Take-clause-follows : goal.returns-in-Take-clause-follows
-returns-in-Take-clause-follows c = rw c.in-Take.is (c.take_top.ensures.follows c.args.code.now)
-
-pub returns-in-Fault-clause-follows : goal.returns-in-Fault-clause-follows
-returns-in-Fault-clause-follows c = rw c.in-Fault.is (c.end_with_fault.ensures c.args.returns.now)
+returns-in-Take-clause-follows g c = rw c.in-Take.is (c.take_top.ensures.follows c.args.code.now)
 
 pub returns-in-Seat-clause-follows : goal.returns-in-Seat-clause-follows
-returns-in-Seat-clause-follows c = rw c.in-Seat.is (c.seat_on_list.ensures.follows c.args.code.now)
+returns-in-Seat-clause-follows g c = rw c.in-Seat.is (c.seat_on_list.ensures.follows c.args.code.now)
 
 pub returns-in-Single-clause-follows : goal.returns-in-Single-clause-follows
-returns-in-Single-clause-follows c = rw c.in-Single.is (c.seat_as_single.ensures.follows c.args.code.now)
+returns-in-Single-clause-follows g c = rw c.in-Single.is (c.seat_as_single.ensures.follows c.args.code.now)
+
+pub returns-in-Dropped-records-2-clause-follows : goal.returns-in-Dropped-records-2-clause-follows
+returns-in-Dropped-records-2-clause-follows g c =
+    let e = c.args.returns.now in
+    let s = state_of c.args.self.now in
+    let w = c.in-Weigh in
+    let dropped = sym c.records-in-Weigh.ensures ∙ c.in-Dropped-records-2.is in
+    let case = rw w.is at c.requires.step.case in
+    rw (w.is, dropped) (weight_dropped s (rw dropped at c.requires.records) (s.registers w.weight) (stage_of c.args.code.now.stages w.stage) (scope_at w.scope s) s.table
+    (λ t. index_at e t.entries s) _ case)

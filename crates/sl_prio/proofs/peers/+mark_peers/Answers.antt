@@ -1,0 +1,50 @@
+-- The peers below a place are those of its children.
+use Rattle.std.proofs.Common.{◌+◌, ◌*◌, ◌||◌, length, length-append, nat_eq, sym, ap, subst, arith}
+use Rattle.sl_prio.specs.inner.Heap.{peers_under}
+use Rattle.sl_prio.specs.inner.Marks.{AreMarks, have_index}
+use Rattle.sl_prio.proofs.Marks.{all_marked}
+use Rattle.sl_prio.proofs.Subtrees.{peers_bounded}
+use Rattle.sl_prio.proofs.peers.+mark_peers.Goals as goal
+
+pub overflow_add-result : goal.overflow_add-result
+overflow_add-result t c =
+    let first = c.args.top.now in
+    let xs = c.args.entries.now in
+    let p = c.args.place in
+    let sum = ap length c.in-Some.ensures.peers in
+    let parts = length-append (peers_under first xs (2 * p + 1)) (peers_under first xs (2 * p + 2)) in
+    let most = peers_bounded first xs p in
+    omega (arith, sum, parts, most)
+
+pub overflow_add-result-2 : goal.overflow_add-result-2
+overflow_add-result-2 t c =
+    let first = c.args.top.now in
+    let xs = c.args.entries.now in
+    let p = c.args.place in
+    let sum = ap length c.in-Some.ensures.peers in
+    let parts = length-append (peers_under first xs (2 * p + 1)) (peers_under first xs (2 * p + 2)) in
+    let most = peers_bounded first xs p in
+    omega (arith, sum, parts, most)
+
+pub returns-clause-count : goal.returns-clause-count
+returns-clause-count t c =
+    let first = c.args.top.now in
+    let xs = c.args.entries.now in
+    let p = c.args.place in
+    let sum = ap length c.in-Some.ensures.peers in
+    let parts = length-append (peers_under first xs (2 * p + 1)) (peers_under first xs (2 * p + 2)) in
+    omega (arith, sum, parts)
+
+pub returns-clause-marks : goal.returns-clause-marks
+returns-clause-marks t c = λ before held.
+    let first = c.args.top.now in
+    let xs = c.args.entries.now in
+    let p = c.args.place in
+    let peer = c.in-Some.peer in
+    let left = peers_under first xs (2 * p + 1) in
+    let right = peers_under first xs (2 * p + 2) in
+    let after = c.mark_peers-right.new.marks in
+    let one = c.mark.ensures.marked before held in
+    let two = c.mark_peers-left.ensures.marks (λ index. before index || nat_eq peer.index index) one in
+    let three = c.mark_peers-right.ensures.marks (λ index. (before index || nat_eq peer.index index) || have_index left index) two in
+    subst (λ ys. AreMarks (λ index. before index || have_index ys index) after) (sym c.in-Some.ensures.peers) (all_marked before peer left right after three)
