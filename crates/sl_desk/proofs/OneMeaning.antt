@@ -8,8 +8,7 @@ use Rattle.sl_stages.specs.returns.Election.{Election, IsElection}
 use Rattle.sl_stages.specs.meaning.Tables.{SeatTable}
 use Rattle.sl_stages.specs.meaning.Columns.{NamedColumn}
 use Rattle.sl_stages.specs.meaning.Means.{Known, StagesResult, Through, nothing_known, StagesMean, SameTable}
-use Rattle.std.specs.List.{IsDistinct}
-use Rattle.sl_stages.specs.laws.MeaningLaws.{same_seat}
+use Rattle.sl_stages.specs.laws.MeaningLaws.{RecordsComeOnce}
 use Rattle.sl_stages.proofs.meaning.ExactlyOne.{same_ones}
 use Rattle.sl_stages.proofs.meaning.MeaningProofs.{at_most_one_outcome}
 use Rattle.sl_stages.proofs.meaning.OneOutcome.{one_stages_result}
@@ -44,17 +43,17 @@ one_column_text tree e n s t typed h k =
     h.text ∙ ap (λ (x : Column). stage_text e x.type.shape h.column.values) type ∙ ap (λ (x : NamedColumn). stage_text e k.type.type.shape x.values) column ∙ sym k.text
 
 -- what is reported of a table does not show in which order its steps and weights stand
-same_report : (report : Report) (tree : BookTree) (e : Election) (t u : SeatTable) (x y : List ℕ) → is_typed tree ≡ true → SameTable t u → IsDistinct same_seat t.steps →
+same_report : (report : Report) (tree : BookTree) (e : Election) (t u : SeatTable) (x y : List ℕ) → is_typed tree ≡ true → SameTable t u → RecordsComeOnce t →
     IsReported report tree e t x → IsReported report tree e u y → x ≡ y
 same_report Seats tree e t u x y typed same once h k = h ∙ same_short t u e same.lists same.placed ∙ sym k
-same_report Steps tree e t u x y typed same once h k = h ∙ same_text (names_of tree) e t u same once ∙ sym k
+same_report Steps tree e t u x y typed same once h k = same_text (names_of tree) e t u x y same once h k
 same_report (Stage n) tree e t u x y typed same once h k = one_column_text tree e n x y typed h k
 
 module _ (report : Report) (tree : BookTree) (e : Election) (typed : is_typed tree ≡ true) (is : IsElection e) where
   one_table_text : (s t : List ℕ) → IsTableText report tree e s → IsTableText report tree e t → s ≡ t
   one_table_text s t h k =
       let same : SameTable h.0 k.0 = at_most_one_outcome tree e typed is (outcome.Table h.0) (outcome.Table k.0) h.1 k.1 in
-      same_report report tree e h.0 k.0 s t typed same (records_once tree e h.0 typed h.1).steps h.2 k.2
+      same_report report tree e h.0 k.0 s t typed same (records_once tree e h.0 typed h.1) h.2 k.2
 
   one_fault_text : (s t : List ℕ) → IsFaultText tree e s → IsFaultText tree e t → s ≡ t
   one_fault_text s t h k =

@@ -22,7 +22,7 @@ use Rattle.sl_books.specs.Compiled.{ComesTo, IsCompiled, ending_by}
 use Rattle.sl_table.specs.Faults.{fault_text}
 use Rattle.sl_table.specs.Short.{short_text}
 use Rattle.sl_table.specs.Stages.{held_stage_text}
-use Rattle.sl_table.specs.Steps.{steps_text}
+use Rattle.sl_table.specs.Steps.{IsStepsText}
 use Rattle.sl_desk.specs.declared.report.Report.{Report}
 use Rattle.sl_desk.specs.declared.report.Report.TheVariants.{Seats, Steps, Stage}
 use Rattle.sl_desk.specs.declared.status.Status.{Status}
@@ -98,8 +98,8 @@ module _ (report : Report) (b : BookTree) (c : CountingCode) (e : Election) (is 
       go Steps (outcome.Table t) has means comes at text =
           let held : Held = held_of c e base vacant s in
           (held_table e held, any_order b e t (held_table e held) means (table-sym t (held_table e held) comes.same),
-          text ∙ ap (λ h. steps_text (code_names c) (held_table e h) e) (sym (held_same held h (same_Some _ _ at)))
-          ∙ ap (λ names. steps_text names (held_table e held) e) is.stages)
+          subst (λ names. IsStepsText names (held_table e held) e output) is.stages
+          (subst (λ h. IsStepsText (code_names c) (held_table e h) e output) (sym (held_same held h (same_Some _ _ at))) text))
       go (Stage n) (outcome.Table t) has means comes at text =
           let bare : Held = held_of c e base vacant (unrecorded s) in
           (t, means, column_text b c is e base vacant s n output in_range ends has

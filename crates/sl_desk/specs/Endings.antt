@@ -12,7 +12,7 @@ use Rattle.sl_table.specs.Faults.{fault_text}
 use Rattle.sl_table.specs.Lines.{line}
 use Rattle.sl_table.specs.Short.{short_text}
 use Rattle.sl_table.specs.Stages.{stage_slot, held_stage_text}
-use Rattle.sl_table.specs.Steps.{steps_text}
+use Rattle.sl_table.specs.Steps.{IsStepsText}
 use Rattle.sl_desk.specs.declared.report.Report.{Report}
 use Rattle.sl_desk.specs.declared.report.Report.TheVariants.{Seats, Steps, Stage}
 use Rattle.sl_desk.specs.declared.status.Status.{Status}
@@ -27,7 +27,7 @@ code_names c = map (λ s. s.name) c.stages
 -- the text of what a run of a code holds: of the seats, of each seat's step, or of the column of a stage
 abbrev pub IsHeldText : Report → CountingCode → Election → Held → List ℕ → Type 0
 IsHeldText Seats c e h output = output ≡ short_text (held_table e h) e
-IsHeldText Steps c e h output = output ≡ steps_text (code_names c) (held_table e h) e
+IsHeldText Steps c e h output = IsStepsText (code_names c) (held_table e h) e output
 IsHeldText (Stage n) c e h output = output ≡ held_stage_text c e h n
 
 -- a code has the stage that is asked for, and the slot of its column

@@ -22,7 +22,7 @@ use Rattle.sl_table.specs.Faults.{fault_text}
 use Rattle.sl_table.specs.Lines.{line}
 use Rattle.sl_table.specs.Short.{short_text}
 use Rattle.sl_table.specs.Stages.{stage_text}
-use Rattle.sl_table.specs.Steps.{steps_text}
+use Rattle.sl_table.specs.Steps.{IsStepsText}
 use Rattle.sl_desk.specs.declared.status.Status.{Status}
 use Rattle.sl_desk.specs.declared.status.Status.TheVariants as status
 use Rattle.sl_desk.specs.declared.verdict.Verdict.{Verdict}
@@ -51,7 +51,7 @@ pub record IsColumnText (tree : BookTree) (e : Election) (n : ℕ) (output : Lis
 -- what is reported of a table that a book comes to: its seats, the step of each seat, or the column of a stage
 abbrev pub IsReported : Report → BookTree → Election → SeatTable → List ℕ → Type 0
 IsReported Seats tree e t output = output ≡ short_text t e
-IsReported Steps tree e t output = output ≡ steps_text (names_of tree) t e
+IsReported Steps tree e t output = IsStepsText (names_of tree) t e output
 IsReported (Stage n) tree e t output = IsColumnText tree e n output
 
 -- the text of a table that the book means on the returns

@@ -1,6 +1,5 @@
--- The lines of a table's steps do not show the order in which the steps stand, where no seat comes twice.
-use Rattle.std.proofs.Common.{◌≡◌, ℕ, ◌≤◌, Bool, true, false, ◌&&◌, not, List, [], ◌∷◌, ◌++◌, length, take, drop, get_or, flat_map, eq-eqb, refl, sym, ap, subst, ◌∙◌, inl, inr, arith, Ordering, Less, Equal, Greater, is_lt}
-use Rattle.std.specs.Cmp.Derive.{both_true}
+-- The steps text of a table does not show in which order the steps and the weights stand, where none comes twice.
+use Rattle.std.proofs.Common.{◌≡◌, ℕ, ◌≤◌, Bool, true, false, ◌&&◌, not, cond, List, [], ◌∷◌, ◌++◌, length, get_or, flat_map, refl, sym, ap, subst, ◌∙◌, inl, inr, arith, Ordering, Less, Equal, Greater, is_lt}
 use Rattle.std.specs.List.{All, AllByRecursion, Contains, IsDistinct, filter}
 use Rattle.std.specs.List.Sorted.{IsPermutation, ties}
 use Rattle.std.specs.Ordering.{is_gt, ordering_reverse}
@@ -11,20 +10,19 @@ use Rattle.std.proofs.lemmas.List.Sorted.{ranks_by, sum_by-IsPermutation, Contai
 use Rattle.std.proofs.lemmas.List.Sums.{length-filter}
 use Rattle.std.proofs.lemmas.Map.Keys.{IsDistinct-head, IsDistinct-tail}
 use Rattle.std.proofs.lemmas.Map.Lookups.{exact_bytes}
-use Rattle.sl_stages.specs.declared.fault.Item.{Item}
-use Rattle.sl_stages.specs.declared.fault.Item.TheVariants as item
-use Rattle.sl_stages.specs.declared.fault.Scope.{Scope}
-use Rattle.sl_stages.specs.declared.fault.Scope.TheVariants as scope
-use Rattle.sl_stages.specs.declared.table.SeatStep.{SeatStep}
-use Rattle.sl_stages.specs.laws.MeaningLaws.{same_scope, same_seat}
+use Rattle.sl_stages.specs.declared.table.Weight.{Weight}
+use Rattle.sl_stages.specs.laws.MeaningLaws.{same_seat, same_entry, RecordsComeOnce}
 use Rattle.sl_stages.specs.meaning.Means.{SameTable}
-use Rattle.sl_stages.specs.meaning.Scopes.{same_item}
 use Rattle.sl_stages.specs.meaning.Tables.{SeatTable}
 use Rattle.sl_stages.specs.returns.Election.{Election}
+use Rattle.sl_table.specs.Bounds.{is_one_scope, groups, scope_weights, is_of_entry, seats_of, AreBoundsLines, IsBoundsLines}
+use Rattle.sl_table.specs.Orders.{step_key, weight_key, is_before, in_order}
 use Rattle.sl_table.specs.Short.{short_text}
-use Rattle.sl_table.specs.Steps.{scope_key, item_key, step_key, is_before, in_order, step_line, steps_lines, steps_text}
+use Rattle.sl_table.specs.Steps.{step_line, steps_lines, IsStepsText}
+use Rattle.sl_table.proofs.KeyOrder.{sorted_in_order}
+use Rattle.sl_table.proofs.Keys.{same_step_key, same_weight_key}
+use Rattle.sl_table.proofs.OneBounds.{one_bounds_lines}
 use Rattle.sl_table.proofs.StableSorts.{same_sorted}
-use Rattle.sl_table.proofs.StepOrder.{steps_sorted}
 
 -- ---- what passes a test that at most one element passes
 
@@ -80,79 +78,7 @@ module _ {X : Type 0} (p : X → Bool) where
       | inr fails ↦ subst (λ l. length l ≤ 1) (sym (cond-false _ _ _ fails)) (at_most_one xs (IsDistinct-tail same x xs distinct))
     ]
 
--- ---- steps of one key are of the same seat
-
-same_scope_of : (x y : Scope) → scope_key x ≡ scope_key y → same_scope x y ≡ true
-same_scope_of scope.All scope.All e = refl
-same_scope_of (scope.Land l) (scope.Land k) e = eq-eqb l k (ap (λ xs. get_or xs 1 0) e)
-same_scope_of (scope.Party p) (scope.Party q) e = eq-eqb p q (ap (λ xs. get_or xs 1 0) e)
-same_scope_of (scope.List l p) (scope.List k q) e = both_true (eq-eqb l k (ap (λ xs. get_or xs 1 0) e)) (eq-eqb p q (ap (λ xs. get_or xs 2 0) e))
-same_scope_of scope.All (scope.Land k) e = absurd (omega (arith, ap (λ xs. get_or xs 0 0) e))
-same_scope_of scope.All (scope.Party q) e = absurd (omega (arith, ap (λ xs. get_or xs 0 0) e))
-same_scope_of scope.All (scope.List k q) e = absurd (omega (arith, ap (λ xs. get_or xs 0 0) e))
-same_scope_of (scope.Land l) scope.All e = absurd (omega (arith, ap (λ xs. get_or xs 0 0) e))
-same_scope_of (scope.Land l) (scope.Party q) e = absurd (omega (arith, ap (λ xs. get_or xs 0 0) e))
-same_scope_of (scope.Land l) (scope.List k q) e = absurd (omega (arith, ap (λ xs. get_or xs 0 0) e))
-same_scope_of (scope.Party p) scope.All e = absurd (omega (arith, ap (λ xs. get_or xs 0 0) e))
-same_scope_of (scope.Party p) (scope.Land k) e = absurd (omega (arith, ap (λ xs. get_or xs 0 0) e))
-same_scope_of (scope.Party p) (scope.List k q) e = absurd (omega (arith, ap (λ xs. get_or xs 0 0) e))
-same_scope_of (scope.List l p) scope.All e = absurd (omega (arith, ap (λ xs. get_or xs 0 0) e))
-same_scope_of (scope.List l p) (scope.Land k) e = absurd (omega (arith, ap (λ xs. get_or xs 0 0) e))
-same_scope_of (scope.List l p) (scope.Party q) e = absurd (omega (arith, ap (λ xs. get_or xs 0 0) e))
-
-same_item_of : (x y : Item) → item_key x ≡ item_key y → same_item x y ≡ true
-same_item_of (item.Party p) (item.Party q) e = eq-eqb p q (ap (λ xs. get_or xs 1 0) e)
-same_item_of (item.Land l) (item.Land k) e = eq-eqb l k (ap (λ xs. get_or xs 1 0) e)
-same_item_of (item.List l p) (item.List k q) e = both_true (eq-eqb l k (ap (λ xs. get_or xs 1 0) e)) (eq-eqb p q (ap (λ xs. get_or xs 2 0) e))
-same_item_of (item.Win v) (item.Win w) e = eq-eqb v w (ap (λ xs. get_or xs 1 0) e)
-same_item_of (item.Party p) (item.Land k) e = absurd (omega (arith, ap (λ xs. get_or xs 0 0) e))
-same_item_of (item.Party p) (item.List k q) e = absurd (omega (arith, ap (λ xs. get_or xs 0 0) e))
-same_item_of (item.Party p) (item.Win w) e = absurd (omega (arith, ap (λ xs. get_or xs 0 0) e))
-same_item_of (item.Land l) (item.Party q) e = absurd (omega (arith, ap (λ xs. get_or xs 0 0) e))
-same_item_of (item.Land l) (item.List k q) e = absurd (omega (arith, ap (λ xs. get_or xs 0 0) e))
-same_item_of (item.Land l) (item.Win w) e = absurd (omega (arith, ap (λ xs. get_or xs 0 0) e))
-same_item_of (item.List l p) (item.Party q) e = absurd (omega (arith, ap (λ xs. get_or xs 0 0) e))
-same_item_of (item.List l p) (item.Land k) e = absurd (omega (arith, ap (λ xs. get_or xs 0 0) e))
-same_item_of (item.List l p) (item.Win w) e = absurd (omega (arith, ap (λ xs. get_or xs 0 0) e))
-same_item_of (item.Win v) (item.Party q) e = absurd (omega (arith, ap (λ xs. get_or xs 0 0) e))
-same_item_of (item.Win v) (item.Land k) e = absurd (omega (arith, ap (λ xs. get_or xs 0 0) e))
-same_item_of (item.Win v) (item.List k q) e = absurd (omega (arith, ap (λ xs. get_or xs 0 0) e))
-
-module _ (rest : List ℕ) where
-  scope_front : (x : Scope) → take 3 (scope_key x ++ rest) ≡ scope_key x
-  scope_front scope.All = refl
-  scope_front (scope.Land land) = refl
-  scope_front (scope.Party party) = refl
-  scope_front (scope.List land party) = refl
-
-  scope_rest : (x : Scope) → drop 3 (scope_key x ++ rest) ≡ rest
-  scope_rest scope.All = refl
-  scope_rest (scope.Land land) = refl
-  scope_rest (scope.Party party) = refl
-  scope_rest (scope.List land party) = refl
-
-  item_front : (x : Item) → take 3 (item_key x ++ rest) ≡ item_key x
-  item_front (item.Party party) = refl
-  item_front (item.Land land) = refl
-  item_front (item.List land party) = refl
-  item_front (item.Win win) = refl
-
-  item_rest : (x : Item) → drop 3 (item_key x ++ rest) ≡ rest
-  item_rest (item.Party party) = refl
-  item_rest (item.Land land) = refl
-  item_rest (item.List land party) = refl
-  item_rest (item.Win win) = refl
-
-same_key : (x y : SeatStep) → step_key x ≡ step_key y → same_seat x y ≡ true
-same_key x y e =
-    let x_seat : List ℕ = item_key x.entry ++ x.n ∷ [] in
-    let y_seat : List ℕ = item_key y.entry ++ y.n ∷ [] in
-    let scopes : scope_key x.scope ≡ scope_key y.scope = sym (scope_front (x.step ∷ x_seat) x.scope) ∙ ap (λ xs. take 3 (drop 1 xs)) e ∙ scope_front (y.step ∷ y_seat) y.scope in
-    let seats : x_seat ≡ y_seat = ap (drop 1) (sym (scope_rest (x.step ∷ x_seat) x.scope) ∙ ap (λ xs. drop 3 (drop 1 xs)) e ∙ scope_rest (y.step ∷ y_seat) y.scope) in
-    let entries : item_key x.entry ≡ item_key y.entry = sym (item_front (x.n ∷ []) x.entry) ∙ ap (take 3) seats ∙ item_front (y.n ∷ []) y.entry in
-    let numbers : x.n ∷ [] ≡ y.n ∷ [] = sym (item_rest (x.n ∷ []) x.entry) ∙ ap (drop 3) seats ∙ item_rest (y.n ∷ []) y.entry in
-    both_true (both_true (eq-eqb x.stage y.stage (ap (λ xs. get_or xs 0 0) e)) (same_scope_of x.scope y.scope scopes))
-    (both_true (same_item_of x.entry y.entry entries) (eq-eqb x.n y.n (ap (λ xs. get_or xs 0 0) numbers)))
+-- ---- records of one key are the same
 
 -- neither of two keys is less than the other
 level : (r s : Ordering) → r ≡ ordering_reverse s → (not (is_lt r) && not (is_lt s)) ≡ true → r ≡ Equal
@@ -162,19 +88,41 @@ level Greater Less turned neither = absurd (true≢false (sym neither))
 level Greater Equal turned neither = absurd (true≢false (ap is_gt turned))
 level Greater Greater turned neither = absurd (true≢false (ap is_gt turned))
 
-tied_keys : (x y : SeatStep) → ties is_before x y ≡ true → step_key x ≡ step_key y
-tied_keys x y tie = exact_bytes _ _ (level _ _ (nat_list_cmp_total.antisymm (step_key x) (step_key y)) tie)
+module _ {X : Type 0} (key : X → List ℕ) where
+  tied_keys : (x y : X) → ties (is_before key) x y ≡ true → key x ≡ key y
+  tied_keys x y tie = exact_bytes _ _ (level _ _ (nat_list_cmp_total.antisymm (key x) (key y)) tie)
 
-pub in_any_order : (xs ys : List SeatStep) → IsPermutation xs ys → IsDistinct same_seat xs → in_order xs ≡ in_order ys
-in_any_order xs ys moved distinct =
-    sym (steps_sorted xs)
-    ∙ same_sorted is_before (ranks_by nat_list_cmp_total step_key) xs ys (λ z.
-    sym (same_kept (ties is_before z) xs ys moved (at_most_one (ties is_before z) same_seat (λ x y tie tie_too. same_key x y (sym (tied_keys z x tie) ∙ tied_keys z y tie_too)) xs distinct)))
-    ∙ steps_sorted ys
+  in_any_order : (same : X → X → Bool) → ((x y : X) → key x ≡ key y → same x y ≡ true) → (xs ys : List X) → IsPermutation xs ys → IsDistinct same xs → in_order key xs ≡ in_order key ys
+  in_any_order same same_key xs ys moved distinct =
+      sym (sorted_in_order key xs)
+      ∙ same_sorted (is_before key) (ranks_by nat_list_cmp_total key) xs ys (λ z.
+      sym (same_kept (ties (is_before key) z) xs ys moved (at_most_one (ties (is_before key) z) same (λ x y tie tie_too. same_key x y (sym (tied_keys z x tie) ∙ tied_keys z y tie_too)) xs distinct)))
+      ∙ sorted_in_order key ys
+
+-- ---- texts
+
+-- the bounds' lines are of the weights in order, and of how many seat steps each entry has
+same_bounds_lines : (names : List (List ℕ)) (e : Election) (t u : SeatTable) (lines : List ℕ) → SameTable t u → RecordsComeOnce t → IsBoundsLines names t e lines → IsBoundsLines names u e lines
+same_bounds_lines names e t u lines same once are =
+    let seats : (w : Weight) → seats_of t w ≡ seats_of u w = λ w. sym (sum_by-IsPermutation (λ x. cond (is_of_entry w x) 1 0) t.steps u.steps same.steps) in
+    let weights : in_order weight_key t.weights ≡ in_order weight_key u.weights = in_any_order weight_key same_entry same_weight_key t.weights u.weights same.weights once.weights in
+    subst (λ ws. AreBoundsLines names e (seats_of u) (groups is_one_scope ws) lines) weights
+    (subst (λ f. AreBoundsLines names e f (groups is_one_scope (in_order weight_key t.weights)) lines) (λ i w. seats w i) are)
 
 -- the short text is of the lists and the winners' places alone
-pub same_text : (names : List (List ℕ)) (e : Election) (t u : SeatTable) → SameTable t u → IsDistinct same_seat t.steps → steps_text names t e ≡ steps_text names u e
-same_text names e t u same distinct =
-    ap (λ xs. flat_map (step_line names e) xs ++ short_text t e) (in_any_order t.steps u.steps same.steps distinct)
-    ∙ ap (λ xs. steps_lines names u e ++ short_text (record { lists = xs; placed = t.placed; steps = u.steps; weights = u.weights }) e) same.lists
-    ∙ ap (λ xs. steps_lines names u e ++ short_text (record { lists = u.lists; placed = xs; steps = u.steps; weights = u.weights }) e) same.placed
+same_short_text : (e : Election) (t u : SeatTable) → SameTable t u → short_text t e ≡ short_text u e
+same_short_text e t u same =
+    ap (λ xs. short_text (record { lists = xs; placed = t.placed; steps = t.steps; weights = t.weights }) e) same.lists
+    ∙ ap (λ xs. short_text (record { lists = u.lists; placed = xs; steps = t.steps; weights = t.weights }) e) same.placed
+
+pub same_text : (names : List (List ℕ)) (e : Election) (t u : SeatTable) (x y : List ℕ) → SameTable t u → RecordsComeOnce t → IsStepsText names t e x → IsStepsText names u e y → x ≡ y
+same_text names e t u x y same once of_t of_u =
+    let bounds : of_t.0 ≡ of_u.0 = one_bounds_lines names e (seats_of u) (scope_weights u) of_t.0 of_u.0 (same_bounds_lines names e t u of_t.0 same once of_t.1) of_u.1 in
+    of_t.2
+    ∙ ap (λ xs. flat_map (step_line names e) xs ++ (of_t.0 ++ short_text t e)) (in_any_order step_key same_seat same_step_key t.steps u.steps same.steps once.steps)
+    ∙ (λ i. steps_lines names u e ++ (bounds i ++ same_short_text e t u same i))
+    ∙ sym of_u.2
+
+pub one_steps_text : (names : List (List ℕ)) (t : SeatTable) (e : Election) (x y : List ℕ) → IsStepsText names t e x → IsStepsText names t e y → x ≡ y
+one_steps_text names t e x y is is_too =
+    is.2 ∙ ap (λ bounds. steps_lines names t e ++ (bounds ++ short_text t e)) (one_bounds_lines names e (seats_of t) (scope_weights t) is.0 is_too.0 is.1 is_too.1) ∙ sym is_too.2

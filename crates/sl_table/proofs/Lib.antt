@@ -10,5 +10,14 @@ pub mod HeldTables
 pub mod EntryLines
 pub mod StageSlots
 pub mod StableSorts
-pub mod StepOrder
+pub mod Groups
+pub mod ChunkedGroups
+pub mod Tests
+pub mod EntrySeats
+pub mod BoundsWeights
+pub mod BoundsLines
+pub mod Keys
+pub mod SeatCounts
+pub mod KeyOrder
+pub mod OneBounds
 pub mod AnyOrder

@@ -4,4 +4,7 @@ pub mod Short
 pub mod Places
 pub mod Faults
 pub mod Stages
+pub mod Orders
+pub mod Bounds
 pub mod Steps
+pub mod inner

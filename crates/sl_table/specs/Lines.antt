@@ -1,5 +1,11 @@
 -- Lines of words, and texts that are written word by word (docs/output.md, section 1).
-use Rattle.std.specs.Prelude.{ℕ, Bool, true, false, List, [], ◌∷◌, ◌++◌, if◌then◌else◌}
+use Rattle.std.specs.Prelude.{ℕ, Bool, true, false, List, [], ◌∷◌, ◌++◌, codes, nat_eq, if◌then◌else◌}
+use Rattle.std.specs.Fmt.{decimal}
+use Rattle.sl_ratio.specs.Quotient.{Quotient}
+
+-- a quotient, not reduced; infinite where its denominator is 0
+abbrev pub ratio_word : Quotient → List ℕ
+ratio_word q = if nat_eq q.den 0 then codes "inf" else decimal q.num ++ (codes "/" ++ decimal q.den)
 
 -- words parted by one blank, and the end of the line
 abbrev pub line : List (List ℕ) → List ℕ

@@ -1,9 +1,11 @@
 //! Seat tables from what a run holds, and the texts of tables, of stages and of legal faults.
 #![tactic(auto)]
 
+mod bounds_form;
 mod fault_form;
 pub mod laws;
 mod line;
+mod orders;
 mod short_form;
 mod stage_form;
 mod steps_form;

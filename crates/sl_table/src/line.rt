@@ -2,9 +2,9 @@
 
 ghost use Rattle.std.specs.Prelude.{◌≡◌, ◌++◌, OnOk, OnErr, codes};
 ghost use Rattle.std.specs.Fmt.{decimal};
-ghost use Rattle.sl_table.specs.Lines.{no_text, with_word, with_end};
+ghost use Rattle.sl_table.specs.Lines.{ratio_word, no_text, with_word, with_end};
 
-use sl_ratio::NoMemory;
+use sl_ratio::{NoMemory, Ratio};
 use std::alloc::Global;
 use std::marker::Model;
 
@@ -110,6 +110,22 @@ impl Text {
         let first = first.to_string(self.alloc)?;
         let second = second.to_string(self.alloc)?;
         self.pair(first.as_bytes(), second.as_bytes())
+    }
+
+    /// Adds a quotient to the line as a word, not reduced.
+    ///
+    /// # Errors
+    ///
+    /// Want of memory. The text is then unchanged.
+    pub fn ratio(&mut self, ratio: Ratio) -> Result<(), NoMemory>
+        ensures added { OnOk result (self.new ≡ with_word self.old (ratio_word ratio)) }
+        ensures unchanged { OnErr result (self.new ≡ self.old) }
+    {
+        if ratio.is_infinite() {
+            self.word(b"inf")
+        } else {
+            self.number_pair(ratio.num(), ratio.den())
+        }
     }
 
     /// Ends the line.
