@@ -1,110 +1,112 @@
 //! The words of the command line.
 
+use crate::help::{COMMANDS, Form, PROGRAM};
 use clap::{Arg, ArgAction, ArgMatches, Command, Error};
 use std::alloc::{AllocError, Global};
+
+/// What is shown of an election that is counted.
+#[derive(Clone, Copy)]
+pub enum Show<'a> {
+    /// Its seat table.
+    Seats,
+    /// The step that won each seat, and its seat table.
+    Steps,
+    /// The column of the stage of that name.
+    Stage(&'a str),
+}
 
 /// What a command line asks for.
 #[derive(Clone, Copy)]
 pub enum Request<'a> {
-    Count { book: &'a str, returns: &'a str },
-    Steps { book: &'a str, returns: &'a str },
-    Check { book: &'a str },
-    Run { code: &'a str, returns: &'a str },
-    Law { name: &'a str },
+    Count {
+        show: Show<'a>,
+        book: &'a str,
+        returns: &'a str,
+    },
+    Check {
+        book: &'a str,
+    },
+    Code {
+        book: &'a str,
+        file: &'a str,
+    },
+    Run {
+        code: &'a str,
+        returns: &'a str,
+    },
+    Law {
+        name: &'a str,
+    },
 }
 
-// An argument that must be given.
-fn word<'a>(alloc: Global, id: &'a str, help: &'a str) -> Arg<'a> {
-    Arg::new(alloc, id)
-        .required(true)
-        .action(ArgAction::Set)
-        .help(help)
+// A command with its help and its words, each of which must be given.
+fn command_of<'a>(alloc: Global, form: &Form) -> Result<Command<'a>, AllocError> {
+    let mut command = Command::new(alloc, form.name)
+        .about(form.about)
+        .after_help(form.more);
+    for (word, help) in form.words {
+        let arg = Arg::new(alloc, word)
+            .required(true)
+            .action(ArgAction::Set)
+            .help(help);
+        command = command.arg(arg)?;
+    }
+    Ok(command)
 }
 
-fn book<'a>(alloc: Global) -> Arg<'a> {
-    word(
-        alloc,
-        "BOOK",
-        "The rulebook, a path, or @NAME for one of the library",
-    )
+fn program<'a>(alloc: Global) -> Result<Command<'a>, AllocError> {
+    let mut program = command_of(alloc, &PROGRAM)?.subcommand_required(true);
+    for form in &COMMANDS {
+        program = program.subcommand(command_of(alloc, form)?)?;
+    }
+    Ok(program)
 }
 
-fn returns<'a>(alloc: Global) -> Arg<'a> {
-    word(alloc, "RETURNS", "The returns, a path")
-}
-
-// The commands that count an election.
-fn with_counts<'a>(alloc: Global, program: Command<'a>) -> Result<Command<'a>, AllocError> {
-    let count = Command::new(alloc, "count")
-        .about("Counts an election and writes its seat table")
-        .arg(book(alloc))?
-        .arg(returns(alloc))?;
-    let steps = Command::new(alloc, "steps")
-        .about("Counts an election and writes the step that won each seat, then its seat table")
-        .arg(book(alloc))?
-        .arg(returns(alloc))?;
-    program.subcommand(count)?.subcommand(steps)
-}
-
-// The commands on rulebooks and code alone.
-fn with_books<'a>(alloc: Global, program: Command<'a>) -> Result<Command<'a>, AllocError> {
-    let check = Command::new(alloc, "check")
-        .about("Checks a rulebook and writes a line about it")
-        .arg(book(alloc))?;
-    let run = Command::new(alloc, "run")
-        .about("Runs a code file on returns and writes the seat table")
-        .arg(word(alloc, "CODE", "The code file, a path"))?
-        .arg(returns(alloc))?;
-    let law = Command::new(alloc, "law")
-        .about("Writes a rulebook of the library")
-        .arg(word(alloc, "NAME", "1956, 1985, 2008, 2013, 2023 or 2023-order"))?;
-    program.subcommand(check)?.subcommand(run)?.subcommand(law)
-}
-
-fn command<'a>(alloc: Global) -> Result<Command<'a>, AllocError> {
-    let program = Command::new(alloc, "seatlaw")
-        .about("Seat tables of the Bundestag by a rulebook and returns")
-        .subcommand_required(true);
-    with_books(alloc, with_counts(alloc, program)?)
-}
-
-fn count_of<'a>(given: &ArgMatches<'a>) -> Option<Request<'a>> {
+fn counting<'a>(show: Show<'a>, given: &ArgMatches<'a>) -> Option<Request<'a>> {
     let book = given.get_str("BOOK")?;
     let returns = given.get_str("RETURNS")?;
-    Some(Request::Count { book, returns })
+    Some(Request::Count {
+        show,
+        book,
+        returns,
+    })
 }
 
-fn steps_of<'a>(given: &ArgMatches<'a>) -> Option<Request<'a>> {
+fn compiling<'a>(given: &ArgMatches<'a>) -> Option<Request<'a>> {
     let book = given.get_str("BOOK")?;
-    let returns = given.get_str("RETURNS")?;
-    Some(Request::Steps { book, returns })
+    let file = given.get_str("OUT")?;
+    Some(Request::Code { book, file })
 }
 
-fn check_of<'a>(given: &ArgMatches<'a>) -> Option<Request<'a>> {
-    let book = given.get_str("BOOK")?;
-    Some(Request::Check { book })
-}
-
-fn run_of<'a>(given: &ArgMatches<'a>) -> Option<Request<'a>> {
+fn running<'a>(given: &ArgMatches<'a>) -> Option<Request<'a>> {
     let code = given.get_str("CODE")?;
     let returns = given.get_str("RETURNS")?;
     Some(Request::Run { code, returns })
 }
 
-fn law_of<'a>(given: &ArgMatches<'a>) -> Option<Request<'a>> {
-    let name = given.get_str("NAME")?;
-    Some(Request::Law { name })
+// What a command asks for with the words given to it.
+fn asked<'a>(command: &str, given: &ArgMatches<'a>) -> Option<Request<'a>> {
+    match command {
+        "count" => counting(Show::Seats, given),
+        "steps" => counting(Show::Steps, given),
+        "stage" => counting(Show::Stage(given.get_str("NAME")?), given),
+        "check" => Some(Request::Check {
+            book: given.get_str("BOOK")?,
+        }),
+        "code" => compiling(given),
+        "run" => running(given),
+        "law" => Some(Request::Law {
+            name: given.get_str("NAME")?,
+        }),
+        _ => None,
+    }
 }
 
 /// What these words ask for, if they are a request.
 pub fn request_of<'a>(alloc: Global, words: &'a [String]) -> Result<Option<Request<'a>>, Error> {
-    let matches = command(alloc)?.try_get_matches_from(words)?;
+    let matches = program(alloc)?.try_get_matches_from(words)?;
     Ok(match matches.subcommand() {
-        Some(("count", given)) => count_of(given),
-        Some(("steps", given)) => steps_of(given),
-        Some(("check", given)) => check_of(given),
-        Some(("run", given)) => run_of(given),
-        Some(("law", given)) => law_of(given),
-        _ => None,
+        Some((command, given)) => asked(command, given),
+        None => None,
     })
 }

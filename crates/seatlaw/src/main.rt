@@ -2,6 +2,7 @@
 #![tactic(auto)]
 
 mod command_line;
+mod help;
 mod run;
 #[cfg(test)]
 mod tests;

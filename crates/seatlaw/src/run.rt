@@ -1,6 +1,6 @@
 //! Commands over files.
 
-use crate::command_line::Request;
+use crate::command_line::{Request, Show};
 use sl_desk::{BookSource, DeskError, FromRead, Input, Status, ToWrite};
 use std::fs::File;
 
@@ -23,24 +23,36 @@ fn open_book<'a>(
     }
 }
 
-fn count(rt: &HostRuntime, book: &str, returns: &str) -> Result<Status, DeskError> {
-    let mut book = open_book(rt, book)?;
-    let mut returns = open(rt, returns, Input::Returns)?;
-    let mut out = ToWrite::new(rt.stdout());
-    sl_desk::count(rt.alloc(), &mut book, &mut returns, &mut out)
+// An empty file at a path.
+fn create(rt: &HostRuntime, path: &str) -> Result<ToWrite<File>, DeskError> {
+    match File::create(rt, path) {
+        Ok(file) => Ok(ToWrite::new(file)),
+        Err(_) => Err(DeskError::Write),
+    }
 }
 
-fn steps(rt: &HostRuntime, book: &str, returns: &str) -> Result<Status, DeskError> {
+fn count(rt: &HostRuntime, show: Show<'_>, book: &str, returns: &str) -> Result<Status, DeskError> {
     let mut book = open_book(rt, book)?;
     let mut returns = open(rt, returns, Input::Returns)?;
     let mut out = ToWrite::new(rt.stdout());
-    sl_desk::steps(rt.alloc(), &mut book, &mut returns, &mut out)
+    match show {
+        Show::Seats => sl_desk::count(rt.alloc(), &mut book, &mut returns, &mut out),
+        Show::Steps => sl_desk::steps(rt.alloc(), &mut book, &mut returns, &mut out),
+        Show::Stage(name) => sl_desk::stage(rt.alloc(), &mut book, &mut returns, name, &mut out),
+    }
 }
 
 fn check(rt: &HostRuntime, book: &str) -> Result<Status, DeskError> {
     let mut book = open_book(rt, book)?;
     let mut out = ToWrite::new(rt.stdout());
     sl_desk::check_book(rt.alloc(), &mut book, &mut out)
+}
+
+fn code(rt: &HostRuntime, book: &str, file: &str) -> Result<Status, DeskError> {
+    let mut book = open_book(rt, book)?;
+    let mut file = create(rt, file)?;
+    let mut out = ToWrite::new(rt.stdout());
+    sl_desk::code(rt.alloc(), &mut book, &mut file, &mut out)
 }
 
 fn run(rt: &HostRuntime, code: &str, returns: &str) -> Result<Status, DeskError> {
@@ -58,9 +70,13 @@ fn law(rt: &HostRuntime, name: &str) -> Result<Status, DeskError> {
 /// Runs a command over files and standard output, and answers the exit status: 5 after an error, also where its line cannot be printed.
 pub fn exit_status(rt: &HostRuntime, request: Request<'_>) -> u8 {
     let ending = match request {
-        Request::Count { book, returns } => count(rt, book, returns),
-        Request::Steps { book, returns } => steps(rt, book, returns),
+        Request::Count {
+            show,
+            book,
+            returns,
+        } => count(rt, show, book, returns),
         Request::Check { book } => check(rt, book),
+        Request::Code { book, file } => code(rt, book, file),
         Request::Run { code, returns } => run(rt, code, returns),
         Request::Law { name } => law(rt, name),
     };

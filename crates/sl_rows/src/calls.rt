@@ -1,7 +1,7 @@
 //! The calls of the desk over memory.
 
 use crate::memory::{Ending, Narrow, Slow};
-use sl_desk::{BookSource, check_book, count, law_text, run_code, steps};
+use sl_desk::{BookSource, check_book, code, count, law_text, run_code, stage, steps};
 use std::alloc::Global;
 
 /// How a call over memory goes: the bytes that a source gives or a sink takes at once, and the call of each that fails, from 1, or 0 for
@@ -11,6 +11,7 @@ pub struct Pace {
     pub step: usize,
     pub book_fails: u64,
     pub returns_fail: u64,
+    pub file_fails: u64,
     pub out_fails: u64,
 }
 
@@ -21,6 +22,7 @@ impl Pace {
             step,
             book_fails: 0,
             returns_fail: 0,
+            file_fails: 0,
             out_fails: 0,
         }
     }
@@ -60,6 +62,56 @@ pub fn stepped(alloc: Global, book: &[u8], returns: &[u8], pace: Pace) -> Ending
         result,
         written: out.taken,
     }
+}
+
+/// How showing a stage of a count ends.
+pub fn staged(alloc: Global, book: &[u8], returns: &[u8], name: &str, pace: Pace) -> Ending {
+    let mut book = BookSource::Reader(Slow::new(book, pace.step, pace.book_fails));
+    let mut returns = Slow::new(returns, pace.step, pace.returns_fail);
+    let mut out = Narrow::new(alloc, pace.step, pace.out_fails);
+    let result = stage(alloc, &mut book, &mut returns, name, &mut out);
+    Ending {
+        result,
+        written: out.taken,
+    }
+}
+
+/// How showing a stage of a count by a book of the library ends.
+pub fn staged_by(alloc: Global, law: &str, returns: &[u8], name: &str, pace: Pace) -> Ending {
+    let mut book: BookSource<'_, Slow<'_>> = BookSource::Library(law);
+    let mut returns = Slow::new(returns, pace.step, pace.returns_fail);
+    let mut out = Narrow::new(alloc, pace.step, pace.out_fails);
+    let result = stage(alloc, &mut book, &mut returns, name, &mut out);
+    Ending {
+        result,
+        written: out.taken,
+    }
+}
+
+/// How compiling a book ends, with what was written to the file.
+pub fn coded(alloc: Global, book: &[u8], pace: Pace) -> (Ending, Vec<u8>) {
+    let mut book = BookSource::Reader(Slow::new(book, pace.step, pace.book_fails));
+    let mut file = Narrow::new(alloc, pace.step, pace.file_fails);
+    let mut out = Narrow::new(alloc, pace.step, pace.out_fails);
+    let result = code(alloc, &mut book, &mut file, &mut out);
+    let ending = Ending {
+        result,
+        written: out.taken,
+    };
+    (ending, file.taken)
+}
+
+/// How compiling a book of the library ends, with what was written to the file.
+pub fn coded_by(alloc: Global, law: &str, pace: Pace) -> (Ending, Vec<u8>) {
+    let mut book: BookSource<'_, Slow<'_>> = BookSource::Library(law);
+    let mut file = Narrow::new(alloc, pace.step, pace.file_fails);
+    let mut out = Narrow::new(alloc, pace.step, pace.out_fails);
+    let result = code(alloc, &mut book, &mut file, &mut out);
+    let ending = Ending {
+        result,
+        written: out.taken,
+    };
+    (ending, file.taken)
 }
 
 /// How a run of a code file ends.

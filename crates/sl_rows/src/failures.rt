@@ -1,6 +1,6 @@
 //! Readers and writers that go in small steps, and fail at each of their calls in turn.
 
-use crate::calls::{Pace, checked, counted};
+use crate::calls::{Pace, checked, coded, counted, staged};
 use crate::memory::{Ending, Narrow, Slow};
 use crate::rows::{FIRST_BOOK, RETURNS, TABLE};
 use sl_desk::{BookSource, DeskError, Input, Status, check_book, count};
@@ -146,6 +146,82 @@ fn small_steps(rt: HostRuntime) {
         let ending = checked(rt.alloc(), FIRST_BOOK.as_bytes(), Pace::of(step));
         assert_ending(&rt, &ending, Ok(Status::Done), LINE.as_bytes(), 0);
     }
+}
+
+// The name of a stage is judged before the returns are read.
+#[test]
+fn names_before_returns(rt: HostRuntime) {
+    let returns = Pace {
+        returns_fail: 1,
+        ..Pace::of(STEP)
+    };
+    let (book, text) = (FIRST_BOOK.as_bytes(), RETURNS.as_bytes());
+    let ending = staged(rt.alloc(), book, text, "q", returns);
+    let refusal = b"refused stage q\n".as_slice();
+    assert_ending(&rt, &ending, Ok(Status::Refused), refusal, 1);
+    let ending = staged(rt.alloc(), book, text, "pool", returns);
+    assert_ending(&rt, &ending, Err(DeskError::Read(Input::Returns)), b"", 1);
+}
+
+// Bytes that the writers of a code file and of its listing take at once.
+const LARGE_STEP: usize = 256;
+
+// The bytes of the first book's code file, and of its listing.
+fn first_code(alloc: Global) -> (Vec<u8>, Vec<u8>) {
+    let (ending, file) = coded(alloc, FIRST_BOOK.as_bytes(), Pace::of(LARGE_STEP));
+    (file, ending.written)
+}
+
+// Asserts how many bytes of a text were written before a call: all of it, if so many calls are not made.
+fn assert_prefix(rt: &impl Abort, written: &[u8], text: &[u8], call: u64) {
+    let n = ((call.saturating_sub(1)) as usize)
+        .saturating_mul(LARGE_STEP)
+        .min(text.len());
+    assert_eq!(rt; written, &text[..n], "call {call}");
+}
+
+// Nothing goes to the output unless the whole file was written.
+#[test]
+fn files_before_listings(rt: HostRuntime) {
+    let (file, _) = first_code(rt.alloc());
+    for call in 1..=file.len().div_ceil(LARGE_STEP) as u64 {
+        let pace = Pace {
+            file_fails: call,
+            ..Pace::of(LARGE_STEP)
+        };
+        let (ending, taken) = coded(rt.alloc(), FIRST_BOOK.as_bytes(), pace);
+        assert_ending(&rt, &ending, Err(DeskError::Write), b"", call);
+        assert_prefix(&rt, taken.as_slice(), file.as_slice(), call);
+    }
+}
+
+// The file is whole where the output fails.
+#[test]
+fn listings_after_files(rt: HostRuntime) {
+    let (file, listing) = first_code(rt.alloc());
+    for call in 1..=listing.len().div_ceil(LARGE_STEP) as u64 {
+        let pace = Pace {
+            out_fails: call,
+            ..Pace::of(LARGE_STEP)
+        };
+        let (ending, taken) = coded(rt.alloc(), FIRST_BOOK.as_bytes(), pace);
+        assert_eq!(rt; ending.result, Err(DeskError::Write), "call {call}");
+        assert_prefix(&rt, ending.written.as_slice(), listing.as_slice(), call);
+        assert_eq!(rt; taken, file, "call {call}");
+    }
+}
+
+// A book that cannot be read leaves the file and the output empty.
+#[test]
+fn books_before_files(rt: HostRuntime) {
+    let book = Pace {
+        book_fails: 2,
+        file_fails: 1,
+        ..Pace::of(STEP)
+    };
+    let (ending, file) = coded(rt.alloc(), FIRST_BOOK.as_bytes(), book);
+    assert_ending(&rt, &ending, Err(DeskError::Read(Input::Book)), b"", 2);
+    assert!(rt; file.is_empty());
 }
 
 // How a count and a check of a book of the library end. The returns fail, if they are read.

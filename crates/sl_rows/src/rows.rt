@@ -1,6 +1,6 @@
 //! What a row asks of a call of the desk, and how it is tested.
 
-use crate::calls::{Pace, checked, counted, counted_by, ran, stepped};
+use crate::calls::{Pace, checked, counted, counted_by, ran, staged, staged_by, stepped};
 use crate::inputs::Text;
 use sl_desk::Status;
 use std::alloc::{AllocError, Global};
@@ -34,6 +34,16 @@ pub type LawRow = (
 
 /// A row: its name, the book, the returns, what `steps` writes, and its status.
 pub type StepsRow = (
+    &'static str,
+    &'static str,
+    &'static str,
+    &'static str,
+    Status,
+);
+
+/// A row: its name, the book, the returns, the name of a stage, what `stage` writes, and its status.
+pub type StageRow = (
+    &'static str,
     &'static str,
     &'static str,
     &'static str,
@@ -81,6 +91,30 @@ pub fn assert_counts_by(rt: &impl Abort, alloc: Global, rows: &[LawRow]) {
 pub fn assert_steps(rt: &impl Abort, alloc: Global, rows: &[StepsRow]) {
     for (name, book, returns, text, status) in rows {
         let ending = stepped(alloc, book.as_bytes(), returns.as_bytes(), Pace::of(STEP));
+        assert_eq!(rt; ending.result, Ok(*status), "{name}");
+        assert_eq!(rt; ending.written.as_slice(), text.as_bytes(), "{name}");
+    }
+}
+
+/// Asserts that `stage` writes and ends as each of these rows says.
+pub fn assert_stages(rt: &impl Abort, alloc: Global, rows: &[StageRow]) {
+    for (name, book, returns, stage, text, status) in rows {
+        let ending = staged(
+            alloc,
+            book.as_bytes(),
+            returns.as_bytes(),
+            stage,
+            Pace::of(STEP),
+        );
+        assert_eq!(rt; ending.result, Ok(*status), "{name}");
+        assert_eq!(rt; ending.written.as_slice(), text.as_bytes(), "{name}");
+    }
+}
+
+/// Asserts that `stage` by a book of the library, which is named in place of the book, writes and ends as each of these rows says.
+pub fn assert_stages_by(rt: &impl Abort, alloc: Global, rows: &[StageRow]) {
+    for (name, law, returns, stage, text, status) in rows {
+        let ending = staged_by(alloc, law, returns.as_bytes(), stage, Pace::of(STEP));
         assert_eq!(rt; ending.result, Ok(*status), "{name}");
         assert_eq!(rt; ending.written.as_slice(), text.as_bytes(), "{name}");
     }
