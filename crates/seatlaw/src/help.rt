@@ -65,8 +65,9 @@ const STEPS: Form = Form {
     words: &[BOOK, RETURNS],
     more: ending!(
         "Reads a rulebook and returns. Writes a line for each seat of a distribution, with the\n\
-         step in which it was won and the quotient or remainder that won it, and at the end the\n\
-         text of `count`; or else the line of a legal fault.",
+         step in which it was won and the quotient or remainder that won it; then the bounds\n\
+         between which every divisor gives just these seats; and at the end the text of `count`.\n\
+         Or else the line of a legal fault.",
         "steps @2023 returns.csv"
     ),
 };

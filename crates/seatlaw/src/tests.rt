@@ -214,8 +214,9 @@ const HELPS: [(&[&str], &str); 8] = [
          \x20 -h, --help  Print help\n\
          \n\
          Reads a rulebook and returns. Writes a line for each seat of a distribution, with the\n\
-         step in which it was won and the quotient or remainder that won it, and at the end the\n\
-         text of `count`; or else the line of a legal fault.\n\
+         step in which it was won and the quotient or remainder that won it; then the bounds\n\
+         between which every divisor gives just these seats; and at the end the text of `count`.\n\
+         Or else the line of a legal fault.\n\
          \n\
          Example:\n\
          \x20 seatlaw steps @2023 returns.csv",
