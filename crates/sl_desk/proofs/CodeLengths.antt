@@ -123,8 +123,13 @@ word_long (b ∷ more) word =
 stages_long : (stages : List CodeStage) → All IsStage stages → length (flat_map stage_bytes stages) ≤ 14 * length stages
 stages_long [] words = omega arith
 stages_long (s ∷ stages) words =
-    omega (arith, length-append (stage_bytes s) (flat_map stage_bytes stages), length-append s.name (s.slot ∷ []), word_long s.name (words 0 s (omega arith)),
-      stages_long stages (All-tail IsStage s stages words))
+    omega (
+      arith,
+      length-append (stage_bytes s) (flat_map stage_bytes stages),
+      length-append s.name (s.slot ∷ []),
+      word_long s.name (words 0 s (omega arith)),
+      stages_long stages (All-tail IsStage s stages words),
+    )
 
 -- ---- files
 
@@ -142,5 +147,13 @@ file_fits c proper =
     let many = limits.instrs in
     let few = limits.stages in
     let slots = limits.slots in
-    omega (arith, parts_long opening (stages_part c.stages) (slots_part c.slots) (instrs_part c.instrs), stages_long c.stages proper.words, instrs_long c.instrs, many, few, slots,
-      length-map c.slots shape_number)
+    omega (
+      arith,
+      parts_long opening (stages_part c.stages) (slots_part c.slots) (instrs_part c.instrs),
+      stages_long c.stages proper.words,
+      instrs_long c.instrs,
+      many,
+      few,
+      slots,
+      length-map c.slots shape_number,
+    )

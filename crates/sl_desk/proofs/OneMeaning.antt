@@ -37,7 +37,7 @@ known_same h k e = cc
 one_column_text : (tree : BookTree) (e : Election) (n : ℕ) (s t : List ℕ) → is_typed tree ≡ true → IsColumnText tree e n s → IsColumnText tree e n t → s ≡ t
 one_column_text tree e n s t typed h k =
     let same : h.known ≡ k.known = known_same h.known k.known
-        (same_ones (StagesMean tree e nothing_known tree.stages) (one_stages_result tree e typed) (Through h.known) (Through k.known) h.means k.means) in
+    (same_ones (StagesMean tree e nothing_known tree.stages) (one_stages_result tree e typed) (Through h.known) (Through k.known) h.means k.means) in
     let type : h.type ≡ k.type = same_Some h.type k.type (sym h.typed ∙ ap (λ (x : Known). slice_get x.types n) same ∙ k.typed) in
     let column : h.column ≡ k.column = same_Some h.column k.column (sym h.there ∙ ap (λ (x : Known). slice_get x.columns n) same ∙ k.there) in
     h.text ∙ ap (λ (x : Column). stage_text e x.type.shape h.column.values) type ∙ ap (λ (x : NamedColumn). stage_text e k.type.type.shape x.values) column ∙ sym k.text

@@ -92,18 +92,26 @@ module _ (report : Report) (b : BookTree) (c : CountingCode) (e : Election) (is 
       go : (r : Report) (o : Outcome) → HasStage r b → Means b e o → ComesTo c e (Ended (Halted base vacant s)) o
           → answer_of c e (shown r (Ended (Halted base vacant s))) ≡ Some (answer.Done h) → IsHeldText r c e h output → IsTableText r b e output
       go Seats (outcome.Table t) has means comes at text =
-          let bare : Held = held_of c e base vacant (unrecorded s) in
-          (t, means, text ∙ ap (λ h. short_text (held_table e h) e) (sym (held_same bare h (same_Some _ _ at)))
-          ∙ same_short (held_table e bare) t e (sym comes.same.lists) (sym comes.same.placed))
+          let bare : Held = held_of c e base vacant (unrecorded s) in (
+            t,
+            means,
+            text ∙ ap (λ h. short_text (held_table e h) e) (sym (held_same bare h (same_Some _ _ at)))
+                ∙ same_short (held_table e bare) t e (sym comes.same.lists) (sym comes.same.placed),
+          )
       go Steps (outcome.Table t) has means comes at text =
-          let held : Held = held_of c e base vacant s in
-          (held_table e held, any_order b e t (held_table e held) means (table-sym t (held_table e held) comes.same),
-          subst (λ names. IsStepsText names (held_table e held) e output) is.stages
-          (subst (λ h. IsStepsText (code_names c) (held_table e h) e output) (sym (held_same held h (same_Some _ _ at))) text))
+          let held : Held = held_of c e base vacant s in (
+            held_table e held,
+            any_order b e t (held_table e held) means (table-sym t (held_table e held) comes.same),
+            subst (λ names. IsStepsText names (held_table e held) e output) is.stages
+                (subst (λ h. IsStepsText (code_names c) (held_table e h) e output) (sym (held_same held h (same_Some _ _ at))) text),
+          )
       go (Stage n) (outcome.Table t) has means comes at text =
-          let bare : Held = held_of c e base vacant (unrecorded s) in
-          (t, means, column_text b c is e base vacant s n output in_range ends has
-          (text ∙ ap (λ h. held_stage_text c e h n) (sym (held_same bare h (same_Some _ _ at)))))
+          let bare : Held = held_of c e base vacant (unrecorded s) in (
+            t,
+            means,
+            column_text b c is e base vacant s n output in_range ends has
+                (text ∙ ap (λ h. held_stage_text c e h n) (sym (held_same bare h (same_Some _ _ at)))),
+          )
       go r (outcome.Fault g) has means comes at text = absurd comes
 
   table_is_meant : is_typed b ≡ true → (h : Held) (output : List ℕ) → HasStage report b → Answers (answer.Done h) → IsHeldText report c e h output → IsTableText report b e output

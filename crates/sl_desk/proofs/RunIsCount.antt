@@ -36,10 +36,11 @@ use Rattle.sl_desk.proofs.Outcomes.{tree_output}
 
 module _ (one_verdict : OneCodeVerdict) where
   pub runs_its_code : RunsItsCode
-  runs_its_code c returns ends output proper kinded =
-      ((λ h. subst (λ (v : Verdict CountingCode CodeRefusal). IsRun v returns ends output)
-          (one_verdict (spelling_of c) h.0 (Good c) h.1 (file_fits c proper, (refl, proper), kinded)) h.2),
-      (λ h. (Good c, (file_fits c proper, (refl, proper), kinded), h)))
+  runs_its_code c returns ends output proper kinded = (
+    (λ h. subst (λ (v : Verdict CountingCode CodeRefusal). IsRun v returns ends output)
+        (one_verdict (spelling_of c) h.0 (Good c) h.1 (file_fits c proper, (refl, proper), kinded)) h.2),
+    (λ h. (Good c, (file_fits c proper, (refl, proper), kinded), h)),
+  )
 
   -- ---- one output
 

@@ -60,7 +60,7 @@ module _ (b : BookTree) (c : CountingCode) (is : IsCompiled b c) where
       let stage = code_stage n has in
       let few = code_stages_long b c is in
       let of = shape_there (columns_of [] b.stages) n (slice_get c.slots stage.0.slot)
-          (ap (λ shapes. slice_get shapes n) (sym is.shapes) ∙ said_at (λ (s : CodeStage). slice_get c.slots s.slot) c.stages n stage.0 stage.1) in
+      (ap (λ shapes. slice_get shapes n) (sym is.shapes) ∙ said_at (λ (s : CodeStage). slice_get c.slots s.slot) c.stages n stage.0 stage.1) in
       (omega (arith, few, has), subst (λ slot. slot < length c.slots) (sym (slot_at c n stage.0 stage.1)) (slice_get_within c.slots stage.0.slot of.0 of.1))
 
   -- the text of its column
@@ -79,6 +79,6 @@ module _ (b : BookTree) (c : CountingCode) (is : IsCompiled b c) where
         there = stands.there;
         text = text
             ∙ held_text_at c e (held_of c e base vacant (unrecorded s)) n stage.0 stands.type.type.shape (column_of c e s stage.0.slot) stage.1 stands.shape
-              (slot_held c e base vacant (unrecorded s) stage.0.slot stands.type.type.shape stands.shape)
+            (slot_held c e base vacant (unrecorded s) stage.0.slot stands.type.type.shape stands.shape)
             ∙ ap (stage_text e stands.type.type.shape) stands.values;
       }

@@ -68,7 +68,10 @@ fn answer_to<B: Source>(
         Verdict::Good(book) => Ok(compiled(alloc, &book)?),
         Verdict::Refused(why) => {
             let answer = Answer::refused(why.line(alloc)?);
-            Ok(Compilation { file: Vec::new(alloc), answer })
+            Ok(Compilation {
+                file: Vec::new(alloc),
+                answer,
+            })
         }
     }
 }
