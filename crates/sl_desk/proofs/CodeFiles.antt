@@ -1,27 +1,17 @@
 -- A code file comes to one verdict, by the laws of the layers below.
-use Rattle.std.proofs.Common.{◌≡◌, ◌≢◌, ◌↔◌, ℕ, ◌+◌, ◌*◌, ◌≤◌, ◌<◌, List, [], ◌∷◌, ◌++◌, All, length, map, flat_map, Some, None, Ok, Err, refl, sym, ap, subst, ◌∙◌, arith}
-use Rattle.std.proofs.lemmas.List.{length-map, length-append}
-use Rattle.sl_code.specs.declared.code.CodeStage.{CodeStage}
+use Rattle.std.proofs.Common.{◌≡◌, ◌≢◌, ◌↔◌, ℕ, List, Some, None, Ok, Err, refl, sym, ap, subst, ◌∙◌, arith}
 use Rattle.sl_code.specs.declared.fault.CodeFault.{CodeFault}
 use Rattle.sl_code.specs.declared.fault.CodeFault.TheVariants as file
-use Rattle.sl_code.specs.declared.instr.Instr.{Instr}
-use Rattle.sl_code.specs.declared.parts.Operand.{Operand}
-use Rattle.sl_code.specs.Codes.{CountingCode, IsCode}
+use Rattle.sl_code.specs.Codes.{CountingCode}
 use Rattle.sl_code.specs.Faults.{IsFault}
 use Rattle.sl_code.specs.Laws.{OneCode, OneFault, SpellingOrFault}
-use Rattle.sl_code.specs.Proper.{IsProper}
 use Rattle.sl_code.specs.Reading.{IsReading}
-use Rattle.sl_code.specs.Spelling.{spelling_of}
 use Rattle.sl_verify.specs.declared.fault.VerifyFault.{VerifyFault}
 use Rattle.sl_verify.specs.Faults.{verify_fault}
 use Rattle.sl_verify.specs.WellKinded.{IsWellKinded}
-use Rattle.sl_desk.specs.declared.limits.TheConstants.{MAX_CODE_BYTES}
-use Rattle.sl_desk.specs.declared.refusal.CodeRefusal.{CodeRefusal}
 use Rattle.sl_desk.specs.declared.refusal.CodeRefusal.TheVariants as code
-use Rattle.sl_desk.specs.declared.verdict.Verdict.{Verdict}
 use Rattle.sl_desk.specs.declared.verdict.Verdict.TheVariants.{Good, Refused}
 use Rattle.sl_desk.specs.Laws.{OneCodeVerdict}
-use Rattle.sl_desk.specs.Verdicts.{IsCodeVerdict}
 
 -- what the layers below say of code files
 pub record CodeLaws : Type 0 where

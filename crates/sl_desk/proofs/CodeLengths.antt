@@ -1,5 +1,5 @@
 -- The file of a code is not too long: 32 stages, 200 slots and 200,000 instructions have room.
-use Rattle.std.proofs.Common.{◌≡◌, ℕ, ◌+◌, ◌*◌, ◌≤◌, true, false, List, [], ◌∷◌, ◌++◌, All, length, map, flat_map, nat_le, nat_eq, ◌&&◌, ◌||◌, IsTrue, refl, arith, length-append, leb-true}
+use Rattle.std.proofs.Common.{◌≡◌, ℕ, ◌+◌, ◌*◌, ◌≤◌, true, List, [], ◌∷◌, ◌++◌, All, length, flat_map, nat_le, nat_eq, ◌&&◌, ◌||◌, IsTrue, refl, arith, length-append, leb-true}
 use Rattle.std.specs.List.{list_all}
 use Rattle.std.proofs.lemmas.List.{length-map}
 use Rattle.std.proofs.lemmas.List.Elements.{All-tail}

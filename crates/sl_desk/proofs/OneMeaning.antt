@@ -1,5 +1,5 @@
 -- A well-formed book has at most one text on an election.
-use Rattle.std.proofs.Common.{◌≡◌, ℕ, true, List, Some, slice_get, sym, ap, ◌∙◌, inl, inr}
+use Rattle.std.proofs.Common.{◌≡◌, ℕ, true, List, slice_get, sym, ap, ◌∙◌, inl, inr}
 use Rattle.std.proofs.lemmas.Option.{same_Some}
 use Rattle.sl_stages.specs.declared.table.Outcome.TheVariants as outcome
 use Rattle.sl_stages.specs.book.Trees.{BookTree}
@@ -7,7 +7,7 @@ use Rattle.sl_stages.specs.book.Typing.{Column, is_typed}
 use Rattle.sl_stages.specs.returns.Election.{Election, IsElection}
 use Rattle.sl_stages.specs.meaning.Tables.{SeatTable}
 use Rattle.sl_stages.specs.meaning.Columns.{NamedColumn}
-use Rattle.sl_stages.specs.meaning.Means.{Known, StagesResult, Through, nothing_known, StagesMean, SameTable}
+use Rattle.sl_stages.specs.meaning.Means.{Known, Through, nothing_known, StagesMean, SameTable}
 use Rattle.sl_stages.specs.laws.MeaningLaws.{RecordsComeOnce}
 use Rattle.sl_stages.proofs.meaning.ExactlyOne.{same_ones}
 use Rattle.sl_stages.proofs.meaning.MeaningProofs.{at_most_one_outcome}

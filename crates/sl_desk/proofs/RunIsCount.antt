@@ -4,17 +4,15 @@ use Rattle.sl_stages.specs.book.Trees.{BookTree}
 use Rattle.sl_stages.specs.book.Typing.{is_typed}
 use Rattle.sl_stages.specs.returns.Election.{Election, IsElection}
 use Rattle.sl_code.specs.Codes.{CountingCode}
-use Rattle.sl_code.specs.Proper.{IsProper}
 use Rattle.sl_code.specs.Spelling.{spelling_of}
 use Rattle.sl_machine.specs.declared.machine.Ending.{Ending as Answer}
 use Rattle.sl_machine.specs.declared.machine.Ending.TheVariants as answer
 use Rattle.sl_machine.specs.Answers.{answer_of}
 use Rattle.sl_machine.specs.Memories.{Held, held_of}
 use Rattle.sl_machine.specs.Runs.{Ended, budget_of, ending}
-use Rattle.sl_machine.specs.State.{State, End, Halted, Faulted}
+use Rattle.sl_machine.specs.State.{End, Halted, Faulted}
 use Rattle.sl_machine.specs.Tables.{held_table}
 use Rattle.sl_machine.specs.Unrecorded.{unrecorded, without_records}
-use Rattle.sl_verify.specs.WellKinded.{IsWellKinded}
 use Rattle.sl_books.specs.Compiled.{IsCompiled, ending_by}
 use Rattle.sl_books.proofs.StageColumns.{code_stages_long}
 use Rattle.sl_returns.specs.Returns.{records_in}
