@@ -1,5 +1,5 @@
 -- A lot draws as the first of its names does that is the index of an entry, alone, or as a lot without names does.
-use Rattle.std.proofs.Common.{◌≡◌, ℕ, ◌<◌, true, List, [], ◌∷◌, get_or, option_to_list, MatchOption, Option, Some, None, All, Contains, refl, sym, ap, subst, ◌∙◌, inl, inr, arith}
+use Rattle.std.proofs.Common.{◌≡◌, ℕ, ◌<◌, true, List, [], ◌∷◌, get_or, option_to_list, Option, Some, None, All, Contains, refl, sym, ap, subst, ◌∙◌, inl, inr, arith}
 use Rattle.std.specs.Prelude.{nat_eq}
 use Rattle.std.specs.Cmp.{nat_cmp_total, tied_itself}
 use Rattle.std.specs.declared.cmp.Ordering.{Ordering}
@@ -21,7 +21,7 @@ module _ (lot : List ℕ) (y z : Entry) where
   abbrev by_index : Ordering
   by_index = ordering_then (nat_cmp y.index z.index) (entry_cmp z y)
 
-  at_one_place : place_in_lot lot y.index ≡ place_in_lot lot z.index → lot_cmp lot z y ≡ by_index
+  pub at_one_place : place_in_lot lot y.index ≡ place_in_lot lot z.index → lot_cmp lot z y ≡ by_index
   at_one_place e =
       let tied : nat_cmp (place_in_lot lot y.index) (place_in_lot lot z.index) ≡ Equal =
       ap (nat_cmp (place_in_lot lot y.index)) (sym e) ∙ tied_itself nat_cmp_total (place_in_lot lot y.index) in
@@ -41,7 +41,7 @@ module _ (lot : List ℕ) (xs : List Entry) (y : Entry) (here : Contains xs y) w
   has : (z : Entry) → Contains xs z → have_index xs z.index ≡ true
   has z c = any-at (λ x. nat_eq x.index z.index) xs z c (eq-eqb z.index z.index refl)
 
-  by_no_name : first_named lot xs ≡ None → (z : Entry) → Contains xs z → AtMost (lot_cmp []) y z → AtMost (lot_cmp lot) y z
+  pub by_no_name : first_named lot xs ≡ None → (z : Entry) → Contains xs z → AtMost (lot_cmp []) y z → AtMost (lot_cmp lot) y z
   by_no_name none z c =
       drawn_alike lot [] y z (found_none (have_index xs) lot y.index none (has y here) ∙ sym (found_none (have_index xs) lot z.index none (has z c))) refl
 
@@ -82,8 +82,3 @@ drawn_by_first lot xs x y c h =
     let most = drawn_by lot xs y among (first_named lot xs) refl
     (λ k d l. All-at (AtMost (lot_cmp front) y) (x ∷ xs) (get_or xs k d) h.most (Contains-tail x xs (get_or xs k d) (Contains-get_or xs k d l))) in
     record { among = h.among; most = All-cons (AtMost (lot_cmp lot) y) x xs (All-at (AtMost (lot_cmp lot) y) xs x most c) most }
-
--- the elements of a slice of an option
-pub slice_of_option : (o : Option ℕ) (xs : List ℕ) → MatchOption o (xs ≡ []) (λ n. xs ≡ n ∷ []) → xs ≡ option_to_list o
-slice_of_option None xs h = h
-slice_of_option (Some n) xs h = h

@@ -10,7 +10,7 @@ use Rattle.std.proofs.Math.Seq.{take-append_seam}
 use Rattle.std.proofs.lemmas.List.Elements.{All-tail}
 use Rattle.std.proofs.lemmas.List.Sorted.{All-permutation, IsPermutation-swap_remove}
 use Rattle.sl_ratio.specs.Quotient.{FitsRatio}
-use Rattle.sl_prio.specs.inner.Heap.{IsKept, IsUnder, IsHeap, IsHeapBut, HasChildrenUnder, MayRise, IsGreatestChild}
+use Rattle.sl_prio.specs.inner.Heap.{IsKept, IsUnder, IsHeap, IsHeapBut, MayRise, IsGreatestChild}
 use Rattle.sl_prio.specs.Prio.{top}
 use Rattle.sl_prio.proofs.Greatest.{greatest-is, AtMost-self, AtMost-trans, le_not_gt}
 use Rattle.sl_prio.proofs.Orders.{entry_order}

@@ -16,4 +16,4 @@ pub mod Subtrees
 pub mod Seen
 pub mod PeerCounts
 pub mod PeerMarks
-pub mod OnlyPeers
+pub mod DrawnPeers

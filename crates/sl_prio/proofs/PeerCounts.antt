@@ -1,33 +1,34 @@
 -- How many peers there are with one entry more, and with one of them less.
-use Rattle.std.proofs.Common.{◌≡◌, nat_eq, IsTrue, IfSome, inl, inr, ℕ, ◌+◌, ◌*◌, ◌<◌, ◌≤◌, Bool, true, false, cond, List, [], ◌∷◌, length, get_or, Option, Some, None, Contains, All, IsPermutation, count_by, refl, sym, ap, subst, ◌∙◌, arith}
+use Rattle.std.proofs.Common.{◌≡◌, ◌&&◌, nat_eq, IsTrue, inl, inr, ℕ, ◌+◌, ◌*◌, ◌<◌, ◌≤◌, Bool, true, false, cond, List, [], ◌∷◌, length, get_or, Option, Some, None, Contains, All, IsPermutation, slice_get, count_by, refl, sym, ap, subst, ◌∙◌, arith}
 use Rattle.std.specs.Cmp.{nat_cmp_total, tied_itself}
 use Rattle.std.specs.List.{filter}
 use Rattle.std.specs.Option.{option_map_or}
 use Rattle.std.specs.declared.cmp.Ordering.TheVariants.{Less, Equal, Greater}
-use Rattle.std.specs.Ordering.{is_le, is_eq, ordering_reverse}
-use Rattle.std.proofs.lemmas.Bool.{and_from, cases_lt, false_from_ne_true, true≢false}
+use Rattle.std.specs.Ordering.{nat_cmp, is_le, is_eq, ordering_reverse, ordering_then}
+use Rattle.std.proofs.lemmas.Bool.{and_from, and_parts, cases_Bool, cases_lt, eqb-true, false_from_ne_true, true≢false}
 use Rattle.std.proofs.lemmas.Cmp.{upto}
-use Rattle.std.proofs.lemmas.List.Elements.{All-cons, All-nil, All-tail, Contains-get_or}
+use Rattle.std.proofs.lemmas.List.Elements.{All-cons, All-tail, Contains-get_or}
 use Rattle.std.proofs.lemmas.List.Sorted.{All-permutation, Contains-permutation, IsPermutation-sym}
 use Rattle.std.proofs.lemmas.List.Sums.{count_by-le-length, length-filter}
-use Rattle.std.proofs.lemmas.Option.{same_Some}
 use Rattle.sl_ratio.specs.declared.entry.Entry.{Entry}
 use Rattle.sl_ratio.specs.Quotient.{compare}
 use Rattle.sl_ratio.specs.Entry.{entry_cmp, quotient_cmp}
 use Rattle.sl_ratio.specs.inner.EntryLaws.{quotient_total, quotient_cmp-positive}
 use Rattle.sl_prio.specs.Prio.{top, peers, has_quotient_of}
 use Rattle.sl_prio.specs.Ranking.{ranked}
-use Rattle.sl_prio.specs.inner.Heap.{IsHeap, IsNewPeer, IsOnly, IsPassed, is_peer_with}
-use Rattle.sl_prio.specs.inner.Marks.{HaveMarks, have_index}
-use Rattle.sl_prio.proofs.Finding.{All-at, any-Contains, Contains-cases, Contains-head, Contains-none, Contains-tail, count_by-cons, count_by-no, count_by-none, count_by-yes, counted, slice_get-Contains, some_counted}
+use Rattle.sl_prio.specs.inner.Heap.{AreCounted, IsHeap, IsNewPeer}
+use Rattle.sl_prio.specs.inner.Marks.{AreApart, HaveMarks, have_index}
+use Rattle.sl_prio.proofs.Finding.{All-at, Contains-cases, Contains-filter, Contains-head, Contains-none, Contains-tail, count_by-cons, count_by-filter, count_by-no, count_by-none, count_by-yes, counted, slice_get-Contains}
 use Rattle.sl_prio.proofs.Heaps.{top_first}
 use Rattle.sl_prio.proofs.LawProofs.{first_peers}
 use Rattle.sl_prio.proofs.Fronts.{HasRatio}
-use Rattle.sl_prio.proofs.Greatest.{AtMost, AtMost-self, both_le, greatest-is, greatest-None, le_not_gt, not_gt}
+use Rattle.sl_prio.proofs.Greatest.{AtMost, both_le, greatest-is, greatest-None, greatest-Some, le_not_gt, not_gt}
 use Rattle.sl_prio.proofs.Orders.{entry_order}
 use Rattle.sl_prio.proofs.PeerLaws.{fits_first, has_top_quotient, peers_are_greatest, tied, up_to_top}
-use Rattle.sl_prio.proofs.Rankings.{counts_alike}
-use Rattle.sl_prio.proofs.Tables.{has_own_quotient, peers-length, top-Contains}
+use Rattle.sl_prio.proofs.Marks.{none_has}
+use Rattle.sl_prio.proofs.PeerMarks.{fresh_index}
+use Rattle.sl_prio.proofs.Rankings.{counts_alike, ranked-permutation}
+use Rattle.sl_prio.proofs.Tables.{has_own_quotient, peers-at_top, peers-length, top-Contains}
 
 -- ---- counts by a test, and quotients
 
@@ -39,6 +40,38 @@ count_alike p q (x ∷ xs) same =
     let here = ap (λ (b : Bool). cond {A = ℕ} b 1 0) (same x (Contains-head x xs)) in
     let rest = count_alike p q xs (λ y c. same y (Contains-tail x xs y c)) in
     omega (arith, one, two, here, rest)
+
+count_up_to : (p q : Entry → Bool) (xs : List Entry) → ((y : Entry) → Contains xs y → p y ≡ true → q y ≡ true) → count_by p xs ≤ count_by q xs
+count_up_to p q [] passes = omega arith
+count_up_to p q (x ∷ xs) passes =
+    let rest = count_up_to p q xs (λ y c. passes y (Contains-tail x xs y c)) in
+    elim (cases_Bool (p x)) [
+      | inl t ↦
+          let one = count_by-yes p x xs t in
+          let other = count_by-yes q x xs (passes x (Contains-head x xs) t) in
+          omega (arith, one, other, rest)
+      | inr f ↦
+          let none = count_by-no p x xs f in
+          let other = count_by-cons q x xs in
+          omega (arith, none, other, rest)
+    ]
+
+at_most_right : (a b : Bool) → cond {A = ℕ} (a && b) 1 0 ≤ cond b 1 0
+at_most_right true b = omega arith
+at_most_right false b = omega arith
+
+-- the peers that pass, counted among all entries
+peers_counted : (xs : List Entry) (first : Entry) → top xs ≡ Some first → (p : Entry → Bool) → count_by p (peers xs) ≡ count_by (λ x. has_quotient_of first x && p x) xs
+peers_counted xs first is_top p =
+    let listed = filter (has_quotient_of first) xs in
+    ap (count_by p) (peers-at_top xs first is_top) ∙ sym (counts_alike listed (ranked listed) (ranked-permutation listed) p) ∙ count_by-filter (has_quotient_of first) p xs
+
+-- an entry with the quotient of the top is a peer
+peer_by : (xs : List Entry) (first : Entry) → top xs ≡ Some first → (x : Entry) → Contains xs x → has_quotient_of first x ≡ true → Contains (peers xs) x
+peer_by xs first is_top x c t =
+    let listed = filter (has_quotient_of first) xs in
+    subst (λ (ps : List Entry). Contains ps x) (sym (peers-at_top xs first is_top))
+    (Contains-permutation listed (ranked listed) x (ranked-permutation listed) (Contains-filter (has_quotient_of first) xs x c t))
 
 -- x has no greater quotient than y
 abbrev pub UpTo : Entry → Entry → Type 0
@@ -110,18 +143,74 @@ module _ (xs : List Entry) (ratios : All HasRatio xs) (entry : Entry) (fits : Ha
     | inr there ↦ Contains-tail entry (peers xs) y (old_peer y c there)
   ]
 
-  -- the marks with that of the new peer
-  pub joined_marked : (zs : List Entry) (n : ℕ) (old cleared new : List Bool) → IsNewPeer xs entry n → peers (entry ∷ xs) ≡ peers zs → HaveMarks (peers xs) old → (1 < n → cleared ≡ old)
-      → ((ys : List Entry) (x : Entry) → x.index ≡ entry.index → HaveMarks ys cleared → HaveMarks (x ∷ ys) new) → HaveMarks (peers zs) new
-  joined_marked zs n old cleared new h same held stay kept = λ y c.
-      let before : Contains (peers (entry ∷ xs)) y = subst (λ (ps : List Entry). Contains ps y) (sym same) c in
-      elim (cases_lt 1 n) [
-        | inl several ↦ kept (peers xs) entry refl (subst (λ (ms : List Bool). HaveMarks (peers xs) ms) (sym (stay several)) held) y (old_or_new y before)
+  module _ (p : Entry → Bool) where
+    old_counted : (m : Entry) → top (entry ∷ xs) ≡ Some m → (o : Option Entry) → top xs ≡ o → count_by (λ x. has_quotient_of m x && p x) xs ≤ count_by p (peers xs)
+    old_counted m is_top None none =
+        let empty : xs ≡ [] = greatest-None entry_cmp entry_order xs none in
+        let e : count_by (λ x. has_quotient_of m x && p x) xs ≡ 0 = ap (count_by (λ x. has_quotient_of m x && p x)) empty in
+        omega (arith, e)
+    old_counted m is_top (Some first) is_first =
+        let all = peers_counted xs first is_first p in
+        let up = count_up_to (λ x. has_quotient_of m x && p x) (λ x. has_quotient_of first x && p x) xs (λ y c t.
+        let parts = and_parts (has_quotient_of m y) (p y) t in
+        let now = peer_by (entry ∷ xs) m is_top y (Contains-tail entry xs y c) parts.0 in
+        and_from (has_quotient_of first y) (p y) (has_top_quotient xs ratios first is_first y (old_peer y now c)).1 parts.1) in
+        omega (arith, all, up)
+
+    -- of those that pass there is one more at most
+    joined_count : count_by p (peers (entry ∷ xs)) ≤ count_by p (entry ∷ peers xs)
+    joined_count =
+        let m = has_top (entry ∷ xs) entry (Contains-head entry xs) in
+        let all = peers_counted (entry ∷ xs) m.0 m.1 p in
+        let split = count_by-cons (λ x. has_quotient_of m.0 x && p x) entry xs in
+        let here = at_most_right (has_quotient_of m.0 entry) (p entry) in
+        let rest = old_counted m.0 m.1 (top xs) refl in
+        let new = count_by-cons p entry (peers xs) in
+        omega (arith, all, split, here, rest, new)
+
+  module _ (zs : List Entry) (n : ℕ) (h : IsNewPeer xs entry n) (same : peers (entry ∷ xs) ≡ peers zs) (count : ℕ) (distinct : Bool) (old cleared : List Bool)
+      (held : AreCounted (peers xs) count distinct old) (stay : 1 < n → cleared ≡ old) where
+    -- where the new one stands beside others
+    module _ (several : 1 < n) where
+      stayed : HaveMarks (peers xs) cleared
+      stayed = subst (λ (ms : List Bool). HaveMarks (peers xs) ms) (sym (stay several)) held.marked
+
+      apart_beside : IsTrue distinct → slice_get cleared entry.index ≡ Some false → AreApart (peers (entry ∷ xs))
+      apart_beside before fresh = λ index.
+          let joined = joined_count (λ x. nat_eq x.index index) in
+          let split = count_by-cons (λ x. nat_eq x.index index) entry (peers xs) in
+          elim (cases_Bool (nat_eq entry.index index)) [
+            | inl t ↦
+                let none = none_has (peers xs) index
+                (subst (λ k. have_index (peers xs) k ≡ false) (eqb-true entry.index index t) (fresh_index (peers xs) cleared entry.index stayed fresh)) in
+                let here = count_by-yes (λ x. nat_eq x.index index) entry (peers xs) t in
+                omega (arith, joined, here, none)
+            | inr f ↦
+                let here = count_by-no (λ x. nat_eq x.index index) entry (peers xs) f in
+                let rest = held.apart before index in
+                omega (arith, joined, here, rest)
+          ]
+
+    -- what is counted with the new one, which has a mark
+    pub joined_counted : (m : ℕ) (fresh after : Bool) (new : List Bool) → m ≡ n → (IsTrue fresh → slice_get cleared entry.index ≡ Some false) → (1 < n → IsTrue after → IsTrue distinct × IsTrue fresh)
+        → ((ys : List Entry) (x : Entry) → x.index ≡ entry.index → HaveMarks ys cleared → HaveMarks (x ∷ ys) new) → AreCounted (peers zs) m after new
+    joined_counted m fresh after new is_n lacked both kept = subst (λ (ps : List Entry). AreCounted ps m after new) same (record {
+      counted = is_n ∙ h.count;
+      apart = λ t. elim (cases_lt 1 n) [
+        | inl several ↦ apart_beside several (both several t).0 (lacked (both several t).1)
+        | inr few ↦ λ index.
+            let count = h.count in
+            let most = count_by-le-length (λ x. nat_eq x.index index) (peers (entry ∷ xs)) in
+            omega (arith, few, count, most)
+      ];
+      marked = λ y c. elim (cases_lt 1 n) [
+        | inl several ↦ kept (peers xs) entry refl (stayed several) y (old_or_new y c)
         | inr few ↦
-            let one : length (peers (entry ∷ xs)) ≡ 1 = (let count = h.count in let some = Contains-length (peers (entry ∷ xs)) y before in omega (arith, few, count, some)) in
-            let e = alone_among (peers (entry ∷ xs)) entry y one h.here before in
+            let one : length (peers (entry ∷ xs)) ≡ 1 = (let count = h.count in let some = Contains-length (peers (entry ∷ xs)) y c in omega (arith, few, count, some)) in
+            let e = alone_among (peers (entry ∷ xs)) entry y one h.here c in
             kept [] entry refl (λ x none. absurd (Contains-none x none)) y (subst (λ (z : Entry). Contains (entry ∷ []) z) e (Contains-head entry []))
-      ]
+      ];
+    })
 
 module _ (xs : List Entry) (ratios : All HasRatio xs) (first : Entry) (is_top : top xs ≡ Some first) where
   up : All (UpTo first) xs
@@ -151,14 +240,6 @@ module _ (xs : List Entry) (ratios : All HasRatio xs) (first : Entry) (is_top : 
         let most = All-cons (UpTo first) entry xs (ap is_le order ∙ low) up in
         counted_by (entry ∷ xs) all_fit first (fits_first xs ratios first is_top) most first (Contains-tail entry xs first here) (has_own_quotient first)
 
-    pub one_smaller : compare entry.ratio first.ratio ≡ Less → length (peers (entry ∷ xs)) ≡ length (peers xs)
-    one_smaller less =
-        let other : has_quotient_of first entry ≡ false = ap is_eq (back ∙ ap ordering_reverse less) in
-        let all = counted_with (ap is_le less) in
-        let rest = count_by-no (has_quotient_of first) entry xs other in
-        let before = counted_now in
-        omega (arith, all, rest, before)
-
     pub one_alike : compare entry.ratio first.ratio ≡ Equal → length (peers (entry ∷ xs)) ≡ length (peers xs) + 1
     one_alike equal =
         let same : has_quotient_of first entry ≡ true = ap is_eq (back ∙ ap ordering_reverse equal) in
@@ -185,18 +266,15 @@ module _ (xs : List Entry) (ratios : All HasRatio xs) (first : Entry) (is_top : 
         let rest = count_by-yes (has_quotient_of entry) entry xs (has_own_quotient entry) in
         omega (arith, all, rest, none)
 
-    pub passed : compare entry.ratio first.ratio ≡ Less → IsPassed xs entry
-    passed less = record {
-      count = one_smaller less;
-      others = λ y c. elim (Contains-cases entry xs y ((peers_are_greatest (entry ∷ xs) all_fit y).0 c).0) [
-        | inl e ↦
-            let most = ((peers_are_greatest (entry ∷ xs) all_fit y).0 c).1 in
-            let low = All-at (λ other. IsTrue (is_le (compare other.ratio y.ratio))) (entry ∷ xs) first most (Contains-tail entry xs first here) in
-            let high : is_le (compare first.ratio entry.ratio) ≡ true = subst (λ (z : Entry). is_le (compare first.ratio z.ratio) ≡ true) (sym e) low in
-            absurd (true≢false (sym high ∙ ap is_le (back ∙ ap ordering_reverse less)))
-        | inr there ↦ old_peer xs ratios entry fits y c there
-      ];
-    }
+    -- with an entry that is smaller than the top the peers are the same
+    pub passed : compare entry.ratio first.ratio ≡ Less → peers (entry ∷ xs) ≡ peers xs
+    passed less =
+        let other : has_quotient_of first entry ≡ false = ap is_eq (back ∙ ap ordering_reverse less) in
+        let low : AtMost entry_cmp first entry =
+        ap (λ r. is_le (ordering_then (ordering_then (ordering_then r (nat_cmp first.index entry.index)) (nat_cmp entry.ratio.num first.ratio.num)) (nat_cmp entry.ratio.den first.ratio.den))) (order ∙ less) in
+        let most = All-cons (AtMost entry_cmp first) entry xs low (greatest-Some entry_cmp entry_order xs first is_top).1 in
+        let still : top (entry ∷ xs) ≡ Some first = greatest-is entry_cmp entry_order (entry ∷ xs) first (Contains-tail entry xs first here) most in
+        peers-at_top (entry ∷ xs) first still ∙ rw other (sym (peers-at_top xs first is_top))
 
     newest : is_le (compare first.ratio entry.ratio) ≡ true → Contains (peers (entry ∷ xs)) entry
     newest low =
@@ -215,26 +293,30 @@ module _ (xs : List Entry) (ratios : All HasRatio xs) (first : Entry) (is_top : 
 
   -- ---- one peer less
 
-  module _ (x : Entry) (ys : List Entry) (peer : Contains (peers xs) x) (taken : IsPermutation xs (x ∷ ys)) where
-    less_than_before : 1 < length (peers xs) → length (peers xs) ≡ length (peers ys) + 1
-    less_than_before several =
+  module _ (x : Entry) (ys : List Entry) (peer : Contains (peers xs) x) (taken : IsPermutation xs (x ∷ ys)) (several : 1 < length (peers xs)) where
+    rest : All HasRatio ys
+    rest = All-tail HasRatio x ys (All-permutation HasRatio xs (x ∷ ys) taken ratios)
+
+    -- one that is left
+    other : (z : Entry) × Contains ys z × (has_quotient_of first z ≡ true)
+    other =
         let before = counted_now in
         let same = counts_alike xs (x ∷ ys) taken (has_quotient_of first) in
         let split = count_by-yes (has_quotient_of first) x ys (has_top_quotient xs ratios first is_top x peer).1 in
-        let other = counted (has_quotient_of first) ys (omega (arith, several, before, same, split)) in
-        let rest = All-tail HasRatio x ys (All-permutation HasRatio xs (x ∷ ys) taken ratios) in
+        counted (has_quotient_of first) ys (omega (arith, several, before, same, split))
+
+    less_than_before : length (peers xs) ≡ length (peers ys) + 1
+    less_than_before =
+        let before = counted_now in
+        let same = counts_alike xs (x ∷ ys) taken (has_quotient_of first) in
+        let split = count_by-yes (has_quotient_of first) x ys (has_top_quotient xs ratios first is_top x peer).1 in
         let most = All-tail (UpTo first) x ys (All-permutation (UpTo first) xs (x ∷ ys) taken up) in
         let after = counted_by ys rest first (fits_first xs ratios first is_top) most other.0 other.1 other.2 in
         omega (arith, before, same, split, after)
 
-    -- where there were several, those that are left were peers before
-    left_peer : 1 < length (peers xs) → (y : Entry) → Contains (peers ys) y → Contains (peers xs) y
-    left_peer several y c =
-        let before = counted_now in
-        let same = counts_alike xs (x ∷ ys) taken (has_quotient_of first) in
-        let split = count_by-yes (has_quotient_of first) x ys (has_top_quotient xs ratios first is_top x peer).1 in
-        let other = counted (has_quotient_of first) ys (omega (arith, several, before, same, split)) in
-        let rest = All-tail HasRatio x ys (All-permutation HasRatio xs (x ∷ ys) taken ratios) in
+    -- those that are left were peers before
+    left_peer : (y : Entry) → Contains (peers ys) y → Contains (peers xs) y
+    left_peer y c =
         let held = (peers_are_greatest ys rest y).0 c in
         let fits_y = All-at HasRatio ys y rest held.0 in
         let fits_w = All-at HasRatio ys other.0 rest other.1 in
@@ -250,61 +332,40 @@ module _ (xs : List Entry) (ratios : All HasRatio xs) (first : Entry) (is_top : 
               upto_chain z first y (up k d l) (upto_chain first other.0 y to_w from_w),
         )
 
-    -- no other has the index of the only one with it
-    gone : 1 < length (peers xs) → (k index : ℕ) → IsOnly first xs k index → x ≡ get_or xs k x → have_index (peers ys) index ≡ false
-    gone several k index only is =
-        false_from_ne_true (have_index (peers ys) index) (λ t.
-        let w = any-Contains (λ z. nat_eq z.index index) (peers ys) t in
-        let before = has_top_quotient xs ratios first is_top w.0 (left_peer several w.0 w.1) in
-        let rest = All-tail HasRatio x ys (All-permutation HasRatio xs (x ∷ ys) taken ratios) in
-        let there = ((peers_are_greatest ys rest w.0).0 w.1).0 in
-        let p = is_peer_with first index in
-        let passes = and_from (nat_eq w.0.index index) (has_quotient_of first w.0) w.2 before.1 in
-        let split = count_by-yes p x ys (ap p is ∙ only.here x) in
-        let same = counts_alike xs (x ∷ ys) taken p in
-        let one = only.only in
-        let more = some_counted p ys w.0 there passes in
-        omega (arith, split, same, one, more))
+    -- with the one that was taken, no more of them pass than before
+    left_count : (p : Entry → Bool) → count_by p (x ∷ peers ys) ≤ count_by p (peers xs)
+    left_count p =
+        let m = has_top ys other.0 other.1 in
+        let before = peers_counted xs first is_top p in
+        let same = counts_alike xs (x ∷ ys) taken (λ y. has_quotient_of first y && p y) in
+        let split = count_by-cons (λ y. has_quotient_of first y && p y) x ys in
+        let own : cond {A = ℕ} (has_quotient_of first x && p x) 1 0 ≡ cond (p x) 1 0 = ap (λ (b : Bool). cond {A = ℕ} (b && p x) 1 0) (has_top_quotient xs ratios first is_top x peer).1 in
+        let after = peers_counted ys m.0 m.1 p in
+        let new = count_by-cons p x (peers ys) in
+        let up = count_up_to (λ y. has_quotient_of m.0 y && p y) (λ y. has_quotient_of first y && p y) ys (λ y c t.
+        let parts = and_parts (has_quotient_of m.0 y) (p y) t in
+        let was = left_peer y (peer_by ys m.0 m.1 y c parts.0) in
+        and_from (has_quotient_of first y) (p y) (has_top_quotient xs ratios first is_top y was).1 parts.1) in
+        omega (arith, before, same, split, own, after, new, up)
 
--- where there are several peers, one that is taken leaves one less
-pub one_less : (xs ys : List Entry) (x : Entry) → All HasRatio xs → Contains (peers xs) x → IsPermutation xs (x ∷ ys) → 1 < length (peers xs) → length (peers xs) ≡ length (peers ys) + 1
-one_less xs ys x ratios peer taken several =
+    left : (n : ℕ) (distinct : Bool) (marks : List Bool) → AreCounted (peers xs) n distinct marks → AreCounted (x ∷ peers ys) n distinct marks
+    left n distinct marks held = record {
+      counted = let before = held.counted in let less = less_than_before in omega (arith, before, less);
+      apart = λ t index. let most = held.apart t index in let fewer = left_count (λ y. nat_eq y.index index) in omega (arith, most, fewer);
+      marked = λ y c. elim (Contains-cases x (peers ys) y c) [
+        | inl e ↦ held.marked y (subst (λ (z : Entry). Contains (peers xs) z) e peer)
+        | inr k ↦ held.marked y (left_peer y k)
+      ];
+    }
+
+-- where there are several peers, what is counted of them is that of one that is taken and those that are left
+pub left_counted : (xs ys : List Entry) (x : Entry) → All HasRatio xs → Contains (peers xs) x → IsPermutation xs (x ∷ ys) → (n : ℕ) (distinct : Bool) (marks : List Bool)
+    → AreCounted (peers xs) n distinct marks → 1 < n → AreCounted (x ∷ peers ys) n distinct marks
+left_counted xs ys x ratios peer taken n distinct marks held several =
     let here = Contains-permutation (x ∷ ys) xs x (IsPermutation-sym xs (x ∷ ys) taken) (Contains-head x ys) in
     let first = has_top xs x here in
-    less_than_before xs ratios first.0 first.1 x ys peer taken several
-
--- the same by any peer that was taken
-module _ (xs ys : List Entry) (x : Entry) (ratios : All HasRatio xs) (peer : Contains (peers xs) x) (taken : IsPermutation xs (x ∷ ys)) (several : 1 < length (peers xs)) where
-  found : (first : Entry) × (top xs ≡ Some first)
-  found = has_top xs x (Contains-permutation (x ∷ ys) xs x (IsPermutation-sym xs (x ∷ ys) taken) (Contains-head x ys))
-
-  pub left_marked : (marks : List Bool) → HaveMarks (peers xs) marks → HaveMarks (peers ys) marks
-  left_marked marks held = λ y c. held y (left_peer xs ratios found.0 found.1 x ys peer taken several y c)
-
-  pub gone_index : (k : ℕ) (gone_one : Option ℕ) → x ≡ get_or xs k x → IfSome gone_one (λ index. (top_one : Entry) → top xs ≡ Some top_one → IsOnly top_one xs k index)
-      → IfSome gone_one (λ index. have_index (peers ys) index ≡ false)
-  gone_index k None is only = only
-  gone_index k (Some index) is only = gone xs ratios found.0 found.1 x ys peer taken several k index (only found.0 found.1) is
-
--- the top is the only one of its kind
-pub only_by_top : (xs : List Entry) (first : Entry) → top xs ≡ Some first → (k : ℕ) (o : Option ℕ) → IfSome o (IsOnly first xs k) → IfSome o (λ index. (other : Entry) → top xs ≡ Some other → IsOnly other xs k index)
-only_by_top xs first is_top k None h = h
-only_by_top xs first is_top k (Some index) h = λ other e. subst (λ (x : Entry). IsOnly x xs k index) (same_Some first other (sym is_top ∙ e)) h
-
-pub one_alone : (x : Entry) → length (peers (x ∷ [])) ≡ 1
-one_alone x =
-    let is_top = greatest-is entry_cmp entry_order (x ∷ []) x (Contains-head x []) (All-cons (AtMost entry_cmp x) x [] (AtMost-self entry_cmp entry_order x) (All-nil (AtMost entry_cmp x))) in
-    let all = sym (peers-length (x ∷ []) x is_top) ∙ length-filter (has_quotient_of x) (x ∷ []) in
-    let rest = count_by-yes (has_quotient_of x) x [] (has_own_quotient x) in
-    omega (arith, all, rest)
-
-pub new_alone : (x : Entry) → HasRatio x → IsNewPeer [] x 1
-new_alone x fits = record {
-  count = sym (one_alone x);
-  here =
-      (peers_are_greatest (x ∷ []) (All-cons HasRatio x [] fits (All-nil HasRatio)) x).1
-      (Contains-head x [], All-cons (λ other. IsTrue (is_le (compare other.ratio x.ratio))) x [] (ap is_le (tied_itself nat_cmp_total (x.ratio.num * x.ratio.den))) (All-nil (λ other. IsTrue (is_le (compare other.ratio x.ratio)))));
-}
+    let count = held.counted in
+    left xs ratios first.0 first.1 x ys peer taken (omega (arith, several, count)) n distinct marks held
 
 pub peers_at_most : (xs : List Entry) → length (peers xs) ≤ length xs
 peers_at_most xs = by_top (top xs) refl
@@ -321,9 +382,3 @@ peers_at_most xs = by_top (top xs) refl
 -- the entry at the first place of a heap is a peer
 pub first_is_peer : (xs : List Entry) → IsHeap xs → (x : Entry) → 0 < length xs → x ≡ get_or xs 0 x → Contains (peers xs) x
 first_is_peer xs heap x some e = slice_get-Contains (peers xs) 0 x (first_peers xs ∙ top_first xs heap x some e)
-
--- ---- marks with one entry more
-
--- the marks stay where the entry is no peer
-pub passed_marked : (xs zs : List Entry) (x : Entry) (marks : List Bool) → IsPassed xs x → peers (x ∷ xs) ≡ peers zs → HaveMarks (peers xs) marks → HaveMarks (peers zs) marks
-passed_marked xs zs x marks h same held = λ y c. held y (h.others y (subst (λ (ps : List Entry). Contains ps y) (sym same) c))

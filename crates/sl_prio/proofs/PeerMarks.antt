@@ -1,17 +1,16 @@
 -- Marks of the peers' indexes, and searches for a peer with an index.
-use Rattle.std.proofs.Common.{◌≡◌, ℕ, suc, ◌+◌, ◌<◌, ◌||◌, Bool, true, false, cond, List, [], ◌∷◌, nat_eq, length, get_or, take, drop, drop-cons, Option, Some, None, MatchOption, Contains, count_by, slice_get, refl, sym, ap, subst, ◌∙◌, inl, inr, arith}
+use Rattle.std.proofs.Common.{◌≡◌, ℕ, suc, ◌+◌, ◌<◌, ◌≤◌, ◌||◌, Bool, true, false, List, [], ◌∷◌, nat_eq, length, get_or, Option, Some, None, MatchOption, Contains, IsTrue, count_by, slice_get, refl, sym, ap, subst, ◌∙◌, inl, inr, arith}
 use Rattle.std.specs.List.{list_any, position_from}
 use Rattle.std.proofs.Math.Bool.{or-true}
 use Rattle.std.proofs.lemmas.Bool.{and_from, and_parts, cases_Bool, eq-eqb, eqb-true, false_from_ne_true, true≢false}
 use Rattle.std.proofs.lemmas.List.{get_or_default}
-use Rattle.std.proofs.lemmas.List.Sums.{sum_by-take-drop}
 use Rattle.std.proofs.lemmas.List.Sorted.{Contains-permutation, IsPermutation-sym}
-use Rattle.std.proofs.lemmas.Option.{same_Some}
+use Rattle.std.proofs.lemmas.Option.{get_or_from_slice_get, same_Some, slice_get_within}
 use Rattle.sl_ratio.specs.declared.entry.Entry.{Entry}
 use Rattle.sl_prio.specs.Prio.{peers, has_quotient_of}
-use Rattle.sl_prio.specs.inner.Heap.{IsFirstAt, IsHeap, is_peer_with, peers_under, subtree}
+use Rattle.sl_prio.specs.inner.Heap.{AreCounted, IsAt, IsHeap, is_peer_with, peers_under, subtree}
 use Rattle.sl_prio.specs.inner.Marks.{AreMarks, HaveMarks, have_index}
-use Rattle.sl_prio.proofs.Finding.{any-at, any-Contains, count_by-no, count_by-none, count_by-yes, filter-Contains, Contains-cases, Contains-filter, some_counted}
+use Rattle.sl_prio.proofs.Finding.{any-at, any-Contains, count_by-no, count_by-yes, filter-Contains, Contains-cases, Contains-filter, Contains-none, Contains-tail, count_by-cons, some_counted}
 use Rattle.sl_prio.proofs.Seen.{seen_under}
 use Rattle.sl_prio.proofs.Subtrees.{subtree_permutation}
 
@@ -38,24 +37,25 @@ unmarked xs marks index d held l f =
     let marked : get_or marks index d ≡ true = subst (λ n. n < length marks → get_or marks n d ≡ true) e (held w.0 w.1 d) l in
     true≢false (sym marked ∙ f))
 
--- ---- the first that passes
+-- a mark that was still to be given is that of no entry
+pub fresh_index : (xs : List Entry) (marks : List Bool) (index : ℕ) → HaveMarks xs marks → slice_get marks index ≡ Some false → have_index xs index ≡ false
+fresh_index xs marks index held at = unmarked xs marks index false held (slice_get_within marks index false at) (get_or_from_slice_get marks index false false at)
+
+-- ---- one that passes
 
 module _ (p : Entry → Bool) where
-  found_from : (xs : List Entry) (i j : ℕ) → position_from p i xs ≡ Some j → (k : ℕ) × (j ≡ i + k) × IsFirstAt p xs k
+  found_from : (xs : List Entry) (i j : ℕ) → position_from p i xs ≡ Some j → (k : ℕ) × (j ≡ i + k) × IsAt p xs k
   found_from [] i j h = cc
   found_from (x ∷ xs) i j h =
       elim (cases_Bool (p x)) [
         | inl t ↦
             let e : i ≡ j = same_Some i j (sym (rw t refl) ∙ h) in
-            (0, omega (arith, e), record { within = omega arith; here = λ d. t; before = refl })
+            (0, omega (arith, e), record { within = omega arith; here = λ d. t })
         | inr f ↦
             let r = found_from xs (i + 1) j (sym (rw f refl) ∙ h) in
             let l : r.0 < length xs = r.2.within in
             let e : j ≡ i + 1 + r.0 = r.1 in
-            let front = count_by-no p x (take r.0 xs) f in
-            let others : count_by p (take r.0 xs) ≡ 0 = r.2.before in
-            let none : count_by p (x ∷ take r.0 xs) ≡ 0 = omega (arith, front, others) in
-            (suc r.0, omega (arith, e), record { within = omega (arith, l); here = r.2.here; before = none })
+            (suc r.0, omega (arith, e), record { within = omega (arith, l); here = r.2.here })
       ]
 
   none_from : (xs : List Entry) (i : ℕ) → position_from p i xs ≡ None → list_any p xs ≡ false
@@ -66,29 +66,19 @@ module _ (p : Entry → Bool) where
         | inr f ↦ rw f (none_from xs (i + 1) (sym (rw f refl) ∙ h))
       ]
 
-  pub found_place : (xs : List Entry) (r : Option ℕ) → r ≡ position_from p 0 xs → MatchOption r (list_any p xs ≡ false) (IsFirstAt p xs)
+  pub found_place : (xs : List Entry) (r : Option ℕ) → r ≡ position_from p 0 xs → MatchOption r (list_any p xs ≡ false) (IsAt p xs)
   found_place xs None h = none_from xs 0 (sym h)
   found_place xs (Some j) h =
       let r = found_from xs 0 j (sym h) in
       let e : r.0 ≡ j = let f = r.1 in omega (arith, f) in
-      subst (λ k. IsFirstAt p xs k) e r.2
-
-  -- where no later one passes either, it is the only one
-  pub only_here : (xs : List Entry) (k : ℕ) (d : Entry) → IsFirstAt p xs k → list_any p (drop (k + 1) xs) ≡ false → count_by p xs ≡ 1
-  only_here xs k d h none =
-      let parts = sum_by-take-drop (λ y. cond (p y) 1 0) xs k in
-      let front = h.before in
-      let e : suc k ≡ k + 1 = omega arith in
-      let rest = ap (count_by p) (drop-cons xs k d h.within) ∙ count_by-yes p (get_or xs k d) (drop (suc k) xs) (h.here d) in
-      let later = ap (λ n. count_by p (drop n xs)) e ∙ count_by-none p (drop (k + 1) xs) (λ y c. false_from_ne_true (p y) (λ t. true≢false (sym (any-at p (drop (k + 1) xs) y c t) ∙ none))) in
-      omega (arith, parts, front, rest, later)
+      subst (λ k. IsAt p xs k) e r.2
 
   none_counted : (ys : List Entry) (y : Entry) → count_by p ys ≡ 0 → Contains ys y → p y ≡ true → ⊥
   none_counted ys y none c t = let some = some_counted p ys y c t in omega (arith, some, none)
 
-  -- of entries of which one passes, no other does
-  pub only_one : (xs : List Entry) (y z : Entry) → count_by p xs ≡ 1 → Contains xs y → Contains xs z → p y ≡ true → p z ≡ true → y ≡ z
-  only_one [] y z one a b t u = absurd (let none : count_by p [] ≡ 0 = refl in omega (arith, one, none))
+  -- of entries of which no two pass, those that pass are one
+  pub only_one : (xs : List Entry) (y z : Entry) → count_by p xs ≤ 1 → Contains xs y → Contains xs z → p y ≡ true → p z ≡ true → y ≡ z
+  only_one [] y z one a b t u = absurd (Contains-none y a)
   only_one (x ∷ xs) y z one a b t u =
       elim (cases_Bool (p x)) [
         | inl here ↦
@@ -104,7 +94,24 @@ module _ (p : Entry → Bool) where
             only_one xs y z (omega (arith, one, split)) in_y in_z t u
       ]
 
--- ---- the first peer with an index
+-- ---- what is counted of some entries, without the first
+
+module _ (x : Entry) (xs : List Entry) (n : ℕ) (distinct : Bool) (old : List Bool) (held : AreCounted (x ∷ xs) n distinct old) where
+  none_other : IsTrue distinct → have_index xs x.index ≡ false
+  none_other t =
+      let p = λ (y : Entry). nat_eq y.index x.index in
+      let most = held.apart t x.index in
+      let split = count_by-yes p x xs (eq-eqb x.index x.index refl) in
+      false_from_ne_true (have_index xs x.index) (λ has. let w = any-Contains p xs has in none_counted p xs w.0 (omega (arith, most, split)) w.1 w.2)
+
+  pub others_counted : (m : ℕ) (new : List Bool) → m + 1 ≡ n → ((ys : List Entry) → (IsTrue distinct → have_index ys x.index ≡ false) → HaveMarks ys old → HaveMarks ys new) → AreCounted xs m distinct new
+  others_counted m new less kept = record {
+    counted = let count = held.counted in omega (arith, less, count);
+    apart = λ t index. let most = held.apart t index in let split = count_by-cons (λ y. nat_eq y.index index) x xs in omega (arith, most, split);
+    marked = kept xs none_other (λ y c. held.marked y (Contains-tail x xs y c));
+  }
+
+-- ---- a peer with an index
 
 module _ (xs : List Entry) (first : Entry) where
   -- those below the first place are entries with the quotient of the first
@@ -124,11 +131,11 @@ module _ (xs : List Entry) (first : Entry) where
       true≢false (sym (any-at (is_peer_with first index) xs w.0 there.0 (and_from (nat_eq w.0.index index) (has_quotient_of first w.0) w.2 there.1)) ∙ none))
 
   pub found_with : (index : ℕ) (r : Option ℕ) → r ≡ position_from (is_peer_with first index) 0 xs
-      → MatchOption r (have_index (peers_under first xs 0) index ≡ false) (IsFirstAt (is_peer_with first index) xs)
+      → MatchOption r (have_index (peers_under first xs 0) index ≡ false) (IsAt (is_peer_with first index) xs)
   found_with index None h = none_with index (found_place (is_peer_with first index) xs None h)
   found_with index (Some k) h = found_place (is_peer_with first index) xs (Some k) h
 
-  module _ (index k : ℕ) (h : IsFirstAt (is_peer_with first index) xs k) (d : Entry) where
+  module _ (index k : ℕ) (h : IsAt (is_peer_with first index) xs k) (d : Entry) where
     parts : (nat_eq (get_or xs k d).index index ≡ true) × (has_quotient_of first (get_or xs k d) ≡ true)
     parts = and_parts (nat_eq (get_or xs k d).index index) (has_quotient_of first (get_or xs k d)) (h.here d)
 

@@ -1,5 +1,5 @@
 -- What the peers below the first place say of a table.
-use Rattle.std.proofs.Common.{◌≡◌, ℕ, List, length, slice_get, Some, Contains, sym, ap, subst, ◌∙◌, inl, inr}
+use Rattle.std.proofs.Common.{◌≡◌, ℕ, Bool, List, count_by, length, slice_get, Some, Contains, sym, ap, subst, ◌∙◌, inl, inr}
 use Rattle.std.specs.List.{list_any}
 use Rattle.std.specs.Prelude.{nat_eq}
 use Rattle.std.proofs.lemmas.List.Elements.{All-tail}
@@ -14,7 +14,7 @@ use Rattle.sl_prio.proofs.Finding.{Contains-cases}
 use Rattle.sl_prio.proofs.Greatest.{AtMost}
 use Rattle.sl_prio.proofs.Heaps.{top_at_first}
 use Rattle.sl_prio.proofs.LawProofs.{order_is_free}
-use Rattle.sl_prio.proofs.Rankings.{ranked-permutation}
+use Rattle.sl_prio.proofs.Rankings.{counts_alike, ranked-permutation}
 use Rattle.sl_prio.proofs.Subtrees.{subtree_permutation}
 use Rattle.sl_prio.proofs.Tables.{peers-at_top, peers-length, peers-list_all, top-peer, drawn-is}
 
@@ -46,6 +46,11 @@ module _ (xs : List Entry) (heap : IsHeap xs) (first : Entry) (at : slice_get xs
       let under = peers_under first xs 0 in
       Contains-permutation (ranked under) under x (IsPermutation-sym under (ranked under) (ranked-permutation under))
       (subst (λ (ps : List Entry). Contains ps x) (same.same_peers ∙ peers-at_top (subtree xs 0) first first_is) c)
+
+  pub seen_counts : (p : Entry → Bool) → count_by p (peers_under first xs 0) ≡ count_by p (peers xs)
+  seen_counts p =
+      let under = peers_under first xs 0 in
+      counts_alike under (ranked under) (ranked-permutation under) p ∙ ap (count_by p) (sym (same.same_peers ∙ peers-at_top (subtree xs 0) first first_is))
 
   -- what a lot draws is one of them
   pub seen_among : (lot : List ℕ) (x : Entry) → IsDrawnOf lot (peers_under first xs 0) first x → Contains (peers xs) x

@@ -6,6 +6,7 @@ ghost use Rattle.std.specs.Ordering.{is_gt};
 ghost use Rattle.sl_ratio.specs.Entry.{entry_cmp};
 ghost use Rattle.sl_prio.specs.inner.Heap.{IsHeap, IsHeapBut, MayRise, IsGreatestChild};
 
+use crate::places::{Places, note};
 use sl_ratio::Entry;
 use std::cmp::Ordering;
 
@@ -23,8 +24,8 @@ fn exceeds(entry: &Entry, other: &Entry) -> bool
     }
 }
 
-// Moves the entry at a place up, until its parent is no smaller.
-pub(crate) fn sift_up(entries: &mut [Entry], place: usize)
+// Moves the entry at a place up, until its parent is no smaller, and notes the places of those that go down for it.
+pub(crate) fn sift_up(entries: &mut [Entry], places: &mut Places, place: usize)
     requires { MayRise entries.old place }
     ensures moved { IsPermutation entries.old entries.new }
     ensures heap { IsHeap entries.new }
@@ -36,23 +37,25 @@ pub(crate) fn sift_up(entries: &mut [Entry], place: usize)
             return;
         }
         entries.swap(parent, place);
+        note(places, entries[place].index, place);
         place = parent;
     }
 }
 
 // Makes a heap again of entries that would be one, were the entry at a place not there.
-pub(crate) fn mend(entries: &mut [Entry], place: usize)
+pub(crate) fn mend(entries: &mut [Entry], places: &mut Places, place: usize)
     requires within { place < length entries.old }
     requires others { IsHeapBut entries.old place }
     ensures moved { IsPermutation entries.old entries.new }
     ensures heap { IsHeap entries.new }
 {
     let settled = sift_down(entries, place);
-    sift_up(entries, settled);
+    note(places, entries[settled].index, settled);
+    sift_up(entries, places, settled);
 }
 
 // Takes the entry at a place out of a heap.
-pub(crate) fn take_out(entries: &mut Vec<Entry>, place: usize) -> Entry
+pub(crate) fn take_out(entries: &mut Vec<Entry>, places: &mut Places, place: usize) -> Entry
     requires within { place < length entries.old.items }
     requires heap { IsHeap entries.old.items }
     ensures value { result ≡ slice_index_or entries.old.items place result }
@@ -61,7 +64,7 @@ pub(crate) fn take_out(entries: &mut Vec<Entry>, place: usize) -> Entry
 {
     let removed = entries.swap_remove(place);
     if place < entries.len() {
-        mend(entries, place);
+        mend(entries, places, place);
     }
     removed
 }

@@ -5,6 +5,7 @@ mod heap;
 pub mod laws;
 mod lot;
 mod peers;
+mod places;
 mod prio;
 
 pub use prio::Prio;

@@ -1,6 +1,6 @@
 //! The order in which a lot draws entries of equal quotients, and marks of indexes.
 
-ghost use Rattle.std.specs.Prelude.{◌≡◌, ◌||◌, ◌∷◌, ℕ, Bool, IfSome, List, false, nat_eq};
+ghost use Rattle.std.specs.Prelude.{◌≡◌, ◌||◌, ◌∷◌, ℕ, Bool, IsTrue, List, Some, false, nat_eq, slice_get};
 ghost use Rattle.sl_ratio.specs.declared.entry.Entry.{Entry};
 ghost use Rattle.sl_prio.specs.Lot.{place_in_lot, lot_cmp};
 ghost use Rattle.sl_prio.specs.inner.Marks.{AreMarks, HaveMarks, have_index, names};
@@ -14,24 +14,25 @@ pub(crate) const MARKS: usize = 16_384;
 /// A mark for each index below `MARKS`.
 pub(crate) type Marks = [bool; MARKS];
 
-// Marks an index, where it has a mark.
-pub(crate) fn mark(marks: &mut Marks, index: u32)
+// Marks an index, where it has a mark, and answers whether that was still to be given.
+pub(crate) fn mark(marks: &mut Marks, index: u32) -> bool
+    ensures fresh { IsTrue result → slice_get marks.old index ≡ Some false }
     ensures marked { (before : ℕ → Bool) → AreMarks before marks.old → AreMarks (λ other. before other || nat_eq index other) marks.new }
     ensures kept { (xs : List Entry) (x : Entry) → x.index ≡ index → HaveMarks xs marks.old → HaveMarks (x ∷ xs) marks.new }
 {
     let place = index as usize;
-    if place < MARKS {
-        marks[place] = true;
+    if place >= MARKS {
+        return false;
     }
+    let fresh = !marks[place];
+    marks[place] = true;
+    fresh
 }
 
-// Takes the mark of an index away, if one is given.
-pub(crate) fn unmark(marks: &mut Marks, gone: Option<u32>)
-    ensures { (xs : List Entry) → IfSome gone (λ index. have_index xs index ≡ false) → HaveMarks xs marks.old → HaveMarks xs marks.new }
+// Takes the mark of an index away.
+pub(crate) fn unmark(marks: &mut Marks, index: u32)
+    ensures { (xs : List Entry) → have_index xs index ≡ false → HaveMarks xs marks.old → HaveMarks xs marks.new }
 {
-    let Some(index) = gone else {
-        return;
-    };
     let place = index as usize;
     if place < MARKS {
         marks[place] = false;

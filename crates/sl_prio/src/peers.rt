@@ -1,13 +1,14 @@
 //! The peers of a heap's top. They stand together from the first place on: an entry with the top's quotient has a parent with it,
 //! and so a place is visited only where its parent's quotient is the top's.
 
-ghost use Rattle.std.specs.Prelude.{◌≡◌, ◌+◌, ◌<◌, ◌||◌, ℕ, Bool, [], MatchOption, IfSome, IsTrue, None, Some, false, length, slice_get, slice_index_or};
+ghost use Rattle.std.specs.Prelude.{◌≡◌, ◌<◌, ◌||◌, ◌∷◌, ℕ, Bool, List, [], MatchOption, IfSome, IsTrue, None, Some, false, length, slice_get};
 ghost use Rattle.sl_ratio.specs.declared.entry.Entry.{Entry};
 ghost use Rattle.sl_prio.specs.Prio.{has_quotient_of, peers};
-ghost use Rattle.sl_prio.specs.inner.Heap.{IsKept, IsPeerAt, IsFirstAt, IsFirstNamed, IsOnly, IsDrawnFrom, are_named, is_peer_with, peers_under};
-ghost use Rattle.sl_prio.specs.inner.Marks.{AreMarks, HaveMarks, names, have_index, first_named};
+ghost use Rattle.sl_prio.specs.inner.Heap.{AreCounted, IsKept, IsPeerAt, IsAt, IsFirstNamed, IsDrawnFrom, are_named, is_peer_with, peers_under};
+ghost use Rattle.sl_prio.specs.inner.Marks.{AreApart, AreApartFrom, AreMarks, HaveMarks, names, have_index, first_named};
 
 use crate::lot::{MARKS, Marks, is_named, lot_cmp, mark, unmark};
+use crate::places::{Places, note};
 use sl_ratio::Entry;
 
 // Whether an entry has the quotient of the top.
@@ -31,61 +32,112 @@ fn peer_at(entries: &[Entry], top: &Entry, place: usize) -> Option<Entry>
     }
 }
 
-// Takes the marks of `before` peers away, if one entry alone exceeds them. `top` is their top.
-pub(crate) fn clear_exceeded(marks: &mut Marks, count: usize, top: Option<Entry>, before: usize)
+// How many peers there are, and whether it is known that no two of them have one index. If so, no other index has a mark.
+#[derive(Clone, Copy, Debug)]
+pub(crate) struct Counted {
+    pub(crate) count: usize,
+    pub(crate) distinct: bool,
+}
+
+impl Counted {
+    // Where there is no entry.
+    pub(crate) const NONE: Counted = Counted {
+        count: 0,
+        distinct: true,
+    };
+
+    // With one peer more, with which there are `count`. `fresh` says whether its index was still to be marked.
+    pub(crate) fn with_one(self, count: usize, fresh: bool) -> Counted
+        ensures count { result.count ≡ count }
+        ensures distinct { 1 < count → IsTrue result.distinct → IsTrue self.distinct × IsTrue fresh }
+    {
+        Counted {
+            count,
+            distinct: count == 1 || (self.distinct && fresh),
+        }
+    }
+}
+
+// Takes the marks of the peers before away, if one entry alone exceeds them. `top` is their top.
+pub(crate) fn clear_exceeded(marks: &mut Marks, count: usize, top: Option<Entry>, before: Counted)
     ensures { 1 < count → marks.new ≡ marks.old }
 {
     if count > 1 {
         return;
     }
-    if before == 1 {
-        unmark(marks, top.map(|top| top.index));
-    } else {
-        clear_stale(marks, before > 1);
+    if let Some(top) = top {
+        clear_marks(marks, before, top.index);
     }
 }
 
-// Takes all marks away, if some may be stale.
-fn clear_stale(marks: &mut Marks, stale: bool) {
-    if stale {
+// Takes the marks of all peers away, and those that others left behind. `index` is that of one of the peers.
+fn clear_marks(marks: &mut Marks, peers: Counted, index: u32) {
+    if peers.count == 1 && peers.distinct {
+        unmark(marks, index);
+    } else {
         *marks = [false; MARKS];
     }
 }
 
-// Counts the peers of a heap, and marks their indexes.
-fn count_anew(entries: &[Entry], marks: &mut Marks, stale: bool) -> usize
+// Counts the peers of a heap, marks their indexes, and notes their places.
+fn count_anew(entries: &[Entry], marks: &mut Marks, places: &mut Places) -> Counted
     requires kept { IsKept entries.now }
-    ensures count { result ≡ length (peers entries.now) }
-    ensures marks { HaveMarks (peers entries.now) marks.new }
+    ensures { AreCounted (peers entries.now) result.count result.distinct marks.new }
 {
-    let Some(top) = entries.first() else {
-        return 0;
-    };
-    clear_stale(marks, stale);
-    mark_peers(entries, top, marks, 0)
+    match entries.first() {
+        Some(top) => mark_peers(entries, top, marks, places, 0),
+        None => Counted::NONE,
+    }
 }
 
-// The number of peers in a heap that had so many before one of them was taken, and their marks. `gone` is its index, if no other peer
-// had that. Where it was the only peer, they are counted anew.
+// The peers that are left in a heap of those before, of which one is gone. Where it was the only one, they are counted anew.
 pub(crate) fn peers_left(
     entries: &[Entry],
     marks: &mut Marks,
-    stale: bool,
-    before: usize,
-    gone: Option<u32>,
-) -> usize
+    places: &mut Places,
+    before: Counted,
+    gone: &Entry,
+) -> Counted
     requires kept { IsKept entries.now }
-    requires one { 1 < before → before ≡ length (peers entries.now) + 1 }
-    requires marks { 1 < before → HaveMarks (peers entries.now) marks.old }
-    requires gone { 1 < before → IfSome gone (λ index. have_index (peers entries.now) index ≡ false) }
-    ensures count { result ≡ length (peers entries.now) }
-    ensures marks { HaveMarks (peers entries.now) marks.new }
+    requires before { 1 < before.count → AreCounted (gone.now ∷ peers entries.now) before.count before.distinct marks.old }
+    ensures { AreCounted (peers entries.now) result.count result.distinct marks.new }
 {
-    unmark(marks, gone);
-    if before > 1 {
-        return before - 1;
+    if before.count > 1 {
+        unmark_gone(marks, before.distinct, gone.index);
+        return Counted {
+            count: before.count - 1,
+            distinct: before.distinct,
+        };
     }
-    count_anew(entries, marks, stale)
+    clear_marks(marks, before, gone.index);
+    count_anew(entries, marks, places)
+}
+
+// Takes the mark of an index away that a peer had which is gone, if no other can have it.
+fn unmark_gone(marks: &mut Marks, distinct: bool, index: u32)
+    ensures { (xs : List Entry) → (IsTrue distinct → have_index xs index ≡ false) → HaveMarks xs marks.old → HaveMarks xs marks.new }
+{
+    if distinct {
+        unmark(marks, index);
+    }
+}
+
+// The peers of a heap, marked anew where two of them may have one index. No mark is left then of those that are gone.
+pub(crate) fn marked_anew(
+    entries: &[Entry],
+    marks: &mut Marks,
+    places: &mut Places,
+    counted: Counted,
+) -> Counted
+    requires kept { IsKept entries.now }
+    requires counted { AreCounted (peers entries.now) counted.count counted.distinct marks.old }
+    ensures { AreCounted (peers entries.now) result.count result.distinct marks.new }
+{
+    if counted.distinct {
+        return counted;
+    }
+    *marks = [false; MARKS];
+    count_anew(entries, marks, places)
 }
 
 // Whether a lot with these marks names the index of each peer at a place and below it.
@@ -111,61 +163,102 @@ pub(crate) fn are_named(
     }
 }
 
-// Marks the index of each peer at a place and below it, and counts them.
-fn mark_peers(entries: &[Entry], top: &Entry, marks: &mut Marks, place: usize) -> usize
+// Marks the index of each peer at a place and below it, notes its place, and counts them.
+fn mark_peers(
+    entries: &[Entry],
+    top: &Entry,
+    marks: &mut Marks,
+    places: &mut Places,
+    place: usize,
+) -> Counted
     requires kept { IsKept entries.now }
     requires first { slice_get entries.now 0 ≡ Some top.now }
-    ensures count { result ≡ length (peers_under top.now entries.now place) }
+    ensures count { result.count ≡ length (peers_under top.now entries.now place) }
     ensures marks { (before : ℕ → Bool) → AreMarks before marks.old → AreMarks (λ index. before index || have_index (peers_under top.now entries.now place) index) marks.new }
+    ensures apart { IsTrue result.distinct → (before : ℕ → Bool) → AreMarks before marks.old → AreApartFrom before (peers_under top.now entries.now place) }
 {
     let Some(peer) = peer_at(entries, top, place) else {
-        return 0;
+        return Counted::NONE;
     };
-    mark(marks, peer.index);
-    let left = mark_peers(entries, top, marks, 2 * place + 1);
-    let right = mark_peers(entries, top, marks, 2 * place + 2);
-    1 + left + right
+    note(places, peer.index, place);
+    let fresh = mark(marks, peer.index);
+    let left = mark_peers(entries, top, marks, places, 2 * place + 1);
+    let right = mark_peers(entries, top, marks, places, 2 * place + 2);
+    Counted {
+        count: 1 + left.count + right.count,
+        distinct: fresh & left.distinct & right.distinct,
+    }
 }
 
-// The first place at which a peer with an index stands. An index without a mark is not searched for.
-fn place_of(entries: &[Entry], top: &Entry, marks: &Marks, index: u32) -> Option<usize>
+// A place at which a peer with an index stands. An index without a mark is not searched for, and one with a mark is first searched for
+// from its noted place upwards. All entries are gone through only where that fails, and for an index that can have no mark.
+fn place_of(
+    entries: &[Entry],
+    top: &Entry,
+    marks: &Marks,
+    places: &Places,
+    index: u32,
+) -> Option<usize>
     requires kept { IsKept entries.now }
     requires marks { HaveMarks (peers_under top.now entries.now 0) marks.now }
-    ensures { MatchOption result (have_index (peers_under top.now entries.now 0) index ≡ false) (IsFirstAt (is_peer_with top.now index) entries.now) }
+    ensures { MatchOption result (have_index (peers_under top.now entries.now 0) index ≡ false) (IsAt (is_peer_with top.now index) entries.now) }
 {
-    let place = index as usize;
-    if place < MARKS && !marks[place] {
-        return None;
+    let mark = index as usize;
+    if mark < MARKS {
+        if !marks[mark] {
+            return None;
+        }
+        if let Some(place) = place_above(entries, top, index, places[mark] as usize) {
+            return Some(place);
+        }
     }
     entries
         .iter()
         .position(|entry| entry.index == index && is_peer(top, entry))
 }
 
-// The first place at which a peer stands that has the first name of a lot that is the index of a peer.
-fn first_named(entries: &[Entry], top: &Entry, marks: &Marks, lot: &[u32]) -> Option<usize>
+// Whether a peer with an index stands at a place.
+fn has_at(entries: &[Entry], top: &Entry, index: u32, place: usize) -> bool
+    ensures { IsTrue result → IsAt (is_peer_with top.now index) entries.now place }
+{
+    match entries.get(place) {
+        Some(entry) => entry.index == index && is_peer(top, entry),
+        None => false,
+    }
+}
+
+// The first place from the noted one upwards at which a peer with an index stands.
+fn place_above(entries: &[Entry], top: &Entry, index: u32, noted: usize) -> Option<usize>
+    ensures { IfSome result (IsAt (is_peer_with top.now index) entries.now) }
+{
+    let mut place = noted;
+    while !has_at(entries, top, index, place) {
+        if place == 0 {
+            return None;
+        }
+        place = (place - 1) / 2;
+    }
+    Some(place)
+}
+
+// A place at which a peer stands that has the first name of a lot that is the index of a peer.
+fn first_named(
+    entries: &[Entry],
+    top: &Entry,
+    marks: &Marks,
+    places: &Places,
+    lot: &[u32],
+) -> Option<usize>
     requires kept { IsKept entries.now }
     requires marks { HaveMarks (peers_under top.now entries.now 0) marks.now }
     ensures { MatchOption result (first_named lot.now (peers_under top.now entries.now 0) ≡ None) (IsFirstNamed lot.now top.now entries.now) }
 {
     for named in lot {
-        if let Some(place) = place_of(entries, top, marks, *named) {
+        if let Some(place) = place_of(entries, top, marks, places, *named) {
             return Some(place);
         }
     }
     None
-}
-
-// Whether the entry at a place is the only peer with its index, where no peer before it has that.
-fn is_only(entries: &[Entry], top: &Entry, place: usize) -> bool
-    requires within { place < length entries.now }
-    ensures { (d : Entry) → IsFirstAt (is_peer_with top.now (slice_index_or entries.now place d).index) entries.now place → IsTrue result →
-        IsOnly top.now entries.now place (slice_index_or entries.now place d).index }
-{
-    let index = entries[place].index;
-    !entries[place + 1..]
-        .iter()
-        .any(|entry| entry.index == index && is_peer(top, entry))
 }
 
 // The place of the one that a lot draws first of the entry at `best` and the peers at a place and below it.
@@ -184,25 +277,27 @@ fn draw(entries: &[Entry], top: &Entry, lot: &[u32], place: usize, best: usize) 
     draw(entries, top, lot, 2 * place + 2, left)
 }
 
-// The place of the peer that a lot draws, and its index, if no other peer has that.
+// The place of the peer that a lot draws. Of peers that it does not name it draws the top.
 pub(crate) fn drawn_at(
     entries: &[Entry],
     top: &Entry,
     marks: &Marks,
+    places: &Places,
+    distinct: bool,
     lot: &[u32],
-) -> (usize, Option<u32>)
+) -> usize
     requires kept { IsKept entries.now }
     requires first { slice_get entries.now 0 ≡ Some top.now }
     requires marks { HaveMarks (peers_under top.now entries.now 0) marks.now }
-    ensures drawn { IsDrawnFrom lot.now entries.now (peers_under top.now entries.now 0) 0 result.0 }
-    ensures gone { IfSome result.1 (IsOnly top.now entries.now result.0) }
+    requires apart { IsTrue distinct → AreApart (peers_under top.now entries.now 0) }
+    ensures { IsDrawnFrom lot.now entries.now (peers_under top.now entries.now 0) 0 result }
 {
-    let Some(place) = first_named(entries, top, marks, lot) else {
-        return (draw(entries, top, &[], 0, 0), None);
+    let Some(place) = first_named(entries, top, marks, places, lot) else {
+        return 0;
     };
-    let index = entries[place].index;
-    if is_only(entries, top, place) {
-        return (place, Some(index));
+    if distinct {
+        return place;
     }
-    (draw(entries, top, &[index], 0, 0), None)
+    let index = entries[place].index;
+    draw(entries, top, &[index], 0, 0)
 }

@@ -1,7 +1,7 @@
 //! The entries of a scope, from which the greatest is taken first.
 
 ghost use Rattle.std.specs.Prelude.{◌≡◌, ◌<◌, ◌&&◌, ◌↔◌, IsTrue, Contains, [], ◌∷◌, length, slice_get, slice_index_or, OnOk, OnErr, IfSome, IfNone, IsPermutation, MatchOption, Some};
-ghost use Rattle.sl_prio.specs.inner.Heap.{IsOnly, IsNewPeer, IsPassed};
+ghost use Rattle.sl_prio.specs.inner.Heap.{IsNewPeer};
 ghost use Rattle.std.specs.List.{count_by, filter};
 ghost use Rattle.std.specs.Ordering.{is_gt, is_ge};
 ghost use Rattle.sl_ratio.specs.Quotient.{FitsRatio};
@@ -12,7 +12,10 @@ ghost use Rattle.sl_prio.specs.Lot.{drawn};
 
 use crate::heap::{sift_up, take_out};
 use crate::lot::{MARKS, Marks, mark, marks};
-use crate::peers::{are_named, clear_exceeded, drawn_at, is_peer, peers_left};
+use crate::peers::{
+    Counted, are_named, clear_exceeded, drawn_at, is_peer, marked_anew, peers_left,
+};
+use crate::places::{Places, note};
 use sl_ratio::{Entry, NoMemory};
 use std::alloc::Global;
 use std::cmp::Ordering;
@@ -23,12 +26,12 @@ use std::marker::Model;
 #[derive(Debug, Drop)]
 pub struct Prio {
     entries: Vec<Entry>,
-    // how many peers the top has, itself among them
-    count: usize,
+    // the peers, the top among them
+    counted: Counted,
     // the peers' indexes have marks; another may have one that a peer left behind
     marks: Marks,
-    // whether one may
-    stale: bool,
+    // where the peers stand, or stood before they rose
+    places: Places,
 }
 
 impl Model for Prio {
@@ -40,7 +43,7 @@ impl Model for Prio {
 
     ghost view = { λ p. p.entries.items };
 
-    ghost invariant = { λ p. IsTable p.entries.items p.count p.marks };
+    ghost invariant = { λ p. IsTable p.entries.items p.counted.count p.counted.distinct p.marks };
 }
 
 impl Prio {
@@ -50,9 +53,9 @@ impl Prio {
     {
         Prio {
             entries: Vec::new(alloc),
-            count: 0,
+            counted: Counted::NONE,
             marks: [false; MARKS],
-            stale: false,
+            places: [0; MARKS],
         }
     }
 
@@ -61,9 +64,8 @@ impl Prio {
         ensures { self.new ≡ [] }
     {
         self.entries.clear();
-        self.count = 0;
+        self.counted = Counted::NONE;
         self.marks = [false; MARKS];
-        self.stale = false;
     }
 
     /// Puts an entry into the table, beside those that it holds, an equal one too.
@@ -81,27 +83,29 @@ impl Prio {
         let exceeded = self.top();
         let place = self.entries.len();
         self.entries.push(entry)?;
-        sift_up(&mut self.entries, place);
+        sift_up(&mut self.entries, &mut self.places, place);
         let Some(count) = joined else {
             return Ok(());
         };
-        clear_exceeded(&mut self.marks, count, exceeded, self.count);
-        mark(&mut self.marks, entry.index);
-        self.count = count;
+        // from there it has risen
+        note(&mut self.places, entry.index, place);
+        clear_exceeded(&mut self.marks, count, exceeded, self.counted);
+        let fresh = mark(&mut self.marks, entry.index);
+        self.counted = self.counted.with_one(count, fresh);
         Ok(())
     }
 
     // The number of peers that there are with one entry more, or `None` where that is none of them.
     fn peers_with(&self, entry: &Entry) -> Option<usize>
         requires { FitsRatio entry.now.ratio }
-        ensures { MatchOption result (IsPassed self.now entry.now) (IsNewPeer self.now entry.now) }
+        ensures { MatchOption result (peers (entry.now ∷ self.now) ≡ peers self.now) (IsNewPeer self.now entry.now) }
     {
         let Some(top) = self.entries.first() else {
             return Some(1);
         };
         match entry.ratio.cmp(&top.ratio) {
             Ordering::Less => None,
-            Ordering::Equal => Some(self.count + 1),
+            Ordering::Equal => Some(self.counted.count + 1),
             Ordering::Greater => Some(1),
         }
     }
@@ -131,7 +135,7 @@ impl Prio {
     pub fn peers(&self) -> usize
         ensures { result ≡ length (peers self.now) }
     {
-        self.count
+        self.counted.count
     }
 
     /// The peer at place `i` from the greatest, counted from 0, or `None` where there are no more than `i` peers. Peers have equal
@@ -179,10 +183,10 @@ impl Prio {
         ensures rest { IfSome result (λ entry. IsPermutation self.old (entry ∷ self.new)) }
         ensures none { IfNone result (self.new ≡ self.old) }
     {
-        let top = *self.entries.first()?;
-        // an only peer leaves no other with its index
-        let gone = (self.count == 1).then_some(top.index);
-        Some(self.remove(0, gone))
+        if self.entries.is_empty() {
+            return None;
+        }
+        Some(self.remove(0))
     }
 
     /// Whether a lot names the index of each peer of the top, as it does where there is no entry.
@@ -205,22 +209,38 @@ impl Prio {
         ensures none { IfNone result (self.new ≡ self.old) }
     {
         let top = *self.entries.first()?;
-        let (place, gone) = drawn_at(&self.entries, &top, &self.marks, lot);
-        Some(self.remove(place, gone))
+        self.counted = marked_anew(
+            &self.entries,
+            &mut self.marks,
+            &mut self.places,
+            self.counted,
+        );
+        let place = drawn_at(
+            &self.entries,
+            &top,
+            &self.marks,
+            &self.places,
+            self.counted.distinct,
+            lot,
+        );
+        Some(self.remove(place))
     }
 
-    // Takes the peer at a place away. `gone` is its index, if no other peer has that.
-    fn remove(&mut self, place: usize, gone: Option<u32>) -> Entry
+    // Takes the peer at a place away.
+    fn remove(&mut self, place: usize) -> Entry
         requires within { place < length self.old }
         requires peer { (d : Entry) → Contains (peers self.old) (slice_index_or self.old place d) }
-        requires gone { 1 < length (peers self.old) → IfSome gone (λ index. (first : Entry) → top self.old ≡ Some first → IsOnly first self.old place index) }
         ensures value { result ≡ slice_index_or self.old place result }
         ensures rest { IsPermutation self.old (result ∷ self.new) }
     {
-        let removed = take_out(&mut self.entries, place);
-        let before = self.count;
-        self.count = peers_left(&self.entries, &mut self.marks, self.stale, before, gone);
-        self.stale = before > 1 && (self.stale || gone.is_none());
+        let removed = take_out(&mut self.entries, &mut self.places, place);
+        self.counted = peers_left(
+            &self.entries,
+            &mut self.marks,
+            &mut self.places,
+            self.counted,
+            &removed,
+        );
         removed
     }
 }

@@ -1,13 +1,13 @@
 -- Entries in a binary heap. The children of place p stand at 2p + 1 and 2p + 2.
-use Rattle.std.specs.Prelude.{◌≡◌, ℕ, Bool, true, ◌&&◌, take, Some, nat_eq, zero, suc, ◌+◌, ◌*◌, ◌<◌, ◌≤◌, ◌≢◌, List, [], ◌∷◌, ◌++◌, IsTrue, All, Contains, length, option_to_list, slice_get, slice_index_or}
-use Rattle.std.specs.List.{count_by, filter, list_all, list_any}
+use Rattle.std.specs.Prelude.{◌≡◌, ℕ, Bool, true, ◌&&◌, Some, nat_eq, zero, suc, ◌+◌, ◌*◌, ◌<◌, ◌≤◌, ◌≢◌, List, [], ◌∷◌, ◌++◌, IsTrue, All, Contains, length, option_to_list, slice_get, slice_index_or}
+use Rattle.std.specs.List.{filter, list_all, list_any}
 use Rattle.std.specs.Ordering.{is_le}
 use Rattle.sl_ratio.specs.declared.entry.Entry.{Entry}
 use Rattle.sl_ratio.specs.Entry.{entry_cmp}
 use Rattle.sl_ratio.specs.Quotient.{FitsRatio}
 use Rattle.sl_prio.specs.Prio.{has_quotient_of, peers}
 use Rattle.sl_prio.specs.Lot.{lot_cmp}
-use Rattle.sl_prio.specs.inner.Marks.{HaveMarks, first_named}
+use Rattle.sl_prio.specs.inner.Marks.{AreApart, HaveMarks, first_named}
 
 -- the entry at k is no greater than the one at p
 abbrev pub IsUnder : List Entry → ℕ → ℕ → Type 0
@@ -44,11 +44,16 @@ pub record IsKept (xs : List Entry) : Type 0 where
   pub heap : IsHeap xs
   pub ratios : All (λ entry. FitsRatio entry.ratio) xs
 
--- what a table keeps: its entries, how many of them are peers, and marks of the peers' indexes
-pub record IsTable (xs : List Entry) (count : ℕ) (marks : List Bool) : Type 0 where
+-- what is counted of some entries: how many they are, and whether no two have one index; their indexes have marks
+pub record AreCounted (xs : List Entry) (count : ℕ) (distinct : Bool) (marks : List Bool) : Type 0 where
+  pub counted : count ≡ length xs
+  pub apart : IsTrue distinct → AreApart xs
+  pub marked : HaveMarks xs marks
+
+-- what a table keeps: its entries, and what is counted of the peers
+pub record IsTable (xs : List Entry) (count : ℕ) (distinct : Bool) (marks : List Bool) : Type 0 where
   pub kept : IsKept xs
-  pub counted : count ≡ length (peers xs)
-  pub marked : HaveMarks (peers xs) marks
+  pub counted : AreCounted (peers xs) count distinct marks
 
 -- the entries at place p and below it, as far as n levels
 abbrev pub levels : ℕ → List Entry → ℕ → List Entry
@@ -73,21 +78,10 @@ pub record IsPeerAt (first : Entry) (xs : List Entry) (p : ℕ) (x : Entry) : Ty
 abbrev pub is_peer_with : Entry → ℕ → Entry → Bool
 is_peer_with first index x = nat_eq x.index index && has_quotient_of first x
 
--- the first entry that passes stands at place k
-pub record IsFirstAt (p : Entry → Bool) (xs : List Entry) (k : ℕ) : Type 0 where
+-- an entry that passes stands at place k
+pub record IsAt (p : Entry → Bool) (xs : List Entry) (k : ℕ) : Type 0 where
   pub within : k < length xs
   pub here : (d : Entry) → p (slice_index_or xs k d) ≡ true
-  pub before : count_by p (take k xs) ≡ 0
-
--- the entry at place k is the only peer with an index
-pub record IsOnly (first : Entry) (xs : List Entry) (k index : ℕ) : Type 0 where
-  pub here : (d : Entry) → is_peer_with first index (slice_index_or xs k d) ≡ true
-  pub only : count_by (is_peer_with first index) xs ≡ 1
-
--- with an entry more, the peers are the same ones
-pub record IsPassed (xs : List Entry) (x : Entry) : Type 0 where
-  pub count : length (peers (x ∷ xs)) ≡ length (peers xs)
-  pub others : (y : Entry) → Contains (peers (x ∷ xs)) y → Contains (peers xs) y
 
 -- with an entry more, which is one of them, there are n peers
 pub record IsNewPeer (xs : List Entry) (x : Entry) (n : ℕ) : Type 0 where
@@ -108,8 +102,8 @@ pub record IsDrawnFrom (lot : List ℕ) (xs others : List Entry) (best r : ℕ) 
   pub within : r < length xs
   pub drawn : (d : Entry) → IsDrawnOf lot others (slice_index_or xs best d) (slice_index_or xs r d)
 
--- at place k stands the first peer whose index is the first name of a lot that is the index of a peer
+-- at place k stands a peer whose index is the first name of a lot that is the index of a peer
 pub record IsFirstNamed (lot : List ℕ) (first : Entry) (xs : List Entry) (k : ℕ) : Type 0 where
   pub within : k < length xs
   pub named : (d : Entry) → first_named lot (peers_under first xs 0) ≡ Some (slice_index_or xs k d).index
-  pub here : (d : Entry) → IsFirstAt (is_peer_with first (slice_index_or xs k d).index) xs k
+  pub here : (d : Entry) → IsAt (is_peer_with first (slice_index_or xs k d).index) xs k

@@ -1,6 +1,6 @@
 -- Marks of indexes.
-use Rattle.std.specs.Prelude.{◌≡◌, ◌<◌, ℕ, Bool, true, Contains, List, Option, length, nat_eq, slice_index_or}
-use Rattle.std.specs.List.{find, list_any}
+use Rattle.std.specs.Prelude.{◌≡◌, ◌+◌, ◌<◌, ◌≤◌, ℕ, Bool, true, cond, Contains, List, Option, length, nat_eq, slice_index_or}
+use Rattle.std.specs.List.{count_by, find, list_any}
 use Rattle.sl_ratio.specs.declared.entry.Entry.{Entry}
 
 -- whether a lot names an index
@@ -22,3 +22,11 @@ AreMarks test marks = (index : ℕ) (d : Bool) → index < length marks → slic
 -- the index of each of some entries has a mark, as far as there are marks; others may have one, too
 abbrev pub HaveMarks : List Entry → List Bool → Type 0
 HaveMarks xs marks = (x : Entry) → Contains xs x → (d : Bool) → x.index < length marks → slice_index_or marks x.index d ≡ true
+
+-- no two of some entries have one index, nor has one of them an index that passes
+abbrev pub AreApartFrom : (ℕ → Bool) → List Entry → Type 0
+AreApartFrom before xs = (index : ℕ) → cond (before index) 1 0 + count_by (λ x. nat_eq x.index index) xs ≤ 1
+
+-- no two of some entries have one index
+abbrev pub AreApart : List Entry → Type 0
+AreApart xs = (index : ℕ) → count_by (λ x. nat_eq x.index index) xs ≤ 1

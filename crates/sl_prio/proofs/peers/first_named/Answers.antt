@@ -1,6 +1,6 @@
 use Rattle.std.proofs.Common.{Some, get_or, sym, ap, ◌∙◌, subst}
 use Rattle.sl_ratio.specs.declared.entry.Entry.{Entry}
-use Rattle.sl_prio.specs.inner.Heap.{IsFirstAt, is_peer_with, peers_under}
+use Rattle.sl_prio.specs.inner.Heap.{IsAt, is_peer_with, peers_under}
 use Rattle.sl_prio.specs.inner.Marks.{have_index}
 use Rattle.sl_prio.proofs.Finding.{find_here, find_behind, find_past_end}
 use Rattle.sl_prio.proofs.PeerMarks.{has_it, its_index}
@@ -19,7 +19,7 @@ returns-in-Some c =
       named = λ d.
           c.loop-named.invariant ∙
           find_here (have_index peers) lot c.loop-named.named-index 0 c.loop-named-test.true (has_it xs first (get_or lot c.loop-named.named-index 0) place found d) ∙ ap Some (sym (at d));
-      here = λ d. subst (λ n. IsFirstAt (is_peer_with first n) xs place) (sym (at d)) found;
+      here = λ d. subst (λ n. IsAt (is_peer_with first n) xs place) (sym (at d)) found;
     }
 
 pub loop-named-preserved : goal.loop-named-preserved

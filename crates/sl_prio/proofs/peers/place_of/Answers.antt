@@ -7,8 +7,8 @@ use Rattle.sl_prio.specs.inner.Heap.{is_peer_with, peers_under}
 use Rattle.sl_prio.proofs.PeerMarks.{found_with, unmarked}
 use Rattle.sl_prio.proofs.peers.place_of.Goals as goal
 
-pub returns-then-not-marks-place : goal.returns-then-not-marks-place
-returns-then-not-marks-place c =
+pub returns-then-not-marks-mark : goal.returns-then-not-marks-mark
+returns-then-not-marks-mark c =
     unmarked (peers_under c.args.top.now c.args.entries.now 0) c.args.marks.now c.args.index false c.requires.marks (omega arith) (search (rules, tests))
 
 pub returns : goal.returns

@@ -1,12 +1,13 @@
-use Rattle.std.proofs.Common.{List, [], ◌∷◌, ◌++◌, IsPermutation, length, sym, ap, subst, ◌∙◌, arith}
+use Rattle.std.proofs.Common.{◌≡◌, List, [], ◌∷◌, ◌++◌, IsPermutation, sym, subst, ◌∙◌, arith}
 use Rattle.std.proofs.lemmas.List.Elements.{All-push}
 use Rattle.std.proofs.lemmas.List.Sorted.{IsPermutation-to_front, IsPermutation-sym, IsPermutation-trans}
 use Rattle.sl_ratio.specs.Quotient.{FitsRatio}
 use Rattle.sl_ratio.specs.declared.entry.Entry.{Entry}
-use Rattle.sl_prio.specs.inner.Heap.{IsNewPeer, IsPassed}
+use Rattle.sl_prio.specs.Prio.{peers}
+use Rattle.sl_prio.specs.inner.Heap.{AreCounted, IsNewPeer}
 use Rattle.sl_prio.proofs.LawProofs.{order_is_free}
 use Rattle.sl_prio.proofs.Heaps.{given_back, kept_by}
-use Rattle.sl_prio.proofs.PeerCounts.{joined_marked, passed_marked}
+use Rattle.sl_prio.proofs.PeerCounts.{joined_counted}
 use Rattle.sl_prio.proofs.prio.Prio.put.Goals as goal
 
 pub invariant_of-self-2 : goal.invariant_of-self-2
@@ -23,10 +24,10 @@ invariant_of-self-2 c =
     let joined = subst (λ (xs : List Entry). IsNewPeer xs c.args.entry c.in-Some.count) (sym c.self.view_is) c.in-Some.ensures in
     rw (given_back c.push.new.self.len pushed after (omega arith) (omega arith)) (record {
       kept = kept_by more after moved ratios c.sift_up.ensures.heap;
-      counted = joined.count ∙ ap length same;
-      marked =
-          joined_marked held c.self.invariant.kept.ratios c.args.entry c.num.ensures.fits after c.in-Some.count c.self.inside.marks c.clear_exceeded.new.marks c.mark.new.marks joined same
-          c.self.invariant.marked c.clear_exceeded.ensures c.mark.ensures.kept;
+      counted =
+          joined_counted held c.self.invariant.kept.ratios c.args.entry c.num.ensures.fits after c.in-Some.count joined same c.self.inside.counted.count c.self.inside.counted.distinct c.self.inside.marks
+          c.clear_exceeded.new.marks c.self.invariant.counted c.clear_exceeded.ensures c.with_one-self-inside.result.count c.mark-fresh.result c.with_one-self-inside.result.distinct c.mark-fresh.new.marks
+          c.with_one-self-inside.ensures.count c.mark-fresh.ensures.fresh c.with_one-self-inside.ensures.distinct c.mark-fresh.ensures.kept;
     })
 
 pub invariant_of-self-in_default : goal.invariant_of-self-in_default
@@ -40,11 +41,10 @@ invariant_of-self-in_default c =
     let first = IsPermutation-sym more (c.args.entry ∷ held) (IsPermutation-to_front held c.args.entry) in
     let both = IsPermutation-trans (c.args.entry ∷ held) more after first moved in
     let same = (order_is_free (c.args.entry ∷ held) after both).same_peers in
-    let passed = subst (λ (xs : List Entry). IsPassed xs c.args.entry) (sym c.self.view_is) c.in_default.ensures in
+    let passed = subst (λ (xs : List Entry). peers (c.args.entry ∷ xs) ≡ peers xs) (sym c.self.view_is) c.in_default.ensures in
     rw (given_back c.push.new.self.len pushed after (omega arith) (omega arith)) (record {
       kept = kept_by more after moved ratios c.sift_up.ensures.heap;
-      counted = c.self.invariant.counted ∙ sym passed.count ∙ ap length same;
-      marked = passed_marked held after c.args.entry c.self.inside.marks passed same c.self.invariant.marked;
+      counted = subst (λ (ps : List Entry). AreCounted ps c.self.inside.counted.count c.self.inside.counted.distinct c.self.inside.marks) (sym passed ∙ same) c.self.invariant.counted;
     })
 
 pub returns-clause-added : goal.returns-clause-added

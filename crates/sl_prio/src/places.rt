@@ -1,0 +1,14 @@
+//! Where the peers stand: for each index below `MARKS` a place of the heap at which the peer with that index stands, or from which the
+//! parent, its parent and so on lead to it. These are hints. Nothing is proved of them, and whoever uses one looks whether it is right.
+
+use crate::lot::MARKS;
+
+/// A place for each index below `MARKS`.
+pub(crate) type Places = [u32; MARKS];
+
+// Notes that the peer with an index stands at a place, or above it. It may rise then without a note.
+pub(crate) fn note(places: &mut Places, index: u32, place: usize) {
+    if let Some(noted) = places.get_mut(index as usize) {
+        *noted = u32::try_from(place).unwrap_or(u32::MAX);
+    }
+}
