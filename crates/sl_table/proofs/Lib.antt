@@ -20,4 +20,6 @@ pub mod Keys
 pub mod SeatCounts
 pub mod KeyOrder
 pub mod OneBounds
+pub mod PartyWinners
+pub mod PartySeats
 pub mod AnyOrder

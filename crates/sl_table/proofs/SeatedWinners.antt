@@ -24,11 +24,11 @@ is_at k (Some place) = nat_eq place k
 abbrev pub counts_at : Election → ℕ → Win × Placed → Bool
 counts_at e k x = is_at k (list_place e x.0.land x.0.party x.1)
 
-never : (b : Bool) → (b && false) ≡ false
+pub never : (b : Bool) → (b && false) ≡ false
 never true = refl
 never false = refl
 
-always : (b : Bool) → (b && true) ≡ b
+pub always : (b : Bool) → (b && true) ≡ b
 always true = refl
 always false = refl
 

@@ -1,8 +1,7 @@
 -- Loops over the winners, each beside the place.
-use Rattle.std.proofs.Common.{◌≡◌, ℕ, ◌+◌, ◌<◌, ◌≤◌, ◌&&◌, Bool, cond, List, length, take, count_by, get_or, slice_get, Some, sym, ap, subst, ◌∙◌, arith}
+use Rattle.std.proofs.Common.{◌≡◌, ℕ, ◌<◌, ◌≤◌, List, length, take, get_or, slice_get, Some, ap, subst, ◌∙◌, arith}
 use Rattle.std.specs.List.{zip}
 use Rattle.std.proofs.lemmas.List.{get_or_default, take_all}
-use Rattle.std.proofs.lemmas.List.Sums.{sum_by_more}
 use Rattle.std.proofs.lemmas.Option.{slice_get_within, get_or_from_slice_get}
 use Rattle.std.proofs.lemmas.Slice.Zip.{length-zip, get_or-zip}
 
@@ -16,17 +15,6 @@ module _ {A B : Type 0} (ks : List A) (vs : List B) (i : ℕ) (k : A) (d : B) (k
       let first : get_or ks i k ≡ k = get_or_from_slice_get ks i k k key in
       let second : get_or vs i (get_or vs i d) ≡ get_or vs i d = get_or_default vs i (get_or vs i d) d within in
       get_or-zip ks vs i (k, get_or vs i d) (slice_get_within ks i k key) within ∙ ap (λ x. (x, get_or vs i (get_or vs i d))) first ∙ ap (λ y. (k, y)) second
-
-  -- one more pair in a count
-  count_more : (p : A × B → Bool) (n : ℕ) → n ≡ count_by p (take i (zip ks vs)) → count_by p (take (i + 1) (zip ks vs)) ≡ n + cond (p (k, get_or vs i d)) 1 0
-  count_more p n so_far =
-      sum_by_more (λ x. cond (p x) 1 0) (zip ks vs) i (k, get_or vs i d) (in_zip ks vs i k key within) ∙ ap (λ m. m + cond (p (get_or (zip ks vs) i (k, get_or vs i d))) 1 0) (sym so_far) ∙ ap (λ x. n + cond (p x) 1 0) pair_at
-
-  -- the same where the answers of a test of the key and of a test of its place are known
-  pub count_both_more : (of_key : A → Bool) (of_place : B → Bool) (x y : Bool) (n m : ℕ) → x ≡ of_key k → of_place (get_or vs i d) ≡ y
-      → n ≡ count_by (λ p. of_key p.0 && of_place p.1) (take i (zip ks vs)) → m ≡ n + cond (x && y) 1 0 → m ≡ count_by (λ p. of_key p.0 && of_place p.1) (take (i + 1) (zip ks vs))
-  count_both_more of_key of_place x y n m x_is y_is so_far m_is =
-      m_is ∙ ap (λ b. n + cond (b && y) 1 0) x_is ∙ ap (λ b. n + cond (of_key k && b) 1 0) (sym y_is) ∙ sym (count_more (λ p. of_key p.0 && of_place p.1) n so_far)
 
 -- the pair of two that are known
 pub pair_here : {A B : Type 0} (ks : List A) (vs : List B) (i : ℕ) (k : A) (v : B) → slice_get ks i ≡ Some k → slice_get vs i ≡ Some v → get_or (zip ks vs) i (k, v) ≡ (k, v)

@@ -1,2 +1,3 @@
--- What only code and proofs cite: what the body of the bounds lines promises on the way.
+-- What only code and proofs cite: what the bodies of the bounds lines and of the lines of the parties promise on the way.
 pub mod Counts
+pub mod PartyCounts

@@ -6,6 +6,7 @@ mod fault_form;
 pub mod laws;
 mod line;
 mod orders;
+mod party_counts;
 mod short_form;
 mod stage_form;
 mod steps_form;

@@ -4,6 +4,7 @@ ghost use Rattle.std.specs.Prelude.{◌≡◌, ◌++◌, OnOk, OnErr, codes};
 ghost use Rattle.std.specs.Fmt.{decimal};
 ghost use Rattle.sl_table.specs.Lines.{ratio_word, no_text, with_word, with_end};
 
+use itoa::Buffer;
 use sl_ratio::{NoMemory, Ratio};
 use std::alloc::Global;
 use std::marker::Model;
@@ -35,6 +36,11 @@ impl Text {
             bytes: Vec::new(alloc),
             begun: false,
         }
+    }
+
+    /// Where the text takes its memory.
+    pub(crate) fn alloc(&self) -> Global {
+        self.alloc
     }
 
     /// Adds a word to the line, after a blank if it is not the line's first.
@@ -82,7 +88,8 @@ impl Text {
         ensures added { OnOk result (self.new ≡ with_word self.old (decimal number)) }
         ensures unchanged { OnErr result (self.new ≡ self.old) }
     {
-        self.wide_number(u128::from(number))
+        let mut digits = Buffer::new();
+        self.word(digits.format(number).as_bytes())
     }
 
     /// Adds a number of up to 128 bits, as `number` does.
@@ -94,8 +101,8 @@ impl Text {
         ensures added { OnOk result (self.new ≡ with_word self.old (decimal number)) }
         ensures unchanged { OnErr result (self.new ≡ self.old) }
     {
-        let digits = number.to_string(self.alloc)?;
-        self.word(digits.as_bytes())
+        let mut digits = Buffer::new();
+        self.word(digits.format(number).as_bytes())
     }
 
     /// Adds two numbers to the line as one word, parted by a slash.
@@ -107,9 +114,12 @@ impl Text {
         ensures added { OnOk result (self.new ≡ with_word self.old (decimal first ++ (codes "/" ++ decimal second))) }
         ensures unchanged { OnErr result (self.new ≡ self.old) }
     {
-        let first = first.to_string(self.alloc)?;
-        let second = second.to_string(self.alloc)?;
-        self.pair(first.as_bytes(), second.as_bytes())
+        let mut left = Buffer::new();
+        let mut right = Buffer::new();
+        self.pair(
+            left.format(first).as_bytes(),
+            right.format(second).as_bytes(),
+        )
     }
 
     /// Adds a quotient to the line as a word, not reduced.

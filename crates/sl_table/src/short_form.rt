@@ -1,16 +1,18 @@
 //! The short text of a seat table: the total, the parties, the lists, the vacant seats, and the winners who sit on no list.
 
-ghost use Rattle.std.specs.Prelude.{◌≡◌, ◌+◌, ◌^◌, ◌<◌, ◌≤◌, false, flat_map, filter, sum_by, count_by, IfOk, OnOk};
+ghost use Rattle.std.specs.Prelude.{◌≡◌, ◌+◌, ◌^◌, ◌<◌, ◌≤◌, ◌∷◌, [], false, flat_map, sum_by, count_by, codes, IfOk, OnOk};
+ghost use Rattle.std.specs.Fmt.{decimal};
 ghost use Rattle.std.specs.List.{zip};
 ghost use Rattle.sl_stages.specs.returns.Election.{lands_of, parties_of};
-ghost use Rattle.sl_stages.specs.returns.Facts.{parties, is_of};
+ghost use Rattle.sl_stages.specs.returns.Facts.{parties};
 ghost use Rattle.sl_table.specs.Fits.{Fits};
-ghost use Rattle.sl_table.specs.Lines.{with_lines};
-ghost use Rattle.sl_table.specs.Short.{is_single, is_list_of, singles_of, seated_of, total_line, party_line, list_line, vacant_line, winner_line, short_text};
+ghost use Rattle.sl_table.specs.Lines.{line, with_lines};
+ghost use Rattle.sl_table.specs.Short.{is_single, total_line, party_line, list_line, vacant_line, winner_line, short_text};
 
 use crate::line::Text;
+use crate::party_counts::PartyCounts;
 use sl_ratio::NoMemory;
-use sl_stages::{ListSeats, Placed, Returns, Table, Win};
+use sl_stages::{ListSeats, Placed, Returns, Table};
 use std::alloc::Global;
 
 /// The short text of a seat table that fits the returns (docs/output.md, section 1).
@@ -54,20 +56,6 @@ fn seats_of_lists(lists: &[ListSeats]) -> u128
     seats
 }
 
-// The seats of a party's lists, with the same room.
-fn seats_of_party_lists(lists: &[ListSeats], party: usize) -> u128
-    ensures value { result ≡ sum_by (λ l. l.seats) (filter (is_list_of party) lists.now) }
-    ensures room { result + 2 ^ 64 ≤ 2 ^ 128 }
-{
-    let mut seats = 0;
-    for list in lists {
-        if list.party == party {
-            seats += u128::from(list.seats);
-        }
-    }
-    seats
-}
-
 // How many winners sit as singles.
 fn singles(placed: &[Placed]) -> usize
     ensures { result ≡ count_by is_single placed.now }
@@ -76,43 +64,6 @@ fn singles(placed: &[Placed]) -> usize
         .iter()
         .filter(|place| matches!(place, Placed::Single))
         .count()
-}
-
-// Whether a winner is of the party.
-fn is_of(win: Win, party: usize) -> bool
-    ensures { result ≡ is_of party win }
-{
-    win.party == Some(party)
-}
-
-// The numbers of a party's winners who are seated, and of those among them who sit as singles.
-#[derive(Clone, Copy)]
-struct PartyWinners {
-    seated: u64,
-    singles: u64,
-}
-
-// Counts a party's winners by where they sit.
-fn winners_of(table: &Table, returns: &Returns, party: usize) -> PartyWinners
-    requires { Fits table.now returns.now }
-    ensures seated { result.seated ≡ seated_of table.now returns.now party }
-    ensures singles { result.singles ≡ singles_of table.now returns.now party }
-{
-    let mut seated = 0;
-    let mut singles = 0;
-    for (win, place) in table.placed().iter().enumerate() {
-        if is_of(returns.win(win), party) {
-            match place {
-                Placed::Unseated => {}
-                Placed::OnList => seated += 1,
-                Placed::Single => {
-                    seated += 1;
-                    singles += 1;
-                }
-            }
-        }
-    }
-    PartyWinners { seated, singles }
 }
 
 // ---- lines, each appended to a text whose last line is ended
@@ -127,23 +78,22 @@ fn total_line(text: &mut Text, table: &Table) -> Result<(), NoMemory>
     text.end_line()
 }
 
+// The line of a party that has so many seats in its lists, so many winners who are seated, and so many singles.
 fn party_line(
     text: &mut Text,
-    table: &Table,
-    returns: &Returns,
-    party: usize,
+    name: &[u8],
+    list_seats: u128,
+    seated: u64,
+    singles: u64,
 ) -> Result<(), NoMemory>
     requires begun { text.old.begun ≡ false }
-    requires fits { Fits table.now returns.now }
-    requires party { party < parties_of returns.now }
-    ensures { OnOk result (text.new ≡ with_lines text.old (party_line table.now returns.now party)) }
+    requires room { list_seats + 2 ^ 64 ≤ 2 ^ 128 }
+    ensures { OnOk result (text.new ≡ with_lines text.old (line (codes "party" ∷ name.now ∷ decimal (list_seats + singles) ∷ decimal seated ∷ []))) }
 {
-    let winners = winners_of(table, returns, party);
-    let seats = seats_of_party_lists(table.lists(), party) + u128::from(winners.singles);
     text.word(b"party")?;
-    text.word(returns.party_name(party))?;
-    text.wide_number(seats)?;
-    text.number(winners.seated)?;
+    text.word(name)?;
+    text.wide_number(list_seats + u128::from(singles))?;
+    text.number(seated)?;
     text.end_line()
 }
 
@@ -195,8 +145,15 @@ fn party_lines(text: &mut Text, table: &Table, returns: &Returns) -> Result<(), 
     requires fits { Fits table.now returns.now }
     ensures { OnOk result (text.new ≡ with_lines text.old (flat_map (party_line table.now returns.now) (parties returns.now))) }
 {
+    let counts = PartyCounts::of(text.alloc(), table, returns)?;
     for party in 0..returns.parties() {
-        party_line(text, table, returns, party)?;
+        party_line(
+            text,
+            returns.party_name(party),
+            counts.list_seats[party],
+            counts.seated[party],
+            counts.singles[party],
+        )?;
     }
     Ok(())
 }
