@@ -1,5 +1,5 @@
 -- A reader of a text, and a builder that has taken the records that it gave.
-use Rattle.std.proofs.Common.{◌≡◌, ◌<◌, ℕ, List, Option, Some, true, false, refl, sym, ◌∙◌}
+use Rattle.std.proofs.Common.{◌≡◌, ℕ, List, Option, Some, true, false, refl, sym, ◌∙◌}
 use Rattle.std.proofs.lemmas.Bool.{false≢true}
 use Rattle.csv.specs.declared.error.ErrorKind.{ErrorKind}
 use Rattle.csv.specs.declared.error.ErrorKind.TheVariants as problem
@@ -11,10 +11,9 @@ use Rattle.sl_returns.specs.Cells.{Record}
 use Rattle.sl_returns.specs.Building.{Building, StandsFor}
 
 -- the records read so far, which the builder stands for, and the bytes after them
-pub record IsReading {R : Type 0} (rem : R → Option (List ℕ)) (reader : Reader R) (turns : ℕ) (builder : Building) (text : List ℕ) : Type 0 where
+pub record IsReading {R : Type 0} (rem : R → Option (List ℕ)) (reader : Reader R) (builder : Building) (text : List ℕ) : Type 0 where
   pub trims : reader_trim reader ≡ trim.None
   pub ready : Ready reader
-  pub goes_on : 0 < turns
   pub config : reader_config reader ≡ default_config
   pub flexible : is_flexible reader ≡ true
   pub rows : List Record

@@ -7,7 +7,7 @@ ghost use Rattle.sl_returns.specs.Returns.{records_in, returns_of};
 
 use crate::builder::ReturnsBuilder;
 use crate::fault::{FaultKind, ReturnsFault};
-use csv::{ErrorKind, ReaderBuilder};
+use csv::{ByteRecord, ErrorKind, ReaderBuilder};
 use sl_stages::Returns;
 use std::alloc::Global;
 
@@ -20,18 +20,22 @@ pub fn read_returns(alloc: Global, bytes: &[u8]) -> Result<Returns, ReturnsFault
     ensures ok { IfOk result (λ r. returns_of (records_in bytes.now) ≡ Ok r) }
     ensures err { IfErr result (λ f. (f ≡ no_memory) ⊎ (returns_of (records_in bytes.now) ≡ Err f)) }
 {
-    let reader = ReaderBuilder::new()
+    let mut reader = ReaderBuilder::new()
         .has_headers(false)
         .flexible(true)
         .from_reader(alloc, bytes);
     let mut builder = ReturnsBuilder::new(alloc);
-    for fields in reader.into_byte_records() {
-        match fields {
-            Ok(fields) => builder.feed(&fields)?,
+    // one record for all, which the reader fills anew
+    let mut fields = ByteRecord::new(alloc);
+    // no text in memory has so many records
+    for _ in 0..u64::MAX {
+        match reader.read_byte_record(&mut fields) {
+            Ok(true) => builder.feed(&fields)?,
+            Ok(false) => return builder.finish(),
             Err(error) => return Err(stopped(error)),
         }
     }
-    builder.finish()
+    Err(ReturnsFault::at(0, FaultKind::NoMemory))
 }
 
 // What it means that the reader of a text in memory stopped: it wanted memory, since such a text is always read.

@@ -8,23 +8,21 @@ use Rattle.csv.proofs.ReadFacts.{rows-end, rows-more}
 use Rattle.sl_returns.specs.Returns.{records_in, returns_of}
 use Rattle.sl_returns.proofs.AllRecords.{are_records, begin_records}
 use Rattle.sl_returns.proofs.Prefixes.{answers, says_err, says_ok}
+use Rattle.sl_returns.proofs.Reading.{only_stops}
 use Rattle.sl_returns.proofs.read.read_returns.Goals as goal
-use Rattle.sl_returns.proofs.read.read_returns.Goals.{After-finish, After-into_iter-fields-iterator}
+use Rattle.sl_returns.proofs.read.read_returns.Goals.{After-new-fields, Joined-reader-3}
 
 -- the settings of the reader
-setup : (c : After-into_iter-fields-iterator) → c.flexible.result.now ≡ with_flexible (with_names_headers c.new.result false) true
+setup : (c : After-new-fields) → c.flexible.result.now ≡ with_flexible (with_names_headers c.new.result false) true
 setup c = c.flexible.ensures ∙ ap (λ b. with_flexible b true) c.has_headers.ensures
 
-pub loop-fields-init : goal.loop-fields-init
+pub loop-init : goal.loop-init
 unfolding Reached
-loop-fields-init c =
+loop-init c =
     let from = c.from_reader-reader.ensures in
-    let start = c.into_iter-fields-iterator.ensures.into_iter_gives ∙ refl in
-    let reader = c.into_byte_records-fields-items.ensures.rdr in
-    rw (start, reader) (record {
+    record {
       trims = from.trim ∙ ap builder_trim (setup c) ∙ c.new.ensures.trim;
       ready = inr (inr (from.has_headers ∙ ap builder_names_headers (setup c), from.headers));
-      goes_on = c.into_byte_records-fields-items.ensures.left;
       config = from.config ∙ ap builder_config (setup c) ∙ c.new.ensures.config;
       flexible = from.flexible ∙ ap builder_is_flexible (setup c);
       rows = [];
@@ -32,53 +30,55 @@ loop-fields-init c =
       source = from.source;
       reached = (sym from.state, refl);
       stands = c.new-builder.ensures;
-    })
+    }
 
-pub loop-fields-preserved : goal.loop-fields-preserved
-loop-fields-preserved c =
-    let inv = c.loop-fields.invariant in
-    let steps = c.in-Some.ensures.steps inv.goes_on inv.trims in
-    let read = rw c.in-Ok.is at (steps.0 inv.ready) in
-    let flexible = rw c.in-Ok.is at steps.3 in
-    let fields = fields_of c.in-Ok.fields in
-    let (left, source, reached) = rows-more (λ (s : Bor (List ℕ)). Some s.now) c.loop-fields.fields-iterator.rdr c.next.new.self.rdr fields default_config st.StartRecord (strip_bom c.args.bytes.now) inv.left inv.rows inv.config inv.source inv.reached read.0 in
+pub loop-preserved : goal.loop-preserved
+loop-preserved c =
+    let inv = c.loop.invariant in
+    let step = c.in-Ok-true.ensures in
+    let read = rw c.in-Ok-true.field-0-test at (step.reads inv.trims inv.ready) in
+    let fields = fields_of c.read_byte_record.new.row in
+    let (left, source, reached) = rows-more (λ (s : Bor (List ℕ)). Some s.now) c.loop.reader c.read_byte_record.new.self fields default_config st.StartRecord (strip_bom c.args.bytes.now) inv.left inv.rows inv.config inv.source inv.reached read in
     record {
-      trims = read.0.3 ∙ inv.trims;
-      ready = inl read.1;
-      goes_on = read.2;
-      config = read.0.2 ∙ inv.config;
-      flexible = flexible ∙ inv.flexible;
+      trims = read.3 ∙ inv.trims;
+      ready = inl (step.ready inv.trims);
+      config = read.2 ∙ inv.config;
+      flexible = step.flexible ∙ inv.flexible;
       rows = inv.rows ++ fields ∷ [];
       left = left;
       source = source;
       reached = reached;
-      stands = c.in_ok-feed-in-Ok.ensures.taken inv.rows inv.stands;
+      stands = c.in_ok-feed-in-Ok-true.ensures.taken inv.rows inv.stands;
     }
 
-pub returns-in_err-feed-in-Ok-clause-err : goal.returns-in_err-feed-in-Ok-clause-err
-returns-in_err-feed-in-Ok-clause-err c =
-    let inv = c.loop-fields.invariant in
+pub returns-in_err-feed-in-Ok-true-clause-err : goal.returns-in_err-feed-in-Ok-true-clause-err
+returns-in_err-feed-in-Ok-true-clause-err c =
+    let inv = c.loop.invariant in
     let text = strip_bom c.args.bytes.now in
-    let read = rw c.in-Ok.is at ((c.in-Some.ensures.steps inv.goes_on inv.trims).0 inv.ready) in
-    let fields = fields_of c.in-Ok.fields in
-    let (left, source, reached) = rows-more (λ (s : Bor (List ℕ)). Some s.now) c.loop-fields.fields-iterator.rdr c.next.new.self.rdr fields default_config st.StartRecord text inv.left inv.rows inv.config inv.source inv.reached read.0 in
-    let (more, all) = begin_records c.next.new.self.rdr.state text left (inv.rows ++ fields ∷ []) reached in
-    let refused = c.in_err-feed-in-Ok.ensures.refused inv.rows inv.stands in
+    let read = rw c.in-Ok-true.field-0-test at (c.in-Ok-true.ensures.reads inv.trims inv.ready) in
+    let fields = fields_of c.read_byte_record.new.row in
+    let (left, source, reached) = rows-more (λ (s : Bor (List ℕ)). Some s.now) c.loop.reader c.read_byte_record.new.self fields default_config st.StartRecord text inv.left inv.rows inv.config inv.source inv.reached read in
+    let (more, all) = begin_records c.read_byte_record.new.self.state text left (inv.rows ++ fields ∷ []) reached in
+    let refused = c.in_err-feed-in-Ok-true.ensures.refused inv.rows inv.stands in
     let p = err_from_is_err_and c.from_residual.result c.from_residual.ensures.1 in
     rw (p.1, p.2) (answers (inv.rows ++ fields ∷ []) more (records_in c.args.bytes.now) _ all refused)
 
 -- at the end of the text the builder has taken all its records
-finished : (c : After-finish) → c.finish.result ≡ returns_of (records_in c.args.bytes.now)
+finished : (c : Joined-reader-3) → c.finish.result ≡ returns_of (records_in c.args.bytes.now)
 finished c =
-    let inv = c.loop-fields.invariant in
-    let text = strip_bom c.args.bytes.now in
-    let read = (c.in-None.ensures.steps inv.goes_on inv.trims).0 inv.ready in
-    let none = rows-end (λ (s : Bor (List ℕ)). Some s.now) c.loop-fields.fields-iterator.rdr c.next.new.self.rdr [] default_config inv.left inv.config inv.source read in
-    let all = are_records c.loop-fields.fields-iterator.rdr.state text inv.left inv.rows inv.reached none in
+    let inv = c.loop.invariant in
+    let read = rw c.in-Ok-false.field-0-test at (c.in-Ok-false.ensures.reads inv.trims inv.ready) in
+    let none = rows-end (λ (s : Bor (List ℕ)). Some s.now) c.loop.reader c.read_byte_record.new.self (fields_of c.read_byte_record.new.row) default_config inv.left inv.config inv.source read in
+    let all = are_records c.loop.reader.state (strip_bom c.args.bytes.now) inv.left inv.rows inv.reached none in
     c.finish.ensures.finished inv.rows inv.stands ∙ ap returns_of (sym all)
 
-pub returns-clause-ok : goal.returns-clause-ok
-returns-clause-ok c = says_ok c.finish.result (returns_of (records_in c.args.bytes.now)) (finished c)
+pub returns-in-Ok-false-clause-ok : goal.returns-in-Ok-false-clause-ok
+returns-in-Ok-false-clause-ok c = says_ok c.finish.result (returns_of (records_in c.args.bytes.now)) (finished c)
 
-pub returns-clause-err : goal.returns-clause-err
-returns-clause-err c = says_err c.finish.result (returns_of (records_in c.args.bytes.now)) (finished c)
+pub returns-in-Ok-false-clause-err : goal.returns-in-Ok-false-clause-err
+returns-in-Ok-false-clause-err c = says_err c.finish.result (returns_of (records_in c.args.bytes.now)) (finished c)
+
+pub stopped-requires : goal.stopped-requires
+stopped-requires c =
+    let inv = c.loop.invariant in
+    only_stops (λ (s : Bor (List ℕ)). Some s.now) c.loop.reader c.read_byte_record.new.self c.in-Err.error.kind inv.flexible (c.in-Err.ensures.why inv.ready)

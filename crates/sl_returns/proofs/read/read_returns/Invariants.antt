@@ -4,5 +4,5 @@ use Rattle.csv.specs.Reading.{strip_bom}
 use Rattle.sl_returns.proofs.Reading.{IsReading}
 use Rattle.sl_returns.proofs.read.read_returns.Given as goal
 
-abbrev pub invariant-loop-fields : goal.invariant-loop-fields
-invariant-loop-fields l = IsReading (λ s. Some s.now) l.fields-iterator.rdr l.fields-iterator.left l.builder (strip_bom l.fn.bytes)
+abbrev pub invariant-loop : goal.invariant-loop
+invariant-loop l = IsReading (λ s. Some s.now) l.reader l.builder (strip_bom l.fn.bytes)
