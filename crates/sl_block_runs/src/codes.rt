@@ -1,10 +1,10 @@
 //! Codes of one block: seats, votes and minima in their slots, the block, and a halt; and their files.
 
-ghost use Rattle.std.specs.Prelude.{◌≤◌, IfOk, vec_len};
+ghost use Rattle.std.specs.Prelude.{◌≡◌, ◌≤◌, IfOk, OnErr, vec_len};
 
 use sl_blocks::{Job, cover_block, grow_block, split_block};
 use sl_code::{Input, Instr, Operand};
-use sl_ratio::{Divisor, Method};
+use sl_ratio::{Divisor, Method, NoMemory};
 use sl_stages::{Majority, Shape};
 use std::alloc::{AllocError, Global};
 use std::test::*;
@@ -17,6 +17,9 @@ const VOTES: u8 = 1;
 const RESULT: u8 = 2;
 
 const MINIMA: u8 = 3;
+
+/// What stands behind a block.
+pub const HALT: Instr = Instr::Halt(RESULT);
 
 // The parties whose winners a covering seats.
 const ELIGIBLE: u8 = 4;
@@ -50,8 +53,8 @@ const AT_LEAST: Job = Job {
     ..PLAIN
 };
 
-// What stands before a block: so many seats, the counted votes, and the names left on the lists as minima.
-fn before(alloc: Global, seats: u64) -> Result<Vec<Instr>, AllocError>
+/// What stands before a block: so many seats, the counted votes, and the names left on the lists as minima.
+pub fn before(alloc: Global, seats: u64) -> Result<Vec<Instr>, AllocError>
     ensures { IfOk result (λ code. vec_len code ≤ 199000) }
 {
     Vec::from_slice(
@@ -65,6 +68,17 @@ fn before(alloc: Global, seats: u64) -> Result<Vec<Instr>, AllocError>
     )
 }
 
+/// Lays out the block of a split.
+///
+/// Without memory, the code is as it was.
+pub fn lay_split(code: &mut Vec<Instr>, method: Method, majority: Majority) -> Result<(), NoMemory>
+    requires { vec_len code.old ≤ 199000 }
+    ensures { OnErr result (code.new.items ≡ code.old.items) }
+{
+    let job = Job { majority, ..PLAIN };
+    split_block(code, &SLOTS, &job, method)
+}
+
 // The code of a split of so many seats.
 fn split(
     alloc: Global,
@@ -73,9 +87,8 @@ fn split(
     majority: Majority,
 ) -> Result<Vec<Instr>, Fail> {
     let mut code = before(alloc, seats)?;
-    let job = Job { majority, ..PLAIN };
-    split_block(&mut code, &SLOTS, &job, method)?;
-    code.push(Instr::Halt(RESULT))?;
+    lay_split(&mut code, method, majority)?;
+    code.push(HALT)?;
     Ok(code)
 }
 
@@ -83,31 +96,59 @@ fn split(
 fn split_at_least(alloc: Global, seats: u64, divisor: Divisor) -> Result<Vec<Instr>, Fail> {
     let mut code = before(alloc, seats)?;
     split_block(&mut code, &SLOTS, &AT_LEAST, Method::Divisor(divisor))?;
-    code.push(Instr::Halt(RESULT))?;
+    code.push(HALT)?;
     Ok(code)
 }
 
-// The code of a growth from so many seats, by Webster's method.
+/// Lays out the block of a growth by Webster's method.
+///
+/// Without memory, the code is as it was.
+pub fn lay_growth(code: &mut Vec<Instr>, cap: u32) -> Result<(), NoMemory>
+    requires cap { cap ≤ 4000 }
+    requires room { vec_len code.old ≤ 199000 }
+    ensures { OnErr result (code.new.items ≡ code.old.items) }
+{
+    grow_block(code, &SLOTS, &AT_LEAST, Divisor::Webster, cap)
+}
+
+// The code of a growth from so many seats.
 fn growth(alloc: Global, seats: u64, cap: u32) -> Result<Vec<Instr>, Fail>
     requires { cap ≤ 4000 }
 {
     let mut code = before(alloc, seats)?;
-    grow_block(&mut code, &SLOTS, &AT_LEAST, Divisor::Webster, cap)?;
-    code.push(Instr::Halt(RESULT))?;
+    lay_growth(&mut code, cap)?;
+    code.push(HALT)?;
     Ok(code)
 }
 
-/// The code of a covering: the names left on a list are its seats, and the parties of minorities take part.
-pub fn covering(alloc: Global) -> Result<Vec<Instr>, Fail> {
-    let mut code = Vec::from_slice(
+/// What stands before the block of a covering: the names left on a list are its seats, and the parties of minorities take part.
+pub fn before_covering(alloc: Global) -> Result<Vec<Instr>, AllocError>
+    ensures { IfOk result (λ code. vec_len code ≤ 199000) }
+{
+    Vec::from_slice(
         alloc,
         &[
             Instr::Input(RESULT, Input::Names),
             Instr::Input(ELIGIBLE, Input::Minority),
         ],
-    )?;
-    cover_block(&mut code, &SLOTS, RESULT, ELIGIBLE, SCRATCH)?;
-    code.push(Instr::Halt(RESULT))?;
+    )
+}
+
+/// Lays out the block of a covering.
+///
+/// Without memory, the code is as it was.
+pub fn lay_covering(code: &mut Vec<Instr>) -> Result<(), NoMemory>
+    requires { vec_len code.old ≤ 199000 }
+    ensures { OnErr result (code.new.items ≡ code.old.items) }
+{
+    cover_block(code, &SLOTS, RESULT, ELIGIBLE, SCRATCH)
+}
+
+/// The code of a covering.
+pub fn covering(alloc: Global) -> Result<Vec<Instr>, Fail> {
+    let mut code = before_covering(alloc)?;
+    lay_covering(&mut code)?;
+    code.push(HALT)?;
     Ok(code)
 }
 

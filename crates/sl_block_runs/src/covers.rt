@@ -4,6 +4,7 @@ ghost use Rattle.sl_machine.specs.Fits.{Fits};
 
 use crate::codes::covering;
 use crate::runs::accepted;
+use sl_code::Instr;
 use sl_machine::{Ending, budget, run};
 use sl_returns::read_returns;
 use sl_stages::Returns;
@@ -12,8 +13,8 @@ use sl_verify::Verified;
 use std::alloc::Global;
 use std::test::*;
 
-// Two seats for three winners with different shares.
-const THREE_SHARES: &str =
+/// Two seats for three winners with different shares.
+pub const THREE_SHARES: &str =
     "kind2,land,party,a,b,c\nland,X,,1000,,\nparty,,A,1,,\nlist,X,A,10,10,2\nwin,X,A,w1,300,500\nwin,X,A,w2,400,1000\nwin,X,A,w3,390,900\n";
 
 // The shares of the last two are equal.
@@ -49,11 +50,15 @@ fn run_text(alloc: Global, code: &Verified, returns: &Returns) -> Result<Vec<u8>
     text_of(alloc, code, returns, &ending)
 }
 
-// That of a covering.
-fn covered(alloc: Global, text: &str) -> Result<Vec<u8>, Fail> {
+/// That of the code of a covering, on the returns of a text.
+pub fn covered_by(alloc: Global, code: &[Instr], text: &str) -> Result<Vec<u8>, Fail> {
     let returns = read_returns(alloc, text.as_bytes())?;
-    let code = accepted(alloc, covering(alloc)?.as_slice())?;
+    let code = accepted(alloc, code)?;
     run_text(alloc, &code, &returns)
+}
+
+fn covered(alloc: Global, text: &str) -> Result<Vec<u8>, Fail> {
+    covered_by(alloc, covering(alloc)?.as_slice(), text)
 }
 
 #[test]

@@ -5,8 +5,8 @@ use crate::runs::Tells::Outcome;
 use crate::runs::{Case, wrong};
 use std::test::*;
 
-// The second votes of a Bundestag's parties; E has 56 seats at least.
-const FIVE_LISTS: &str =
+/// The second votes of a Bundestag's parties; E has 56 seats at least.
+pub const FIVE_LISTS: &str =
     "kind2,land,party,a,b,c\nland,X,,1000,,\nparty,,A,0,,\nparty,,B,0,,\nparty,,C,0,,\nparty,,D,0,,\nparty,,E,0,,\nlist,X,A,14921877,14921877,0\nlist,X,B,11252215,11252215,0\nlist,X,C,3755699,3755699,0\nlist,X,D,3694057,3694057,0\nlist,X,E,3243569,3243569,56\n";
 
 // B has three seats at least, the last one at a house of 2503.

@@ -8,6 +8,8 @@ mod covers;
 #[cfg(test)]
 mod growths;
 #[cfg(test)]
+mod refused;
+#[cfg(test)]
 mod runs;
 #[cfg(test)]
 mod splits;

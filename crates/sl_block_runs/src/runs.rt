@@ -62,8 +62,8 @@ fn ending(alloc: Global, code: &[Instr], text: &str) -> Result<Ending, Fail> {
     Ok(run(alloc, &code, &returns, budget(1, &returns))?)
 }
 
-// How such a run ends: the seats of the lists, or the fault.
-fn outcome(alloc: Global, code: &[Instr], text: &str) -> Result<String, Fail> {
+/// How such a run ends: the seats of the lists, or the fault.
+pub fn outcome(alloc: Global, code: &[Instr], text: &str) -> Result<String, Fail> {
     match ending(alloc, code, text)? {
         Ending::Done(memory) => Ok(seats_text(alloc, memory.base())?),
         Ending::Fault(fault) => Ok(fault_text(alloc, &fault)?),

@@ -1,9 +1,9 @@
 //! Readers and writers that go in small steps, and fail at each of their calls in turn.
 
-use crate::calls::{Pace, checked, coded, counted, staged};
-use crate::memory::{Ending, Narrow, Slow};
 use crate::rows::{FIRST_BOOK, RETURNS, TABLE};
 use sl_desk::{BookSource, DeskError, Input, Status, check_book, count};
+use sl_memory::calls::{Pace, checked, coded, counted, staged};
+use sl_memory::memory::{Ending, Narrow, Slow};
 use std::alloc::Global;
 use std::process::Abort;
 use std::test::Fail;

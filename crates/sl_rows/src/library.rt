@@ -1,7 +1,7 @@
 //! The books of the library: each is accepted, its text can be written, and a name without one is refused.
 
-use crate::calls::{Pace, checked_by, told};
 use sl_desk::Status;
+use sl_memory::calls::{Pace, checked_by, told};
 
 // Bytes that a sink takes at once.
 const STEP: usize = 4096;

@@ -5,8 +5,6 @@
 #[cfg(test)]
 mod adapters;
 #[cfg(test)]
-mod calls;
-#[cfg(test)]
 mod check_limits;
 #[cfg(test)]
 mod checks;
@@ -26,8 +24,6 @@ mod inputs;
 mod library;
 #[cfg(test)]
 mod library_counts;
-#[cfg(test)]
-mod memory;
 mod pages;
 #[cfg(test)]
 mod returns;

@@ -1,8 +1,9 @@
 //! What a row asks of a call of the desk, and how it is tested.
 
-use crate::calls::{Pace, checked, counted, counted_by, ran, staged, staged_by, stepped};
 use crate::inputs::Text;
 use sl_desk::Status;
+use sl_memory::calls::{Pace, checked, counted, counted_by, ran, staged, staged_by, stepped};
+use sl_memory::memory::Ending;
 use std::alloc::{AllocError, Global};
 use std::process::Abort;
 
@@ -17,8 +18,8 @@ pub const RETURNS: &str =
 /// What the first book comes to on them.
 pub const TABLE: &str = "total 2\nparty A 1 1\nlist X A 1 1\nsingle w2\n";
 
-// Bytes that a source gives, or a sink takes, at once.
-const STEP: usize = 4096;
+// Bytes that a source gives, or a sink takes, at once: all, or one.
+const STEPS: [usize; 2] = [4096, 1];
 
 /// A row: its name, the book, the returns, what `count` writes, and its status.
 pub type CountRow = (&'static str, Text, Text, Text, Status);
@@ -63,17 +64,31 @@ pub type RunRow = (
 /// A row: its name, the book, what `check` writes, and its status.
 pub type CheckRow = (&'static str, Text, &'static str, Status);
 
+// Asserts how a call ends, and what was written.
+fn assert_ending(rt: &impl Abort, ending: &Ending, text: &[u8], status: Status, name: &str) {
+    assert_eq!(rt; ending.result, Ok(status), "{name}");
+    assert_eq!(rt; ending.written.as_slice(), text, "{name}");
+}
+
+fn assert_count(
+    rt: &impl Abort,
+    alloc: Global,
+    row: &CountRow,
+    step: usize,
+) -> Result<(), AllocError> {
+    let (name, book, returns, text, status) = row;
+    let (book, returns) = (book.bytes(alloc)?, returns.bytes(alloc)?);
+    let ending = counted(alloc, book.as_slice(), returns.as_slice(), Pace::of(step));
+    assert_ending(rt, &ending, text.bytes(alloc)?.as_slice(), *status, name);
+    Ok(())
+}
+
 /// Asserts that `count` writes and ends as each of these rows says.
 pub fn assert_counts(rt: &impl Abort, alloc: Global, rows: &[CountRow]) -> Result<(), AllocError> {
-    for (name, book, returns, text, status) in rows {
-        let ending = counted(
-            alloc,
-            book.bytes(alloc)?.as_slice(),
-            returns.bytes(alloc)?.as_slice(),
-            Pace::of(STEP),
-        );
-        assert_eq!(rt; ending.result, Ok(*status), "{name}");
-        assert_eq!(rt; ending.written, text.bytes(alloc)?, "{name}");
+    for row in rows {
+        for step in STEPS {
+            assert_count(rt, alloc, row, step)?;
+        }
     }
     Ok(())
 }
@@ -81,60 +96,63 @@ pub fn assert_counts(rt: &impl Abort, alloc: Global, rows: &[CountRow]) -> Resul
 /// Asserts that `count` by a book of the library writes and ends as each of these rows says.
 pub fn assert_counts_by(rt: &impl Abort, alloc: Global, rows: &[LawRow]) {
     for (name, law, returns, text, status) in rows {
-        let ending = counted_by(alloc, law, returns.as_bytes(), Pace::of(STEP));
-        assert_eq!(rt; ending.result, Ok(*status), "{name}");
-        assert_eq!(rt; ending.written.as_slice(), text.as_bytes(), "{name}");
+        for step in STEPS {
+            let ending = counted_by(alloc, law, returns.as_bytes(), Pace::of(step));
+            assert_ending(rt, &ending, text.as_bytes(), *status, name);
+        }
     }
 }
 
 /// Asserts that `steps` writes and ends as each of these rows says.
 pub fn assert_steps(rt: &impl Abort, alloc: Global, rows: &[StepsRow]) {
     for (name, book, returns, text, status) in rows {
-        let ending = stepped(alloc, book.as_bytes(), returns.as_bytes(), Pace::of(STEP));
-        assert_eq!(rt; ending.result, Ok(*status), "{name}");
-        assert_eq!(rt; ending.written.as_slice(), text.as_bytes(), "{name}");
+        let (book, returns) = (book.as_bytes(), returns.as_bytes());
+        for step in STEPS {
+            let ending = stepped(alloc, book, returns, Pace::of(step));
+            assert_ending(rt, &ending, text.as_bytes(), *status, name);
+        }
     }
 }
 
 /// Asserts that `stage` writes and ends as each of these rows says.
 pub fn assert_stages(rt: &impl Abort, alloc: Global, rows: &[StageRow]) {
     for (name, book, returns, stage, text, status) in rows {
-        let ending = staged(
-            alloc,
-            book.as_bytes(),
-            returns.as_bytes(),
-            stage,
-            Pace::of(STEP),
-        );
-        assert_eq!(rt; ending.result, Ok(*status), "{name}");
-        assert_eq!(rt; ending.written.as_slice(), text.as_bytes(), "{name}");
+        let (book, returns) = (book.as_bytes(), returns.as_bytes());
+        for step in STEPS {
+            let ending = staged(alloc, book, returns, stage, Pace::of(step));
+            assert_ending(rt, &ending, text.as_bytes(), *status, name);
+        }
     }
 }
 
 /// Asserts that `stage` by a book of the library, which is named in place of the book, writes and ends as each of these rows says.
 pub fn assert_stages_by(rt: &impl Abort, alloc: Global, rows: &[StageRow]) {
     for (name, law, returns, stage, text, status) in rows {
-        let ending = staged_by(alloc, law, returns.as_bytes(), stage, Pace::of(STEP));
-        assert_eq!(rt; ending.result, Ok(*status), "{name}");
-        assert_eq!(rt; ending.written.as_slice(), text.as_bytes(), "{name}");
+        for step in STEPS {
+            let ending = staged_by(alloc, law, returns.as_bytes(), stage, Pace::of(step));
+            assert_ending(rt, &ending, text.as_bytes(), *status, name);
+        }
     }
 }
 
 /// Asserts that `run` writes and ends as each of these rows says.
 pub fn assert_runs(rt: &impl Abort, alloc: Global, rows: &[RunRow]) {
     for (name, code, returns, text, status) in rows {
-        let ending = ran(alloc, code, returns.as_bytes(), Pace::of(STEP));
-        assert_eq!(rt; ending.result, Ok(*status), "{name}");
-        assert_eq!(rt; ending.written.as_slice(), text.as_bytes(), "{name}");
+        for step in STEPS {
+            let ending = ran(alloc, code, returns.as_bytes(), Pace::of(step));
+            assert_ending(rt, &ending, text.as_bytes(), *status, name);
+        }
     }
 }
 
 /// Asserts that `check` writes and ends as each of these rows says.
 pub fn assert_checks(rt: &impl Abort, alloc: Global, rows: &[CheckRow]) -> Result<(), AllocError> {
     for (name, book, text, status) in rows {
-        let ending = checked(alloc, book.bytes(alloc)?.as_slice(), Pace::of(STEP));
-        assert_eq!(rt; ending.result, Ok(*status), "{name}");
-        assert_eq!(rt; ending.written.as_slice(), text.as_bytes(), "{name}");
+        let book = book.bytes(alloc)?;
+        for step in STEPS {
+            let ending = checked(alloc, book.as_slice(), Pace::of(step));
+            assert_ending(rt, &ending, text.as_bytes(), *status, name);
+        }
     }
     Ok(())
 }

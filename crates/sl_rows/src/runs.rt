@@ -1,9 +1,7 @@
-//! Runs of code files: codes that end, codes that are refused, and files that are cut.
+//! Runs of code files: codes that end, and codes that are refused.
 
-use crate::calls::{Pace, ran};
 use crate::rows::{RunRow, assert_runs};
 use sl_desk::Status;
-use std::test::Fail;
 
 // Returns of one list.
 const RETURNS: &str = "kind,land,party,a,b,c\nland,X,,1000,,\nparty,,A,0,,\nlist,X,A,10,10,\n";
@@ -115,21 +113,4 @@ const LOOP: RunRow = (
 #[test]
 fn loop_without_an_end(rt: HostRuntime) {
     assert_runs(&rt, rt.alloc(), &[LOOP]);
-}
-
-// A file that ends too early is refused with its length.
-#[test]
-fn cut_code_files(rt: HostRuntime) -> Result<(), Fail> {
-    for length in 0..HALTS.len() {
-        let ending = ran(
-            rt.alloc(),
-            &HALTS[..length],
-            RETURNS.as_bytes(),
-            Pace::of(4096),
-        );
-        let line = format!(in rt.alloc(); "refused code file 4 {length}\n")?;
-        assert_eq!(rt; ending.result, Ok(Status::Refused), "{length}");
-        assert_eq!(rt; ending.written.as_slice(), line.as_bytes(), "{length}");
-    }
-    Ok(())
 }

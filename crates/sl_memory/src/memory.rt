@@ -3,7 +3,7 @@
 ghost use Rattle.std.specs.Prelude.{Some};
 
 use sl_desk::{DeskError, Failed, Sink, Source, Status};
-use std::alloc::Global;
+use std::alloc::{AllocError, Global};
 
 /// How a call over memory ends, with what was written.
 #[derive(Drop)]
@@ -76,6 +76,21 @@ impl Narrow {
             fails_at,
             failures: 0,
         }
+    }
+
+    /// A sink that takes whole pieces and does not fail, and takes no memory for so many bytes.
+    ///
+    /// # Errors
+    ///
+    /// Want of memory.
+    pub fn with_room(alloc: Global, room: usize) -> Result<Narrow, AllocError> {
+        Ok(Narrow {
+            taken: Vec::with_capacity(alloc, room)?,
+            step: usize::MAX,
+            calls: 0,
+            fails_at: 0,
+            failures: 0,
+        })
     }
 }
 

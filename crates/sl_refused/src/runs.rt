@@ -1,0 +1,78 @@
+//! Runs of code on returns.
+
+ghost use Rattle.std.specs.Prelude.{IfOk};
+ghost use Rattle.sl_machine.specs.Fits.{Fits};
+
+use crate::rows::{THREE_LISTS, THREE_METHODS};
+use crate::rulebooks::compiled;
+use sl_machine::{Ending, Memory, budget, run, run_unrecorded};
+use sl_marks::{begin, end};
+use sl_returns::read_returns;
+use sl_stages::Returns;
+use sl_verify::Verified;
+use std::alloc::Global;
+use std::test::Fail;
+
+/// How a run ends that has as many steps as its budget.
+pub fn ending(alloc: Global, code: &Verified, returns: &Returns) -> Result<Ending, Fail>
+    ensures { IfOk result (Fits code.now returns.now) }
+{
+    let steps = budget(code.code().stages().len(), returns);
+    Ok(run(alloc, code, returns, steps)?)
+}
+
+// How such a run ends where memory may be refused.
+fn refused_ending(alloc: Global, code: &Verified, returns: &Returns) -> Result<Ending, Fail> {
+    let steps = budget(code.code().stages().len(), returns);
+    begin(alloc);
+    let first = run(alloc, code, returns, steps);
+    end(alloc);
+    match first {
+        Err(_) => ending(alloc, code, returns),
+        Ok(ending) => Ok(ending),
+    }
+}
+
+// The same without records.
+fn unrecorded_ending(alloc: Global, code: &Verified, returns: &Returns) -> Result<Ending, Fail> {
+    let steps = budget(code.code().stages().len(), returns);
+    begin(alloc);
+    let first = run_unrecorded(alloc, code, returns, steps);
+    end(alloc);
+    match first {
+        Err(_) => Ok(run_unrecorded(alloc, code, returns, steps)?),
+        Ok(ending) => Ok(ending),
+    }
+}
+
+/// What a run that is done holds.
+pub fn held(ending: Ending) -> Result<Memory, Fail> {
+    match ending {
+        Ending::Done(memory) => Ok(memory),
+        _ => Err("the run is not done")?,
+    }
+}
+
+#[test]
+fn recorded(rt: HostRuntime) -> Result<(), Fail> {
+    let returns = read_returns(rt.alloc(), THREE_LISTS.as_bytes())?;
+    for (book, _) in THREE_METHODS {
+        let code = compiled(rt.alloc(), book.as_bytes())?;
+        let memory = held(refused_ending(rt.alloc(), &code, &returns)?)?;
+        assert_eq!(rt; memory.base(), [4, 3, 1].as_slice());
+        assert_eq!(rt; memory.steps().len(), 8);
+    }
+    Ok(())
+}
+
+#[test]
+fn unrecorded(rt: HostRuntime) -> Result<(), Fail> {
+    let returns = read_returns(rt.alloc(), THREE_LISTS.as_bytes())?;
+    for (book, _) in THREE_METHODS {
+        let code = compiled(rt.alloc(), book.as_bytes())?;
+        let memory = held(unrecorded_ending(rt.alloc(), &code, &returns)?)?;
+        assert_eq!(rt; memory.base(), [4, 3, 1].as_slice());
+        assert!(rt; memory.steps().is_empty());
+    }
+    Ok(())
+}
