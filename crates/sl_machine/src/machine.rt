@@ -1,6 +1,7 @@
 //! Runs of a code on returns.
 
-ghost use Rattle.std.specs.Prelude.{◌≡◌, ◌≤◌, Some, IfOk, IfSome, IfNone, IsSome};
+ghost use Rattle.std.specs.Prelude.{◌≡◌, ◌<◌, ◌≤◌, Some, length, slice_get, IfOk, IfSome, IfNone, IsSome};
+ghost use Rattle.sl_code.specs.Proper.{IsProper};
 ghost use Rattle.sl_stages.specs.declared.limits.TheConstants.{MAX_STAGES};
 ghost use Rattle.sl_machine.specs.Agrees.{IsSafe};
 ghost use Rattle.sl_machine.specs.Answers.{answer_of};
@@ -16,7 +17,7 @@ use crate::lots::Lots;
 use crate::memory::Memory;
 use crate::step::{Drops, Effect, End, Keeps, Recording};
 use crate::store::Store;
-use sl_code::Code;
+use sl_code::{Code, Instr};
 use sl_ratio::NoMemory;
 use sl_stages::{LegalFault, Returns};
 use sl_verify::Verified;
@@ -52,6 +53,15 @@ pub fn budget(stages: usize, returns: &Returns) -> u64
     (stages as u64 + 2) * share(returns)
 }
 
+// The instruction at a place, where it stands: a copy is written in parts and read in others, which costs more than a step.
+fn instr_at(code: &Code, place: usize) -> &Instr
+    requires { place < length code.now.instrs }
+    ensures stands { slice_get code.now.instrs place ≡ Some result.now }
+    ensures kept { IsProper code.now }
+{
+    &code.instrs()[place]
+}
+
 // Makes a step from a place, and answers the place to which it comes, but for an instruction that ends the run.
 fn step_from<R: Recording>(
     store: &mut Store,
@@ -68,8 +78,7 @@ fn step_from<R: Recording>(
     ensures ends { IfOk result (λ next. IfNone next (EndsAt code.now place × (store.new ≡ store.old))) }
     ensures kept { sizes_of store.new ≡ sizes_of store.old }
 {
-    // read where it stands: a copy is written in parts and read in others, which costs more than the step
-    let instr = &code.instrs()[place];
+    let instr = instr_at(code, place);
     match store.step::<R>(code, returns, lots, instr)? {
         Some(Effect::Goes) => Ok(Some(place + 1)),
         Some(Effect::Jumps) => Ok(Some(instr.target().unwrap() as usize)),
@@ -90,7 +99,7 @@ fn end_at<R: Recording>(
     ensures ends { IfOk result (λ end. EndsWith R.records code.now returns.now place (state_of store.old) end (state_of store.new)) }
     ensures kept { sizes_of store.new ≡ sizes_of store.old }
 {
-    store.end(code, returns, &code.instrs()[place])
+    store.end(code, returns, instr_at(code, place))
 }
 
 // Makes at most so many steps from the start, and answers how they end, if they do.

@@ -1,8 +1,7 @@
 -- The step is one that may be made, and leads on.
-use Rattle.std.proofs.Common.{rules, ◌≡◌, IsTrue, IfSome, IfNone, ◌<◌, ◌+◌, ◌^◌, ℕ, List, Option, Some, IsSome, length, get_or, slice_get, sym, ap, subst, ◌∙◌, arith}
-use Rattle.std.proofs.lemmas.Option.{same_Some, slice_get_within, slice_get-get_or}
+use Rattle.std.proofs.Common.{rules, ◌≡◌, IsTrue, IfSome, IfNone, ◌<◌, ◌+◌, ◌^◌, ℕ, Option, Some, IsSome, sym, ap, subst, ◌∙◌, arith}
+use Rattle.std.proofs.lemmas.Option.{same_Some, slice_get_within}
 use Rattle.sl_code.specs.declared.instr.Instr.{Instr}
-use Rattle.sl_code.specs.declared.instr.Instr.TheVariants as instr
 use Rattle.sl_machine.specs.declared.step.Effect.{Effect}
 use Rattle.sl_machine.specs.Effects.{effect}
 use Rattle.sl_machine.specs.inner.Leading.{ends_run}
@@ -11,6 +10,9 @@ use Rattle.sl_machine.specs.inner.Stores.{state_of, effect_of}
 use Rattle.sl_machine.proofs.runs.Leading.{may_here, columns_here, goes_on, has_target, jumps_to}
 use Rattle.sl_machine.proofs.machine.step_from.Goals as goal
 
+pub instr_at-instr-requires : goal.instr_at-instr-requires
+instr_at-instr-requires g c = slice_get_within c.args.code.now.instrs c.args.place c.requires.safe.instr c.requires.safe.stands
+
 pub step-requires-clause-step : goal.step-requires-clause-step
 step-requires-clause-step g c =
     let code = c.args.code.now in
@@ -18,9 +20,8 @@ step-requires-clause-step g c =
     let s = state_of c.args.store.now in
     let safe = c.requires.safe in
     let place = c.args.place in
-    let there : place < length c.instrs.result.now = subst (λ (is : List Instr). place < length is) (sym c.instrs.ensures.instrs) (slice_get_within code.instrs place safe.instr safe.stands) in
-    let i = get_or c.instrs.result.now place (instr.Set 0 0) in
-    let at : slice_get code.instrs place ≡ Some i = ap (λ (is : List Instr). slice_get is place) (sym c.instrs.ensures.instrs) ∙ slice_get-get_or c.instrs.result.now place (instr.Set 0 0) there in
+    let i = c.instr_at-instr.result.now in
+    let at = c.instr_at-instr.ensures.stands in
     may_here code e place s safe i at
 
 pub step-requires-clause-columns : goal.step-requires-clause-columns
@@ -30,15 +31,14 @@ step-requires-clause-columns g c =
     let s = state_of c.args.store.now in
     let safe = c.requires.safe in
     let place = c.args.place in
-    let there : place < length c.instrs.result.now = subst (λ (is : List Instr). place < length is) (sym c.instrs.ensures.instrs) (slice_get_within code.instrs place safe.instr safe.stands) in
-    let i = get_or c.instrs.result.now place (instr.Set 0 0) in
-    let at : slice_get code.instrs place ≡ Some i = ap (λ (is : List Instr). slice_get is place) (sym c.instrs.ensures.instrs) ∙ slice_get-get_or c.instrs.result.now place (instr.Set 0 0) there in
+    let i = c.instr_at-instr.result.now in
+    let at = c.instr_at-instr.ensures.stands in
     columns_here code e place s safe i at
 
 pub overflow_add-result : goal.overflow_add-result
 overflow_add-result g c =
     let there = slice_get_within c.args.code.now.instrs c.args.place c.requires.safe.instr c.requires.safe.stands in
-    let small : c.args.place + 1 < 2 ^ 64 = omega (arith, there, c.instrs.ensures.kept.limits.instrs) in
+    let small : c.args.place + 1 < 2 ^ 64 = omega (arith, there, c.instr_at-instr.ensures.kept.limits.instrs) in
     search rules
 
 pub unwrap-requires : goal.unwrap-requires
@@ -48,9 +48,8 @@ unwrap-requires g c =
     let s = state_of c.args.store.now in
     let safe = c.requires.safe in
     let place = c.args.place in
-    let there : place < length c.instrs.result.now = subst (λ (is : List Instr). place < length is) (sym c.instrs.ensures.instrs) (slice_get_within code.instrs place safe.instr safe.stands) in
-    let i = get_or c.instrs.result.now place (instr.Set 0 0) in
-    let at : slice_get code.instrs place ≡ Some i = ap (λ (is : List Instr). slice_get is place) (sym c.instrs.ensures.instrs) ∙ slice_get-get_or c.instrs.result.now place (instr.Set 0 0) there in
+    let i = c.instr_at-instr.result.now in
+    let at = c.instr_at-instr.ensures.stands in
     let k = g.R.Recording.records in
     let none = c.requires.records in
     let t = state_of c.step.new.self in
@@ -64,9 +63,8 @@ returns-in-Some-Goes-clause-leads g c =
     let s = state_of c.args.store.now in
     let safe = c.requires.safe in
     let place = c.args.place in
-    let there : place < length c.instrs.result.now = subst (λ (is : List Instr). place < length is) (sym c.instrs.ensures.instrs) (slice_get_within code.instrs place safe.instr safe.stands) in
-    let i = get_or c.instrs.result.now place (instr.Set 0 0) in
-    let at : slice_get code.instrs place ≡ Some i = ap (λ (is : List Instr). slice_get is place) (sym c.instrs.ensures.instrs) ∙ slice_get-get_or c.instrs.result.now place (instr.Set 0 0) there in
+    let i = c.instr_at-instr.result.now in
+    let at = c.instr_at-instr.ensures.stands in
     let k = g.R.Recording.records in
     let none = c.requires.records in
     let t = state_of c.step.new.self in
@@ -80,9 +78,8 @@ returns-in-Some-Jumps-clause-leads g c =
     let s = state_of c.args.store.now in
     let safe = c.requires.safe in
     let place = c.args.place in
-    let there : place < length c.instrs.result.now = subst (λ (is : List Instr). place < length is) (sym c.instrs.ensures.instrs) (slice_get_within code.instrs place safe.instr safe.stands) in
-    let i = get_or c.instrs.result.now place (instr.Set 0 0) in
-    let at : slice_get code.instrs place ≡ Some i = ap (λ (is : List Instr). slice_get is place) (sym c.instrs.ensures.instrs) ∙ slice_get-get_or c.instrs.result.now place (instr.Set 0 0) there in
+    let i = c.instr_at-instr.result.now in
+    let at = c.instr_at-instr.ensures.stands in
     let k = g.R.Recording.records in
     let none = c.requires.records in
     let t = state_of c.step.new.self in
@@ -95,8 +92,7 @@ returns-in-None-clause-ends g c =
     let s = state_of c.args.store.now in
     let place = c.args.place in
     let safe = c.requires.safe in
-    let there : place < length c.instrs.result.now = subst (λ (is : List Instr). place < length is) (sym c.instrs.ensures.instrs) (slice_get_within code.instrs place safe.instr safe.stands) in
-    let i = get_or c.instrs.result.now place (instr.Set 0 0) in
-    let at : slice_get code.instrs place ≡ Some i = ap (λ (is : List Instr). slice_get is place) (sym c.instrs.ensures.instrs) ∙ slice_get-get_or c.instrs.result.now place (instr.Set 0 0) there in
+    let i = c.instr_at-instr.result.now in
+    let at = c.instr_at-instr.ensures.stands in
     let ends = subst (λ (o : Option Effect). IfNone o (IsTrue (ends_run i) × (c.step.new.self ≡ c.args.store.now))) c.in-None.is c.in_ok-step.ensures.ends in
     (λ j same. subst (λ (x : Instr). IsTrue (ends_run x)) (same_Some i j (sym at ∙ same)) ends.0, ends.1)
