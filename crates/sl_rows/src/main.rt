@@ -1,5 +1,5 @@
 //! Worked examples over the calls of the desk. The program runs the commands on the pages of the examples. The tests are rows of inputs and of
-//! what is written, inputs and outputs over memory, readers and writers that fail.
+//! what is written, inputs and outputs over memory, and what is judged, read and written first.
 #![tactic(auto)]
 
 #[cfg(test)]
@@ -15,8 +15,6 @@ mod count_limits;
 #[cfg(test)]
 mod counts;
 #[cfg(test)]
-mod failures;
-#[cfg(test)]
 mod faults;
 #[cfg(test)]
 mod inputs;
@@ -24,6 +22,8 @@ mod inputs;
 mod library;
 #[cfg(test)]
 mod library_counts;
+#[cfg(test)]
+mod order;
 mod pages;
 #[cfg(test)]
 mod returns;
