@@ -10,3 +10,5 @@ mod returns;
 mod stages;
 #[cfg(test)]
 mod texts;
+#[cfg(test)]
+mod tokens;

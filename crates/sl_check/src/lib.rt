@@ -10,6 +10,3 @@ mod stages;
 
 pub use checker::check;
 pub use sl_stages::{CheckFault, CheckedBook};
-
-#[cfg(test)]
-mod tests;

@@ -12,6 +12,3 @@ pub use keyword::Keyword;
 pub use scan::lex;
 pub use sl_ratio::MAX_NUMBER;
 pub use token::{Kind, Mark, Token};
-
-#[cfg(test)]
-mod tests;

@@ -9,6 +9,3 @@ mod places;
 mod prio;
 
 pub use prio::Prio;
-
-#[cfg(test)]
-mod tests;

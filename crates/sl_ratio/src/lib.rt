@@ -21,6 +21,3 @@ pub use names::{MAX_NAME_BYTES, NameFault, Names, spelling_fault};
 pub use ratio::{MAX_DENOMINATOR, MAX_NUMERATOR, Ratio};
 pub use remainder::hare;
 pub use signpost::{Adams, Dean, Hill, Jefferson, Signpost, Webster};
-
-#[cfg(test)]
-mod tests;

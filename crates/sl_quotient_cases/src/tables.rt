@@ -1,6 +1,6 @@
-//! The worked rows, with ample memory.
+//! Priority tables: peers, lots, indexes, and calls in no order beside a list.
 
-use super::*;
+use sl_prio::Prio;
 use sl_ratio::{Entry, NoMemory, Ratio};
 use std::alloc::Global;
 use std::test::*;

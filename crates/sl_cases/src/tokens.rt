@@ -1,18 +1,7 @@
-use super::*;
-use std::test::*;
+//! The tokens of a text.
 
-#[test]
-fn faults_stand_at_the_first_byte(rt: HostRuntime) {
-    for (text, fault) in [
-        ("rulebook 1000000000", LexFault::BigNumber(9)),
-        ("law abcdefghijklm", LexFault::LongName(4)),
-        ("rulebook 1; $", LexFault::BadByte(12)),
-        ("rulebook 1; law \"abc", LexFault::OpenString(16)),
-    ] {
-        let found = lex(rt.alloc(), text.as_bytes());
-        assert!(rt; matches!(found, Err(e) if e == fault), "in {text}");
-    }
-}
+use sl_lex::{Keyword, Kind, Mark, Token, lex};
+use std::test::*;
 
 #[test]
 fn a_book_has_its_tokens(rt: HostRuntime) -> Result<(), Fail> {

@@ -1,30 +1,41 @@
-//! The worked rows, with ample memory.
+//! Quotients, shares, bounds, entries and lists of names.
 
-use super::*;
+use sl_ratio::{
+    Divisor, Entry, MAX_NUMERATOR, NameFault, Names, Ratio, bounds, hare, spelling_fault,
+};
 use std::cmp::Ordering;
 use std::hash::{DefaultHasher, Hash, Hasher};
+use std::process::Abort;
 use std::test::*;
+
+fn assert_quotient(rt: &impl Abort, quotient: Ratio, num: u128, den: u128) {
+    assert_eq!(rt; (quotient.num(), quotient.den()), (num, den));
+}
 
 #[test]
 fn quotients_of_the_rows(rt: HostRuntime) {
-    assert_eq!(rt; Divisor::Jefferson.ratio(30, 0), Ratio::new(30, 1));
-    assert_eq!(rt; Divisor::Webster.ratio(30, 0), Ratio::new(60, 1));
-    assert_eq!(rt; Divisor::Jefferson.ratio(100, 3), Ratio::new(100, 4));
-    assert_eq!(rt; Divisor::Webster.ratio(100, 3), Ratio::new(200, 7));
-    assert_eq!(rt; Divisor::Webster.ratio(30, 1), Ratio::new(60, 3));
-    assert_eq!(rt; Divisor::Webster.ratio(10, 0), Ratio::new(20, 1));
-    assert_eq!(rt; Divisor::Adams.ratio(3, 0), Ratio::new(3, 0));
-    assert_eq!(rt; Divisor::Adams.ratio(3, 1), Ratio::new(3, 1));
-    assert_eq!(rt; Divisor::Dean.ratio(3, 2), Ratio::new(15, 12));
-    assert_eq!(rt; Divisor::Hill.ratio(3, 2), Ratio::new(9, 6));
+    assert_quotient(&rt, Divisor::Jefferson.ratio(30, 0), 30, 1);
+    assert_quotient(&rt, Divisor::Webster.ratio(30, 0), 60, 1);
+    assert_quotient(&rt, Divisor::Jefferson.ratio(100, 3), 100, 4);
+    assert_quotient(&rt, Divisor::Webster.ratio(100, 3), 200, 7);
+    assert_quotient(&rt, Divisor::Webster.ratio(30, 1), 60, 3);
+    assert_quotient(&rt, Divisor::Webster.ratio(10, 0), 20, 1);
+    assert_quotient(&rt, Divisor::Adams.ratio(3, 0), 3, 0);
+    assert_quotient(&rt, Divisor::Adams.ratio(3, 1), 3, 1);
+    assert_quotient(&rt, Divisor::Dean.ratio(3, 2), 15, 12);
+    assert_quotient(&rt, Divisor::Hill.ratio(3, 2), 9, 6);
+}
+
+#[test]
+fn infinite_quotients(rt: HostRuntime) {
     let infinite = Divisor::Adams.ratio(3, 0);
     assert!(rt; infinite.is_infinite());
-    assert_eq!(rt; (infinite.num(), infinite.den()), (3, 0));
-    assert_eq!(rt; infinite.cmp(&Divisor::Adams.ratio(2, 0)), Ordering::Equal);
-    assert_eq!(rt;
-        infinite.cmp(&Ratio::new(MAX_NUMERATOR, 1)),
-        Ordering::Greater
-    );
+    for (other, order) in [
+        (Divisor::Adams.ratio(2, 0), Ordering::Equal),
+        (Ratio::new(MAX_NUMERATOR, 1), Ordering::Greater),
+    ] {
+        assert_eq!(rt; infinite.cmp(&other), order);
+    }
 }
 
 #[test]
@@ -91,20 +102,28 @@ fn entries_of_equal_quotients(rt: HostRuntime) {
 }
 
 #[test]
-fn names_are_numbered(rt: HostRuntime) -> Result<(), Fail> {
+fn names_are_numbered(rt: HostRuntime) {
     let mut names = Names::new(rt.alloc(), 2);
     assert!(rt; names.is_empty());
-    assert_eq!(rt; names.add(b"A"), Ok(0));
-    assert_eq!(rt; names.add(b"B"), Ok(1));
-    assert_eq!(rt; names.add(b"A"), Err(NameFault::Twice));
-    assert_eq!(rt; names.add(b"C"), Err(NameFault::Full));
-    assert_eq!(rt; names.add(b""), Err(NameFault::Empty));
-    assert_eq!(rt; names.add(b"aaaabbbbccccd"), Err(NameFault::TooLong));
-    assert_eq!(rt; names.add(b"a/b"), Err(NameFault::BadByte));
-    assert_eq!(rt; spelling_fault(b"_a-Z09"), None);
+    for (name, number) in [
+        ("A", Ok(0)),
+        ("B", Ok(1)),
+        ("A", Err(NameFault::Twice)),
+        ("C", Err(NameFault::Full)),
+        ("", Err(NameFault::Empty)),
+        ("aaaabbbbccccd", Err(NameFault::TooLong)),
+        ("a/b", Err(NameFault::BadByte)),
+    ] {
+        assert_eq!(rt; names.add(name.as_bytes()), number, "{name}");
+    }
     assert_eq!(rt; names.len(), 2);
-    assert_eq!(rt; names.find(b"B"), Some(1));
-    assert_eq!(rt; names.find(b"C"), None);
+    for (name, number) in [("B", Some(1)), ("C", None)] {
+        assert_eq!(rt; names.find(name.as_bytes()), number, "{name}");
+    }
     assert!(rt; names.len() > 1 && names.name(1) == b"B".as_slice());
-    Ok(())
+}
+
+#[test]
+fn names_are_spelled(rt: HostRuntime) {
+    assert_eq!(rt; spelling_fault(b"_a-Z09"), None);
 }
