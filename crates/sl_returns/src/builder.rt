@@ -1,6 +1,6 @@
 //! Returns, built record by record.
 
-ghost use Rattle.std.specs.Prelude.{◌≡◌, ◌++◌, ◌∷◌, [], List, None, Some, OnOk, IfOk, IfErr, IfSome, Err};
+ghost use Rattle.std.specs.Prelude.{◌≡◌, ◌++◌, ◌∷◌, [], List, None, Some, OnOk, IfOk, IfErr, IfSome, Ok, Err};
 ghost use Rattle.csv.specs.Records.{fields_of};
 ghost use Rattle.sl_returns.specs.Cells.{Record};
 ghost use Rattle.sl_returns.specs.Joining.{TakesRecord, RefusesRecord};
@@ -97,16 +97,28 @@ impl ReturnsBuilder {
         ensures finished { (rs : List Record) → StandsFor self rs → result ≡ returns_of rs }
         ensures failed { IfSome self.fault (λ f. result ≡ Err f) }
     {
-        if let Some(fault) = self.fault {
-            return Err(fault);
+        match self.end_fault() {
+            Some(fault) => Err(fault),
+            None => Ok(self.returns),
+        }
+    }
+
+    // The fault with which the builder has failed; or that there is no header, or no Land.
+    fn end_fault(&self) -> Option<ReturnsFault>
+        ensures finished { (rs : List Record) → StandsFor self.now rs → result ≡ None → returns_of rs ≡ Ok self.now.election }
+        ensures refused { (rs : List Record) → StandsFor self.now rs → IfSome result (λ f. returns_of rs ≡ Err f) }
+        ensures failed { IfSome self.now.fault (λ f. result ≡ Some f) }
+    {
+        if self.fault.is_some() {
+            return self.fault;
         }
         if self.row == 0 {
-            return Err(ReturnsFault::at(1, FaultKind::Header));
+            return Some(ReturnsFault::at(1, FaultKind::Header));
         }
         if self.returns.lands() == 0 {
-            return Err(ReturnsFault::at(self.row, FaultKind::NoLand));
+            return Some(ReturnsFault::at(self.row, FaultKind::NoLand));
         }
-        Ok(self.returns)
+        None
     }
 }
 
