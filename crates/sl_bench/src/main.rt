@@ -6,6 +6,7 @@ mod prio;
 
 use sl_code::from_bytes;
 use sl_machine::{Ending, run};
+use sl_ratio::NoMemory;
 use sl_stages::Returns;
 use sl_verify::{Verified, verify};
 use std::alloc::Global;
@@ -51,14 +52,24 @@ fn main(rt: HostRuntime) -> anyhow::Result<()> {
     Ok(())
 }
 
+// How a run ended, in words.
+fn how(ending: &Ending) -> &'static str {
+    match ending {
+        Ending::OutOfBudget => "out of budget",
+        Ending::Done(_) | Ending::Fault(_) => "ended",
+    }
+}
+
+// How the loop has ended after so many steps.
+fn ended(alloc: Global, code: &Verified, steps: u64) -> Result<&'static str, NoMemory> {
+    let returns = Returns::empty(alloc);
+    let ending = run(alloc, code, &returns, steps)?;
+    Ok(how(&ending))
+}
+
 // Runs the loop for so many steps.
 fn run_loop(rt: &HostRuntime, steps: u64) -> anyhow::Result<()> {
-    let alloc = rt.alloc();
-    let code = accepted(alloc)?;
-    let returns = Returns::empty(alloc);
-    match run(alloc, &code, &returns, steps)? {
-        Ending::OutOfBudget => println!(rt; "out of budget")?,
-        Ending::Done(_) | Ending::Fault(_) => println!(rt; "ended")?,
-    }
+    let code = accepted(rt.alloc())?;
+    println!(rt; "{}", ended(rt.alloc(), &code, steps)?)?;
     Ok(())
 }

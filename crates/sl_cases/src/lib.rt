@@ -7,8 +7,6 @@ mod parse;
 #[cfg(test)]
 mod returns;
 #[cfg(test)]
-mod stages;
-#[cfg(test)]
 mod texts;
 #[cfg(test)]
 mod tokens;

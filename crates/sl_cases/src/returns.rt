@@ -29,7 +29,7 @@ fn are_worked(returns: &Returns) -> bool {
         && returns.slate(0, 0).is_none()
         && returns.win_name(0) == b"w1".as_slice()
         && returns.win_name(1) == b"w2".as_slice()
-        && first.party == Some(0)
+        && (first.land, first.party) == (0, Some(0))
         && (first.first, first.valid) == (5, 9)
         && second.party.is_none()
 }

@@ -101,25 +101,27 @@ fn entries_of_equal_quotients(rt: HostRuntime) {
     assert!(rt; hash_of(&first) != hash_of(&second) && hash_of(&first) != hash_of(&reduced));
 }
 
+// Names put one after the other into a list for two, each with its number or the fault.
+const ADDED: [(&str, Result<usize, NameFault>); 7] = [
+    ("A", Ok(0)),
+    ("B", Ok(1)),
+    ("A", Err(NameFault::Twice)),
+    ("C", Err(NameFault::Full)),
+    ("", Err(NameFault::Empty)),
+    ("aaaabbbbccccd", Err(NameFault::TooLong)),
+    ("a/b", Err(NameFault::BadByte)),
+];
+
 #[test]
 fn names_are_numbered(rt: HostRuntime) {
     let mut names = Names::new(rt.alloc(), 2);
     assert!(rt; names.is_empty());
-    for (name, number) in [
-        ("A", Ok(0)),
-        ("B", Ok(1)),
-        ("A", Err(NameFault::Twice)),
-        ("C", Err(NameFault::Full)),
-        ("", Err(NameFault::Empty)),
-        ("aaaabbbbccccd", Err(NameFault::TooLong)),
-        ("a/b", Err(NameFault::BadByte)),
-    ] {
+    for (name, number) in ADDED {
         assert_eq!(rt; names.add(name.as_bytes()), number, "{name}");
     }
     assert_eq!(rt; names.len(), 2);
-    for (name, number) in [("B", Some(1)), ("C", None)] {
-        assert_eq!(rt; names.find(name.as_bytes()), number, "{name}");
-    }
+    assert_eq!(rt; names.find(b"B"), Some(1));
+    assert_eq!(rt; names.find(b"C"), None);
     assert!(rt; names.len() > 1 && names.name(1) == b"B".as_slice());
 }
 

@@ -20,7 +20,7 @@ pub fn accepted(alloc: Global, file: &[u8]) -> Result<Verified, Fail> {
     let code = from_bytes(alloc, file)?;
     match verify(code) {
         Ok(verified) => Ok(verified),
-        Err(_) => Err("refused")?,
+        Err((_, fault)) => Err(fault.into()),
     }
 }
 
@@ -30,11 +30,15 @@ fn end_of(alloc: Global, code: &Verified, returns: &Returns) -> Result<Ending, N
     run(alloc, code, returns, steps)
 }
 
-// How such a run of a code file ends on the returns of a text.
-fn ending(alloc: Global, file: &[u8], text: &str) -> Result<Ending, Fail> {
+// How it ends on the returns of a text.
+fn end_on(alloc: Global, code: &Verified, text: &str) -> Result<Ending, Fail> {
     let returns = read_returns(alloc, text.as_bytes())?;
-    let code = accepted(alloc, file)?;
-    Ok(end_of(alloc, &code, &returns)?)
+    Ok(end_of(alloc, code, &returns)?)
+}
+
+// How such a run of a code file ends.
+fn ending(alloc: Global, file: &[u8], text: &str) -> Result<Ending, Fail> {
+    end_on(alloc, &accepted(alloc, file)?, text)
 }
 
 // What is held when such a run is done.
@@ -111,14 +115,16 @@ fn codes_that_end_with_a_fault(rt: HostRuntime) -> Result<(), Fail> {
     Ok(())
 }
 
-// Whether the run of a code file ends within so many steps.
-fn ends_within(alloc: Global, file: &[u8], steps: u64) -> Result<bool, Fail> {
+// Whether a run of a code ends within so many steps.
+fn ends(alloc: Global, code: &Verified, steps: u64) -> Result<bool, Fail> {
     let returns = read_returns(alloc, ONE_LIST.as_bytes())?;
-    let code = accepted(alloc, file)?;
-    match run(alloc, &code, &returns, steps)? {
-        Ending::OutOfBudget => Ok(false),
-        _ => Ok(true),
-    }
+    let ending = run(alloc, code, &returns, steps)?;
+    Ok(!matches!(ending, Ending::OutOfBudget))
+}
+
+// Whether that of a code file does.
+fn ends_within(alloc: Global, file: &[u8], steps: u64) -> Result<bool, Fail> {
+    ends(alloc, &accepted(alloc, file)?, steps)
 }
 
 #[test]

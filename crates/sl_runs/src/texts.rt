@@ -1,27 +1,13 @@
-//! The texts of the smallest table, of lines with words of every kind, and of a stage's column, with ample memory.
+//! The texts of lines with words of every kind, and of a stage's column, with ample memory.
 
 use crate::machine::accepted;
 use sl_machine::{Ending, budget, run};
 use sl_returns::read_returns;
-use sl_stages::{Returns, Table};
-use sl_table::{Text, short_text, stage_text};
+use sl_stages::Returns;
+use sl_table::{Text, stage_text};
 use sl_verify::Verified;
 use std::alloc::Global;
 use std::test::*;
-
-#[test]
-fn table_without_seats(rt: HostRuntime) -> Result<(), Fail> {
-    let alloc = rt.alloc();
-    let table = Table::new(
-        Vec::new(alloc),
-        Vec::new(alloc),
-        Vec::new(alloc),
-        Vec::new(alloc),
-    );
-    let text = short_text(alloc, &table, &Returns::empty(alloc))?;
-    assert_eq!(rt; text.as_slice(), b"total 0\n".as_slice());
-    Ok(())
-}
 
 #[test]
 fn lines_of_words(rt: HostRuntime) -> Result<(), Fail> {
@@ -65,15 +51,16 @@ fn run_text(alloc: Global, code: &Verified, returns: &Returns) -> Result<Vec<u8>
     Ok(stage_text(alloc, &memory, returns, code, 0)?)
 }
 
-// That of a code file, after its run on the returns of a text.
-fn stage_of(alloc: Global, file: &[u8], text: &str) -> Result<Vec<u8>, Fail> {
-    let returns = read_returns(alloc, text.as_bytes())?;
-    run_text(alloc, &accepted(alloc, file)?, &returns)
+// The same on the returns of a text.
+fn text_on(alloc: Global, code: &Verified, returns: &str) -> Result<Vec<u8>, Fail> {
+    let returns = read_returns(alloc, returns.as_bytes())?;
+    run_text(alloc, code, &returns)
 }
 
 #[test]
 fn stage_of_lists(rt: HostRuntime) -> Result<(), Fail> {
-    let text = stage_of(rt.alloc(), &VOTES, TWO_LISTS)?;
+    let code = accepted(rt.alloc(), &VOTES)?;
+    let text = text_on(rt.alloc(), &code, TWO_LISTS)?;
     assert_eq!(rt; text.as_slice(), b"X/B 5\nY/A 7\n".as_slice());
     Ok(())
 }
