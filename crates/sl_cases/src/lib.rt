@@ -7,6 +7,8 @@ mod parse;
 #[cfg(test)]
 mod returns;
 #[cfg(test)]
+mod stages;
+#[cfg(test)]
 mod texts;
 #[cfg(test)]
 mod tokens;

@@ -1,13 +1,27 @@
-//! The texts of lines with words of every kind, and of a stage's column, with ample memory.
+//! The texts of the smallest table, of lines with words of every kind, and of a stage's column, with ample memory.
 
 use crate::machine::accepted;
 use sl_machine::{Ending, budget, run};
 use sl_returns::read_returns;
-use sl_stages::Returns;
-use sl_table::{Text, stage_text};
+use sl_stages::{Returns, Table};
+use sl_table::{Text, short_text, stage_text};
 use sl_verify::Verified;
 use std::alloc::Global;
 use std::test::*;
+
+#[test]
+fn table_without_seats(rt: HostRuntime) -> Result<(), Fail> {
+    let alloc = rt.alloc();
+    let table = Table::new(
+        Vec::new(alloc),
+        Vec::new(alloc),
+        Vec::new(alloc),
+        Vec::new(alloc),
+    );
+    let text = short_text(alloc, &table, &Returns::empty(alloc))?;
+    assert_eq!(rt; text.as_slice(), b"total 0\n".as_slice());
+    Ok(())
+}
 
 #[test]
 fn lines_of_words(rt: HostRuntime) -> Result<(), Fail> {

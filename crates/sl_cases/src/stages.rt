@@ -1,0 +1,74 @@
+//! Returns that are built record by record, and read back.
+
+ghost use Rattle.std.specs.Prelude.{◌≡◌, IfOk, []};
+
+use sl_ratio::NoMemory;
+use sl_stages::Returns;
+use std::alloc::Global;
+use std::test::*;
+
+// A Land and a party.
+fn land_and_party(alloc: Global) -> Result<Returns, NoMemory>
+    ensures no_winner { IfOk result (λ r. r.win_names ≡ []) }
+    ensures no_lot { IfOk result (λ r. r.lots ≡ []) }
+{
+    let mut returns = Returns::empty(alloc);
+    returns.add_land(b"X", 1000)?;
+    returns.add_party(b"A", true)?;
+    Ok(returns)
+}
+
+// Whether these are a Land, a party, its list and a winner.
+fn are_read_back(returns: &Returns) -> bool {
+    if returns.lands() != 1 || returns.parties() != 1 || returns.wins() != 1 {
+        return false;
+    }
+    let win = returns.win(0);
+    returns.land_name(0) == b"X".as_slice()
+        && returns.population(0) == 1000
+        && returns.party_name(0) == b"A".as_slice()
+        && returns.minority(0)
+        && returns.valid(0, 0) == 20
+        && returns.counted(0, 0) == 10
+        && returns.slate(0, 0).is_none()
+        && returns.win_name(0) == b"w1".as_slice()
+        && win.land == 0
+        && win.party == Some(0)
+        && win.first == 5
+        && win.valid == 9
+}
+
+// Whether these are the names left on a list, and a lot of the only winner.
+fn are_kept(returns: &Returns) -> bool {
+    if returns.lands() != 1 || returns.parties() != 1 {
+        return false;
+    }
+    match returns.lots() {
+        [lot] => {
+            returns.house() == Some(598)
+                && returns.valid(0, 0) == 20
+                && returns.counted(0, 0) == 10
+                && returns.slate(0, 0) == Some(7)
+                && lot.land == Some(0)
+                && lot.party.is_none()
+                && lot.stage.as_bytes() == b"seats".as_slice()
+                && lot.win == Some(0)
+        }
+        _ => false,
+    }
+}
+
+#[test]
+fn records_are_read_back(rt: HostRuntime) -> Result<(), Fail> {
+    let mut returns = land_and_party(rt.alloc())?;
+    assert!(rt; returns.lands() == 1 && returns.parties() == 1);
+    assert!(rt; !returns.is_list(0, 0));
+    returns.add_win(0, Some(0), b"w1", 5, 9)?;
+    returns.add_list(0, 0, 20, 10)?;
+    assert!(rt; are_read_back(&returns));
+    returns.set_house(598);
+    returns.set_slate(0, 0, 7);
+    returns.add_lot(Some(0), None, b"seats", Some(0))?;
+    assert!(rt; are_kept(&returns));
+    Ok(())
+}
