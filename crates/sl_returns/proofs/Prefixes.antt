@@ -1,8 +1,7 @@
 -- A refused record decides what all the records give.
-use Rattle.std.proofs.Common.{◌≡◌, List, [], ◌∷◌, ◌++◌, Option, Some, None, Result, Ok, Err, IfOk, IfErr, ◌⊎◌, inl, inr, sym, ap, ◌∙◌}
+use Rattle.std.proofs.Common.{◌≡◌, List, [], ◌∷◌, ◌++◌, Option, Some, None, Err, ◌⊎◌, inl, inr, ap, ◌∙◌}
 use Rattle.std.specs.Option.{option_or}
 use Rattle.std.proofs.lemmas.Option.{none-some}
-use Rattle.sl_stages.specs.returns.Election.{Election}
 use Rattle.sl_returns.specs.declared.fault.ReturnsFault.{ReturnsFault}
 use Rattle.sl_returns.specs.Faults.{no_memory}
 use Rattle.sl_returns.specs.declared.header.Version.{Version}
@@ -37,12 +36,3 @@ refused_for_good rs more f h = ap (λ o. unless (option_or o (lack_of (rs ++ mor
 -- a fault of the last of some records, which others may follow, or want of memory
 pub answers : (rs more all : List Record) (f : ReturnsFault) → all ≡ rs ++ more → RefusesLast rs f → (f ≡ no_memory) ⊎ (returns_of all ≡ Err f)
 answers rs more all f e h = elim h [ inl refused ↦ inr (ap returns_of e ∙ refused_for_good rs more f refused) | inr wants ↦ inl wants.1 ]
-
--- what an answer equal to the returns says of each outcome
-pub says_ok : (answer given : Result Election ReturnsFault) → answer ≡ given → IfOk answer (λ e. given ≡ Ok e)
-says_ok (Ok e) given h = sym h
-says_ok (Err f) given h = tt
-
-pub says_err : (answer given : Result Election ReturnsFault) → answer ≡ given → IfErr answer (λ f. (f ≡ no_memory) ⊎ (given ≡ Err f))
-says_err (Ok e) given h = tt
-says_err (Err f) given h = inr (sym h)

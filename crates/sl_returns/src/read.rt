@@ -1,7 +1,8 @@
 //! Returns from bytes.
 
-ghost use Rattle.std.specs.Prelude.{◌≡◌, ◌⊎◌, IfOk, IfErr, Ok, Err, true};
+ghost use Rattle.std.specs.Prelude.{[], ◌≡◌, ◌⊎◌, IfOk, IfErr, Ok, OnOk, Err, true};
 ghost use Rattle.csv.specs.Reading.{error_kind, stops_reader};
+ghost use Rattle.sl_returns.specs.Building.{StandsFor};
 ghost use Rattle.sl_returns.specs.Faults.{no_memory};
 ghost use Rattle.sl_returns.specs.Returns.{records_in, returns_of};
 
@@ -20,18 +21,28 @@ pub fn read_returns(alloc: Global, bytes: &[u8]) -> Result<Returns, ReturnsFault
     ensures ok { IfOk result (λ r. returns_of (records_in bytes.now) ≡ Ok r) }
     ensures err { IfErr result (λ f. (f ≡ no_memory) ⊎ (returns_of (records_in bytes.now) ≡ Err f)) }
 {
+    let mut builder = ReturnsBuilder::new(alloc);
+    feed_all(alloc, bytes, &mut builder)?;
+    builder.finish()
+}
+
+// Feeds a builder that has taken no record those of a text, up to one that it refuses.
+fn feed_all(alloc: Global, bytes: &[u8], builder: &mut ReturnsBuilder) -> Result<(), ReturnsFault>
+    requires { StandsFor builder.old [] }
+    ensures taken { OnOk result (StandsFor builder.new (records_in bytes.now)) }
+    ensures refused { IfErr result (λ f. (f ≡ no_memory) ⊎ (returns_of (records_in bytes.now) ≡ Err f)) }
+{
     let mut reader = ReaderBuilder::new()
         .has_headers(false)
         .flexible(true)
         .from_reader(alloc, bytes);
-    let mut builder = ReturnsBuilder::new(alloc);
     // one record for all, which the reader fills anew
     let mut fields = ByteRecord::new(alloc);
     // no text in memory has so many records
     for _ in 0..u64::MAX {
         match reader.read_byte_record(&mut fields) {
             Ok(true) => builder.feed(&fields)?,
-            Ok(false) => return builder.finish(),
+            Ok(false) => return Ok(()),
             Err(error) => return Err(stopped(error)),
         }
     }

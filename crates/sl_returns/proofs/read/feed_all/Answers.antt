@@ -5,12 +5,12 @@ use Rattle.csv.specs.Reading.{Reached, builder_config, builder_is_flexible, buil
 use Rattle.csv.specs.Records.{fields_of}
 use Rattle.csv.specs.declared.parser.State.TheVariants as st
 use Rattle.csv.proofs.ReadFacts.{rows-end, rows-more}
-use Rattle.sl_returns.specs.Returns.{records_in, returns_of}
+use Rattle.sl_returns.specs.Returns.{records_in}
 use Rattle.sl_returns.proofs.AllRecords.{are_records, begin_records}
-use Rattle.sl_returns.proofs.Prefixes.{answers, says_err, says_ok}
+use Rattle.sl_returns.proofs.Prefixes.{answers}
 use Rattle.sl_returns.proofs.Reading.{only_stops}
-use Rattle.sl_returns.proofs.read.read_returns.Goals as goal
-use Rattle.sl_returns.proofs.read.read_returns.Goals.{After-new-fields, Joined-reader-3}
+use Rattle.sl_returns.proofs.read.feed_all.Goals as goal
+use Rattle.sl_returns.proofs.read.feed_all.Goals.{After-new-fields}
 
 -- the settings of the reader
 setup : (c : After-new-fields) → c.flexible.result.now ≡ with_flexible (with_names_headers c.new.result false) true
@@ -29,7 +29,7 @@ loop-init c =
       left = strip_bom c.args.bytes.now;
       source = from.source;
       reached = (sym from.state, refl);
-      stands = c.new-builder.ensures;
+      stands = c.requires;
     }
 
 pub loop-preserved : goal.loop-preserved
@@ -51,8 +51,8 @@ loop-preserved c =
       stands = c.in_ok-feed-in-Ok-true.ensures.taken inv.rows inv.stands;
     }
 
-pub returns-in_err-feed-in-Ok-true-clause-err : goal.returns-in_err-feed-in-Ok-true-clause-err
-returns-in_err-feed-in-Ok-true-clause-err c =
+pub returns-in_err-feed-in-Ok-true-clause-refused : goal.returns-in_err-feed-in-Ok-true-clause-refused
+returns-in_err-feed-in-Ok-true-clause-refused c =
     let inv = c.loop.invariant in
     let text = strip_bom c.args.bytes.now in
     let read = rw c.in-Ok-true.field-0-test at (c.in-Ok-true.ensures.reads inv.trims inv.ready) in
@@ -64,19 +64,13 @@ returns-in_err-feed-in-Ok-true-clause-err c =
     rw (p.1, p.2) (answers (inv.rows ++ fields ∷ []) more (records_in c.args.bytes.now) _ all refused)
 
 -- at the end of the text the builder has taken all its records
-finished : (c : Joined-reader-3) → c.finish.result ≡ returns_of (records_in c.args.bytes.now)
-finished c =
+pub returns-in-Ok-false-clause-taken : goal.returns-in-Ok-false-clause-taken
+returns-in-Ok-false-clause-taken c =
     let inv = c.loop.invariant in
     let read = rw c.in-Ok-false.field-0-test at (c.in-Ok-false.ensures.reads inv.trims inv.ready) in
     let none = rows-end (λ (s : Bor (List ℕ)). Some s.now) c.loop.reader c.read_byte_record.new.self (fields_of c.read_byte_record.new.row) default_config inv.left inv.config inv.source read in
     let all = are_records c.loop.reader.state (strip_bom c.args.bytes.now) inv.left inv.rows inv.reached none in
-    c.finish.ensures.finished inv.rows inv.stands ∙ ap returns_of (sym all)
-
-pub returns-in-Ok-false-clause-ok : goal.returns-in-Ok-false-clause-ok
-returns-in-Ok-false-clause-ok c = says_ok c.finish.result (returns_of (records_in c.args.bytes.now)) (finished c)
-
-pub returns-in-Ok-false-clause-err : goal.returns-in-Ok-false-clause-err
-returns-in-Ok-false-clause-err c = says_err c.finish.result (returns_of (records_in c.args.bytes.now)) (finished c)
+    rw all inv.stands
 
 pub stopped-requires : goal.stopped-requires
 stopped-requires c =
