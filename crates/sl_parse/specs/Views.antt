@@ -9,4 +9,4 @@ abbrev pub head_tree : Head → HeadTree
 head_tree h = record { version = h.version; law = h.law.items; house = h.house; eligible = h.eligible.items }
 
 abbrev pub division_tree : Division → DivisionTree
-division_tree d = (tree_of d.seats, tree_of d.votes, d.method)
+division_tree d = (tree_of d.seats.value, tree_of d.votes.value, d.method)

@@ -18,8 +18,8 @@ type Read<T> = Result<(T, u32, usize), Stop>;
 /// What is given out, by which votes and by which method.
 #[derive(Drop)]
 pub(crate) struct Division {
-    pub seats: Expr,
-    pub votes: Expr,
+    pub seats: Box<Expr>,
+    pub votes: Box<Expr>,
     pub method: Method,
 }
 
@@ -101,6 +101,17 @@ impl<'a> Parser<'a> {
         }
     }
 
+    /// An expression on the heap.
+    #[cycle(expr)]
+    fn boxed(&self, levels: u32, parts: u32, at: usize) -> Read<Box<Expr>>
+        ensures { let all = self.now.tokens.now in
+            Gives all (λ x. (tree_of x.0.value, x.1, drop x.2 all)) result
+            (read_expr self.now.text.now levels parts (drop at all)) }
+    {
+        let (expr, parts, at) = self.expr(levels, parts, at)?;
+        Ok((Box::new(self.alloc, expr)?, parts, at))
+    }
+
     #[cycle(expr)]
     #[tactic(auto, unfolding(crate::specs::Reading::read_sum))]
     fn sum(&self, levels: u32, parts: u32, start: usize, at: usize) -> Read<Expr>
@@ -109,11 +120,10 @@ impl<'a> Parser<'a> {
             (read_sum (read_expr self.now.text.now levels) start parts (drop at all)) }
     {
         let at = self.mark(Mark::Open, at)?;
-        let (of, parts, at) = self.expr(levels, parts, at)?;
+        let (of, parts, at) = self.boxed(levels, parts, at)?;
         let at = self.mark(Mark::Comma, at)?;
         let (over, at) = self.axis(at)?;
         let at = self.mark(Mark::Close, at)?;
-        let of = Box::new(self.alloc, of)?;
         Ok((
             Expr::Sum {
                 at: start,
@@ -128,15 +138,15 @@ impl<'a> Parser<'a> {
     /// Two arguments, up to the end of the second.
     #[cycle(expr)]
     #[tactic(auto, unfolding(crate::specs::Reading::read_two))]
-    fn two(&self, levels: u32, parts: u32, at: usize) -> Read<(Expr, Expr)>
+    fn two(&self, levels: u32, parts: u32, at: usize) -> Read<(Box<Expr>, Box<Expr>)>
         ensures { let all = self.now.tokens.now in
-            Gives all (λ x. ((tree_of x.0.0, tree_of x.0.1), x.1, drop x.2 all)) result
+            Gives all (λ x. ((tree_of x.0.0.value, tree_of x.0.1.value), x.1, drop x.2 all)) result
             (read_two (read_expr self.now.text.now levels) parts (drop at all)) }
     {
         let at = self.mark(Mark::Open, at)?;
-        let (left, parts, at) = self.expr(levels, parts, at)?;
+        let (left, parts, at) = self.boxed(levels, parts, at)?;
         let at = self.mark(Mark::Comma, at)?;
-        let (right, parts, at) = self.expr(levels, parts, at)?;
+        let (right, parts, at) = self.boxed(levels, parts, at)?;
         Ok(((left, right), parts, at))
     }
 
@@ -149,8 +159,6 @@ impl<'a> Parser<'a> {
     {
         let ((left, right), parts, at) = self.two(levels, parts, at)?;
         let at = self.mark(Mark::Close, at)?;
-        let left = Box::new(self.alloc, left)?;
-        let right = Box::new(self.alloc, right)?;
         Ok((
             Expr::Larger {
                 at: start,
@@ -171,8 +179,6 @@ impl<'a> Parser<'a> {
     {
         let ((left, right), parts, at) = self.two(levels, parts, at)?;
         let at = self.mark(Mark::Close, at)?;
-        let left = Box::new(self.alloc, left)?;
-        let right = Box::new(self.alloc, right)?;
         Ok((
             Expr::Less {
                 at: start,
@@ -218,8 +224,8 @@ impl<'a> Parser<'a> {
         }
         let at = self.mark(Mark::Comma, at)?;
         let at = self.keyword(Keyword::Atleast, at)?;
-        let (minima, parts, at) = self.expr(levels, parts, at)?;
-        Ok((Some(Box::new(self.alloc, minima)?), parts, at))
+        let (minima, parts, at) = self.boxed(levels, parts, at)?;
+        Ok((Some(minima), parts, at))
     }
 
     #[cycle(expr)]
@@ -233,13 +239,11 @@ impl<'a> Parser<'a> {
         let (minima, parts, at) = self.minima(levels, parts, at)?;
         let (majority, at) = self.majority(at)?;
         let at = self.mark(Mark::Close, at)?;
-        let seats = Box::new(self.alloc, division.seats)?;
-        let votes = Box::new(self.alloc, division.votes)?;
         Ok((
             Expr::Split {
                 at: start,
-                seats,
-                votes,
+                seats: division.seats,
+                votes: division.votes,
                 method: division.method,
                 minima,
                 majority,
@@ -258,19 +262,16 @@ impl<'a> Parser<'a> {
     {
         let (division, parts, at) = self.division(levels, parts, at)?;
         let at = self.mark(Mark::Comma, at)?;
-        let (minima, parts, at) = self.expr(levels, parts, at)?;
+        let (minima, parts, at) = self.boxed(levels, parts, at)?;
         let at = self.mark(Mark::Comma, at)?;
         let (cap, at) = self.number(at)?;
         let (majority, at) = self.refusal(at)?;
         let at = self.mark(Mark::Close, at)?;
-        let seats = Box::new(self.alloc, division.seats)?;
-        let votes = Box::new(self.alloc, division.votes)?;
-        let minima = Box::new(self.alloc, minima)?;
         Ok((
             Expr::Grow {
                 at: start,
-                seats,
-                votes,
+                seats: division.seats,
+                votes: division.votes,
                 method: division.method,
                 minima,
                 cap,
