@@ -60,11 +60,21 @@ fn how(ending: &Ending) -> &'static str {
     }
 }
 
-// How the loop has ended after so many steps.
+// How a run on those returns has ended after so many steps.
+fn ended_on(
+    alloc: Global,
+    code: &Verified,
+    returns: &Returns,
+    steps: u64,
+) -> Result<&'static str, NoMemory> {
+    let ending = run(alloc, code, returns, steps)?;
+    Ok(how(&ending))
+}
+
+// How the loop has.
 fn ended(alloc: Global, code: &Verified, steps: u64) -> Result<&'static str, NoMemory> {
     let returns = Returns::empty(alloc);
-    let ending = run(alloc, code, &returns, steps)?;
-    Ok(how(&ending))
+    ended_on(alloc, code, &returns, steps)
 }
 
 // Runs the loop for so many steps.

@@ -112,17 +112,25 @@ const ADDED: [(&str, Result<usize, NameFault>); 7] = [
     ("a/b", Err(NameFault::BadByte)),
 ];
 
-#[test]
-fn names_are_numbered(rt: HostRuntime) {
-    let mut names = Names::new(rt.alloc(), 2);
-    assert!(rt; names.is_empty());
+fn assert_added(rt: &impl Abort, names: &mut Names) {
     for (name, number) in ADDED {
         assert_eq!(rt; names.add(name.as_bytes()), number, "{name}");
     }
+}
+
+fn assert_found(rt: &impl Abort, names: &Names) {
     assert_eq!(rt; names.len(), 2);
     assert_eq!(rt; names.find(b"B"), Some(1));
     assert_eq!(rt; names.find(b"C"), None);
     assert!(rt; names.len() > 1 && names.name(1) == b"B".as_slice());
+}
+
+#[test]
+fn names_are_numbered(rt: HostRuntime) {
+    let mut names = Names::new(rt.alloc(), 2);
+    assert!(rt; names.is_empty());
+    assert_added(&rt, &mut names);
+    assert_found(&rt, &names);
 }
 
 #[test]

@@ -22,7 +22,16 @@ pub const TABLE: &str = "total 2\nparty A 1 1\nlist X A 1 1\nsingle w2\n";
 const STEPS: [usize; 2] = [4096, 1];
 
 /// A row: its name, the book, the returns, what `count` writes, and its status.
-pub type CountRow = (&'static str, Text, Text, Text, Status);
+pub type CountRow = (
+    &'static str,
+    &'static str,
+    &'static str,
+    &'static str,
+    Status,
+);
+
+/// The same with texts that are built.
+pub type BuiltCountRow = (&'static str, Text, Text, Text, Status);
 
 /// A row: its name, the name of a book of the library, the returns, what `count` writes, and its status.
 pub type LawRow = (
@@ -62,7 +71,10 @@ pub type RunRow = (
 );
 
 /// A row: its name, the book, what `check` writes, and its status.
-pub type CheckRow = (&'static str, Text, &'static str, Status);
+pub type CheckRow = (&'static str, &'static str, &'static str, Status);
+
+/// The same with a book that is built.
+pub type BuiltCheckRow = (&'static str, Text, &'static str, Status);
 
 // Asserts how a call ends, and what was written.
 fn assert_ending(rt: &impl Abort, ending: &Ending, text: &[u8], status: Status, name: &str) {
@@ -70,10 +82,21 @@ fn assert_ending(rt: &impl Abort, ending: &Ending, text: &[u8], status: Status, 
     assert_eq!(rt; ending.written.as_slice(), text, "{name}");
 }
 
-fn assert_count(
+/// Asserts that `count` writes and ends as each of these rows says.
+pub fn assert_counts(rt: &impl Abort, alloc: Global, rows: &[CountRow]) {
+    for (name, book, returns, text, status) in rows {
+        let (book, returns) = (book.as_bytes(), returns.as_bytes());
+        for step in STEPS {
+            let ending = counted(alloc, book, returns, Pace::of(step));
+            assert_ending(rt, &ending, text.as_bytes(), *status, name);
+        }
+    }
+}
+
+fn assert_built_count(
     rt: &impl Abort,
     alloc: Global,
-    row: &CountRow,
+    row: &BuiltCountRow,
     step: usize,
 ) -> Result<(), AllocError> {
     let (name, book, returns, text, status) = row;
@@ -83,11 +106,15 @@ fn assert_count(
     Ok(())
 }
 
-/// Asserts that `count` writes and ends as each of these rows says.
-pub fn assert_counts(rt: &impl Abort, alloc: Global, rows: &[CountRow]) -> Result<(), AllocError> {
+/// The same of rows with texts that are built.
+pub fn assert_built_counts(
+    rt: &impl Abort,
+    alloc: Global,
+    rows: &[BuiltCountRow],
+) -> Result<(), AllocError> {
     for row in rows {
         for step in STEPS {
-            assert_count(rt, alloc, row, step)?;
+            assert_built_count(rt, alloc, row, step)?;
         }
     }
     Ok(())
@@ -146,7 +173,21 @@ pub fn assert_runs(rt: &impl Abort, alloc: Global, rows: &[RunRow]) {
 }
 
 /// Asserts that `check` writes and ends as each of these rows says.
-pub fn assert_checks(rt: &impl Abort, alloc: Global, rows: &[CheckRow]) -> Result<(), AllocError> {
+pub fn assert_checks(rt: &impl Abort, alloc: Global, rows: &[CheckRow]) {
+    for (name, book, text, status) in rows {
+        for step in STEPS {
+            let ending = checked(alloc, book.as_bytes(), Pace::of(step));
+            assert_ending(rt, &ending, text.as_bytes(), *status, name);
+        }
+    }
+}
+
+/// The same of rows with a book that is built.
+pub fn assert_built_checks(
+    rt: &impl Abort,
+    alloc: Global,
+    rows: &[BuiltCheckRow],
+) -> Result<(), AllocError> {
     for (name, book, text, status) in rows {
         let book = book.bytes(alloc)?;
         for step in STEPS {

@@ -8,7 +8,6 @@ mod winners;
 use crate::files::joined;
 use sl_code::from_bytes;
 use sl_machine::{Ending, Memory, budget, run};
-use sl_ratio::NoMemory;
 use sl_returns::read_returns;
 use sl_stages::{FaultKind, Item, Returns, Scope};
 use sl_verify::{Verified, verify};
@@ -25,15 +24,15 @@ pub fn accepted(alloc: Global, file: &[u8]) -> Result<Verified, Fail> {
 }
 
 // How the run of a code ends that has as many steps as its budget.
-fn end_of(alloc: Global, code: &Verified, returns: &Returns) -> Result<Ending, NoMemory> {
+fn end_of(alloc: Global, code: &Verified, returns: &Returns) -> Result<Ending, Fail> {
     let steps = budget(code.code().stages().len(), returns);
-    run(alloc, code, returns, steps)
+    Ok(run(alloc, code, returns, steps)?)
 }
 
 // How it ends on the returns of a text.
 fn end_on(alloc: Global, code: &Verified, text: &str) -> Result<Ending, Fail> {
     let returns = read_returns(alloc, text.as_bytes())?;
-    Ok(end_of(alloc, code, &returns)?)
+    end_of(alloc, code, &returns)
 }
 
 // How such a run of a code file ends.
@@ -47,6 +46,11 @@ fn held(alloc: Global, file: &[u8], text: &str) -> Result<Memory, Fail> {
         Ending::Done(memory) => Ok(memory),
         _ => Err("the run is not done")?,
     }
+}
+
+// The same of a code file in pieces.
+fn held_of(alloc: Global, pieces: &[&[u8]], text: &str) -> Result<Memory, Fail> {
+    held(alloc, joined(alloc, pieces)?.as_slice(), text)
 }
 
 // The seats and the names of the tie in which such a run ends.
@@ -115,11 +119,16 @@ fn codes_that_end_with_a_fault(rt: HostRuntime) -> Result<(), Fail> {
     Ok(())
 }
 
-// Whether a run of a code ends within so many steps.
+// Whether a run of a code on returns ends within so many steps.
+fn ends_on(alloc: Global, code: &Verified, returns: &Returns, steps: u64) -> Result<bool, Fail> {
+    let ending = run(alloc, code, returns, steps)?;
+    Ok(!matches!(ending, Ending::OutOfBudget))
+}
+
+// Whether it does on those of the one list.
 fn ends(alloc: Global, code: &Verified, steps: u64) -> Result<bool, Fail> {
     let returns = read_returns(alloc, ONE_LIST.as_bytes())?;
-    let ending = run(alloc, code, &returns, steps)?;
-    Ok(!matches!(ending, Ending::OutOfBudget))
+    ends_on(alloc, code, &returns, steps)
 }
 
 // Whether that of a code file does.

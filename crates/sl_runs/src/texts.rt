@@ -2,6 +2,7 @@
 
 use crate::machine::accepted;
 use sl_machine::{Ending, budget, run};
+use sl_ratio::NoMemory;
 use sl_returns::read_returns;
 use sl_stages::{Returns, Table};
 use sl_table::{Text, short_text, stage_text};
@@ -9,16 +10,21 @@ use sl_verify::Verified;
 use std::alloc::Global;
 use std::test::*;
 
-#[test]
-fn table_without_seats(rt: HostRuntime) -> Result<(), Fail> {
-    let alloc = rt.alloc();
+// The text of a table without seats, over returns without a Land.
+fn text_without_seats(alloc: Global) -> Result<Vec<u8>, NoMemory> {
     let table = Table::new(
         Vec::new(alloc),
         Vec::new(alloc),
         Vec::new(alloc),
         Vec::new(alloc),
     );
-    let text = short_text(alloc, &table, &Returns::empty(alloc))?;
+    let returns = Returns::empty(alloc);
+    short_text(alloc, &table, &returns)
+}
+
+#[test]
+fn table_without_seats(rt: HostRuntime) -> Result<(), Fail> {
+    let text = text_without_seats(rt.alloc())?;
     assert_eq!(rt; text.as_slice(), b"total 0\n".as_slice());
     Ok(())
 }

@@ -72,36 +72,30 @@ fn won(step: &SeatStep) -> Option<(Item, u64, u64, Ratio)> {
     }
 }
 
+// Whether the first list won the first two seats, and the second list the third one.
+fn are_won(steps: &[SeatStep]) -> bool {
+    match steps {
+        [first, second, third] => {
+            won(first) == Some((Item::List(0, 0), 1, 1, Ratio::new(60, 1)))
+                && won(second) == Some((Item::List(0, 0), 2, 2, Ratio::new(60, 2)))
+                && won(third) == Some((Item::List(0, 1), 1, 3, Ratio::new(30, 1)))
+                && (third.stage, third.scope) == (0, Scope::All)
+        }
+        _ => false,
+    }
+}
+
 #[test]
 fn three_seats(rt: HostRuntime) -> Result<(), Fail> {
-    let halted = held(
-        rt.alloc(),
-        joined(rt.alloc(), &AWARDS)?.as_slice(),
-        THREE_SEATS,
-    )?;
+    let halted = held_of(rt.alloc(), &AWARDS, THREE_SEATS)?;
     assert_eq!(rt; halted.base(), [2, 1].as_slice());
-    let [first, second, third] = halted.steps() else {
-        panic!(rt; "there are not three steps");
-    };
-    assert_eq!(rt;
-        won(first),
-        Some((Item::List(0, 0), 1, 1, Ratio::new(60, 1)))
-    );
-    assert_eq!(rt;
-        won(second),
-        Some((Item::List(0, 0), 2, 2, Ratio::new(60, 2)))
-    );
-    assert_eq!(rt;
-        won(third),
-        Some((Item::List(0, 1), 1, 3, Ratio::new(30, 1)))
-    );
-    assert_eq!(rt; (third.stage, third.scope), (0, Scope::All));
+    assert!(rt; are_won(halted.steps()));
     Ok(())
 }
 
 #[test]
 fn a_lot_that_is_drawn(rt: HostRuntime) -> Result<(), Fail> {
-    let halted = held(rt.alloc(), joined(rt.alloc(), &AWARDS)?.as_slice(), DRAWN)?;
+    let halted = held_of(rt.alloc(), &AWARDS, DRAWN)?;
     assert_eq!(rt; halted.base(), [0, 1].as_slice());
     Ok(())
 }

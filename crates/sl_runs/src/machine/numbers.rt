@@ -102,7 +102,7 @@ const PEOPLE: [&[u8]; 18] = [
 
 // The numbers of the seats that such a code records.
 fn numbers_of(alloc: Global, code: &[&[u8]], text: &str) -> Result<Vec<u64>, Fail> {
-    let memory = held(alloc, joined(alloc, code)?.as_slice(), text)?;
+    let memory = held_of(alloc, code, text)?;
     let mut numbers = Vec::new(alloc);
     for step in memory.steps() {
         numbers.push(step.n)?;

@@ -111,11 +111,7 @@ fn remainder_of(mark: Mark) -> (u64, Option<u64>) {
 
 #[test]
 fn seats_by_remainders(rt: HostRuntime) -> Result<(), Fail> {
-    let halted = held(
-        rt.alloc(),
-        joined(rt.alloc(), &REMAINDERS)?.as_slice(),
-        THREE_LISTS,
-    )?;
+    let halted = held_of(rt.alloc(), &REMAINDERS, THREE_LISTS)?;
     let steps = halted.steps();
     let expected = [(2, (0, None)), (1, (0, Some(170))), (0, (0, Some(20)))];
     assert_eq!(rt; steps.len(), expected.len());
@@ -131,11 +127,7 @@ fn seats_by_remainders(rt: HostRuntime) -> Result<(), Fail> {
 
 #[test]
 fn seats_by_quotients(rt: HostRuntime) -> Result<(), Fail> {
-    let halted = held(
-        rt.alloc(),
-        joined(rt.alloc(), &QUOTIENTS)?.as_slice(),
-        ONE_LIST,
-    )?;
+    let halted = held_of(rt.alloc(), &QUOTIENTS, ONE_LIST)?;
     let steps = halted.steps();
     let expected = [
         Ratio::new(30, 2),
@@ -155,11 +147,7 @@ fn seats_by_quotients(rt: HostRuntime) -> Result<(), Fail> {
 
 #[test]
 fn weights(rt: HostRuntime) -> Result<(), Fail> {
-    let halted = held(
-        rt.alloc(),
-        joined(rt.alloc(), &WEIGHTS)?.as_slice(),
-        ONE_LIST,
-    )?;
+    let halted = held_of(rt.alloc(), &WEIGHTS, ONE_LIST)?;
     let weights = halted.weights();
     let expected = [
         (Scope::All, Item::Land(0), Divisor::Adams, 30),

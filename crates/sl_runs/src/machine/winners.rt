@@ -67,7 +67,7 @@ const FOUR: &str =
 
 #[test]
 fn winners_and_lists(rt: HostRuntime) -> Result<(), Fail> {
-    let halted = held(rt.alloc(), joined(rt.alloc(), &WINNERS)?.as_slice(), FOUR)?;
+    let halted = held_of(rt.alloc(), &WINNERS, FOUR)?;
     assert_eq!(rt; halted.base(), [1, 1, 1, 0].as_slice());
     Ok(())
 }
@@ -85,7 +85,7 @@ const DRAWN_SHARES: &str =
 #[test]
 fn greatest_shares(rt: HostRuntime) -> Result<(), Fail> {
     for text in [THREE_SHARES, DRAWN_SHARES] {
-        let halted = held(rt.alloc(), joined(rt.alloc(), &SHARES)?.as_slice(), text)?;
+        let halted = held_of(rt.alloc(), &SHARES, text)?;
         assert_eq!(rt; halted.base(), [1, 0, 1].as_slice());
     }
     Ok(())
