@@ -1,13 +1,9 @@
 //! The program: a command line over the calls of the desk.
 #![tactic(auto)]
 
-mod command_line;
-mod help;
 mod run;
-#[cfg(test)]
-mod tests;
 
-use command_line::request_of;
+use sl_words::request_of;
 use std::process::ExitCode;
 
 fn main(rt: HostRuntime) -> anyhow::Result<ExitCode> {

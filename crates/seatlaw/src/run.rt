@@ -1,7 +1,7 @@
 //! Commands over files.
 
-use crate::command_line::{Request, Show};
 use sl_desk::{BookSource, DeskError, FromRead, Input, Status, ToWrite};
+use sl_words::{Request, Show};
 use std::fs::File;
 
 // The file at a path, as that input.

@@ -1,7 +1,8 @@
-//! Worked cases of rulebooks and returns, as tests, a module a layer: those of the layers whose own proofs are long, so that these are
-//! proved once.
+//! Worked cases of rulebooks, returns and the command line, as tests, a module a layer.
 #![tactic(auto)]
 
+#[cfg(test)]
+mod laws;
 #[cfg(test)]
 mod parse;
 #[cfg(test)]
@@ -12,3 +13,5 @@ mod stages;
 mod texts;
 #[cfg(test)]
 mod tokens;
+#[cfg(test)]
+mod words;

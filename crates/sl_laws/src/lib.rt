@@ -29,6 +29,3 @@ pub fn law(name: &str) -> Option<&'static str>
         None
     }
 }
-
-#[cfg(test)]
-mod tests;

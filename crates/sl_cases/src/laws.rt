@@ -1,6 +1,6 @@
 //! The first line behind each name, and a name that is no book's.
 
-use super::*;
+use sl_laws::law;
 use std::test::*;
 
 // The name of each book, and its title and house.

@@ -1,6 +1,6 @@
 //! The words of the command line: what they ask for, how they are refused, and the help.
 
-use crate::command_line::{Request, Show, request_of};
+use sl_words::{Request, Show, request_of};
 use std::alloc::Global;
 use std::test::*;
 
