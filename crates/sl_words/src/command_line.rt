@@ -18,22 +18,27 @@ pub enum Show<'a> {
 /// What a command line asks for.
 #[derive(Clone, Copy)]
 pub enum Request<'a> {
+    /// To count an election by a rulebook.
     Count {
         show: Show<'a>,
         book: &'a str,
         returns: &'a str,
     },
+    /// To check a rulebook.
     Check {
         book: &'a str,
     },
+    /// To compile a rulebook to a code file.
     Code {
         book: &'a str,
         file: &'a str,
     },
+    /// To run a code file on returns.
     Run {
         code: &'a str,
         returns: &'a str,
     },
+    /// To write a rulebook of the library.
     Law {
         name: &'a str,
     },
@@ -102,7 +107,11 @@ fn asked<'a>(command: &str, given: &ArgMatches<'a>) -> Option<Request<'a>> {
     }
 }
 
-/// What these words ask for, if they are a request.
+/// What these words ask for, of which the first is the program's name; `None` where no command is among them.
+///
+/// # Errors
+///
+/// A refusal or a help of `clap`, or want of memory.
 pub fn request_of<'a>(alloc: Global, words: &'a [String]) -> Result<Option<Request<'a>>, Error> {
     let matches = program(alloc)?.try_get_matches_from(words)?;
     Ok(match matches.subcommand() {
