@@ -1,4 +1,4 @@
-//! Worked cases of rulebooks, returns and the command line, as tests, a module a layer.
+//! Worked cases of quotients and priority tables, of rulebooks and returns, and of the command line, as tests, a module a topic.
 #![tactic(auto)]
 
 #[cfg(test)]
@@ -6,9 +6,13 @@ mod laws;
 #[cfg(test)]
 mod parse;
 #[cfg(test)]
+mod quotients;
+#[cfg(test)]
 mod returns;
 #[cfg(test)]
 mod stages;
+#[cfg(test)]
+mod tables;
 #[cfg(test)]
 mod texts;
 #[cfg(test)]
