@@ -1,11 +1,14 @@
 -- What the plans of a rulebook take together, by a measure of each of them: its steps, or its instructions.
-use Rattle.std.proofs.Common.{◌≡◌, ℕ, suc, ◌+◌, ◌*◌, ◌≤◌, true, List, [], ◌∷◌, ◌++◌, length, Option, None, Some, arith}
+use Rattle.std.proofs.Common.{◌≡◌, ℕ, suc, ◌+◌, ◌*◌, ◌≤◌, true, List, [], ◌∷◌, ◌++◌, length, map, Option, None, Some, arith}
 use Rattle.std.specs.Prelude.{nat_le}
 use Rattle.std.specs.List.{list_all}
 use Rattle.std.proofs.lemmas.Bool.{and_parts, leb-true}
 use Rattle.std.proofs.lemmas.Nat.{mul-le}
 use Rattle.sl_ratio.specs.declared.method.Method.{Method}
 use Rattle.sl_ratio.specs.declared.method.Method.TheVariants as by
+use Rattle.sl_stages.specs.declared.fact.Fact.{Fact}
+use Rattle.sl_stages.specs.declared.fact.TheConstants.{FACTS}
+use Rattle.sl_stages.specs.declared.book.Pairing.TheVariants as pairings
 use Rattle.sl_stages.specs.declared.book.Cond.{Cond}
 use Rattle.sl_stages.specs.declared.book.LastClause.{LastClause}
 use Rattle.sl_stages.specs.declared.book.Majority.{Majority}
@@ -16,7 +19,7 @@ use Rattle.sl_stages.specs.declared.book.Shape.TheVariants as shape
 use Rattle.sl_stages.specs.declared.check_fault.CheckFault.TheVariants as fault
 use Rattle.sl_stages.specs.declared.limits.TheConstants.{MAX_STAGES, MAX_DEPTH, MAX_PARTS}
 use Rattle.sl_stages.specs.book.Tests.{test, first_failing}
-use Rattle.sl_stages.specs.book.Trees.{ExprTree, house, counted, winners, outside, independents, population, name, sum, larger, less, split, split_from, grow, StageTree, BookTree}
+use Rattle.sl_stages.specs.book.Trees.{ExprTree, fact as of_returns, name, sum, pair, split, without, atleast, grow, StageTree, BookTree}
 use Rattle.sl_stages.specs.book.Limits.{depth_of, parts_of, is_within_stage}
 use Rattle.sl_stages.specs.book.Typing.{Column, splits_in, is_seat_number, expr_tests, stage_column, columns_of, stages_tests, version_tests, condition_tests, base_tests, tests_of, is_typed}
 use Rattle.sl_stages.proofs.Tests.{no_fault, pass_parts, head_holds}
@@ -24,14 +27,14 @@ use Rattle.sl_code.specs.declared.instr.Instr.TheVariants.{Zero, Input}
 use Rattle.sl_code.specs.declared.operand.Input.TheVariants as input
 use Rattle.sl_plans.specs.Trees.{Tree, Line, Then}
 use Rattle.sl_pieces.specs.columns.Trees.{copy_tree}
-use Rattle.sl_pieces.specs.facts.Trees.{FactSlots, condition_tree, conditions_tree, eligible_tree}
-use Rattle.sl_pieces.specs.exprs.Slots.{fact_slots, passing, names_left, vacant_seats}
+use Rattle.sl_pieces.specs.facts.Trees.{FactSlots, condition_tree, conditions_tree, eligible_tree, fact_tree}
+use Rattle.sl_pieces.specs.exprs.Slots.{fact_slots, winners_slot, passing, names_left, vacant_seats}
 use Rattle.sl_pieces.specs.exprs.Pieces.{form_by, shape_of, node_slots, split_piece, grow_piece, pieces}
 use Rattle.sl_pieces.specs.exprs.Stages.{stage_pieces, stages_pieces}
 use Rattle.sl_pieces.specs.closing.Trees.{base_slot, final_seats, cover_slots, seating_pieces, vacant_pieces, last_pieces}
 use Rattle.sl_books.specs.Codes.{facts_pieces, book_pieces}
 use Rattle.sl_books.specs.Laws.{CanCompile}
-use Rattle.sl_books.proofs.CostsOfPlans.{IsNodePlan, IsColumnPlan, IsFactPlan, IsCoverPlan, copy_modest, larger_modest, less_modest, sum_modest, line_modest, nothing_modest, condition_modest, house_modest, counted_modest, winners_modest, outside_modest, independents_modest, population_modest, placing_modest, cover_modest, split_modest, growth_modest}
+use Rattle.sl_books.proofs.CostsOfPlans.{IsNodePlan, IsColumnPlan, IsFactPlan, IsCoverPlan, copy_modest, pair_modest, sum_modest, line_modest, nothing_modest, condition_modest, fact_modest, placing_modest, cover_modest, split_modest, growth_modest}
 
 -- the sum of a measure over some plans
 abbrev pub total : (Tree → ℕ) → List Tree → ℕ
@@ -113,29 +116,20 @@ module _ (f : Tree → ℕ) (node column fact cover : ℕ) (m : IsMeasure f node
 
     -- each part has one plan of its own
     pieces_at_most : (level : ℕ) (x : ExprTree) → total f (pieces types stage level x) ≤ at_most node column (splits_in x) (parts_of x)
-    pieces_at_most level (house at) = fact_at_most level shape.One fact_slots.house
-    pieces_at_most level (counted at) = fact_at_most level shape.List fact_slots.counted
-    pieces_at_most level (winners at) = fact_at_most level shape.List fact_slots.winners
-    pieces_at_most level (outside at) = fact_at_most level shape.Land fact_slots.outside
-    pieces_at_most level (independents at) = fact_at_most level shape.Land fact_slots.independents
-    pieces_at_most level (population at) = fact_at_most level shape.Land fact_slots.population
+    pieces_at_most level (of_returns at told) = fact_at_most level _ _
     pieces_at_most level (name at n) = fact_at_most level _ _
     pieces_at_most level (sum at x over) =
         after_one node column _ (splits_in x) (parts_of x)
         (both_at_most f (pieces types stage level x) _ _ column (pieces_at_most level x) (one_at_most f _ column (m.columns _ (sum_modest over _ _ _))))
-    pieces_at_most level (larger at l r) =
+    pieces_at_most level (pair at pairing l r) =
         after_two node column _ (splits_in l) (splits_in r) (parts_of l) (parts_of r)
         (both_at_most f (pieces types stage level l) _ _ _ (pieces_at_most level l)
-        (both_at_most f (pieces types stage (level + 1) r) _ _ column (pieces_at_most (level + 1) r) (one_at_most f _ column (m.columns _ (larger_modest _ _ _ _)))))
-    pieces_at_most level (less at l r) =
-        after_two node column _ (splits_in l) (splits_in r) (parts_of l) (parts_of r)
-        (both_at_most f (pieces types stage level l) _ _ _ (pieces_at_most level l)
-        (both_at_most f (pieces types stage (level + 1) r) _ _ column (pieces_at_most (level + 1) r) (one_at_most f _ column (m.columns _ (less_modest _ _ _ _)))))
-    pieces_at_most level (split at s v method major) =
+        (both_at_most f (pieces types stage (level + 1) r) _ _ column (pieces_at_most (level + 1) r) (one_at_most f _ column (m.columns _ (pair_modest pairing _ _ _ _)))))
+    pieces_at_most level (split at s v method without major) =
         split_of_two node column _ (splits_in s) (splits_in v) (parts_of s) (parts_of v)
         (both_at_most f (pieces types stage level s) _ _ _ (pieces_at_most level s)
         (both_at_most f (pieces types stage (level + 1) v) _ _ node (pieces_at_most (level + 1) v) (split_at_most level (shape_of types stage s) (shape_of types stage v) None method major)))
-    pieces_at_most level (split_from at s v method g major) =
+    pieces_at_most level (split at s v method (atleast g) major) =
         split_of_three node column _ (splits_in s) (splits_in v) (splits_in g) (parts_of s) (parts_of v) (parts_of g)
         (both_at_most f (pieces types stage level s) _ _ _ (pieces_at_most level s)
         (both_at_most f (pieces types stage (level + 1) v) _ _ _ (pieces_at_most (level + 1) v)
@@ -183,25 +177,17 @@ module _ (f : Tree → ℕ) (node column fact cover : ℕ) (m : IsMeasure f node
       let rest = mul-le (suc (length few)) fact 5 fact five (omega arith) in
       omega (arith, first, rest, conditions_at_most x few, m.joins (Line (Zero x.eligible ∷ [])) (conditions_tree x few))
 
+  each_at_most : (house : ℕ) (fs : List Fact) → total f (map (fact_tree fact_slots house) fs) ≤ length fs * fact
+  each_at_most house [] = omega arith
+  each_at_most house (x ∷ xs) = one_more _ (length xs) fact (let one = m.facts _ (fact_modest fact_slots house x) in omega (arith, one, each_at_most house xs))
+
   facts_at_most : (few : List Cond) (b : BookTree) → length few ≤ 4 → total f (facts_pieces few b) ≤ 12 * fact
-  facts_at_most few b long =
-      let one = eligible_at_most fact_slots few long in
-      let two = m.facts _ (house_modest fact_slots b.house.value) in
-      let three = m.facts _ (counted_modest fact_slots) in
-      let four = m.facts _ (winners_modest fact_slots) in
-      let five = m.facts _ (outside_modest fact_slots) in
-      let six = m.facts _ (independents_modest fact_slots) in
-      let seven = m.facts _ (population_modest fact_slots) in
-      of_seven _ _ _ _ _ _ _ one two three four five six seven
-    where
-      of_seven : (a b c d g h i : ℕ) → a ≤ 6 * fact → b ≤ fact → c ≤ fact → d ≤ fact → g ≤ fact → h ≤ fact → i ≤ fact
-          → a + (b + (c + (d + (g + (h + (i + 0)))))) ≤ 12 * fact
-      of_seven a b c d g h i ha hb hc hd hg hh hi = omega (arith, ha, hb, hc, hd, hg, hh, hi)
+  facts_at_most few b long = let all : total f (map (fact_tree fact_slots b.house.value) FACTS) ≤ 6 * fact = each_at_most b.house.value FACTS in omega (arith, eligible_at_most fact_slots few long, all)
 
   -- ---- the last clause
   seating_at_most : (from : ℕ) (s : Seating) → total f (seating_pieces from s) ≤ fact + (column + cover)
   seating_at_most from seating.Keep =
-      let one = m.columns _ (larger_modest shape.List from fact_slots.winners final_seats) in
+      let one = m.columns _ (pair_modest pairings.Larger shape.List from winners_slot final_seats) in
       let two = m.facts _ placing_modest in
       omega (arith, one, two)
   seating_at_most from seating.Cover =
@@ -213,8 +199,8 @@ module _ (f : Tree → ℕ) (node column fact cover : ℕ) (m : IsMeasure f node
   vacant_at_most None = omega arith
   vacant_at_most (Some vacate) =
       let one = m.facts (Line (Input names_left input.Names ∷ [])) (line_modest (Input names_left input.Names)) in
-      let two = m.columns _ (less_modest shape.List final_seats fact_slots.winners vacant_seats) in
-      let three = m.columns _ (less_modest shape.List vacant_seats names_left vacant_seats) in
+      let two = m.columns _ (pair_modest pairings.Less shape.List final_seats winners_slot vacant_seats) in
+      let three = m.columns _ (pair_modest pairings.Less shape.List vacant_seats names_left vacant_seats) in
       omega (arith, one, two, three)
 
   last_at_most : (types : List Column) (last : LastClause) → total f (last_pieces types last) ≤ 2 * fact + (3 * column + cover)

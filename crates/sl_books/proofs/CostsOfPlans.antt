@@ -5,6 +5,10 @@ use Rattle.sl_ratio.specs.declared.method.Divisor.{Divisor}
 use Rattle.sl_ratio.specs.declared.method.Divisor.TheVariants as divisor
 use Rattle.sl_ratio.specs.declared.method.Method.{Method}
 use Rattle.sl_ratio.specs.declared.method.Method.TheVariants as by
+use Rattle.sl_stages.specs.declared.fact.Fact.{Fact}
+use Rattle.sl_stages.specs.declared.fact.Fact.TheVariants as facts
+use Rattle.sl_stages.specs.declared.book.Pairing.{Pairing}
+use Rattle.sl_stages.specs.declared.book.Pairing.TheVariants as pairings
 use Rattle.sl_stages.specs.declared.book.Axis.{Axis}
 use Rattle.sl_stages.specs.declared.book.Axis.TheVariants as axis
 use Rattle.sl_stages.specs.declared.book.Cond.{Cond}
@@ -20,8 +24,8 @@ use Rattle.sl_pieces.specs.scopes.Forms.{Form, AllParties}
 use Rattle.sl_pieces.specs.seats.Slots.{Slots}
 use Rattle.sl_pieces.specs.nodes.Trees.{split_tree, grow_tree}
 use Rattle.sl_pieces.specs.covers.Trees.{CoverSlots, cover_tree}
-use Rattle.sl_pieces.specs.columns.Trees.{copy_tree, larger_tree, less_tree, sum_tree}
-use Rattle.sl_pieces.specs.facts.Trees.{FactSlots, condition_tree, house_tree, counted_tree, winners_tree, outside_tree, independents_tree, population_tree}
+use Rattle.sl_pieces.specs.columns.Trees.{copy_tree, pair_tree, sum_tree}
+use Rattle.sl_pieces.specs.facts.Trees.{FactSlots, condition_tree, fact_tree}
 use Rattle.sl_pieces.specs.closing.Trees.{place_kept}
 
 -- the plan has a price; none of its first four numbers is above the first number, none of the others above the second; and its instructions are no
@@ -53,17 +57,11 @@ copy_modest shape.Party from to = record { is = refl }
 copy_modest shape.Land from to = record { is = refl }
 copy_modest shape.List from to = record { is = refl }
 
-pub larger_modest : (s : Shape) (left right to : ℕ) → IsColumnPlan (larger_tree s left right to)
-larger_modest shape.One left right to = record { is = refl }
-larger_modest shape.Party left right to = record { is = refl }
-larger_modest shape.Land left right to = record { is = refl }
-larger_modest shape.List left right to = record { is = refl }
-
-pub less_modest : (s : Shape) (left right to : ℕ) → IsColumnPlan (less_tree s left right to)
-less_modest shape.One left right to = record { is = refl }
-less_modest shape.Party left right to = record { is = refl }
-less_modest shape.Land left right to = record { is = refl }
-less_modest shape.List left right to = record { is = refl }
+pub pair_modest : (pairing : Pairing) (s : Shape) (left right to : ℕ) → IsColumnPlan (pair_tree pairing s left right to)
+pair_modest pairings.Larger shape.One left right to = record { is = refl }
+pair_modest pairings.Larger _ left right to = record { is = refl }
+pair_modest _ shape.One left right to = record { is = refl }
+pair_modest _ _ left right to = record { is = refl }
 
 pub sum_modest : (over : Axis) (s : Shape) (from to : ℕ) → IsColumnPlan (sum_tree over s from to)
 sum_modest axis.Party s from to = record { is = refl }
@@ -87,23 +85,9 @@ condition_modest x condition.All = record { is = refl }
 pub nothing_modest : IsFactPlan (Line [])
 nothing_modest = record { is = refl }
 
-pub house_modest : (x : FactSlots) (default : ℕ) → IsFactPlan (house_tree x default)
-house_modest x default = record { is = refl }
-
-pub counted_modest : (x : FactSlots) → IsFactPlan (counted_tree x)
-counted_modest x = record { is = refl }
-
-pub winners_modest : (x : FactSlots) → IsFactPlan (winners_tree x)
-winners_modest x = record { is = refl }
-
-pub outside_modest : (x : FactSlots) → IsFactPlan (outside_tree x)
-outside_modest x = record { is = refl }
-
-pub independents_modest : (x : FactSlots) → IsFactPlan (independents_tree x)
-independents_modest x = record { is = refl }
-
-pub population_modest : (x : FactSlots) → IsFactPlan (population_tree x)
-population_modest x = record { is = refl }
+pub fact_modest : (x : FactSlots) (house : ℕ) (told : Fact) → IsFactPlan (fact_tree x house told)
+fact_modest x house facts.House = record { is = refl }
+fact_modest x house told = record { is = refl }
 
 pub placing_modest : IsFactPlan place_kept
 placing_modest = record { is = refl }

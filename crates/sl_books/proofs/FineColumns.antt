@@ -1,6 +1,8 @@
 -- What the verifier finds in the plans of columns, whatever their slots are: those of roles 0, 1 and 2 are judged by evaluation.
 use Rattle.std.proofs.Common.{◌≡◌, ℕ, zero, suc, true, Option, Some, refl, subst, ◌∙◌}
 use Rattle.std.proofs.lemmas.Bool.{false≢true}
+use Rattle.sl_stages.specs.declared.book.Pairing.{Pairing}
+use Rattle.sl_stages.specs.declared.book.Pairing.TheVariants as pairings
 use Rattle.sl_stages.specs.declared.book.Axis.{Axis}
 use Rattle.sl_stages.specs.declared.book.Axis.TheVariants as axis
 use Rattle.sl_stages.specs.declared.book.Shape.{Shape}
@@ -10,7 +12,7 @@ use Rattle.sl_verify.specs.declared.needs.TheConstants.{LAST_CLAUSE}
 use Rattle.sl_verify.specs.Kinds.{start_kinds}
 use Rattle.sl_plans.specs.Trees.{Tree}
 use Rattle.sl_plans.specs.Fine.{is_fine, judged_by}
-use Rattle.sl_pieces.specs.columns.Trees.{copy_tree, larger_tree, less_tree, sum_tree, summed}
+use Rattle.sl_pieces.specs.columns.Trees.{copy_tree, pair_tree, sum_tree, summed}
 use Rattle.sl_blocks.proofs.Renaming.{Renaming, renamed, Renames, renamed_is_fine}
 
 -- two columns of one shape, and the result
@@ -40,17 +42,11 @@ copy_as shape.Party from to = record { fine = refl; same = refl }
 copy_as shape.Land from to = record { fine = refl; same = refl }
 copy_as shape.List from to = record { fine = refl; same = refl }
 
-larger_as : (s : Shape) (left right to : ℕ) → IsFineAs s s left right to (larger_tree s 0 1 2) (larger_tree s left right to)
-larger_as shape.One left right to = record { fine = refl; same = refl }
-larger_as shape.Party left right to = record { fine = refl; same = refl }
-larger_as shape.Land left right to = record { fine = refl; same = refl }
-larger_as shape.List left right to = record { fine = refl; same = refl }
-
-less_as : (s : Shape) (left right to : ℕ) → IsFineAs s s left right to (less_tree s 0 1 2) (less_tree s left right to)
-less_as shape.One left right to = record { fine = refl; same = refl }
-less_as shape.Party left right to = record { fine = refl; same = refl }
-less_as shape.Land left right to = record { fine = refl; same = refl }
-less_as shape.List left right to = record { fine = refl; same = refl }
+pair_as : (pairing : Pairing) (s : Shape) (left right to : ℕ) → IsFineAs s s left right to (pair_tree pairing s 0 1 2) (pair_tree pairing s left right to)
+pair_as pairings.Larger shape.One left right to = record { fine = refl; same = refl }
+pair_as pairings.Larger _ left right to = record { fine = refl; same = refl }
+pair_as _ shape.One left right to = record { fine = refl; same = refl }
+pair_as _ _ left right to = record { fine = refl; same = refl }
 
 sum_as : (over : Axis) (s : Shape) (from to : ℕ) → can_sum s over ≡ true → IsFineAs s (summed over) from from to (sum_tree over s 0 2) (sum_tree over s from to)
 sum_as axis.Party shape.List from to can = record { fine = refl; same = refl }
@@ -87,13 +83,9 @@ module _ (slots : ℕ → Option Shape) (stages : ℕ) where
   pub copy_fine : (s : Shape) (from to : ℕ) → slots from ≡ Some s → slots to ≡ Some s → is_fine (judged_by slots stages) start_kinds (copy_tree s from to) ≡ true
   copy_fine s from to is made = by_roles s s from from to (copy_tree s 0 2) (copy_tree s from to) (copy_as s from to) is is made
 
-  pub larger_fine : (s : Shape) (left right to : ℕ) → slots left ≡ Some s → slots right ≡ Some s → slots to ≡ Some s
-      → is_fine (judged_by slots stages) start_kinds (larger_tree s left right to) ≡ true
-  larger_fine s left right to = by_roles s s left right to (larger_tree s 0 1 2) (larger_tree s left right to) (larger_as s left right to)
-
-  pub less_fine : (s : Shape) (left right to : ℕ) → slots left ≡ Some s → slots right ≡ Some s → slots to ≡ Some s
-      → is_fine (judged_by slots stages) start_kinds (less_tree s left right to) ≡ true
-  less_fine s left right to = by_roles s s left right to (less_tree s 0 1 2) (less_tree s left right to) (less_as s left right to)
+  pub pair_fine : (pairing : Pairing) (s : Shape) (left right to : ℕ) → slots left ≡ Some s → slots right ≡ Some s → slots to ≡ Some s
+      → is_fine (judged_by slots stages) start_kinds (pair_tree pairing s left right to) ≡ true
+  pair_fine pairing s left right to = by_roles s s left right to (pair_tree pairing s 0 1 2) (pair_tree pairing s left right to) (pair_as pairing s left right to)
 
   -- a column that can be summed so
   pub sum_fine : (over : Axis) (s : Shape) (from to : ℕ) → can_sum s over ≡ true → slots from ≡ Some s → slots to ≡ Some (summed over)

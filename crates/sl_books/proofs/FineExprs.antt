@@ -11,9 +11,9 @@ use Rattle.sl_stages.specs.declared.book.Majority.{Majority}
 use Rattle.sl_stages.specs.declared.book.Shape.{Shape}
 use Rattle.sl_stages.specs.declared.book.Shape.TheVariants as shape
 use Rattle.sl_stages.specs.book.Tests.{first_failing}
-use Rattle.sl_stages.specs.book.Trees.{ExprTree, house, counted, winners, outside, independents, population, name, sum, larger, less, split, split_from, grow}
+use Rattle.sl_stages.specs.book.Trees.{ExprTree, fact, name, sum, pair, split, without, atleast, grow}
 use Rattle.sl_stages.specs.book.Limits.{depth_of}
-use Rattle.sl_stages.specs.book.Typing.{Column, is_named, type_or_one, type_of, can_split, splits_in, expr_tests}
+use Rattle.sl_stages.specs.book.Typing.{Column, is_named, type_or_one, fact_type, type_of, can_split, splits_in, expr_tests}
 use Rattle.sl_stages.proofs.Tests.{head_holds, pass_parts}
 use Rattle.sl_stages.proofs.typing.TestLists.{pass_parts3, pass_parts4}
 use Rattle.sl_code.specs.Codes.{CountingCode}
@@ -26,7 +26,7 @@ use Rattle.sl_blocks.proofs.FineRoles.{HasShapes}
 use Rattle.sl_blocks.proofs.FineSplits.{split_fine}
 use Rattle.sl_blocks.proofs.FineGrowths.{growth_fine}
 use Rattle.sl_books.proofs.FineTrees.{AreFine, both_fine, three_fine, four_fine}
-use Rattle.sl_books.proofs.FineColumns.{copy_fine, larger_fine, less_fine, sum_fine}
+use Rattle.sl_books.proofs.FineColumns.{copy_fine, pair_fine, sum_fine}
 
 -- ---- names
 
@@ -111,12 +111,7 @@ module _ (code : CountingCode) (types : List Column) (stage : ℕ) (slots : HasB
 
   -- a typed expression of at most so many levels
   pub pieces_fine : (x : ExprTree) (level : ℕ) → first_failing (expr_tests types x) ≡ None → level + depth_of x + splits_in x ≤ 17 → AreFine code (pieces types stage level x)
-  pieces_fine (house at) level pass within = copy_piece level shape.One fact_slots.house (low_level (house at) level within) slots.facts.house
-  pieces_fine (counted at) level pass within = copy_piece level shape.List fact_slots.counted (low_level (counted at) level within) slots.facts.counted
-  pieces_fine (winners at) level pass within = copy_piece level shape.List fact_slots.winners (low_level (winners at) level within) slots.facts.winners
-  pieces_fine (outside at) level pass within = copy_piece level shape.Land fact_slots.outside (low_level (outside at) level within) slots.facts.outside
-  pieces_fine (independents at) level pass within = copy_piece level shape.Land fact_slots.independents (low_level (independents at) level within) slots.facts.independents
-  pieces_fine (population at) level pass within = copy_piece level shape.Land fact_slots.population (low_level (population at) level within) slots.facts.population
+  pieces_fine (fact at told) level pass within = copy_piece level (fact_type told).shape (fact_slots.of told) (low_level (fact at told) level within) (slots.facts.facts told)
   pieces_fine (name at n) level pass within =
       copy_piece level (in_shape (name at n)) (stage_slot (unwrap_or (position (is_named n) types) 0)) (low_level (name at n) level within) (named_slot code types n slots (head_holds _ _ _ pass).0)
   pieces_fine (sum at x over) level pass within =
@@ -127,33 +122,23 @@ module _ (code : CountingCode) (types : List Column) (stage : ℕ) (slots : HasB
             (slots.passing_are level (in_shape x) low) (slots.passing_are level (summed over) low),
         tt,
       )
-  pieces_fine (larger at x y) level pass within =
+  pieces_fine (pair at pairing x y) level pass within =
       let p = pass_parts3 (expr_tests types x) (expr_tests types y) _ pass in
       let levels = two_levels level (depth_of x) (depth_of y) (splits_in x) (splits_in y) within in
       let low = low_level y (level + 1) levels.1 in
       let s = in_shape x in
       three_fine code (pieces types stage level x) (pieces types stage (level + 1) y) _ (pieces_fine x level p.0 levels.0) (pieces_fine y (level + 1) p.1 levels.1) (
-        larger_fine (slice_get code.slots) (length code.stages) s (passing level s) (passing (level + 1) s) (passing level s)
+        pair_fine (slice_get code.slots) (length code.stages) pairing s (passing level s) (passing (level + 1) s) (passing level s)
             (slots.passing_are level s (omega (arith, low))) (slots.passing_are (level + 1) s low) (slots.passing_are level s (omega (arith, low))),
         tt,
       )
-  pieces_fine (less at x y) level pass within =
-      let p = pass_parts3 (expr_tests types x) (expr_tests types y) _ pass in
-      let levels = two_levels level (depth_of x) (depth_of y) (splits_in x) (splits_in y) within in
-      let low = low_level y (level + 1) levels.1 in
-      let s = in_shape x in
-      three_fine code (pieces types stage level x) (pieces types stage (level + 1) y) _ (pieces_fine x level p.0 levels.0) (pieces_fine y (level + 1) p.1 levels.1) (
-        less_fine (slice_get code.slots) (length code.stages) s (passing level s) (passing (level + 1) s) (passing level s)
-            (slots.passing_are level s (omega (arith, low))) (slots.passing_are (level + 1) s low) (slots.passing_are level s (omega (arith, low))),
-        tt,
-      )
-  pieces_fine (split at x v method majority) level pass within =
+  pieces_fine (split at x v method without majority) level pass within =
       let p = pass_parts3 (expr_tests types x) (expr_tests types v) _ pass in
       let can = split_passes at (type_of types x) (type_of types v) method majority p.2 in
       let levels = split_levels level (depth_of x) (depth_of v) (splits_in x) (splits_in v) within in
       three_fine code (pieces types stage level x) (pieces types stage (level + 1) v) _ (pieces_fine x level p.0 levels.0) (pieces_fine v (level + 1) p.1 levels.1)
       (split_piece_fine level (in_shape x) (in_shape v) None method majority (low_level v (level + 1) levels.1) can (λ slot is. cc))
-  pieces_fine (split_from at x v method m majority) level pass within =
+  pieces_fine (split at x v method (atleast m) majority) level pass within =
       let p = pass_parts4 (expr_tests types x) (expr_tests types v) (expr_tests types m) _ pass in
       let can = (split_from_passes at (type_of types x) (type_of types v) (type_of types m) method majority p.3).can in
       let levels = three_levels level (depth_of x) (depth_of v) (depth_of m) (splits_in x) (splits_in v) (splits_in m) within in

@@ -1,7 +1,10 @@
 -- What the verifier finds in the plans of facts: they are judged by evaluation, with the slots of facts and of the last clause alone.
-use Rattle.std.proofs.Common.{◌≡◌, ℕ, zero, suc, ◌≤◌, Bool, true, false, ◌==◌, if◌then◌else◌, List, [], ◌∷◌, ◌++◌, length, Option, Some, slice_get, refl, sym, subst, ap, ◌∙◌, arith}
+use Rattle.std.proofs.Common.{◌≡◌, ℕ, zero, suc, ◌≤◌, Bool, true, false, ◌==◌, if◌then◌else◌, List, [], ◌∷◌, ◌++◌, length, map, get_or, Option, Some, slice_get, refl, sym, subst, ap, ◌∙◌, arith}
 use Rattle.std.specs.Prelude.{nat_lt}
 use Rattle.std.proofs.lemmas.Bool.{eqb-true, lt-ltb}
+use Rattle.sl_stages.specs.declared.fact.Fact.{Fact}
+use Rattle.sl_stages.specs.declared.fact.Fact.TheVariants as facts
+use Rattle.sl_stages.specs.declared.fact.TheConstants.{FACTS}
 use Rattle.sl_stages.specs.declared.book.Shape.{Shape}
 use Rattle.sl_stages.specs.declared.book.Cond.{Cond}
 use Rattle.sl_stages.specs.declared.book.Cond.TheVariants as condition
@@ -15,7 +18,7 @@ use Rattle.sl_verify.specs.Needs.{Context}
 use Rattle.sl_verify.proofs.Passing.{both_hold}
 use Rattle.sl_plans.specs.Trees.{Tree, Line}
 use Rattle.sl_plans.specs.Fine.{is_fine, judged_by, kinds_along}
-use Rattle.sl_pieces.specs.facts.Trees.{conditions_tree, condition_tree, eligible_tree, house_tree, counted_tree, winners_tree, outside_tree, independents_tree, population_tree}
+use Rattle.sl_pieces.specs.facts.Trees.{conditions_tree, condition_tree, eligible_tree, fact_tree}
 use Rattle.sl_pieces.specs.exprs.Slots.{fact_slots, HasBookSlots}
 use Rattle.sl_blocks.proofs.Renaming.{Renaming, renamed, Renames, renamed_is_fine}
 use Rattle.sl_books.specs.Codes.{fact_shapes, closing_shapes, facts_pieces}
@@ -61,14 +64,17 @@ numbers share per k = mark_stands 2 share k (by_mark 3 per k k) (omega arith) (m
 -- ---- plans with the first slots alone
 
 module _ (code : CountingCode) (types : List Column) (slots : HasBookSlots code types) where
+  abbrev at_number : ℕ → Fact
+  at_number n = get_or FACTS n facts.House
+
   first_there : (k : ℕ) (s : Shape) → first_shapes k ≡ Some s → slice_get code.slots k ≡ Some s
   first_there zero s h = slots.facts.eligible ∙ h
-  first_there (suc zero) s h = slots.facts.house ∙ h
-  first_there (suc (suc zero)) s h = slots.facts.counted ∙ h
-  first_there (suc (suc (suc zero))) s h = slots.facts.winners ∙ h
-  first_there (suc (suc (suc (suc zero)))) s h = slots.facts.outside ∙ h
-  first_there (suc (suc (suc (suc (suc zero))))) s h = slots.facts.independents ∙ h
-  first_there (suc (suc (suc (suc (suc (suc zero)))))) s h = slots.facts.population ∙ h
+  first_there (suc zero) s h = slots.facts.facts (at_number 0) ∙ h
+  first_there (suc (suc zero)) s h = slots.facts.facts (at_number 1) ∙ h
+  first_there (suc (suc (suc zero))) s h = slots.facts.facts (at_number 2) ∙ h
+  first_there (suc (suc (suc (suc zero)))) s h = slots.facts.facts (at_number 3) ∙ h
+  first_there (suc (suc (suc (suc (suc zero))))) s h = slots.facts.facts (at_number 4) ∙ h
+  first_there (suc (suc (suc (suc (suc (suc zero)))))) s h = slots.facts.facts (at_number 5) ∙ h
   first_there (suc (suc (suc (suc (suc (suc (suc zero))))))) s h = slots.facts.votes ∙ h
   first_there (suc (suc (suc (suc (suc (suc (suc (suc zero)))))))) s h = slots.facts.numbers ∙ h
   first_there (suc (suc (suc (suc (suc (suc (suc (suc (suc zero))))))))) s h = slots.pair_numbers_are ∙ h
@@ -127,23 +133,13 @@ module _ (code : CountingCode) (types : List Column) (slots : HasBookSlots code 
 
   -- ---- all of them
 
+  fact_fine : (house : ℕ) (told : Fact) → IsFineIn code (fact_tree fact_slots house told)
+  fact_fine house facts.House = first_fine (fact_tree fact_slots house facts.House) refl refl
+  fact_fine house told = first_fine (fact_tree fact_slots house told) refl refl
+
+  each_fine : (house : ℕ) (fs : List Fact) → AreFine code (map (fact_tree fact_slots house) fs)
+  each_fine house [] = tt
+  each_fine house (f ∷ fs) = (fact_fine house f, each_fine house fs)
+
   pub facts_fine : (few : List Cond) (b : BookTree) → AreFine code (facts_pieces few b)
-  facts_fine few b = (
-    eligible_fine few,
-    (
-      first_fine (house_tree fact_slots b.house.value) refl refl,
-      (
-        first_fine (counted_tree fact_slots) refl refl,
-        (
-          first_fine (winners_tree fact_slots) refl refl,
-          (
-            first_fine (outside_tree fact_slots) refl refl,
-            (
-              first_fine (independents_tree fact_slots) refl refl,
-              (first_fine (population_tree fact_slots) refl refl, tt),
-            ),
-          ),
-        ),
-      ),
-    ),
-  )
+  facts_fine few b = (eligible_fine few, each_fine b.house.value FACTS)

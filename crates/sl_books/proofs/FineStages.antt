@@ -2,6 +2,8 @@
 use Rattle.std.proofs.Common.{◌≡◌, ℕ, suc, ◌+◌, ◌<◌, ◌≤◌, true, List, [], ◌∷◌, ◌++◌, length, Option, None, Some, slice_get, nat_le, refl, ap, ◌∙◌, arith, length-append}
 use Rattle.std.specs.List.{list_all}
 use Rattle.std.proofs.lemmas.Bool.{and_parts, leb-true}
+use Rattle.sl_stages.specs.declared.fact.Fact.TheVariants as facts
+use Rattle.sl_stages.specs.declared.book.Pairing.TheVariants as pairings
 use Rattle.sl_stages.specs.declared.book.Base.{Base}
 use Rattle.sl_stages.specs.declared.book.Base.TheVariants as base
 use Rattle.sl_stages.specs.declared.book.LastClause.{LastClause}
@@ -19,14 +21,14 @@ use Rattle.sl_code.specs.Codes.{CountingCode}
 use Rattle.sl_code.specs.declared.instr.Instr.TheVariants.{Input}
 use Rattle.sl_code.specs.declared.operand.Input.TheVariants as input
 use Rattle.sl_plans.specs.Trees.{Line}
-use Rattle.sl_pieces.specs.exprs.Slots.{fact_slots, names_left, vacant_seats, passing, stage_slot, HasBookSlots}
+use Rattle.sl_pieces.specs.exprs.Slots.{winners_slot, names_left, vacant_seats, passing, stage_slot, HasBookSlots}
 use Rattle.sl_pieces.specs.exprs.Pieces.{pieces}
 use Rattle.sl_pieces.specs.exprs.Stages.{stage_pieces, stages_pieces}
 use Rattle.sl_pieces.proofs.exprs.StageRules.{last_there, extended, slots_before}
 use Rattle.sl_pieces.specs.closing.Trees.{base_slot, final_seats, place_kept, cover_slots, seating_pieces, vacant_pieces, last_pieces}
 use Rattle.sl_blocks.proofs.FineCovers.{cover_fine}
 use Rattle.sl_books.proofs.FineTrees.{AreFine, both_fine}
-use Rattle.sl_books.proofs.FineColumns.{copy_fine, larger_fine, less_fine}
+use Rattle.sl_books.proofs.FineColumns.{copy_fine, pair_fine}
 use Rattle.sl_books.proofs.FineFacts.{first_fine}
 use Rattle.sl_books.proofs.FineExprs.{named_slot, pieces_fine}
 
@@ -74,7 +76,7 @@ stages_fine code types k (s ∷ ss) is pass within slots few =
 -- the base column is one of lists
 base_there : (code : CountingCode) (types : List Column) (at : ℕ) (b : Base) → HasBookSlots code types → first_failing (base_tests types at b) ≡ None
     → slice_get code.slots (base_slot types b) ≡ Some shape.List
-base_there code types at base.Winners slots pass = slots.facts.winners
+base_there code types at base.Winners slots pass = slots.facts.facts facts.Winners
 base_there code types at (base.Stage n) slots pass =
     let named = head_holds _ _ _ pass in
     let typed = head_holds _ _ _ named.1 in
@@ -88,7 +90,7 @@ module _ (code : CountingCode) (types : List Column) (slots : HasBookSlots code 
 
   seating_fine : (from : ℕ) (s : Seating) → slice_get code.slots from ≡ Some shape.List → AreFine code (seating_pieces from s)
   seating_fine from seating.Keep is = (
-    larger_fine (slice_get code.slots) (length code.stages) shape.List from fact_slots.winners final_seats is slots.facts.winners final_there,
+    pair_fine (slice_get code.slots) (length code.stages) pairings.Larger shape.List from winners_slot final_seats is (slots.facts.facts facts.Winners) final_there,
     (first_fine code types slots place_kept refl refl, tt),
   )
   seating_fine from seating.Cover is = (
@@ -101,8 +103,8 @@ module _ (code : CountingCode) (types : List Column) (slots : HasBookSlots code 
   vacant_fine (Some at) = (
     first_fine code types slots (Line (Input names_left input.Names ∷ [])) refl refl,
     (
-      less_fine (slice_get code.slots) (length code.stages) shape.List final_seats fact_slots.winners vacant_seats final_there slots.facts.winners slots.vacant_seats_are,
-      (less_fine (slice_get code.slots) (length code.stages) shape.List vacant_seats names_left vacant_seats slots.vacant_seats_are slots.names_left_are slots.vacant_seats_are, tt),
+      pair_fine (slice_get code.slots) (length code.stages) pairings.Less shape.List final_seats winners_slot vacant_seats final_there (slots.facts.facts facts.Winners) slots.vacant_seats_are,
+      (pair_fine (slice_get code.slots) (length code.stages) pairings.Less shape.List vacant_seats names_left vacant_seats slots.vacant_seats_are slots.names_left_are slots.vacant_seats_are, tt),
     ),
   )
 

@@ -1,10 +1,13 @@
 -- The counting code of a rulebook keeps the limits of its format, and its operands fit their bytes.
-use Rattle.std.proofs.Common.{◌≡◌, ℕ, ◌+◌, ◌<◌, ◌≤◌, ◌^◌, true, List, [], ◌∷◌, ◌++◌, length, flat_map, All, Option, None, Some, refl, arith, length-append}
+use Rattle.std.proofs.Common.{◌≡◌, ℕ, ◌+◌, ◌<◌, ◌≤◌, ◌^◌, true, List, [], ◌∷◌, ◌++◌, length, map, flat_map, All, Option, None, Some, refl, arith, length-append}
 use Rattle.std.specs.List.{AllByRecursion}
 use Rattle.std.proofs.lemmas.List.{length-map}
 use Rattle.std.proofs.lemmas.List.Elements.{All-from_recursion, recursion_from_All, All-weaker}
 use Rattle.sl_ratio.specs.declared.method.Method.{Method}
 use Rattle.sl_ratio.specs.declared.method.Method.TheVariants as by
+use Rattle.sl_stages.specs.declared.fact.Fact.{Fact}
+use Rattle.sl_stages.specs.declared.fact.TheConstants.{FACTS}
+use Rattle.sl_stages.specs.declared.book.Pairing.TheVariants as pairings
 use Rattle.sl_stages.specs.declared.book.Cond.{Cond}
 use Rattle.sl_stages.specs.declared.book.LastClause.{LastClause}
 use Rattle.sl_stages.specs.declared.book.Majority.{Majority}
@@ -12,15 +15,16 @@ use Rattle.sl_stages.specs.declared.book.Seating.{Seating}
 use Rattle.sl_stages.specs.declared.book.Seating.TheVariants as seating
 use Rattle.sl_stages.specs.declared.book.Shape.{Shape}
 use Rattle.sl_stages.specs.declared.book.Shape.TheVariants as shape
-use Rattle.sl_stages.specs.book.Trees.{ExprTree, house, counted, winners, outside, independents, population, name, sum, larger, less, split, split_from, grow, StageTree, BookTree}
+use Rattle.sl_stages.specs.book.Trees.{ExprTree, fact, name, sum, pair, split, without, atleast, grow, StageTree, BookTree}
 use Rattle.sl_stages.specs.book.Limits.{numbers_of, condition_numbers, book_numbers, are_small}
-use Rattle.sl_stages.specs.book.Typing.{Column, type_of, stage_column, columns_of}
+use Rattle.sl_stages.specs.book.Typing.{Column, fact_type, type_of, stage_column, columns_of}
 use Rattle.sl_code.specs.Codes.{IsCode}
 use Rattle.sl_code.specs.Faults.{IsStage}
 use Rattle.sl_code.specs.Proper.{IsInRange, IsProper}
 use Rattle.sl_plans.specs.Trees.{Tree}
 use Rattle.sl_plans.specs.Laid.{laid_all, size_all}
-use Rattle.sl_pieces.specs.exprs.Slots.{fact_slots, passing, names_left, vacant_seats}
+use Rattle.sl_pieces.specs.facts.Trees.{fact_tree}
+use Rattle.sl_pieces.specs.exprs.Slots.{fact_slots, winners_slot, passing, names_left, vacant_seats}
 use Rattle.sl_pieces.specs.exprs.Pieces.{form_by, shape_of, node_slots, split_piece, grow_piece, pieces}
 use Rattle.sl_pieces.specs.exprs.Stages.{stage_pieces, stages_pieces}
 use Rattle.sl_pieces.specs.closing.Trees.{base_slot, final_seats, cover_slots, seating_pieces, vacant_pieces, last_pieces, halting}
@@ -31,7 +35,7 @@ use Rattle.sl_books.proofs.Slots.{as_many_stages}
 use Rattle.sl_books.proofs.Sizes.{length-laid_all, few_stages, books_are_short}
 use Rattle.sl_books.proofs.ProperLists.{all_append, all_parts, Fits, AllFit, written_fit}
 use Rattle.sl_books.proofs.ProperTrees.{IsRanged, laid_in_range}
-use Rattle.sl_books.proofs.ProperPlans.{copy_ranged, larger_ranged, less_ranged, sum_ranged, eligible_ranged, house_ranged, counted_ranged, winners_ranged, outside_ranged, independents_ranged, population_ranged, placing_ranged, cover_ranged, split_ranged, growth_ranged}
+use Rattle.sl_books.proofs.ProperPlans.{copy_ranged, pair_ranged, sum_ranged, eligible_ranged, fact_ranged, placing_ranged, cover_ranged, split_ranged, growth_ranged}
 
 abbrev AreRanged : List Tree → Type 0
 AreRanged = AllByRecursion IsRanged
@@ -49,30 +53,21 @@ module _ (types : List Column) (stage : ℕ) where
   split_pieces_ranged level seats votes minima method major = (split_ranged (form_by seats votes) (node_slots types stage level seats votes minima) method major, tt)
 
   expr_ranged : (level : ℕ) (x : ExprTree) → AllFit (numbers_of x) → AreRanged (pieces types stage level x)
-  expr_ranged level (house at) fit = (copy_ranged shape.One _ _, tt)
-  expr_ranged level (counted at) fit = (copy_ranged shape.List _ _, tt)
-  expr_ranged level (winners at) fit = (copy_ranged shape.List _ _, tt)
-  expr_ranged level (outside at) fit = (copy_ranged shape.Land _ _, tt)
-  expr_ranged level (independents at) fit = (copy_ranged shape.Land _ _, tt)
-  expr_ranged level (population at) fit = (copy_ranged shape.Land _ _, tt)
+  expr_ranged level (fact at told) fit = (copy_ranged (fact_type told).shape _ _, tt)
   expr_ranged level (name at n) fit = (copy_ranged (shape_of types stage (name at n)) _ _, tt)
   expr_ranged level (sum at x over) fit =
       all_append IsRanged (pieces types stage level x) _ (expr_ranged level x fit) (sum_ranged over (shape_of types stage x) _ _, tt)
-  expr_ranged level (larger at l r) fit =
+  expr_ranged level (pair at pairing l r) fit =
       let fits = all_parts Fits (numbers_of l) (numbers_of r) fit in
       all_append IsRanged (pieces types stage level l) _ (expr_ranged level l fits.0)
-      (all_append IsRanged (pieces types stage (level + 1) r) _ (expr_ranged (level + 1) r fits.1) (larger_ranged (shape_of types stage l) _ _ _, tt))
-  expr_ranged level (less at l r) fit =
-      let fits = all_parts Fits (numbers_of l) (numbers_of r) fit in
-      all_append IsRanged (pieces types stage level l) _ (expr_ranged level l fits.0)
-      (all_append IsRanged (pieces types stage (level + 1) r) _ (expr_ranged (level + 1) r fits.1) (less_ranged (shape_of types stage l) _ _ _, tt))
-  expr_ranged level (split at s v method major) fit =
+      (all_append IsRanged (pieces types stage (level + 1) r) _ (expr_ranged (level + 1) r fits.1) (pair_ranged pairing (shape_of types stage l) _ _ _, tt))
+  expr_ranged level (split at s v method without major) fit =
       let fits = all_parts Fits (numbers_of s) (numbers_of v) fit in
       let third = split_piece types stage level (shape_of types stage s) (shape_of types stage v) None method major in
       all_append IsRanged (pieces types stage level s) (pieces types stage (level + 1) v ++ third) (expr_ranged level s fits.0)
       (all_append IsRanged (pieces types stage (level + 1) v) third (expr_ranged (level + 1) v fits.1)
       (split_pieces_ranged level (shape_of types stage s) (shape_of types stage v) None method major))
-  expr_ranged level (split_from at s v method g major) fit =
+  expr_ranged level (split at s v method (atleast g) major) fit =
       let fits = all_parts Fits (numbers_of s) (numbers_of v ++ numbers_of g) fit in
       let more = all_parts Fits (numbers_of v) (numbers_of g) fits.1 in
       let second = pieces types stage (level + 1) v in
@@ -104,27 +99,22 @@ stages_ranged types k (s ∷ ss) fit =
     (stages_ranged (types ++ stage_column types s ∷ []) (k + 1) ss fits.1)
 
 -- ---- facts, and the last clause
+each_ranged : (house : ℕ) (fs : List Fact) → Fits house → AreRanged (map (fact_tree fact_slots house) fs)
+each_ranged house [] fits = tt
+each_ranged house (f ∷ fs) fits = (fact_ranged fact_slots house f fits, each_ranged house fs fits)
+
 facts_ranged : (few : List Cond) (b : BookTree) → AllFit (flat_map condition_numbers few) → Fits b.house.value → AreRanged (facts_pieces few b)
-facts_ranged few b fit fits = (
-  eligible_ranged fact_slots few fit,
-  (
-    house_ranged fact_slots b.house.value fits,
-    (
-      counted_ranged fact_slots,
-      (winners_ranged fact_slots, (outside_ranged fact_slots, (independents_ranged fact_slots, (population_ranged fact_slots, tt)))),
-    ),
-  ),
-)
+facts_ranged few b fit fits = (eligible_ranged fact_slots few fit, each_ranged b.house.value FACTS fits)
 
 seating_ranged : (from : ℕ) (s : Seating) → AreRanged (seating_pieces from s)
-seating_ranged from seating.Keep = (larger_ranged shape.List from fact_slots.winners final_seats, (placing_ranged, tt))
+seating_ranged from seating.Keep = (pair_ranged pairings.Larger shape.List from winners_slot final_seats, (placing_ranged, tt))
 seating_ranged from seating.Cover = (copy_ranged shape.List from final_seats, (cover_ranged cover_slots, tt))
 
 vacant_ranged : (vacate : Option ℕ) → AreRanged (vacant_pieces vacate)
 vacant_ranged None = tt
 vacant_ranged (Some vacate) = (
   record { plain = refl; numbers = tt },
-  (less_ranged shape.List final_seats fact_slots.winners vacant_seats, (less_ranged shape.List vacant_seats names_left vacant_seats, tt)),
+  (pair_ranged pairings.Less shape.List final_seats winners_slot vacant_seats, (pair_ranged pairings.Less shape.List vacant_seats names_left vacant_seats, tt)),
 )
 
 last_ranged : (types : List Column) (last : LastClause) → AreRanged (last_pieces types last)

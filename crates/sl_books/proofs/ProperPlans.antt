@@ -7,6 +7,10 @@ use Rattle.sl_ratio.specs.declared.method.Divisor.{Divisor}
 use Rattle.sl_ratio.specs.declared.method.Divisor.TheVariants as divisor
 use Rattle.sl_ratio.specs.declared.method.Method.{Method}
 use Rattle.sl_ratio.specs.declared.method.Method.TheVariants as by
+use Rattle.sl_stages.specs.declared.fact.Fact.{Fact}
+use Rattle.sl_stages.specs.declared.fact.Fact.TheVariants as facts
+use Rattle.sl_stages.specs.declared.book.Pairing.{Pairing}
+use Rattle.sl_stages.specs.declared.book.Pairing.TheVariants as pairings
 use Rattle.sl_stages.specs.declared.book.Axis.{Axis}
 use Rattle.sl_stages.specs.declared.book.Axis.TheVariants as axis
 use Rattle.sl_stages.specs.declared.book.Cond.{Cond}
@@ -21,8 +25,8 @@ use Rattle.sl_pieces.specs.scopes.Forms.{Form, AllParties}
 use Rattle.sl_pieces.specs.seats.Slots.{Slots}
 use Rattle.sl_pieces.specs.nodes.Trees.{split_tree, grow_tree}
 use Rattle.sl_pieces.specs.covers.Trees.{CoverSlots, cover_tree}
-use Rattle.sl_pieces.specs.columns.Trees.{copy_tree, larger_tree, less_tree, sum_tree}
-use Rattle.sl_pieces.specs.facts.Trees.{FactSlots, condition_tree, conditions_tree, eligible_tree, house_tree, counted_tree, winners_tree, outside_tree, independents_tree, population_tree}
+use Rattle.sl_pieces.specs.columns.Trees.{copy_tree, pair_tree, sum_tree}
+use Rattle.sl_pieces.specs.facts.Trees.{FactSlots, condition_tree, conditions_tree, eligible_tree, fact_tree}
 use Rattle.sl_pieces.specs.closing.Trees.{place_kept}
 use Rattle.sl_books.proofs.ProperLists.{all_append, all_parts, Fits, AllFit, small_fit, in_place, placed_fit}
 use Rattle.sl_books.proofs.ProperTrees.{set_numbers, has_plain_lines, IsRanged}
@@ -39,17 +43,11 @@ copy_ranged shape.Party from to = record { plain = refl; numbers = tt }
 copy_ranged shape.Land from to = record { plain = refl; numbers = tt }
 copy_ranged shape.List from to = record { plain = refl; numbers = tt }
 
-pub larger_ranged : (s : Shape) (left right to : ℕ) → IsRanged (larger_tree s left right to)
-larger_ranged shape.One left right to = record { plain = refl; numbers = tt }
-larger_ranged shape.Party left right to = record { plain = refl; numbers = tt }
-larger_ranged shape.Land left right to = record { plain = refl; numbers = tt }
-larger_ranged shape.List left right to = record { plain = refl; numbers = tt }
-
-pub less_ranged : (s : Shape) (left right to : ℕ) → IsRanged (less_tree s left right to)
-less_ranged shape.One left right to = record { plain = refl; numbers = tt }
-less_ranged shape.Party left right to = record { plain = refl; numbers = tt }
-less_ranged shape.Land left right to = record { plain = refl; numbers = tt }
-less_ranged shape.List left right to = record { plain = refl; numbers = tt }
+pub pair_ranged : (pairing : Pairing) (s : Shape) (left right to : ℕ) → IsRanged (pair_tree pairing s left right to)
+pair_ranged pairings.Larger shape.One left right to = record { plain = refl; numbers = tt }
+pair_ranged pairings.Larger _ left right to = record { plain = refl; numbers = tt }
+pair_ranged _ shape.One left right to = record { plain = refl; numbers = tt }
+pair_ranged _ _ left right to = record { plain = refl; numbers = tt }
 
 pub sum_ranged : (over : Axis) (s : Shape) (from to : ℕ) → IsRanged (sum_tree over s from to)
 sum_ranged axis.Party s from to = small_ranged _ refl refl
@@ -80,23 +78,9 @@ conditions_ranged x (c ∷ few) fit =
 pub eligible_ranged : (x : FactSlots) (few : List Cond) → AllFit (flat_map condition_numbers few) → IsRanged (eligible_tree x few)
 eligible_ranged x few fit = let all = conditions_ranged x few fit in record { plain = all.plain; numbers = all.numbers }
 
-pub house_ranged : (x : FactSlots) (default : ℕ) → Fits default → IsRanged (house_tree x default)
-house_ranged x default fit = record { plain = refl; numbers = (fit, tt) }
-
-pub counted_ranged : (x : FactSlots) → IsRanged (counted_tree x)
-counted_ranged x = small_ranged _ refl refl
-
-pub winners_ranged : (x : FactSlots) → IsRanged (winners_tree x)
-winners_ranged x = small_ranged _ refl refl
-
-pub outside_ranged : (x : FactSlots) → IsRanged (outside_tree x)
-outside_ranged x = small_ranged _ refl refl
-
-pub independents_ranged : (x : FactSlots) → IsRanged (independents_tree x)
-independents_ranged x = small_ranged _ refl refl
-
-pub population_ranged : (x : FactSlots) → IsRanged (population_tree x)
-population_ranged x = small_ranged _ refl refl
+pub fact_ranged : (x : FactSlots) (house : ℕ) (told : Fact) → Fits house → IsRanged (fact_tree x house told)
+fact_ranged x house facts.House fit = record { plain = refl; numbers = (fit, tt) }
+fact_ranged x house told fit = small_ranged _ refl refl
 
 pub placing_ranged : IsRanged place_kept
 placing_ranged = small_ranged _ refl refl

@@ -3,13 +3,15 @@ use Rattle.std.proofs.Common.{◌≡◌, ℕ, zero, suc, ◌+◌, ◌*◌, ◌<�
 use Rattle.std.specs.List.{range_with_len, list_all}
 use Rattle.std.proofs.lemmas.Bool.{and_parts, leb-true}
 use Rattle.std.proofs.lemmas.Option.{none-some, same_Some, slice_get-map}
+use Rattle.sl_stages.specs.declared.fact.Fact.{Fact}
+use Rattle.sl_stages.specs.declared.fact.Fact.TheVariants as facts
 use Rattle.sl_stages.specs.declared.book.Cond.{Cond}
 use Rattle.sl_stages.specs.declared.book.Shape.{Shape}
 use Rattle.sl_stages.specs.declared.book.Shape.TheVariants as shape
 use Rattle.sl_stages.specs.declared.limits.TheConstants.{MAX_STAGES}
 use Rattle.sl_stages.specs.book.Trees.{StageTree, BookTree}
 use Rattle.sl_stages.specs.book.Limits.{is_within_stage, is_within_limits}
-use Rattle.sl_stages.specs.book.Typing.{Column, columns_of}
+use Rattle.sl_stages.specs.book.Typing.{Column, columns_of, fact_type}
 use Rattle.sl_code.specs.declared.code.CodeStage.{CodeStage}
 use Rattle.sl_pieces.specs.exprs.Slots.{fact_slots, number_of, passing, stage_slot, HasBookSlots}
 use Rattle.sl_pieces.specs.exprs.Stages.{HasStages}
@@ -68,18 +70,18 @@ module _ (types : List Column) where
       ∙ rw at refl
 
 module _ (few : List Cond) (b : BookTree) where
+  fact_there : (told : Fact) → slice_get (book_slots (columns_of [] b.stages)) (fact_slots.of told) ≡ Some (fact_type told).shape
+  fact_there facts.House = refl
+  fact_there told = refl
+
   facts_there : HasFactSlots (book_code few b) fact_slots
   facts_there = record {
     eligible = refl;
-    house = refl;
-    counted = refl;
-    winners = refl;
-    outside = refl;
-    independents = refl;
-    population = refl;
+    facts = fact_there;
     votes = refl;
     numbers = refl;
     apart = λ same. omega (arith, same);
+    facts_apart = λ told same. omega (arith, same);
   }
 
   pub book_has_slots : HasBookSlots (book_code few b) (columns_of [] b.stages)

@@ -1,19 +1,20 @@
--- Columns that are told one after the other, from the start on: what holds behind each plan.
-use Rattle.std.proofs.Common.{◌≡◌, ◌≢◌, ℕ, Bool, true, not, ◌==◌, List, [], ◌∷◌, refl, sym, ◌∙◌}
-use Rattle.std.specs.List.{list_all}
-use Rattle.std.proofs.lemmas.Bool.{and_parts, eq-eqb, true≢false}
-use Rattle.sl_stages.specs.declared.book.Shape.{Shape}
+-- Facts that are told one after the other, from the start on: what holds behind each plan.
+use Rattle.std.proofs.Common.{◌≡◌, ℕ, ◌+◌, ◌<◌, [], get_or, refl, sym, ap, subst, ◌∙◌, inl, inr, arith}
+use Rattle.std.proofs.lemmas.Bool.{cases_eq}
+use Rattle.sl_stages.specs.declared.book.Shape.TheVariants as shape
+use Rattle.sl_stages.specs.declared.fact.Fact.{Fact}
+use Rattle.sl_stages.specs.declared.fact.Fact.TheVariants as facts
+use Rattle.sl_stages.specs.declared.fact.TheConstants.{FACTS}
 use Rattle.sl_stages.specs.declared.table.Placed.TheVariants as placed
+use Rattle.sl_stages.specs.book.Trees.{BookTree}
+use Rattle.sl_stages.specs.book.Typing.{fact_number, fact_type}
 use Rattle.sl_stages.specs.returns.Election.{Election}
+use Rattle.sl_stages.specs.meaning.Columns.{fact_column}
 use Rattle.sl_machine.specs.State.{State}
 use Rattle.sl_pieces.specs.columns.Columns.{HoldsColumn, GetsColumn}
+use Rattle.sl_pieces.specs.exprs.Slots.{fact_slots}
+use Rattle.sl_pieces.specs.facts.Laws.{flags}
 use Rattle.sl_pieces.proofs.exprs.StageRules.{still_holds}
-
--- a column that is told: its slot, its shape and its values
-pub record Fact : Type 0 where
-  pub slot : ℕ
-  pub shape : Shape
-  pub values : List ℕ
 
 -- nothing is recorded, and nobody is placed
 pub record IsBlank (s : State) : Type 0 where
@@ -21,34 +22,31 @@ pub record IsBlank (s : State) : Type 0 where
   pub weights : s.weights ≡ []
   pub nobody : (winner : ℕ) → s.placed winner ≡ placed.Unseated
 
--- the columns are in their slots
-abbrev pub HoldsAll : Election → List Fact → State → Type 0
-HoldsAll e [] s = Unit {0}
-HoldsAll e (f ∷ fs) s = HoldsColumn e f.shape (s.columns f.slot) f.values × HoldsAll e fs s
-
-pub record Told (e : Election) (fs : List Fact) (s : State) : Type 0 where
-  pub holds : HoldsAll e fs s
+-- the eligible parties and the facts of the first numbers are in their slots, and nothing else is done
+pub record Told (b : BookTree) (e : Election) (n : ℕ) (s : State) : Type 0 where
+  pub flags : HoldsColumn e shape.Party (s.columns fact_slots.eligible) (flags b.eligible e)
+  pub facts : (told : Fact) → fact_number told < n → HoldsColumn e (fact_type told).shape (s.columns (fact_slots.of told)) (fact_column b e told)
   pub blank : IsBlank s
 
--- none of them is in that slot
-abbrev pub is_apart : ℕ → List Fact → Bool
-is_apart slot fs = list_all (λ f. not (f.slot == slot)) fs
+at_number : (told : Fact) → get_or FACTS (fact_number told) facts.House ≡ told
+at_number facts.House = refl
+at_number told = refl
 
-other_slot : (m n : ℕ) → not (m == n) ≡ true → m ≢ n
-other_slot m n apart same = true≢false (sym apart ∙ rw (eq-eqb m n same) refl)
+-- no two facts have one number
+same_fact : (told other : Fact) → fact_number told ≡ fact_number other → told ≡ other
+same_fact told other same = sym (at_number told) ∙ ap (λ n. get_or FACTS n facts.House) same ∙ at_number other
 
-module _ (e : Election) (shape : Shape) (slot : ℕ) (values : List ℕ) (s t : State) (g : GetsColumn e shape slot values s t) where
-  blank_still : IsBlank s → IsBlank t
-  blank_still h = record { steps = g.changes.steps ∙ h.steps; weights = g.changes.weights ∙ h.weights; nobody = λ w. g.changes.placed w ∙ h.nobody w }
-
-  -- the columns of other slots are kept
-  all_still : (fs : List Fact) → is_apart slot fs ≡ true → HoldsAll e fs s → HoldsAll e fs t
-  all_still [] apart h = tt
-  all_still (f ∷ fs) apart h =
-      let parts = and_parts (not (f.slot == slot)) (is_apart slot fs) apart in
-      let other : f.slot ≢ slot = other_slot f.slot slot parts.0 in
-      (still_holds e f.shape (s.columns f.slot) (t.columns f.slot) f.values (λ q. g.changes.columns f.slot q other) h.0, all_still fs parts.1 h.1)
-
-  -- one column more
-  pub one_told : (fs : List Fact) → is_apart slot fs ≡ true → Told e fs s → Told e (record { slot = slot; shape = shape; values = values } ∷ fs) t
-  one_told fs apart h = record { holds = (g.holds, all_still fs apart h.holds); blank = blank_still h.blank }
+-- one fact more
+pub one_told : (b : BookTree) (e : Election) (f : Fact) (s t : State) → Told b e (fact_number f) s
+    → GetsColumn e (fact_type f).shape (fact_slots.of f) (fact_column b e f) s t → Told b e (fact_number f + 1) t
+one_told b e f s t h g = record {
+  flags = still_holds e shape.Party (s.columns fact_slots.eligible) (t.columns fact_slots.eligible) (flags b.eligible e)
+      (λ q. g.changes.columns fact_slots.eligible q (λ same. omega (arith, same))) h.flags;
+  facts = λ told less. elim (cases_eq (fact_number told) (fact_number f)) [
+    | inl same ↦ subst (λ x. HoldsColumn e (fact_type x).shape (t.columns (fact_slots.of x)) (fact_column b e x)) (sym (same_fact told f same)) g.holds
+    | inr other ↦
+        still_holds e (fact_type told).shape (s.columns (fact_slots.of told)) (t.columns (fact_slots.of told)) (fact_column b e told)
+        (λ q. g.changes.columns (fact_slots.of told) q (λ same. omega (arith, same, other))) (h.facts told (omega (arith, less, other)))
+  ];
+  blank = record { steps = g.changes.steps ∙ h.blank.steps; weights = g.changes.weights ∙ h.blank.weights; nobody = λ w. g.changes.placed w ∙ h.blank.nobody w };
+}

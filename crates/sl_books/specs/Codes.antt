@@ -2,17 +2,18 @@
 -- (docs/compiler.md, section 7).
 use Rattle.std.specs.Prelude.{ℕ, ◌+◌, List, [], ◌∷◌, ◌++◌, map, flat_map}
 use Rattle.std.specs.List.{range_with_len}
+use Rattle.sl_stages.specs.declared.fact.TheConstants.{FACTS}
 use Rattle.sl_stages.specs.declared.book.Cond.{Cond}
 use Rattle.sl_stages.specs.declared.book.Shape.{Shape}
 use Rattle.sl_stages.specs.declared.book.Shape.TheVariants as shape
 use Rattle.sl_stages.specs.book.Trees.{StageTree, BookTree}
-use Rattle.sl_stages.specs.book.Typing.{Column, columns_of}
+use Rattle.sl_stages.specs.book.Typing.{Column, columns_of, fact_type}
 use Rattle.sl_code.specs.declared.code.CodeStage.{CodeStage}
 use Rattle.sl_code.specs.declared.instr.Instr.{Instr}
 use Rattle.sl_code.specs.Codes.{CountingCode}
 use Rattle.sl_plans.specs.Trees.{Tree}
 use Rattle.sl_plans.specs.Laid.{laid_all}
-use Rattle.sl_pieces.specs.facts.Trees.{eligible_tree, house_tree, counted_tree, winners_tree, outside_tree, independents_tree, population_tree}
+use Rattle.sl_pieces.specs.facts.Trees.{eligible_tree, fact_tree}
 use Rattle.sl_pieces.specs.exprs.Slots.{fact_slots, stage_slot}
 use Rattle.sl_pieces.specs.exprs.Stages.{stages_pieces}
 use Rattle.sl_pieces.specs.closing.Trees.{last_pieces, halting}
@@ -20,10 +21,7 @@ use Rattle.sl_pieces.specs.closing.Trees.{last_pieces, halting}
 -- ---- plans, where a few conditions stand for all of the book's
 
 abbrev pub facts_pieces : List Cond → BookTree → List Tree
-facts_pieces few b =
-    eligible_tree fact_slots few
-    ∷ (house_tree fact_slots b.house.value
-    ∷ (counted_tree fact_slots ∷ (winners_tree fact_slots ∷ (outside_tree fact_slots ∷ (independents_tree fact_slots ∷ (population_tree fact_slots ∷ []))))))
+facts_pieces few b = eligible_tree fact_slots few ∷ map (fact_tree fact_slots b.house.value) FACTS
 
 abbrev pub book_pieces : List Cond → BookTree → List Tree
 book_pieces few b = facts_pieces few b ++ (stages_pieces [] 0 b.stages ++ last_pieces (columns_of [] b.stages) b.last)
@@ -38,9 +36,9 @@ abbrev pub code_stages : ℕ → List StageTree → List CodeStage
 code_stages k [] = []
 code_stages k (s ∷ ss) = record { name = s.name; slot = stage_slot k } ∷ code_stages (k + 1) ss
 
--- facts, and two columns to work in; three columns of lists for the last clause; a passing column of each shape for each of 17 levels
+-- the eligible parties, facts, and two columns to work in; three columns of lists for the last clause; a passing column of each shape for each of 17 levels
 abbrev pub fact_shapes : List Shape
-fact_shapes = shape.Party ∷ (shape.One ∷ (shape.List ∷ (shape.List ∷ (shape.Land ∷ (shape.Land ∷ (shape.Land ∷ (shape.List ∷ (shape.Party ∷ []))))))))
+fact_shapes = shape.Party ∷ (map (λ told. (fact_type told).shape) FACTS ++ (shape.List ∷ (shape.Party ∷ [])))
 
 abbrev pub closing_shapes : List Shape
 closing_shapes = shape.List ∷ (shape.List ∷ (shape.List ∷ []))

@@ -8,7 +8,7 @@ ghost use Rattle.sl_stages.specs.book.Tests.{Judges};
 ghost use Rattle.sl_check.specs.Known.{columns};
 
 use crate::nodes::{grow_type, pair_type, split_from_type, split_type, sum_type};
-use sl_stages::{CheckFault, ColumnType, Expr, Shape, Stage, Word};
+use sl_stages::{CheckFault, ColumnType, Expr, Stage, Word};
 
 /// The stages before some place of a book, and what the column of each has.
 #[derive(Clone, Copy)]
@@ -70,14 +70,15 @@ impl<'a> Columns<'a> {
             in Judges result (expr_tests known (tree_of expr.now)) (type_of known (tree_of expr.now)) }
     {
         match expr {
-            Expr::House { .. } => Ok(ColumnType::seats(Shape::One)),
-            Expr::Counted { .. } => Ok(ColumnType::votes(Shape::List)),
-            Expr::Winners { .. } => Ok(ColumnType::seats(Shape::List)),
-            Expr::Outside { .. } | Expr::Independents { .. } => Ok(ColumnType::seats(Shape::Land)),
-            Expr::Population { .. } => Ok(ColumnType::votes(Shape::Land)),
+            Expr::Fact { fact, .. } => Ok(fact.column_type()),
             Expr::Name { at, name } => self.name_type(*at, name),
             Expr::Sum { at, of, over } => sum_type(*at, self.expr_type(of)?, *over),
-            Expr::Larger { at, left, right } | Expr::Less { at, left, right } => {
+            Expr::Pair {
+                at,
+                left,
+                right,
+                ..
+            } => {
                 let (left, right) = self.both(left, right)?;
                 pair_type(*at, left, right)
             }

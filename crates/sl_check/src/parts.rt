@@ -14,17 +14,9 @@ pub fn splits_in(expr: &Expr) -> u32
     ensures { result ≡ splits_in (tree_of expr.now) }
 {
     match expr {
-        Expr::House { .. }
-        | Expr::Counted { .. }
-        | Expr::Winners { .. }
-        | Expr::Outside { .. }
-        | Expr::Independents { .. }
-        | Expr::Population { .. }
-        | Expr::Name { .. } => 0,
+        Expr::Fact { .. } | Expr::Name { .. } => 0,
         Expr::Sum { of, .. } => splits_in(of),
-        Expr::Larger { left, right, .. } | Expr::Less { left, right, .. } => {
-            splits_in(left) + splits_in(right)
-        }
+        Expr::Pair { left, right, .. } => splits_in(left) + splits_in(right),
         Expr::Split {
             seats,
             votes,

@@ -73,9 +73,9 @@ module _ {types : List Column} {stage level : ℕ} {x l r : ExprTree} {has : Col
   both_first : whole ≡ both ++ rest (type_of types l) (type_of types r)
   both_first = over.plans ∙ sym (append_assoc (pieces types stage level l) (pieces types stage (level + 1) r) (rest (type_of types l) (type_of types r)))
 
-  pub pair_asks : {t : ℕ} (code : List Instr) → 2 * depth_of x ≡ t → HasRoom whole code →
+  pub both_asks : {t : ℕ} (code : List Instr) → 2 * depth_of x ≡ t → HasRoom whole code →
       (2 * max (depth_of l) (depth_of r) + 1 < t) × (Fits types level l × (Fits types (level + 1) r × HasRoom both code))
-  pair_asks code measure room =
+  both_asks code measure room =
       (omega (arith, measure, over.falls), (over.left, (over.right, first_room whole both (rest (type_of types l) (type_of types r)) both_first code room)))
 
   module _ {of by : ColumnType} (have : (of ≡ type_of types l) × (by ≡ type_of types r)) where
@@ -97,5 +97,5 @@ module _ {types : List Column} {stage level : ℕ} {x l r : ExprTree} {has : Col
         has_as e (ap (λ (t : ColumnType). has t by) have.0 ∙ ap (λ (t : ColumnType). has (type_of types l) t) have.1 ∙ sym over.type) h
 
 -- each of two is less than the measure of both
-pub pair_falls : (d k : ℕ) {t : ℕ} → 2 * max d k + 1 ≡ t → (2 * d < t) × (2 * k < t)
-pair_falls d k measure = (omega (arith, measure), omega (arith, measure))
+pub both_falls : (d k : ℕ) {t : ℕ} → 2 * max d k + 1 ≡ t → (2 * d < t) × (2 * k < t)
+both_falls d k measure = (omega (arith, measure), omega (arith, measure))

@@ -1,35 +1,33 @@
 -- The arms of an expression: its tree over those of its parts, and what is so of its arguments.
 use Rattle.std.proofs.Common.{◌≡◌, ℕ, ◌+◌, ◌*◌, ◌<◌, max, List, [], ◌∷◌, ◌++◌, Result, IfOk, refl, ap, ◌∙◌, sym, subst, arith}
 use Rattle.std.specs.Global.{Box}
+use Rattle.sl_stages.specs.declared.book.Pairing.{Pairing}
 use Rattle.sl_stages.specs.declared.book.Axis.{Axis}
 use Rattle.sl_stages.specs.declared.book.Axis.TheVariants as axis
 use Rattle.sl_stages.specs.declared.book.Shape.{Shape}
 use Rattle.sl_stages.specs.declared.book.ColumnType.{ColumnType}
-use Rattle.sl_stages.specs.declared.book.Expr.{Expr, Sum, Larger, Less}
+use Rattle.sl_stages.specs.declared.book.Expr.{Expr, Sum, Pair}
 use Rattle.sl_stages.specs.book.Limits.{depth_of}
-use Rattle.sl_stages.specs.book.Trees.{ExprTree, tree_of, sum, larger, less}
+use Rattle.sl_stages.specs.book.Trees.{ExprTree, tree_of, sum, pair}
 use Rattle.sl_stages.specs.book.Typing.{Column, column, shape_over, type_of}
 use Rattle.sl_code.specs.declared.instr.Instr.{Instr}
 use Rattle.sl_plans.specs.Trees.{Tree}
-use Rattle.sl_pieces.specs.columns.Trees.{sum_tree, larger_tree, less_tree, summed}
+use Rattle.sl_pieces.specs.columns.Trees.{sum_tree, pair_tree, summed}
 use Rattle.sl_pieces.specs.exprs.Slots.{passing}
 use Rattle.sl_pieces.specs.exprs.Pieces.{pieces}
 use Rattle.sl_compile.specs.Laying.{IsLaidAll, HasRoom}
 use Rattle.sl_compile.specs.Earlier.{Fits}
 use Rattle.sl_compile.proofs.Arguments.{Over, first_room, own_room, own_laid, has_as}
-use Rattle.sl_compile.proofs.Levels.{sum_fits, larger_fits, less_fits}
+use Rattle.sl_compile.proofs.Levels.{sum_fits, pair_fits}
 
 -- ---- trees
 
 pub sum_is : {e : Expr} {at : ℕ} {of : Box Expr} {over : Axis} {x : Expr} → e ≡ Sum at of over → x ≡ of.value → tree_of e ≡ sum at (tree_of x) over
 sum_is {e} {at} {of} {over} is x_is = ap tree_of is ∙ ap (λ (y : Expr). sum at (tree_of y) over) (sym x_is)
 
-module _ {e : Expr} {at : ℕ} {l r : Box Expr} {x y : Expr} where
-  pub larger_is : e ≡ Larger at l r → x ≡ l.value → y ≡ r.value → tree_of e ≡ larger at (tree_of x) (tree_of y)
-  larger_is is x_is y_is = rw (x_is, y_is) (ap tree_of is)
-
-  pub less_is : e ≡ Less at l r → x ≡ l.value → y ≡ r.value → tree_of e ≡ less at (tree_of x) (tree_of y)
-  less_is is x_is y_is = rw (x_is, y_is) (ap tree_of is)
+pub pair_is : {e : Expr} {at : ℕ} {pairing : Pairing} {l r : Box Expr} {x y : Expr} → e ≡ Pair at pairing l r → x ≡ l.value → y ≡ r.value →
+    tree_of e ≡ pair at pairing (tree_of x) (tree_of y)
+pair_is is x_is y_is = rw (x_is, y_is) (ap tree_of is)
 
 -- ---- sums
 
@@ -72,23 +70,14 @@ module _ (types : List Column) {at : ℕ} {x y : ExprTree} {over : Axis} (is : x
       pub sum_laid : {R E : Type 0} (r : Result R E) (before mid after : List Instr) → IsLaidAll first before mid → IfOk r (λ _. IsLaidAll own mid after) → IfOk r (λ _. IsLaidAll whole before after)
       sum_laid r before mid after there laid = own_laid whole first own behind_one before r mid after there laid
 
--- ---- two columns
+-- ---- pairs
 
-abbrev pub own_larger : ℕ → ColumnType → ColumnType → List Tree
-own_larger level of by = larger_tree of.shape (passing level of.shape) (passing (level + 1) of.shape) (passing level of.shape) ∷ []
+abbrev pub own_pair : Pairing → ℕ → ColumnType → ColumnType → List Tree
+own_pair pairing level of by = pair_tree pairing of.shape (passing level of.shape) (passing (level + 1) of.shape) (passing level of.shape) ∷ []
 
-abbrev pub own_less : ℕ → ColumnType → ColumnType → List Tree
-own_less level of by = less_tree of.shape (passing level of.shape) (passing (level + 1) of.shape) (passing level of.shape) ∷ []
-
-module _ {types : List Column} (stage : ℕ) {level at : ℕ} {x l r : ExprTree} where
-  pub over_larger : x ≡ larger at l r → Fits types level x → Over types stage level x l r (λ of by. of) (own_larger level)
-  over_larger is fits =
-      let deep : depth_of x ≡ 1 + max (depth_of l) (depth_of r) = ap depth_of is in
-      let h = larger_fits types level at l r (subst (λ (z : ExprTree). Fits types level z) is fits) in
-      record { left = h.0; right = h.1; falls = omega (arith, deep); type = ap (type_of types) is; plans = ap (pieces types stage level) is }
-
-  pub over_less : x ≡ less at l r → Fits types level x → Over types stage level x l r (λ of by. of) (own_less level)
-  over_less is fits =
-      let deep : depth_of x ≡ 1 + max (depth_of l) (depth_of r) = ap depth_of is in
-      let h = less_fits types level at l r (subst (λ (z : ExprTree). Fits types level z) is fits) in
-      record { left = h.0; right = h.1; falls = omega (arith, deep); type = ap (type_of types) is; plans = ap (pieces types stage level) is }
+pub over_pair : {types : List Column} (stage : ℕ) {level at : ℕ} {pairing : Pairing} {x l r : ExprTree} → x ≡ pair at pairing l r → Fits types level x →
+    Over types stage level x l r (λ of by. of) (own_pair pairing level)
+over_pair {types} stage {level} {at} {pairing} {x} {l} {r} is fits =
+    let deep : depth_of x ≡ 1 + max (depth_of l) (depth_of r) = ap depth_of is in
+    let h = pair_fits types level at pairing l r (subst (λ (z : ExprTree). Fits types level z) is fits) in
+    record { left = h.0; right = h.1; falls = omega (arith, deep); type = ap (type_of types) is; plans = ap (pieces types stage level) is }

@@ -1,10 +1,11 @@
 -- What is asked of an expression is so of its arguments.
 use Rattle.std.proofs.Common.{◌≡◌, ℕ, ◌+◌, ◌≤◌, List, None, max}
 use Rattle.sl_ratio.specs.declared.method.Method.{Method}
+use Rattle.sl_stages.specs.declared.book.Pairing.{Pairing}
 use Rattle.sl_stages.specs.declared.book.Axis.{Axis}
 use Rattle.sl_stages.specs.declared.book.Majority.{Majority}
 use Rattle.sl_stages.specs.declared.book.Number.{Number}
-use Rattle.sl_stages.specs.book.Trees.{ExprTree, sum, larger, less, split, split_from, grow}
+use Rattle.sl_stages.specs.book.Trees.{ExprTree, sum, pair, split, without, atleast, grow}
 use Rattle.sl_stages.specs.book.Tests.{first_failing}
 use Rattle.sl_stages.specs.book.Limits.{depth_of}
 use Rattle.sl_stages.specs.book.Typing.{Column, type_of, expr_tests, splits_in, sum_tests, alike_tests, split_tests, split_from_tests, grow_tests}
@@ -29,17 +30,12 @@ module _ (types : List Column) (level at : ℕ) where
       let h = two_levels level (depth_of l) (depth_of r) (splits_in l) (splits_in r) levels in
       (record { typed = first; levels = h.0 }, record { typed = second; levels = h.1 })
 
-  pub larger_fits : (l r : ExprTree) → Fits types level (larger at l r) → Fits types level l × Fits types (level + 1) r
-  larger_fits l r h =
+  pub pair_fits : (pairing : Pairing) (l r : ExprTree) → Fits types level (pair at pairing l r) → Fits types level l × Fits types (level + 1) r
+  pair_fits pairing l r h =
       let p = pass_parts3 (expr_tests types l) (expr_tests types r) (alike_tests types at l r) h.typed in
       both l r p.0 p.1 h.levels
 
-  pub less_fits : (l r : ExprTree) → Fits types level (less at l r) → Fits types level l × Fits types (level + 1) r
-  less_fits l r h =
-      let p = pass_parts3 (expr_tests types l) (expr_tests types r) (alike_tests types at l r) h.typed in
-      both l r p.0 p.1 h.levels
-
-  pub split_fits : (s v : ExprTree) (method : Method) (m : Majority) → Fits types level (split at s v method m) → FitsSplit types level s v
+  pub split_fits : (s v : ExprTree) (method : Method) (m : Majority) → Fits types level (split at s v method without m) → FitsSplit types level s v
   split_fits s v method m h =
       let p = pass_parts3 (expr_tests types s) (expr_tests types v) (split_tests at (type_of types s) (type_of types v) method m) h.typed in
       let q = split_levels level (depth_of s) (depth_of v) (splits_in s) (splits_in v) h.levels in
@@ -49,7 +45,7 @@ module _ (types : List Column) (level at : ℕ) where
         can = split_passes at (type_of types s) (type_of types v) method m p.2;
       }
 
-  pub split_from_fits : (s v f : ExprTree) (method : Method) (m : Majority) → Fits types level (split_from at s v method f m) → FitsMinima types level s v f method
+  pub split_from_fits : (s v f : ExprTree) (method : Method) (m : Majority) → Fits types level (split at s v method (atleast f) m) → FitsMinima types level s v f method
   split_from_fits s v f method m h =
       let p = pass_parts4 (expr_tests types s) (expr_tests types v) (expr_tests types f)
       (split_from_tests at (type_of types s) (type_of types v) (type_of types f) method m) h.typed in

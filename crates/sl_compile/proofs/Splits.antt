@@ -12,7 +12,7 @@ use Rattle.sl_stages.specs.declared.book.Unit.TheVariants as unit
 use Rattle.sl_stages.specs.declared.book.ColumnType.{ColumnType}
 use Rattle.sl_stages.specs.declared.book.Expr.{Expr, Split, Grow}
 use Rattle.sl_stages.specs.book.Limits.{depth_of}
-use Rattle.sl_stages.specs.book.Trees.{ExprTree, tree_of, split, split_from, grow}
+use Rattle.sl_stages.specs.book.Trees.{ExprTree, tree_of, split, without, atleast, grow}
 use Rattle.sl_stages.specs.book.Typing.{Column, column, type_of, can_split}
 use Rattle.sl_code.specs.declared.instr.Instr.{Instr}
 use Rattle.sl_plans.specs.Trees.{Tree}
@@ -27,11 +27,11 @@ use Rattle.sl_compile.proofs.Places.{laid_none, laid_behind, room_rest}
 -- ---- the tree of a split, without minima and with them, and of a growth
 
 module _ {e : Expr} {at : ℕ} {s v : Box Expr} {method : Method} {x y : Expr} (x_is : x ≡ s.value) (y_is : y ≡ v.value) where
-  split_is : {majority : Majority} → e ≡ Split at s v method None majority → tree_of e ≡ split at (tree_of x) (tree_of y) method majority
+  split_is : {majority : Majority} → e ≡ Split at s v method None majority → tree_of e ≡ split at (tree_of x) (tree_of y) method without majority
   split_is is = rw (x_is, y_is) (ap tree_of is)
 
   split_from_is : {m : Box Expr} {majority : Majority} → e ≡ Split at s v method (Some m) majority →
-      tree_of e ≡ split_from at (tree_of x) (tree_of y) method (tree_of m.value) majority
+      tree_of e ≡ split at (tree_of x) (tree_of y) method (atleast (tree_of m.value)) majority
   split_from_is is = rw (x_is, y_is) (ap tree_of is)
 
   grow_is : {m : Box Expr} {cap : Number} {majority : Majority} → e ≡ Grow at s v method m cap majority →

@@ -1,9 +1,10 @@
 -- The shapes of the slots below those of the stages, and the plans of the facts.
-use Rattle.std.specs.Prelude.{ℕ, List, [], ◌∷◌, ◌++◌}
+use Rattle.std.specs.Prelude.{ℕ, List, ◌∷◌, ◌++◌, map}
+use Rattle.sl_stages.specs.declared.fact.TheConstants.{FACTS}
 use Rattle.sl_stages.specs.declared.book.Cond.{Cond}
 use Rattle.sl_stages.specs.declared.book.Shape.{Shape}
 use Rattle.sl_plans.specs.Trees.{Tree}
-use Rattle.sl_pieces.specs.facts.Trees.{eligible_tree, house_tree, counted_tree, winners_tree, outside_tree, independents_tree, population_tree}
+use Rattle.sl_pieces.specs.facts.Trees.{eligible_tree, fact_tree}
 use Rattle.sl_pieces.specs.exprs.Slots.{fact_slots}
 use Rattle.sl_books.specs.Codes.{fact_shapes, closing_shapes, passing_shapes}
 
@@ -12,9 +13,7 @@ low_shapes = fact_shapes ++ (closing_shapes ++ passing_shapes)
 
 -- those that come behind the eligible parties
 abbrev pub other_facts : ℕ → List Tree
-other_facts house =
-    house_tree fact_slots house
-    ∷ (counted_tree fact_slots ∷ (winners_tree fact_slots ∷ (outside_tree fact_slots ∷ (independents_tree fact_slots ∷ (population_tree fact_slots ∷ [])))))
+other_facts house = map (fact_tree fact_slots house) FACTS
 
 abbrev pub all_facts : List Cond → ℕ → List Tree
 all_facts few house = eligible_tree fact_slots few ∷ other_facts house

@@ -6,7 +6,7 @@ ghost use Rattle.sl_compile.specs.Laying.{IsLaidAll, HasRoom};
 ghost use Rattle.sl_compile.specs.Slots.{low_shapes};
 ghost use Rattle.sl_compile.specs.Earlier.{columns};
 
-use crate::columns::{lay_copy, lay_larger, lay_less};
+use crate::columns::{lay_copy, lay_pair};
 use crate::earlier::Earlier;
 use crate::facts::by_winner;
 use crate::laying::lay_one;
@@ -17,7 +17,7 @@ use sl_code::{Input, Instr};
 use sl_plans::Part::Fixed;
 use sl_plans::{Cursor, Plan, Test};
 use sl_ratio::NoMemory;
-use sl_stages::{Base, LastClause, Seating, Shape};
+use sl_stages::{Base, LastClause, Pairing, Seating, Shape};
 
 /// The slot of the base column: that of a fact, or of a stage.
 fn base_slot(earlier: &Earlier<'_>, base: &Base) -> u8
@@ -55,7 +55,14 @@ fn lay_seating(
 {
     match seating {
         Seating::Keep => {
-            lay_larger(code, Shape::List, from, WINNERS, FINAL_SEATS)?;
+            lay_pair(
+                code,
+                Pairing::Larger,
+                Shape::List,
+                from,
+                WINNERS,
+                FINAL_SEATS,
+            )?;
             lay_one(code, PLACE_KEPT, &[])
         }
         Seating::Cover => {
@@ -76,8 +83,22 @@ fn lay_vacant(code: &mut Vec<Instr>, vacate: Option<usize>) -> Result<(), NoMemo
         None => Ok(()),
         Some(_) => {
             lay_one(code, NAMES, &[])?;
-            lay_less(code, Shape::List, FINAL_SEATS, WINNERS, VACANT_SEATS)?;
-            lay_less(code, Shape::List, VACANT_SEATS, NAMES_LEFT, VACANT_SEATS)
+            lay_pair(
+                code,
+                Pairing::Less,
+                Shape::List,
+                FINAL_SEATS,
+                WINNERS,
+                VACANT_SEATS,
+            )?;
+            lay_pair(
+                code,
+                Pairing::Less,
+                Shape::List,
+                VACANT_SEATS,
+                NAMES_LEFT,
+                VACANT_SEATS,
+            )
         }
     }
 }

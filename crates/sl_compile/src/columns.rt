@@ -3,7 +3,7 @@
 ghost use Rattle.std.specs.Prelude.{◌≡◌, ℕ, [], ◌∷◌, IfOk};
 ghost use Rattle.sl_code.specs.declared.instr.Instr.TheVariants.{Get, Store};
 ghost use Rattle.sl_plans.specs.Layout.{tree_of};
-ghost use Rattle.sl_pieces.specs.columns.Trees.{cells_plan, copy_tree, larger_tree, less_tree, sum_tree};
+ghost use Rattle.sl_pieces.specs.columns.Trees.{cells_plan, copy_tree, pair_instr, pair_tree, sum_tree};
 ghost use Rattle.sl_compile.specs.Laying.{IsLaidAll, HasRoom};
 
 use crate::laying::lay_one;
@@ -12,23 +12,11 @@ use sl_code::Instr;
 use sl_plans::Part::{Fixed, Given};
 use sl_plans::{Cursor, Plan};
 use sl_ratio::NoMemory;
-use sl_stages::{Axis, Shape};
+use sl_stages::{Axis, Pairing, Shape};
 
 const COPY: &Plan<'static> = &Plan::Line(&[Given(0), Given(1)]);
 
-const LARGER: &Plan<'static> = &Plan::Line(&[
-    Given(0),
-    Given(1),
-    Fixed(Instr::Max(CELL, OTHER)),
-    Given(2),
-]);
-
-const LESS: &Plan<'static> = &Plan::Line(&[
-    Given(0),
-    Given(1),
-    Fixed(Instr::Sub(CELL, OTHER)),
-    Given(2),
-]);
+const PAIR: &Plan<'static> = &Plan::Line(&[Given(0), Given(1), Given(2), Given(3)]);
 
 /// Appends the line for each cell of a column of that shape.
 fn lay_cells(
@@ -63,49 +51,38 @@ pub fn lay_copy(code: &mut Vec<Instr>, shape: Shape, from: u8, to: u8) -> Result
     lay_cells(code, shape, COPY, &given)
 }
 
-/// The instructions of the blanks of a plan over two columns.
-fn two_columns(left: u8, right: u8, to: u8) -> [Instr; 3]
-    ensures { result ≡ Get 5 left ∷ (Get 6 right ∷ (Store to 5 ∷ [])) }
+/// What two cells make, in place of the first.
+fn pair_instr(pairing: Pairing) -> Instr
+    ensures { result ≡ pair_instr pairing }
 {
-    [
+    match pairing {
+        Pairing::Larger => Instr::Max(CELL, OTHER),
+        Pairing::Less => Instr::Sub(CELL, OTHER),
+    }
+}
+
+/// Appends a pair of columns, cell by cell.
+///
+/// # Errors
+/// No memory was found.
+pub fn lay_pair(
+    code: &mut Vec<Instr>,
+    pairing: Pairing,
+    shape: Shape,
+    left: u8,
+    right: u8,
+    to: u8,
+) -> Result<(), NoMemory>
+    requires { HasRoom (pair_tree pairing shape left right to ∷ []) code.old.items }
+    ensures { IfOk result (λ _. IsLaidAll (pair_tree pairing shape left right to ∷ []) code.old.items code.new.items) }
+{
+    let given = [
         Instr::Get(CELL, left),
         Instr::Get(OTHER, right),
+        pair_instr(pairing),
         Instr::Store(to, CELL),
-    ]
-}
-
-/// Appends the larger numbers of two columns, cell by cell.
-///
-/// # Errors
-/// No memory was found.
-pub fn lay_larger(
-    code: &mut Vec<Instr>,
-    shape: Shape,
-    left: u8,
-    right: u8,
-    to: u8,
-) -> Result<(), NoMemory>
-    requires { HasRoom (larger_tree shape left right to ∷ []) code.old.items }
-    ensures { IfOk result (λ _. IsLaidAll (larger_tree shape left right to ∷ []) code.old.items code.new.items) }
-{
-    lay_cells(code, shape, LARGER, &two_columns(left, right, to))
-}
-
-/// Appends the first column less the second, cell by cell, at least 0.
-///
-/// # Errors
-/// No memory was found.
-pub fn lay_less(
-    code: &mut Vec<Instr>,
-    shape: Shape,
-    left: u8,
-    right: u8,
-    to: u8,
-) -> Result<(), NoMemory>
-    requires { HasRoom (less_tree shape left right to ∷ []) code.old.items }
-    ensures { IfOk result (λ _. IsLaidAll (less_tree shape left right to ∷ []) code.old.items code.new.items) }
-{
-    lay_cells(code, shape, LESS, &two_columns(left, right, to))
+    ];
+    lay_cells(code, shape, PAIR, &given)
 }
 
 /// The sum of the cells that the plan given goes over.

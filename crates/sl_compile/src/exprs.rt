@@ -9,8 +9,8 @@ ghost use Rattle.sl_compile.specs.Slots.{low_shapes};
 ghost use Rattle.sl_compile.specs.Earlier.{columns, Fits};
 
 use crate::earlier::Earlier;
-use crate::nodes::{copy, larger, less, sum};
-use crate::slots::{COUNTED, HOUSE, INDEPENDENTS, OUTSIDE, POPULATION, WINNERS};
+use crate::nodes::{copy, pair, sum};
+use crate::slots::fact_slot;
 use sl_code::Instr;
 use sl_ratio::NoMemory;
 use sl_stages::{ColumnType, Expr, Shape};
@@ -29,7 +29,7 @@ impl<'a> Site<'a> {
     /// Appends the plans of two expressions, the second one a level on, and says what the two have.
     #[cycle(expr)]
     #[tactic(none)]
-    fn pair(
+    fn both(
         &self,
         code: &mut Vec<Instr>,
         level: u8,
@@ -71,22 +71,7 @@ impl<'a> Site<'a> {
             in IfOk result (λ _. IsLaidAll (pieces known self.now.stage level (tree_of expr.now)) code.old.items code.new.items) }
     {
         match expr {
-            Expr::House { .. } => copy(code, level, HOUSE, ColumnType::seats(Shape::One)),
-            Expr::Counted { .. } => copy(code, level, COUNTED, ColumnType::votes(Shape::List)),
-            Expr::Winners { .. } => copy(code, level, WINNERS, ColumnType::seats(Shape::List)),
-            Expr::Outside { .. } => copy(code, level, OUTSIDE, ColumnType::seats(Shape::Land)),
-            Expr::Independents { .. } => copy(
-                code,
-                level,
-                INDEPENDENTS,
-                ColumnType::seats(Shape::Land),
-            ),
-            Expr::Population { .. } => copy(
-                code,
-                level,
-                POPULATION,
-                ColumnType::votes(Shape::Land),
-            ),
+            Expr::Fact { fact, .. } => copy(code, level, fact_slot(*fact), fact.column_type()),
             Expr::Name { name, .. } => {
                 let (slot, of) = self.earlier.column(name);
                 copy(code, level, slot, of)
@@ -95,13 +80,14 @@ impl<'a> Site<'a> {
                 let of = self.expr(code, level, of)?;
                 sum(code, level, of, *over)
             }
-            Expr::Larger { left, right, .. } => {
-                let (of, _) = self.pair(code, level, left, right)?;
-                larger(code, level, of)
-            }
-            Expr::Less { left, right, .. } => {
-                let (of, _) = self.pair(code, level, left, right)?;
-                less(code, level, of)
+            Expr::Pair {
+                pairing,
+                left,
+                right,
+                ..
+            } => {
+                let (of, _) = self.both(code, level, left, right)?;
+                pair(code, level, *pairing, of)
             }
             Expr::Split {
                 seats,
@@ -111,7 +97,7 @@ impl<'a> Site<'a> {
                 majority,
                 ..
             } => {
-                let (of, by) = self.pair(code, level, seats, votes)?;
+                let (of, by) = self.both(code, level, seats, votes)?;
                 if let Some(minima) = minima {
                     self.expr(code, level + 2, minima)?;
                 }
@@ -126,7 +112,7 @@ impl<'a> Site<'a> {
                 majority,
                 ..
             } => {
-                let (of, by) = self.pair(code, level, seats, votes)?;
+                let (of, by) = self.both(code, level, seats, votes)?;
                 self.expr(code, level + 2, minima)?;
                 self.growth(code, level, of, by, *method, cap.value, *majority)
             }

@@ -9,11 +9,22 @@ use crate::easiest::Easiest;
 use crate::eligible::{NOTHING, count_one, lay_eligible};
 use crate::laying::lay_all;
 use crate::registers::{CELL, OTHER};
-use crate::slots::{COUNTED, ELIGIBLE, HOUSE, INDEPENDENTS, OUTSIDE, POPULATION, WINNERS};
+use crate::slots::{ELIGIBLE, FIRST_FACT, WINNERS};
 use sl_code::{Input, Instr};
 use sl_plans::Part::{Fixed, Given};
 use sl_plans::{Cursor, ONES, Plan, Test};
 use sl_ratio::NoMemory;
+use sl_stages::Fact;
+
+const HOUSE: u8 = FIRST_FACT + Fact::House as u8;
+
+const COUNTED: u8 = FIRST_FACT + Fact::Counted as u8;
+
+const OUTSIDE: u8 = FIRST_FACT + Fact::Outside as u8;
+
+const INDEPENDENTS: u8 = FIRST_FACT + Fact::Independents as u8;
+
+const POPULATION: u8 = FIRST_FACT + Fact::Population as u8;
 
 /// Not counted, unless the party is eligible.
 const DROP_VOTES: &Plan<'static> = &Plan::Then(
@@ -66,8 +77,8 @@ const WITHOUT_PARTY: &Plan<'static> = &Plan::Then(
     &Plan::If(Test::NoParty, count_one!(INDEPENDENTS), NOTHING),
 );
 
-/// The house, counted votes, winners of lists, other winners, winners without a party, people.
-const FACTS: &[Plan<'static>] = &[
+/// The plan of each fact, in the order of their numbers.
+const PLANS: &[Plan<'static>] = &[
     Plan::Line(&[
         Given(0),
         Fixed(Instr::House(CELL)),
@@ -92,5 +103,5 @@ pub fn lay_facts(code: &mut Vec<Instr>, few: &Easiest, house: u32) -> Result<(),
     ensures { IfOk result (λ _. IsLaidAll (all_facts (few_of few.now) house) code.old.items code.new.items) }
 {
     lay_eligible(code, few)?;
-    lay_all(code, FACTS, &[Instr::Set(CELL, house as u64)])
+    lay_all(code, PLANS, &[Instr::Set(CELL, house as u64)])
 }

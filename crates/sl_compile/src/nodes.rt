@@ -6,19 +6,19 @@ ghost use Rattle.sl_stages.specs.declared.book.Shape.TheVariants as shape;
 ghost use Rattle.sl_stages.specs.declared.book.Unit.TheVariants as unit;
 ghost use Rattle.sl_stages.specs.book.Typing.{can_split, column, shape_over};
 ghost use Rattle.sl_blocks.specs.Jobs.{slots_of};
-ghost use Rattle.sl_pieces.specs.columns.Trees.{copy_tree, larger_tree, less_tree, sum_tree};
+ghost use Rattle.sl_pieces.specs.columns.Trees.{copy_tree, pair_tree, sum_tree};
 ghost use Rattle.sl_pieces.specs.exprs.Pieces.{node_slots, split_piece, grow_piece};
 ghost use Rattle.sl_pieces.specs.exprs.Slots.{passing};
 ghost use Rattle.sl_compile.specs.Laying.{IsLaidAll, HasRoom};
 ghost use Rattle.sl_compile.specs.Nodes.{minima_at, top_of, MayHave};
 
-use crate::columns::{lay_copy, lay_larger, lay_less, lay_sum};
+use crate::columns::{lay_copy, lay_pair, lay_sum};
 use crate::exprs::Site;
 use crate::slots::passing;
 use sl_blocks::{Job, grow_block, split_block};
 use sl_code::Instr;
 use sl_ratio::{Method, NoMemory};
-use sl_stages::{Axis, ColumnType, Majority, Shape};
+use sl_stages::{Axis, ColumnType, Majority, Pairing, Shape};
 
 /// Appends the copy of a column.
 pub fn copy(
@@ -62,27 +62,27 @@ pub fn sum(
     })
 }
 
-/// Appends the larger numbers of a column and one a level on.
-pub fn larger(code: &mut Vec<Instr>, level: u8, of: ColumnType) -> Result<ColumnType, NoMemory>
+/// Appends the pair of a column and one a level on.
+pub fn pair(
+    code: &mut Vec<Instr>,
+    level: u8,
+    pairing: Pairing,
+    of: ColumnType,
+) -> Result<ColumnType, NoMemory>
     requires level { level + 1 ≤ 16 }
-    requires room { HasRoom (larger_tree of.shape (passing level of.shape) (passing (level + 1) of.shape) (passing level of.shape) ∷ []) code.old.items }
+    requires room { HasRoom (pair_tree pairing of.shape (passing level of.shape) (passing (level + 1) of.shape) (passing level of.shape) ∷ []) code.old.items }
     ensures has { IfOk result (λ has. has ≡ of) }
-    ensures laid { IfOk result (λ _. IsLaidAll (larger_tree of.shape (passing level of.shape) (passing (level + 1) of.shape) (passing level of.shape) ∷ []) code.old.items code.new.items) }
+    ensures laid { IfOk result (λ _. IsLaidAll (pair_tree pairing of.shape (passing level of.shape) (passing (level + 1) of.shape) (passing level of.shape) ∷ []) code.old.items code.new.items) }
 {
     let to = passing(level, of.shape);
-    lay_larger(code, of.shape, to, passing(level + 1, of.shape), to)?;
-    Ok(of)
-}
-
-/// Appends a column less one a level on, at least 0.
-pub fn less(code: &mut Vec<Instr>, level: u8, of: ColumnType) -> Result<ColumnType, NoMemory>
-    requires level { level + 1 ≤ 16 }
-    requires room { HasRoom (less_tree of.shape (passing level of.shape) (passing (level + 1) of.shape) (passing level of.shape) ∷ []) code.old.items }
-    ensures has { IfOk result (λ has. has ≡ of) }
-    ensures laid { IfOk result (λ _. IsLaidAll (less_tree of.shape (passing level of.shape) (passing (level + 1) of.shape) (passing level of.shape) ∷ []) code.old.items code.new.items) }
-{
-    let to = passing(level, of.shape);
-    lay_less(code, of.shape, to, passing(level + 1, of.shape), to)?;
+    lay_pair(
+        code,
+        pairing,
+        of.shape,
+        to,
+        passing(level + 1, of.shape),
+        to,
+    )?;
     Ok(of)
 }
 

@@ -1,27 +1,20 @@
 //! The slots of a compiled rulebook (docs/compiler.md, section 3).
 
 ghost use Rattle.std.specs.Prelude.{◌≡◌, ◌≤◌, ◌++◌, IfOk, map};
-ghost use Rattle.sl_pieces.specs.exprs.Slots.{number_of, passing, stage_slot};
+ghost use Rattle.sl_pieces.specs.exprs.Slots.{fact_slots, number_of, passing, stage_slot};
 ghost use Rattle.sl_compile.specs.Slots.{low_shapes};
 
 use sl_ratio::NoMemory;
 use sl_stages::Shape::{Land, List, One, Party};
-use sl_stages::{ColumnType, Shape};
+use sl_stages::{ColumnType, Fact, Shape};
 use std::alloc::Global;
 
 pub const ELIGIBLE: u8 = 0;
 
-pub const HOUSE: u8 = 1;
+/// The slot of the first fact. The others follow in the order of their numbers.
+pub const FIRST_FACT: u8 = 1;
 
-pub const COUNTED: u8 = 2;
-
-pub const WINNERS: u8 = 3;
-
-pub const OUTSIDE: u8 = 4;
-
-pub const INDEPENDENTS: u8 = 5;
-
-pub const POPULATION: u8 = 6;
+pub const WINNERS: u8 = FIRST_FACT + Fact::Winners as u8;
 
 /// Valid votes by list, to work in.
 pub const VOTES: u8 = 7;
@@ -59,6 +52,14 @@ fn number_of(shape: Shape) -> u8
         Shape::Land => 2,
         Shape::List => 3,
     }
+}
+
+/// The column of a fact.
+#[tactic(auto, using(sl_pieces::proofs::exprs::Places::fact_low))]
+pub fn fact_slot(fact: Fact) -> u8
+    ensures { result ≡ fact_slots.of fact }
+{
+    FIRST_FACT + fact.number()
 }
 
 /// The passing column of that shape on that level.

@@ -4,6 +4,7 @@ use Rattle.std.specs.Prelude.{unwrap_or, codes}
 use Rattle.sl_ratio.specs.declared.method.Divisor.TheVariants.{Webster, Jefferson}
 use Rattle.sl_ratio.specs.declared.method.Method.{Method}
 use Rattle.sl_ratio.specs.declared.method.Method.TheVariants as by
+use Rattle.sl_stages.specs.declared.fact.Fact.TheVariants as facts
 use Rattle.sl_stages.specs.declared.book.Cond.TheVariants as condition
 use Rattle.sl_stages.specs.declared.book.Majority.{Majority}
 use Rattle.sl_stages.specs.declared.book.Majority.TheVariants as majority
@@ -16,7 +17,7 @@ use Rattle.sl_stages.specs.declared.fault.FaultKind.TheVariants as fault
 use Rattle.sl_stages.specs.declared.returns.Lot.{Lot}
 use Rattle.sl_stages.specs.declared.table.Outcome.{Outcome}
 use Rattle.sl_stages.specs.declared.table.Outcome.TheVariants as outcome
-use Rattle.sl_stages.specs.book.Trees.{ExprTree, counted}
+use Rattle.sl_stages.specs.book.Trees.{ExprTree, fact}
 use Rattle.sl_stages.specs.returns.Election.{Election}
 use Rattle.sl_stages.specs.returns.Facts.{counted_votes, list_winners}
 use Rattle.sl_stages.specs.methods.Allocations.{IsDivisorAllocation}
@@ -73,16 +74,16 @@ abbrev all_winners : Election → List ℕ
 all_winners e = list_winners (condition.All ∷ []) e
 
 module _ (seats : ℕ) (method : Method) (m : Majority) (w : Seating) (vacate : Option ℕ) (e : Election) (r : ExprResult) where
-  split_is : IsSplit e (stand (stage_context (house_split method m)) (counted 0)) (unwrap_or e.house seats ∷ []) (all_votes e) shape.One method m None r →
+  split_is : IsSplit e (stand (stage_context (house_split method m)) (fact 0 facts.Counted)) (unwrap_or e.house seats ∷ []) (all_votes e) shape.One method m None r →
       ExprMeans (one_stage seats (house_split method m) w vacate) e (stage_context (house_split method m)) (house_split method m) r
   split_is h = then_plain _ _ r (unwrap_or e.house seats ∷ []) (_, refl, refl) (then_plain _ _ r (all_votes e) (_, refl, refl) h)
 
-  split_from_is : IsSplit e (stand (stage_context (house_split_from method m)) (counted 0)) (unwrap_or e.house seats ∷ []) (all_votes e) shape.One method m (Some (all_winners e)) r →
+  split_from_is : IsSplit e (stand (stage_context (house_split_from method m)) (fact 0 facts.Counted)) (unwrap_or e.house seats ∷ []) (all_votes e) shape.One method m (Some (all_winners e)) r →
       ExprMeans (one_stage seats (house_split_from method m) w vacate) e (stage_context (house_split_from method m)) (house_split_from method m) r
   split_from_is h =
       then_plain _ _ r (unwrap_or e.house seats ∷ []) (_, refl, refl) (then_plain _ _ r (all_votes e) (_, refl, refl) (then_plain _ _ r (all_winners e) (_, refl, refl) h))
 
-  growth_is : IsGrown e (stand (stage_context (house_grown method m)) (counted 0)) (unwrap_or e.house seats ∷ []) (all_votes e) method m (all_winners e) 9 r →
+  growth_is : IsGrown e (stand (stage_context (house_grown method m)) (fact 0 facts.Counted)) (unwrap_or e.house seats ∷ []) (all_votes e) method m (all_winners e) 9 r →
       ExprMeans (one_stage seats (house_grown method m) w vacate) e (stage_context (house_grown method m)) (house_grown method m) r
   growth_is h =
       then_plain _ _ r (unwrap_or e.house seats ∷ []) (_, refl, refl) (then_plain _ _ r (all_votes e) (_, refl, refl) (then_plain _ _ r (all_winners e) (_, refl, refl) h))

@@ -2,6 +2,8 @@
 use Rattle.std.specs.Prelude.{ℕ, false, [], ◌∷◌, Some, None, replicate, codes}
 use Rattle.sl_ratio.specs.declared.method.Divisor.TheVariants.{Jefferson}
 use Rattle.sl_ratio.specs.declared.method.Method.TheVariants as by
+use Rattle.sl_stages.specs.declared.fact.Fact.TheVariants as facts
+use Rattle.sl_stages.specs.declared.book.Pairing.TheVariants as pairings
 use Rattle.sl_stages.specs.declared.book.Axis.TheVariants as axis
 use Rattle.sl_stages.specs.declared.book.Base.TheVariants as base
 use Rattle.sl_stages.specs.declared.book.Cond.TheVariants as condition
@@ -15,7 +17,7 @@ use Rattle.sl_stages.specs.declared.table.Placed.TheVariants as placed
 use Rattle.sl_stages.specs.declared.table.SeatStep.{SeatStep}
 use Rattle.sl_stages.specs.declared.table.Weight.{Weight}
 use Rattle.sl_stages.specs.declared.table.Outcome.TheVariants as outcome
-use Rattle.sl_stages.specs.book.Trees.{ExprTree, house, counted, outside, name, sum, less, split, BookTree}
+use Rattle.sl_stages.specs.book.Trees.{ExprTree, fact, name, sum, pair, split, without, BookTree}
 use Rattle.sl_stages.specs.meaning.Tables.{SeatTable}
 use Rattle.sl_stages.specs.returns.Election.{Election}
 use Rattle.sl_stages.specs.meaning.Means.{Means}
@@ -25,13 +27,13 @@ use Rattle.sl_examples.specs.SmallElections.{number, votes, over}
 -- parties and then to each party's lists, both by jefferson; winners are kept beyond the share, and seats without names stay vacant
 
 abbrev pub pool : ExprTree
-pool = less 0 (house 0) (sum 0 (outside 0) axis.All)
+pool = pair 0 pairings.Less (fact 0 facts.House) (sum 0 (fact 0 facts.Outside) axis.All)
 
 abbrev pub upper : ExprTree
-upper = split 0 (name 0 (codes "pool")) (sum 0 (counted 0) axis.Party) (by.Divisor Jefferson) majority.Free
+upper = split 0 (name 0 (codes "pool")) (sum 0 (fact 0 facts.Counted) axis.Party) (by.Divisor Jefferson) without majority.Free
 
 abbrev pub lower : ExprTree
-lower = split 0 (name 0 (codes "upper")) (counted 0) (by.Divisor Jefferson) majority.Free
+lower = split 0 (name 0 (codes "upper")) (fact 0 facts.Counted) (by.Divisor Jefferson) without majority.Free
 
 abbrev pub law_of_1956 : BookTree
 law_of_1956 = record {

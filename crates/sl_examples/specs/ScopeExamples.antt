@@ -2,6 +2,7 @@
 use Rattle.std.specs.Prelude.{ℕ, false, [], ◌∷◌, Some, None, replicate, codes}
 use Rattle.sl_ratio.specs.declared.method.Divisor.TheVariants.{Webster}
 use Rattle.sl_ratio.specs.declared.method.Method.TheVariants as by
+use Rattle.sl_stages.specs.declared.fact.Fact.TheVariants as facts
 use Rattle.sl_stages.specs.declared.book.Axis.TheVariants as axis
 use Rattle.sl_stages.specs.declared.book.Majority.TheVariants as majority
 use Rattle.sl_stages.specs.declared.fault.Scope.TheVariants as scope
@@ -10,7 +11,7 @@ use Rattle.sl_stages.specs.declared.fault.FaultKind.TheVariants as fault
 use Rattle.sl_stages.specs.declared.table.SeatStep.{SeatStep}
 use Rattle.sl_stages.specs.declared.table.Weight.{Weight}
 use Rattle.sl_stages.specs.declared.table.Outcome.TheVariants as outcome
-use Rattle.sl_stages.specs.book.Trees.{house, counted, population, name, sum, split, BookTree}
+use Rattle.sl_stages.specs.book.Trees.{fact, name, sum, split, without, BookTree}
 use Rattle.sl_stages.specs.returns.Election.{Election}
 use Rattle.sl_stages.specs.meaning.Results.{fault_at}
 use Rattle.sl_stages.specs.meaning.Means.{Means}
@@ -33,12 +34,12 @@ list_weight party weight = record { stage = 1; scope = scope.Party party; entry 
 -- ---- several scopes: what the first stage gives to parties or Länder, the second gives to their lists
 
 abbrev pub by_parties : BookTree
-by_parties = two_stages 2 (split 0 (house 0) (sum 0 (counted 0) axis.Party) (by.Divisor Webster) majority.Free)
-    (split 0 (name 0 (codes "s")) (counted 0) (by.Divisor Webster) majority.Free)
+by_parties = two_stages 2 (split 0 (fact 0 facts.House) (sum 0 (fact 0 facts.Counted) axis.Party) (by.Divisor Webster) without majority.Free)
+    (split 0 (name 0 (codes "s")) (fact 0 facts.Counted) (by.Divisor Webster) without majority.Free)
 
 abbrev pub by_lands : BookTree
-by_lands = two_stages 2 (split 0 (house 0) (population 0) (by.Divisor Webster) majority.Free)
-    (split 0 (name 0 (codes "s")) (counted 0) (by.Divisor Webster) majority.Free)
+by_lands = two_stages 2 (split 0 (fact 0 facts.House) (fact 0 facts.Population) (by.Divisor Webster) without majority.Free)
+    (split 0 (name 0 (codes "s")) (fact 0 facts.Counted) (by.Divisor Webster) without majority.Free)
 
 -- two Länder with the same number of people, and one party, with a list in the first
 abbrev pub one_list : Election

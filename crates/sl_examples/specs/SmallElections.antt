@@ -2,6 +2,7 @@
 use Rattle.std.specs.Prelude.{ℕ, ◌-◌, false, List, [], ◌∷◌, ◌++◌, Option, Some, None, map, length, replicate, codes}
 use Rattle.sl_ratio.specs.declared.method.Divisor.TheVariants.{Webster}
 use Rattle.sl_ratio.specs.declared.method.Method.{Method}
+use Rattle.sl_stages.specs.declared.fact.Fact.TheVariants as facts
 use Rattle.sl_stages.specs.declared.limits.TheConstants.{MAX_PARTIES}
 use Rattle.sl_stages.specs.declared.book.Base.TheVariants as base
 use Rattle.sl_stages.specs.declared.book.Cond.TheVariants as condition
@@ -19,7 +20,7 @@ use Rattle.sl_stages.specs.declared.table.Mark.{Mark}
 use Rattle.sl_stages.specs.declared.table.Mark.TheVariants as mark
 use Rattle.sl_stages.specs.declared.table.SeatStep.{SeatStep}
 use Rattle.sl_stages.specs.declared.table.Weight.{Weight}
-use Rattle.sl_stages.specs.book.Trees.{ExprTree, house, counted, winners, split, split_from, grow, StageTree, BookTree}
+use Rattle.sl_stages.specs.book.Trees.{ExprTree, fact, split, without, atleast, grow, StageTree, BookTree}
 use Rattle.sl_stages.specs.returns.Election.{Election}
 
 -- ---- a book of one stage `s`, and the returns of one Land with parties that have so many votes
@@ -32,13 +33,13 @@ stage_s x = record { name = codes "s"; at = 0; expr = x }
 
 -- the house, split by the counted votes; split so, or grown up to a cap of 9, with the winners as minima
 abbrev pub house_split : Method → Majority → ExprTree
-house_split method m = split 0 (house 0) (counted 0) method m
+house_split method m = split 0 (fact 0 facts.House) (fact 0 facts.Counted) method without m
 
 abbrev pub house_split_from : Method → Majority → ExprTree
-house_split_from method m = split_from 0 (house 0) (counted 0) method (winners 0) m
+house_split_from method m = split 0 (fact 0 facts.House) (fact 0 facts.Counted) method (atleast (fact 0 facts.Winners)) m
 
 abbrev pub house_grown : Method → Majority → ExprTree
-house_grown method m = grow 0 (house 0) (counted 0) method (winners 0) (number 9) m
+house_grown method m = grow 0 (fact 0 facts.House) (fact 0 facts.Counted) method (fact 0 facts.Winners) (number 9) m
 
 -- a house, the stage's expression, what becomes of winners, and `vacate` or not
 abbrev pub one_stage : ℕ → ExprTree → Seating → Option ℕ → BookTree

@@ -4,47 +4,12 @@ use Rattle.std.specs.List.{find}
 use Rattle.std.specs.Str.{bytes_eq}
 use Rattle.std.proofs.lemmas.Slice.Eq.{bytes_eq-Decides}
 use Rattle.sl_lex.specs.declared.keyword.Keyword.{Keyword}
-use Rattle.sl_lex.specs.declared.keyword.Keyword.TheVariants.{Rulebook, Law, House, Eligible, Or, Stage, Seats, Winners, Keep, Cover, Valid, At, Least, Per, Minority, All, Counted, Outside, Independents, Population, Sum, Party, Land, Larger, Less, Split, Grow, Atleast, Majority, Prefer, Refuse, Adams, Dean, Hill, Webster, Jefferson, Hamilton}
+use Rattle.sl_lex.specs.declared.keyword.Keyword.TheVariants.{Rulebook}
 use Rattle.sl_lex.specs.Keywords.{spelling, keyword_of, keywords}
 
 pub keyword_of-spelling : (k : Keyword) → keyword_of (spelling k) ≡ Some k
 keyword_of-spelling Rulebook = refl
-keyword_of-spelling Law = refl
-keyword_of-spelling House = refl
-keyword_of-spelling Eligible = refl
-keyword_of-spelling Or = refl
-keyword_of-spelling Stage = refl
-keyword_of-spelling Seats = refl
-keyword_of-spelling Winners = refl
-keyword_of-spelling Keep = refl
-keyword_of-spelling Cover = refl
-keyword_of-spelling Valid = refl
-keyword_of-spelling At = refl
-keyword_of-spelling Least = refl
-keyword_of-spelling Per = refl
-keyword_of-spelling Minority = refl
-keyword_of-spelling All = refl
-keyword_of-spelling Counted = refl
-keyword_of-spelling Outside = refl
-keyword_of-spelling Independents = refl
-keyword_of-spelling Population = refl
-keyword_of-spelling Sum = refl
-keyword_of-spelling Party = refl
-keyword_of-spelling Land = refl
-keyword_of-spelling Larger = refl
-keyword_of-spelling Less = refl
-keyword_of-spelling Split = refl
-keyword_of-spelling Grow = refl
-keyword_of-spelling Atleast = refl
-keyword_of-spelling Majority = refl
-keyword_of-spelling Prefer = refl
-keyword_of-spelling Refuse = refl
-keyword_of-spelling Adams = refl
-keyword_of-spelling Dean = refl
-keyword_of-spelling Hill = refl
-keyword_of-spelling Webster = refl
-keyword_of-spelling Jefferson = refl
-keyword_of-spelling Hamilton = refl
+keyword_of-spelling _ = refl
 
 found_at : {X : Type 0} (test : X → Bool) (x y : X) (later : Option X) → (later ≡ Some x → test x ≡ true) → (b : Bool) → test y ≡ b → cond b (Some y) later ≡ Some x → test x ≡ true
 found_at test x y later else_passes true passes e =

@@ -1,37 +1,36 @@
 -- What is in the grammar is read, up to the limits: expressions.
-use Rattle.std.proofs.Common.{◌≡◌, ℕ, zero, suc, ◌+◌, ◌-◌, ◌≤◌, true, false, List, ◌∷◌, length, Some, None, Ok, Err, refl, arith}
+use Rattle.std.proofs.Common.{◌≡◌, ℕ, zero, suc, ◌+◌, ◌-◌, ◌≤◌, true, false, List, ◌∷◌, length, Some, Ok, Err, refl, arith}
 use Rattle.sl_ratio.specs.declared.method.Method.{Method}
 use Rattle.sl_lex.specs.declared.keyword.Keyword.TheVariants as keywords
 use Rattle.sl_lex.specs.declared.token.Mark.TheVariants as marks
-use Rattle.sl_lex.specs.declared.token.Kind.{Kind}
 use Rattle.sl_lex.specs.declared.token.Kind.TheVariants as kinds
 use Rattle.sl_lex.specs.declared.token.Token.{Token}
 use Rattle.sl_stages.specs.declared.book.Majority.{Majority}
 use Rattle.sl_stages.specs.declared.book.Majority.TheVariants as majorities
-use Rattle.sl_stages.specs.book.Trees.{ExprTree, house, counted, winners, outside, independents, population, name, sum, larger, less, split, split_from, grow}
+use Rattle.sl_stages.specs.book.Trees.{ExprTree, fact, name, sum, pair, split, without, atleast, grow}
 use Rattle.sl_stages.specs.book.Limits.{depth_of, parts_of}
 use Rattle.sl_parse.specs.declared.fault.Cause.TheVariants.{TooDeep}
-use Rattle.sl_parse.specs.Grammar.{◌▸◌, keyword, comma, open_mark, close_mark, method_word, IsMajority, IsRefusal, IsExpr}
-use Rattle.sl_parse.specs.Faults.{begins_expr}
-use Rattle.sl_parse.specs.Reading.{ReadExpr, is_next, is_clause, axis_in, method_in, number_in, preference_in, read_sum, read_two, read_larger, read_less, read_division, read_minima, read_majority, read_refusal, read_split, read_grow, read_node_at, read_node, no_room, read_expr}
-use Rattle.sl_parse.proofs.TokenTests.{tests_axis, tests_method, tests_number, tests_preference}
+use Rattle.sl_parse.specs.declared.form.Form.{Form}
+use Rattle.sl_parse.specs.declared.form.Form.TheVariants as forms
+use Rattle.sl_parse.specs.Words.{method_word, first_kind}
+use Rattle.sl_parse.specs.Grammar.{◌▸◌, keyword, comma, open_mark, close_mark, IsMajority, IsRefusal, IsExpr}
+use Rattle.sl_parse.specs.Reading.{ReadExpr, is_next, is_clause, axis_in, method_in, number_in, preference_in, read_sum, read_two, read_pair, read_division, read_minima, read_majority, read_refusal, read_split, read_grow, read_form, read_node, no_room, read_expr}
+use Rattle.sl_parse.proofs.TokenTests.{form-taken, tests_axis, tests_method, tests_number, tests_preference}
 use Rattle.sl_parse.proofs.Agrees.{Agrees, then_agrees, agreed, Any, one_agrees, taken_agrees}
 
 pub depth-pos : (e : ExprTree) → 1 ≤ depth_of e
 depth-pos (sum at e axis) = omega arith
-depth-pos (larger at l r) = omega arith
-depth-pos (less at l r) = omega arith
-depth-pos (split at s v m j) = omega arith
-depth-pos (split_from at s v m e j) = omega arith
+depth-pos (pair at pairing l r) = omega arith
+depth-pos (split at s v m without j) = omega arith
+depth-pos (split at s v m (atleast e) j) = omega arith
 depth-pos (grow at s v m e c j) = omega arith
 depth-pos _ = omega arith
 
 pub parts-pos : (e : ExprTree) → 1 ≤ parts_of e
 parts-pos (sum at e axis) = omega arith
-parts-pos (larger at l r) = omega arith
-parts-pos (less at l r) = omega arith
-parts-pos (split at s v m j) = omega arith
-parts-pos (split_from at s v m e j) = omega arith
+parts-pos (pair at pairing l r) = omega arith
+parts-pos (split at s v m without j) = omega arith
+parts-pos (split at s v m (atleast e) j) = omega arith
 parts-pos (grow at s v m e c j) = omega arith
 parts-pos _ = omega arith
 
@@ -44,19 +43,19 @@ module _ (text : List ℕ) where
   AgreesExpr here after r e d p = Agrees here after r (e, p - parts_of e, after) (Fits d p e)
 
   -- the first token tells the form, and where there is no room it is too deep
-  level : (d p : ℕ) (k : Kind) (here mid after : List Token) (t : Token) (e : ExprTree) → here ≡ t ∷ mid → t.kind ≡ k → begins_expr k ≡ true
-      → ((d' p' : ℕ) → AgreesExpr mid after (read_node_at text (read_expr text d') p' k t mid) e (suc d') (suc p')) → AgreesExpr here after (read_expr text d p here) e d p
+  level : (d p : ℕ) (form : Form) (here mid after : List Token) (t : Token) (e : ExprTree) → here ≡ t ∷ mid → t.kind ≡ first_kind form
+      → ((d' p' : ℕ) → AgreesExpr mid after (read_form text (read_expr text d') p' (Some form) t mid) e (suc d') (suc p')) → AgreesExpr here after (read_expr text d p here) e d p
   unfolding read_expr read_node no_room
-  level zero p k here mid after t e is kind begins h =
-      let stops : read_expr text zero p here ≡ Err (TooDeep, t ∷ mid) = rw (is, kind, begins) refl in
+  level zero p form here mid after t e is kind h =
+      let stops : read_expr text zero p here ≡ Err (TooDeep, t ∷ mid) = rw (is, kind, form-taken form) refl in
       let short : length after ≤ length mid = (h 0 0).shorter in
       record { shorter = rw is (omega arith); finds = rw stops (tt, omega arith, λ no. omega (arith, no.0, depth-pos e)) }
-  level (suc d) zero k here mid after t e is kind begins h =
-      let stops : read_expr text (suc d) zero here ≡ Err (TooDeep, t ∷ mid) = rw (is, kind, begins) refl in
+  level (suc d) zero form here mid after t e is kind h =
+      let stops : read_expr text (suc d) zero here ≡ Err (TooDeep, t ∷ mid) = rw (is, kind, form-taken form) refl in
       let short : length after ≤ length mid = (h 0 0).shorter in
       record { shorter = rw is (omega arith); finds = rw stops (tt, omega arith, λ no. omega (arith, no.1, parts-pos e)) }
-  level (suc d) (suc p) k here mid after t e is kind begins h =
-      let reads : read_expr text (suc d) (suc p) here ≡ read_node_at text (read_expr text d) p k t mid = rw (is, kind) refl in
+  level (suc d) (suc p) form here mid after t e is kind h =
+      let reads : read_expr text (suc d) (suc p) here ≡ read_form text (read_expr text d) p (Some form) t mid = rw (is, kind, form-taken form) refl in
       let short : length after ≤ length mid = (h d p).shorter in
       record { shorter = rw is (omega arith); finds = rw reads (h d p).finds }
 
@@ -136,12 +135,12 @@ module _ (text : List ℕ) where
       then_agrees _ _ (m, after) (one_agrees method_in tests_method m f after hm) (λ fits. tt) (
       agreed after _ _ refl)))
 
-  no_minima_agree : (d p : ℕ) (j : Majority) (here after : List Token) → (IsMajority j ▸ close_mark) here after → Agrees here here (read_minima (read_expr text d) p here) (None, p, here) Any
+  no_minima_agree : (d p : ℕ) (j : Majority) (here after : List Token) → (IsMajority j ▸ close_mark) here after → Agrees here here (read_minima (read_expr text d) p here) (without, p, here) Any
   unfolding read_minima
   no_minima_agree d p j here after h = rw (no_clause j here after h) (agreed here _ _ refl)
 
   minima_agree : (d p : ℕ) (e : ExprTree) (here a b after : List Token) → Agreeing e → comma here a → keyword keywords.Atleast a b → IsExpr text e b after
-      → Agrees here after (read_minima (read_expr text d) p here) (Some e, p - parts_of e, after) (Fits d p e)
+      → Agrees here after (read_minima (read_expr text d) p here) (atleast e, p - parts_of e, after) (Fits d p e)
   unfolding read_minima
   minima_agree d p e here a b after agrees_e ha hb he =
       let next : is_clause keywords.Atleast here ≡ true = rw (ha.1, ha.2, hb.1, hb.2) refl in
@@ -154,58 +153,46 @@ module _ (text : List ℕ) where
   -- ---- forms with arguments
 
   pub agrees_expr : (d p : ℕ) (e : ExprTree) (here after : List Token) → IsExpr text e here after → AgreesExpr here after (read_expr text d p here) e d p
-  unfolding read_node_at read_sum read_larger read_less read_split read_grow
-  agrees_expr d p (house at) here after (t, is, (kind, start)) = level d p _ here after after t (house at) is kind refl (λ d' p'. leaf (λ n. house n) _ at p' after start refl)
-  agrees_expr d p (counted at) here after (t, is, (kind, start)) = level d p _ here after after t (counted at) is kind refl (λ d' p'. leaf (λ n. counted n) _ at p' after start refl)
-  agrees_expr d p (winners at) here after (t, is, (kind, start)) = level d p _ here after after t (winners at) is kind refl (λ d' p'. leaf (λ n. winners n) _ at p' after start refl)
-  agrees_expr d p (outside at) here after (t, is, (kind, start)) = level d p _ here after after t (outside at) is kind refl (λ d' p'. leaf (λ n. outside n) _ at p' after start refl)
-  agrees_expr d p (independents at) here after (t, is, (kind, start)) = level d p _ here after after t (independents at) is kind refl (λ d' p'. leaf (λ n. independents n) _ at p' after start refl)
-  agrees_expr d p (population at) here after (t, is, (kind, start)) = level d p _ here after after t (population at) is kind refl (λ d' p'. leaf (λ n. population n) _ at p' after start refl)
-  agrees_expr d p (name at m) here after (t, is, (kind, bytes, start)) = level d p _ here after after t (name at m) is kind refl (λ d' p'. rw bytes (leaf (λ n. name n m) _ at p' after start refl))
+  unfolding read_form read_sum read_pair read_split read_grow
+  agrees_expr d p (fact at told) here after (t, is, (kind, start)) = level d p (forms.Fact told) here after after t (fact at told) is kind (λ d' p'. leaf (λ n. fact n told) _ at p' after start refl)
+  agrees_expr d p (name at m) here after (t, is, (kind, bytes, start)) = level d p forms.Name here after after t (name at m) is kind (λ d' p'. rw bytes (leaf (λ n. name n m) _ at p' after start refl))
   agrees_expr d p (sum at e s) here after (mid, (t, is, (kind, start)), (a, ha, (b, he, (c, hc, (g, hs, hg))))) =
-      level d p _ here mid after t (sum at e s) is kind refl (λ d' p'.
+      level d p forms.Sum here mid after t (sum at e s) is kind (λ d' p'.
       then_agrees _ _ a (taken_agrees _ mid a ha) (λ fits. tt) (
       then_agrees _ _ (e, p' - parts_of e, b) (agrees_expr d' p' e a b he) (λ fits. (omega (arith, fits.0), omega (arith, fits.1))) (
       then_agrees _ _ c (taken_agrees _ b c hc) (λ fits. tt) (
       then_agrees _ _ (s, g) (one_agrees axis_in tests_axis s c g hs) (λ fits. tt) (
       then_agrees _ _ after (taken_agrees _ g after hg) (λ fits. tt) (
       agreed after _ _ (node_is (λ n. sum n e s) _ at _ _ after start (omega arith))))))))
-  agrees_expr d p (larger at l r) here after (mid, (t, is, (kind, start)), (a, ha, (b, hl, (c, hc, (g, hr, hg))))) =
-      level d p _ here mid after t (larger at l r) is kind refl (λ d' p'.
+  agrees_expr d p (pair at pairing l r) here after (mid, (t, is, (kind, start)), (a, ha, (b, hl, (c, hc, (g, hr, hg))))) =
+      level d p (forms.Pair pairing) here mid after t (pair at pairing l r) is kind (λ d' p'.
       then_agrees _ _ ((l, r), p' - parts_of l - parts_of r, g)
       (two_agree d' p' l r mid g (λ d p here after h. agrees_expr d p l here after h) (λ d p here after h. agrees_expr d p r here after h) (a, ha, (b, hl, (c, hc, hr))))
       (λ fits. (omega (arith, fits.0), omega (arith, fits.0), omega (arith, fits.1))) (
       then_agrees _ _ after (taken_agrees _ g after hg) (λ fits. tt) (
-      agreed after _ _ (node_is (λ n. larger n l r) _ at _ _ after start (omega arith)))))
-  agrees_expr d p (less at l r) here after (mid, (t, is, (kind, start)), (a, ha, (b, hl, (c, hc, (g, hr, hg))))) =
-      level d p _ here mid after t (less at l r) is kind refl (λ d' p'.
-      then_agrees _ _ ((l, r), p' - parts_of l - parts_of r, g)
-      (two_agree d' p' l r mid g (λ d p here after h. agrees_expr d p l here after h) (λ d p here after h. agrees_expr d p r here after h) (a, ha, (b, hl, (c, hc, hr))))
-      (λ fits. (omega (arith, fits.0), omega (arith, fits.0), omega (arith, fits.1))) (
-      then_agrees _ _ after (taken_agrees _ g after hg) (λ fits. tt) (
-      agreed after _ _ (node_is (λ n. less n l r) _ at _ _ after start (omega arith)))))
-  agrees_expr d p (split at s v m j) here after (mid, (t, is, (kind, start)), (a, ha, (b, hs, (c, hc, (e, hv, (f, hf, (g, hm, (k, hj, hk)))))))) =
-      level d p _ here mid after t (split at s v m j) is kind refl (λ d' p'.
+      agreed after _ _ (node_is (λ n. pair n pairing l r) _ at _ _ after start (omega arith)))))
+  agrees_expr d p (split at s v m without j) here after (mid, (t, is, (kind, start)), (a, ha, (b, hs, (c, hc, (e, hv, (f, hf, (g, hm, (k, hj, hk)))))))) =
+      level d p forms.Split here mid after t (split at s v m without j) is kind (λ d' p'.
       then_agrees _ _ ((s, v, m), p' - parts_of s - parts_of v, g)
       (division_agrees d' p' s v m mid g (λ d p here after h. agrees_expr d p s here after h) (λ d p here after h. agrees_expr d p v here after h) (a, ha, (b, hs, (c, hc, (e, hv, (f, hf, hm))))))
       (λ fits. (omega (arith, fits.0), omega (arith, fits.0), omega (arith, fits.1))) (
-      then_agrees _ _ (None, p' - parts_of s - parts_of v, g) (no_minima_agree d' (p' - parts_of s - parts_of v) j g after (k, hj, hk)) (λ fits. tt) (
+      then_agrees _ _ (without, p' - parts_of s - parts_of v, g) (no_minima_agree d' (p' - parts_of s - parts_of v) j g after (k, hj, hk)) (λ fits. tt) (
       then_agrees _ _ (j, k) (majority_agrees j g k after hj hk) (λ fits. tt) (
       then_agrees _ _ after (taken_agrees _ k after hk) (λ fits. tt) (
-      agreed after _ _ (node_is (λ n. split n s v m j) _ at _ _ after start (omega arith)))))))
-  agrees_expr d p (split_from at s v m x j) here after (mid, (t, is, (kind, start)), (a, ha, (b, hs, (c, hc, (e, hv, (f, hf, (g, hm, (i, hi, (u, hu, (w, hx, (k, hj, hk))))))))))) =
-      level d p _ here mid after t (split_from at s v m x j) is kind refl (λ d' p'.
+      agreed after _ _ (node_is (λ n. split n s v m without j) _ at _ _ after start (omega arith)))))))
+  agrees_expr d p (split at s v m (atleast x) j) here after (mid, (t, is, (kind, start)), (a, ha, (b, hs, (c, hc, (e, hv, (f, hf, (g, hm, (i, hi, (u, hu, (w, hx, (k, hj, hk))))))))))) =
+      level d p forms.Split here mid after t (split at s v m (atleast x) j) is kind (λ d' p'.
       then_agrees _ _ ((s, v, m), p' - parts_of s - parts_of v, g)
       (division_agrees d' p' s v m mid g (λ d p here after h. agrees_expr d p s here after h) (λ d p here after h. agrees_expr d p v here after h) (a, ha, (b, hs, (c, hc, (e, hv, (f, hf, hm))))))
       (λ fits. (omega (arith, fits.0), omega (arith, fits.0), omega (arith, fits.1))) (
-      then_agrees _ _ (Some x, p' - parts_of s - parts_of v - parts_of x, w)
+      then_agrees _ _ (atleast x, p' - parts_of s - parts_of v - parts_of x, w)
       (minima_agree d' (p' - parts_of s - parts_of v) x g i u w (λ d p here after h. agrees_expr d p x here after h) hi hu hx)
       (λ fits. (omega (arith, fits.0), omega (arith, fits.1))) (
       then_agrees _ _ (j, k) (majority_agrees j w k after hj hk) (λ fits. tt) (
       then_agrees _ _ after (taken_agrees _ k after hk) (λ fits. tt) (
-      agreed after _ _ (node_is (λ n. split_from n s v m x j) _ at _ _ after start (omega arith)))))))
+      agreed after _ _ (node_is (λ n. split n s v m (atleast x) j) _ at _ _ after start (omega arith)))))))
   agrees_expr d p (grow at s v m x cap j) here after (mid, (t, is, (kind, start)), (a, ha, (b, hs, (c, hc, (e, hv, (f, hf, (g, hm, (i, hi, (w, hx, (u, hu, (y, hy, (k, hj, hk)))))))))))) =
-      level d p _ here mid after t (grow at s v m x cap j) is kind refl (λ d' p'.
+      level d p forms.Grow here mid after t (grow at s v m x cap j) is kind (λ d' p'.
       then_agrees _ _ ((s, v, m), p' - parts_of s - parts_of v, g)
       (division_agrees d' p' s v m mid g (λ d p here after h. agrees_expr d p s here after h) (λ d p here after h. agrees_expr d p v here after h) (a, ha, (b, hs, (c, hc, (e, hv, (f, hf, hm))))))
       (λ fits. (omega (arith, fits.0), omega (arith, fits.0), omega (arith, fits.1))) (

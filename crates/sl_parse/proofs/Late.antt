@@ -1,7 +1,6 @@
 -- Reading doesn't go past a place beyond a limit, and where it stops there the cause is that of the place.
-use Rattle.std.proofs.Common.{◌≡◌, true, ℕ, zero, suc, ◌+◌, ◌-◌, ◌≤◌, ◌<◌, List, [], ◌∷◌, length, Ok, Err, refl, sym, ap, subst, arith, ◌⊎◌, inl, inr}
+use Rattle.std.proofs.Common.{◌≡◌, true, ℕ, zero, suc, ◌+◌, ◌-◌, ◌≤◌, ◌<◌, List, [], ◌∷◌, length, Some, Ok, Err, refl, sym, ap, subst, arith, ◌⊎◌, inl, inr}
 use Rattle.std.specs.Prelude.{IsTrue}
-use Rattle.sl_lex.specs.declared.keyword.Keyword.{Keyword}
 use Rattle.sl_lex.specs.declared.keyword.Keyword.TheVariants as keywords
 use Rattle.sl_lex.specs.declared.token.Kind.{Kind}
 use Rattle.sl_lex.specs.declared.token.Kind.TheVariants as kinds
@@ -10,11 +9,14 @@ use Rattle.sl_stages.specs.book.Trees.{ExprTree, StageTree}
 use Rattle.sl_stages.specs.book.Limits.{parts_of}
 use Rattle.sl_parse.specs.declared.fault.Cause.{Cause}
 use Rattle.sl_parse.specs.declared.fault.Cause.TheVariants.{TooDeep, TooManyStages}
+use Rattle.sl_parse.specs.declared.form.Form.{Form}
+use Rattle.sl_parse.specs.declared.form.Form.TheVariants as forms
+use Rattle.sl_parse.specs.Words.{first_kind}
 use Rattle.sl_parse.specs.Grammar.{◌▸◌, token, keyword, comma, IsStage, AreStages, HeadTree, IsHead}
-use Rattle.sl_parse.specs.Faults.{Limits, Begins, begins_expr, BeginsExpr, has_two, ToArgument, summed, left, right, at_least, grown_from, ToExpr, InStage, PastStages}
-use Rattle.sl_parse.specs.Reading.{Read, ◌>>=◌, name_in, is_next, is_clause, no_room, read_sum, read_two, read_larger, read_less, read_division, read_minima, read_split, read_grow, read_node_at, read_node, read_expr, read_stage, read_stages, read_front, read_book}
+use Rattle.sl_parse.specs.Faults.{Limits, Begins, BeginsExpr, has_two, ToArgument, summed, left, right, at_least, grown_from, ToExpr, InStage, PastStages}
+use Rattle.sl_parse.specs.Reading.{Read, ◌>>=◌, name_in, is_next, is_clause, no_room, read_sum, read_two, read_pair, read_division, read_minima, read_split, read_grow, read_form, read_node, read_expr, read_stage, read_stages, read_front, read_book}
 use Rattle.sl_parse.proofs.SameKind.{kind-same}
-use Rattle.sl_parse.proofs.TokenTests.{tests_name}
+use Rattle.sl_parse.proofs.TokenTests.{form-taken, tests_name}
 use Rattle.sl_parse.proofs.ReadsBook.{Breaks}
 use Rattle.sl_parse.proofs.Agrees.{Agrees, taken_agrees, one_agrees}
 use Rattle.sl_parse.proofs.AgreesExpr.{Agreeing, division_agrees, agrees_expr}
@@ -49,30 +51,23 @@ unfolding no_room
 no_room_here here (t, rest, is, begins) = rw (is, begins) refl
 
 module _ (text : List ℕ) where
-  begins_with : (k : Kind) (here mid : List Token) (t : Token) → here ≡ t ∷ mid → t.kind ≡ k → begins_expr k ≡ true → BeginsExpr here
-  begins_with k here mid t is kind begins = (t, mid, is, rw kind begins)
-
-  two_begin : (head : Keyword) → IsTrue (has_two head) → begins_expr (kinds.Keyword head) ≡ true
-  two_begin keywords.Larger two = refl
-  two_begin keywords.Less two = refl
-  two_begin keywords.Split two = refl
-  two_begin keywords.Grow two = refl
-  two_begin _ two = absurd cc
+  begins_with : (form : Form) (here mid : List Token) (t : Token) → here ≡ t ∷ mid → t.kind ≡ first_kind form → BeginsExpr here
+  begins_with form here mid t is kind = (t, mid, is, rw (kind, form-taken form) refl)
 
   argument_begins : (m : ℕ) (here mid : List Token) → ToArgument text m here mid → BeginsExpr here
-  argument_begins m here mid (summed e (a, (t, is, kind), h)) = begins_with _ here a t is kind refl
-  argument_begins m here mid (left head two e (a, (t, is, kind), h)) = begins_with _ here a t is kind (two_begin head two)
-  argument_begins m here mid (right head x two e (a, (t, is, kind), h)) = begins_with _ here a t is kind (two_begin head two)
-  argument_begins m here mid (at_least s v x e (a, (t, is, kind), h)) = begins_with _ here a t is kind refl
-  argument_begins m here mid (grown_from s v x e (a, (t, is, kind), h)) = begins_with _ here a t is kind refl
+  argument_begins m here mid (summed e (a, (t, is, kind), h)) = begins_with forms.Sum here a t is kind
+  argument_begins m here mid (left form two e (a, (t, is, kind), h)) = begins_with form here a t is kind
+  argument_begins m here mid (right form x two e (a, (t, is, kind), h)) = begins_with form here a t is kind
+  argument_begins m here mid (at_least s v x e (a, (t, is, kind), h)) = begins_with forms.Split here a t is kind
+  argument_begins m here mid (grown_from s v x e (a, (t, is, kind), h)) = begins_with forms.Grow here a t is kind
 
   agreeing : (e : ExprTree) → Agreeing text e
   agreeing e d p here after h = agrees_expr text d p e here after h
 
   argument-shorter : (m : ℕ) (here mid : List Token) → ToArgument text m here mid → length mid ≤ length here
   argument-shorter m here mid (summed e (a, ha, hb)) = omega (arith, ap length ha.1, ap length hb.1)
-  argument-shorter m here mid (left head two e (a, ha, hb)) = omega (arith, ap length ha.1, ap length hb.1)
-  argument-shorter m here mid (right head x two e (a, ha, (b, hb, (c, hl, hc)))) = omega (arith, ap length ha.1, ap length hb.1, (agrees_expr text 0 0 x b c hl).shorter, ap length hc.1)
+  argument-shorter m here mid (left form two e (a, ha, hb)) = omega (arith, ap length ha.1, ap length hb.1)
+  argument-shorter m here mid (right form x two e (a, ha, (b, hb, (c, hl, hc)))) = omega (arith, ap length ha.1, ap length hb.1, (agrees_expr text 0 0 x b c hl).shorter, ap length hc.1)
   argument-shorter m here mid (at_least s v x e (a, ha, (b, hb, (c, hs, (f, hf, (g, hv, (i, hi, (k, hk, (n, hn, ho))))))))) =
       omega (arith, ap length ha.1, (division_agrees text 0 0 s v x a k (agreeing s) (agreeing v) (b, hb, (c, hs, (f, hf, (g, hv, (i, hi, hk)))))).shorter, ap length hn.1, ap length ho.1)
   argument-shorter m here mid (grown_from s v x e (a, ha, (b, hb, (c, hs, (f, hf, (g, hv, (i, hi, (k, hk, hn)))))))) =
@@ -87,10 +82,10 @@ module _ (text : List ℕ) where
       let stops : read_expr text d p here ≡ Err (TooDeep, here) = rw e (no_room_here here begins) in
       late_here TooDeep here there (read_expr text d p here) stops (expr-shorter levels before here there to)
 
-  late_node : (d p : ℕ) (k : Kind) (here there mid : List Token) (t : Token) → here ≡ t ∷ mid → t.kind ≡ k → Late TooDeep mid there (read_node_at text (read_expr text d) p k t mid) → Late TooDeep here there (read_expr text (suc d) (suc p) here)
+  late_node : (d p : ℕ) (form : Form) (here there mid : List Token) (t : Token) → here ≡ t ∷ mid → t.kind ≡ first_kind form → Late TooDeep mid there (read_form text (read_expr text d) p (Some form) t mid) → Late TooDeep here there (read_expr text (suc d) (suc p) here)
   unfolding read_expr read_node
-  late_node d p k here there mid t is kind h =
-      let reads : read_expr text (suc d) (suc p) here ≡ read_node_at text (read_expr text d) p k t mid = rw (is, kind) refl in
+  late_node d p form here there mid t is kind h =
+      let reads : read_expr text (suc d) (suc p) here ≡ read_form text (read_expr text d) p (Some form) t mid = rw (is, kind, form-taken form) refl in
       let short : length there ≤ length mid = h.shorter in
       record { shorter = rw is (omega arith); stops = rw reads h.stops }
 
@@ -98,13 +93,12 @@ module _ (text : List ℕ) where
   below m k q e rest (inl h) = inl (omega arith)
   below m k q e rest (inr h) = inr (omega arith)
 
-  -- the two arguments are the first that is read behind such a word
-  late_two : (d p : ℕ) (head : Keyword) (t : Token) (mid there : List Token) → IsTrue (has_two head) → Late TooDeep mid there (read_two (read_expr text d) p mid) → Late TooDeep mid there (read_node_at text (read_expr text d) p (kinds.Keyword head) t mid)
-  unfolding read_node_at read_larger read_less read_division read_split read_grow
-  late_two d p keywords.Larger t mid there two h = late_first _ _ h
-  late_two d p keywords.Less t mid there two h = late_first _ _ h
-  late_two d p keywords.Split t mid there two h = late_first _ _ (late_first _ _ h)
-  late_two d p keywords.Grow t mid there two h = late_first _ _ (late_first _ _ h)
+  -- the two arguments are the first that is read behind such a first token
+  late_two : (d p : ℕ) (form : Form) (t : Token) (mid there : List Token) → IsTrue (has_two form) → Late TooDeep mid there (read_two (read_expr text d) p mid) → Late TooDeep mid there (read_form text (read_expr text d) p (Some form) t mid)
+  unfolding read_form read_pair read_division read_split read_grow
+  late_two d p (forms.Pair pairing) t mid there two h = late_first _ _ h
+  late_two d p forms.Split t mid there two h = late_first _ _ (late_first _ _ h)
+  late_two d p forms.Grow t mid there two h = late_first _ _ (late_first _ _ h)
   late_two d p _ t mid there two h = absurd cc
 
   late_minima : (d p : ℕ) (here a b there : List Token) → comma here a → keyword keywords.Atleast a b → Late TooDeep b there (read_expr text d p b) → Late TooDeep here there (read_minima (read_expr text d) p here)
@@ -114,7 +108,7 @@ module _ (text : List ℕ) where
       rw next (late_then _ _ a (taken_agrees _ here a ha) (late_then _ _ b (taken_agrees _ a b hb) (late_first _ _ h)))
 
   pub late_expr : (levels before d p : ℕ) (here there : List Token) → ToExpr text levels before here there → BeginsExpr there → (levels ≡ d) ⊎ (before ≡ p) → Late TooDeep here there (read_expr text d p here)
-  unfolding read_expr read_node_at read_sum read_two read_division read_minima read_split read_grow
+  unfolding read_expr read_form read_sum read_two read_division read_minima read_split read_grow
   late_expr zero before zero p here there to begins breaks = late_no_room zero p zero before here there refl to (rw to.1 begins)
   late_expr zero before (suc d) zero here there to begins breaks = late_no_room (suc d) zero zero before here there refl to (rw to.1 begins)
   late_expr zero before (suc d) (suc p) here there to begins (inl h) = absurd cc
@@ -122,24 +116,24 @@ module _ (text : List ℕ) where
   late_expr (suc levels) before zero p here there to begins breaks = late_no_room zero p (suc levels) before here there refl to (argument_begins to.0 here to.3.0 to.3.1)
   late_expr (suc levels) before (suc d) zero here there to begins breaks = late_no_room (suc d) zero (suc levels) before here there refl to (argument_begins to.0 here to.3.0 to.3.1)
   late_expr (suc levels) before (suc d) (suc p) here there (m, k, all, (mid, summed e (a, (t, is, kind), ha), to)) begins breaks =
-      late_node d p _ here there a t is kind (
+      late_node d p forms.Sum here there a t is kind (
       late_then _ _ mid (taken_agrees _ a mid ha) (late_first _ _ (late_expr levels k d p mid there to begins (below m k p all (omega arith) breaks))))
-  late_expr (suc levels) before (suc d) (suc p) here there (m, k, all, (mid, left head two e (a, (t, is, kind), ha), to)) begins breaks =
-      late_node d p _ here there a t is kind (late_two d p head t a there two (
+  late_expr (suc levels) before (suc d) (suc p) here there (m, k, all, (mid, left form two e (a, (t, is, kind), ha), to)) begins breaks =
+      late_node d p form here there a t is kind (late_two d p form t a there two (
       late_then _ _ mid (taken_agrees _ a mid ha) (late_first _ _ (late_expr levels k d p mid there to begins (below m k p all (omega arith) breaks)))))
-  late_expr (suc levels) before (suc d) (suc p) here there (m, k, all, (mid, right head x two e (a, (t, is, kind), (b, hb, (c, hx, hc))), to)) begins breaks =
-      late_node d p _ here there a t is kind (late_two d p head t a there two (
+  late_expr (suc levels) before (suc d) (suc p) here there (m, k, all, (mid, right form x two e (a, (t, is, kind), (b, hb, (c, hx, hc))), to)) begins breaks =
+      late_node d p form here there a t is kind (late_two d p form t a there two (
       late_then _ _ b (taken_agrees _ a b hb) (
       late_then _ _ (x, p - parts_of x, c) (agrees_expr text d p x b c hx) (
       late_then _ _ mid (taken_agrees _ c mid hc) (late_first _ _ (late_expr levels k d (p - parts_of x) mid there to begins (below m k (p - parts_of x) all (omega arith) breaks)))))))
   late_expr (suc levels) before (suc d) (suc p) here there (m, k, all, (mid, at_least s v x e (a, (t, is, kind), (b, hb, (c, hs, (f, hf, (g, hv, (i, hi, (n, hk, (o, hn, ho)))))))), to)) begins breaks =
       let q : ℕ = p - parts_of s - parts_of v in
-      late_node d p _ here there a t is kind (
+      late_node d p forms.Split here there a t is kind (
       late_then _ _ ((s, v, x), q, n) (division_agrees text d p s v x a n (agreeing s) (agreeing v) (b, hb, (c, hs, (f, hf, (g, hv, (i, hi, hk)))))) (
       late_first _ _ (late_minima d q n o mid there hn ho (late_expr levels k d q mid there to begins (below m k q all (omega arith) breaks)))))
   late_expr (suc levels) before (suc d) (suc p) here there (m, k, all, (mid, grown_from s v x e (a, (t, is, kind), (b, hb, (c, hs, (f, hf, (g, hv, (i, hi, (n, hk, hn))))))), to)) begins breaks =
       let q : ℕ = p - parts_of s - parts_of v in
-      late_node d p _ here there a t is kind (
+      late_node d p forms.Grow here there a t is kind (
       late_then _ _ ((s, v, x), q, n) (division_agrees text d p s v x a n (agreeing s) (agreeing v) (b, hb, (c, hs, (f, hf, (g, hv, (i, hi, hk)))))) (
       late_then _ _ mid (taken_agrees _ n mid hn) (late_first _ _ (late_expr levels k d q mid there to begins (below m k q all (omega arith) breaks)))))
 

@@ -10,7 +10,10 @@ use Rattle.sl_lex.specs.declared.token.Token.{Token}
 use Rattle.sl_parse.specs.declared.fault.Cause.{Cause}
 use Rattle.sl_parse.specs.declared.fault.Cause.TheVariants.{Expected, TooDeep, TooManyStages, After}
 use Rattle.sl_parse.specs.Faults.{Limits, begins_expr}
-use Rattle.sl_parse.specs.Reading.{Read, same_kind, this, number_in, name_in, vacate_in, quoted_in, axis_in, method_in, preference_in, base_in, seating_in}
+use Rattle.sl_parse.specs.declared.form.Form.{Form}
+use Rattle.sl_parse.specs.declared.form.Form.TheVariants as forms
+use Rattle.sl_parse.specs.Words.{same_kind, form_of}
+use Rattle.sl_parse.specs.Reading.{Read, this, number_in, name_in, vacate_in, quoted_in, axis_in, method_in, preference_in, base_in, seating_in}
 
 -- what is to come: a token that a test takes (and one that it does take), or a part whose form its first token tells
 pub data Sym : Type 0 where
@@ -77,20 +80,14 @@ pub data Move : Type 0 where
   refused : Move
   over : Cause → Move
 
-abbrev pub expr_parts : ℕ → ℕ → Kind → Move
-expr_parts d p (kinds.Keyword keywords.House) = goes [] p
-expr_parts d p (kinds.Keyword keywords.Counted) = goes [] p
-expr_parts d p (kinds.Keyword keywords.Winners) = goes [] p
-expr_parts d p (kinds.Keyword keywords.Outside) = goes [] p
-expr_parts d p (kinds.Keyword keywords.Independents) = goes [] p
-expr_parts d p (kinds.Keyword keywords.Population) = goes [] p
-expr_parts d p kinds.Name = goes [] p
-expr_parts d p (kinds.Keyword keywords.Sum) = goes (open_sym ∷ expr d ∷ comma_sym ∷ axis_sym ∷ close_sym ∷ []) p
-expr_parts d p (kinds.Keyword keywords.Larger) = goes (open_sym ∷ expr d ∷ comma_sym ∷ expr d ∷ close_sym ∷ []) p
-expr_parts d p (kinds.Keyword keywords.Less) = goes (open_sym ∷ expr d ∷ comma_sym ∷ expr d ∷ close_sym ∷ []) p
-expr_parts d p (kinds.Keyword keywords.Split) = goes (open_sym ∷ expr d ∷ comma_sym ∷ expr d ∷ comma_sym ∷ method_sym ∷ after_method d ∷ []) p
-expr_parts d p (kinds.Keyword keywords.Grow) = goes (open_sym ∷ expr d ∷ comma_sym ∷ expr d ∷ comma_sym ∷ method_sym ∷ comma_sym ∷ expr d ∷ comma_sym ∷ number_sym ∷ refusal ∷ []) p
-expr_parts d p _ = refused
+abbrev pub expr_parts : ℕ → ℕ → Option Form → Move
+expr_parts d p (Some (forms.Fact told)) = goes [] p
+expr_parts d p (Some forms.Name) = goes [] p
+expr_parts d p (Some forms.Sum) = goes (open_sym ∷ expr d ∷ comma_sym ∷ axis_sym ∷ close_sym ∷ []) p
+expr_parts d p (Some (forms.Pair pairing)) = goes (open_sym ∷ expr d ∷ comma_sym ∷ expr d ∷ close_sym ∷ []) p
+expr_parts d p (Some forms.Split) = goes (open_sym ∷ expr d ∷ comma_sym ∷ expr d ∷ comma_sym ∷ method_sym ∷ after_method d ∷ []) p
+expr_parts d p (Some forms.Grow) = goes (open_sym ∷ expr d ∷ comma_sym ∷ expr d ∷ comma_sym ∷ method_sym ∷ comma_sym ∷ expr d ∷ comma_sym ∷ number_sym ∷ refusal ∷ []) p
+expr_parts d p None = refused
 
 abbrev pub condition_parts : ℕ → Kind → Move
 condition_parts p (kinds.Keyword keywords.Valid) = goes (tok (kinds.Keyword keywords.At) refl ∷ tok (kinds.Keyword keywords.Least) refl ∷ number_sym ∷ tok (kinds.Keyword keywords.Per) refl ∷ number_sym ∷ []) p
@@ -127,7 +124,7 @@ module _ (text : List ℕ) (l : Limits) where
   next (one_of test k e) p t = cond (test t) (goes [] p) refused
   next (expr zero) p t = full t
   next (expr (suc d)) zero t = full t
-  next (expr (suc d)) (suc p) t = expr_parts d p t.kind
+  next (expr (suc d)) (suc p) t = expr_parts d p (form_of t.kind)
   next condition p t = condition_parts p t.kind
   next or_more p t = cond (same_kind t.kind (kinds.Keyword keywords.Or)) (goes (condition ∷ or_more ∷ []) p) (ends_by (kinds.Mark marks.Semicolon) p t)
   next (after_method d) p t = cond (same_kind t.kind (kinds.Mark marks.Comma)) (goes (clause d ∷ []) p) (ends_by (kinds.Mark marks.Close) p t)

@@ -1,20 +1,23 @@
 -- What is read inside an expression is in the grammar and within the limits, and the machine goes along.
-use Rattle.std.proofs.Common.{◌≡◌, ℕ, suc, ◌+◌, ◌≤◌, Bool, true, false, cond, List, [], ◌∷◌, ◌++◌, Option, Some, None, Ok, Err, refl, ◌⊎◌, inl, inr, arith}
+use Rattle.std.proofs.Common.{◌≡◌, ℕ, suc, ◌+◌, ◌≤◌, Bool, true, false, cond, List, [], ◌∷◌, ◌++◌, Ok, Err, refl, ◌⊎◌, inl, inr, arith}
 use Rattle.std.specs.Prelude.{IsTrue, is_some, ◌&&◌}
-use Rattle.sl_lex.specs.declared.keyword.Keyword.{Keyword}
 use Rattle.sl_lex.specs.declared.keyword.Keyword.TheVariants as keywords
 use Rattle.sl_lex.specs.declared.token.Mark.TheVariants as marks
 use Rattle.sl_lex.specs.declared.token.Kind.TheVariants as kinds
 use Rattle.sl_lex.specs.declared.token.Token.{Token}
+use Rattle.sl_stages.specs.declared.book.Pairing.{Pairing}
 use Rattle.sl_stages.specs.declared.book.Majority.{Majority}
 use Rattle.sl_stages.specs.declared.book.Majority.TheVariants as majorities
-use Rattle.sl_stages.specs.book.Trees.{ExprTree, sum, larger, less, grow}
+use Rattle.sl_stages.specs.book.Trees.{ExprTree, MinimaTree, sum, pair, split, without, atleast, grow}
 use Rattle.sl_stages.specs.book.Limits.{depth_of, parts_of}
+use Rattle.sl_parse.specs.declared.form.Form.{Form}
+use Rattle.sl_parse.specs.declared.form.Form.TheVariants as forms
+use Rattle.sl_parse.specs.Words.{same_kind, method_word, first_kind}
 use Rattle.sl_parse.specs.declared.fault.Cause.{Cause}
 use Rattle.sl_parse.specs.declared.fault.Cause.TheVariants.{TooDeep}
-use Rattle.sl_parse.specs.Grammar.{Part, ◌▸◌, empty, one_token, keyword, comma, open_mark, close_mark, method_word, IsMajority, IsRefusal, IsExpr}
+use Rattle.sl_parse.specs.Grammar.{Part, ◌▸◌, empty, one_token, keyword, comma, open_mark, close_mark, IsMajority, IsRefusal, IsExpr}
 use Rattle.sl_parse.specs.Faults.{Limits, BeginsExpr, has_two, ToArgument, summed, left, right, at_least, grown_from, ToExpr}
-use Rattle.sl_parse.specs.Reading.{Read, ◌>>=◌, ReadExpr, DivisionTree, same_kind, this, one, taken, axis_in, method_in, number_in, preference_in, read_sum, read_two, read_larger, read_less, read_division, read_minima, read_majority, read_refusal, split_of, read_split, read_grow, read_expr}
+use Rattle.sl_parse.specs.Reading.{Read, ◌>>=◌, ReadExpr, DivisionTree, this, one, taken, axis_in, method_in, number_in, preference_in, read_sum, read_two, read_pair, read_division, read_minima, read_majority, read_refusal, read_split, read_grow, read_expr}
 use Rattle.sl_parse.proofs.Machine.{Sym, goes, refused, scan_move, expr, after_method, majority, refusal, tok, open_sym, comma_sym, close_sym, axis_sym, method_sym, number_sym, preference_sym, scan}
 use Rattle.sl_parse.proofs.TokenTests.{IsPreference, tests_axis, tests_method, tests_number, tests_preference}
 use Rattle.sl_parse.proofs.Rules.{State, Reads, then_reads, then_reads_front, ends, deeper, reads_one, reads_taken}
@@ -75,19 +78,19 @@ module _ (text : List ℕ) (l : Limits) where
     pub first : depth_of x.0.0 ≤ d
     pub second : depth_of x.0.1 ≤ d
 
-  abbrev pub IsMinima : Option ExprTree → Part
-  IsMinima None = empty
-  IsMinima (Some e) = comma ▸ keyword keywords.Atleast ▸ IsExpr text e
+  abbrev pub IsMinima : MinimaTree → Part
+  IsMinima without = empty
+  IsMinima (atleast e) = comma ▸ keyword keywords.Atleast ▸ IsExpr text e
 
-  abbrev parts_in : Option ExprTree → ℕ
-  parts_in None = 0
-  parts_in (Some e) = parts_of e
+  abbrev parts_in : MinimaTree → ℕ
+  parts_in without = 0
+  parts_in (atleast e) = parts_of e
 
-  abbrev depth_in : Option ExprTree → ℕ
-  depth_in None = 0
-  depth_in (Some e) = depth_of e
+  abbrev depth_in : MinimaTree → ℕ
+  depth_in without = 0
+  depth_in (atleast e) = depth_of e
 
-  record MinimaRead (d q : ℕ) (here : List Token) (x : Option ExprTree × ℕ × List Token) : Type 0 where
+  record MinimaRead (d q : ℕ) (here : List Token) (x : MinimaTree × ℕ × List Token) : Type 0 where
     is : IsMinima x.0 here x.2
     parts : parts_in x.0 + x.1 ≡ q
     depth : depth_in x.0 ≤ d
@@ -159,13 +162,13 @@ module _ (text : List ℕ) (l : Limits) where
     abbrev two_syms : List Sym
     two_syms = open_sym ∷ expr d ∷ comma_sym ∷ expr d ∷ []
 
-    reads_two : (k : Keyword) → IsTrue (has_two k) → (t : Token) (ts : List Token) → t.kind ≡ kinds.Keyword k → Reads text l two_syms [] (p, ts) (read_two (read_expr text d) p ts) left_of (TwoRead d p ts) (Deep (suc d) (suc p) (t ∷ ts))
+    reads_two : (form : Form) → IsTrue (has_two form) → (t : Token) (ts : List Token) → t.kind ≡ first_kind form → Reads text l two_syms [] (p, ts) (read_two (read_expr text d) p ts) left_of (TwoRead d p ts) (Deep (suc d) (suc p) (t ∷ ts))
     unfolding read_two
-    reads_two k two t ts is =
+    reads_two form two t ts is =
         then_reads text l _ _ (reads_taken text l _ refl ts) (λ a ha.
-        then_reads text l _ _ (deeper text l _ (argument p a) (within 1 (left k two refl (ts, (t, refl, is), ha)) (omega arith))) (λ f hf.
+        then_reads text l _ _ (deeper text l _ (argument p a) (within 1 (left form two refl (ts, (t, refl, is), ha)) (omega arith))) (λ f hf.
         then_reads text l _ _ (reads_taken text l _ refl f.2) (λ b hb.
-        then_reads text l _ _ (deeper text l _ (argument f.1 b) (within (1 + parts_of f.0) (right k f.0 two refl (ts, (t, refl, is), (a, ha, (f.2, hf.is, hb)))) (omega (arith, hf.parts)))) (λ r hr.
+        then_reads text l _ _ (deeper text l _ (argument f.1 b) (within (1 + parts_of f.0) (right form f.0 two refl (ts, (t, refl, is), (a, ha, (f.2, hf.is, hb)))) (omega (arith, hf.parts)))) (λ r hr.
         ends text l left_of ((f.0, r.0), r.1, r.2) (record {
           is = (a, ha, (f.2, hf.is, (b, hb, hr.is)));
           parts = omega (arith, hf.parts, hr.parts);
@@ -173,27 +176,14 @@ module _ (text : List ℕ) (l : Limits) where
           second = hr.depth;
         })))))
 
-    pub reads_larger : (t : Token) (ts : List Token) → t.kind ≡ kinds.Keyword keywords.Larger
-        → Expr (suc d) (suc p) (open_sym ∷ expr d ∷ comma_sym ∷ expr d ∷ close_sym ∷ []) (t ∷ ts) (p, ts) (read_larger (read_expr text d) t.start p ts)
-    unfolding read_larger
-    reads_larger t ts is =
-        then_reads_front text l two_syms (close_sym ∷ []) _ _ (reads_two keywords.Larger refl t ts is) (λ x hx.
+    pub reads_pair : (pairing : Pairing) (t : Token) (ts : List Token) → t.kind ≡ first_kind (forms.Pair pairing)
+        → Expr (suc d) (suc p) (open_sym ∷ expr d ∷ comma_sym ∷ expr d ∷ close_sym ∷ []) (t ∷ ts) (p, ts) (read_pair (read_expr text d) pairing t.start p ts)
+    unfolding read_pair
+    reads_pair pairing t ts is =
+        then_reads_front text l two_syms (close_sym ∷ []) _ _ (reads_two (forms.Pair pairing) refl t ts is) (λ x hx.
         then_reads text l _ _ (reads_taken text l _ refl x.2) (λ c hc.
         let h = hx.is in
-        ends text l left_of (larger t.start x.0.0 x.0.1, x.1, c) (record {
-          is = (ts, (t, refl, (is, refl)), (h.0, h.1, (h.2.0, h.2.1, (h.2.2.0, h.2.2.1, (x.2, h.2.2.2, hc)))));
-          parts = omega (arith, hx.parts);
-          depth = omega (arith, hx.first, hx.second);
-        })))
-
-    pub reads_less : (t : Token) (ts : List Token) → t.kind ≡ kinds.Keyword keywords.Less
-        → Expr (suc d) (suc p) (open_sym ∷ expr d ∷ comma_sym ∷ expr d ∷ close_sym ∷ []) (t ∷ ts) (p, ts) (read_less (read_expr text d) t.start p ts)
-    unfolding read_less
-    reads_less t ts is =
-        then_reads_front text l two_syms (close_sym ∷ []) _ _ (reads_two keywords.Less refl t ts is) (λ x hx.
-        then_reads text l _ _ (reads_taken text l _ refl x.2) (λ c hc.
-        let h = hx.is in
-        ends text l left_of (less t.start x.0.0 x.0.1, x.1, c) (record {
+        ends text l left_of (pair t.start pairing x.0.0 x.0.1, x.1, c) (record {
           is = (ts, (t, refl, (is, refl)), (h.0, h.1, (h.2.0, h.2.1, (h.2.2.0, h.2.2.1, (x.2, h.2.2.2, hc)))));
           parts = omega (arith, hx.parts);
           depth = omega (arith, hx.first, hx.second);
@@ -202,10 +192,10 @@ module _ (text : List ℕ) (l : Limits) where
     abbrev division_syms : List Sym
     division_syms = open_sym ∷ expr d ∷ comma_sym ∷ expr d ∷ comma_sym ∷ method_sym ∷ []
 
-    reads_division : (k : Keyword) → IsTrue (has_two k) → (t : Token) (ts : List Token) → t.kind ≡ kinds.Keyword k → Reads text l division_syms [] (p, ts) (read_division (read_expr text d) p ts) left_of (DivisionRead d p ts) (Deep (suc d) (suc p) (t ∷ ts))
+    reads_division : (form : Form) → IsTrue (has_two form) → (t : Token) (ts : List Token) → t.kind ≡ first_kind form → Reads text l division_syms [] (p, ts) (read_division (read_expr text d) p ts) left_of (DivisionRead d p ts) (Deep (suc d) (suc p) (t ∷ ts))
     unfolding read_division
-    reads_division k two t ts is =
-        then_reads_front text l two_syms (comma_sym ∷ method_sym ∷ []) _ _ (reads_two k two t ts is) (λ x hx.
+    reads_division form two t ts is =
+        then_reads_front text l two_syms (comma_sym ∷ method_sym ∷ []) _ _ (reads_two form two t ts is) (λ x hx.
         then_reads text l _ _ (reads_taken text l _ refl x.2) (λ b hb.
         then_reads text l _ _ (reads_one text l method_in _ refl tests_method b) (λ m hm.
         let h = hx.is in
@@ -216,15 +206,15 @@ module _ (text : List ℕ) (l : Limits) where
           second = hx.second;
         }))))
 
-    abbrev ReadsMinima : ℕ → List Token → List Sym → List Sym → List Token → Read (Option ExprTree × ℕ × List Token) → Type 0
+    abbrev ReadsMinima : ℕ → List Token → List Sym → List Sym → List Token → Read (MinimaTree × ℕ × List Token) → Type 0
     ReadsMinima q whole ss pend here r = Reads text l ss pend (q, here) r left_of (MinimaRead d q here) (Deep (suc d) (suc p) whole)
 
     -- with the first token known to be a comma or not, and the second to be the word or not
     abbrev Minima : ℕ → List Token → Token → List Token → Bool → Type 0
     Minima q whole t us b = ReadsMinima q whole (after_method d ∷ []) (majority ∷ []) (t ∷ us)
-        (cond b (taken (kinds.Mark marks.Comma) (t ∷ us) >>= λ a. taken (kinds.Keyword keywords.Atleast) a >>= λ c. read_expr text d q c >>= λ e. Ok (Some e.0, e.1, e.2)) (Ok (None, q, t ∷ us)))
+        (cond b (taken (kinds.Mark marks.Comma) (t ∷ us) >>= λ a. taken (kinds.Keyword keywords.Atleast) a >>= λ c. read_expr text d q c >>= λ e. Ok (atleast e.0, e.1, e.2)) (Ok (without, q, t ∷ us)))
 
-    no_minima : (q : ℕ) (here : List Token) → MinimaRead d q here (None, q, here)
+    no_minima : (q : ℕ) (here : List Token) → MinimaRead d q here (without, q, here)
     no_minima q here = record { is = refl; parts = omega arith; depth = omega arith }
 
     minima_behind : (m q : ℕ) (whole : List Token) (t u : Token) (us : List Token) → m + q ≡ suc p → ((a b : List Token) → comma (t ∷ u ∷ us) a → keyword keywords.Atleast a b → ToArgument text m whole b) → same_kind t.kind (kinds.Mark marks.Comma) ≡ true
@@ -232,11 +222,11 @@ module _ (text : List ℕ) (l : Limits) where
     unfolding scan
     minima_behind m q whole t u us all to is true next =
         let r : ReadsMinima q whole (comma_sym ∷ tok (kinds.Keyword keywords.Atleast) refl ∷ expr d ∷ []) [] (t ∷ u ∷ us)
-        (taken (kinds.Mark marks.Comma) (t ∷ u ∷ us) >>= λ a. taken (kinds.Keyword keywords.Atleast) a >>= λ b. read_expr text d q b >>= λ e. Ok (Some e.0, e.1, e.2)) =
+        (taken (kinds.Mark marks.Comma) (t ∷ u ∷ us) >>= λ a. taken (kinds.Keyword keywords.Atleast) a >>= λ b. read_expr text d q b >>= λ e. Ok (atleast e.0, e.1, e.2)) =
         then_reads text l _ _ (reads_taken text l _ refl (t ∷ u ∷ us)) (λ a ha.
         then_reads text l _ _ (reads_taken text l _ refl a) (λ b hb.
         then_reads text l _ _ (deeper text l _ (argument q b) (within m (to a b ha hb) all)) (λ x hx.
-        ends text l left_of (Some x.0, x.1, x.2) (record { is = (a, ha, (b, hb, hx.is)); parts = hx.parts; depth = hx.depth })))) in
+        ends text l left_of (atleast x.0, x.1, x.2) (record { is = (a, ha, (b, hb, hx.is)); parts = hx.parts; depth = hx.depth })))) in
         record { same = λ more. rw is (rw next (rw next at (rw is at (r.same (majority ∷ more))))); told = r.told }
     minima_behind m q whole t u us all to is false next = record { same = λ more. rw is (rw next (last more (is_some (this (kinds.Keyword keywords.Majority) u)))); told = no_minima q (t ∷ u ∷ us) }
       where
@@ -259,9 +249,9 @@ module _ (text : List ℕ) (l : Limits) where
         go true is = minima_behind m q whole t u us all to is (same_kind u.kind (kinds.Keyword keywords.Atleast)) refl
         go false is = record { same = λ more. rw is refl; told = no_minima q (t ∷ u ∷ us) }
 
-    split_is : (t : Token) (ts : List Token) (x : DivisionTree × ℕ × List Token) (m : Option ExprTree × ℕ × List Token) (j : Majority × List Token) (c : List Token) → t.kind ≡ kinds.Keyword keywords.Split
-        → DivisionRead d p ts x → MinimaRead d x.1 x.2 m → IsMajority j.0 m.2 j.1 → close_mark j.1 c → IsRead (suc d) (suc p) (t ∷ ts) (split_of t.start x.0 m.0 j.0, m.1, c)
-    split_is t ts x (None, q, here) j c is hx hm hj hc =
+    split_is : (t : Token) (ts : List Token) (x : DivisionTree × ℕ × List Token) (m : MinimaTree × ℕ × List Token) (j : Majority × List Token) (c : List Token) → t.kind ≡ kinds.Keyword keywords.Split
+        → DivisionRead d p ts x → MinimaRead d x.1 x.2 m → IsMajority j.0 m.2 j.1 → close_mark j.1 c → IsRead (suc d) (suc p) (t ∷ ts) (split t.start x.0.0 x.0.1 x.0.2 m.0 j.0, m.1, c)
+    split_is t ts x (without, q, here) j c is hx hm hj hc =
         let h = hx.is in
         let same : x.2 ≡ here = hm.is in
         record {
@@ -269,7 +259,7 @@ module _ (text : List ℕ) (l : Limits) where
           parts = omega (arith, hx.parts, hm.parts);
           depth = omega (arith, hx.first, hx.second);
         }
-    split_is t ts x (Some e, q, here) j c is hx hm hj hc =
+    split_is t ts x (atleast e, q, here) j c is hx hm hj hc =
         let h = hx.is in
         let k = hm.is in
         record {
@@ -282,19 +272,19 @@ module _ (text : List ℕ) (l : Limits) where
         → Expr (suc d) (suc p) (open_sym ∷ expr d ∷ comma_sym ∷ expr d ∷ comma_sym ∷ method_sym ∷ after_method d ∷ []) (t ∷ ts) (p, ts) (read_split (read_expr text d) t.start p ts)
     unfolding read_split
     reads_split t ts is =
-        then_reads_front text l division_syms (after_method d ∷ []) _ _ (reads_division keywords.Split refl t ts is) (λ x hx.
+        then_reads_front text l division_syms (after_method d ∷ []) _ _ (reads_division forms.Split refl t ts is) (λ x hx.
         let h = hx.is in
         then_reads text l _ _ (reads_minima (1 + parts_of x.0.0 + parts_of x.0.1) x.1 (t ∷ ts) x.2 (omega (arith, hx.parts)) (λ a b ha hb.
         at_least x.0.0 x.0.1 x.0.2 refl (ts, (t, refl, is), (h.0, h.1, (h.2.0, h.2.1, (h.2.2.0, h.2.2.1, (h.2.2.2.0, h.2.2.2.1, (h.2.2.2.2.0, h.2.2.2.2.1, (x.2, h.2.2.2.2.2, (a, ha, hb)))))))))) (λ m hm.
         then_reads text l _ _ (reads_majority (Deep (suc d) (suc p) (t ∷ ts)) m.1 m.2) (λ j hj.
         then_reads text l _ _ (reads_taken text l _ refl j.1) (λ c hc.
-        ends text l left_of (split_of t.start x.0 m.0 j.0, m.1, c) (split_is t ts x m j c is hx hm hj hc)))))
+        ends text l left_of (split t.start x.0.0 x.0.1 x.0.2 m.0 j.0, m.1, c) (split_is t ts x m j c is hx hm hj hc)))))
 
     pub reads_grow : (t : Token) (ts : List Token) → t.kind ≡ kinds.Keyword keywords.Grow
         → Expr (suc d) (suc p) (open_sym ∷ expr d ∷ comma_sym ∷ expr d ∷ comma_sym ∷ method_sym ∷ comma_sym ∷ expr d ∷ comma_sym ∷ number_sym ∷ refusal ∷ []) (t ∷ ts) (p, ts) (read_grow (read_expr text d) t.start p ts)
     unfolding read_grow
     reads_grow t ts is =
-        then_reads_front text l division_syms (comma_sym ∷ expr d ∷ comma_sym ∷ number_sym ∷ refusal ∷ []) _ _ (reads_division keywords.Grow refl t ts is) (λ x hx.
+        then_reads_front text l division_syms (comma_sym ∷ expr d ∷ comma_sym ∷ number_sym ∷ refusal ∷ []) _ _ (reads_division forms.Grow refl t ts is) (λ x hx.
         let h = hx.is in
         then_reads text l _ _ (reads_taken text l _ refl x.2) (λ a ha.
         then_reads text l _ _ (deeper text l _ (argument x.1 a) (within (1 + parts_of x.0.0 + parts_of x.0.1)

@@ -7,10 +7,13 @@ use Rattle.sl_lex.specs.declared.token.Mark.TheVariants as marks
 use Rattle.sl_lex.specs.declared.token.Kind.{Kind}
 use Rattle.sl_lex.specs.declared.token.Kind.TheVariants as kinds
 use Rattle.sl_lex.specs.declared.token.Token.{Token}
+use Rattle.sl_parse.specs.declared.form.Form.{Form}
+use Rattle.sl_parse.specs.declared.form.Form.TheVariants as forms
+use Rattle.sl_parse.specs.Words.{same_kind, form_of}
 use Rattle.sl_parse.specs.declared.fault.Cause.{Cause}
 use Rattle.sl_parse.specs.declared.fault.Cause.TheVariants.{Expected, TooDeep, After}
 use Rattle.sl_parse.specs.Faults.{Limits, begins_expr}
-use Rattle.sl_parse.specs.Reading.{Read, same_kind, this, vacate_in}
+use Rattle.sl_parse.specs.Reading.{Read, this, vacate_in}
 use Rattle.sl_parse.proofs.Machine.{Sym, one_of, expr, condition, or_more, after_method, clause, majority, refusal, vacate, stages, made, Move, goes, refused, over, expr_parts, condition_parts, full, ends_by, next, start, Pending, scan_move, scan, run_move, run}
 
 abbrev failed : Cause → List Token → Read (Unit {0})
@@ -51,41 +54,21 @@ raised-cond : (b : Bool) (m n m' n' : Move) → Raised m m' → Raised n n' → 
 raised-cond true m n m' n' h k = h
 raised-cond false m n m' n' h k = k
 
-raised-parts : (d p : ℕ) (kind : Kind) → Raised (expr_parts d p kind) (expr_parts (suc d) (suc p) kind)
-raised-parts d p (kinds.Keyword keywords.House) = refl
-raised-parts d p (kinds.Keyword keywords.Counted) = refl
-raised-parts d p (kinds.Keyword keywords.Winners) = refl
-raised-parts d p (kinds.Keyword keywords.Outside) = refl
-raised-parts d p (kinds.Keyword keywords.Independents) = refl
-raised-parts d p (kinds.Keyword keywords.Population) = refl
-raised-parts d p kinds.Name = refl
-raised-parts d p (kinds.Keyword keywords.Sum) = refl
-raised-parts d p (kinds.Keyword keywords.Larger) = refl
-raised-parts d p (kinds.Keyword keywords.Less) = refl
-raised-parts d p (kinds.Keyword keywords.Split) = refl
-raised-parts d p (kinds.Keyword keywords.Grow) = refl
-raised-parts d p _ = tt
+raised-parts : (d p : ℕ) (o : Option Form) → Raised (expr_parts d p o) (expr_parts (suc d) (suc p) o)
+raised-parts d p None = tt
+raised-parts d p (Some forms.Name) = refl
+raised-parts d p (Some _) = refl
 
-begins-moves : (d p : ℕ) (kind : Kind) → begins_expr kind ≡ true → MovesOn (expr_parts d p kind)
-begins-moves d p (kinds.Keyword keywords.House) e = (_, _, refl)
-begins-moves d p (kinds.Keyword keywords.Counted) e = (_, _, refl)
-begins-moves d p (kinds.Keyword keywords.Winners) e = (_, _, refl)
-begins-moves d p (kinds.Keyword keywords.Outside) e = (_, _, refl)
-begins-moves d p (kinds.Keyword keywords.Independents) e = (_, _, refl)
-begins-moves d p (kinds.Keyword keywords.Population) e = (_, _, refl)
-begins-moves d p kinds.Name e = (_, _, refl)
-begins-moves d p (kinds.Keyword keywords.Sum) e = (_, _, refl)
-begins-moves d p (kinds.Keyword keywords.Larger) e = (_, _, refl)
-begins-moves d p (kinds.Keyword keywords.Less) e = (_, _, refl)
-begins-moves d p (kinds.Keyword keywords.Split) e = (_, _, refl)
-begins-moves d p (kinds.Keyword keywords.Grow) e = (_, _, refl)
-begins-moves d p _ e = absurd cc
+begins-moves : (d p : ℕ) (o : Option Form) → is_some o ≡ true → MovesOn (expr_parts d p o)
+begins-moves d p None e = absurd cc
+begins-moves d p (Some forms.Name) e = (_, _, refl)
+begins-moves d p (Some _) e = (_, _, refl)
 
-raised-full : (d p : ℕ) (t : Token) → Raised (full t) (expr_parts d p t.kind)
+raised-full : (d p : ℕ) (t : Token) → Raised (full t) (expr_parts d p (form_of t.kind))
 raised-full d p t = go (begins_expr t.kind) refl
   where
-    go : (b : Bool) → begins_expr t.kind ≡ b → Raised (cond b (over TooDeep) refused) (expr_parts d p t.kind)
-    go true is = begins-moves d p t.kind is
+    go : (b : Bool) → begins_expr t.kind ≡ b → Raised (cond b (over TooDeep) refused) (expr_parts d p (form_of t.kind))
+    go true is = begins-moves d p (form_of t.kind) is
     go false is = tt
 
 raised-condition : (p : ℕ) (kind : Kind) → Raised (condition_parts p kind) (condition_parts (suc p) kind)
@@ -120,7 +103,7 @@ module _ (text : List ℕ) (l : Limits) where
   raised (one_of test k e) p t = raised-cond (test t) _ _ _ _ refl tt
   raised (expr zero) p t = raised-full 0 p t
   raised (expr (suc d)) zero t = raised-full (suc d) 0 t
-  raised (expr (suc d)) (suc p) t = raised-parts d p t.kind
+  raised (expr (suc d)) (suc p) t = raised-parts d p (form_of t.kind)
   raised condition p t = raised-condition p t.kind
   raised or_more p t = raised-cond (same_kind t.kind (kinds.Keyword keywords.Or)) _ _ _ _ refl (raised-ends (kinds.Mark marks.Semicolon) p t)
   raised (after_method d) p t = raised-cond (same_kind t.kind (kinds.Mark marks.Comma)) _ _ _ _ refl (raised-ends (kinds.Mark marks.Close) p t)

@@ -7,7 +7,7 @@ use Rattle.sl_lex.specs.contracts.token.Mark.{the_type as mark_type}
 use Rattle.sl_lex.specs.declared.token.Mark.{Mark}
 use Rattle.sl_lex.specs.declared.token.Kind.{Kind}
 use Rattle.sl_lex.specs.declared.token.Kind.TheVariants as kinds
-use Rattle.sl_parse.specs.Reading.{same_kind}
+use Rattle.sl_parse.specs.Words.{same_kind}
 use denote.Enum.Bare.{same_true, true_same}
 
 pub same-kind : (a b : Kind) → same_kind a b ≡ true → a ≡ b

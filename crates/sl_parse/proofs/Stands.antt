@@ -1,5 +1,5 @@
 -- Where the reader stops stands the fault, and no other fault stands.
-use Rattle.std.proofs.Common.{◌≡◌, ℕ, zero, suc, ◌+◌, ◌≤◌, ◌<◌, Bool, true, false, cond, List, [], ◌∷◌, ◌++◌, map, length, Some, Ok, Err, refl, sym, ap, ◌∙◌, arith, ◌⊎◌, inl, inr, append_assoc}
+use Rattle.std.proofs.Common.{◌≡◌, ℕ, zero, suc, ◌+◌, ◌≤◌, ◌<◌, Bool, true, false, cond, List, [], ◌∷◌, ◌++◌, map, length, Option, Some, None, Ok, Err, refl, sym, ap, ◌∙◌, arith, ◌⊎◌, inl, inr, append_assoc}
 use Rattle.std.specs.Prelude.{is_some}
 use Rattle.std.proofs.lemmas.Bool.{cases_lt}
 use Rattle.std.proofs.lemmas.List.{append-nil, length-append}
@@ -13,7 +13,10 @@ use Rattle.sl_parse.specs.declared.fault.Cause.{Cause}
 use Rattle.sl_parse.specs.declared.fault.Cause.TheVariants.{Expected, TooDeep, TooManyStages, After}
 use Rattle.sl_parse.specs.Grammar.{IsBook}
 use Rattle.sl_parse.specs.Faults.{Limits, IsWhole, IsPrefix, begins_expr, StandsAt, IsFault}
-use Rattle.sl_parse.specs.Reading.{Read, ◌>>=◌, same_kind, this, vacate_in, read_book}
+use Rattle.sl_parse.specs.declared.form.Form.{Form}
+use Rattle.sl_parse.specs.declared.form.Form.TheVariants as forms
+use Rattle.sl_parse.specs.Words.{same_kind, form_of}
+use Rattle.sl_parse.specs.Reading.{Read, ◌>>=◌, this, vacate_in, read_book}
 use Rattle.sl_parse.proofs.Machine.{Sym, one_of, expr, condition, or_more, after_method, clause, majority, refusal, vacate, stages, Move, goes, refused, over, Pending, expr_parts, condition_parts, full, ends_by, next, start, scan, run}
 use Rattle.sl_parse.proofs.Runs.{wider, raise, MovesOn, Raised, raised, StopsAt, stopped, scan-run, run-whole, halves, run-append, run_one, run-raise, can_end}
 use Rattle.sl_parse.proofs.Rules.{IsLimit}
@@ -43,14 +46,11 @@ limit-cond : (b : Bool) (m n : Move) → LimitMove m → LimitMove n → LimitMo
 limit-cond true m n h k = h
 limit-cond false m n h k = k
 
-limit-parts : (d p : ℕ) (kind : Kind) → LimitMove (expr_parts d p kind)
+limit-parts : (d p : ℕ) (o : Option Form) → LimitMove (expr_parts d p o)
 unfolding LimitMove
-limit-parts d p (kinds.Keyword keywords.Sum) = tt
-limit-parts d p (kinds.Keyword keywords.Larger) = tt
-limit-parts d p (kinds.Keyword keywords.Less) = tt
-limit-parts d p (kinds.Keyword keywords.Split) = tt
-limit-parts d p (kinds.Keyword keywords.Grow) = tt
-limit-parts d p _ = tt
+limit-parts d p None = tt
+limit-parts d p (Some forms.Name) = tt
+limit-parts d p (Some _) = tt
 
 limit-condition : (p : ℕ) (kind : Kind) → LimitMove (condition_parts p kind)
 unfolding LimitMove
@@ -103,7 +103,7 @@ module _ (text : List ℕ) (l : Limits) where
   limits (one_of test k e) p t = limit-cond (test t) _ _ tt tt
   limits (expr zero) p t = limit-full t
   limits (expr (suc d)) zero t = limit-full t
-  limits (expr (suc d)) (suc p) t = limit-parts d p t.kind
+  limits (expr (suc d)) (suc p) t = limit-parts d p (form_of t.kind)
   limits condition p t = limit-condition p t.kind
   limits or_more p t = limit-cond (same_kind t.kind (kinds.Keyword keywords.Or)) _ _ tt (limit-ends (kinds.Mark marks.Semicolon) p t)
   limits (after_method d) p t = limit-cond (same_kind t.kind (kinds.Mark marks.Comma)) _ _ tt (limit-ends (kinds.Mark marks.Close) p t)

@@ -17,7 +17,7 @@ use Rattle.sl_stages.specs.declared.book.Cond.TheVariants as conditions
 use Rattle.sl_stages.specs.declared.book.LastClause.{LastClause}
 use Rattle.sl_stages.specs.declared.book.Majority.{Majority}
 use Rattle.sl_stages.specs.declared.book.Majority.TheVariants as majorities
-use Rattle.sl_stages.specs.book.Trees.{ExprTree, house, counted, winners, outside, independents, population, name, sum, larger, less, split, split_from, grow, StageTree}
+use Rattle.sl_stages.specs.book.Trees.{ExprTree, fact, name, sum, pair, split, without, atleast, grow, StageTree}
 use Rattle.sl_stages.specs.book.Limits.{numbers_of, condition_numbers, book_numbers, are_small}
 use Rattle.sl_parse.specs.Spans.{bytes_of, FitsKind, AreSpans}
 use Rattle.sl_parse.specs.Grammar.{◌▸◌, Part, empty, one_token, token, number, IsMajority, IsRefusal, IsExpr, AreStages, IsCondition, AreMore, AreConditions, HeadTree, IsHead}
@@ -109,18 +109,12 @@ module _ (test : ℕ → Bool) where
 
   module _ (text : List ℕ) where
     an_expr : (e : ExprTree) → Takes (numbers_of e) (IsExpr text e)
-    an_expr (house at) = one
-    an_expr (counted at) = one
-    an_expr (winners at) = one
-    an_expr (outside at) = one
-    an_expr (independents at) = one
-    an_expr (population at) = one
+    an_expr (fact at told) = one
     an_expr (name at n) = one
     an_expr (sum at e axis) = skip one (skip one (last (an_expr e) (skip one (skip one one))))
-    an_expr (larger at l r) = skip one (skip one (two (an_expr l) (skip one (last (an_expr r) one))))
-    an_expr (less at l r) = skip one (skip one (two (an_expr l) (skip one (last (an_expr r) one))))
-    an_expr (split at s v m j) = skip one (skip one (two (an_expr s) (skip one (last (an_expr v) (skip one (skip one (skip (majority j) one)))))))
-    an_expr (split_from at s v m e j) =
+    an_expr (pair at pairing l r) = skip one (skip one (two (an_expr l) (skip one (last (an_expr r) one))))
+    an_expr (split at s v m without j) = skip one (skip one (two (an_expr s) (skip one (last (an_expr v) (skip one (skip one (skip (majority j) one)))))))
+    an_expr (split at s v m (atleast e) j) =
         skip one (skip one (two (an_expr s) (skip one (two (an_expr v) (skip one (skip one (skip one (skip one (last (an_expr e) (skip (majority j) one))))))))))
     an_expr (grow at s v m e cap j) =
         skip one (skip one (two (an_expr s) (skip one (two (an_expr v) (skip one (skip one (skip one (two (an_expr e) (skip one (last (number_at cap) (skip (refusal j) one)))))))))))

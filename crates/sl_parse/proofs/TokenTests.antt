@@ -11,6 +11,10 @@ use Rattle.sl_lex.specs.declared.token.Kind.{Kind}
 use Rattle.sl_lex.specs.declared.token.Kind.TheVariants as kinds
 use Rattle.sl_lex.specs.declared.token.Token.{Token}
 use Rattle.sl_parse.specs.Spans.{bytes_of}
+use Rattle.sl_stages.specs.declared.fact.Fact.TheVariants as facts
+use Rattle.sl_stages.specs.declared.book.Pairing.TheVariants as pairings
+use Rattle.sl_parse.specs.declared.form.Form.{Form}
+use Rattle.sl_parse.specs.declared.form.Form.TheVariants as forms
 use Rattle.sl_stages.specs.declared.book.Axis.{Axis}
 use Rattle.sl_stages.specs.declared.book.Axis.TheVariants as axes
 use Rattle.sl_stages.specs.declared.book.Base.{Base}
@@ -20,8 +24,9 @@ use Rattle.sl_stages.specs.declared.book.Majority.TheVariants as majorities
 use Rattle.sl_stages.specs.declared.book.Number.{Number}
 use Rattle.sl_stages.specs.declared.book.Seating.{Seating}
 use Rattle.sl_stages.specs.declared.book.Seating.TheVariants as seatings
-use Rattle.sl_parse.specs.Grammar.{axis_word, seating_word, method_word}
-use Rattle.sl_parse.specs.Reading.{this, number_of, number_in, name_in, vacate_in, quoted_in, axis_of, axis_in, seating_of, seating_in, method_of, method_in, preference_of, preference_in, base_of, base_in, same_kind}
+use Rattle.sl_parse.specs.Words.{same_kind, stands_for, axis_word, all_axes, axis_of, seating_word, all_seatings, seating_of, method_word, all_methods, method_of, first_kind, all_forms, form_of}
+use Rattle.sl_parse.specs.Reading.{this, number_of, number_in, name_in, vacate_in, quoted_in, axis_in, seating_in, method_in, preference_of, preference_in, base_of, base_in}
+use Rattle.sl_lex.proofs.Words.{found_passes}
 use Rattle.sl_parse.proofs.SameKind.{same-kind, kind-same}
 
 -- the test of a token, and what a token that it takes is
@@ -62,43 +67,43 @@ tests_quoted text = record {
   takes = λ t x e. rw (e.0, e.1) refl;
 }
 
-axis-is : (k : Kind) (x : Axis) → axis_of k ≡ Some x → k ≡ kinds.Keyword (axis_word x)
-axis-is (kinds.Keyword keywords.Party) axes.Party e = refl
-axis-is (kinds.Keyword keywords.Land) axes.Land e = refl
-axis-is (kinds.Keyword keywords.All) axes.All e = refl
-axis-is _ x e = absurd cc
+-- ---- words
 
-seating-is : (k : Kind) (x : Seating) → seating_of k ≡ Some x → k ≡ kinds.Keyword (seating_word x)
-seating-is (kinds.Keyword keywords.Keep) seatings.Keep e = refl
-seating-is (kinds.Keyword keywords.Cover) seatings.Cover e = refl
-seating-is _ x e = absurd cc
+-- what a kind stands for has that kind
+stands-is : {A : Type 0} (kind_of : A → Kind) (all : List A) (k : Kind) (x : A) → stands_for kind_of all k ≡ Some x → k ≡ kind_of x
+stands-is kind_of all k x e = same-kind k (kind_of x) (found_passes (λ y. same_kind k (kind_of y)) all x e)
+
+stands : {A : Type 0} (kind_of : A → Kind) (all : List A) → ((x : A) → stands_for kind_of all (kind_of x) ≡ Some x) → Tests (λ t. stands_for kind_of all t.kind) (λ x t. t.kind ≡ kind_of x)
+stands kind_of all taken = record { is = λ t x e. stands-is kind_of all t.kind x e; takes = λ t x e. rw e (taken x) }
+
+axis-taken : (x : Axis) → axis_of (kinds.Keyword (axis_word x)) ≡ Some x
+axis-taken axes.All = refl
+axis-taken _ = refl
+
+pub tests_axis : Tests axis_in (λ x t. t.kind ≡ kinds.Keyword (axis_word x))
+tests_axis = stands _ all_axes axis-taken
 
 seating-taken : (x : Seating) → seating_of (kinds.Keyword (seating_word x)) ≡ Some x
 seating-taken seatings.Keep = refl
-seating-taken seatings.Cover = refl
+seating-taken _ = refl
 
 pub tests_seating : Tests seating_in (λ x t. t.kind ≡ kinds.Keyword (seating_word x))
-tests_seating = record { is = λ t x e. seating-is t.kind x e; takes = λ t x e. rw e (seating-taken x) }
-
-method-is : (k : Kind) (x : Method) → method_of k ≡ Some x → k ≡ kinds.Keyword (method_word x)
-method-is (kinds.Keyword keywords.Adams) x e = let same : methods.Divisor divisors.Adams ≡ x = cc in rw (← same) refl
-method-is (kinds.Keyword keywords.Dean) x e = let same : methods.Divisor divisors.Dean ≡ x = cc in rw (← same) refl
-method-is (kinds.Keyword keywords.Hill) x e = let same : methods.Divisor divisors.Hill ≡ x = cc in rw (← same) refl
-method-is (kinds.Keyword keywords.Webster) x e = let same : methods.Divisor divisors.Webster ≡ x = cc in rw (← same) refl
-method-is (kinds.Keyword keywords.Jefferson) x e = let same : methods.Divisor divisors.Jefferson ≡ x = cc in rw (← same) refl
-method-is (kinds.Keyword keywords.Hamilton) x e = let same : methods.Hamilton ≡ x = cc in rw (← same) refl
-method-is _ x e = absurd cc
+tests_seating = stands _ all_seatings seating-taken
 
 method-taken : (x : Method) → method_of (kinds.Keyword (method_word x)) ≡ Some x
 method-taken (methods.Divisor divisors.Adams) = refl
-method-taken (methods.Divisor divisors.Dean) = refl
-method-taken (methods.Divisor divisors.Hill) = refl
-method-taken (methods.Divisor divisors.Webster) = refl
-method-taken (methods.Divisor divisors.Jefferson) = refl
-method-taken methods.Hamilton = refl
+method-taken _ = refl
 
 pub tests_method : Tests method_in (λ x t. t.kind ≡ kinds.Keyword (method_word x))
-tests_method = record { is = λ t x e. method-is t.kind x e; takes = λ t x e. rw e (method-taken x) }
+tests_method = stands _ all_methods method-taken
+
+pub form-is : (k : Kind) (x : Form) → form_of k ≡ Some x → k ≡ first_kind x
+form-is = stands-is first_kind all_forms
+
+pub form-taken : (x : Form) → form_of (first_kind x) ≡ Some x
+form-taken (forms.Fact facts.House) = refl
+form-taken (forms.Pair pairings.Less) = refl
+form-taken _ = refl
 
 -- the words of a majority clause
 abbrev pub IsPreference : Majority → Kind → Type 0
@@ -148,11 +153,3 @@ tests_vacate text = record {
       (same-kind t.kind kinds.Name k.0, (bytes_eq-Decides (bytes_of text t) (codes "vacate")).0 k.1, h.1);
   takes = λ t at e. rw (e.0, (bytes_eq-Decides (bytes_of text t) (codes "vacate")).1 e.1, e.2) refl;
 }
-
-axis-taken : (x : Axis) → axis_of (kinds.Keyword (axis_word x)) ≡ Some x
-axis-taken axes.Party = refl
-axis-taken axes.Land = refl
-axis-taken axes.All = refl
-
-pub tests_axis : Tests axis_in (λ x t. t.kind ≡ kinds.Keyword (axis_word x))
-tests_axis = record { is = λ t x e. axis-is t.kind x e; takes = λ t x e. rw e (axis-taken x) }

@@ -1,16 +1,17 @@
 -- Which fault tokens have, if they are no book within the limits (docs/language.md, section 2).
-use Rattle.std.specs.Prelude.{◌≡◌, ℕ, zero, suc, ◌+◌, ◌≤◌, Bool, true, false, List, [], ◌∷◌, ◌++◌, length, ◌⊎◌, IsTrue}
+use Rattle.std.specs.Prelude.{◌≡◌, ℕ, zero, suc, ◌+◌, ◌≤◌, Bool, true, false, List, [], ◌∷◌, ◌++◌, length, is_some, ◌⊎◌, IsTrue}
 use Rattle.sl_ratio.specs.declared.method.Method.{Method}
-use Rattle.sl_lex.specs.declared.keyword.Keyword.{Keyword}
 use Rattle.sl_lex.specs.declared.keyword.Keyword.TheVariants as keywords
 use Rattle.sl_lex.specs.declared.token.Kind.{Kind}
-use Rattle.sl_lex.specs.declared.token.Kind.TheVariants as kinds
 use Rattle.sl_lex.specs.declared.token.Token.{Token}
 use Rattle.sl_stages.specs.book.Trees.{ExprTree, StageTree, BookTree}
 use Rattle.sl_stages.specs.book.Limits.{parts_of}
 use Rattle.sl_parse.specs.declared.fault.Cause.{Cause}
 use Rattle.sl_parse.specs.declared.fault.Cause.TheVariants.{Expected, TooDeep, TooManyStages, After}
-use Rattle.sl_parse.specs.Grammar.{◌▸◌, Part, keyword, method_word, name_at, equals, comma, open_mark, IsExpr, AreStages, HeadTree, IsHead, IsBook}
+use Rattle.sl_parse.specs.declared.form.Form.{Form}
+use Rattle.sl_parse.specs.declared.form.Form.TheVariants as forms
+use Rattle.sl_parse.specs.Words.{method_word, first_kind, form_of}
+use Rattle.sl_parse.specs.Grammar.{◌▸◌, Part, token, keyword, name_at, equals, comma, open_mark, IsExpr, AreStages, HeadTree, IsHead, IsBook}
 
 abbrev pub IsWhole : List ℕ → List Token → Type 0
 IsWhole text tokens = (b : BookTree) × IsBook text b tokens []
@@ -24,37 +25,24 @@ Begins p here = (after : List Token) × p here after
 
 -- the tokens with which an expression begins
 abbrev pub begins_expr : Kind → Bool
-begins_expr (kinds.Keyword keywords.House) = true
-begins_expr (kinds.Keyword keywords.Counted) = true
-begins_expr (kinds.Keyword keywords.Winners) = true
-begins_expr (kinds.Keyword keywords.Outside) = true
-begins_expr (kinds.Keyword keywords.Independents) = true
-begins_expr (kinds.Keyword keywords.Population) = true
-begins_expr kinds.Name = true
-begins_expr (kinds.Keyword keywords.Sum) = true
-begins_expr (kinds.Keyword keywords.Larger) = true
-begins_expr (kinds.Keyword keywords.Less) = true
-begins_expr (kinds.Keyword keywords.Split) = true
-begins_expr (kinds.Keyword keywords.Grow) = true
-begins_expr _ = false
+begins_expr k = is_some (form_of k)
 
 abbrev pub BeginsExpr : List Token → Type 0
 BeginsExpr here = (t : Token) × (rest : List Token) × (here ≡ t ∷ rest) × IsTrue (begins_expr t.kind)
 
--- the words behind which two arguments stand
-abbrev pub has_two : Keyword → Bool
-has_two keywords.Larger = true
-has_two keywords.Less = true
-has_two keywords.Split = true
-has_two keywords.Grow = true
+-- the forms in which two arguments stand side by side
+abbrev pub has_two : Form → Bool
+has_two (forms.Pair pairing) = true
+has_two forms.Split = true
+has_two forms.Grow = true
 has_two _ = false
 
 -- From the first token of an expression up to that of one of its arguments. `before` counts the expression itself, and all
 -- that stand in the arguments before this one.
 pub data ToArgument (text : List ℕ) (before : ℕ) (here there : List Token) : Type 0 where
   summed : before ≡ 1 → (keyword keywords.Sum ▸ open_mark) here there → ToArgument text before here there
-  left : (head : Keyword) → IsTrue (has_two head) → before ≡ 1 → (keyword head ▸ open_mark) here there → ToArgument text before here there
-  right : (head : Keyword) (l : ExprTree) → IsTrue (has_two head) → before ≡ 1 + parts_of l → (keyword head ▸ open_mark ▸ IsExpr text l ▸ comma) here there → ToArgument text before here there
+  left : (form : Form) → IsTrue (has_two form) → before ≡ 1 → (token (first_kind form) ▸ open_mark) here there → ToArgument text before here there
+  right : (form : Form) (l : ExprTree) → IsTrue (has_two form) → before ≡ 1 + parts_of l → (token (first_kind form) ▸ open_mark ▸ IsExpr text l ▸ comma) here there → ToArgument text before here there
   at_least : (s v : ExprTree) (m : Method) → before ≡ 1 + parts_of s + parts_of v
       → (keyword keywords.Split ▸ open_mark ▸ IsExpr text s ▸ comma ▸ IsExpr text v ▸ comma ▸ keyword (method_word m) ▸ comma ▸ keyword keywords.Atleast) here there → ToArgument text before here there
   grown_from : (s v : ExprTree) (m : Method) → before ≡ 1 + parts_of s + parts_of v

@@ -1,8 +1,5 @@
 -- The grammar of rulebooks: which tokens are which tree (docs/language.md, section 2).
 use Rattle.std.specs.Prelude.{◌≡◌, ℕ, ◌+◌, ◌-◌, List, [], ◌∷◌, Option, Some, None, codes, slice_range}
-use Rattle.sl_ratio.specs.declared.method.Divisor.TheVariants as divisors
-use Rattle.sl_ratio.specs.declared.method.Method.{Method}
-use Rattle.sl_ratio.specs.declared.method.Method.TheVariants as methods
 use Rattle.sl_lex.specs.declared.keyword.Keyword.{Keyword}
 use Rattle.sl_lex.specs.declared.keyword.Keyword.TheVariants as keywords
 use Rattle.sl_lex.specs.declared.token.Mark.TheVariants as marks
@@ -10,8 +7,7 @@ use Rattle.sl_lex.specs.declared.token.Kind.{Kind}
 use Rattle.sl_lex.specs.declared.token.Kind.TheVariants as kinds
 use Rattle.sl_lex.specs.declared.token.Token.{Token}
 use Rattle.sl_parse.specs.Spans.{bytes_of}
-use Rattle.sl_stages.specs.declared.book.Axis.{Axis}
-use Rattle.sl_stages.specs.declared.book.Axis.TheVariants as axes
+use Rattle.sl_parse.specs.Words.{axis_word, method_word, seating_word, fact_word, pairing_word}
 use Rattle.sl_stages.specs.declared.book.Majority.{Majority}
 use Rattle.sl_stages.specs.declared.book.Majority.TheVariants as majorities
 use Rattle.sl_stages.specs.declared.book.Number.{Number}
@@ -19,10 +15,8 @@ use Rattle.sl_stages.specs.declared.book.Cond.{Cond}
 use Rattle.sl_stages.specs.declared.book.Cond.TheVariants as conditions
 use Rattle.sl_stages.specs.declared.book.Base.{Base}
 use Rattle.sl_stages.specs.declared.book.Base.TheVariants as bases
-use Rattle.sl_stages.specs.declared.book.Seating.{Seating}
-use Rattle.sl_stages.specs.declared.book.Seating.TheVariants as seatings
 use Rattle.sl_stages.specs.declared.book.LastClause.{LastClause}
-use Rattle.sl_stages.specs.book.Trees.{ExprTree, house, counted, winners, outside, independents, population, name, sum, larger, less, split, split_from, grow, StageTree, BookTree}
+use Rattle.sl_stages.specs.book.Trees.{ExprTree, fact, name, sum, pair, split, without, atleast, grow, StageTree, BookTree}
 
 -- A part of a token list, told by the tokens from its first on and by those behind it.
 abbrev pub Part : Type 1
@@ -87,19 +81,6 @@ quoted text chars = one_token (λ t. (t.kind ≡ kinds.Text) × (slice_range tex
 
 -- ---- expressions and stages
 
-abbrev pub axis_word : Axis → Keyword
-axis_word axes.Party = keywords.Party
-axis_word axes.Land = keywords.Land
-axis_word axes.All = keywords.All
-
-abbrev pub method_word : Method → Keyword
-method_word (methods.Divisor divisors.Adams) = keywords.Adams
-method_word (methods.Divisor divisors.Dean) = keywords.Dean
-method_word (methods.Divisor divisors.Hill) = keywords.Hill
-method_word (methods.Divisor divisors.Webster) = keywords.Webster
-method_word (methods.Divisor divisors.Jefferson) = keywords.Jefferson
-method_word methods.Hamilton = keywords.Hamilton
-
 -- the majority clause of a split, if there is one
 abbrev pub IsMajority : Majority → Part
 IsMajority majorities.Free = empty
@@ -112,18 +93,12 @@ IsRefusal majorities.Prefer = none
 IsRefusal m = IsMajority m
 
 abbrev pub IsExpr : List ℕ → ExprTree → Part
-IsExpr text (house at) = keyword_at keywords.House at
-IsExpr text (counted at) = keyword_at keywords.Counted at
-IsExpr text (winners at) = keyword_at keywords.Winners at
-IsExpr text (outside at) = keyword_at keywords.Outside at
-IsExpr text (independents at) = keyword_at keywords.Independents at
-IsExpr text (population at) = keyword_at keywords.Population at
+IsExpr text (fact at told) = keyword_at (fact_word told) at
 IsExpr text (name at n) = name_at text n at
 IsExpr text (sum at e axis) = keyword_at keywords.Sum at ▸ open_mark ▸ IsExpr text e ▸ comma ▸ keyword (axis_word axis) ▸ close_mark
-IsExpr text (larger at l r) = keyword_at keywords.Larger at ▸ open_mark ▸ IsExpr text l ▸ comma ▸ IsExpr text r ▸ close_mark
-IsExpr text (less at l r) = keyword_at keywords.Less at ▸ open_mark ▸ IsExpr text l ▸ comma ▸ IsExpr text r ▸ close_mark
-IsExpr text (split at s v m j) = keyword_at keywords.Split at ▸ open_mark ▸ IsExpr text s ▸ comma ▸ IsExpr text v ▸ comma ▸ keyword (method_word m) ▸ IsMajority j ▸ close_mark
-IsExpr text (split_from at s v m e j) = keyword_at keywords.Split at ▸ open_mark ▸ IsExpr text s ▸ comma ▸ IsExpr text v ▸ comma ▸ keyword (method_word m)
+IsExpr text (pair at pairing l r) = keyword_at (pairing_word pairing) at ▸ open_mark ▸ IsExpr text l ▸ comma ▸ IsExpr text r ▸ close_mark
+IsExpr text (split at s v m without j) = keyword_at keywords.Split at ▸ open_mark ▸ IsExpr text s ▸ comma ▸ IsExpr text v ▸ comma ▸ keyword (method_word m) ▸ IsMajority j ▸ close_mark
+IsExpr text (split at s v m (atleast e) j) = keyword_at keywords.Split at ▸ open_mark ▸ IsExpr text s ▸ comma ▸ IsExpr text v ▸ comma ▸ keyword (method_word m)
     ▸ comma ▸ keyword keywords.Atleast ▸ IsExpr text e ▸ IsMajority j ▸ close_mark
 IsExpr text (grow at s v m e cap j) = keyword_at keywords.Grow at ▸ open_mark ▸ IsExpr text s ▸ comma ▸ IsExpr text v ▸ comma ▸ keyword (method_word m)
     ▸ comma ▸ IsExpr text e ▸ comma ▸ number cap ▸ IsRefusal j ▸ close_mark
@@ -166,10 +141,6 @@ IsHead text h = keyword keywords.Rulebook ▸ number h.version ▸ semicolon ▸
 abbrev pub IsBase : List ℕ → Base → ℕ → Part
 IsBase text bases.Winners at = keyword_at keywords.Winners at
 IsBase text (bases.Stage n) at = name_at text n at
-
-abbrev pub seating_word : Seating → Keyword
-seating_word seatings.Keep = keywords.Keep
-seating_word seatings.Cover = keywords.Cover
 
 -- the word vacate, if it is there
 abbrev pub IsVacate : List ℕ → Option ℕ → Part

@@ -1,4 +1,5 @@
 pub mod Spans
+pub mod Words
 pub mod Grammar
 pub mod Faults
 pub mod Reading

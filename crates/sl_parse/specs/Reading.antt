@@ -1,10 +1,7 @@
 -- Reading from the front, as the parser does: what is read with the tokens behind it, or why and where it stops.
 use Rattle.std.specs.Prelude.{◌≡◌, ℕ, zero, suc, ◌+◌, ◌-◌, Bool, false, ◌&&◌, List, [], ◌∷◌, length, Option, Some, None, Result, Ok, Err, if◌then◌else◌, drop, slice_range, codes}
 use Rattle.std.specs.Str.{bytes_eq}
-use Rattle.sl_ratio.specs.declared.method.Divisor.TheVariants as divisors
 use Rattle.sl_ratio.specs.declared.method.Method.{Method}
-use Rattle.sl_ratio.specs.declared.method.Method.TheVariants as methods
-use Rattle.sl_lex.specs.contracts.token.KindPartialEq.TheImpl.{ghosts as kind_eq}
 use Rattle.sl_lex.specs.declared.keyword.Keyword.{Keyword}
 use Rattle.sl_lex.specs.declared.keyword.Keyword.TheVariants as keywords
 use Rattle.sl_lex.specs.declared.token.Mark.TheVariants as marks
@@ -12,8 +9,11 @@ use Rattle.sl_lex.specs.declared.token.Kind.{Kind}
 use Rattle.sl_lex.specs.declared.token.Kind.TheVariants as kinds
 use Rattle.sl_lex.specs.declared.token.Token.{Token}
 use Rattle.sl_parse.specs.Spans.{bytes_of}
+use Rattle.sl_parse.specs.declared.form.Form.{Form}
+use Rattle.sl_parse.specs.declared.form.Form.TheVariants as forms
+use Rattle.sl_parse.specs.Words.{same_kind, axis_of, method_of, seating_of, form_of}
 use Rattle.sl_stages.specs.declared.book.Axis.{Axis}
-use Rattle.sl_stages.specs.declared.book.Axis.TheVariants as axes
+use Rattle.sl_stages.specs.declared.book.Pairing.{Pairing}
 use Rattle.sl_stages.specs.declared.book.Majority.{Majority}
 use Rattle.sl_stages.specs.declared.book.Majority.TheVariants as majorities
 use Rattle.sl_stages.specs.declared.book.Number.{Number}
@@ -22,9 +22,8 @@ use Rattle.sl_stages.specs.declared.book.Cond.TheVariants as conditions
 use Rattle.sl_stages.specs.declared.book.Base.{Base}
 use Rattle.sl_stages.specs.declared.book.Base.TheVariants as bases
 use Rattle.sl_stages.specs.declared.book.Seating.{Seating}
-use Rattle.sl_stages.specs.declared.book.Seating.TheVariants as seatings
 use Rattle.sl_stages.specs.declared.book.LastClause.{LastClause}
-use Rattle.sl_stages.specs.book.Trees.{ExprTree, house, counted, winners, outside, independents, population, name, sum, larger, less, split, split_from, grow, StageTree, BookTree}
+use Rattle.sl_stages.specs.book.Trees.{ExprTree, MinimaTree, fact, name, sum, pair, split, without, atleast, grow, StageTree, BookTree}
 use Rattle.sl_parse.specs.declared.fault.Cause.{Cause}
 use Rattle.sl_parse.specs.declared.fault.Cause.TheVariants.{Expected, TooDeep, TooManyStages, After}
 use Rattle.sl_parse.specs.declared.fault.Stop.{Stop}
@@ -50,9 +49,6 @@ Gives all view (Ok x) read = read ≡ Ok (view x)
 Gives all view (Err e) read = Fails all e read
 
 -- ---- one token
-
-abbrev pub same_kind : Kind → Kind → Bool
-same_kind a b = kind_eq.eq a b
 
 abbrev pub found_or : {A : Type 0} → Option A → Token → List Token → Read (A × List Token)
 found_or None t rest = Err (Expected, t ∷ rest)
@@ -82,31 +78,11 @@ vacate_in text t = if same_kind t.kind kinds.Name && bytes_eq (bytes_of text t) 
 abbrev pub quoted_in : List ℕ → Token → Option (List ℕ)
 quoted_in text t = if same_kind t.kind kinds.Text then Some (slice_range text (t.start + 1) (t.end - 1)) else None
 
-abbrev pub axis_of : Kind → Option Axis
-axis_of (kinds.Keyword keywords.Party) = Some axes.Party
-axis_of (kinds.Keyword keywords.Land) = Some axes.Land
-axis_of (kinds.Keyword keywords.All) = Some axes.All
-axis_of _ = None
-
 abbrev pub axis_in : Token → Option Axis
 axis_in t = axis_of t.kind
 
-abbrev pub seating_of : Kind → Option Seating
-seating_of (kinds.Keyword keywords.Keep) = Some seatings.Keep
-seating_of (kinds.Keyword keywords.Cover) = Some seatings.Cover
-seating_of _ = None
-
 abbrev pub seating_in : Token → Option Seating
 seating_in t = seating_of t.kind
-
-abbrev pub method_of : Kind → Option Method
-method_of (kinds.Keyword keywords.Adams) = Some (methods.Divisor divisors.Adams)
-method_of (kinds.Keyword keywords.Dean) = Some (methods.Divisor divisors.Dean)
-method_of (kinds.Keyword keywords.Hill) = Some (methods.Divisor divisors.Hill)
-method_of (kinds.Keyword keywords.Webster) = Some (methods.Divisor divisors.Webster)
-method_of (kinds.Keyword keywords.Jefferson) = Some (methods.Divisor divisors.Jefferson)
-method_of (kinds.Keyword keywords.Hamilton) = Some methods.Hamilton
-method_of _ = None
 
 abbrev pub method_in : Token → Option Method
 method_in t = method_of t.kind
@@ -167,17 +143,11 @@ read_two argument parts ts = do
   r ← argument l.1 b
   Ok ((l.0, r.0), r.1, r.2)
 
-unfoldable pub read_larger : Reader → ℕ → ℕ → List Token → ReadExpr
-read_larger argument at parts ts = do
+unfoldable pub read_pair : Reader → Pairing → ℕ → ℕ → List Token → ReadExpr
+read_pair argument pairing at parts ts = do
   x ← read_two argument parts ts
   c ← taken (kinds.Mark marks.Close) x.2
-  Ok (larger at x.0.0 x.0.1, x.1, c)
-
-unfoldable pub read_less : Reader → ℕ → ℕ → List Token → ReadExpr
-read_less argument at parts ts = do
-  x ← read_two argument parts ts
-  c ← taken (kinds.Mark marks.Close) x.2
-  Ok (less at x.0.0 x.0.1, x.1, c)
+  Ok (pair at pairing x.0.0 x.0.1, x.1, c)
 
 -- what is given out, by which votes and by which method
 abbrev pub DivisionTree : Type 0
@@ -190,12 +160,12 @@ read_division argument parts ts = do
   m ← one method_in b
   Ok ((x.0.0, x.0.1, m.0), x.1, m.1)
 
-unfoldable pub read_minima : Reader → ℕ → List Token → Read (Option ExprTree × ℕ × List Token)
+unfoldable pub read_minima : Reader → ℕ → List Token → Read (MinimaTree × ℕ × List Token)
 read_minima argument parts ts = if is_clause keywords.Atleast ts then (do
   a ← taken (kinds.Mark marks.Comma) ts
   b ← taken (kinds.Keyword keywords.Atleast) a
   e ← argument parts b
-  Ok (Some e.0, e.1, e.2)) else Ok (None, parts, ts)
+  Ok (atleast e.0, e.1, e.2)) else Ok (without, parts, ts)
 
 unfoldable pub read_majority : List Token → Read (Majority × List Token)
 read_majority ts = if is_next (kinds.Mark marks.Comma) ts then (do
@@ -210,17 +180,13 @@ read_refusal ts = if is_next (kinds.Mark marks.Comma) ts then (do
   c ← taken (kinds.Keyword keywords.Refuse) b
   Ok (majorities.Refuse, c)) else Ok (majorities.Free, ts)
 
-abbrev pub split_of : ℕ → DivisionTree → Option ExprTree → Majority → ExprTree
-split_of at d None j = split at d.0 d.1 d.2 j
-split_of at d (Some e) j = split_from at d.0 d.1 d.2 e j
-
 unfoldable pub read_split : Reader → ℕ → ℕ → List Token → ReadExpr
 read_split argument at parts ts = do
   d ← read_division argument parts ts
   m ← read_minima argument d.1 d.2
   j ← read_majority m.2
   c ← taken (kinds.Mark marks.Close) j.1
-  Ok (split_of at d.0 m.0 j.0, m.1, c)
+  Ok (split at d.0.0 d.0.1 d.0.2 m.0 j.0, m.1, c)
 
 unfoldable pub read_grow : Reader → ℕ → ℕ → List Token → ReadExpr
 read_grow argument at parts ts = do
@@ -233,24 +199,19 @@ read_grow argument at parts ts = do
   c ← taken (kinds.Mark marks.Close) j.1
   Ok (grow at d.0.0 d.0.1 d.0.2 e.0 n.0 j.0, e.1, c)
 
-unfoldable pub read_node_at : List ℕ → Reader → ℕ → Kind → Token → List Token → ReadExpr
-read_node_at text argument parts (kinds.Keyword keywords.House) t rest = Ok (house t.start, parts, rest)
-read_node_at text argument parts (kinds.Keyword keywords.Counted) t rest = Ok (counted t.start, parts, rest)
-read_node_at text argument parts (kinds.Keyword keywords.Winners) t rest = Ok (winners t.start, parts, rest)
-read_node_at text argument parts (kinds.Keyword keywords.Outside) t rest = Ok (outside t.start, parts, rest)
-read_node_at text argument parts (kinds.Keyword keywords.Independents) t rest = Ok (independents t.start, parts, rest)
-read_node_at text argument parts (kinds.Keyword keywords.Population) t rest = Ok (population t.start, parts, rest)
-read_node_at text argument parts kinds.Name t rest = Ok (name t.start (bytes_of text t), parts, rest)
-read_node_at text argument parts (kinds.Keyword keywords.Sum) t rest = read_sum argument t.start parts rest
-read_node_at text argument parts (kinds.Keyword keywords.Larger) t rest = read_larger argument t.start parts rest
-read_node_at text argument parts (kinds.Keyword keywords.Less) t rest = read_less argument t.start parts rest
-read_node_at text argument parts (kinds.Keyword keywords.Split) t rest = read_split argument t.start parts rest
-read_node_at text argument parts (kinds.Keyword keywords.Grow) t rest = read_grow argument t.start parts rest
-read_node_at text argument parts _ t rest = Err (Expected, t ∷ rest)
+-- an expression of that form, behind its first token
+unfoldable pub read_form : List ℕ → Reader → ℕ → Option Form → Token → List Token → ReadExpr
+read_form text argument parts (Some (forms.Fact told)) t rest = Ok (fact t.start told, parts, rest)
+read_form text argument parts (Some forms.Name) t rest = Ok (name t.start (bytes_of text t), parts, rest)
+read_form text argument parts (Some forms.Sum) t rest = read_sum argument t.start parts rest
+read_form text argument parts (Some (forms.Pair pairing)) t rest = read_pair argument pairing t.start parts rest
+read_form text argument parts (Some forms.Split) t rest = read_split argument t.start parts rest
+read_form text argument parts (Some forms.Grow) t rest = read_grow argument t.start parts rest
+read_form text argument parts None t rest = Err (Expected, t ∷ rest)
 
 unfoldable pub read_node : List ℕ → Reader → ℕ → List Token → ReadExpr
 read_node text argument parts [] = Err (Expected, [])
-read_node text argument parts (t ∷ rest) = read_node_at text argument parts t.kind t rest
+read_node text argument parts (t ∷ rest) = read_form text argument parts (form_of t.kind) t rest
 
 -- where no expression may begin
 unfoldable pub no_room : List Token → ReadExpr

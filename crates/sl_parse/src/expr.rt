@@ -1,16 +1,16 @@
 //! Reading expressions. `levels` and `parts` count the levels and the expressions that the stage still has room for, and
 //! what is left of the parts is handed back.
 
-ghost use Rattle.std.specs.Prelude.{◌≡◌, drop};
-ghost use Rattle.sl_stages.specs.book.Trees.{tree_of, boxed_tree};
-ghost use Rattle.sl_parse.specs.Faults.{begins_expr};
-ghost use Rattle.sl_parse.specs.Reading.{Gives, read_sum, read_two, read_larger, read_less, read_division, read_minima, read_split, read_grow, read_node, read_expr};
+ghost use Rattle.std.specs.Prelude.{drop};
+ghost use Rattle.sl_stages.specs.book.Trees.{tree_of, minima_tree};
+ghost use Rattle.sl_parse.specs.Reading.{Gives, read_sum, read_two, read_pair, read_division, read_minima, read_split, read_grow, read_node, read_expr};
 
 use crate::fault::{Cause, Stop};
+use crate::form::Form;
 use crate::token::Parser;
-use sl_lex::{Keyword, Kind, Mark};
+use sl_lex::{Keyword, Mark};
 use sl_ratio::Method;
-use sl_stages::Expr;
+use sl_stages::{Expr, Pairing};
 
 /// What was read, the parts that are left, and the token behind it.
 type Read<T> = Result<(T, u32, usize), Stop>;
@@ -21,29 +21,6 @@ pub(crate) struct Division {
     pub seats: Box<Expr>,
     pub votes: Box<Expr>,
     pub method: Method,
-}
-
-/// Whether an expression begins with such a token.
-fn begins_expr(kind: Kind) -> bool
-    ensures { result ≡ begins_expr kind }
-{
-    matches!(
-        kind,
-        Kind::Name
-            | Kind::Keyword(
-                Keyword::House
-                    | Keyword::Counted
-                    | Keyword::Winners
-                    | Keyword::Outside
-                    | Keyword::Independents
-                    | Keyword::Population
-                    | Keyword::Sum
-                    | Keyword::Larger
-                    | Keyword::Less
-                    | Keyword::Split
-                    | Keyword::Grow
-            )
-    )
 }
 
 impl<'a> Parser<'a> {
@@ -60,13 +37,13 @@ impl<'a> Parser<'a> {
             return self.node(levels - 1, parts - 1, at);
         }
         match self.peek(at) {
-            Some(token) if begins_expr(token.kind) => Err(Stop::At(Cause::TooDeep, at)),
+            Some(token) if Form::of(token.kind).is_some() => Err(Stop::At(Cause::TooDeep, at)),
             _ => Err(Stop::At(Cause::Expected, at)),
         }
     }
 
     #[cycle(expr)]
-    #[tactic(auto, unfolding(crate::specs::Reading::read_node, crate::specs::Reading::read_node_at))]
+    #[tactic(auto, unfolding(crate::specs::Reading::read_node, crate::specs::Reading::read_form))]
     fn node(&self, levels: u32, parts: u32, at: usize) -> Read<Expr>
         ensures { let all = self.now.tokens.now in
             let text = self.now.text.now in
@@ -77,27 +54,17 @@ impl<'a> Parser<'a> {
             return Err(Stop::At(Cause::Expected, at));
         };
         let start = token.start;
-        match token.kind {
-            Kind::Keyword(Keyword::House) => Ok((Expr::House { at: start }, parts, at + 1)),
-            Kind::Keyword(Keyword::Counted) => Ok((Expr::Counted { at: start }, parts, at + 1)),
-            Kind::Keyword(Keyword::Winners) => Ok((Expr::Winners { at: start }, parts, at + 1)),
-            Kind::Keyword(Keyword::Outside) => Ok((Expr::Outside { at: start }, parts, at + 1)),
-            Kind::Keyword(Keyword::Independents) => {
-                Ok((Expr::Independents { at: start }, parts, at + 1))
-            }
-            Kind::Keyword(Keyword::Population) => {
-                Ok((Expr::Population { at: start }, parts, at + 1))
-            }
-            Kind::Name => {
+        match Form::of(token.kind) {
+            Some(Form::Fact(fact)) => Ok((Expr::Fact { at: start, fact }, parts, at + 1)),
+            Some(Form::Name) => {
                 let ((name, at_name), at) = self.name(at)?;
                 Ok((Expr::Name { at: at_name, name }, parts, at))
             }
-            Kind::Keyword(Keyword::Sum) => self.sum(levels, parts, start, at + 1),
-            Kind::Keyword(Keyword::Larger) => self.larger(levels, parts, start, at + 1),
-            Kind::Keyword(Keyword::Less) => self.less(levels, parts, start, at + 1),
-            Kind::Keyword(Keyword::Split) => self.split(levels, parts, start, at + 1),
-            Kind::Keyword(Keyword::Grow) => self.grow(levels, parts, start, at + 1),
-            _ => Err(Stop::At(Cause::Expected, at)),
+            Some(Form::Sum) => self.sum(levels, parts, start, at + 1),
+            Some(Form::Pair(pairing)) => self.pair(levels, parts, pairing, start, at + 1),
+            Some(Form::Split) => self.split(levels, parts, start, at + 1),
+            Some(Form::Grow) => self.grow(levels, parts, start, at + 1),
+            None => Err(Stop::At(Cause::Expected, at)),
         }
     }
 
@@ -151,37 +118,18 @@ impl<'a> Parser<'a> {
     }
 
     #[cycle(expr)]
-    #[tactic(auto, unfolding(crate::specs::Reading::read_larger))]
-    fn larger(&self, levels: u32, parts: u32, start: usize, at: usize) -> Read<Expr>
+    #[tactic(auto, unfolding(crate::specs::Reading::read_pair))]
+    fn pair(&self, levels: u32, parts: u32, pairing: Pairing, start: usize, at: usize) -> Read<Expr>
         ensures { let all = self.now.tokens.now in
             Gives all (λ x. (tree_of x.0, x.1, drop x.2 all)) result
-            (read_larger (read_expr self.now.text.now levels) start parts (drop at all)) }
+            (read_pair (read_expr self.now.text.now levels) pairing start parts (drop at all)) }
     {
         let ((left, right), parts, at) = self.two(levels, parts, at)?;
         let at = self.mark(Mark::Close, at)?;
         Ok((
-            Expr::Larger {
+            Expr::Pair {
                 at: start,
-                left,
-                right,
-            },
-            parts,
-            at,
-        ))
-    }
-
-    #[cycle(expr)]
-    #[tactic(auto, unfolding(crate::specs::Reading::read_less))]
-    fn less(&self, levels: u32, parts: u32, start: usize, at: usize) -> Read<Expr>
-        ensures { let all = self.now.tokens.now in
-            Gives all (λ x. (tree_of x.0, x.1, drop x.2 all)) result
-            (read_less (read_expr self.now.text.now levels) start parts (drop at all)) }
-    {
-        let ((left, right), parts, at) = self.two(levels, parts, at)?;
-        let at = self.mark(Mark::Close, at)?;
-        Ok((
-            Expr::Less {
-                at: start,
+                pairing,
                 left,
                 right,
             },
@@ -216,7 +164,7 @@ impl<'a> Parser<'a> {
     #[tactic(auto, unfolding(crate::specs::Reading::read_minima))]
     fn minima(&self, levels: u32, parts: u32, at: usize) -> Read<Option<Box<Expr>>>
         ensures { let all = self.now.tokens.now in
-            Gives all (λ x. (boxed_tree x.0, x.1, drop x.2 all)) result
+            Gives all (λ x. (minima_tree x.0, x.1, drop x.2 all)) result
             (read_minima (read_expr self.now.text.now levels) parts (drop at all)) }
     {
         if !self.is_clause(Keyword::Atleast, at) {

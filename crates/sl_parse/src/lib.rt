@@ -5,6 +5,7 @@ mod book;
 mod clause;
 mod expr;
 mod fault;
+mod form;
 mod head;
 pub mod laws;
 mod parser;

@@ -4,8 +4,9 @@
 ghost use Rattle.std.specs.Prelude.{◌≡◌, ◌+◌, ◌<◌, ◌^◌, [], ◌∷◌, drop, length, MatchOption};
 ghost use Rattle.sl_lex.specs.declared.token.Kind.TheVariants as kinds;
 ghost use Rattle.sl_parse.specs.Spans.{AreSpans};
+ghost use Rattle.sl_parse.specs.Words.{method_of};
 ghost use Rattle.sl_parse.specs.Parsing.{offset};
-ghost use Rattle.sl_parse.specs.Reading.{Gives, one, taken, number_in, name_in, quoted_in, axis_in, seating_in, preference_in, method_of, method_in, base_in, is_next};
+ghost use Rattle.sl_parse.specs.Reading.{Gives, one, taken, number_in, name_in, quoted_in, axis_in, seating_in, preference_in, method_in, base_in, is_next};
 
 use crate::fault::{Cause, Stop};
 use sl_lex::{Keyword, Kind, Mark, Token};

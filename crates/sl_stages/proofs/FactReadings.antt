@@ -232,7 +232,7 @@ facts_of_lands conditions e land is in_lands =
     get_or-map-range_with_len (λ land. count_by (λ w. is_in land w && is_none w.party) e.wins) 0 (lands_of e) land land 0 in_lands (omega arith) in
     record {
       all_winners = all outside;
-      independents = omega (arith, outside, alone, count_within (λ w. is_in land w && is_none w.party) (λ w. is_in land w && not (on w)) (λ w. apart w w.party) e.wins);
+      alone = omega (arith, outside, alone, count_within (λ w. is_in land w && is_none w.party) (λ w. is_in land w && not (on w)) (λ w. apart w w.party) e.wins);
     } where
       apart : (w : Win) (o : Option ℕ) → is_in land w && is_none o ≡ true → is_in land w && not (is_on_list conditions e (record w { party = o })) ≡ true
       apart w None h = h

@@ -6,6 +6,7 @@ ghost use Rattle.sl_stages.specs.book.Trees.{stage_of};
 ghost use Rattle.sl_stages.specs.book.Typing.{column, shape_over};
 ghost use Rattle.sl_stages.specs.book.Limits.{is_within_limits, book_numbers, are_small};
 
+use crate::fact::Fact;
 use crate::word::Word;
 use sl_ratio::Method;
 
@@ -75,6 +76,15 @@ impl Axis {
     }
 }
 
+/// What two numbers of a pair of columns make.
+#[derive(Clone, Copy, Debug, PartialEq, Eq)]
+pub enum Pairing {
+    /// The greater one.
+    Larger,
+    /// The first less the second, at least 0.
+    Less,
+}
+
 /// The majority clause of a split or a growth.
 #[derive(Clone, Copy, Debug, PartialEq, Eq)]
 pub enum Majority {
@@ -96,24 +106,12 @@ pub struct Number {
 /// An expression. Each keeps the offset of its first token.
 #[derive(Drop)]
 pub enum Expr {
-    House {
+    /// A column that the returns tell.
+    Fact {
         at: usize,
+        fact: Fact,
     },
-    Counted {
-        at: usize,
-    },
-    Winners {
-        at: usize,
-    },
-    Outside {
-        at: usize,
-    },
-    Independents {
-        at: usize,
-    },
-    Population {
-        at: usize,
-    },
+    /// The column of an earlier stage.
     Name {
         at: usize,
         name: Word,
@@ -123,16 +121,14 @@ pub enum Expr {
         of: Box<Expr>,
         over: Axis,
     },
-    Larger {
+    /// Two columns of one type, taken number by number.
+    Pair {
         at: usize,
+        pairing: Pairing,
         left: Box<Expr>,
         right: Box<Expr>,
     },
-    Less {
-        at: usize,
-        left: Box<Expr>,
-        right: Box<Expr>,
-    },
+    /// Seats given out by votes; with minima, every entry has at least its own.
     Split {
         at: usize,
         seats: Box<Expr>,
@@ -141,6 +137,7 @@ pub enum Expr {
         minima: Option<Box<Expr>>,
         majority: Majority,
     },
+    /// Seats given out by votes, more of them until every entry has its minimum.
     Grow {
         at: usize,
         seats: Box<Expr>,

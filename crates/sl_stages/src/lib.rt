@@ -4,6 +4,7 @@
 mod book;
 mod check_fault;
 mod checked;
+mod fact;
 mod fault;
 mod label;
 pub mod laws;
@@ -13,11 +14,12 @@ mod table;
 mod word;
 
 pub use book::{
-    Axis, Base, Book, ColumnType, Cond, Expr, LastClause, Majority, Number, Seating, Shape, Stage,
-    Unit,
+    Axis, Base, Book, ColumnType, Cond, Expr, LastClause, Majority, Number, Pairing, Seating,
+    Shape, Stage, Unit,
 };
 pub use check_fault::CheckFault;
 pub use checked::CheckedBook;
+pub use fact::{FACTS, Fact};
 pub use fault::{FaultKind, Item, Items, LegalFault, Scope};
 pub use label::Label;
 pub use limits::{

@@ -4,6 +4,7 @@ use Rattle.std.specs.Prelude.{find, position, unwrap_or}
 use Rattle.std.specs.List.{list_any}
 use Rattle.std.proofs.lemmas.Bool.{and_parts}
 use Rattle.sl_ratio.specs.declared.limits.TheConstants.{MAX_SEATS}
+use Rattle.sl_stages.specs.declared.fact.Fact.TheVariants as facts
 use Rattle.sl_stages.specs.declared.book.Base.{Base}
 use Rattle.sl_stages.specs.declared.book.Base.TheVariants as base
 use Rattle.sl_stages.specs.declared.book.ColumnType.{ColumnType}
@@ -74,8 +75,8 @@ module _ (c : CountingCode) (b : BookTree) (e : Election) (k : Known) (before s 
   base_is base.Winners pass = record {
     values = list_winners b.eligible e;
     leaf = refl;
-    slot = slots.facts.winners;
-    holds = behind.known.winners;
+    slot = (slots.facts.facts facts.Winners);
+    holds = behind.known.facts facts.Winners;
     small = seats_small e (list_winners b.eligible e) (winners_typed b.eligible e is);
     apart = λ same. omega (arith, same);
   }

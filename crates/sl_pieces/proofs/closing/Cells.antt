@@ -1,14 +1,16 @@
 -- Columns of lists, cell by cell: those that plans write, and the lists that stand for them in the end.
-use Rattle.std.proofs.Common.{◌≡◌, ◌≢◌, ℕ, ◌+◌, ◌-◌, ◌*◌, ◌<◌, max, List, length, map, zip, Some, slice_get, slice_index, sym, ap, subst, ◌∙◌, arith}
+use Rattle.std.proofs.Common.{◌≡◌, ◌≢◌, ℕ, ◌+◌, ◌*◌, ◌<◌, List, length, map, zip, Some, slice_get, slice_index, sym, ap, subst, ◌∙◌, arith}
 use Rattle.std.specs.List.{range_with_len}
 use Rattle.std.proofs.lemmas.List.{get_or-map}
 use Rattle.std.proofs.lemmas.List.FromFn.{length-map-range_with_len, get_or-map-range_with_len}
 use Rattle.std.proofs.lemmas.Option.{get_or_from_slice_get}
 use Rattle.std.proofs.lemmas.Slice.Zip.{length-zip, get_or-zip}
+use Rattle.sl_stages.specs.declared.book.Pairing.{Pairing}
 use Rattle.sl_stages.specs.declared.book.Shape.{Shape}
 use Rattle.sl_stages.specs.declared.book.Shape.TheVariants as shape
 use Rattle.sl_stages.specs.returns.Election.{Election, lands_of, parties_of}
 use Rattle.sl_stages.specs.returns.Facts.{list_cell}
+use Rattle.sl_stages.specs.meaning.Columns.{paired}
 use Rattle.sl_code.specs.Codes.{CountingCode}
 use Rattle.sl_machine.specs.State.{State}
 use Rattle.sl_machine.specs.Places.{cells_of}
@@ -17,8 +19,8 @@ use Rattle.sl_machine.proofs.effects.Storing.{width_of, column_at}
 use Rattle.sl_plans.specs.Achieves.{Achieves, Never}
 use Rattle.sl_plans.proofs.Rules.{achieves_more}
 use Rattle.sl_pieces.specs.columns.Columns.{HoldsColumn, ChangesColumn}
-use Rattle.sl_pieces.specs.columns.Trees.{larger_tree, less_tree}
-use Rattle.sl_pieces.proofs.columns.Writing.{larger_are_taken, differences_are_taken}
+use Rattle.sl_pieces.specs.columns.Trees.{pair_tree}
+use Rattle.sl_pieces.proofs.columns.Writing.{pairs_are_taken}
 use Rattle.sl_pieces.proofs.facts.Holding.{place_within}
 
 -- ---- two columns that are joined cell by cell
@@ -65,17 +67,11 @@ module _ (c : CountingCode) (e : Election) (left right to : ℕ) (s : State) (kn
         changes = changes;
       }
 
-  pub larger_made : Achieves c e (larger_tree shape.List left right to) s (IsMade e max left right to s) Never
-  larger_made =
+  pub pair_made : (pairing : Pairing) → Achieves c e (pair_tree pairing shape.List left right to) s (IsMade e (paired pairing) left right to s) Never
+  pair_made pairing =
       achieves_more
-      (larger_are_taken c e shape.List left right to lefts rights s known_left known_right known_to apart (holds_itself e shape.List (s.columns left)) (holds_itself e shape.List (s.columns right)))
-      (λ t h. made max t h.holds h.changes) (λ x h. h)
-
-  pub differences_made : Achieves c e (less_tree shape.List left right to) s (IsMade e (λ a b. a - b) left right to s) Never
-  differences_made =
-      achieves_more
-      (differences_are_taken c e shape.List left right to lefts rights s known_left known_right known_to apart (holds_itself e shape.List (s.columns left)) (holds_itself e shape.List (s.columns right)))
-      (λ t h. made (λ a b. a - b) t h.holds h.changes) (λ x h. h)
+      (pairs_are_taken c e pairing shape.List left right to lefts rights s known_left known_right known_to apart (holds_itself e shape.List (s.columns left)) (holds_itself e shape.List (s.columns right)))
+      (λ t h. made (paired pairing) t h.holds h.changes) (λ x h. h)
 
 -- ---- what is held in the end
 

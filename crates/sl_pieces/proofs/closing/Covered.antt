@@ -6,6 +6,7 @@ use Rattle.std.proofs.lemmas.List.{length-map, get_or-map}
 use Rattle.std.proofs.lemmas.List.FromFn.{length-enumerate_from, get_or-enumerate_from}
 use Rattle.std.proofs.lemmas.Option.{get_or_from_slice_get}
 use Rattle.sl_ratio.specs.declared.limits.TheConstants.{MAX_SEATS}
+use Rattle.sl_stages.specs.declared.fact.Fact.TheVariants as facts
 use Rattle.sl_stages.specs.declared.book.Seating.{Seating}
 use Rattle.sl_stages.specs.declared.book.Seating.TheVariants as seating
 use Rattle.sl_stages.specs.declared.book.Shape.TheVariants as shape
@@ -32,7 +33,7 @@ use Rattle.sl_pieces.proofs.facts.Holding.{place_within, party_held}
 use Rattle.sl_pieces.specs.covers.Covering.{AreChoices, AreCovered, EndsInTie}
 use Rattle.sl_pieces.specs.covers.Trees.{cover_tree}
 use Rattle.sl_pieces.proofs.covers.Covering.{coverings_achieve}
-use Rattle.sl_pieces.specs.exprs.Slots.{fact_slots, HasBookSlots}
+use Rattle.sl_pieces.specs.exprs.Slots.{fact_slots, winners_slot, HasBookSlots}
 use Rattle.sl_pieces.proofs.exprs.Arguments.{column_kept}
 use Rattle.sl_pieces.proofs.exprs.Following.{AllAchieve, all_one}
 use Rattle.sl_pieces.specs.closing.Trees.{base_slot, final_seats, cover_slots, seating_pieces}
@@ -140,8 +141,8 @@ module _ (c : CountingCode) (b : BookTree) (e : Election) (k : Known) (before s 
         few = λ land party in_lands in_parties.
             let small : slice_index h.values (land * parties_of e + party) ≤ MAX_SEATS = h.small (land * parties_of e + party) (place_within e land party in_parties in_lands) in
             omega (arith, small);
-        winners = column_kept e shape.List (list_winners b.eligible e) (s.columns fact_slots.winners) (u.columns fact_slots.winners)
-            (λ q. a.columns fact_slots.winners q (λ same. omega (arith, same)) ∙ g.changes.columns fact_slots.winners q (λ same. omega (arith, same))) begins.behind.known.winners;
+        winners = column_kept e shape.List (list_winners b.eligible e) (s.columns winners_slot) (u.columns winners_slot)
+            (λ q. a.columns winners_slot q (λ same. omega (arith, same)) ∙ g.changes.columns winners_slot q (λ same. omega (arith, same))) (begins.behind.known.facts facts.Winners);
         steps = a.steps ∙ g.changes.steps;
         weights = a.weights ∙ g.changes.weights;
         columns = λ slot q high. a.columns slot q (λ same. omega (arith, high, same)) ∙ g.changes.columns slot q (λ same. omega (arith, high, same));

@@ -3,6 +3,8 @@ use Rattle.std.proofs.Common.{◌≡◌, ℕ, ◌+◌, ◌-◌, ◌*◌, ◌<◌
 use Rattle.std.proofs.lemmas.List.{length-map, get_or-map}
 use Rattle.std.proofs.lemmas.Option.{get_or_from_slice_get}
 use Rattle.sl_ratio.specs.declared.limits.TheConstants.{MAX_SEATS}
+use Rattle.sl_stages.specs.declared.book.Pairing.TheVariants as pairings
+use Rattle.sl_stages.specs.declared.fact.Fact.TheVariants as facts
 use Rattle.sl_stages.specs.declared.book.Seating.{Seating}
 use Rattle.sl_stages.specs.declared.book.Seating.TheVariants as seating
 use Rattle.sl_stages.specs.declared.book.Shape.TheVariants as shape
@@ -20,13 +22,13 @@ use Rattle.sl_machine.specs.State.{State, End}
 use Rattle.sl_machine.specs.Effects.{one_if}
 use Rattle.sl_pieces.proofs.facts.Holding.{place_within, party_held}
 use Rattle.sl_pieces.proofs.facts.Loops.{Flagged}
-use Rattle.sl_pieces.specs.exprs.Slots.{fact_slots, HasBookSlots}
+use Rattle.sl_pieces.specs.exprs.Slots.{fact_slots, winners_slot, HasBookSlots}
 use Rattle.sl_pieces.proofs.exprs.Arguments.{column_kept}
 use Rattle.sl_pieces.proofs.exprs.Following.{AllAchieve, all_one}
 use Rattle.sl_pieces.specs.closing.Trees.{base_slot, final_seats, seating_pieces}
 use Rattle.sl_pieces.specs.closing.Closing.{BeginsClosing}
 use Rattle.sl_pieces.proofs.closing.Rules.{all_first, goes_on}
-use Rattle.sl_pieces.proofs.closing.Cells.{IsMade, larger_made}
+use Rattle.sl_pieces.proofs.closing.Cells.{IsMade, pair_made}
 use Rattle.sl_pieces.proofs.closing.Bases.{HasBase, seats_small}
 use Rattle.sl_pieces.proofs.closing.Seated.{HasSeated, places_are}
 use Rattle.sl_pieces.proofs.closing.Placing.{ArePlaced, winners_placed}
@@ -45,9 +47,9 @@ module _ (c : CountingCode) (b : BookTree) (e : Election) (k : Known) (before s 
   }
 
   -- behind the larger column, in state t, and the winners, in state u
-  kept_seated : (t u : State) → IsMade e max from fact_slots.winners final_seats s t → ArePlaced b e t u → HasSeated b e k s u
+  kept_seated : (t u : State) → IsMade e max from winners_slot final_seats s t → ArePlaced b e t u → HasSeated b e k s u
   kept_seated t u g p =
-      let winners = begins.behind.known.winners in
+      let winners = begins.behind.known.facts facts.Winners in
       record {
         seats = kept_seats b e h.values;
         places = map (kept_place b e) e.wins;
@@ -65,15 +67,15 @@ module _ (c : CountingCode) (b : BookTree) (e : Election) (k : Known) (before s 
             let base_few : slice_index h.values place ≤ MAX_SEATS = h.small place within in
             let won_few : slice_index (list_winners b.eligible e) place ≤ MAX_SEATS = seats_small e (list_winners b.eligible e) (winners_typed b.eligible e is) place within in
             omega (arith, base_few, won_few);
-        winners = column_kept e shape.List (list_winners b.eligible e) (s.columns fact_slots.winners) (u.columns fact_slots.winners)
-            (λ q. p.columns fact_slots.winners q ∙ g.changes.columns fact_slots.winners q (λ same. omega (arith, same))) winners;
+        winners = column_kept e shape.List (list_winners b.eligible e) (s.columns winners_slot) (u.columns winners_slot)
+            (λ q. p.columns winners_slot q ∙ g.changes.columns winners_slot q (λ same. omega (arith, same))) winners;
         steps = p.steps ∙ g.changes.steps;
         weights = p.weights ∙ g.changes.weights;
         columns = λ slot q high. p.columns slot q ∙ g.changes.columns slot q (λ same. omega (arith, high, same));
       }
 
   -- the eligible parties are told behind the larger column
-  flagged_then : (t : State) → IsMade e max from fact_slots.winners final_seats s t → Flagged e fact_slots (is_eligible b.eligible e) t
+  flagged_then : (t : State) → IsMade e max from winners_slot final_seats s t → Flagged e fact_slots (is_eligible b.eligible e) t
   flagged_then t g party less =
       g.changes.columns fact_slots.eligible party (λ same. omega (arith, same))
       ∙ party_held e (s.columns fact_slots.eligible) (λ p. one_if (is_eligible b.eligible e p)) begins.flags party less
@@ -81,5 +83,5 @@ module _ (c : CountingCode) (b : BookTree) (e : Election) (k : Known) (before s 
   pub kept_all : {E : End → Type 0} → AllAchieve c e (seating_pieces from seating.Keep) s (HasSeated b e k s) E
   kept_all =
       all_first
-      (goes_on (larger_made c e from fact_slots.winners final_seats s h.slot slots.facts.winners (slots.passing_are 0 shape.List (omega arith)) (λ same. omega (arith, same))) (λ t g. g))
+      (goes_on (pair_made c e from winners_slot final_seats s h.slot (slots.facts.facts facts.Winners) (slots.passing_are 0 shape.List (omega arith)) (λ same. omega (arith, same)) pairings.Larger) (λ t g. g))
       (λ t g. all_one (goes_on (winners_placed c b e is slots.facts t (flagged_then t g)) (λ u p. kept_seated t u g p)))

@@ -17,7 +17,7 @@ use Rattle.sl_stages.specs.laws.MeaningLaws.{IsListOf}
 use Rattle.sl_machine.specs.State.{State}
 use Rattle.sl_machine.specs.Effects.{most}
 use Rattle.sl_pieces.specs.columns.Columns.{HoldsColumn}
-use Rattle.sl_pieces.specs.exprs.Slots.{fact_slots}
+use Rattle.sl_pieces.specs.exprs.Slots.{winners_slot}
 use Rattle.sl_pieces.specs.closing.Trees.{final_seats}
 
 -- the table that the book means has so many seats on each list and these places; the seats and the places are in the state
@@ -30,7 +30,7 @@ pub record HasSeated (b : BookTree) (e : Election) (k : Known) (before after : S
   -- what the winners on a list leave of its seats is what all of its winners leave
   pub left : (land party : ℕ) → IsListOf e land party → seats land party - placed_on e places land party ≡ seats land party - list_cell e (list_winners b.eligible e) land party
   pub few : (land party : ℕ) → land < lands_of e → party < parties_of e → seats land party ≤ most
-  pub winners : HoldsColumn e shape.List (after.columns fact_slots.winners) (list_winners b.eligible e)
+  pub winners : HoldsColumn e shape.List (after.columns winners_slot) (list_winners b.eligible e)
   pub steps : after.steps ≡ before.steps
   pub weights : after.weights ≡ before.weights
   pub columns : (slot q : ℕ) → 80 ≤ slot → after.columns slot q ≡ before.columns slot q

@@ -22,7 +22,7 @@ use Rattle.sl_machine.specs.Effects.{most, from_lists, names_or_most}
 use Rattle.sl_machine.specs.Memories.{column_of, vacant_of, held_of}
 use Rattle.sl_machine.specs.Tables.{held_line}
 use Rattle.sl_pieces.proofs.facts.Holding.{place_within, list_told}
-use Rattle.sl_pieces.specs.exprs.Slots.{fact_slots, vacant_seats, HasBookSlots}
+use Rattle.sl_pieces.specs.exprs.Slots.{winners_slot, vacant_seats, HasBookSlots}
 use Rattle.sl_pieces.specs.closing.Trees.{final_seats, vacant_slot}
 use Rattle.sl_pieces.specs.closing.Closing.{HasClosed}
 use Rattle.sl_pieces.proofs.closing.Cells.{list_cell_held}
@@ -94,7 +94,7 @@ module _ (c : CountingCode) (b : BookTree) (e : Election) (k : Known) (types : L
       let within : place < lands_of e * parties_of e = place_within e land party there.in_parties there.in_lands in
       list_cell_held c e u vacant_seats land party slots.vacant_seats_are there.in_lands there.in_parties
       ∙ v.vacant at refl place within
-      ∙ ap (λ (m : ℕ). m - t.columns fact_slots.winners place - from_lists e names_or_most place) (h.cells land party there.in_lands there.in_parties)
+      ∙ ap (λ (m : ℕ). m - t.columns winners_slot place - from_lists e names_or_most place) (h.cells land party there.in_lands there.in_parties)
       ∙ ap (λ (m : ℕ). h.seats land party - m - from_lists e names_or_most place) (h.winners.at place within)
       ∙ ap (λ (m : ℕ). h.seats land party - list_cell e (list_winners b.eligible e) land party - m) (list_told e land party there.in_parties names_or_most there.in_lands)
       ∙ names_leave at (list_at e land party) (h.seats land party) (placed_on e h.places land party) (list_cell e (list_winners b.eligible e) land party) (h.left land party there)

@@ -1,6 +1,8 @@
 -- With `vacate`: the seats that neither winners nor names fill.
 use Rattle.std.proofs.Common.{◌≡◌, ◌≢◌, ℕ, ◌-◌, ◌*◌, ◌<◌, List, [], ◌∷◌, Option, None, Some, refl, ap₂, ◌∙◌, arith}
 use Rattle.std.proofs.lemmas.Option.{none-some}
+use Rattle.sl_stages.specs.declared.book.Pairing.TheVariants as pairings
+use Rattle.sl_stages.specs.declared.fact.Fact.TheVariants as facts
 use Rattle.sl_stages.specs.declared.book.Shape.TheVariants as shape
 use Rattle.sl_stages.specs.returns.Election.{Election, lands_of, parties_of}
 use Rattle.sl_stages.specs.book.Typing.{Column}
@@ -14,16 +16,16 @@ use Rattle.sl_plans.specs.Trees.{Line}
 use Rattle.sl_plans.specs.Achieves.{Achieves, Never}
 use Rattle.sl_plans.proofs.Rules.{line_ends, line_goes}
 use Rattle.sl_pieces.proofs.facts.Cells.{cell_written, cell_not_written}
-use Rattle.sl_pieces.specs.exprs.Slots.{fact_slots, names_left, vacant_seats, HasBookSlots}
+use Rattle.sl_pieces.specs.exprs.Slots.{winners_slot, names_left, vacant_seats, HasBookSlots}
 use Rattle.sl_pieces.proofs.exprs.Following.{AllAchieve, all_one}
 use Rattle.sl_pieces.specs.closing.Trees.{final_seats, vacant_pieces}
 use Rattle.sl_pieces.proofs.closing.Rules.{all_first, goes_on}
-use Rattle.sl_pieces.proofs.closing.Cells.{IsMade, differences_made}
+use Rattle.sl_pieces.proofs.closing.Cells.{IsMade, pair_made}
 
 -- where the book asks for them, the vacant seats are in their slot: those left by the winners and by the names; nothing else is changed but the names
 pub record HasVacant (e : Election) (vacate : Option ℕ) (before after : State) : Type 0 where
   pub vacant : (at : ℕ) → vacate ≡ Some at → (q : ℕ) → q < lands_of e * parties_of e →
-      after.columns vacant_seats q ≡ before.columns final_seats q - before.columns fact_slots.winners q - from_lists e names_or_most q
+      after.columns vacant_seats q ≡ before.columns final_seats q - before.columns winners_slot q - from_lists e names_or_most q
   pub columns : (slot q : ℕ) → slot ≢ names_left → slot ≢ vacant_seats → after.columns slot q ≡ before.columns slot q
   pub placed : (winner : ℕ) → after.placed winner ≡ before.placed winner
   pub steps : after.steps ≡ before.steps
@@ -50,13 +52,13 @@ module _ (c : CountingCode) (e : Election) (types : List Column) (slots : HasBoo
       }))
 
   -- behind the names, in state t, what the winners leave, in state u, and what the names leave of that, in state v
-  vacant_told : (at : ℕ) (t u v : State) → IsNamed e s t → IsMade e (λ a b. a - b) final_seats fact_slots.winners vacant_seats t u →
+  vacant_told : (at : ℕ) (t u v : State) → IsNamed e s t → IsMade e (λ a b. a - b) final_seats winners_slot vacant_seats t u →
       IsMade e (λ a b. a - b) vacant_seats names_left vacant_seats u v → HasVacant e (Some at) s v
   vacant_told at t u v named first second = record {
     vacant = λ n is q less.
         second.cells q less
         ∙ ap₂ (λ (m k : ℕ). m - k)
-        (first.cells q less ∙ ap₂ (λ (m k : ℕ). m - k) (named.columns final_seats q (λ same. omega (arith, same))) (named.columns fact_slots.winners q (λ same. omega (arith, same))))
+        (first.cells q less ∙ ap₂ (λ (m k : ℕ). m - k) (named.columns final_seats q (λ same. omega (arith, same))) (named.columns winners_slot q (λ same. omega (arith, same))))
         (first.changes.columns names_left q (λ same. omega (arith, same)) ∙ named.names q);
     columns = λ slot q not_names not_vacant. second.changes.columns slot q not_vacant ∙ first.changes.columns slot q not_vacant ∙ named.columns slot q not_names;
     placed = λ winner. second.changes.placed winner ∙ first.changes.placed winner ∙ named.placed winner;
@@ -78,7 +80,7 @@ module _ (c : CountingCode) (e : Election) (types : List Column) (slots : HasBoo
       let final_are = slots.passing_are 0 shape.List (omega arith) in
       all_first (goes_on names_told (λ t h. h))
       (λ t named.
-      all_first (goes_on (differences_made c e final_seats fact_slots.winners vacant_seats t final_are slots.facts.winners slots.vacant_seats_are (λ same. omega (arith, same))) (λ u h. h))
+      all_first (goes_on (pair_made c e final_seats winners_slot vacant_seats t final_are (slots.facts.facts facts.Winners) slots.vacant_seats_are (λ same. omega (arith, same)) pairings.Less) (λ u h. h))
       (λ u first.
-      all_one (goes_on (differences_made c e vacant_seats names_left vacant_seats u slots.vacant_seats_are slots.names_left_are slots.vacant_seats_are (λ same. omega (arith, same)))
+      all_one (goes_on (pair_made c e vacant_seats names_left vacant_seats u slots.vacant_seats_are slots.names_left_are slots.vacant_seats_are (λ same. omega (arith, same)) pairings.Less)
       (λ v second. vacant_told at t u v named first second))))

@@ -1,13 +1,15 @@
--- Columns that are written cell by cell: copies, the larger ones of two columns, and their differences.
-use Rattle.std.proofs.Common.{◌≡◌, ℕ, ◌+◌, ◌-◌, ◌<◌, ◌≤◌, max, false, List, [], ◌∷◌, length, map, zip, slice_get, slice_index, Option, Some, refl, sym, ap, ap₂, ◌∙◌, inl, inr, arith}
+-- Columns that are written cell by cell: copies and pairs.
+use Rattle.std.proofs.Common.{◌≡◌, ℕ, ◌+◌, ◌<◌, ◌≤◌, false, List, [], ◌∷◌, length, map, zip, slice_get, slice_index, Option, Some, refl, sym, ap, ap₂, ◌∙◌, inl, inr, arith}
 use Rattle.std.proofs.lemmas.Bool.{cases_eq}
 use Rattle.std.proofs.lemmas.List.{length-map, get_or-map}
 use Rattle.std.proofs.lemmas.Slice.Zip.{length-zip, get_or-zip}
+use Rattle.sl_stages.specs.declared.book.Pairing.{Pairing}
+use Rattle.sl_stages.specs.declared.book.Pairing.TheVariants as pairings
 use Rattle.sl_stages.specs.declared.book.Shape.{Shape}
 use Rattle.sl_stages.specs.returns.Election.{Election}
-use Rattle.sl_stages.specs.meaning.Columns.{larger_of, less_of}
+use Rattle.sl_stages.specs.meaning.Columns.{paired, pair_of}
 use Rattle.sl_code.specs.declared.instr.Instr.{Instr}
-use Rattle.sl_code.specs.declared.instr.Instr.TheVariants.{Sub, Max, Get, Store}
+use Rattle.sl_code.specs.declared.instr.Instr.TheVariants.{Get, Store}
 use Rattle.sl_code.specs.Codes.{CountingCode}
 use Rattle.sl_machine.specs.State.{State, with_register, with_cell}
 use Rattle.sl_machine.specs.Places.{cells_of, cell_at}
@@ -20,9 +22,9 @@ use Rattle.sl_plans.specs.Trees.{Tree, Line}
 use Rattle.sl_plans.specs.Achieves.{Achieves, Never}
 use Rattle.sl_plans.specs.inner.Frames.{may_move}
 use Rattle.sl_plans.proofs.Rules.{achieves_more, line_ends, line_goes}
-use Rattle.sl_pieces.specs.columns.Trees.{cell, other, cells_plan}
+use Rattle.sl_pieces.specs.columns.Trees.{cell, other, cells_plan, pair_instr}
 use Rattle.sl_pieces.specs.columns.Columns.{HoldsColumn, ChangesColumn, GetsColumn}
-use Rattle.sl_pieces.specs.columns.Laws.{ColumnsAreCopied, LargerAreTaken, DifferencesAreTaken}
+use Rattle.sl_pieces.specs.columns.Laws.{ColumnsAreCopied, PairsAreTaken}
 use Rattle.sl_pieces.proofs.columns.Cells.{Suits, SuitsShape, suits_shape, cell_kept, each_cell}
 
 -- so many cells of a column are written, its others are as they were, and nothing else is changed
@@ -143,18 +145,30 @@ module _ (f : ℕ → ℕ → ℕ) (xs ys : List ℕ) (n : ℕ) (long : length x
       get_or-map (λ x. f x.0 x.1) (zip xs ys) q (0, 0) 0 (omega (arith, length-zip xs ys, long, same))
       ∙ ap (λ (x : ℕ × ℕ). f x.0 x.1) (get_or-zip xs ys q (0, 0) (omega (arith, long)) (omega (arith, same)))
 
-pub larger_are_taken : LargerAreTaken
-larger_are_taken c e s left right to xs ys state known_left known_right known_to apart holds_left holds_right =
-    let n : ℕ = cells_of e s in
-    line_written c e s to (larger_of xs ys) (Get cell left ∷ (Get other right ∷ (Max cell other ∷ (Store to cell ∷ [])))) state
-    (pairs_long max xs ys n holds_left.long holds_right.long) refl refl
-    (one_taken c e s left right to (larger_of xs ys) xs ys state max (Max cell other) known_left known_right known_to holds_left holds_right
-    (pair_at max xs ys n holds_left.long holds_right.long) (λ t. max_does c e t cell other))
+module _ (pairing : Pairing) (left right to : ℕ) where
+  abbrev pair_line : List Instr
+  pair_line = Get cell left ∷ (Get other right ∷ (pair_instr pairing ∷ (Store to cell ∷ [])))
 
-pub differences_are_taken : DifferencesAreTaken
-differences_are_taken c e s left right to xs ys state known_left known_right known_to apart holds_left holds_right =
+  keeps_party : may_move (Line pair_line) cursor.Party ≡ false
+  keeps_party = of pairing where
+    of : (p : Pairing) → may_move (Line (Get cell left ∷ (Get other right ∷ (pair_instr p ∷ (Store to cell ∷ []))))) cursor.Party ≡ false
+    of pairings.Larger = refl
+    of pairings.Less = refl
+
+  keeps_land : may_move (Line pair_line) cursor.Land ≡ false
+  keeps_land = of pairing where
+    of : (p : Pairing) → may_move (Line (Get cell left ∷ (Get other right ∷ (pair_instr p ∷ (Store to cell ∷ []))))) cursor.Land ≡ false
+    of pairings.Larger = refl
+    of pairings.Less = refl
+
+pair_does : (c : CountingCode) (e : Election) (pairing : Pairing) (t : State) → effect c e (pair_instr pairing) t ≡ Goes (with_register cell (paired pairing (t.registers cell) (t.registers other)) t)
+pair_does c e pairings.Larger t = max_does c e t cell other
+pair_does c e pairings.Less t = sub_does c e t cell other
+
+pub pairs_are_taken : PairsAreTaken
+pairs_are_taken c e pairing s left right to xs ys state known_left known_right known_to apart holds_left holds_right =
     let n : ℕ = cells_of e s in
-    line_written c e s to (less_of xs ys) (Get cell left ∷ (Get other right ∷ (Sub cell other ∷ (Store to cell ∷ [])))) state
-    (pairs_long (λ a b. a - b) xs ys n holds_left.long holds_right.long) refl refl
-    (one_taken c e s left right to (less_of xs ys) xs ys state (λ a b. a - b) (Sub cell other) known_left known_right known_to holds_left holds_right
-    (pair_at (λ a b. a - b) xs ys n holds_left.long holds_right.long) (λ t. sub_does c e t cell other))
+    line_written c e s to (pair_of pairing xs ys) (pair_line pairing left right to) state
+    (pairs_long (paired pairing) xs ys n holds_left.long holds_right.long) (keeps_party pairing left right to) (keeps_land pairing left right to)
+    (one_taken c e s left right to (pair_of pairing xs ys) xs ys state (paired pairing) (pair_instr pairing) known_left known_right known_to holds_left holds_right
+    (pair_at (paired pairing) xs ys n holds_left.long holds_right.long) (pair_does c e pairing))

@@ -5,14 +5,15 @@ use Rattle.std.specs.List.{AllZip}
 use Rattle.sl_ratio.specs.declared.limits.TheConstants.{MAX_WEIGHT}
 use Rattle.sl_ratio.specs.declared.method.Method.TheVariants as by
 use Rattle.sl_stages.specs.declared.book.Axis.{Axis}
+use Rattle.sl_stages.specs.declared.book.Pairing.{Pairing}
 use Rattle.sl_stages.specs.declared.book.Shape.{Shape}
 use Rattle.sl_stages.specs.declared.book.Shape.TheVariants as shape
 use Rattle.sl_stages.specs.book.Limits.{depth_of}
 use Rattle.sl_stages.specs.book.Tests.{first_failing}
-use Rattle.sl_stages.specs.book.Trees.{ExprTree, house, counted, winners, outside, independents, population, name, sum, larger, less, split, split_from, grow, BookTree}
-use Rattle.sl_stages.specs.book.Typing.{is_typed, type_of, expr_tests, splits_in, is_named}
+use Rattle.sl_stages.specs.book.Trees.{ExprTree, fact, name, sum, pair, split, without, atleast, grow, BookTree}
+use Rattle.sl_stages.specs.book.Typing.{is_typed, fact_type, type_of, expr_tests, splits_in, is_named}
 use Rattle.sl_stages.specs.returns.Election.{Election, IsElection}
-use Rattle.sl_stages.specs.meaning.Columns.{sum_over, larger_of, less_of}
+use Rattle.sl_stages.specs.meaning.Columns.{sum_over, pair_of, fact_column}
 use Rattle.sl_stages.specs.meaning.Records.{Records, no_records, both_records}
 use Rattle.sl_stages.specs.meaning.Results.{Column, plain, Then}
 use Rattle.sl_stages.specs.meaning.Expressions.{Context, shape_in, stand, ExprMeans, IsSplit, IsGrown}
@@ -24,17 +25,16 @@ use Rattle.sl_code.specs.Codes.{CountingCode}
 use Rattle.sl_machine.specs.State.{State}
 use Rattle.sl_machine.specs.Effects.{most}
 use Rattle.sl_pieces.specs.columns.Columns.{HoldsColumn}
-use Rattle.sl_pieces.specs.columns.Trees.{copy_tree}
 use Rattle.sl_plans.specs.Trees.{Tree}
 use Rattle.sl_pieces.specs.nodes.Nodes.{EndsWith}
 use Rattle.sl_pieces.specs.exprs.Slots.{fact_slots, passing, stage_slot}
 use Rattle.sl_pieces.specs.exprs.Pieces.{pieces}
 use Rattle.sl_pieces.specs.exprs.Meaning.{HoldsKnown, StandsIn, HasExpr, ExprsAchieve}
 use Rattle.sl_pieces.proofs.exprs.Following.{AllAchieve, all_more}
-use Rattle.sl_pieces.proofs.exprs.Places.{first_of, facts_below, first_same}
+use Rattle.sl_pieces.proofs.exprs.Places.{first_of, fact_low, facts_below, first_same}
 use Rattle.sl_pieces.proofs.exprs.Arguments.{ComesTo, then_all, two_arguments, three_arguments}
 use Rattle.sl_pieces.proofs.exprs.Leaves.{known_kept, leaf_all, HasNamed, has_named}
-use Rattle.sl_pieces.proofs.exprs.Sums.{typed_weights, typed_numbers, sum_all, larger_all, less_all}
+use Rattle.sl_pieces.proofs.exprs.Sums.{typed_weights, typed_numbers, sum_all, pair_all}
 use Rattle.sl_pieces.proofs.exprs.Nodes.{HasStage, has_stage, no_minima_at, some_minima_at, split_all, grow_all}
 use Rattle.sl_pieces.proofs.exprs.Levels.{low_level, one_level, two_levels, split_levels, three_levels, pair_passes, split_passes, Shares, split_from_passes, fits_minima, Grows, grow_passes, no_hamilton}
 
@@ -45,14 +45,6 @@ same_column e level s v u values same h = subst (λ x. HoldsColumn e x (u.column
 
 module _ (code : CountingCode) (b : BookTree) (e : Election) (c : Context) (typed : is_typed b ≡ true) (is : IsElection e)
     (known : AllZip (IsTypedAs e) c.types c.columns) (stands : StandsIn code c) where
-  -- a fact is copied
-  fact : (x : ExprTree) (level : ℕ) (s : Shape) (from : ℕ) (values : List ℕ) (state : State) → level ≤ 16 → from < 12 → slice_get code.slots from ≡ Some s
-      → HoldsColumn e s (state.columns from) values → ExprMeans b e c x (plain values)
-      → AllAchieve code e (copy_tree s from (passing level s) ∷ []) state (ComesTo e (ExprMeans b e c x) s (passing level s) (first_of level) state) (EndsWith (ExprMeans b e c x))
-  fact x level s from values state low below there holds means =
-      let facts = facts_below level in
-      leaf_all level low s from values state there (stands.slots.passing_are level s low) (inl (omega (arith, facts, below))) holds means
-
   -- the numbers of a sum
   sum_small : (at : ℕ) (x : ExprTree) (over : Axis) (xs : List ℕ) (records : Records) → first_failing (expr_tests c.types (sum at x over)) ≡ None
       → ExprMeans b e c x (Column xs records) → All (λ n. n ≤ most) (sum_over e over xs)
@@ -74,7 +66,7 @@ module _ (code : CountingCode) (b : BookTree) (e : Election) (c : Context) (type
       AllAchieve code e (pieces c.types c.stage level x) s (ComesTo e (ExprMeans b e c x) (shape_in c x) (passing level (shape_in c x)) (first_of level) s)
       (EndsWith (ExprMeans b e c x))
 
-  -- two expressions of one shape. Their tests and their levels are the same in `larger` and in `less`
+  -- two expressions of one shape
   record PairParts (x y : ExprTree) (level : ℕ) : Type 0 where
     left : first_failing (expr_tests c.types x) ≡ None
     right : first_failing (expr_tests c.types y) ≡ None
@@ -82,9 +74,9 @@ module _ (code : CountingCode) (b : BookTree) (e : Election) (c : Context) (type
     left_within : level + depth_of x + splits_in x ≤ 17
     right_within : level + 1 + depth_of y + splits_in y ≤ 17
 
-  pair_parts : (at : ℕ) (x y : ExprTree) (level : ℕ) → first_failing (expr_tests c.types (larger at x y)) ≡ None
-      → level + depth_of (larger at x y) + splits_in (larger at x y) ≤ 17 → PairParts x y level
-  pair_parts at x y level pass within =
+  pair_parts : (at : ℕ) (pairing : Pairing) (x y : ExprTree) (level : ℕ) → first_failing (expr_tests c.types (pair at pairing x y)) ≡ None
+      → level + depth_of (pair at pairing x y) + splits_in (pair at pairing x y) ≤ 17 → PairParts x y level
+  pair_parts at pairing x y level pass within =
       let p = pass_parts3 (expr_tests c.types x) (expr_tests c.types y) _ pass in
       let levels = two_levels level (depth_of x) (depth_of y) (splits_in x) (splits_in y) within in
       record { left = p.0; right = p.1; same = pair_passes at (type_of c.types x) (type_of c.types y) p.2; left_within = levels.0; right_within = levels.1 }
@@ -103,18 +95,12 @@ module _ (code : CountingCode) (b : BookTree) (e : Election) (c : Context) (type
 
   goes : (x : ExprTree) (level : ℕ) (s : State) → first_failing (expr_tests c.types x) ≡ None → level + depth_of x + splits_in x ≤ 17 → HoldsKnown b e c.types c.columns s
       → Goes x level s
-  goes (house at) level s pass within holds =
-      fact (house at) level shape.One fact_slots.house _ s (low_level (house at) level within) (omega arith) stands.slots.facts.house holds.house (_, refl, refl)
-  goes (counted at) level s pass within holds =
-      fact (counted at) level shape.List fact_slots.counted _ s (low_level (counted at) level within) (omega arith) stands.slots.facts.counted holds.counted (_, refl, refl)
-  goes (winners at) level s pass within holds =
-      fact (winners at) level shape.List fact_slots.winners _ s (low_level (winners at) level within) (omega arith) stands.slots.facts.winners holds.winners (_, refl, refl)
-  goes (outside at) level s pass within holds =
-      fact (outside at) level shape.Land fact_slots.outside _ s (low_level (outside at) level within) (omega arith) stands.slots.facts.outside holds.outside (_, refl, refl)
-  goes (independents at) level s pass within holds =
-      fact (independents at) level shape.Land fact_slots.independents _ s (low_level (independents at) level within) (omega arith) stands.slots.facts.independents holds.independents (_, refl, refl)
-  goes (population at) level s pass within holds =
-      fact (population at) level shape.Land fact_slots.population _ s (low_level (population at) level within) (omega arith) stands.slots.facts.population holds.population (_, refl, refl)
+  goes (fact at told) level s pass within holds =
+      let low = low_level (fact at told) level within in
+      let facts = facts_below level in
+      let before = fact_low told in
+      leaf_all level low (fact_type told).shape (fact_slots.of told) (fact_column b e told) s (stands.slots.facts.facts told) (stands.slots.passing_are level (fact_type told).shape low)
+      (inl (omega (arith, facts, before))) (holds.facts told) (fact_column b e told, refl, refl)
   goes (name at n) level s pass within holds =
       let low = low_level (name at n) level within in
       let h : HasNamed code e n c.types c.columns s = has_named code b e n c.types c.columns s stands.slots known (head_holds _ _ _ pass).0 holds in
@@ -127,17 +113,13 @@ module _ (code : CountingCode) (b : BookTree) (e : Election) (c : Context) (type
       (goes x level s parts.0 (one_level level (depth_of x) (splits_in x) within) holds)
       (λ t h. sum_all level (λ k. stands.slots.passing_are level k low) low (shape_in c x) over h.values t (head_holds _ _ _ parts.1).0 h.column
       (sum_small at x over h.values h.records pass h.result))
-  goes (larger at x y) level s pass within holds =
-      let p = pair_parts at x y level pass within in
+  goes (pair at pairing x y) level s pass within holds =
+      let p = pair_parts at pairing x y level pass within in
       let low = low_level y (level + 1) p.right_within in
-      joined x y level s larger_of p.same holds (goes x level s p.left p.left_within holds) (λ t h. goes y (level + 1) t p.right p.right_within h)
-      (larger_all level (λ k. stands.slots.passing_are level k (omega (arith, low))) (omega (arith, low)) (shape_in c x) (stands.slots.passing_are (level + 1) (shape_in c x) low))
-  goes (less at x y) level s pass within holds =
-      let p = pair_parts at x y level pass within in
-      let low = low_level y (level + 1) p.right_within in
-      joined x y level s less_of p.same holds (goes x level s p.left p.left_within holds) (λ t h. goes y (level + 1) t p.right p.right_within h)
-      (less_all level (λ k. stands.slots.passing_are level k (omega (arith, low))) (omega (arith, low)) (shape_in c x) (stands.slots.passing_are (level + 1) (shape_in c x) low))
-  goes (split at x v method majority) level s pass within holds =
+      joined x y level s (pair_of pairing) p.same holds (goes x level s p.left p.left_within holds) (λ t h. goes y (level + 1) t p.right p.right_within h)
+      (λ xs ys u left right.
+      pair_all level (λ k. stands.slots.passing_are level k (omega (arith, low))) (omega (arith, low)) (shape_in c x) (stands.slots.passing_are (level + 1) (shape_in c x) low) xs ys u left right pairing)
+  goes (split at x v method without majority) level s pass within holds =
       let p = pass_parts3 (expr_tests c.types x) (expr_tests c.types v) _ pass in
       let can = split_passes at (type_of c.types x) (type_of c.types v) method majority p.2 in
       let levels = split_levels level (depth_of x) (depth_of v) (splits_in x) (splits_in v) within in
@@ -147,7 +129,7 @@ module _ (code : CountingCode) (b : BookTree) (e : Election) (c : Context) (type
       (λ u amounts votes one two. split_all code c.types c.stage c.name level of_stage stands.slots.passing_are (low_level v (level + 1) levels.1) e is amounts votes u
       (votes_small v votes two.records p.1 two.result) None None method majority tt (shape_in c x) (shape_in c v) can (no_minima_at level (shape_in c v))
       (one.column, two.column, tt))
-  goes (split_from at x v method m majority) level s pass within holds =
+  goes (split at x v method (atleast m) majority) level s pass within holds =
       let p = pass_parts4 (expr_tests c.types x) (expr_tests c.types v) (expr_tests c.types m) _ pass in
       let tests : Shares (type_of c.types x) (type_of c.types v) (type_of c.types m) method =
       split_from_passes at (type_of c.types x) (type_of c.types v) (type_of c.types m) method majority p.3 in

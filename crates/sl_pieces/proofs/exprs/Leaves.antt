@@ -17,10 +17,10 @@ use Rattle.sl_pieces.specs.columns.Columns.{HoldsColumn}
 use Rattle.sl_pieces.specs.columns.Trees.{copy_tree}
 use Rattle.sl_pieces.proofs.columns.Writing.{columns_are_copied}
 use Rattle.sl_pieces.specs.nodes.Nodes.{EndsWith}
-use Rattle.sl_pieces.specs.exprs.Slots.{passing, stage_slot, HasBookSlots}
+use Rattle.sl_pieces.specs.exprs.Slots.{fact_slots, passing, stage_slot, HasBookSlots}
 use Rattle.sl_pieces.specs.exprs.Meaning.{HoldsKnown}
 use Rattle.sl_pieces.proofs.exprs.Following.{AllAchieve}
-use Rattle.sl_pieces.proofs.exprs.Places.{first_of, facts_below, first_before, stages_above, outside}
+use Rattle.sl_pieces.proofs.exprs.Places.{first_of, fact_low, facts_below, first_before, stages_above, outside}
 use Rattle.sl_pieces.proofs.exprs.Arguments.{ComesTo, column_kept, plain_all}
 
 -- ---- what is known stays known
@@ -31,12 +31,7 @@ module _ {b : BookTree} {e : Election} {types : List Column} {columns : List Nam
       let kept : (k : ℕ) (shape : Shape) (values : List ℕ) → (k < 12) ⊎ (80 ≤ k) → HoldsColumn e shape (s.columns k) values → HoldsColumn e shape (t.columns k) values =
       λ k shape values apart holds. column_kept e shape values (s.columns k) (t.columns k) (λ q. same k q apart) holds in
       record {
-        house = kept 1 _ _ (inl (omega arith)) h.house;
-        counted = kept 2 _ _ (inl (omega arith)) h.counted;
-        winners = kept 3 _ _ (inl (omega arith)) h.winners;
-        outside = kept 4 _ _ (inl (omega arith)) h.outside;
-        independents = kept 5 _ _ (inl (omega arith)) h.independents;
-        population = kept 6 _ _ (inl (omega arith)) h.population;
+        facts = λ told. kept (fact_slots.of told) _ _ (inl (fact_low told)) (h.facts told);
         stages = λ k u x typed valued. kept (stage_slot k) _ _ (inr (omega arith)) (h.stages k u x typed valued);
       }
 

@@ -10,7 +10,7 @@ use Rattle.sl_stages.specs.declared.book.Shape.TheVariants as shape
 use Rattle.sl_stages.specs.declared.book.Unit.TheVariants as unit
 use Rattle.sl_stages.specs.declared.book.ColumnType.{ColumnType}
 use Rattle.sl_stages.specs.book.Tests.{first_failing}
-use Rattle.sl_stages.specs.book.Trees.{ExprTree, house, counted, winners, outside, independents, population, name, sum, larger, less, split, split_from, grow}
+use Rattle.sl_stages.specs.book.Trees.{ExprTree, fact, name, sum, pair, split, without, atleast, grow}
 use Rattle.sl_stages.specs.book.Limits.{depth_of}
 use Rattle.sl_stages.specs.book.Typing.{splits_in, column, can_split, pair_tests, split_tests, split_from_tests, grow_tests}
 use Rattle.sl_stages.specs.laws.OneLaws.{FitsMethod}
@@ -20,18 +20,12 @@ use Rattle.sl_stages.proofs.typing.NodeLaws.{pair_has, split_from_has, grow_has}
 -- ---- levels
 
 some_depth : (x : ExprTree) → 1 ≤ depth_of x
-some_depth (house at) = omega arith
-some_depth (counted at) = omega arith
-some_depth (winners at) = omega arith
-some_depth (outside at) = omega arith
-some_depth (independents at) = omega arith
-some_depth (population at) = omega arith
+some_depth (fact at told) = omega arith
 some_depth (name at n) = omega arith
 some_depth (sum at x over) = omega arith
-some_depth (larger at l r) = omega arith
-some_depth (less at l r) = omega arith
-some_depth (split at s v method majority) = omega arith
-some_depth (split_from at s v method m majority) = omega arith
+some_depth (pair at pairing l r) = omega arith
+some_depth (split at s v method without majority) = omega arith
+some_depth (split at s v method (atleast m) majority) = omega arith
 some_depth (grow at s v method m limit majority) = omega arith
 
 pub low_level : (x : ExprTree) (level : ℕ) → level + depth_of x + splits_in x ≤ 17 → level ≤ 16

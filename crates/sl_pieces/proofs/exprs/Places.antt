@@ -2,8 +2,10 @@
 use Rattle.std.proofs.Common.{◌≢◌, ◌⊎◌, ℕ, ◌+◌, ◌<◌, ◌≤◌, inl, inr, arith}
 use Rattle.sl_stages.specs.declared.book.Shape.{Shape}
 use Rattle.sl_stages.specs.declared.book.Shape.TheVariants as shape
+use Rattle.sl_stages.specs.declared.fact.Fact.{Fact}
+use Rattle.sl_stages.specs.declared.fact.Fact.TheVariants as facts
 use Rattle.sl_pieces.specs.scopes.Forms.{Form, AllParties, AllLands, AllLists, ListsOfParty, ListsInLand, amounts_of, votes_of}
-use Rattle.sl_pieces.specs.exprs.Slots.{number_of, passing}
+use Rattle.sl_pieces.specs.exprs.Slots.{fact_slots, number_of, passing}
 
 number_few : (s : Shape) → number_of s ≤ 3
 number_few shape.One = omega arith
@@ -14,6 +16,10 @@ number_few shape.List = omega arith
 -- the first column of a level
 abbrev pub first_of : ℕ → ℕ
 first_of level = passing level shape.One
+
+pub fact_low : (told : Fact) → fact_slots.of told < 12
+fact_low facts.House = omega arith
+fact_low told = omega arith
 
 pub facts_below : (level : ℕ) → 12 ≤ first_of level
 facts_below level = omega arith

@@ -31,8 +31,9 @@ use Rattle.sl_pieces.specs.columns.Trees.{copy_tree}
 use Rattle.sl_pieces.proofs.columns.Writing.{columns_are_copied}
 use Rattle.sl_pieces.specs.nodes.Nodes.{EndsWith}
 use Rattle.sl_pieces.proofs.nodes.JoiningLists.{pushed_there}
-use Rattle.sl_pieces.specs.exprs.Slots.{passing, stage_slot, HasBookSlots}
+use Rattle.sl_pieces.specs.exprs.Slots.{fact_slots, passing, stage_slot, HasBookSlots}
 use Rattle.sl_pieces.specs.exprs.Pieces.{pieces}
+use Rattle.sl_pieces.proofs.exprs.Places.{fact_low}
 use Rattle.sl_pieces.specs.exprs.Meaning.{HoldsKnown, StandsIn, HasExpr, ExprsAchieve}
 use Rattle.sl_pieces.specs.exprs.Stages.{stage_pieces, stages_pieces, HasStages, IsBehind, HasColumns, EndsStopped, StagesAchieve}
 use Rattle.sl_pieces.proofs.exprs.Expressions.{exprs_achieve}
@@ -113,12 +114,7 @@ module _ (b : BookTree) (e : Election) (k : Known) (s : StageTree) (before start
 
     known_held : HoldsKnown b e (k.types ++ stage_column k.types s ∷ []) (k.columns ++ new_column ∷ []) u
     known_held = record {
-      house = fact_held 1 shape.One _ (omega arith) behind.known.house;
-      counted = fact_held 2 shape.List _ (omega arith) behind.known.counted;
-      winners = fact_held 3 shape.List _ (omega arith) behind.known.winners;
-      outside = fact_held 4 shape.Land _ (omega arith) behind.known.outside;
-      independents = fact_held 5 shape.Land _ (omega arith) behind.known.independents;
-      population = fact_held 6 shape.Land _ (omega arith) behind.known.population;
+      facts = λ told. fact_held (fact_slots.of told) _ _ (fact_low told) (behind.known.facts told);
       stages = stages_held;
     }
 

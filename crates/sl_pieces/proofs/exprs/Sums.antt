@@ -1,10 +1,11 @@
--- Sums, the larger of two columns, and differences.
+-- Sums and pairs of columns.
 use Rattle.std.proofs.Common.{◌≡◌, ℕ, ◌+◌, ◌≤◌, true, List, [], ◌∷◌, All, Some, slice_get, refl, subst, arith}
 use Rattle.std.proofs.lemmas.Bool.{false≢true}
 use Rattle.std.proofs.lemmas.List.Elements.{All-weaker}
 use Rattle.sl_ratio.specs.declared.limits.TheConstants.{MAX_WEIGHT}
 use Rattle.sl_stages.specs.declared.book.Axis.{Axis}
 use Rattle.sl_stages.specs.declared.book.Axis.TheVariants as axis
+use Rattle.sl_stages.specs.declared.book.Pairing.{Pairing}
 use Rattle.sl_stages.specs.declared.book.Shape.{Shape}
 use Rattle.sl_stages.specs.declared.book.Shape.TheVariants as shape
 use Rattle.sl_stages.specs.declared.book.Unit.{Unit as Units}
@@ -12,7 +13,7 @@ use Rattle.sl_stages.specs.declared.book.Unit.TheVariants as unit
 use Rattle.sl_stages.specs.declared.book.ColumnType.{ColumnType}
 use Rattle.sl_stages.specs.book.Typing.{column, can_sum, shape_over}
 use Rattle.sl_stages.specs.returns.Election.{Election}
-use Rattle.sl_stages.specs.meaning.Columns.{sum_over, larger_of, less_of}
+use Rattle.sl_stages.specs.meaning.Columns.{sum_over, pair_of}
 use Rattle.sl_stages.specs.meaning.Results.{ExprResult, plain}
 use Rattle.sl_stages.specs.laws.ColumnLaws.{most_of, FitsType}
 use Rattle.sl_code.specs.Codes.{CountingCode}
@@ -20,8 +21,8 @@ use Rattle.sl_machine.specs.State.{State}
 use Rattle.sl_machine.specs.Effects.{most}
 use Rattle.sl_pieces.specs.columns.Columns.{HoldsColumn}
 use Rattle.sl_pieces.specs.columns.Laws.{FitsAxis}
-use Rattle.sl_pieces.specs.columns.Trees.{sum_tree, larger_tree, less_tree, summed}
-use Rattle.sl_pieces.proofs.columns.Writing.{larger_are_taken, differences_are_taken}
+use Rattle.sl_pieces.specs.columns.Trees.{sum_tree, pair_tree, summed}
+use Rattle.sl_pieces.proofs.columns.Writing.{pairs_are_taken}
 use Rattle.sl_pieces.proofs.columns.Sums.{sums_are_taken}
 use Rattle.sl_pieces.specs.nodes.Nodes.{EndsWith}
 use Rattle.sl_pieces.specs.exprs.Slots.{passing}
@@ -81,12 +82,7 @@ module _ {c : CountingCode} {e : Election} (level : ℕ) (there : (s : Shape) �
 
   module _ (next : slice_get c.slots (passing (level + 1) s) ≡ Some s) (xs ys : List ℕ) (state : State) (left : HoldsColumn e s (state.columns (passing level s)) xs)
       (right : HoldsColumn e s (state.columns (passing (level + 1) s)) ys) where
-    pub larger_all : AllAchieve c e (larger_tree s (passing level s) (passing (level + 1) s) (passing level s) ∷ []) state
-        (ComesTo e (λ r. r ≡ plain (larger_of xs ys)) s (passing level s) (first_of level) state) (EndsWith (λ r. r ≡ plain (larger_of xs ys)))
-    larger_all = plain_all (first_before level s) (stages_above level s low) refl
-        (larger_are_taken c e s (passing level s) (passing (level + 1) s) (passing level s) xs ys state (there s) next (there s) (other_level level (level + 1) s s (omega arith)) left right)
-
-    pub less_all : AllAchieve c e (less_tree s (passing level s) (passing (level + 1) s) (passing level s) ∷ []) state
-        (ComesTo e (λ r. r ≡ plain (less_of xs ys)) s (passing level s) (first_of level) state) (EndsWith (λ r. r ≡ plain (less_of xs ys)))
-    less_all = plain_all (first_before level s) (stages_above level s low) refl
-        (differences_are_taken c e s (passing level s) (passing (level + 1) s) (passing level s) xs ys state (there s) next (there s) (other_level level (level + 1) s s (omega arith)) left right)
+    pub pair_all : (pairing : Pairing) → AllAchieve c e (pair_tree pairing s (passing level s) (passing (level + 1) s) (passing level s) ∷ []) state
+        (ComesTo e (λ r. r ≡ plain (pair_of pairing xs ys)) s (passing level s) (first_of level) state) (EndsWith (λ r. r ≡ plain (pair_of pairing xs ys)))
+    pair_all pairing = plain_all (first_before level s) (stages_above level s low) refl
+        (pairs_are_taken c e pairing s (passing level s) (passing (level + 1) s) (passing level s) xs ys state (there s) next (there s) (other_level level (level + 1) s s (omega arith)) left right)

@@ -5,6 +5,7 @@ use Rattle.std.proofs.lemmas.Nat.{div-add-mod'}
 use Rattle.sl_stages.specs.declared.book.Cond.{Cond}
 use Rattle.sl_stages.specs.declared.book.Shape.{Shape}
 use Rattle.sl_stages.specs.declared.book.Shape.TheVariants as shape
+use Rattle.sl_stages.specs.declared.fact.Fact.TheVariants as facts
 use Rattle.sl_stages.specs.declared.returns.Win.{Win}
 use Rattle.sl_stages.specs.returns.Election.{Election, IsElection, parties_of, has_list}
 use Rattle.sl_stages.specs.returns.Facts.{is_of, is_in, is_eligible, takes_part, is_on_list, list_winners, outside_winners, independent_winners}
@@ -23,7 +24,7 @@ use Rattle.sl_plans.specs.inner.Frames.{may_move}
 use Rattle.sl_plans.specs.Achieves.{Achieves, Never}
 use Rattle.sl_plans.proofs.Rules.{achieves_more, if_zero, if_no_list, if_no_party}
 use Rattle.sl_pieces.specs.columns.Columns.{GetsColumn}
-use Rattle.sl_pieces.specs.facts.Trees.{FactSlots, number, count_one, nothing, by_winner, winners_tree, outside_tree, independents_tree}
+use Rattle.sl_pieces.specs.facts.Trees.{FactSlots, number, count_one, nothing, by_winner, winners_tree, outside_tree, alone_tree}
 use Rattle.sl_pieces.specs.facts.Laws.{HasFactSlots}
 use Rattle.sl_pieces.proofs.facts.Holding.{land_of_place, party_of_place, holds_lands, holds_lists, WritesOnly, gets_column}
 use Rattle.sl_pieces.proofs.facts.Lines.{line_first, line_over}
@@ -165,13 +166,13 @@ module _ (c : CountingCode) (e : Election) (x : FactSlots) (slots : HasFactSlots
       (λ j w u there kept small. turn j w u there (λ k q other. kept k q other ∙ cell_not_written s slot (λ q. 0) k q other) small)))
 
   module _ (s : State) where
-    pub independents_are_told : Achieves c e (independents_tree x) s (GetsColumn e shape.Land x.independents (independent_winners conditions e) s) Never
-    independents_are_told =
-        let slot : ℕ = x.independents in
+    pub alone_are_told : Achieves c e (alone_tree x) s (GetsColumn e shape.Land (x.of facts.Independents) (independent_winners conditions e) s) Never
+    alone_are_told =
+        let slot : ℕ = x.of facts.Independents in
         let counts : ℕ → Win → Bool = counts_alone conditions e in
         gets_column shape.Land slot (independent_winners conditions e)
         (achieves_more
-        (counted_winners slot shape.Land counts (Then (Line (Wland ∷ [])) (If test.NoParty (Line (count_one slot)) nothing)) s slots.independents refl (λ k other. rw (ne_eqb k slot other) refl)
+        (counted_winners slot shape.Land counts (Then (Line (Wland ∷ [])) (If test.NoParty (Line (count_one slot)) nothing)) s (slots.facts facts.Independents) refl (λ k other. rw (ne_eqb k slot other) refl)
         (λ j w t there kept small.
         let t0 : State = with_win (Some j) t in
         let winner : winner_at e t0 ≡ Some w = winner_is e t0 j w refl there in
@@ -179,7 +180,7 @@ module _ (c : CountingCode) (e : Election) (x : FactSlots) (slots : HasFactSlots
         line_first (wland_does c e t0 w winner) (line_over
         (if_no_party {w = w} winner
         (λ none.
-        counts_at c e slot (λ q. counts q w) t (with_party None u) refl shape.Land w.land slots.independents refl (small w.land)
+        counts_at c e slot (λ q. counts q w) t (with_party None u) refl shape.Land w.land (slots.facts facts.Independents) refl (small w.land)
         (in_land w (is_none w.party) (ap is_none none)) (in_no_other w (is_none w.party)))
         (λ p of. counts_nowhere c e slot (λ q. counts q w) t (with_party (Some p) u) refl (λ q. and_right (is_in q w) (is_none w.party) (ap is_none of)))))))
         (λ t cells. holds_lands e (t.columns slot) (λ land. count_by (counts land) e.wins) (λ q less. cells q)) (λ o h. h))
@@ -190,36 +191,36 @@ module _ (c : CountingCode) (e : Election) (x : FactSlots) (slots : HasFactSlots
           → Flagged e x (is_eligible conditions e) (with_win (Some j) t)
       flagged_in slot j t apart kept p less = kept x.eligible p (λ is. apart (sym is)) ∙ flagged p less
 
-      pub outside_are_told : x.outside ≢ x.eligible → Achieves c e (outside_tree x) s (GetsColumn e shape.Land x.outside (outside_winners conditions e) s) Never
+      pub outside_are_told : (x.of facts.Outside) ≢ x.eligible → Achieves c e (outside_tree x) s (GetsColumn e shape.Land (x.of facts.Outside) (outside_winners conditions e) s) Never
       outside_are_told apart =
-          let slot : ℕ = x.outside in
+          let slot : ℕ = x.of facts.Outside in
           let counts : ℕ → Win → Bool = counts_outside conditions e in
           gets_column shape.Land slot (outside_winners conditions e)
           (achieves_more
-          (counted_winners slot shape.Land counts (by_winner x nothing (Line (count_one slot))) s slots.outside refl (λ k other. rw (ne_eqb k slot other) refl)
+          (counted_winners slot shape.Land counts (by_winner x nothing (Line (count_one slot))) s (slots.facts facts.Outside) refl (λ k other. rw (ne_eqb k slot other) refl)
           (λ j w t there kept small.
           let t0 : State = with_win (Some j) t in
           by_winner_achieves w t0 (winner_is e t0 j w refl there) (flagged_in slot j t apart kept)
           (λ p u of part columns land party. counts_nowhere c e slot (λ q. counts q w) t u columns (listed_not_outside conditions e w p of part))
           (λ u off columns land.
-          counts_at c e slot (λ q. counts q w) t u columns shape.Land w.land slots.outside land (small w.land) (outside_there conditions e w off) (in_no_other w (not (is_on_list conditions e w))))))
+          counts_at c e slot (λ q. counts q w) t u columns shape.Land w.land (slots.facts facts.Outside) land (small w.land) (outside_there conditions e w off) (in_no_other w (not (is_on_list conditions e w))))))
           (λ t cells. holds_lands e (t.columns slot) (λ land. count_by (counts land) e.wins) (λ q less. cells q)) (λ o h. h))
           (λ k other. rw (ne_eqb k slot other) refl) (record { steps = refl; weights = refl; seats = refl })
 
-      pub winners_are_told : x.winners ≢ x.eligible → Achieves c e (winners_tree x) s (GetsColumn e shape.List x.winners (list_winners conditions e) s) Never
+      pub winners_are_told : (x.of facts.Winners) ≢ x.eligible → Achieves c e (winners_tree x) s (GetsColumn e shape.List (x.of facts.Winners) (list_winners conditions e) s) Never
       winners_are_told apart =
-          let slot : ℕ = x.winners in
+          let slot : ℕ = x.of facts.Winners in
           let counts : ℕ → Win → Bool = counts_in_list conditions e in
           gets_column shape.List slot (list_winners conditions e)
           (achieves_more
-          (counted_winners slot shape.List counts (by_winner x (Line (count_one slot)) nothing) s slots.winners refl (λ k other. rw (ne_eqb k slot other) refl)
+          (counted_winners slot shape.List counts (by_winner x (Line (count_one slot)) nothing) s (slots.facts facts.Winners) refl (λ k other. rw (ne_eqb k slot other) refl)
           (λ j w t there kept small.
           let t0 : State = with_win (Some j) t in
           by_winner_achieves w t0 (winner_is e t0 j w refl there) (flagged_in slot j t apart kept)
           (λ p u of part columns land party.
           let place : ℕ = w.land * parties_of e + p in
           let less : p < parties_of e = part_within w.land p part in
-          counts_at c e slot (λ q. counts q w) t u columns shape.List place slots.winners (both_are u.land u.party (λ l n. l * parties_of e + n) w.land p land party) (small place)
+          counts_at c e slot (λ q. counts q w) t u columns shape.List place (slots.facts facts.Winners) (both_are u.land u.party (λ l n. l * parties_of e + n) w.land p land party) (small place)
           (listed_there conditions e w p of part less) (listed_nowhere_else conditions e w p of part less))
           (λ u off columns land. counts_nowhere c e slot (λ q. counts q w) t u columns (unlisted conditions e w w.party refl off))))
           (λ t cells. holds_lists e (t.columns slot) (winners_of conditions e)

@@ -1,5 +1,6 @@
 -- The plans of a book's last clause: who sits in the end, and which seats stay vacant (docs/compiler.md, section 6).
 use Rattle.std.specs.Prelude.{ℕ, List, [], ◌∷◌, ◌++◌, Option, None, Some, position, unwrap_or}
+use Rattle.sl_stages.specs.declared.book.Pairing.TheVariants as pairings
 use Rattle.sl_stages.specs.declared.book.Base.{Base}
 use Rattle.sl_stages.specs.declared.book.Base.TheVariants as base
 use Rattle.sl_stages.specs.declared.book.LastClause.{LastClause}
@@ -12,14 +13,14 @@ use Rattle.sl_code.specs.declared.instr.Instr.TheVariants.{Input, Seat, Single, 
 use Rattle.sl_code.specs.declared.operand.Input.TheVariants as input
 use Rattle.sl_plans.specs.declared.plan.Cursor.TheVariants as cursor
 use Rattle.sl_plans.specs.Trees.{Tree, Line, Each}
-use Rattle.sl_pieces.specs.columns.Trees.{copy_tree, larger_tree, less_tree}
+use Rattle.sl_pieces.specs.columns.Trees.{copy_tree, pair_tree}
 use Rattle.sl_pieces.specs.facts.Trees.{by_winner}
 use Rattle.sl_pieces.specs.covers.Trees.{CoverSlots, cover_tree}
-use Rattle.sl_pieces.specs.exprs.Slots.{fact_slots, pair_numbers, names_left, vacant_seats, passing, stage_slot}
+use Rattle.sl_pieces.specs.exprs.Slots.{fact_slots, winners_slot, pair_numbers, names_left, vacant_seats, passing, stage_slot}
 
 -- the slot of the base column: that of a fact, or of a stage
 abbrev pub base_slot : List Column → Base → ℕ
-base_slot types base.Winners = fact_slots.winners
+base_slot types base.Winners = winners_slot
 base_slot types (base.Stage n) = stage_slot (unwrap_or (position (is_named n) types) 0)
 
 -- the seats of the lists in the end; no expression is left that passes columns
@@ -35,7 +36,7 @@ cover_slots = record { base = final_seats; eligible = fact_slots.eligible; numbe
 
 -- the seats of the lists, and who sits on them
 abbrev pub seating_pieces : ℕ → Seating → List Tree
-seating_pieces from seating.Keep = larger_tree shape.List from fact_slots.winners final_seats ∷ (place_kept ∷ [])
+seating_pieces from seating.Keep = pair_tree pairings.Larger shape.List from winners_slot final_seats ∷ (place_kept ∷ [])
 seating_pieces from seating.Cover = copy_tree shape.List from final_seats ∷ (cover_tree cover_slots ∷ [])
 
 -- with `vacate`: the seats that neither winners nor names fill
@@ -43,7 +44,7 @@ abbrev pub vacant_pieces : Option ℕ → List Tree
 vacant_pieces None = []
 vacant_pieces (Some vacate) =
     Line (Input names_left input.Names ∷ [])
-    ∷ (less_tree shape.List final_seats fact_slots.winners vacant_seats ∷ (less_tree shape.List vacant_seats names_left vacant_seats ∷ []))
+    ∷ (pair_tree pairings.Less shape.List final_seats winners_slot vacant_seats ∷ (pair_tree pairings.Less shape.List vacant_seats names_left vacant_seats ∷ []))
 
 abbrev pub last_pieces : List Column → LastClause → List Tree
 last_pieces types last = seating_pieces (base_slot types last.base) last.seating ++ vacant_pieces last.vacate

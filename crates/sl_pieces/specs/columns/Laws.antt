@@ -2,16 +2,17 @@
 use Rattle.std.specs.Prelude.{◌≡◌, ◌≢◌, ℕ, ◌≤◌, List, Some, All, slice_get}
 use Rattle.sl_stages.specs.declared.book.Axis.{Axis}
 use Rattle.sl_stages.specs.declared.book.Axis.TheVariants as axis
+use Rattle.sl_stages.specs.declared.book.Pairing.{Pairing}
 use Rattle.sl_stages.specs.declared.book.Shape.{Shape}
 use Rattle.sl_stages.specs.declared.book.Shape.TheVariants as shape
 use Rattle.sl_stages.specs.returns.Election.{Election}
-use Rattle.sl_stages.specs.meaning.Columns.{sum_over, larger_of, less_of}
+use Rattle.sl_stages.specs.meaning.Columns.{sum_over, pair_of}
 use Rattle.sl_code.specs.Codes.{CountingCode}
 use Rattle.sl_machine.specs.State.{State}
 use Rattle.sl_machine.specs.Effects.{most}
 use Rattle.sl_plans.specs.Achieves.{Achieves, Never}
 use Rattle.sl_pieces.specs.columns.Columns.{HoldsColumn, GetsColumn}
-use Rattle.sl_pieces.specs.columns.Trees.{copy_tree, larger_tree, less_tree, sum_tree, summed}
+use Rattle.sl_pieces.specs.columns.Trees.{copy_tree, pair_tree, sum_tree, summed}
 
 abbrev pub ColumnsAreCopied : Type 0
 ColumnsAreCopied =
@@ -20,19 +21,12 @@ ColumnsAreCopied =
     Achieves c e (copy_tree s from to) state (GetsColumn e s to values state) Never
 
 -- into the column of the first, or another one, but not that of the second
-abbrev pub LargerAreTaken : Type 0
-LargerAreTaken =
-    (c : CountingCode) (e : Election) (s : Shape) (left right to : ℕ) (xs ys : List ℕ) (state : State) → slice_get c.slots left ≡ Some s →
+abbrev pub PairsAreTaken : Type 0
+PairsAreTaken =
+    (c : CountingCode) (e : Election) (pairing : Pairing) (s : Shape) (left right to : ℕ) (xs ys : List ℕ) (state : State) → slice_get c.slots left ≡ Some s →
     slice_get c.slots right ≡ Some s → slice_get c.slots to ≡ Some s → right ≢ to → HoldsColumn e s (state.columns left) xs →
     HoldsColumn e s (state.columns right) ys →
-    Achieves c e (larger_tree s left right to) state (GetsColumn e s to (larger_of xs ys) state) Never
-
-abbrev pub DifferencesAreTaken : Type 0
-DifferencesAreTaken =
-    (c : CountingCode) (e : Election) (s : Shape) (left right to : ℕ) (xs ys : List ℕ) (state : State) → slice_get c.slots left ≡ Some s →
-    slice_get c.slots right ≡ Some s → slice_get c.slots to ≡ Some s → right ≢ to → HoldsColumn e s (state.columns left) xs →
-    HoldsColumn e s (state.columns right) ys →
-    Achieves c e (less_tree s left right to) state (GetsColumn e s to (less_of xs ys) state) Never
+    Achieves c e (pair_tree pairing s left right to) state (GetsColumn e s to (pair_of pairing xs ys) state) Never
 
 -- a sum by party or by Land is of a list column
 abbrev pub FitsAxis : Axis → Shape → Type 0

@@ -1,9 +1,12 @@
--- Plans that go over the cells of columns: copies, the larger ones, differences, sums (docs/compiler.md, section 1).
+-- Plans that go over the cells of columns: copies, pairs, sums (docs/compiler.md, section 1).
 use Rattle.std.specs.Prelude.{ℕ, [], ◌∷◌}
 use Rattle.sl_stages.specs.declared.book.Axis.{Axis}
 use Rattle.sl_stages.specs.declared.book.Axis.TheVariants as axis
+use Rattle.sl_stages.specs.declared.book.Pairing.{Pairing}
+use Rattle.sl_stages.specs.declared.book.Pairing.TheVariants as pairings
 use Rattle.sl_stages.specs.declared.book.Shape.{Shape}
 use Rattle.sl_stages.specs.declared.book.Shape.TheVariants as shape
+use Rattle.sl_code.specs.declared.instr.Instr.{Instr}
 use Rattle.sl_code.specs.declared.instr.Instr.TheVariants.{Set, Add, Sub, Max, Get, Store}
 use Rattle.sl_plans.specs.declared.plan.Cursor.TheVariants as cursor
 use Rattle.sl_plans.specs.Trees.{Tree, Line, Then, Each}
@@ -28,12 +31,14 @@ cells_plan shape.List x = Each cursor.Land (Each cursor.Party x)
 abbrev pub copy_tree : Shape → (from to : ℕ) → Tree
 copy_tree s from to = cells_plan s (Line (Get cell from ∷ (Store to cell ∷ [])))
 
--- of two columns, cell by cell, the larger one; and the first less the second, at least 0
-abbrev pub larger_tree : Shape → (left right to : ℕ) → Tree
-larger_tree s left right to = cells_plan s (Line (Get cell left ∷ (Get other right ∷ (Max cell other ∷ (Store to cell ∷ [])))))
+-- what two cells make, in place of the first
+abbrev pub pair_instr : Pairing → Instr
+pair_instr pairings.Larger = Max cell other
+pair_instr pairings.Less = Sub cell other
 
-abbrev pub less_tree : Shape → (left right to : ℕ) → Tree
-less_tree s left right to = cells_plan s (Line (Get cell left ∷ (Get other right ∷ (Sub cell other ∷ (Store to cell ∷ [])))))
+-- a pair of columns, cell by cell
+abbrev pub pair_tree : Pairing → Shape → (left right to : ℕ) → Tree
+pair_tree pairing s left right to = cells_plan s (Line (Get cell left ∷ (Get other right ∷ (pair_instr pairing ∷ (Store to cell ∷ [])))))
 
 -- the sum of the cells that the inner plan goes over
 abbrev pub add_cells : (Tree → Tree) → (from to : ℕ) → Tree

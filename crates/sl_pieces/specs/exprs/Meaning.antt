@@ -1,15 +1,15 @@
 -- What the plans of an expression achieve (docs/compiler.md, section 4).
-use Rattle.std.specs.Prelude.{◌≡◌, ◌⊎◌, ℕ, ◌+◌, ◌<◌, ◌≤◌, true, List, [], ◌∷◌, ◌++◌, None, Some, slice_get, unwrap_or, IsPermutation}
+use Rattle.std.specs.Prelude.{◌≡◌, ◌⊎◌, ℕ, ◌+◌, ◌<◌, ◌≤◌, true, List, ◌++◌, None, Some, slice_get, IsPermutation}
 use Rattle.std.specs.List.{AllZip}
 use Rattle.sl_stages.specs.declared.book.Shape.TheVariants as shape
+use Rattle.sl_stages.specs.declared.fact.Fact.{Fact}
 use Rattle.sl_stages.specs.declared.table.SeatStep.{SeatStep}
 use Rattle.sl_stages.specs.book.Tests.{first_failing}
 use Rattle.sl_stages.specs.book.Trees.{ExprTree, BookTree}
 use Rattle.sl_stages.specs.book.Limits.{depth_of}
-use Rattle.sl_stages.specs.book.Typing.{Column, type_of, expr_tests, splits_in, is_typed}
+use Rattle.sl_stages.specs.book.Typing.{Column, fact_type, type_of, expr_tests, splits_in, is_typed}
 use Rattle.sl_stages.specs.returns.Election.{Election, IsElection}
-use Rattle.sl_stages.specs.returns.Facts.{counted_votes, list_winners, outside_winners, independent_winners}
-use Rattle.sl_stages.specs.meaning.Columns.{NamedColumn}
+use Rattle.sl_stages.specs.meaning.Columns.{NamedColumn, fact_column}
 use Rattle.sl_stages.specs.meaning.Records.{Records}
 use Rattle.sl_stages.specs.meaning.Results as results
 use Rattle.sl_stages.specs.meaning.Expressions.{Context, ExprMeans}
@@ -25,12 +25,7 @@ use Rattle.sl_pieces.specs.exprs.Pieces.{pieces}
 
 -- the columns of facts, and those of the stages before, are in their slots
 pub record HoldsKnown (b : BookTree) (e : Election) (types : List Column) (columns : List NamedColumn) (s : State) : Type 0 where
-  pub house : HoldsColumn e shape.One (s.columns fact_slots.house) (unwrap_or e.house b.house.value ∷ [])
-  pub counted : HoldsColumn e shape.List (s.columns fact_slots.counted) (counted_votes b.eligible e)
-  pub winners : HoldsColumn e shape.List (s.columns fact_slots.winners) (list_winners b.eligible e)
-  pub outside : HoldsColumn e shape.Land (s.columns fact_slots.outside) (outside_winners b.eligible e)
-  pub independents : HoldsColumn e shape.Land (s.columns fact_slots.independents) (independent_winners b.eligible e)
-  pub population : HoldsColumn e shape.Land (s.columns fact_slots.population) e.populations
+  pub facts : (told : Fact) → HoldsColumn e (fact_type told).shape (s.columns (fact_slots.of told)) (fact_column b e told)
   pub stages : (k : ℕ) (t : Column) (x : NamedColumn) → slice_get types k ≡ Some t → slice_get columns k ≡ Some x →
       HoldsColumn e t.type.shape (s.columns (stage_slot k)) x.values
 

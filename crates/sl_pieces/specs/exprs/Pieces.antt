@@ -5,13 +5,13 @@ use Rattle.sl_ratio.specs.declared.method.Method.TheVariants as by
 use Rattle.sl_stages.specs.declared.book.Majority.{Majority}
 use Rattle.sl_stages.specs.declared.book.Shape.{Shape}
 use Rattle.sl_stages.specs.declared.book.Shape.TheVariants as shape
-use Rattle.sl_stages.specs.book.Trees.{ExprTree, house, counted, winners, outside, independents, population, name, sum, larger, less, split, split_from, grow}
-use Rattle.sl_stages.specs.book.Typing.{Column, type_of, is_named}
+use Rattle.sl_stages.specs.book.Trees.{ExprTree, fact, name, sum, pair, split, without, atleast, grow}
+use Rattle.sl_stages.specs.book.Typing.{Column, fact_type, type_of, is_named}
 use Rattle.sl_plans.specs.Trees.{Tree}
 use Rattle.sl_pieces.specs.scopes.Forms.{Form, AllParties, AllLands, AllLists, ListsOfParty, ListsInLand}
 use Rattle.sl_pieces.specs.seats.Slots.{Slots}
 use Rattle.sl_pieces.specs.nodes.Trees.{split_tree, grow_tree}
-use Rattle.sl_pieces.specs.columns.Trees.{copy_tree, larger_tree, less_tree, sum_tree, summed}
+use Rattle.sl_pieces.specs.columns.Trees.{copy_tree, pair_tree, sum_tree, summed}
 use Rattle.sl_pieces.specs.exprs.Slots.{fact_slots, passing, stage_slot}
 
 -- the form by the shapes of the amounts and of the votes; no seats are split otherwise
@@ -49,20 +49,13 @@ module _ (types : List Column) (stage : ℕ) where
 
   -- they leave the expression's column in the passing one of its shape on that level, and write none of a lower level
   abbrev pub pieces : ℕ → ExprTree → List Tree
-  pieces level (house at) = fact_piece level shape.One fact_slots.house
-  pieces level (counted at) = fact_piece level shape.List fact_slots.counted
-  pieces level (winners at) = fact_piece level shape.List fact_slots.winners
-  pieces level (outside at) = fact_piece level shape.Land fact_slots.outside
-  pieces level (independents at) = fact_piece level shape.Land fact_slots.independents
-  pieces level (population at) = fact_piece level shape.Land fact_slots.population
+  pieces level (fact at told) = fact_piece level (fact_type told).shape (fact_slots.of told)
   pieces level (name at n) = fact_piece level (shape_of (name at n)) (stage_slot (unwrap_or (position (is_named n) types) 0))
   pieces level (sum at x over) = pieces level x ++ sum_tree over (shape_of x) (passing level (shape_of x)) (passing level (summed over)) ∷ []
-  pieces level (larger at l r) =
-      pieces level l ++ (pieces (level + 1) r ++ larger_tree (shape_of l) (passing level (shape_of l)) (passing (level + 1) (shape_of l)) (passing level (shape_of l)) ∷ [])
-  pieces level (less at l r) =
-      pieces level l ++ (pieces (level + 1) r ++ less_tree (shape_of l) (passing level (shape_of l)) (passing (level + 1) (shape_of l)) (passing level (shape_of l)) ∷ [])
-  pieces level (split at s v method majority) = pieces level s ++ (pieces (level + 1) v ++ split_piece level (shape_of s) (shape_of v) None method majority)
-  pieces level (split_from at s v method m majority) =
+  pieces level (pair at pairing l r) =
+      pieces level l ++ (pieces (level + 1) r ++ pair_tree pairing (shape_of l) (passing level (shape_of l)) (passing (level + 1) (shape_of l)) (passing level (shape_of l)) ∷ [])
+  pieces level (split at s v method without majority) = pieces level s ++ (pieces (level + 1) v ++ split_piece level (shape_of s) (shape_of v) None method majority)
+  pieces level (split at s v method (atleast m) majority) =
       pieces level s ++ (pieces (level + 1) v ++ (pieces (level + 2) m
       ++ split_piece level (shape_of s) (shape_of v) (Some (passing (level + 2) (shape_of v))) method majority))
   pieces level (grow at s v method m cap majority) =

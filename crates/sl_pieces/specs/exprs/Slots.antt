@@ -2,14 +2,18 @@
 use Rattle.std.specs.Prelude.{◌≡◌, ℕ, ◌+◌, ◌*◌, ◌≤◌, List, Some, slice_get}
 use Rattle.sl_stages.specs.declared.book.Shape.{Shape}
 use Rattle.sl_stages.specs.declared.book.Shape.TheVariants as shape
-use Rattle.sl_stages.specs.book.Typing.{Column}
+use Rattle.sl_stages.specs.declared.fact.Fact.TheVariants as facts
+use Rattle.sl_stages.specs.book.Typing.{Column, fact_number}
 use Rattle.sl_code.specs.Codes.{CountingCode}
 use Rattle.sl_pieces.specs.facts.Trees.{FactSlots}
 use Rattle.sl_pieces.specs.facts.Laws.{HasFactSlots}
 
--- the facts stand first, and the two columns to work in with them
+-- the eligible parties and the facts stand first, and the two columns to work in with them
 abbrev pub fact_slots : FactSlots
-fact_slots = record { eligible = 0; house = 1; counted = 2; winners = 3; outside = 4; independents = 5; population = 6; votes = 7; numbers = 8 }
+fact_slots = record { eligible = 0; of = λ told. 1 + fact_number told; votes = 7; numbers = 8 }
+
+abbrev pub winners_slot : ℕ
+winners_slot = fact_slots.of facts.Winners
 
 -- then three columns of lists for the last clause: numbers of lists, names left on them, vacant seats
 abbrev pub pair_numbers : ℕ

@@ -1,29 +1,29 @@
 -- What these plans achieve: each law is the contract of a function of `laws` (docs/compiler.md, section 2).
-use Rattle.std.specs.Prelude.{◌≡◌, ◌≢◌, ℕ, ◌≤◌, List, [], ◌∷◌, All, Some, slice_get, unwrap_or}
+use Rattle.std.specs.Prelude.{◌≡◌, ◌≢◌, ℕ, ◌≤◌, List, All, Some, slice_get}
 use Rattle.sl_stages.specs.declared.book.Cond.{Cond}
 use Rattle.sl_stages.specs.declared.book.Cond.TheVariants as condition
 use Rattle.sl_stages.specs.declared.book.Shape.TheVariants as shape
+use Rattle.sl_stages.specs.declared.fact.Fact.{Fact}
+use Rattle.sl_stages.specs.book.Trees.{BookTree}
+use Rattle.sl_stages.specs.book.Typing.{fact_type}
 use Rattle.sl_stages.specs.returns.Election.{Election, IsElection}
-use Rattle.sl_stages.specs.returns.Facts.{by_party, is_eligible, counted_votes, list_winners, outside_winners, independent_winners}
+use Rattle.sl_stages.specs.returns.Facts.{by_party, is_eligible}
+use Rattle.sl_stages.specs.meaning.Columns.{fact_column}
 use Rattle.sl_code.specs.Codes.{CountingCode}
 use Rattle.sl_machine.specs.State.{State}
 use Rattle.sl_machine.specs.Effects.{one_if}
 use Rattle.sl_plans.specs.Achieves.{Achieves, Never}
 use Rattle.sl_pieces.specs.columns.Columns.{HoldsColumn, GetsColumn}
-use Rattle.sl_pieces.specs.facts.Trees.{FactSlots, eligible_tree, house_tree, counted_tree, winners_tree, outside_tree, independents_tree, population_tree}
+use Rattle.sl_pieces.specs.facts.Trees.{FactSlots, eligible_tree, fact_tree}
 
 -- the code has these slots, and those to work in, and that of the eligible parties, are no others
 pub record HasFactSlots (c : CountingCode) (x : FactSlots) : Type 0 where
   pub eligible : slice_get c.slots x.eligible ≡ Some shape.Party
-  pub house : slice_get c.slots x.house ≡ Some shape.One
-  pub counted : slice_get c.slots x.counted ≡ Some shape.List
-  pub winners : slice_get c.slots x.winners ≡ Some shape.List
-  pub outside : slice_get c.slots x.outside ≡ Some shape.Land
-  pub independents : slice_get c.slots x.independents ≡ Some shape.Land
-  pub population : slice_get c.slots x.population ≡ Some shape.Land
+  pub facts : (told : Fact) → slice_get c.slots (x.of told) ≡ Some (fact_type told).shape
   pub votes : slice_get c.slots x.votes ≡ Some shape.List
   pub numbers : slice_get c.slots x.numbers ≡ Some shape.Party
   pub apart : x.numbers ≢ x.eligible
+  pub facts_apart : (told : Fact) → x.of told ≢ x.eligible
 
 -- 1 for each eligible party, and 0 for any other
 abbrev pub flags : List Cond → Election → List ℕ
@@ -47,16 +47,9 @@ EligibleAreTold =
     (c : CountingCode) (e : Election) (x : FactSlots) (conditions : List Cond) (state : State) → IsElection e → HasFactSlots c x → All IsShare conditions →
     Achieves c e (eligible_tree x conditions) state (GetsFlags conditions e x state) Never
 
--- what the other plans achieve, from a state that holds the eligible parties
-pub record FactsAchieve (c : CountingCode) (e : Election) (x : FactSlots) (conditions : List Cond) (state : State) : Type 0 where
-  pub house : (default : ℕ) → Achieves c e (house_tree x default) state (GetsColumn e shape.One x.house (unwrap_or e.house default ∷ []) state) Never
-  pub counted : x.counted ≢ x.eligible → Achieves c e (counted_tree x) state (GetsColumn e shape.List x.counted (counted_votes conditions e) state) Never
-  pub winners : x.winners ≢ x.eligible → Achieves c e (winners_tree x) state (GetsColumn e shape.List x.winners (list_winners conditions e) state) Never
-  pub outside : x.outside ≢ x.eligible → Achieves c e (outside_tree x) state (GetsColumn e shape.Land x.outside (outside_winners conditions e) state) Never
-  pub independents : Achieves c e (independents_tree x) state (GetsColumn e shape.Land x.independents (independent_winners conditions e) state) Never
-  pub population : Achieves c e (population_tree x) state (GetsColumn e shape.Land x.population e.populations state) Never
-
+-- the column of a fact, from a state that holds the eligible parties
 abbrev pub FactsAreTold : Type 0
 FactsAreTold =
-    (c : CountingCode) (e : Election) (x : FactSlots) (conditions : List Cond) (state : State) → IsElection e → HasFactSlots c x →
-    HoldsColumn e shape.Party (state.columns x.eligible) (flags conditions e) → FactsAchieve c e x conditions state
+    (c : CountingCode) (b : BookTree) (e : Election) (x : FactSlots) (told : Fact) (state : State) → IsElection e → HasFactSlots c x →
+    HoldsColumn e shape.Party (state.columns x.eligible) (flags b.eligible e) →
+    Achieves c e (fact_tree x b.house.value told) state (GetsColumn e (fact_type told).shape (x.of told) (fact_column b e told) state) Never

@@ -2,6 +2,8 @@
 use Rattle.std.specs.Prelude.{ℕ, List, [], ◌∷◌}
 use Rattle.sl_stages.specs.declared.book.Cond.{Cond}
 use Rattle.sl_stages.specs.declared.book.Cond.TheVariants as condition
+use Rattle.sl_stages.specs.declared.fact.Fact.{Fact}
+use Rattle.sl_stages.specs.declared.fact.Fact.TheVariants as facts
 use Rattle.sl_code.specs.declared.instr.Instr.{Instr}
 use Rattle.sl_code.specs.declared.instr.Instr.TheVariants.{Set, Add, Mul, Get, Store, Zero, Input, House, Wland}
 use Rattle.sl_code.specs.declared.operand.Input.TheVariants as input
@@ -9,15 +11,10 @@ use Rattle.sl_plans.specs.declared.plan.Cursor.TheVariants as cursor
 use Rattle.sl_plans.specs.declared.plan.Test.TheVariants as test
 use Rattle.sl_plans.specs.Trees.{Tree, Line, Then, If, Each, ones}
 
--- the slots of those columns, and two to work in: one of lists and one of parties
+-- the slots of the eligible parties and of each fact, and two to work in: one of lists and one of parties
 pub record FactSlots : Type 0 where
   pub eligible : ℕ
-  pub house : ℕ
-  pub counted : ℕ
-  pub winners : ℕ
-  pub outside : ℕ
-  pub independents : ℕ
-  pub population : ℕ
+  pub of : Fact → ℕ
   pub votes : ℕ
   pub numbers : ℕ
 
@@ -72,16 +69,16 @@ conditions_tree x (c ∷ cs) = Then (condition_tree x c) (conditions_tree x cs)
 abbrev pub eligible_tree : FactSlots → List Cond → Tree
 eligible_tree x cs = Then (Line (Zero x.eligible ∷ [])) (conditions_tree x cs)
 
--- ---- the other columns
+-- ---- facts
 
 -- the house of the returns, and the book's where they give none
 abbrev pub house_tree : FactSlots → ℕ → Tree
-house_tree x default = Line (Set cell default ∷ (House cell ∷ (Store x.house cell ∷ [])))
+house_tree x default = Line (Set cell default ∷ (House cell ∷ (Store (x.of facts.House) cell ∷ [])))
 
 abbrev pub counted_tree : FactSlots → Tree
 counted_tree x =
-    Then (Line (Input x.counted input.Counted ∷ []))
-    (Each cursor.Land (Each cursor.Party (Then (Line (Get number x.eligible ∷ [])) (If (test.Zero number) (Line (Set cell 0 ∷ (Store x.counted cell ∷ []))) nothing))))
+    Then (Line (Input (x.of facts.Counted) input.Counted ∷ []))
+    (Each cursor.Land (Each cursor.Party (Then (Line (Get number x.eligible ∷ [])) (If (test.Zero number) (Line (Set cell 0 ∷ (Store (x.of facts.Counted) cell ∷ []))) nothing))))
 
 -- for the winner at the cursor: one plan where the party is eligible and has a list in the Land, and else the other
 abbrev pub by_winner : FactSlots → (on_list outside : Tree) → Tree
@@ -89,14 +86,23 @@ by_winner x on_list outside =
     Then (Line (Wland ∷ [])) (If test.NoParty outside (If test.NoList outside (Then (Line (Get number x.eligible ∷ [])) (If (test.Zero number) outside on_list))))
 
 abbrev pub winners_tree : FactSlots → Tree
-winners_tree x = Then (Line (Zero x.winners ∷ [])) (Each cursor.Win (by_winner x (Line (count_one x.winners)) nothing))
+winners_tree x = Then (Line (Zero (x.of facts.Winners) ∷ [])) (Each cursor.Win (by_winner x (Line (count_one (x.of facts.Winners))) nothing))
 
 abbrev pub outside_tree : FactSlots → Tree
-outside_tree x = Then (Line (Zero x.outside ∷ [])) (Each cursor.Win (by_winner x nothing (Line (count_one x.outside))))
+outside_tree x = Then (Line (Zero (x.of facts.Outside) ∷ [])) (Each cursor.Win (by_winner x nothing (Line (count_one (x.of facts.Outside)))))
 
-abbrev pub independents_tree : FactSlots → Tree
-independents_tree x =
-    Then (Line (Zero x.independents ∷ [])) (Each cursor.Win (Then (Line (Wland ∷ [])) (If test.NoParty (Line (count_one x.independents)) nothing)))
+abbrev pub alone_tree : FactSlots → Tree
+alone_tree x =
+    Then (Line (Zero (x.of facts.Independents) ∷ [])) (Each cursor.Win (Then (Line (Wland ∷ [])) (If test.NoParty (Line (count_one (x.of facts.Independents))) nothing)))
 
 abbrev pub population_tree : FactSlots → Tree
-population_tree x = Line (Input x.population input.Population ∷ [])
+population_tree x = Line (Input (x.of facts.Population) input.Population ∷ [])
+
+-- where the book has that house
+abbrev pub fact_tree : FactSlots → ℕ → Fact → Tree
+fact_tree x default facts.House = house_tree x default
+fact_tree x default facts.Counted = counted_tree x
+fact_tree x default facts.Winners = winners_tree x
+fact_tree x default facts.Outside = outside_tree x
+fact_tree x default facts.Independents = alone_tree x
+fact_tree x default facts.Population = population_tree x

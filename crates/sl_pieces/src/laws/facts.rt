@@ -7,7 +7,7 @@ pub fn eligible_are_told()
     ensures { EligibleAreTold }
 {}
 
-/// The house, votes, winners and people.
+/// The column of each fact.
 pub fn facts_are_told()
     ensures { FactsAreTold }
 {}

@@ -13,12 +13,12 @@ use Rattle.sl_stages.specs.declared.book.Majority.{Majority}
 use Rattle.sl_stages.specs.declared.book.Shape.{Shape}
 use Rattle.sl_stages.specs.declared.book.Shape.TheVariants as shape
 use Rattle.sl_stages.specs.declared.fault.FaultKind.TheVariants as fault
-use Rattle.sl_stages.specs.book.Trees.{ExprTree, house, counted, winners, outside, independents, population, name, sum as sum_tree, larger, less, split, split_from, grow, StageTree, BookTree}
+use Rattle.sl_stages.specs.book.Trees.{ExprTree, fact, name, sum as sum_tree, pair, split, without, atleast, grow, StageTree, BookTree}
 use Rattle.sl_stages.specs.returns.Election.{Election}
 use Rattle.sl_stages.specs.book.Tests.{first_failing}
 use Rattle.sl_stages.specs.book.Typing.{Column as TypedColumn, expr_tests, stages_tests, is_named, is_hamilton, is_prefer, stage_column}
 use Rattle.sl_stages.proofs.Tests.{head_holds, pass_parts}
-use Rattle.sl_stages.specs.meaning.Columns.{NamedColumn, is_column_of, sum_over, larger_of, less_of}
+use Rattle.sl_stages.specs.meaning.Columns.{NamedColumn, is_column_of, sum_over, pair_of}
 use Rattle.sl_stages.specs.meaning.Scopes.{Group, cells, place, scopes}
 use Rattle.sl_stages.specs.meaning.Records.{Records}
 use Rattle.sl_stages.specs.meaning.Splits.{Award}
@@ -140,33 +140,23 @@ module _ (b : BookTree) (e : Election) (c : Context) (names : SameNames c.types 
   one_leaf k = one_image (λ values. values ≡ k) plain (one_equal k)
 
   pub one_means : (x : ExprTree) → first_failing (expr_tests c.types x) ≡ None → ExactlyOne (ExprMeans b e c x)
-  one_means (house at) pass = one_leaf _
-  one_means (counted at) pass = one_leaf _
-  one_means (winners at) pass = one_leaf _
-  one_means (outside at) pass = one_leaf _
-  one_means (independents at) pass = one_leaf _
-  one_means (population at) pass = one_leaf _
+  one_means (fact at told) pass = one_leaf _
   one_means (name at n) pass = one_image (λ values. option_map (λ s. s.values) (find (is_column_of n) c.columns) ≡ Some values) plain (one_column c.types c.columns names n (head_holds _ _ _ pass).0)
   one_means (sum_tree at x over) pass =
       one_then (ExprMeans b e c x) (λ xs r. r ≡ plain (sum_over e over xs)) (one_means x (pass_parts (expr_tests c.types x) _ pass).0) (λ xs. one_equal (plain (sum_over e over xs)))
-  one_means (larger at x y) pass =
+  one_means (pair at pairing x y) pass =
       let px = pass_parts (expr_tests c.types x) _ pass in
       let py = pass_parts (expr_tests c.types y) _ px.1 in
-      one_then (ExprMeans b e c x) (λ xs. Then (ExprMeans b e c y) (λ ys r. r ≡ plain (larger_of xs ys))) (one_means x px.0)
-      (λ xs. one_then (ExprMeans b e c y) (λ ys r. r ≡ plain (larger_of xs ys)) (one_means y py.0) (λ ys. one_equal (plain (larger_of xs ys))))
-  one_means (less at x y) pass =
-      let px = pass_parts (expr_tests c.types x) _ pass in
-      let py = pass_parts (expr_tests c.types y) _ px.1 in
-      one_then (ExprMeans b e c x) (λ xs. Then (ExprMeans b e c y) (λ ys r. r ≡ plain (less_of xs ys))) (one_means x px.0)
-      (λ xs. one_then (ExprMeans b e c y) (λ ys r. r ≡ plain (less_of xs ys)) (one_means y py.0) (λ ys. one_equal (plain (less_of xs ys))))
-  one_means (split at s v method majority) pass =
+      one_then (ExprMeans b e c x) (λ xs. Then (ExprMeans b e c y) (λ ys r. r ≡ plain (pair_of pairing xs ys))) (one_means x px.0)
+      (λ xs. one_then (ExprMeans b e c y) (λ ys r. r ≡ plain (pair_of pairing xs ys)) (one_means y py.0) (λ ys. one_equal (plain (pair_of pairing xs ys))))
+  one_means (split at s v method without majority) pass =
       let ps = pass_parts (expr_tests c.types s) _ pass in
       let pv = pass_parts (expr_tests c.types v) _ ps.1 in
       let Split : List ℕ → List ℕ → ExprResult → Type 0 = λ amounts votes. IsSplit e (stand c v) amounts votes (shape_in c s) method majority None in
       one_then (ExprMeans b e c s) (λ amounts. Then (ExprMeans b e c v) (Split amounts)) (one_means s ps.0)
       (λ amounts. one_then (ExprMeans b e c v) (Split amounts) (one_means v pv.0)
       (λ votes. one_split_result e (stand c v) amounts votes (shape_in c s) method majority None tt))
-  one_means (split_from at s v method m majority) pass =
+  one_means (split at s v method (atleast m) majority) pass =
       let ps = pass_parts (expr_tests c.types s) _ pass in
       let pv = pass_parts (expr_tests c.types v) _ ps.1 in
       let pm = pass_parts (expr_tests c.types m) _ pv.1 in

@@ -2,10 +2,10 @@
 use Rattle.std.proofs.Common.{◌≡◌, ℕ, true, List, [], ◌∷◌, ◌++◌, nat_eq, arith, refl, sym, ap, subst, ◌∙◌}
 use Rattle.std.specs.List.{list_all}
 use Rattle.std.proofs.lemmas.Bool.{and_parts, eqb-true}
-use Rattle.sl_stages.specs.book.Trees.{ExprTree, house, counted, winners, outside, independents, population, name, sum, larger, less, split, split_from, grow, StageTree, BookTree}
+use Rattle.sl_stages.specs.book.Trees.{ExprTree, fact, name, sum, pair, split, without, atleast, grow, StageTree, BookTree}
 use Rattle.sl_stages.specs.returns.Election.{Election}
 use Rattle.sl_stages.specs.book.Typing.{Column as TypedColumn, splits_in, stage_column}
-use Rattle.sl_stages.specs.meaning.Columns.{NamedColumn, sum_over, larger_of, less_of}
+use Rattle.sl_stages.specs.meaning.Columns.{NamedColumn, sum_over, pair_of}
 use Rattle.sl_stages.specs.meaning.PlainBooks.{IsColumn, AreColumns}
 use Rattle.sl_stages.specs.meaning.Records.{no_records}
 use Rattle.sl_stages.specs.meaning.Results.{ExprResult, Column, Fault, plain, behind, Continues, Then}
@@ -32,48 +32,29 @@ module _ (b : BookTree) (e : Election) (c : Context) where
   Is x r = (values : List ℕ) × IsColumn b e c.columns x values × (r ≡ plain values)
 
   pub from_means : (x : ExprTree) → splits_in x ≡ 0 → (r : ExprResult) → ExprMeans b e c x r → Is x r
-  from_means (house at) none r h = h
-  from_means (counted at) none r h = h
-  from_means (winners at) none r h = h
-  from_means (outside at) none r h = h
-  from_means (independents at) none r h = h
-  from_means (population at) none r h = h
+  from_means (fact at told) none r h = h
   from_means (name at n) none r h = h
   from_means (sum at x over) none r h =
       let f = from_means x none h.first h.comes in
       (sum_over e over f.0, (f.0, f.1, refl), after (ExprMeans b e c x) (λ xs r. r ≡ plain (sum_over e over xs)) r h f.0 f.2)
-  from_means (larger at x y) none r h =
+  from_means (pair at pairing x y) none r h =
       let f = from_means x (omega arith) h.first h.comes in
-      let second = after (ExprMeans b e c x) (λ xs. Then (ExprMeans b e c y) (λ ys r. r ≡ plain (larger_of xs ys))) r h f.0 f.2 in
+      let second = after (ExprMeans b e c x) (λ xs. Then (ExprMeans b e c y) (λ ys r. r ≡ plain (pair_of pairing xs ys))) r h f.0 f.2 in
       let g = from_means y (omega arith) second.first second.comes in
-      (larger_of f.0 g.0, (f.0, g.0, f.1, g.1, refl {a = larger_of f.0 g.0}), after (ExprMeans b e c y) (λ ys r. r ≡ plain (larger_of f.0 ys)) r second g.0 g.2)
-  from_means (less at x y) none r h =
-      let f = from_means x (omega arith) h.first h.comes in
-      let second = after (ExprMeans b e c x) (λ xs. Then (ExprMeans b e c y) (λ ys r. r ≡ plain (less_of xs ys))) r h f.0 f.2 in
-      let g = from_means y (omega arith) second.first second.comes in
-      (less_of f.0 g.0, (f.0, g.0, f.1, g.1, refl {a = less_of f.0 g.0}), after (ExprMeans b e c y) (λ ys r. r ≡ plain (less_of f.0 ys)) r second g.0 g.2)
-  from_means (split at s v method m) none r h = absurd (omega (arith, none))
-  from_means (split_from at s v method f m) none r h = absurd (omega (arith, none))
+      (pair_of pairing f.0 g.0, (f.0, g.0, f.1, g.1, refl {a = pair_of pairing f.0 g.0}), after (ExprMeans b e c y) (λ ys r. r ≡ plain (pair_of pairing f.0 ys)) r second g.0 g.2)
+  from_means (split at s v method without m) none r h = absurd (omega (arith, none))
+  from_means (split at s v method (atleast f) m) none r h = absurd (omega (arith, none))
   from_means (grow at s v method f limit m) none r h = absurd (omega (arith, none))
 
   pub to_means : (x : ExprTree) → splits_in x ≡ 0 → (values : List ℕ) → IsColumn b e c.columns x values → ExprMeans b e c x (plain values)
-  to_means (house at) none values is = (values, is, refl)
-  to_means (counted at) none values is = (values, is, refl)
-  to_means (winners at) none values is = (values, is, refl)
-  to_means (outside at) none values is = (values, is, refl)
-  to_means (independents at) none values is = (values, is, refl)
-  to_means (population at) none values is = (values, is, refl)
+  to_means (fact at told) none values is = (values, is, refl)
   to_means (name at n) none values is = (values, is, refl)
   to_means (sum at x over) none values is =
       then_plain (ExprMeans b e c x) (λ xs r. r ≡ plain (sum_over e over xs)) (plain values) is.0 (to_means x none is.0 is.1) (ap plain is.2)
-  to_means (larger at x y) none values is =
-      then_plain (ExprMeans b e c x) (λ xs. Then (ExprMeans b e c y) (λ ys r. r ≡ plain (larger_of xs ys))) (plain values) is.0 (to_means x (omega arith) is.0 is.2)
-      (then_plain (ExprMeans b e c y) (λ ys r. r ≡ plain (larger_of is.0 ys)) (plain values) is.1 (to_means y (omega arith) is.1 is.3) (ap plain is.4))
-  to_means (less at x y) none values is =
-      then_plain (ExprMeans b e c x) (λ xs. Then (ExprMeans b e c y) (λ ys r. r ≡ plain (less_of xs ys))) (plain values) is.0 (to_means x (omega arith) is.0 is.2)
-      (then_plain (ExprMeans b e c y) (λ ys r. r ≡ plain (less_of is.0 ys)) (plain values) is.1 (to_means y (omega arith) is.1 is.3) (ap plain is.4))
-  to_means (split at s v method m) none values is = absurd is
-  to_means (split_from at s v method f m) none values is = absurd is
+  to_means (pair at pairing x y) none values is =
+      then_plain (ExprMeans b e c x) (λ xs. Then (ExprMeans b e c y) (λ ys r. r ≡ plain (pair_of pairing xs ys))) (plain values) is.0 (to_means x (omega arith) is.0 is.2)
+      (then_plain (ExprMeans b e c y) (λ ys r. r ≡ plain (pair_of pairing is.0 ys)) (plain values) is.1 (to_means y (omega arith) is.1 is.3) (ap plain is.4))
+  to_means (split at s v method minima m) none values is = absurd is
   to_means (grow at s v method f limit m) none values is = absurd is
 
 -- ---- stages

@@ -25,12 +25,12 @@ use Rattle.sl_stages.specs.declared.table.Weight.{Weight}
 use Rattle.sl_stages.specs.declared.table.Outcome.{Outcome}
 use Rattle.sl_stages.specs.declared.table.Outcome.TheVariants as outcome
 use Rattle.sl_stages.specs.meaning.Tables.{SeatTable}
-use Rattle.sl_stages.specs.book.Trees.{ExprTree, house, counted, winners, outside, independents, population, name, sum, larger, less, split, split_from, grow, StageTree, BookTree}
+use Rattle.sl_stages.specs.book.Trees.{ExprTree, fact, name, sum, pair, split, without, atleast, grow, StageTree, BookTree}
 use Rattle.sl_stages.specs.returns.Election.{Election}
 use Rattle.sl_stages.specs.returns.Facts.{lists_of, is_eligible}
 use Rattle.sl_stages.specs.book.Tests.{first_failing}
 use Rattle.sl_stages.specs.book.Typing.{splits_in, tests_of, stages_tests, expr_tests}
-use Rattle.sl_stages.specs.meaning.Columns.{sum_over, larger_of, less_of}
+use Rattle.sl_stages.specs.meaning.Columns.{sum_over, pair_of}
 use Rattle.sl_stages.specs.meaning.Scopes.{same_item, Group, scopes}
 use Rattle.sl_stages.specs.meaning.Records.{Records, no_records, both_records}
 use Rattle.sl_stages.specs.meaning.Splits.{Award}
@@ -117,31 +117,22 @@ module _ (b : BookTree) (e : Election) (c : Context) where
   leaf_few x n r h = plain_has c.stage n h.0 r h.2
 
   few_records : (x : ExprTree) (r : ExprResult) → ExprMeans b e c x r → HasFew c.stage (splits_in x) r
-  few_records (house at) r h = leaf_few (house at) 0 r h
-  few_records (counted at) r h = leaf_few (counted at) 0 r h
-  few_records (winners at) r h = leaf_few (winners at) 0 r h
-  few_records (outside at) r h = leaf_few (outside at) 0 r h
-  few_records (independents at) r h = leaf_few (independents at) 0 r h
-  few_records (population at) r h = leaf_few (population at) 0 r h
+  few_records (fact at told) r h = leaf_few (fact at told) 0 r h
   few_records (name at n) r h = leaf_few (name at n) 0 r h
   few_records (sum at x over) r h =
       few_same c.stage (splits_in x + 0) (splits_in x) r (omega arith)
       (then_few c.stage (splits_in x) 0 (ExprMeans b e c x) (λ xs r. r ≡ plain (sum_over e over xs)) (few_records x) (λ xs q is. plain_has c.stage 0 _ q is) r h)
-  few_records (larger at x y) r h =
+  few_records (pair at pairing x y) r h =
       few_same c.stage (splits_in x + (splits_in y + 0)) (splits_in x + splits_in y) r (omega arith)
-      (then_few c.stage (splits_in x) (splits_in y + 0) (ExprMeans b e c x) (λ xs. Then (ExprMeans b e c y) (λ ys r. r ≡ plain (larger_of xs ys))) (few_records x)
-      (λ xs. then_few c.stage (splits_in y) 0 (ExprMeans b e c y) (λ ys r. r ≡ plain (larger_of xs ys)) (few_records y) (λ ys q is. plain_has c.stage 0 _ q is)) r h)
-  few_records (less at x y) r h =
-      few_same c.stage (splits_in x + (splits_in y + 0)) (splits_in x + splits_in y) r (omega arith)
-      (then_few c.stage (splits_in x) (splits_in y + 0) (ExprMeans b e c x) (λ xs. Then (ExprMeans b e c y) (λ ys r. r ≡ plain (less_of xs ys))) (few_records x)
-      (λ xs. then_few c.stage (splits_in y) 0 (ExprMeans b e c y) (λ ys r. r ≡ plain (less_of xs ys)) (few_records y) (λ ys q is. plain_has c.stage 0 _ q is)) r h)
-  few_records (split at s v method majority) r h =
+      (then_few c.stage (splits_in x) (splits_in y + 0) (ExprMeans b e c x) (λ xs. Then (ExprMeans b e c y) (λ ys r. r ≡ plain (pair_of pairing xs ys))) (few_records x)
+      (λ xs. then_few c.stage (splits_in y) 0 (ExprMeans b e c y) (λ ys r. r ≡ plain (pair_of pairing xs ys)) (few_records y) (λ ys q is. plain_has c.stage 0 _ q is)) r h)
+  few_records (split at s v method without majority) r h =
       let Split : List ℕ → List ℕ → ExprResult → Type 0 = λ amounts votes. IsSplit e (stand c v) amounts votes (shape_in c s) method majority None in
       few_same c.stage (splits_in s + (splits_in v + 1)) (1 + splits_in s + splits_in v) r (omega arith)
       (then_few c.stage (splits_in s) (splits_in v + 1) (ExprMeans b e c s) (λ amounts. Then (ExprMeans b e c v) (Split amounts)) (few_records s)
       (λ amounts. then_few c.stage (splits_in v) 1 (ExprMeans b e c v) (Split amounts) (few_records v)
       (λ votes q. split_few e (stand c v) amounts votes (shape_in c s) method majority None q)) r h)
-  few_records (split_from at s v method m majority) r h =
+  few_records (split at s v method (atleast m) majority) r h =
       let Split : List ℕ → List ℕ → List ℕ → ExprResult → Type 0 = λ amounts votes minima. IsSplit e (stand c v) amounts votes (shape_in c s) method majority (Some minima) in
       few_same c.stage (splits_in s + (splits_in v + (splits_in m + 1))) (1 + splits_in s + splits_in v + splits_in m) r (omega arith)
       (then_few c.stage (splits_in s) (splits_in v + (splits_in m + 1)) (ExprMeans b e c s) (λ amounts. Then (ExprMeans b e c v) (λ votes. Then (ExprMeans b e c m) (Split amounts votes))) (few_records s)

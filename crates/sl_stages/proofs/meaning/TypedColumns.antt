@@ -1,6 +1,8 @@
 -- Columns of their types: the facts of the returns, and what sums, the greater and the difference make.
 use Rattle.std.proofs.Common.{◌≡◌, ℕ, zero, suc, ◌+◌, ◌-◌, ◌*◌, ◌≤◌, ◌&&◌, Bool, true, false, cond, not, List, [], ◌∷◌, Option, Some, None, is_none, is_some, map, max, length, get_or, sum, sum_by, count_by, refl, sym, ap, subst, ◌∙◌, inl, inr, arith}
 use Rattle.std.specs.List.{All, flat_map, zip}
+use Rattle.std.specs.Option.{ForSome}
+use Rattle.std.specs.Prelude.{unwrap_or}
 use Rattle.std.proofs.lemmas.Bool.{cases_lt, false≢true, and_right}
 use Rattle.std.proofs.lemmas.List.{get_or_past}
 use Rattle.std.proofs.lemmas.List.Elements.{All-nil, All-cons, All-head, All-tail, All-get_or, All-map, All-weaker, All-append}
@@ -12,18 +14,23 @@ use Rattle.sl_stages.specs.declared.limits.TheConstants.{MAX_LANDS, MAX_PARTIES,
 use Rattle.sl_stages.specs.declared.book.Axis.{Axis}
 use Rattle.sl_stages.specs.declared.book.Axis.TheVariants as axis
 use Rattle.sl_stages.specs.declared.book.Cond.{Cond}
+use Rattle.sl_stages.specs.declared.book.Pairing.{Pairing}
+use Rattle.sl_stages.specs.declared.book.Pairing.TheVariants as pairings
 use Rattle.sl_stages.specs.declared.book.Shape.{Shape}
 use Rattle.sl_stages.specs.declared.book.Shape.TheVariants as shape
 use Rattle.sl_stages.specs.declared.book.Unit.{Unit as Units}
 use Rattle.sl_stages.specs.declared.book.Unit.TheVariants as unit
 use Rattle.sl_stages.specs.declared.book.ColumnType.{ColumnType}
+use Rattle.sl_stages.specs.declared.fact.Fact.{Fact}
+use Rattle.sl_stages.specs.declared.fact.Fact.TheVariants as facts
 use Rattle.sl_stages.specs.declared.returns.ListVotes.{ListVotes}
 use Rattle.sl_stages.specs.declared.returns.Win.{Win}
+use Rattle.sl_stages.specs.book.Trees.{BookTree}
 use Rattle.sl_stages.specs.returns.Votes.{counted_in}
 use Rattle.sl_stages.specs.returns.Election.{Election, IsElection, IsCell, lands_of, parties_of, list_at, has_list}
 use Rattle.sl_stages.specs.returns.Facts.{lands, parties, by_party, by_land, by_list, list_cell, is_in, is_of, is_eligible, takes_part, is_on_list, counted_votes, list_winners, outside_winners, independent_winners}
-use Rattle.sl_stages.specs.book.Typing.{can_sum, shape_over, column}
-use Rattle.sl_stages.specs.meaning.Columns.{sum_over, larger_of, less_of}
+use Rattle.sl_stages.specs.book.Typing.{can_sum, shape_over, column, fact_type}
+use Rattle.sl_stages.specs.meaning.Columns.{sum_over, paired, pair_of, fact_column}
 use Rattle.sl_stages.specs.laws.ColumnLaws.{most_of_list, most_of, FitsType}
 use Rattle.sl_stages.proofs.meaning.ListPlaces.{by_list_at, length_by_list}
 use Rattle.sl_stages.proofs.methods.SeatSums.{sum-cons}
@@ -100,7 +107,7 @@ module _ (conditions : List Cond) (e : Election) (is : IsElection e) where
   winners_within : (test : Win → Bool) → count_by test e.wins ≤ MAX_WINS
   winners_within test = omega (arith, count_by-le-length test e.wins, is.wins, is.winners)
 
-  pub counted_typed : FitsType e (column shape.List unit.Votes) (counted_votes conditions e)
+  counted_typed : FitsType e (column shape.List unit.Votes) (counted_votes conditions e)
   counted_typed = made_by_list e unit.Votes (λ land party. cond (is_eligible conditions e party) (counted_in (list_at e land party)) 0)
       (λ land party. either_within (is_eligible conditions e party) (counted_in (list_at e land party)) MAX_VOTES (cell_within (list_at e land party) (some_cell (get_or e.cells land []) party (some_row e.cells land is.votes))))
       (λ land party none. nothing_counted (is_eligible conditions e party) (list_at e land party) none)
@@ -110,20 +117,32 @@ module _ (conditions : List Cond) (e : Election) (is : IsElection e) where
       (λ land party. either_within (takes_part conditions e land party) (count_by (λ w. is_in land w && is_of party w) e.wins) MAX_SEATS (let few = winners_within (λ w. is_in land w && is_of party w) in omega (arith, few)))
       (λ land party none. ap (λ t. cond t (count_by (λ w. is_in land w && is_of party w) e.wins) 0) (and_right (is_eligible conditions e party) (has_list e land party) none))
 
-  pub outside_typed : FitsType e (column shape.Land unit.Seats) (outside_winners conditions e)
+  outside_typed : FitsType e (column shape.Land unit.Seats) (outside_winners conditions e)
   outside_typed = made_by_land e unit.Seats (λ land. count_by (λ w. is_in land w && not (is_on_list conditions e w)) e.wins)
       (λ land. let few = winners_within (λ w. is_in land w && not (is_on_list conditions e w)) in omega (arith, few))
 
-  pub independents_typed : FitsType e (column shape.Land unit.Seats) (independent_winners conditions e)
-  independents_typed = made_by_land e unit.Seats (λ land. count_by (λ w. is_in land w && is_none w.party) e.wins)
+  alone_typed : FitsType e (column shape.Land unit.Seats) (independent_winners conditions e)
+  alone_typed = made_by_land e unit.Seats (λ land. count_by (λ w. is_in land w && is_none w.party) e.wins)
       (λ land. let few = winners_within (λ w. is_in land w && is_none w.party) in omega (arith, few))
 
-  pub population_typed : FitsType e (column shape.Land unit.Votes) e.populations
+  population_typed : FitsType e (column shape.Land unit.Votes) e.populations
   population_typed = record {
     size = is.populations;
     most = All-weaker (λ n. n ≤ MAX_VOTES) (λ n. n ≤ MAX_PARTIES * MAX_VOTES) (λ n h. omega arith) e.populations is.people;
     lists_alone = λ same. cc;
   }
+
+house_few : (house : Option ℕ) (seats : ℕ) → ForSome house (λ h. (1 ≤ h) × (h ≤ MAX_SEATS)) → seats ≤ MAX_SEATS → unwrap_or house seats ≤ MAX_SEATS
+house_few None seats is few = few
+house_few (Some h) seats is few = (is h refl).1
+
+pub fact_typed : (b : BookTree) (e : Election) → IsElection e → b.house.value ≤ MAX_SEATS → (told : Fact) → FitsType e (fact_type told) (fact_column b e told)
+fact_typed b e is few facts.House = made_one e unit.Seats (unwrap_or e.house b.house.value) (let n = house_few e.house b.house.value is.house few in omega (arith, n))
+fact_typed b e is few facts.Counted = counted_typed b.eligible e is
+fact_typed b e is few facts.Winners = winners_typed b.eligible e is
+fact_typed b e is few facts.Outside = outside_typed b.eligible e is
+fact_typed b e is few facts.Independents = alone_typed b.eligible e is
+fact_typed b e is few facts.Population = population_typed b.eligible e is
 
 -- ---- sums
 
@@ -186,29 +205,26 @@ zipped_at f (x ∷ xs) [] k same none = absurd (omega (arith, same))
 zipped_at f (x ∷ xs) (y ∷ ys) zero same none = none
 zipped_at f (x ∷ xs) (y ∷ ys) (suc k) same none = zipped_at f xs ys k (omega (arith, same)) none
 
-module _ (e : Election) (t : ColumnType) (xs ys : List ℕ) (left : FitsType e t xs) (right : FitsType e t ys) where
+paired_most : (pairing : Pairing) (m x y : ℕ) → x ≤ m → y ≤ m → paired pairing x y ≤ m
+paired_most pairings.Larger m x y h k = omega arith
+paired_most pairings.Less m x y h k = omega arith
+
+paired_zeros : (pairing : Pairing) → paired pairing 0 0 ≡ 0
+paired_zeros pairings.Larger = refl
+paired_zeros pairings.Less = refl
+
+module _ (e : Election) (t : ColumnType) (pairing : Pairing) (xs ys : List ℕ) (left : FitsType e t xs) (right : FitsType e t ys) where
   as_long : length xs ≡ length ys
   as_long = left.size ∙ sym right.size
 
-  pub larger_typed : FitsType e t (larger_of xs ys)
-  larger_typed =
-      let both = zipped (λ x. max x.0 x.1) (most_of t) (λ x y h k. omega arith) xs ys as_long left.most right.most in
+  pub pair_typed : FitsType e t (pair_of pairing xs ys)
+  pair_typed =
+      let both = zipped (λ x. paired pairing x.0 x.1) (most_of t) (paired_most pairing (most_of t)) xs ys as_long left.most right.most in
       record {
         size = both.0 ∙ left.size;
         most = both.1;
         lists_alone = λ same land party in_lands in_parties none.
             let a = left.lists_alone same land party in_lands in_parties none in
             let c = right.lists_alone same land party in_lands in_parties none in
-            zipped_at (λ x. max x.0 x.1) xs ys (land * parties_of e + party) as_long (omega (arith, a, c));
-      }
-
-  pub less_typed : FitsType e t (less_of xs ys)
-  less_typed =
-      let both = zipped (λ x. x.0 - x.1) (most_of t) (λ x y h k. omega arith) xs ys as_long left.most right.most in
-      record {
-        size = both.0 ∙ left.size;
-        most = both.1;
-        lists_alone = λ same land party in_lands in_parties none.
-            let a = left.lists_alone same land party in_lands in_parties none in
-            zipped_at (λ x. x.0 - x.1) xs ys (land * parties_of e + party) as_long (omega (arith, a));
+            zipped_at (λ x. paired pairing x.0 x.1) xs ys (land * parties_of e + party) as_long (ap (λ n. paired pairing n (get_or ys (land * parties_of e + party) 0)) a ∙ ap (paired pairing 0) c ∙ paired_zeros pairing);
       }

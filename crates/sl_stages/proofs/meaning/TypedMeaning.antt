@@ -14,11 +14,11 @@ use Rattle.sl_stages.specs.declared.book.Shape.{Shape}
 use Rattle.sl_stages.specs.declared.book.Shape.TheVariants as shape
 use Rattle.sl_stages.specs.declared.book.Unit.TheVariants as unit
 use Rattle.sl_stages.specs.declared.book.ColumnType.{ColumnType}
-use Rattle.sl_stages.specs.book.Trees.{ExprTree, house, counted, winners, outside, independents, population, name, sum, larger, less, split, split_from, grow, StageTree, BookTree}
+use Rattle.sl_stages.specs.book.Trees.{ExprTree, fact, name, sum, pair, split, without, atleast, grow, StageTree, BookTree}
 use Rattle.sl_stages.specs.returns.Election.{Election, IsElection}
 use Rattle.sl_stages.specs.book.Tests.{first_failing}
-use Rattle.sl_stages.specs.book.Typing.{Column as TypedColumn, type_of, type_or_one, column, tests_of, version_tests, expr_tests, stages_tests, is_named, same_shape, same_unit, can_split, stage_column}
-use Rattle.sl_stages.specs.meaning.Columns.{NamedColumn, is_column_of, sum_over, larger_of, less_of}
+use Rattle.sl_stages.specs.book.Typing.{Column as TypedColumn, type_of, fact_type, type_or_one, column, tests_of, version_tests, expr_tests, stages_tests, is_named, same_shape, same_unit, can_split, stage_column}
+use Rattle.sl_stages.specs.meaning.Columns.{NamedColumn, is_column_of, sum_over, pair_of}
 use Rattle.sl_stages.specs.meaning.Scopes.{cells}
 use Rattle.sl_stages.specs.meaning.Lots.{stage_lot}
 use Rattle.sl_stages.specs.meaning.Records.{Records}
@@ -29,7 +29,7 @@ use Rattle.sl_stages.specs.laws.ColumnLaws.{FitsType, IsTypedAs, TypedExpression
 use Rattle.sl_stages.proofs.Shapes.{same_shape_is, same_unit_is}
 use Rattle.sl_stages.proofs.Tests.{no_fault, head_holds, pass_parts}
 use Rattle.sl_stages.proofs.meaning.OneOutcome.{typed_parts}
-use Rattle.sl_stages.proofs.meaning.TypedColumns.{made_one, counted_typed, winners_typed, outside_typed, independents_typed, population_typed, sum_typed, larger_typed, less_typed}
+use Rattle.sl_stages.proofs.meaning.TypedColumns.{fact_typed, sum_typed, pair_typed}
 use Rattle.sl_stages.proofs.meaning.TypedSplits.{split_sum, growth_sum, shared_typed}
 
 -- ---- what comes before a column is a column
@@ -100,21 +100,9 @@ module _ (e : Election) (at : Stand) (amounts votes : List ℕ) (ok : same_shape
 named_values : (c values : List ℕ) (r : Records) → Column values r ≡ plain c → values ≡ c
 named_values c values r is = cc
 
-house_few : (house : Option ℕ) (seats : ℕ) → ForSome house (λ h. (1 ≤ h) × (h ≤ MAX_SEATS)) → seats ≤ MAX_SEATS → unwrap_or house seats ≤ MAX_SEATS
-house_few None seats is few = few
-house_few (Some h) seats is few = (is h refl).1
-
 module _ (b : BookTree) (e : Election) (is : IsElection e) (few : b.house.value ≤ MAX_SEATS) (c : Context) (known : AllZip (IsTypedAs e) c.types c.columns) where
-  leaf : (t : ColumnType) (k : List ℕ) → FitsType e t k → (values : List ℕ) (r : Records) → (cs : List ℕ) × (cs ≡ k) × (Column values r ≡ plain cs) → FitsType e t values
-  leaf t k type values r h = subst (FitsType e t) (sym (named_values h.0 values r h.2 ∙ h.1)) type
-
   typed_means : (x : ExprTree) → first_failing (expr_tests c.types x) ≡ None → (values : List ℕ) (r : Records) → ExprMeans b e c x (Column values r) → FitsType e (type_of c.types x) values
-  typed_means (house at) pass values r h = leaf (column shape.One unit.Seats) (unwrap_or e.house b.house.value ∷ []) (made_one e unit.Seats (unwrap_or e.house b.house.value) (let n = house_few e.house b.house.value is.house few in omega (arith, n))) values r h
-  typed_means (counted at) pass values r h = leaf (column shape.List unit.Votes) _ (counted_typed b.eligible e is) values r h
-  typed_means (winners at) pass values r h = leaf (column shape.List unit.Seats) _ (winners_typed b.eligible e is) values r h
-  typed_means (outside at) pass values r h = leaf (column shape.Land unit.Seats) _ (outside_typed b.eligible e is) values r h
-  typed_means (independents at) pass values r h = leaf (column shape.Land unit.Seats) _ (independents_typed b.eligible e is) values r h
-  typed_means (population at) pass values r h = leaf (column shape.Land unit.Votes) _ (population_typed b.eligible e is) values r h
+  typed_means (fact at told) pass values r h = subst (FitsType e (fact_type told)) (sym (named_values h.0 values r h.2 ∙ h.1)) (fact_typed b e is few told)
   typed_means (name at n) pass values r h =
       subst (FitsType e (type_of c.types (name at n))) (sym (named_values h.0 values r h.2)) (named_typed e n c.types c.columns known h.0 h.1)
   typed_means (sum at x over) pass values r h =
@@ -123,27 +111,17 @@ module _ (b : BookTree) (e : Election) (is : IsElection e) (few : b.house.value 
       let can = (head_holds _ _ _ parts.1).0 in
       subst (FitsType e (type_of c.types (sum at x over))) (sym (named_values (sum_over e over on.0) values on.3 on.4))
       (sum_typed e is (type_of c.types x).unit (type_of c.types x).shape over on.0 can (typed_means x parts.0 on.0 on.1 on.2))
-  typed_means (larger at x y) pass values r h =
+  typed_means (pair at pairing x y) pass values r h =
       let px = pass_parts (expr_tests c.types x) _ pass in
       let py = pass_parts (expr_tests c.types y) _ px.1 in
       let shapes = head_holds _ _ _ py.1 in
       let units = head_holds _ _ _ shapes.1 in
-      let one = then_column (ExprMeans b e c x) (λ xs. Then (ExprMeans b e c y) (λ ys r. r ≡ plain (larger_of xs ys))) values r h in
-      let two = then_column (ExprMeans b e c y) (λ ys r. r ≡ plain (larger_of one.0 ys)) values one.3 one.4 in
+      let one = then_column (ExprMeans b e c x) (λ xs. Then (ExprMeans b e c y) (λ ys r. r ≡ plain (pair_of pairing xs ys))) values r h in
+      let two = then_column (ExprMeans b e c y) (λ ys r. r ≡ plain (pair_of pairing one.0 ys)) values one.3 one.4 in
       let same = one_type (type_of c.types x) (type_of c.types y) shapes.0 units.0 in
-      subst (FitsType e (type_of c.types x)) (sym (named_values (larger_of one.0 two.0) values two.3 two.4))
-      (larger_typed e (type_of c.types x) one.0 two.0 (typed_means x px.0 one.0 one.1 one.2) (subst (λ t. FitsType e t two.0) same (typed_means y py.0 two.0 two.1 two.2)))
-  typed_means (less at x y) pass values r h =
-      let px = pass_parts (expr_tests c.types x) _ pass in
-      let py = pass_parts (expr_tests c.types y) _ px.1 in
-      let shapes = head_holds _ _ _ py.1 in
-      let units = head_holds _ _ _ shapes.1 in
-      let one = then_column (ExprMeans b e c x) (λ xs. Then (ExprMeans b e c y) (λ ys r. r ≡ plain (less_of xs ys))) values r h in
-      let two = then_column (ExprMeans b e c y) (λ ys r. r ≡ plain (less_of one.0 ys)) values one.3 one.4 in
-      let same = one_type (type_of c.types x) (type_of c.types y) shapes.0 units.0 in
-      subst (FitsType e (type_of c.types x)) (sym (named_values (less_of one.0 two.0) values two.3 two.4))
-      (less_typed e (type_of c.types x) one.0 two.0 (typed_means x px.0 one.0 one.1 one.2) (subst (λ t. FitsType e t two.0) same (typed_means y py.0 two.0 two.1 two.2)))
-  typed_means (split at s v method majority) pass values r h =
+      subst (FitsType e (type_of c.types x)) (sym (named_values (pair_of pairing one.0 two.0) values two.3 two.4))
+      (pair_typed e (type_of c.types x) pairing one.0 two.0 (typed_means x px.0 one.0 one.1 one.2) (subst (λ t. FitsType e t two.0) same (typed_means y py.0 two.0 two.1 two.2)))
+  typed_means (split at s v method without majority) pass values r h =
       let ps = pass_parts (expr_tests c.types s) _ pass in
       let pv = pass_parts (expr_tests c.types v) _ ps.1 in
       let shapes = head_holds _ _ _ (head_holds _ _ _ pv.1).1 in
@@ -151,7 +129,7 @@ module _ (b : BookTree) (e : Election) (is : IsElection e) (few : b.house.value 
       let one = then_column (ExprMeans b e c s) (λ amounts. Then (ExprMeans b e c v) (Split amounts)) values r h in
       let two = then_column (ExprMeans b e c v) (Split one.0) values one.3 one.4 in
       split_typed e (stand c v) one.0 two.0 (no_one (shape_in c s) (shape_in c v) shapes.0) values two.3 (shape_in c s) method majority None two.4
-  typed_means (split_from at s v method m majority) pass values r h =
+  typed_means (split at s v method (atleast m) majority) pass values r h =
       let ps = pass_parts (expr_tests c.types s) _ pass in
       let pv = pass_parts (expr_tests c.types v) _ ps.1 in
       let pm = pass_parts (expr_tests c.types m) _ pv.1 in

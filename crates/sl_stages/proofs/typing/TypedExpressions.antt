@@ -4,7 +4,8 @@ use Rattle.std.specs.List.{list_any}
 use Rattle.sl_stages.specs.declared.book.Shape.TheVariants as shape
 use Rattle.sl_stages.specs.declared.book.Unit.TheVariants as unit
 use Rattle.sl_stages.specs.declared.book.ColumnType.{ColumnType}
-use Rattle.sl_stages.specs.book.Trees.{ExprTree, house, counted, winners, outside, independents, population, name, sum, larger, less, split, split_from, grow}
+use Rattle.sl_stages.specs.declared.book.Pairing.{Pairing}
+use Rattle.sl_stages.specs.book.Trees.{ExprTree, fact, name, sum, pair, split, without, atleast, grow}
 use Rattle.sl_stages.specs.book.Tests.{first_failing}
 use Rattle.sl_stages.specs.book.Typing.{Column, column, type_or_one, is_named, expr_tests, type_of}
 use Rattle.sl_stages.specs.book.Typing.{name_tests}
@@ -34,38 +35,32 @@ named : (cs : List Column) (found : Option Column) (n : List ℕ) (t : ColumnTyp
 named cs None n t is some same = cc
 named cs (Some c) n t is some same = record { of = c; found = is; same = sym same }
 
-pair_passes : (cs : List Column) (at : ℕ) (l r : ExprTree) (t : ColumnType) → Passes cs l t → Passes cs r t → Passes cs (larger at l r) t
-pair_passes cs at l r t p q =
+pair_passes : (cs : List Column) (at : ℕ) (pairing : Pairing) (l r : ExprTree) (t : ColumnType) → Passes cs l t → Passes cs r t → Passes cs (pair at pairing l r) t
+pair_passes cs at pairing l r t p q =
     (pass_join3 (expr_tests cs l) (expr_tests cs r) (pair_tests at (type_of cs l) (type_of cs r)) p.0 q.0 (pair_typed at (type_of cs l) (type_of cs r) t p.1 q.1), p.1)
 
-pair_parts : (cs : List Column) (at : ℕ) (l r : ExprTree) (t : ColumnType) → Passes cs (larger at l r) t → Passes cs l t × Passes cs r t
-pair_parts cs at l r t h =
+pair_parts : (cs : List Column) (at : ℕ) (pairing : Pairing) (l r : ExprTree) (t : ColumnType) → Passes cs (pair at pairing l r) t → Passes cs l t × Passes cs r t
+pair_parts cs at pairing l r t h =
     let p = pass_parts3 (expr_tests cs l) (expr_tests cs r) (pair_tests at (type_of cs l) (type_of cs r)) h.0 in
     ((p.0, h.1), (p.1, pair_has at (type_of cs l) (type_of cs r) p.2 ∙ h.1))
 
 -- ---- an expression with a type passes
 
 pub typed : (cs : List Column) (e : ExprTree) (t : ColumnType) → HasType cs e t → Passes cs e t
-typed cs (house at) t h = (refl, sym h)
-typed cs (counted at) t h = (refl, sym h)
-typed cs (winners at) t h = (refl, sym h)
-typed cs (outside at) t h = (refl, sym h)
-typed cs (independents at) t h = (refl, sym h)
-typed cs (population at) t h = (refl, sym h)
+typed cs (fact at told) t h = (refl, sym h)
 typed cs (name at n) t h = name_typed cs at n t h
 typed cs (sum at e over) t h =
     let p = typed cs e (column h.from t.unit) h.of in
     let q = sum_typed at over (type_of cs e) t h.from p.1 h.sums in
     (pass_join (expr_tests cs e) (sum_tests at (type_of cs e) over) p.0 q.0, q.1)
-typed cs (larger at l r) t h = pair_passes cs at l r t (typed cs l t h.0) (typed cs r t h.1)
-typed cs (less at l r) t h = pair_passes cs at l r t (typed cs l t h.0) (typed cs r t h.1)
-typed cs (split at s v method m) t h =
+typed cs (pair at pairing l r) t h = pair_passes cs at pairing l r t (typed cs l t h.0) (typed cs r t h.1)
+typed cs (split at s v method without m) t h =
     let p = typed cs s (column h.from unit.Seats) h.seats in
     let q = typed cs v (column t.shape unit.Votes) h.votes in
     let n = split_typed at (type_of cs s) (type_of cs v) t method m
     (record { from = h.from; splits = h.splits; seats = p.1; votes = q.1; gives = h.gives; preferred = h.preferred }) in
     (pass_join3 (expr_tests cs s) (expr_tests cs v) (split_tests at (type_of cs s) (type_of cs v) method m) p.0 q.0 n.0, n.1)
-typed cs (split_from at s v method f m) t h =
+typed cs (split at s v method (atleast f) m) t h =
     let p = typed cs s (column h.0 unit.Seats) h.1.seats in
     let q = typed cs v (column t.shape unit.Votes) h.1.votes in
     let r = typed cs f (column t.shape unit.Seats) h.1.minima in
@@ -83,20 +78,14 @@ typed cs (grow at s v method f most m) t h =
 -- ---- an expression that passes has its type
 
 pub has : (cs : List Column) (e : ExprTree) (t : ColumnType) → Passes cs e t → HasType cs e t
-has cs (house at) t h = sym h.1
-has cs (counted at) t h = sym h.1
-has cs (winners at) t h = sym h.1
-has cs (outside at) t h = sym h.1
-has cs (independents at) t h = sym h.1
-has cs (population at) t h = sym h.1
+has cs (fact at told) t h = sym h.1
 has cs (name at n) t h = named cs (find (is_named n) cs) n t refl (sym (is_found (is_named n) cs) ∙ (hold_all (name_tests cs at n) h.0).0) h.1
 has cs (sum at e over) t h =
     let p = pass_parts (expr_tests cs e) (sum_tests at (type_of cs e) over) h.0 in
     let n = sum_has at over (type_of cs e) t p.1 h.1 in
     record { from = (type_of cs e).shape; sums = n.0; of = has cs e (column (type_of cs e).shape t.unit) (p.0, n.1) }
-has cs (larger at l r) t h = let p = pair_parts cs at l r t h in (has cs l t p.0, has cs r t p.1)
-has cs (less at l r) t h = let p = pair_parts cs at l r t h in (has cs l t p.0, has cs r t p.1)
-has cs (split at s v method m) t h =
+has cs (pair at pairing l r) t h = let p = pair_parts cs at pairing l r t h in (has cs l t p.0, has cs r t p.1)
+has cs (split at s v method without m) t h =
     let p = pass_parts3 (expr_tests cs s) (expr_tests cs v) (split_tests at (type_of cs s) (type_of cs v) method m) h.0 in
     let n = split_has at (type_of cs s) (type_of cs v) t method m p.2 h.1 in
     record {
@@ -107,7 +96,7 @@ has cs (split at s v method m) t h =
       seats = has cs s (column n.from unit.Seats) (p.0, n.seats);
       votes = has cs v (column t.shape unit.Votes) (p.1, n.votes);
     }
-has cs (split_from at s v method f m) t h =
+has cs (split at s v method (atleast f) m) t h =
     let p = pass_parts4 (expr_tests cs s) (expr_tests cs v) (expr_tests cs f) (split_from_tests at (type_of cs s) (type_of cs v) (type_of cs f) method m) h.0 in
     let from = (type_of cs s).shape in
     let n = split_from_has at (type_of cs s) (type_of cs v) (type_of cs f) t method m p.3 h.1 in (

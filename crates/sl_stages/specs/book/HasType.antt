@@ -12,8 +12,8 @@ use Rattle.sl_stages.specs.declared.book.Axis.TheVariants as axis
 use Rattle.sl_stages.specs.declared.book.Majority.{Majority}
 use Rattle.sl_stages.specs.declared.book.Majority.TheVariants as majority
 use Rattle.sl_stages.specs.declared.book.ColumnType.{ColumnType}
-use Rattle.sl_stages.specs.book.Trees.{ExprTree, house, counted, winners, outside, independents, population, name, sum, larger, less, split, split_from, grow}
-use Rattle.sl_stages.specs.book.Typing.{Column, column, is_named}
+use Rattle.sl_stages.specs.book.Trees.{ExprTree, fact, name, sum, pair, split, without, atleast, grow}
+use Rattle.sl_stages.specs.book.Typing.{Column, column, fact_type, is_named}
 
 -- a column of the first shape is summed over the axis to one of the second
 abbrev pub Sums : Shape → Axis → Shape → Type 0
@@ -67,16 +67,10 @@ pub record IsSplitFromType (Seats Votes Minima : ColumnType → Type 0) (from : 
 
 -- an expression after stages with these columns has that shape and that unit
 abbrev pub HasType : List Column → ExprTree → ColumnType → Type 0
-HasType cs (house at) t = t ≡ column shape.One unit.Seats
-HasType cs (counted at) t = t ≡ column shape.List unit.Votes
-HasType cs (winners at) t = t ≡ column shape.List unit.Seats
-HasType cs (outside at) t = t ≡ column shape.Land unit.Seats
-HasType cs (independents at) t = t ≡ column shape.Land unit.Seats
-HasType cs (population at) t = t ≡ column shape.Land unit.Votes
+HasType cs (fact at told) t = t ≡ fact_type told
 HasType cs (name at n) t = IsStageType cs n t
 HasType cs (sum at e over) t = IsSumType (HasType cs e) over t
-HasType cs (larger at l r) t = HasType cs l t × HasType cs r t
-HasType cs (less at l r) t = HasType cs l t × HasType cs r t
-HasType cs (split at s v method m) t = IsSplitType (HasType cs s) (HasType cs v) method m t
-HasType cs (split_from at s v method f m) t = (from : Shape) × IsSplitFromType (HasType cs s) (HasType cs v) (HasType cs f) from method m t
+HasType cs (pair at pairing l r) t = HasType cs l t × HasType cs r t
+HasType cs (split at s v method without m) t = IsSplitType (HasType cs s) (HasType cs v) method m t
+HasType cs (split at s v method (atleast f) m) t = (from : Shape) × IsSplitFromType (HasType cs s) (HasType cs v) (HasType cs f) from method m t
 HasType cs (grow at s v method f cap m) t = IsSplitFromType (HasType cs s) (HasType cs v) (HasType cs f) shape.One method m t × (1 ≤ cap.value) × (cap.value ≤ MAX_SEATS)

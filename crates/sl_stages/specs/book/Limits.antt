@@ -5,38 +5,26 @@ use Rattle.sl_ratio.specs.declared.limits.TheConstants.{MAX_NUMBER}
 use Rattle.sl_stages.specs.declared.limits.TheConstants.{MAX_STAGES, MAX_DEPTH, MAX_PARTS}
 use Rattle.sl_stages.specs.declared.book.Cond.{Cond}
 use Rattle.sl_stages.specs.declared.book.Cond.TheVariants as conditions
-use Rattle.sl_stages.specs.book.Trees.{ExprTree, house, counted, winners, outside, independents, population, name, sum, larger, less, split, split_from, grow, StageTree, BookTree}
+use Rattle.sl_stages.specs.book.Trees.{ExprTree, fact, name, sum, pair, split, without, atleast, grow, StageTree, BookTree}
 
 -- the levels of an expression, itself the first
 abbrev pub depth_of : ExprTree → ℕ
-depth_of (house at) = 1
-depth_of (counted at) = 1
-depth_of (winners at) = 1
-depth_of (outside at) = 1
-depth_of (independents at) = 1
-depth_of (population at) = 1
+depth_of (fact at told) = 1
 depth_of (name at n) = 1
 depth_of (sum at e axis) = 1 + depth_of e
-depth_of (larger at l r) = 1 + max (depth_of l) (depth_of r)
-depth_of (less at l r) = 1 + max (depth_of l) (depth_of r)
-depth_of (split at s v method majority) = 1 + max (depth_of s) (depth_of v)
-depth_of (split_from at s v method m majority) = 1 + max (max (depth_of s) (depth_of v)) (depth_of m)
+depth_of (pair at pairing l r) = 1 + max (depth_of l) (depth_of r)
+depth_of (split at s v method without majority) = 1 + max (depth_of s) (depth_of v)
+depth_of (split at s v method (atleast m) majority) = 1 + max (max (depth_of s) (depth_of v)) (depth_of m)
 depth_of (grow at s v method m cap majority) = 1 + max (max (depth_of s) (depth_of v)) (depth_of m)
 
 -- the parts of an expression: itself and each expression in it
 abbrev pub parts_of : ExprTree → ℕ
-parts_of (house at) = 1
-parts_of (counted at) = 1
-parts_of (winners at) = 1
-parts_of (outside at) = 1
-parts_of (independents at) = 1
-parts_of (population at) = 1
+parts_of (fact at told) = 1
 parts_of (name at n) = 1
 parts_of (sum at e axis) = 1 + parts_of e
-parts_of (larger at l r) = 1 + parts_of l + parts_of r
-parts_of (less at l r) = 1 + parts_of l + parts_of r
-parts_of (split at s v method majority) = 1 + parts_of s + parts_of v
-parts_of (split_from at s v method m majority) = 1 + parts_of s + parts_of v + parts_of m
+parts_of (pair at pairing l r) = 1 + parts_of l + parts_of r
+parts_of (split at s v method without majority) = 1 + parts_of s + parts_of v
+parts_of (split at s v method (atleast m) majority) = 1 + parts_of s + parts_of v + parts_of m
 parts_of (grow at s v method m cap majority) = 1 + parts_of s + parts_of v + parts_of m
 
 abbrev pub is_within_stage : StageTree → Bool
@@ -47,18 +35,12 @@ is_within_limits stages = nat_le (length stages) MAX_STAGES && list_all is_withi
 
 -- the numbers that stand in an expression
 abbrev pub numbers_of : ExprTree → List ℕ
-numbers_of (house at) = []
-numbers_of (counted at) = []
-numbers_of (winners at) = []
-numbers_of (outside at) = []
-numbers_of (independents at) = []
-numbers_of (population at) = []
+numbers_of (fact at told) = []
 numbers_of (name at n) = []
 numbers_of (sum at e axis) = numbers_of e
-numbers_of (larger at l r) = numbers_of l ++ numbers_of r
-numbers_of (less at l r) = numbers_of l ++ numbers_of r
-numbers_of (split at s v method majority) = numbers_of s ++ numbers_of v
-numbers_of (split_from at s v method m majority) = numbers_of s ++ (numbers_of v ++ numbers_of m)
+numbers_of (pair at pairing l r) = numbers_of l ++ numbers_of r
+numbers_of (split at s v method without majority) = numbers_of s ++ numbers_of v
+numbers_of (split at s v method (atleast m) majority) = numbers_of s ++ (numbers_of v ++ numbers_of m)
 numbers_of (grow at s v method m cap majority) = numbers_of s ++ (numbers_of v ++ (numbers_of m ++ cap.value ∷ []))
 
 -- those of a condition

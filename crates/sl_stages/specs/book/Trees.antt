@@ -8,23 +8,24 @@ use Rattle.sl_stages.specs.declared.book.Number.{Number}
 use Rattle.sl_stages.specs.declared.book.Cond.{Cond}
 use Rattle.sl_stages.specs.declared.book.Stage.{Stage}
 use Rattle.sl_stages.specs.declared.book.LastClause.{LastClause}
-use Rattle.sl_stages.specs.declared.book.Expr.{Expr, House, Counted, Winners, Outside, Independents, Population, Name, Sum', Larger', Less', Split', Grow', None', Some'}
+use Rattle.sl_stages.specs.declared.book.Expr.{Expr, Fact as ToldFact, Name, Sum', Pair', Split', Grow', None', Some'}
+use Rattle.sl_stages.specs.declared.book.Pairing.{Pairing}
+use Rattle.sl_stages.specs.declared.fact.Fact.{Fact}
 
--- an expression, with the offset of its first token
-pub data ExprTree : Type 0 where
-  house : (at : ℕ) → ExprTree
-  counted : (at : ℕ) → ExprTree
-  winners : (at : ℕ) → ExprTree
-  outside : (at : ℕ) → ExprTree
-  independents : (at : ℕ) → ExprTree
-  population : (at : ℕ) → ExprTree
-  name : (at : ℕ) (stage : List ℕ) → ExprTree
-  sum : (at : ℕ) (of : ExprTree) (over : Axis) → ExprTree
-  larger : (at : ℕ) (left right : ExprTree) → ExprTree
-  less : (at : ℕ) (left right : ExprTree) → ExprTree
-  split : (at : ℕ) (seats votes : ExprTree) (method : Method) (majority : Majority) → ExprTree
-  split_from : (at : ℕ) (seats votes : ExprTree) (method : Method) (minima : ExprTree) (majority : Majority) → ExprTree
-  grow : (at : ℕ) (seats votes : ExprTree) (method : Method) (minima : ExprTree) (cap : Number) (majority : Majority) → ExprTree
+mutual
+  -- an expression, with the offset of its first token
+  pub data ExprTree : Type 0 where
+    fact : (at : ℕ) (told : Fact) → ExprTree
+    name : (at : ℕ) (stage : List ℕ) → ExprTree
+    sum : (at : ℕ) (of : ExprTree) (over : Axis) → ExprTree
+    pair : (at : ℕ) (pairing : Pairing) (left right : ExprTree) → ExprTree
+    split : (at : ℕ) (seats votes : ExprTree) (method : Method) (minima : MinimaTree) (majority : Majority) → ExprTree
+    grow : (at : ℕ) (seats votes : ExprTree) (method : Method) (minima : ExprTree) (cap : Number) (majority : Majority) → ExprTree
+
+  -- the minima of a split, if it has any
+  pub data MinimaTree : Type 0 where
+    without : MinimaTree
+    atleast : (minima : ExprTree) → MinimaTree
 
 pub record StageTree : Type 0 where
   pub name : List ℕ
@@ -40,23 +41,17 @@ pub record BookTree : Type 0 where
   pub last : LastClause
 
 abbrev pub tree_of : Expr → ExprTree
-tree_of (House at) = house at
-tree_of (Counted at) = counted at
-tree_of (Winners at) = winners at
-tree_of (Outside at) = outside at
-tree_of (Independents at) = independents at
-tree_of (Population at) = population at
+tree_of (ToldFact at told) = fact at told
 tree_of (Name at n) = name at n
 tree_of (Sum' at p e axis) = sum at (tree_of e) axis
-tree_of (Larger' at p l q r) = larger at (tree_of l) (tree_of r)
-tree_of (Less' at p l q r) = less at (tree_of l) (tree_of r)
-tree_of (Split' at p s q v method None' majority) = split at (tree_of s) (tree_of v) method majority
-tree_of (Split' at p s q v method (Some' o m) majority) = split_from at (tree_of s) (tree_of v) method (tree_of m) majority
+tree_of (Pair' at pairing p l q r) = pair at pairing (tree_of l) (tree_of r)
+tree_of (Split' at p s q v method None' majority) = split at (tree_of s) (tree_of v) method without majority
+tree_of (Split' at p s q v method (Some' o m) majority) = split at (tree_of s) (tree_of v) method (atleast (tree_of m)) majority
 tree_of (Grow' at p s q v method o m cap majority) = grow at (tree_of s) (tree_of v) method (tree_of m) cap majority
 
-abbrev pub boxed_tree : Option (Box Expr) → Option ExprTree
-boxed_tree None = None
-boxed_tree (Some b) = Some (tree_of b.value)
+abbrev pub minima_tree : Option (Box Expr) → MinimaTree
+minima_tree None = without
+minima_tree (Some b) = atleast (tree_of b.value)
 
 abbrev pub stage_of : Stage → StageTree
 stage_of s = record { name = s.name; at = s.at; expr = tree_of s.expr }

@@ -20,9 +20,11 @@ use Rattle.sl_stages.specs.declared.book.Cond.TheVariants as condition
 use Rattle.sl_stages.specs.declared.book.Base.{Base}
 use Rattle.sl_stages.specs.declared.book.Base.TheVariants as base
 use Rattle.sl_stages.specs.declared.check_fault.CheckFault.{CheckFault}
+use Rattle.sl_stages.specs.declared.fact.Fact.{Fact}
+use Rattle.sl_stages.specs.declared.fact.Fact.TheVariants as facts
 use Rattle.sl_stages.specs.declared.check_fault.CheckFault.TheVariants as fault
 use Rattle.sl_stages.specs.book.Tests.{Test, test, first_failing}
-use Rattle.sl_stages.specs.book.Trees.{ExprTree, house, counted, winners, outside, independents, population, name, sum, larger, less, split, split_from, grow, StageTree, BookTree}
+use Rattle.sl_stages.specs.book.Trees.{ExprTree, fact, name, sum, pair, split, without, atleast, grow, StageTree, BookTree}
 use Rattle.std.specs.Str.{bytes_eq}
 
 -- ---- columns
@@ -48,20 +50,31 @@ shape_over axis.Party = shape.Party
 shape_over axis.Land = shape.Land
 shape_over axis.All = shape.One
 
+-- the number of a fact: its place among all
+abbrev pub fact_number : Fact → ℕ
+fact_number facts.House = 0
+fact_number facts.Counted = 1
+fact_number facts.Winners = 2
+fact_number facts.Outside = 3
+fact_number facts.Independents = 4
+fact_number facts.Population = 5
+
+-- the shape and the unit of a fact's column
+abbrev pub fact_type : Fact → ColumnType
+fact_type facts.House = column shape.One unit.Seats
+fact_type facts.Counted = column shape.List unit.Votes
+fact_type facts.Winners = column shape.List unit.Seats
+fact_type facts.Outside = column shape.Land unit.Seats
+fact_type facts.Independents = column shape.Land unit.Seats
+fact_type facts.Population = column shape.Land unit.Votes
+
 -- the shape and the unit of an expression whose tests hold
 abbrev pub type_of : List Column → ExprTree → ColumnType
-type_of cs (house at) = column shape.One unit.Seats
-type_of cs (counted at) = column shape.List unit.Votes
-type_of cs (winners at) = column shape.List unit.Seats
-type_of cs (outside at) = column shape.Land unit.Seats
-type_of cs (independents at) = column shape.Land unit.Seats
-type_of cs (population at) = column shape.Land unit.Votes
+type_of cs (fact at told) = fact_type told
 type_of cs (name at n) = type_or_one (find (is_named n) cs)
 type_of cs (sum at e over) = column (shape_over over) (type_of cs e).unit
-type_of cs (larger at l r) = type_of cs l
-type_of cs (less at l r) = type_of cs l
-type_of cs (split at s v method m) = column (type_of cs v).shape unit.Seats
-type_of cs (split_from at s v method f m) = column (type_of cs v).shape unit.Seats
+type_of cs (pair at pairing l r) = type_of cs l
+type_of cs (split at s v method minima m) = column (type_of cs v).shape unit.Seats
 type_of cs (grow at s v method f cap m) = column (type_of cs v).shape unit.Seats
 
 abbrev pub same_shape : Shape → Shape → Bool
@@ -145,36 +158,24 @@ module _ (cs : List Column) where
 
   -- the tests of an expression: those of its arguments from left to right, and then its own
   abbrev pub expr_tests : ExprTree → List (Test CheckFault)
-  expr_tests (house at) = []
-  expr_tests (counted at) = []
-  expr_tests (winners at) = []
-  expr_tests (outside at) = []
-  expr_tests (independents at) = []
-  expr_tests (population at) = []
+  expr_tests (fact at told) = []
   expr_tests (name at n) = name_tests cs at n
   expr_tests (sum at e over) = expr_tests e ++ sum_tests at (type_of cs e) over
-  expr_tests (larger at l r) = expr_tests l ++ (expr_tests r ++ alike_tests at l r)
-  expr_tests (less at l r) = expr_tests l ++ (expr_tests r ++ alike_tests at l r)
-  expr_tests (split at s v method m) = expr_tests s ++ (expr_tests v ++ split_tests at (type_of cs s) (type_of cs v) method m)
-  expr_tests (split_from at s v method f m) =
+  expr_tests (pair at pairing l r) = expr_tests l ++ (expr_tests r ++ alike_tests at l r)
+  expr_tests (split at s v method without m) = expr_tests s ++ (expr_tests v ++ split_tests at (type_of cs s) (type_of cs v) method m)
+  expr_tests (split at s v method (atleast f) m) =
       expr_tests s ++ (expr_tests v ++ (expr_tests f ++ split_from_tests at (type_of cs s) (type_of cs v) (type_of cs f) method m))
   expr_tests (grow at s v method f cap m) =
       expr_tests s ++ (expr_tests v ++ (expr_tests f ++ grow_tests at (type_of cs s) (type_of cs v) (type_of cs f) method cap m))
 
 -- how many splits and growths an expression has
 abbrev pub splits_in : ExprTree → ℕ
-splits_in (house at) = 0
-splits_in (counted at) = 0
-splits_in (winners at) = 0
-splits_in (outside at) = 0
-splits_in (independents at) = 0
-splits_in (population at) = 0
+splits_in (fact at told) = 0
 splits_in (name at n) = 0
 splits_in (sum at e over) = splits_in e
-splits_in (larger at l r) = splits_in l + splits_in r
-splits_in (less at l r) = splits_in l + splits_in r
-splits_in (split at s v method m) = 1 + splits_in s + splits_in v
-splits_in (split_from at s v method f m) = 1 + splits_in s + splits_in v + splits_in f
+splits_in (pair at pairing l r) = splits_in l + splits_in r
+splits_in (split at s v method without m) = 1 + splits_in s + splits_in v
+splits_in (split at s v method (atleast f) m) = 1 + splits_in s + splits_in v + splits_in f
 splits_in (grow at s v method f cap m) = 1 + splits_in s + splits_in v + splits_in f
 
 -- the column of a stage after those

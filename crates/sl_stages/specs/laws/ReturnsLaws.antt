@@ -49,7 +49,7 @@ pub record LandFacts (conditions : List Cond) (e : Election) (land : ℕ) : Type
   pub all_winners :
       sum_by (λ party. list_cell e (list_winners conditions e) land party) (parties e) + slice_index (outside_winners conditions e) land
       ≡ count_by (is_in land) e.wins
-  pub independents : slice_index (independent_winners conditions e) land ≤ slice_index (outside_winners conditions e) land
+  pub alone : slice_index (independent_winners conditions e) land ≤ slice_index (outside_winners conditions e) land
 
 abbrev pub FactsOfLands : Type 0
 FactsOfLands = (conditions : List Cond) (e : Election) (land : ℕ) → IsElection e → land < lands_of e → LandFacts conditions e land

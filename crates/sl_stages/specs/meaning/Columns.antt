@@ -4,7 +4,11 @@ use Rattle.std.specs.List.{zip}
 use Rattle.std.specs.Str.{bytes_eq}
 use Rattle.sl_stages.specs.declared.book.Axis.{Axis}
 use Rattle.sl_stages.specs.declared.book.Axis.TheVariants as axis
-use Rattle.sl_stages.specs.book.Trees.{ExprTree, house, counted, winners, outside, independents, population, name, BookTree}
+use Rattle.sl_stages.specs.declared.book.Pairing.{Pairing}
+use Rattle.sl_stages.specs.declared.book.Pairing.TheVariants as pairings
+use Rattle.sl_stages.specs.declared.fact.Fact.{Fact}
+use Rattle.sl_stages.specs.declared.fact.Fact.TheVariants as facts
+use Rattle.sl_stages.specs.book.Trees.{ExprTree, fact, name, BookTree}
 use Rattle.sl_stages.specs.returns.Election.{Election}
 use Rattle.sl_stages.specs.returns.Facts.{lands, parties, by_party, by_land, list_cell, counted_votes, list_winners, outside_winners, independent_winners}
 
@@ -22,21 +26,27 @@ sum_over e axis.Party column = by_party e (λ party. sum_by (λ land. list_cell 
 sum_over e axis.Land column = by_land e (λ land. sum_by (λ party. list_cell e column land party) (parties e))
 sum_over e axis.All column = sum column ∷ []
 
--- entry by entry, the greater one; and the first less the second, at least 0
-abbrev pub larger_of : List ℕ → List ℕ → List ℕ
-larger_of left right = map (λ x. max x.0 x.1) (zip left right)
+-- the greater of two numbers, or the first less the second, at least 0
+abbrev pub paired : Pairing → ℕ → ℕ → ℕ
+paired pairings.Larger x y = max x y
+paired pairings.Less x y = x - y
 
-abbrev pub less_of : List ℕ → List ℕ → List ℕ
-less_of left right = map (λ x. x.0 - x.1) (zip left right)
+-- a pair of columns, number by number
+abbrev pub pair_of : Pairing → List ℕ → List ℕ → List ℕ
+pair_of pairing left right = map (λ x. paired pairing x.0 x.1) (zip left right)
 
 module _ (b : BookTree) (e : Election) where
+  -- the column of a fact
+  abbrev pub fact_column : Fact → List ℕ
+  fact_column facts.House = unwrap_or e.house b.house.value ∷ []
+  fact_column facts.Counted = counted_votes b.eligible e
+  fact_column facts.Winners = list_winners b.eligible e
+  fact_column facts.Outside = outside_winners b.eligible e
+  fact_column facts.Independents = independent_winners b.eligible e
+  fact_column facts.Population = e.populations
+
   -- a leaf of an expression is that column, where those are the columns of the stages before it
   abbrev pub IsLeaf : List NamedColumn → ExprTree → List ℕ → Type 0
-  IsLeaf stages (house at) c = c ≡ unwrap_or e.house b.house.value ∷ []
-  IsLeaf stages (counted at) c = c ≡ counted_votes b.eligible e
-  IsLeaf stages (winners at) c = c ≡ list_winners b.eligible e
-  IsLeaf stages (outside at) c = c ≡ outside_winners b.eligible e
-  IsLeaf stages (independents at) c = c ≡ independent_winners b.eligible e
-  IsLeaf stages (population at) c = c ≡ e.populations
+  IsLeaf stages (fact at told) c = c ≡ fact_column told
   IsLeaf stages (name at n) c = option_map (λ s. s.values) (find (is_column_of n) stages) ≡ Some c
   IsLeaf stages _ c = ⊥

@@ -7,12 +7,12 @@ use Rattle.sl_ratio.specs.declared.method.Method.TheVariants as by
 use Rattle.sl_stages.specs.declared.book.Majority.{Majority}
 use Rattle.sl_stages.specs.declared.book.Shape.{Shape}
 use Rattle.sl_stages.specs.declared.book.Shape.TheVariants as shape
-use Rattle.sl_stages.specs.book.Trees.{ExprTree, house, counted, winners, outside, independents, population, name, sum, larger, less, split, split_from, grow, BookTree}
+use Rattle.sl_stages.specs.book.Trees.{ExprTree, fact, name, sum, pair, split, without, atleast, grow, BookTree}
 use Rattle.sl_stages.specs.returns.Election.{Election}
 use Rattle.sl_stages.specs.book.Typing.{Column as TypedColumn, type_of, is_prefer}
 use Rattle.sl_stages.specs.methods.Field.{no_minima}
 use Rattle.sl_stages.specs.methods.LeastHouse.{outside_minima}
-use Rattle.sl_stages.specs.meaning.Columns.{NamedColumn, IsLeaf, sum_over, larger_of, less_of}
+use Rattle.sl_stages.specs.meaning.Columns.{NamedColumn, IsLeaf, sum_over, pair_of}
 use Rattle.sl_stages.specs.meaning.Scopes.{Group, cells, scopes}
 use Rattle.sl_stages.specs.meaning.Lots.{stage_lot}
 use Rattle.sl_stages.specs.meaning.Records.{Records, divisor_steps, hamilton_steps, field_weights, tells_weights}
@@ -87,19 +87,13 @@ module _ (b : BookTree) (e : Election) (c : Context) where
   IsLeafResult x r = (values : List ℕ) × IsLeaf b e c.columns x values × (r ≡ plain values)
 
   abbrev pub ExprMeans : ExprTree → ExprResult → Type 0
-  ExprMeans (house at) = IsLeafResult (house at)
-  ExprMeans (counted at) = IsLeafResult (counted at)
-  ExprMeans (winners at) = IsLeafResult (winners at)
-  ExprMeans (outside at) = IsLeafResult (outside at)
-  ExprMeans (independents at) = IsLeafResult (independents at)
-  ExprMeans (population at) = IsLeafResult (population at)
+  ExprMeans (fact at told) = IsLeafResult (fact at told)
   ExprMeans (name at n) = IsLeafResult (name at n)
   ExprMeans (sum at x over) = Then (ExprMeans x) (λ xs r. r ≡ plain (sum_over e over xs))
-  ExprMeans (larger at x y) = Then (ExprMeans x) (λ xs. Then (ExprMeans y) (λ ys r. r ≡ plain (larger_of xs ys)))
-  ExprMeans (less at x y) = Then (ExprMeans x) (λ xs. Then (ExprMeans y) (λ ys r. r ≡ plain (less_of xs ys)))
-  ExprMeans (split at s v method majority) =
+  ExprMeans (pair at pairing x y) = Then (ExprMeans x) (λ xs. Then (ExprMeans y) (λ ys r. r ≡ plain (pair_of pairing xs ys)))
+  ExprMeans (split at s v method without majority) =
       Then (ExprMeans s) (λ amounts. Then (ExprMeans v) (λ votes. IsSplit e (stand c v) amounts votes (shape_in c s) method majority None))
-  ExprMeans (split_from at s v method m majority) =
+  ExprMeans (split at s v method (atleast m) majority) =
       Then (ExprMeans s) (λ amounts. Then (ExprMeans v) (λ votes. Then (ExprMeans m) (λ minima. IsSplit e (stand c v) amounts votes (shape_in c s) method majority (Some minima))))
   ExprMeans (grow at s v method m cap majority) =
       Then (ExprMeans s) (λ amounts. Then (ExprMeans v) (λ votes. Then (ExprMeans m) (λ minima. IsGrown e (stand c v) amounts votes method majority minima cap.value)))

@@ -5,28 +5,21 @@ use Rattle.sl_stages.specs.declared.book.Seating.{Seating}
 use Rattle.sl_stages.specs.declared.book.Seating.TheVariants as seating
 use Rattle.sl_stages.specs.declared.table.ListSeats.{ListSeats}
 use Rattle.sl_stages.specs.meaning.Tables.{SeatTable}
-use Rattle.sl_stages.specs.book.Trees.{ExprTree, house, counted, winners, outside, independents, population, name, sum, larger, less, split, split_from, grow, StageTree, BookTree}
+use Rattle.sl_stages.specs.book.Trees.{ExprTree, fact, name, sum, pair, split, grow, StageTree, BookTree}
 use Rattle.sl_stages.specs.returns.Election.{Election}
 use Rattle.sl_stages.specs.book.Typing.{splits_in}
 use Rattle.sl_stages.specs.returns.Facts.{each_list, list_cell, list_winners}
-use Rattle.sl_stages.specs.meaning.Columns.{NamedColumn, IsLeaf, sum_over, larger_of, less_of}
+use Rattle.sl_stages.specs.meaning.Columns.{NamedColumn, IsLeaf, sum_over, pair_of}
 use Rattle.sl_stages.specs.meaning.Seating.{base_of, kept_place}
 
 module _ (b : BookTree) (e : Election) where
   -- the expression, one without splits and growths, is that column, where those are the columns of the stages before it
   abbrev pub IsColumn : List NamedColumn → ExprTree → List ℕ → Type 0
-  IsColumn stages (house at) c = IsLeaf b e stages (house at) c
-  IsColumn stages (counted at) c = IsLeaf b e stages (counted at) c
-  IsColumn stages (winners at) c = IsLeaf b e stages (winners at) c
-  IsColumn stages (outside at) c = IsLeaf b e stages (outside at) c
-  IsColumn stages (independents at) c = IsLeaf b e stages (independents at) c
-  IsColumn stages (population at) c = IsLeaf b e stages (population at) c
+  IsColumn stages (fact at told) c = IsLeaf b e stages (fact at told) c
   IsColumn stages (name at n) c = IsLeaf b e stages (name at n) c
   IsColumn stages (sum at x over) c = (xs : List ℕ) × IsColumn stages x xs × (c ≡ sum_over e over xs)
-  IsColumn stages (larger at x y) c = (xs : List ℕ) × (ys : List ℕ) × IsColumn stages x xs × IsColumn stages y ys × (c ≡ larger_of xs ys)
-  IsColumn stages (less at x y) c = (xs : List ℕ) × (ys : List ℕ) × IsColumn stages x xs × IsColumn stages y ys × (c ≡ less_of xs ys)
-  IsColumn stages (split at s v method m) c = ⊥
-  IsColumn stages (split_from at s v method f m) c = ⊥
+  IsColumn stages (pair at pairing x y) c = (xs : List ℕ) × (ys : List ℕ) × IsColumn stages x xs × IsColumn stages y ys × (c ≡ pair_of pairing xs ys)
+  IsColumn stages (split at s v method minima m) c = ⊥
   IsColumn stages (grow at s v method f cap m) c = ⊥
 
   -- these stages, after those columns, have in the end all of these columns
@@ -34,7 +27,7 @@ module _ (b : BookTree) (e : Election) where
   AreColumns before [] all = all ≡ before
   AreColumns before (s ∷ ss) all = (c : List ℕ) × IsColumn before s.expr c × AreColumns (before ++ record { name = s.name; values = c } ∷ []) ss all
 
--- under `keep` a list has the larger of its base and its winners, who all sit on it
+-- under `keep` a list has the greater of its base and its winners, who all sit on it
 abbrev pub kept_list : BookTree → Election → List ℕ → ℕ → ℕ → ListSeats
 kept_list b e column land party =
     let won = list_cell e (list_winners b.eligible e) land party in

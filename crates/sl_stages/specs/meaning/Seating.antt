@@ -7,6 +7,7 @@ use Rattle.sl_stages.specs.declared.book.LastClause.{LastClause}
 use Rattle.sl_stages.specs.declared.fault.Scope.TheVariants as scope
 use Rattle.sl_stages.specs.declared.fault.Item.{Item}
 use Rattle.sl_stages.specs.declared.fault.Item.TheVariants as item
+use Rattle.sl_stages.specs.declared.fact.Fact.TheVariants as facts
 use Rattle.sl_stages.specs.declared.fault.FaultKind.TheVariants as fault
 use Rattle.sl_stages.specs.declared.fault.LegalFault.{LegalFault}
 use Rattle.sl_stages.specs.declared.returns.Win.{Win}
@@ -14,7 +15,7 @@ use Rattle.sl_stages.specs.declared.table.ListSeats.{ListSeats}
 use Rattle.sl_stages.specs.declared.table.Placed.{Placed}
 use Rattle.sl_stages.specs.declared.table.Placed.TheVariants as placed
 use Rattle.sl_stages.specs.meaning.Tables.{SeatTable}
-use Rattle.sl_stages.specs.book.Trees.{ExprTree, winners, name, BookTree}
+use Rattle.sl_stages.specs.book.Trees.{ExprTree, fact, name, BookTree}
 use Rattle.sl_stages.specs.returns.Votes.{slate_in}
 use Rattle.sl_stages.specs.returns.Election.{Election, list_at}
 use Rattle.sl_stages.specs.returns.Facts.{each_list, list_cell, list_winners, is_of, is_in, is_eligible, has_eligible_list, is_on_list}
@@ -29,7 +30,7 @@ use Rattle.sl_stages.specs.meaning.Results.{fault_at}
 abbrev pub base_of : LastClause → ExprTree
 base_of last = named last.base where
   named : Base → ExprTree
-  named base.Winners = winners last.at
+  named base.Winners = fact last.at facts.Winners
   named (base.Stage n) = name last.at n
 
 -- ---- the table, where each list has so many seats and the winners have these places
@@ -70,7 +71,7 @@ module _ (b : BookTree) (e : Election) where
     weights = records.weights;
   }
 
-  -- ---- `keep`: a list has the larger of its base and its winners, who all sit on it; every other winner is a single
+  -- ---- `keep`: a list has the greater of its base and its winners, who all sit on it; every other winner is a single
 
   abbrev pub kept_seats : List ℕ → ℕ → ℕ → ℕ
   kept_seats base land party = max (list_cell e base land party) (list_cell e (list_winners b.eligible e) land party)

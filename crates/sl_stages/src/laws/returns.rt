@@ -17,7 +17,7 @@ pub fn facts_of_lists()
     ensures { FactsOfLists }
 {}
 
-/// In each Land the winners on lists and the outside winners are together all its winners; independents are among the outside ones.
+/// In each Land the winners on lists and the outside winners are together all its winners; those without a party are among the outside ones.
 pub fn facts_of_lands()
     ensures { FactsOfLands }
 {}

@@ -16,11 +16,8 @@ decreases-minima l = 8 * l.levels + 2
 abbrev pub decreases-two : goal.decreases-two
 decreases-two l = 8 * l.levels + 2
 
-abbrev pub decreases-larger : goal.decreases-larger
-decreases-larger l = 8 * l.levels + 3
-
-abbrev pub decreases-less : goal.decreases-less
-decreases-less l = 8 * l.levels + 3
+abbrev pub decreases-pair : goal.decreases-pair
+decreases-pair l = 8 * l.levels + 3
 
 abbrev pub decreases-division : goal.decreases-division
 decreases-division l = 8 * l.levels + 3
