@@ -8,8 +8,8 @@ use Rattle.sl_code.specs.declared.instr.Instr.{Instr}
 use Rattle.sl_code.specs.declared.instr.Instr.TheVariants.{Set, Get, Store, Zero, Table, Prio, Emit, Given, Fault, Tie, Takelot, Weigh}
 use Rattle.sl_code.specs.declared.operand.EndFault.TheVariants as end
 use Rattle.sl_code.specs.declared.operand.Ranking.TheVariants as ranking
-use Rattle.sl_code.specs.declared.operand.Rounding.{Rounding}
 use Rattle.sl_code.specs.declared.operand.Rounding.TheVariants as rounding
+use Rattle.sl_code.specs.Numbers.{rounding_of}
 use Rattle.sl_pieces.specs.scopes.Forms.{Form, AllParties, AllLands, AllLists, ListsOfParty, ListsInLand, table_of, kind_of}
 use Rattle.sl_pieces.specs.awards.Registers as reg
 use Rattle.sl_pieces.specs.seats.Trees.{ranking_of}
@@ -35,15 +35,7 @@ abbrev pub divisor_of : Method → Divisor
 divisor_of (by.Divisor d) = d
 divisor_of by.Hamilton = divisor.Webster
 
--- how the weights that are told round. Those of other methods are not told
-abbrev pub rounding_of : Divisor → Rounding
-rounding_of divisor.Adams = rounding.Adams
-rounding_of divisor.Dean = rounding.Webster
-rounding_of divisor.Hill = rounding.Webster
-rounding_of divisor.Webster = rounding.Webster
-rounding_of divisor.Jefferson = rounding.Jefferson
-
--- the instructions of the blanks, in order
+-- the instructions of the blanks, in order. The weights of a method that does not round are not told
 abbrev pub given_of : Block → List Instr
 given_of b =
     let stage = b.job.stage in
@@ -65,7 +57,7 @@ given_of b =
     ∷ (Fault stage kind end.Cap
     ∷ (Tie stage kind reg.left
     ∷ (Takelot stage
-    ∷ (Weigh stage kind (rounding_of d) reg.weight
+    ∷ (Weigh stage kind (unwrap_or (rounding_of d) rounding.Webster) reg.weight
     ∷ (Prio d reg.weight reg.base
     ∷ (Prio d reg.weight reg.held
     ∷ (Table (table_of (meant b.form)) (ranking_of b.method)

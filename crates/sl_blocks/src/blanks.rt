@@ -2,7 +2,7 @@
 
 ghost use Rattle.std.specs.Prelude.{◌≡◌};
 ghost use Rattle.sl_pieces.specs.scopes.Forms.{table_of, kind_of};
-ghost use Rattle.sl_blocks.specs.Given.{meant, minimum_of, divisor_of, rounding_of, given_of};
+ghost use Rattle.sl_blocks.specs.Given.{meant, minimum_of, divisor_of, given_of};
 ghost use Rattle.sl_pieces.specs.seats.Trees.{ranking_of};
 
 use crate::form::{Form, kind_of, table_of};
@@ -86,6 +86,8 @@ pub fn given_of(block: &Block) -> [Instr; 23]
     } = block.job;
     let kind = kind_of(block.form);
     let divisor = divisor_of(block.method);
+    // the weights of a method that does not round are not told
+    let rounding = Rounding::of(divisor).unwrap_or(Rounding::Webster);
     let cap = block.cap.unwrap_or(0) as u64;
     [
         Instr::Get(AMOUNT, amount),
@@ -104,7 +106,7 @@ pub fn given_of(block: &Block) -> [Instr; 23]
         Instr::Fault(stage, kind, EndFault::Cap),
         Instr::Tie(stage, kind, LEFT),
         Instr::Takelot(stage),
-        Instr::Weigh(stage, kind, rounding_of(divisor), WEIGHT),
+        Instr::Weigh(stage, kind, rounding, WEIGHT),
         Instr::Prio(divisor, WEIGHT, BASE),
         Instr::Prio(divisor, WEIGHT, HELD),
         Instr::Table(table_of(block.form), ranking_of(block.method)),
@@ -130,17 +132,6 @@ fn divisor_of(method: Method) -> Divisor
     match method {
         Method::Divisor(divisor) => divisor,
         Method::Hamilton => Divisor::Webster,
-    }
-}
-
-/// How the weights that are told round. Those of other methods are not told.
-fn rounding_of(divisor: Divisor) -> Rounding
-    ensures { result ≡ rounding_of divisor }
-{
-    match divisor {
-        Divisor::Adams => Rounding::Adams,
-        Divisor::Jefferson => Rounding::Jefferson,
-        _ => Rounding::Webster,
     }
 }
 

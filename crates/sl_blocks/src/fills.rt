@@ -13,7 +13,7 @@ use crate::registers::{
 use sl_code::Instr;
 use sl_plans::Part::Fixed;
 use sl_plans::{Bound, Cursor, ONES, Plan, Test};
-use sl_ratio::{Divisor, MAX_SEATS, Method};
+use sl_ratio::{MAX_SEATS, Method};
 use sl_stages::Majority;
 
 pub const CLEAR_TABLE: &Plan<'static> = &Plan::Line(&[TABLE, Fixed(Instr::Mov(LEFT, AMOUNT))]);
@@ -149,13 +149,12 @@ pub fn fill_entries(block: &Block) -> Plan<'static>
             FILL_REMAINDER_ON_LIST,
             FILL_REMAINDER_BY_PARTY,
         ),
-        (Method::Divisor(Divisor::Adams | Divisor::Webster | Divisor::Jefferson), None, _) =>
-            each_entry(
-                block.form,
-                FILL_AND_WEIGH,
-                FILL_AND_WEIGH_ON_LIST,
-                FILL_AND_WEIGH_BY_PARTY,
-            ),
+        (Method::Divisor(divisor), None, _) if divisor.is_rounding() => each_entry(
+            block.form,
+            FILL_AND_WEIGH,
+            FILL_AND_WEIGH_ON_LIST,
+            FILL_AND_WEIGH_BY_PARTY,
+        ),
         _ => each_entry(
             block.form,
             FILL_QUOTIENT,

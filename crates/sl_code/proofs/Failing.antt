@@ -1,5 +1,5 @@
 -- Bytes that fail the tests of an instruction's operands.
-use Rattle.std.proofs.Common.{◌≡◌, ℕ, ◌+◌, ◌*◌, Bool, true, false, List, [], ◌∷◌, ◌++◌, IsTrue, MatchBool, refl, sym, subst}
+use Rattle.std.proofs.Common.{◌≡◌, ℕ, ◌+◌, ◌*◌, Bool, false, List, [], ◌∷◌, ◌++◌, IsTrue, MatchBool, refl, sym, subst}
 use Rattle.sl_ratio.specs.declared.method.Divisor.{Divisor}
 use Rattle.sl_ratio.specs.declared.method.Divisor.TheVariants as divisors
 use Rattle.sl_code.specs.declared.fault.Cause.TheVariants as causes
@@ -11,8 +11,9 @@ use Rattle.sl_code.specs.declared.operand.Rounding.{Rounding}
 use Rattle.sl_code.specs.declared.operand.Rounding.TheVariants as roundings
 use Rattle.sl_code.specs.declared.operand.ScopeKind.{ScopeKind}
 use Rattle.sl_code.specs.declared.operand.ScopeKind.TheVariants as scopes
-use Rattle.sl_code.specs.Numbers.{scope_number, entries_number, method_number, rounding_number, cursors_number, flag}
-use Rattle.sl_code.specs.Operands.{is_any, is_below, is_rounding, two_bytes}
+use Rattle.sl_ratio.specs.Quotient.{method_number}
+use Rattle.sl_code.specs.Numbers.{scope_number, entries_number, rounding_number, cursors_number, flag}
+use Rattle.sl_code.specs.Operands.{is_any, is_below, is_scope, is_entries, is_method, is_rounding, two_bytes}
 use Rattle.sl_code.specs.Faults.{FailsFrom, FailsTests, stop_at}
 use Rattle.sl_code.specs.Reading.{Ends, FailsAhead}
 
@@ -62,39 +63,27 @@ later_two_more test next third fourth tests a b old here stop old_is failing =
 
 -- ---- numbers that pass
 
-pub scope_passes : (x : ScopeKind) → IsTrue (is_below 4 (scope_number x))
+pub scope_passes : (x : ScopeKind) → IsTrue (is_scope (scope_number x))
 scope_passes scopes.All = refl
-scope_passes scopes.Land = refl
-scope_passes scopes.Party = refl
-scope_passes scopes.List = refl
+scope_passes x = refl
 
-pub entries_passes : (x : Entries) → IsTrue (is_below 4 (entries_number x))
+pub entries_passes : (x : Entries) → IsTrue (is_entries (entries_number x))
 entries_passes entries.Party = refl
-entries_passes entries.Land = refl
-entries_passes entries.List = refl
-entries_passes entries.Win = refl
+entries_passes x = refl
 
-pub method_passes : (x : Divisor) → IsTrue (is_below 5 (method_number x))
+pub method_passes : (x : Divisor) → IsTrue (is_method (method_number x))
 method_passes divisors.Adams = refl
-method_passes divisors.Dean = refl
-method_passes divisors.Hill = refl
-method_passes divisors.Webster = refl
-method_passes divisors.Jefferson = refl
+method_passes x = refl
 
 pub rounding_passes : (x : Rounding) → IsTrue (is_rounding (rounding_number x))
 rounding_passes roundings.Adams = refl
-rounding_passes roundings.Webster = refl
-rounding_passes roundings.Jefferson = refl
+rounding_passes x = refl
 
 flags_pass : (a b c : Bool) → IsTrue (is_below 8 (flag a + 2 * flag b + 4 * flag c))
 flags_pass false false false = refl
-flags_pass false false true = refl
-flags_pass false true false = refl
-flags_pass false true true = refl
-flags_pass true false false = refl
-flags_pass true false true = refl
-flags_pass true true false = refl
-flags_pass true true true = refl
+flags_pass a false false = refl
+flags_pass a b false = refl
+flags_pass a b c = refl
 
 pub cursors_passes : (x : Cursors) → IsTrue (is_below 8 (cursors_number x))
 cursors_passes x = flags_pass x.party x.land x.win

@@ -13,7 +13,7 @@ use Rattle.sl_code.specs.declared.fault.CodeFault.{CodeFault}
 use Rattle.sl_code.specs.declared.fault.Stop.{Stop}
 use Rattle.sl_code.specs.declared.instr.Instr.{Instr}
 use Rattle.sl_code.specs.Codes.{CountingCode, IsCode}
-use Rattle.sl_code.specs.Numbers.{shape_number}
+use Rattle.sl_stages.specs.book.Typing.{shape_number}
 use Rattle.sl_code.specs.Operands.{four_bytes}
 use Rattle.sl_code.specs.Spelling.{instr_bytes, stage_bytes, opening, stages_part, slots_part, instrs_part, spelling_of}
 use Rattle.sl_code.specs.Faults.{FailsTests, FailsOpening, FailsCount, FailsLongCount, cut, above, FailsStage, FailsStages, FailsShape, FailsSlots, FailsInstr, FailsInstrs, FailsFile, in_opening, in_stages, in_slots, in_instrs, behind, IsStage, IsAny, IsFault, fault_of, shape_bytes, one_byte, letters, is_byte, is_at_most, stop_at}

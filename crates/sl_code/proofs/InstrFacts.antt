@@ -1,5 +1,5 @@
 -- Instructions of one operation have operands alike; so an instruction stands or fails in one way alone.
-use Rattle.std.proofs.Common.{◌≡◌, ℕ, ◌+◌, ◌*◌, Bool, true, false, List, [], ◌∷◌, ◌++◌, length, map, flat_map, get_or, Option, Some, None, IsTrue, refl, sym, ap, subst, ◌∙◌, append_assoc}
+use Rattle.std.proofs.Common.{◌≡◌, ℕ, ◌+◌, ◌*◌, Bool, false, List, [], ◌∷◌, ◌++◌, length, map, flat_map, get_or, Option, Some, None, IsTrue, refl, sym, ap, subst, ◌∙◌, append_assoc}
 use Rattle.sl_ratio.specs.declared.method.Divisor.TheVariants as divisors
 use Rattle.sl_code.specs.declared.fault.Cause.TheVariants as causes
 use Rattle.sl_code.specs.declared.fault.Stop.{Stop}
@@ -21,7 +21,7 @@ use Rattle.sl_code.specs.declared.parts.Operand.{Operand}
 use Rattle.sl_code.specs.declared.parts.Operand.TheVariants as o
 use Rattle.sl_code.specs.Numbers.{ranking_number, entries_number, input_number, fault_number, table_number, flag}
 use Rattle.sl_code.specs.Rows.{opcode_of, operands_of}
-use Rattle.sl_code.specs.Operands.{bytes_of, tests_of, two_bytes, four_bytes, eight_bytes, is_any, is_below, is_end_fault}
+use Rattle.sl_code.specs.Operands.{bytes_of, tests_of, two_bytes, four_bytes, eight_bytes, is_any, is_below, is_scope, is_entries, is_ranking, is_input, is_method, is_end_fault}
 use Rattle.sl_code.specs.Spelling.{instr_bytes}
 use Rattle.sl_code.specs.Faults.{FailsTests, FailsInstr, missing, meaningless, in_operands, instr_tests, stop_at, IsAny}
 use Rattle.sl_code.proofs.Failing.{scope_passes, entries_passes, method_passes, rounding_passes, cursors_passes}
@@ -93,143 +93,17 @@ width i = length (flat_map bytes_of (operands_of i))
 like_tests : (i : Instr) → instr_tests i ≡ instr_tests (like (opcode_of i))
 unfolding templates
 like_tests (Set a b) = refl
-like_tests (Mov a b) = refl
-like_tests (Add a b) = refl
-like_tests (Sub a b) = refl
-like_tests (Mul a b) = refl
-like_tests (Div a b) = refl
-like_tests (Rem a b) = refl
-like_tests (Max a b) = refl
-like_tests (Jmp a) = refl
-like_tests (Jz a b) = refl
-like_tests (Jlt a b c) = refl
-like_tests (Jnl a) = refl
-like_tests (Get a b) = refl
-like_tests (Store a b) = refl
-like_tests (Zero a) = refl
-like_tests (Input a b) = refl
-like_tests (House a) = refl
-like_tests (Wparty a) = refl
-like_tests Wland = refl
-like_tests (Fparty a) = refl
-like_tests (Nparty a) = refl
-like_tests (Fland a) = refl
-like_tests (Nland a) = refl
-like_tests (Fwin a) = refl
-like_tests (Nwin a) = refl
-like_tests (Table a b) = refl
-like_tests (Prio a b c) = refl
-like_tests (Rest a) = refl
-like_tests Lead = refl
-like_tests Share = refl
-like_tests (Peers a b) = refl
-like_tests Take = refl
-like_tests (Lot a b) = refl
-like_tests (Takelot a) = refl
-like_tests (Emit a b c d) = refl
-like_tests (Given a b c) = refl
-like_tests (Fault a b c) = refl
-like_tests (Tie a b c) = refl
-like_tests Seat = refl
-like_tests Single = refl
-like_tests (Halt a) = refl
-like_tests (At a) = refl
-like_tests (Haltv a b) = refl
-like_tests (Weigh a b c d) = refl
+like_tests x = refl
 
 like_width : (i : Instr) → width i ≡ width (like (opcode_of i))
 unfolding templates two_bytes four_bytes eight_bytes
 like_width (Set a b) = refl
-like_width (Mov a b) = refl
-like_width (Add a b) = refl
-like_width (Sub a b) = refl
-like_width (Mul a b) = refl
-like_width (Div a b) = refl
-like_width (Rem a b) = refl
-like_width (Max a b) = refl
-like_width (Jmp a) = refl
-like_width (Jz a b) = refl
-like_width (Jlt a b c) = refl
-like_width (Jnl a) = refl
-like_width (Get a b) = refl
-like_width (Store a b) = refl
-like_width (Zero a) = refl
-like_width (Input a b) = refl
-like_width (House a) = refl
-like_width (Wparty a) = refl
-like_width Wland = refl
-like_width (Fparty a) = refl
-like_width (Nparty a) = refl
-like_width (Fland a) = refl
-like_width (Nland a) = refl
-like_width (Fwin a) = refl
-like_width (Nwin a) = refl
-like_width (Table a b) = refl
-like_width (Prio a b c) = refl
-like_width (Rest a) = refl
-like_width Lead = refl
-like_width Share = refl
-like_width (Peers a b) = refl
-like_width Take = refl
-like_width (Lot a b) = refl
-like_width (Takelot a) = refl
-like_width (Emit a b c d) = refl
-like_width (Given a b c) = refl
-like_width (Fault a b c) = refl
-like_width (Tie a b c) = refl
-like_width Seat = refl
-like_width Single = refl
-like_width (Halt a) = refl
-like_width (At a) = refl
-like_width (Haltv a b) = refl
-like_width (Weigh a b c d) = refl
+like_width x = refl
 
 like_widths : (i : Instr) → widths i ≡ widths (like (opcode_of i))
 unfolding templates two_bytes four_bytes eight_bytes
 like_widths (Set a b) = refl
-like_widths (Mov a b) = refl
-like_widths (Add a b) = refl
-like_widths (Sub a b) = refl
-like_widths (Mul a b) = refl
-like_widths (Div a b) = refl
-like_widths (Rem a b) = refl
-like_widths (Max a b) = refl
-like_widths (Jmp a) = refl
-like_widths (Jz a b) = refl
-like_widths (Jlt a b c) = refl
-like_widths (Jnl a) = refl
-like_widths (Get a b) = refl
-like_widths (Store a b) = refl
-like_widths (Zero a) = refl
-like_widths (Input a b) = refl
-like_widths (House a) = refl
-like_widths (Wparty a) = refl
-like_widths Wland = refl
-like_widths (Fparty a) = refl
-like_widths (Nparty a) = refl
-like_widths (Fland a) = refl
-like_widths (Nland a) = refl
-like_widths (Fwin a) = refl
-like_widths (Nwin a) = refl
-like_widths (Table a b) = refl
-like_widths (Prio a b c) = refl
-like_widths (Rest a) = refl
-like_widths Lead = refl
-like_widths Share = refl
-like_widths (Peers a b) = refl
-like_widths Take = refl
-like_widths (Lot a b) = refl
-like_widths (Takelot a) = refl
-like_widths (Emit a b c d) = refl
-like_widths (Given a b c) = refl
-like_widths (Fault a b c) = refl
-like_widths (Tie a b c) = refl
-like_widths Seat = refl
-like_widths Single = refl
-like_widths (Halt a) = refl
-like_widths (At a) = refl
-like_widths (Haltv a b) = refl
-like_widths (Weigh a b c d) = refl
+like_widths x = refl
 
 same_tests : (i j : Instr) → opcode_of i ≡ opcode_of j → instr_tests i ≡ instr_tests j
 same_tests i j e = like_tests i ∙ ap (λ op. instr_tests (like op)) e ∙ sym (like_tests j)
@@ -242,41 +116,23 @@ same_widths i j e = like_widths i ∙ ap (λ op. widths (like op)) e ∙ sym (li
 
 -- ---- operands pass
 
-ranking_passes : (x : Ranking) → IsTrue (is_below 2 (ranking_number x))
+ranking_passes : (x : Ranking) → IsTrue (is_ranking (ranking_number x))
 ranking_passes rankings.Quotients = refl
-ranking_passes rankings.Remainders = refl
+ranking_passes x = refl
 
-input_passes : (x : InputColumn) → IsTrue (is_below 5 (input_number x))
+input_passes : (x : InputColumn) → IsTrue (is_input (input_number x))
 input_passes inputs.Valid = refl
-input_passes inputs.Counted = refl
-input_passes inputs.Minority = refl
-input_passes inputs.Population = refl
-input_passes inputs.Names = refl
+input_passes x = refl
 
 fault_passes : (x : EndFault) → IsTrue (is_end_fault (fault_number x))
 fault_passes faults.Limit = refl
-fault_passes faults.Short = refl
-fault_passes faults.NoList = refl
-fault_passes faults.Majority = refl
-fault_passes faults.Cap = refl
+fault_passes x = refl
 
 state_passes : (e : Entries) (r : Ranking) (ready : Bool) → IsTrue (is_below 17 (1 + entries_number e + 4 * ranking_number r + 8 * flag ready))
 state_passes entries.Party rankings.Quotients false = refl
-state_passes entries.Party rankings.Quotients true = refl
-state_passes entries.Party rankings.Remainders false = refl
-state_passes entries.Party rankings.Remainders true = refl
-state_passes entries.Land rankings.Quotients false = refl
-state_passes entries.Land rankings.Quotients true = refl
-state_passes entries.Land rankings.Remainders false = refl
-state_passes entries.Land rankings.Remainders true = refl
-state_passes entries.List rankings.Quotients false = refl
-state_passes entries.List rankings.Quotients true = refl
-state_passes entries.List rankings.Remainders false = refl
-state_passes entries.List rankings.Remainders true = refl
-state_passes entries.Win rankings.Quotients false = refl
-state_passes entries.Win rankings.Quotients true = refl
-state_passes entries.Win rankings.Remainders false = refl
-state_passes entries.Win rankings.Remainders true = refl
+state_passes e rankings.Quotients false = refl
+state_passes e r false = refl
+state_passes e r ready = refl
 
 table_passes : (x : Option TableState) → IsTrue (is_below 17 (table_number x))
 table_passes None = refl
@@ -301,11 +157,11 @@ over_operand (o.Stage n) more rest stop = passed wrong is_any more n rest stop r
 over_operand (o.Target t) more rest stop = four_passed _ _ _ _ more rest stop
 over_operand (o.Value x) more rest stop =
     λ failing. four_passed _ _ _ _ more rest stop (four_passed _ _ _ _ (is_any ∷ is_any ∷ is_any ∷ is_any ∷ more) _ stop failing)
-over_operand (o.Scope x) more rest stop = passed wrong (is_below 4) more _ rest stop (scope_passes x)
-over_operand (o.Entries x) more rest stop = passed wrong (is_below 4) more _ rest stop (entries_passes x)
-over_operand (o.Ranking x) more rest stop = passed wrong (is_below 2) more _ rest stop (ranking_passes x)
-over_operand (o.Input x) more rest stop = passed wrong (is_below 5) more _ rest stop (input_passes x)
-over_operand (o.Method x) more rest stop = passed wrong (is_below 5) more _ rest stop (method_passes x)
+over_operand (o.Scope x) more rest stop = passed wrong is_scope more _ rest stop (scope_passes x)
+over_operand (o.Entries x) more rest stop = passed wrong is_entries more _ rest stop (entries_passes x)
+over_operand (o.Ranking x) more rest stop = passed wrong is_ranking more _ rest stop (ranking_passes x)
+over_operand (o.Input x) more rest stop = passed wrong is_input more _ rest stop (input_passes x)
+over_operand (o.Method x) more rest stop = passed wrong is_method more _ rest stop (method_passes x)
 over_operand (o.Rounding x) more rest stop = passed wrong _ more _ rest stop (rounding_passes x)
 over_operand (o.Fault x) more rest stop = passed wrong is_end_fault more _ rest stop (fault_passes x)
 over_operand (o.Positive x) more rest stop =

@@ -6,6 +6,7 @@ use Rattle.std.specs.List.{All, AllByRecursion}
 use Rattle.std.proofs.lemmas.List.Elements.{All-head, All-tail}
 use Rattle.std.proofs.lemmas.List.Concat.{flat_map_single}
 use Rattle.std.proofs.lemmas.Nat.{from_le_bytes-to_le_bytes_2, from_le_bytes-to_le_bytes_4, from_le_bytes-to_le_bytes_8}
+use Rattle.sl_stages.specs.declared.book.TheConstants.{SHAPES}
 use Rattle.sl_stages.specs.declared.book.Shape.{Shape}
 use Rattle.sl_stages.specs.declared.book.Shape.TheVariants as shapes
 use Rattle.sl_code.specs.declared.code.CodeStage.{CodeStage}
@@ -15,7 +16,7 @@ use Rattle.sl_code.specs.declared.instr.Instr.{Instr}
 use Rattle.sl_code.specs.declared.parts.Operand.{Operand}
 use Rattle.sl_code.specs.declared.parts.Operand.TheVariants as o
 use Rattle.sl_code.specs.Codes.{CountingCode}
-use Rattle.sl_code.specs.Numbers.{shape_number}
+use Rattle.sl_stages.specs.book.Typing.{shape_number}
 use Rattle.sl_code.specs.Rows.{opcode_of, operands_of}
 use Rattle.sl_code.specs.Operands.{value_of, bytes_of, two_bytes, four_bytes, eight_bytes}
 use Rattle.sl_code.specs.Spelling.{instr_bytes, stage_bytes, opening, stages_part, slots_part, instrs_part, spelling_of}
@@ -41,21 +42,10 @@ number_of _ = 0
 
 spelled_value : (x : Operand) → FitsBytes x → value_of x ≡ number_of (bytes_of x)
 unfolding number_of two_bytes four_bytes eight_bytes
-spelled_value (o.Register r) fits = refl
-spelled_value (o.Slot k) fits = refl
-spelled_value (o.Stage n) fits = refl
 spelled_value (o.Target t) fits = sym (from_le_bytes-to_le_bytes_4 t fits)
 spelled_value (o.Value x) fits = sym (from_le_bytes-to_le_bytes_8 x fits)
-spelled_value (o.Scope x) fits = refl
-spelled_value (o.Entries x) fits = refl
-spelled_value (o.Ranking x) fits = refl
-spelled_value (o.Input x) fits = refl
-spelled_value (o.Method x) fits = refl
-spelled_value (o.Rounding x) fits = refl
-spelled_value (o.Fault x) fits = refl
 spelled_value (o.Positive x) fits = sym (from_le_bytes-to_le_bytes_2 x.mask fits)
-spelled_value (o.Cursors x) fits = refl
-spelled_value (o.Table x) fits = refl
+spelled_value x fits = refl
 
 values_same : (xs ys : List Operand) (r s : List ℕ) → AllByRecursion FitsBytes xs → AllByRecursion FitsBytes ys → map (λ x. length (bytes_of x)) xs ≡ map (λ x. length (bytes_of x)) ys
     → flat_map bytes_of xs ++ r ≡ flat_map bytes_of ys ++ s → map value_of xs ≡ map value_of ys
@@ -86,13 +76,11 @@ stage_known x y r s word_x word_y e =
     stage_of x.name y.name x.slot y.slot (front_same x.name y.name _ _ long parted) (head _ _ _ _ (back_same x.name y.name _ _ long parted))
 
 abbrev shape_at : ℕ → Shape
-shape_at n = get_or (shapes.One ∷ shapes.Party ∷ shapes.Land ∷ shapes.List ∷ []) n shapes.One
+shape_at n = get_or SHAPES n shapes.One
 
 shape_back : (x : Shape) → shape_at (shape_number x) ≡ x
 shape_back shapes.One = refl
-shape_back shapes.Party = refl
-shape_back shapes.Land = refl
-shape_back shapes.List = refl
+shape_back x = refl
 
 shape_known : (x y : Shape) (r s : List ℕ) → IsAny x → IsAny y → shape_bytes x ++ r ≡ shape_bytes y ++ s → x ≡ y
 shape_known x y r s any any' e = sym (shape_back x) ∙ ap shape_at (head _ _ _ _ e) ∙ shape_back y

@@ -6,7 +6,7 @@ use Rattle.sl_ratio.specs.declared.method.Divisor.TheVariants as divisors
 use Rattle.sl_code.specs.declared.fault.Cause.TheVariants as causes
 use Rattle.sl_code.specs.declared.fault.Stop.{Stop}
 use Rattle.sl_code.specs.declared.instr.Instr.{Instr}
-use Rattle.sl_code.specs.declared.instr.Instr.TheVariants.{Set, Mov, Add, Sub, Mul, Div, Rem, Max, Jmp, Jz, Jlt, Jnl, Get, Store, Zero, Input, House, Wparty, Wland, Fparty, Nparty, Fland, Nland, Fwin, Nwin, Table, Prio, Rest, Lead, Share, Peers, Take, Lot, Takelot, Emit, Given, Fault, Tie, Seat, Single, Halt, At, Haltv, Weigh}
+use Rattle.sl_code.specs.declared.instr.Instr.TheVariants.{Set, Mov, Add, Sub, Mul, Div, Rem, Max, Jmp, Jz, Jlt, Jnl, Get, Store, Zero, Input, House, Wparty, Fparty, Nparty, Fland, Nland, Fwin, Nwin, Table, Prio, Rest, Peers, Lot, Takelot, Emit, Given, Fault, Tie, Halt, At, Haltv, Weigh}
 use Rattle.sl_code.specs.declared.kinds.Kinds.{Kinds}
 use Rattle.sl_code.specs.declared.operand.EndFault.TheVariants as faults
 use Rattle.sl_code.specs.declared.operand.Entries.TheVariants as entries
@@ -15,7 +15,7 @@ use Rattle.sl_code.specs.declared.operand.Ranking.TheVariants as rankings
 use Rattle.sl_code.specs.declared.operand.Rounding.TheVariants as roundings
 use Rattle.sl_code.specs.declared.operand.ScopeKind.TheVariants as scopes
 use Rattle.sl_code.specs.Rows.{opcode_of}
-use Rattle.sl_code.specs.Operands.{is_any, is_below, is_rounding, is_end_fault}
+use Rattle.sl_code.specs.Operands.{is_any, is_below, is_scope, is_entries, is_ranking, is_input, is_method, is_rounding, is_end_fault}
 use Rattle.sl_code.specs.Faults.{FailsTests, FailsInstr, meaningless, in_operands, IsOperation, instr_tests, stop_at}
 use Rattle.sl_code.specs.Reading.{FailsAhead}
 
@@ -49,30 +49,28 @@ set_fails = one_fails (Set 0 0)
 pub less_fails : (op : ℕ) (old here : List ℕ) (r : Result Instr Stop) → op ≡ 11 → old ≡ op ∷ here → IfErr r (FailsAhead (is_any ∷ is_any ∷ is_any ∷ is_any ∷ is_any ∷ is_any ∷ []) here) → IfErr r (FailsInstr old)
 less_fails = one_fails (Jlt 0 0 0)
 
-pub input_fails : (op : ℕ) (old here : List ℕ) (r : Result Instr Stop) → op ≡ 16 → old ≡ op ∷ here → IfErr r (FailsAhead (is_any ∷ is_below 5 ∷ []) here) → IfErr r (FailsInstr old)
+pub input_fails : (op : ℕ) (old here : List ℕ) (r : Result Instr Stop) → op ≡ 16 → old ≡ op ∷ here → IfErr r (FailsAhead (is_any ∷ is_input ∷ []) here) → IfErr r (FailsInstr old)
 input_fails = one_fails (Input 0 inputs.Valid)
 
-pub table_fails : (op : ℕ) (old here : List ℕ) (r : Result Instr Stop) → op ≡ 26 → old ≡ op ∷ here → IfErr r (FailsAhead (is_below 4 ∷ is_below 2 ∷ []) here) → IfErr r (FailsInstr old)
+pub table_fails : (op : ℕ) (old here : List ℕ) (r : Result Instr Stop) → op ≡ 26 → old ≡ op ∷ here → IfErr r (FailsAhead (is_entries ∷ is_ranking ∷ []) here) → IfErr r (FailsInstr old)
 table_fails = one_fails (Table entries.Party rankings.Quotients)
 
-pub prio_fails : (op : ℕ) (old here : List ℕ) (r : Result Instr Stop) → op ≡ 27 → old ≡ op ∷ here → IfErr r (FailsAhead (is_below 5 ∷ is_any ∷ is_any ∷ []) here) → IfErr r (FailsInstr old)
+pub prio_fails : (op : ℕ) (old here : List ℕ) (r : Result Instr Stop) → op ≡ 27 → old ≡ op ∷ here → IfErr r (FailsAhead (is_method ∷ is_any ∷ is_any ∷ []) here) → IfErr r (FailsInstr old)
 prio_fails = one_fails (Prio divisors.Adams 0 0)
 
-pub emit_fails : (op : ℕ) (old here : List ℕ) (r : Result Instr Stop) → op ≡ 35 → old ≡ op ∷ here → IfErr r (FailsAhead (is_any ∷ is_below 4 ∷ is_any ∷ is_any ∷ []) here) → IfErr r (FailsInstr old)
+pub emit_fails : (op : ℕ) (old here : List ℕ) (r : Result Instr Stop) → op ≡ 35 → old ≡ op ∷ here → IfErr r (FailsAhead (is_any ∷ is_scope ∷ is_any ∷ is_any ∷ []) here) → IfErr r (FailsInstr old)
 emit_fails = one_fails (Emit 0 scopes.All 0 0)
 
-pub fault_fails : (op : ℕ) (old here : List ℕ) (r : Result Instr Stop) → op ≡ 37 → old ≡ op ∷ here → IfErr r (FailsAhead (is_any ∷ is_below 4 ∷ is_end_fault ∷ []) here) → IfErr r (FailsInstr old)
+pub fault_fails : (op : ℕ) (old here : List ℕ) (r : Result Instr Stop) → op ≡ 37 → old ≡ op ∷ here → IfErr r (FailsAhead (is_any ∷ is_scope ∷ is_end_fault ∷ []) here) → IfErr r (FailsInstr old)
 fault_fails = one_fails (Fault 0 scopes.All faults.Limit)
 
 pub at_fails : (op : ℕ) (old here : List ℕ) (r : Result Instr Stop) → op ≡ 42 → old ≡ op ∷ here → IfErr r (FailsAhead (is_any ∷ is_any ∷ is_below 8 ∷ is_below 17 ∷ []) here) → IfErr r (FailsInstr old)
 at_fails = one_fails (At nothing)
 
-pub weigh_fails : (op : ℕ) (old here : List ℕ) (r : Result Instr Stop) → op ≡ 44 → old ≡ op ∷ here → IfErr r (FailsAhead (is_any ∷ is_below 4 ∷ is_rounding ∷ is_any ∷ []) here) → IfErr r (FailsInstr old)
+pub weigh_fails : (op : ℕ) (old here : List ℕ) (r : Result Instr Stop) → op ≡ 44 → old ≡ op ∷ here → IfErr r (FailsAhead (is_any ∷ is_scope ∷ is_rounding ∷ is_any ∷ []) here) → IfErr r (FailsInstr old)
 weigh_fails = one_fails (Weigh 0 scopes.All roundings.Adams 0)
 
 binary_like : (op : ℕ) → 2 ≤ op → op ≤ 8 → Like op (is_any ∷ is_any ∷ [])
-binary_like zero low high = absurd (omega (arith, low))
-binary_like (suc zero) low high = absurd (omega (arith, low))
 binary_like (suc (suc zero)) low high = record { like = Mov 0 0; operation = refl; same = refl }
 binary_like (suc (suc (suc zero))) low high = record { like = Add 0 0; operation = refl; same = refl }
 binary_like (suc (suc (suc (suc zero)))) low high = record { like = Sub 0 0; operation = refl; same = refl }
@@ -81,31 +79,12 @@ binary_like (suc (suc (suc (suc (suc (suc zero)))))) low high = record { like = 
 binary_like (suc (suc (suc (suc (suc (suc (suc zero))))))) low high = record { like = Rem 0 0; operation = refl; same = refl }
 binary_like (suc (suc (suc (suc (suc (suc (suc (suc zero)))))))) low high = record { like = Max 0 0; operation = refl; same = refl }
 binary_like (suc (suc (suc (suc (suc (suc (suc (suc (suc n))))))))) low high = absurd (omega (arith, high))
+binary_like op low high = absurd (omega (arith, low))
 
 pub binary_fails : (op : ℕ) (old here : List ℕ) (r : Result Instr Stop) → 2 ≤ op → op ≤ 8 → old ≡ op ∷ here → IfErr r (FailsAhead (is_any ∷ is_any ∷ []) here) → IfErr r (FailsInstr old)
 binary_fails op old here r low high = like_fails op _ old here r (binary_like op low high)
 
 loop_like : (op : ℕ) → 20 ≤ op → op ≤ 25 → Like op (is_any ∷ is_any ∷ is_any ∷ is_any ∷ [])
-loop_like zero low high = absurd (omega (arith, low))
-loop_like (suc zero) low high = absurd (omega (arith, low))
-loop_like (suc (suc zero)) low high = absurd (omega (arith, low))
-loop_like (suc (suc (suc zero))) low high = absurd (omega (arith, low))
-loop_like (suc (suc (suc (suc zero)))) low high = absurd (omega (arith, low))
-loop_like (suc (suc (suc (suc (suc zero))))) low high = absurd (omega (arith, low))
-loop_like (suc (suc (suc (suc (suc (suc zero)))))) low high = absurd (omega (arith, low))
-loop_like (suc (suc (suc (suc (suc (suc (suc zero))))))) low high = absurd (omega (arith, low))
-loop_like (suc (suc (suc (suc (suc (suc (suc (suc zero)))))))) low high = absurd (omega (arith, low))
-loop_like (suc (suc (suc (suc (suc (suc (suc (suc (suc zero))))))))) low high = absurd (omega (arith, low))
-loop_like (suc (suc (suc (suc (suc (suc (suc (suc (suc (suc zero)))))))))) low high = absurd (omega (arith, low))
-loop_like (suc (suc (suc (suc (suc (suc (suc (suc (suc (suc (suc zero))))))))))) low high = absurd (omega (arith, low))
-loop_like (suc (suc (suc (suc (suc (suc (suc (suc (suc (suc (suc (suc zero)))))))))))) low high = absurd (omega (arith, low))
-loop_like (suc (suc (suc (suc (suc (suc (suc (suc (suc (suc (suc (suc (suc zero))))))))))))) low high = absurd (omega (arith, low))
-loop_like (suc (suc (suc (suc (suc (suc (suc (suc (suc (suc (suc (suc (suc (suc zero)))))))))))))) low high = absurd (omega (arith, low))
-loop_like (suc (suc (suc (suc (suc (suc (suc (suc (suc (suc (suc (suc (suc (suc (suc zero))))))))))))))) low high = absurd (omega (arith, low))
-loop_like (suc (suc (suc (suc (suc (suc (suc (suc (suc (suc (suc (suc (suc (suc (suc (suc zero)))))))))))))))) low high = absurd (omega (arith, low))
-loop_like (suc (suc (suc (suc (suc (suc (suc (suc (suc (suc (suc (suc (suc (suc (suc (suc (suc zero))))))))))))))))) low high = absurd (omega (arith, low))
-loop_like (suc (suc (suc (suc (suc (suc (suc (suc (suc (suc (suc (suc (suc (suc (suc (suc (suc (suc zero)))))))))))))))))) low high = absurd (omega (arith, low))
-loop_like (suc (suc (suc (suc (suc (suc (suc (suc (suc (suc (suc (suc (suc (suc (suc (suc (suc (suc (suc zero))))))))))))))))))) low high = absurd (omega (arith, low))
 loop_like (suc (suc (suc (suc (suc (suc (suc (suc (suc (suc (suc (suc (suc (suc (suc (suc (suc (suc (suc (suc zero)))))))))))))))))))) low high = record { like = Fparty 0; operation = refl; same = refl }
 loop_like (suc (suc (suc (suc (suc (suc (suc (suc (suc (suc (suc (suc (suc (suc (suc (suc (suc (suc (suc (suc (suc zero))))))))))))))))))))) low high = record { like = Nparty 0; operation = refl; same = refl }
 loop_like (suc (suc (suc (suc (suc (suc (suc (suc (suc (suc (suc (suc (suc (suc (suc (suc (suc (suc (suc (suc (suc (suc zero)))))))))))))))))))))) low high = record { like = Fland 0; operation = refl; same = refl }
@@ -113,6 +92,7 @@ loop_like (suc (suc (suc (suc (suc (suc (suc (suc (suc (suc (suc (suc (suc (suc 
 loop_like (suc (suc (suc (suc (suc (suc (suc (suc (suc (suc (suc (suc (suc (suc (suc (suc (suc (suc (suc (suc (suc (suc (suc (suc zero)))))))))))))))))))))))) low high = record { like = Fwin 0; operation = refl; same = refl }
 loop_like (suc (suc (suc (suc (suc (suc (suc (suc (suc (suc (suc (suc (suc (suc (suc (suc (suc (suc (suc (suc (suc (suc (suc (suc (suc zero))))))))))))))))))))))))) low high = record { like = Nwin 0; operation = refl; same = refl }
 loop_like (suc (suc (suc (suc (suc (suc (suc (suc (suc (suc (suc (suc (suc (suc (suc (suc (suc (suc (suc (suc (suc (suc (suc (suc (suc (suc n)))))))))))))))))))))))))) low high = absurd (omega (arith, high))
+loop_like op low high = absurd (omega (arith, low))
 
 pub loop_fails : (op : ℕ) (old here : List ℕ) (r : Result Instr Stop) → 20 ≤ op → op ≤ 25 → old ≡ op ∷ here → IfErr r (FailsAhead (is_any ∷ is_any ∷ is_any ∷ is_any ∷ []) here) → IfErr r (FailsInstr old)
 loop_fails op old here r low high = like_fails op _ old here r (loop_like op low high)
@@ -139,7 +119,7 @@ unary_fails op old here r (inr (inr (inl is))) = one_fails (Rest 0) op old here 
 unary_fails op old here r (inr (inr (inr (inl is)))) = one_fails (Takelot 0) op old here r is
 unary_fails op old here r (inr (inr (inr (inr is)))) = one_fails (Halt 0) op old here r is
 
-pub scoped_fails : (op : ℕ) (old here : List ℕ) (r : Result Instr Stop) → ((op ≡ 36) ⊎ (op ≡ 38)) → old ≡ op ∷ here → IfErr r (FailsAhead (is_any ∷ is_below 4 ∷ is_any ∷ []) here) → IfErr r (FailsInstr old)
+pub scoped_fails : (op : ℕ) (old here : List ℕ) (r : Result Instr Stop) → ((op ≡ 36) ⊎ (op ≡ 38)) → old ≡ op ∷ here → IfErr r (FailsAhead (is_any ∷ is_scope ∷ is_any ∷ []) here) → IfErr r (FailsInstr old)
 scoped_fails op old here r (inl is) = one_fails (Given 0 scopes.All 0) op old here r is
 scoped_fails op old here r (inr is) = one_fails (Tie 0 scopes.All 0) op old here r is
 
@@ -147,49 +127,7 @@ scoped_fails op old here r (inr is) = one_fails (Tie 0 scopes.All 0) op old here
 
 opcode_bounds : (i : Instr) → (1 ≤ opcode_of i) × (opcode_of i ≤ 44)
 opcode_bounds (Set a b) = (lit≤ tt, lit≤ tt)
-opcode_bounds (Mov a b) = (lit≤ tt, lit≤ tt)
-opcode_bounds (Add a b) = (lit≤ tt, lit≤ tt)
-opcode_bounds (Sub a b) = (lit≤ tt, lit≤ tt)
-opcode_bounds (Mul a b) = (lit≤ tt, lit≤ tt)
-opcode_bounds (Div a b) = (lit≤ tt, lit≤ tt)
-opcode_bounds (Rem a b) = (lit≤ tt, lit≤ tt)
-opcode_bounds (Max a b) = (lit≤ tt, lit≤ tt)
-opcode_bounds (Jmp a) = (lit≤ tt, lit≤ tt)
-opcode_bounds (Jz a b) = (lit≤ tt, lit≤ tt)
-opcode_bounds (Jlt a b c) = (lit≤ tt, lit≤ tt)
-opcode_bounds (Jnl a) = (lit≤ tt, lit≤ tt)
-opcode_bounds (Get a b) = (lit≤ tt, lit≤ tt)
-opcode_bounds (Store a b) = (lit≤ tt, lit≤ tt)
-opcode_bounds (Zero a) = (lit≤ tt, lit≤ tt)
-opcode_bounds (Input a b) = (lit≤ tt, lit≤ tt)
-opcode_bounds (House a) = (lit≤ tt, lit≤ tt)
-opcode_bounds (Wparty a) = (lit≤ tt, lit≤ tt)
-opcode_bounds Wland = (lit≤ tt, lit≤ tt)
-opcode_bounds (Fparty a) = (lit≤ tt, lit≤ tt)
-opcode_bounds (Nparty a) = (lit≤ tt, lit≤ tt)
-opcode_bounds (Fland a) = (lit≤ tt, lit≤ tt)
-opcode_bounds (Nland a) = (lit≤ tt, lit≤ tt)
-opcode_bounds (Fwin a) = (lit≤ tt, lit≤ tt)
-opcode_bounds (Nwin a) = (lit≤ tt, lit≤ tt)
-opcode_bounds (Table a b) = (lit≤ tt, lit≤ tt)
-opcode_bounds (Prio a b c) = (lit≤ tt, lit≤ tt)
-opcode_bounds (Rest a) = (lit≤ tt, lit≤ tt)
-opcode_bounds Lead = (lit≤ tt, lit≤ tt)
-opcode_bounds Share = (lit≤ tt, lit≤ tt)
-opcode_bounds (Peers a b) = (lit≤ tt, lit≤ tt)
-opcode_bounds Take = (lit≤ tt, lit≤ tt)
-opcode_bounds (Lot a b) = (lit≤ tt, lit≤ tt)
-opcode_bounds (Takelot a) = (lit≤ tt, lit≤ tt)
-opcode_bounds (Emit a b c d) = (lit≤ tt, lit≤ tt)
-opcode_bounds (Given a b c) = (lit≤ tt, lit≤ tt)
-opcode_bounds (Fault a b c) = (lit≤ tt, lit≤ tt)
-opcode_bounds (Tie a b c) = (lit≤ tt, lit≤ tt)
-opcode_bounds Seat = (lit≤ tt, lit≤ tt)
-opcode_bounds Single = (lit≤ tt, lit≤ tt)
-opcode_bounds (Halt a) = (lit≤ tt, lit≤ tt)
-opcode_bounds (At a) = (lit≤ tt, lit≤ tt)
-opcode_bounds (Haltv a b) = (lit≤ tt, lit≤ tt)
-opcode_bounds (Weigh a b c d) = (lit≤ tt, lit≤ tt)
+opcode_bounds x = (lit≤ tt, lit≤ tt)
 
 none_known : (op : ℕ) → (op < 1) ⊎ (45 ≤ op) → IsOperation op → ⊥
 none_known op outside known =

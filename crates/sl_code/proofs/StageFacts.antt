@@ -9,8 +9,8 @@ use Rattle.sl_stages.specs.book.Words.{is_letter, is_word}
 use Rattle.sl_code.specs.declared.code.CodeStage.{CodeStage}
 use Rattle.sl_code.specs.declared.fault.Cause.TheVariants as causes
 use Rattle.sl_code.specs.declared.fault.Stop.{Stop}
-use Rattle.sl_code.specs.Numbers.{shape_number}
-use Rattle.sl_code.specs.Operands.{is_any, is_below}
+use Rattle.sl_stages.specs.book.Typing.{shape_number}
+use Rattle.sl_code.specs.Operands.{is_any, is_shape}
 use Rattle.sl_code.specs.Spelling.{stage_bytes}
 use Rattle.sl_code.specs.Faults.{FailsTests, FailsStage, in_length, behind_length, FailsShape, IsStage, IsAny, shape_bytes, is_name_length, is_name_byte, name_tests, stop_at}
 use Rattle.sl_code.proofs.Determined.{passed, passed_all, tests_one}
@@ -21,21 +21,19 @@ wrong = stop_at causes.Op
 
 -- ---- shapes
 
-shape_passes : (x : Shape) → IsTrue (is_below 4 (shape_number x))
+shape_passes : (x : Shape) → IsTrue (is_shape (shape_number x))
 shape_passes shapes.One = refl
-shape_passes shapes.Party = refl
-shape_passes shapes.Land = refl
-shape_passes shapes.List = refl
+shape_passes x = refl
 
 pub shape_same : (x y : Shape) (r s : List ℕ) → shape_bytes x ++ r ≡ shape_bytes y ++ s → r ≡ s
 shape_same x y r s e = tail _ _ _ _ e
 
 pub shape_none : (x : Shape) (r : List ℕ) (stop : Stop) → IsAny x → FailsShape (shape_bytes x ++ r) stop → ⊥
 shape_none x r stop any failing =
-    passed_all wrong (is_below 4) (shape_number x) r stop (shape_passes x) failing
+    passed_all wrong is_shape (shape_number x) r stop (shape_passes x) failing
 
 pub shape_one : (here : List ℕ) (a b : Stop) → FailsShape here a → FailsShape here b → a ≡ b
-shape_one here a b f g = tests_one wrong (is_below 4 ∷ []) here a b f g
+shape_one here a b f g = tests_one wrong (is_shape ∷ []) here a b f g
 
 -- ---- stages
 

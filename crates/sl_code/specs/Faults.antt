@@ -13,9 +13,9 @@ use Rattle.sl_code.specs.declared.fault.CodeFault.{CodeFault}
 use Rattle.sl_code.specs.declared.fault.CodeFault.TheVariants as faults
 use Rattle.sl_code.specs.declared.instr.Instr.{Instr}
 use Rattle.sl_code.specs.Codes.{CountingCode, IsCode}
-use Rattle.sl_code.specs.Numbers.{shape_number}
+use Rattle.sl_stages.specs.book.Typing.{shape_number}
 use Rattle.sl_code.specs.Rows.{opcode_of, operands_of}
-use Rattle.sl_code.specs.Operands.{tests_of, four_bytes, is_any, is_below}
+use Rattle.sl_code.specs.Operands.{tests_of, four_bytes, is_any, is_shape}
 use Rattle.sl_code.specs.Spelling.{instr_bytes, stage_bytes, opening, stages_part, slots_part, spelling_of}
 
 -- the fault stands in front of these bytes
@@ -111,7 +111,7 @@ abbrev pub shape_bytes : Shape → List ℕ
 shape_bytes shape = shape_number shape ∷ []
 
 abbrev pub FailsShape : List ℕ → Stop → Type 0
-FailsShape = FailsTests (stop_at causes.Op) (is_below 4 ∷ [])
+FailsShape = FailsTests (stop_at causes.Op) (is_shape ∷ [])
 
 abbrev pub FailsSlots : List ℕ → Stop → Type 0
 FailsSlots = FailsList one_byte FailsCount MAX_SLOTS shape_bytes IsAny FailsShape

@@ -2,8 +2,7 @@
 use Rattle.std.specs.Prelude.{ℕ, ◌+◌, ◌*◌, Bool, true, false, Option, Some, None}
 use Rattle.sl_ratio.specs.declared.method.Divisor.{Divisor}
 use Rattle.sl_ratio.specs.declared.method.Divisor.TheVariants as divisors
-use Rattle.sl_stages.specs.declared.book.Shape.{Shape}
-use Rattle.sl_stages.specs.declared.book.Shape.TheVariants as shapes
+use Rattle.sl_ratio.specs.Quotient.{method_number}
 use Rattle.sl_code.specs.declared.kinds.Cursors.{Cursors}
 use Rattle.sl_code.specs.declared.kinds.TableState.{TableState}
 use Rattle.sl_code.specs.declared.operand.EndFault.{EndFault}
@@ -42,18 +41,21 @@ input_number inputs.Minority = 2
 input_number inputs.Population = 3
 input_number inputs.Names = 4
 
-abbrev pub method_number : Divisor → ℕ
-method_number divisors.Adams = 0
-method_number divisors.Dean = 1
-method_number divisors.Hill = 2
-method_number divisors.Webster = 3
-method_number divisors.Jefferson = 4
+-- the divisor method that rounds so, and how a method rounds, if it does
+abbrev pub divisor_of : Rounding → Divisor
+divisor_of roundings.Adams = divisors.Adams
+divisor_of roundings.Webster = divisors.Webster
+divisor_of roundings.Jefferson = divisors.Jefferson
 
--- as the divisor method has it
+abbrev pub rounding_of : Divisor → Option Rounding
+rounding_of divisors.Adams = Some roundings.Adams
+rounding_of divisors.Webster = Some roundings.Webster
+rounding_of divisors.Jefferson = Some roundings.Jefferson
+rounding_of method = None
+
+-- that of the divisor method
 abbrev pub rounding_number : Rounding → ℕ
-rounding_number roundings.Adams = 0
-rounding_number roundings.Webster = 3
-rounding_number roundings.Jefferson = 4
+rounding_number by = method_number (divisor_of by)
 
 -- as the legal fault has it
 abbrev pub fault_number : EndFault → ℕ
@@ -62,12 +64,6 @@ fault_number faults.Short = 2
 fault_number faults.NoList = 3
 fault_number faults.Majority = 5
 fault_number faults.Cap = 6
-
-abbrev pub shape_number : Shape → ℕ
-shape_number shapes.One = 0
-shape_number shapes.Party = 1
-shape_number shapes.Land = 2
-shape_number shapes.List = 3
 
 abbrev pub flag : Bool → ℕ
 flag false = 0

@@ -4,7 +4,7 @@ use Rattle.sl_stages.specs.declared.book.Shape.{Shape}
 use Rattle.sl_code.specs.declared.code.CodeStage.{CodeStage}
 use Rattle.sl_code.specs.declared.instr.Instr.{Instr}
 use Rattle.sl_code.specs.Codes.{CountingCode}
-use Rattle.sl_code.specs.Numbers.{shape_number}
+use Rattle.sl_stages.specs.book.Typing.{shape_number}
 use Rattle.sl_code.specs.Rows.{opcode_of, operands_of}
 use Rattle.sl_code.specs.Operands.{bytes_of, four_bytes}
 

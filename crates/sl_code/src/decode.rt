@@ -2,7 +2,7 @@
 
 ghost use Rattle.std.specs.Prelude.{◌≡◌, ◌∷◌, ◌++◌, [], IsTrue, IfOk, IfErr};
 ghost use Rattle.sl_code.specs.Numbers.{scope_number};
-ghost use Rattle.sl_code.specs.Operands.{is_any, is_below, is_rounding, is_end_fault};
+ghost use Rattle.sl_code.specs.Operands.{is_any, is_below, is_scope, is_entries, is_ranking, is_input, is_method, is_rounding, is_end_fault};
 ghost use Rattle.sl_code.specs.Spelling.{instr_bytes};
 ghost use Rattle.sl_code.specs.declared.instr.Instr.TheVariants as instrs;
 ghost use Rattle.sl_code.specs.Faults.{FailsInstr, instr_tests};
@@ -153,7 +153,7 @@ impl<'a> Reader<'a> {
 
     fn input_column(&mut self) -> Result<Instr, Stop>
         ensures ok { IfOk result (Reads 0x10 self.old self.new) }
-        ensures err { IfErr result (FailsAhead (is_any ∷ is_below 5 ∷ []) self.old) }
+        ensures err { IfErr result (FailsAhead (is_any ∷ is_input ∷ []) self.old) }
     {
         let slot = self.byte()?;
         let input = self.input()?;
@@ -162,7 +162,7 @@ impl<'a> Reader<'a> {
 
     fn new_table(&mut self) -> Result<Instr, Stop>
         ensures ok { IfOk result (Reads 0x1a self.old self.new) }
-        ensures err { IfErr result (FailsAhead (is_below 4 ∷ is_below 2 ∷ []) self.old) }
+        ensures err { IfErr result (FailsAhead (is_entries ∷ is_ranking ∷ []) self.old) }
     {
         let entries = self.entries()?;
         let ranking = self.ranking()?;
@@ -171,7 +171,7 @@ impl<'a> Reader<'a> {
 
     fn priority(&mut self) -> Result<Instr, Stop>
         ensures ok { IfOk result (Reads 0x1b self.old self.new) }
-        ensures err { IfErr result (FailsAhead (is_below 5 ∷ is_any ∷ is_any ∷ []) self.old) }
+        ensures err { IfErr result (FailsAhead (is_method ∷ is_any ∷ is_any ∷ []) self.old) }
     {
         let method = self.method()?;
         let (weight, seats) = self.pair()?;
@@ -181,7 +181,7 @@ impl<'a> Reader<'a> {
     /// A stage and a scope.
     fn place(&mut self) -> Result<(u8, ScopeKind), Stop>
         ensures ok { IfOk result (λ p. self.old ≡ p.0 ∷ scope_number p.1 ∷ self.new) }
-        ensures err { IfErr result (FailsAhead (is_any ∷ is_below 4 ∷ []) self.old) }
+        ensures err { IfErr result (FailsAhead (is_any ∷ is_scope ∷ []) self.old) }
     {
         let stage = self.byte()?;
         let scope = self.scope()?;
@@ -190,7 +190,7 @@ impl<'a> Reader<'a> {
 
     fn emit(&mut self) -> Result<Instr, Stop>
         ensures ok { IfOk result (Reads 0x23 self.old self.new) }
-        ensures err { IfErr result (FailsAhead (is_any ∷ is_below 4 ∷ is_any ∷ is_any ∷ []) self.old) }
+        ensures err { IfErr result (FailsAhead (is_any ∷ is_scope ∷ is_any ∷ is_any ∷ []) self.old) }
     {
         let (stage, scope) = self.place()?;
         let (number, step) = self.pair()?;
@@ -201,7 +201,7 @@ impl<'a> Reader<'a> {
     fn scoped(&mut self, op: u8) -> Result<Instr, Stop>
         requires { IsTrue (is_scoped op) }
         ensures ok { IfOk result (Reads op self.old self.new) }
-        ensures err { IfErr result (FailsAhead (is_any ∷ is_below 4 ∷ is_any ∷ []) self.old) }
+        ensures err { IfErr result (FailsAhead (is_any ∷ is_scope ∷ is_any ∷ []) self.old) }
     {
         let (stage, scope) = self.place()?;
         let register = self.byte()?;
@@ -213,7 +213,7 @@ impl<'a> Reader<'a> {
 
     fn legal_fault(&mut self) -> Result<Instr, Stop>
         ensures ok { IfOk result (Reads 0x25 self.old self.new) }
-        ensures err { IfErr result (FailsAhead (is_any ∷ is_below 4 ∷ is_end_fault ∷ []) self.old) }
+        ensures err { IfErr result (FailsAhead (is_any ∷ is_scope ∷ is_end_fault ∷ []) self.old) }
     {
         let (stage, scope) = self.place()?;
         let fault = self.end_fault()?;
@@ -236,7 +236,7 @@ impl<'a> Reader<'a> {
 
     fn weigh(&mut self) -> Result<Instr, Stop>
         ensures ok { IfOk result (Reads 0x2c self.old self.new) }
-        ensures err { IfErr result (FailsAhead (is_any ∷ is_below 4 ∷ is_rounding ∷ is_any ∷ []) self.old) }
+        ensures err { IfErr result (FailsAhead (is_any ∷ is_scope ∷ is_rounding ∷ is_any ∷ []) self.old) }
     {
         let (stage, scope) = self.place()?;
         let rounding = self.rounding()?;

@@ -6,7 +6,7 @@ ghost use Rattle.sl_stages.specs.declared.limits.TheConstants.{MAX_STAGES as mos
 ghost use Rattle.sl_stages.specs.book.Words.{is_letter};
 ghost use Rattle.sl_code.specs.declared.code.TheConstants.{MAX_SLOTS as most_slots, MAX_INSTRS as most_instrs};
 ghost use Rattle.sl_code.specs.declared.fault.Cause.TheVariants as causes;
-ghost use Rattle.sl_code.specs.Numbers.{shape_number};
+ghost use Rattle.sl_stages.specs.book.Typing.{shape_number};
 ghost use Rattle.sl_code.specs.Operands.{four_bytes};
 ghost use Rattle.sl_code.specs.Spelling.{opening, instr_bytes, stage_bytes, stages_part, slots_part, instrs_part, spelling_of};
 ghost use Rattle.sl_code.specs.Faults.{FailsTests, FailsOpening, FailsCount, FailsLongCount, FailsElement, FailsStage, FailsStages, FailsShape, FailsSlots, FailsInstr, FailsInstrs, FailsFile, IsStage, IsAny, shape_bytes, is_byte, is_name_length, is_name_byte, name_tests, fault_of, stop_at};

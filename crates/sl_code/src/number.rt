@@ -1,36 +1,30 @@
 //! The numbers by which operands of a few values are spelled (docs/code.md, section 2).
 
-ghost use Rattle.std.specs.Prelude.{◌≡◌, ◌&&◌, not, false, nat_eq, nat_lt, MatchOption};
-ghost use Rattle.sl_code.specs.Numbers.{scope_number, entries_number, ranking_number, input_number, method_number, rounding_number, fault_number, shape_number, cursors_number, table_number};
-ghost use Rattle.sl_code.specs.Operands.{is_rounding, is_end_fault};
+ghost use Rattle.std.specs.Prelude.{◌≡◌, false, nat_lt, MatchOption};
+ghost use Rattle.sl_ratio.specs.Quotient.{method_number};
+ghost use Rattle.sl_stages.specs.book.Typing.{shape_number};
+ghost use Rattle.sl_code.specs.Numbers.{scope_number, entries_number, ranking_number, input_number, rounding_number, fault_number, cursors_number, table_number};
+ghost use Rattle.sl_code.specs.Operands.{is_scope, is_entries, is_ranking, is_input, is_method, is_rounding, is_end_fault, is_shape};
 
 use crate::kinds::{Cursors, TableState};
-use crate::operand::{EndFault, Entries, Input, Ranking, Rounding, ScopeKind};
-use sl_ratio::Divisor;
-use sl_stages::Shape;
+use crate::operand::{
+    END_FAULTS, ENTRY_KINDS, EndFault, Entries, INPUTS, Input, RANKINGS, ROUNDINGS, Ranking,
+    Rounding, SCOPE_KINDS, ScopeKind,
+};
+use sl_ratio::{DIVISORS, Divisor};
+use sl_stages::{SHAPES, Shape};
 
 impl ScopeKind {
     pub(crate) fn number(self) -> u8
         ensures { result ≡ scope_number self }
     {
-        match self {
-            ScopeKind::All => 0,
-            ScopeKind::Land => 1,
-            ScopeKind::Party => 2,
-            ScopeKind::List => 3,
-        }
+        self as u8
     }
 
     pub(crate) fn from_number(number: u8) -> Option<ScopeKind>
-        ensures { MatchOption result (nat_lt number 4 ≡ false) (λ x. scope_number x ≡ number) }
+        ensures { MatchOption result (is_scope number ≡ false) (λ x. scope_number x ≡ number) }
     {
-        match number {
-            0 => Some(ScopeKind::All),
-            1 => Some(ScopeKind::Land),
-            2 => Some(ScopeKind::Party),
-            3 => Some(ScopeKind::List),
-            _ => None,
-        }
+        SCOPE_KINDS.iter().copied().find(|x| x.number() == number)
     }
 }
 
@@ -38,24 +32,13 @@ impl Entries {
     pub(crate) fn number(self) -> u8
         ensures { result ≡ entries_number self }
     {
-        match self {
-            Entries::Party => 0,
-            Entries::Land => 1,
-            Entries::List => 2,
-            Entries::Win => 3,
-        }
+        self as u8
     }
 
     pub(crate) fn from_number(number: u8) -> Option<Entries>
-        ensures { MatchOption result (nat_lt number 4 ≡ false) (λ x. entries_number x ≡ number) }
+        ensures { MatchOption result (is_entries number ≡ false) (λ x. entries_number x ≡ number) }
     {
-        match number {
-            0 => Some(Entries::Party),
-            1 => Some(Entries::Land),
-            2 => Some(Entries::List),
-            3 => Some(Entries::Win),
-            _ => None,
-        }
+        ENTRY_KINDS.iter().copied().find(|x| x.number() == number)
     }
 }
 
@@ -63,20 +46,13 @@ impl Ranking {
     pub(crate) fn number(self) -> u8
         ensures { result ≡ ranking_number self }
     {
-        match self {
-            Ranking::Quotients => 0,
-            Ranking::Remainders => 1,
-        }
+        self as u8
     }
 
     pub(crate) fn from_number(number: u8) -> Option<Ranking>
-        ensures { MatchOption result (nat_lt number 2 ≡ false) (λ x. ranking_number x ≡ number) }
+        ensures { MatchOption result (is_ranking number ≡ false) (λ x. ranking_number x ≡ number) }
     {
-        match number {
-            0 => Some(Ranking::Quotients),
-            1 => Some(Ranking::Remainders),
-            _ => None,
-        }
+        RANKINGS.iter().copied().find(|x| x.number() == number)
     }
 }
 
@@ -84,26 +60,13 @@ impl Input {
     pub(crate) fn number(self) -> u8
         ensures { result ≡ input_number self }
     {
-        match self {
-            Input::Valid => 0,
-            Input::Counted => 1,
-            Input::Minority => 2,
-            Input::Population => 3,
-            Input::Names => 4,
-        }
+        self as u8
     }
 
     pub(crate) fn from_number(number: u8) -> Option<Input>
-        ensures { MatchOption result (nat_lt number 5 ≡ false) (λ x. input_number x ≡ number) }
+        ensures { MatchOption result (is_input number ≡ false) (λ x. input_number x ≡ number) }
     {
-        match number {
-            0 => Some(Input::Valid),
-            1 => Some(Input::Counted),
-            2 => Some(Input::Minority),
-            3 => Some(Input::Population),
-            4 => Some(Input::Names),
-            _ => None,
-        }
+        INPUTS.iter().copied().find(|x| x.number() == number)
     }
 }
 
@@ -111,22 +74,13 @@ impl Rounding {
     pub(crate) fn number(self) -> u8
         ensures { result ≡ rounding_number self }
     {
-        match self {
-            Rounding::Adams => 0,
-            Rounding::Webster => 3,
-            Rounding::Jefferson => 4,
-        }
+        self.divisor().number()
     }
 
     pub(crate) fn from_number(number: u8) -> Option<Rounding>
         ensures { MatchOption result (is_rounding number ≡ false) (λ x. rounding_number x ≡ number) }
     {
-        match number {
-            0 => Some(Rounding::Adams),
-            3 => Some(Rounding::Webster),
-            4 => Some(Rounding::Jefferson),
-            _ => None,
-        }
+        ROUNDINGS.iter().copied().find(|x| x.number() == number)
     }
 }
 
@@ -134,26 +88,13 @@ impl EndFault {
     pub(crate) fn number(self) -> u8
         ensures { result ≡ fault_number self }
     {
-        match self {
-            EndFault::Limit => 1,
-            EndFault::Short => 2,
-            EndFault::NoList => 3,
-            EndFault::Majority => 5,
-            EndFault::Cap => 6,
-        }
+        self as u8
     }
 
     pub(crate) fn from_number(number: u8) -> Option<EndFault>
         ensures { MatchOption result (is_end_fault number ≡ false) (λ x. fault_number x ≡ number) }
     {
-        match number {
-            1 => Some(EndFault::Limit),
-            2 => Some(EndFault::Short),
-            3 => Some(EndFault::NoList),
-            5 => Some(EndFault::Majority),
-            6 => Some(EndFault::Cap),
-            _ => None,
-        }
+        END_FAULTS.iter().copied().find(|x| x.number() == number)
     }
 }
 
@@ -208,50 +149,14 @@ impl TableState {
     }
 }
 
-pub(crate) fn method_number(method: Divisor) -> u8
-    ensures { result ≡ method_number method }
-{
-    match method {
-        Divisor::Adams => 0,
-        Divisor::Dean => 1,
-        Divisor::Hill => 2,
-        Divisor::Webster => 3,
-        Divisor::Jefferson => 4,
-    }
-}
-
 pub(crate) fn method_from_number(number: u8) -> Option<Divisor>
-    ensures { MatchOption result (nat_lt number 5 ≡ false) (λ x. method_number x ≡ number) }
+    ensures { MatchOption result (is_method number ≡ false) (λ x. method_number x ≡ number) }
 {
-    match number {
-        0 => Some(Divisor::Adams),
-        1 => Some(Divisor::Dean),
-        2 => Some(Divisor::Hill),
-        3 => Some(Divisor::Webster),
-        4 => Some(Divisor::Jefferson),
-        _ => None,
-    }
-}
-
-pub(crate) fn shape_number(shape: Shape) -> u8
-    ensures { result ≡ shape_number shape }
-{
-    match shape {
-        Shape::One => 0,
-        Shape::Party => 1,
-        Shape::Land => 2,
-        Shape::List => 3,
-    }
+    DIVISORS.iter().copied().find(|x| x.number() == number)
 }
 
 pub(crate) fn shape_from_number(number: u8) -> Option<Shape>
-    ensures { MatchOption result (nat_lt number 4 ≡ false) (λ x. shape_number x ≡ number) }
+    ensures { MatchOption result (is_shape number ≡ false) (λ x. shape_number x ≡ number) }
 {
-    match number {
-        0 => Some(Shape::One),
-        1 => Some(Shape::Party),
-        2 => Some(Shape::Land),
-        3 => Some(Shape::List),
-        _ => None,
-    }
+    SHAPES.iter().copied().find(|x| x.number() == number)
 }

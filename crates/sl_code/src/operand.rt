@@ -1,4 +1,10 @@
-//! Operands of instructions that have a few values.
+//! Operands of instructions that have a few values, and lists of these. The number by which a value is spelled (docs/code.md, section 2)
+//! is that of its declaration, a rounding's that of its divisor method.
+
+ghost use Rattle.std.specs.Prelude.{◌≡◌};
+ghost use Rattle.sl_code.specs.Numbers.{divisor_of, rounding_of};
+
+use sl_ratio::Divisor;
 
 /// What the entries of the priority table are.
 #[derive(Clone, Copy, Debug, PartialEq, Eq)]
@@ -9,12 +15,21 @@ pub enum Entries {
     Win,
 }
 
+pub(crate) const ENTRY_KINDS: [Entries; 4] = [
+    Entries::Party,
+    Entries::Land,
+    Entries::List,
+    Entries::Win,
+];
+
 /// By what the entries of the priority table are ranked.
 #[derive(Clone, Copy, Debug, PartialEq, Eq)]
 pub enum Ranking {
     Quotients,
     Remainders,
 }
+
+pub(crate) const RANKINGS: [Ranking; 2] = [Ranking::Quotients, Ranking::Remainders];
 
 /// The scope that the cursors stand at.
 #[derive(Clone, Copy, Debug, PartialEq, Eq)]
@@ -24,6 +39,13 @@ pub enum ScopeKind {
     Party,
     List,
 }
+
+pub(crate) const SCOPE_KINDS: [ScopeKind; 4] = [
+    ScopeKind::All,
+    ScopeKind::Land,
+    ScopeKind::Party,
+    ScopeKind::List,
+];
 
 /// A column of the returns: valid votes, counted votes and names left on each list, whether a party is one of a national minority,
 /// and the people of a Land.
@@ -36,15 +58,31 @@ pub enum Input {
     Names,
 }
 
-/// A legal fault without names.
+pub(crate) const INPUTS: [Input; 5] = [
+    Input::Valid,
+    Input::Counted,
+    Input::Minority,
+    Input::Population,
+    Input::Names,
+];
+
+/// A legal fault without names, with the number of that fault.
 #[derive(Clone, Copy, Debug, PartialEq, Eq)]
 pub enum EndFault {
-    Limit,
-    Short,
-    NoList,
-    Majority,
-    Cap,
+    Limit = 1,
+    Short = 2,
+    NoList = 3,
+    Majority = 5,
+    Cap = 6,
 }
+
+pub(crate) const END_FAULTS: [EndFault; 5] = [
+    EndFault::Limit,
+    EndFault::Short,
+    EndFault::NoList,
+    EndFault::Majority,
+    EndFault::Cap,
+];
 
 /// The divisor methods whose weights are recorded: adams rounds up, webster to the nearest, jefferson down.
 #[derive(Clone, Copy, Debug, PartialEq, Eq)]
@@ -52,4 +90,35 @@ pub enum Rounding {
     Adams,
     Webster,
     Jefferson,
+}
+
+pub(crate) const ROUNDINGS: [Rounding; 3] = [
+    Rounding::Adams,
+    Rounding::Webster,
+    Rounding::Jefferson,
+];
+
+impl Rounding {
+    /// How a divisor method rounds, if it does.
+    pub fn of(divisor: Divisor) -> Option<Rounding>
+        ensures { result ≡ rounding_of divisor }
+    {
+        match divisor {
+            Divisor::Adams => Some(Rounding::Adams),
+            Divisor::Webster => Some(Rounding::Webster),
+            Divisor::Jefferson => Some(Rounding::Jefferson),
+            _ => None,
+        }
+    }
+
+    /// The divisor method that rounds so.
+    pub fn divisor(self) -> Divisor
+        ensures { result ≡ divisor_of self }
+    {
+        match self {
+            Rounding::Adams => Divisor::Adams,
+            Rounding::Webster => Divisor::Webster,
+            Rounding::Jefferson => Divisor::Jefferson,
+        }
+    }
 }

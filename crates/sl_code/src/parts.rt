@@ -4,7 +4,6 @@ ghost use Rattle.std.specs.Prelude.{◌≡◌, [], ◌∷◌};
 ghost use Rattle.sl_code.specs.Operands.{value_of};
 
 use crate::kinds::{Cursors, Registers, TableState};
-use crate::number::method_number;
 use crate::operand::{EndFault, Entries, Input, Ranking, Rounding, ScopeKind};
 use sl_ratio::Divisor;
 use std::marker::Model;
@@ -44,7 +43,7 @@ impl Operand {
             Operand::Entries(entries) => u64::from(entries.number()),
             Operand::Ranking(ranking) => u64::from(ranking.number()),
             Operand::Input(input) => u64::from(input.number()),
-            Operand::Method(method) => u64::from(method_number(method)),
+            Operand::Method(method) => u64::from(method.number()),
             Operand::Rounding(rounding) => u64::from(rounding.number()),
             Operand::Fault(fault) => u64::from(fault.number()),
             Operand::Positive(registers) => u64::from(registers.mask),

@@ -3,8 +3,10 @@
 ghost use Rattle.std.specs.Prelude.{◌≡◌, ◌+◌, ◌<◌, ◌≤◌, ◌^◌, ◌∷◌, ◌++◌, [], length, IsTrue, IfOk, IfErr};
 ghost use Rattle.sl_code.specs.declared.fault.Cause.TheVariants as causes;
 ghost use Rattle.sl_code.specs.declared.parts.Operand.TheVariants as operands;
-ghost use Rattle.sl_code.specs.Numbers.{scope_number, entries_number, ranking_number, input_number, method_number, rounding_number, fault_number, shape_number, cursors_number, table_number};
-ghost use Rattle.sl_code.specs.Operands.{two_bytes, four_bytes, eight_bytes, is_any, is_below, is_rounding, is_end_fault, tests_of};
+ghost use Rattle.sl_ratio.specs.Quotient.{method_number};
+ghost use Rattle.sl_stages.specs.book.Typing.{shape_number};
+ghost use Rattle.sl_code.specs.Numbers.{scope_number, entries_number, ranking_number, input_number, rounding_number, fault_number, cursors_number, table_number};
+ghost use Rattle.sl_code.specs.Operands.{two_bytes, four_bytes, eight_bytes, is_any, is_below, is_scope, is_entries, is_ranking, is_input, is_method, is_rounding, is_end_fault, is_shape, tests_of};
 ghost use Rattle.sl_code.specs.Faults.{FailsTests, stop_at};
 ghost use Rattle.sl_code.specs.Reading.{Ends, FailsAhead};
 
@@ -128,7 +130,7 @@ impl<'a> Reader<'a> {
 
     pub fn scope(&mut self) -> Result<ScopeKind, Stop>
         ensures ok { IfOk result (λ x. self.old ≡ scope_number x ∷ self.new) }
-        ensures err { IfErr result (FailsAhead (is_below 4 ∷ []) self.old) }
+        ensures err { IfErr result (FailsAhead (is_scope ∷ []) self.old) }
     {
         let wrong = self.stop(Cause::Op);
         ScopeKind::from_number(self.byte()?).ok_or(wrong)
@@ -136,7 +138,7 @@ impl<'a> Reader<'a> {
 
     pub fn entries(&mut self) -> Result<Entries, Stop>
         ensures ok { IfOk result (λ x. self.old ≡ entries_number x ∷ self.new) }
-        ensures err { IfErr result (FailsAhead (is_below 4 ∷ []) self.old) }
+        ensures err { IfErr result (FailsAhead (is_entries ∷ []) self.old) }
     {
         let wrong = self.stop(Cause::Op);
         Entries::from_number(self.byte()?).ok_or(wrong)
@@ -144,7 +146,7 @@ impl<'a> Reader<'a> {
 
     pub fn ranking(&mut self) -> Result<Ranking, Stop>
         ensures ok { IfOk result (λ x. self.old ≡ ranking_number x ∷ self.new) }
-        ensures err { IfErr result (FailsAhead (is_below 2 ∷ []) self.old) }
+        ensures err { IfErr result (FailsAhead (is_ranking ∷ []) self.old) }
     {
         let wrong = self.stop(Cause::Op);
         Ranking::from_number(self.byte()?).ok_or(wrong)
@@ -152,7 +154,7 @@ impl<'a> Reader<'a> {
 
     pub fn input(&mut self) -> Result<Input, Stop>
         ensures ok { IfOk result (λ x. self.old ≡ input_number x ∷ self.new) }
-        ensures err { IfErr result (FailsAhead (is_below 5 ∷ []) self.old) }
+        ensures err { IfErr result (FailsAhead (is_input ∷ []) self.old) }
     {
         let wrong = self.stop(Cause::Op);
         Input::from_number(self.byte()?).ok_or(wrong)
@@ -160,7 +162,7 @@ impl<'a> Reader<'a> {
 
     pub fn method(&mut self) -> Result<Divisor, Stop>
         ensures ok { IfOk result (λ x. self.old ≡ method_number x ∷ self.new) }
-        ensures err { IfErr result (FailsAhead (is_below 5 ∷ []) self.old) }
+        ensures err { IfErr result (FailsAhead (is_method ∷ []) self.old) }
     {
         let wrong = self.stop(Cause::Op);
         method_from_number(self.byte()?).ok_or(wrong)
@@ -200,7 +202,7 @@ impl<'a> Reader<'a> {
 
     pub fn shape(&mut self) -> Result<Shape, Stop>
         ensures ok { IfOk result (λ x. self.old ≡ shape_number x ∷ self.new) }
-        ensures err { IfErr result (FailsAhead (is_below 4 ∷ []) self.old) }
+        ensures err { IfErr result (FailsAhead (is_shape ∷ []) self.old) }
     {
         let wrong = self.stop(Cause::Op);
         shape_from_number(self.byte()?).ok_or(wrong)

@@ -1,7 +1,7 @@
 //! Writes a code as bytes.
 
 ghost use Rattle.std.specs.Prelude.{◌≡◌, ◌∷◌, ◌++◌, flat_map, map, IfOk, OnOk};
-ghost use Rattle.sl_code.specs.Numbers.{shape_number};
+ghost use Rattle.sl_stages.specs.book.Typing.{shape_number};
 ghost use Rattle.sl_code.specs.Operands.{bytes_of};
 ghost use Rattle.sl_code.specs.Spelling.{opening, instr_bytes, stage_bytes, stages_part, slots_part, instrs_part, spelling_of};
 
@@ -9,7 +9,6 @@ use crate::append::{extend, extend_eight, extend_four, extend_two, push};
 use crate::code::{Code, CodeStage};
 use crate::instr::Instr;
 use crate::kinds::TableState;
-use crate::number::{method_number, shape_number};
 use crate::parts::Operand;
 use sl_ratio::NoMemory;
 use sl_stages::Shape;
@@ -60,7 +59,7 @@ fn slots(bytes: &mut Vec<u8>, code: &Code) -> Result<(), NoMemory>
     let slots = code.slots();
     push(bytes, slots.len() as u8)?;
     for shape in slots {
-        push(bytes, shape_number(*shape))?;
+        push(bytes, shape.number())?;
     }
     Ok(())
 }
@@ -100,7 +99,7 @@ fn operand(bytes: &mut Vec<u8>, operand: Operand) -> Result<(), NoMemory>
         Operand::Entries(entries) => push(bytes, entries.number()),
         Operand::Ranking(ranking) => push(bytes, ranking.number()),
         Operand::Input(input) => push(bytes, input.number()),
-        Operand::Method(method) => push(bytes, method_number(method)),
+        Operand::Method(method) => push(bytes, method.number()),
         Operand::Rounding(rounding) => push(bytes, rounding.number()),
         Operand::Fault(fault) => push(bytes, fault.number()),
         Operand::Cursors(cursors) => push(bytes, cursors.number()),

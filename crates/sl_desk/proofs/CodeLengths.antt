@@ -13,7 +13,7 @@ use Rattle.sl_code.specs.declared.parts.Operand.{Operand}
 use Rattle.sl_code.specs.declared.parts.Operand.TheVariants as o
 use Rattle.sl_code.specs.Codes.{CountingCode}
 use Rattle.sl_code.specs.Faults.{IsStage}
-use Rattle.sl_code.specs.Numbers.{shape_number}
+use Rattle.sl_stages.specs.book.Typing.{shape_number}
 use Rattle.sl_code.specs.Operands.{bytes_of, two_bytes, four_bytes, eight_bytes}
 use Rattle.sl_code.specs.Proper.{IsProper}
 use Rattle.sl_code.specs.Rows.{operands_of}
@@ -40,20 +40,7 @@ weight _ = 1
 weighs : (operand : Operand) → length (bytes_of operand) ≡ weight operand
 unfolding two_bytes four_bytes eight_bytes
 weighs (o.Register r) = refl
-weighs (o.Slot k) = refl
-weighs (o.Stage n) = refl
-weighs (o.Target t) = refl
-weighs (o.Value x) = refl
-weighs (o.Scope c) = refl
-weighs (o.Entries e) = refl
-weighs (o.Ranking ranking) = refl
-weighs (o.Input i) = refl
-weighs (o.Method m) = refl
-weighs (o.Rounding m) = refl
-weighs (o.Fault f) = refl
-weighs (o.Positive registers) = refl
-weighs (o.Cursors c) = refl
-weighs (o.Table t) = refl
+weighs x = refl
 
 abbrev weight_of : List Operand → ℕ
 weight_of [] = 0
@@ -65,49 +52,7 @@ operands_long (x ∷ os) = omega (arith, length-append (bytes_of x) (flat_map by
 
 light : (i : Instr) → nat_le (weight_of (operands_of i)) 19 ≡ true
 light (instr.Set r x) = refl
-light (instr.Mov r s) = refl
-light (instr.Add r s) = refl
-light (instr.Sub r s) = refl
-light (instr.Mul r s) = refl
-light (instr.Div r s) = refl
-light (instr.Rem r s) = refl
-light (instr.Max r s) = refl
-light (instr.Jmp t) = refl
-light (instr.Jz r t) = refl
-light (instr.Jlt r s t) = refl
-light (instr.Jnl t) = refl
-light (instr.Get r k) = refl
-light (instr.Store k r) = refl
-light (instr.Zero k) = refl
-light (instr.Input k i) = refl
-light (instr.House r) = refl
-light (instr.Wparty t) = refl
-light instr.Wland = refl
-light (instr.Fparty t) = refl
-light (instr.Nparty t) = refl
-light (instr.Fland t) = refl
-light (instr.Nland t) = refl
-light (instr.Fwin t) = refl
-light (instr.Nwin t) = refl
-light (instr.Table e ranking) = refl
-light (instr.Prio m r s) = refl
-light (instr.Rest r) = refl
-light instr.Lead = refl
-light instr.Share = refl
-light (instr.Peers r t) = refl
-light instr.Take = refl
-light (instr.Lot n t) = refl
-light (instr.Takelot n) = refl
-light (instr.Emit n c r s) = refl
-light (instr.Given n c r) = refl
-light (instr.Fault n c f) = refl
-light (instr.Tie n c r) = refl
-light instr.Seat = refl
-light instr.Single = refl
-light (instr.Halt k) = refl
-light (instr.At kinds) = refl
-light (instr.Haltv k v) = refl
-light (instr.Weigh n c m r) = refl
+light x = refl
 
 instr_long : (i : Instr) → length (instr_bytes i) ≤ 20
 instr_long i = let few = leb-true (weight_of (operands_of i)) 19 (light i) in omega (arith, few, operands_long (operands_of i))

@@ -10,10 +10,10 @@ use thiserror::Error;
 /// What was written: a table, a refusal, a legal fault, or that the steps ran out.
 #[derive(Clone, Copy, Debug, PartialEq, Eq)]
 pub enum Status {
-    Done,
-    Refused,
-    Legal,
-    Budget,
+    Done = 0,
+    Refused = 2,
+    Legal = 3,
+    Budget = 4,
 }
 
 impl Status {
@@ -23,12 +23,7 @@ impl Status {
     pub fn number(self) -> u8
         ensures { result ≡ status_number self }
     {
-        match self {
-            Status::Done => 0,
-            Status::Refused => 2,
-            Status::Legal => 3,
-            Status::Budget => 4,
-        }
+        self as u8
     }
 }
 

@@ -2,8 +2,6 @@
 use Rattle.std.specs.Prelude.{ℕ, zero, suc, ◌+◌, ◌-◌, ◌*◌, ◌/◌, ◌%◌, ◌^◌, Bool, true, false, min, max, List, [], ◌∷◌, ◌++◌, Option, Some, None, ◌==◌, nat_lt, codes, length, map, slice_get, slice_index, slice_index_or, if◌then◌else◌}
 use Rattle.std.specs.Option.{option_map, option_and_then}
 use Rattle.sl_ratio.specs.declared.entry.Entry.{Entry}
-use Rattle.sl_ratio.specs.declared.method.Divisor.{Divisor}
-use Rattle.sl_ratio.specs.declared.method.Divisor.TheVariants as divisor
 use Rattle.sl_ratio.specs.declared.limits.TheConstants.{MAX_WEIGHT, MAX_SEATS}
 use Rattle.sl_ratio.specs.Quotient.{Quotient, quotient}
 use Rattle.sl_stages.specs.declared.fault.FaultKind.{FaultKind}
@@ -28,9 +26,9 @@ use Rattle.sl_code.specs.declared.operand.Input.TheVariants as input
 use Rattle.sl_code.specs.declared.operand.Ranking.{Ranking}
 use Rattle.sl_code.specs.declared.operand.Ranking.TheVariants as ranking
 use Rattle.sl_code.specs.declared.operand.Rounding.{Rounding}
-use Rattle.sl_code.specs.declared.operand.Rounding.TheVariants as rounding
 use Rattle.sl_code.specs.declared.operand.ScopeKind.{ScopeKind}
 use Rattle.sl_code.specs.Codes.{CountingCode}
+use Rattle.sl_code.specs.Numbers.{divisor_of}
 use Rattle.sl_verify.specs.declared.needs.TheConstants.{LAST_CLAUSE}
 use Rattle.sl_verify.specs.Kinds.{same_ranking}
 use Rattle.sl_machine.specs.State.{State, PriorityTable, End, Halted, Faulted, with_register, with_column, with_cell, with_place}
@@ -177,11 +175,6 @@ stage_of stages n = if n == LAST_CLAUSE then Some (length stages) else option_ma
 -- the name under which lots are drawn for it
 abbrev pub name_of : List CodeStage → ℕ → Option (List ℕ)
 name_of stages n = if n == LAST_CLAUSE then Some (codes "seats") else option_map (λ stage. stage.name) (slice_get stages n)
-
-abbrev pub divisor_of : Rounding → Divisor
-divisor_of rounding.Adams = divisor.Adams
-divisor_of rounding.Webster = divisor.Webster
-divisor_of rounding.Jefferson = divisor.Jefferson
 
 abbrev pub kind_of : EndFault → FaultKind
 kind_of end.Limit = fault.Limit

@@ -6,7 +6,7 @@ ghost use Rattle.sl_verify.specs.Needs.{has_stage};
 ghost use Rattle.sl_verify.specs.WellKinded.{context_of};
 ghost use Rattle.sl_code.specs.declared.instr.Instr.TheVariants as instr;
 ghost use Rattle.sl_machine.specs.Places.{scope_at};
-ghost use Rattle.sl_machine.specs.Effects.{effect, stage_of, divisor_of};
+ghost use Rattle.sl_machine.specs.Effects.{effect, stage_of};
 ghost use Rattle.sl_machine.specs.Safe.{IsInRange};
 ghost use Rattle.sl_machine.specs.inner.Seen.{item_at};
 ghost use Rattle.sl_machine.specs.inner.Stores.{state_of, sizes_of, effect_of};
@@ -15,7 +15,7 @@ use crate::cursors::item_of;
 use crate::step::Effect;
 use crate::store::{Store, append};
 use sl_code::{Code, Rounding, ScopeKind};
-use sl_ratio::{Divisor, MAX_WEIGHT, NoMemory};
+use sl_ratio::{MAX_WEIGHT, NoMemory};
 use sl_stages::{Item, Mark, Returns, SeatStep, Weight};
 use sl_verify::LAST_CLAUSE;
 
@@ -28,17 +28,6 @@ pub(crate) fn stage_number(code: &Code, stage: u8) -> usize
         code.stages().len()
     } else {
         usize::from(stage)
-    }
-}
-
-// The divisor method that rounds so.
-fn divisor_of(rounding: Rounding) -> Divisor
-    ensures { result ≡ divisor_of rounding }
-{
-    match rounding {
-        Rounding::Adams => Divisor::Adams,
-        Rounding::Webster => Divisor::Webster,
-        Rounding::Jefferson => Divisor::Jefferson,
     }
 }
 
@@ -140,7 +129,7 @@ impl Store {
             stage: stage_number(code, stage),
             scope: self.scope(scope).unwrap(),
             entry: self.item(returns),
-            divisor: divisor_of(rounding),
+            divisor: rounding.divisor(),
             weight: self.register(weight).min(MAX_WEIGHT),
         };
         append(&mut self.weights, record)?;

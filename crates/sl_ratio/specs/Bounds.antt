@@ -1,14 +1,14 @@
 -- The bounds of an allocation without minima, and rounding by a divisor between them (docs/methods.md, section 9). The entries are
 -- given by their weights v and their seats s, in entry order; those of positive weight count. A list reads 0 past its end.
-use Rattle.std.specs.Prelude.{◌≡◌, ◌≢◌, ℕ, ◌+◌, ◌-◌, ◌*◌, ◌/◌, ◌<◌, ◌⊎◌, List, Option, Some, None, slice_index, if◌then◌else◌}
+use Rattle.std.specs.Prelude.{◌≡◌, ◌≢◌, ℕ, ◌+◌, ◌-◌, ◌*◌, ◌/◌, ◌<◌, IsTrue, List, Option, Some, None, slice_index, if◌then◌else◌}
 use Rattle.std.specs.Ordering.{is_le}
 use Rattle.sl_ratio.specs.declared.method.Divisor.{Divisor}
 use Rattle.sl_ratio.specs.declared.method.Divisor.TheVariants.{Adams, Webster, Jefferson}
-use Rattle.sl_ratio.specs.Quotient.{Quotient, AtMost, Below, compare, quotient}
+use Rattle.sl_ratio.specs.Quotient.{Quotient, AtMost, Below, compare, quotient, is_rounding}
 
--- the methods that round a weight by a divisor: up, to the nearest number, or down
+-- a method that rounds a weight by a divisor
 abbrev pub IsRounding : Divisor → Type 0
-IsRounding method = (method ≡ Adams) ⊎ (method ≡ Webster) ⊎ (method ≡ Jefferson)
+IsRounding method = IsTrue (is_rounding method)
 
 -- entry i has a positive weight
 abbrev pub HasWeight : List ℕ → ℕ → Type 0

@@ -1,5 +1,5 @@
 -- Quotients, their order by cross products, and those of the divisor methods (docs/methods.md, section 1).
-use Rattle.std.specs.Prelude.{◌≡◌, ℕ, ◌+◌, ◌*◌, ◌<◌, ◌≤◌}
+use Rattle.std.specs.Prelude.{◌≡◌, ℕ, ◌+◌, ◌*◌, ◌<◌, ◌≤◌, Bool, true, false}
 use Rattle.std.specs.declared.cmp.Ordering.{Ordering}
 use Rattle.std.specs.Ordering.{nat_cmp}
 use Rattle.sl_ratio.specs.declared.ratio.TheConstants.{MAX_NUMERATOR, MAX_DENOMINATOR}
@@ -41,3 +41,19 @@ quotient Dean v a = record { num = v * (2 * a + 1); den = 2 * a * (a + 1) }
 quotient Hill v a = record { num = v * v; den = a * (a + 1) }
 quotient Webster v a = record { num = 2 * v; den = 2 * a + 1 }
 quotient Jefferson v a = record { num = v; den = a + 1 }
+
+-- the number of a divisor method
+abbrev pub method_number : Divisor → ℕ
+method_number Adams = 0
+method_number Dean = 1
+method_number Hill = 2
+method_number Webster = 3
+method_number Jefferson = 4
+
+-- the methods that round a weight by a divisor: up, to the nearest number, or down
+abbrev pub is_rounding : Divisor → Bool
+is_rounding Adams = true
+is_rounding Dean = false
+is_rounding Hill = false
+is_rounding Webster = true
+is_rounding Jefferson = true

@@ -16,7 +16,7 @@ pub use bound::bounds;
 pub use entry::Entry;
 pub use limits::{MAX_NUMBER, MAX_SEATS, MAX_WEIGHT};
 pub use memory::NoMemory;
-pub use method::{Divisor, Method};
+pub use method::{DIVISORS, Divisor, Method};
 pub use names::{MAX_NAME_BYTES, NameFault, Names, spelling_fault};
 pub use ratio::{MAX_DENOMINATOR, MAX_NUMERATOR, Ratio};
 pub use remainder::hare;

@@ -3,7 +3,7 @@
 ghost use Rattle.std.specs.Prelude.{◌≡◌, IsTrue, map};
 ghost use Rattle.sl_stages.specs.declared.book.Unit.TheVariants as unit;
 ghost use Rattle.sl_stages.specs.book.Trees.{stage_of};
-ghost use Rattle.sl_stages.specs.book.Typing.{column, shape_over};
+ghost use Rattle.sl_stages.specs.book.Typing.{column, shape_number, shape_over};
 ghost use Rattle.sl_stages.specs.book.Limits.{is_within_limits, book_numbers, are_small};
 
 use crate::fact::Fact;
@@ -17,6 +17,18 @@ pub enum Shape {
     Party,
     Land,
     List,
+}
+
+/// The shapes, in the order of their numbers.
+pub const SHAPES: [Shape; 4] = [Shape::One, Shape::Party, Shape::Land, Shape::List];
+
+impl Shape {
+    /// Its number, from 0.
+    pub fn number(self) -> u8
+        ensures { result ≡ shape_number self }
+    {
+        self as u8
+    }
 }
 
 /// What the numbers of a column count.

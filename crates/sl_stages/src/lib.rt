@@ -14,8 +14,8 @@ mod table;
 mod word;
 
 pub use book::{
-    Axis, Base, Book, ColumnType, Cond, Expr, LastClause, Majority, Number, Pairing, Seating,
-    Shape, Stage, Unit,
+    Axis, Base, Book, ColumnType, Cond, Expr, LastClause, Majority, Number, Pairing, SHAPES,
+    Seating, Shape, Stage, Unit,
 };
 pub use check_fault::CheckFault;
 pub use checked::CheckedBook;

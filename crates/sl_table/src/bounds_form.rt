@@ -1,7 +1,6 @@
 //! The lines of the bounds of a table's scopes, by the weights and the seats of their entries.
 
 ghost use Rattle.std.specs.Prelude.{◌≡◌, ◌+◌, ◌^◌, ◌<◌, ◌≤◌, false, Some, All, IfOk, OnOk, MatchBool, MatchOption, length, map, option_map, sum, count_by, nat_lt};
-ghost use Rattle.sl_ratio.specs.Bounds.{IsRounding};
 ghost use Rattle.sl_machine.specs.Fits.{FitsWeight};
 ghost use Rattle.sl_table.specs.Bounds.{is_one_scope, groups, is_of_entry, IsBoundsWeight, IsToldPair, lot_words, pair_line, IsBoundsLine, IsBoundsLines};
 ghost use Rattle.sl_table.specs.Lines.{with_lines, with_words};
@@ -117,16 +116,6 @@ fn seats_within(
     Ok(Some(seats))
 }
 
-// Whether a method rounds by a divisor.
-fn is_rounding(method: Divisor) -> bool
-    ensures { MatchBool result (IsRounding method) (¬ IsRounding method) }
-{
-    matches!(
-        method,
-        Divisor::Adams | Divisor::Webster | Divisor::Jefferson
-    )
-}
-
 // Whether bounds are told of a weight by a method.
 fn is_bounds_weight(method: Divisor, weight: &Weight) -> bool
     ensures { MatchBool result (IsBoundsWeight method weight.now) (¬ IsBoundsWeight method weight.now) }
@@ -180,7 +169,7 @@ fn scope_bounds(
 ) -> Result<Option<(Ratio, Ratio)>, NoMemory>
     ensures { IfOk result (IsToldPair method (map (λ w. w.now) scope.now) (map (λ w. counted_seats counts.now w.now) scope.now)) }
 {
-    if !is_rounding(method) || !are_bounds_weights(method, scope) {
+    if !method.is_rounding() || !are_bounds_weights(method, scope) {
         return Ok(None);
     }
     let Some(seats) = seats_within(alloc, scope, counts)? else {

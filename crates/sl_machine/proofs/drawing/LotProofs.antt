@@ -144,9 +144,7 @@ module _ (e : Election) where
 
 meant_is : (e : Election) (name : List ℕ) (k : Entries) (items : List Item) → lot_meant e name k items ≡ lot_among items (filter_map (given_in e k) (lots_named name e))
 meant_is e name entries.Party items = refl
-meant_is e name entries.Land items = refl
-meant_is e name entries.List items = refl
-meant_is e name entries.Win items = refl
+meant_is e name x items = refl
 
 read_same : (lot places : List ℕ) → IsStrictlyIncreasing places → SameLot lot (read_among places lot) places
 read_same lot places increasing =

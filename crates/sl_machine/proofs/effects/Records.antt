@@ -21,7 +21,8 @@ use Rattle.sl_code.specs.Codes.{CountingCode}
 use Rattle.sl_prio.specs.Prio.{top, peers}
 use Rattle.sl_machine.specs.State.{State, PriorityTable, Halted, Faulted, with_place}
 use Rattle.sl_machine.specs.Places.{index_at, item_of, scope_at}
-use Rattle.sl_machine.specs.Effects.{Effect, Goes, Ends, given, at_scope, records, weighs, faults, seat_winner, stage_of, kind_of, divisor_of, with_step, with_weight, effect}
+use Rattle.sl_code.specs.Numbers.{divisor_of}
+use Rattle.sl_machine.specs.Effects.{Effect, Goes, Ends, given, at_scope, records, weighs, faults, seat_winner, stage_of, kind_of, with_step, with_weight, effect}
 use Rattle.sl_machine.proofs.effects.Registers.{given_is, positive_is}
 
 module _ (c : CountingCode) (e : Election) (s : State) where

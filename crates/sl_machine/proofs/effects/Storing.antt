@@ -41,10 +41,8 @@ module _ (s : State) where
 
 -- the entry of which the cursors are is the one at the cursors
 pub entry_again : (e : Election) (k : Entries) (index : ℕ) (s : State) → index_at e k (at_entry e k index s) ≡ Some index
-entry_again e entries.Party index s = refl
-entry_again e entries.Land index s = refl
 entry_again e entries.List index s = ap (λ (n : ℕ). Some n) (div-add-mod' index (parties_of e))
-entry_again e entries.Win index s = refl
+entry_again e k index s = refl
 
 -- ---- a slot's column as the list of its cells
 module _ (c : CountingCode) (e : Election) where

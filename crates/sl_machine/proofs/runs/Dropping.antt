@@ -55,21 +55,15 @@ module _ (c : CountingCode) (e : Election) (s : State) where
   -- ---- what the cursors stand at
   same_cell : (k : Shape) → cell_at e k s ≡ cell_at e k (unrecorded s)
   same_cell shape.One = refl
-  same_cell shape.Party = refl
-  same_cell shape.Land = refl
-  same_cell shape.List = refl
+  same_cell x = refl
 
   same_index : (k : Entries) → index_at e k s ≡ index_at e k (unrecorded s)
   same_index entries.Party = refl
-  same_index entries.Land = refl
-  same_index entries.List = refl
-  same_index entries.Win = refl
+  same_index x = refl
 
   same_scope : (k : ScopeKind) → scope_at k s ≡ scope_at k (unrecorded s)
   same_scope kind.All = refl
-  same_scope kind.Land = refl
-  same_scope kind.Party = refl
-  same_scope kind.List = refl
+  same_scope x = refl
 
   at_cell : (k : ℕ) (go to : ℕ → Effect) → ((p : ℕ) → unrecorded_effect (go p) ≡ to p)
       → unrecorded_effect (given (slice_get c.slots k) (λ x. given (cell_at e x s) go)) ≡ given (slice_get c.slots k) (λ x. given (cell_at e x (unrecorded s)) to)
@@ -134,9 +128,7 @@ module _ (c : CountingCode) (e : Election) (s : State) where
 
 entry_left : (e : Election) (k : Entries) (index : ℕ) (s : State) → unrecorded (at_entry e k index s) ≡ at_entry e k index (unrecorded s)
 entry_left e entries.Party index s = refl
-entry_left e entries.Land index s = refl
-entry_left e entries.List index s = refl
-entry_left e entries.Win index s = refl
+entry_left e x index s = refl
 
 takes_left : (e : Election) (s : State) (t : PriorityTable) (entry : Option Entry) → unrecorded_effect (takes e t entry s) ≡ takes e t entry (unrecorded s)
 takes_left e s t entry = in_given entry _ _ (λ x. ap Goes (entry_left e t.entries x.index (after_take x t s)))

@@ -1,6 +1,6 @@
 -- The plans by which an entry with weight enters the table put its next seat among those that wait.
 use Rattle.std.proofs.Common.{◌≡◌, ℕ, suc, ◌+◌, ◌*◌, ◌-◌, ◌<◌, ◌≤◌, ◌&&◌, Bool, true, false, List, [], ◌∷◌, ◌++◌, map, All, Option, Some, None, min, sum, slice_get, refl, sym, ap, ◌∙◌, arith}
-use Rattle.std.specs.Prelude.{is_none, nat_lt, nat_le, slice_index, if◌then◌else◌}
+use Rattle.std.specs.Prelude.{is_none, is_some, option_map, unwrap_or, nat_lt, nat_le, slice_index, if◌then◌else◌}
 use Rattle.std.proofs.lemmas.Bool.{lt-ltb, le-ltb, le-leb, lt-leb, and_left, and_right, and_from}
 use Rattle.std.proofs.lemmas.List.{append-nil}
 use Rattle.sl_ratio.specs.declared.entry.Entry.{Entry}
@@ -19,9 +19,10 @@ use Rattle.sl_code.specs.declared.instr.Instr.TheVariants.{Prio, Lead, Weigh}
 use Rattle.sl_code.specs.declared.operand.Rounding.{Rounding}
 use Rattle.sl_code.specs.declared.operand.Rounding.TheVariants as rounding
 use Rattle.sl_code.specs.Codes.{CountingCode}
+use Rattle.sl_code.specs.Numbers.{divisor_of, rounding_of}
 use Rattle.sl_machine.specs.State.{State, with_register}
 use Rattle.sl_machine.specs.Places.{item_of}
-use Rattle.sl_machine.specs.Effects.{Goes, most, divisor_of, stage_of, with_entry, with_weight}
+use Rattle.sl_machine.specs.Effects.{Goes, most, stage_of, with_entry, with_weight}
 use Rattle.sl_machine.proofs.effects.Registers.{mov_does, add_does}
 use Rattle.sl_machine.proofs.effects.Records.{weigh_does}
 use Rattle.sl_machine.proofs.effects.Table.{rest_does, lead_does}
@@ -134,14 +135,16 @@ module _ (c : CountingCode) (e : Election) (f : Form) (g : Group) (scope : IsSco
           line_goes (tells ∙ told_as (divisor_of by) (min (s.registers reg.weight) MAX_WEIGHT) j i (item_of e (table_of f) (place e i)) s (scope.entry j i at).item all)
           (prio_enters (divisor_of by) j i t others at (item_stays i s t refl refl refl here.on_item) here.weight positive base within table))
 
-      -- the weights of some methods are told where no minima are written
+      -- the weights of a method that rounds are told where no minima are written
+      entered : (o : Option Rounding) (d : Divisor) → let by : Divisor = unwrap_or (option_map divisor_of o) d in
+          EntersNext c e g (arena_of by) v seats Any (told_where (is_some o) by) (Line (weigh f x o ++ Prio by reg.weight reg.base ∷ []))
+      entered None d = plain_enters d
+      entered (Some by) d = weighed_enters by
+
       enters_by : (o : Option ℕ) (d : Divisor) → EntersNext c e g (arena_of d) v seats Any (told_where (is_none o && tells_weights d) d)
-          (Line ((if is_none o then weigh f x d else []) ++ Prio d reg.weight reg.base ∷ []))
-      enters_by None divisor.Adams = weighed_enters rounding.Adams
-      enters_by None divisor.Dean = plain_enters divisor.Dean
-      enters_by None divisor.Hill = plain_enters divisor.Hill
-      enters_by None divisor.Webster = weighed_enters rounding.Webster
-      enters_by None divisor.Jefferson = weighed_enters rounding.Jefferson
+          (Line ((if is_none o then weigh f x (rounding_of d) else []) ++ Prio d reg.weight reg.base ∷ []))
+      enters_by None divisor.Adams = entered (Some rounding.Adams) divisor.Adams
+      enters_by None d = entered (rounding_of d) d
       enters_by (Some slot) d = plain_enters d
 
       pub quotients_enter : (d : Divisor) → EntersNext c e g (divisor_arena d v b (table_of f) (map (place e) g.entries)) v seats (λ j n. Unit {0}) (told_where (is_none x.minima && tells_weights d) d)

@@ -1,7 +1,6 @@
 -- The plans of a scope: sums, the first seats and the entries of the table, a seat awarded, the majority clause (docs/blocks.md, section 3).
 use Rattle.std.specs.Prelude.{ℕ, List, [], ◌∷◌, ◌++◌, Option, None, Some, is_none, if◌then◌else◌}
 use Rattle.sl_ratio.specs.declared.method.Divisor.{Divisor}
-use Rattle.sl_ratio.specs.declared.method.Divisor.TheVariants as divisor
 use Rattle.sl_ratio.specs.declared.method.Method.{Method}
 use Rattle.sl_ratio.specs.declared.method.Method.TheVariants as by
 use Rattle.sl_stages.specs.declared.book.Majority.{Majority}
@@ -13,7 +12,8 @@ use Rattle.sl_code.specs.declared.operand.EndFault.{EndFault}
 use Rattle.sl_code.specs.declared.operand.EndFault.TheVariants as end
 use Rattle.sl_code.specs.declared.operand.Ranking.{Ranking}
 use Rattle.sl_code.specs.declared.operand.Ranking.TheVariants as ranking
-use Rattle.sl_code.specs.declared.operand.Rounding.TheVariants as rounding
+use Rattle.sl_code.specs.declared.operand.Rounding.{Rounding}
+use Rattle.sl_code.specs.Numbers.{rounding_of}
 use Rattle.sl_plans.specs.declared.plan.Test.TheVariants as test
 use Rattle.sl_plans.specs.declared.plan.Bound.TheVariants as bound
 use Rattle.sl_plans.specs.Trees.{Tree, Line, Stop, Then, If, Times}
@@ -78,17 +78,14 @@ base_of by.Hamilton x = whole_base
 
 -- ---- how an entry with weight enters the table
 
--- the weights of these methods are told
-abbrev pub weigh : Form → Slots → Divisor → List Instr
-weigh f x divisor.Adams = Weigh x.stage (kind_of f) rounding.Adams reg.weight ∷ []
-weigh f x divisor.Dean = []
-weigh f x divisor.Hill = []
-weigh f x divisor.Webster = Weigh x.stage (kind_of f) rounding.Webster reg.weight ∷ []
-weigh f x divisor.Jefferson = Weigh x.stage (kind_of f) rounding.Jefferson reg.weight ∷ []
+-- the weights of a method that rounds are told
+abbrev pub weigh : Form → Slots → Option Rounding → List Instr
+weigh f x None = []
+weigh f x (Some by) = Weigh x.stage (kind_of f) by reg.weight ∷ []
 
 -- where no minima are written, its weight is told
 abbrev pub told_weight : Form → Slots → Divisor → List Instr
-told_weight f x d = if is_none x.minima then weigh f x d else []
+told_weight f x d = if is_none x.minima then weigh f x (rounding_of d) else []
 
 abbrev pub enter_quotient : Form → Slots → Divisor → Tree
 enter_quotient f x d = Line (told_weight f x d ++ Prio d reg.weight reg.base ∷ [])

@@ -41,6 +41,12 @@ is_named n c = bytes_eq n c.name
 abbrev pub column : Shape → Units → ColumnType
 column s u = record { shape = s; unit = u }
 
+abbrev pub shape_number : Shape → ℕ
+shape_number shape.One = 0
+shape_number shape.Party = 1
+shape_number shape.Land = 2
+shape_number shape.List = 3
+
 abbrev pub type_or_one : Option Column → ColumnType
 type_or_one None = column shape.One unit.Seats
 type_or_one (Some c) = c.type

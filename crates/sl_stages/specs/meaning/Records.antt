@@ -1,9 +1,8 @@
 -- The records of the seats of a scope: what won each of them, at which step, and the weights behind (docs/meaning.md, section 7).
-use Rattle.std.specs.Prelude.{ℕ, ◌+◌, Bool, true, false, ◌&&◌, List, [], ◌++◌, map, flat_map, filter, nat_lt, slice_index, if◌then◌else◌}
+use Rattle.std.specs.Prelude.{ℕ, ◌+◌, Bool, ◌&&◌, List, [], ◌++◌, map, flat_map, filter, nat_lt, slice_index, if◌then◌else◌}
 use Rattle.std.specs.List.{zip, range_with_len, enumerate_from}
 use Rattle.sl_ratio.specs.declared.method.Divisor.{Divisor}
-use Rattle.sl_ratio.specs.declared.method.Divisor.TheVariants.{Adams, Dean, Hill, Webster, Jefferson}
-use Rattle.sl_ratio.specs.Quotient.{quotient}
+use Rattle.sl_ratio.specs.Quotient.{quotient, is_rounding}
 use Rattle.sl_stages.specs.declared.fault.Scope.{Scope}
 use Rattle.sl_stages.specs.declared.fault.Item.{Item}
 use Rattle.sl_stages.specs.declared.table.Mark.{Mark}
@@ -59,10 +58,6 @@ module _ (stage : ℕ) (scope : Scope) (entries : List Item) where
   field_weights d v =
       map (λ x. record { stage = stage; scope = scope; entry = x.0; divisor = d; weight = x.1 }) (filter (λ x. nat_lt 0 x.1) (zip entries v))
 
--- a method that rounds by a divisor, so that its weights are told
+-- the weights of a method are told where it rounds them by a divisor
 abbrev pub tells_weights : Divisor → Bool
-tells_weights Adams = true
-tells_weights Dean = false
-tells_weights Hill = false
-tells_weights Webster = true
-tells_weights Jefferson = true
+tells_weights = is_rounding

@@ -1,4 +1,4 @@
-use Rattle.std.proofs.Common.{◌<◌, ◌≤◌, map, sum, option_map, inl, subst, ◌∙◌}
+use Rattle.std.proofs.Common.{◌<◌, ◌≤◌, map, sum, option_map, inl, sym, subst, ◌∙◌}
 use Rattle.sl_ratio.specs.declared.limits.TheConstants.{MAX_SEATS}
 use Rattle.sl_ratio.specs.Bounds.{AreBounds}
 use Rattle.sl_table.specs.inner.Counts.{counted_seats, IsWithin}
@@ -21,7 +21,7 @@ returns c =
     let within = subst (λ o. IsWithin (λ s. s ≤ MAX_SEATS) seats (option_map (λ s. s.items) o)) c.in-Some.is c.in_ok-seats.ensures in
     inl (
       record {
-        rounding = c.if-not-is_rounding.ensures;
+        rounding = sym c.if-not-is_rounding.ensures;
         weights = c.if-not-are_bounds_weights.ensures;
         held = within.1;
         awarded = subst (λ xs. 0 < sum xs) (c.deref.ensures.value ∙ within.0) c.if-not-is_awarded.ensures;

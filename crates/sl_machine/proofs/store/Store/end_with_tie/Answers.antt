@@ -18,16 +18,12 @@ use Rattle.sl_machine.proofs.store.Store.end_with_tie.Goals as goal
 
 same_scope : (k : ScopeKind) (s : State) (table : Option PriorityTable) → scope_at k s ≡ scope_at k (record s { table = table })
 same_scope kind.All s table = refl
-same_scope kind.Land s table = refl
-same_scope kind.Party s table = refl
-same_scope kind.List s table = refl
+same_scope x s table = refl
 
 same_fault : (code : CountingCode) (e : Election) (stage : ℕ) (k : ScopeKind) (why : FaultKind) (s : State) (table : Option PriorityTable)
     → faults code e stage k why (record s { table = table }) ≡ faults code e stage k why s
 same_fault code e stage kind.All why s table = refl
-same_fault code e stage kind.Land why s table = refl
-same_fault code e stage kind.Party why s table = refl
-same_fault code e stage kind.List why s table = refl
+same_fault code e stage x why s table = refl
 
 pub fault-requires-clause-scope : goal.fault-requires-clause-scope
 fault-requires-clause-scope c =
