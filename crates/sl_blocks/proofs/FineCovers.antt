@@ -1,5 +1,5 @@
 -- What the verifier finds in the plan of a covering, and what it costs.
-use Rattle.std.proofs.Common.{◌≡◌, ℕ, zero, suc, ◌≤◌, true, Option, Some, refl, ◌∙◌}
+use Rattle.std.proofs.Common.{◌≡◌, ℕ, zero, suc, ◌<◌, ◌≤◌, true, Option, Some, refl, ◌∙◌}
 use Rattle.sl_stages.specs.declared.book.Shape.{Shape}
 use Rattle.sl_stages.specs.declared.book.Shape.TheVariants as shape
 use Rattle.sl_verify.specs.declared.needs.TheConstants.{LAST_CLAUSE}
@@ -9,7 +9,7 @@ use Rattle.sl_plans.specs.Trees.{size_of}
 use Rattle.sl_plans.specs.Fine.{is_fine, judged_by, has_quiet_lines}
 use Rattle.sl_plans.specs.inner.Prices.{price_of, has_price, is_in_share}
 use Rattle.sl_pieces.specs.covers.Trees.{CoverSlots, cover_tree}
-use Rattle.sl_blocks.proofs.FineRoles.{before_one, is_small, small_is_quiet, small_is_priced, small_is_short}
+use Rattle.sl_blocks.proofs.FineRoles.{before_one, is_small, small_is_quiet, small_is_priced, small_is_short, MAX_BLOCK_INSTRS}
 use Rattle.sl_blocks.proofs.Renaming.{Renaming, Renames, renamed_is_fine}
 
 -- the seats of the lists, the eligible parties, the numbers of the lists
@@ -62,5 +62,5 @@ module _ (x : CoverSlots) where
   pub cover_priced : (has_price (before_one (cover_tree x)) ≡ true) × (is_in_share (price_of (before_one (cover_tree x))) ≡ true)
   cover_priced = small_is_priced (cover_tree x) small
 
-  pub cover_short : size_of (cover_tree x) ≤ 999
+  pub cover_short : size_of (cover_tree x) < MAX_BLOCK_INSTRS
   cover_short = small_is_short (cover_tree x) small

@@ -1,5 +1,5 @@
 -- What the verifier finds in the plan of a growth, and what it costs.
-use Rattle.std.proofs.Common.{◌≡◌, ℕ, zero, suc, ◌≤◌, Bool, true, false, ◌==◌, Option, Some, if◌then◌else◌, refl, sym, subst, ◌∙◌, arith}
+use Rattle.std.proofs.Common.{◌≡◌, ℕ, zero, suc, ◌<◌, ◌≤◌, Bool, true, false, ◌==◌, Option, Some, if◌then◌else◌, refl, sym, subst, ◌∙◌, arith}
 use Rattle.std.specs.Prelude.{nat_lt}
 use Rattle.std.proofs.lemmas.Bool.{eqb-true, lt-ltb}
 use Rattle.sl_ratio.specs.declared.method.Divisor.{Divisor}
@@ -10,10 +10,11 @@ use Rattle.sl_verify.specs.Kinds.{start_kinds}
 use Rattle.sl_plans.specs.Trees.{size_of}
 use Rattle.sl_plans.specs.Fine.{is_fine, judged_by, has_quiet_lines}
 use Rattle.sl_plans.specs.inner.Prices.{price_of, has_price, is_in_share}
-use Rattle.sl_pieces.specs.scopes.Forms.{Form, AllParties}
+use Rattle.sl_pieces.specs.declared.form.Form.{Form}
+use Rattle.sl_pieces.specs.declared.form.Form.TheVariants.{AllParties}
 use Rattle.sl_pieces.specs.seats.Slots.{Slots}
 use Rattle.sl_pieces.specs.nodes.Trees.{grow_tree}
-use Rattle.sl_blocks.proofs.FineRoles.{roles, names_of, before_one, IsFineAs, HasShapes, fine_of, small_is_quiet, small_is_priced, small_is_short}
+use Rattle.sl_blocks.proofs.FineRoles.{roles, names_of, before_one, IsFineAs, HasShapes, fine_of, small_is_quiet, small_is_priced, small_is_short, MAX_BLOCK_INSTRS}
 
 -- the cap in the plan of roles: 0, or 2 for all others, which is no other number of the plan
 abbrev role_of_cap : ℕ → ℕ
@@ -69,5 +70,5 @@ module _ (f : Form) (x : Slots) (d : Divisor) (m : Majority) (cap slot : ℕ) (i
   pub growth_priced : (has_price (before_one (grow_tree f x d m cap)) ≡ true) × (is_in_share (price_of (before_one (grow_tree f x d m cap))) ≡ true)
   growth_priced = small_is_priced (grow_tree f x d m cap) (with_own x slot cap f d m is).small
 
-  pub growth_short : size_of (grow_tree f x d m cap) ≤ 999
+  pub growth_short : size_of (grow_tree f x d m cap) < MAX_BLOCK_INSTRS
   growth_short = small_is_short (grow_tree f x d m cap) (with_own x slot cap f d m is).small

@@ -11,8 +11,10 @@ use Rattle.sl_verify.specs.Needs.{Context}
 use Rattle.sl_plans.specs.Trees.{Tree, Line, Then, size_of, ones}
 use Rattle.sl_plans.specs.Fine.{is_fine, judged_by, has_quiet_lines}
 use Rattle.sl_plans.specs.inner.Prices.{price_of, has_price, is_in_share}
-use Rattle.sl_pieces.specs.scopes.Forms.{Form, amounts_of, votes_of}
+use Rattle.sl_pieces.specs.declared.form.Form.{Form}
+use Rattle.sl_pieces.specs.scopes.Forms.{amounts_of, votes_of}
 use Rattle.sl_pieces.specs.seats.Slots.{Slots}
+pub use Rattle.sl_blocks.specs.declared.blocks.TheConstants.{MAX_BLOCK_INSTRS}
 use Rattle.sl_blocks.proofs.Renaming.{Renaming, renamed, Renames, renamed_is_fine}
 
 -- ---- roles
@@ -53,7 +55,7 @@ abbrev pub before_one : Tree → Tree
 before_one tree = Then (Line (Set ones 1 ∷ [])) tree
 
 abbrev pub is_small : Tree → Bool
-is_small tree = has_quiet_lines tree && (has_price (before_one tree) && (is_in_share (price_of (before_one tree)) && nat_lt (size_of tree) 1000))
+is_small tree = has_quiet_lines tree && (has_price (before_one tree) && (is_in_share (price_of (before_one tree)) && nat_lt (size_of tree) MAX_BLOCK_INSTRS))
 
 -- the plan is small, and it is the plan of roles under those names, which is fine
 pub record IsFineAs (f : Form) (names : Renaming) (role tree : Tree) : Type 0 where
@@ -103,8 +105,8 @@ small_is_priced tree h =
     let priced = and_parts (has_price (before_one tree)) _ (and_parts (has_quiet_lines tree) _ h).1 in
     (priced.0, (and_parts (is_in_share (price_of (before_one tree))) _ priced.1).0)
 
-pub small_is_short : (tree : Tree) → is_small tree ≡ true → size_of tree ≤ 999
+pub small_is_short : (tree : Tree) → is_small tree ≡ true → size_of tree < MAX_BLOCK_INSTRS
 small_is_short tree h =
     let priced = and_parts (has_price (before_one tree)) _ (and_parts (has_quiet_lines tree) _ h).1 in
-    let few : size_of tree < 1000 = ltb-true (size_of tree) 1000 (and_parts (is_in_share (price_of (before_one tree))) _ priced.1).1 in
+    let few : size_of tree < MAX_BLOCK_INSTRS = ltb-true (size_of tree) MAX_BLOCK_INSTRS (and_parts (is_in_share (price_of (before_one tree))) _ priced.1).1 in
     omega (arith, few)

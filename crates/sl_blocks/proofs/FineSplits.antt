@@ -1,5 +1,5 @@
 -- What the verifier finds in the plan of a split, and what it costs.
-use Rattle.std.proofs.Common.{◌≡◌, ℕ, ◌≤◌, true, Option, None, Some, refl}
+use Rattle.std.proofs.Common.{◌≡◌, ℕ, ◌<◌, ◌≤◌, true, Option, None, Some, refl}
 use Rattle.sl_ratio.specs.declared.method.Divisor.{Divisor}
 use Rattle.sl_ratio.specs.declared.method.Divisor.TheVariants as divisor
 use Rattle.sl_ratio.specs.declared.method.Method.{Method}
@@ -11,10 +11,11 @@ use Rattle.sl_verify.specs.Kinds.{start_kinds}
 use Rattle.sl_plans.specs.Trees.{size_of}
 use Rattle.sl_plans.specs.Fine.{is_fine, judged_by, has_quiet_lines}
 use Rattle.sl_plans.specs.inner.Prices.{price_of, has_price, is_in_share}
-use Rattle.sl_pieces.specs.scopes.Forms.{Form, AllParties}
+use Rattle.sl_pieces.specs.declared.form.Form.{Form}
+use Rattle.sl_pieces.specs.declared.form.Form.TheVariants.{AllParties}
 use Rattle.sl_pieces.specs.seats.Slots.{Slots}
 use Rattle.sl_pieces.specs.nodes.Trees.{split_tree}
-use Rattle.sl_blocks.proofs.FineRoles.{roles, names_of, before_one, IsFineAs, HasShapes, fine_of, small_is_quiet, small_is_priced, small_is_short}
+use Rattle.sl_blocks.proofs.FineRoles.{roles, names_of, before_one, IsFineAs, HasShapes, fine_of, small_is_quiet, small_is_priced, small_is_short, MAX_BLOCK_INSTRS}
 
 module _ (x : Slots) where
   abbrev IsFineSplit : Option ℕ → Form → Method → Majority → Type 0
@@ -70,5 +71,5 @@ module _ (f : Form) (x : Slots) (method : Method) (m : Majority) where
   pub split_priced : (has_price (before_one (split_tree f x method m)) ≡ true) × (is_in_share (price_of (before_one (split_tree f x method m))) ≡ true)
   split_priced = small_is_priced (split_tree f x method m) (split_as x x.minima f method m).small
 
-  pub split_short : size_of (split_tree f x method m) ≤ 999
+  pub split_short : size_of (split_tree f x method m) < MAX_BLOCK_INSTRS
   split_short = small_is_short (split_tree f x method m) (split_as x x.minima f method m).small

@@ -18,7 +18,8 @@ use Rattle.sl_machine.specs.State.{State}
 use Rattle.sl_machine.specs.Places.{cells_of}
 use Rattle.sl_machine.specs.Memories.{column_of}
 use Rattle.sl_machine.specs.Effects.{name_of}
-use Rattle.sl_pieces.specs.scopes.Forms.{Form, amounts_of, votes_of}
+use Rattle.sl_pieces.specs.declared.form.Form.{Form}
+use Rattle.sl_pieces.specs.scopes.Forms.{amounts_of, votes_of}
 use Rattle.sl_pieces.specs.columns.Columns.{HoldsColumn}
 use Rattle.sl_pieces.specs.seats.Slots.{HasSlots}
 use Rattle.sl_pieces.specs.nodes.Scopes.{HoldsMinima, HoldsArguments}

@@ -7,8 +7,9 @@ use Rattle.sl_code.specs.declared.operand.EndFault.TheVariants as end
 use Rattle.sl_code.specs.declared.operand.Ranking.TheVariants as ranking
 use Rattle.sl_plans.specs.declared.plan.Test.TheVariants as test
 use Rattle.sl_plans.specs.Trees.{Tree, Line, Then, If}
-use Rattle.sl_pieces.specs.scopes.Forms.{Form, table_of, scopes_plan}
-use Rattle.sl_pieces.specs.awards.Registers as reg
+use Rattle.sl_pieces.specs.declared.form.Form.{Form}
+use Rattle.sl_pieces.specs.scopes.Forms.{table_of, scopes_plan}
+use Rattle.sl_pieces.specs.declared.registers.TheConstants as reg
 use Rattle.sl_pieces.specs.seats.Trees.{not_over, ranking_of, tied}
 use Rattle.sl_pieces.specs.nodes.Trees.{within_limit, take_house}
 use Rattle.sl_blocks.specs.declared.job.Job.{Job}
@@ -51,8 +52,8 @@ module _ (b : Block) where
       Then
       (Then counted
       (Then whole
-      (If (test.Zero reg.left) (Line [])
-      (Then (If (test.Empty reg.peers) (Line []) (If (test.NotCovered b.job.stage) (tied (form_in b) (slots_in b)) (Line []))) drawn))))
+      (If (test.Zero reg.LEFT) (Line [])
+      (Then (If (test.Empty reg.PEERS) (Line []) (If (test.NotCovered b.job.stage) (tied (form_in b) (slots_in b)) (Line []))) drawn))))
       refused
       ≡ rest_in b
   rest_as counted whole drawn refused counted_is whole_is drawn_is refused_is = rw (counted_is, whole_is, drawn_is, refused_is) refl
@@ -60,15 +61,15 @@ module _ (b : Block) where
   -- a scope of a growth, from its sums, its search and its first seats
   pub growth_as : (cap : ℕ) (summed voted searched batched filled rest : Tree) →
       summed ≡ sum_entries b → voted ≡ some_votes b → searched ≡ search_entries b → batched ≡ search_batches b cap → filled ≡ fill_outside b →
-      Then (Line (Get reg.amount b.job.amount ∷ []))
-      (Then (Then (Line (Set reg.total 0 ∷ (Set reg.needed 0 ∷ []))) summed)
+      Then (Line (Get reg.AMOUNT b.job.amount ∷ []))
+      (Then (Then (Line (Set reg.TOTAL 0 ∷ (Set reg.NEEDED 0 ∷ []))) summed)
       (Then voted
-      (Then (not_over (form_in b) (slots_in b) reg.needed cap end.Cap)
+      (Then (not_over (form_in b) (slots_in b) reg.NEEDED cap end.Cap)
       (Then
       (Then
-      (Then (Line (Set reg.number 0 ∷ (Set reg.turns 0 ∷ (Table (table_of (form_in b)) ranking.Quotients ∷ [])))) (Then searched batched))
+      (Then (Line (Set reg.NUMBER 0 ∷ (Set reg.TURNS 0 ∷ (Table (table_of (form_in b)) ranking.Quotients ∷ [])))) (Then searched batched))
       (take_house (form_in b) (slots_in b) cap))
-      (Then (Then (Line (Table (table_of (form_in b)) (ranking_of b.method) ∷ (Mov reg.left reg.amount ∷ []))) filled) rest)))))
+      (Then (Then (Line (Table (table_of (form_in b)) (ranking_of b.method) ∷ (Mov reg.LEFT reg.AMOUNT ∷ []))) filled) rest)))))
       ≡ growth_with b cap rest
   growth_as cap summed voted searched batched filled rest summed_is voted_is searched_is batched_is filled_is =
       rw (summed_is, voted_is, searched_is, batched_is, filled_is) refl

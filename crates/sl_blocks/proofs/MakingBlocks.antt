@@ -3,13 +3,15 @@ use Rattle.std.proofs.Common.{◌≡◌, ℕ, suc, ◌<◌, ◌≤◌, zero, Lis
 use Rattle.std.proofs.lemmas.Option.{none-some}
 use Rattle.sl_ratio.specs.declared.method.Divisor.{Divisor}
 use Rattle.sl_ratio.specs.declared.method.Method.{Method}
+use Rattle.sl_ratio.specs.declared.limits.TheConstants.{MAX_SEATS}
 use Rattle.sl_stages.specs.declared.book.Shape.{Shape}
 use Rattle.sl_stages.specs.declared.book.Shape.TheVariants as shape
 use Rattle.sl_code.specs.declared.code.CodeStage.{CodeStage}
 use Rattle.sl_code.specs.declared.instr.Instr.{Instr}
 use Rattle.sl_code.specs.Codes.{CountingCode}
 use Rattle.sl_plans.specs.Laid.{laid}
-use Rattle.sl_pieces.specs.scopes.Forms.{Form, amounts_of}
+use Rattle.sl_pieces.specs.declared.form.Form.{Form}
+use Rattle.sl_pieces.specs.scopes.Forms.{amounts_of}
 use Rattle.sl_pieces.specs.nodes.Trees.{split_tree, grow_tree}
 use Rattle.sl_pieces.specs.nodes.Nodes.{HasResult, EndsWith}
 use Rattle.sl_pieces.proofs.nodes.Nodes.{splits_achieve, growths_achieve}
@@ -52,7 +54,7 @@ module _ (shapes : List Shape) (f : Form) (j : Job) (job : IsJob shapes f j) whe
     achieves = λ code e state has is weights. split_means shapes f j code job has e is state weights splits_achieve method takes;
   }
 
-  growth_makes : (d : Divisor) (slot cap : ℕ) → j.minima ≡ Some slot → amounts_of f ≡ shape.One → cap ≤ 4000
+  growth_makes : (d : Divisor) (slot cap : ℕ) → j.minima ≡ Some slot → amounts_of f ≡ shape.One → cap ≤ MAX_SEATS
       → MakesBlock (HasJob shapes j) (HasWeights j) (λ code e state. HasResult e f (slots_of j) (GrowthMeans f j slot d cap code e state) state)
       (λ code e state. EndsWith (GrowthMeans f j slot d cap code e state)) (grow_tree f (slots_of j) d j.majority cap)
   growth_makes d slot cap there one few = record {
@@ -70,7 +72,7 @@ module _ (shapes : List Shape) (f : Form) (j : Job) (job : IsJob shapes f j) whe
   is_split_block method takes before after is = is_block _ _ _ _ (split_tree f (slots_of j) method j.majority) (split_makes method takes) before after is
 
   -- and that of a growth
-  pub is_growth_block : (d : Divisor) (slot cap : ℕ) → j.minima ≡ Some slot → amounts_of f ≡ shape.One → cap ≤ 4000 → (before after : List Instr) →
+  pub is_growth_block : (d : Divisor) (slot cap : ℕ) → j.minima ≡ Some slot → amounts_of f ≡ shape.One → cap ≤ MAX_SEATS → (before after : List Instr) →
       after ≡ before ++ laid (length before) (grow_tree f (slots_of j) d j.majority cap) → IsResultBlock shapes f j (GrowthMeans f j slot d cap) before after
   is_growth_block d slot cap there one few before after is =
       is_block _ _ _ _ (grow_tree f (slots_of j) d j.majority cap) (growth_makes d slot cap there one few) before after is

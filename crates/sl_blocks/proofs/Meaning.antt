@@ -14,7 +14,8 @@ use Rattle.sl_machine.specs.State.{State, End}
 use Rattle.sl_machine.specs.Memories.{column_of}
 use Rattle.sl_plans.specs.Achieves.{Achieves}
 use Rattle.sl_plans.proofs.Rules.{achieves_more}
-use Rattle.sl_pieces.specs.scopes.Forms.{Form, amounts_of}
+use Rattle.sl_pieces.specs.declared.form.Form.{Form}
+use Rattle.sl_pieces.specs.scopes.Forms.{amounts_of}
 use Rattle.sl_pieces.specs.seats.Slots.{Slots}
 use Rattle.sl_pieces.specs.nodes.Trees.{split_tree, grow_tree}
 use Rattle.sl_pieces.specs.nodes.Scopes.{HoldsArguments}

@@ -27,12 +27,12 @@ use Rattle.sl_plans.proofs.Kinded.{fine_plans_pass}
 use Rattle.sl_plans.proofs.Targets.{plans_jump_within}
 use Rattle.sl_plans.proofs.Prices.{shares_suffice}
 use Rattle.sl_blocks.specs.Blocks.{IsBlock}
-use Rattle.sl_blocks.proofs.FineRoles.{before_one}
+use Rattle.sl_blocks.proofs.FineRoles.{before_one, MAX_BLOCK_INSTRS}
 
 -- what is to be known of a plan
 pub record MakesBlock (Stands : CountingCode → Type 0) (Begins : CountingCode → Election → State → Type 0) (Does : CountingCode → Election → State → State → Type 0)
     (Ends : CountingCode → Election → State → End → Type 0) (tree : Tree) : Type 0 where
-  pub short : size_of tree ≤ 999
+  pub short : size_of tree < MAX_BLOCK_INSTRS
   pub quiet : has_quiet_lines tree ≡ true
   pub fine : (code : CountingCode) → Stands code → is_fine (judged_by (slice_get code.slots) (length code.stages)) start_kinds tree ≡ true
   pub priced : has_price (before_one tree) ≡ true

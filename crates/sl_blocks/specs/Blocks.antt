@@ -13,6 +13,7 @@ use Rattle.sl_verify.specs.WellKinded.{context_of}
 use Rattle.sl_machine.specs.State.{State, End}
 use Rattle.sl_machine.specs.Runs.{share_of}
 use Rattle.sl_plans.specs.Achieves.{Reaches}
+use Rattle.sl_blocks.specs.declared.blocks.TheConstants.{MAX_BLOCK_INSTRS}
 
 -- `Stands` is what a code has for the block to stand there, `Begins` what holds of a state where it begins, and `Does` and `Ends` are what then
 -- holds of the state that it comes to, or of the end of the run
@@ -21,7 +22,7 @@ pub record IsBlock (Stands : CountingCode → Type 0) (Begins : CountingCode →
   pub block : List Instr
   pub kept : after ≡ before ++ block
   pub begins : (rest : List Instr) × (block ≡ At start_kinds ∷ rest)
-  pub short : length block ≤ 1000
+  pub short : length block ≤ MAX_BLOCK_INSTRS
   pub within : JumpsWithin (length before) block
   pub passed : (code : CountingCode) → Stands code → HasAt code (length before) block → (comes : Option Kinds) → are_passed (context_of code) comes block ≡ true
   pub runs : (code : CountingCode) (e : Election) (state : State) → Stands code → HasAt code (length before) block → IsElection e → Begins code e state →

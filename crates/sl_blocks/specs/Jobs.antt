@@ -1,11 +1,12 @@
 -- Splits and growths as blocks: the caller's conditions, and what the blocks do (docs/blocks.md, section 5).
-use Rattle.std.specs.Prelude.{◌≡◌, ◌≢◌, ℕ, ◌≤◌, List, Option, None, Some, All, slice_get, option_map}
-use Rattle.sl_ratio.specs.declared.limits.TheConstants.{MAX_WEIGHT}
+use Rattle.std.specs.Prelude.{◌≡◌, ◌≢◌, ℕ, ◌<◌, ◌≤◌, List, Option, None, Some, All, slice_get, option_map}
+use Rattle.sl_ratio.specs.declared.limits.TheConstants.{MAX_WEIGHT, MAX_SEATS}
 use Rattle.sl_ratio.specs.declared.method.Divisor.{Divisor}
 use Rattle.sl_ratio.specs.declared.method.Method.{Method}
 use Rattle.sl_ratio.specs.declared.method.Method.TheVariants as by
 use Rattle.sl_stages.specs.declared.book.Shape.{Shape}
 use Rattle.sl_stages.specs.declared.book.Shape.TheVariants as shape
+use Rattle.sl_stages.specs.declared.limits.TheConstants.{MAX_STAGES}
 use Rattle.sl_stages.specs.returns.Election.{Election}
 use Rattle.sl_stages.specs.meaning.Results.{ExprResult}
 use Rattle.sl_stages.specs.meaning.Expressions.{IsSplit, IsGrown}
@@ -14,7 +15,9 @@ use Rattle.sl_code.specs.declared.code.CodeStage.{CodeStage}
 use Rattle.sl_code.specs.Codes.{CountingCode}
 use Rattle.sl_machine.specs.State.{State}
 use Rattle.sl_machine.specs.Memories.{column_of}
-use Rattle.sl_pieces.specs.scopes.Forms.{Form, AllParties, AllLands, AllLists, ListsOfParty, ListsInLand, amounts_of, votes_of}
+use Rattle.sl_pieces.specs.declared.form.Form.{Form}
+use Rattle.sl_pieces.specs.declared.form.Form.TheVariants.{AllParties, AllLands, AllLists, ListsOfParty, ListsInLand}
+use Rattle.sl_pieces.specs.scopes.Forms.{amounts_of, votes_of}
 use Rattle.sl_pieces.specs.seats.Slots.{Slots}
 use Rattle.sl_pieces.specs.nodes.Scopes.{stand}
 use Rattle.sl_pieces.specs.nodes.Nodes.{HasResult, EndsWith}
@@ -44,7 +47,7 @@ pub record IsJob (shapes : List Shape) (f : Form) (j : Job) : Type 0 where
   pub not_amounts : j.amount ≢ j.result
   pub not_votes : j.weights ≢ j.result
   pub not_minima : (slot : ℕ) → j.minima ≡ Some slot → slot ≢ j.result
-  pub stage : j.stage ≤ 31
+  pub stage : j.stage < MAX_STAGES
 
 -- a method and whether there are minima: Hamilton's method takes none
 abbrev pub TakesMinima : Method → Option ℕ → Type 0
@@ -65,7 +68,7 @@ pub record IsGrowthJob (shapes : List Shape) (j : Job) (cap : ℕ) : Type 0 wher
   pub one : amounts_of form ≡ shape.One
   pub slot : ℕ
   pub minima : j.minima ≡ Some slot
-  pub few : cap ≤ 4000
+  pub few : cap ≤ MAX_SEATS
 
 -- ---- what the blocks do
 

@@ -6,7 +6,7 @@ use Rattle.sl_stages.specs.declared.book.Shape.{Shape}
 use Rattle.sl_code.specs.declared.instr.Instr.{Instr}
 use Rattle.sl_plans.specs.Trees.{Tree}
 use Rattle.sl_plans.specs.Laid.{laid}
-use Rattle.sl_pieces.specs.scopes.Forms.{Form}
+use Rattle.sl_pieces.specs.declared.form.Form.{Form}
 use Rattle.sl_pieces.specs.nodes.Trees.{split_tree, grow_tree}
 use Rattle.sl_blocks.specs.declared.job.Job.{Job}
 use Rattle.sl_blocks.specs.Jobs.{slots_of, IsJob}

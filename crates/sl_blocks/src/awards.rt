@@ -9,8 +9,8 @@ ghost use Rattle.sl_blocks.specs.inner.LayoutParts.{count_left, whole_batches, d
 use crate::batches::batches;
 use crate::blanks::{Block, DRAW, EMIT, ENTER_HELD, GET_HELD, GET_WEIGHT, STORE_HELD, TIE};
 use crate::entries::NOTHING;
-use crate::registers::{ALL_LEFT, HELD, IN_BATCH, LEFT, PEERS, STEP, TURNS, WEIGHT};
 use sl_code::Instr;
+use sl_pieces::registers::{ALL_LEFT, HELD, IN_BATCH, LEFT, PEERS, STEP, TURNS, WEIGHT};
 use sl_plans::Part::Fixed;
 use sl_plans::{Bound, ONES, Plan, Test};
 use sl_ratio::{MAX_SEATS, Method};

@@ -2,13 +2,14 @@
 
 ghost use Rattle.std.specs.Prelude.{◌≡◌};
 ghost use Rattle.sl_pieces.specs.scopes.Forms.{table_of, kind_of};
-ghost use Rattle.sl_blocks.specs.Given.{meant, minimum_of, divisor_of, given_of};
+ghost use Rattle.sl_blocks.specs.Given.{minimum_of, divisor_of, given_of};
 ghost use Rattle.sl_pieces.specs.seats.Trees.{ranking_of};
 
-use crate::form::{Form, kind_of, table_of};
+use crate::form::{kind_of, table_of};
 use crate::job::Job;
-use crate::registers::{AMOUNT, BASE, FIRST_PASSING, HELD, LEFT, NUMBER, STEP, WEIGHT};
 use sl_code::{EndFault, Instr, Ranking, Rounding};
+use sl_pieces::Form;
+use sl_pieces::registers::{AMOUNT, BASE, FIRST_PASSING, HELD, LEFT, NUMBER, STEP, WEIGHT};
 use sl_plans::Part;
 use sl_ratio::{Divisor, Method};
 

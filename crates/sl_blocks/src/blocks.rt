@@ -10,11 +10,14 @@ use crate::blanks::Block;
 use crate::entries::NOTHING;
 use crate::growths::lay_growth_with;
 use crate::majority::refuse;
-use crate::registers::{LEFT, PEERS};
 use crate::splits::lay_split_with;
 use sl_code::{Instr, MAX_INSTRS};
+use sl_pieces::registers::{LEFT, PEERS};
 use sl_plans::{Plan, Test};
 use sl_ratio::NoMemory;
+
+/// The most instructions of a block, with its declaration.
+pub const MAX_BLOCK_INSTRS: usize = 1_000;
 
 /// Appends a block.
 ///

@@ -1,18 +1,19 @@
 //! The block of a covering.
 
-ghost use Rattle.std.specs.Prelude.{◌≡◌, ◌≤◌, IfOk, OnErr, length, vec_len};
+ghost use Rattle.std.specs.Prelude.{◌≡◌, ◌+◌, ◌≤◌, IfOk, OnErr, length, vec_len};
 ghost use Rattle.sl_pieces.specs.covers.Trees.{cover_tree};
 ghost use Rattle.sl_blocks.specs.Covers.{cover_slots, IsCoverBlock, IsCoverJob};
 ghost use Rattle.sl_blocks.specs.Layout.{IsLaid};
 
 use crate::awards::{COUNT_LEFT, COUNT_STEP, LESS_LEFT, WHOLE_BATCH, draw_seats};
 use crate::batches::batches;
+use crate::blocks::MAX_BLOCK_INSTRS;
 use crate::entries::NOTHING;
-use crate::registers::{
+use sl_code::{Entries, Instr, MAX_INSTRS, Ranking, ScopeKind};
+use sl_pieces::registers::{
     AMOUNT, BASE, FIRST_PASSING, IN_BATCH, LEFT, NEEDED, PEERS, SECOND_PASSING, TOTAL, TURNS,
     WEIGHT,
 };
-use sl_code::{Entries, Instr, Ranking, ScopeKind};
 use sl_plans::Part::Fixed;
 use sl_plans::{Bound, Cursor, ONES, Part, Plan, Test, lay};
 use sl_ratio::NoMemory;
@@ -222,11 +223,11 @@ const COVERING: &Plan<'static> = &Plan::Then(
     ),
 );
 
-/// Appends the block of a covering (docs/blocks.md, section 6): at most 1,000 instructions that place each winner, or end the run with the
-/// first tie. It is the plan of `sl_pieces` behind a declaration. The numbers of the lists stand in the first scratch slot by list.
+/// Appends the block of a covering (docs/blocks.md, section 6), which places each winner, or ends the run with the first
+/// tie. It is the plan of `sl_pieces` behind a declaration. The numbers of the lists stand in the first scratch slot by list.
 ///
 /// `base` is the slot of the seats of the lists, `eligible` that of the eligible parties, 1 for such a party and 0 for others. They and the
-/// scratch slot are among the slots given and have their shapes; at most 199,000 instructions stand before.
+/// scratch slot are among the slots given and have their shapes; the code has room for a block.
 ///
 /// # Errors
 /// Without memory, the code is as it was.
@@ -238,7 +239,7 @@ pub fn cover_block(
     scratch: [[u8; 8]; 4],
 ) -> Result<(), NoMemory>
     requires job { IsCoverJob slots.now (cover_slots base eligible scratch) }
-    requires room { vec_len code.old ≤ 199000 }
+    requires room { vec_len code.old + MAX_BLOCK_INSTRS ≤ MAX_INSTRS }
     ensures ok { IfOk result (λ _. IsCoverBlock slots.now (cover_slots base eligible scratch) code.old.items code.new.items) }
     ensures laid { IfOk result (λ _. IsLaid (cover_tree (cover_slots base eligible scratch)) (length code.old.items) code.old.items code.new.items) }
     ensures err { OnErr result (code.new.items ≡ code.old.items) }

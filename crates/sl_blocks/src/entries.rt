@@ -6,9 +6,8 @@ ghost use Rattle.sl_plans.specs.Layout.{tree_of};
 ghost use Rattle.sl_plans.specs.declared.plan.Cursor.TheVariants as cursor;
 ghost use Rattle.sl_plans.specs.Trees.{Each};
 ghost use Rattle.sl_pieces.specs.scopes.Forms.{on_list, entries_plan, scopes_plan};
-ghost use Rattle.sl_blocks.specs.Given.{meant};
 
-use crate::form::Form;
+use sl_pieces::Form;
 use sl_plans::{Cursor, Plan};
 
 pub const NOTHING: &Plan<'static> = &Plan::Line(&[]);
@@ -22,7 +21,7 @@ pub fn each_entry<'a>(
 ) -> Plan<'a>
     requires list { (given : List Instr) → tree_of given listed.now ≡ on_list (tree_of given plan.now) }
     requires party { (given : List Instr) → tree_of given by_party.now ≡ Each cursor.Party (on_list (tree_of given plan.now)) }
-    ensures { (given : List Instr) → tree_of given result ≡ entries_plan (meant form) (tree_of given plan.now) }
+    ensures { (given : List Instr) → tree_of given result ≡ entries_plan form (tree_of given plan.now) }
 {
     match form {
         Form::AllParties => Plan::Each(Cursor::Party, plan),
@@ -35,7 +34,7 @@ pub fn each_entry<'a>(
 
 /// The plan for each scope.
 pub fn each_scope<'a>(form: Form, plan: &'a Plan<'a>) -> Plan<'a>
-    ensures { (given : List Instr) → tree_of given result ≡ scopes_plan (meant form) (tree_of given plan.now) }
+    ensures { (given : List Instr) → tree_of given result ≡ scopes_plan form (tree_of given plan.now) }
 {
     match form {
         Form::ListsOfParty => Plan::Each(Cursor::Party, plan),

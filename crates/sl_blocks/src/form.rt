@@ -1,27 +1,18 @@
 //! The forms of splits and growths: what the entries are, and in which scopes.
 
 ghost use Rattle.std.specs.Prelude.{◌≡◌};
-ghost use Rattle.sl_pieces.specs.scopes.Forms.{Form as SpecForm, table_of, kind_of};
-ghost use Rattle.sl_blocks.specs.Given.{meant};
+ghost use Rattle.sl_pieces.specs.declared.form.Form.{Form as SpecForm};
+ghost use Rattle.sl_pieces.specs.scopes.Forms.{table_of, kind_of};
 ghost use Rattle.sl_blocks.specs.Jobs.{IsJob};
 
 use crate::job::Job;
 use sl_code::{Entries, ScopeKind};
+use sl_pieces::Form;
 use sl_stages::Shape;
-
-/// All parties, all Länder or all lists in one scope; the lists of each party; the lists in each Land.
-#[derive(Clone, Copy, Debug, PartialEq, Eq)]
-pub enum Form {
-    AllParties,
-    AllLands,
-    AllLists,
-    ListsOfParty,
-    ListsInLand,
-}
 
 /// The form by the shapes of the amounts and of the votes.
 pub fn form_of(slots: &[Shape], job: &Job) -> Form
-    ensures { (f : SpecForm) → IsJob slots.now f job.now → meant result ≡ f }
+    ensures { (f : SpecForm) → IsJob slots.now f job.now → result ≡ f }
 {
     match (
         slots.get(job.amount as usize),
@@ -37,7 +28,7 @@ pub fn form_of(slots: &[Shape], job: &Job) -> Form
 
 /// What the entries of the priority table are.
 pub fn table_of(form: Form) -> Entries
-    ensures { result ≡ table_of (meant form) }
+    ensures { result ≡ table_of form }
 {
     match form {
         Form::AllParties => Entries::Party,
@@ -48,7 +39,7 @@ pub fn table_of(form: Form) -> Entries
 
 /// The scope that the cursors stand at.
 pub fn kind_of(form: Form) -> ScopeKind
-    ensures { result ≡ kind_of (meant form) }
+    ensures { result ≡ kind_of form }
 {
     match form {
         Form::ListsOfParty => ScopeKind::Party,

@@ -9,7 +9,7 @@ ghost use Rattle.sl_blocks.specs.Layout.{IsLaid, IsLaidGrowth};
 ghost use Rattle.sl_blocks.specs.inner.LayoutParts.{growth_all};
 
 use crate::blanks::Block;
-use crate::blocks::lay_block;
+use crate::blocks::{MAX_BLOCK_INSTRS, lay_block};
 use crate::fills::{CLEAR_TABLE, fill_outside};
 use crate::form::form_of;
 use crate::houses::{CLEAR_SEARCH, TAKE_HOUSE, WITHIN_CAP, search_batches, search_entries};
@@ -21,12 +21,11 @@ use sl_plans::Plan;
 use sl_ratio::{Divisor, Method, NoMemory};
 use sl_stages::Shape;
 
-/// Appends the block of a growth by a divisor method up to a cap of seats (docs/blocks.md, section 5): at most 1,000 instructions that
-/// leave the entries' seats in the slot of the result, or end the run with the growth's fault. It is the plan of `sl_pieces` behind a
-/// declaration.
+/// Appends the block of a growth by a divisor method up to a cap of seats (docs/blocks.md, section 5), which leaves the entries'
+/// seats in the slot of the result, or ends the run with the growth's fault. It is the plan of `sl_pieces` behind a declaration.
 ///
-/// The slots of the job are among those given and have the shapes of a growth: one amount, and minima; the cap is at most 4,000; at most
-/// 199,000 instructions stand before.
+/// The slots of the job are among those given and have the shapes of a growth: one amount, and minima; the cap is within the limit; the
+/// code has room for a block.
 ///
 /// # Errors
 /// Without memory, the code is as it was.
@@ -38,7 +37,7 @@ pub fn grow_block(
     cap: u32,
 ) -> Result<(), NoMemory>
     requires job { IsGrowthJob slots.now job.now cap }
-    requires room { vec_len code.old ≤ 199000 }
+    requires room { vec_len code.old + MAX_BLOCK_INSTRS ≤ MAX_INSTRS }
     ensures ok { IfOk result (λ _. IsGrowthBlock slots.now job.now method cap code.old.items code.new.items) }
     ensures laid { IfOk result (λ _. IsLaidGrowth slots.now job.now method cap code.old.items code.new.items) }
     ensures err { OnErr result (code.new.items ≡ code.old.items) }

@@ -13,11 +13,11 @@ use crate::blanks::{
     SEARCH_TABLE, STORE_HELD,
 };
 use crate::entries::{NOTHING, each_entry};
-use crate::registers::{
+use sl_code::Instr;
+use sl_pieces::registers::{
     ALL_LEFT, AMOUNT, BASE, FIRST_PASSING, HELD, IN_BATCH, LEFT, NEEDED, NUMBER, PEERS, TURNS,
     WEIGHT,
 };
-use sl_code::Instr;
 use sl_plans::Part::Fixed;
 use sl_plans::{Bound, Cursor, ONES, Plan, Test};
 use sl_ratio::MAX_SEATS;

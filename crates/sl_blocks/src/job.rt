@@ -5,7 +5,7 @@ use sl_stages::Majority;
 /// A split or a growth: its stage, the slots of its columns, and the majority clause.
 #[derive(Clone, Copy, Debug, PartialEq, Eq)]
 pub struct Job {
-    /// The number of the stage, at most 31.
+    /// The number of the stage.
     pub stage: u8,
     /// The slot of the seats to give out.
     pub amount: u8,

@@ -13,7 +13,6 @@ mod growths;
 mod houses;
 mod job;
 mod majority;
-mod registers;
 mod scopes;
 mod splits;
 mod sums;

@@ -9,7 +9,7 @@ ghost use Rattle.sl_blocks.specs.Layout.{IsLaid, IsLaidSplit};
 ghost use Rattle.sl_blocks.specs.inner.LayoutParts.{split_all};
 
 use crate::blanks::Block;
-use crate::blocks::lay_block;
+use crate::blocks::{MAX_BLOCK_INSTRS, lay_block};
 use crate::fills::{CLEAR_TABLE, fill_entries};
 use crate::form::form_of;
 use crate::job::Job;
@@ -20,11 +20,11 @@ use sl_plans::Plan;
 use sl_ratio::{Method, NoMemory};
 use sl_stages::Shape;
 
-/// Appends the block of a split by a method (docs/blocks.md, section 5): at most 1,000 instructions that leave the entries' seats in the
-/// slot of the result, or end the run with the split's fault. It is the plan of `sl_pieces` behind a declaration.
+/// Appends the block of a split by a method (docs/blocks.md, section 5), which leaves the entries' seats in the slot of the
+/// result, or ends the run with the split's fault. It is the plan of `sl_pieces` behind a declaration.
 ///
-/// The slots of the job are among those given and have the shapes of a split; Hamilton's method takes no minima; at most 199,000
-/// instructions stand before.
+/// The slots of the job are among those given and have the shapes of a split; Hamilton's method takes no minima; the
+/// code has room for a block.
 ///
 /// # Errors
 /// Without memory, the code is as it was.
@@ -35,7 +35,7 @@ pub fn split_block(
     method: Method,
 ) -> Result<(), NoMemory>
     requires job { IsSplitJob slots.now job.now method }
-    requires room { vec_len code.old ≤ 199000 }
+    requires room { vec_len code.old + MAX_BLOCK_INSTRS ≤ MAX_INSTRS }
     ensures ok { IfOk result (λ _. IsSplitBlock slots.now job.now method code.old.items code.new.items) }
     ensures laid { IfOk result (λ _. IsLaidSplit slots.now job.now method code.old.items code.new.items) }
     ensures err { OnErr result (code.new.items ≡ code.old.items) }

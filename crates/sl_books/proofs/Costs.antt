@@ -3,9 +3,12 @@ use Rattle.std.proofs.Common.{◌≡◌, ℕ, ◌+◌, ◌*◌, ◌<◌, ◌≤�
 use Rattle.std.proofs.Math.Nat.{mul-le-mul_left}
 use Rattle.std.specs.Prelude.{nat_lt}
 use Rattle.std.proofs.lemmas.Bool.{and_parts, ltb-true}
+use Rattle.sl_ratio.specs.declared.limits.TheConstants.{MAX_SEATS}
 use Rattle.sl_stages.specs.declared.book.Cond.{Cond}
+use Rattle.sl_stages.specs.declared.limits.TheConstants.{MAX_PARTS}
 use Rattle.sl_stages.specs.book.Trees.{BookTree}
 use Rattle.sl_stages.specs.returns.Election.{Election, lands_of, parties_of, wins_of}
+use Rattle.sl_machine.specs.declared.machine.TheConstants.{STEPS_EACH}
 use Rattle.sl_machine.specs.Runs.{budget_of}
 use Rattle.sl_plans.specs.Trees.{Tree, size_of}
 use Rattle.sl_plans.specs.Meaning.{cost}
@@ -80,17 +83,17 @@ module _ (e : Election) where
     where
       -- with so many for each winner in all: q is the number of pairs
       in_pairs : (q w n c : ℕ) → 1 ≤ q
-          → c ≤ n * (q * (500001 + 0 * w) + 65 * (q * (20 + 0 * w))) + (14 * (q * (31 + 30 * w)) + (3 * (q * (20 + 0 * w)) + q * (71 + 70 * w)))
-          → c + 1 ≤ (n + 2) * (400 * q * (4000 + w + 2))
+          → c ≤ n * (q * (500001 + 0 * w) + (MAX_PARTS + 1) * (q * (20 + 0 * w))) + (14 * (q * (31 + 30 * w)) + (3 * (q * (20 + 0 * w)) + q * (71 + 70 * w)))
+          → c + 1 ≤ (n + 2) * (STEPS_EACH * q * (MAX_SEATS + w + 2))
       in_pairs q w n c some h = omega (arith, h, some)
 
-      same_share : (p l w : ℕ) → 400 * ((p + 1) * (l + 1)) * (4000 + w + 2) ≡ 400 * (p + 1) * (l + 1) * (4000 + w + 2)
+      same_share : (p l w : ℕ) → STEPS_EACH * ((p + 1) * (l + 1)) * (MAX_SEATS + w + 2) ≡ STEPS_EACH * (p + 1) * (l + 1) * (MAX_SEATS + w + 2)
       same_share p l w = omega arith
 
       of : (p l w n c : ℕ)
-          → c ≤ n * ((p + 1) * (l + 1) * (500001 + 0 * w) + 65 * ((p + 1) * (l + 1) * (20 + 0 * w)))
+          → c ≤ n * ((p + 1) * (l + 1) * (500001 + 0 * w) + (MAX_PARTS + 1) * ((p + 1) * (l + 1) * (20 + 0 * w)))
           + (14 * ((p + 1) * (l + 1) * (31 + 30 * w)) + (3 * ((p + 1) * (l + 1) * (20 + 0 * w)) + (p + 1) * (l + 1) * (71 + 70 * w)))
-          → c + 1 ≤ (n + 2) * (400 * (p + 1) * (l + 1) * (4000 + w + 2))
+          → c + 1 ≤ (n + 2) * (STEPS_EACH * (p + 1) * (l + 1) * (MAX_SEATS + w + 2))
       of p l w n c h =
           let some : 1 ≤ (p + 1) * (l + 1) = omega arith in
           rw (← same_share p l w) (in_pairs ((p + 1) * (l + 1)) w n c some h)

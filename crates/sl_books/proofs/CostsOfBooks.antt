@@ -28,7 +28,8 @@ use Rattle.sl_code.specs.declared.operand.Input.TheVariants as input
 use Rattle.sl_plans.specs.Trees.{Tree, Line, Then}
 use Rattle.sl_pieces.specs.columns.Trees.{copy_tree}
 use Rattle.sl_pieces.specs.facts.Trees.{FactSlots, condition_tree, conditions_tree, eligible_tree, fact_tree}
-use Rattle.sl_pieces.specs.exprs.Slots.{fact_slots, winners_slot, passing, names_left, vacant_seats}
+use Rattle.sl_pieces.specs.declared.slots.TheConstants.{NAMES_LEFT as names_left, VACANT_SEATS as vacant_seats}
+use Rattle.sl_pieces.specs.exprs.Slots.{fact_slots, winners_slot, passing}
 use Rattle.sl_pieces.specs.exprs.Pieces.{form_by, shape_of, node_slots, split_piece, grow_piece, pieces}
 use Rattle.sl_pieces.specs.exprs.Stages.{stage_pieces, stages_pieces}
 use Rattle.sl_pieces.specs.closing.Trees.{base_slot, final_seats, cover_slots, seating_pieces, vacant_pieces, last_pieces}
@@ -91,8 +92,8 @@ module _ (node column : ℕ) where
   split_of_three : (c a b d p q r : ℕ) → c ≤ at_most a p + (at_most b q + (at_most d r + node)) → c ≤ at_most (1 + a + b + d) (1 + p + q + r)
   split_of_three c a b d p q r h = omega (arith, h)
 
-  stage_sum : (c a p : ℕ) → a ≤ 1 → p ≤ 64 → c ≤ at_most a p + column → c ≤ node + 65 * column
-  stage_sum c a p ha hp h = omega (arith, h, mul-le a node 1 node ha (omega arith), mul-le p column 64 column hp (omega arith))
+  stage_sum : (c a p : ℕ) → a ≤ 1 → p ≤ MAX_PARTS → c ≤ at_most a p + column → c ≤ node + (MAX_PARTS + 1) * column
+  stage_sum c a p ha hp h = omega (arith, h, mul-le a node 1 node ha (omega arith), mul-le p column MAX_PARTS column hp (omega arith))
 
 one_more : (c n x : ℕ) → c ≤ x + n * x → c ≤ suc n * x
 one_more c n x h = omega (arith, h)
@@ -143,22 +144,22 @@ module _ (f : Tree → ℕ) (node column fact cover : ℕ) (m : IsMeasure f node
         (grow_at_most level (shape_of types stage s) (shape_of types stage v) (passing (level + 2) (shape_of types stage v)) method major most.value))))
 
   -- ---- stages
-  -- at most one split or growth, 64 other plans, and a copy
-  stage_at_most : (types : List Column) (k : ℕ) (s : StageTree) → splits_in s.expr ≤ 1 → is_within_stage s ≡ true → total f (stage_pieces types k s) ≤ node + 65 * column
+  -- at most one split or growth, as many other plans as there are parts, and a copy
+  stage_at_most : (types : List Column) (k : ℕ) (s : StageTree) → splits_in s.expr ≤ 1 → is_within_stage s ≡ true → total f (stage_pieces types k s) ≤ node + (MAX_PARTS + 1) * column
   stage_at_most types k s single within =
-      let few : parts_of s.expr ≤ 64 = leb-true (parts_of s.expr) 64 (and_parts (nat_le (depth_of s.expr) MAX_DEPTH) (nat_le (parts_of s.expr) MAX_PARTS) within).1 in
+      let few : parts_of s.expr ≤ MAX_PARTS = leb-true (parts_of s.expr) MAX_PARTS (and_parts (nat_le (depth_of s.expr) MAX_DEPTH) (nat_le (parts_of s.expr) MAX_PARTS) within).1 in
       stage_sum node column (total f (stage_pieces types k s)) (splits_in s.expr) (parts_of s.expr) single few
       (both_at_most f (pieces types k 0 s.expr) _ _ column (pieces_at_most types k 0 s.expr) (one_at_most f _ column (m.columns _ (copy_modest _ _ _))))
 
   stages_at_most : (types : List Column) (k : ℕ) (ss : List StageTree) → first_failing (stages_tests types ss) ≡ None → list_all is_within_stage ss ≡ true
-      → total f (stages_pieces types k ss) ≤ length ss * (node + 65 * column)
+      → total f (stages_pieces types k ss) ≤ length ss * (node + (MAX_PARTS + 1) * column)
   stages_at_most types k [] pass within = omega arith
   stages_at_most types k (s ∷ ss) pass within =
       let once = head_holds _ _ _ pass in
       let single = head_holds _ _ _ once.1 in
       let parts = pass_parts (expr_tests types s.expr) _ single.1 in
       let kept = and_parts (is_within_stage s) (list_all is_within_stage ss) within in
-      one_more _ (length ss) (node + 65 * column)
+      one_more _ (length ss) (node + (MAX_PARTS + 1) * column)
       (both_at_most f (stage_pieces types k s) _ _ _ (stage_at_most types k s (leb-true (splits_in s.expr) 1 single.0) kept.0)
       (stages_at_most (types ++ stage_column types s ∷ []) (k + 1) ss parts.1 kept.1))
 
@@ -211,14 +212,14 @@ module _ (f : Tree → ℕ) (node column fact cover : ℕ) (m : IsMeasure f node
 
   -- ---- the whole book
   pub book_at_most : (few : List Cond) (b : BookTree) → CanCompile few b
-      → total f (book_pieces few b) ≤ length b.stages * (node + 65 * column) + (14 * fact + (3 * column + cover))
+      → total f (book_pieces few b) ≤ length b.stages * (node + (MAX_PARTS + 1) * column) + (14 * fact + (3 * column + cover))
   book_at_most few b can =
       let within = (and_parts (nat_le (length b.stages) MAX_STAGES) (list_all is_within_stage b.stages) can.limits).1 in
       let stages = stages_at_most [] 0 b.stages (stages_hold b can.typed) within in
       let last = last_at_most (columns_of [] b.stages) b.last in
       let all = both_at_most f (facts_pieces few b) _ _ _ (facts_at_most few b can.same.long)
       (both_at_most f (stages_pieces [] 0 b.stages) (last_pieces (columns_of [] b.stages) b.last) _ _ stages last) in
-      of_three (total f (book_pieces few b)) (length b.stages * (node + 65 * column)) all
+      of_three (total f (book_pieces few b)) (length b.stages * (node + (MAX_PARTS + 1) * column)) all
     where
       of_three : (c stages : ℕ) → c ≤ 12 * fact + (stages + (2 * fact + (3 * column + cover))) → c ≤ stages + (14 * fact + (3 * column + cover))
       of_three c stages h = omega (arith, h)

@@ -19,6 +19,7 @@ use Rattle.sl_plans.specs.Trees.{Tree, size_of}
 use Rattle.sl_plans.specs.Laid.{laid, laid_all, size_all, cost_all, AchievesAll}
 use Rattle.sl_plans.proofs.Places.{length-flat}
 use Rattle.sl_plans.proofs.LaidPlans.{laid_are_followed}
+use Rattle.sl_pieces.specs.declared.slots.TheConstants.{VACANT_SEATS as vacant_seats}
 use Rattle.sl_pieces.specs.exprs.Slots.{HasBookSlots}
 use Rattle.sl_pieces.specs.closing.Trees.{halting, final_seats, vacant_slot}
 use Rattle.sl_books.proofs.Runs.{IsDone, IsStopped}
@@ -38,9 +39,9 @@ module _ (c : CountingCode) (e : Election) (types : List Column) (slots : HasBoo
   halts : (vacate : Option ℕ) (s : State) → effect c e (halting vacate) s ≡ Ends (Halted final_seats (vacant_slot vacate) s)
   halts None s = ap (λ (o : Option Shape). given o (λ shape. Ends (Halted final_seats None s))) (slots.passing_are 0 shape.List (omega arith))
   halts (Some at) s =
-      let here : slice_get c.slots 11 ≡ Some shape.List = slots.vacant_seats_are in
-      ap (λ (o : Option Shape). given o (λ base. given (slice_get c.slots 11) (λ vacant. Ends (Halted final_seats (Some 11) s)))) (slots.passing_are 0 shape.List (omega arith))
-      ∙ ap (λ (o : Option Shape). given o (λ vacant. Ends (Halted final_seats (Some 11) s))) here
+      let here : slice_get c.slots vacant_seats ≡ Some shape.List = slots.vacant_seats_are in
+      ap (λ (o : Option Shape). given o (λ base. given (slice_get c.slots vacant_seats) (λ vacant. Ends (Halted final_seats (Some vacant_seats) s)))) (slots.passing_are 0 shape.List (omega arith))
+      ∙ ap (λ (o : Option Shape). given o (λ vacant. Ends (Halted final_seats (Some vacant_seats) s))) here
 
 -- plans and an instruction behind them that ends the run, from the first place of a code on
 module _ (c : CountingCode) (e : Election) (ts : List Tree) (i : Instr) (whole : c.instrs ≡ laid_all 0 ts ++ i ∷ []) (of : State → End) (over : (s : State) → effect c e i s ≡ Ends (of s))

@@ -10,6 +10,7 @@ use Rattle.sl_ratio.specs.declared.method.Method.TheVariants as by
 use Rattle.sl_stages.specs.declared.book.Majority.{Majority}
 use Rattle.sl_stages.specs.declared.book.Shape.{Shape}
 use Rattle.sl_stages.specs.declared.book.Shape.TheVariants as shape
+use Rattle.sl_stages.specs.declared.limits.TheConstants.{MAX_DEPTH}
 use Rattle.sl_stages.specs.book.Tests.{first_failing}
 use Rattle.sl_stages.specs.book.Trees.{ExprTree, fact, name, sum, pair, split, without, atleast, grow}
 use Rattle.sl_stages.specs.book.Limits.{depth_of}
@@ -19,6 +20,7 @@ use Rattle.sl_stages.proofs.typing.TestLists.{pass_parts3, pass_parts4}
 use Rattle.sl_code.specs.Codes.{CountingCode}
 use Rattle.sl_pieces.specs.columns.Trees.{copy_tree, summed}
 use Rattle.sl_pieces.specs.scopes.Forms.{amounts_of, votes_of}
+use Rattle.sl_pieces.specs.declared.slots.TheConstants.{LEVELS}
 use Rattle.sl_pieces.specs.exprs.Slots.{fact_slots, passing, stage_slot, HasBookSlots}
 use Rattle.sl_pieces.specs.exprs.Pieces.{form_by, node_slots, split_piece, grow_piece, pieces}
 use Rattle.sl_pieces.proofs.exprs.Levels.{low_level, one_level, two_levels, split_levels, three_levels, split_passes, split_from_passes, grow_passes}
@@ -70,7 +72,7 @@ form_has shape.List v can = absurd (false≢true can)
 
 module _ (code : CountingCode) (types : List Column) (stage : ℕ) (slots : HasBookSlots code types) (staged : stage < length code.stages) where
   -- the slots of a split or a growth on that level have their shapes
-  node_shapes : (level : ℕ) (s v : Shape) (minima : Option ℕ) → level + 1 ≤ 16 → can_split s v ≡ true → ((slot : ℕ) → minima ≡ Some slot → slice_get code.slots slot ≡ Some v)
+  node_shapes : (level : ℕ) (s v : Shape) (minima : Option ℕ) → level + 1 ≤ MAX_DEPTH → can_split s v ≡ true → ((slot : ℕ) → minima ≡ Some slot → slice_get code.slots slot ≡ Some v)
       → HasShapes (slice_get code.slots) (length code.stages) (form_by s v) (node_slots types stage level s v minima)
   node_shapes level s v minima low can there =
       let form = form_has s v can in
@@ -84,15 +86,15 @@ module _ (code : CountingCode) (types : List Column) (stage : ℕ) (slots : HasB
       }
 
   -- minima two levels on
-  minima_there : (level : ℕ) (v : Shape) → level + 2 ≤ 16 → (slot : ℕ) → Some (passing (level + 2) v) ≡ Some slot → slice_get code.slots slot ≡ Some v
+  minima_there : (level : ℕ) (v : Shape) → level + 2 ≤ MAX_DEPTH → (slot : ℕ) → Some (passing (level + 2) v) ≡ Some slot → slice_get code.slots slot ≡ Some v
   minima_there level v low slot is = ap (slice_get code.slots) (sym (same_Some (passing (level + 2) v) slot is)) ∙ slots.passing_are (level + 2) v low
 
-  split_piece_fine : (level : ℕ) (s v : Shape) (minima : Option ℕ) (method : Method) (majority : Majority) → level + 1 ≤ 16 → can_split s v ≡ true
+  split_piece_fine : (level : ℕ) (s v : Shape) (minima : Option ℕ) (method : Method) (majority : Majority) → level + 1 ≤ MAX_DEPTH → can_split s v ≡ true
       → ((slot : ℕ) → minima ≡ Some slot → slice_get code.slots slot ≡ Some v) → AreFine code (split_piece types stage level s v minima method majority)
   split_piece_fine level s v minima method majority low can there =
       (split_fine (slice_get code.slots) (length code.stages) (form_by s v) (node_slots types stage level s v minima) method majority (node_shapes level s v minima low can there), tt)
 
-  grow_piece_fine : (level : ℕ) (s v : Shape) (slot : ℕ) (method : Method) (majority : Majority) (cap : ℕ) → level + 1 ≤ 16 → can_split s v ≡ true
+  grow_piece_fine : (level : ℕ) (s v : Shape) (slot : ℕ) (method : Method) (majority : Majority) (cap : ℕ) → level + 1 ≤ MAX_DEPTH → can_split s v ≡ true
       → ((k : ℕ) → Some slot ≡ Some k → slice_get code.slots k ≡ Some v) → AreFine code (grow_piece types stage level s v (Some slot) method majority cap)
   grow_piece_fine level s v slot by.Hamilton majority cap low can there = tt
   grow_piece_fine level s v slot (by.Divisor d) majority cap low can there = (
@@ -106,11 +108,11 @@ module _ (code : CountingCode) (types : List Column) (stage : ℕ) (slots : HasB
   abbrev in_shape : ExprTree → Shape
   in_shape x = (type_of types x).shape
 
-  copy_piece : (level : ℕ) (s : Shape) (from : ℕ) → level ≤ 16 → slice_get code.slots from ≡ Some s → AreFine code (copy_tree s from (passing level s) ∷ [])
+  copy_piece : (level : ℕ) (s : Shape) (from : ℕ) → level ≤ MAX_DEPTH → slice_get code.slots from ≡ Some s → AreFine code (copy_tree s from (passing level s) ∷ [])
   copy_piece level s from low is = (copy_fine (slice_get code.slots) (length code.stages) s from (passing level s) is (slots.passing_are level s low), tt)
 
   -- a typed expression of at most so many levels
-  pub pieces_fine : (x : ExprTree) (level : ℕ) → first_failing (expr_tests types x) ≡ None → level + depth_of x + splits_in x ≤ 17 → AreFine code (pieces types stage level x)
+  pub pieces_fine : (x : ExprTree) (level : ℕ) → first_failing (expr_tests types x) ≡ None → level + depth_of x + splits_in x ≤ LEVELS → AreFine code (pieces types stage level x)
   pieces_fine (fact at told) level pass within = copy_piece level (fact_type told).shape (fact_slots.of told) (low_level (fact at told) level within) (slots.facts.facts told)
   pieces_fine (name at n) level pass within =
       copy_piece level (in_shape (name at n)) (stage_slot (unwrap_or (position (is_named n) types) 0)) (low_level (name at n) level within) (named_slot code types n slots (head_holds _ _ _ pass).0)

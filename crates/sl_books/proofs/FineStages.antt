@@ -21,7 +21,8 @@ use Rattle.sl_code.specs.Codes.{CountingCode}
 use Rattle.sl_code.specs.declared.instr.Instr.TheVariants.{Input}
 use Rattle.sl_code.specs.declared.operand.Input.TheVariants as input
 use Rattle.sl_plans.specs.Trees.{Line}
-use Rattle.sl_pieces.specs.exprs.Slots.{winners_slot, names_left, vacant_seats, passing, stage_slot, HasBookSlots}
+use Rattle.sl_pieces.specs.declared.slots.TheConstants.{NAMES_LEFT as names_left, VACANT_SEATS as vacant_seats, LEVELS}
+use Rattle.sl_pieces.specs.exprs.Slots.{winners_slot, passing, stage_slot, HasBookSlots}
 use Rattle.sl_pieces.specs.exprs.Pieces.{pieces}
 use Rattle.sl_pieces.specs.exprs.Stages.{stage_pieces, stages_pieces}
 use Rattle.sl_pieces.proofs.exprs.StageRules.{last_there, extended, slots_before}
@@ -35,9 +36,9 @@ use Rattle.sl_books.proofs.FineExprs.{named_slot, pieces_fine}
 -- ---- stages
 
 -- an expression of a stage within the limits has few levels
-few_levels : (s : StageTree) → is_within_stage s ≡ true → splits_in s.expr ≤ 1 → 0 + depth_of s.expr + splits_in s.expr ≤ 17
+few_levels : (s : StageTree) → is_within_stage s ≡ true → splits_in s.expr ≤ 1 → 0 + depth_of s.expr + splits_in s.expr ≤ LEVELS
 few_levels s within single =
-    let depth : depth_of s.expr ≤ 16 = leb-true (depth_of s.expr) 16 (and_parts (nat_le (depth_of s.expr) MAX_DEPTH) (nat_le (parts_of s.expr) MAX_PARTS) within).0 in
+    let depth : depth_of s.expr ≤ MAX_DEPTH = leb-true (depth_of s.expr) MAX_DEPTH (and_parts (nat_le (depth_of s.expr) MAX_DEPTH) (nat_le (parts_of s.expr) MAX_PARTS) within).0 in
     omega (arith, depth, single)
 
 -- the slot of the first stage that is left
@@ -57,7 +58,7 @@ stages_fine code types k (s ∷ ss) is pass within slots few =
     let all : k + suc (length ss) ≤ length code.stages = few in
     let here : k < length code.stages = omega (arith, all) in
     let later : k + 1 + length ss ≤ length code.stages = omega (arith, all) in
-    let lowest : 0 ≤ 16 = omega arith in
+    let lowest : 0 ≤ MAX_DEPTH = omega arith in
     let once = head_holds _ _ _ pass in
     let single = head_holds _ _ _ once.1 in
     let parts = pass_parts (expr_tests types s.expr) _ single.1 in

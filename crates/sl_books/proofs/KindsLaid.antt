@@ -21,7 +21,8 @@ use Rattle.sl_plans.specs.Fine.{kinds_along, ArePassed}
 use Rattle.sl_plans.proofs.Places.{length-flat}
 use Rattle.sl_plans.proofs.LaidPlans.{plan_stands}
 use Rattle.sl_plans.proofs.Kinded.{fine_plans_pass}
-use Rattle.sl_pieces.specs.exprs.Slots.{vacant_seats, HasBookSlots}
+use Rattle.sl_pieces.specs.declared.slots.TheConstants.{VACANT_SEATS as vacant_seats}
+use Rattle.sl_pieces.specs.exprs.Slots.{HasBookSlots}
 use Rattle.sl_pieces.specs.closing.Trees.{final_seats, halting}
 use Rattle.sl_books.proofs.FineTrees.{IsFineIn, AreFine}
 

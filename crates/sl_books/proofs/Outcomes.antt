@@ -33,6 +33,7 @@ use Rattle.sl_machine.specs.Memories.{held_of, column_of}
 use Rattle.sl_machine.specs.Tables.{held_table}
 use Rattle.sl_machine.proofs.effects.Storing.{column_by_cells}
 use Rattle.sl_pieces.specs.columns.Columns.{HoldsColumn}
+use Rattle.sl_pieces.specs.declared.slots.TheConstants.{FIRST_STAGE_SLOT}
 use Rattle.sl_pieces.specs.exprs.Slots.{stage_slot, HasBookSlots}
 use Rattle.sl_pieces.proofs.exprs.StageRules.{still_holds}
 use Rattle.sl_pieces.specs.closing.Trees.{final_seats, vacant_slot}
@@ -161,7 +162,7 @@ module _ (c : CountingCode) (b : BookTree) (e : Election) (slots : HasBookSlots 
       column_kept : (n : ℕ) (t : Column) (x : NamedColumn) → slice_get h.known.types n ≡ Some t → slice_get h.known.columns n ≡ Some x →
           HoldsColumn e t.type.shape (s.columns (stage_slot n)) x.values
       column_kept n t x type named =
-          let high : 80 ≤ stage_slot n = omega arith in
+          let high : FIRST_STAGE_SLOT ≤ stage_slot n = omega arith in
           still_holds e t.type.shape (h.staged.columns (stage_slot n)) (s.columns (stage_slot n)) x.values (λ q. h.closed.columns (stage_slot n) q high)
           (h.behind.known.stages n t x type named)
 

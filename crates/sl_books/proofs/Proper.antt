@@ -24,7 +24,8 @@ use Rattle.sl_code.specs.Proper.{IsInRange, IsProper}
 use Rattle.sl_plans.specs.Trees.{Tree}
 use Rattle.sl_plans.specs.Laid.{laid_all, size_all}
 use Rattle.sl_pieces.specs.facts.Trees.{fact_tree}
-use Rattle.sl_pieces.specs.exprs.Slots.{fact_slots, winners_slot, passing, names_left, vacant_seats}
+use Rattle.sl_pieces.specs.declared.slots.TheConstants.{NAMES_LEFT as names_left, VACANT_SEATS as vacant_seats, FIRST_STAGE_SLOT}
+use Rattle.sl_pieces.specs.exprs.Slots.{fact_slots, winners_slot, passing}
 use Rattle.sl_pieces.specs.exprs.Pieces.{form_by, shape_of, node_slots, split_piece, grow_piece, pieces}
 use Rattle.sl_pieces.specs.exprs.Stages.{stage_pieces, stages_pieces}
 use Rattle.sl_pieces.specs.closing.Trees.{base_slot, final_seats, cover_slots, seating_pieces, vacant_pieces, last_pieces, halting}
@@ -143,7 +144,7 @@ book_in_range few b can ranged =
     all_append IsInRange (laid_all 0 ts) (halting b.last.vacate ∷ []) (laid_in_range 0 ts ranged below) (halt_in_range b.last.vacate, tt)
 
 -- ---- stages and slots
-length-book_slots : (types : List Column) → length (book_slots types) ≡ 80 + length types
+length-book_slots : (types : List Column) → length (book_slots types) ≡ FIRST_STAGE_SLOT + length types
 length-book_slots types = let rest = length-map types (λ c. c.type.shape) in omega (arith, rest)
 
 book_is_code : (few : List Cond) (b : BookTree) → CanCompile few b → IsCode (book_code few b)

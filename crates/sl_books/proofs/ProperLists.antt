@@ -35,7 +35,7 @@ pub written_fit : (xs : List ℕ) → list_all (λ n. nat_le n MAX_NUMBER) xs �
 written_fit [] h = tt
 written_fit (x ∷ xs) h =
     let parts = and_parts (nat_le x MAX_NUMBER) (list_all (λ n. nat_le n MAX_NUMBER) xs) h in
-    let below : x ≤ 999999999 = leb-true x 999999999 parts.0 in
+    let below : x ≤ MAX_NUMBER = leb-true x MAX_NUMBER parts.0 in
     (omega (arith, below), written_fit xs parts.1)
 
 -- a number in the place of 2, and all others as they are

@@ -3,7 +3,7 @@ use Rattle.std.proofs.Common.{◌≡◌, ℕ, ◌+◌, ◌*◌, ◌≤◌, ◌<�
 use Rattle.std.specs.Prelude.{nat_lt, nat_le}
 use Rattle.std.specs.List.{list_all}
 use Rattle.std.proofs.lemmas.Bool.{and_parts, ltb-true, leb-true}
-use Rattle.sl_stages.specs.declared.limits.TheConstants.{MAX_STAGES}
+use Rattle.sl_stages.specs.declared.limits.TheConstants.{MAX_STAGES, MAX_PARTS}
 use Rattle.sl_stages.specs.book.Limits.{is_within_stage, is_within_limits}
 use Rattle.sl_stages.specs.book.Trees.{StageTree}
 use Rattle.sl_verify.specs.Kinds.{start_kinds}
@@ -46,9 +46,9 @@ length-laid_all p (t ∷ ts) =
     let rest = laid_all (p + (size_of t + 1)) ts in
     omega (arith, length-append (laid p t) rest, length-flat t start_kinds (p + 1), length-laid_all (p + (size_of t + 1)) ts)
 
--- a book within the limits has at most 32 stages
-pub few_stages : (ss : List StageTree) → is_within_limits ss ≡ true → length ss ≤ 32
-few_stages ss within = leb-true (length ss) 32 (and_parts (nat_le (length ss) MAX_STAGES) (list_all is_within_stage ss) within).0
+-- a book within the limits has no more stages than these allow
+pub few_stages : (ss : List StageTree) → is_within_limits ss ≡ true → length ss ≤ MAX_STAGES
+few_stages ss within = leb-true (length ss) MAX_STAGES (and_parts (nat_le (length ss) MAX_STAGES) (list_all is_within_stage ss) within).0
 
 pub books_are_short : BooksAreShort
 books_are_short few b can =
@@ -57,5 +57,5 @@ books_are_short few b can =
     of (length (book_instrs few b)) (total (λ t. size_of t + 1) ts) (length b.stages) (few_stages b.stages can.limits)
     (let halt = length-append (laid_all 0 ts) (halting b.last.vacate ∷ []) in omega (arith, halt, length-laid_all 0 ts, sizes_total ts)) all
   where
-    of : (long all stages : ℕ) → stages ≤ 32 → long ≡ all + 1 → all ≤ stages * (351 + 65 * 15) + (14 * 41 + (3 * 15 + 221)) → long ≤ 50000
+    of : (long all stages : ℕ) → stages ≤ MAX_STAGES → long ≡ all + 1 → all ≤ stages * (351 + (MAX_PARTS + 1) * 15) + (14 * 41 + (3 * 15 + 221)) → long ≤ 50000
     of long all stages few is h = omega (arith, few, is, h)

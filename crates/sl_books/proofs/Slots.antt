@@ -8,16 +8,18 @@ use Rattle.sl_stages.specs.declared.fact.Fact.TheVariants as facts
 use Rattle.sl_stages.specs.declared.book.Cond.{Cond}
 use Rattle.sl_stages.specs.declared.book.Shape.{Shape}
 use Rattle.sl_stages.specs.declared.book.Shape.TheVariants as shape
-use Rattle.sl_stages.specs.declared.limits.TheConstants.{MAX_STAGES}
+use Rattle.sl_stages.specs.declared.limits.TheConstants.{MAX_STAGES, MAX_DEPTH}
 use Rattle.sl_stages.specs.book.Trees.{StageTree, BookTree}
 use Rattle.sl_stages.specs.book.Limits.{is_within_stage, is_within_limits}
-use Rattle.sl_stages.specs.book.Typing.{Column, columns_of, fact_type}
+use Rattle.sl_stages.specs.book.Typing.{Column, columns_of, fact_type, shape_number}
 use Rattle.sl_code.specs.declared.code.CodeStage.{CodeStage}
-use Rattle.sl_pieces.specs.exprs.Slots.{fact_slots, number_of, passing, stage_slot, HasBookSlots}
+use Rattle.sl_pieces.specs.declared.slots.TheConstants.{LEVELS, PAIR_NUMBERS as pair_numbers}
+use Rattle.sl_pieces.specs.exprs.Slots.{fact_slots, passing, stage_slot, HasBookSlots}
 use Rattle.sl_pieces.specs.exprs.Stages.{HasStages}
 use Rattle.sl_pieces.specs.facts.Laws.{HasFactSlots}
 use Rattle.sl_books.specs.Codes.{code_stages, fact_shapes, closing_shapes, level_shapes, passing_shapes, book_slots, book_code}
 use Rattle.sl_books.proofs.Known.{columns_long}
+use Rattle.sl_books.proofs.Sizes.{few_stages}
 
 -- ---- slots
 
@@ -33,38 +35,38 @@ abbrev levels_then : ℕ → ℕ → List Shape → List Shape
 levels_then n count rest = flat_map (λ (level : ℕ). level_shapes) (range_with_len n count) ++ rest
 
 -- the column of a shape on the first of some levels
-on_first : (n count : ℕ) (rest : List Shape) (s : Shape) → slice_get (levels_then n (suc count) rest) (4 * 0 + number_of s) ≡ Some s
+on_first : (n count : ℕ) (rest : List Shape) (s : Shape) → slice_get (levels_then n (suc count) rest) (4 * 0 + shape_number s) ≡ Some s
 on_first n count rest shape.One = refl
 on_first n count rest shape.Party = refl
 on_first n count rest shape.Land = refl
 on_first n count rest shape.List = refl
 
 -- and on any of them
-on_level : (n count level : ℕ) (rest : List Shape) (s : Shape) → level < count → slice_get (levels_then n count rest) (4 * level + number_of s) ≡ Some s
+on_level : (n count level : ℕ) (rest : List Shape) (s : Shape) → level < count → slice_get (levels_then n count rest) (4 * level + shape_number s) ≡ Some s
 on_level n zero level rest s below = absurd (omega (arith, below))
 on_level n (suc count) zero rest s below = on_first n count rest s
 on_level n (suc count) (suc level) rest s below =
-    let place : 4 * suc level + number_of s ≡ suc (suc (suc (suc (4 * level + number_of s)))) = omega arith in
+    let place : 4 * suc level + shape_number s ≡ suc (suc (suc (suc (4 * level + shape_number s)))) = omega arith in
     ap (λ (m : ℕ). slice_get (levels_then n (suc count) rest) m) place ∙ on_level (n + 1) count level rest s (omega (arith, below))
 
 module _ (types : List Column) where
   abbrev stage_shapes : List Shape
   stage_shapes = map (λ c. c.type.shape) types
 
-  passing_there : (level : ℕ) (s : Shape) → level ≤ 16 → slice_get (book_slots types) (passing level s) ≡ Some s
+  passing_there : (level : ℕ) (s : Shape) → level ≤ MAX_DEPTH → slice_get (book_slots types) (passing level s) ≡ Some s
   passing_there level s low =
-      let place : passing level s ≡ 9 + (3 + (4 * level + number_of s)) = omega arith in
+      let place : passing level s ≡ pair_numbers + (3 + (4 * level + shape_number s)) = omega arith in
       ap (λ (m : ℕ). slice_get (book_slots types) m) place
-      ∙ behind fact_shapes (closing_shapes ++ (passing_shapes ++ stage_shapes)) (3 + (4 * level + number_of s))
-      ∙ behind closing_shapes (passing_shapes ++ stage_shapes) (4 * level + number_of s)
-      ∙ on_level 0 17 level stage_shapes s (omega (arith, low))
+      ∙ behind fact_shapes (closing_shapes ++ (passing_shapes ++ stage_shapes)) (3 + (4 * level + shape_number s))
+      ∙ behind closing_shapes (passing_shapes ++ stage_shapes) (4 * level + shape_number s)
+      ∙ on_level 0 LEVELS level stage_shapes s (omega (arith, low))
 
   stage_there : (k : ℕ) (t : Column) → slice_get types k ≡ Some t → slice_get (book_slots types) (stage_slot k) ≡ Some t.type.shape
   stage_there k t at =
-      let place : stage_slot k ≡ 9 + (3 + (68 + k)) = omega arith in
+      let place : stage_slot k ≡ pair_numbers + (3 + (4 * LEVELS + k)) = omega arith in
       ap (λ (m : ℕ). slice_get (book_slots types) m) place
-      ∙ behind fact_shapes (closing_shapes ++ (passing_shapes ++ stage_shapes)) (3 + (68 + k))
-      ∙ behind closing_shapes (passing_shapes ++ stage_shapes) (68 + k)
+      ∙ behind fact_shapes (closing_shapes ++ (passing_shapes ++ stage_shapes)) (3 + (4 * LEVELS + k))
+      ∙ behind closing_shapes (passing_shapes ++ stage_shapes) (4 * LEVELS + k)
       ∙ behind passing_shapes stage_shapes k
       ∙ slice_get-map (λ c. c.type.shape) types k
       ∙ rw at refl
@@ -128,10 +130,8 @@ same_maps f g (x ∷ xs) (y ∷ ys) long each =
     ap₂ (λ z zs. z ∷ zs) (each 0 x y refl refl) (same_maps f g xs ys (omega (arith, long)) (λ n u v at there. each (suc n) u v at there))
 
 -- the limits of a book, apart
-pub limits_apart : (ss : List StageTree) → is_within_limits ss ≡ true → (length ss ≤ 32) × (list_all is_within_stage ss ≡ true)
-limits_apart ss within =
-    let parts = and_parts (nat_le (length ss) MAX_STAGES) (list_all is_within_stage ss) within in
-    (leb-true (length ss) 32 parts.0, parts.1)
+pub limits_apart : (ss : List StageTree) → is_within_limits ss ≡ true → (length ss ≤ MAX_STAGES) × (list_all is_within_stage ss ≡ true)
+limits_apart ss within = (few_stages ss within, (and_parts (nat_le (length ss) MAX_STAGES) (list_all is_within_stage ss) within).1)
 
 module _ (few : List Cond) (b : BookTree) where
   pub book_has_stages : is_within_limits b.stages ≡ true → HasStages (book_code few b) 0 b.stages

@@ -14,6 +14,7 @@ use Rattle.sl_code.specs.Codes.{CountingCode}
 use Rattle.sl_plans.specs.Trees.{Tree}
 use Rattle.sl_plans.specs.Laid.{laid_all}
 use Rattle.sl_pieces.specs.facts.Trees.{eligible_tree, fact_tree}
+use Rattle.sl_pieces.specs.declared.slots.TheConstants.{LEVELS}
 use Rattle.sl_pieces.specs.exprs.Slots.{fact_slots, stage_slot}
 use Rattle.sl_pieces.specs.exprs.Stages.{stages_pieces}
 use Rattle.sl_pieces.specs.closing.Trees.{last_pieces, halting}
@@ -36,7 +37,7 @@ abbrev pub code_stages : ℕ → List StageTree → List CodeStage
 code_stages k [] = []
 code_stages k (s ∷ ss) = record { name = s.name; slot = stage_slot k } ∷ code_stages (k + 1) ss
 
--- the eligible parties, facts, and two columns to work in; three columns of lists for the last clause; a passing column of each shape for each of 17 levels
+-- the eligible parties, facts, and two columns to work in; three columns of lists for the last clause; a passing column of each shape for each level
 abbrev pub fact_shapes : List Shape
 fact_shapes = shape.Party ∷ (map (λ told. (fact_type told).shape) FACTS ++ (shape.List ∷ (shape.Party ∷ [])))
 
@@ -47,7 +48,7 @@ abbrev pub level_shapes : List Shape
 level_shapes = shape.One ∷ (shape.Party ∷ (shape.Land ∷ (shape.List ∷ [])))
 
 abbrev pub passing_shapes : List Shape
-passing_shapes = flat_map (λ level. level_shapes) (range_with_len 0 17)
+passing_shapes = flat_map (λ level. level_shapes) (range_with_len 0 LEVELS)
 
 -- and a column for each stage
 abbrev pub book_slots : List Column → List Shape

@@ -22,7 +22,7 @@ fn check_version(version: Number, vacate: Option<usize>) -> Result<(), CheckFaul
     }
 }
 
-/// Refuses a share of votes that is not from 1 per 1000 to the whole.
+/// Refuses a share of votes that is not from 1 per `MAX_PER` to the whole.
 fn check_condition(condition: Cond) -> Result<(), CheckFault>
     ensures { Judges result (condition_tests (condition ∷ [])) tt }
 {

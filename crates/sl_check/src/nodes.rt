@@ -18,7 +18,7 @@ pub fn test(holds: bool, otherwise: CheckFault) -> Result<(), CheckFault>
     if holds { Ok(()) } else { Err(otherwise) }
 }
 
-/// Whether it is a number of seats: 1 to 4000.
+/// Whether it is a number of seats: 1 to `MAX_SEATS`.
 pub fn is_seat_number(n: u32) -> bool
     ensures { result ≡ is_seat_number n }
 {

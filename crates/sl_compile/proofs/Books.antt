@@ -6,6 +6,7 @@ use Rattle.sl_stages.specs.declared.book.Book.{Book}
 use Rattle.sl_stages.specs.declared.book.Stage.{Stage}
 use Rattle.sl_stages.specs.declared.book.Shape.{Shape}
 use Rattle.sl_stages.specs.declared.book.ColumnType.{ColumnType}
+use Rattle.sl_stages.specs.declared.limits.TheConstants.{MAX_STAGES}
 use Rattle.sl_stages.specs.book.Trees.{BookTree, stage_of}
 use Rattle.sl_stages.specs.book.Books.{book_of}
 use Rattle.sl_stages.specs.book.Limits.{is_within_limits}
@@ -80,7 +81,7 @@ abbrev code_by : List Instr → List CodeStage → List Shape → CountingCode
 code_by instrs stages slots = record { instrs = instrs; stages = stages; slots = slots }
 
 pub code_is : (few : List Cond) (k : Book) (instrs : List Instr) (named : List CodeStage) (low slots : List Shape) (ts : List ColumnType) (n : ℕ) → CanCompile few (book_of k) →
-    instrs ≡ book_instrs few (book_of k) → named ≡ code_stages 0 (map stage_of k.stages.items) → length ts ≡ 32 → n ≡ length k.stages.items → low ≡ low_shapes →
+    instrs ≡ book_instrs few (book_of k) → named ≡ code_stages 0 (map stage_of k.stages.items) → length ts ≡ MAX_STAGES → n ≡ length k.stages.items → low ≡ low_shapes →
     columns k.stages.items ts ≡ columns_of [] (map stage_of k.stages.items) → slots ≡ low ++ map (λ t. t.shape) (take n ts) → code_by instrs named slots ≡ book_code few (book_of k)
 code_is few k instrs named low slots ts n can instrs_are named_are long count low_is have slots_by =
     let ss = k.stages.items in

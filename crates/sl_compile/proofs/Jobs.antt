@@ -7,19 +7,23 @@ use Rattle.std.proofs.lemmas.Option.{same_Some}
 use Rattle.sl_ratio.specs.declared.method.Divisor.{Divisor}
 use Rattle.sl_ratio.specs.declared.method.Method.{Method}
 use Rattle.sl_ratio.specs.declared.method.Method.TheVariants as by
+use Rattle.sl_ratio.specs.declared.limits.TheConstants.{MAX_SEATS}
 use Rattle.sl_stages.specs.declared.book.Majority.{Majority}
 use Rattle.sl_stages.specs.declared.book.Shape.{Shape}
 use Rattle.sl_stages.specs.declared.book.Shape.TheVariants as shape
-use Rattle.sl_stages.specs.book.Typing.{can_split}
+use Rattle.sl_stages.specs.declared.limits.TheConstants.{MAX_DEPTH, MAX_STAGES}
+use Rattle.sl_stages.specs.book.Typing.{can_split, shape_number}
 use Rattle.sl_code.specs.declared.instr.Instr.{Instr}
 use Rattle.sl_plans.specs.Laid.{laid}
-use Rattle.sl_pieces.specs.scopes.Forms.{Form, amounts_of, votes_of}
+use Rattle.sl_pieces.specs.declared.form.Form.{Form}
+use Rattle.sl_pieces.specs.scopes.Forms.{amounts_of, votes_of}
 use Rattle.sl_pieces.specs.seats.Slots.{Slots}
 use Rattle.sl_pieces.specs.nodes.Trees.{split_tree, grow_tree}
 use Rattle.sl_books.specs.Codes.{level_shapes}
 use Rattle.sl_blocks.specs.declared.job.Job.{Job}
 use Rattle.sl_blocks.specs.Jobs.{slots_of, IsJob, TakesMinima, IsSplitJob, IsGrowthJob}
-use Rattle.sl_pieces.specs.exprs.Slots.{number_of, passing}
+use Rattle.sl_pieces.specs.declared.slots.TheConstants.{LEVELS}
+use Rattle.sl_pieces.specs.exprs.Slots.{passing}
 use Rattle.sl_pieces.specs.exprs.Pieces.{form_by, node_slots, split_piece, grow_piece}
 use Rattle.sl_pieces.proofs.exprs.Places.{amounts_apart, other_level}
 use Rattle.sl_compile.specs.Laying.{IsLaidAll}
@@ -29,22 +33,22 @@ use Rattle.sl_blocks.specs.Layout.{IsLaidSplit, IsLaidGrowth}
 
 -- ---- slots
 
-levels_there : (n first level : ℕ) (s : Shape) → level < n → slice_get (flat_map (λ l. level_shapes) (range_with_len first n)) (4 * level + number_of s) ≡ Some s
+levels_there : (n first level : ℕ) (s : Shape) → level < n → slice_get (flat_map (λ l. level_shapes) (range_with_len first n)) (4 * level + shape_number s) ≡ Some s
 levels_there zero first level s less = absurd (omega arith)
 levels_there (suc n) first zero shape.One less = refl
 levels_there (suc n) first zero shape.Party less = refl
 levels_there (suc n) first zero shape.Land less = refl
 levels_there (suc n) first zero shape.List less = refl
 levels_there (suc n) first (suc level) s less =
-    let next : 4 * suc level + number_of s ≡ suc (suc (suc (suc (4 * level + number_of s)))) = omega arith in
+    let next : 4 * suc level + shape_number s ≡ suc (suc (suc (suc (4 * level + shape_number s)))) = omega arith in
     rw next (levels_there n (first + 1) level s (omega arith))
 
 -- each passing column is there
-pub passing_there : (level : ℕ) (s : Shape) → level ≤ 16 → slice_get low_shapes (passing level s) ≡ Some s
+pub passing_there : (level : ℕ) (s : Shape) → level ≤ MAX_DEPTH → slice_get low_shapes (passing level s) ≡ Some s
 passing_there level s low =
-    let k : ℕ = 4 * level + number_of s in
+    let k : ℕ = 4 * level + shape_number s in
     let there : passing level s ≡ suc (suc (suc (suc (suc (suc (suc (suc (suc (suc (suc (suc k))))))))))) = omega arith in
-    ap (slice_get low_shapes) there ∙ levels_there 17 0 level s (omega arith)
+    ap (slice_get low_shapes) there ∙ levels_there LEVELS 0 level s (omega arith)
 
 -- ---- forms
 
@@ -64,11 +68,11 @@ form_votes shape.Party shape.List can = refl
 form_votes shape.Land shape.List can = refl
 form_votes _ _ can = cc
 
-one_on : (level : ℕ) (m : Bool) → top_of level m ≤ 16 → level + 1 ≤ 16
+one_on : (level : ℕ) (m : Bool) → top_of level m ≤ MAX_DEPTH → level + 1 ≤ MAX_DEPTH
 one_on level false low = low
 one_on level true low = omega (arith, low)
 
-minima_there : (level : ℕ) (v : Shape) (m : Bool) (slot : ℕ) → top_of level m ≤ 16 → minima_at level v m ≡ Some slot → (slot ≡ passing (level + 2) v) × (level + 2 ≤ 16)
+minima_there : (level : ℕ) (v : Shape) (m : Bool) (slot : ℕ) → top_of level m ≤ MAX_DEPTH → minima_at level v m ≡ Some slot → (slot ≡ passing (level + 2) v) × (level + 2 ≤ MAX_DEPTH)
 minima_there level v false slot low is = cc
 minima_there level v true slot low is = (sym (same_Some (passing (level + 2) v) slot is), low)
 
@@ -80,7 +84,7 @@ takes level v by.Hamilton true may = absurd may
 -- ---- jobs
 
 module _ (j : Job) (stage level : ℕ) (s v : Shape) (m : Bool) (is : slots_of j ≡ node_slots [] stage level s v (minima_at level v m))
-    (can : can_split s v ≡ true) (low : top_of level m ≤ 16) (few : stage ≤ 31) where
+    (can : can_split s v ≡ true) (low : top_of level m ≤ MAX_DEPTH) (few : stage < MAX_STAGES) where
   abbrev form : Form
   form = form_by s v
 
@@ -96,7 +100,7 @@ module _ (j : Job) (stage level : ℕ) (s v : Shape) (m : Bool) (is : slots_of j
   minima_is : j.minima ≡ minima_at level v m
   minima_is = ap (λ (x : Slots). x.minima) is
 
-  slot_is : (slot : ℕ) → j.minima ≡ Some slot → (slot ≡ passing (level + 2) (votes_of form)) × (level + 2 ≤ 16)
+  slot_is : (slot : ℕ) → j.minima ≡ Some slot → (slot ≡ passing (level + 2) (votes_of form)) × (level + 2 ≤ MAX_DEPTH)
   slot_is slot at =
       let h = minima_there level v m slot low (sym minima_is ∙ at) in
       (h.0 ∙ ap (passing (level + 2)) (sym (form_votes s v can)), h.1)
@@ -139,7 +143,7 @@ module _ (j : Job) (stage level : ℕ) (s v : Shape) (m : Bool) (is : slots_of j
     growth_none kind none = rw kind (there ∙ none ∙ sym (append-nil before))
 
 pub is_growth_job : (j : Job) (stage level : ℕ) (s v : Shape) (cap : ℕ) → slots_of j ≡ node_slots [] stage level s v (minima_at level v true) →
-    can_split s v ≡ true → level + 2 ≤ 16 → stage ≤ 31 → s ≡ shape.One → cap ≤ 4000 → IsGrowthJob low_shapes j cap
+    can_split s v ≡ true → level + 2 ≤ MAX_DEPTH → stage < MAX_STAGES → s ≡ shape.One → cap ≤ MAX_SEATS → IsGrowthJob low_shapes j cap
 is_growth_job j stage level s v cap is can low few one small = record {
   form = form_by s v;
   job = is_job j stage level s v true is can low few;

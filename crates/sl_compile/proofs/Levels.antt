@@ -5,16 +5,18 @@ use Rattle.sl_stages.specs.declared.book.Pairing.{Pairing}
 use Rattle.sl_stages.specs.declared.book.Axis.{Axis}
 use Rattle.sl_stages.specs.declared.book.Majority.{Majority}
 use Rattle.sl_stages.specs.declared.book.Number.{Number}
+use Rattle.sl_stages.specs.declared.limits.TheConstants.{MAX_DEPTH}
 use Rattle.sl_stages.specs.book.Trees.{ExprTree, sum, pair, split, without, atleast, grow}
 use Rattle.sl_stages.specs.book.Tests.{first_failing}
 use Rattle.sl_stages.specs.book.Limits.{depth_of}
 use Rattle.sl_stages.specs.book.Typing.{Column, type_of, expr_tests, splits_in, sum_tests, alike_tests, split_tests, split_from_tests, grow_tests}
 use Rattle.sl_stages.proofs.Tests.{pass_parts}
 use Rattle.sl_stages.proofs.typing.TestLists.{pass_parts3, pass_parts4}
+use Rattle.sl_pieces.specs.declared.slots.TheConstants.{LEVELS}
 use Rattle.sl_pieces.proofs.exprs.Levels.{low_level, one_level, two_levels, split_levels, three_levels, split_passes, split_from_passes, grow_passes}
 use Rattle.sl_compile.specs.Earlier.{Fits, FitsSplit, FitsMinima, FitsGrowth}
 
-pub low : {types : List Column} {level : ℕ} {x : ExprTree} → Fits types level x → level ≤ 16
+pub low : {types : List Column} {level : ℕ} {x : ExprTree} → Fits types level x → level ≤ MAX_DEPTH
 low {types} {level} {x} h = low_level x level h.levels
 
 module _ (types : List Column) (level at : ℕ) where
@@ -25,7 +27,7 @@ module _ (types : List Column) (level at : ℕ) where
   }
 
   both : (l r : ExprTree) → first_failing (expr_tests types l) ≡ None → first_failing (expr_tests types r) ≡ None →
-      level + (1 + max (depth_of l) (depth_of r)) + (splits_in l + splits_in r) ≤ 17 → Fits types level l × Fits types (level + 1) r
+      level + (1 + max (depth_of l) (depth_of r)) + (splits_in l + splits_in r) ≤ LEVELS → Fits types level l × Fits types (level + 1) r
   both l r first second levels =
       let h = two_levels level (depth_of l) (depth_of r) (splits_in l) (splits_in r) levels in
       (record { typed = first; levels = h.0 }, record { typed = second; levels = h.1 })

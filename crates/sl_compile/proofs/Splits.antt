@@ -11,6 +11,7 @@ use Rattle.sl_stages.specs.declared.book.Shape.{Shape}
 use Rattle.sl_stages.specs.declared.book.Unit.TheVariants as unit
 use Rattle.sl_stages.specs.declared.book.ColumnType.{ColumnType}
 use Rattle.sl_stages.specs.declared.book.Expr.{Expr, Split, Grow}
+use Rattle.sl_stages.specs.declared.limits.TheConstants.{MAX_DEPTH}
 use Rattle.sl_stages.specs.book.Limits.{depth_of}
 use Rattle.sl_stages.specs.book.Trees.{ExprTree, tree_of, split, without, atleast, grow}
 use Rattle.sl_stages.specs.book.Typing.{Column, column, type_of, can_split}
@@ -63,7 +64,7 @@ pub record OverSplit (types : List Column) (stage level : ℕ) (x s v : ExprTree
   pub over : Over types stage level x s v seats_by (then_own types stage level minima own)
   pub can : can_split (type_of types s).shape (type_of types v).shape ≡ true
   pub third : MinimaFit types level x minima
-  pub top : top_of level (is_some minima) ≤ 16
+  pub top : top_of level (is_some minima) ≤ MAX_DEPTH
   pub may : MayHave method (is_some minima)
 
 -- the own plans by the shapes of seats and votes

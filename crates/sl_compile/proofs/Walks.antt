@@ -12,6 +12,7 @@ use Rattle.sl_stages.specs.declared.book.Stage.{Stage}
 use Rattle.sl_stages.specs.declared.book.Shape.TheVariants as shape
 use Rattle.sl_stages.specs.declared.book.Unit.TheVariants as unit
 use Rattle.sl_stages.specs.declared.book.ColumnType.{ColumnType}
+use Rattle.sl_stages.specs.declared.limits.TheConstants.{MAX_DEPTH, MAX_STAGES}
 use Rattle.sl_stages.specs.book.Trees.{StageTree, tree_of, stage_of}
 use Rattle.sl_stages.specs.book.Tests.{first_failing}
 use Rattle.sl_stages.specs.book.Limits.{is_within_stage, is_within_limits, depth_of}
@@ -20,6 +21,7 @@ use Rattle.sl_stages.proofs.Tests.{pass_parts, head_holds}
 use Rattle.sl_code.specs.declared.instr.Instr.{Instr}
 use Rattle.sl_plans.specs.Trees.{Tree}
 use Rattle.sl_pieces.specs.columns.Trees.{copy_tree}
+use Rattle.sl_pieces.specs.declared.slots.TheConstants.{LEVELS}
 use Rattle.sl_pieces.specs.exprs.Slots.{passing, stage_slot}
 use Rattle.sl_pieces.specs.exprs.Pieces.{pieces}
 use Rattle.sl_pieces.specs.exprs.Stages.{stage_pieces, stages_pieces}
@@ -130,12 +132,12 @@ module _ (types : List Column) (k : ℕ) (s : StageTree) (of : ColumnType) (from
 
 -- ---- the walk
 
--- a book within the limits has at most 32 stages
-pub few_stages : (ss : List Stage) → is_within_limits (map stage_of ss) ≡ true → length ss ≤ 32
+-- a book within the limits has no more stages than these allow
+pub few_stages : (ss : List Stage) → is_within_limits (map stage_of ss) ≡ true → length ss ≤ MAX_STAGES
 few_stages ss within = rw (← length-map ss stage_of) (leb-true _ _ (first_so _ _ within))
 
 -- the levels are enough for a stage's expression
-enough : (depth splits : ℕ) → depth ≤ 16 → splits ≤ 1 → 0 + depth + splits ≤ 17
+enough : (depth splits : ℕ) → depth ≤ MAX_DEPTH → splits ≤ 1 → 0 + depth + splits ≤ LEVELS
 enough depth splits deep few = omega arith
 
 -- where the first i stages are laid out behind a start
@@ -178,7 +180,7 @@ module _ (ss : List Stage) (ts : List ColumnType) (i : ℕ) (s : Stage) (start c
       let first = head_holds _ _ _ tests_here.0 in
       let second = head_holds _ _ _ first.1 in
       let few : splits_in (tree_of s.expr) ≤ 1 = leb-true _ _ second.0 in
-      let deep : depth_of (tree_of s.expr) ≤ 16 = leb-true _ _ (first_so _ _ within_here.0) in
+      let deep : depth_of (tree_of s.expr) ≤ MAX_DEPTH = leb-true _ _ (first_so _ _ within_here.0) in
       record { typed = second.1; levels = enough (depth_of (tree_of s.expr)) (splits_in (tree_of s.expr)) deep few }
 
   pieces_here : stages_pieces known i (map stage_of (drop i ss))

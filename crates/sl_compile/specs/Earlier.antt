@@ -3,6 +3,7 @@ use Rattle.std.specs.Prelude.{◌≡◌, ℕ, ◌+◌, ◌≤◌, true, List, []
 use Rattle.sl_ratio.specs.declared.method.Divisor.{Divisor}
 use Rattle.sl_ratio.specs.declared.method.Method.{Method}
 use Rattle.sl_ratio.specs.declared.method.Method.TheVariants as by
+use Rattle.sl_ratio.specs.declared.limits.TheConstants.{MAX_SEATS}
 use Rattle.sl_stages.specs.declared.book.Stage.{Stage}
 use Rattle.sl_stages.specs.declared.book.Shape.TheVariants as shape
 use Rattle.sl_stages.specs.declared.book.ColumnType.{ColumnType}
@@ -10,6 +11,7 @@ use Rattle.sl_stages.specs.book.Trees.{ExprTree}
 use Rattle.sl_stages.specs.book.Tests.{first_failing}
 use Rattle.sl_stages.specs.book.Limits.{depth_of}
 use Rattle.sl_stages.specs.book.Typing.{Column, type_of, expr_tests, splits_in, can_split}
+use Rattle.sl_pieces.specs.declared.slots.TheConstants.{LEVELS}
 
 -- each stage's name with its type
 abbrev pub columns : List Stage → List ColumnType → List Column
@@ -20,7 +22,7 @@ columns (s ∷ ss) (t ∷ ts) = record { name = s.name; type = t } ∷ columns s
 -- the tests of the expression hold, and there are levels for it
 pub record Fits (types : List Column) (level : ℕ) (x : ExprTree) : Type 0 where
   pub typed : first_failing (expr_tests types x) ≡ None
-  pub levels : level + depth_of x + splits_in x ≤ 17
+  pub levels : level + depth_of x + splits_in x ≤ LEVELS
 
 -- seats and votes of a split
 pub record FitsSplit (types : List Column) (level : ℕ) (s v : ExprTree) : Type 0 where
@@ -40,4 +42,4 @@ pub record FitsMinima (types : List Column) (level : ℕ) (s v m : ExprTree) (me
 pub record FitsGrowth (types : List Column) (level : ℕ) (s v m : ExprTree) (method : Method) (cap : ℕ) : Type 0 where
   pub split : FitsMinima types level s v m method
   pub one : (type_of types s).shape ≡ shape.One
-  pub few : cap ≤ 4000
+  pub few : cap ≤ MAX_SEATS

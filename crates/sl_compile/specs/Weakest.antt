@@ -2,12 +2,13 @@
 use Rattle.std.specs.Prelude.{ℕ, ◌<◌, ◌≤◌, ◌^◌, Bool, true, false, List, [], ◌∷◌, ◌++◌, flat_map, All, Option, None, Some, unwrap_or}
 use Rattle.sl_stages.specs.declared.book.Cond.{Cond}
 use Rattle.sl_stages.specs.declared.book.Cond.TheVariants as condition
+use Rattle.sl_stages.specs.declared.limits.TheConstants.{MAX_PER}
 use Rattle.sl_stages.specs.book.Limits.{condition_numbers}
 use Rattle.sl_stages.specs.returns.Election.{Election}
 use Rattle.sl_stages.specs.returns.Facts.{meets}
 use Rattle.sl_code.specs.declared.instr.Instr.{Instr}
 use Rattle.sl_code.specs.declared.instr.Instr.TheVariants.{Set}
-use Rattle.sl_pieces.specs.facts.Trees.{number}
+use Rattle.sl_pieces.specs.declared.registers.TheConstants.{OTHER as number}
 use Rattle.sl_compile.specs.declared.easiest.Share.{Share}
 use Rattle.sl_compile.specs.declared.easiest.Easiest.{Easiest}
 
@@ -37,16 +38,16 @@ few_of few = share_in few.valid ++ (winners_in few.winners ++ (minority_in few.m
 abbrev pub is_met : Election → ℕ → Share → Bool
 is_met e party s = meets e party (share_condition s)
 
--- a share of at least one vote and at most all, in at most 1,000
+-- a share of at least one vote and at most all, in at most so many
 abbrev pub IsFairShare : Share → Type 0
-IsFairShare s = (1 ≤ s.share.value) × (s.share.value ≤ s.per) × (s.per ≤ 1000)
+IsFairShare s = (1 ≤ s.share.value) × (s.share.value ≤ s.per) × (s.per ≤ MAX_PER)
 
 abbrev pub IsFairIn : Option Share → Type 0
 IsFairIn None = Unit {0}
 IsFairIn (Some s) = IsFairShare s
 
 abbrev pub IsFair : Cond → Type 0
-IsFair (condition.Valid share per) = (1 ≤ share.value) × (share.value ≤ per) × (per ≤ 1000)
+IsFair (condition.Valid share per) = (1 ≤ share.value) × (share.value ≤ per) × (per ≤ MAX_PER)
 IsFair _ = Unit {0}
 
 -- a number of winners that fits four bytes

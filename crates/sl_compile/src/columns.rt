@@ -7,8 +7,8 @@ ghost use Rattle.sl_pieces.specs.columns.Trees.{cells_plan, copy_tree, pair_inst
 ghost use Rattle.sl_compile.specs.Laying.{IsLaidAll, HasRoom};
 
 use crate::laying::lay_one;
-use crate::registers::{CELL, OTHER, TOTAL};
 use sl_code::Instr;
+use sl_pieces::registers::{CELL, OTHER, TOTAL};
 use sl_plans::Part::{Fixed, Given};
 use sl_plans::{Cursor, Plan};
 use sl_ratio::NoMemory;
@@ -120,7 +120,7 @@ const OF_LISTS: &Plan<'static> = add_cells!(&Plan::Each(
 
 /// The plan of a sum of a column of that shape.
 fn sum_plan(over: Axis, shape: Shape) -> &'static Plan<'static>
-    ensures { (from to : ℕ) → tree_of (Get 5 from ∷ (Store to 1 ∷ [])) result.now ≡ sum_tree over shape from to }
+    ensures { (from to : ℕ) → tree_of (Get CELL from ∷ (Store to TOTAL ∷ [])) result.now ≡ sum_tree over shape from to }
 {
     match over {
         Axis::Party => BY_PARTY,

@@ -2,6 +2,7 @@
 
 ghost use Rattle.std.specs.Prelude.{◌≡◌, ◌≤◌, length, find, position, unwrap_or};
 ghost use Rattle.std.specs.Str.{bytes_eq};
+ghost use Rattle.sl_stages.specs.declared.limits.TheConstants.{MAX_STAGES};
 ghost use Rattle.sl_stages.specs.book.Typing.{is_named, type_or_one};
 ghost use Rattle.sl_pieces.specs.exprs.Slots.{stage_slot};
 ghost use Rattle.sl_compile.specs.Earlier.{columns};
@@ -15,7 +16,7 @@ pub struct Earlier<'a> {
     pub stages: &'a [Stage],
     pub types: &'a [ColumnType],
     ghost paired: { length stages.now ≤ length types.now },
-    ghost few: { length stages.now ≤ 32 },
+    ghost few: { length stages.now ≤ MAX_STAGES },
 }
 
 impl<'a> Earlier<'a> {

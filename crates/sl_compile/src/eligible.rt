@@ -11,9 +11,9 @@ ghost use Rattle.sl_compile.specs.Weakest.{few_of, given_of};
 
 use crate::easiest::Easiest;
 use crate::laying::lay_one;
-use crate::registers::{CELL, OTHER, OWN, TOTAL};
-use crate::slots::{ELIGIBLE, NUMBERS, VOTES};
 use sl_code::{Input, Instr};
+use sl_pieces::registers::{CELL, OTHER, OWN, TOTAL};
+use sl_pieces::slots::{ELIGIBLE, NUMBERS, VOTES};
 use sl_plans::Part::{Fixed, Given};
 use sl_plans::{Cursor, ONES, Plan, Test};
 use sl_ratio::NoMemory;

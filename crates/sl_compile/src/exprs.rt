@@ -1,6 +1,7 @@
 //! The plans of expressions (docs/compiler.md, section 4).
 
-ghost use Rattle.std.specs.Prelude.{◌≡◌, ◌+◌, ◌≤◌, ◌++◌, IfOk};
+ghost use Rattle.std.specs.Prelude.{◌≡◌, ◌+◌, ◌<◌, ◌++◌, IfOk};
+ghost use Rattle.sl_stages.specs.declared.limits.TheConstants.{MAX_STAGES};
 ghost use Rattle.sl_stages.specs.book.Typing.{type_of};
 ghost use Rattle.sl_stages.specs.book.Trees.{tree_of};
 ghost use Rattle.sl_pieces.specs.exprs.Pieces.{pieces};
@@ -22,7 +23,7 @@ pub struct Site<'a> {
     pub earlier: Earlier<'a>,
     pub stage: u8,
     ghost low: { slots.now ≡ low_shapes },
-    ghost few: { stage ≤ 31 },
+    ghost few: { stage < MAX_STAGES },
 }
 
 impl<'a> Site<'a> {

@@ -13,7 +13,6 @@ mod facts;
 mod laying;
 mod naming;
 mod nodes;
-mod registers;
 mod slots;
 mod stages;
 

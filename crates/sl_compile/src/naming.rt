@@ -8,7 +8,7 @@ ghost use Rattle.sl_books.specs.Codes.{code_stages};
 use crate::slots::stage_slot;
 use sl_code::CodeStage;
 use sl_ratio::NoMemory;
-use sl_stages::{Stage, Word};
+use sl_stages::{MAX_STAGES, Stage, Word};
 use std::alloc::Global;
 
 /// The stages of the code.
@@ -16,7 +16,7 @@ use std::alloc::Global;
 /// # Errors
 /// No memory was found.
 pub fn code_stages(alloc: Global, stages: &[Stage]) -> Result<Vec<CodeStage>, NoMemory>
-    requires { length stages.now ≤ 32 }
+    requires { length stages.now ≤ MAX_STAGES }
     ensures named { IfOk result (λ named. named.items ≡ code_stages 0 (map stage_of stages.now)) }
     ensures words { IfOk result (λ named. All IsStage named.items) }
 {

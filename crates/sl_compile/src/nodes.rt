@@ -18,7 +18,7 @@ use crate::slots::passing;
 use sl_blocks::{Job, grow_block, split_block};
 use sl_code::Instr;
 use sl_ratio::{Method, NoMemory};
-use sl_stages::{Axis, ColumnType, Majority, Pairing, Shape};
+use sl_stages::{Axis, ColumnType, MAX_DEPTH, MAX_SEATS, Majority, Pairing, Shape};
 
 /// Appends the copy of a column.
 pub fn copy(
@@ -27,7 +27,7 @@ pub fn copy(
     from: u8,
     of: ColumnType,
 ) -> Result<ColumnType, NoMemory>
-    requires level { level ≤ 16 }
+    requires level { level ≤ MAX_DEPTH }
     requires room { HasRoom (copy_tree of.shape from (passing level of.shape) ∷ []) code.old.items }
     ensures has { IfOk result (λ has. has ≡ of) }
     ensures laid { IfOk result (λ _. IsLaidAll (copy_tree of.shape from (passing level of.shape) ∷ []) code.old.items code.new.items) }
@@ -43,7 +43,7 @@ pub fn sum(
     of: ColumnType,
     over: Axis,
 ) -> Result<ColumnType, NoMemory>
-    requires level { level ≤ 16 }
+    requires level { level ≤ MAX_DEPTH }
     requires room { HasRoom (sum_tree over of.shape (passing level of.shape) (passing level (shape_over over)) ∷ []) code.old.items }
     ensures has { IfOk result (λ has. has ≡ column (shape_over over) of.unit) }
     ensures laid { IfOk result (λ _. IsLaidAll (sum_tree over of.shape (passing level of.shape) (passing level (shape_over over)) ∷ []) code.old.items code.new.items) }
@@ -69,7 +69,7 @@ pub fn pair(
     pairing: Pairing,
     of: ColumnType,
 ) -> Result<ColumnType, NoMemory>
-    requires level { level + 1 ≤ 16 }
+    requires level { level + 1 ≤ MAX_DEPTH }
     requires room { HasRoom (pair_tree pairing of.shape (passing level of.shape) (passing (level + 1) of.shape) (passing level of.shape) ∷ []) code.old.items }
     ensures has { IfOk result (λ has. has ≡ of) }
     ensures laid { IfOk result (λ _. IsLaidAll (pair_tree pairing of.shape (passing level of.shape) (passing (level + 1) of.shape) (passing level of.shape) ∷ []) code.old.items code.new.items) }
@@ -92,7 +92,7 @@ const NO_SCRATCH: [[u8; 8]; 4] = [[0; 8]; 4];
 impl<'a> Site<'a> {
     /// The slots of a split or a growth by the shapes of the seats and of the votes, whose minima, if there are any, are two levels on.
     fn job(&self, level: u8, of: Shape, by: Shape, minima: bool, majority: Majority) -> Job
-        requires { top_of level minima ≤ 16 }
+        requires { top_of level minima ≤ MAX_DEPTH }
         ensures slots { slots_of result ≡ node_slots [] self.now.stage level of by (minima_at level by minima) }
         ensures majority { result.majority ≡ majority }
     {
@@ -122,7 +122,7 @@ impl<'a> Site<'a> {
         method: Method,
         majority: Majority,
     ) -> Result<ColumnType, NoMemory>
-        requires levels { top_of level minima ≤ 16 }
+        requires levels { top_of level minima ≤ MAX_DEPTH }
         requires can { can_split of.shape by.shape ≡ true }
         requires may { MayHave method minima }
         requires room { HasRoom (split_piece [] self.now.stage level of.shape by.shape (minima_at level by.shape minima) method majority) code.old.items }
@@ -145,10 +145,10 @@ impl<'a> Site<'a> {
         cap: u32,
         majority: Majority,
     ) -> Result<ColumnType, NoMemory>
-        requires levels { level + 2 ≤ 16 }
+        requires levels { level + 2 ≤ MAX_DEPTH }
         requires can { can_split of.shape by.shape ≡ true }
         requires one { of.shape ≡ shape.One }
-        requires few { cap ≤ 4000 }
+        requires few { cap ≤ MAX_SEATS }
         requires room { HasRoom (grow_piece [] self.now.stage level of.shape by.shape (minima_at level by.shape true) method majority cap) code.old.items }
         ensures has { IfOk result (λ has. has ≡ column by.shape unit.Seats) }
         ensures laid { IfOk result (λ _. IsLaidAll (grow_piece [] self.now.stage level of.shape by.shape (minima_at level by.shape true) method majority cap) code.old.items code.new.items) }

@@ -1,4 +1,4 @@
--- The file of a code is not too long: 32 stages, 200 slots and 200,000 instructions have room.
+-- The file of a code is not too long: as many stages, slots and instructions as there may be have room.
 use Rattle.std.proofs.Common.{◌≡◌, ℕ, ◌+◌, ◌*◌, ◌≤◌, true, List, [], ◌∷◌, ◌++◌, All, length, flat_map, nat_le, nat_eq, ◌&&◌, ◌||◌, IsTrue, refl, arith, length-append, leb-true}
 use Rattle.std.specs.List.{list_all}
 use Rattle.std.proofs.lemmas.List.{length-map}
@@ -59,7 +59,7 @@ instr_long i = let few = leb-true (weight_of (operands_of i)) 19 (light i) in om
 
 -- ---- stages
 
-word_long : (name : List ℕ) → IsTrue (is_word name) → length name ≤ 12
+word_long : (name : List ℕ) → IsTrue (is_word name) → length name ≤ MAX_NAME_BYTES
 word_long [] word = absurd (false≢true word)
 word_long (b ∷ more) word =
     leb-true (length (b ∷ more)) MAX_NAME_BYTES

@@ -5,7 +5,7 @@ ghost use Rattle.sl_desk.specs.Laws.{OneBookVerdict, OneReturnsVerdict, OneCodeV
 
 use crate::limits::{MAX_BOOK_BYTES, MAX_CODE_BYTES, MAX_RETURNS_BYTES};
 
-/// A book may have 65,536 bytes, a code file and returns 4,194,304 each.
+/// How many bytes a book, a code file and returns may have.
 pub fn limits()
     ensures { (MAX_BOOK_BYTES ≡ 65536) × (MAX_CODE_BYTES ≡ 4194304) × (MAX_RETURNS_BYTES ≡ 4194304) }
 {}

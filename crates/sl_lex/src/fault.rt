@@ -3,6 +3,7 @@
 ghost use Rattle.std.specs.Prelude.{◌≡◌};
 ghost use Rattle.sl_lex.specs.declared.fault.LexFault.TheVariants.{NoMemory};
 
+use sl_ratio::{MAX_NAME_BYTES, MAX_NUMBER};
 use std::alloc::AllocFailed;
 use thiserror::Error;
 
@@ -13,9 +14,9 @@ pub enum LexFault {
     BadByte(usize),
     #[error("the text that begins at {0} is not closed")]
     OpenString(usize),
-    #[error("the number at {0} is above 999999999")]
+    #[error("the number at {0} is above {MAX_NUMBER}")]
     BigNumber(usize),
-    #[error("the word at {0} has over 12 bytes")]
+    #[error("the word at {0} has over {MAX_NAME_BYTES} bytes")]
     LongName(usize),
     #[error("out of memory")]
     NoMemory,

@@ -1,9 +1,11 @@
 -- Runs of a code: one step after another, as many as a budget allows (docs/machine.md, section 4).
 use Rattle.std.specs.Prelude.{ℕ, zero, suc, ◌+◌, ◌*◌, Option, Some, None, slice_get}
+use Rattle.sl_ratio.specs.declared.limits.TheConstants.{MAX_SEATS}
 use Rattle.sl_stages.specs.returns.Election.{Election, lands_of, parties_of, wins_of}
 use Rattle.sl_code.specs.declared.instr.Instr.{Instr}
 use Rattle.sl_code.specs.Codes.{CountingCode}
 use Rattle.sl_code.specs.Rows.{target_of}
+use Rattle.sl_machine.specs.declared.machine.TheConstants.{STEPS_EACH}
 use Rattle.sl_machine.specs.State.{State, End, start}
 use Rattle.sl_machine.specs.Effects.{Effect, Goes, Jumps, Ends, NoCase, effect}
 
@@ -62,7 +64,7 @@ ending c e budget = run c e budget 0 start
 
 -- the steps that a stage may take
 abbrev pub share_of : Election → ℕ
-share_of e = 400 * (parties_of e + 1) * (lands_of e + 1) * (4000 + wins_of e + 2)
+share_of e = STEPS_EACH * (parties_of e + 1) * (lands_of e + 1) * (MAX_SEATS + wins_of e + 2)
 
 -- the steps that a book of so many stages may take: a share for each stage, and two for what stands before and after them
 abbrev pub budget_of : ℕ → Election → ℕ

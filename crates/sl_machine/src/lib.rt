@@ -15,5 +15,5 @@ mod step;
 mod store;
 mod table;
 
-pub use machine::{Ending, budget, run, run_unrecorded};
+pub use machine::{Ending, STEPS_EACH, budget, run, run_unrecorded};
 pub use memory::Memory;

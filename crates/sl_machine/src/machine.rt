@@ -1,8 +1,9 @@
 //! Runs of a code on returns.
 
-ghost use Rattle.std.specs.Prelude.{◌≡◌, ◌<◌, ◌≤◌, Some, length, slice_get, IfOk, IfSome, IfNone, IsSome};
+ghost use Rattle.std.specs.Prelude.{◌≡◌, ◌<◌, ◌≤◌, Some, length, slice_get, IfOk, IfSome, IfNone, IsSome, ◌+◌, ◌*◌};
 ghost use Rattle.sl_code.specs.Proper.{IsProper};
-ghost use Rattle.sl_stages.specs.declared.limits.TheConstants.{MAX_STAGES};
+ghost use Rattle.sl_ratio.specs.declared.limits.TheConstants.{MAX_SEATS as most_seats, MAX_LANDS, MAX_PARTIES};
+ghost use Rattle.sl_stages.specs.declared.limits.TheConstants.{MAX_STAGES, MAX_WINS};
 ghost use Rattle.sl_machine.specs.Agrees.{IsSafe};
 ghost use Rattle.sl_machine.specs.Answers.{answer_of};
 ghost use Rattle.sl_machine.specs.Fits.{Fits};
@@ -19,7 +20,7 @@ use crate::step::{Drops, Effect, End, Keeps, Recording};
 use crate::store::Store;
 use sl_code::{Code, Instr};
 use sl_ratio::NoMemory;
-use sl_stages::{LegalFault, Returns};
+use sl_stages::{LegalFault, MAX_SEATS, Returns};
 use sl_verify::Verified;
 use std::alloc::Global;
 
@@ -34,15 +35,18 @@ pub enum Ending {
     OutOfBudget,
 }
 
+/// The steps that a stage may take for each seat or winner, of each list.
+pub const STEPS_EACH: u64 = 400;
+
 // The steps that a stage may take.
 fn share(returns: &Returns) -> u64
     ensures value { result ≡ share_of returns.now }
-    ensures most { result ≤ 40105364000 }
+    ensures most { result ≤ STEPS_EACH * (MAX_PARTIES + 1) * (MAX_LANDS + 1) * (most_seats + MAX_WINS + 2) }
 {
     let parties = returns.parties() as u64;
     let lands = returns.lands() as u64;
     let wins = returns.wins() as u64;
-    400 * (parties + 1) * (lands + 1) * (4000 + wins + 2)
+    STEPS_EACH * (parties + 1) * (lands + 1) * (MAX_SEATS as u64 + wins + 2)
 }
 
 /// The steps that a code of so many stages may take.

@@ -10,6 +10,7 @@ use Rattle.sl_lex.specs.declared.token.Kind.TheVariants as kinds
 use Rattle.sl_lex.specs.declared.token.Token.{Token}
 use Rattle.sl_lex.specs.Pieces.{IsLetter, IsWordByte, IsPiece, word}
 use Rattle.sl_parse.specs.Spans.{bytes_of, FitsKind, IsSpan, AreSpans}
+use Rattle.sl_ratio.specs.declared.names.TheConstants.{MAX_NAME_BYTES}
 use Rattle.sl_stages.specs.book.Words.{is_letter, is_digit, is_word}
 
 or_left : (a b : Bool) → a ≡ true → (a || b) ≡ true
@@ -38,9 +39,9 @@ word_bytes : (bs : List ℕ) → AllByRecursion IsWordByte bs → list_all word_
 word_bytes [] h = refl
 word_bytes (b ∷ bs) h = both _ _ (is_word_byte b h.0) (word_bytes bs h.1)
 
-piece : (bs : List ℕ) → IsPiece word bs → length bs ≤ 12 → is_word bs ≡ true
+piece : (bs : List ℕ) → IsPiece word bs → length bs ≤ MAX_NAME_BYTES → is_word bs ≡ true
 piece [] h short = absurd h
-piece (b ∷ bs) (first, more) short = both _ _ (both _ _ (letter b first) (word_bytes bs more)) (le-leb (length (b ∷ bs)) 12 short)
+piece (b ∷ bs) (first, more) short = both _ _ (both _ _ (letter b first) (word_bytes bs more)) (le-leb (length (b ∷ bs)) MAX_NAME_BYTES short)
 
 pub span_at : (text : List ℕ) (tokens : List Token) (at : ℕ) (t : Token) (rest : List Token) → AreSpans text tokens → drop at tokens ≡ t ∷ rest → IsSpan text t
 span_at text [] at t rest spans e = let k = rw (drop-nil at) at e in absurd cc

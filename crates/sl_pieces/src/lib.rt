@@ -1,4 +1,9 @@
 //! The plans of the parts of a rulebook, from seats awarded in a priority table to the last clause, and what they achieve.
 #![tactic(auto)]
 
+mod form;
 pub mod laws;
+pub mod registers;
+pub mod slots;
+
+pub use form::Form;

@@ -2,7 +2,9 @@
 use Rattle.std.proofs.Common.{◌≡◌, ℕ, ◌+◌, ◌*◌, ◌<◌, ◌≤◌, true, sym, ap, ◌∙◌, arith}
 use Rattle.std.proofs.Math.Nat.{mul-le-mul_left}
 use Rattle.std.proofs.lemmas.Bool.{and_parts, eqb-true, ltb-true}
+use Rattle.sl_ratio.specs.declared.limits.TheConstants.{MAX_SEATS}
 use Rattle.sl_stages.specs.returns.Election.{Election, lands_of, parties_of, wins_of}
+use Rattle.sl_machine.specs.declared.machine.TheConstants.{STEPS_EACH}
 use Rattle.sl_plans.specs.declared.plan.Cursor.{Cursor}
 use Rattle.sl_plans.specs.declared.plan.Cursor.TheVariants as cursor
 use Rattle.sl_plans.specs.declared.plan.Bound.{Bound}
@@ -122,13 +124,13 @@ rate_below p l n r h =
     let fixed : r.fixed < n + 1 = ltb-true _ _ one.0 in
     omega (arith, fixed, times_below r.by_party n p (ltb-true _ _ two.0), times_below r.by_land n l (ltb-true _ _ three.0), times_below r.by_list n (l * p) (ltb-true _ _ three.1))
 
-in_share : (p l w : ℕ) (q : Price) → is_in_share q ≡ true → price_at p l w q ≤ 400 * (p + 1) * (l + 1) * (4000 + w + 2)
+in_share : (p l w : ℕ) (q : Price) → is_in_share q ≡ true → price_at p l w q ≤ STEPS_EACH * (p + 1) * (l + 1) * (MAX_SEATS + w + 2)
 in_share p l w q h =
     let parts = and_parts _ _ h in
-    let by_win : w * rate_at p l q.by_win ≤ w * (400 + 400 * p + 400 * l + 400 * (l * p)) = mul-le-mul_left w (rate_below p l 400 q.by_win parts.1) in
-    of (rate_at p l q.plain) (rate_at p l q.by_win) (rate_below p l 1600800 q.plain parts.0) by_win
+    let by_win : w * rate_at p l q.by_win ≤ w * (STEPS_EACH + STEPS_EACH * p + STEPS_EACH * l + STEPS_EACH * (l * p)) = mul-le-mul_left w (rate_below p l STEPS_EACH q.by_win parts.1) in
+    of (rate_at p l q.plain) (rate_at p l q.by_win) (rate_below p l _ q.plain parts.0) by_win
   where
-    of : (a b : ℕ) → a ≤ 1600800 + 1600800 * p + 1600800 * l + 1600800 * (l * p) → w * b ≤ w * (400 + 400 * p + 400 * l + 400 * (l * p)) → a + b * w ≤ 400 * (p + 1) * (l + 1) * (4000 + w + 2)
+    of : (a b : ℕ) → a ≤ (STEPS_EACH * (MAX_SEATS + 2)) + (STEPS_EACH * (MAX_SEATS + 2)) * p + (STEPS_EACH * (MAX_SEATS + 2)) * l + (STEPS_EACH * (MAX_SEATS + 2)) * (l * p) → w * b ≤ w * (STEPS_EACH + STEPS_EACH * p + STEPS_EACH * l + STEPS_EACH * (l * p)) → a + b * w ≤ STEPS_EACH * (p + 1) * (l + 1) * (MAX_SEATS + w + 2)
     of a b ha hb = omega arith
 
 pub shares_suffice : SharesSuffice

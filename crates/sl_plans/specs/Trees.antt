@@ -4,6 +4,7 @@ use Rattle.sl_code.specs.declared.instr.Instr.{Instr}
 use Rattle.sl_code.specs.declared.instr.Instr.TheVariants.{Set, Sub, Jmp, Jz, Jlt, Jnl, Wparty, Fparty, Nparty, Fland, Nland, Fwin, Nwin, Peers, Lot, At}
 use Rattle.sl_code.specs.declared.kinds.Kinds.{Kinds}
 use Rattle.sl_verify.specs.Leaves.{cursors_behind, cursors_carried, table_behind, with_party, with_land, with_win, with_ready}
+use Rattle.sl_plans.specs.declared.emitter.TheConstants.{ONES}
 use Rattle.sl_plans.specs.declared.plan.Test.{Test}
 use Rattle.sl_plans.specs.declared.plan.Test.TheVariants as test
 use Rattle.sl_plans.specs.declared.plan.Cursor.{Cursor}
@@ -51,7 +52,7 @@ to_next cursor.Win to = Nwin to
 
 -- the register of the number 1 by which others count
 abbrev pub ones : ℕ
-ones = 15
+ones = ONES
 
 -- the register is one less
 abbrev pub count_down : ℕ → List Instr

@@ -10,9 +10,10 @@ use crate::known::{at_join, known_after, known_in_arm, with_cursor_known};
 use crate::plan::{Cursor, Part, Plan, Test};
 use sl_code::{Cursors, Instr, Kinds, MAX_INSTRS, Registers};
 use sl_ratio::NoMemory;
+use sl_verify::REGISTERS;
 
 /// The register of the number 1, by which other registers count.
-pub const ONES: u8 = 15;
+pub const ONES: u8 = REGISTERS - 1;
 
 /// Appends a plan's instructions, with what is known where it begins, and says what is known after it. The parts of the plan that are
 /// numbers stand for the instructions given.

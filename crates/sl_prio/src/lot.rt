@@ -5,11 +5,11 @@ ghost use Rattle.sl_ratio.specs.declared.entry.Entry.{Entry};
 ghost use Rattle.sl_prio.specs.Lot.{place_in_lot, lot_cmp};
 ghost use Rattle.sl_prio.specs.inner.Marks.{AreMarks, HaveMarks, have_index, names};
 
-use sl_ratio::Entry;
+use sl_ratio::{Entry, MAX_LANDS, MAX_PARTIES};
 use std::cmp::Ordering;
 
 // How many indexes have a mark: those of the lists of the greatest election.
-pub(crate) const MARKS: usize = 16_384;
+pub(crate) const MARKS: usize = MAX_PARTIES * MAX_LANDS;
 
 /// A mark for each index below `MARKS`.
 pub(crate) type Marks = [bool; MARKS];

@@ -14,7 +14,7 @@ mod signpost;
 
 pub use bound::bounds;
 pub use entry::Entry;
-pub use limits::{MAX_NUMBER, MAX_SEATS, MAX_WEIGHT};
+pub use limits::{MAX_LANDS, MAX_NUMBER, MAX_PARTIES, MAX_SEATS, MAX_VOTES, MAX_WEIGHT};
 pub use memory::NoMemory;
 pub use method::{DIVISORS, Divisor, Method};
 pub use names::{MAX_NAME_BYTES, NameFault, Names, spelling_fault};

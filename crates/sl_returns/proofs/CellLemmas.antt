@@ -56,7 +56,7 @@ all_taken (suc n) (c ∷ cs) h = (h.0, all_taken n cs h.1)
 pub record Reads (ds : List ℕ) (i : ℕ) : Type 0 where
   pub digit : 48 ≤ get_or ds i 0
   pub next : digits_value 10 (take (i + 1) ds) ≡ digits_value 10 (take i ds) * 10 + (get_or ds i 0 - 48)
-  pub small : digits_value 10 (take (i + 1) ds) < 10 ^ 12
+  pub small : digits_value 10 (take (i + 1) ds) < 10 ^ MAX_DIGITS
 
 pub reads : (ds : List ℕ) (i : ℕ) → is_number ds ≡ true → i < length ds → Reads ds i
 reads ds i number l =
@@ -70,6 +70,6 @@ reads ds i number l =
       digit = at.0;
       next = omega (arith, digits_value_more 10 ds i l, value);
       small =
-          let few : length (take (i + 1) ds) ≤ 12 = omega arith in
+          let few : length (take (i + 1) ds) ≤ MAX_DIGITS = omega arith in
           omega (arith, below, pow-le-pow_right {n = 10} (lit< tt) few);
     }

@@ -7,7 +7,7 @@ use Rattle.std.proofs.lemmas.List.Elements.{All-push, All-weaker}
 use Rattle.std.proofs.lemmas.Option.{none-some}
 use Rattle.sl_ratio.specs.Names.{IsNameList, name_fault}
 use Rattle.sl_ratio.proofs.NameLists.{with_name}
-use Rattle.sl_stages.specs.declared.limits.TheConstants.{MAX_LANDS, MAX_PARTIES}
+use Rattle.sl_ratio.specs.declared.limits.TheConstants.{MAX_LANDS, MAX_PARTIES}
 use Rattle.sl_stages.specs.declared.returns.ListVotes.{ListVotes}
 use Rattle.sl_stages.specs.returns.Election.{Election, has_list}
 use Rattle.sl_returns.specs.declared.cells.TheConstants.{LAND, PARTY, A, B}

@@ -8,8 +8,8 @@ use Rattle.std.proofs.lemmas.Option.{none-some, same_Some}
 use Rattle.std.specs.List.{All, list_all}
 use Rattle.sl_ratio.specs.declared.names.TheConstants.{MAX_NAME_BYTES}
 use Rattle.sl_ratio.specs.Names.{IsNameList, is_name, is_name_byte, spelling_fault}
-use Rattle.sl_ratio.specs.declared.limits.TheConstants.{MAX_SEATS}
-use Rattle.sl_stages.specs.declared.limits.TheConstants.{MAX_LANDS, MAX_PARTIES, MAX_WINS, MAX_LOTS, MAX_VOTES, MAX_SLATE}
+use Rattle.sl_ratio.specs.declared.limits.TheConstants.{MAX_SEATS, MAX_LANDS, MAX_PARTIES, MAX_VOTES}
+use Rattle.sl_stages.specs.declared.limits.TheConstants.{MAX_WINS, MAX_LOTS, MAX_SLATE}
 use Rattle.sl_stages.specs.book.Tests.{first_failing}
 use Rattle.sl_stages.specs.returns.Election.{Election, IsElection, IsWin, IsLot, IsCell, EndsBefore, has_list, wins_of}
 use Rattle.sl_stages.proofs.Elections.{is_with_house, is_with_land, is_with_party, is_with_list, is_with_win, is_with_lot}

@@ -8,7 +8,7 @@ use Rattle.std.proofs.lemmas.List.Elements.{All-pop, filter-append}
 use Rattle.std.proofs.lemmas.List.Sums.{sum_by-cons, sum_by-append, sum_by-set, sum-map}
 use Rattle.std.proofs.lemmas.Slice.Eq.{bytes_eq-Decides}
 use Rattle.sl_ratio.specs.Names.{IsNameList}
-use Rattle.sl_stages.specs.declared.limits.TheConstants.{MAX_LANDS, MAX_PARTIES}
+use Rattle.sl_ratio.specs.declared.limits.TheConstants.{MAX_LANDS, MAX_PARTIES}
 use Rattle.sl_stages.specs.returns.Votes.{valid_in}
 use Rattle.sl_returns.specs.declared.cells.TheConstants.{LAND, PARTY, A}
 use Rattle.sl_returns.specs.Cells.{Record, cell, number_of, place_in}

@@ -4,8 +4,8 @@ use Rattle.std.specs.Prelude.{◌≡◌, ◌⊎◌, ℕ, Bool, true, false, not,
 use Rattle.std.specs.List.{list_all, list_any}
 use Rattle.std.specs.Str.{bytes_eq}
 use Rattle.sl_ratio.specs.Names.{is_name}
-use Rattle.sl_ratio.specs.declared.limits.TheConstants.{MAX_SEATS}
-use Rattle.sl_stages.specs.declared.limits.TheConstants.{MAX_LANDS, MAX_PARTIES, MAX_WINS, MAX_LOTS, MAX_VOTES, MAX_SLATE}
+use Rattle.sl_ratio.specs.declared.limits.TheConstants.{MAX_SEATS, MAX_LANDS, MAX_PARTIES, MAX_VOTES}
+use Rattle.sl_stages.specs.declared.limits.TheConstants.{MAX_WINS, MAX_LOTS, MAX_SLATE}
 use Rattle.sl_stages.specs.declared.returns.Lot.{Lot}
 use Rattle.sl_stages.specs.book.Tests.{Test, first_failing}
 use Rattle.sl_stages.specs.returns.Election.{Election, lands_of, parties_of, wins_of, has_list}

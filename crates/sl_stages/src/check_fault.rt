@@ -1,5 +1,6 @@
 //! What keeps a rulebook from being well formed.
 
+use crate::limits::MAX_SEATS;
 use thiserror::Error;
 
 /// The first test that a book fails, with the offset in bytes where it shows (docs/language.md, section 5).
@@ -7,7 +8,7 @@ use thiserror::Error;
 pub enum CheckFault {
     #[error("no such version of the language at {0}")]
     Version(usize),
-    #[error("the house at {0} is not from 1 to 4000")]
+    #[error("the house at {0} is not from 1 to {MAX_SEATS}")]
     HouseRange(usize),
     #[error("the share at {0} is out of range")]
     PerRange(usize),
@@ -23,7 +24,7 @@ pub enum CheckFault {
     TwoSplits(usize),
     #[error("the method at {0} has no such option")]
     MethodOption(usize),
-    #[error("the cap at {0} is not from 1 to 4000")]
+    #[error("the cap at {0} is not from 1 to {MAX_SEATS}")]
     CapRange(usize),
     #[error("the base of the last clause at {0} is no column of seats of lists")]
     SeatsShape(usize),

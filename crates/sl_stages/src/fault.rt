@@ -56,7 +56,7 @@ impl Items {
 /// Why a scope of a stage has no seats.
 #[derive(Debug, Drop)]
 pub enum FaultKind {
-    /// Over 4000 seats are to be given out.
+    /// More than `MAX_SEATS` seats are to be given out.
     Limit,
     /// The minima sum to more than the seats.
     Short,

@@ -7,7 +7,7 @@ use sl_ratio::NoMemory;
 use std::alloc::Global;
 use std::marker::Model;
 
-/// A name as returns write it: 1 to 12 bytes, each a letter, a digit, `_` or `-`.
+/// A name as returns write it: 1 to `MAX_NAME_BYTES` bytes, each a letter, a digit, `_` or `-`.
 #[derive(Debug, Drop)]
 pub struct Label {
     bytes: Vec<u8>,

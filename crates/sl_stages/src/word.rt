@@ -7,7 +7,7 @@ use sl_ratio::NoMemory;
 use std::alloc::Global;
 use std::marker::Model;
 
-/// A word of 1 to 12 bytes: a letter, and then letters, digits and underscores.
+/// A word of 1 to `MAX_NAME_BYTES` bytes: a letter, and then letters, digits and underscores.
 #[derive(Debug, Drop)]
 pub struct Word {
     bytes: Vec<u8>,

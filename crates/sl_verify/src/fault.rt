@@ -7,7 +7,7 @@ use thiserror::Error;
 pub enum VerifyFault {
     #[error("instruction {0} jumps to a place without a declaration")]
     Jump(usize),
-    #[error("instruction {0} names a register above 15")]
+    #[error("instruction {0} names a register that is not there")]
     Register(usize),
     #[error("instruction {0} needs a positive register or a cursor")]
     Kind(usize),

@@ -5,8 +5,9 @@ use Rattle.sl_code.specs.declared.operand.EndFault.TheVariants as end
 use Rattle.sl_plans.specs.declared.plan.Test.TheVariants as test
 use Rattle.sl_plans.specs.declared.plan.Bound.TheVariants as bound
 use Rattle.sl_plans.specs.Trees.{Tree, Line, Then, If}
-use Rattle.sl_pieces.specs.scopes.Forms.{Form, entries_plan}
-use Rattle.sl_pieces.specs.awards.Registers as reg
+use Rattle.sl_pieces.specs.declared.form.Form.{Form}
+use Rattle.sl_pieces.specs.scopes.Forms.{entries_plan}
+use Rattle.sl_pieces.specs.declared.registers.TheConstants as reg
 use Rattle.sl_pieces.specs.awards.Trees.{batches, whole_batch, counted_seat, count_step, drawn_seats, awards}
 use Rattle.sl_pieces.specs.seats.Slots.{Slots}
 use Rattle.sl_pieces.specs.seats.Trees.{nothing, most_seats, faulty, not_over, add_minimum, sums, refuses_seats, base_of, outside_base, enter_of, enter_quotient}
@@ -14,10 +15,10 @@ use Rattle.sl_pieces.specs.seats.Trees.{fill_entry, fill, ranking_of, tied, seat
 use Rattle.sl_pieces.specs.nodes.Trees.{shared, search_entry, search_batch, search_seat, find_house}
 use Rattle.sl_blocks.specs.declared.blanks.Block.{Block}
 use Rattle.sl_blocks.specs.Jobs.{slots_of}
-use Rattle.sl_blocks.specs.Given.{meant, divisor_of}
+use Rattle.sl_blocks.specs.Given.{divisor_of}
 
 abbrev pub form_in : Block → Form
-form_in b = meant b.form
+form_in b = b.form
 
 abbrev pub slots_in : Block → Slots
 slots_in b = slots_of b.job
@@ -27,7 +28,7 @@ slots_in b = slots_of b.job
 abbrev pub sum_entries : Block → Tree
 sum_entries b =
     let x = slots_in b in
-    entries_plan (form_in b) (Line (Get reg.weight x.votes ∷ (Add reg.total reg.weight ∷ add_minimum x.minima)))
+    entries_plan (form_in b) (Line (Get reg.WEIGHT x.votes ∷ (Add reg.TOTAL reg.WEIGHT ∷ add_minimum x.minima)))
 
 abbrev pub fill_entries : Block → Tree
 fill_entries b =
@@ -47,24 +48,24 @@ search_entries b = entries_plan (form_in b) (search_entry (form_in b) (slots_in 
 
 -- a growth ends where there are no votes
 abbrev pub some_votes : Block → Tree
-some_votes b = If (test.Zero reg.total) (faulty (form_in b) (slots_in b) end.NoList) nothing
+some_votes b = If (test.Zero reg.TOTAL) (faulty (form_in b) (slots_in b) end.NoList) nothing
 
 -- ---- seats
 
 -- before the first batch: the seats to award, which are the turns to make
 abbrev pub count_left : Tree
-count_left = Line (Mov reg.all_left reg.left ∷ (Mov reg.turns reg.left ∷ []))
+count_left = Line (Mov reg.ALL_LEFT reg.LEFT ∷ (Mov reg.TURNS reg.LEFT ∷ []))
 
 -- what comes in a search after its entries
 abbrev pub search_batches : Block → ℕ → Tree
 search_batches b cap =
-    Then (Line (Set reg.all_left 0 ∷ (Set reg.left cap ∷ []))) (batches reg.left (bound.AtMost most_seats) search_batch (search_seat (slots_in b) (divisor_of b.method)))
+    Then (Line (Set reg.ALL_LEFT 0 ∷ (Set reg.LEFT cap ∷ []))) (batches reg.LEFT (bound.AtMost most_seats) search_batch (search_seat (slots_in b) (divisor_of b.method)))
 
 abbrev pub seat_in : Block → Tree
 seat_in b = seat (form_in b) (slots_in b) (again_of (slots_in b) b.method)
 
 abbrev pub whole_batches : Block → Tree
-whole_batches b = batches reg.turns (bound.AtMost most_seats) whole_batch (counted_seat (seat_in b))
+whole_batches b = batches reg.TURNS (bound.AtMost most_seats) whole_batch (counted_seat (seat_in b))
 
 abbrev pub drawn_batch : Block → Tree
 drawn_batch b = Then (Line count_step) (drawn_seats b.job.stage (bound.AtMost most_seats) (seat_in b))
@@ -83,7 +84,7 @@ abbrev pub split_with : Block → Tree → Tree
 split_with b rest =
     let f = form_in b in
     let x = slots_in b in
-    Then (Line (Get reg.amount x.amounts ∷ []))
+    Then (Line (Get reg.AMOUNT x.amounts ∷ []))
     (Then (sums f x) (Then (refuses_seats f x) (Then (fill f x (ranking_of b.method) (base_of b.method x) (enter_of f x b.method b.job.majority)) rest)))
 
 -- a scope of a growth
@@ -91,10 +92,10 @@ abbrev pub growth_with : Block → ℕ → Tree → Tree
 growth_with b cap rest =
     let f = form_in b in
     let x = slots_in b in
-    Then (Line (Get reg.amount x.amounts ∷ []))
+    Then (Line (Get reg.AMOUNT x.amounts ∷ []))
     (Then (sums f x)
     (Then (some_votes b)
-    (Then (not_over f x reg.needed cap end.Cap)
+    (Then (not_over f x reg.NEEDED cap end.Cap)
     (Then (find_house f x (divisor_of b.method) cap)
     (Then (fill f x (ranking_of b.method) (outside_base x.minima) (enter_quotient f x (divisor_of b.method))) rest)))))
 

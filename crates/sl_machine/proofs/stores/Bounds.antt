@@ -1,6 +1,7 @@
 -- Bounds of what an election has.
 use Rattle.std.proofs.Common.{ℕ, ◌^◌, ◌<◌, arith}
 use Rattle.std.proofs.lemmas.Nat.{mul-le}
+use Rattle.sl_ratio.specs.declared.limits.TheConstants.{MAX_LANDS, MAX_PARTIES}
 use Rattle.sl_stages.specs.returns.Election.{Election, IsElection, lands_of, parties_of}
 use Rattle.sl_code.specs.declared.operand.Entries.{Entries}
 use Rattle.sl_code.specs.declared.operand.Entries.TheVariants as entries
@@ -10,6 +11,6 @@ pub entries_fit : (e : Election) → IsElection e → (k : Entries) (i : ℕ) �
 entries_fit e kept entries.Party i h = omega (arith, kept.parties)
 entries_fit e kept entries.Land i h = omega (arith, kept.lands)
 entries_fit e kept entries.List i h =
-    let most = mul-le (lands_of e) (parties_of e) 64 256 kept.lands kept.parties in
+    let most = mul-le (lands_of e) (parties_of e) MAX_LANDS MAX_PARTIES kept.lands kept.parties in
     omega (arith, most)
 entries_fit e kept entries.Win i h = omega (arith, kept.winners, kept.wins)

@@ -14,7 +14,7 @@ use Rattle.sl_plans.specs.Meaning.{turns_in}
 use Rattle.sl_plans.specs.Achieves.{Achieves, Never}
 use Rattle.sl_plans.proofs.Rules.{achieves_from, achieves_more, line_ends, line_goes, then_achieves}
 use Rattle.sl_pieces.specs.arenas.Arenas.{Arena, HasWaiting}
-use Rattle.sl_pieces.specs.awards.Registers as reg
+use Rattle.sl_pieces.specs.declared.registers.TheConstants as reg
 use Rattle.sl_pieces.specs.awards.Trees.{awards, whole_batch, counted_seat, last_batch}
 use Rattle.sl_pieces.specs.awards.Trees as plan
 use Rattle.sl_pieces.specs.awards.Batches.{GivesSeats, EndOfBatches, Between, Within, AfterBatches}
@@ -37,33 +37,33 @@ module _ (c : CountingCode) (e : Election) (a : Arena) (most seats n : ℕ) (mea
       → Achieves c e (last_batch n bound tie on) state (AreAwarded a seats meant Held) E
   end_awarded t state waits counts (Between settled none end) = last_awarded c e a most seats n meant can tie on Held E fits gives ends t settled bound state within waits counts end
   end_awarded t state waits counts (Within s tied given mid long some begun all) =
-      absurd (still_left s tied given t (state.registers reg.in_batch) mid long some (begun.enough tied mid.listed) all)
+      absurd (still_left s tied given t (state.registers reg.IN_BATCH) mid long some (begun.enough tied mid.listed) all)
 
   -- the state in which the batches begin
   set_out : State → State
-  set_out state = with_register reg.turns (state.registers reg.left) (with_register reg.all_left (state.registers reg.left) state)
+  set_out state = with_register reg.TURNS (state.registers reg.LEFT) (with_register reg.ALL_LEFT (state.registers reg.LEFT) state)
 
-  counts_first : (state : State) → Held a.ladders.base state → state.registers reg.left ≡ seats - sum a.ladders.base → Counts a seats Held a.ladders.base (set_out state)
+  counts_first : (state : State) → Held a.ladders.base state → state.registers reg.LEFT ≡ seats - sum a.ladders.base → Counts a seats Held a.ladders.base (set_out state)
   unfolding set_out
   counts_first state held all =
       let base : List ℕ = a.ladders.base in
-      let first : State = with_register reg.all_left (state.registers reg.left) state in
-      let left : state.registers reg.left + sum base ≡ seats = omega (arith, all, can.enough) in
+      let first : State = with_register reg.ALL_LEFT (state.registers reg.LEFT) state in
+      let left : state.registers reg.LEFT + sum base ≡ seats = omega (arith, all, can.enough) in
       record { held = fits.blind_turns.blind base _ first (fits.blind_all_left.blind base _ state held); left = left; all_left = left }
 
-  all_awarded : (state : State) → HasWaiting a a.ladders.base state → Held a.ladders.base state → state.registers reg.left ≡ seats - sum a.ladders.base
+  all_awarded : (state : State) → HasWaiting a a.ladders.base state → Held a.ladders.base state → state.registers reg.LEFT ≡ seats - sum a.ladders.base
       → Achieves c e (awards n bound tie on) state (AreAwarded a seats meant Held) E
   unfolding set_out
   all_awarded state waits held all =
       let base : List ℕ = a.ladders.base in
       let begin : IsSettled a.ladders base = (batches a.ladders can.arena.falling).begin in
-      let first : State = with_register reg.all_left (state.registers reg.left) state in
+      let first : State = with_register reg.ALL_LEFT (state.registers reg.LEFT) state in
       let counts : Counts a seats Held base (set_out state) = counts_first state held all in
-      let walked : Achieves c e (plan.batches reg.turns bound whole_batch (counted_seat on)) (set_out state) (AfterBatches a seats (IsWhole a seats) (IsLast a seats) (Counts a seats Held)) Never =
-      batches_achieve c e a most seats reg.turns bound whole_batch (counted_seat on) (IsWhole a seats) (IsLast a seats) (Counts a seats Held) base (set_out state) can.arena can.few
+      let walked : Achieves c e (plan.batches reg.TURNS bound whole_batch (counted_seat on)) (set_out state) (AfterBatches a seats (IsWhole a seats) (IsLast a seats) (Counts a seats Held)) Never =
+      batches_achieve c e a most seats reg.TURNS bound whole_batch (counted_seat on) (IsWhole a seats) (IsLast a seats) (Counts a seats Held) base (set_out state) can.arena can.few
       (gives_counted c e a most seats on Held fits can.arena gives) (begins_whole c e a most seats on Held fits can.arena can.room can.few can.countable)
       (fits_whole c e a most seats on Held fits) begin waits counts counts.left (omega (arith, all, within)) in
-      then_achieves {Q = λ v. v ≡ set_out state} (line_goes (mov_does c e state reg.all_left reg.left) (line_goes (mov_does c e first reg.turns reg.left) (line_ends refl)))
+      then_achieves {Q = λ v. v ≡ set_out state} (line_goes (mov_does c e state reg.ALL_LEFT reg.LEFT) (line_goes (mov_does c e first reg.TURNS reg.LEFT) (line_ends refl)))
       (λ v same.
       achieves_from same
       (then_achieves {Q = AfterBatches a seats (IsWhole a seats) (IsLast a seats) (Counts a seats Held)} (achieves_more walked (λ after h. h) (λ x never. absurd never))

@@ -19,14 +19,14 @@ use Rattle.sl_machine.proofs.effects.Registers.{set_does, mov_does, add_does, su
 use Rattle.sl_plans.specs.Trees.{Line, ones}
 use Rattle.sl_plans.specs.Achieves.{Achieves}
 use Rattle.sl_plans.proofs.Rules.{line_ends, line_goes}
-use Rattle.sl_pieces.specs.awards.Registers as reg
+use Rattle.sl_pieces.specs.declared.registers.TheConstants as reg
 use Rattle.sl_pieces.specs.awards.Trees.{count_step}
 
 -- ---- states
 
 -- the state with one seat less to give
 abbrev pub lessened : State → State
-lessened s = with_register reg.left (s.registers reg.left - 1) (with_register ones 1 s)
+lessened s = with_register reg.LEFT (s.registers reg.LEFT - 1) (with_register ones 1 s)
 
 module _ (e : Election) where
   -- the seat may be counted once an entry is taken, or before
@@ -39,19 +39,19 @@ module _ (e : Election) where
 -- the state with the step of the batch that begins
 abbrev pub stepping : State → State
 stepping s =
-    with_register reg.step (min (s.registers reg.all_left - s.registers reg.left + 1) machine.most)
+    with_register reg.STEP (min (s.registers reg.ALL_LEFT - s.registers reg.LEFT + 1) machine.most)
     (with_register ones 1
-    (with_register reg.step (s.registers reg.all_left - s.registers reg.left)
-    (with_register reg.step (s.registers reg.all_left) s)))
+    (with_register reg.STEP (s.registers reg.ALL_LEFT - s.registers reg.LEFT)
+    (with_register reg.STEP (s.registers reg.ALL_LEFT) s)))
 
 pub step_counted : {c : CountingCode} {e : Election} {s : State} {Q : State → Type 0} {E : End → Type 0} → Q (stepping s) → Achieves c e (Line count_step) s Q E
 step_counted {c = c} {e = e} {s = s} h =
-    let first : State = with_register reg.step (s.registers reg.all_left) s in
-    let second : State = with_register reg.step (s.registers reg.all_left - s.registers reg.left) first in
-    line_goes (mov_does c e s reg.step reg.all_left)
-    (line_goes (sub_does c e first reg.step reg.left)
+    let first : State = with_register reg.STEP (s.registers reg.ALL_LEFT) s in
+    let second : State = with_register reg.STEP (s.registers reg.ALL_LEFT - s.registers reg.LEFT) first in
+    line_goes (mov_does c e s reg.STEP reg.ALL_LEFT)
+    (line_goes (sub_does c e first reg.STEP reg.LEFT)
     (line_goes (set_does c e second ones 1)
-    (line_goes (add_does c e (with_register ones 1 second) reg.step ones)
+    (line_goes (add_does c e (with_register ones 1 second) reg.STEP ones)
     (line_ends h))))
 
 -- the step is one more than the seats awarded before

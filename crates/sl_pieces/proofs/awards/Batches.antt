@@ -17,7 +17,7 @@ use Rattle.sl_plans.specs.inner.Frames.{may_write_register}
 use Rattle.sl_plans.proofs.Rules.{line_ends, line_goes, then_achieves, achieves_more, achieves_from, if_zero}
 use Rattle.sl_plans.proofs.KeepingRules.{times_keeping}
 use Rattle.sl_pieces.specs.arenas.Arenas.{Arena, IsArena, HasWaiting}
-use Rattle.sl_pieces.specs.awards.Registers as reg
+use Rattle.sl_pieces.specs.declared.registers.TheConstants as reg
 use Rattle.sl_pieces.specs.awards.Trees.{one_seat, batch_turn, batches}
 use Rattle.sl_pieces.specs.awards.Batches.{GivesSeats, HasBegun, NoBatch, OneBegan, BeginsBatches, Between, Within, EndOfBatches, AfterBatches, FitsLoop, BatchesAchieve}
 use Rattle.sl_pieces.proofs.awards.Turns.{SeatGiven, gives_seat}
@@ -35,13 +35,13 @@ pub record BeforeTurn (a : Arena) (seats : ℕ) (Begun : List ℕ → ℕ → Ty
   pub t : List ℕ
   pub waits : HasWaiting a t state
   pub held : Held t state
-  pub turn : StandsAt a seats Begun Stopped w t (state.registers reg.in_batch) (state.registers reg.step)
+  pub turn : StandsAt a seats Begun Stopped w t (state.registers reg.IN_BATCH) (state.registers reg.STEP)
 
 -- the plan of a turn does not write the loop's register
 keeps_turns : (Held : List ℕ → State → Type 0) (r : ℕ) (begin on : Tree) → FitsLoop Held r begin on → may_write_register (batch_turn begin on) r ≡ false
 keeps_turns Held r begin on fits =
-    let peers : (r == reg.peers) ≡ false = ne_eqb r reg.peers (λ same. fits.not_peers (sym same)) in
-    let in_batch : (r == reg.in_batch) ≡ false = ne_eqb r reg.in_batch (λ same. fits.not_batch (sym same)) in
+    let peers : (r == reg.PEERS) ≡ false = ne_eqb r reg.PEERS (λ same. fits.not_peers (sym same)) in
+    let in_batch : (r == reg.IN_BATCH) ≡ false = ne_eqb r reg.IN_BATCH (λ same. fits.not_batch (sym same)) in
     let own : (r == ones) ≡ false = ne_eqb r ones (λ same. fits.own (sym same)) in
     rw (fits.begin_keeps, fits.on_keeps, peers, in_batch, own) refl
 
@@ -57,8 +57,8 @@ module _ (c : CountingCode) (e : Election) (a : Arena) (most seats r : ℕ) (beg
   counted : (w : ℕ) (state : State) → Before (suc w) state → Before (suc w) (with_register r w (with_register ones 1 state))
   counted w state h =
       let one : State = with_register ones 1 state in
-      let batch : (with_register r w one).registers reg.in_batch ≡ state.registers reg.in_batch = register_other one r w reg.in_batch fits.not_batch in
-      let step : (with_register r w one).registers reg.step ≡ state.registers reg.step = register_other one r w reg.step fits.not_step in
+      let batch : (with_register r w one).registers reg.IN_BATCH ≡ state.registers reg.IN_BATCH = register_other one r w reg.IN_BATCH fits.not_batch in
+      let step : (with_register r w one).registers reg.STEP ≡ state.registers reg.STEP = register_other one r w reg.STEP fits.not_step in
       record {
         t = h.t;
         waits = h.waits;
@@ -73,8 +73,8 @@ module _ (c : CountingCode) (e : Election) (a : Arena) (most seats r : ℕ) (beg
       let all = ((walks a.ladders arena.falling).within s peers (h.entry ∷ given) h.u h.mid).all (omega (arith, left)) in
       record { t = h.u; waits = h.after.waits; held = h.after.held; turn = BetweenBatches all.1 h.after.left (omega (arith, many, h.total)) }
   seat_over w (suc n) number s peers given t state many left begun h =
-      let rest : length (h.entry ∷ given) + state.registers reg.in_batch ≡ length peers = omega (arith, left, h.after.left) in
-      let some : 0 < state.registers reg.in_batch = omega (arith, h.after.left) in
+      let rest : length (h.entry ∷ given) + state.registers reg.IN_BATCH ≡ length peers = omega (arith, left, h.after.left) in
+      let some : 0 < state.registers reg.IN_BATCH = omega (arith, h.after.left) in
       record {
         t = h.u;
         waits = h.after.waits;
@@ -83,32 +83,32 @@ module _ (c : CountingCode) (e : Election) (a : Arena) (most seats r : ℕ) (beg
       }
 
   -- ---- the second half of a turn, where a batch is under way, and where there is none
-  seat_turn : (w : ℕ) (s peers given t : List ℕ) (state : State) → suc w + sum t ≡ seats → MidBatch a.ladders s peers given t → length given + state.registers reg.in_batch ≡ length peers
-      → 0 < state.registers reg.in_batch → Begun s (state.registers reg.step) → HasWaiting a t state → Held t state
-      → Achieves c e (If (test.Zero reg.in_batch) (Line []) (one_seat on)) state (Before w) Never
+  seat_turn : (w : ℕ) (s peers given t : List ℕ) (state : State) → suc w + sum t ≡ seats → MidBatch a.ladders s peers given t → length given + state.registers reg.IN_BATCH ≡ length peers
+      → 0 < state.registers reg.IN_BATCH → Begun s (state.registers reg.STEP) → HasWaiting a t state → Held t state
+      → Achieves c e (If (test.Zero reg.IN_BATCH) (Line []) (one_seat on)) state (Before w) Never
   seat_turn w s peers given t state many mid left some begun waits held =
       if_zero (λ none. absurd (omega (arith, some, none)))
       (λ n is.
       let rest : length given + suc n ≡ length peers = omega (arith, left, is) in
       achieves_more (gives_seat c e a Held r begin on fits most Begun arena gives seats n s peers given t state within (omega (arith, many)) mid rest begun waits held is)
-      (λ v h. seat_over w n (state.registers reg.step) s peers given t v many rest begun h)
+      (λ v h. seat_over w n (state.registers reg.STEP) s peers given t v many rest begun h)
       (λ x h. h))
 
-  idle_turn : (w : ℕ) (t : List ℕ) (state : State) → IsSettled a.ladders t → Stopped t → HasWaiting a t state → Held t state → state.registers reg.in_batch ≡ 0
-      → Achieves c e (If (test.Zero reg.in_batch) (Line []) (one_seat on)) state (Before w) Never
+  idle_turn : (w : ℕ) (t : List ℕ) (state : State) → IsSettled a.ladders t → Stopped t → HasWaiting a t state → Held t state → state.registers reg.IN_BATCH ≡ 0
+      → Achieves c e (If (test.Zero reg.IN_BATCH) (Line []) (one_seat on)) state (Before w) Never
   idle_turn w t state settled stopped waits held none =
       if_zero (λ is. line_ends (record { t = t; waits = waits; held = held; turn = BehindLast settled is stopped }))
       (λ n is. absurd (omega (arith, none, is)))
 
   -- after the first half of a turn that found no batch under way
   begun_turn : (w : ℕ) (t : List ℕ) (state : State) → suc w + sum t ≡ seats → IsSettled a.ladders t → HasWaiting a t state → Held t state → HasBegun a Begun Stopped t state
-      → Achieves c e (If (test.Zero reg.in_batch) (Line []) (one_seat on)) state (Before w) Never
+      → Achieves c e (If (test.Zero reg.IN_BATCH) (Line []) (one_seat on)) state (Before w) Never
   begun_turn w t state many settled waits held (NoBatch none stopped) = idle_turn w t state settled stopped waits held none
   begun_turn w t state many settled waits held (OneBegan peers listed some all begun) =
       seat_turn w t peers [] t state many ((walks a.ladders arena.falling).begin t peers settled listed) (omega (arith, all)) (omega (arith, some, all)) begun waits held
 
   -- ---- a turn
-  turn_goes : (w : ℕ) (t : List ℕ) (state : State) → HasWaiting a t state → Held t state → StandsAt a seats Begun Stopped (suc w) t (state.registers reg.in_batch) (state.registers reg.step)
+  turn_goes : (w : ℕ) (t : List ℕ) (state : State) → HasWaiting a t state → Held t state → StandsAt a seats Begun Stopped (suc w) t (state.registers reg.IN_BATCH) (state.registers reg.STEP)
       → Achieves c e (batch_turn begin on) state (Before w) Never
   turn_goes w t state waits held (BetweenBatches settled none many) =
       then_achieves {Q = λ v. HasWaiting a t v × Held t v × HasBegun a Begun Stopped t v}
@@ -119,12 +119,12 @@ module _ (c : CountingCode) (e : Election) (a : Arena) (most seats r : ℕ) (beg
       (if_zero (λ is. absurd (omega (arith, some, is))) (λ n is. line_ends refl))
       (λ v is. achieves_from is (seat_turn w s peers given t state many mid left some begun waits held))
   turn_goes w t state waits held (BehindLast settled none stopped) =
-      then_achieves {Q = λ v. HasWaiting a t v × Held t v × (v.registers reg.in_batch ≡ 0)}
+      then_achieves {Q = λ v. HasWaiting a t v × Held t v × (v.registers reg.IN_BATCH ≡ 0)}
       (if_zero (λ is. begins.rests t state settled waits held is stopped) (λ n is. absurd (omega (arith, none, is))))
       (λ v h. idle_turn w t v settled stopped h.0 h.1 h.2)
 
   -- ---- all turns
-  ends_so : (t : List ℕ) (state : State) → StandsAt a seats Begun Stopped 0 t (state.registers reg.in_batch) (state.registers reg.step) → EndOfBatches a seats Begun Stopped t state
+  ends_so : (t : List ℕ) (state : State) → StandsAt a seats Begun Stopped 0 t (state.registers reg.IN_BATCH) (state.registers reg.STEP) → EndOfBatches a seats Begun Stopped t state
   ends_so t state (BetweenBatches settled none many) = Between settled none (inl (omega (arith, many)))
   ends_so t state (WithinBatch s peers given mid left some begun many) = Within s peers given mid left some begun (omega (arith, many))
   ends_so t state (BehindLast settled none stopped) = Between settled none (inr stopped)
@@ -141,15 +141,15 @@ module _ (c : CountingCode) (e : Election) (a : Arena) (most seats r : ℕ) (beg
       → state.registers r + sum t ≡ seats → state.registers r ≤ turns_in e bound
       → Achieves c e (batches r bound begin on) state (AfterBatches a seats Begun Stopped Held) Never
   all_batches bound t state settled waits held many few =
-      let none : State = with_register reg.in_batch 0 state in
-      let same : none.registers r ≡ state.registers r = register_other state reg.in_batch 0 r (λ is. fits.not_batch (sym is)) in
+      let none : State = with_register reg.IN_BATCH 0 state in
+      let same : none.registers r ≡ state.registers r = register_other state reg.IN_BATCH 0 r (λ is. fits.not_batch (sym is)) in
       let first : Before (none.registers r) none = record {
         t = t;
         waits = waits;
         held = fits.blind_batch.blind t 0 state held;
         turn = BetweenBatches settled refl (omega (arith, same, many));
       } in
-      then_achieves {Q = λ v. v ≡ none} (line_goes (set_does c e state reg.in_batch 0) (line_ends refl))
+      then_achieves {Q = λ v. v ≡ none} (line_goes (set_does c e state reg.IN_BATCH 0) (line_ends refl))
       (λ v is. achieves_from is (all_turns bound none (omega (arith, same, few)) first))
 
 -- it speaks of all relations, so it is of Type 1 and cannot be a function's contract: it stays a lemma

@@ -30,7 +30,7 @@ use Rattle.sl_pieces.specs.arenas.Effects.{IsWaiting, TableEffects}
 use Rattle.sl_pieces.proofs.arenas.Lots.{waiting_drawn}
 use Rattle.sl_pieces.proofs.arenas.TableEffects.{waiting_effects}
 use Rattle.sl_pieces.proofs.arenas.Turns.{waiting_turns}
-use Rattle.sl_pieces.specs.awards.Registers as reg
+use Rattle.sl_pieces.specs.declared.registers.TheConstants as reg
 use Rattle.sl_pieces.specs.awards.Trees.{drawn_seats}
 use Rattle.sl_pieces.specs.awards.Batches.{Gets, GivesSeats}
 use Rattle.sl_pieces.specs.awards.Awards.{CanAward, IsCounted, FitsAwards}
@@ -44,7 +44,7 @@ pub record IsDrawing (a : Arena) (seats : ℕ) (meant : List ℕ) (Held : List �
   pub mid : MidBatch a.ladders s tied (drawn meant k tied) t
   pub waits : HasWaiting a t state
   pub held : Held t state
-  pub counted : IsCounted a seats s (state.registers reg.step)
+  pub counted : IsCounted a seats s (state.registers reg.STEP)
 
 -- a seat that is drawn: the entry that gets it, and what the entries hold then
 record DrawnSeat (e : Election) (a : Arena) (meant name : List ℕ) (s tied t : List ℕ) (k : ℕ) : Type 0 where
@@ -89,27 +89,27 @@ module _ (c : CountingCode) (e : Election) (a : Arena) (most seats n : ℕ) (mea
       }
 
   module _ (on : Tree) (Held : List ℕ → State → Type 0) (fits : FitsAwards Held on) (gives : GivesSeats c e a most (IsCounted a seats) Held on) where
-    held_counted : (t : List ℕ) (w n : ℕ) (state : State) → Held t state → Held t (with_register reg.peers n (with_register reg.left w (with_register ones 1 state)))
+    held_counted : (t : List ℕ) (w n : ℕ) (state : State) → Held t state → Held t (with_register reg.PEERS n (with_register reg.LEFT w (with_register ones 1 state)))
     held_counted t w n state h =
         let one : State = with_register ones 1 state in
-        fits.blind_peers.blind t n (with_register reg.left w one) (fits.blind_left.blind t w one (fits.blind_ones.blind t 1 state h))
+        fits.blind_peers.blind t n (with_register reg.LEFT w one) (fits.blind_left.blind t w one (fits.blind_ones.blind t 1 state h))
 
     module _ (w : ℕ) (state : State) (drawing : IsDrawing a seats meant Held s tied (suc w) state) (seat : DrawnSeat e a meant can.name s tied drawing.t drawing.k) (number : ℕ) where
       -- the state of the machine before the seat is taken, and where the plan for it begins
       before_seat : State
-      before_seat = with_register reg.peers number (with_register reg.left w (with_register ones 1 state))
+      before_seat = with_register reg.PEERS number (with_register reg.LEFT w (with_register ones 1 state))
 
       at_drawn : State
       at_drawn = seat_taken e a seat.entry (slice_index drawing.t seat.entry) seat.gets.taken.others before_seat
 
-      same_step : at_drawn.registers reg.step ≡ state.registers reg.step
+      same_step : at_drawn.registers reg.STEP ≡ state.registers reg.STEP
       unfolding at_drawn before_seat
-      same_step = ap (λ (f : ℕ → ℕ). f reg.step) (same_registers e a.entries (slice_index a.places seat.entry) _)
+      same_step = ap (λ (f : ℕ → ℕ). f reg.STEP) (same_registers e a.entries (slice_index a.places seat.entry) _)
 
       next_drawn : (after : State) → HasWaiting a seat.u after → Held seat.u after → KeepsRest on at_drawn after → IsDrawing a seats meant Held s tied w after
       next_drawn after waits held kept =
           let all : sum s + drawing.k + suc w ≡ seats = drawing.number in
-          let same : after.registers reg.step ≡ state.registers reg.step = kept.registers reg.step fits.keeps_step ∙ same_step in
+          let same : after.registers reg.STEP ≡ state.registers reg.STEP = kept.registers reg.STEP fits.keeps_step ∙ same_step in
           record {
             t = seat.u;
             k = drawing.k + 1;
@@ -139,7 +139,7 @@ module _ (c : CountingCode) (e : Election) (a : Arena) (most seats n : ℕ) (mea
           (λ after h. next_drawn after h.0.0 h.0.1 h.1) (λ x h. h)))
 
     draw_turn : (w : ℕ) (state : State) → IsDrawing a seats meant Held s tied (suc w) state
-        → Achieves c e (If (test.Empty reg.peers) (Line []) (Then (Line (Takelot n ∷ [])) on)) (with_register reg.left w (with_register ones 1 state))
+        → Achieves c e (If (test.Empty reg.PEERS) (Line []) (Then (Line (Takelot n ∷ [])) on)) (with_register reg.LEFT w (with_register ones 1 state))
         (IsDrawing a seats meant Held s tied w) Never
     unfolding before_seat
     draw_turn w state drawing =
@@ -150,7 +150,7 @@ module _ (c : CountingCode) (e : Election) (a : Arena) (most seats n : ℕ) (mea
         (λ many is. take_drawn w state drawing seat (suc many))
 
     -- as many seats as are left are drawn
-    pub seats_drawn : (bound : Bound) (state : State) → state.registers reg.left ≤ turns_in e bound → IsDrawing a seats meant Held s tied (state.registers reg.left) state
+    pub seats_drawn : (bound : Bound) (state : State) → state.registers reg.LEFT ≤ turns_in e bound → IsDrawing a seats meant Held s tied (state.registers reg.LEFT) state
         → Achieves c e (drawn_seats n bound on) state (IsDrawing a seats meant Held s tied 0) Never
     seats_drawn bound state within first =
         times_keeping (IsDrawing a seats meant Held s tied) refl fits.keeps_left within first (λ w t is drawing. draw_turn w t drawing) (λ t is last. last)

@@ -24,7 +24,7 @@ use Rattle.sl_pieces.specs.arenas.Arenas.{Arena, HasWaiting, waiting}
 use Rattle.sl_pieces.specs.arenas.Laws.{Turn}
 use Rattle.sl_pieces.proofs.arenas.Lots.{waiting_covered}
 use Rattle.sl_pieces.proofs.arenas.Turns.{waiting_turns}
-use Rattle.sl_pieces.specs.awards.Registers as reg
+use Rattle.sl_pieces.specs.declared.registers.TheConstants as reg
 use Rattle.sl_pieces.specs.awards.Trees.{count_step, drawn_seats, last_batch}
 use Rattle.sl_pieces.specs.awards.Batches.{GivesSeats}
 use Rattle.sl_pieces.specs.awards.Awards.{CanAward, IsCounted, EndsTied, FitsAwards, AreAwarded}
@@ -70,7 +70,7 @@ module _ (c : CountingCode) (e : Election) (a : Arena) (most seats n : ℕ) (mea
           held = last.held;
         }
 
-    draw_first : NamesAll meant tied → (state : State) → HasWaiting a s state → Counts a seats Held s state → IsDrawing a seats meant Held s tied (state.registers reg.left) (stepping state)
+    draw_first : NamesAll meant tied → (state : State) → HasWaiting a s state → Counts a seats Held s state → IsDrawing a seats meant Held s tied (state.registers reg.LEFT) (stepping state)
     draw_first names state waits counts = record {
       t = s;
       k = 0;
@@ -81,7 +81,7 @@ module _ (c : CountingCode) (e : Election) (a : Arena) (most seats n : ℕ) (mea
       counted = counted_step c e a most seats on Held fits s state settled less can.countable counts;
     }
 
-    draw_all : (bound : Bound) (state : State) → NamesAll meant tied → HasWaiting a s state → Counts a seats Held s state → state.registers reg.left ≤ turns_in e bound
+    draw_all : (bound : Bound) (state : State) → NamesAll meant tied → HasWaiting a s state → Counts a seats Held s state → state.registers reg.LEFT ≤ turns_in e bound
         → Achieves c e (Then (Line count_step) (drawn_seats n bound on)) state (AreAwarded a seats meant Held) E
     draw_all bound state names waits counts within =
         then_achieves {Q = λ v. v ≡ stepping state} (step_counted refl)
@@ -101,12 +101,12 @@ module _ (c : CountingCode) (e : Election) (a : Arena) (most seats n : ℕ) (mea
     covered = waiting_covered most a s tied (lot_of e a.entries can.name) meant can.arena few listed can.same_lot
 
     ask_lot : (state : State) → HasWaiting a s state → Counts a seats Held s state
-        → Achieves c e (If (test.Empty reg.peers) (Line []) (If (test.NotCovered n) tie (Line []))) state (λ v. HasWaiting a s v × Counts a seats Held s v × NamesAll meant tied) E
+        → Achieves c e (If (test.Empty reg.PEERS) (Line []) (If (test.NotCovered n) tie (Line []))) state (λ v. HasWaiting a s v × Counts a seats Held s v × NamesAll meant tied) E
     ask_lot state waits counts =
         if_empty waits
         (λ none. line_ends (absurd (let some : 0 < length (peers (ranked (waiting a s))) = first_turn.some in omega (arith, some, none))))
         (λ many is.
-        let counted : State = with_register reg.peers (suc many) state in
+        let counted : State = with_register reg.PEERS (suc many) state in
         let now : Counts a seats Held s counted = counts_peers c e a most seats on Held fits s (suc many) state counts in
         if_not_covered waits first_turn.first can.named
         (λ open_lot.

@@ -29,7 +29,7 @@ use Rattle.sl_pieces.specs.arenas.Laws.{SeatTaken, Turn}
 use Rattle.sl_pieces.specs.arenas.Effects.{IsWaiting}
 use Rattle.sl_pieces.proofs.arenas.TableEffects.{waiting_effects}
 use Rattle.sl_pieces.proofs.arenas.Turns.{waiting_turns}
-use Rattle.sl_pieces.specs.awards.Registers as reg
+use Rattle.sl_pieces.specs.declared.registers.TheConstants as reg
 use Rattle.sl_pieces.specs.awards.Trees.{one_seat}
 use Rattle.sl_pieces.specs.awards.Batches.{Gets, GivesSeats, FitsLoop}
 
@@ -66,8 +66,8 @@ taken_registers e a entry held others s = same_registers e a.entries (slice_inde
 pub record AfterSeat (a : Arena) (Held : List ℕ → State → Type 0) (u : List ℕ) (n number : ℕ) (state : State) : Type 0 where
   pub waits : HasWaiting a u state
   pub held : Held u state
-  pub left : state.registers reg.in_batch ≡ n
-  pub step : state.registers reg.step ≡ number
+  pub left : state.registers reg.IN_BATCH ≡ n
+  pub step : state.registers reg.STEP ≡ number
 
 -- a seat of a batch is given, when these of its peers had theirs and the entries held t: after it n are left
 pub record SeatGiven (a : Arena) (Held : List ℕ → State → Type 0) (s peers given t : List ℕ) (n number : ℕ) (state : State) : Type 0 where
@@ -80,39 +80,39 @@ pub record SeatGiven (a : Arena) (Held : List ℕ → State → Type 0) (s peers
 module _ (c : CountingCode) (e : Election) (a : Arena) (Held : List ℕ → State → Type 0) (r : ℕ) (begin on : Tree) (fits : FitsLoop Held r begin on) where
   -- the seat is counted
   counts_seat : (u : List ℕ) (n number : ℕ) (state : State) → AfterSeat a Held u (suc n) number state
-      → Achieves c e (Line (count_down reg.in_batch)) state (AfterSeat a Held u n number) Never
+      → Achieves c e (Line (count_down reg.IN_BATCH)) state (AfterSeat a Held u n number) Never
   counts_seat u n number state h =
       let one : State = with_register ones 1 state in
-      let less : state.registers reg.in_batch - 1 ≡ n = omega (arith, h.left) in
+      let less : state.registers reg.IN_BATCH - 1 ≡ n = omega (arith, h.left) in
       line_goes (set_does c e state ones 1)
-      (line_goes (sub_does c e one reg.in_batch ones)
+      (line_goes (sub_does c e one reg.IN_BATCH ones)
       (line_ends (record {
         waits = h.waits;
-        held = fits.blind_batch.blind u (one.registers reg.in_batch - one.registers ones) one (fits.blind_ones.blind u 1 state h.held);
+        held = fits.blind_batch.blind u (one.registers reg.IN_BATCH - one.registers ones) one (fits.blind_ones.blind u 1 state h.held);
         left = less;
         step = h.step;
       })))
 
   -- what is done with a seat leaves the registers of the batch
-  keeps_batch : (u : List ℕ) (n number : ℕ) (state after : State) → state.registers reg.in_batch ≡ n → state.registers reg.step ≡ number
+  keeps_batch : (u : List ℕ) (n number : ℕ) (state after : State) → state.registers reg.IN_BATCH ≡ n → state.registers reg.STEP ≡ number
       → HasWaiting a u after → Held u after → KeepsRest on state after → AfterSeat a Held u n number after
   keeps_batch u n number state after left step waits held kept = record {
     waits = waits;
     held = held;
-    left = kept.registers reg.in_batch fits.on_keeps_batch ∙ left;
-    step = kept.registers reg.step fits.on_keeps_step ∙ step;
+    left = kept.registers reg.IN_BATCH fits.on_keeps_batch ∙ left;
+    step = kept.registers reg.STEP fits.on_keeps_step ∙ step;
   }
 
   module _ (most : ℕ) (Begun : List ℕ → ℕ → Type 0) (arena : IsArena most a) (gives : GivesSeats c e a most Begun Held on) where
     -- the seat on top of the table is taken and given
     takes_seat : (s peers given t u : List ℕ) (entry n : ℕ) (state : State) (gets : Gets a s peers given t u entry) → ((i : ℕ) → slice_index t i ≤ most)
-        → ((i : ℕ) → slice_index u i ≤ most) → top (ranked (waiting a t)) ≡ Some (seat_of a entry (slice_index t entry)) → Begun s (state.registers reg.step)
-        → HasWaiting a t state → Held t state → state.registers reg.in_batch ≡ suc n
-        → Achieves c e (Then (Line (Take ∷ [])) (Then on (Line (count_down reg.in_batch)))) state (AfterSeat a Held u n (state.registers reg.step)) Never
+        → ((i : ℕ) → slice_index u i ≤ most) → top (ranked (waiting a t)) ≡ Some (seat_of a entry (slice_index t entry)) → Begun s (state.registers reg.STEP)
+        → HasWaiting a t state → Held t state → state.registers reg.IN_BATCH ≡ suc n
+        → Achieves c e (Then (Line (Take ∷ [])) (Then on (Line (count_down reg.IN_BATCH)))) state (AfterSeat a Held u n (state.registers reg.STEP)) Never
     takes_seat s peers given t u entry n state gets few few_after first begun waits held left =
         let others : List Entry = gets.taken.others in
         let taken : State = seat_taken e a entry (slice_index t entry) others state in
-        let number : ℕ = state.registers reg.step in
+        let number : ℕ = state.registers reg.STEP in
         let same : taken.registers ≡ state.registers = taken_registers e a entry (slice_index t entry) others state in
         let is_waiting : IsWaiting a t entry others = record { has = gets.has; seats = gets.taken.before } in
         let takes : effect c e Take state ≡ Goes taken = (waiting_effects c e most a t state arena few waits).takes entry others is_waiting first in
@@ -120,14 +120,14 @@ module _ (c : CountingCode) (e : Election) (a : Arena) (Held : List ℕ → Stat
         achieves_from is
         (then_achieves {Q = AfterSeat a Held u (suc n) number}
         (achieves_more (achieves_kept (gives.gives s peers given t u entry state gets few_after begun waits held))
-        (λ v h. keeps_batch u (suc n) number taken v (ap (λ f. f reg.in_batch) same ∙ left) (ap (λ f. f reg.step) same) h.0.0 h.0.1 h.1) (λ x h. h))
+        (λ v h. keeps_batch u (suc n) number taken v (ap (λ f. f reg.IN_BATCH) same ∙ left) (ap (λ f. f reg.STEP) same) h.0.0 h.0.1 h.1) (λ x h. h))
         (λ v h. counts_seat u n number v h)))
 
     -- the plan of a seat, within a batch of which seats are left
     pub gives_seat : (seats n : ℕ) (s peers given t : List ℕ) (state : State) → seats ≤ most → sum t < seats
         → MidBatch a.ladders s peers given t → length given + suc n ≡ length peers
-        → Begun s (state.registers reg.step) → HasWaiting a t state → Held t state → state.registers reg.in_batch ≡ suc n
-        → Achieves c e (one_seat on) state (SeatGiven a Held s peers given t n (state.registers reg.step)) Never
+        → Begun s (state.registers reg.STEP) → HasWaiting a t state → Held t state → state.registers reg.IN_BATCH ≡ suc n
+        → Achieves c e (one_seat on) state (SeatGiven a Held s peers given t n (state.registers reg.STEP)) Never
     gives_seat seats n s peers given t state within room mid many begun waits held left =
         let l : Ladders = a.ladders in
         let few : (i : ℕ) → slice_index t i ≤ most = holds_at_most most seats t (omega (arith, room)) within in
@@ -154,7 +154,7 @@ module _ (c : CountingCode) (e : Election) (a : Arena) (Held : List ℕ → Stat
         if_empty {t = table_of a (waiting a t)} waits
         (λ none. let some = turn.some in absurd (omega (arith, some, none)))
         (λ m is.
-        let counted : State = with_register reg.peers (suc m) state in
+        let counted : State = with_register reg.PEERS (suc m) state in
         achieves_more (takes_seat s peers given t u entry n counted gets few few_after turn.first begun waits (fits.blind_peers.blind t (suc m) state held) left)
         (λ v h. record { u = u; entry = entry; mid = goes.0; total = total; after = h })
         (λ x h. h))

@@ -18,7 +18,7 @@ use Rattle.sl_plans.proofs.Rules.{achieves_from, achieves_more, line_ends, line_
 use Rattle.sl_plans.proofs.KeepingRules.{achieves_kept}
 use Rattle.sl_pieces.specs.arenas.Arenas.{Arena, IsArena, HasWaiting, waiting, seat_taken}
 use Rattle.sl_pieces.proofs.arenas.Peers.{waiting_peers}
-use Rattle.sl_pieces.specs.awards.Registers as reg
+use Rattle.sl_pieces.specs.declared.registers.TheConstants as reg
 use Rattle.sl_pieces.specs.awards.Trees.{whole_batch, counted_seat}
 use Rattle.sl_pieces.specs.awards.Batches.{Gets, GivesSeats, IsBlind, HasBegun, NoBatch, OneBegan, BeginsBatches, FitsLoop}
 use Rattle.sl_pieces.specs.awards.Awards.{IsCounted, FitsAwards}
@@ -28,8 +28,8 @@ use Rattle.sl_pieces.proofs.awards.AwardsTurns.{lessened, lessened_before, stepp
 -- what holds of a state while whole batches are awarded: the registers count the seats still to give
 pub record Counts (a : Arena) (seats : ℕ) (Held : List ℕ → State → Type 0) (t : List ℕ) (state : State) : Type 0 where
   pub held : Held t state
-  pub left : state.registers reg.left + sum t ≡ seats
-  pub all_left : state.registers reg.all_left + sum a.ladders.base ≡ seats
+  pub left : state.registers reg.LEFT + sum t ≡ seats
+  pub all_left : state.registers reg.ALL_LEFT + sum a.ladders.base ≡ seats
 
 -- a batch that has begun: there are seats for all peers
 pub record IsWhole (a : Arena) (seats : ℕ) (s : List ℕ) (step : ℕ) : Type 0 where
@@ -41,12 +41,12 @@ pub record IsLast (a : Arena) (seats : ℕ) (t : List ℕ) : Type 0 where
   pub scarce : (tied : List ℕ) → Lists (IsPeer a.ladders t) tied → seats < sum t + length tied
 
 module _ (c : CountingCode) (e : Election) (a : Arena) (most seats : ℕ) (on : Tree) (Held : List ℕ → State → Type 0) (fits : FitsAwards Held on) where
-  pub counts_blind : (r : ℕ) → (reg.left == r) ≡ false → (reg.all_left == r) ≡ false → IsBlind Held r → IsBlind (Counts a seats Held) r
+  pub counts_blind : (r : ℕ) → (reg.LEFT == r) ≡ false → (reg.ALL_LEFT == r) ≡ false → IsBlind Held r → IsBlind (Counts a seats Held) r
   counts_blind r not_left not_all blind = record {
     blind = λ t value state h. record {
       held = blind.blind t value state h.held;
-      left = ap (λ (b : Bool). (if b then value else state.registers reg.left) + sum t) not_left ∙ h.left;
-      all_left = ap (λ (b : Bool). (if b then value else state.registers reg.all_left) + sum a.ladders.base) not_all ∙ h.all_left;
+      left = ap (λ (b : Bool). (if b then value else state.registers reg.LEFT) + sum t) not_left ∙ h.left;
+      all_left = ap (λ (b : Bool). (if b then value else state.registers reg.ALL_LEFT) + sum a.ladders.base) not_all ∙ h.all_left;
     };
   }
 
@@ -55,7 +55,7 @@ module _ (c : CountingCode) (e : Election) (a : Arena) (most seats : ℕ) (on : 
   held_less : (t : List ℕ) (state : State) → Held t state → Held t (lessened state)
   held_less t state h =
       let s : State = with_register ones 1 state in
-      fits.blind_left.blind t (state.registers reg.left - 1) s (fits.blind_ones.blind t 1 state h)
+      fits.blind_left.blind t (state.registers reg.LEFT - 1) s (fits.blind_ones.blind t 1 state h)
 
   module _ (arena : IsArena most a) (gives : GivesSeats c e a most (IsCounted a seats) Held on) (s tied given t u : List ℕ) (entry : ℕ) (state : State)
       (gets : Gets a s tied given t u entry) where
@@ -71,11 +71,11 @@ module _ (c : CountingCode) (e : Election) (a : Arena) (most seats : ℕ) (on : 
     unfolding at_seat
     at_seat_registers r = ap (λ (f : ℕ → ℕ). f r) (same_registers e a.entries (slice_index a.places entry) _)
 
-    count_seat : (after : State) → IsWhole a seats s (state.registers reg.step) → Counts a seats Held t state → Held u after → KeepsRest on at_seat after → Counts a seats Held u after
+    count_seat : (after : State) → IsWhole a seats s (state.registers reg.STEP) → Counts a seats Held t state → Held u after → KeepsRest on at_seat after → Counts a seats Held u after
     count_seat after begun counts held kept =
         let sums : TurnSums s tied given t u = turn_sums a.ladders arena.falling s tied given t u entry gets.batch gets.one_of gets.left gets.raised in
-        let left : after.registers reg.left ≡ state.registers reg.left - 1 = kept.registers reg.left fits.keeps_left ∙ at_seat_registers reg.left in
-        let all : after.registers reg.all_left ≡ state.registers reg.all_left = kept.registers reg.all_left fits.keeps_all_left ∙ at_seat_registers reg.all_left in
+        let left : after.registers reg.LEFT ≡ state.registers reg.LEFT - 1 = kept.registers reg.LEFT fits.keeps_left ∙ at_seat_registers reg.LEFT in
+        let all : after.registers reg.ALL_LEFT ≡ state.registers reg.ALL_LEFT = kept.registers reg.ALL_LEFT fits.keeps_all_left ∙ at_seat_registers reg.ALL_LEFT in
         let enough : sum s + length tied ≤ seats = begun.enough tied gets.batch.listed in
         record {
           held = held;
@@ -83,13 +83,13 @@ module _ (c : CountingCode) (e : Election) (a : Arena) (most seats : ℕ) (on : 
           all_left = omega (arith, all, counts.all_left);
         }
 
-    seat_counted : ((i : ℕ) → slice_index u i ≤ most) → IsWhole a seats s (state.registers reg.step) → HasWaiting a t state → Counts a seats Held t state
+    seat_counted : ((i : ℕ) → slice_index u i ≤ most) → IsWhole a seats s (state.registers reg.STEP) → HasWaiting a t state → Counts a seats Held t state
         → Achieves c e (counted_seat on) (seat_taken e a entry (slice_index t entry) gets.taken.others state) (λ after. HasWaiting a u after × Counts a seats Held u after) Never
     unfolding at_seat
     seat_counted few begun waits counts =
         let start : State = seat_taken e a entry (slice_index t entry) gets.taken.others state in
         then_achieves {Q = λ v. v ≡ at_seat}
-        (line_goes (set_does c e start ones 1) (line_goes (sub_does c e (with_register ones 1 start) reg.left ones) (line_ends taken_first)))
+        (line_goes (set_does c e start ones 1) (line_goes (sub_does c e (with_register ones 1 start) reg.LEFT ones) (line_ends taken_first)))
         (λ v same.
         achieves_from same
         (achieves_more (achieves_kept (gives.gives s tied given t u entry (lessened state) gets few begun.counted waits (held_less t state counts.held)))
@@ -109,26 +109,26 @@ module _ (c : CountingCode) (e : Election) (a : Arena) (most seats : ℕ) (on : 
     many = (waiting_peers most a t tied arena few listed).number
 
     whole_batch_ways : (length tied ≡ 0 → Q state)
-        → ((n : ℕ) → length tied ≡ suc n → state.registers reg.left < suc n → Q (with_register reg.peers (suc n) state))
-        → ((n : ℕ) → length tied ≡ suc n → suc n ≤ state.registers reg.left → Q (stepping (with_register reg.in_batch (suc n) (with_register reg.peers (suc n) state))))
+        → ((n : ℕ) → length tied ≡ suc n → state.registers reg.LEFT < suc n → Q (with_register reg.PEERS (suc n) state))
+        → ((n : ℕ) → length tied ≡ suc n → suc n ≤ state.registers reg.LEFT → Q (stepping (with_register reg.IN_BATCH (suc n) (with_register reg.PEERS (suc n) state))))
         → Achieves c e whole_batch state Q Never
     whole_batch_ways none scarce enough =
         if_empty waits (λ is. line_ends (none (sym many ∙ is))) (λ n is.
-        let counted : State = with_register reg.peers (suc n) state in
+        let counted : State = with_register reg.PEERS (suc n) state in
         if_less (λ less. line_ends (scarce n (sym many ∙ is) less)) (λ rest.
-        line_goes (mov_does c e counted reg.in_batch reg.peers) (step_counted (enough n (sym many ∙ is) rest))))
+        line_goes (mov_does c e counted reg.IN_BATCH reg.PEERS) (step_counted (enough n (sym many ∙ is) rest))))
 
   -- what holds does not depend on the registers of a batch,
-  pub counts_peers : (t : List ℕ) (n : ℕ) (state : State) → Counts a seats Held t state → Counts a seats Held t (with_register reg.peers n state)
-  counts_peers t n state h = (counts_blind reg.peers refl refl fits.blind_peers).blind t n state h
+  pub counts_peers : (t : List ℕ) (n : ℕ) (state : State) → Counts a seats Held t state → Counts a seats Held t (with_register reg.PEERS n state)
+  counts_peers t n state h = (counts_blind reg.PEERS refl refl fits.blind_peers).blind t n state h
 
-  counts_batch : (t : List ℕ) (n : ℕ) (state : State) → Counts a seats Held t state → Counts a seats Held t (with_register reg.in_batch n state)
-  counts_batch t n state h = (counts_blind reg.in_batch refl refl fits.blind_batch).blind t n state h
+  counts_batch : (t : List ℕ) (n : ℕ) (state : State) → Counts a seats Held t state → Counts a seats Held t (with_register reg.IN_BATCH n state)
+  counts_batch t n state h = (counts_blind reg.IN_BATCH refl refl fits.blind_batch).blind t n state h
 
   held_stepping : (t : List ℕ) (state : State) → Held t state → Held t (stepping state)
   held_stepping t state h =
-      let first : State = with_register reg.step (state.registers reg.all_left) state in
-      let second : State = with_register reg.step (state.registers reg.all_left - state.registers reg.left) first in
+      let first : State = with_register reg.STEP (state.registers reg.ALL_LEFT) state in
+      let second : State = with_register reg.STEP (state.registers reg.ALL_LEFT - state.registers reg.LEFT) first in
       fits.blind_step.blind t _ (with_register ones 1 second) (fits.blind_ones.blind t 1 second (fits.blind_step.blind t _ first (fits.blind_step.blind t _ state h)))
 
   pub counts_stepping : (t : List ℕ) (state : State) → Counts a seats Held t state → Counts a seats Held t (stepping state)
@@ -136,20 +136,20 @@ module _ (c : CountingCode) (e : Election) (a : Arena) (most seats : ℕ) (on : 
 
   -- and the register of steps holds the step
   pub counted_step : (t : List ℕ) (state : State) → IsSettled a.ladders t → sum t < seats → seats ≤ machine.most → Counts a seats Held t state
-      → IsCounted a seats t ((stepping state).registers reg.step)
+      → IsCounted a seats t ((stepping state).registers reg.STEP)
   counted_step t state settled less few h = record {
     left = less;
-    counted = step_is (sum a.ladders.base) (sum t) seats (state.registers reg.all_left) (state.registers reg.left) machine.most h.all_left h.left (base_within a.ladders t settled) less few;
+    counted = step_is (sum a.ladders.base) (sum t) seats (state.registers reg.ALL_LEFT) (state.registers reg.LEFT) machine.most h.all_left h.left (base_within a.ladders t settled) less few;
   }
 
   module _ (arena : IsArena most a) (room : HasRoom a.ladders seats) (few : seats ≤ most) (countable : seats ≤ machine.most) (t : List ℕ) (state : State) (settled : IsSettled a.ladders t)
-      (waits : HasWaiting a t state) (counts : Counts a seats Held t state) (between : state.registers reg.in_batch ≡ 0) where
+      (waits : HasWaiting a t state) (counts : Counts a seats Held t state) (between : state.registers reg.IN_BATCH ≡ 0) where
     -- what holds once a batch has begun or there is none any more, and what holds from then on
     abbrev Begun : State → Type 0
     Begun after = HasWaiting a t after × Counts a seats Held t after × HasBegun a (IsWhole a seats) (IsLast a seats) t after
 
     abbrev AtRest : State → Type 0
-    AtRest after = HasWaiting a t after × Counts a seats Held t after × (after.registers reg.in_batch ≡ 0)
+    AtRest after = HasWaiting a t after × Counts a seats Held t after × (after.registers reg.IN_BATCH ≡ 0)
 
     tied : List ℕ
     tied = ((batches a.ladders arena.falling).peers t).0
@@ -173,8 +173,8 @@ module _ (c : CountingCode) (e : Election) (a : Arena) (most seats : ℕ) (on : 
           NoBatch between (record { scarce = λ also h. omega (arith, is, scarce, counts.left, as_many a.ladders t tied also listed h) }),
         ))
         (λ n is enough.
-        let begun : State = with_register reg.in_batch (suc n) (with_register reg.peers (suc n) state) in
-        let now : Counts a seats Held t begun = counts_batch t (suc n) (with_register reg.peers (suc n) state) (counts_peers t (suc n) state counts) in (
+        let begun : State = with_register reg.IN_BATCH (suc n) (with_register reg.PEERS (suc n) state) in
+        let now : Counts a seats Held t begun = counts_batch t (suc n) (with_register reg.PEERS (suc n) state) (counts_peers t (suc n) state counts) in (
           waits,
           counts_stepping t begun now,
           OneBegan tied listed some (sym is) (record {
@@ -197,16 +197,16 @@ module _ (c : CountingCode) (e : Election) (a : Arena) (most seats : ℕ) (on : 
     rests = λ t state settled waits counts between last. rest_batch arena room few countable t state settled waits counts between last;
   }
 
-  pub fits_whole : FitsLoop (Counts a seats Held) reg.turns whole_batch (counted_seat on)
+  pub fits_whole : FitsLoop (Counts a seats Held) reg.TURNS whole_batch (counted_seat on)
   fits_whole = record {
     own = λ h. omega (arith, h);
     not_peers = λ h. omega (arith, h);
     not_batch = λ h. omega (arith, h);
     not_step = λ h. omega (arith, h);
-    blind = counts_blind reg.turns refl refl fits.blind_turns;
+    blind = counts_blind reg.TURNS refl refl fits.blind_turns;
     blind_ones = counts_blind ones refl refl fits.blind_ones;
-    blind_peers = counts_blind reg.peers refl refl fits.blind_peers;
-    blind_batch = counts_blind reg.in_batch refl refl fits.blind_batch;
+    blind_peers = counts_blind reg.PEERS refl refl fits.blind_peers;
+    blind_batch = counts_blind reg.IN_BATCH refl refl fits.blind_batch;
     begin_keeps = refl;
     on_keeps = fits.keeps_turns;
     on_keeps_batch = fits.keeps_batch;

@@ -17,7 +17,7 @@ use Rattle.sl_stages.specs.laws.MeaningLaws.{IsListOf}
 use Rattle.sl_machine.specs.State.{State}
 use Rattle.sl_machine.specs.Effects.{most}
 use Rattle.sl_pieces.specs.columns.Columns.{HoldsColumn}
-use Rattle.sl_pieces.specs.exprs.Slots.{winners_slot}
+use Rattle.sl_pieces.specs.exprs.Slots.{winners_slot, FIRST_STAGE_SLOT}
 use Rattle.sl_pieces.specs.closing.Trees.{final_seats}
 
 -- the table that the book means has so many seats on each list and these places; the seats and the places are in the state
@@ -33,7 +33,7 @@ pub record HasSeated (b : BookTree) (e : Election) (k : Known) (before after : S
   pub winners : HoldsColumn e shape.List (after.columns winners_slot) (list_winners b.eligible e)
   pub steps : after.steps ≡ before.steps
   pub weights : after.weights ≡ before.weights
-  pub columns : (slot q : ℕ) → 80 ≤ slot → after.columns slot q ≡ before.columns slot q
+  pub columns : (slot q : ℕ) → FIRST_STAGE_SLOT ≤ slot → after.columns slot q ≡ before.columns slot q
 
 -- the list of the places, winner by winner
 pub places_are : (e : Election) (s : State) (places : List Placed) → length places ≡ wins_of e →

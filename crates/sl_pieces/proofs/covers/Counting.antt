@@ -17,7 +17,7 @@ use Rattle.sl_plans.specs.Trees.{ones}
 use Rattle.sl_plans.specs.Achieves.{Achieves, Never}
 use Rattle.sl_plans.proofs.Rules.{line_ends, line_goes, then_achieves}
 use Rattle.sl_plans.proofs.KeepingRules.{each_keeping}
-use Rattle.sl_pieces.specs.awards.Registers as reg
+use Rattle.sl_pieces.specs.declared.registers.TheConstants as reg
 use Rattle.sl_pieces.specs.covers.Trees.{CoverSlots, if_seatable, count_winner, count_winners}
 use Rattle.sl_pieces.specs.covers.Covering.{HasCoverSlots}
 use Rattle.sl_pieces.proofs.covers.Pairs.{pair_at, cell_within}
@@ -56,20 +56,20 @@ module _ (c : CountingCode) (e : Election) (x : CoverSlots) (eligible : ℕ → 
             let within : place < lands_of e * parties_of e = cell_within e w.land p seatable.in_land seatable.in_party in
             let old : u.columns x.numbers place ≡ length (front eligible e (pair_at e place) j) = ap (λ (f : ℕ → ℕ → ℕ). f x.numbers place) here.looked.columns ∙ h.counts place within in
             let cell = both_are u.land u.party (λ land party. land * parties_of e + party) w.land p here.land here.party in
-            let one : State = with_register reg.weight (u.columns x.numbers place) u in
+            let one : State = with_register reg.WEIGHT (u.columns x.numbers place) u in
             let two : State = with_register ones 1 one in
             let more : ℕ = min (u.columns x.numbers place + 1) most in
-            let three : State = with_register reg.weight more two in
+            let three : State = with_register reg.WEIGHT more two in
             let now : more ≡ length (front eligible e (pair_at e place) (j + 1)) =
             (let below : j < wins_of e = slice_get_within e.wins j w at in
             let few = front_few eligible e (pair_at e place) j in
             let winners : wins_of e ≤ MAX_WINS = (let many = is.winners in let same = is.wins in omega (arith, many, same)) in
             let next = one_more (pair_at e place) (says_here eligible e j w p seatable) in
             omega (arith, old, below, few, winners, next)) in
-            line_goes (get_does c e u x.numbers shape.List slots.numbers reg.weight place cell)
+            line_goes (get_does c e u x.numbers shape.List slots.numbers reg.WEIGHT place cell)
             (line_goes (set_does c e one ones 1)
-            (line_goes (add_does c e two reg.weight ones)
-            (line_goes (store_does c e three x.numbers shape.List slots.numbers reg.weight place cell)
+            (line_goes (add_does c e two reg.WEIGHT ones)
+            (line_goes (store_does c e three x.numbers shape.List slots.numbers reg.WEIGHT place cell)
             (line_ends (record {
               counts = λ q in_column. elim (cases_eq q place) [
                 | inl same ↦

@@ -23,7 +23,7 @@ use Rattle.sl_plans.specs.Trees.{ones}
 use Rattle.sl_plans.specs.Achieves.{Achieves}
 use Rattle.sl_plans.proofs.Rules.{achieves_more, achieves_from, line_ends, line_goes, then_achieves}
 use Rattle.sl_plans.proofs.KeepingRules.{achieves_kept, times_keeping}
-use Rattle.sl_pieces.specs.awards.Registers as reg
+use Rattle.sl_pieces.specs.declared.registers.TheConstants as reg
 use Rattle.sl_pieces.specs.covers.Trees.{CoverSlots, cover_pair, cover_contested, cover_tree}
 use Rattle.sl_pieces.specs.covers.Covering.{HasCoverSlots, BeginsCovering, AreCovered, EndsInTie, CoveringsAchieve}
 use Rattle.sl_pieces.proofs.covers.Pairs.{pair_at, lists_among, all_lists, no_lists, listed_more, unlisted_more, lists_behind}
@@ -64,7 +64,7 @@ module _ (c : CountingCode) (e : Election) (x : CoverSlots) (eligible : ℕ → 
     seated : List ℕ
     decided : AreDecided c eligible e base (lists_among e k) seated
     placed : (n : ℕ) (w : Win) → slice_get e.wins n ≡ Some w → t.placed n ≡ cover_place (fitting k ++ seated) (n, w)
-    amount : t.registers reg.amount ≡ count k
+    amount : t.registers reg.AMOUNT ≡ count k
     read : AreRead e x eligible base t.columns
     columns : (slot q : ℕ) → slot ≢ x.numbers → t.columns slot q ≡ before.columns slot q
     steps : t.steps ≡ before.steps
@@ -139,7 +139,7 @@ module _ (c : CountingCode) (e : Election) (x : CoverSlots) (eligible : ℕ → 
           weights = h.weights;
         }
 
-    covers_next : contested k ≡ true → (u : State) → u.columns ≡ t.columns → u.placed ≡ t.placed → u.registers reg.amount ≡ t.registers reg.amount → u.steps ≡ t.steps → u.weights ≡ t.weights →
+    covers_next : contested k ≡ true → (u : State) → u.columns ≡ t.columns → u.placed ≡ t.placed → u.registers reg.AMOUNT ≡ t.registers reg.AMOUNT → u.steps ≡ t.steps → u.weights ≡ t.weights →
         Achieves c e (cover_pair x) u (AreCoveredUpTo (k + 1)) (EndsInTie c e eligible base)
     covers_next some u columns placed amount steps weights =
         let nobody : fitting k ≡ fitting (k + 1) = fitting_more eligible e base k low ∙ ap (λ ks. ks ++ fitting (k + 1)) (nobody_contested e eligible base k some) in
@@ -188,14 +188,14 @@ module _ (c : CountingCode) (e : Election) (x : CoverSlots) (eligible : ℕ → 
   reached : (w : ℕ) (t : State) (h : Inv w t) → Reached h.done t
   reached w t h = let within = h.within in on_to_next (pairs - h.done) h.done (omega (arith, within)) t h.covered
 
-  covers_one : (w : ℕ) (t : State) → Inv (suc w) t → Achieves c e (cover_pair x) (with_register reg.needed w (with_register ones 1 t)) (Inv w) (EndsInTie c e eligible base)
+  covers_one : (w : ℕ) (t : State) → Inv (suc w) t → Achieves c e (cover_pair x) (with_register reg.NEEDED w (with_register ones 1 t)) (Inv w) (EndsInTie c e eligible base)
   unfolding Reached
   covers_one w t h =
       let all = h.all in
       elim (reached (suc w) t h) [
         | inl last ↦ absurd (let none = last.1 in omega (arith, none, all))
         | inr found ↦
-            achieves_more (covers_next found.0 found.1 t found.4 found.2 (with_register reg.needed w (with_register ones 1 t)) refl refl refl refl refl)
+            achieves_more (covers_next found.0 found.1 t found.4 found.2 (with_register reg.NEEDED w (with_register ones 1 t)) refl refl refl refl refl)
             (λ v g.
             let low = found.1 in
             let same = found.3 in
@@ -232,10 +232,10 @@ module _ (c : CountingCode) (e : Election) (x : CoverSlots) (eligible : ℕ → 
             weights = last.weights;
           }
 
-  covers_all : (t : State) → t.registers reg.needed ≡ count pairs → AreCoveredUpTo 0 (with_register reg.amount 0 t) →
+  covers_all : (t : State) → t.registers reg.NEEDED ≡ count pairs → AreCoveredUpTo 0 (with_register reg.AMOUNT 0 t) →
       Achieves c e (cover_contested x) t (AreCovered c e x eligible base before) (EndsInTie c e eligible base)
   covers_all t needed first =
-      then_achieves {Q = λ v. v ≡ with_register reg.amount 0 t} (line_goes (set_does c e t reg.amount 0) (line_ends refl))
+      then_achieves {Q = λ v. v ≡ with_register reg.AMOUNT 0 t} (line_goes (set_does c e t reg.AMOUNT 0) (line_ends refl))
       (λ v same. achieves_from same
       (times_keeping Inv refl refl (let few = before_few e eligible base pairs in omega (arith, needed, few))
       (let none = before_none e eligible base in
@@ -270,7 +270,7 @@ module _ (c : CountingCode) (e : Election) (x : CoverSlots) (eligible : ℕ → 
       (achieves_kept (uncontested_seated c e x eligible base is slots v read (λ n w at. numbers.1.placed refl n ∙ counts.1.placed refl n ∙ singles.0 n w at))) (λ s h. h) (λ y never. absurd never))
       (λ s fits.
       let stay : (slot q : ℕ) → s.columns slot q ≡ v.columns slot q = (λ slot q. fits.1.columns slot refl q) in
-      covers_all s (fits.1.registers reg.needed refl ∙ numbers.0.count)
+      covers_all s (fits.1.registers reg.NEEDED refl ∙ numbers.0.count)
       (record {
         seated = [];
         decided = decided_first c eligible e base (lists_among e 0) (no_lists e);

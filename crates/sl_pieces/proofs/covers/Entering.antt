@@ -23,7 +23,7 @@ use Rattle.sl_machine.proofs.effects.Table.{entered, share_does}
 use Rattle.sl_plans.specs.Trees.{ones}
 use Rattle.sl_plans.specs.Achieves.{Achieves, Never}
 use Rattle.sl_plans.proofs.Rules.{line_ends, line_goes}
-use Rattle.sl_pieces.specs.awards.Registers as reg
+use Rattle.sl_pieces.specs.declared.registers.TheConstants as reg
 use Rattle.sl_pieces.specs.covers.Trees.{CoverSlots, enter_winner}
 use Rattle.sl_pieces.specs.covers.Covering.{HasCoverSlots}
 use Rattle.sl_pieces.proofs.covers.Pairs.{cell_within}
@@ -44,11 +44,11 @@ table_with winners = record { entries = entries.Win; ranking = ranking.Quotients
 -- of the first j winners these are the list's: they wait, and are counted, and there are so many seats
 pub record AreEntered (e : Election) (x : CoverSlots) (eligible : ℕ → Bool) (base : List ℕ) (l : ℕ × ℕ) (j : ℕ) (winners : List (ℕ × Win)) (t : State) : Type 0 where
   pub read : AreRead e x eligible base t.columns
-  pub amount : t.registers reg.amount ≡ number_of e eligible base (l.0 * parties_of e + l.1)
+  pub amount : t.registers reg.AMOUNT ≡ number_of e eligible base (l.0 * parties_of e + l.1)
   pub table : t.table ≡ Some (table_with winners)
-  pub total : t.registers reg.total ≡ length winners
+  pub total : t.registers reg.TOTAL ≡ length winners
   pub few : length winners ≤ j
-  pub left : 0 < length winners → t.registers reg.left ≡ list_cell e base l.0 l.1
+  pub left : 0 < length winners → t.registers reg.LEFT ≡ list_cell e base l.0 l.1
 
 module _ (c : CountingCode) (e : Election) (x : CoverSlots) (eligible : ℕ → Bool) (base : List ℕ) (l : ℕ × ℕ) where
   abbrev says : ℕ × Win → Bool
@@ -59,8 +59,8 @@ module _ (c : CountingCode) (e : Election) (x : CoverSlots) (eligible : ℕ → 
 
   module _ (j : ℕ) (w : Win) (at : slice_get e.wins j ≡ Some w) where
     -- another winner leaves all as it was
-    pub not_entered : (t u : State) → Entered j t → says (j, w) ≡ false → u.columns ≡ t.columns → u.registers reg.amount ≡ t.registers reg.amount →
-        u.table ≡ t.table → u.registers reg.total ≡ t.registers reg.total → u.registers reg.left ≡ t.registers reg.left → Entered (j + 1) u
+    pub not_entered : (t u : State) → Entered j t → says (j, w) ≡ false → u.columns ≡ t.columns → u.registers reg.AMOUNT ≡ t.registers reg.AMOUNT →
+        u.table ≡ t.table → u.registers reg.TOTAL ≡ t.registers reg.TOTAL → u.registers reg.LEFT ≡ t.registers reg.LEFT → Entered (j + 1) u
     not_entered t u h not columns amount table total left =
         let same : front eligible e l (j + 1) ≡ front eligible e l j =
         front_more eligible e l j w at ∙ ap (λ b. front eligible e l j ++ cond b ((j, w) ∷ []) []) not ∙ append-nil (front eligible e l j) in
@@ -84,16 +84,16 @@ module _ (c : CountingCode) (e : Election) (x : CoverSlots) (eligible : ℕ → 
           ranked_alike (y ∷ map entry_of (front eligible e l j)) (map entry_of (front eligible e l j) ++ y ∷ []) (IsPermutation-sym _ _ (IsPermutation-to_front (map entry_of (front eligible e l j)) y))
           ∙ ap ranked (sym (map-append entry_of (front eligible e l j) ((j, w) ∷ [])))
 
-      pub enters : (t v : State) → Entered j t → says (j, w) ≡ true → v.columns ≡ t.columns → v.registers reg.amount ≡ t.registers reg.amount → v.table ≡ t.table →
-          v.registers reg.total ≡ t.registers reg.total → v.party ≡ Some l.1 → v.land ≡ Some l.0 → v.win ≡ Some j → Achieves c e (enter_winner x) v (Entered (j + 1)) Never
+      pub enters : (t v : State) → Entered j t → says (j, w) ≡ true → v.columns ≡ t.columns → v.registers reg.AMOUNT ≡ t.registers reg.AMOUNT → v.table ≡ t.table →
+          v.registers reg.TOTAL ≡ t.registers reg.TOTAL → v.party ≡ Some l.1 → v.land ≡ Some l.0 → v.win ≡ Some j → Achieves c e (enter_winner x) v (Entered (j + 1)) Never
       enters t v h yes' columns amount table total party land win =
           let cell : ℕ = l.0 * parties_of e + l.1 in
           let more : front eligible e l (j + 1) ≡ front eligible e l j ++ (j, w) ∷ [] = front_more eligible e l j w at ∙ ap (λ b. front eligible e l j ++ cond b ((j, w) ∷ []) []) yes' in
           let tab : PriorityTable = table_with (front eligible e l j) in
           let one : State = entered (record { num = w.first; den = w.valid }) j tab v in
           let two : State = with_register ones 1 one in
-          let three : State = with_register reg.total (min (v.registers reg.total + 1) most) two in
-          let four : State = with_register reg.left (v.columns x.base cell) three in
+          let three : State = with_register reg.TOTAL (min (v.registers reg.TOTAL + 1) most) two in
+          let four : State = with_register reg.LEFT (v.columns x.base cell) three in
           let few : length (front eligible e l j) ≤ j = h.few in
           let below : j < wins_of e = slice_get_within e.wins j w at in
           let winners : wins_of e ≤ MAX_WINS = (let many = is.winners in let same = is.wins in omega (arith, many, same)) in
@@ -101,8 +101,8 @@ module _ (c : CountingCode) (e : Election) (x : CoverSlots) (eligible : ℕ → 
           let at_cell = both_are v.land v.party (λ land party. land * parties_of e + party) l.0 l.1 land party in
           line_goes (share_does c e v tab (table ∙ h.table) j win w (winner_is e v j w win at) refl)
           (line_goes (set_does c e one ones 1)
-          (line_goes (add_does c e two reg.total ones)
-          (line_goes (get_does c e three x.base shape.List slots.base reg.left cell at_cell)
+          (line_goes (add_does c e two reg.TOTAL ones)
+          (line_goes (get_does c e three x.base shape.List slots.base reg.LEFT cell at_cell)
           (line_ends
           (subst (λ ys. AreEntered e x eligible base l (j + 1) ys four) (sym more)
           (record {

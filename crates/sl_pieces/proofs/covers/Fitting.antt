@@ -21,7 +21,7 @@ use Rattle.sl_machine.proofs.effects.Records.{seat_does}
 use Rattle.sl_plans.specs.Achieves.{Achieves, Never}
 use Rattle.sl_plans.proofs.Rules.{achieves_from, line_ends, line_goes, then_achieves, if_zero}
 use Rattle.sl_plans.proofs.KeepingRules.{each_keeping}
-use Rattle.sl_pieces.specs.awards.Registers as reg
+use Rattle.sl_pieces.specs.declared.registers.TheConstants as reg
 use Rattle.sl_pieces.specs.covers.Trees.{CoverSlots, if_seatable, seat_fitting, seat_uncontested}
 use Rattle.sl_pieces.specs.covers.Covering.{HasCoverSlots}
 use Rattle.sl_pieces.proofs.covers.Pairs.{pair_at, cell_within}
@@ -157,10 +157,10 @@ module _ (c : CountingCode) (e : Election) (x : CoverSlots) (eligible : ℕ → 
       within = cell_within e w.land p seatable.in_land seatable.in_party
 
       abbrev numbered : State
-      numbered = with_register reg.weight (u.columns x.numbers q) u
+      numbered = with_register reg.WEIGHT (u.columns x.numbers q) u
 
       abbrev looked_up : State
-      looked_up = with_register reg.left (u.columns x.base q) numbered
+      looked_up = with_register reg.LEFT (u.columns x.base q) numbered
 
       number : u.columns x.numbers q ≡ number_of e eligible base q
       number = ap (λ (f : ℕ → ℕ → ℕ). f x.numbers q) here.looked.columns ∙ h.read.numbers q within
@@ -192,13 +192,13 @@ module _ (c : CountingCode) (e : Election) (x : CoverSlots) (eligible : ℕ → 
       seats_one =
           let cell = both_are u.land u.party (λ land party. land * parties_of e + party) w.land p here.land here.party in
           then_achieves {Q = λ v. v ≡ looked_up}
-          (line_goes (get_does c e u x.numbers shape.List slots.numbers reg.weight q cell)
-          (line_goes (get_does c e numbered x.base shape.List slots.base reg.left q cell)
+          (line_goes (get_does c e u x.numbers shape.List slots.numbers reg.WEIGHT q cell)
+          (line_goes (get_does c e numbered x.base shape.List slots.base reg.LEFT q cell)
           (line_ends refl)))
           (λ v same. achieves_from same
-          (if_zero {r = reg.weight}
+          (if_zero {r = reg.WEIGHT}
           (λ none.
-          if_zero {r = reg.left}
+          if_zero {r = reg.LEFT}
           (λ no_seats. line_ends (no_place (inr (sym seats ∙ no_seats))))
           (λ m some.
           let now : State = with_place j placed.OnList looked_up in

@@ -3,7 +3,7 @@ use Rattle.std.proofs.Common.{◌≡◌, ◌≢◌, ℕ, ◌+◌, ◌-◌, ◌*�
 use Rattle.std.specs.Prelude.{slice_index}
 use Rattle.std.proofs.Math.Nat.{mul-le-mul_left}
 use Rattle.std.proofs.lemmas.Bool.{cases_eq}
-use Rattle.sl_stages.specs.declared.limits.TheConstants.{MAX_LANDS}
+use Rattle.sl_ratio.specs.declared.limits.TheConstants.{MAX_LANDS}
 use Rattle.sl_stages.specs.declared.book.Shape.TheVariants as shape
 use Rattle.sl_stages.specs.returns.Election.{Election, IsElection, lands_of, parties_of}
 use Rattle.sl_code.specs.Codes.{CountingCode}
@@ -18,7 +18,7 @@ use Rattle.sl_plans.specs.Achieves.{Achieves, Never}
 use Rattle.sl_plans.specs.inner.Frames.{may_write_slot}
 use Rattle.sl_plans.proofs.Rules.{achieves_from, line_ends, line_goes, then_achieves, if_zero}
 use Rattle.sl_plans.proofs.KeepingRules.{each_keeping}
-use Rattle.sl_pieces.specs.awards.Registers as reg
+use Rattle.sl_pieces.specs.declared.registers.TheConstants as reg
 use Rattle.sl_pieces.specs.covers.Trees.{CoverSlots, count_winners, number_list, number_contested}
 use Rattle.sl_pieces.specs.covers.Covering.{HasCoverSlots}
 use Rattle.sl_pieces.proofs.covers.Pairs.{cell_within}
@@ -35,15 +35,15 @@ pub record AreNumbered (e : Election) (x : CoverSlots) (eligible : ℕ → Bool)
   pub numbers : (q : ℕ) → q < n → t.columns x.numbers q ≡ number_of e eligible base q
   pub counts : (q : ℕ) → n ≤ q → q < lands_of e * parties_of e → t.columns x.numbers q ≡ many_at e eligible q
   pub seats : (q : ℕ) → q < lands_of e * parties_of e → t.columns x.base q ≡ slice_index base q
-  pub count : t.registers reg.needed ≡ contested_before e eligible base n
+  pub count : t.registers reg.NEEDED ≡ contested_before e eligible base n
 
 -- the number of pair n is in its register, and the pair is counted if it is contested
 record HasNumber (e : Election) (eligible : ℕ → Bool) (base : List ℕ) (l p n : ℕ) (t u : State) : Type 0 where
   columns : u.columns ≡ t.columns
   land : u.land ≡ Some l
   party : u.party ≡ Some p
-  number : u.registers reg.second_passing ≡ number_of e eligible base n
-  count : u.registers reg.needed ≡ contested_before e eligible base (n + 1)
+  number : u.registers reg.SECOND_PASSING ≡ number_of e eligible base n
+  count : u.registers reg.NEEDED ≡ contested_before e eligible base (n + 1)
 
 module _ (c : CountingCode) (e : Election) (x : CoverSlots) (eligible : ℕ → Bool) (base : List ℕ) (is : IsElection e) (slots : HasCoverSlots c x) where
   abbrev Numbered : ℕ → State → Type 0
@@ -72,17 +72,17 @@ module _ (c : CountingCode) (e : Election) (x : CoverSlots) (eligible : ℕ → 
     here = with_party (Some p) t
 
     abbrev counted : State
-    counted = with_register reg.weight (t.columns x.numbers n) here
+    counted = with_register reg.WEIGHT (t.columns x.numbers n) here
 
     abbrev seated : State
-    seated = with_register reg.left (t.columns x.base n) counted
+    seated = with_register reg.LEFT (t.columns x.base n) counted
 
     -- the winners for whom there is no seat
     abbrev over : State
-    over = with_register reg.weight (t.columns x.numbers n - t.columns x.base n) seated
+    over = with_register reg.WEIGHT (t.columns x.numbers n - t.columns x.base n) seated
 
     abbrev begun : State
-    begun = with_register reg.second_passing 0 over
+    begun = with_register reg.SECOND_PASSING 0 over
 
     many : t.columns x.numbers n ≡ many_at e eligible n
     many = h.counts n (omega arith) within
@@ -103,28 +103,28 @@ module _ (c : CountingCode) (e : Election) (x : CoverSlots) (eligible : ℕ → 
     takes_number =
         let cell = both_are here.land here.party (λ land party. land * parties_of e + party) l p land refl in
         then_achieves {Q = λ v. v ≡ begun}
-        (line_goes (get_does c e here x.numbers shape.List slots.numbers reg.weight n cell)
-        (line_goes (get_does c e counted x.base shape.List slots.base reg.left n cell)
-        (line_goes (sub_does c e seated reg.weight reg.left)
-        (line_goes (set_does c e over reg.second_passing 0)
+        (line_goes (get_does c e here x.numbers shape.List slots.numbers reg.WEIGHT n cell)
+        (line_goes (get_does c e counted x.base shape.List slots.base reg.LEFT n cell)
+        (line_goes (sub_does c e seated reg.WEIGHT reg.LEFT)
+        (line_goes (set_does c e over reg.SECOND_PASSING 0)
         (line_ends refl)))))
         (λ v same. achieves_from same
         (then_achieves {Q = HasNumber e eligible base l p n t}
-        (if_zero {r = reg.weight}
+        (if_zero {r = reg.WEIGHT}
         (λ none. line_ends (other_number (all_fit_uncontested e eligible base n (omega (arith, none, many, seats)))))
         (λ k more.
-        if_zero {r = reg.left}
+        if_zero {r = reg.LEFT}
         (λ none. line_ends (other_number (no_seats_uncontested e eligible base n (sym seats ∙ none))))
         (λ m some.
         let contested = contested_by e eligible base n (omega (arith, some, seats)) (omega (arith, more, many, seats)) in
         let one : State = with_register ones 1 begun in
-        let value : ℕ = min (t.registers reg.needed + 1) most in
-        let two : State = with_register reg.needed value one in
+        let value : ℕ = min (t.registers reg.NEEDED + 1) most in
+        let two : State = with_register reg.NEEDED value one in
         let next : value ≡ contested_before e eligible base n + 1 =
         (let few = before_few e eligible base n in let all = pairs_countable e is in let so_far = h.count in omega (arith, few, all, so_far, within)) in
         line_goes (set_does c e begun ones 1)
-        (line_goes (add_does c e one reg.needed ones)
-        (line_goes (mov_does c e two reg.second_passing reg.needed)
+        (line_goes (add_does c e one reg.NEEDED ones)
+        (line_goes (mov_does c e two reg.SECOND_PASSING reg.NEEDED)
         (line_ends (record {
           columns = refl;
           land = land;
@@ -133,9 +133,9 @@ module _ (c : CountingCode) (e : Election) (x : CoverSlots) (eligible : ℕ → 
           count = next ∙ sym (before_contested e eligible base n contested);
         })))))))
         (λ u g.
-        let value : ℕ = u.registers reg.second_passing in
+        let value : ℕ = u.registers reg.SECOND_PASSING in
         let stored : State = with_cell x.numbers n value u in
-        line_goes (store_does c e u x.numbers shape.List slots.numbers reg.second_passing n (both_are u.land u.party (λ land party. land * parties_of e + party) l p g.land g.party))
+        line_goes (store_does c e u x.numbers shape.List slots.numbers reg.SECOND_PASSING n (both_are u.land u.party (λ land party. land * parties_of e + party) l p g.land g.party))
         (line_ends (
           numbered_at (n + 1) (l * parties_of e + (p + 1)) stored (omega arith) (record {
             numbers = λ q less. elim (cases_eq q n) [
@@ -168,7 +168,7 @@ module _ (c : CountingCode) (e : Election) (x : CoverSlots) (eligible : ℕ → 
       ((q : ℕ) → q < lands_of e * parties_of e → s.columns x.base q ≡ slice_index base q) → Achieves c e (number_contested x) s (Numbered (lands_of e * parties_of e)) Never
   contested_numbered s counts seats =
       then_achieves {Q = Numbered (0 * parties_of e)}
-      (line_goes (set_does c e s reg.needed 0)
+      (line_goes (set_does c e s reg.NEEDED 0)
       (line_ends (record {
         numbers = λ q less. absurd (omega (arith, less));
         counts = λ q high low. counts q low;

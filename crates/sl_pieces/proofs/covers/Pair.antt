@@ -23,7 +23,7 @@ use Rattle.sl_plans.specs.Achieves.{Achieves}
 use Rattle.sl_plans.proofs.Rules.{achieves_more, achieves_from, line_ends, line_goes, then_achieves}
 use Rattle.sl_plans.proofs.KeepingRules.{achieves_kept}
 use Rattle.sl_pieces.specs.arenas.Arenas.{HasWaiting}
-use Rattle.sl_pieces.specs.awards.Registers as reg
+use Rattle.sl_pieces.specs.declared.registers.TheConstants as reg
 use Rattle.sl_pieces.specs.awards.Trees.{awards}
 use Rattle.sl_pieces.proofs.awards.Awards.{awards_achieve}
 use Rattle.sl_pieces.specs.covers.Trees.{CoverSlots, see_winner, seats_to_give, tied_winners, cover_pair}
@@ -52,7 +52,7 @@ smaller (suc n) left seats known = let same = known (omega arith) in omega (arit
 module _ (c : CountingCode) (e : Election) (x : CoverSlots) (eligible : ℕ → Bool) (base : List ℕ) (l : ℕ × ℕ) (is : IsElection e) (slots : HasCoverSlots c x) (in_land : l.0 < lands_of e)
     (in_party : l.1 < parties_of e) (earlier : List ℕ) where
   -- the list's seats are awarded
-  list_awarded : (t : State) → length (won eligible e l) ≤ wins_of e → t.table ≡ Some (table_with (won eligible e l)) → t.registers reg.left ≡ to_give eligible e base l →
+  list_awarded : (t : State) → length (won eligible e l) ≤ wins_of e → t.table ≡ Some (table_with (won eligible e l)) → t.registers reg.LEFT ≡ to_give eligible e base l →
       ((n : ℕ) (w : Win) → slice_get e.wins n ≡ Some w → t.placed n ≡ cover_place earlier (n, w)) →
       Achieves c e (awards LAST_CLAUSE bound.Wins tied_winners (Line (Seat ∷ []))) t (IsListSeated eligible e base l earlier) (EndsInListTie c eligible e base l)
   list_awarded t few table left before =
@@ -77,33 +77,33 @@ module _ (c : CountingCode) (e : Election) (x : CoverSlots) (eligible : ℕ → 
       ((n : ℕ) (w : Win) → slice_get e.wins n ≡ Some w → t.placed n ≡ cover_place earlier (n, w)) →
       Achieves c e (Then seats_to_give (awards LAST_CLAUSE bound.Wins tied_winners (Line (Seat ∷ [])))) t (IsListSeated eligible e base l earlier) (EndsInListTie c eligible e base l)
   entered_awarded t h before =
-      let total : ℕ = t.registers reg.total in
-      let left : ℕ = t.registers reg.left in
-      let one : State = with_register reg.first_passing total t in
-      let two : State = with_register reg.first_passing (total - left) one in
-      let three : State = with_register reg.left total two in
-      let four : State = with_register reg.left (total - (total - left)) three in
+      let total : ℕ = t.registers reg.TOTAL in
+      let left : ℕ = t.registers reg.LEFT in
+      let one : State = with_register reg.FIRST_PASSING total t in
+      let two : State = with_register reg.FIRST_PASSING (total - left) one in
+      let three : State = with_register reg.LEFT total two in
+      let four : State = with_register reg.LEFT (total - (total - left)) three in
       let to : total - (total - left) ≡ to_give eligible e base l = (λ z. h.total z - (h.total z - left)) ∙ smaller (length (won eligible e l)) left (list_cell e base l.0 l.1) h.left in
       then_achieves {Q = λ v. v ≡ four}
-      (line_goes (mov_does c e t reg.first_passing reg.total)
-      (line_goes (sub_does c e one reg.first_passing reg.left)
-      (line_goes (mov_does c e two reg.left reg.total)
-      (line_goes (sub_does c e three reg.left reg.first_passing)
+      (line_goes (mov_does c e t reg.FIRST_PASSING reg.TOTAL)
+      (line_goes (sub_does c e one reg.FIRST_PASSING reg.LEFT)
+      (line_goes (mov_does c e two reg.LEFT reg.TOTAL)
+      (line_goes (sub_does c e three reg.LEFT reg.FIRST_PASSING)
       (line_ends refl)))))
       (λ v same. achieves_from same (list_awarded four h.few h.table to before))
 
   -- the whole plan
   pub pair_covered : (t : State) → AreRead e x eligible base t.columns → is_contested e eligible base (l.0 * parties_of e + l.1) ≡ true →
-      t.registers reg.amount ≡ contested_before e eligible base (l.0 * parties_of e + l.1) →
+      t.registers reg.AMOUNT ≡ contested_before e eligible base (l.0 * parties_of e + l.1) →
       ((n : ℕ) (w : Win) → slice_get e.wins n ≡ Some w → t.placed n ≡ cover_place earlier (n, w)) →
-      Achieves c e (cover_pair x) t (λ u. IsListSeated eligible e base l earlier u × (u.registers reg.amount ≡ contested_before e eligible base (l.0 * parties_of e + l.1) + 1)) (EndsInListTie c eligible e base l)
+      Achieves c e (cover_pair x) t (λ u. IsListSeated eligible e base l earlier u × (u.registers reg.AMOUNT ≡ contested_before e eligible base (l.0 * parties_of e + l.1) + 1)) (EndsInListTie c eligible e base l)
   pair_covered t read contested amount placed =
       let place : ℕ = l.0 * parties_of e + l.1 in
-      let more : ℕ = min (t.registers reg.amount + 1) most in
+      let more : ℕ = min (t.registers reg.AMOUNT + 1) most in
       let one : State = with_register ones 1 t in
-      let two : State = with_register reg.amount more one in
-      let three : State = with_register reg.total 0 two in
-      let four : State = with_register reg.left 0 three in
+      let two : State = with_register reg.AMOUNT more one in
+      let three : State = with_register reg.TOTAL 0 two in
+      let four : State = with_register reg.LEFT 0 three in
       let begun : State = with_table (record { entries = entries.Win; ranking = ranking.Quotients; contents = [] }) four in
       let counted : more ≡ contested_before e eligible base place + 1 =
       (let within = cell_within e l.0 l.1 in_land in_party in
@@ -119,9 +119,9 @@ module _ (c : CountingCode) (e : Election) (x : CoverSlots) (eligible : ℕ → 
       (λ u h. entered_awarded u h.0 (λ n w at. h.1.placed refl n ∙ placed n w at)) in
       then_achieves {Q = λ v. v ≡ begun}
       (line_goes (set_does c e t ones 1)
-      (line_goes (add_does c e one reg.amount ones)
-      (line_goes (set_does c e two reg.total 0)
-      (line_goes (set_does c e three reg.left 0)
+      (line_goes (add_does c e one reg.AMOUNT ones)
+      (line_goes (set_does c e two reg.TOTAL 0)
+      (line_goes (set_does c e three reg.LEFT 0)
       (line_goes (table_does c e four entries.Win ranking.Quotients)
       (line_ends refl))))))
-      (λ v same. achieves_from same (achieves_more (achieves_kept after) (λ u h. (h.0, h.1.registers reg.amount refl ∙ counted)) (λ y h. h)))
+      (λ v same. achieves_from same (achieves_more (achieves_kept after) (λ u h. (h.0, h.1.registers reg.AMOUNT refl ∙ counted)) (λ y h. h)))

@@ -19,7 +19,7 @@ use Rattle.sl_plans.specs.declared.plan.Test.TheVariants as test
 use Rattle.sl_plans.specs.Trees.{Tree, Line, Then, If}
 use Rattle.sl_plans.specs.Achieves.{Achieves}
 use Rattle.sl_plans.proofs.Rules.{achieves_from, line_ends, line_goes, then_achieves, if_zero, if_no_list, if_no_party}
-use Rattle.sl_pieces.specs.awards.Registers as reg
+use Rattle.sl_pieces.specs.declared.registers.TheConstants as reg
 use Rattle.sl_pieces.specs.covers.Trees.{CoverSlots, nothing, if_seatable}
 use Rattle.sl_pieces.specs.covers.Covering.{HasCoverSlots}
 use Rattle.sl_pieces.proofs.covers.Pairs.{pair_at, pair_is}
@@ -65,7 +65,7 @@ pub record OnlyLooked (t u : State) : Type 0 where
   pub columns : u.columns ≡ t.columns
   pub placed : u.placed ≡ t.placed
   pub table : u.table ≡ t.table
-  pub registers : (r : ℕ) → (r == reg.base) ≡ false → u.registers r ≡ t.registers r
+  pub registers : (r : ℕ) → (r == reg.BASE) ≡ false → u.registers r ≡ t.registers r
 
 -- the cursors are at the winner of that number, and at this list
 pub record IsAtList (j l p : ℕ) (t u : State) : Type 0 where
@@ -95,9 +95,9 @@ module _ (c : CountingCode) (e : Election) (x : CoverSlots) (eligible : ℕ → 
     on_land = with_land (Some w.land) (with_win (Some j) t)
 
     with_a_party : (p : ℕ) → w.party ≡ Some p → p < parties_of e →
-        Achieves c e (If test.NoList nothing (Then (Line (Get reg.base x.eligible ∷ [])) (If (test.Zero reg.base) nothing body))) (with_party (Some p) on_land) Q E
+        Achieves c e (If test.NoList nothing (Then (Line (Get reg.BASE x.eligible ∷ [])) (If (test.Zero reg.BASE) nothing body))) (with_party (Some p) on_land) Q E
     with_a_party p some within =
-        let flagged : State = with_register reg.base (t.columns x.eligible p) (with_party (Some p) on_land) in
+        let flagged : State = with_register reg.BASE (t.columns x.eligible p) (with_party (Some p) on_land) in
         let flag : t.columns x.eligible p ≡ one_if (eligible p) = flags p within in
         let looked : OnlyLooked t flagged = record {
           columns = refl;
@@ -109,9 +109,9 @@ module _ (c : CountingCode) (e : Election) (x : CoverSlots) (eligible : ℕ → 
         (λ bare. line_ends (other (with_party (Some p) on_land) (not_taking p some (and_right (eligible p) (has_list e w.land p) bare))
         (record { columns = refl; placed = refl; table = refl; registers = λ r another. refl })))
         (λ has.
-        then_achieves {Q = λ v. v ≡ flagged} (line_goes (get_does c e (with_party (Some p) on_land) x.eligible shape.Party slots.eligible reg.base p refl) (line_ends refl))
+        then_achieves {Q = λ v. v ≡ flagged} (line_goes (get_does c e (with_party (Some p) on_land) x.eligible shape.Party slots.eligible reg.BASE p refl) (line_ends refl))
         (λ v same. achieves_from same
-        (if_zero {r = reg.base}
+        (if_zero {r = reg.BASE}
         (λ none. line_ends (other flagged (not_taking p some (and_left (eligible p) (has_list e w.land p) (one_if_none (eligible p) (sym flag ∙ none)))) looked))
         (λ m one. seatable p flagged
         (record { party = some; may = one_if_some (eligible p) m (sym flag ∙ one); listed = has; in_land = is_win.land; in_party = within })

@@ -33,7 +33,7 @@ use Rattle.sl_plans.proofs.Rules.{line_ends, line_goes}
 use Rattle.sl_pieces.specs.arenas.Arenas.{Arena, IsArena, HasWaiting, table_of, seat_taken}
 use Rattle.sl_pieces.proofs.arenas.MethodArenas.{covering_arenas}
 use Rattle.sl_pieces.proofs.arenas.TableEffects.{waiting_again}
-use Rattle.sl_pieces.specs.awards.Registers as reg
+use Rattle.sl_pieces.specs.declared.registers.TheConstants as reg
 use Rattle.sl_pieces.specs.awards.Batches.{Gets, GivesSeats, IsBlind}
 use Rattle.sl_pieces.specs.awards.Awards.{CanAward, IsCounted, FitsAwards}
 use Rattle.sl_pieces.proofs.covers.Winners.{IsWinnerOf, each_winner, won, arena, at_winner, has_first, next_winner}
@@ -157,11 +157,11 @@ module _ (eligible : ℕ → Bool) (e : Election) (base : List ℕ) (l : ℕ × 
       keeps_turns = refl;
       keeps_batch = refl;
       keeps_step = refl;
-      blind_left = blind_of reg.left;
-      blind_all_left = blind_of reg.all_left;
-      blind_turns = blind_of reg.turns;
-      blind_peers = blind_of reg.peers;
-      blind_batch = blind_of reg.in_batch;
-      blind_step = blind_of reg.step;
+      blind_left = blind_of reg.LEFT;
+      blind_all_left = blind_of reg.ALL_LEFT;
+      blind_turns = blind_of reg.TURNS;
+      blind_peers = blind_of reg.PEERS;
+      blind_batch = blind_of reg.IN_BATCH;
+      blind_step = blind_of reg.STEP;
       blind_ones = blind_of ones;
     }

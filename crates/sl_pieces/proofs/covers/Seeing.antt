@@ -16,7 +16,7 @@ use Rattle.sl_plans.specs.Trees.{Each}
 use Rattle.sl_plans.specs.Achieves.{Achieves, Never}
 use Rattle.sl_plans.proofs.Rules.{achieves_from, line_ends, line_goes, then_achieves, if_zero}
 use Rattle.sl_plans.proofs.KeepingRules.{each_keeping}
-use Rattle.sl_pieces.specs.awards.Registers as reg
+use Rattle.sl_pieces.specs.declared.registers.TheConstants as reg
 use Rattle.sl_pieces.specs.covers.Trees.{CoverSlots, see_winner, of_pair, enter_winner}
 use Rattle.sl_pieces.specs.covers.Covering.{HasCoverSlots}
 use Rattle.sl_pieces.proofs.covers.Pairs.{cell_within}
@@ -37,7 +37,7 @@ module _ (c : CountingCode) (e : Election) (x : CoverSlots) (eligible : ℕ → 
     -- a winner who is only looked at, and is not of the list
     passed_by : (u : State) → says (j, w) ≡ false → OnlyLooked t u → Seen (j + 1) u
     passed_by u not looked =
-        not_entered c e x eligible base l j w at t u h not looked.columns (looked.registers reg.amount refl) looked.table (looked.registers reg.total refl) (looked.registers reg.left refl)
+        not_entered c e x eligible base l j w at t u h not looked.columns (looked.registers reg.AMOUNT refl) looked.table (looked.registers reg.TOTAL refl) (looked.registers reg.LEFT refl)
 
     module _ (p : ℕ) (u : State) (seatable : IsSeatable eligible e w p) (here : IsAtList j w.land p t u) where
       abbrev cell : ℕ
@@ -48,41 +48,41 @@ module _ (c : CountingCode) (e : Election) (x : CoverSlots) (eligible : ℕ → 
       number = u.columns x.numbers cell
 
       abbrev read_number : State
-      read_number = with_register reg.weight number u
+      read_number = with_register reg.WEIGHT number u
 
       abbrev first_moved : State
-      first_moved = with_register reg.first_passing number read_number
+      first_moved = with_register reg.FIRST_PASSING number read_number
 
       abbrev above : State
-      above = with_register reg.first_passing (number - u.registers reg.amount) first_moved
+      above = with_register reg.FIRST_PASSING (number - u.registers reg.AMOUNT) first_moved
 
       abbrev second_moved : State
-      second_moved = with_register reg.second_passing (u.registers reg.amount) above
+      second_moved = with_register reg.SECOND_PASSING (u.registers reg.AMOUNT) above
 
       abbrev below : State
-      below = with_register reg.second_passing (u.registers reg.amount - number) second_moved
+      below = with_register reg.SECOND_PASSING (u.registers reg.AMOUNT - number) second_moved
 
       abbrev apart : State
-      apart = with_register reg.first_passing (min (number - u.registers reg.amount + (u.registers reg.amount - number)) most) below
+      apart = with_register reg.FIRST_PASSING (min (number - u.registers reg.AMOUNT + (u.registers reg.AMOUNT - number)) most) below
 
       numbered : number ≡ number_of e eligible base cell
       numbered = ap (λ (f : ℕ → ℕ → ℕ). f x.numbers cell) here.looked.columns ∙ h.read.numbers cell (cell_within e w.land p seatable.in_land seatable.in_party)
 
-      amount : u.registers reg.amount ≡ number_of e eligible base (l.0 * parties_of e + l.1)
-      amount = here.looked.registers reg.amount refl ∙ h.amount
+      amount : u.registers reg.AMOUNT ≡ number_of e eligible base (l.0 * parties_of e + l.1)
+      amount = here.looked.registers reg.AMOUNT refl ∙ h.amount
 
       -- of the list
-      same_pair : apart.registers reg.first_passing ≡ 0 → Achieves c e (enter_winner x) apart (Seen (j + 1)) Never
+      same_pair : apart.registers reg.FIRST_PASSING ≡ 0 → Achieves c e (enter_winner x) apart (Seen (j + 1)) Never
       same_pair none =
           let numbers : number_of e eligible base cell ≡ number_of e eligible base (l.0 * parties_of e + l.1) = omega (arith, none, numbered, amount) in
           let places : cell ≡ l.0 * parties_of e + l.1 = number_alone e eligible base (l.0 * parties_of e + l.1) cell contested numbers in
           let both : (w.land ≡ l.0) × (p ≡ l.1) = same_from_place w.land p l.0 l.1 (parties_of e) seatable.in_party in_party places in
           enters c e x eligible base l j w at is slots in_land in_party t apart h
-          (says_winner eligible e l j w p seatable.party both.1 both.0 seatable.may seatable.listed) here.looked.columns (here.looked.registers reg.amount refl) here.looked.table
-          (here.looked.registers reg.total refl) (here.party ∙ ap Some both.1) (here.land ∙ ap Some both.0) here.win
+          (says_winner eligible e l j w p seatable.party both.1 both.0 seatable.may seatable.listed) here.looked.columns (here.looked.registers reg.AMOUNT refl) here.looked.table
+          (here.looked.registers reg.TOTAL refl) (here.party ∙ ap Some both.1) (here.land ∙ ap Some both.0) here.win
 
       -- or of another one
-      other_pair : (m : ℕ) → apart.registers reg.first_passing ≡ suc m → says (j, w) ≡ false
+      other_pair : (m : ℕ) → apart.registers reg.FIRST_PASSING ≡ suc m → says (j, w) ≡ false
       other_pair m far =
           false_from_ne_true (says (j, w)) (λ yes'.
           let winner = is_winner eligible e l (j, w) at yes' in
@@ -95,24 +95,24 @@ module _ (c : CountingCode) (e : Election) (x : CoverSlots) (eligible : ℕ → 
       sees_pair =
           let at_cell = both_are u.land u.party (λ land party. land * parties_of e + party) w.land p here.land here.party in
           then_achieves {Q = λ v. v ≡ apart}
-          (line_goes (get_does c e u x.numbers shape.List slots.numbers reg.weight cell at_cell)
-          (line_goes (mov_does c e read_number reg.first_passing reg.weight)
-          (line_goes (sub_does c e first_moved reg.first_passing reg.amount)
-          (line_goes (mov_does c e above reg.second_passing reg.amount)
-          (line_goes (sub_does c e second_moved reg.second_passing reg.weight)
-          (line_goes (add_does c e below reg.first_passing reg.second_passing)
+          (line_goes (get_does c e u x.numbers shape.List slots.numbers reg.WEIGHT cell at_cell)
+          (line_goes (mov_does c e read_number reg.FIRST_PASSING reg.WEIGHT)
+          (line_goes (sub_does c e first_moved reg.FIRST_PASSING reg.AMOUNT)
+          (line_goes (mov_does c e above reg.SECOND_PASSING reg.AMOUNT)
+          (line_goes (sub_does c e second_moved reg.SECOND_PASSING reg.WEIGHT)
+          (line_goes (add_does c e below reg.FIRST_PASSING reg.SECOND_PASSING)
           (line_ends refl)))))))
           (λ v same. achieves_from same
-          (if_zero {r = reg.first_passing} same_pair
-          (λ m far. line_ends (not_entered c e x eligible base l j w at t apart h (other_pair m far) here.looked.columns (here.looked.registers reg.amount refl) here.looked.table
-          (here.looked.registers reg.total refl) (here.looked.registers reg.left refl)))))
+          (if_zero {r = reg.FIRST_PASSING} same_pair
+          (λ m far. line_ends (not_entered c e x eligible base l j w at t apart h (other_pair m far) here.looked.columns (here.looked.registers reg.AMOUNT refl) here.looked.table
+          (here.looked.registers reg.TOTAL refl) (here.looked.registers reg.LEFT refl)))))
 
     sees : Achieves c e (see_winner x) (with_win (Some j) t) (Seen (j + 1)) Never
     sees = if_seatable_achieves c e x eligible is slots j w at t h.read.flags (λ p u seatable here. sees_pair p u seatable here) (λ u not looked. passed_by u (not l) looked)
 
   -- from an empty table on
-  pub winners_enter : (t : State) → AreRead e x eligible base t.columns → t.registers reg.amount ≡ number_of e eligible base (l.0 * parties_of e + l.1) → t.table ≡ Some (table_with []) →
-      t.registers reg.total ≡ 0 → Achieves c e (Each cursor.Win (see_winner x)) t (AreEntered e x eligible base l (wins_of e) (won eligible e l)) Never
+  pub winners_enter : (t : State) → AreRead e x eligible base t.columns → t.registers reg.AMOUNT ≡ number_of e eligible base (l.0 * parties_of e + l.1) → t.table ≡ Some (table_with []) →
+      t.registers reg.TOTAL ≡ 0 → Achieves c e (Each cursor.Win (see_winner x)) t (AreEntered e x eligible base l (wins_of e) (won eligible e l)) Never
   winners_enter t read amount table total =
       let first : AreEntered e x eligible base l 0 [] t =
       record { read = read; amount = amount; table = table; total = total; few = omega arith; left = λ some. absurd (omega (arith, some)) } in

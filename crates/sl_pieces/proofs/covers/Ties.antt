@@ -37,7 +37,7 @@ use Rattle.sl_pieces.specs.arenas.Laws.{PeersWait, SeatTaken}
 use Rattle.sl_pieces.proofs.arenas.Peers.{waiting_peers}
 use Rattle.sl_pieces.proofs.arenas.TableEffects.{waiting_effects}
 use Rattle.sl_pieces.proofs.arenas.Taken.{waiting_taken}
-use Rattle.sl_pieces.specs.awards.Registers as reg
+use Rattle.sl_pieces.specs.declared.registers.TheConstants as reg
 use Rattle.sl_pieces.specs.awards.Awards.{EndsTied}
 use Rattle.sl_pieces.proofs.awards.Turns.{raised_once}
 use Rattle.sl_pieces.specs.covers.Trees.{nothing, tied_winners}
@@ -98,8 +98,8 @@ module _ (eligible : ℕ → Bool) (e : Election) (base : List ℕ) (l : ℕ × 
 
     -- with the cursors at the list
     stops : (i : ℕ) → slice_get tied 0 ≡ Some i → has_list e l.0 l.1 ≡ true → (t : State) → t.table ≡ Some tab → t.land ≡ Some l.0 → t.party ≡ Some l.1 →
-        t.registers reg.left ≡ seats - sum s →
-        Achieves c e (If (test.Empty reg.peers) nothing (Stop (Tie LAST_CLAUSE kind.List reg.left))) t (λ after. ⊥) (EndsInListTie c eligible e base l)
+        t.registers reg.LEFT ≡ seats - sum s →
+        Achieves c e (If (test.Empty reg.PEERS) nothing (Stop (Tie LAST_CLAUSE kind.List reg.LEFT))) t (λ after. ⊥) (EndsInListTie c eligible e base l)
     stops i some there t holds land party left =
         let first : top (ranked (waiting a s)) ≡ Some (seat_of a i (slice_index s i)) = wait.first ∙ ap (option_map (λ j. seat_of a j (slice_index s j))) some in
         let items : map (λ (x : Entry). item_of e a.entries x.index) (peers (ranked (waiting a s))) ≡ entries_at (winner_items eligible e l.0 l.1) tied =
@@ -107,11 +107,11 @@ module _ (eligible : ℕ → Bool) (e : Election) (base : List ℕ) (l : ℕ × 
         if_empty {t = tab} holds
         (λ none. absurd (let many = wait.number in omega (arith, slice_get_within tied 0 i some, many, none)))
         (λ m many.
-        let counted : State = with_register reg.peers (suc m) t in
+        let counted : State = with_register reg.PEERS (suc m) t in
         let scope_is = both_are t.land t.party scope.List l.0 l.1 land party in
         stop_achieves
-        {x = Faulted (fault_at (length c.stages) (scope.List l.0 l.1) (fault.Tie (t.registers reg.left) (map (λ (x : Entry). item_of e a.entries x.index) (peers (ranked (waiting a s))))))}
-        (tie_ends c e counted LAST_CLAUSE kind.List (length c.stages) (scope.List l.0 l.1) refl scope_is reg.left tab (seat_of a i (slice_index s i)) holds first)
+        {x = Faulted (fault_at (length c.stages) (scope.List l.0 l.1) (fault.Tie (t.registers reg.LEFT) (map (λ (x : Entry). item_of e a.entries x.index) (peers (ranked (waiting a s))))))}
+        (tie_ends c e counted LAST_CLAUSE kind.List (length c.stages) (scope.List l.0 l.1) refl scope_is reg.LEFT tab (seat_of a i (slice_index s i)) holds first)
         (record {
           number = seats - sum s;
           among = tied;
@@ -122,7 +122,7 @@ module _ (eligible : ℕ → Bool) (e : Election) (base : List ℕ) (l : ℕ × 
 
     -- one of the winners is taken, and enters again
     module _ (i : ℕ) (y : ℕ × Win) (at : slice_get (won eligible e l) i ≡ Some y) (some : slice_get tied 0 ≡ Some i) (peer : IsPeer a.ladders s i) (state : State) (waits : HasWaiting a s state)
-        (left : state.registers reg.left ≡ seats - sum s) where
+        (left : state.registers reg.LEFT ≡ seats - sum s) where
       winner : IsWinnerOf eligible e l y
       winner = each_winner eligible e l i y at
 

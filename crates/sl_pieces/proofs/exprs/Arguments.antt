@@ -13,19 +13,19 @@ use Rattle.sl_plans.specs.Achieves.{Achieves, Never}
 use Rattle.sl_plans.proofs.Rules.{achieves_more}
 use Rattle.sl_pieces.specs.columns.Columns.{HoldsColumn, GetsColumn}
 use Rattle.sl_pieces.specs.nodes.Nodes.{EndsWith}
-use Rattle.sl_pieces.specs.exprs.Slots.{passing}
+use Rattle.sl_pieces.specs.exprs.Slots.{passing, FIRST_STAGE_SLOT}
 use Rattle.sl_pieces.proofs.exprs.Following.{AllAchieve, all_more, all_then, all_one}
 use Rattle.sl_pieces.proofs.exprs.Places.{first_of, first_same, first_next, level_below, outside, wider}
 
 -- ---- columns that come, and those that stay
 
--- a result comes to a column: it is in that slot, its records are added, and no slot below the first one and none from 80 on is changed
+-- a result comes to a column: it is in that slot, its records are added, and no slot below the first one and no stage's is changed
 pub record ComesTo (e : Election) (IsResult : ExprResult → Type 0) (shape : Shape) (slot first : ℕ) (before after : State) : Type 0 where
   pub values : List ℕ
   pub records : Records
   pub result : IsResult (Column values records)
   pub column : HoldsColumn e shape (after.columns slot) values
-  pub columns : (k q : ℕ) → (k < first) ⊎ (80 ≤ k) → after.columns k q ≡ before.columns k q
+  pub columns : (k q : ℕ) → (k < first) ⊎ (FIRST_STAGE_SLOT ≤ k) → after.columns k q ≡ before.columns k q
   pub added : List SeatStep
   pub steps : after.steps ≡ before.steps ++ added
   pub are : IsPermutation added records.steps
@@ -92,7 +92,7 @@ module _ (e : Election) (First : ExprResult → Type 0) (Next : List ℕ → Exp
 
 -- ---- a plan that changes one column
 
-comes_plain : (e : Election) (IsResult : ExprResult → Type 0) (shape : Shape) (slot first : ℕ) (values : List ℕ) (s t : State) → first ≤ slot → slot < 80
+comes_plain : (e : Election) (IsResult : ExprResult → Type 0) (shape : Shape) (slot first : ℕ) (values : List ℕ) (s t : State) → first ≤ slot → slot < FIRST_STAGE_SLOT
     → IsResult (plain values) → GetsColumn e shape slot values s t → ComesTo e IsResult shape slot first s t
 comes_plain e IsResult shape slot first values s t from within result h = record {
   values = values;
@@ -108,7 +108,7 @@ comes_plain e IsResult shape slot first values s t from within result h = record
 }
 
 pub plain_all : {c : CountingCode} {e : Election} {tree : Tree} {IsResult : ExprResult → Type 0} {shape : Shape} {slot first : ℕ} {values : List ℕ} {s : State}
-    → first ≤ slot → slot < 80 → IsResult (plain values) → Achieves c e tree s (GetsColumn e shape slot values s) Never
+    → first ≤ slot → slot < FIRST_STAGE_SLOT → IsResult (plain values) → Achieves c e tree s (GetsColumn e shape slot values s) Never
     → AllAchieve c e (tree ∷ []) s (ComesTo e IsResult shape slot first s) (EndsWith IsResult)
 plain_all {e = e} {IsResult = IsResult} {shape = shape} {slot = slot} {first = first} {values = values} {s = s} from within result h =
     all_one (achieves_more h (λ t k. comes_plain e IsResult shape slot first values s t from within result k) (λ x never. absurd never))

@@ -1,5 +1,5 @@
 -- The plans of an expression leave its column and its records, or end the run with its fault: by induction over the expression.
-use Rattle.std.proofs.Common.{◌≡◌, ℕ, ◌+◌, ◌<◌, ◌≤◌, true, List, [], ◌∷◌, ◌++◌, All, None, Some, slice_get, refl, subst, inl, inr, arith}
+use Rattle.std.proofs.Common.{◌≡◌, ℕ, ◌+◌, ◌≤◌, true, List, [], ◌∷◌, ◌++◌, All, None, Some, refl, subst, inl, inr, arith}
 use Rattle.std.specs.Prelude.{position, unwrap_or}
 use Rattle.std.specs.List.{AllZip}
 use Rattle.sl_ratio.specs.declared.limits.TheConstants.{MAX_WEIGHT}
@@ -7,7 +7,6 @@ use Rattle.sl_ratio.specs.declared.method.Method.TheVariants as by
 use Rattle.sl_stages.specs.declared.book.Axis.{Axis}
 use Rattle.sl_stages.specs.declared.book.Pairing.{Pairing}
 use Rattle.sl_stages.specs.declared.book.Shape.{Shape}
-use Rattle.sl_stages.specs.declared.book.Shape.TheVariants as shape
 use Rattle.sl_stages.specs.book.Limits.{depth_of}
 use Rattle.sl_stages.specs.book.Tests.{first_failing}
 use Rattle.sl_stages.specs.book.Trees.{ExprTree, fact, name, sum, pair, split, without, atleast, grow, BookTree}
@@ -27,7 +26,7 @@ use Rattle.sl_machine.specs.Effects.{most}
 use Rattle.sl_pieces.specs.columns.Columns.{HoldsColumn}
 use Rattle.sl_plans.specs.Trees.{Tree}
 use Rattle.sl_pieces.specs.nodes.Nodes.{EndsWith}
-use Rattle.sl_pieces.specs.exprs.Slots.{fact_slots, passing, stage_slot}
+use Rattle.sl_pieces.specs.exprs.Slots.{fact_slots, passing, stage_slot, LEVELS}
 use Rattle.sl_pieces.specs.exprs.Pieces.{pieces}
 use Rattle.sl_pieces.specs.exprs.Meaning.{HoldsKnown, StandsIn, HasExpr, ExprsAchieve}
 use Rattle.sl_pieces.proofs.exprs.Following.{AllAchieve, all_more}
@@ -71,11 +70,11 @@ module _ (code : CountingCode) (b : BookTree) (e : Election) (c : Context) (type
     left : first_failing (expr_tests c.types x) ≡ None
     right : first_failing (expr_tests c.types y) ≡ None
     same : shape_in c y ≡ shape_in c x
-    left_within : level + depth_of x + splits_in x ≤ 17
-    right_within : level + 1 + depth_of y + splits_in y ≤ 17
+    left_within : level + depth_of x + splits_in x ≤ LEVELS
+    right_within : level + 1 + depth_of y + splits_in y ≤ LEVELS
 
   pair_parts : (at : ℕ) (pairing : Pairing) (x y : ExprTree) (level : ℕ) → first_failing (expr_tests c.types (pair at pairing x y)) ≡ None
-      → level + depth_of (pair at pairing x y) + splits_in (pair at pairing x y) ≤ 17 → PairParts x y level
+      → level + depth_of (pair at pairing x y) + splits_in (pair at pairing x y) ≤ LEVELS → PairParts x y level
   pair_parts at pairing x y level pass within =
       let p = pass_parts3 (expr_tests c.types x) (expr_tests c.types y) _ pass in
       let levels = two_levels level (depth_of x) (depth_of y) (splits_in x) (splits_in y) within in
@@ -93,7 +92,7 @@ module _ (code : CountingCode) (b : BookTree) (e : Election) (c : Context) (type
       two_arguments level (ExprMeans b e c x) (ExprMeans b e c y) (λ xs ys r. r ≡ plain (join xs ys)) first (λ t h. second t (known_kept level h holds))
       (λ u xs ys one two. last xs ys u one.column (same_column e (level + 1) (shape_in c y) (shape_in c x) u ys same two.column))
 
-  goes : (x : ExprTree) (level : ℕ) (s : State) → first_failing (expr_tests c.types x) ≡ None → level + depth_of x + splits_in x ≤ 17 → HoldsKnown b e c.types c.columns s
+  goes : (x : ExprTree) (level : ℕ) (s : State) → first_failing (expr_tests c.types x) ≡ None → level + depth_of x + splits_in x ≤ LEVELS → HoldsKnown b e c.types c.columns s
       → Goes x level s
   goes (fact at told) level s pass within holds =
       let low = low_level (fact at told) level within in

@@ -5,6 +5,7 @@ use Rattle.std.specs.List.{AllZip, list_any, position_or_len, prefix_len}
 use Rattle.std.specs.Str.{bytes_eq}
 use Rattle.std.proofs.lemmas.Bool.{cases_Bool, cond-true, cond-false, false≢true, lt-ltb}
 use Rattle.sl_stages.specs.declared.book.Shape.{Shape}
+use Rattle.sl_stages.specs.declared.limits.TheConstants.{MAX_DEPTH}
 use Rattle.sl_stages.specs.book.Trees.{BookTree}
 use Rattle.sl_stages.specs.book.Typing.{Column, is_named, type_or_one}
 use Rattle.sl_stages.specs.returns.Election.{Election}
@@ -17,7 +18,7 @@ use Rattle.sl_pieces.specs.columns.Columns.{HoldsColumn}
 use Rattle.sl_pieces.specs.columns.Trees.{copy_tree}
 use Rattle.sl_pieces.proofs.columns.Writing.{columns_are_copied}
 use Rattle.sl_pieces.specs.nodes.Nodes.{EndsWith}
-use Rattle.sl_pieces.specs.exprs.Slots.{fact_slots, passing, stage_slot, HasBookSlots}
+use Rattle.sl_pieces.specs.exprs.Slots.{fact_slots, passing, stage_slot, HasBookSlots, FIRST_PASSING_SLOT, FIRST_STAGE_SLOT}
 use Rattle.sl_pieces.specs.exprs.Meaning.{HoldsKnown}
 use Rattle.sl_pieces.proofs.exprs.Following.{AllAchieve}
 use Rattle.sl_pieces.proofs.exprs.Places.{first_of, fact_low, facts_below, first_before, stages_above, outside}
@@ -26,9 +27,9 @@ use Rattle.sl_pieces.proofs.exprs.Arguments.{ComesTo, column_kept, plain_all}
 -- ---- what is known stays known
 
 module _ {b : BookTree} {e : Election} {types : List Column} {columns : List NamedColumn} where
-  known_when_kept : (s t : State) → ((k q : ℕ) → (k < 12) ⊎ (80 ≤ k) → t.columns k q ≡ s.columns k q) → HoldsKnown b e types columns s → HoldsKnown b e types columns t
+  known_when_kept : (s t : State) → ((k q : ℕ) → (k < FIRST_PASSING_SLOT) ⊎ (FIRST_STAGE_SLOT ≤ k) → t.columns k q ≡ s.columns k q) → HoldsKnown b e types columns s → HoldsKnown b e types columns t
   known_when_kept s t same h =
-      let kept : (k : ℕ) (shape : Shape) (values : List ℕ) → (k < 12) ⊎ (80 ≤ k) → HoldsColumn e shape (s.columns k) values → HoldsColumn e shape (t.columns k) values =
+      let kept : (k : ℕ) (shape : Shape) (values : List ℕ) → (k < FIRST_PASSING_SLOT) ⊎ (FIRST_STAGE_SLOT ≤ k) → HoldsColumn e shape (s.columns k) values → HoldsColumn e shape (t.columns k) values =
       λ k shape values apart holds. column_kept e shape values (s.columns k) (t.columns k) (λ q. same k q apart) holds in
       record {
         facts = λ told. kept (fact_slots.of told) _ _ (inl (fact_low told)) (h.facts told);
@@ -40,15 +41,15 @@ module _ {b : BookTree} {e : Election} {types : List Column} {columns : List Nam
       → HoldsKnown b e types columns s → HoldsKnown b e types columns t
   known_kept level {s = s} {t = t} came h = known_when_kept s t (λ k q apart. came.columns k q (below level k apart)) h
     where
-      below : (level k : ℕ) → (k < 12) ⊎ (80 ≤ k) → (k < first_of level) ⊎ (80 ≤ k)
+      below : (level k : ℕ) → (k < FIRST_PASSING_SLOT) ⊎ (FIRST_STAGE_SLOT ≤ k) → (k < first_of level) ⊎ (FIRST_STAGE_SLOT ≤ k)
       below level k (inl low) = let facts = facts_below level in inl (omega (arith, low, facts))
       below level k (inr high) = inr high
 
 -- ---- copies
 
-module _ {c : CountingCode} {e : Election} {IsResult : ExprResult → Type 0} (level : ℕ) (low : level ≤ 16) where
+module _ {c : CountingCode} {e : Election} {IsResult : ExprResult → Type 0} (level : ℕ) (low : level ≤ MAX_DEPTH) where
   pub leaf_all : (s : Shape) (from : ℕ) (values : List ℕ) (state : State) → slice_get c.slots from ≡ Some s → slice_get c.slots (passing level s) ≡ Some s
-      → (from < first_of level) ⊎ (80 ≤ from) → HoldsColumn e s (state.columns from) values → IsResult (plain values)
+      → (from < first_of level) ⊎ (FIRST_STAGE_SLOT ≤ from) → HoldsColumn e s (state.columns from) values → IsResult (plain values)
       → AllAchieve c e (copy_tree s from (passing level s) ∷ []) state (ComesTo e IsResult s (passing level s) (first_of level) state) (EndsWith IsResult)
   leaf_all s from values state known_from known_to apart holds result =
       plain_all (first_before level s) (stages_above level s low) result

@@ -9,6 +9,7 @@ use Rattle.sl_stages.specs.declared.book.Number.{Number}
 use Rattle.sl_stages.specs.declared.book.Shape.TheVariants as shape
 use Rattle.sl_stages.specs.declared.book.Unit.TheVariants as unit
 use Rattle.sl_stages.specs.declared.book.ColumnType.{ColumnType}
+use Rattle.sl_stages.specs.declared.limits.TheConstants.{MAX_DEPTH}
 use Rattle.sl_stages.specs.book.Tests.{first_failing}
 use Rattle.sl_stages.specs.book.Trees.{ExprTree, fact, name, sum, pair, split, without, atleast, grow}
 use Rattle.sl_stages.specs.book.Limits.{depth_of}
@@ -16,6 +17,7 @@ use Rattle.sl_stages.specs.book.Typing.{splits_in, column, can_split, pair_tests
 use Rattle.sl_stages.specs.laws.OneLaws.{FitsMethod}
 use Rattle.sl_stages.proofs.typing.TestLists.{hold_all, splits_can}
 use Rattle.sl_stages.proofs.typing.NodeLaws.{pair_has, split_from_has, grow_has}
+use Rattle.sl_pieces.specs.declared.slots.TheConstants.{LEVELS}
 
 -- ---- levels
 
@@ -28,21 +30,21 @@ some_depth (split at s v method without majority) = omega arith
 some_depth (split at s v method (atleast m) majority) = omega arith
 some_depth (grow at s v method m limit majority) = omega arith
 
-pub low_level : (x : ExprTree) (level : ℕ) → level + depth_of x + splits_in x ≤ 17 → level ≤ 16
+pub low_level : (x : ExprTree) (level : ℕ) → level + depth_of x + splits_in x ≤ LEVELS → level ≤ MAX_DEPTH
 low_level x level within = let deep = some_depth x in omega (arith, deep, within)
 
-pub one_level : (level d n : ℕ) → level + (1 + d) + n ≤ 17 → level + d + n ≤ 17
+pub one_level : (level d n : ℕ) → level + (1 + d) + n ≤ LEVELS → level + d + n ≤ LEVELS
 one_level level d n within = omega (arith, within)
 
-pub two_levels : (level d k n m : ℕ) → level + (1 + max d k) + (n + m) ≤ 17 → (level + d + n ≤ 17) × (level + 1 + k + m ≤ 17)
+pub two_levels : (level d k n m : ℕ) → level + (1 + max d k) + (n + m) ≤ LEVELS → (level + d + n ≤ LEVELS) × (level + 1 + k + m ≤ LEVELS)
 two_levels level d k n m within = (omega (arith, within), omega (arith, within))
 
-pub split_levels : (level d k n m : ℕ) → level + (1 + max d k) + (1 + n + m) ≤ 17 → (level + d + n ≤ 17) × (level + 1 + k + m ≤ 17)
+pub split_levels : (level d k n m : ℕ) → level + (1 + max d k) + (1 + n + m) ≤ LEVELS → (level + d + n ≤ LEVELS) × (level + 1 + k + m ≤ LEVELS)
 split_levels level d k n m within = (omega (arith, within), omega (arith, within))
 
 -- the third argument's level is paid by the split itself
-pub three_levels : (level d k l n m o : ℕ) → level + (1 + max (max d k) l) + (1 + n + m + o) ≤ 17
-    → (level + d + n ≤ 17) × (level + 1 + k + m ≤ 17) × (level + 2 + l + o ≤ 17)
+pub three_levels : (level d k l n m o : ℕ) → level + (1 + max (max d k) l) + (1 + n + m + o) ≤ LEVELS
+    → (level + d + n ≤ LEVELS) × (level + 1 + k + m ≤ LEVELS) × (level + 2 + l + o ≤ LEVELS)
 three_levels level d k l n m o within = (omega (arith, within), omega (arith, within), omega (arith, within))
 
 -- ---- tests

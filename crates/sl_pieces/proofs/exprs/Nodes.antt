@@ -10,6 +10,7 @@ use Rattle.sl_ratio.specs.declared.method.Method.TheVariants as by
 use Rattle.sl_stages.specs.declared.book.Majority.{Majority}
 use Rattle.sl_stages.specs.declared.book.Shape.{Shape}
 use Rattle.sl_stages.specs.declared.book.Shape.TheVariants as shape
+use Rattle.sl_stages.specs.declared.limits.TheConstants.{MAX_DEPTH, MAX_STAGES}
 use Rattle.sl_stages.specs.book.Typing.{Column, can_split}
 use Rattle.sl_stages.specs.returns.Election.{Election, IsElection}
 use Rattle.sl_stages.specs.meaning.Results.{ExprResult, Stand}
@@ -30,7 +31,7 @@ use Rattle.sl_pieces.specs.nodes.Scopes as node
 use Rattle.sl_pieces.specs.nodes.Nodes.{HasResult, EndsWith}
 use Rattle.sl_pieces.specs.nodes.Trees.{split_tree, grow_tree}
 use Rattle.sl_pieces.proofs.nodes.Nodes.{splits_achieve, growths_achieve}
-use Rattle.sl_pieces.specs.exprs.Slots.{passing}
+use Rattle.sl_pieces.specs.exprs.Slots.{passing, FIRST_STAGE_SLOT}
 use Rattle.sl_pieces.specs.exprs.Pieces.{form_by, node_slots}
 use Rattle.sl_pieces.proofs.exprs.Following.{AllAchieve, all_one}
 use Rattle.sl_pieces.proofs.exprs.Places.{first_of, first_before, stages_above, other_level, outside, amounts_apart}
@@ -38,7 +39,7 @@ use Rattle.sl_pieces.proofs.exprs.Arguments.{ComesTo}
 
 -- ---- the columns of arguments and of results
 
-comes_node : (e : Election) (f : Form) (x : Slots) (IsResult : ExprResult → Type 0) (first : ℕ) (s t : State) → first ≤ x.result → x.result < 80 → HasResult e f x IsResult s t
+comes_node : (e : Election) (f : Form) (x : Slots) (IsResult : ExprResult → Type 0) (first : ℕ) (s t : State) → first ≤ x.result → x.result < FIRST_STAGE_SLOT → HasResult e f x IsResult s t
     → ComesTo e IsResult (votes_of f) x.result first s t
 comes_node e f x IsResult first s t from within h = record {
   values = h.values;
@@ -60,7 +61,7 @@ pub record HasStage (c : CountingCode) (stage : ℕ) (name : List ℕ) : Type 0 
   pub stage_is : stage_of c.stages stage ≡ Some stage
   pub named : name_of c.stages stage ≡ Some name
 
-pub has_stage : (c : CountingCode) (stage : ℕ) (name : List ℕ) (of : CodeStage) → stage ≤ 31 → slice_get c.stages stage ≡ Some of → of.name ≡ name → HasStage c stage name
+pub has_stage : (c : CountingCode) (stage : ℕ) (name : List ℕ) (of : CodeStage) → stage < MAX_STAGES → slice_get c.stages stage ≡ Some of → of.name ≡ name → HasStage c stage name
 has_stage c stage name of few staged named =
     let not_last : (stage == LAST_CLAUSE) ≡ false = ne_eqb stage LAST_CLAUSE (λ (same : stage ≡ LAST_CLAUSE). omega (arith, same, few)) in
     record {
@@ -71,16 +72,16 @@ has_stage c stage name of few staged named =
 
 -- minima, if there are any, are in the passing column of the votes' shape two levels on
 pub record HasMinimaAt (level : ℕ) (votes : Shape) (minima : Option ℕ) : Type 0 where
-  pub there : (slot : ℕ) → minima ≡ Some slot → (slot ≡ passing (level + 2) votes) × (level + 2 ≤ 16)
+  pub there : (slot : ℕ) → minima ≡ Some slot → (slot ≡ passing (level + 2) votes) × (level + 2 ≤ MAX_DEPTH)
 
 pub no_minima_at : (level : ℕ) (votes : Shape) → HasMinimaAt level votes None
 no_minima_at level votes = record { there = λ slot is. cc }
 
-pub some_minima_at : (level : ℕ) (votes : Shape) → level + 2 ≤ 16 → HasMinimaAt level votes (Some (passing (level + 2) votes))
+pub some_minima_at : (level : ℕ) (votes : Shape) → level + 2 ≤ MAX_DEPTH → HasMinimaAt level votes (Some (passing (level + 2) votes))
 some_minima_at level votes low = record { there = λ slot is. (sym (same_Some (passing (level + 2) votes) slot is), low) }
 
 module _ (c : CountingCode) (types : List Column) (stage : ℕ) (name : List ℕ) (level : ℕ) (stands : HasStage c stage name)
-    (passing_are : (k : ℕ) (s : Shape) → k ≤ 16 → slice_get c.slots (passing k s) ≡ Some s) (low : level + 1 ≤ 16) where
+    (passing_are : (k : ℕ) (s : Shape) → k ≤ MAX_DEPTH → slice_get c.slots (passing k s) ≡ Some s) (low : level + 1 ≤ MAX_DEPTH) where
   has_slots : (f : Form) (minima : Option ℕ) → HasMinimaAt level (votes_of f) minima → HasSlots c f (node_slots types stage level (amounts_of f) (votes_of f) minima) name
   has_slots f minima has = record {
     amounts = passing_are level (amounts_of f) (omega (arith, low));

@@ -4,24 +4,24 @@ use Rattle.sl_stages.specs.declared.book.Shape.{Shape}
 use Rattle.sl_stages.specs.declared.book.Shape.TheVariants as shape
 use Rattle.sl_stages.specs.declared.fact.Fact.{Fact}
 use Rattle.sl_stages.specs.declared.fact.Fact.TheVariants as facts
+use Rattle.sl_stages.specs.declared.limits.TheConstants.{MAX_DEPTH}
+use Rattle.sl_stages.specs.book.Typing.{shape_number}
 use Rattle.sl_pieces.specs.scopes.Forms.{Form, AllParties, AllLands, AllLists, ListsOfParty, ListsInLand, amounts_of, votes_of}
-use Rattle.sl_pieces.specs.exprs.Slots.{fact_slots, number_of, passing}
+use Rattle.sl_pieces.specs.exprs.Slots.{fact_slots, passing, FIRST_PASSING_SLOT, FIRST_STAGE_SLOT}
 
-number_few : (s : Shape) → number_of s ≤ 3
+pub number_few : (s : Shape) → shape_number s ≤ 3
 number_few shape.One = omega arith
-number_few shape.Party = omega arith
-number_few shape.Land = omega arith
-number_few shape.List = omega arith
+number_few other = omega arith
 
 -- the first column of a level
 abbrev pub first_of : ℕ → ℕ
 first_of level = passing level shape.One
 
-pub fact_low : (told : Fact) → fact_slots.of told < 12
+pub fact_low : (told : Fact) → fact_slots.of told < FIRST_PASSING_SLOT
 fact_low facts.House = omega arith
 fact_low told = omega arith
 
-pub facts_below : (level : ℕ) → 12 ≤ first_of level
+pub facts_below : (level : ℕ) → FIRST_PASSING_SLOT ≤ first_of level
 facts_below level = omega arith
 
 pub first_before : (level : ℕ) (s : Shape) → first_of level ≤ passing level s
@@ -33,7 +33,7 @@ first_same level = omega arith
 pub first_next : (level more : ℕ) → first_of level ≤ first_of (level + more)
 first_next level more = omega arith
 
-pub stages_above : (level : ℕ) (s : Shape) → level ≤ 16 → passing level s < 80
+pub stages_above : (level : ℕ) (s : Shape) → level ≤ MAX_DEPTH → passing level s < FIRST_STAGE_SLOT
 stages_above level s low = let few = number_few s in omega (arith, few, low)
 
 pub level_below : (k level : ℕ) (s : Shape) → k < level → passing k s < first_of level
@@ -43,11 +43,11 @@ pub other_level : (k level : ℕ) (s v : Shape) → k < level → passing level 
 other_level k level s v less same = let below = level_below k level s less in omega (arith, below, same)
 
 -- no column in passing is changed on a later level, nor that of a fact or of a stage on any
-pub outside : (k first slot : ℕ) → (k < first) ⊎ (80 ≤ k) → first ≤ slot → slot < 80 → k ≢ slot
+pub outside : (k first slot : ℕ) → (k < first) ⊎ (FIRST_STAGE_SLOT ≤ k) → first ≤ slot → slot < FIRST_STAGE_SLOT → k ≢ slot
 outside k first slot (inl low) from within same = omega (arith, low, from, within, same)
 outside k first slot (inr high) from within same = omega (arith, high, from, within, same)
 
-pub wider : (k first later : ℕ) → first ≤ later → (k < first) ⊎ (80 ≤ k) → (k < later) ⊎ (80 ≤ k)
+pub wider : (k first later : ℕ) → first ≤ later → (k < first) ⊎ (FIRST_STAGE_SLOT ≤ k) → (k < later) ⊎ (FIRST_STAGE_SLOT ≤ k)
 wider k first later from (inl low) = inl (omega (arith, from, low))
 wider k first later from (inr high) = inr high
 

@@ -3,6 +3,7 @@ use Rattle.std.proofs.Common.{◌≡◌, ℕ, zero, suc, ◌+◌, ◌≤◌, Lis
 use Rattle.std.proofs.lemmas.Option.{none-some}
 use Rattle.sl_stages.specs.declared.book.Shape.{Shape}
 use Rattle.sl_stages.specs.declared.book.Shape.TheVariants as shape
+use Rattle.sl_stages.specs.declared.limits.TheConstants.{MAX_STAGES}
 use Rattle.sl_stages.specs.book.Trees.{StageTree}
 use Rattle.sl_stages.specs.book.Typing.{Column, stage_column, columns_of}
 use Rattle.sl_stages.specs.returns.Election.{Election}
@@ -12,7 +13,7 @@ use Rattle.sl_plans.specs.Trees.{Tree}
 use Rattle.sl_plans.specs.Laid.{AchievesAll}
 use Rattle.sl_plans.proofs.Rules.{achieves_more}
 use Rattle.sl_pieces.specs.columns.Columns.{HoldsColumn}
-use Rattle.sl_pieces.specs.exprs.Slots.{number_of, HasBookSlots}
+use Rattle.sl_pieces.specs.exprs.Slots.{HasBookSlots}
 use Rattle.sl_pieces.specs.exprs.Stages.{HasStages}
 
 -- ---- plans one after the other
@@ -48,12 +49,6 @@ module _ {X : Type 0} where
 pub still_holds : (e : Election) (s : Shape) (before after : ℕ → ℕ) (values : List ℕ) → ((q : ℕ) → after q ≡ before q) → HoldsColumn e s before values → HoldsColumn e s after values
 still_holds e s before after values same h = record { long = h.long; at = λ q below. same q ∙ h.at q below }
 
-pub few_shapes : (s : Shape) → number_of s ≤ 3
-few_shapes shape.One = omega arith
-few_shapes shape.Party = omega arith
-few_shapes shape.Land = omega arith
-few_shapes shape.List = omega arith
-
 -- ---- the types of the stages before are those of a prefix of all
 
 pub extended : (types : List Column) (ss : List StageTree) (j : ℕ) (t : Column) → slice_get types j ≡ Some t → slice_get (columns_of types ss) j ≡ Some t
@@ -74,7 +69,7 @@ slots_before c types ss h = record {
 
 pub rest_staged : (c : CountingCode) (n m : ℕ) (s : StageTree) (ss : List StageTree) → m ≡ n + 1 → HasStages c n (s ∷ ss) → HasStages c m ss
 rest_staged c n m s ss is h = record {
-  few = let few : n + suc (length ss) ≤ 32 = h.few in omega (arith, is, few);
+  few = let few : n + suc (length ss) ≤ MAX_STAGES = h.few in omega (arith, is, few);
   each = λ j t at.
       let one = h.each (suc j) t at in
       let same : n + suc j ≡ m + j = omega (arith, is) in

@@ -6,8 +6,7 @@ use Rattle.std.proofs.lemmas.List.Sorted.{IsPermutation-append}
 use Rattle.std.proofs.lemmas.Option.{slice_get_within}
 use Rattle.std.proofs.lemmas.Slice.Zip.{AllZip-long, all_zipped_more}
 use Rattle.sl_stages.specs.declared.book.Shape.{Shape}
-use Rattle.sl_stages.specs.declared.book.Shape.TheVariants as shape
-use Rattle.sl_stages.specs.declared.limits.TheConstants.{MAX_DEPTH, MAX_PARTS}
+use Rattle.sl_stages.specs.declared.limits.TheConstants.{MAX_DEPTH, MAX_PARTS, MAX_STAGES}
 use Rattle.sl_stages.specs.book.Tests.{first_failing}
 use Rattle.sl_stages.specs.book.Trees.{StageTree, BookTree}
 use Rattle.sl_stages.specs.book.Limits.{depth_of, parts_of, is_within_stage}
@@ -31,13 +30,13 @@ use Rattle.sl_pieces.specs.columns.Trees.{copy_tree}
 use Rattle.sl_pieces.proofs.columns.Writing.{columns_are_copied}
 use Rattle.sl_pieces.specs.nodes.Nodes.{EndsWith}
 use Rattle.sl_pieces.proofs.nodes.JoiningLists.{pushed_there}
-use Rattle.sl_pieces.specs.exprs.Slots.{fact_slots, passing, stage_slot, HasBookSlots}
+use Rattle.sl_pieces.specs.exprs.Slots.{fact_slots, passing, stage_slot, HasBookSlots, LEVELS, FIRST_PASSING_SLOT, FIRST_STAGE_SLOT}
 use Rattle.sl_pieces.specs.exprs.Pieces.{pieces}
-use Rattle.sl_pieces.proofs.exprs.Places.{fact_low}
+use Rattle.sl_pieces.proofs.exprs.Places.{fact_low, number_few}
 use Rattle.sl_pieces.specs.exprs.Meaning.{HoldsKnown, StandsIn, HasExpr, ExprsAchieve}
 use Rattle.sl_pieces.specs.exprs.Stages.{stage_pieces, stages_pieces, HasStages, IsBehind, HasColumns, EndsStopped, StagesAchieve}
 use Rattle.sl_pieces.proofs.exprs.Expressions.{exprs_achieve}
-use Rattle.sl_pieces.proofs.exprs.StageRules.{all_more, all_then, last_there, still_holds, few_shapes, extended, slots_before, rest_staged}
+use Rattle.sl_pieces.proofs.exprs.StageRules.{all_more, all_then, last_there, still_holds, extended, slots_before, rest_staged}
 
 -- what stands behind a stage
 record HasStage (b : BookTree) (e : Election) (k : Known) (s : StageTree) (before after : State) : Type 0 where
@@ -51,9 +50,9 @@ added_twice : {X : Type 0} (first added more mid all : List X) → all ≡ mid +
 added_twice first added more mid all one two = one ∙ ap (λ xs. xs ++ more) two ∙ append_assoc first added more
 
 -- an expression within the limits has a level for each of its parts
-deep_enough : (s : StageTree) → is_within_stage s ≡ true → splits_in s.expr ≤ 1 → 0 + depth_of s.expr + splits_in s.expr ≤ 17
+deep_enough : (s : StageTree) → is_within_stage s ≡ true → splits_in s.expr ≤ 1 → 0 + depth_of s.expr + splits_in s.expr ≤ LEVELS
 deep_enough s within single =
-    let depth : depth_of s.expr ≤ 16 = leb-true (depth_of s.expr) 16 (and_parts (nat_le (depth_of s.expr) MAX_DEPTH) (nat_le (parts_of s.expr) MAX_PARTS) within).0 in
+    let depth : depth_of s.expr ≤ MAX_DEPTH = leb-true (depth_of s.expr) MAX_DEPTH (and_parts (nat_le (depth_of s.expr) MAX_DEPTH) (nat_le (parts_of s.expr) MAX_PARTS) within).0 in
     omega (arith, depth, single)
 
 -- ---- behind the expression of a stage, in state t, and the copy into the stage's slot, in state u
@@ -66,19 +65,19 @@ module _ (b : BookTree) (e : Election) (k : Known) (s : StageTree) (before start
     long : length k.columns ≡ length k.types
     long = AllZip-long (IsTypedAs e) k.types k.columns behind.typed
 
-    low_kept : (slot q : ℕ) → slot < 12 → u.columns slot q ≡ start.columns slot q
+    low_kept : (slot q : ℕ) → slot < FIRST_PASSING_SLOT → u.columns slot q ≡ start.columns slot q
     low_kept slot q below =
         let apart : slot ≢ stage_slot (length k.columns) = λ same. omega (arith, below, same) in
-        let low : slot < 12 + 4 * 0 + 0 = omega (arith, below) in
+        let low : slot < FIRST_PASSING_SLOT + 4 * 0 + 0 = omega (arith, below) in
         g.changes.columns slot q apart ∙ h.columns slot q (inl low)
 
     stage_kept : (j q : ℕ) → j < length k.columns → u.columns (stage_slot j) q ≡ start.columns (stage_slot j) q
     stage_kept j q within =
         let apart : stage_slot j ≢ stage_slot (length k.columns) = λ same. omega (arith, within, same) in
-        let high : 80 ≤ stage_slot j = omega arith in
+        let high : FIRST_STAGE_SLOT ≤ stage_slot j = omega arith in
         g.changes.columns (stage_slot j) q apart ∙ h.columns (stage_slot j) q (inr high)
 
-    fact_held : (slot : ℕ) (of : Shape) (values : List ℕ) → slot < 12 → HoldsColumn e of (start.columns slot) values → HoldsColumn e of (u.columns slot) values
+    fact_held : (slot : ℕ) (of : Shape) (values : List ℕ) → slot < FIRST_PASSING_SLOT → HoldsColumn e of (start.columns slot) values → HoldsColumn e of (u.columns slot) values
     fact_held slot of values below = still_holds e of (start.columns slot) (u.columns slot) values (λ q. low_kept slot q below)
 
     abbrev new_column : NamedColumn
@@ -146,7 +145,7 @@ module _ (code : CountingCode) (b : BookTree) (e : Election) (typed : is_typed b
           let same : length k.columns + 0 ≡ length k.columns = omega arith in
           record {
             slots = slots_before code k.types (s ∷ ss) slots;
-            few = let few : length k.columns + suc (length ss) ≤ 32 = staged.few in omega (arith, few);
+            few = let few : length k.columns + suc (length ss) ≤ MAX_STAGES = staged.few in omega (arith, few);
             stage = one.0;
             staged = subst (λ (n : ℕ). slice_get code.stages n ≡ Some one.0) same one.1;
             named = one.2;
@@ -159,7 +158,7 @@ module _ (code : CountingCode) (b : BookTree) (e : Election) (typed : is_typed b
           (last_there k.types (stage_column k.types s) (length k.columns) (AllZip-long (IsTypedAs e) k.types k.columns behind.typed)))
 
       apart_from : (of : Shape) (n : ℕ) → passing 0 of ≢ stage_slot n
-      apart_from of n = λ same. let few = few_shapes of in omega (arith, few, same)
+      apart_from of n = λ same. let few = number_few of in omega (arith, few, same)
 
       -- the column of its expression is copied into its slot
       copied : (t : State) → HasExpr b e (context_of k s) s.expr 0 start t →
@@ -173,7 +172,7 @@ module _ (code : CountingCode) (b : BookTree) (e : Election) (typed : is_typed b
           (λ x no. absurd no)
 
       -- behind its own pieces the stage is known, or its expression came to a fault
-      stage_achieves : ExprsAchieve → 0 + depth_of s.expr + splits_in s.expr ≤ 17 →
+      stage_achieves : ExprsAchieve → 0 + depth_of s.expr + splits_in s.expr ≤ LEVELS →
           AchievesAll code e (stage_pieces k.types (length k.columns) s) start (HasStage b e k s before) (EndsWith (ExprMeans b e (context_of k s) s.expr))
       stage_achieves exprs deep =
           let copy = copy_tree (type_of k.types s.expr).shape (passing 0 (type_of k.types s.expr).shape) (stage_slot (length k.columns)) in

@@ -11,6 +11,7 @@ use Rattle.sl_stages.specs.declared.book.Shape.TheVariants as shape
 use Rattle.sl_stages.specs.declared.book.Unit.{Unit as Units}
 use Rattle.sl_stages.specs.declared.book.Unit.TheVariants as unit
 use Rattle.sl_stages.specs.declared.book.ColumnType.{ColumnType}
+use Rattle.sl_stages.specs.declared.limits.TheConstants.{MAX_DEPTH}
 use Rattle.sl_stages.specs.book.Typing.{column, can_sum, shape_over}
 use Rattle.sl_stages.specs.returns.Election.{Election}
 use Rattle.sl_stages.specs.meaning.Columns.{sum_over, pair_of}
@@ -68,7 +69,7 @@ summed_is axis.Party = refl
 summed_is axis.Land = refl
 summed_is axis.All = refl
 
-module _ {c : CountingCode} {e : Election} (level : ℕ) (there : (s : Shape) → slice_get c.slots (passing level s) ≡ Some s) (low : level ≤ 16) (s : Shape) where
+module _ {c : CountingCode} {e : Election} (level : ℕ) (there : (s : Shape) → slice_get c.slots (passing level s) ≡ Some s) (low : level ≤ MAX_DEPTH) (s : Shape) where
   pub sum_all : (over : Axis) (xs : List ℕ) (state : State) → can_sum s over ≡ true → HoldsColumn e s (state.columns (passing level s)) xs
       → All (λ n. n ≤ most) (sum_over e over xs)
       → AllAchieve c e (sum_tree over s (passing level s) (passing level (summed over)) ∷ []) state

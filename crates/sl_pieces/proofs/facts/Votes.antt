@@ -6,10 +6,11 @@ use Rattle.std.proofs.Math.Nat.{mul_comm}
 use Rattle.std.proofs.lemmas.Nat.{mul-le}
 use Rattle.std.proofs.lemmas.List.Elements.{All-nil}
 use Rattle.std.proofs.lemmas.Option.{none-some}
+use Rattle.sl_ratio.specs.declared.limits.TheConstants.{MAX_WEIGHT, MAX_VOTES, MAX_LANDS}
 use Rattle.sl_stages.specs.declared.book.Cond.TheVariants as condition
 use Rattle.sl_stages.specs.declared.book.Number.{Number}
 use Rattle.sl_stages.specs.declared.book.Shape.TheVariants as shape
-use Rattle.sl_stages.specs.declared.limits.TheConstants.{MAX_VOTES}
+use Rattle.sl_stages.specs.declared.limits.TheConstants.{MAX_PER}
 use Rattle.sl_stages.specs.declared.returns.ListVotes.{ListVotes}
 use Rattle.sl_stages.specs.returns.Votes.{valid_in}
 use Rattle.sl_stages.specs.returns.Election.{Election, IsElection, IsCell, lands_of, parties_of, list_at}
@@ -51,11 +52,11 @@ module _ (e : Election) (is : IsElection e) where
   list_small : (l p : ℕ) → votes_in e l p ≤ MAX_VOTES
   list_small l p = small_cell (list_at e l p) (all_read IsCell (get_or e.cells l []) p None (λ v none. absurd (none-some v none)) (all_read (All IsCell) e.cells l [] (All-nil IsCell) is.votes))
 
-  own_small : (p : ℕ) → valid_votes e p ≤ 6400000000
+  own_small : (p : ℕ) → valid_votes e p ≤ MAX_LANDS * MAX_VOTES
   own_small p = omega (arith, range_within (λ l. votes_in e l p) MAX_VOTES (lands_of e) (λ l. list_small l p), is.lands)
 
-  all_small : all_valid_votes e ≤ 1638400000000
-  all_small = omega (arith, range_within (valid_votes e) 6400000000 (parties_of e) own_small, is.parties)
+  all_small : all_valid_votes e ≤ MAX_WEIGHT
+  all_small = omega (arith, range_within (valid_votes e) (MAX_LANDS * MAX_VOTES) (parties_of e) own_small, is.parties)
 
   -- by Land first, and by party first
   all_by_land : sum_by (λ l. sum_by (votes_in e l) (range_with_len 0 (parties_of e))) (range_with_len 0 (lands_of e)) ≡ all_valid_votes e
@@ -132,7 +133,7 @@ module _ (c : CountingCode) (e : Election) (x : FactSlots) (slots : HasFactSlots
 
   -- ---- the plan
 
-  module _ (share : Number) (per : ℕ) (few : (share.value ≤ 1000) × (per ≤ 1000)) where
+  module _ (share : Number) (per : ℕ) (few : (share.value ≤ MAX_PER) × (per ≤ MAX_PER)) where
     abbrev has_share : ℕ → Bool
     has_share p = meets e p (condition.Valid share per)
 
@@ -149,7 +150,7 @@ module _ (c : CountingCode) (e : Election) (x : FactSlots) (slots : HasFactSlots
         let summed : s.registers own_votes ≡ valid_votes e p = omega (arith, own, own_small e is p) in
         let least : ℕ = share.value * all_valid_votes e in
         let has : ℕ = per * valid_votes e p in
-        let within : has ≤ 1000 * 6400000000 = mul-le per (valid_votes e p) 1000 6400000000 few.1 (own_small e is p) in
+        let within : has ≤ MAX_PER * (MAX_LANDS * MAX_VOTES) = mul-le per (valid_votes e p) MAX_PER (MAX_LANDS * MAX_VOTES) few.1 (own_small e is p) in
         let times : s.registers own_votes * per ≡ has = ap (λ n. n * per) summed ∙ mul_comm (valid_votes e p) per in
         let mine : product ≡ has = omega (arith, times, within) in
         let theirs : s.registers all_votes ≡ least = all ∙ mul_comm (all_valid_votes e) share.value in
@@ -187,7 +188,7 @@ module _ (c : CountingCode) (e : Election) (x : FactSlots) (slots : HasFactSlots
         let product : ℕ = min (u.registers all_votes * share.value) most in
         let u2 : State = with_register all_votes product u1 in
         let times : u.registers all_votes * share.value ≡ all_valid_votes e * share.value = ap (λ n. n * share.value) h.0 in
-        let within : all_valid_votes e * share.value ≤ 1638400000000 * 1000 = mul-le (all_valid_votes e) share.value 1638400000000 1000 (all_small e is) few.0 in
+        let within : all_valid_votes e * share.value ≤ MAX_WEIGHT * MAX_PER = mul-le (all_valid_votes e) share.value MAX_WEIGHT MAX_PER (all_small e is) few.0 in
         let all : product ≡ all_valid_votes e * share.value = omega (arith, times, within) in
         line_first (set_does c e u number share.value) (line_first (mul_does c e u1 all_votes number) (line_over
         (parties_let_in c e x so has_share one_party u2 refl (λ k other. rw (ne_eqb k x.eligible other) refl)

@@ -31,7 +31,7 @@ use Rattle.sl_pieces.specs.scopes.Forms.{Form, votes_of, table_of, groups_of, On
 use Rattle.sl_pieces.proofs.scopes.Scopes.{scopes_hold}
 use Rattle.sl_pieces.proofs.scopes.Staying.{scope_stays}
 use Rattle.sl_pieces.proofs.arenas.MethodArenas.{divisor_arenas}
-use Rattle.sl_pieces.specs.awards.Registers as reg
+use Rattle.sl_pieces.specs.declared.registers.TheConstants as reg
 use Rattle.sl_pieces.specs.awards.Trees.{awards}
 use Rattle.sl_pieces.specs.seats.Slots.{Slots, HasSlots, IsUnchanged}
 use Rattle.sl_pieces.specs.seats.Trees.{nothing, faulty, not_over, most_seats, fill, outside_base, enter_quotient, ranking_of, again_of, seat, tied, refuse}
@@ -96,17 +96,17 @@ house_arena c e f x name k g d v m house state ready long enough i field =
 
 module _ (c : CountingCode) (e : Election) (f : Form) (x : Slots) (name : List ℕ) (k : ℕ) (g : Group) (v m : List ℕ) (seats : ℕ) where
   -- a number in passing changes nothing
-  ready_passing : (n : ℕ) (t : State) → IsReady c e f x name k g v m seats t → IsReady c e f x name k g v m seats (with_register reg.first_passing n t)
+  ready_passing : (n : ℕ) (t : State) → IsReady c e f x name k g v m seats t → IsReady c e f x name k g v m seats (with_register reg.FIRST_PASSING n t)
   ready_passing n t h = record {
     group = h.group;
     slots = h.slots;
     few = h.few;
     weights = h.weights;
-    on = scope_stays g.scope t (with_register reg.first_passing n t) refl refl h.on;
+    on = scope_stays g.scope t (with_register reg.FIRST_PASSING n t) refl refl h.on;
     amount = h.amount;
     total = h.total;
     votes = h.votes;
-    minima = minima_kept e g.entries v m t (with_register reg.first_passing n t) x.minima (λ slot is q. refl) h.minima;
+    minima = minima_kept e g.entries v m t (with_register reg.FIRST_PASSING n t) x.minima (λ slot is q. refl) h.minima;
   }
 
   -- the scope with the house in the place of its amount
@@ -206,10 +206,10 @@ module _ (c : CountingCode) (e : Election) (f : Form) (x : Slots) (name : List �
         (λ y r. r))
 
     -- the minima may sum to more than the cap
-    cap_achieves : (t : State) → IsBegun c e f x name k g v m seats s t → 0 < sum v → Achieves c e (Then (not_over f x reg.needed cap end.Cap) house_rest) t Q E
+    cap_achieves : (t : State) → IsBegun c e f x name k g v m seats s t → 0 < sum v → Achieves c e (Then (not_over f x reg.NEEDED cap end.Cap) house_rest) t Q E
     unfolding v m seats IsAward E
     cap_achieves t begun some =
-        let u : State = with_register reg.first_passing cap t in
+        let u : State = with_register reg.FIRST_PASSING cap t in
         let field : (i : ℕ) × InField v i = some_less [] v some in
         let ready : IsReady c e f x name k g v m seats u = ready_passing c e f x name k g v m seats cap t begun.ready in
         let same : IsUnchanged s u = record {
@@ -218,10 +218,10 @@ module _ (c : CountingCode) (e : Election) (f : Form) (x : Slots) (name : List �
           weights = begun.unchanged.weights;
           placed = begun.unchanged.placed;
         } in
-        let needed : t.registers reg.needed ≡ min (sum m) most = begun.needed in
+        let needed : t.registers reg.NEEDED ≡ min (sum m) most = begun.needed in
         let big : MAX_SEATS < most = omega arith in
         then_achieves {Q = λ w. (w ≡ u) × (sum m ≤ cap)}
-        (not_over_achieves slots (scopes_hold e f k g at) t reg.needed cap end.Cap (λ z. omega (arith, z)) begun.ready.on
+        (not_over_achieves slots (scopes_hold e f k g at) t reg.NEEDED cap end.Cap (λ z. omega (arith, z)) begun.ready.on
         (λ less. record {
           kind = fault.Cap;
           refused = cap_refused e f g d majority (stage_lot e name (votes_of f) g.entries) v m seats cap
@@ -235,7 +235,7 @@ module _ (c : CountingCode) (e : Election) (f : Form) (x : Slots) (name : List �
     unfolding v m seats award_rest house_rest IsAward E
     growth_achieves =
         let can = arguments_begin c e f x name k g amounts votes (Some minima) s election slots at on arguments few in
-        scope_begins c e f x name k g v m seats s can (Then (If (test.Zero reg.total) (faulty f x end.NoList) nothing) (Then (not_over f x reg.needed cap end.Cap) house_rest)) Q E
+        scope_begins c e f x name k g v m seats s can (Then (If (test.Zero reg.TOTAL) (faulty f x end.NoList) nothing) (Then (not_over f x reg.NEEDED cap end.Cap) house_rest)) Q E
         (λ t begun. then_achieves {Q = λ u. (u ≡ t) × (0 < sum v)}
         (if_zero
         (λ none. faulty_ends slots (scopes_hold e f k g at) t end.NoList begun.ready.on
@@ -244,7 +244,7 @@ module _ (c : CountingCode) (e : Election) (f : Form) (x : Slots) (name : List �
           refused = empty_refused e f g d majority (stage_lot e name (votes_of f) g.entries) v m seats cap (sym begun.ready.total ∙ none);
           is = refl;
         }))
-        (λ w some. let total : t.registers reg.total ≡ sum v = begun.ready.total in line_ends (refl, omega (arith, some, total))))
+        (λ w some. let total : t.registers reg.TOTAL ≡ sum v = begun.ready.total in line_ends (refl, omega (arith, some, total))))
         (λ u h. achieves_from h.0 (cap_achieves t begun h.1)))
 
 pub growth_scopes_achieve : GrowthScopesAchieve

@@ -18,7 +18,7 @@ use Rattle.sl_plans.specs.Achieves.{Achieves}
 use Rattle.sl_plans.proofs.Rules.{achieves_more, achieves_from, line_ends, line_goes, then_achieves, if_zero}
 use Rattle.sl_pieces.specs.scopes.Forms.{Form, OnScope}
 use Rattle.sl_pieces.proofs.scopes.Staying.{scope_stays}
-use Rattle.sl_pieces.specs.awards.Registers as reg
+use Rattle.sl_pieces.specs.declared.registers.TheConstants as reg
 use Rattle.sl_pieces.specs.awards.Batches.{Between, Within, EndOfBatches}
 use Rattle.sl_pieces.specs.seats.Slots.{Slots}
 use Rattle.sl_pieces.specs.seats.Filling.{IsReady}
@@ -40,30 +40,30 @@ module _ {c : CountingCode} {e : Election} {f : Form} {x : Slots} {name : List �
   ends s on above = faulty_ends can.ready.slots (scope_is can) s end.Cap on (record { above = above; is = refl })
 
   -- where a batch is under way, or something is missing
-  unmet : (t : List ℕ) (s : State) → IsSearched e x g d v m seats before t s → Ended t s → 0 < s.registers reg.in_batch + s.registers reg.turns → IsGrowth d v m seats cap AboveCap
+  unmet : (t : List ℕ) (s : State) → IsSearched e x g d v m seats before t s → Ended t s → 0 < s.registers reg.IN_BATCH + s.registers reg.TURNS → IsGrowth d v m seats cap AboveCap
   unmet t s h (Between settled none (inl all_given)) some = above_between d v m (minimum_each can) field.0 field.1 seats cap t settled (omega (arith, some, none, h.turns)) all_given
   unmet t s h (Between settled none (inr found)) some = absurd (omega (arith, some, none, h.turns, found.none_missing))
   unmet t s h (Within b peers given mid left more short all_given) some =
       above_within d v m (minimum_each can) field.0 field.1 seats cap b peers given t mid short (omega (arith, left, more)) all_given
 
   -- where neither is
-  is_least : (t : List ℕ) (s : State) → IsSearched e x g d v m seats before t s → Ended t s → s.registers reg.in_batch ≡ 0 → s.registers reg.turns ≡ 0 → IsLeast d v m t
+  is_least : (t : List ℕ) (s : State) → IsSearched e x g d v m seats before t s → Ended t s → s.registers reg.IN_BATCH ≡ 0 → s.registers reg.TURNS ≡ 0 → IsLeast d v m t
   is_least t s h (Between settled none last) no_batch none_missing = h.least settled (sym h.turns ∙ none_missing)
   is_least t s h (Within b peers given mid left more short all_given) no_batch none_missing = absurd (omega (arith, more, no_batch))
 
   -- the amount grows to the house, if that is not above the cap
   grows : (t : List ℕ) (s : State) → IsSearched e x g d v m seats before t s → IsLeast d v m t
-      → Achieves c e (Then (Line (Add reg.all_left reg.number ∷ (Max reg.amount reg.all_left ∷ []))) (not_over f (with_minima x slot) reg.amount cap end.Cap)) s
+      → Achieves c e (Then (Line (Add reg.ALL_LEFT reg.NUMBER ∷ (Max reg.AMOUNT reg.ALL_LEFT ∷ []))) (not_over f (with_minima x slot) reg.AMOUNT cap end.Cap)) s
       (HasHouse e x g d v m seats cap before) (EndsAboveCap x g d v m seats cap)
   grows t s h least =
-      let all : ℕ = min (s.registers reg.all_left + s.registers reg.number) most in
-      let house : ℕ = max (s.registers reg.amount) all in
-      let one : State = with_register reg.all_left all s in
-      let two : State = with_register reg.amount house one in
+      let all : ℕ = min (s.registers reg.ALL_LEFT + s.registers reg.NUMBER) most in
+      let house : ℕ = max (s.registers reg.AMOUNT) all in
+      let one : State = with_register reg.ALL_LEFT all s in
+      let two : State = with_register reg.AMOUNT house one in
       let on : OnScope g.scope two = scope_stays g.scope s two refl refl h.on in
       let few : cap ≤ MAX_SEATS = can.few in
-      then_achieves {Q = λ u. u ≡ two} (line_goes (add_does c e s reg.all_left reg.number) (line_goes (max_does c e one reg.amount reg.all_left) (line_ends refl))) (λ u is. achieves_from is
-      (not_over_achieves can.ready.slots (scope_is can) two reg.amount cap end.Cap (λ z. omega (arith, z)) on
+      then_achieves {Q = λ u. u ≡ two} (line_goes (add_does c e s reg.ALL_LEFT reg.NUMBER) (line_goes (max_does c e one reg.AMOUNT reg.ALL_LEFT) (line_ends refl))) (λ u is. achieves_from is
+      (not_over_achieves can.ready.slots (scope_is can) two reg.AMOUNT cap end.Cap (λ z. omega (arith, z)) on
       (λ over.
       let above : cap < max seats (outside_sum v m + sum t) = omega (arith, over, h.amount, h.all_left, h.number) in
       record { above = above_least d v m (minimum_each can) field.0 field.1 seats cap t least above; is = refl })
@@ -75,7 +75,7 @@ module _ {c : CountingCode} {e : Election} {f : Form} {x : Slots} {name : List �
         grown = grows_to d v m (minimum_each can) field.0 field.1 seats cap t house least is_house within;
         amount = refl;
         total = h.total;
-        on = scope_stays g.scope two (with_register reg.first_passing cap two) refl refl on;
+        on = scope_stays g.scope two (with_register reg.FIRST_PASSING cap two) refl refl on;
         elsewhere = h.elsewhere;
         columns = h.columns;
         steps = h.steps;
@@ -87,12 +87,12 @@ module _ {c : CountingCode} {e : Election} {f : Form} {x : Slots} {name : List �
   takes_house s after =
       let t : List ℕ = after.t in
       let h : IsSearched e x g d v m seats before t s = after.held in
-      let one : State = with_register reg.first_passing (s.registers reg.in_batch) s in
-      let two : State = with_register reg.first_passing (min (s.registers reg.in_batch + s.registers reg.turns) most) one in
+      let one : State = with_register reg.FIRST_PASSING (s.registers reg.IN_BATCH) s in
+      let two : State = with_register reg.FIRST_PASSING (min (s.registers reg.IN_BATCH + s.registers reg.TURNS) most) one in
       let still : IsSearched e x g d v m seats before t two = searched_still can t s two.registers h refl refl refl refl refl in
-      then_achieves {Q = λ u. u ≡ two} (line_goes (mov_does c e s reg.first_passing reg.in_batch) (line_goes (add_does c e one reg.first_passing reg.turns) (line_ends refl)))
+      then_achieves {Q = λ u. u ≡ two} (line_goes (mov_does c e s reg.FIRST_PASSING reg.IN_BATCH) (line_goes (add_does c e one reg.FIRST_PASSING reg.TURNS) (line_ends refl)))
       (λ u is. achieves_from is
-      (then_achieves {Q = λ w. (w ≡ two) × (s.registers reg.in_batch ≡ 0) × (s.registers reg.turns ≡ 0)}
+      (then_achieves {Q = λ w. (w ≡ two) × (s.registers reg.IN_BATCH ≡ 0) × (s.registers reg.TURNS ≡ 0)}
       (if_zero (λ none. line_ends (refl, omega (arith, none), omega (arith, none))) (λ n some. ends two still.on (unmet t s h after.end (omega (arith, some)))))
       (λ w r. achieves_from r.0 (grows t two still (is_least t s h after.end r.1 r.2)))))
 

@@ -21,7 +21,7 @@ use Rattle.sl_pieces.proofs.scopes.Forms.{each_scope}
 use Rattle.sl_pieces.proofs.scopes.Scopes.{scopes_hold}
 use Rattle.sl_pieces.proofs.scopes.Staying.{scope_stays}
 use Rattle.sl_pieces.specs.columns.Columns.{HoldsColumn}
-use Rattle.sl_pieces.specs.awards.Registers as reg
+use Rattle.sl_pieces.specs.declared.registers.TheConstants as reg
 use Rattle.sl_pieces.specs.seats.Slots.{Slots, HasSlots, IsUnchanged}
 use Rattle.sl_pieces.specs.seats.Trees.{most_seats}
 use Rattle.sl_pieces.proofs.seats.Refusing.{not_over_achieves}
@@ -54,16 +54,16 @@ module _ (c : CountingCode) (e : Election) (f : Form) (x : Slots) (name amounts 
     one_scope j g s at on inv =
         let is : IsScope e f g = scopes_hold e f j g at in
         let n : ℕ = s.columns x.amounts g.amount_place in
-        let u : State = with_register reg.amount n s in
-        let v : State = with_register reg.first_passing most_seats u in
-        let other : reg.amount ≢ reg.first_passing = λ h. omega (arith, h) in
+        let u : State = with_register reg.AMOUNT n s in
+        let v : State = with_register reg.FIRST_PASSING most_seats u in
+        let other : reg.AMOUNT ≢ reg.FIRST_PASSING = λ h. omega (arith, h) in
         let read : n ≡ slice_index amounts g.amount_place = inv.still.columns x.amounts g.amount_place ∙ holds.at g.amount_place is.within in
-        let got : u.registers reg.amount ≡ n = register_same s reg.amount n in
+        let got : u.registers reg.AMOUNT ≡ n = register_same s reg.AMOUNT n in
         let on_there : OnScope g.scope u = scope_stays g.scope s u refl refl on in
         let still : IsUnchanged start (bare v) = record { columns = inv.still.columns; steps = inv.still.steps; weights = inv.still.weights; placed = inv.still.placed } in
-        then_achieves {Q = λ t. t ≡ u} (line_goes (get_does c e s x.amounts (amounts_of f) slots.amounts reg.amount g.amount_place (is.amount s on)) (line_ends refl))
+        then_achieves {Q = λ t. t ≡ u} (line_goes (get_does c e s x.amounts (amounts_of f) slots.amounts reg.AMOUNT g.amount_place (is.amount s on)) (line_ends refl))
         (λ t same. achieves_from same
-        (not_over_achieves slots is u reg.amount most_seats end.Limit other on_there
+        (not_over_achieves slots is u reg.AMOUNT most_seats end.Limit other on_there
         (λ more. ends g (over_here j g at inv.few (omega (arith, more, read, got))))
         (λ few. (scope_stays g.scope u v refl refl on_there, record { still = still; few = one_further IsFew (groups_of e f) j g at inv.few (omega (arith, few, read, got)) }))))
 

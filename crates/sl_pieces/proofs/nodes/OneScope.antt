@@ -37,7 +37,7 @@ use Rattle.sl_pieces.specs.scopes.Forms.{Form, AllParties, AllLands, AllLists, L
 use Rattle.sl_pieces.specs.scopes.Scopes.{IsScope}
 use Rattle.sl_pieces.proofs.scopes.Scopes.{scopes_hold}
 use Rattle.sl_pieces.specs.arenas.Arenas.{Arena, IsArena}
-use Rattle.sl_pieces.specs.awards.Registers as reg
+use Rattle.sl_pieces.specs.declared.registers.TheConstants as reg
 use Rattle.sl_pieces.specs.awards.Trees.{awards}
 use Rattle.sl_pieces.specs.awards.Awards.{CanAward, AreAwarded}
 use Rattle.sl_pieces.proofs.awards.Awards.{awards_achieve}
@@ -162,7 +162,7 @@ module _ (c : CountingCode) (e : Election) (f : Form) (x : Slots) (name : List �
       unfolding Held
       filled_awards t h =
           let few : seats ≤ MAX_SEATS = ready.few in
-          let left : t.registers reg.left ≡ seats - sum a.ladders.base = h.left in
+          let left : t.registers reg.LEFT ≡ seats - sum a.ladders.base = h.left in
           awards_achieve c e a MAX_SEATS seats x.stage meant (bound.AtMost most_seats) (tied f x) (seat f x (again_of x method)) Held (EndsInTie x g a seats meant) t can gives.gives gives.ends
           gives.fits h.waiting h.seated left (omega (arith, left, few))
 

@@ -19,7 +19,7 @@ use Rattle.sl_plans.proofs.Rules.{achieves_more, achieves_from, line_ends, line_
 use Rattle.sl_pieces.specs.scopes.Forms.{Form, amounts_of, groups_of, OnScope}
 use Rattle.sl_pieces.proofs.scopes.Scopes.{scopes_hold}
 use Rattle.sl_pieces.proofs.scopes.Staying.{scope_stays}
-use Rattle.sl_pieces.specs.awards.Registers as reg
+use Rattle.sl_pieces.specs.declared.registers.TheConstants as reg
 use Rattle.sl_pieces.specs.seats.Slots.{Slots, HasSlots, HasCells, HasMinima, IsUnchanged}
 use Rattle.sl_pieces.specs.seats.Trees.{sums}
 use Rattle.sl_pieces.specs.seats.Summing.{AreSummed}
@@ -72,7 +72,7 @@ others_kept e x g s t same = record {
 pub record IsBegun (c : CountingCode) (e : Election) (f : Form) (x : Slots) (name : List ℕ) (k : ℕ) (g : Group) (v m : List ℕ) (seats : ℕ) (before after : State) :
     Type 0 where
   pub ready : IsReady c e f x name k g v m seats after
-  pub needed : after.registers reg.needed ≡ min (sum m) most
+  pub needed : after.registers reg.NEEDED ≡ min (sum m) most
   pub unchanged : IsUnchanged before after
 
 -- what a scope needs for it
@@ -106,10 +106,10 @@ arguments_begin c e f x name k g amounts votes minima s election slots at on arg
 
 module _ (c : CountingCode) (e : Election) (f : Form) (x : Slots) (name : List ℕ) (k : ℕ) (g : Group) (v m : List ℕ) (seats : ℕ) (s : State)
     (can : CanBegin c e f x name k g v m seats s) where
-  summed_begun : (t u : State) → IsUnchanged s t → t.registers reg.amount ≡ seats → AreSummed g v m t u → IsBegun c e f x name k g v m seats s u
+  summed_begun : (t u : State) → IsUnchanged s t → t.registers reg.AMOUNT ≡ seats → AreSummed g v m t u → IsBegun c e f x name k g v m seats s u
   summed_begun t u same amount h =
       let total : sum v ≤ most = weights_fit e f k g (s.columns x.votes) v can.election can.group can.votes can.weights in
-      let sums : u.registers reg.total ≡ min (sum v) most = h.total in
+      let sums : u.registers reg.TOTAL ≡ min (sum v) most = h.total in
       let columns : (slot q : ℕ) → u.columns slot q ≡ s.columns slot q = λ slot q. h.unchanged.columns slot q ∙ same.columns slot q in
       record {
         ready = record {
@@ -134,16 +134,16 @@ module _ (c : CountingCode) (e : Election) (f : Form) (x : Slots) (name : List �
 
   -- a plan that begins so goes on from there
   pub scope_begins : (rest : Tree) (R : State → Type 0) (E : End → Type 0) → ((t : State) → IsBegun c e f x name k g v m seats s t → Achieves c e rest t R E)
-      → Achieves c e (Then (Line (op.Get reg.amount x.amounts ∷ [])) (Then (sums f x) rest)) s R E
+      → Achieves c e (Then (Line (op.Get reg.AMOUNT x.amounts ∷ [])) (Then (sums f x) rest)) s R E
   scope_begins rest R E goes =
       let n : ℕ = s.columns x.amounts g.amount_place in
-      let t : State = with_register reg.amount n s in
+      let t : State = with_register reg.AMOUNT n s in
       let on : OnScope g.scope t = scope_stays g.scope s t refl refl can.on in
       let cell = (scopes_hold e f k g can.group).amount s can.on in
       let same : IsUnchanged s t = record { columns = λ slot q. refl; steps = refl; weights = refl; placed = λ winner. refl } in
       let votes : HasCells e g.entries (t.columns x.votes) v = can.votes in
       let minima : HasMinima e g.entries v x.minima t m = minima_kept e g.entries v m s t x.minima (λ slot is q. refl) can.minima in
-      then_achieves {Q = λ u. u ≡ t} (line_goes (get_does c e s x.amounts (amounts_of f) can.slots.amounts reg.amount g.amount_place cell) (line_ends refl))
+      then_achieves {Q = λ u. u ≡ t} (line_goes (get_does c e s x.amounts (amounts_of f) can.slots.amounts reg.AMOUNT g.amount_place cell) (line_ends refl))
       (λ u is. achieves_from is
       (then_achieves {Q = AreSummed g v m t}
       (achieves_more (sums_achieve c e f x name k g v m t can.group can.slots on votes minima) (λ w h. h) (λ y never. absurd never))

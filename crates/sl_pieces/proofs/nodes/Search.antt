@@ -35,7 +35,7 @@ use Rattle.sl_pieces.specs.arenas.Arenas as arenas
 use Rattle.sl_pieces.specs.arenas.Arenas.{Arena, next_seat, waiting}
 use Rattle.sl_pieces.specs.arenas.Laws.{PeersWait}
 use Rattle.sl_pieces.proofs.arenas.Peers.{waiting_peers}
-use Rattle.sl_pieces.specs.awards.Registers as reg
+use Rattle.sl_pieces.specs.declared.registers.TheConstants as reg
 use Rattle.sl_pieces.specs.awards.Trees.{batches}
 use Rattle.sl_pieces.specs.awards.Batches.{NoBatch, OneBegan, BeginsBatches, FitsLoop, AfterBatches}
 use Rattle.sl_pieces.proofs.awards.Turns.{holds_at_most}
@@ -67,8 +67,8 @@ module _ {c : CountingCode} {e : Election} {f : Form} {x : Slots} {name : List �
   laws = ladders.batches (free_ladders d v) (arena_of can).arena.falling
 
   -- only other registers changed
-  pub searched_still : (t : List ℕ) (s : State) (registers : ℕ → ℕ) → Held t s → registers reg.amount ≡ s.registers reg.amount → registers reg.total ≡ s.registers reg.total
-      → registers reg.number ≡ s.registers reg.number → registers reg.all_left ≡ s.registers reg.all_left → registers reg.turns ≡ s.registers reg.turns
+  pub searched_still : (t : List ℕ) (s : State) (registers : ℕ → ℕ) → Held t s → registers reg.AMOUNT ≡ s.registers reg.AMOUNT → registers reg.TOTAL ≡ s.registers reg.TOTAL
+      → registers reg.NUMBER ≡ s.registers reg.NUMBER → registers reg.ALL_LEFT ≡ s.registers reg.ALL_LEFT → registers reg.TURNS ≡ s.registers reg.TURNS
       → Held t (record s { registers = registers })
   searched_still t s registers h amount total number all_left turns = record {
     on = scope_stays g.scope s (record s { registers = registers }) refl refl h.on;
@@ -103,27 +103,27 @@ module _ {c : CountingCode} {e : Election} {f : Form} {x : Slots} {name : List �
         if_empty {t = arenas.table_of arena (waiting arena t)} waits
         (λ nobody. absurd (omega (arith, there, nobody, wait.number)))
         (λ n many.
-        let counted : State = with_register reg.peers (suc n) state in
-        line_goes (mov_does c e counted reg.in_batch reg.peers)
+        let counted : State = with_register reg.PEERS (suc n) state in
+        line_goes (mov_does c e counted reg.IN_BATCH reg.PEERS)
         (line_ends (
           waits,
-          searched_still t state (with_register reg.in_batch (suc n) counted).registers h refl refl refl refl refl,
+          searched_still t state (with_register reg.IN_BATCH (suc n) counted).registers h refl refl refl refl refl,
           OneBegan next.0 next.1 there (sym many ∙ wait.number) short,
         ))));
     rests = λ t state settled waits h none found.
         if_zero (λ no. line_ends (waits, h, none)) (λ w some. absurd (omega (arith, some, h.turns, found.none_missing)));
   }
 
-  fits_loop : FitsLoop Held reg.left search_batch (search_seat (with_minima x slot) d)
+  fits_loop : FitsLoop Held reg.LEFT search_batch (search_seat (with_minima x slot) d)
   fits_loop = record {
     own = λ h. omega (arith, h);
     not_peers = λ h. omega (arith, h);
     not_batch = λ h. omega (arith, h);
     not_step = λ h. omega (arith, h);
-    blind = record { blind = λ t value s h. searched_still t s (with_register reg.left value s).registers h refl refl refl refl refl };
+    blind = record { blind = λ t value s h. searched_still t s (with_register reg.LEFT value s).registers h refl refl refl refl refl };
     blind_ones = record { blind = λ t value s h. searched_still t s (with_register ones value s).registers h refl refl refl refl refl };
-    blind_peers = record { blind = λ t value s h. searched_still t s (with_register reg.peers value s).registers h refl refl refl refl refl };
-    blind_batch = record { blind = λ t value s h. searched_still t s (with_register reg.in_batch value s).registers h refl refl refl refl refl };
+    blind_peers = record { blind = λ t value s h. searched_still t s (with_register reg.PEERS value s).registers h refl refl refl refl refl };
+    blind_batch = record { blind = λ t value s h. searched_still t s (with_register reg.IN_BATCH value s).registers h refl refl refl refl refl };
     begin_keeps = refl;
     on_keeps = refl;
     on_keeps_batch = refl;
@@ -133,7 +133,7 @@ module _ {c : CountingCode} {e : Election} {f : Form} {x : Slots} {name : List �
   -- ---- the whole search
 
   -- when all entries are read, they hold no seats
-  first_held : (s : State) → OnScope g.scope s → FirstSearched e f x g d v m seats before (length g.entries) (length g.entries) (bare s) → s.registers reg.all_left ≡ 0 → Held (no_minima v) s
+  first_held : (s : State) → OnScope g.scope s → FirstSearched e f x g d v m seats before (length g.entries) (length g.entries) (bare s) → s.registers reg.ALL_LEFT ≡ 0 → Held (no_minima v) s
   first_held s on h none_left =
       let n : ℕ = length g.entries in
       let zeros : length (no_minima v) ≡ length v = length_zeros (length v) in
@@ -155,14 +155,14 @@ module _ {c : CountingCode} {e : Election} {f : Form} {x : Slots} {name : List �
       }
 
   -- the batches, when all entries are read
-  batches_from : (s : State) → OnScope g.scope s → FirstSearched e f x g d v m seats before (length g.entries) (length g.entries) (bare s) → s.registers reg.all_left ≡ 0
-      → s.registers reg.left ≡ cap → Achieves c e (batches reg.left (bound.AtMost most_seats) search_batch (search_seat (with_minima x slot) d)) s HasEnded Never
+  batches_from : (s : State) → OnScope g.scope s → FirstSearched e f x g d v m seats before (length g.entries) (length g.entries) (bare s) → s.registers reg.ALL_LEFT ≡ 0
+      → s.registers reg.LEFT ≡ cap → Achieves c e (batches reg.LEFT (bound.AtMost most_seats) search_batch (search_seat (with_minima x slot) d)) s HasEnded Never
   batches_from s on h none_left left =
       let few : cap ≤ MAX_SEATS = can.few in
       let n : ℕ = length arena.places in
       let long : length (range_with_len 0 n) ≡ length g.entries = length-range_with_len 0 n ∙ length-map g.entries (place e) in
       let all : first_waiting arena (length g.entries) ≡ waiting arena (no_minima v) = pieces_all (next_seat arena (no_minima v)) (range_with_len 0 n) (length g.entries) long in
-      batches_achieve c e arena MAX_SEATS cap reg.left (bound.AtMost most_seats) search_batch (search_seat (with_minima x slot) d) (BatchBegun v m) (IsFound d v m) Held (no_minima v) s
+      batches_achieve c e arena MAX_SEATS cap reg.LEFT (bound.AtMost most_seats) search_batch (search_seat (with_minima x slot) d) (BatchBegun v m) (IsFound d v m) Held (no_minima v) s
       (arena_of can).arena few (search_gives can) begins_batches fits_loop laws.begin
       (h.table ∙ ap (λ xs. Some (arenas.table_of arena xs)) all) (first_held s on h none_left)
       (omega (arith, left, sum_zeros (length v))) (omega (arith, left, few))
@@ -171,12 +171,12 @@ module _ {c : CountingCode} {e : Election} {f : Form} {x : Slots} {name : List �
   search_achieves =
       let Inv : ℕ → State → Type 0 = λ n s. FirstSearched e f x g d v m seats before n n s in
       let n : ℕ = length g.entries in
-      let one : State = with_register reg.number 0 before in
-      let two : State = with_register reg.turns 0 one in
+      let one : State = with_register reg.NUMBER 0 before in
+      let two : State = with_register reg.TURNS 0 one in
       let empty : State = with_table (record { entries = table_of f; ranking = ranking.Quotients; contents = [] }) two in
       then_achieves {Q = λ s. OnScope g.scope s × Inv 0 (bare s)}
-      (line_goes (set_does c e before reg.number 0)
-      (line_goes (set_does c e one reg.turns 0)
+      (line_goes (set_does c e before reg.NUMBER 0)
+      (line_goes (set_does c e one reg.TURNS 0)
       (line_goes (table_does c e two (table_of f) ranking.Quotients)
       (line_ends (
         scope_stays g.scope before empty refl refl can.ready.on,
@@ -198,8 +198,8 @@ module _ {c : CountingCode} {e : Election} {f : Form} {x : Slots} {name : List �
       then_achieves {Q = λ t. OnScope g.scope t × Inv (length g.entries) (bare t)}
       (each_entry c e f k g (search_entry f (with_minima x slot) d) Inv Never s can.ready.group (entries_searched can) h.0 h.1)
       (λ t r.
-      let none_left : State = with_register reg.all_left 0 t in
-      let last : State = with_register reg.left cap none_left in
-      then_achieves {Q = λ u. u ≡ last} (line_goes (set_does c e t reg.all_left 0) (line_goes (set_does c e none_left reg.left cap) (line_ends refl)))
+      let none_left : State = with_register reg.ALL_LEFT 0 t in
+      let last : State = with_register reg.LEFT cap none_left in
+      then_achieves {Q = λ u. u ≡ last} (line_goes (set_does c e t reg.ALL_LEFT 0) (line_goes (set_does c e none_left reg.LEFT cap) (line_ends refl)))
       (λ u is.
       achieves_from is (batches_from last (scope_stays g.scope t last refl refl r.0) (counted can n n n (bare t) last.registers r.1 refl refl r.1.number r.1.turns) refl refl))))

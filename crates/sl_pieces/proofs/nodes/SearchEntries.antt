@@ -30,7 +30,7 @@ use Rattle.sl_pieces.specs.scopes.Walks.{bare, Visits}
 use Rattle.sl_pieces.proofs.scopes.Staying.{item_stays, entries_visited}
 use Rattle.sl_pieces.specs.arenas.Arenas as arenas
 use Rattle.sl_pieces.specs.arenas.Arenas.{Arena, seat_of}
-use Rattle.sl_pieces.specs.awards.Registers as reg
+use Rattle.sl_pieces.specs.declared.registers.TheConstants as reg
 use Rattle.sl_pieces.specs.seats.Slots.{Slots}
 use Rattle.sl_pieces.specs.seats.Trees.{nothing}
 use Rattle.sl_pieces.proofs.seats.FilledEntries.{first_waiting, waiting_more, waiting_same}
@@ -43,10 +43,10 @@ use Rattle.sl_pieces.proofs.nodes.SearchScope.{with_minima, search_arena, CanSea
 
 -- the minima of the first n entries are summed, and the first k of them hold no seats and wait
 pub record FirstSearched (e : Election) (f : Form) (x : Slots) (g : Group) (d : Divisor) (v m : List ℕ) (seats : ℕ) (before : State) (n k : ℕ) (s : State) : Type 0 where
-  pub amount : s.registers reg.amount ≡ seats
-  pub total : s.registers reg.total ≡ sum v
-  pub number : s.registers reg.number ≡ sum (take n (outside_minima v m))
-  pub turns : s.registers reg.turns ≡ sum (take n (lacking v m (no_minima v)))
+  pub amount : s.registers reg.AMOUNT ≡ seats
+  pub total : s.registers reg.TOTAL ≡ sum v
+  pub number : s.registers reg.NUMBER ≡ sum (take n (outside_minima v m))
+  pub turns : s.registers reg.TURNS ≡ sum (take n (lacking v m (no_minima v)))
   pub cells : (q : ℕ) (i : Item) → q < k → slice_get g.entries q ≡ Some i → s.columns x.result (place e i) ≡ 0
   pub elsewhere : (q : ℕ) → ((j : ℕ) (i : Item) → slice_get g.entries j ≡ Some i → place e i ≢ q) → s.columns x.result q ≡ before.columns x.result q
   pub columns : (slot q : ℕ) → slot ≢ x.result → s.columns slot q ≡ before.columns slot q
@@ -91,8 +91,8 @@ module _ {c : CountingCode} {e : Election} {f : Form} {x : Slots} {name : List �
   Searched = FirstSearched e f x g d v m seats before
 
   -- only registers changed
-  pub counted : (n p q : ℕ) (s : State) (registers : ℕ → ℕ) → Searched n q s → registers reg.amount ≡ s.registers reg.amount → registers reg.total ≡ s.registers reg.total
-      → registers reg.number ≡ sum (take p (outside_minima v m)) → registers reg.turns ≡ sum (take p (lacking v m (no_minima v))) → Searched p q (record s { registers = registers })
+  pub counted : (n p q : ℕ) (s : State) (registers : ℕ → ℕ) → Searched n q s → registers reg.AMOUNT ≡ s.registers reg.AMOUNT → registers reg.TOTAL ≡ s.registers reg.TOTAL
+      → registers reg.NUMBER ≡ sum (take p (outside_minima v m)) → registers reg.TURNS ≡ sum (take p (lacking v m (no_minima v))) → Searched p q (record s { registers = registers })
   counted n p q s registers h amount total number turns = record {
     amount = amount ∙ h.amount;
     total = total ∙ h.total;
@@ -115,8 +115,8 @@ module _ {c : CountingCode} {e : Election} {f : Form} {x : Slots} {name : List �
     within = slice_get_within g.entries j i at
 
     -- the entry holds no seat, and it may wait
-    stored : (n : ℕ) (s : State) (registers : ℕ → ℕ) (table : Option PriorityTable) → Searched n j s → registers reg.amount ≡ s.registers reg.amount
-        → registers reg.total ≡ s.registers reg.total → registers reg.number ≡ s.registers reg.number → registers reg.turns ≡ s.registers reg.turns
+    stored : (n : ℕ) (s : State) (registers : ℕ → ℕ) (table : Option PriorityTable) → Searched n j s → registers reg.AMOUNT ≡ s.registers reg.AMOUNT
+        → registers reg.TOTAL ≡ s.registers reg.TOTAL → registers reg.NUMBER ≡ s.registers reg.NUMBER → registers reg.TURNS ≡ s.registers reg.TURNS
         → table ≡ Some (arenas.table_of arena (first_waiting arena (j + 1)))
         → Searched n (j + 1) (record (with_cell x.result (place e i) 0 s) { registers = registers; table = table })
     stored n s registers table h amount total number turns waits = record {
@@ -141,18 +141,18 @@ module _ {c : CountingCode} {e : Election} {f : Form} {x : Slots} {name : List �
     }
 
     -- the last part of the plan: the cell, and the table
-    enters : (s : State) → OnItem i s → s.registers reg.weight ≡ slice_index v j → Searched (j + 1) j (bare s)
-        → Achieves c e (Then (Line (Set reg.held 0 ∷ (Store x.result reg.held ∷ []))) (If (test.Zero reg.weight) nothing (Line (Prio d reg.weight reg.held ∷ [])))) s
+    enters : (s : State) → OnItem i s → s.registers reg.WEIGHT ≡ slice_index v j → Searched (j + 1) j (bare s)
+        → Achieves c e (Then (Line (Set reg.HELD 0 ∷ (Store x.result reg.HELD ∷ []))) (If (test.Zero reg.WEIGHT) nothing (Line (Prio d reg.WEIGHT reg.HELD ∷ [])))) s
         (λ t. Searched (j + 1) (j + 1) (bare t)) Never
     enters s on weight h =
         let none : List ℕ = no_minima v in
-        let zero_held : State = with_register reg.held 0 s in
+        let zero_held : State = with_register reg.HELD 0 s in
         let here : State = with_cell x.result (place e i) 0 zero_held in
         let others : List Entry = first_waiting arena j in
         let seat : Entry = seat_of arena j (slice_index none j) in
         then_achieves {Q = λ t. t ≡ here}
-        (line_goes (set_does c e s reg.held 0)
-        (line_goes (store_does c e zero_held x.result (votes_of f) can.ready.slots.result reg.held (place e i) (entry.cell zero_held (item_stays i s zero_held refl refl refl on)))
+        (line_goes (set_does c e s reg.HELD 0)
+        (line_goes (store_does c e zero_held x.result (votes_of f) can.ready.slots.result reg.HELD (place e i) (entry.cell zero_held (item_stays i s zero_held refl refl refl on)))
         (line_ends refl)))
         (λ t is. achieves_from is
         (if_zero
@@ -162,42 +162,42 @@ module _ {c : CountingCode} {e : Election} {f : Form} {x : Slots} {name : List �
         (λ w some.
         let field : InField v j = omega (arith, weight, some) in
         line_goes
-        (seat_enters c e f g (scope_is can) d v none can.ready.weights j (slice_index none j) i here others reg.held at (item_stays i s here refl refl refl on) weight field
+        (seat_enters c e f g (scope_is can) d v none can.ready.weights j (slice_index none j) i here others reg.HELD at (item_stays i s here refl refl refl on) weight field
         (sym (none_needed (length v) j)) (omega (arith, none_needed (length v) j)) h.table)
         (line_ends
         (stored (j + 1) (bare s) here.registers (Some (arenas.table_of arena (seat ∷ others))) h refl refl refl refl (ap Some (waiting_more g j i at (entries_wait can) field)))))))
 
     -- the sums
-    sums : (s : State) → OnItem i s → s.registers reg.weight ≡ slice_index v j → s.registers reg.base ≡ slice_index m j → Searched j j (bare s)
-        → Achieves c e (If (test.Zero reg.weight) (Line (Add reg.number reg.base ∷ [])) (Line (Add reg.turns reg.base ∷ []))) s
-        (λ t. OnItem i t × (t.registers reg.weight ≡ slice_index v j) × Searched (j + 1) j (bare t)) Never
+    sums : (s : State) → OnItem i s → s.registers reg.WEIGHT ≡ slice_index v j → s.registers reg.BASE ≡ slice_index m j → Searched j j (bare s)
+        → Achieves c e (If (test.Zero reg.WEIGHT) (Line (Add reg.NUMBER reg.BASE ∷ [])) (Line (Add reg.TURNS reg.BASE ∷ []))) s
+        (λ t. OnItem i t × (t.registers reg.WEIGHT ≡ slice_index v j) × Searched (j + 1) j (bare t)) Never
     sums s on weight base h =
         let more : OneMore v m j = one_more v m cap j (minimum_each can) can.enough can.few (omega (arith, within, weight_each can)) in
         if_zero
         (λ no_weight.
         let empty : slice_index v j ≡ 0 = omega (arith, weight, no_weight) in
-        let t : State = with_register reg.number (min (s.registers reg.number + s.registers reg.base) most) s in
-        let number : min (s.registers reg.number + s.registers reg.base) most ≡ sum (take (j + 1) (outside_minima v m)) = omega (arith, h.number, base, more.number, (more.outside empty).0) in
-        line_goes (add_does c e s reg.number reg.base)
+        let t : State = with_register reg.NUMBER (min (s.registers reg.NUMBER + s.registers reg.BASE) most) s in
+        let number : min (s.registers reg.NUMBER + s.registers reg.BASE) most ≡ sum (take (j + 1) (outside_minima v m)) = omega (arith, h.number, base, more.number, (more.outside empty).0) in
+        line_goes (add_does c e s reg.NUMBER reg.BASE)
         (line_ends (item_stays i s t refl refl refl on, weight, counted j (j + 1) j (bare s) t.registers h refl refl number (h.turns ∙ sym (more.outside empty).1))))
         (λ w some.
         let field : InField v j = omega (arith, weight, some) in
-        let t : State = with_register reg.turns (min (s.registers reg.turns + s.registers reg.base) most) s in
-        let turns : min (s.registers reg.turns + s.registers reg.base) most ≡ sum (take (j + 1) (lacking v m (no_minima v))) = omega (arith, h.turns, base, more.turns, (more.inside field).1) in
-        line_goes (add_does c e s reg.turns reg.base)
+        let t : State = with_register reg.TURNS (min (s.registers reg.TURNS + s.registers reg.BASE) most) s in
+        let turns : min (s.registers reg.TURNS + s.registers reg.BASE) most ≡ sum (take (j + 1) (lacking v m (no_minima v))) = omega (arith, h.turns, base, more.turns, (more.inside field).1) in
+        line_goes (add_does c e s reg.TURNS reg.BASE)
         (line_ends (item_stays i s t refl refl refl on, weight, counted j (j + 1) j (bare s) t.registers h refl refl (h.number ∙ sym (more.inside field).0) turns)))
 
     searches_entry : (s : State) → OnItem i s → Searched j j (bare s) → Achieves c e (search_entry f (with_minima x slot) d) s (λ t. Searched (j + 1) (j + 1) (bare t)) Never
     searches_entry s on h =
-        let one : State = with_register reg.weight (s.columns x.votes (place e i)) s in
-        let two : State = with_register reg.base (s.columns slot (place e i)) one in
+        let one : State = with_register reg.WEIGHT (s.columns x.votes (place e i)) s in
+        let two : State = with_register reg.BASE (s.columns slot (place e i)) one in
         let weight : s.columns x.votes (place e i) ≡ slice_index v j = h.columns x.votes (place e i) can.ready.slots.not_votes ∙ can.ready.votes.at j i at in
         let minimum : s.columns slot (place e i) ≡ slice_index m j = h.columns slot (place e i) (can.ready.slots.not_minima slot refl) ∙ can.ready.minima.at j i at in
-        then_achieves {Q = λ t. t ≡ one} (line_goes (get_does c e s x.votes (votes_of f) can.ready.slots.votes reg.weight (place e i) (entry.cell s on)) (line_ends refl)) (λ t is. achieves_from is
+        then_achieves {Q = λ t. t ≡ one} (line_goes (get_does c e s x.votes (votes_of f) can.ready.slots.votes reg.WEIGHT (place e i) (entry.cell s on)) (line_ends refl)) (λ t is. achieves_from is
         (then_achieves {Q = λ u. u ≡ two}
-        (line_goes (get_does c e one slot (votes_of f) (can.ready.slots.minima slot refl) reg.base (place e i) (entry.cell one (item_stays i s one refl refl refl on))) (line_ends refl))
+        (line_goes (get_does c e one slot (votes_of f) (can.ready.slots.minima slot refl) reg.BASE (place e i) (entry.cell one (item_stays i s one refl refl refl on))) (line_ends refl))
         (λ u are. achieves_from are
-        (then_achieves {Q = λ w. OnItem i w × (w.registers reg.weight ≡ slice_index v j) × Searched (j + 1) j (bare w)}
+        (then_achieves {Q = λ w. OnItem i w × (w.registers reg.WEIGHT ≡ slice_index v j) × Searched (j + 1) j (bare w)}
         (sums two (item_stays i s two refl refl refl on) weight minimum (counted j j j (bare s) two.registers h refl refl h.number h.turns)) (λ w r. enters w r.0 r.1 r.2)))))
 
   pub entries_searched : Visits c e (search_entry f (with_minima x slot) d) g.entries OnItem (λ n s. FirstSearched e f x g d v m seats before n n s) Never

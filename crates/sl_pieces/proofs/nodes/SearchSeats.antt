@@ -37,7 +37,7 @@ use Rattle.sl_pieces.proofs.scopes.Staying.{item_stays}
 use Rattle.sl_pieces.specs.arenas.Arenas as arenas
 use Rattle.sl_pieces.specs.arenas.Arenas.{Arena, HasWaiting, seat_of, seat_taken}
 use Rattle.sl_pieces.specs.arenas.Laws.{SeatTaken}
-use Rattle.sl_pieces.specs.awards.Registers as reg
+use Rattle.sl_pieces.specs.declared.registers.TheConstants as reg
 use Rattle.sl_pieces.specs.awards.Batches.{GivesSeats}
 use Rattle.sl_pieces.specs.seats.Slots.{Slots, HasCells}
 use Rattle.sl_pieces.specs.seats.Trees.{nothing, enter_again}
@@ -54,11 +54,11 @@ use Rattle.sl_pieces.proofs.nodes.SearchScope.{with_minima, search_arena, CanSea
 -- the entries of the scope hold t in the search, and all else is as it was before
 pub record IsSearched (e : Election) (x : Slots) (g : Group) (d : Divisor) (v m : List ℕ) (seats : ℕ) (before : State) (t : List ℕ) (s : State) : Type 0 where
   pub on : OnScope g.scope s
-  pub amount : s.registers reg.amount ≡ seats
-  pub total : s.registers reg.total ≡ sum v
-  pub number : s.registers reg.number ≡ outside_sum v m
-  pub all_left : s.registers reg.all_left ≡ min (sum t) most
-  pub turns : s.registers reg.turns ≡ missing v m t
+  pub amount : s.registers reg.AMOUNT ≡ seats
+  pub total : s.registers reg.TOTAL ≡ sum v
+  pub number : s.registers reg.NUMBER ≡ outside_sum v m
+  pub all_left : s.registers reg.ALL_LEFT ≡ min (sum t) most
+  pub turns : s.registers reg.TURNS ≡ missing v m t
   pub cells : HasCells e g.entries (s.columns x.result) t
   pub elsewhere : (q : ℕ) → ((j : ℕ) (i : Item) → slice_get g.entries j ≡ Some i → place e i ≢ q) → s.columns x.result q ≡ before.columns x.result q
   pub columns : (slot q : ℕ) → slot ≢ x.result → s.columns slot q ≡ before.columns slot q
@@ -92,9 +92,9 @@ module _ {c : CountingCode} {e : Election} {f : Form} {x : Slots} {name : List �
     -- before the entry holds its seat: what is missing is counted
     record IsCounted (s w : State) : Type 0 where
       on_item : OnItem i w
-      held : w.registers reg.held ≡ slice_index t j
-      turns : w.registers reg.turns ≡ missing v m u
-      all_left : w.registers reg.all_left ≡ min (sum t) most
+      held : w.registers reg.HELD ≡ slice_index t j
+      turns : w.registers reg.TURNS ≡ missing v m u
+      all_left : w.registers reg.ALL_LEFT ≡ min (sum t) most
       columns : w.columns ≡ s.columns
       table : w.table ≡ Some (arenas.table_of arena taken.others)
 
@@ -103,45 +103,45 @@ module _ {c : CountingCode} {e : Election} {f : Form} {x : Slots} {name : List �
       on_item : OnItem i w
       cell : w.columns x.result (place e i) ≡ slice_index u j
       elsewhere : (q : ℕ) → q ≢ place e i → w.columns x.result q ≡ s.columns x.result q
-      turns : w.registers reg.turns ≡ missing v m u
-      all_left : w.registers reg.all_left ≡ min (sum u) most
+      turns : w.registers reg.TURNS ≡ missing v m u
+      all_left : w.registers reg.ALL_LEFT ≡ min (sum u) most
 
     given_still : (s w y : State) → KeepsRest (enter_again (with_minima x slot) d) w y → IsGiven s w → IsGiven s y
     given_still s w y kept h = record {
       on_item = item_stays i w y (kept.party refl) (kept.land refl) (kept.win refl) h.on_item;
       cell = kept.columns x.result refl (place e i) ∙ h.cell;
       elsewhere = λ q other. kept.columns x.result refl q ∙ h.elsewhere q other;
-      turns = kept.registers reg.turns refl ∙ h.turns;
-      all_left = kept.registers reg.all_left refl ∙ h.all_left;
+      turns = kept.registers reg.TURNS refl ∙ h.turns;
+      all_left = kept.registers reg.ALL_LEFT refl ∙ h.all_left;
     }
 
-    counts : (s w : State) → OnItem i w → w.registers reg.held ≡ slice_index t j → w.registers reg.base ≡ slice_index m j → w.registers reg.turns ≡ missing v m t
-        → w.registers reg.all_left ≡ min (sum t) most → w.columns ≡ s.columns → w.table ≡ Some (arenas.table_of arena taken.others)
-        → Achieves c e (If (test.Less reg.held reg.base) (Line (count_down reg.turns)) nothing) w (IsCounted s) Never
+    counts : (s w : State) → OnItem i w → w.registers reg.HELD ≡ slice_index t j → w.registers reg.BASE ≡ slice_index m j → w.registers reg.TURNS ≡ missing v m t
+        → w.registers reg.ALL_LEFT ≡ min (sum t) most → w.columns ≡ s.columns → w.table ≡ Some (arenas.table_of arena taken.others)
+        → Achieves c e (If (test.Less reg.HELD reg.BASE) (Line (count_down reg.TURNS)) nothing) w (IsCounted s) Never
     counts s w on held base turns all_left columns table =
         if_less
         (λ less.
         let one : State = with_register ones 1 w in
-        let y : State = with_register reg.turns (w.registers reg.turns - 1) one in
+        let y : State = with_register reg.TURNS (w.registers reg.TURNS - 1) one in
         let fewer : missing v m t ≡ missing v m u + 1 = one_less_missing v m (minimum_each can) t u j long raised field (omega (arith, less, held, base)) in
         line_goes (set_does c e w ones 1)
-        (line_goes (sub_does c e one reg.turns ones)
+        (line_goes (sub_does c e one reg.TURNS ones)
         (line_ends (record { on_item = item_stays i w y refl refl refl on; held = held; turns = omega (arith, turns, fewer); all_left = all_left; columns = columns; table = table }))))
         (λ met.
         let same : missing v m u ≡ missing v m t = as_much_missing v m (minimum_each can) t u j long raised field (omega (arith, met, held, base)) in
         line_ends (record { on_item = on; held = held; turns = turns ∙ sym same; all_left = all_left; columns = columns; table = table }))
 
     holds : (s w : State) → HasCells e g.entries (s.columns x.votes) v → IsCounted s w
-        → Achieves c e (Then (Line (Set ones 1 ∷ (Add reg.held ones ∷ (Store x.result reg.held ∷ (Set ones 1 ∷ (Add reg.all_left ones ∷ [])))))) (enter_again (with_minima x slot) d)) w
+        → Achieves c e (Then (Line (Set ones 1 ∷ (Add reg.HELD ones ∷ (Store x.result reg.HELD ∷ (Set ones 1 ∷ (Add reg.ALL_LEFT ones ∷ [])))))) (enter_again (with_minima x slot) d)) w
         (λ y. HasWaiting arena u y × IsGiven s y) Never
     holds s w votes h =
         let p : ℕ = place e i in
         let w1 : State = with_register ones 1 w in
-        let more : ℕ = min (w.registers reg.held + 1) most in
-        let w2 : State = with_register reg.held more w1 in
+        let more : ℕ = min (w.registers reg.HELD + 1) most in
+        let w2 : State = with_register reg.HELD more w1 in
         let w3 : State = with_cell x.result p more w2 in
         let w4 : State = with_register ones 1 w3 in
-        let w5 : State = with_register reg.all_left (min (w.registers reg.all_left + 1) most) w4 in
+        let w5 : State = with_register reg.ALL_LEFT (min (w.registers reg.ALL_LEFT + 1) most) w4 in
         let holds_more : more ≡ slice_index u j = omega (arith, h.held, next, few) in
         let on : OnItem i w5 = item_stays i w w5 refl refl refl h.on_item in
         let given : IsGiven s w5 = record {
@@ -162,22 +162,22 @@ module _ {c : CountingCode} {e : Election} {f : Form} {x : Slots} {name : List �
         let low : slice_index (no_minima v) j ≤ slice_index t j = omega (arith, none_needed (length v) j) in
         then_achieves {Q = λ y. y ≡ w5}
         (line_goes (set_does c e w ones 1)
-        (line_goes (add_does c e w1 reg.held ones)
-        (line_goes (store_does c e w2 x.result (votes_of f) can.ready.slots.result reg.held p (entry.cell w2 (item_stays i w w2 refl refl refl h.on_item)))
-        (line_goes (set_does c e w3 ones 1) (line_goes (add_does c e w4 reg.all_left ones) (line_ends refl))))))
+        (line_goes (add_does c e w1 reg.HELD ones)
+        (line_goes (store_does c e w2 x.result (votes_of f) can.ready.slots.result reg.HELD p (entry.cell w2 (item_stays i w w2 refl refl refl h.on_item)))
+        (line_goes (set_does c e w3 ones 1) (line_goes (add_does c e w4 reg.ALL_LEFT ones) (line_ends refl))))))
         (λ y is. achieves_from is
         (achieves_more (achieves_kept (again.enters t u j i w5 taken at (has (slice_index t j)) low next few on holds_more same_votes h.table))
         (λ z r. (r.0, given_still s w5 z r.1 given)) (λ z r. r)))
 
     seat_is_given : (s : State) → OnItem i s → s.columns x.result (place e i) ≡ slice_index t j → s.columns slot (place e i) ≡ slice_index m j → HasCells e g.entries (s.columns x.votes) v
-        → s.registers reg.turns ≡ missing v m t → s.registers reg.all_left ≡ min (sum t) most → s.table ≡ Some (arenas.table_of arena taken.others)
+        → s.registers reg.TURNS ≡ missing v m t → s.registers reg.ALL_LEFT ≡ min (sum t) most → s.table ≡ Some (arenas.table_of arena taken.others)
         → Achieves c e (search_seat (with_minima x slot) d) s (λ y. HasWaiting arena u y × IsGiven s y) Never
     seat_is_given s on cell minimum votes turns all_left table =
-        let one : State = with_register reg.held (s.columns x.result (place e i)) s in
-        let two : State = with_register reg.base (s.columns slot (place e i)) one in
-        then_achieves {Q = λ w. w ≡ one} (line_goes (get_does c e s x.result (votes_of f) can.ready.slots.result reg.held (place e i) (entry.cell s on)) (line_ends refl)) (λ w is. achieves_from is
+        let one : State = with_register reg.HELD (s.columns x.result (place e i)) s in
+        let two : State = with_register reg.BASE (s.columns slot (place e i)) one in
+        then_achieves {Q = λ w. w ≡ one} (line_goes (get_does c e s x.result (votes_of f) can.ready.slots.result reg.HELD (place e i) (entry.cell s on)) (line_ends refl)) (λ w is. achieves_from is
         (then_achieves {Q = λ y. y ≡ two}
-        (line_goes (get_does c e one slot (votes_of f) (can.ready.slots.minima slot refl) reg.base (place e i) (entry.cell one (item_stays i s one refl refl refl on))) (line_ends refl))
+        (line_goes (get_does c e one slot (votes_of f) (can.ready.slots.minima slot refl) reg.BASE (place e i) (entry.cell one (item_stays i s one refl refl refl on))) (line_ends refl))
         (λ y are. achieves_from are
         (then_achieves {Q = IsCounted s} (counts s two (item_stays i s two refl refl refl on) cell minimum turns all_left refl table) (λ z h. holds s z votes h)))))
 
@@ -189,9 +189,9 @@ module _ {c : CountingCode} {e : Election} {f : Form} {x : Slots} {name : List �
         let column : (k q : ℕ) → now.columns k q ≡ state.columns k q = λ k q. ap (λ (y : ℕ → ℕ → ℕ). y k q) taken_now.columns in
         record {
           on = entry.scope after given.on_item;
-          amount = kept.registers reg.amount refl ∙ register reg.amount ∙ h.amount;
-          total = kept.registers reg.total refl ∙ register reg.total ∙ h.total;
-          number = kept.registers reg.number refl ∙ register reg.number ∙ h.number;
+          amount = kept.registers reg.AMOUNT refl ∙ register reg.AMOUNT ∙ h.amount;
+          total = kept.registers reg.TOTAL refl ∙ register reg.TOTAL ∙ h.total;
+          number = kept.registers reg.NUMBER refl ∙ register reg.NUMBER ∙ h.number;
           all_left = given.all_left;
           turns = given.turns;
           cells = record {
@@ -240,7 +240,7 @@ module _ {c : CountingCode} {e : Election} {f : Form} {x : Slots} {name : List �
         (achieves_kept
         (seat_is_given j i t u at field long gets.raised (few j) gets.taken now taken_now.on_item (column x.result (place e i) ∙ h.cells.at j i at)
         (column slot (place e i) ∙ h.columns slot (place e i) (can.ready.slots.not_minima slot refl) ∙ can.ready.minima.at j i at) votes
-        (register reg.turns ∙ h.turns) (register reg.all_left ∙ h.all_left) taken_now.table))
+        (register reg.TURNS ∙ h.turns) (register reg.ALL_LEFT ∙ h.all_left) taken_now.table))
         (λ after r. (r.0.0, searched_next j i t u at field long gets.raised (few j) gets.taken tab (arena.won j (slice_index t j)) state now after taken_now r.0.1 r.1 h least))
         (λ y r. r);
   }

@@ -21,7 +21,7 @@ use Rattle.sl_pieces.proofs.scopes.Staying.{item_stays}
 use Rattle.sl_pieces.specs.arenas.Arenas.{Arena, HasWaiting, divisor_arena, hamilton_arena, table_of as table_with}
 use Rattle.sl_pieces.specs.arenas.Laws.{SeatTaken}
 use Rattle.sl_pieces.proofs.arenas.TableEffects.{waiting_again}
-use Rattle.sl_pieces.specs.awards.Registers as reg
+use Rattle.sl_pieces.specs.declared.registers.TheConstants as reg
 use Rattle.sl_pieces.specs.seats.Slots.{Slots, HasSlots}
 use Rattle.sl_pieces.specs.seats.Trees.{enter_again, nothing}
 use Rattle.sl_pieces.proofs.seats.SeatingArenas.{OfScope}
@@ -36,10 +36,10 @@ module _ (c : CountingCode) (e : Election) (f : Form) (x : Slots) (name : List �
   divided = divisor_arena d v m (table_of f) (map (place e) g.entries)
 
   module _ (of : OfScope e f g divided) (t u : List ℕ) (j : ℕ) (i : Item) (s : State) (taken : SeatTaken divided j t u) (at : slice_get g.entries j ≡ Some i)
-      (has : Has divided.ladders j (slice_index t j)) (high : slice_index u j ≤ MAX_SEATS) (on : OnItem i s) (held : s.registers reg.held ≡ slice_index u j)
+      (has : Has divided.ladders j (slice_index t j)) (high : slice_index u j ≤ MAX_SEATS) (on : OnItem i s) (held : s.registers reg.HELD ≡ slice_index u j)
       (votes : s.columns x.votes (place e i) ≡ slice_index v j) (table : s.table ≡ Some (table_with divided taken.others)) where
     abbrev weighed : State
-    weighed = with_register reg.weight (s.columns x.votes (place e i)) s
+    weighed = with_register reg.WEIGHT (s.columns x.votes (place e i)) s
 
     some_weight : 0 < slice_index v j
     some_weight = ltb-true 0 (slice_index v j) has
@@ -47,11 +47,11 @@ module _ (c : CountingCode) (e : Election) (f : Form) (x : Slots) (name : List �
     enters_quotient : Achieves c e (enter_again x d) s (HasWaiting divided u) Never
     enters_quotient =
         let entry : IsEntry e (table_of f) (votes_of f) g.scope i = of.scope.entry j i at in
-        then_achieves {Q = λ after. after ≡ weighed} (line_goes (get_does c e s x.votes (votes_of f) slots.votes reg.weight (place e i) (entry.cell s on)) (line_ends refl))
+        then_achieves {Q = λ after. after ≡ weighed} (line_goes (get_does c e s x.votes (votes_of f) slots.votes reg.WEIGHT (place e i) (entry.cell s on)) (line_ends refl))
         (λ after is. achieves_from is
         (if_zero (λ none. absurd (omega (arith, some_weight, votes, none))) (λ w some.
         line_goes
-        (seat_enters c e f g of.scope d v m light j (slice_index u j) i weighed taken.others reg.held at (item_stays i s weighed refl refl refl on) votes some_weight held high table)
+        (seat_enters c e f g of.scope d v m light j (slice_index u j) i weighed taken.others reg.HELD at (item_stays i s weighed refl refl refl on) votes some_weight held high table)
         (line_ends ((waiting_again divided j t u weighed taken table).entered has)))))
 
   pub quotients_again : OfScope e f g divided → ReEnters c e x g divided v (enter_again x d)

@@ -23,7 +23,7 @@ use Rattle.sl_plans.specs.inner.Frames.{may_write_register, may_write_slot, may_
 use Rattle.sl_plans.proofs.Rules.{achieves_more, achieves_from, line_ends, line_goes, then_achieves, if_zero}
 use Rattle.sl_pieces.specs.scopes.Forms.{Form, table_of, votes_of, OnItem}
 use Rattle.sl_pieces.specs.scopes.Scopes.{IsEntry}
-use Rattle.sl_pieces.specs.awards.Registers as reg
+use Rattle.sl_pieces.specs.declared.registers.TheConstants as reg
 use Rattle.sl_pieces.specs.seats.Slots.{Slots, HasMinima}
 use Rattle.sl_pieces.specs.seats.Trees.{minimum_base, outside_base, whole_base}
 use Rattle.sl_pieces.specs.seats.Filling.{AtEntry, FindsBase}
@@ -33,7 +33,7 @@ use Rattle.sl_pieces.proofs.seats.Lists.{number_within}
 
 abbrev WritesRegisters : Tree → Type 0
 WritesRegisters tree =
-    (may_write_register tree reg.amount ≡ false) × (may_write_register tree reg.total ≡ false) × (may_write_register tree reg.left ≡ false) × (may_write_register tree reg.weight ≡ false)
+    (may_write_register tree reg.AMOUNT ≡ false) × (may_write_register tree reg.TOTAL ≡ false) × (may_write_register tree reg.LEFT ≡ false) × (may_write_register tree reg.WEIGHT ≡ false)
     × ((slot : ℕ) → may_write_slot tree slot ≡ false) × (may_move tree cursor.Party ≡ false) × (may_move tree cursor.Land ≡ false) × (may_move tree cursor.Win ≡ false)
     × (may_write_table tree ≡ false) × (may_seat tree ≡ false) × (may_record_step tree ≡ false) × (may_record_weight tree ≡ false)
 
@@ -49,7 +49,7 @@ module _ (c : CountingCode) (e : Election) (x : Slots) (g : Group) (v m : List �
   -- what is left to show of such a plan
   found : (b : List ℕ) (Rest : ℕ → ℕ → Type 0) (tree : Tree) → WritesRegisters tree
       → ((j : ℕ) (i : Item) (s : State) → slice_get g.entries j ≡ Some i → AtEntry g v seats j i s → HasMinima e g.entries v x.minima s m →
-      Achieves c e tree s (λ after. (after.registers reg.base ≡ slice_index b j) × Rest j (after.registers reg.step)) Never)
+      Achieves c e tree s (λ after. (after.registers reg.BASE ≡ slice_index b j) × Rest j (after.registers reg.STEP)) Never)
       → FindsBase c e x g v m seats b Rest tree
   found b Rest tree (amount, total, left, weight, slots, party, land, win, table, seated, step, told) finds = record {
     finds = finds;
@@ -71,12 +71,12 @@ module _ (c : CountingCode) (e : Election) (x : Slots) (g : Group) (v m : List �
 
   module _ (f : Form) (entry : (j : ℕ) (i : Item) → slice_get g.entries j ≡ Some i → IsEntry e (table_of f) (votes_of f) g.scope i) where
     minimum_at : (o : Option ℕ) → ((slot : ℕ) → o ≡ Some slot → slice_get c.slots slot ≡ Some (votes_of f)) → (j : ℕ) (i : Item) (s : State) → slice_get g.entries j ≡ Some i
-        → OnItem i s → HasMinima e g.entries v o s m → Achieves c e (minimum_base o) s (λ t. t.registers reg.base ≡ slice_index m j) Never
+        → OnItem i s → HasMinima e g.entries v o s m → Achieves c e (minimum_base o) s (λ t. t.registers reg.BASE ≡ slice_index m j) Never
     minimum_at None known j i s at on minima =
         let none : 0 ≡ slice_index m j = sym (ap (λ (xs : List ℕ). slice_index xs j) minima ∙ none_needed (length v) j) in
-        line_goes (set_does c e s reg.base 0) (line_ends none)
+        line_goes (set_does c e s reg.BASE 0) (line_ends none)
     minimum_at (Some slot) known j i s at on minima =
-        line_goes (get_does c e s slot (votes_of f) (known slot refl) reg.base (place e i) ((entry j i at).cell s on)) (line_ends (minima.at j i at))
+        line_goes (get_does c e s slot (votes_of f) (known slot refl) reg.BASE (place e i) ((entry j i at).cell s on)) (line_ends (minima.at j i at))
 
     module _ (known : (slot : ℕ) → x.minima ≡ Some slot → slice_get c.slots slot ≡ Some (votes_of f)) where
       -- the minimum of each entry
@@ -90,11 +90,11 @@ module _ (c : CountingCode) (e : Election) (x : Slots) (g : Group) (v m : List �
       outside_finds long =
           found (outside_minima v m) (λ j n. Unit {0}) (outside_base x.minima) (outside_writes x.minima)
           (λ j i s at here minima.
-          if_zero {r = reg.weight}
+          if_zero {r = reg.WEIGHT}
           (λ none. achieves_more (minimum_at x.minima known j i s at here.on_item minima) (λ t h. (h ∙ sym (outside_at v m j long (sym here.weight ∙ none)), tt)) (λ y r. r))
           (λ w some.
           let field : InField v j = omega (arith, here.weight, some) in
-          line_goes (set_does c e s reg.base 0) (line_ends (sym (outside_in v m j field), tt))))
+          line_goes (set_does c e s reg.BASE 0) (line_ends (sym (outside_in v m j field), tt))))
 
   -- ---- whole parts
 
@@ -102,30 +102,30 @@ module _ (c : CountingCode) (e : Election) (x : Slots) (g : Group) (v m : List �
   abbrev pub Remains : ℕ → ℕ → Type 0
   Remains j n = InField v j → n ≡ remainder v seats j
 
-  whole_at : (j : ℕ) (s : State) → s.registers reg.amount ≡ seats → s.registers reg.total ≡ sum v → s.registers reg.weight ≡ slice_index v j → seats * slice_index v j ≤ most
-      → Achieves c e whole_base s (λ t. (t.registers reg.base ≡ whole v seats j) × Remains j (t.registers reg.step)) Never
+  whole_at : (j : ℕ) (s : State) → s.registers reg.AMOUNT ≡ seats → s.registers reg.TOTAL ≡ sum v → s.registers reg.WEIGHT ≡ slice_index v j → seats * slice_index v j ≤ most
+      → Achieves c e whole_base s (λ t. (t.registers reg.BASE ≡ whole v seats j) × Remains j (t.registers reg.STEP)) Never
   whole_at j s amount total weight fits =
-      let n : ℕ = min (s.registers reg.amount * s.registers reg.weight) most in
-      let t : State = with_register reg.base (s.registers reg.amount) s in
-      let u : State = with_register reg.base n t in
-      let w : State = with_register reg.step n u in
+      let n : ℕ = min (s.registers reg.AMOUNT * s.registers reg.WEIGHT) most in
+      let t : State = with_register reg.BASE (s.registers reg.AMOUNT) s in
+      let u : State = with_register reg.BASE n t in
+      let w : State = with_register reg.STEP n u in
       let exact : n ≡ seats * slice_index v j = rw (amount, weight) (omega (arith, fits)) in
       then_achieves {Q = λ y. y ≡ w}
-      (line_goes (mov_does c e s reg.base reg.amount) (line_goes (mul_does c e t reg.base reg.weight) (line_goes (mov_does c e u reg.step reg.base) (line_ends refl))))
+      (line_goes (mov_does c e s reg.BASE reg.AMOUNT) (line_goes (mul_does c e t reg.BASE reg.WEIGHT) (line_goes (mov_does c e u reg.STEP reg.BASE) (line_ends refl))))
       (λ y is. achieves_from is
-      (if_zero {r = reg.total}
+      (if_zero {r = reg.TOTAL}
       (λ none.
       let low : slice_index v j ≤ sum v = entry_le_sum v j in
       let without : slice_index v j ≡ 0 = omega (arith, low, none, total) in
       line_ends (no_whole n (slice_index v j) exact without, λ field. absurd (omega (arith, field, without))))
       (λ d some.
-      let all : w.registers reg.total ≡ sum v = total in
-      let q : State = with_register reg.base (n / w.registers reg.total) w in
-      line_goes (div_does c e w reg.base reg.total d some)
-      (line_goes (rem_does c e q reg.step reg.total d some)
+      let all : w.registers reg.TOTAL ≡ sum v = total in
+      let q : State = with_register reg.BASE (n / w.registers reg.TOTAL) w in
+      line_goes (div_does c e w reg.BASE reg.TOTAL d some)
+      (line_goes (rem_does c e q reg.STEP reg.TOTAL d some)
       (line_ends (
-        ap (λ k. k / w.registers reg.total) exact ∙ ap (λ k. seats * slice_index v j / k) all,
-        λ field. ap (λ k. k % w.registers reg.total) exact ∙ ap (λ k. seats * slice_index v j % k) all,
+        ap (λ k. k / w.registers reg.TOTAL) exact ∙ ap (λ k. seats * slice_index v j / k) all,
+        λ field. ap (λ k. k % w.registers reg.TOTAL) exact ∙ ap (λ k. seats * slice_index v j % k) all,
       ))))))
     where
       no_whole : (n weight : ℕ) → n ≡ seats * weight → weight ≡ 0 → n ≡ seats * weight / sum v

@@ -36,7 +36,7 @@ use Rattle.sl_pieces.specs.scopes.Scopes.{IsScope}
 use Rattle.sl_pieces.proofs.scopes.Staying.{item_stays}
 use Rattle.sl_pieces.specs.arenas.Arenas as arenas
 use Rattle.sl_pieces.specs.arenas.Arenas.{Arena, seat_of, divisor_arena, hamilton_arena}
-use Rattle.sl_pieces.specs.awards.Registers as reg
+use Rattle.sl_pieces.specs.declared.registers.TheConstants as reg
 use Rattle.sl_pieces.specs.seats.Slots.{Slots}
 use Rattle.sl_pieces.specs.seats.Trees.{weigh, enter_quotient, enter_remainder, enter_preferred}
 use Rattle.sl_pieces.specs.seats.Filling.{AtEntry, EntersNext}
@@ -48,12 +48,12 @@ use Rattle.sl_pieces.proofs.seats.Quotients.{seat_enters}
 
 abbrev WritesTable : Tree → Type 0
 WritesTable tree =
-    (may_write_register tree reg.amount ≡ false) × (may_write_register tree reg.total ≡ false) × (may_write_register tree reg.left ≡ false) × ((slot : ℕ) → may_write_slot tree slot ≡ false)
+    (may_write_register tree reg.AMOUNT ≡ false) × (may_write_register tree reg.TOTAL ≡ false) × (may_write_register tree reg.LEFT ≡ false) × ((slot : ℕ) → may_write_slot tree slot ≡ false)
     × (may_move tree cursor.Party ≡ false) × (may_move tree cursor.Land ≡ false) × (may_move tree cursor.Win ≡ false) × (may_seat tree ≡ false) × (may_record_step tree ≡ false)
 
 entering : (c : CountingCode) (e : Election) (g : Group) (a : Arena) (v : List ℕ) (seats : ℕ) (Rest : ℕ → ℕ → Type 0) (told : ℕ → Item → List Weight) (tree : Tree) → WritesTable tree
     → ((j : ℕ) (i : Item) (s : State) (others : List Entry) → slice_get g.entries j ≡ Some i → AtEntry g v seats j i s → 0 < slice_index v j →
-    s.registers reg.base ≡ slice_index a.ladders.base j → slice_index a.ladders.base j ≤ seats → Rest j (s.registers reg.step) → s.table ≡ Some (arenas.table_of a others) →
+    s.registers reg.BASE ≡ slice_index a.ladders.base j → slice_index a.ladders.base j ≤ seats → Rest j (s.registers reg.STEP) → s.table ≡ Some (arenas.table_of a others) →
     Achieves c e tree s (λ t. (t.table ≡ Some (arenas.table_of a (seat_of a j (slice_index a.ladders.base j) ∷ others))) × (t.weights ≡ s.weights ++ told j i)) Never)
     → EntersNext c e g a v seats Rest told tree
 entering c e g a v seats Rest told tree (amount, total, left, slots, party, land, win, seated, step) enters = record {
@@ -89,18 +89,18 @@ module _ (c : CountingCode) (e : Election) (f : Form) (g : Group) (scope : IsSco
     abbrev arena_of : Divisor → Arena
     arena_of d = divisor_arena d v b (table_of f) (map (place e) g.entries)
 
-    prio_enters : (d : Divisor) (j : ℕ) (i : Item) (s : State) (others : List Entry) → slice_get g.entries j ≡ Some i → OnItem i s → s.registers reg.weight ≡ slice_index v j → 0 < slice_index v j
-        → s.registers reg.base ≡ slice_index b j → slice_index b j ≤ seats → s.table ≡ Some (arenas.table_of (arena_of d) others)
-        → Achieves c e (Line (Prio d reg.weight reg.base ∷ [])) s (EntersSeat (arena_of d) others j (slice_index b j) s) Never
+    prio_enters : (d : Divisor) (j : ℕ) (i : Item) (s : State) (others : List Entry) → slice_get g.entries j ≡ Some i → OnItem i s → s.registers reg.WEIGHT ≡ slice_index v j → 0 < slice_index v j
+        → s.registers reg.BASE ≡ slice_index b j → slice_index b j ≤ seats → s.table ≡ Some (arenas.table_of (arena_of d) others)
+        → Achieves c e (Line (Prio d reg.WEIGHT reg.BASE ∷ [])) s (EntersSeat (arena_of d) others j (slice_index b j) s) Never
     prio_enters d j i s others at on weight positive base within table =
-        line_goes (seat_enters c e f g scope d v b weights j (slice_index b j) i s others reg.base at on weight positive base (omega (arith, within, few)) table) (line_ends (refl, refl))
+        line_goes (seat_enters c e f g scope d v b weights j (slice_index b j) i s others reg.BASE at on weight positive base (omega (arith, within, few)) table) (line_ends (refl, refl))
 
     abbrev Any : ℕ → ℕ → Type 0
     Any j n = Unit {0}
 
-    plain_enters : (d : Divisor) → EntersNext c e g (arena_of d) v seats Any (λ j i. []) (Line (Prio d reg.weight reg.base ∷ []))
+    plain_enters : (d : Divisor) → EntersNext c e g (arena_of d) v seats Any (λ j i. []) (Line (Prio d reg.WEIGHT reg.BASE ∷ []))
     plain_enters d =
-        entering c e g (arena_of d) v seats Any (λ j i. []) (Line (Prio d reg.weight reg.base ∷ [])) (refl, refl, refl, λ slot. refl, refl, refl, refl, refl, refl)
+        entering c e g (arena_of d) v seats Any (λ j i. []) (Line (Prio d reg.WEIGHT reg.BASE ∷ [])) (refl, refl, refl, λ slot. refl, refl, refl, refl, refl, refl)
         (λ j i s others at here positive base within rest table.
         achieves_more (prio_enters d j i s others at here.on_item here.weight positive base within table) (λ t h. (h.0, h.1 ∙ sym (append-nil s.weights))) (λ y r. r))
 
@@ -120,29 +120,29 @@ module _ (c : CountingCode) (e : Election) (f : Form) (g : Group) (scope : IsSco
 
     module _ (stage : stage_of c.stages x.stage ≡ Some x.stage) where
       weighed_enters : (by : Rounding) → EntersNext c e g (arena_of (divisor_of by)) v seats Any (λ j i. weight_of (divisor_of by) j i ∷ [])
-          (Line (Weigh x.stage (kind_of f) by reg.weight ∷ (Prio (divisor_of by) reg.weight reg.base ∷ [])))
+          (Line (Weigh x.stage (kind_of f) by reg.WEIGHT ∷ (Prio (divisor_of by) reg.WEIGHT reg.BASE ∷ [])))
       weighed_enters by =
           entering c e g (arena_of (divisor_of by)) v seats Any (λ j i. weight_of (divisor_of by) j i ∷ [])
-          (Line (Weigh x.stage (kind_of f) by reg.weight ∷ (Prio (divisor_of by) reg.weight reg.base ∷ []))) (refl, refl, refl, λ slot. refl, refl, refl, refl, refl, refl)
+          (Line (Weigh x.stage (kind_of f) by reg.WEIGHT ∷ (Prio (divisor_of by) reg.WEIGHT reg.BASE ∷ []))) (refl, refl, refl, λ slot. refl, refl, refl, refl, refl, refl)
           (λ j i s others at here positive base within rest table.
           let low : slice_index v j ≤ MAX_WEIGHT = number_within MAX_WEIGHT v j weights in
-          let all : min (s.registers reg.weight) MAX_WEIGHT ≡ slice_index v j = omega (arith, here.weight, low) in
-          let one_less : s.registers reg.weight ≡ suc (s.registers reg.weight - 1) = omega (arith, here.weight, positive) in
+          let all : min (s.registers reg.WEIGHT) MAX_WEIGHT ≡ slice_index v j = omega (arith, here.weight, low) in
+          let one_less : s.registers reg.WEIGHT ≡ suc (s.registers reg.WEIGHT - 1) = omega (arith, here.weight, positive) in
           let is : Weight = weight_of (divisor_of by) j i in
           let tells = weigh_does c e s x.stage (kind_of f) x.stage g.scope stage (scope.kind s here.on_scope) (arenas.table_of (arena_of (divisor_of by)) others) (place e i) table
-          ((scope.entry j i at).index s here.on_item) by reg.weight (s.registers reg.weight - 1) one_less in
+          ((scope.entry j i at).index s here.on_item) by reg.WEIGHT (s.registers reg.WEIGHT - 1) one_less in
           let t : State = with_weight is s in
-          line_goes (tells ∙ told_as (divisor_of by) (min (s.registers reg.weight) MAX_WEIGHT) j i (item_of e (table_of f) (place e i)) s (scope.entry j i at).item all)
+          line_goes (tells ∙ told_as (divisor_of by) (min (s.registers reg.WEIGHT) MAX_WEIGHT) j i (item_of e (table_of f) (place e i)) s (scope.entry j i at).item all)
           (prio_enters (divisor_of by) j i t others at (item_stays i s t refl refl refl here.on_item) here.weight positive base within table))
 
       -- the weights of a method that rounds are told where no minima are written
       entered : (o : Option Rounding) (d : Divisor) → let by : Divisor = unwrap_or (option_map divisor_of o) d in
-          EntersNext c e g (arena_of by) v seats Any (told_where (is_some o) by) (Line (weigh f x o ++ Prio by reg.weight reg.base ∷ []))
+          EntersNext c e g (arena_of by) v seats Any (told_where (is_some o) by) (Line (weigh f x o ++ Prio by reg.WEIGHT reg.BASE ∷ []))
       entered None d = plain_enters d
       entered (Some by) d = weighed_enters by
 
       enters_by : (o : Option ℕ) (d : Divisor) → EntersNext c e g (arena_of d) v seats Any (told_where (is_none o && tells_weights d) d)
-          (Line ((if is_none o then weigh f x (rounding_of d) else []) ++ Prio d reg.weight reg.base ∷ []))
+          (Line ((if is_none o then weigh f x (rounding_of d) else []) ++ Prio d reg.WEIGHT reg.BASE ∷ []))
       enters_by None divisor.Adams = entered (Some rounding.Adams) divisor.Adams
       enters_by None d = entered (rounding_of d) d
       enters_by (Some slot) d = plain_enters d
@@ -158,11 +158,11 @@ module _ (c : CountingCode) (e : Election) (f : Form) (g : Group) (scope : IsSco
     arena = hamilton_arena prefer v seats (table_of f) (map (place e) g.entries)
 
     module _ (j held : ℕ) (i : Item) (s : State) (others : List Entry) (at : slice_get g.entries j ≡ Some i) (on : OnItem i s) (table : s.table ≡ Some (arenas.table_of arena others)) where
-      rest_enters : s.registers reg.step ≡ remainder v seats j → (prefer && is_leading v seats j) ≡ false → Achieves c e enter_remainder s (EntersSeat arena others j held s) Never
+      rest_enters : s.registers reg.STEP ≡ remainder v seats j → (prefer && is_leading v seats j) ≡ false → Achieves c e enter_remainder s (EntersSeat arena others j held s) Never
       rest_enters step behind =
-          let q : Quotient = record { num = s.registers reg.step + 1; den = 1 } in
+          let q : Quotient = record { num = s.registers reg.STEP + 1; den = 1 } in
           let ranks : q ≡ remainder_rank prefer v seats j = rw behind (ap (λ (n : ℕ). record { num = n + 1; den = 1 }) step) in
-          line_goes (rest_does c e s (arenas.table_of arena others) table (place e i) ((scope.entry j i at).index s on) reg.step refl)
+          line_goes (rest_does c e s (arenas.table_of arena others) table (place e i) ((scope.entry j i at).index s on) reg.STEP refl)
           (line_ends (with_seat arena others j held q (place e i) ranks (sym (mapped_at (place e) g.entries j i at)), refl))
 
       lead_enters : (prefer && is_leading v seats j) ≡ true → Achieves c e (Line (Lead ∷ [])) s (EntersSeat arena others j held s) Never
@@ -190,28 +190,28 @@ module _ (c : CountingCode) (e : Election) (f : Form) (g : Group) (scope : IsSco
       and_right (nat_lt (sum v) (2 * slice_index v j)) (nat_le (2 * whole v seats j) seats) (lt-leb (2 * whole v seats j) seats over_half)
 
   preferred_enters : (j held : ℕ) (i : Item) (s : State) (others : List Entry) → slice_get g.entries j ≡ Some i → AtEntry g v seats j i s → held ≡ whole v seats j
-      → s.registers reg.base ≡ held → held ≤ seats → s.registers reg.step ≡ remainder v seats j → s.table ≡ Some (arenas.table_of (arena true) others)
+      → s.registers reg.BASE ≡ held → held ≤ seats → s.registers reg.STEP ≡ remainder v seats j → s.table ≡ Some (arenas.table_of (arena true) others)
       → Achieves c e enter_preferred s (EntersSeat (arena true) others j held s) Never
   preferred_enters j held i s others at here part base within step table =
-      let weight : ℕ = min (s.registers reg.weight + s.registers reg.weight) most in
-      let seats_held : ℕ = min (s.registers reg.base + s.registers reg.base) most in
-      let t : State = with_register reg.first_passing (s.registers reg.weight) s in
-      let u : State = with_register reg.first_passing weight t in
-      let w : State = with_register reg.second_passing (s.registers reg.base) u in
-      let last : State = with_register reg.second_passing seats_held w in
+      let weight : ℕ = min (s.registers reg.WEIGHT + s.registers reg.WEIGHT) most in
+      let seats_held : ℕ = min (s.registers reg.BASE + s.registers reg.BASE) most in
+      let t : State = with_register reg.FIRST_PASSING (s.registers reg.WEIGHT) s in
+      let u : State = with_register reg.FIRST_PASSING weight t in
+      let w : State = with_register reg.SECOND_PASSING (s.registers reg.BASE) u in
+      let last : State = with_register reg.SECOND_PASSING seats_held w in
       let on : OnItem i last = item_stays i s last refl refl refl here.on_item in
       let low : slice_index v j ≤ MAX_WEIGHT = number_within MAX_WEIGHT v j weights in
       let twice_weight : weight ≡ 2 * slice_index v j = omega (arith, here.weight, low) in
       let twice_whole : seats_held ≡ 2 * whole v seats j = omega (arith, base, part, within, few) in
       then_achieves {Q = λ y. y ≡ last}
-      (line_goes (mov_does c e s reg.first_passing reg.weight)
-      (line_goes (add_does c e t reg.first_passing reg.weight)
-      (line_goes (mov_does c e u reg.second_passing reg.base) (line_goes (add_does c e w reg.second_passing reg.base) (line_ends refl)))))
+      (line_goes (mov_does c e s reg.FIRST_PASSING reg.WEIGHT)
+      (line_goes (add_does c e t reg.FIRST_PASSING reg.WEIGHT)
+      (line_goes (mov_does c e u reg.SECOND_PASSING reg.BASE) (line_goes (add_does c e w reg.SECOND_PASSING reg.BASE) (line_ends refl)))))
       (λ y is. achieves_from is
-      (if_less {r = reg.total} {q = reg.first_passing}
+      (if_less {r = reg.TOTAL} {q = reg.FIRST_PASSING}
       (λ over.
       let most_votes : sum v < weight = omega (arith, over, here.total) in
-      if_less {r = reg.amount} {q = reg.second_passing}
+      if_less {r = reg.AMOUNT} {q = reg.SECOND_PASSING}
       (λ above.
       let many : seats < seats_held = omega (arith, above, here.amount) in
       rest_enters true j held i last others at on table step (served j seats_held twice_whole many))

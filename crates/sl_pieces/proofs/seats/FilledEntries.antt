@@ -18,7 +18,7 @@ use Rattle.sl_machine.specs.State.{State}
 use Rattle.sl_pieces.specs.scopes.Forms.{Form}
 use Rattle.sl_pieces.specs.arenas.Arenas as arenas
 use Rattle.sl_pieces.specs.arenas.Arenas.{Arena, seat_of, next_seat}
-use Rattle.sl_pieces.specs.awards.Registers as reg
+use Rattle.sl_pieces.specs.declared.registers.TheConstants as reg
 use Rattle.sl_pieces.specs.seats.Slots.{Slots}
 use Rattle.sl_pieces.specs.seats.Filling.{IsOfScope, told_of}
 use Rattle.sl_pieces.proofs.seats.Lists.{pieces_more, number_at, numbered_at}
@@ -82,9 +82,9 @@ module _ (g : Group) (j : ℕ) (i : Item) (at : slice_get g.entries j ≡ Some i
 -- the first n entries have their seats, the first k have records of them, and the first m have entered the table
 pub record FirstFilled (e : Election) (x : Slots) (g : Group) (a : Arena) (v : List ℕ) (seats : ℕ) (told : ℕ → Item → List Weight) (before : State) (n k m : ℕ)
     (s : State) : Type 0 where
-  pub amount : s.registers reg.amount ≡ seats
-  pub total : s.registers reg.total ≡ sum v
-  pub left : s.registers reg.left ≡ seats - sum (take n a.ladders.base)
+  pub amount : s.registers reg.AMOUNT ≡ seats
+  pub total : s.registers reg.TOTAL ≡ sum v
+  pub left : s.registers reg.LEFT ≡ seats - sum (take n a.ladders.base)
   pub cells : (q : ℕ) (i : Item) → q < n → slice_get g.entries q ≡ Some i → s.columns x.result (place e i) ≡ slice_index a.ladders.base q
   pub elsewhere : (q : ℕ) → ((j : ℕ) (i : Item) → slice_get g.entries j ≡ Some i → place e i ≢ q) → s.columns x.result q ≡ before.columns x.result q
   pub columns : (slot q : ℕ) → slot ≢ x.result → s.columns slot q ≡ before.columns slot q
@@ -95,9 +95,9 @@ pub record FirstFilled (e : Election) (x : Slots) (g : Group) (a : Arena) (v : L
 
 -- the second state has the seats of the first
 pub record SameSeats (s t : State) : Type 0 where
-  pub amount : t.registers reg.amount ≡ s.registers reg.amount
-  pub total : t.registers reg.total ≡ s.registers reg.total
-  pub left : t.registers reg.left ≡ s.registers reg.left
+  pub amount : t.registers reg.AMOUNT ≡ s.registers reg.AMOUNT
+  pub total : t.registers reg.TOTAL ≡ s.registers reg.TOTAL
+  pub left : t.registers reg.LEFT ≡ s.registers reg.LEFT
   pub columns : (slot q : ℕ) → t.columns slot q ≡ s.columns slot q
   pub placed : (winner : ℕ) → t.placed winner ≡ s.placed winner
 

@@ -28,7 +28,7 @@ use Rattle.sl_pieces.specs.scopes.Walks.{bare}
 use Rattle.sl_pieces.proofs.scopes.Staying.{item_stays, Stays, item_kept}
 use Rattle.sl_pieces.specs.arenas.Arenas as arenas
 use Rattle.sl_pieces.specs.arenas.Arenas.{Arena}
-use Rattle.sl_pieces.specs.awards.Registers as reg
+use Rattle.sl_pieces.specs.declared.registers.TheConstants as reg
 use Rattle.sl_pieces.specs.seats.Slots.{Slots, HasSlots, HasCells, HasMinima}
 use Rattle.sl_pieces.specs.seats.Trees.{fill_entry, most_seats}
 use Rattle.sl_pieces.specs.seats.Filling.{AtEntry, FindsBase, EntersNext, IsOfScope}
@@ -70,11 +70,11 @@ module _ {c : CountingCode} {e : Election} {f : Form} {x : Slots} {name : List �
   record Stands (n k l : ℕ) (s : State) : Type 0 where
     at_entry : AtEntry g v seats j i s
     filled : FirstFilled e x g a v seats told before n k l s
-    base_is : s.registers reg.base ≡ slice_index a.ladders.base j
-    rest : Rest j (s.registers reg.step)
+    base_is : s.registers reg.BASE ≡ slice_index a.ladders.base j
+    rest : Rest j (s.registers reg.STEP)
 
-  at_entry_as : (s t : State) → AtEntry g v seats j i s → OnItem i t → t.registers reg.amount ≡ s.registers reg.amount → t.registers reg.total ≡ s.registers reg.total
-      → t.registers reg.weight ≡ s.registers reg.weight → AtEntry g v seats j i t
+  at_entry_as : (s t : State) → AtEntry g v seats j i s → OnItem i t → t.registers reg.AMOUNT ≡ s.registers reg.AMOUNT → t.registers reg.TOTAL ≡ s.registers reg.TOTAL
+      → t.registers reg.WEIGHT ≡ s.registers reg.WEIGHT → AtEntry g v seats j i t
   at_entry_as s t h on amount total weight = record {
     on_item = on;
     on_scope = entry.scope t on;
@@ -85,12 +85,12 @@ module _ {c : CountingCode} {e : Election} {f : Form} {x : Slots} {name : List �
 
   -- its votes
   weighed : (s : State) → OnItem i s → FirstFilled e x g a v seats told before j j j (bare s)
-      → Achieves c e (Line (Get reg.weight x.votes ∷ [])) s (λ t. AtEntry g v seats j i t × FirstFilled e x g a v seats told before j j j t) Never
+      → Achieves c e (Line (Get reg.WEIGHT x.votes ∷ [])) s (λ t. AtEntry g v seats j i t × FirstFilled e x g a v seats told before j j j t) Never
   weighed s on h =
       let p : ℕ = place e i in
-      let t : State = with_register reg.weight (s.columns x.votes p) s in
+      let t : State = with_register reg.WEIGHT (s.columns x.votes p) s in
       let here : OnItem i t = item_stays i s t refl refl refl on in
-      line_goes (get_does c e s x.votes (votes_of f) given.slots.votes reg.weight p (entry.cell s on))
+      line_goes (get_does c e s x.votes (votes_of f) given.slots.votes reg.WEIGHT p (entry.cell s on))
       (line_ends (
         record { on_item = here; on_scope = entry.scope t here; amount = h.amount; total = h.total; weight = h.columns x.votes p given.slots.not_votes ∙ given.votes.at j i at },
         filled_as j j t h (record { amount = refl; total = refl; left = refl; columns = λ slot q. refl; placed = λ winner. refl }) h.table h.steps h.weights,
@@ -105,15 +105,15 @@ module _ {c : CountingCode} {e : Election} {f : Form} {x : Slots} {name : List �
       (λ t r.
       let kept : KeepsRest base s t = r.1 in
       let stays : Stays base = record { party = finds.keeps_party; land = finds.keeps_land; win = finds.keeps_win } in
-      let amount : t.registers reg.amount ≡ s.registers reg.amount = kept.registers reg.amount finds.keeps_amount in
-      let total : t.registers reg.total ≡ s.registers reg.total = kept.registers reg.total finds.keeps_total in
+      let amount : t.registers reg.AMOUNT ≡ s.registers reg.AMOUNT = kept.registers reg.AMOUNT finds.keeps_amount in
+      let total : t.registers reg.TOTAL ≡ s.registers reg.TOTAL = kept.registers reg.TOTAL finds.keeps_total in
       record {
-        at_entry = at_entry_as s t here (item_kept base stays s t kept i here.on_item) amount total (kept.registers reg.weight finds.keeps_weight);
+        at_entry = at_entry_as s t here (item_kept base stays s t kept i here.on_item) amount total (kept.registers reg.WEIGHT finds.keeps_weight);
         filled = filled_as j j t h
             (record {
               amount = amount;
               total = total;
-              left = kept.registers reg.left finds.keeps_left;
+              left = kept.registers reg.LEFT finds.keeps_left;
               columns = λ slot q. kept.columns slot (finds.keeps_slots slot) q;
               placed = kept.placed finds.seats_nobody;
             })
@@ -125,38 +125,38 @@ module _ {c : CountingCode} {e : Election} {f : Form} {x : Slots} {name : List �
 
   -- they are written down
   stored_cells : (s : State) → ((q : ℕ) (y : Item) → q < j → slice_get g.entries q ≡ Some y → s.columns x.result (place e y) ≡ slice_index a.ladders.base q)
-      → s.registers reg.base ≡ slice_index a.ladders.base j → (q : ℕ) (y : Item) → q < j + 1 → slice_get g.entries q ≡ Some y
-      → (with_cell x.result (place e i) (s.registers reg.base) s).columns x.result (place e y) ≡ slice_index a.ladders.base q
+      → s.registers reg.BASE ≡ slice_index a.ladders.base j → (q : ℕ) (y : Item) → q < j + 1 → slice_get g.entries q ≡ Some y
+      → (with_cell x.result (place e i) (s.registers reg.BASE) s).columns x.result (place e y) ≡ slice_index a.ladders.base q
   stored_cells s before_it is q y less there =
-      let u : State = with_cell x.result (place e i) (s.registers reg.base) s in
+      let u : State = with_cell x.result (place e i) (s.registers reg.BASE) s in
       elim (cases_lt q j) [
         | inl earlier ↦
             let rises : place e y < place e i = rises_far (place e) g.entries given.scope.increasing q j y i there at earlier in
-            cell_other_place s x.result (place e i) (s.registers reg.base) (place e y) (λ same. omega (arith, rises, same)) ∙ before_it q y earlier there
+            cell_other_place s x.result (place e i) (s.registers reg.BASE) (place e y) (λ same. omega (arith, rises, same)) ∙ before_it q y earlier there
         | inr late ↦
             let now : q ≡ j = omega (arith, less, late) in
             let same : y ≡ i = same_Some y i (sym there ∙ ap (λ r. slice_get g.entries r) now ∙ at) in
-            ap (λ z. u.columns x.result (place e z)) same ∙ cell_same s x.result (place e i) (s.registers reg.base) ∙ is ∙ ap (slice_index a.ladders.base) (sym now)
+            ap (λ z. u.columns x.result (place e z)) same ∙ cell_same s x.result (place e i) (s.registers reg.BASE) ∙ is ∙ ap (slice_index a.ladders.base) (sym now)
       ]
 
   stored : (s : State) → Stands j j j s
-      → Achieves c e (Line (Store x.result reg.base ∷ (Sub reg.left reg.base ∷ (Set reg.number 0 ∷ (Mov reg.turns reg.base ∷ []))))) s
-      (λ t. Stands (j + 1) j j t × (t.registers reg.number ≡ 0) × (t.registers reg.turns ≡ slice_index a.ladders.base j)) Never
+      → Achieves c e (Line (Store x.result reg.BASE ∷ (Sub reg.LEFT reg.BASE ∷ (Set reg.NUMBER 0 ∷ (Mov reg.TURNS reg.BASE ∷ []))))) s
+      (λ t. Stands (j + 1) j j t × (t.registers reg.NUMBER ≡ 0) × (t.registers reg.TURNS ≡ slice_index a.ladders.base j)) Never
   stored s h =
       let p : ℕ = place e i in
-      let b : ℕ = s.registers reg.base in
+      let b : ℕ = s.registers reg.BASE in
       let first : State = with_cell x.result p b s in
-      let second : State = with_register reg.left (s.registers reg.left - b) first in
-      let third : State = with_register reg.number 0 second in
-      let last : State = with_register reg.turns b third in
+      let second : State = with_register reg.LEFT (s.registers reg.LEFT - b) first in
+      let third : State = with_register reg.NUMBER 0 second in
+      let last : State = with_register reg.TURNS b third in
       let is : b ≡ slice_index a.ladders.base j = h.base_is in
-      let so_far : s.registers reg.left ≡ seats - sum (take j a.ladders.base) = h.filled.left in
+      let so_far : s.registers reg.LEFT ≡ seats - sum (take j a.ladders.base) = h.filled.left in
       let sums = sum_so_far a.ladders.base j base_within in
       let next : sum (take (j + 1) a.ladders.base) ≡ sum (take j a.ladders.base) + slice_index a.ladders.base j = sums.0 in
-      line_goes (store_does c e s x.result (votes_of f) given.slots.result reg.base p (entry.cell s h.at_entry.on_item))
-      (line_goes (sub_does c e first reg.left reg.base)
-      (line_goes (set_does c e second reg.number 0)
-      (line_goes (mov_does c e third reg.turns reg.base)
+      line_goes (store_does c e s x.result (votes_of f) given.slots.result reg.BASE p (entry.cell s h.at_entry.on_item))
+      (line_goes (sub_does c e first reg.LEFT reg.BASE)
+      (line_goes (set_does c e second reg.NUMBER 0)
+      (line_goes (mov_does c e third reg.TURNS reg.BASE)
       (line_ends (
         record {
           at_entry = at_entry_as s last h.at_entry (item_stays i s last refl refl refl h.at_entry.on_item) refl refl refl;
@@ -180,7 +180,7 @@ module _ {c : CountingCode} {e : Election} {f : Form} {x : Slots} {name : List �
       )))))
 
   -- each of them is recorded
-  listed : (s : State) → Stands (j + 1) j j s → s.registers reg.number ≡ 0 → s.registers reg.turns ≡ slice_index a.ladders.base j
+  listed : (s : State) → Stands (j + 1) j j s → s.registers reg.NUMBER ≡ 0 → s.registers reg.TURNS ≡ slice_index a.ladders.base j
       → Achieves c e (records_all x.stage (kind_of f)) s (Stands (j + 1) (j + 1) j) Never
   listed s h number turns =
       let n : ℕ = slice_index a.ladders.base j in
@@ -195,18 +195,18 @@ module _ {c : CountingCode} {e : Election} {f : Form} {x : Slots} {name : List �
       n s (omega (arith, seats_within, few, most)) turns number h.filled.table h.at_entry.on_item)
       (λ t r.
       let kept : KeepsRest tree s t = r.1 in
-      let amount : t.registers reg.amount ≡ s.registers reg.amount = kept.registers reg.amount refl in
-      let total : t.registers reg.total ≡ s.registers reg.total = kept.registers reg.total refl in
+      let amount : t.registers reg.AMOUNT ≡ s.registers reg.AMOUNT = kept.registers reg.AMOUNT refl in
+      let total : t.registers reg.TOTAL ≡ s.registers reg.TOTAL = kept.registers reg.TOTAL refl in
       record {
-        at_entry = at_entry_as s t h.at_entry (item_kept tree (record { party = refl; land = refl; win = refl }) s t kept i h.at_entry.on_item) amount total (kept.registers reg.weight refl);
+        at_entry = at_entry_as s t h.at_entry (item_kept tree (record { party = refl; land = refl; win = refl }) s t kept i h.at_entry.on_item) amount total (kept.registers reg.WEIGHT refl);
         filled = filled_as (j + 1) j t h.filled
-            (record { amount = amount; total = total; left = kept.registers reg.left refl; columns = λ slot q. kept.columns slot refl q; placed = kept.placed refl })
+            (record { amount = amount; total = total; left = kept.registers reg.LEFT refl; columns = λ slot q. kept.columns slot refl q; placed = kept.placed refl })
             (kept.table refl ∙ h.filled.table)
             (r.0 ∙ row_more before.steps (first_given x.stage g a j) (first_given x.stage g a (j + 1)) (map (given_seat x.stage g.scope i) (range_with_len 0 n)) s.steps h.filled.steps
             (given_more g j i at x.stage a))
             (kept.weights_kept refl ∙ h.filled.weights);
-        base_is = kept.registers reg.base refl ∙ h.base_is;
-        rest = subst (Rest j) (sym (kept.registers reg.step refl)) h.rest;
+        base_is = kept.registers reg.BASE refl ∙ h.base_is;
+        rest = subst (Rest j) (sym (kept.registers reg.STEP refl)) h.rest;
       })
       (λ end never. never)
 
@@ -219,9 +219,9 @@ module _ {c : CountingCode} {e : Election} {f : Form} {x : Slots} {name : List �
       let kept : KeepsRest enter s t = r.1 in
       filled_as (j + 1) (j + 1) (bare t) h.filled
       (record {
-        amount = kept.registers reg.amount enters.keeps_amount;
-        total = kept.registers reg.total enters.keeps_total;
-        left = kept.registers reg.left enters.keeps_left;
+        amount = kept.registers reg.AMOUNT enters.keeps_amount;
+        total = kept.registers reg.TOTAL enters.keeps_total;
+        left = kept.registers reg.LEFT enters.keeps_left;
         columns = λ slot q. kept.columns slot (enters.keeps_slots slot) q;
         placed = kept.placed enters.seats_nobody;
       })
@@ -245,7 +245,7 @@ module _ {c : CountingCode} {e : Election} {f : Form} {x : Slots} {name : List �
       then_achieves (based t w.0 w.1) (λ u b.
       then_achieves (stored u b) (λ y z.
       then_achieves (listed y z.0 z.1 z.2) (λ last r.
-      let weight : last.registers reg.weight ≡ slice_index v j = r.at_entry.weight in
+      let weight : last.registers reg.WEIGHT ≡ slice_index v j = r.at_entry.weight in
       if_zero
       (λ zero_is. line_ends (skipped last r (sym weight ∙ zero_is)))
       (λ n is. entered last r (omega (arith, weight, is)))))))

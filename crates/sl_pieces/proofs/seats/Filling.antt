@@ -32,7 +32,7 @@ use Rattle.sl_pieces.proofs.scopes.Scopes.{scopes_hold}
 use Rattle.sl_pieces.proofs.scopes.Staying.{scope_stays, Stays, entries_visited}
 use Rattle.sl_pieces.specs.arenas.Arenas as arenas
 use Rattle.sl_pieces.specs.arenas.Arenas.{Arena, next_seat}
-use Rattle.sl_pieces.specs.awards.Registers as reg
+use Rattle.sl_pieces.specs.declared.registers.TheConstants as reg
 use Rattle.sl_pieces.specs.seats.Slots.{Slots}
 use Rattle.sl_pieces.specs.seats.Trees.{fill_entry}
 use Rattle.sl_pieces.specs.seats.Seated.{steps_upto}
@@ -75,16 +75,16 @@ module _ {c : CountingCode} {e : Election} {f : Form} {x : Slots} {name : List �
   visits : Visits c e (fill_entry f x base enter) g.entries OnItem (λ j. FirstFilled e x g a v seats told before j j j) Never
   visits = entries_visited stays (λ j i s at on h. entry_filled given j i at s on h)
 
-  begins : OnScope g.scope before → before.registers reg.amount ≡ seats → before.registers reg.total ≡ sum v
-      → Achieves c e (Line (Table (table_of f) by ∷ (Mov reg.left reg.amount ∷ []))) before (λ t. OnScope g.scope t × FirstFilled e x g a v seats told before 0 0 0 (bare t)) Never
+  begins : OnScope g.scope before → before.registers reg.AMOUNT ≡ seats → before.registers reg.TOTAL ≡ sum v
+      → Achieves c e (Line (Table (table_of f) by ∷ (Mov reg.LEFT reg.AMOUNT ∷ []))) before (λ t. OnScope g.scope t × FirstFilled e x g a v seats told before 0 0 0 (bare t)) Never
   begins on amount total =
       let empty : PriorityTable = record { entries = table_of f; ranking = by; contents = [] } in
       let first : State = with_table empty before in
-      let last : State = with_register reg.left (before.registers reg.amount) first in
+      let last : State = with_register reg.LEFT (before.registers reg.AMOUNT) first in
       let all : seats ≡ seats - sum [] = omega arith in
       let same : empty ≡ arenas.table_of a (first_waiting a 0) = ap₂ (λ k r. record { entries = k; ranking = r; contents = [] }) (sym given.arena.entries) (sym given.arena.ranking) in
       line_goes (table_does c e before (table_of f) by)
-      (line_goes (mov_does c e first reg.left reg.amount)
+      (line_goes (mov_does c e first reg.LEFT reg.AMOUNT)
       (line_ends (
         scope_stays g.scope before last refl refl on,
         record {

@@ -5,8 +5,7 @@ use Rattle.std.specs.List.Sorted.{IsStrictlyIncreasing}
 use Rattle.std.proofs.lemmas.List.{length-map}
 use Rattle.std.proofs.lemmas.List.Sums.{sum_by-le}
 use Rattle.std.proofs.lemmas.Option.{slice_get_cases}
-use Rattle.sl_ratio.specs.declared.limits.TheConstants.{MAX_WEIGHT}
-use Rattle.sl_stages.specs.declared.limits.TheConstants.{MAX_LANDS, MAX_PARTIES}
+use Rattle.sl_ratio.specs.declared.limits.TheConstants.{MAX_WEIGHT, MAX_LANDS, MAX_PARTIES}
 use Rattle.sl_stages.specs.returns.Election.{Election, IsElection, lands_of, parties_of}
 use Rattle.sl_stages.specs.meaning.Scopes.{Group, place}
 use Rattle.sl_machine.specs.Places.{cells_of}

@@ -23,7 +23,7 @@ use Rattle.sl_plans.proofs.Rules.{line_ends, line_goes}
 use Rattle.sl_plans.proofs.KeepingRules.{achieves_kept, times_keeping}
 use Rattle.sl_pieces.specs.scopes.Forms.{OnItem}
 use Rattle.sl_pieces.proofs.scopes.Staying.{item_stays}
-use Rattle.sl_pieces.specs.awards.Registers as reg
+use Rattle.sl_pieces.specs.declared.registers.TheConstants as reg
 use Rattle.sl_pieces.specs.awards.Trees.{count_up}
 use Rattle.sl_pieces.specs.seats.Trees.{most_seats}
 use Rattle.sl_pieces.proofs.seats.Lists.{row_more}
@@ -34,10 +34,10 @@ given_seat stage on i a = record { stage = stage; scope = on; entry = i; n = a +
 
 -- one more is recorded, and as many as the register of turns says
 abbrev pub records_one : ℕ → ScopeKind → Tree
-records_one stage k = Line (count_up reg.number ++ Given stage k reg.number ∷ [])
+records_one stage k = Line (count_up reg.NUMBER ++ Given stage k reg.NUMBER ∷ [])
 
 abbrev pub records_all : ℕ → ScopeKind → Tree
-records_all stage k = Times reg.turns (bound.AtMost most_seats) (records_one stage k)
+records_all stage k = Times reg.TURNS (bound.AtMost most_seats) (records_one stage k)
 
 -- with the cursors on an entry of the table, in a scope of a stage
 module _ (c : CountingCode) (e : Election) (stage : ℕ) (k : ScopeKind) (on : Scope) (i : Item) (t : PriorityTable) (p : ℕ) (numbered : stage_of c.stages stage ≡ Some stage)
@@ -45,7 +45,7 @@ module _ (c : CountingCode) (e : Election) (stage : ℕ) (k : ScopeKind) (on : S
   -- w of n seats are still to be recorded
   record Recorded (steps : List SeatStep) (n w : ℕ) (s : State) : Type 0 where
     within : w ≤ n
-    number : s.registers reg.number ≡ n - w
+    number : s.registers reg.NUMBER ≡ n - w
     steps_are : s.steps ≡ steps ++ map (given_seat stage on i) (range_with_len 0 (n - w))
     table : s.table ≡ Some t
     on_item : OnItem i s
@@ -60,21 +60,21 @@ module _ (c : CountingCode) (e : Election) (stage : ℕ) (k : ScopeKind) (on : S
       (map-range_with_len_more f 0 a a (omega arith) ∙ ap (λ x. map f (range_with_len 0 a) ++ x ∷ []) (sym same))
 
   one_recorded : (steps : List SeatStep) (n w : ℕ) (s : State) → n ≤ most_seats → Recorded steps n (suc w) s
-      → Achieves c e (records_one stage k) (with_register reg.turns w (with_register ones 1 s)) (Recorded steps n w) Never
+      → Achieves c e (records_one stage k) (with_register reg.TURNS w (with_register ones 1 s)) (Recorded steps n w) Never
   one_recorded steps n w s few h =
-      let first : State = with_register reg.turns w (with_register ones 1 s) in
+      let first : State = with_register reg.TURNS w (with_register ones 1 s) in
       let second : State = with_register ones 1 first in
-      let x : ℕ = min (s.registers reg.number + 1) most in
-      let third : State = with_register reg.number x second in
+      let x : ℕ = min (s.registers reg.NUMBER + 1) most in
+      let third : State = with_register reg.NUMBER x second in
       let here : OnItem i third = item_stays i s third refl refl refl h.on_item in
       let last : State = with_step (record { stage = stage; scope = on; entry = item_of e t.entries p; n = x; step = 0; mark = mark.Given }) third in
       let within : suc w ≤ n = h.within in
-      let number : s.registers reg.number ≡ n - suc w = h.number in
+      let number : s.registers reg.NUMBER ≡ n - suc w = h.number in
       let next : n - suc w + 1 ≡ n - w = omega (arith, within) in
       let is : x ≡ n - suc w + 1 = omega (arith, number, within, few) in
       line_goes (set_does c e first ones 1)
-      (line_goes (add_does c e second reg.number ones)
-      (line_goes (given_does c e third stage k stage on numbered (scope third here) t p h.table (index third here) reg.number)
+      (line_goes (add_does c e second reg.NUMBER ones)
+      (line_goes (given_does c e third stage k stage on numbered (scope third here) t p h.table (index third here) reg.NUMBER)
       (line_ends (record {
         within = omega (arith, within);
         number = is ∙ next;
@@ -83,7 +83,7 @@ module _ (c : CountingCode) (e : Election) (stage : ℕ) (k : ScopeKind) (on : S
         on_item = item_stays i s last refl refl refl h.on_item;
       }))))
 
-  pub seats_recorded : (n : ℕ) (s : State) → n ≤ most_seats → s.registers reg.turns ≡ n → s.registers reg.number ≡ 0 → s.table ≡ Some t → OnItem i s
+  pub seats_recorded : (n : ℕ) (s : State) → n ≤ most_seats → s.registers reg.TURNS ≡ n → s.registers reg.NUMBER ≡ 0 → s.table ≡ Some t → OnItem i s
       → Achieves c e (records_all stage k) s (λ u. (u.steps ≡ s.steps ++ map (given_seat stage on i) (range_with_len 0 n)) × KeepsRest (records_all stage k) s u) Never
   seats_recorded n s few turns number table here =
       let none : n - n ≡ 0 = omega arith in

@@ -32,7 +32,7 @@ use Rattle.sl_pieces.specs.scopes.Scopes.{IsScope}
 use Rattle.sl_pieces.proofs.scopes.Forms.{each_entry}
 use Rattle.sl_pieces.proofs.scopes.Scopes.{scopes_hold}
 use Rattle.sl_pieces.proofs.scopes.Staying.{scope_stays, item_stays, entries_visited}
-use Rattle.sl_pieces.specs.awards.Registers as reg
+use Rattle.sl_pieces.specs.declared.registers.TheConstants as reg
 use Rattle.sl_pieces.specs.seats.Slots.{Slots, HasSlots, HasCells}
 use Rattle.sl_pieces.specs.seats.Trees.{faulty, nothing, refuse_entry}
 use Rattle.sl_pieces.specs.seats.Summing.{StandsBy, EndsDeprived, MajorityIsKept}
@@ -103,7 +103,7 @@ module _ (m : Majority) (v : List ℕ) (seats : ℕ) (s : List ℕ) where
 
 -- the plan of an entry with more than half of the weights
 abbrev held_enough : Form → Slots → Tree
-held_enough f x = Then (Line (op.Get reg.held x.result ∷ (op.Add reg.held reg.held ∷ []))) (If (test.Less reg.amount reg.held) nothing (faulty f x end.Majority))
+held_enough f x = Then (Line (op.Get reg.HELD x.result ∷ (op.Add reg.HELD reg.HELD ∷ []))) (If (test.Less reg.AMOUNT reg.HELD) nothing (faulty f x end.Majority))
 
 module _ (c : CountingCode) (e : Election) (f : Form) (x : Slots) (name : List ℕ) (g : Group) (v : List ℕ) (seats : ℕ) (m : Majority) (s : List ℕ) (state : State)
     (slots : HasSlots c f x name) (scope : IsScope e f g) (weights : HasCells e g.entries (state.columns x.votes) v) (seated : HasCells e g.entries (state.columns x.result) s)
@@ -111,8 +111,8 @@ module _ (c : CountingCode) (e : Election) (f : Form) (x : Slots) (name : List �
   -- none of the first j entries is deprived
   record Allowed (j : ℕ) (t : State) : Type 0 where
     columns : t.columns ≡ state.columns
-    amount : t.registers reg.amount ≡ seats
-    total : t.registers reg.total ≡ sum v
+    amount : t.registers reg.AMOUNT ≡ seats
+    total : t.registers reg.TOTAL ≡ sum v
     none : first_deprived v seats s j ≡ false
 
   lengths : length s ≡ length v
@@ -124,17 +124,17 @@ module _ (c : CountingCode) (e : Election) (f : Form) (x : Slots) (name : List �
   one_major j i t at on h major =
       let q : ℕ = place e i in
       let k : ℕ = t.columns x.result q in
-      let u : State = with_register reg.held k t in
-      let w : State = with_register reg.held (min (k + k) most) u in
+      let u : State = with_register reg.HELD k t in
+      let w : State = with_register reg.HELD (min (k + k) most) u in
       let long : length v ≡ length g.entries = weights.one_each in
       let less : j < length v = omega (arith, long, slice_get_within g.entries j i at) in
       let held : k ≡ slice_index s j = ap (λ (r : ℕ → ℕ → ℕ). r x.result q) h.columns ∙ seated.at j i at in
       let part : slice_index s j ≤ sum s = get_or-le-sum_by (λ y. y) s j 0 (omega (arith, less, lengths)) in
-      let amount : t.registers reg.amount ≡ seats = h.amount in
+      let amount : t.registers reg.AMOUNT ≡ seats = h.amount in
       let big : 2 * MAX_SEATS < most = omega arith in
       let more : nat_lt (sum v) (2 * slice_index v j) ≡ true = lt-ltb (sum v) (2 * slice_index v j) major in
       then_achieves {Q = λ y. y ≡ w}
-      (line_goes (get_does c e t x.result _ slots.result reg.held q ((scope.entry j i at).cell t on)) (line_goes (add_does c e u reg.held reg.held) (line_ends refl)))
+      (line_goes (get_does c e t x.result _ slots.result reg.HELD q ((scope.entry j i at).cell t on)) (line_goes (add_does c e u reg.HELD reg.HELD) (line_ends refl)))
       (λ y same. achieves_from same
       (if_less
       (λ enough. line_ends (record {
@@ -156,16 +156,16 @@ module _ (c : CountingCode) (e : Election) (f : Form) (x : Slots) (name : List �
   one_entry j i t at on h =
       let q : ℕ = place e i in
       let n : ℕ = t.columns x.votes q in
-      let u : State = with_register reg.weight n t in
-      let w : State = with_register reg.weight (min (n + n) most) u in
+      let u : State = with_register reg.WEIGHT n t in
+      let w : State = with_register reg.WEIGHT (min (n + n) most) u in
       let long : length v ≡ length g.entries = weights.one_each in
       let less : j < length v = omega (arith, long, slice_get_within g.entries j i at) in
       let weight : n ≡ slice_index v j = ap (λ (r : ℕ → ℕ → ℕ). r x.votes q) h.columns ∙ weights.at j i at in
       let light : slice_index v j ≤ MAX_WEIGHT = All-get_or (λ y. y ≤ MAX_WEIGHT) v j 0 less small in
-      let total : t.registers reg.total ≡ sum v = h.total in
+      let total : t.registers reg.TOTAL ≡ sum v = h.total in
       let big : 2 * MAX_WEIGHT ≤ most = omega arith in
       then_achieves {Q = λ y. y ≡ w}
-      (line_goes (get_does c e t x.votes _ slots.votes reg.weight q ((scope.entry j i at).cell t on)) (line_goes (add_does c e u reg.weight reg.weight) (line_ends refl)))
+      (line_goes (get_does c e t x.votes _ slots.votes reg.WEIGHT q ((scope.entry j i at).cell t on)) (line_goes (add_does c e u reg.WEIGHT reg.WEIGHT) (line_ends refl)))
       (λ y same. achieves_from same
       (if_less
       (λ major. one_major j i w at (item_stays i t w refl refl refl on) (record { columns = h.columns; amount = h.amount; total = h.total; none = h.none })
@@ -191,7 +191,7 @@ majority_is_kept c e f x name k g a v seats told majority before s state at slot
           subst (λ (tree : Tree). Achieves c e tree state Q E) (sym (cond-true (is_refuse majority) checked nothing is))
           (if_zero
           (λ zero. line_ends (record { seated = h; allowed = allowed_empty majority v seats s (sym h.amount ∙ zero) }))
-          (λ w some. let amount : state.registers reg.amount ≡ seats = h.amount in course is (omega (arith, some, amount))))
+          (λ w some. let amount : state.registers reg.AMOUNT ≡ seats = h.amount in course is (omega (arith, some, amount))))
       | inr other ↦
           subst (λ (tree : Tree). Achieves c e tree state Q E) (sym (cond-false (is_refuse majority) checked nothing other))
           (line_ends (record { seated = h; allowed = allowed_other majority v seats s other }))
@@ -207,7 +207,7 @@ majority_is_kept c e f x name k g a v seats told majority before s state at slot
     loop = entries_plan f (refuse_entry f x)
 
     checked : Tree
-    checked = If (test.Zero reg.amount) nothing loop
+    checked = If (test.Zero reg.AMOUNT) nothing loop
 
     scope : IsScope e f g
     scope = scopes_hold e f k g at

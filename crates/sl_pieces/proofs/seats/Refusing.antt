@@ -25,7 +25,7 @@ use Rattle.sl_pieces.specs.scopes.Forms.{Form, kind_of, OnScope}
 use Rattle.sl_pieces.specs.scopes.Scopes.{IsScope}
 use Rattle.sl_pieces.proofs.scopes.Scopes.{scopes_hold}
 use Rattle.sl_pieces.proofs.scopes.Staying.{scope_stays}
-use Rattle.sl_pieces.specs.awards.Registers as reg
+use Rattle.sl_pieces.specs.declared.registers.TheConstants as reg
 use Rattle.sl_pieces.specs.seats.Slots.{Slots, HasSlots}
 use Rattle.sl_pieces.specs.seats.Trees.{faulty, not_over, nothing}
 use Rattle.sl_pieces.specs.seats.Summing.{GoesOn, EndsRefused, SeatsAreRefused}
@@ -39,14 +39,14 @@ module _ {c : CountingCode} {e : Election} {f : Form} {x : Slots} {name : List �
   faulty_ends s why on h = stop_achieves (fault_ends c e s x.stage (kind_of f) x.stage g.scope slots.stage (scope.kind s on) why) h
 
   -- it does where the register holds more than the number, and else only a register in passing was written
-  pub not_over_achieves : {Q : State → Type 0} {E : End → Type 0} (s : State) (r n : ℕ) (why : EndFault) → r ≢ reg.first_passing → OnScope g.scope s
-      → (n < s.registers r → E (Faulted (fault_at x.stage g.scope (effects.kind_of why)))) → (s.registers r ≤ n → Q (with_register reg.first_passing n s))
+  pub not_over_achieves : {Q : State → Type 0} {E : End → Type 0} (s : State) (r n : ℕ) (why : EndFault) → r ≢ reg.FIRST_PASSING → OnScope g.scope s
+      → (n < s.registers r → E (Faulted (fault_at x.stage g.scope (effects.kind_of why)))) → (s.registers r ≤ n → Q (with_register reg.FIRST_PASSING n s))
       → Achieves c e (not_over f x r n why) s Q E
   not_over_achieves s r n why other on over within =
-      let t : State = with_register reg.first_passing n s in
-      let same : t.registers r ≡ s.registers r = register_other s reg.first_passing n r other in
-      let limit : t.registers reg.first_passing ≡ n = register_same s reg.first_passing n in
-      then_achieves {Q = λ u. u ≡ t} (line_goes (set_does c e s reg.first_passing n) (line_ends refl))
+      let t : State = with_register reg.FIRST_PASSING n s in
+      let same : t.registers r ≡ s.registers r = register_other s reg.FIRST_PASSING n r other in
+      let limit : t.registers reg.FIRST_PASSING ≡ n = register_same s reg.FIRST_PASSING n in
+      then_achieves {Q = λ u. u ≡ t} (line_goes (set_does c e s reg.FIRST_PASSING n) (line_ends refl))
       (λ u is. achieves_from is
       (if_less
       (λ more. faulty_ends t why (scope_stays g.scope s t refl refl on) (over (omega (arith, more, same, limit))))
@@ -81,7 +81,7 @@ seats_are_refused c e f x name k g v m seats state at slots on small amount tota
     let Q : State → Type 0 = GoesOn g v m seats state in
     let E = EndsRefused x g v m seats in
     let scope : IsScope e f g = scopes_hold e f k g at in
-    let rest : Tree = If (test.Zero reg.total) (If (test.Less reg.needed reg.amount) (faulty f x end.NoList) nothing) nothing in
+    let rest : Tree = If (test.Zero reg.TOTAL) (If (test.Less reg.NEEDED reg.AMOUNT) (faulty f x end.NoList) nothing) nothing in
     then_achieves {Q = λ t. (state ≡ t) × (sum m ≤ seats)}
     (if_less
     (λ less. faulty_ends slots scope state end.Short on

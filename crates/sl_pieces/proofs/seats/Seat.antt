@@ -24,7 +24,7 @@ use Rattle.sl_pieces.specs.scopes.Forms.{Form, OnItem}
 use Rattle.sl_pieces.proofs.scopes.Staying.{scope_stays}
 use Rattle.sl_pieces.specs.arenas.Arenas.{Arena, HasWaiting, table_of, seat_taken}
 use Rattle.sl_pieces.specs.arenas.Laws.{SeatTaken}
-use Rattle.sl_pieces.specs.awards.Registers as reg
+use Rattle.sl_pieces.specs.declared.registers.TheConstants as reg
 use Rattle.sl_pieces.specs.awards.Batches.{Gets, GivesSeats, IsBlind}
 use Rattle.sl_pieces.specs.awards.Awards.{IsCounted, FitsAwards}
 use Rattle.sl_pieces.specs.seats.Slots.{Slots, HasSlots, HasCells}
@@ -40,15 +40,15 @@ use Rattle.sl_pieces.proofs.seats.Steps.{one_more, others_same, above_base, awar
 pub record ReEnters (c : CountingCode) (e : Election) (x : Slots) (g : Group) (a : Arena) (v : List ℕ) (again : Tree) : Type 0 where
   pub enters : (t u : List ℕ) (j : ℕ) (i : Item) (s : State) (taken : SeatTaken a j t u) → slice_get g.entries j ≡ Some i → Has a.ladders j (slice_index t j) →
       slice_index a.ladders.base j ≤ slice_index t j → slice_index u j ≡ slice_index t j + 1 → slice_index u j ≤ MAX_SEATS → OnItem i s →
-      s.registers reg.held ≡ slice_index u j → HasCells e g.entries (s.columns x.votes) v → s.table ≡ Some (table_of a taken.others) →
+      s.registers reg.HELD ≡ slice_index u j → HasCells e g.entries (s.columns x.votes) v → s.table ≡ Some (table_of a taken.others) →
       Achieves c e again s (HasWaiting a u) Never
-  pub keeps_amount : may_write_register again reg.amount ≡ false
-  pub keeps_total : may_write_register again reg.total ≡ false
-  pub keeps_left : may_write_register again reg.left ≡ false
-  pub keeps_all_left : may_write_register again reg.all_left ≡ false
-  pub keeps_turns : may_write_register again reg.turns ≡ false
-  pub keeps_batch : may_write_register again reg.in_batch ≡ false
-  pub keeps_step : may_write_register again reg.step ≡ false
+  pub keeps_amount : may_write_register again reg.AMOUNT ≡ false
+  pub keeps_total : may_write_register again reg.TOTAL ≡ false
+  pub keeps_left : may_write_register again reg.LEFT ≡ false
+  pub keeps_all_left : may_write_register again reg.ALL_LEFT ≡ false
+  pub keeps_turns : may_write_register again reg.TURNS ≡ false
+  pub keeps_batch : may_write_register again reg.IN_BATCH ≡ false
+  pub keeps_step : may_write_register again reg.STEP ≡ false
   pub keeps_slots : (slot : ℕ) → may_write_slot again slot ≡ false
   pub keeps_party : may_move again cursor.Party ≡ false
   pub keeps_land : may_move again cursor.Land ≡ false
@@ -64,15 +64,15 @@ module _ (c : CountingCode) (e : Election) (f : Form) (x : Slots) (name : List �
   seated_still again re u s t kept seated =
       let leaves : LeavesAll again = record { columns = re.keeps_slots; steps = re.tells_no_step; weights = re.tells_no_weight; placed = re.seats_nobody } in
       seated_unchanged e x g a v seats told before u s t seated (unchanged again s t leaves kept) (scope_stays g.scope s t (kept.party re.keeps_party) (kept.land re.keeps_land) seated.on)
-      (kept.registers reg.amount re.keeps_amount) (kept.registers reg.total re.keeps_total)
+      (kept.registers reg.AMOUNT re.keeps_amount) (kept.registers reg.TOTAL re.keeps_total)
 
   -- registers other than two are no part of it
-  seated_blind : (r : ℕ) → reg.amount ≢ r → reg.total ≢ r → IsBlind (IsSeated e x g a v seats told before) r
+  seated_blind : (r : ℕ) → reg.AMOUNT ≢ r → reg.TOTAL ≢ r → IsBlind (IsSeated e x g a v seats told before) r
   seated_blind r not_amount not_total = record {
     blind = λ t value s seated.
         let u : State = with_register r value s in
         seated_unchanged e x g a v seats told before t s u seated (record { columns = λ slot q. refl; steps = refl; weights = refl; placed = λ winner. refl })
-        (scope_stays g.scope s u refl refl seated.on) (register_other s r value reg.amount not_amount) (register_other s r value reg.total not_total);
+        (scope_stays g.scope s u refl refl seated.on) (register_other s r value reg.AMOUNT not_amount) (register_other s r value reg.TOTAL not_total);
   }
 
   -- ---- a seat more
@@ -96,8 +96,8 @@ module _ (c : CountingCode) (e : Election) (f : Form) (x : Slots) (name : List �
         IsSeated e x g a v seats told before u next
     seated_next step begun is = record {
       on = (of.scope.entry j i at).scope next got.on_item;
-      amount = got.amount ∙ ap (λ (y : ℕ → ℕ). y reg.amount) taken.registers ∙ seated.amount;
-      total = got.total ∙ ap (λ (y : ℕ → ℕ). y reg.total) taken.registers ∙ seated.total;
+      amount = got.amount ∙ ap (λ (y : ℕ → ℕ). y reg.AMOUNT) taken.registers ∙ seated.amount;
+      total = got.total ∙ ap (λ (y : ℕ → ℕ). y reg.TOTAL) taken.registers ∙ seated.total;
       cells = record { one_each = gets.raised.same_length ∙ seated.cells.one_each; at = cell_next };
       elsewhere = λ q none. got.elsewhere q (λ same. none j i at (sym same)) ∙ ap (λ (y : ℕ → ℕ → ℕ). y x.result q) taken.columns ∙ seated.elsewhere q none;
       columns = λ slot q other. got.columns slot q other ∙ ap (λ (y : ℕ → ℕ → ℕ). y slot q) taken.columns ∙ seated.columns slot q other;
@@ -122,8 +122,8 @@ module _ (c : CountingCode) (e : Election) (f : Form) (x : Slots) (name : List �
           let more : slice_index u j ≡ held + 1 = one_more gets in
           let low : slice_index a.ladders.base j ≤ held = above_base gets in
           let high : slice_index u j ≤ MAX_SEATS = few j in
-          let step : ℕ = now.registers reg.step in
-          let counted : IsCounted a seats s step = subst (λ (y : ℕ → ℕ). IsCounted a seats s (y reg.step)) (sym taken.registers) begun in
+          let step : ℕ = now.registers reg.STEP in
+          let counted : IsCounted a seats s step = subst (λ (y : ℕ → ℕ). IsCounted a seats s (y reg.STEP)) (sym taken.registers) begun in
           let mine : SeatStep = awarded_step x.stage g.scope i held step now.mark in
           let is : mine ≡ awarded_step x.stage g.scope i held step (a.won j held) = ap (awarded_step x.stage g.scope i held step) taken.mark in
           let had : now.columns x.result (place e i) ≡ held = ap (λ (y : ℕ → ℕ → ℕ). y x.result (place e i)) taken.columns ∙ seated.cells.at j i at in
@@ -146,11 +146,11 @@ module _ (c : CountingCode) (e : Election) (f : Form) (x : Slots) (name : List �
       keeps_turns = re.keeps_turns;
       keeps_batch = re.keeps_batch;
       keeps_step = re.keeps_step;
-      blind_left = seated_blind reg.left (λ z. omega (arith, z)) (λ z. omega (arith, z));
-      blind_all_left = seated_blind reg.all_left (λ z. omega (arith, z)) (λ z. omega (arith, z));
-      blind_turns = seated_blind reg.turns (λ z. omega (arith, z)) (λ z. omega (arith, z));
-      blind_peers = seated_blind reg.peers (λ z. omega (arith, z)) (λ z. omega (arith, z));
-      blind_batch = seated_blind reg.in_batch (λ z. omega (arith, z)) (λ z. omega (arith, z));
-      blind_step = seated_blind reg.step (λ z. omega (arith, z)) (λ z. omega (arith, z));
+      blind_left = seated_blind reg.LEFT (λ z. omega (arith, z)) (λ z. omega (arith, z));
+      blind_all_left = seated_blind reg.ALL_LEFT (λ z. omega (arith, z)) (λ z. omega (arith, z));
+      blind_turns = seated_blind reg.TURNS (λ z. omega (arith, z)) (λ z. omega (arith, z));
+      blind_peers = seated_blind reg.PEERS (λ z. omega (arith, z)) (λ z. omega (arith, z));
+      blind_batch = seated_blind reg.IN_BATCH (λ z. omega (arith, z)) (λ z. omega (arith, z));
+      blind_step = seated_blind reg.STEP (λ z. omega (arith, z)) (λ z. omega (arith, z));
       blind_ones = seated_blind ones (λ z. omega (arith, z)) (λ z. omega (arith, z));
     }

@@ -24,7 +24,7 @@ use Rattle.sl_pieces.specs.scopes.Forms.{Form, votes_of, table_of, kind_of, OnIt
 use Rattle.sl_pieces.specs.scopes.Scopes.{IsEntry}
 use Rattle.sl_pieces.proofs.scopes.Staying.{item_stays}
 use Rattle.sl_pieces.specs.arenas.Arenas.{Arena, table_of as table_with, seat_taken}
-use Rattle.sl_pieces.specs.awards.Registers as reg
+use Rattle.sl_pieces.specs.declared.registers.TheConstants as reg
 use Rattle.sl_pieces.specs.awards.Trees.{count_up}
 use Rattle.sl_pieces.proofs.awards.Turns.{moved}
 use Rattle.sl_pieces.specs.seats.Slots.{Slots, HasSlots}
@@ -66,9 +66,9 @@ seat_is_taken e f g a j held i others s of at =
 -- the entry at that place holds one seat more than n, with this record
 pub record IsGiven (x : Slots) (p n : ℕ) (i : Item) (r : SeatStep) (before after : State) : Type 0 where
   pub on_item : OnItem i after
-  pub held : after.registers reg.held ≡ n + 1
-  pub amount : after.registers reg.amount ≡ before.registers reg.amount
-  pub total : after.registers reg.total ≡ before.registers reg.total
+  pub held : after.registers reg.HELD ≡ n + 1
+  pub amount : after.registers reg.AMOUNT ≡ before.registers reg.AMOUNT
+  pub total : after.registers reg.TOTAL ≡ before.registers reg.TOTAL
   pub cell : after.columns x.result p ≡ n + 1
   pub elsewhere : (q : ℕ) → q ≢ p → after.columns x.result q ≡ before.columns x.result q
   pub columns : (slot q : ℕ) → slot ≢ x.result → after.columns slot q ≡ before.columns slot q
@@ -83,17 +83,17 @@ module _ (c : CountingCode) (e : Election) (f : Form) (x : Slots) (name : List �
   entry = of.scope.entry j i at
 
   -- the record that is told where the cursors stand at the entry, and the register holds that number
-  module _ (t : PriorityTable) (kind : t.entries ≡ table_of f) (s : State) (on : OnItem i s) (table : s.table ≡ Some t) (held : s.registers reg.held ≡ n + 1) where
+  module _ (t : PriorityTable) (kind : t.entries ≡ table_of f) (s : State) (on : OnItem i s) (table : s.table ≡ Some t) (held : s.registers reg.HELD ≡ n + 1) where
     emits : {Q : State → Type 0} →
-        Q (with_step (awarded_step x.stage g.scope i n (s.registers reg.step) s.mark) s) →
-        Achieves c e (Line (Emit x.stage (kind_of f) reg.held reg.step ∷ [])) s Q Never
+        Q (with_step (awarded_step x.stage g.scope i n (s.registers reg.STEP) s.mark) s) →
+        Achieves c e (Line (Emit x.stage (kind_of f) reg.HELD reg.STEP ∷ [])) s Q Never
     emits {Q = Q} h =
         let index : index_at e t.entries s ≡ Some (place e i) = ap (λ (k : Entries). index_at e k s) kind ∙ entry.index s on in
         let item : item_of e t.entries (place e i) ≡ i = ap (λ (k : Entries). item_of e k (place e i)) kind ∙ entry.item in
-        let told : SeatStep = record { stage = x.stage; scope = g.scope; entry = item_of e t.entries (place e i); n = s.registers reg.held; step = s.registers reg.step; mark = s.mark } in
-        let is : awarded_step x.stage g.scope i n (s.registers reg.step) s.mark ≡ told =
-        λ z. record { stage = x.stage; scope = g.scope; entry = sym item z; n = sym held z; step = s.registers reg.step; mark = s.mark } in
-        line_goes (emit_does c e s x.stage (kind_of f) x.stage g.scope slots.stage (of.scope.kind s (entry.scope s on)) t (place e i) table index reg.held reg.step)
+        let told : SeatStep = record { stage = x.stage; scope = g.scope; entry = item_of e t.entries (place e i); n = s.registers reg.HELD; step = s.registers reg.STEP; mark = s.mark } in
+        let is : awarded_step x.stage g.scope i n (s.registers reg.STEP) s.mark ≡ told =
+        λ z. record { stage = x.stage; scope = g.scope; entry = sym item z; n = sym held z; step = s.registers reg.STEP; mark = s.mark } in
+        line_goes (emit_does c e s x.stage (kind_of f) x.stage g.scope slots.stage (of.scope.kind s (entry.scope s on)) t (place e i) table index reg.HELD reg.STEP)
         (line_ends (subst (λ (r : SeatStep). Q (with_step r s)) is h))
 
   module _ (s : State) (on : OnItem i s) where
@@ -101,10 +101,10 @@ module _ (c : CountingCode) (e : Election) (f : Form) (x : Slots) (name : List �
     p = place e i
 
     abbrev read : State
-    read = with_register reg.held (s.columns x.result p) s
+    read = with_register reg.HELD (s.columns x.result p) s
 
     abbrev counted : State
-    counted = with_register reg.held (min (s.columns x.result p + 1) most) (with_register ones 1 read)
+    counted = with_register reg.HELD (min (s.columns x.result p + 1) most) (with_register ones 1 read)
 
     abbrev stored : State
     stored = with_cell x.result p (min (s.columns x.result p + 1) most) counted
@@ -116,9 +116,9 @@ module _ (c : CountingCode) (e : Election) (f : Form) (x : Slots) (name : List �
       next : min (s.columns x.result p + 1) most ≡ n + 1
       next = omega (arith, had, few)
 
-      given_here : IsGiven x p n i (awarded_step x.stage g.scope i n (s.registers reg.step) s.mark) s (with_step (awarded_step x.stage g.scope i n (s.registers reg.step) s.mark) stored)
+      given_here : IsGiven x p n i (awarded_step x.stage g.scope i n (s.registers reg.STEP) s.mark) s (with_step (awarded_step x.stage g.scope i n (s.registers reg.STEP) s.mark) stored)
       given_here = record {
-        on_item = on_same (with_step (awarded_step x.stage g.scope i n (s.registers reg.step) s.mark) stored) refl refl refl;
+        on_item = on_same (with_step (awarded_step x.stage g.scope i n (s.registers reg.STEP) s.mark) stored) refl refl refl;
         held = next;
         amount = refl;
         total = refl;
@@ -131,11 +131,11 @@ module _ (c : CountingCode) (e : Election) (f : Form) (x : Slots) (name : List �
         placed = refl;
       }
 
-      pub seat_is_given : Achieves c e (Line (Get reg.held x.result ∷ (count_up reg.held ++ Store x.result reg.held ∷ (Emit x.stage (kind_of f) reg.held reg.step ∷ [])))) s
-          (IsGiven x p n i (awarded_step x.stage g.scope i n (s.registers reg.step) s.mark) s) Never
+      pub seat_is_given : Achieves c e (Line (Get reg.HELD x.result ∷ (count_up reg.HELD ++ Store x.result reg.HELD ∷ (Emit x.stage (kind_of f) reg.HELD reg.STEP ∷ [])))) s
+          (IsGiven x p n i (awarded_step x.stage g.scope i n (s.registers reg.STEP) s.mark) s) Never
       seat_is_given =
-          line_goes (get_does c e s x.result (votes_of f) slots.result reg.held p (entry.cell s on))
+          line_goes (get_does c e s x.result (votes_of f) slots.result reg.HELD p (entry.cell s on))
           (line_goes (set_does c e read ones 1)
-          (line_goes (add_does c e (with_register ones 1 read) reg.held ones)
-          (line_goes (store_does c e counted x.result (votes_of f) slots.result reg.held p (entry.cell counted (on_same counted refl refl refl)))
+          (line_goes (add_does c e (with_register ones 1 read) reg.HELD ones)
+          (line_goes (store_does c e counted x.result (votes_of f) slots.result reg.HELD p (entry.cell counted (on_same counted refl refl refl)))
           (emits t kind stored (on_same stored refl refl refl) table next given_here))))

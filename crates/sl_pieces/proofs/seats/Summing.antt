@@ -24,7 +24,7 @@ use Rattle.sl_pieces.specs.scopes.Scopes.{IsEntry}
 use Rattle.sl_pieces.proofs.scopes.Forms.{each_entry}
 use Rattle.sl_pieces.proofs.scopes.Scopes.{scopes_hold}
 use Rattle.sl_pieces.proofs.scopes.Staying.{scope_stays, item_stays, entries_visited}
-use Rattle.sl_pieces.specs.awards.Registers as reg
+use Rattle.sl_pieces.specs.declared.registers.TheConstants as reg
 use Rattle.sl_pieces.specs.seats.Slots.{Slots, HasCells, HasMinima}
 use Rattle.sl_pieces.specs.seats.Trees.{add_minimum, sums}
 use Rattle.sl_pieces.specs.seats.Summing.{SumsAchieve}
@@ -66,7 +66,7 @@ next_held v j a x less so_far cell =
 
 -- what is done for each entry
 abbrev body_of : ℕ → Option ℕ → Tree
-body_of votes minima = Line (op.Get reg.weight votes ∷ (op.Add reg.total reg.weight ∷ add_minimum minima))
+body_of votes minima = Line (op.Get reg.WEIGHT votes ∷ (op.Add reg.TOTAL reg.WEIGHT ∷ add_minimum minima))
 
 module _ (c : CountingCode) (e : Election) (f : Form) (g : Group) (votes : ℕ) (v m : List ℕ) (before : State)
     (known : slice_get c.slots votes ≡ Some (votes_of f))
@@ -75,13 +75,13 @@ module _ (c : CountingCode) (e : Election) (f : Form) (g : Group) (votes : ℕ) 
   -- after j entries
   record Summed (j : ℕ) (t : State) : Type 0 where
     columns : t.columns ≡ before.columns
-    total : t.registers reg.total ≡ min (first_sum v j) most
-    needed : t.registers reg.needed ≡ min (first_sum m j) most
+    total : t.registers reg.TOTAL ≡ min (first_sum v j) most
+    needed : t.registers reg.NEEDED ≡ min (first_sum m j) most
 
   -- the entry's minimum, if any are written, when its votes have been added
   one_minimum : (o : Option ℕ) → ((slot : ℕ) → o ≡ Some slot → slice_get c.slots slot ≡ Some (votes_of f)) → HasMinima e g.entries v o before m
-      → (j : ℕ) (i : Item) (u : State) → slice_get g.entries j ≡ Some i → OnItem i u → u.columns ≡ before.columns → u.registers reg.total ≡ min (first_sum v (j + 1)) most
-      → u.registers reg.needed ≡ min (first_sum m j) most → Achieves c e (Line (add_minimum o)) u (λ t. Summed (j + 1) (bare t)) Never
+      → (j : ℕ) (i : Item) (u : State) → slice_get g.entries j ≡ Some i → OnItem i u → u.columns ≡ before.columns → u.registers reg.TOTAL ≡ min (first_sum v (j + 1)) most
+      → u.registers reg.NEEDED ≡ min (first_sum m j) most → Achieves c e (Line (add_minimum o)) u (λ t. Summed (j + 1) (bare t)) Never
   one_minimum None there none j i u at on columns total needed =
       let zero_by : (n : ℕ) → first_sum m n ≡ 0 = λ n. ap (λ xs. first_sum xs n) none ∙ first_zero v n in
       line_ends (record { columns = columns; total = total; needed = needed ∙ ap (λ n. min n most) (zero_by j ∙ sym (zero_by (j + 1))) })
@@ -91,23 +91,23 @@ module _ (c : CountingCode) (e : Election) (f : Form) (g : Group) (votes : ℕ) 
       let read : x ≡ slice_index m j = ap (λ (k : ℕ → ℕ → ℕ). k slot q) columns ∙ minima.at j i at in
       let long : length m ≡ length g.entries = minima.one_each in
       let less : j < length m = omega (arith, long, slice_get_within g.entries j i at) in
-      line_goes (get_does c e u slot (votes_of f) (there slot refl) reg.base q ((entry j i at).cell u on))
-      (line_goes (add_does c e (with_register reg.base x u) reg.needed reg.base)
-      (line_ends (record { columns = columns; total = total; needed = next_held m j (u.registers reg.needed) x less needed read })))
+      line_goes (get_does c e u slot (votes_of f) (there slot refl) reg.BASE q ((entry j i at).cell u on))
+      (line_goes (add_does c e (with_register reg.BASE x u) reg.NEEDED reg.BASE)
+      (line_ends (record { columns = columns; total = total; needed = next_held m j (u.registers reg.NEEDED) x less needed read })))
 
   one_entry : (o : Option ℕ) → ((slot : ℕ) → o ≡ Some slot → slice_get c.slots slot ≡ Some (votes_of f)) → HasMinima e g.entries v o before m
       → (j : ℕ) (i : Item) (s : State) → slice_get g.entries j ≡ Some i → OnItem i s → Summed j (bare s) → Achieves c e (body_of votes o) s (λ t. Summed (j + 1) (bare t)) Never
   one_entry o there minima j i s at on h =
       let q : ℕ = place e i in
       let x : ℕ = s.columns votes q in
-      let u : State = with_register reg.weight x s in
-      let w : State = with_register reg.total (min (u.registers reg.total + u.registers reg.weight) most) u in
+      let u : State = with_register reg.WEIGHT x s in
+      let w : State = with_register reg.TOTAL (min (u.registers reg.TOTAL + u.registers reg.WEIGHT) most) u in
       let read : x ≡ slice_index v j = ap (λ (k : ℕ → ℕ → ℕ). k votes q) h.columns ∙ weights.at j i at in
       let long : length v ≡ length g.entries = weights.one_each in
       let less : j < length v = omega (arith, long, slice_get_within g.entries j i at) in
-      line_goes (get_does c e s votes (votes_of f) known reg.weight q ((entry j i at).cell s on))
-      (line_goes (add_does c e u reg.total reg.weight)
-      (one_minimum o there minima j i w at (item_stays i s w refl refl refl on) h.columns (next_held v j (s.registers reg.total) x less h.total read) h.needed))
+      line_goes (get_does c e s votes (votes_of f) known reg.WEIGHT q ((entry j i at).cell s on))
+      (line_goes (add_does c e u reg.TOTAL reg.WEIGHT)
+      (one_minimum o there minima j i w at (item_stays i s w refl refl refl on) h.columns (next_held v j (s.registers reg.TOTAL) x less h.total read) h.needed))
 
   visits : (o : Option ℕ) → ((slot : ℕ) → o ≡ Some slot → slice_get c.slots slot ≡ Some (votes_of f)) → HasMinima e g.entries v o before m
       → Visits c e (body_of votes o) g.entries OnItem Summed Never
@@ -118,7 +118,7 @@ body_leaves : (votes : ℕ) (o : Option ℕ) → LeavesAll (body_of votes o)
 body_leaves votes None = record { columns = λ slot. refl; steps = refl; weights = refl; placed = refl }
 body_leaves votes (Some minima) = record { columns = λ slot. refl; steps = refl; weights = refl; placed = refl }
 
-body_keeps_amount : (votes : ℕ) (o : Option ℕ) → may_write_register (body_of votes o) reg.amount ≡ false
+body_keeps_amount : (votes : ℕ) (o : Option ℕ) → may_write_register (body_of votes o) reg.AMOUNT ≡ false
 body_keeps_amount votes None = refl
 body_keeps_amount votes (Some minima) = refl
 
@@ -131,17 +131,17 @@ pub sums_achieve : SumsAchieve
 sums_achieve c e f x name k g v m state at slots on weights minima =
     let entry : (j : ℕ) (i : Item) → slice_get g.entries j ≡ Some i → IsEntry e (table_of f) (votes_of f) g.scope i = (scopes_hold e f k g at).entry in
     let Inv : ℕ → State → Type 0 = Summed c e f g x.votes v m state slots.votes entry weights in
-    let begun : State = with_register reg.needed 0 (with_register reg.total 0 state) in
+    let begun : State = with_register reg.NEEDED 0 (with_register reg.TOTAL 0 state) in
     let long : length m ≡ length g.entries = minima_long e g.entries v m x.minima state weights.one_each minima ∙ weights.one_each in
     let course : Achieves c e (sums f x) state (λ t. OnScope g.scope t × Inv (length g.entries) (bare t)) Never =
     then_achieves {Q = λ t. OnScope g.scope t × Inv 0 (bare t)}
-    (line_goes (set_does c e state reg.total 0) (line_goes (set_does c e (with_register reg.total 0 state) reg.needed 0)
+    (line_goes (set_does c e state reg.TOTAL 0) (line_goes (set_does c e (with_register reg.TOTAL 0 state) reg.NEEDED 0)
     (line_ends (scope_stays g.scope state begun refl refl on, record { columns = refl; total = first_none v; needed = first_none m }))))
     (λ t h. each_entry c e f k g (body_of x.votes x.minima) Inv Never t at (visits c e f g x.votes v m state slots.votes entry weights x.minima slots.minima minima) h.0 h.1) in
     achieves_more (achieves_kept course)
     (λ t h. record {
       on = h.0.0;
-      amount = h.1.registers reg.amount (register_free f (body_of x.votes x.minima) reg.amount (body_keeps_amount x.votes x.minima));
+      amount = h.1.registers reg.AMOUNT (register_free f (body_of x.votes x.minima) reg.AMOUNT (body_keeps_amount x.votes x.minima));
       total = h.0.1.total ∙ ap (λ n. min n most) (first_all v (length g.entries) weights.one_each);
       needed = h.0.1.needed ∙ ap (λ n. min n most) (first_all m (length g.entries) long);
       unchanged = unchanged (sums f x) state t (sums_leave f x) h.1;

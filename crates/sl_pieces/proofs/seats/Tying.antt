@@ -26,7 +26,7 @@ use Rattle.sl_pieces.specs.scopes.Forms.{Form, kind_of}
 use Rattle.sl_pieces.specs.arenas.Arenas.{Arena, seat_of, waiting, table_of}
 use Rattle.sl_pieces.specs.arenas.Laws.{PeersWait}
 use Rattle.sl_pieces.proofs.arenas.Peers.{waiting_peers}
-use Rattle.sl_pieces.specs.awards.Registers as reg
+use Rattle.sl_pieces.specs.declared.registers.TheConstants as reg
 use Rattle.sl_pieces.specs.awards.Awards.{EndsTied}
 use Rattle.sl_pieces.specs.seats.Slots.{Slots, HasSlots}
 use Rattle.sl_pieces.specs.seats.Trees.{tied}
@@ -79,6 +79,6 @@ module _ (c : CountingCode) (e : Election) (f : Form) (x : Slots) (name : List �
         let first : top (ranked (waiting a s)) ≡ Some next = peer.first ∙ ap (option_map (λ i. seat_of a i (slice_index s i))) some.1 in
         let items : map (λ (y : Entry). item_of e a.entries y.index) (peers (ranked (waiting a s))) ≡ entries_at g.entries among =
         ap (map (λ (y : Entry). item_of e a.entries y.index)) peer.seats ∙ items_are e f g a of s among listed.has_only in
-        stop_achieves (tie_ends c e state x.stage (kind_of f) x.stage g.scope slots.stage (of.scope.kind state seated.on) reg.left (table_of a (waiting a s)) next waits first)
+        stop_achieves (tie_ends c e state x.stage (kind_of f) x.stage g.scope slots.stage (of.scope.kind state seated.on) reg.LEFT (table_of a (waiting a s)) next waits first)
         (record { number = seats - sum s; among = among; choice = choice; is = λ z. Faulted (fault_at x.stage g.scope (fault.Tie (left z) (items z))) });
   }

@@ -11,7 +11,7 @@ use Rattle.sl_plans.specs.Trees.{Tree}
 use Rattle.sl_plans.specs.inner.Frames.{has_instr, may_write_register, may_write_slot, seats_winner, may_seat, may_record_step, may_record_weight, KeepsRest}
 use Rattle.sl_pieces.specs.scopes.Forms.{Form, AllParties, AllLands, AllLists, ListsOfParty, ListsInLand, entries_plan, OnScope}
 use Rattle.sl_pieces.specs.arenas.Arenas.{Arena}
-use Rattle.sl_pieces.specs.awards.Registers as reg
+use Rattle.sl_pieces.specs.declared.registers.TheConstants as reg
 use Rattle.sl_pieces.specs.seats.Slots.{Slots, IsUnchanged}
 use Rattle.sl_pieces.specs.seats.Seated.{IsSeated}
 
@@ -57,7 +57,7 @@ unchanged tree s t h k = record {
 
 -- seats stand in a state of the same columns and records, where the cursors of the scope and the registers of amount and total are the same
 pub seated_unchanged : (e : Election) (x : Slots) (g : Group) (a : Arena) (v : List ℕ) (seats : ℕ) (told : List Weight) (before : State) (t : List ℕ) (s u : State)
-    → IsSeated e x g a v seats told before t s → IsUnchanged s u → OnScope g.scope u → u.registers reg.amount ≡ s.registers reg.amount → u.registers reg.total ≡ s.registers reg.total
+    → IsSeated e x g a v seats told before t s → IsUnchanged s u → OnScope g.scope u → u.registers reg.AMOUNT ≡ s.registers reg.AMOUNT → u.registers reg.TOTAL ≡ s.registers reg.TOTAL
     → IsSeated e x g a v seats told before t u
 seated_unchanged e x g a v seats told before t s u h same on amount total = record {
   on = on;

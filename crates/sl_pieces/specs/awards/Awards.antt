@@ -16,7 +16,7 @@ use Rattle.sl_plans.specs.Meaning.{turns_in}
 use Rattle.sl_plans.specs.Achieves.{Achieves}
 use Rattle.sl_plans.specs.inner.Frames.{may_write_register}
 use Rattle.sl_pieces.specs.arenas.Arenas.{Arena, IsArena, HasWaiting}
-use Rattle.sl_pieces.specs.awards.Registers as reg
+use Rattle.sl_pieces.specs.declared.registers.TheConstants as reg
 use Rattle.sl_pieces.specs.awards.Trees.{awards}
 use Rattle.sl_pieces.specs.awards.Batches.{GivesSeats, IsBlind}
 
@@ -40,22 +40,22 @@ pub record IsCounted (a : Arena) (seats : ℕ) (s : List ℕ) (step : ℕ) : Typ
 pub record EndsTied (c : CountingCode) (e : Election) (a : Arena) (seats : ℕ) (meant : List ℕ) (Held : List ℕ → State → Type 0) (E : End → Type 0)
     (tie : Tree) : Type 0 where
   pub ends : (s tied : List ℕ) (state : State) → IsSettled a.ladders s → Lists (IsPeer a.ladders s) tied → HasWaiting a s state → Held s state →
-      state.registers reg.left ≡ seats - sum s → IsChoice (IsTop a.ladders seats) meant (Tied (seats - sum s) tied) →
+      state.registers reg.LEFT ≡ seats - sum s → IsChoice (IsTop a.ladders seats) meant (Tied (seats - sum s) tied) →
       Achieves c e tie state (λ after. ⊥) E
 
 -- what is asked of the plan for a seat, and of what holds while seats are awarded: neither touches the registers of the awards
 pub record FitsAwards (Held : List ℕ → State → Type 0) (on : Tree) : Type 0 where
-  pub keeps_left : may_write_register on reg.left ≡ false
-  pub keeps_all_left : may_write_register on reg.all_left ≡ false
-  pub keeps_turns : may_write_register on reg.turns ≡ false
-  pub keeps_batch : may_write_register on reg.in_batch ≡ false
-  pub keeps_step : may_write_register on reg.step ≡ false
-  pub blind_left : IsBlind Held reg.left
-  pub blind_all_left : IsBlind Held reg.all_left
-  pub blind_turns : IsBlind Held reg.turns
-  pub blind_peers : IsBlind Held reg.peers
-  pub blind_batch : IsBlind Held reg.in_batch
-  pub blind_step : IsBlind Held reg.step
+  pub keeps_left : may_write_register on reg.LEFT ≡ false
+  pub keeps_all_left : may_write_register on reg.ALL_LEFT ≡ false
+  pub keeps_turns : may_write_register on reg.TURNS ≡ false
+  pub keeps_batch : may_write_register on reg.IN_BATCH ≡ false
+  pub keeps_step : may_write_register on reg.STEP ≡ false
+  pub blind_left : IsBlind Held reg.LEFT
+  pub blind_all_left : IsBlind Held reg.ALL_LEFT
+  pub blind_turns : IsBlind Held reg.TURNS
+  pub blind_peers : IsBlind Held reg.PEERS
+  pub blind_batch : IsBlind Held reg.IN_BATCH
+  pub blind_step : IsBlind Held reg.STEP
   pub blind_ones : IsBlind Held ones
 
 -- the seats are awarded as the lot decides
@@ -69,6 +69,6 @@ AwardsAchieve =
     (c : CountingCode) (e : Election) (a : Arena) (most seats n : ℕ) (meant : List ℕ) (bound : Bound) (tie on : Tree)
     (Held : List ℕ → State → Type 0) (E : End → Type 0) (state : State) → CanAward c e a most seats n meant →
     GivesSeats c e a most (IsCounted a seats) Held on → EndsTied c e a seats meant Held E tie → FitsAwards Held on →
-    HasWaiting a a.ladders.base state → Held a.ladders.base state → state.registers reg.left ≡ seats - sum a.ladders.base →
-    state.registers reg.left ≤ turns_in e bound →
+    HasWaiting a a.ladders.base state → Held a.ladders.base state → state.registers reg.LEFT ≡ seats - sum a.ladders.base →
+    state.registers reg.LEFT ≤ turns_in e bound →
     Achieves c e (awards n bound tie on) state (AreAwarded a seats meant Held) E

@@ -13,7 +13,7 @@ use Rattle.sl_plans.specs.Achieves.{Achieves, Never}
 use Rattle.sl_plans.specs.inner.Frames.{may_write_register}
 use Rattle.sl_pieces.specs.arenas.Arenas.{Arena, IsArena, HasWaiting, seat_taken}
 use Rattle.sl_pieces.specs.arenas.Laws.{SeatTaken}
-use Rattle.sl_pieces.specs.awards.Registers as reg
+use Rattle.sl_pieces.specs.declared.registers.TheConstants as reg
 use Rattle.sl_pieces.specs.awards.Trees.{batches}
 
 -- An entry that gets a seat of a batch: from the settled vector s on, these of its peers have got theirs, the entries hold t, and u after
@@ -32,7 +32,7 @@ pub record Gets (a : Arena) (s peers given t u : List ℕ) (entry : ℕ) : Type 
 pub record GivesSeats (c : CountingCode) (e : Election) (a : Arena) (most : ℕ) (Begun : List ℕ → ℕ → Type 0) (Held : List ℕ → State → Type 0)
     (on : Tree) : Type 0 where
   pub gives : (s peers given t u : List ℕ) (entry : ℕ) (state : State) (gets : Gets a s peers given t u entry) → ((i : ℕ) → slice_index u i ≤ most) →
-      Begun s (state.registers reg.step) → HasWaiting a t state → Held t state →
+      Begun s (state.registers reg.STEP) → HasWaiting a t state → Held t state →
       Achieves c e on (seat_taken e a entry (slice_index t entry) gets.taken.others state) (λ after. HasWaiting a u after × Held u after) Never
 
 -- what holds of a state does not depend on the register
@@ -43,26 +43,26 @@ pub record IsBlind (Held : List ℕ → State → Type 0) (r : ℕ) : Type 0 whe
 
 -- a batch has begun from t on, or there is none any more, and of t that is known
 pub data HasBegun (a : Arena) (Begun : List ℕ → ℕ → Type 0) (Stopped : List ℕ → Type 0) (t : List ℕ) (state : State) : Type 0 where
-  NoBatch : state.registers reg.in_batch ≡ 0 → Stopped t → HasBegun a Begun Stopped t state
-  OneBegan : (peers : List ℕ) → Lists (IsPeer a.ladders t) peers → 0 < length peers → state.registers reg.in_batch ≡ length peers →
-      Begun t (state.registers reg.step) → HasBegun a Begun Stopped t state
+  NoBatch : state.registers reg.IN_BATCH ≡ 0 → Stopped t → HasBegun a Begun Stopped t state
+  OneBegan : (peers : List ℕ) → Lists (IsPeer a.ladders t) peers → 0 < length peers → state.registers reg.IN_BATCH ≡ length peers →
+      Begun t (state.registers reg.STEP) → HasBegun a Begun Stopped t state
 
 -- What a plan has to achieve that begins a batch: where seats are left, up to so many in all, it begins one or stops for good; and once it
 -- has stopped, it begins no other.
 pub record BeginsBatches (c : CountingCode) (e : Election) (a : Arena) (seats : ℕ) (Begun : List ℕ → ℕ → Type 0) (Stopped : List ℕ → Type 0)
     (Held : List ℕ → State → Type 0) (begin : Tree) : Type 0 where
-  pub begins : (t : List ℕ) (state : State) → IsSettled a.ladders t → HasWaiting a t state → Held t state → state.registers reg.in_batch ≡ 0 →
+  pub begins : (t : List ℕ) (state : State) → IsSettled a.ladders t → HasWaiting a t state → Held t state → state.registers reg.IN_BATCH ≡ 0 →
       sum t < seats →
       Achieves c e begin state (λ after. HasWaiting a t after × Held t after × HasBegun a Begun Stopped t after) Never
-  pub rests : (t : List ℕ) (state : State) → IsSettled a.ladders t → HasWaiting a t state → Held t state → state.registers reg.in_batch ≡ 0 →
+  pub rests : (t : List ℕ) (state : State) → IsSettled a.ladders t → HasWaiting a t state → Held t state → state.registers reg.IN_BATCH ≡ 0 →
       Stopped t →
-      Achieves c e begin state (λ after. HasWaiting a t after × Held t after × (after.registers reg.in_batch ≡ 0)) Never
+      Achieves c e begin state (λ after. HasWaiting a t after × Held t after × (after.registers reg.IN_BATCH ≡ 0)) Never
 
 -- where the batches end: at a settled vector of so many seats, or one that is known to be the last, or within a batch with so many seats
 pub data EndOfBatches (a : Arena) (seats : ℕ) (Begun : List ℕ → ℕ → Type 0) (Stopped : List ℕ → Type 0) (t : List ℕ) (state : State) : Type 0 where
-  Between : IsSettled a.ladders t → state.registers reg.in_batch ≡ 0 → (sum t ≡ seats) ⊎ Stopped t → EndOfBatches a seats Begun Stopped t state
-  Within : (s peers given : List ℕ) → MidBatch a.ladders s peers given t → length given + state.registers reg.in_batch ≡ length peers →
-      0 < state.registers reg.in_batch → Begun s (state.registers reg.step) → sum t ≡ seats → EndOfBatches a seats Begun Stopped t state
+  Between : IsSettled a.ladders t → state.registers reg.IN_BATCH ≡ 0 → (sum t ≡ seats) ⊎ Stopped t → EndOfBatches a seats Begun Stopped t state
+  Within : (s peers given : List ℕ) → MidBatch a.ladders s peers given t → length given + state.registers reg.IN_BATCH ≡ length peers →
+      0 < state.registers reg.IN_BATCH → Begun s (state.registers reg.STEP) → sum t ≡ seats → EndOfBatches a seats Begun Stopped t state
 
 pub record AfterBatches (a : Arena) (seats : ℕ) (Begun : List ℕ → ℕ → Type 0) (Stopped : List ℕ → Type 0) (Held : List ℕ → State → Type 0)
     (state : State) : Type 0 where
@@ -74,17 +74,17 @@ pub record AfterBatches (a : Arena) (seats : ℕ) (Begun : List ℕ → ℕ → 
 -- what is asked of a walk with these plans: the loop's register is no other's, and neither plan writes one of the loop's
 pub record FitsLoop (Held : List ℕ → State → Type 0) (r : ℕ) (begin on : Tree) : Type 0 where
   pub own : ones ≡ r → ⊥
-  pub not_peers : reg.peers ≡ r → ⊥
-  pub not_batch : reg.in_batch ≡ r → ⊥
-  pub not_step : reg.step ≡ r → ⊥
+  pub not_peers : reg.PEERS ≡ r → ⊥
+  pub not_batch : reg.IN_BATCH ≡ r → ⊥
+  pub not_step : reg.STEP ≡ r → ⊥
   pub blind : IsBlind Held r
   pub blind_ones : IsBlind Held ones
-  pub blind_peers : IsBlind Held reg.peers
-  pub blind_batch : IsBlind Held reg.in_batch
+  pub blind_peers : IsBlind Held reg.PEERS
+  pub blind_batch : IsBlind Held reg.IN_BATCH
   pub begin_keeps : may_write_register begin r ≡ false
   pub on_keeps : may_write_register on r ≡ false
-  pub on_keeps_batch : may_write_register on reg.in_batch ≡ false
-  pub on_keeps_step : may_write_register on reg.step ≡ false
+  pub on_keeps_batch : may_write_register on reg.IN_BATCH ≡ false
+  pub on_keeps_step : may_write_register on reg.STEP ≡ false
 
 -- from a settled vector, with a turn for each seat up to so many
 abbrev pub BatchesAchieve : Type 1

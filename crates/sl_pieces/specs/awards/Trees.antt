@@ -6,7 +6,7 @@ use Rattle.sl_code.specs.declared.instr.Instr.TheVariants.{Set, Mov, Add, Sub, T
 use Rattle.sl_plans.specs.declared.plan.Test.TheVariants as test
 use Rattle.sl_plans.specs.declared.plan.Bound.{Bound}
 use Rattle.sl_plans.specs.Trees.{Tree, Line, Then, If, Times, ones, count_down}
-use Rattle.sl_pieces.specs.awards.Registers as reg
+use Rattle.sl_pieces.specs.declared.registers.TheConstants as reg
 
 -- the register is one more
 abbrev pub count_up : ℕ → List Instr
@@ -16,41 +16,41 @@ count_up r = Set ones 1 ∷ (Add r ones ∷ [])
 
 -- one of the peers of a batch gets its seat: `on` does what a seat does, with the cursors on the entry, which has been taken from the table
 abbrev pub one_seat : Tree → Tree
-one_seat on = If (test.Empty reg.peers) (Line []) (Then (Line (Take ∷ [])) (Then on (Line (count_down reg.in_batch))))
+one_seat on = If (test.Empty reg.PEERS) (Line []) (Then (Line (Take ∷ [])) (Then on (Line (count_down reg.IN_BATCH))))
 
 -- a turn begins a batch, where none is under way, and gives out a seat of it, if one has begun
 abbrev pub batch_turn : Tree → Tree → Tree
-batch_turn begin on = Then (If (test.Zero reg.in_batch) begin (Line [])) (If (test.Zero reg.in_batch) (Line []) (one_seat on))
+batch_turn begin on = Then (If (test.Zero reg.IN_BATCH) begin (Line [])) (If (test.Zero reg.IN_BATCH) (Line []) (one_seat on))
 
 -- as many turns as the register says
 abbrev pub batches : ℕ → Bound → Tree → Tree → Tree
-batches r bound begin on = Then (Line (Set reg.in_batch 0 ∷ [])) (Times r bound (batch_turn begin on))
+batches r bound begin on = Then (Line (Set reg.IN_BATCH 0 ∷ [])) (Times r bound (batch_turn begin on))
 
 -- ---- awards
 
 -- the step of the seats of the batch that begins
 abbrev pub count_step : List Instr
-count_step = Mov reg.step reg.all_left ∷ (Sub reg.step reg.left ∷ count_up reg.step)
+count_step = Mov reg.STEP reg.ALL_LEFT ∷ (Sub reg.STEP reg.LEFT ∷ count_up reg.STEP)
 
 -- a batch begins if there are seats for all peers
 abbrev pub whole_batch : Tree
-whole_batch = If (test.Empty reg.peers) (Line []) (If (test.Less reg.left reg.peers) (Line []) (Line (Mov reg.in_batch reg.peers ∷ count_step)))
+whole_batch = If (test.Empty reg.PEERS) (Line []) (If (test.Less reg.LEFT reg.PEERS) (Line []) (Line (Mov reg.IN_BATCH reg.PEERS ∷ count_step)))
 
 -- a seat of a whole batch
 abbrev pub counted_seat : Tree → Tree
-counted_seat on = Then (Line (count_down reg.left)) on
+counted_seat on = Then (Line (count_down reg.LEFT)) on
 
 -- the seats that are left go to peers as the lot of the stage draws them; `tie` is for a lot that does not name them all
 abbrev pub drawn_seats : ℕ → Bound → Tree → Tree
-drawn_seats n bound on = Times reg.left bound (If (test.Empty reg.peers) (Line []) (Then (Line (Takelot n ∷ [])) on))
+drawn_seats n bound on = Times reg.LEFT bound (If (test.Empty reg.PEERS) (Line []) (Then (Line (Takelot n ∷ [])) on))
 
 abbrev pub last_batch : ℕ → Bound → Tree → Tree → Tree
 last_batch n bound tie on =
-    If (test.Zero reg.left) (Line [])
-    (Then (If (test.Empty reg.peers) (Line []) (If (test.NotCovered n) tie (Line []))) (Then (Line count_step) (drawn_seats n bound on)))
+    If (test.Zero reg.LEFT) (Line [])
+    (Then (If (test.Empty reg.PEERS) (Line []) (If (test.NotCovered n) tie (Line []))) (Then (Line count_step) (drawn_seats n bound on)))
 
 -- all seats that are left: whole batches, and then the last one
 abbrev pub awards : ℕ → Bound → Tree → Tree → Tree
 awards n bound tie on =
-    Then (Line (Mov reg.all_left reg.left ∷ (Mov reg.turns reg.left ∷ [])))
-    (Then (batches reg.turns bound whole_batch (counted_seat on)) (last_batch n bound tie on))
+    Then (Line (Mov reg.ALL_LEFT reg.LEFT ∷ (Mov reg.TURNS reg.LEFT ∷ [])))
+    (Then (batches reg.TURNS bound whole_batch (counted_seat on)) (last_batch n bound tie on))

@@ -18,7 +18,7 @@ use Rattle.sl_machine.specs.Tables.{held_table}
 use Rattle.sl_plans.specs.Laid.{AchievesAll}
 use Rattle.sl_pieces.specs.facts.Laws.{flags}
 use Rattle.sl_pieces.specs.columns.Columns.{HoldsColumn}
-use Rattle.sl_pieces.specs.exprs.Slots.{fact_slots, HasBookSlots}
+use Rattle.sl_pieces.specs.exprs.Slots.{fact_slots, HasBookSlots, FIRST_STAGE_SLOT}
 use Rattle.sl_pieces.specs.exprs.Stages.{IsBehind}
 use Rattle.sl_pieces.specs.closing.Trees.{last_pieces, final_seats, vacant_slot}
 
@@ -36,7 +36,7 @@ pub record HasClosed (c : CountingCode) (b : BookTree) (e : Election) (k : Known
   pub placed : (held_table e (held_of c e final_seats (vacant_slot b.last.vacate) after)).placed ≡ table.placed
   pub steps : after.steps ≡ before.steps
   pub weights : after.weights ≡ before.weights
-  pub columns : (slot q : ℕ) → 80 ≤ slot → after.columns slot q ≡ before.columns slot q
+  pub columns : (slot q : ℕ) → FIRST_STAGE_SLOT ≤ slot → after.columns slot q ≡ before.columns slot q
 
 -- or to the first tie
 pub record EndsInOutcome (b : BookTree) (e : Election) (k : Known) (end : End) : Type 0 where

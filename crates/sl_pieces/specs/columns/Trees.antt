@@ -10,16 +10,7 @@ use Rattle.sl_code.specs.declared.instr.Instr.{Instr}
 use Rattle.sl_code.specs.declared.instr.Instr.TheVariants.{Set, Add, Sub, Max, Get, Store}
 use Rattle.sl_plans.specs.declared.plan.Cursor.TheVariants as cursor
 use Rattle.sl_plans.specs.Trees.{Tree, Line, Then, Each}
-
--- the registers: of a sum, of a cell, of another cell
-abbrev pub total : ℕ
-total = 1
-
-abbrev pub cell : ℕ
-cell = 5
-
-abbrev pub other : ℕ
-other = 6
+pub use Rattle.sl_pieces.specs.declared.registers.TheConstants.{TOTAL as total, CELL as cell, OTHER as other}
 
 -- the plan for each cell of a column of that shape
 abbrev pub cells_plan : Shape → Tree → Tree

@@ -4,6 +4,7 @@ use Rattle.std.specs.List.{AllZip}
 use Rattle.sl_stages.specs.declared.book.Shape.TheVariants as shape
 use Rattle.sl_stages.specs.declared.fact.Fact.{Fact}
 use Rattle.sl_stages.specs.declared.table.SeatStep.{SeatStep}
+use Rattle.sl_stages.specs.declared.limits.TheConstants.{MAX_STAGES}
 use Rattle.sl_stages.specs.book.Tests.{first_failing}
 use Rattle.sl_stages.specs.book.Trees.{ExprTree, BookTree}
 use Rattle.sl_stages.specs.book.Limits.{depth_of}
@@ -20,7 +21,7 @@ use Rattle.sl_machine.specs.State.{State}
 use Rattle.sl_plans.specs.Laid.{AchievesAll}
 use Rattle.sl_pieces.specs.columns.Columns.{HoldsColumn}
 use Rattle.sl_pieces.specs.nodes.Nodes.{EndsWith}
-use Rattle.sl_pieces.specs.exprs.Slots.{fact_slots, passing, stage_slot, HasBookSlots}
+use Rattle.sl_pieces.specs.exprs.Slots.{fact_slots, passing, stage_slot, HasBookSlots, LEVELS, FIRST_STAGE_SLOT}
 use Rattle.sl_pieces.specs.exprs.Pieces.{pieces}
 
 -- the columns of facts, and those of the stages before, are in their slots
@@ -32,7 +33,7 @@ pub record HoldsKnown (b : BookTree) (e : Election) (types : List Column) (colum
 -- the code has the slots, and the stage under its name
 pub record StandsIn (c : CountingCode) (x : Context) : Type 0 where
   pub slots : HasBookSlots c x.types
-  pub few : x.stage ≤ 31
+  pub few : x.stage < MAX_STAGES
   pub stage : CodeStage
   pub staged : slice_get c.stages x.stage ≡ Some stage
   pub named : stage.name ≡ x.name
@@ -44,7 +45,7 @@ pub record HasExpr (b : BookTree) (e : Election) (c : Context) (x : ExprTree) (l
   pub records : Records
   pub means : ExprMeans b e c x (results.Column values records)
   pub column : HoldsColumn e (type_of c.types x).shape (after.columns (passing level (type_of c.types x).shape)) values
-  pub columns : (k q : ℕ) → (k < passing level shape.One) ⊎ (80 ≤ k) → after.columns k q ≡ before.columns k q
+  pub columns : (k q : ℕ) → (k < passing level shape.One) ⊎ (FIRST_STAGE_SLOT ≤ k) → after.columns k q ≡ before.columns k q
   pub added : List SeatStep
   pub steps : after.steps ≡ before.steps ++ added
   pub are : IsPermutation added records.steps
@@ -55,6 +56,6 @@ pub record HasExpr (b : BookTree) (e : Election) (c : Context) (x : ExprTree) (l
 abbrev pub ExprsAchieve : Type 0
 ExprsAchieve =
     (code : CountingCode) (b : BookTree) (e : Election) (c : Context) (x : ExprTree) (level : ℕ) (s : State) → is_typed b ≡ true → IsElection e →
-    AllZip (IsTypedAs e) c.types c.columns → first_failing (expr_tests c.types x) ≡ None → level + depth_of x + splits_in x ≤ 17 → StandsIn code c →
+    AllZip (IsTypedAs e) c.types c.columns → first_failing (expr_tests c.types x) ≡ None → level + depth_of x + splits_in x ≤ LEVELS → StandsIn code c →
     HoldsKnown b e c.types c.columns s →
     AchievesAll code e (pieces c.types c.stage level x) s (HasExpr b e c x level s) (EndsWith (ExprMeans b e c x))

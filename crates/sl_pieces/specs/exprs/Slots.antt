@@ -3,41 +3,28 @@ use Rattle.std.specs.Prelude.{◌≡◌, ℕ, ◌+◌, ◌*◌, ◌≤◌, List,
 use Rattle.sl_stages.specs.declared.book.Shape.{Shape}
 use Rattle.sl_stages.specs.declared.book.Shape.TheVariants as shape
 use Rattle.sl_stages.specs.declared.fact.Fact.TheVariants as facts
-use Rattle.sl_stages.specs.book.Typing.{Column, fact_number}
+use Rattle.sl_stages.specs.declared.limits.TheConstants.{MAX_DEPTH}
+use Rattle.sl_stages.specs.book.Typing.{Column, fact_number, shape_number}
 use Rattle.sl_code.specs.Codes.{CountingCode}
+use Rattle.sl_pieces.specs.declared.slots.TheConstants.{ELIGIBLE, FIRST_FACT, VOTES, NUMBERS}
+pub use Rattle.sl_pieces.specs.declared.slots.TheConstants.{PAIR_NUMBERS as pair_numbers, NAMES_LEFT as names_left, VACANT_SEATS as vacant_seats, FIRST_PASSING_SLOT, LEVELS, FIRST_STAGE_SLOT}
 use Rattle.sl_pieces.specs.facts.Trees.{FactSlots}
 use Rattle.sl_pieces.specs.facts.Laws.{HasFactSlots}
 
 -- the eligible parties and the facts stand first, and the two columns to work in with them
 abbrev pub fact_slots : FactSlots
-fact_slots = record { eligible = 0; of = λ told. 1 + fact_number told; votes = 7; numbers = 8 }
+fact_slots = record { eligible = ELIGIBLE; of = λ told. FIRST_FACT + fact_number told; votes = VOTES; numbers = NUMBERS }
 
 abbrev pub winners_slot : ℕ
 winners_slot = fact_slots.of facts.Winners
 
--- then three columns of lists for the last clause: numbers of lists, names left on them, vacant seats
-abbrev pub pair_numbers : ℕ
-pair_numbers = 9
-
-abbrev pub names_left : ℕ
-names_left = 10
-
-abbrev pub vacant_seats : ℕ
-vacant_seats = 11
-
-abbrev pub number_of : Shape → ℕ
-number_of shape.One = 0
-number_of shape.Party = 1
-number_of shape.Land = 2
-number_of shape.List = 3
-
 -- a column of each shape for each level of an expression
 abbrev pub passing : ℕ → Shape → ℕ
-passing level s = 12 + 4 * level + number_of s
+passing level s = FIRST_PASSING_SLOT + 4 * level + shape_number s
 
 -- the column of a stage
 abbrev pub stage_slot : ℕ → ℕ
-stage_slot k = 80 + k
+stage_slot k = FIRST_STAGE_SLOT + k
 
 -- a code has them, where these are the columns of its stages
 pub record HasBookSlots (c : CountingCode) (types : List Column) : Type 0 where
@@ -45,5 +32,5 @@ pub record HasBookSlots (c : CountingCode) (types : List Column) : Type 0 where
   pub pair_numbers_are : slice_get c.slots pair_numbers ≡ Some shape.List
   pub names_left_are : slice_get c.slots names_left ≡ Some shape.List
   pub vacant_seats_are : slice_get c.slots vacant_seats ≡ Some shape.List
-  pub passing_are : (level : ℕ) (s : Shape) → level ≤ 16 → slice_get c.slots (passing level s) ≡ Some s
+  pub passing_are : (level : ℕ) (s : Shape) → level ≤ MAX_DEPTH → slice_get c.slots (passing level s) ≡ Some s
   pub stages_are : (k : ℕ) (t : Column) → slice_get types k ≡ Some t → slice_get c.slots (stage_slot k) ≡ Some t.type.shape

@@ -4,6 +4,7 @@ use Rattle.std.specs.Prelude.{◌≡◌, ℕ, ◌+◌, ◌<◌, ◌≤◌, true,
 use Rattle.std.specs.List.{AllZip, list_all}
 use Rattle.sl_stages.specs.declared.fault.LegalFault.{LegalFault}
 use Rattle.sl_stages.specs.declared.table.SeatStep.{SeatStep}
+use Rattle.sl_stages.specs.declared.limits.TheConstants.{MAX_STAGES}
 use Rattle.sl_stages.specs.book.Tests.{first_failing}
 use Rattle.sl_stages.specs.book.Trees.{StageTree, BookTree}
 use Rattle.sl_stages.specs.book.Limits.{is_within_stage}
@@ -17,7 +18,7 @@ use Rattle.sl_machine.specs.State.{State, End, Faulted}
 use Rattle.sl_plans.specs.Trees.{Tree}
 use Rattle.sl_plans.specs.Laid.{AchievesAll}
 use Rattle.sl_pieces.specs.columns.Trees.{copy_tree}
-use Rattle.sl_pieces.specs.exprs.Slots.{passing, stage_slot, HasBookSlots}
+use Rattle.sl_pieces.specs.exprs.Slots.{passing, stage_slot, HasBookSlots, FIRST_PASSING_SLOT}
 use Rattle.sl_pieces.specs.exprs.Pieces.{pieces}
 use Rattle.sl_pieces.specs.exprs.Meaning.{HoldsKnown}
 
@@ -33,7 +34,7 @@ stages_pieces types k (s ∷ ss) = stage_pieces types k s ++ stages_pieces (type
 
 -- the code has the stages from that number on, under their names
 pub record HasStages (c : CountingCode) (k : ℕ) (ss : List StageTree) : Type 0 where
-  pub few : k + length ss ≤ 32
+  pub few : k + length ss ≤ MAX_STAGES
   pub each : (j : ℕ) (s : StageTree) → slice_get ss j ≡ Some s → (stage : CodeStage) × (slice_get c.stages (k + j) ≡ Some stage) × (stage.name ≡ s.name)
 
 -- what stands behind some stages: from the state before the first of them on, their columns are in their slots, their records were added, and no
@@ -41,7 +42,7 @@ pub record HasStages (c : CountingCode) (k : ℕ) (ss : List StageTree) : Type 0
 pub record IsBehind (b : BookTree) (e : Election) (k : Known) (before s : State) : Type 0 where
   pub typed : AllZip (IsTypedAs e) k.types k.columns
   pub known : HoldsKnown b e k.types k.columns s
-  pub low : (slot q : ℕ) → slot < 12 → s.columns slot q ≡ before.columns slot q
+  pub low : (slot q : ℕ) → slot < FIRST_PASSING_SLOT → s.columns slot q ≡ before.columns slot q
   pub added : List SeatStep
   pub steps : s.steps ≡ before.steps ++ added
   pub are : IsPermutation added k.records.steps

@@ -4,6 +4,7 @@ use Rattle.sl_stages.specs.declared.book.Cond.{Cond}
 use Rattle.sl_stages.specs.declared.book.Cond.TheVariants as condition
 use Rattle.sl_stages.specs.declared.book.Shape.TheVariants as shape
 use Rattle.sl_stages.specs.declared.fact.Fact.{Fact}
+use Rattle.sl_stages.specs.declared.limits.TheConstants.{MAX_PER}
 use Rattle.sl_stages.specs.book.Trees.{BookTree}
 use Rattle.sl_stages.specs.book.Typing.{fact_type}
 use Rattle.sl_stages.specs.returns.Election.{Election, IsElection}
@@ -29,9 +30,9 @@ pub record HasFactSlots (c : CountingCode) (x : FactSlots) : Type 0 where
 abbrev pub flags : List Cond → Election → List ℕ
 flags conditions e = by_party e (λ party. one_if (is_eligible conditions e party))
 
--- a share that a register can be multiplied with: so many of at most 1,000
+-- a share that a register can be multiplied with: so many of at most so many
 abbrev pub IsShare : Cond → Type 0
-IsShare (condition.Valid share per) = (share.value ≤ 1000) × (per ≤ 1000)
+IsShare (condition.Valid share per) = (share.value ≤ MAX_PER) × (per ≤ MAX_PER)
 IsShare _ = Unit {0}
 
 -- the column of eligible parties, where two other columns are worked in

@@ -10,6 +10,7 @@ use Rattle.sl_code.specs.declared.operand.Input.TheVariants as input
 use Rattle.sl_plans.specs.declared.plan.Cursor.TheVariants as cursor
 use Rattle.sl_plans.specs.declared.plan.Test.TheVariants as test
 use Rattle.sl_plans.specs.Trees.{Tree, Line, Then, If, Each, ones}
+pub use Rattle.sl_pieces.specs.declared.registers.TheConstants.{TOTAL as all_votes, OWN as own_votes, CELL as cell, OTHER as number}
 
 -- the slots of the eligible parties and of each fact, and two to work in: one of lists and one of parties
 pub record FactSlots : Type 0 where
@@ -17,19 +18,6 @@ pub record FactSlots : Type 0 where
   pub of : Fact → ℕ
   pub votes : ℕ
   pub numbers : ℕ
-
--- the registers: all votes, those of a party, a cell, a number beside it
-abbrev pub all_votes : ℕ
-all_votes = 1
-
-abbrev pub own_votes : ℕ
-own_votes = 2
-
-abbrev pub cell : ℕ
-cell = 5
-
-abbrev pub number : ℕ
-number = 6
 
 abbrev pub nothing : Tree
 nothing = Line []

@@ -12,7 +12,7 @@ use Rattle.sl_code.specs.Codes.{CountingCode}
 use Rattle.sl_machine.specs.State.{State, End, Faulted}
 use Rattle.sl_plans.specs.Achieves.{Achieves}
 use Rattle.sl_pieces.specs.scopes.Forms.{Form, OnScope}
-use Rattle.sl_pieces.specs.awards.Registers as reg
+use Rattle.sl_pieces.specs.declared.registers.TheConstants as reg
 use Rattle.sl_pieces.specs.seats.Slots.{Slots}
 use Rattle.sl_pieces.specs.seats.Filling.{IsReady}
 use Rattle.sl_pieces.specs.nodes.Trees.{find_house}
@@ -21,8 +21,8 @@ use Rattle.sl_pieces.specs.nodes.Trees.{find_house}
 pub record HasHouse (e : Election) (x : Slots) (g : Group) (d : Divisor) (v m : List ℕ) (seats cap : ℕ) (before after : State) : Type 0 where
   pub house : ℕ
   pub grown : IsGrowth d v m seats cap (GrownTo house)
-  pub amount : after.registers reg.amount ≡ house
-  pub total : after.registers reg.total ≡ sum v
+  pub amount : after.registers reg.AMOUNT ≡ house
+  pub total : after.registers reg.TOTAL ≡ sum v
   pub on : OnScope g.scope after
   pub elsewhere : (q : ℕ) → ((j : ℕ) (i : Item) → slice_get g.entries j ≡ Some i → place e i ≢ q) → after.columns x.result q ≡ before.columns x.result q
   pub columns : (slot q : ℕ) → slot ≢ x.result → after.columns slot q ≡ before.columns slot q

@@ -11,7 +11,7 @@ use Rattle.sl_plans.specs.declared.plan.Test.TheVariants as test
 use Rattle.sl_plans.specs.declared.plan.Bound.TheVariants as bound
 use Rattle.sl_plans.specs.Trees.{Tree, Line, Then, If, count_down}
 use Rattle.sl_pieces.specs.scopes.Forms.{Form, table_of, scopes_plan, entries_plan}
-use Rattle.sl_pieces.specs.awards.Registers as reg
+use Rattle.sl_pieces.specs.declared.registers.TheConstants as reg
 use Rattle.sl_pieces.specs.awards.Trees.{count_up, batches, awards}
 use Rattle.sl_pieces.specs.seats.Slots.{Slots}
 use Rattle.sl_pieces.specs.seats.Trees.{nothing, most_seats, faulty, not_over, sums, refuses_seats, minimum_base, outside_base, base_of, enter_quotient, enter_of, ranking_of, fill, enter_again, again_of, seat, tied, refuse}
@@ -19,7 +19,7 @@ use Rattle.sl_pieces.specs.seats.Trees.{nothing, most_seats, faulty, not_over, s
 -- ---- all scopes: the limit first, then each scope from a column of zeros
 
 abbrev pub within_limit : Form → Slots → Tree
-within_limit f x = Then (Line (Get reg.amount x.amounts ∷ [])) (not_over f x reg.amount most_seats end.Limit)
+within_limit f x = Then (Line (Get reg.AMOUNT x.amounts ∷ [])) (not_over f x reg.AMOUNT most_seats end.Limit)
 
 abbrev pub shared : Form → Slots → Tree → Tree
 shared f x scope = Then (scopes_plan f (within_limit f x)) (Then (Line (Zero x.result ∷ [])) (scopes_plan f scope))
@@ -28,7 +28,7 @@ shared f x scope = Then (scopes_plan f (within_limit f x)) (Then (Line (Zero x.r
 
 abbrev pub split_scope : Form → Slots → Method → Majority → Tree
 split_scope f x method majority =
-    Then (Line (Get reg.amount x.amounts ∷ []))
+    Then (Line (Get reg.AMOUNT x.amounts ∷ []))
     (Then (sums f x)
     (Then (refuses_seats f x)
     (Then (fill f x (ranking_of method) (base_of method x) (enter_of f x method majority))
@@ -43,46 +43,46 @@ split_tree f x method majority = shared f x (split_scope f x method majority)
 -- hold lack of their minima
 abbrev pub search_entry : Form → Slots → Divisor → Tree
 search_entry f x d =
-    Then (Line (Get reg.weight x.votes ∷ []))
+    Then (Line (Get reg.WEIGHT x.votes ∷ []))
     (Then (minimum_base x.minima)
-    (Then (If (test.Zero reg.weight) (Line (Add reg.number reg.base ∷ [])) (Line (Add reg.turns reg.base ∷ [])))
-    (Then (Line (Set reg.held 0 ∷ (Store x.result reg.held ∷ [])))
-    (If (test.Zero reg.weight) nothing (Line (Prio d reg.weight reg.held ∷ []))))))
+    (Then (If (test.Zero reg.WEIGHT) (Line (Add reg.NUMBER reg.BASE ∷ [])) (Line (Add reg.TURNS reg.BASE ∷ [])))
+    (Then (Line (Set reg.HELD 0 ∷ (Store x.result reg.HELD ∷ [])))
+    (If (test.Zero reg.WEIGHT) nothing (Line (Prio d reg.WEIGHT reg.HELD ∷ []))))))
 
 -- a batch begins as long as a minimum is not met
 abbrev pub search_batch : Tree
-search_batch = If (test.Zero reg.turns) nothing (If (test.Empty reg.peers) nothing (Line (Mov reg.in_batch reg.peers ∷ [])))
+search_batch = If (test.Zero reg.TURNS) nothing (If (test.Empty reg.PEERS) nothing (Line (Mov reg.IN_BATCH reg.PEERS ∷ [])))
 
 -- a seat of the search
 abbrev pub search_seat : Slots → Divisor → Tree
 search_seat x d =
-    Then (Line (Get reg.held x.result ∷ []))
+    Then (Line (Get reg.HELD x.result ∷ []))
     (Then (minimum_base x.minima)
-    (Then (If (test.Less reg.held reg.base) (Line (count_down reg.turns)) nothing)
-    (Then (Line (count_up reg.held ++ Store x.result reg.held ∷ count_up reg.all_left)) (enter_again x d))))
+    (Then (If (test.Less reg.HELD reg.BASE) (Line (count_down reg.TURNS)) nothing)
+    (Then (Line (count_up reg.HELD ++ Store x.result reg.HELD ∷ count_up reg.ALL_LEFT)) (enter_again x d))))
 
 abbrev pub search : Form → Slots → Divisor → ℕ → Tree
 search f x d cap =
-    Then (Line (Set reg.number 0 ∷ (Set reg.turns 0 ∷ (Table (table_of f) ranking.Quotients ∷ []))))
+    Then (Line (Set reg.NUMBER 0 ∷ (Set reg.TURNS 0 ∷ (Table (table_of f) ranking.Quotients ∷ []))))
     (Then (entries_plan f (search_entry f x d))
-    (Then (Line (Set reg.all_left 0 ∷ (Set reg.left cap ∷ []))) (batches reg.left (bound.AtMost most_seats) search_batch (search_seat x d))))
+    (Then (Line (Set reg.ALL_LEFT 0 ∷ (Set reg.LEFT cap ∷ []))) (batches reg.LEFT (bound.AtMost most_seats) search_batch (search_seat x d))))
 
 -- the amount grows to the house that the search found
 abbrev pub take_house : Form → Slots → ℕ → Tree
 take_house f x cap =
-    Then (Line (Mov reg.first_passing reg.in_batch ∷ (Add reg.first_passing reg.turns ∷ [])))
-    (Then (If (test.Zero reg.first_passing) nothing (faulty f x end.Cap))
-    (Then (Line (Add reg.all_left reg.number ∷ (Max reg.amount reg.all_left ∷ []))) (not_over f x reg.amount cap end.Cap)))
+    Then (Line (Mov reg.FIRST_PASSING reg.IN_BATCH ∷ (Add reg.FIRST_PASSING reg.TURNS ∷ [])))
+    (Then (If (test.Zero reg.FIRST_PASSING) nothing (faulty f x end.Cap))
+    (Then (Line (Add reg.ALL_LEFT reg.NUMBER ∷ (Max reg.AMOUNT reg.ALL_LEFT ∷ []))) (not_over f x reg.AMOUNT cap end.Cap)))
 
 abbrev pub find_house : Form → Slots → Divisor → ℕ → Tree
 find_house f x d cap = Then (search f x d cap) (take_house f x cap)
 
 abbrev pub grow_scope : Form → Slots → Divisor → Majority → ℕ → Tree
 grow_scope f x d majority cap =
-    Then (Line (Get reg.amount x.amounts ∷ []))
+    Then (Line (Get reg.AMOUNT x.amounts ∷ []))
     (Then (sums f x)
-    (Then (If (test.Zero reg.total) (faulty f x end.NoList) nothing)
-    (Then (not_over f x reg.needed cap end.Cap)
+    (Then (If (test.Zero reg.TOTAL) (faulty f x end.NoList) nothing)
+    (Then (not_over f x reg.NEEDED cap end.Cap)
     (Then (find_house f x d cap)
     (Then (fill f x (ranking_of (by.Divisor d)) (outside_base x.minima) (enter_quotient f x d))
     (Then (awards x.stage (bound.AtMost most_seats) (tied f x) (seat f x (again_of x (by.Divisor d)))) (refuse f x majority)))))))

@@ -16,14 +16,8 @@ use Rattle.sl_machine.specs.State.{State}
 use Rattle.sl_plans.specs.declared.plan.Test.TheVariants as test
 use Rattle.sl_plans.specs.declared.plan.Cursor.TheVariants as cursor
 use Rattle.sl_plans.specs.Trees.{Tree, Line, If, Each}
-
--- what the entries are, and in which scopes: all parties, all Länder or all lists in one scope; the lists of each party; the lists in each Land
-pub data Form : Type 0 where
-  AllParties : Form
-  AllLands : Form
-  AllLists : Form
-  ListsOfParty : Form
-  ListsInLand : Form
+pub use Rattle.sl_pieces.specs.declared.form.Form.{Form}
+pub use Rattle.sl_pieces.specs.declared.form.Form.TheVariants.{AllParties, AllLands, AllLists, ListsOfParty, ListsInLand}
 
 -- the shape of the amounts, and that of the votes
 abbrev pub amounts_of : Form → Shape

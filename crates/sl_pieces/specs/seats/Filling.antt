@@ -24,7 +24,7 @@ use Rattle.sl_plans.specs.inner.Frames.{may_write_register, may_write_slot, may_
 use Rattle.sl_pieces.specs.scopes.Forms.{Form, table_of, groups_of, OnScope, OnItem}
 use Rattle.sl_pieces.specs.arenas.Arenas as arenas
 use Rattle.sl_pieces.specs.arenas.Arenas.{Arena, HasWaiting, seat_of, divisor_arena, hamilton_arena}
-use Rattle.sl_pieces.specs.awards.Registers as reg
+use Rattle.sl_pieces.specs.declared.registers.TheConstants as reg
 use Rattle.sl_pieces.specs.seats.Slots.{Slots, HasSlots, HasCells, HasMinima}
 use Rattle.sl_pieces.specs.seats.Trees.{fill, base_of, outside_base, enter_of, enter_quotient, ranking_of}
 use Rattle.sl_pieces.specs.seats.Seated.{IsSeated}
@@ -35,19 +35,19 @@ use Rattle.sl_pieces.specs.seats.Seated.{IsSeated}
 pub record AtEntry (g : Group) (v : List ℕ) (seats j : ℕ) (i : Item) (s : State) : Type 0 where
   pub on_item : OnItem i s
   pub on_scope : OnScope g.scope s
-  pub amount : s.registers reg.amount ≡ seats
-  pub total : s.registers reg.total ≡ sum v
-  pub weight : s.registers reg.weight ≡ slice_index v j
+  pub amount : s.registers reg.AMOUNT ≡ seats
+  pub total : s.registers reg.TOTAL ≡ sum v
+  pub weight : s.registers reg.WEIGHT ≡ slice_index v j
 
 -- it finds them, and leaves what is known of the register of steps; it writes nothing but registers
 pub record FindsBase (c : CountingCode) (e : Election) (x : Slots) (g : Group) (v m : List ℕ) (seats : ℕ) (b : List ℕ) (Rest : ℕ → ℕ → Type 0) (tree : Tree) :
     Type 0 where
   pub finds : (j : ℕ) (i : Item) (s : State) → slice_get g.entries j ≡ Some i → AtEntry g v seats j i s → HasMinima e g.entries v x.minima s m →
-      Achieves c e tree s (λ after. (after.registers reg.base ≡ slice_index b j) × Rest j (after.registers reg.step)) Never
-  pub keeps_amount : may_write_register tree reg.amount ≡ false
-  pub keeps_total : may_write_register tree reg.total ≡ false
-  pub keeps_left : may_write_register tree reg.left ≡ false
-  pub keeps_weight : may_write_register tree reg.weight ≡ false
+      Achieves c e tree s (λ after. (after.registers reg.BASE ≡ slice_index b j) × Rest j (after.registers reg.STEP)) Never
+  pub keeps_amount : may_write_register tree reg.AMOUNT ≡ false
+  pub keeps_total : may_write_register tree reg.TOTAL ≡ false
+  pub keeps_left : may_write_register tree reg.LEFT ≡ false
+  pub keeps_weight : may_write_register tree reg.WEIGHT ≡ false
   pub keeps_slots : (slot : ℕ) → may_write_slot tree slot ≡ false
   pub keeps_party : may_move tree cursor.Party ≡ false
   pub keeps_land : may_move tree cursor.Land ≡ false
@@ -65,13 +65,13 @@ told_of told v j i = if nat_lt 0 (slice_index v j) then told j i else []
 pub record EntersNext (c : CountingCode) (e : Election) (g : Group) (a : Arena) (v : List ℕ) (seats : ℕ) (Rest : ℕ → ℕ → Type 0)
     (told : ℕ → Item → List Weight) (tree : Tree) : Type 0 where
   pub enters : (j : ℕ) (i : Item) (s : State) (others : List Entry) → slice_get g.entries j ≡ Some i → AtEntry g v seats j i s → 0 < slice_index v j →
-      s.registers reg.base ≡ slice_index a.ladders.base j → slice_index a.ladders.base j ≤ seats → Rest j (s.registers reg.step) →
+      s.registers reg.BASE ≡ slice_index a.ladders.base j → slice_index a.ladders.base j ≤ seats → Rest j (s.registers reg.STEP) →
       s.table ≡ Some (arenas.table_of a others) →
       Achieves c e tree s
       (λ after. (after.table ≡ Some (arenas.table_of a (seat_of a j (slice_index a.ladders.base j) ∷ others))) × (after.weights ≡ s.weights ++ told j i)) Never
-  pub keeps_amount : may_write_register tree reg.amount ≡ false
-  pub keeps_total : may_write_register tree reg.total ≡ false
-  pub keeps_left : may_write_register tree reg.left ≡ false
+  pub keeps_amount : may_write_register tree reg.AMOUNT ≡ false
+  pub keeps_total : may_write_register tree reg.TOTAL ≡ false
+  pub keeps_left : may_write_register tree reg.LEFT ≡ false
   pub keeps_slots : (slot : ℕ) → may_write_slot tree slot ≡ false
   pub keeps_party : may_move tree cursor.Party ≡ false
   pub keeps_land : may_move tree cursor.Land ≡ false
@@ -91,7 +91,7 @@ pub record IsOfScope (e : Election) (f : Form) (g : Group) (by : Ranking) (v : L
 pub record IsFilled (e : Election) (x : Slots) (g : Group) (a : Arena) (v : List ℕ) (seats : ℕ) (told : List Weight) (before after : State) : Type 0 where
   pub seated : IsSeated e x g a v seats told before a.ladders.base after
   pub waiting : HasWaiting a a.ladders.base after
-  pub left : after.registers reg.left ≡ seats - sum a.ladders.base
+  pub left : after.registers reg.LEFT ≡ seats - sum a.ladders.base
 
 abbrev pub FillsAchieve : Type 1
 FillsAchieve =
@@ -99,7 +99,7 @@ FillsAchieve =
     (Rest : ℕ → ℕ → Type 0) (told : ℕ → Item → List Weight) (base enter : Tree) (state : State) →
     slice_get (groups_of e f) k ≡ Some g → HasSlots c f x name → IsOfScope e f g by v a → FindsBase c e x g v m seats a.ladders.base Rest base →
     EntersNext c e g a v seats Rest told enter → sum a.ladders.base ≤ seats → seats ≤ MAX_SEATS → OnScope g.scope state →
-    state.registers reg.amount ≡ seats → state.registers reg.total ≡ sum v → HasCells e g.entries (state.columns x.votes) v →
+    state.registers reg.AMOUNT ≡ seats → state.registers reg.TOTAL ≡ sum v → HasCells e g.entries (state.columns x.votes) v →
     HasMinima e g.entries v x.minima state m →
     Achieves c e (fill f x by base enter) state
     (IsFilled e x g a v seats (flat_map (λ y. told_of told v y.0 y.1) (enumerate_from 0 g.entries)) state) Never
@@ -126,8 +126,8 @@ pub record IsReady (c : CountingCode) (e : Election) (f : Form) (x : Slots) (nam
   pub few : seats ≤ MAX_SEATS
   pub weights : All (λ weight. weight ≤ MAX_WEIGHT) v
   pub on : OnScope g.scope s
-  pub amount : s.registers reg.amount ≡ seats
-  pub total : s.registers reg.total ≡ sum v
+  pub amount : s.registers reg.AMOUNT ≡ seats
+  pub total : s.registers reg.TOTAL ≡ sum v
   pub votes : HasCells e g.entries (s.columns x.votes) v
   pub minima : HasMinima e g.entries v x.minima s m
 

@@ -13,7 +13,7 @@ use Rattle.sl_stages.specs.laws.Ladders.{Ladders, IsTop}
 use Rattle.sl_machine.specs.State.{State}
 use Rattle.sl_pieces.specs.scopes.Forms.{OnScope}
 use Rattle.sl_pieces.specs.arenas.Arenas.{Arena}
-use Rattle.sl_pieces.specs.awards.Registers as reg
+use Rattle.sl_pieces.specs.declared.registers.TheConstants as reg
 use Rattle.sl_pieces.specs.seats.Slots.{Slots, HasCells}
 
 -- the records of the seats that the entries hold with t, of which those of w are told in the end
@@ -31,8 +31,8 @@ pub record HasSteps (x : Slots) (g : Group) (a : Arena) (seats : ℕ) (before : 
 pub record IsSeated (e : Election) (x : Slots) (g : Group) (a : Arena) (v : List ℕ) (seats : ℕ) (told : List Weight) (before : State) (t : List ℕ) (s : State) :
     Type 0 where
   pub on : OnScope g.scope s
-  pub amount : s.registers reg.amount ≡ seats
-  pub total : s.registers reg.total ≡ sum v
+  pub amount : s.registers reg.AMOUNT ≡ seats
+  pub total : s.registers reg.TOTAL ≡ sum v
   pub cells : HasCells e g.entries (s.columns x.result) t
   pub elsewhere : (q : ℕ) → ((j : ℕ) (i : Item) → slice_get g.entries j ≡ Some i → place e i ≢ q) → s.columns x.result q ≡ before.columns x.result q
   pub columns : (slot q : ℕ) → slot ≢ x.result → s.columns slot q ≡ before.columns slot q

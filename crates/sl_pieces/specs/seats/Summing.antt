@@ -15,7 +15,7 @@ use Rattle.sl_machine.specs.Effects.{most}
 use Rattle.sl_plans.specs.Achieves.{Achieves, Never}
 use Rattle.sl_pieces.specs.scopes.Forms.{Form, groups_of, OnScope}
 use Rattle.sl_pieces.specs.arenas.Arenas.{Arena}
-use Rattle.sl_pieces.specs.awards.Registers as reg
+use Rattle.sl_pieces.specs.declared.registers.TheConstants as reg
 use Rattle.sl_pieces.specs.seats.Slots.{Slots, HasSlots, HasCells, HasMinima, IsUnchanged}
 use Rattle.sl_pieces.specs.seats.Trees.{sums, refuses_seats, refuse}
 use Rattle.sl_pieces.specs.seats.Seated.{IsSeated}
@@ -31,9 +31,9 @@ WeightsFit =
 -- the sums are in their registers, or the most that a register holds, and all else is as it was
 pub record AreSummed (g : Group) (v m : List ℕ) (before after : State) : Type 0 where
   pub on : OnScope g.scope after
-  pub amount : after.registers reg.amount ≡ before.registers reg.amount
-  pub total : after.registers reg.total ≡ min (sum v) most
-  pub needed : after.registers reg.needed ≡ min (sum m) most
+  pub amount : after.registers reg.AMOUNT ≡ before.registers reg.AMOUNT
+  pub total : after.registers reg.TOTAL ≡ min (sum v) most
+  pub needed : after.registers reg.NEEDED ≡ min (sum m) most
   pub unchanged : IsUnchanged before after
 
 abbrev pub SumsAchieve : Type 0
@@ -59,8 +59,8 @@ pub record EndsRefused (x : Slots) (g : Group) (v m : List ℕ) (seats : ℕ) (e
 abbrev pub SeatsAreRefused : Type 0
 SeatsAreRefused =
     (c : CountingCode) (e : Election) (f : Form) (x : Slots) (name : List ℕ) (k : ℕ) (g : Group) (v m : List ℕ) (seats : ℕ) (state : State) →
-    slice_get (groups_of e f) k ≡ Some g → HasSlots c f x name → OnScope g.scope state → seats ≤ MAX_SEATS → state.registers reg.amount ≡ seats →
-    state.registers reg.total ≡ sum v → state.registers reg.needed ≡ min (sum m) most →
+    slice_get (groups_of e f) k ≡ Some g → HasSlots c f x name → OnScope g.scope state → seats ≤ MAX_SEATS → state.registers reg.AMOUNT ≡ seats →
+    state.registers reg.TOTAL ≡ sum v → state.registers reg.NEEDED ≡ min (sum m) most →
     Achieves c e (refuses_seats f x) state (GoesOn g v m seats state) (EndsRefused x g v m seats)
 
 -- ---- the majority clause

@@ -1,5 +1,7 @@
 -- What a plan costs, as numbers: so many steps, so many for each party, for each Land, for each pair of both, and the same for each winner.
 use Rattle.std.specs.Prelude.{ℕ, ◌+◌, ◌*◌, Bool, true, ◌==◌, ◌&&◌, nat_lt, length}
+use Rattle.sl_ratio.specs.declared.limits.TheConstants.{MAX_SEATS}
+use Rattle.sl_machine.specs.declared.machine.TheConstants.{STEPS_EACH}
 use Rattle.sl_plans.specs.declared.plan.Cursor.{Cursor}
 use Rattle.sl_plans.specs.declared.plan.Cursor.TheVariants as cursor
 use Rattle.sl_plans.specs.declared.plan.Bound.{Bound}
@@ -115,4 +117,4 @@ up_to n r = nat_lt r.fixed (n + 1) && (nat_lt r.by_party (n + 1) && (nat_lt r.by
 
 -- it is at most a share, whatever the election
 abbrev pub is_in_share : Price → Bool
-is_in_share q = up_to 1600800 q.plain && up_to 400 q.by_win
+is_in_share q = up_to (STEPS_EACH * (MAX_SEATS + 2)) q.plain && up_to STEPS_EACH q.by_win

@@ -56,13 +56,13 @@ products a b c d h k =
     omega arith
 
 dean_den : (a : ℕ) → a ≤ MAX_SEATS → 2 * a * (a + 1) ≤ MAX_DENOMINATOR
-dean_den a h = let p : 2 * a * (a + 1) ≤ 8000 * 4001 = products (2 * a) 8000 (a + 1) 4001 (omega arith) (omega arith) in omega arith
+dean_den a h = let p : 2 * a * (a + 1) ≤ 2 * MAX_SEATS * (MAX_SEATS + 1) = products (2 * a) (2 * MAX_SEATS) (a + 1) (MAX_SEATS + 1) (omega arith) (omega arith) in omega arith
 
 dean_num : (v a : ℕ) → v ≤ MAX_WEIGHT → a ≤ MAX_SEATS → v * (2 * a + 1) ≤ MAX_NUMERATOR
-dean_num v a w h = let p : v * (2 * a + 1) ≤ MAX_WEIGHT * 8001 = products v MAX_WEIGHT (2 * a + 1) 8001 w (omega arith) in omega arith
+dean_num v a w h = let p : v * (2 * a + 1) ≤ MAX_WEIGHT * (2 * MAX_SEATS + 1) = products v MAX_WEIGHT (2 * a + 1) (2 * MAX_SEATS + 1) w (omega arith) in omega arith
 
 hill_den : (a : ℕ) → a ≤ MAX_SEATS → a * (a + 1) ≤ MAX_DENOMINATOR
-hill_den a h = let p : a * (a + 1) ≤ 4000 * 4001 = products a 4000 (a + 1) 4001 (omega arith) (omega arith) in omega arith
+hill_den a h = let p : a * (a + 1) ≤ MAX_SEATS * (MAX_SEATS + 1) = products a MAX_SEATS (a + 1) (MAX_SEATS + 1) (omega arith) (omega arith) in omega arith
 
 hill_num : (v : ℕ) → v ≤ MAX_WEIGHT → v * v ≤ MAX_NUMERATOR
 hill_num v w = let p : v * v ≤ MAX_WEIGHT * MAX_WEIGHT = products v MAX_WEIGHT v MAX_WEIGHT w w in omega arith

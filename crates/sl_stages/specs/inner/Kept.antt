@@ -1,6 +1,7 @@
 -- How a value of `Returns` keeps an election.
 use Rattle.std.specs.Prelude.{◌≡◌, map}
-use Rattle.sl_stages.specs.declared.limits.TheConstants.{MAX_LANDS, MAX_PARTIES, MAX_WINS}
+use Rattle.sl_ratio.specs.declared.limits.TheConstants.{MAX_LANDS, MAX_PARTIES}
+use Rattle.sl_stages.specs.declared.limits.TheConstants.{MAX_WINS}
 use Rattle.sl_stages.specs.declared.returns.Returns.TheInside.{Inside}
 use Rattle.sl_stages.specs.returns.Election.{Election}
 

@@ -1,7 +1,8 @@
 -- What is told of a list (docs/returns.md, section 2).
 use Rattle.std.specs.Prelude.{ℕ, ◌≤◌, Option, Some, None}
 use Rattle.std.specs.Option.{ForSome}
-use Rattle.sl_stages.specs.declared.limits.TheConstants.{MAX_VOTES, MAX_SLATE}
+use Rattle.sl_ratio.specs.declared.limits.TheConstants.{MAX_VOTES}
+use Rattle.sl_stages.specs.declared.limits.TheConstants.{MAX_SLATE}
 use Rattle.sl_stages.specs.declared.returns.ListVotes.{ListVotes}
 
 -- a list's valid votes, its counted votes, and the names left on it; nothing where there is no list

@@ -3,8 +3,8 @@
 ghost use Rattle.std.specs.Prelude.{◌≡◌, ◌<◌, ◌≤◌, ◌++◌, ◌∷◌, [], true, false, None, Some, length, map, replicate, slice_index_or, slice_set, vec_len, vec_capacity, IfOk, IsOk, OnOk, OnErr};
 ghost use Rattle.std.specs.Option.{ForSome};
 ghost use Rattle.sl_ratio.specs.Names.{name_fault, spelling_fault};
-ghost use Rattle.sl_ratio.specs.declared.limits.TheConstants.{MAX_SEATS};
-ghost use Rattle.sl_stages.specs.declared.limits.TheConstants.{MAX_LANDS, MAX_PARTIES, MAX_VOTES, MAX_SLATE, MAX_WINS, MAX_LOTS};
+ghost use Rattle.sl_ratio.specs.declared.limits.TheConstants.{MAX_SEATS, MAX_LANDS, MAX_PARTIES, MAX_VOTES};
+ghost use Rattle.sl_stages.specs.declared.limits.TheConstants.{MAX_SLATE, MAX_WINS, MAX_LOTS};
 
 use crate::label::Label;
 use crate::limits::MAX_PARTIES;

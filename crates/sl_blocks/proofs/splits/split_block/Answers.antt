@@ -1,6 +1,5 @@
 use Rattle.std.proofs.Common.{vec_len, arith}
 use Rattle.sl_pieces.specs.nodes.Trees.{split_tree}
-use Rattle.sl_blocks.specs.Given.{meant}
 use Rattle.sl_blocks.specs.Jobs.{slots_of}
 use Rattle.sl_blocks.proofs.FineSplits.{split_short}
 use Rattle.sl_blocks.proofs.Laid.{form_laid}
@@ -10,14 +9,14 @@ use Rattle.sl_blocks.proofs.splits.split_block.Goals as goal
 pub lay_block-requires-clause-fits : goal.lay_block-requires-clause-fits
 lay_block-requires-clause-fits c =
     let j = c.args.job.now in
-    omega (arith, c.requires.room, split_short (meant c.form_of.result) (slots_of j) c.args.method j.majority)
+    omega (arith, c.requires.room, split_short c.form_of.result (slots_of j) c.args.method j.majority)
 
 pub returns-clause-laid : goal.returns-clause-laid
 returns-clause-laid c =
     let j = c.args.job.now in
     let code = c.args.code.now in
     form_laid c.lay_block.result c.args.slots.now j (λ f. split_tree f (slots_of j) c.args.method j.majority)
-    (vec_len code) code.items c.lay_block.new.code.items (meant c.form_of.result) code.ok.0 c.form_of.ensures c.lay_block.ensures.ok
+    (vec_len code) code.items c.lay_block.new.code.items c.form_of.result code.ok.0 c.form_of.ensures c.lay_block.ensures.ok
 
 pub returns-clause-ok : goal.returns-clause-ok
 returns-clause-ok c =

@@ -5,7 +5,8 @@ use Rattle.sl_code.specs.declared.instr.Instr.TheVariants.{Input}
 use Rattle.sl_code.specs.declared.operand.Input.TheVariants as input
 use Rattle.sl_plans.specs.Trees.{Line}
 use Rattle.sl_pieces.specs.columns.Trees.{pair_tree}
-use Rattle.sl_pieces.specs.exprs.Slots.{winners_slot, names_left, vacant_seats}
+use Rattle.sl_pieces.specs.declared.slots.TheConstants.{NAMES_LEFT as names_left, VACANT_SEATS as vacant_seats}
+use Rattle.sl_pieces.specs.exprs.Slots.{winners_slot}
 use Rattle.sl_pieces.specs.closing.Trees.{final_seats, vacant_pieces}
 use Rattle.sl_compile.proofs.Places.{laid_as, laid_behind, laid_then}
 use Rattle.sl_compile.proofs.closing.lay_vacant.Goals as goal

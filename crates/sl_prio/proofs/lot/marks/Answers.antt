@@ -5,7 +5,7 @@ use Rattle.sl_prio.proofs.Marks.{one_more_marked}
 use Rattle.sl_prio.proofs.lot.marks.Goals as goal
 
 pub loop-named-init : goal.loop-named-init
-loop-named-init c = λ index d l. get_or-replicate 16384 index _ d l
+loop-named-init c = λ index d l. get_or-replicate _ index _ d l
 
 pub loop-named-preserved : goal.loop-named-preserved
 loop-named-preserved c =

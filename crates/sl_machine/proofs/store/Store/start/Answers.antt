@@ -4,6 +4,7 @@ use Rattle.std.proofs.lemmas.List.{length-replicate}
 use Rattle.sl_stages.specs.declared.table.Mark.TheVariants as mark
 use Rattle.sl_stages.specs.declared.table.Placed.{Placed}
 use Rattle.sl_stages.specs.declared.table.Placed.TheVariants as placed
+use Rattle.sl_verify.specs.declared.known.TheConstants.{REGISTERS}
 use Rattle.sl_machine.proofs.stores.Starting.{zero_at, unseated_at, blank, blank_at, blank_widths, started}
 use Rattle.sl_machine.proofs.store.Store.start.Goals as goal
 
@@ -14,8 +15,8 @@ returns-clause-state c =
     let columns = map (λ column. column.items) c.in_ok-columns.columns.items in
     let blanks : columns ≡ map (blank e) slots = c.in_ok-columns.ensures ∙ ap (map (blank e)) c.slots.ensures.slots in
     let nobody : c.in_ok-placed.placed.items ≡ replicate c.wins.result placed.Unseated = c.in_ok-placed.ensures in
-    started (replicate {A = ℕ} 16 0) columns c.off.result (mark.Quotient c.new.result) c.new-2.result.items c.new-3.result.items c.in_ok-placed.placed.items
-    (zero_at 16)
+    started (replicate {A = ℕ} REGISTERS 0) columns c.off.result (mark.Quotient c.new.result) c.new-2.result.items c.new-3.result.items c.in_ok-placed.placed.items
+    (zero_at REGISTERS)
     (λ k p. ap (λ (css : List (List ℕ)). get_or (get_or css k []) p 0) blanks ∙ blank_at e slots k p)
     c.off.ensures (ap mark.Quotient c.new.ensures.value) c.new-2.ensures.items c.new-3.ensures.items
     (λ w. ap (λ (ps : List Placed). get_or ps w placed.Unseated) nobody ∙ unseated_at c.wins.result w)

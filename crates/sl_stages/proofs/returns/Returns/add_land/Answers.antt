@@ -2,7 +2,7 @@
 use Rattle.std.proofs.Common.{◌≡◌, ◌++◌, ◌∷◌, [], List, ℕ, None, map, replicate, rules, ap, sym, subst, ◌∙◌}
 use Rattle.std.proofs.lemmas.List.{map_push}
 use Rattle.sl_ratio.specs.Names.{name_fault}
-use Rattle.sl_stages.specs.declared.limits.TheConstants.{MAX_LANDS, MAX_PARTIES}
+use Rattle.sl_ratio.specs.declared.limits.TheConstants.{MAX_LANDS, MAX_PARTIES}
 use Rattle.sl_stages.specs.returns.Election.{Election, IsElection, with_land}
 use Rattle.sl_stages.specs.inner.Kept.{election_of}
 use Rattle.sl_stages.proofs.Elections.{is_with_land}

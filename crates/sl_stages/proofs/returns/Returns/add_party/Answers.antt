@@ -1,7 +1,7 @@
 -- The returns with a party more.
 use Rattle.std.proofs.Common.{◌≡◌, ◌++◌, ◌∷◌, [], List, ℕ, None, rules, ap, sym, subst, ◌∙◌}
 use Rattle.sl_ratio.specs.Names.{name_fault}
-use Rattle.sl_stages.specs.declared.limits.TheConstants.{MAX_PARTIES}
+use Rattle.sl_ratio.specs.declared.limits.TheConstants.{MAX_PARTIES}
 use Rattle.sl_stages.specs.returns.Election.{Election, IsElection, with_party}
 use Rattle.sl_stages.specs.inner.Kept.{election_of}
 use Rattle.sl_stages.proofs.Elections.{is_with_party}

@@ -1,8 +1,9 @@
-//! The registers of blocks: each has one use. The last one is that of plans, `ONES`.
+//! The registers of the plans of a rulebook, for code and definitions alike: those of blocks, of which each has one use, and, from
+//! `OWN` on, those of columns and facts beside `TOTAL`. The last register is that of all plans, `sl_plans::ONES`.
 
 /// The seats of the scope.
 pub const AMOUNT: u8 = 0;
-/// The sum of its weights.
+/// The sum of its weights; elsewhere, any sum.
 pub const TOTAL: u8 = 1;
 /// The sum of its minima.
 pub const NEEDED: u8 = 2;
@@ -28,5 +29,11 @@ pub const IN_BATCH: u8 = 11;
 pub const STEP: u8 = 12;
 /// For numbers in passing.
 pub const FIRST_PASSING: u8 = 13;
-
+/// For a second such number.
 pub const SECOND_PASSING: u8 = 14;
+/// The votes of a party.
+pub const OWN: u8 = 2;
+/// A cell of a column.
+pub const CELL: u8 = 5;
+/// Another cell, or a number beside it.
+pub const OTHER: u8 = 6;
