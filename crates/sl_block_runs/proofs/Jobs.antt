@@ -8,7 +8,7 @@ use Rattle.sl_stages.specs.declared.book.Shape.{Shape}
 use Rattle.sl_stages.specs.declared.book.Shape.TheVariants as shape
 use Rattle.sl_pieces.specs.declared.form.Form.TheVariants.{AllLists}
 use Rattle.sl_blocks.specs.declared.job.Job.{Job}
-use Rattle.sl_blocks.specs.Jobs.{IsJob, IsSplitJob, IsGrowthJob}
+use Rattle.sl_blocks.specs.inner.Jobs.{IsJob, IsSplitJob, IsGrowthJob}
 
 -- one amount; votes, results and minima of lists; and the eligible parties
 abbrev pub shapes : List Shape

@@ -24,13 +24,9 @@ use Rattle.sl_pieces.specs.columns.Columns.{HoldsColumn}
 use Rattle.sl_pieces.specs.seats.Slots.{HasSlots}
 use Rattle.sl_pieces.specs.nodes.Scopes.{HoldsMinima, HoldsArguments}
 use Rattle.sl_blocks.specs.declared.job.Job.{Job}
-use Rattle.sl_blocks.specs.Jobs.{slots_of, IsJob, TakesMinima, HasJob, HasWeights, name_in}
+use Rattle.sl_blocks.specs.inner.Jobs.{slots_of, IsJob, TakesMinima, HasJob, HasWeights, name_in}
 
 module _ (shapes : List Shape) (f : Form) (j : Job) (code : CountingCode) (job : IsJob shapes f j) (has : HasJob shapes j code) where
-  -- a slot among those shapes is a slot of the code
-  slot_there : (k : ℕ) (s : Shape) → slice_get shapes k ≡ Some s → slice_get code.slots k ≡ Some s
-  slot_there k s there = ap (λ (xs : List Shape). slice_get xs k) has.slots ∙ there
-
   not_last : (j.stage == LAST_CLAUSE) ≡ false
   not_last = ne_eqb j.stage LAST_CLAUSE (λ (same : j.stage ≡ LAST_CLAUSE). omega (arith, same, job.stage))
 
@@ -39,10 +35,10 @@ module _ (shapes : List Shape) (f : Form) (j : Job) (code : CountingCode) (job :
 
   pub has_slots : HasSlots code f (slots_of j) has.stage.name
   has_slots = record {
-    amounts = slot_there j.amount (amounts_of f) job.amounts;
-    votes = slot_there j.weights (votes_of f) job.votes;
-    minima = λ slot is. slot_there slot (votes_of f) (job.minima slot is);
-    result = slot_there j.result (votes_of f) job.result;
+    amounts = has.slots j.amount (amounts_of f) job.amounts;
+    votes = has.slots j.weights (votes_of f) job.votes;
+    minima = λ slot is. has.slots slot (votes_of f) (job.minima slot is);
+    result = has.slots j.result (votes_of f) job.result;
     not_amounts = job.not_amounts;
     not_votes = job.not_votes;
     not_minima = job.not_minima;
@@ -54,7 +50,7 @@ module _ (shapes : List Shape) (f : Form) (j : Job) (code : CountingCode) (job :
     -- what is in a slot's column is what the state holds there
     holds_column : (k : ℕ) (s : Shape) → slice_get shapes k ≡ Some s → HoldsColumn e s (state.columns k) (column_of code e state k)
     holds_column k s there =
-        let shape_is : slice_index_or code.slots k shape.One ≡ s = get_or_from_slice_get code.slots k s shape.One (slot_there k s there) in
+        let shape_is : slice_index_or code.slots k shape.One ≡ s = get_or_from_slice_get code.slots k s shape.One (has.slots k s there) in
         subst (λ (x : Shape). HoldsColumn e s (state.columns k) (map (state.columns k) (range_with_len 0 (cells_of e x)))) (sym shape_is)
         (record {
           long = length-map-range_with_len (state.columns k) 0 (cells_of e s);

@@ -14,8 +14,8 @@ use Rattle.sl_pieces.specs.seats.Trees.{not_over, ranking_of, tied}
 use Rattle.sl_pieces.specs.nodes.Trees.{within_limit, take_house}
 use Rattle.sl_blocks.specs.declared.job.Job.{Job}
 use Rattle.sl_blocks.specs.declared.blanks.Block.{Block}
-use Rattle.sl_blocks.specs.Jobs.{IsJob}
-use Rattle.sl_blocks.specs.Layout.{IsLaid}
+use Rattle.sl_blocks.specs.inner.Jobs.{IsJob}
+use Rattle.sl_blocks.specs.inner.Layout.{IsLaid}
 use Rattle.sl_blocks.specs.inner.LayoutParts.{form_in, slots_in, sum_entries, fill_outside, search_entries, search_batches, some_votes, count_left}
 use Rattle.sl_blocks.specs.inner.LayoutParts.{whole_batches, drawn_batch, refuse_in, rest_in, growth_with, all_with, split_all, growth_all, block_tree}
 

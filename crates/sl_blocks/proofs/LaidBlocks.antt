@@ -10,9 +10,9 @@ use Rattle.sl_pieces.specs.declared.form.Form.{Form}
 use Rattle.sl_pieces.specs.scopes.Forms.{amounts_of}
 use Rattle.sl_pieces.specs.covers.Trees.{CoverSlots, cover_tree}
 use Rattle.sl_blocks.specs.declared.job.Job.{Job}
-use Rattle.sl_blocks.specs.Jobs.{IsJob, TakesMinima, IsGrowthJob, IsSplitBlock, IsGrowthBlock}
-use Rattle.sl_blocks.specs.Covers.{IsCoverJob, IsCoverBlock}
-use Rattle.sl_blocks.specs.Layout.{IsLaid, IsLaidSplit, IsLaidGrowth}
+use Rattle.sl_blocks.specs.inner.Jobs.{IsJob, TakesMinima, IsGrowthJob, IsSplitBlock, IsGrowthBlock}
+use Rattle.sl_blocks.specs.inner.Covers.{IsCoverJob, IsCoverBlock}
+use Rattle.sl_blocks.specs.inner.Layout.{IsLaid, IsLaidSplit, IsLaidGrowth}
 use Rattle.sl_blocks.proofs.MakingBlocks.{is_split_block, is_growth_block}
 use Rattle.sl_blocks.proofs.MakingCovers.{is_cover_block}
 

@@ -16,7 +16,7 @@ use Rattle.sl_pieces.specs.nodes.Trees.{split_tree, grow_tree}
 use Rattle.sl_pieces.specs.nodes.Nodes.{HasResult, EndsWith}
 use Rattle.sl_pieces.proofs.nodes.Nodes.{splits_achieve, growths_achieve}
 use Rattle.sl_blocks.specs.declared.job.Job.{Job}
-use Rattle.sl_blocks.specs.Jobs.{slots_of, IsJob, TakesMinima, HasJob, HasWeights, SplitMeans, GrowthMeans, IsResultBlock}
+use Rattle.sl_blocks.specs.inner.Jobs.{slots_of, IsJob, TakesMinima, HasJob, HasWeights, SplitMeans, GrowthMeans, IsResultBlock}
 use Rattle.sl_blocks.proofs.FineRoles.{HasShapes}
 use Rattle.sl_blocks.proofs.FineSplits.{split_fine, split_quiet, split_priced, split_short}
 use Rattle.sl_blocks.proofs.FineGrowths.{growth_fine, growth_quiet, growth_priced, growth_short}

@@ -16,21 +16,18 @@ use Rattle.sl_plans.specs.Laid.{laid}
 use Rattle.sl_pieces.specs.covers.Trees.{CoverSlots, cover_tree}
 use Rattle.sl_pieces.specs.covers.Covering.{HasCoverSlots, BeginsCovering, AreCovered, EndsInTie}
 use Rattle.sl_pieces.proofs.covers.Covering.{coverings_achieve}
-use Rattle.sl_blocks.specs.Covers.{IsCoverJob, HasSlotsOf, flagged, BeginsCover, IsCoverBlock}
+use Rattle.sl_blocks.specs.inner.Blocks.{HasSlotsOf}
+use Rattle.sl_blocks.specs.inner.Covers.{IsCoverJob, flagged, BeginsCover, IsCoverBlock}
 use Rattle.sl_blocks.proofs.FineCovers.{HasCoverShapes, cover_fine, cover_quiet, cover_priced, cover_short}
 use Rattle.sl_blocks.proofs.Standing.{MakesBlock, is_block}
 
 module _ (shapes : List Shape) (x : CoverSlots) (job : IsCoverJob shapes x) where
   module _ (code : CountingCode) (has : HasSlotsOf shapes code) where
-    -- a slot among those shapes is a slot of the code
-    slot_there : (k : ℕ) (s : Shape) → slice_get shapes k ≡ Some s → slice_get code.slots k ≡ Some s
-    slot_there k s there = ap (λ (xs : List Shape). slice_get xs k) has.slots ∙ there
-
     has_shapes : HasCoverShapes (slice_get code.slots) x
     has_shapes = record {
-      base = slot_there x.base shape.List job.base;
-      eligible = slot_there x.eligible shape.Party job.eligible;
-      numbers = slot_there x.numbers shape.List job.numbers;
+      base = has x.base shape.List job.base;
+      eligible = has x.eligible shape.Party job.eligible;
+      numbers = has x.numbers shape.List job.numbers;
     }
 
     has_slots : HasCoverSlots code x

@@ -21,7 +21,7 @@ use Rattle.sl_pieces.specs.nodes.Trees.{split_tree, grow_tree}
 use Rattle.sl_pieces.specs.nodes.Scopes.{HoldsArguments}
 use Rattle.sl_pieces.specs.nodes.Nodes.{HasResult, EndsWith, SplitsAchieve, GrowthsAchieve}
 use Rattle.sl_blocks.specs.declared.job.Job.{Job}
-use Rattle.sl_blocks.specs.Jobs.{slots_of, IsJob, TakesMinima, HasJob, HasWeights, name_in, SplitMeans, GrowthMeans}
+use Rattle.sl_blocks.specs.inner.Jobs.{slots_of, IsJob, TakesMinima, HasJob, HasWeights, name_in, SplitMeans, GrowthMeans}
 use Rattle.sl_blocks.proofs.JobSlots.{has_slots, holds_arguments, fits_method}
 
 -- ---- the same result under another name

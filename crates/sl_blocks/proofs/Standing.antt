@@ -26,7 +26,7 @@ use Rattle.sl_plans.proofs.LaidPlans.{plan_stands, laid_is_followed}
 use Rattle.sl_plans.proofs.Kinded.{fine_plans_pass}
 use Rattle.sl_plans.proofs.Targets.{plans_jump_within}
 use Rattle.sl_plans.proofs.Prices.{shares_suffice}
-use Rattle.sl_blocks.specs.Blocks.{IsBlock}
+use Rattle.sl_blocks.specs.inner.Blocks.{IsBlock}
 use Rattle.sl_blocks.proofs.FineRoles.{before_one, MAX_BLOCK_INSTRS}
 
 -- what is to be known of a plan

@@ -1,2 +1,7 @@
--- What bodies and proofs alone cite: how the program puts a block together.
+-- Definitions on which no call of the desk and no law rests.
 pub mod LayoutParts
+pub mod Blocks
+pub mod Covers
+pub mod Given
+pub mod Jobs
+pub mod Layout

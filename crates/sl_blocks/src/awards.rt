@@ -2,8 +2,8 @@
 
 ghost use Rattle.std.specs.Prelude.{◌≡◌, List};
 ghost use Rattle.sl_code.specs.declared.instr.Instr.{Instr};
-ghost use Rattle.sl_plans.specs.Layout.{tree_of};
-ghost use Rattle.sl_blocks.specs.Given.{given_of};
+ghost use Rattle.sl_plans.specs.inner.Layout.{tree_of};
+ghost use Rattle.sl_blocks.specs.inner.Given.{given_of};
 ghost use Rattle.sl_blocks.specs.inner.LayoutParts.{count_left, whole_batches, drawn_batch};
 
 use crate::batches::batches;

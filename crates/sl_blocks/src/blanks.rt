@@ -2,7 +2,7 @@
 
 ghost use Rattle.std.specs.Prelude.{◌≡◌};
 ghost use Rattle.sl_pieces.specs.scopes.Forms.{table_of, kind_of};
-ghost use Rattle.sl_blocks.specs.Given.{minimum_of, divisor_of, given_of};
+ghost use Rattle.sl_blocks.specs.inner.Given.{minimum_of, divisor_of, given_of};
 ghost use Rattle.sl_pieces.specs.seats.Trees.{ranking_of};
 
 use crate::form::{kind_of, table_of};

@@ -2,7 +2,7 @@
 
 ghost use Rattle.std.specs.Prelude.{◌≡◌, ◌+◌, ◌<◌, IfOk, OnErr, IsSome, vec_len};
 ghost use Rattle.sl_plans.specs.Trees.{size_of};
-ghost use Rattle.sl_blocks.specs.Layout.{IsLaid};
+ghost use Rattle.sl_blocks.specs.inner.Layout.{IsLaid};
 ghost use Rattle.sl_blocks.specs.inner.LayoutParts.{block_tree};
 
 use crate::awards::{ENDS_BY_TIE, count_left, drawn_batch, whole_batches};

@@ -2,8 +2,8 @@
 
 ghost use Rattle.std.specs.Prelude.{◌≡◌, ◌+◌, ◌≤◌, IfOk, OnErr, length, vec_len};
 ghost use Rattle.sl_pieces.specs.covers.Trees.{cover_tree};
-ghost use Rattle.sl_blocks.specs.Covers.{cover_slots, IsCoverBlock, IsCoverJob};
-ghost use Rattle.sl_blocks.specs.Layout.{IsLaid};
+ghost use Rattle.sl_blocks.specs.inner.Covers.{cover_slots, IsCoverBlock, IsCoverJob};
+ghost use Rattle.sl_blocks.specs.inner.Layout.{IsLaid};
 
 use crate::awards::{COUNT_LEFT, COUNT_STEP, LESS_LEFT, WHOLE_BATCH, draw_seats};
 use crate::batches::batches;

@@ -2,7 +2,7 @@
 
 ghost use Rattle.std.specs.Prelude.{◌≡◌, List};
 ghost use Rattle.sl_code.specs.declared.instr.Instr.{Instr};
-ghost use Rattle.sl_plans.specs.Layout.{tree_of};
+ghost use Rattle.sl_plans.specs.inner.Layout.{tree_of};
 ghost use Rattle.sl_plans.specs.declared.plan.Cursor.TheVariants as cursor;
 ghost use Rattle.sl_plans.specs.Trees.{Each};
 ghost use Rattle.sl_pieces.specs.scopes.Forms.{on_list, entries_plan, scopes_plan};

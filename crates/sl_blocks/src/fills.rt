@@ -1,8 +1,8 @@
 //! The first seats of each entry, and how it enters the table.
 
 ghost use Rattle.std.specs.Prelude.{◌≡◌, IsSome};
-ghost use Rattle.sl_plans.specs.Layout.{tree_of};
-ghost use Rattle.sl_blocks.specs.Given.{given_of};
+ghost use Rattle.sl_plans.specs.inner.Layout.{tree_of};
+ghost use Rattle.sl_blocks.specs.inner.Given.{given_of};
 ghost use Rattle.sl_blocks.specs.inner.LayoutParts.{fill_entries, fill_outside};
 
 use crate::blanks::{Block, ENTER_BASE, GET_MINIMUM, GET_WEIGHT, GIVE, STORE_BASE, TABLE, WEIGH};

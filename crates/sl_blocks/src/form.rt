@@ -3,7 +3,7 @@
 ghost use Rattle.std.specs.Prelude.{◌≡◌};
 ghost use Rattle.sl_pieces.specs.declared.form.Form.{Form as SpecForm};
 ghost use Rattle.sl_pieces.specs.scopes.Forms.{table_of, kind_of};
-ghost use Rattle.sl_blocks.specs.Jobs.{IsJob};
+ghost use Rattle.sl_blocks.specs.inner.Jobs.{IsJob};
 
 use crate::job::Job;
 use sl_code::{Entries, ScopeKind};

@@ -1,11 +1,11 @@
 //! The block of a growth.
 
 ghost use Rattle.std.specs.Prelude.{◌≡◌, ◌+◌, ◌<◌, ◌≤◌, IfOk, OnErr, vec_len, IsSome, unwrap_or};
-ghost use Rattle.sl_plans.specs.Layout.{tree_of};
+ghost use Rattle.sl_plans.specs.inner.Layout.{tree_of};
 ghost use Rattle.sl_plans.specs.Trees.{size_of};
-ghost use Rattle.sl_blocks.specs.Given.{given_of};
-ghost use Rattle.sl_blocks.specs.Jobs.{IsGrowthBlock, IsGrowthJob};
-ghost use Rattle.sl_blocks.specs.Layout.{IsLaid, IsLaidGrowth};
+ghost use Rattle.sl_blocks.specs.inner.Given.{given_of};
+ghost use Rattle.sl_blocks.specs.inner.Jobs.{IsGrowthBlock, IsGrowthJob};
+ghost use Rattle.sl_blocks.specs.inner.Layout.{IsLaid, IsLaidGrowth};
 ghost use Rattle.sl_blocks.specs.inner.LayoutParts.{growth_all};
 
 use crate::blanks::Block;

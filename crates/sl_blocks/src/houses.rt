@@ -1,9 +1,9 @@
 //! The house of a growth: the search for it, and the amount that grows to it.
 
 ghost use Rattle.std.specs.Prelude.{◌≡◌, unwrap_or};
-ghost use Rattle.sl_plans.specs.Layout.{tree_of};
+ghost use Rattle.sl_plans.specs.inner.Layout.{tree_of};
 ghost use Rattle.sl_blocks.specs.declared.blanks.Block.{Block as SpecBlock};
-ghost use Rattle.sl_blocks.specs.Given.{given_of};
+ghost use Rattle.sl_blocks.specs.inner.Given.{given_of};
 ghost use Rattle.sl_blocks.specs.inner.LayoutParts.{search_entries, search_batches};
 
 use crate::awards::ENTER_AGAIN;

@@ -1,8 +1,8 @@
 //! The majority clause.
 
 ghost use Rattle.std.specs.Prelude.{◌≡◌};
-ghost use Rattle.sl_plans.specs.Layout.{tree_of};
-ghost use Rattle.sl_blocks.specs.Given.{given_of};
+ghost use Rattle.sl_plans.specs.inner.Layout.{tree_of};
+ghost use Rattle.sl_blocks.specs.inner.Given.{given_of};
 ghost use Rattle.sl_blocks.specs.inner.LayoutParts.{refuse_in};
 
 use crate::blanks::{Block, GET_HELD, GET_WEIGHT, NO_MAJORITY};

@@ -1,10 +1,10 @@
 //! A block over all its scopes.
 
 ghost use Rattle.std.specs.Prelude.{◌≡◌, ◌+◌, ◌<◌, IfOk, OnErr, vec_len};
-ghost use Rattle.sl_plans.specs.Layout.{tree_of};
+ghost use Rattle.sl_plans.specs.inner.Layout.{tree_of};
 ghost use Rattle.sl_plans.specs.Trees.{size_of};
-ghost use Rattle.sl_blocks.specs.Given.{given_of};
-ghost use Rattle.sl_blocks.specs.Layout.{IsLaid};
+ghost use Rattle.sl_blocks.specs.inner.Given.{given_of};
+ghost use Rattle.sl_blocks.specs.inner.Layout.{IsLaid};
 ghost use Rattle.sl_blocks.specs.inner.LayoutParts.{all_with};
 
 use crate::blanks::{Block, GET_AMOUNT, OVER_LIMIT, ZERO_RESULT, given_of};

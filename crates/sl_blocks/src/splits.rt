@@ -1,11 +1,11 @@
 //! The block of a split.
 
 ghost use Rattle.std.specs.Prelude.{◌≡◌, ◌+◌, ◌<◌, ◌≤◌, IfOk, OnErr, vec_len};
-ghost use Rattle.sl_plans.specs.Layout.{tree_of};
+ghost use Rattle.sl_plans.specs.inner.Layout.{tree_of};
 ghost use Rattle.sl_plans.specs.Trees.{size_of};
-ghost use Rattle.sl_blocks.specs.Given.{given_of};
-ghost use Rattle.sl_blocks.specs.Jobs.{IsSplitBlock, IsSplitJob};
-ghost use Rattle.sl_blocks.specs.Layout.{IsLaid, IsLaidSplit};
+ghost use Rattle.sl_blocks.specs.inner.Given.{given_of};
+ghost use Rattle.sl_blocks.specs.inner.Jobs.{IsSplitBlock, IsSplitJob};
+ghost use Rattle.sl_blocks.specs.inner.Layout.{IsLaid, IsLaidSplit};
 ghost use Rattle.sl_blocks.specs.inner.LayoutParts.{split_all};
 
 use crate::blanks::Block;

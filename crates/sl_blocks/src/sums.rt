@@ -1,9 +1,9 @@
 //! The sums of a scope, and the seats that are refused by them.
 
 ghost use Rattle.std.specs.Prelude.{◌≡◌};
-ghost use Rattle.sl_plans.specs.Layout.{tree_of};
+ghost use Rattle.sl_plans.specs.inner.Layout.{tree_of};
 ghost use Rattle.sl_blocks.specs.declared.blanks.Block.{Block as SpecBlock};
-ghost use Rattle.sl_blocks.specs.Given.{given_of};
+ghost use Rattle.sl_blocks.specs.inner.Given.{given_of};
 ghost use Rattle.sl_blocks.specs.inner.LayoutParts.{sum_entries, some_votes};
 
 use crate::blanks::{Block, GET_MINIMUM, GET_WEIGHT, NO_LIST, SHORT};

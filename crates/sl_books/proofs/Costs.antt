@@ -18,7 +18,7 @@ use Rattle.sl_plans.proofs.Prices.{plans_cost_their_price}
 use Rattle.sl_books.specs.Codes.{book_pieces}
 use Rattle.sl_books.specs.Laws.{CanCompile}
 use Rattle.sl_books.proofs.CostsOfPlans.{IsModest}
-use Rattle.sl_books.proofs.CostsOfBooks.{total, IsMeasure, book_at_most}
+use Rattle.sl_books.proofs.CostsOfBooks.{total, IsMeasure, fact_plans, book_at_most}
 
 -- ---- prices
 
@@ -83,7 +83,7 @@ module _ (e : Election) where
     where
       -- with so many for each winner in all: q is the number of pairs
       in_pairs : (q w n c : ℕ) → 1 ≤ q
-          → c ≤ n * (q * (500001 + 0 * w) + (MAX_PARTS + 1) * (q * (20 + 0 * w))) + (14 * (q * (31 + 30 * w)) + (3 * (q * (20 + 0 * w)) + q * (71 + 70 * w)))
+          → c ≤ n * (q * (500001 + 0 * w) + (MAX_PARTS + 1) * (q * (20 + 0 * w))) + (fact_plans * (q * (31 + 30 * w)) + (3 * (q * (20 + 0 * w)) + q * (71 + 70 * w)))
           → c + 1 ≤ (n + 2) * (STEPS_EACH * q * (MAX_SEATS + w + 2))
       in_pairs q w n c some h = omega (arith, h, some)
 
@@ -92,7 +92,7 @@ module _ (e : Election) where
 
       of : (p l w n c : ℕ)
           → c ≤ n * ((p + 1) * (l + 1) * (500001 + 0 * w) + (MAX_PARTS + 1) * ((p + 1) * (l + 1) * (20 + 0 * w)))
-          + (14 * ((p + 1) * (l + 1) * (31 + 30 * w)) + (3 * ((p + 1) * (l + 1) * (20 + 0 * w)) + (p + 1) * (l + 1) * (71 + 70 * w)))
+          + (fact_plans * ((p + 1) * (l + 1) * (31 + 30 * w)) + (3 * ((p + 1) * (l + 1) * (20 + 0 * w)) + (p + 1) * (l + 1) * (71 + 70 * w)))
           → c + 1 ≤ (n + 2) * (STEPS_EACH * (p + 1) * (l + 1) * (MAX_SEATS + w + 2))
       of p l w n c h =
           let some : 1 ≤ (p + 1) * (l + 1) = omega arith in

@@ -95,6 +95,10 @@ module _ (node column : ℕ) where
   stage_sum : (c a p : ℕ) → a ≤ 1 → p ≤ MAX_PARTS → c ≤ at_most a p + column → c ≤ node + (MAX_PARTS + 1) * column
   stage_sum c a p ha hp h = omega (arith, h, mul-le a node 1 node ha (omega arith), mul-le p column MAX_PARTS column hp (omega arith))
 
+-- so many plans are no greater than that of a fact: one for each fact, six for who is eligible, and two of the last clause
+abbrev pub fact_plans : ℕ
+fact_plans = 8 + length FACTS
+
 one_more : (c n x : ℕ) → c ≤ x + n * x → c ≤ suc n * x
 one_more c n x h = omega (arith, h)
 
@@ -182,8 +186,8 @@ module _ (f : Tree → ℕ) (node column fact cover : ℕ) (m : IsMeasure f node
   each_at_most house [] = omega arith
   each_at_most house (x ∷ xs) = one_more _ (length xs) fact (let one = m.facts _ (fact_modest fact_slots house x) in omega (arith, one, each_at_most house xs))
 
-  facts_at_most : (few : List Cond) (b : BookTree) → length few ≤ 4 → total f (facts_pieces few b) ≤ 12 * fact
-  facts_at_most few b long = let all : total f (map (fact_tree fact_slots b.house.value) FACTS) ≤ 6 * fact = each_at_most b.house.value FACTS in omega (arith, eligible_at_most fact_slots few long, all)
+  facts_at_most : (few : List Cond) (b : BookTree) → length few ≤ 4 → total f (facts_pieces few b) ≤ (6 + length FACTS) * fact
+  facts_at_most few b long = let all : total f (map (fact_tree fact_slots b.house.value) FACTS) ≤ length FACTS * fact = each_at_most b.house.value FACTS in omega (arith, eligible_at_most fact_slots few long, all)
 
   -- ---- the last clause
   seating_at_most : (from : ℕ) (s : Seating) → total f (seating_pieces from s) ≤ fact + (column + cover)
@@ -212,7 +216,7 @@ module _ (f : Tree → ℕ) (node column fact cover : ℕ) (m : IsMeasure f node
 
   -- ---- the whole book
   pub book_at_most : (few : List Cond) (b : BookTree) → CanCompile few b
-      → total f (book_pieces few b) ≤ length b.stages * (node + (MAX_PARTS + 1) * column) + (14 * fact + (3 * column + cover))
+      → total f (book_pieces few b) ≤ length b.stages * (node + (MAX_PARTS + 1) * column) + (fact_plans * fact + (3 * column + cover))
   book_at_most few b can =
       let within = (and_parts (nat_le (length b.stages) MAX_STAGES) (list_all is_within_stage b.stages) can.limits).1 in
       let stages = stages_at_most [] 0 b.stages (stages_hold b can.typed) within in
@@ -221,5 +225,5 @@ module _ (f : Tree → ℕ) (node column fact cover : ℕ) (m : IsMeasure f node
       (both_at_most f (stages_pieces [] 0 b.stages) (last_pieces (columns_of [] b.stages) b.last) _ _ stages last) in
       of_three (total f (book_pieces few b)) (length b.stages * (node + (MAX_PARTS + 1) * column)) all
     where
-      of_three : (c stages : ℕ) → c ≤ 12 * fact + (stages + (2 * fact + (3 * column + cover))) → c ≤ stages + (14 * fact + (3 * column + cover))
+      of_three : (c stages : ℕ) → c ≤ (6 + length FACTS) * fact + (stages + (2 * fact + (3 * column + cover))) → c ≤ stages + (fact_plans * fact + (3 * column + cover))
       of_three c stages h = omega (arith, h)

@@ -27,7 +27,7 @@ use Rattle.sl_pieces.specs.exprs.Slots.{fact_slots}
 use Rattle.sl_pieces.specs.exprs.Stages.{IsBehind}
 use Rattle.sl_books.specs.Conditions.{SayTheSame}
 use Rattle.sl_books.specs.Codes.{facts_pieces}
-use Rattle.sl_books.proofs.Told.{IsBlank, Told, one_told}
+use Rattle.sl_books.proofs.Told.{IsBlank, Told, AreNumbered, one_told}
 
 -- the facts are told, and no stage is behind
 pub record HasFacts (b : BookTree) (e : Election) (s : State) : Type 0 where
@@ -42,11 +42,6 @@ same_flags few conditions e same = λ i. by_party e (λ party. one_if (same.same
 all_numbered : (told : Fact) → fact_number told < length FACTS
 all_numbered facts.House = omega arith
 all_numbered told = omega arith
-
--- facts in the order of their numbers, the first of them of that number
-abbrev AreNumbered : ℕ → List Fact → Type 0
-AreNumbered n [] = Unit {0}
-AreNumbered n (f ∷ fs) = (fact_number f ≡ n) × AreNumbered (n + 1) fs
 
 module _ (c : CountingCode) (few : List Cond) (b : BookTree) (e : Election) (is : IsElection e) (slots : HasFactSlots c fact_slots) (same : SayTheSame few b.eligible) where
   -- where all are told
@@ -70,10 +65,12 @@ module _ (c : CountingCode) (few : List Cond) (b : BookTree) (e : Election) (is 
       → AchievesAll c e (map (fact_tree fact_slots b.house.value) fs) s (HasFacts b e) Never
   each_told n [] numbered all s h = all_told s (subst (λ m. Told b e m s) (omega (arith, all)) h)
   each_told n (f ∷ fs) numbered all s h =
+      let first : fact_number f ≡ n = cc in
+      let rest : AreNumbered (n + 1) fs = cc in
       achieves_more (facts_are_told c b e fact_slots f s is slots h.flags)
       (λ t g.
-      each_told (n + 1) fs numbered.1 (omega (arith, all)) t
-      (subst (λ m. Told b e (m + 1) t) numbered.0 (one_told b e f s t (subst (λ m. Told b e m s) (sym numbered.0) h) g)))
+      each_told (n + 1) fs rest (omega (arith, all)) t
+      (subst (λ m. Told b e (m + 1) t) first (one_told b e f s t (subst (λ m. Told b e m s) (sym first) h) g)))
       (λ x no. no)
 
   eligible_told : (s : State) → GetsFlags few e fact_slots start s → Told b e 0 s
@@ -86,5 +83,5 @@ module _ (c : CountingCode) (few : List Cond) (b : BookTree) (e : Election) (is 
   pub facts_achieve : AchievesAll c e (facts_pieces few b) start (HasFacts b e) Never
   facts_achieve =
       achieves_more (eligible_are_told c e fact_slots few start is slots same.shares)
-      (λ s h. each_told 0 FACTS (refl, (refl, (refl, (refl, (refl, (refl, tt)))))) refl s (eligible_told s h))
+      (λ s h. each_told 0 FACTS refl refl s (eligible_told s h))
       (λ x no. no)

@@ -1,14 +1,15 @@
 -- What the verifier finds in the plans of facts: they are judged by evaluation, with the slots of facts and of the last clause alone.
-use Rattle.std.proofs.Common.{◌≡◌, ℕ, zero, suc, ◌≤◌, Bool, true, false, ◌==◌, if◌then◌else◌, List, [], ◌∷◌, ◌++◌, length, map, get_or, Option, Some, slice_get, refl, sym, subst, ap, ◌∙◌, arith}
+use Rattle.std.proofs.Common.{◌≡◌, ℕ, zero, suc, ◌+◌, ◌≤◌, Bool, true, false, ◌==◌, if◌then◌else◌, List, [], ◌∷◌, ◌++◌, length, map, Option, Some, slice_get, refl, sym, subst, ap, ◌∙◌, arith}
 use Rattle.std.specs.Prelude.{nat_lt}
 use Rattle.std.proofs.lemmas.Bool.{eqb-true, lt-ltb}
 use Rattle.sl_stages.specs.declared.fact.Fact.{Fact}
 use Rattle.sl_stages.specs.declared.fact.Fact.TheVariants as facts
 use Rattle.sl_stages.specs.declared.fact.TheConstants.{FACTS}
 use Rattle.sl_stages.specs.declared.book.Shape.{Shape}
+use Rattle.sl_stages.specs.declared.book.Shape.TheVariants as shape
 use Rattle.sl_stages.specs.declared.book.Cond.{Cond}
 use Rattle.sl_stages.specs.declared.book.Cond.TheVariants as condition
-use Rattle.sl_stages.specs.book.Typing.{Column}
+use Rattle.sl_stages.specs.book.Typing.{Column, fact_number, fact_type}
 use Rattle.sl_stages.specs.book.Trees.{BookTree}
 use Rattle.sl_code.specs.declared.instr.Instr.TheVariants.{Zero}
 use Rattle.sl_code.specs.Codes.{CountingCode}
@@ -19,10 +20,12 @@ use Rattle.sl_verify.proofs.Passing.{both_hold}
 use Rattle.sl_plans.specs.Trees.{Tree, Line}
 use Rattle.sl_plans.specs.Fine.{is_fine, judged_by, kinds_along}
 use Rattle.sl_pieces.specs.facts.Trees.{conditions_tree, condition_tree, eligible_tree, fact_tree}
+use Rattle.sl_pieces.specs.declared.slots.TheConstants.{FIRST_FACT, VOTES}
 use Rattle.sl_pieces.specs.exprs.Slots.{fact_slots, HasBookSlots}
 use Rattle.sl_blocks.proofs.Renaming.{Renaming, renamed, Renames, renamed_is_fine}
 use Rattle.sl_books.specs.Codes.{fact_shapes, closing_shapes, facts_pieces}
 use Rattle.sl_books.proofs.FineTrees.{IsFineIn, AreFine}
+use Rattle.sl_books.proofs.Told.{AreNumbered}
 
 -- ---- the first slots, whatever the stages are
 
@@ -31,6 +34,10 @@ first_shapes k = slice_get (fact_shapes ++ closing_shapes) k
 
 abbrev pub first_context : Context
 first_context = judged_by first_shapes 0
+
+-- those behind the facts
+abbrev behind_facts : List Shape
+behind_facts = shape.List ∷ (shape.Party ∷ closing_shapes)
 
 -- each slot keeps its name, and other numbers may come
 abbrev same_slots : (ℕ → ℕ) → Renaming
@@ -64,23 +71,35 @@ numbers share per k = mark_stands 2 share k (by_mark 3 per k k) (omega arith) (m
 -- ---- plans with the first slots alone
 
 module _ (code : CountingCode) (types : List Column) (slots : HasBookSlots code types) where
-  abbrev at_number : ℕ → Fact
-  at_number n = get_or FACTS n facts.House
+  -- the slots behind the facts
+  behind_there : (k : ℕ) (s : Shape) → slice_get behind_facts k ≡ Some s → slice_get code.slots (VOTES + k) ≡ Some s
+  behind_there zero s h = slots.facts.votes ∙ h
+  behind_there (suc zero) s h = slots.facts.numbers ∙ h
+  behind_there (suc (suc zero)) s h = slots.pair_numbers_are ∙ h
+  behind_there (suc (suc (suc zero))) s h = slots.names_left_are ∙ h
+  behind_there (suc (suc (suc (suc zero)))) s h = slots.vacant_seats_are ∙ h
+  behind_there (suc (suc (suc (suc (suc k))))) s h = cc
+
+  -- those of the facts from a number on, and the ones behind them
+  facts_there : (n : ℕ) (fs : List Fact) → AreNumbered n fs → n + length fs ≡ length FACTS → (k : ℕ) (s : Shape)
+      → slice_get (map (λ told. (fact_type told).shape) fs ++ behind_facts) k ≡ Some s → slice_get code.slots (FIRST_FACT + (n + k)) ≡ Some s
+  facts_there n [] numbered all k s h =
+      let place : FIRST_FACT + (n + k) ≡ VOTES + k = omega (arith, all) in
+      ap (λ (m : ℕ). slice_get code.slots m) place ∙ behind_there k s h
+  facts_there n (f ∷ fs) numbered all zero s h =
+      let first : fact_number f ≡ n = cc in
+      let place : FIRST_FACT + (n + 0) ≡ fact_slots.of f = omega (arith, first) in
+      ap (λ (m : ℕ). slice_get code.slots m) place ∙ slots.facts.facts f ∙ h
+  facts_there n (f ∷ fs) numbered all (suc k) s h =
+      let rest : AreNumbered (n + 1) fs = cc in
+      let place : FIRST_FACT + (n + suc k) ≡ FIRST_FACT + (n + 1 + k) = omega arith in
+      ap (λ (m : ℕ). slice_get code.slots m) place ∙ facts_there (n + 1) fs rest (omega (arith, all)) k s h
 
   first_there : (k : ℕ) (s : Shape) → first_shapes k ≡ Some s → slice_get code.slots k ≡ Some s
   first_there zero s h = slots.facts.eligible ∙ h
-  first_there (suc zero) s h = slots.facts.facts (at_number 0) ∙ h
-  first_there (suc (suc zero)) s h = slots.facts.facts (at_number 1) ∙ h
-  first_there (suc (suc (suc zero))) s h = slots.facts.facts (at_number 2) ∙ h
-  first_there (suc (suc (suc (suc zero)))) s h = slots.facts.facts (at_number 3) ∙ h
-  first_there (suc (suc (suc (suc (suc zero))))) s h = slots.facts.facts (at_number 4) ∙ h
-  first_there (suc (suc (suc (suc (suc (suc zero)))))) s h = slots.facts.facts (at_number 5) ∙ h
-  first_there (suc (suc (suc (suc (suc (suc (suc zero))))))) s h = slots.facts.votes ∙ h
-  first_there (suc (suc (suc (suc (suc (suc (suc (suc zero)))))))) s h = slots.facts.numbers ∙ h
-  first_there (suc (suc (suc (suc (suc (suc (suc (suc (suc zero))))))))) s h = slots.pair_numbers_are ∙ h
-  first_there (suc (suc (suc (suc (suc (suc (suc (suc (suc (suc zero)))))))))) s h = slots.names_left_are ∙ h
-  first_there (suc (suc (suc (suc (suc (suc (suc (suc (suc (suc (suc zero))))))))))) s h = slots.vacant_seats_are ∙ h
-  first_there (suc (suc (suc (suc (suc (suc (suc (suc (suc (suc (suc (suc k)))))))))))) s h = cc
+  first_there (suc k) s h =
+      let place : suc k ≡ FIRST_FACT + (0 + k) = omega arith in
+      ap (λ (m : ℕ). slice_get code.slots m) place ∙ facts_there 0 FACTS refl refl k s h
 
   same_fit : (share per : ℕ) → Renames (same_slots (number_of_role share per)) first_context (judged_by (slice_get code.slots) (length code.stages))
   same_fit share per = record { slots = first_there; stage = refl; numbers = numbers share per }

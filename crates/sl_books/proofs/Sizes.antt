@@ -15,7 +15,7 @@ use Rattle.sl_pieces.specs.closing.Trees.{halting}
 use Rattle.sl_books.specs.Codes.{book_pieces, book_instrs}
 use Rattle.sl_books.specs.Laws.{BooksAreShort}
 use Rattle.sl_books.proofs.CostsOfPlans.{IsModest}
-use Rattle.sl_books.proofs.CostsOfBooks.{total, IsMeasure, book_at_most}
+use Rattle.sl_books.proofs.CostsOfBooks.{total, IsMeasure, fact_plans, book_at_most}
 
 size_at_most : (plain by_win size : ℕ) (tree : Tree) → IsModest plain by_win size tree → size_of tree + 1 ≤ size + 1
 size_at_most plain by_win size tree modest =
@@ -57,5 +57,5 @@ books_are_short few b can =
     of (length (book_instrs few b)) (total (λ t. size_of t + 1) ts) (length b.stages) (few_stages b.stages can.limits)
     (let halt = length-append (laid_all 0 ts) (halting b.last.vacate ∷ []) in omega (arith, halt, length-laid_all 0 ts, sizes_total ts)) all
   where
-    of : (long all stages : ℕ) → stages ≤ MAX_STAGES → long ≡ all + 1 → all ≤ stages * (351 + (MAX_PARTS + 1) * 15) + (14 * 41 + (3 * 15 + 221)) → long ≤ 50000
+    of : (long all stages : ℕ) → stages ≤ MAX_STAGES → long ≡ all + 1 → all ≤ stages * (351 + (MAX_PARTS + 1) * 15) + (fact_plans * 41 + (3 * 15 + 221)) → long ≤ 50000
     of long all stages few is h = omega (arith, few, is, h)

@@ -1,7 +1,7 @@
 -- The slots and the stages of a book's code are where its plans look for them.
 use Rattle.std.proofs.Common.{◌≡◌, ℕ, zero, suc, ◌+◌, ◌*◌, ◌<◌, ◌≤◌, true, List, [], ◌∷◌, ◌++◌, length, map, Some, slice_get, flat_map, nat_le, refl, sym, ap, ap₂, ◌∙◌, arith}
 use Rattle.std.specs.List.{range_with_len, list_all}
-use Rattle.std.proofs.lemmas.Bool.{and_parts, leb-true}
+use Rattle.std.proofs.lemmas.Bool.{and_parts}
 use Rattle.std.proofs.lemmas.Option.{none-some, same_Some, slice_get-map}
 use Rattle.sl_stages.specs.declared.fact.Fact.{Fact}
 use Rattle.sl_stages.specs.declared.fact.Fact.TheVariants as facts
@@ -53,7 +53,7 @@ module _ (types : List Column) where
   abbrev stage_shapes : List Shape
   stage_shapes = map (λ c. c.type.shape) types
 
-  passing_there : (level : ℕ) (s : Shape) → level ≤ MAX_DEPTH → slice_get (book_slots types) (passing level s) ≡ Some s
+  pub passing_there : (level : ℕ) (s : Shape) → level ≤ MAX_DEPTH → slice_get (book_slots types) (passing level s) ≡ Some s
   passing_there level s low =
       let place : passing level s ≡ pair_numbers + (3 + (4 * level + shape_number s)) = omega arith in
       ap (λ (m : ℕ). slice_get (book_slots types) m) place

@@ -1,5 +1,6 @@
 -- Facts that are told one after the other, from the start on: what holds behind each plan.
-use Rattle.std.proofs.Common.{◌≡◌, ℕ, ◌+◌, ◌<◌, [], get_or, refl, sym, ap, subst, ◌∙◌, inl, inr, arith}
+use Rattle.std.proofs.Common.{◌≡◌, ℕ, ◌+◌, ◌<◌, List, [], length, map, get_or, refl, sym, ap, subst, ◌∙◌, inl, inr, arith}
+use Rattle.std.specs.List.{range_with_len}
 use Rattle.std.proofs.lemmas.Bool.{cases_eq}
 use Rattle.sl_stages.specs.declared.book.Shape.TheVariants as shape
 use Rattle.sl_stages.specs.declared.fact.Fact.{Fact}
@@ -27,6 +28,10 @@ pub record Told (b : BookTree) (e : Election) (n : ℕ) (s : State) : Type 0 whe
   pub flags : HoldsColumn e shape.Party (s.columns fact_slots.eligible) (flags b.eligible e)
   pub facts : (told : Fact) → fact_number told < n → HoldsColumn e (fact_type told).shape (s.columns (fact_slots.of told)) (fact_column b e told)
   pub blank : IsBlank s
+
+-- facts in the order of their numbers, the first of them of that number
+abbrev pub AreNumbered : ℕ → List Fact → Type 0
+AreNumbered n fs = map fact_number fs ≡ range_with_len n (length fs)
 
 at_number : (told : Fact) → get_or FACTS (fact_number told) facts.House ≡ told
 at_number facts.House = refl

@@ -8,7 +8,7 @@ use Rattle.sl_stages.specs.declared.book.Stage.{Stage}
 use Rattle.sl_stages.specs.declared.book.ColumnType.{ColumnType}
 use Rattle.sl_stages.specs.book.Tests.{test}
 use Rattle.sl_stages.specs.book.Typing.{Column, is_named, type_or_one}
-use Rattle.sl_check.specs.Known.{columns}
+use Rattle.sl_check.specs.inner.Known.{columns}
 use Rattle.sl_stages.specs.book.Tests.{Judges}
 
 -- a column of another name is passed over

@@ -9,7 +9,7 @@ use Rattle.sl_stages.specs.declared.book.ColumnType.{ColumnType}
 use Rattle.sl_stages.specs.book.Trees.{tree_of, stage_of}
 use Rattle.sl_stages.specs.book.Tests.{first_failing}
 use Rattle.sl_stages.specs.book.Typing.{Column, stage_column, columns_of, type_of, stage_tests, stages_tests}
-use Rattle.sl_check.specs.Known.{columns}
+use Rattle.sl_check.specs.inner.Known.{columns}
 use Rattle.sl_stages.proofs.Tests.{fails_in_row}
 
 -- the first i stages pass, and have the columns of the first i types

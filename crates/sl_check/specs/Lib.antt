@@ -1,1 +1,2 @@
-pub mod Known
+-- The definitions of the checker.
+pub mod inner

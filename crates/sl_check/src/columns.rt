@@ -5,7 +5,7 @@ ghost use Rattle.std.specs.List.{list_any};
 ghost use Rattle.sl_stages.specs.book.Typing.{is_named, type_or_one, name_tests, expr_tests, type_of};
 ghost use Rattle.sl_stages.specs.book.Trees.{tree_of};
 ghost use Rattle.sl_stages.specs.book.Tests.{Judges};
-ghost use Rattle.sl_check.specs.Known.{columns};
+ghost use Rattle.sl_check.specs.inner.Known.{columns};
 
 use crate::nodes::{grow_type, pair_type, split_from_type, split_type, sum_type};
 use sl_stages::{CheckFault, ColumnType, Expr, Stage, Word};

@@ -6,7 +6,7 @@ ghost use Rattle.sl_stages.specs.book.Limits.{parts_of, is_within_limits};
 ghost use Rattle.sl_stages.specs.book.Tests.{first_failing};
 ghost use Rattle.sl_stages.specs.book.Typing.{type_of, stage_tests, stages_tests, columns_of, base_tests};
 ghost use Rattle.sl_stages.specs.book.Tests.{Judges};
-ghost use Rattle.sl_check.specs.Known.{columns};
+ghost use Rattle.sl_check.specs.inner.Known.{columns};
 
 use crate::columns::Columns;
 use crate::nodes::{same_shape, same_unit, test};

@@ -9,8 +9,8 @@ use Rattle.sl_plans.specs.Trees.{Tree}
 use Rattle.sl_pieces.specs.columns.Trees.{copy_tree}
 use Rattle.sl_pieces.specs.exprs.Slots.{passing}
 use Rattle.sl_pieces.specs.exprs.Pieces.{pieces}
-use Rattle.sl_compile.specs.Laying.{IsLaidAll, HasRoom}
-use Rattle.sl_compile.specs.Earlier.{Fits}
+use Rattle.sl_compile.specs.inner.Laying.{IsLaidAll, HasRoom}
+use Rattle.sl_compile.specs.inner.Earlier.{Fits}
 use Rattle.sl_compile.proofs.Places.{laid_as, laid_behind, room_as, room_first, room_rest}
 
 -- ---- plans of which some stand first

@@ -15,8 +15,8 @@ use Rattle.sl_plans.specs.Trees.{Tree}
 use Rattle.sl_pieces.specs.columns.Trees.{sum_tree, pair_tree, summed}
 use Rattle.sl_pieces.specs.exprs.Slots.{passing}
 use Rattle.sl_pieces.specs.exprs.Pieces.{pieces}
-use Rattle.sl_compile.specs.Laying.{IsLaidAll, HasRoom}
-use Rattle.sl_compile.specs.Earlier.{Fits}
+use Rattle.sl_compile.specs.inner.Laying.{IsLaidAll, HasRoom}
+use Rattle.sl_compile.specs.inner.Earlier.{Fits}
 use Rattle.sl_compile.proofs.Arguments.{Over, first_room, own_room, own_laid, has_as}
 use Rattle.sl_compile.proofs.Levels.{sum_fits, pair_fits}
 

@@ -28,11 +28,14 @@ use Rattle.sl_books.proofs.Sizes.{few_stages, books_are_short}
 use Rattle.sl_books.proofs.Proper.{books_are_proper}
 use Rattle.sl_books.proofs.Books.{books_are_compiled_by}
 use Rattle.sl_books.proofs.Costs.{books_cost}
-use Rattle.sl_compile.specs.Weakest.{AreSmall}
-use Rattle.sl_compile.specs.Codes.{IsCodeOf}
-use Rattle.sl_compile.specs.Laying.{IsLaidAll, HasRoom}
-use Rattle.sl_compile.specs.Slots.{low_shapes}
-use Rattle.sl_compile.specs.Earlier.{columns}
+use Rattle.sl_books.proofs.KindsOfBooks.{books_are_kinded}
+use Rattle.sl_books.proofs.Slots.{book_has_slots}
+use Rattle.sl_verify.specs.WellKinded.{IsWellKinded}
+use Rattle.sl_compile.specs.inner.Weakest.{AreSmall}
+use Rattle.sl_compile.specs.inner.Codes.{IsCodeOf}
+use Rattle.sl_compile.specs.inner.Laying.{IsLaidAll, HasRoom}
+use Rattle.sl_compile.specs.inner.Slots.{low_shapes}
+use Rattle.sl_compile.specs.inner.Earlier.{columns}
 use Rattle.sl_compile.proofs.Wholes.{stages_room, last_room, three_laid, whole_room, slots_are}
 
 -- ---- the whole book
@@ -101,6 +104,11 @@ pub code_proper : (few : List Cond) (k : Book) (c : CountingCode) (named : List 
     named ≡ code_stages 0 (map stage_of k.stages.items) → All IsStage named → c ≡ book_code few (book_of k) → IsProper c
 code_proper few k c named can small same words is =
     subst IsProper (sym is) (books_are_proper few (book_of k) can k.small_numbers small (subst (All IsStage) same words))
+
+-- the verifier accepts it
+pub code_kinded : (b : BookTree) (c : CountingCode) → is_typed b ≡ true → is_within_limits b.stages ≡ true → IsCodeOf b c → IsWellKinded c
+code_kinded b c typed limits of =
+    subst IsWellKinded (sym of.is) (books_are_kinded (λ few b can. book_has_slots few b) of.few b (record { typed = typed; limits = limits; same = of.same }))
 
 -- and what it comes to
 pub code_compiled : (b : BookTree) (c : CountingCode) → is_typed b ≡ true → is_within_limits b.stages ≡ true → IsCodeOf b c → IsCompiled b c

@@ -20,7 +20,7 @@ use Rattle.sl_pieces.specs.facts.Laws.{IsShare}
 use Rattle.sl_books.specs.Conditions.{SayTheSame}
 use Rattle.sl_compile.specs.declared.easiest.Share.{Share}
 use Rattle.sl_compile.specs.declared.easiest.Easiest.{Easiest}
-use Rattle.sl_compile.specs.Weakest.{share_condition, share_in, winners_in, minority_in, all_in, few_of, is_met, IsFairIn, IsFair}
+use Rattle.sl_compile.specs.inner.Weakest.{share_condition, share_in, winners_in, minority_in, all_in, few_of, is_met, IsFairIn, IsFair}
 
 -- ---- one of two tests
 

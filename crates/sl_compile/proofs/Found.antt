@@ -9,7 +9,7 @@ use Rattle.sl_stages.specs.declared.book.Shape.TheVariants as shape
 use Rattle.sl_stages.specs.declared.book.Unit.TheVariants as unit
 use Rattle.sl_stages.specs.declared.book.ColumnType.{ColumnType}
 use Rattle.sl_stages.specs.book.Typing.{column, is_named, type_or_one}
-use Rattle.sl_compile.specs.Earlier.{columns}
+use Rattle.sl_compile.specs.inner.Earlier.{columns}
 use Rattle.sl_compile.proofs.Walks.{is_stage, type_here, type_nowhere}
 
 found_at : (k n i : ℕ) (b : Bool) → nat_lt k n ≡ b → cond b (Some k) None ≡ Some i → (k ≡ i) × (k < n)

@@ -1,7 +1,5 @@
 -- The slots of splits and growths are there, and their plans are laid out.
 use Rattle.std.proofs.Common.{◌≡◌, ℕ, zero, suc, ◌+◌, ◌*◌, ◌<◌, ◌≤◌, Bool, true, false, List, [], ◌++◌, length, Some, slice_get, refl, sym, ap, subst, ◌∙◌, arith}
-use Rattle.std.specs.Prelude.{flat_map}
-use Rattle.std.specs.List.{range_with_len}
 use Rattle.std.proofs.lemmas.List.{append-nil}
 use Rattle.std.proofs.lemmas.Option.{same_Some}
 use Rattle.sl_ratio.specs.declared.method.Divisor.{Divisor}
@@ -12,43 +10,29 @@ use Rattle.sl_stages.specs.declared.book.Majority.{Majority}
 use Rattle.sl_stages.specs.declared.book.Shape.{Shape}
 use Rattle.sl_stages.specs.declared.book.Shape.TheVariants as shape
 use Rattle.sl_stages.specs.declared.limits.TheConstants.{MAX_DEPTH, MAX_STAGES}
-use Rattle.sl_stages.specs.book.Typing.{can_split, shape_number}
+use Rattle.sl_stages.specs.book.Typing.{can_split}
 use Rattle.sl_code.specs.declared.instr.Instr.{Instr}
 use Rattle.sl_plans.specs.Laid.{laid}
 use Rattle.sl_pieces.specs.declared.form.Form.{Form}
 use Rattle.sl_pieces.specs.scopes.Forms.{amounts_of, votes_of}
 use Rattle.sl_pieces.specs.seats.Slots.{Slots}
 use Rattle.sl_pieces.specs.nodes.Trees.{split_tree, grow_tree}
-use Rattle.sl_books.specs.Codes.{level_shapes}
+use Rattle.sl_books.proofs.Slots.{passing_there as passing_in_book}
 use Rattle.sl_blocks.specs.declared.job.Job.{Job}
-use Rattle.sl_blocks.specs.Jobs.{slots_of, IsJob, TakesMinima, IsSplitJob, IsGrowthJob}
-use Rattle.sl_pieces.specs.declared.slots.TheConstants.{LEVELS}
+use Rattle.sl_blocks.specs.inner.Jobs.{slots_of, IsJob, TakesMinima, IsSplitJob, IsGrowthJob}
 use Rattle.sl_pieces.specs.exprs.Slots.{passing}
 use Rattle.sl_pieces.specs.exprs.Pieces.{form_by, node_slots, split_piece, grow_piece}
 use Rattle.sl_pieces.proofs.exprs.Places.{amounts_apart, other_level}
-use Rattle.sl_compile.specs.Laying.{IsLaidAll}
-use Rattle.sl_compile.specs.Slots.{low_shapes}
-use Rattle.sl_compile.specs.Nodes.{minima_at, top_of, MayHave}
-use Rattle.sl_blocks.specs.Layout.{IsLaidSplit, IsLaidGrowth}
+use Rattle.sl_compile.specs.inner.Laying.{IsLaidAll}
+use Rattle.sl_compile.specs.inner.Slots.{low_shapes}
+use Rattle.sl_compile.specs.inner.Nodes.{minima_at, top_of, MayHave}
+use Rattle.sl_blocks.specs.inner.Layout.{IsLaidSplit, IsLaidGrowth}
 
 -- ---- slots
 
-levels_there : (n first level : ℕ) (s : Shape) → level < n → slice_get (flat_map (λ l. level_shapes) (range_with_len first n)) (4 * level + shape_number s) ≡ Some s
-levels_there zero first level s less = absurd (omega arith)
-levels_there (suc n) first zero shape.One less = refl
-levels_there (suc n) first zero shape.Party less = refl
-levels_there (suc n) first zero shape.Land less = refl
-levels_there (suc n) first zero shape.List less = refl
-levels_there (suc n) first (suc level) s less =
-    let next : 4 * suc level + shape_number s ≡ suc (suc (suc (suc (4 * level + shape_number s)))) = omega arith in
-    rw next (levels_there n (first + 1) level s (omega arith))
-
--- each passing column is there
+-- each passing column is there, as in a book without stages
 pub passing_there : (level : ℕ) (s : Shape) → level ≤ MAX_DEPTH → slice_get low_shapes (passing level s) ≡ Some s
-passing_there level s low =
-    let k : ℕ = 4 * level + shape_number s in
-    let there : passing level s ≡ suc (suc (suc (suc (suc (suc (suc (suc (suc (suc (suc (suc k))))))))))) = omega arith in
-    ap (slice_get low_shapes) there ∙ levels_there LEVELS 0 level s (omega arith)
+passing_there level s low = passing_in_book [] level s low
 
 -- ---- forms
 

@@ -14,7 +14,7 @@ use Rattle.sl_stages.proofs.Tests.{pass_parts}
 use Rattle.sl_stages.proofs.typing.TestLists.{pass_parts3, pass_parts4}
 use Rattle.sl_pieces.specs.declared.slots.TheConstants.{LEVELS}
 use Rattle.sl_pieces.proofs.exprs.Levels.{low_level, one_level, two_levels, split_levels, three_levels, split_passes, split_from_passes, grow_passes}
-use Rattle.sl_compile.specs.Earlier.{Fits, FitsSplit, FitsMinima, FitsGrowth}
+use Rattle.sl_compile.specs.inner.Earlier.{Fits, FitsSplit, FitsMinima, FitsGrowth}
 
 pub low : {types : List Column} {level : ℕ} {x : ExprTree} → Fits types level x → level ≤ MAX_DEPTH
 low {types} {level} {x} h = low_level x level h.levels

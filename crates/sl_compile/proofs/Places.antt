@@ -8,7 +8,7 @@ use Rattle.sl_verify.specs.Kinds.{start_kinds}
 use Rattle.sl_plans.specs.Trees.{Tree, size_of}
 use Rattle.sl_plans.specs.Laid.{laid, laid_all, size_all}
 use Rattle.sl_plans.proofs.Places.{length-flat}
-use Rattle.sl_compile.specs.Laying.{IsLaidAll, HasRoom}
+use Rattle.sl_compile.specs.inner.Laying.{IsLaidAll, HasRoom}
 
 -- ---- lists of plans
 

@@ -18,9 +18,9 @@ use Rattle.sl_stages.specs.book.Typing.{Column, column, type_of, can_split}
 use Rattle.sl_code.specs.declared.instr.Instr.{Instr}
 use Rattle.sl_plans.specs.Trees.{Tree}
 use Rattle.sl_pieces.specs.exprs.Pieces.{pieces, split_piece, grow_piece}
-use Rattle.sl_compile.specs.Laying.{IsLaidAll, HasRoom}
-use Rattle.sl_compile.specs.Earlier.{Fits, FitsMinima, FitsGrowth}
-use Rattle.sl_compile.specs.Nodes.{minima_at, top_of, MayHave}
+use Rattle.sl_compile.specs.inner.Laying.{IsLaidAll, HasRoom}
+use Rattle.sl_compile.specs.inner.Earlier.{Fits, FitsMinima, FitsGrowth}
+use Rattle.sl_compile.specs.inner.Nodes.{minima_at, top_of, MayHave}
 use Rattle.sl_compile.proofs.Arguments.{Over, first_room, rest_room, rest_laid}
 use Rattle.sl_compile.proofs.Levels.{low, split_fits, split_from_fits, grow_fits}
 use Rattle.sl_compile.proofs.Places.{laid_none, laid_behind, room_rest}

@@ -25,8 +25,8 @@ use Rattle.sl_pieces.specs.declared.slots.TheConstants.{LEVELS}
 use Rattle.sl_pieces.specs.exprs.Slots.{passing, stage_slot}
 use Rattle.sl_pieces.specs.exprs.Pieces.{pieces}
 use Rattle.sl_pieces.specs.exprs.Stages.{stage_pieces, stages_pieces}
-use Rattle.sl_compile.specs.Laying.{IsLaidAll, HasRoom}
-use Rattle.sl_compile.specs.Earlier.{columns, Fits}
+use Rattle.sl_compile.specs.inner.Laying.{IsLaidAll, HasRoom}
+use Rattle.sl_compile.specs.inner.Earlier.{columns, Fits}
 use Rattle.sl_compile.proofs.Places.{laid_none, laid_then, room_first, room_rest, room_as}
 use Rattle.std.proofs.Common.{append_assoc, subst}
 

@@ -16,10 +16,10 @@ use Rattle.sl_plans.specs.Laid.{laid_all}
 use Rattle.sl_books.specs.Codes.{book_slots, fact_shapes, closing_shapes, passing_shapes}
 use Rattle.sl_compile.specs.declared.easiest.Share.{Share}
 use Rattle.sl_compile.specs.declared.easiest.Easiest.{Easiest}
-use Rattle.sl_compile.specs.Weakest.{share_in, winners_in, minority_in, all_in, few_of, IsFairIn, IsSmallIn, AreSmall}
-use Rattle.sl_compile.specs.Laying.{IsLaidAll, HasRoom}
-use Rattle.sl_compile.specs.Slots.{low_shapes}
-use Rattle.sl_compile.specs.Earlier.{columns}
+use Rattle.sl_compile.specs.inner.Weakest.{share_in, winners_in, minority_in, all_in, few_of, IsFairIn, IsSmallIn, AreSmall}
+use Rattle.sl_compile.specs.inner.Laying.{IsLaidAll, HasRoom}
+use Rattle.sl_compile.specs.inner.Slots.{low_shapes}
+use Rattle.sl_compile.specs.inner.Earlier.{columns}
 use Rattle.sl_compile.proofs.Places.{length-laid_all, laid_then, room_first, room_rest}
 
 abbrev IsSmall : ℕ → Type 0

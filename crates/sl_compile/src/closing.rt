@@ -2,9 +2,9 @@
 
 ghost use Rattle.std.specs.Prelude.{◌≡◌, IfOk};
 ghost use Rattle.sl_pieces.specs.closing.Trees.{base_slot, seating_pieces, vacant_pieces, last_pieces, halting};
-ghost use Rattle.sl_compile.specs.Laying.{IsLaidAll, HasRoom};
-ghost use Rattle.sl_compile.specs.Slots.{low_shapes};
-ghost use Rattle.sl_compile.specs.Earlier.{columns};
+ghost use Rattle.sl_compile.specs.inner.Laying.{IsLaidAll, HasRoom};
+ghost use Rattle.sl_compile.specs.inner.Slots.{low_shapes};
+ghost use Rattle.sl_compile.specs.inner.Earlier.{columns};
 
 use crate::columns::{lay_copy, lay_pair};
 use crate::earlier::Earlier;

@@ -2,9 +2,9 @@
 
 ghost use Rattle.std.specs.Prelude.{◌≡◌, ℕ, [], ◌∷◌, IfOk};
 ghost use Rattle.sl_code.specs.declared.instr.Instr.TheVariants.{Get, Store};
-ghost use Rattle.sl_plans.specs.Layout.{tree_of};
+ghost use Rattle.sl_plans.specs.inner.Layout.{tree_of};
 ghost use Rattle.sl_pieces.specs.columns.Trees.{cells_plan, copy_tree, pair_instr, pair_tree, sum_tree};
-ghost use Rattle.sl_compile.specs.Laying.{IsLaidAll, HasRoom};
+ghost use Rattle.sl_compile.specs.inner.Laying.{IsLaidAll, HasRoom};
 
 use crate::laying::lay_one;
 use sl_code::Instr;

@@ -7,10 +7,10 @@ ghost use Rattle.sl_stages.specs.book.Words.{is_word};
 ghost use Rattle.sl_books.specs.Codes.{book_instrs};
 ghost use Rattle.sl_books.specs.Compiled.{IsCompiled};
 ghost use Rattle.sl_books.specs.Laws.{CanCompile};
-ghost use Rattle.sl_compile.specs.Codes.{IsCodeOf};
-ghost use Rattle.sl_compile.specs.Earlier.{columns};
-ghost use Rattle.sl_compile.specs.Slots.{low_shapes};
-ghost use Rattle.sl_compile.specs.Weakest.{few_of};
+ghost use Rattle.sl_compile.specs.inner.Codes.{IsCodeOf};
+ghost use Rattle.sl_compile.specs.inner.Earlier.{columns};
+ghost use Rattle.sl_compile.specs.inner.Slots.{low_shapes};
+ghost use Rattle.sl_compile.specs.inner.Weakest.{few_of};
 
 use crate::closing::{halting, lay_last};
 use crate::conditions::easiest;
@@ -72,5 +72,8 @@ pub fn compile(alloc: Global, book: &CheckedBook) -> Result<Verified, NoMemory>
     ensures { IfOk result (IsCompiled (book_of book.now.book)) }
 {
     let code = code_of(alloc, &book.book)?;
-    verify(code).map_err(|_| NoMemory)
+    match verify(code) {
+        Ok(verified) => Ok(verified),
+        Err(_) => unreachable!(),
+    }
 }

@@ -5,7 +5,7 @@ ghost use Rattle.std.specs.Str.{bytes_eq};
 ghost use Rattle.sl_stages.specs.declared.limits.TheConstants.{MAX_STAGES};
 ghost use Rattle.sl_stages.specs.book.Typing.{is_named, type_or_one};
 ghost use Rattle.sl_pieces.specs.exprs.Slots.{stage_slot};
-ghost use Rattle.sl_compile.specs.Earlier.{columns};
+ghost use Rattle.sl_compile.specs.inner.Earlier.{columns};
 
 use crate::slots::stage_slot;
 use sl_stages::{ColumnType, Shape, Stage, Word};

@@ -2,12 +2,12 @@
 
 ghost use Rattle.std.specs.Prelude.{◌≡◌, [], ◌∷◌, Bool, List, IfOk, cond};
 ghost use Rattle.sl_code.specs.declared.instr.Instr.{Instr as SpecInstr};
-ghost use Rattle.sl_plans.specs.Layout.{tree_of};
+ghost use Rattle.sl_plans.specs.inner.Layout.{tree_of};
 ghost use Rattle.sl_plans.specs.Trees.{Then};
 ghost use Rattle.sl_pieces.specs.facts.Trees.{eligible_tree};
 ghost use Rattle.sl_pieces.specs.exprs.Slots.{fact_slots};
-ghost use Rattle.sl_compile.specs.Laying.{IsLaidAll, HasRoom};
-ghost use Rattle.sl_compile.specs.Weakest.{few_of, given_of};
+ghost use Rattle.sl_compile.specs.inner.Laying.{IsLaidAll, HasRoom};
+ghost use Rattle.sl_compile.specs.inner.Weakest.{few_of, given_of};
 
 use crate::easiest::Easiest;
 use crate::laying::lay_one;

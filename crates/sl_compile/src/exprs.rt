@@ -5,9 +5,9 @@ ghost use Rattle.sl_stages.specs.declared.limits.TheConstants.{MAX_STAGES};
 ghost use Rattle.sl_stages.specs.book.Typing.{type_of};
 ghost use Rattle.sl_stages.specs.book.Trees.{tree_of};
 ghost use Rattle.sl_pieces.specs.exprs.Pieces.{pieces};
-ghost use Rattle.sl_compile.specs.Laying.{IsLaidAll, HasRoom};
-ghost use Rattle.sl_compile.specs.Slots.{low_shapes};
-ghost use Rattle.sl_compile.specs.Earlier.{columns, Fits};
+ghost use Rattle.sl_compile.specs.inner.Laying.{IsLaidAll, HasRoom};
+ghost use Rattle.sl_compile.specs.inner.Slots.{low_shapes};
+ghost use Rattle.sl_compile.specs.inner.Earlier.{columns, Fits};
 
 use crate::earlier::Earlier;
 use crate::nodes::{copy, pair, sum};

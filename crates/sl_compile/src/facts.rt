@@ -1,9 +1,9 @@
 //! The plans of the columns that a rulebook can name (docs/compiler.md, section 2).
 
 ghost use Rattle.std.specs.Prelude.{◌≡◌, IfOk};
-ghost use Rattle.sl_compile.specs.Laying.{IsLaidAll, HasRoom};
-ghost use Rattle.sl_compile.specs.Weakest.{few_of};
-ghost use Rattle.sl_compile.specs.Slots.{all_facts};
+ghost use Rattle.sl_compile.specs.inner.Laying.{IsLaidAll, HasRoom};
+ghost use Rattle.sl_compile.specs.inner.Weakest.{few_of};
+ghost use Rattle.sl_compile.specs.inner.Slots.{all_facts};
 
 use crate::easiest::Easiest;
 use crate::eligible::{NOTHING, count_one, lay_eligible};

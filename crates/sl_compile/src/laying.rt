@@ -1,8 +1,8 @@
 //! Plans that are laid out one behind the other.
 
 ghost use Rattle.std.specs.Prelude.{◌≡◌, [], ◌∷◌, map, IfOk};
-ghost use Rattle.sl_plans.specs.Layout.{tree_of};
-ghost use Rattle.sl_compile.specs.Laying.{IsLaidAll, HasRoom};
+ghost use Rattle.sl_plans.specs.inner.Layout.{tree_of};
+ghost use Rattle.sl_compile.specs.inner.Laying.{IsLaidAll, HasRoom};
 
 use sl_code::Instr;
 use sl_plans::{Plan, lay};

@@ -5,12 +5,12 @@ ghost use Rattle.std.specs.Prelude.{◌≡◌, ◌+◌, ◌≤◌, [], ◌∷◌
 ghost use Rattle.sl_stages.specs.declared.book.Shape.TheVariants as shape;
 ghost use Rattle.sl_stages.specs.declared.book.Unit.TheVariants as unit;
 ghost use Rattle.sl_stages.specs.book.Typing.{can_split, column, shape_over};
-ghost use Rattle.sl_blocks.specs.Jobs.{slots_of};
+ghost use Rattle.sl_blocks.specs.inner.Jobs.{slots_of};
 ghost use Rattle.sl_pieces.specs.columns.Trees.{copy_tree, pair_tree, sum_tree};
 ghost use Rattle.sl_pieces.specs.exprs.Pieces.{node_slots, split_piece, grow_piece};
 ghost use Rattle.sl_pieces.specs.exprs.Slots.{passing};
-ghost use Rattle.sl_compile.specs.Laying.{IsLaidAll, HasRoom};
-ghost use Rattle.sl_compile.specs.Nodes.{minima_at, top_of, MayHave};
+ghost use Rattle.sl_compile.specs.inner.Laying.{IsLaidAll, HasRoom};
+ghost use Rattle.sl_compile.specs.inner.Nodes.{minima_at, top_of, MayHave};
 
 use crate::columns::{lay_copy, lay_pair, lay_sum};
 use crate::exprs::Site;

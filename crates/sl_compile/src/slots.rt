@@ -2,7 +2,7 @@
 
 ghost use Rattle.std.specs.Prelude.{◌≡◌, ◌<◌, ◌≤◌, ◌++◌, IfOk, map};
 ghost use Rattle.sl_pieces.specs.exprs.Slots.{fact_slots, passing, stage_slot};
-ghost use Rattle.sl_compile.specs.Slots.{low_shapes};
+ghost use Rattle.sl_compile.specs.inner.Slots.{low_shapes};
 
 use sl_pieces::slots::{FIRST_FACT, FIRST_PASSING_SLOT, FIRST_STAGE_SLOT, LEVELS};
 use sl_ratio::NoMemory;

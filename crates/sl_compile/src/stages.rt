@@ -6,9 +6,9 @@ ghost use Rattle.sl_stages.specs.book.Limits.{is_within_limits};
 ghost use Rattle.sl_stages.specs.book.Tests.{first_failing};
 ghost use Rattle.sl_stages.specs.book.Typing.{type_of, stages_tests, columns_of};
 ghost use Rattle.sl_pieces.specs.exprs.Stages.{stage_pieces, stages_pieces};
-ghost use Rattle.sl_compile.specs.Laying.{IsLaidAll, HasRoom};
-ghost use Rattle.sl_compile.specs.Slots.{low_shapes};
-ghost use Rattle.sl_compile.specs.Earlier.{columns, Fits};
+ghost use Rattle.sl_compile.specs.inner.Laying.{IsLaidAll, HasRoom};
+ghost use Rattle.sl_compile.specs.inner.Slots.{low_shapes};
+ghost use Rattle.sl_compile.specs.inner.Earlier.{columns, Fits};
 
 use crate::columns::lay_copy;
 use crate::earlier::Earlier;

@@ -6,7 +6,7 @@ use Rattle.sl_stages.specs.declared.book.Shape.{Shape}
 use Rattle.sl_stages.specs.declared.book.Shape.TheVariants as shape
 use Rattle.sl_pieces.specs.declared.form.Form.TheVariants.{AllLists}
 use Rattle.sl_blocks.specs.declared.job.Job.{Job}
-use Rattle.sl_blocks.specs.Jobs.{IsSplitJob}
+use Rattle.sl_blocks.specs.inner.Jobs.{IsSplitJob}
 
 module _ (shapes : List Shape) (j : Job) (stage : j.stage ≡ 0) (amount : j.amount ≡ 12) (weights : j.weights ≡ 19) (result : j.result ≡ 15) (none : j.minima ≡ None) where
   -- where these slots have the shapes of seats, of votes and of a result

@@ -12,7 +12,7 @@ use Rattle.sl_stages.specs.book.Books.{book_of}
 use Rattle.sl_stages.specs.book.Limits.{is_within_stage}
 use Rattle.sl_stages.specs.book.Trees.{stage_of}
 use Rattle.sl_desk.specs.declared.limits.TheConstants.{MAX_BOOK_BYTES}
-use Rattle.sl_desk.specs.Verdicts.{HasTree}
+use Rattle.sl_desk.specs.Books.{HasTree}
 
 -- the tree that was read
 pub has_tree : (text : List ℕ) (tokens : List Token) (b c : Book) → length text ≤ MAX_BOOK_BYTES → AreTokens text tokens

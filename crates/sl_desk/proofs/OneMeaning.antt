@@ -22,7 +22,9 @@ use Rattle.sl_desk.specs.declared.report.Report.TheVariants.{Seats, Steps, Stage
 use Rattle.sl_desk.specs.declared.status.Status.{Status}
 use Rattle.sl_desk.specs.declared.verdict.Verdict.TheVariants.{Good}
 use Rattle.sl_desk.specs.Stages.{names_of}
-use Rattle.sl_desk.specs.Output.{IsColumnText, IsReported, IsTableText, IsFaultText, IsTreeOutput}
+use Rattle.sl_desk.specs.Counting.{IsTableText, IsFaultText, IsTreeOutput}
+use Rattle.sl_desk.specs.Showing.{IsColumnText}
+use Rattle.sl_desk.specs.Reports.{IsReported}
 
 -- the short text shows neither steps nor weights
 pub same_short : (t u : SeatTable) (e : Election) → t.lists ≡ u.lists → t.placed ≡ u.placed → short_text t e ≡ short_text u e
@@ -50,7 +52,7 @@ same_report Steps tree e t u x y typed same once h k = same_text (names_of tree)
 same_report (Stage n) tree e t u x y typed same once h k = one_column_text tree e n x y typed h k
 
 module _ (report : Report) (tree : BookTree) (e : Election) (typed : is_typed tree ≡ true) (is : IsElection e) where
-  one_table_text : (s t : List ℕ) → IsTableText report tree e s → IsTableText report tree e t → s ≡ t
+  one_table_text : (s t : List ℕ) → IsTableText (IsReported report) tree e s → IsTableText (IsReported report) tree e t → s ≡ t
   one_table_text s t h k =
       let same : SameTable h.0 k.0 = at_most_one_outcome tree e typed is (outcome.Table h.0) (outcome.Table k.0) h.1 k.1 in
       same_report report tree e h.0 k.0 s t typed same (records_once tree e h.0 typed h.1) h.2 k.2
@@ -60,10 +62,10 @@ module _ (report : Report) (tree : BookTree) (e : Election) (typed : is_typed tr
       h.2 ∙ ap (fault_text (names_of tree) e) (at_most_one_outcome tree e typed is (outcome.Fault h.0) (outcome.Fault k.0) h.1 k.1) ∙ sym k.2
 
   -- a book that means a table means no fault
-  not_both : (s t : List ℕ) → IsTableText report tree e s → IsFaultText tree e t → ⊥
+  not_both : (s t : List ℕ) → IsTableText (IsReported report) tree e s → IsFaultText tree e t → ⊥
   not_both s t h k = at_most_one_outcome tree e typed is (outcome.Table h.0) (outcome.Fault k.0) h.1 k.1
 
-  pub one_good_output : (a b : Status) (s t : List ℕ) → IsTreeOutput report tree (Good e) a s → IsTreeOutput report tree (Good e) b t → (a ≡ b) × (s ≡ t)
+  pub one_good_output : (a b : Status) (s t : List ℕ) → IsTreeOutput (IsReported report) tree (Good e) a s → IsTreeOutput (IsReported report) tree (Good e) b t → (a ≡ b) × (s ≡ t)
   one_good_output a b s t (inl h) (inl k) = (h.0 ∙ sym k.0, one_table_text s t h.1 k.1)
   one_good_output a b s t (inl h) (inr k) = absurd (not_both s t h.1 k.1)
   one_good_output a b s t (inr h) (inl k) = absurd (not_both t s k.1 h.1)

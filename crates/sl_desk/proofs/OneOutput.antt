@@ -27,12 +27,17 @@ use Rattle.sl_desk.specs.declared.report.Report.TheVariants.{Stage}
 use Rattle.sl_desk.specs.declared.status.Status.{Status}
 use Rattle.sl_desk.specs.declared.verdict.Verdict.{Verdict}
 use Rattle.sl_desk.specs.declared.verdict.Verdict.TheVariants.{Good, Refused}
-use Rattle.sl_desk.specs.Verdicts.{BookInput, HasTokens, HasTree, library, text, IsTextVerdict, IsLawVerdict, IsBookVerdict, unknown_law, book_line, IsReturnsVerdict}
-use Rattle.sl_desk.specs.Output.{IsTreeOutput, IsCount, IsNumbered, IsStage, IsCheck}
+use Rattle.sl_desk.specs.Books.{BookInput, HasTokens, HasTree, library, text, IsTextVerdict, IsLawVerdict, IsBookVerdict, book_line}
+use Rattle.sl_desk.specs.Library.{unknown_law}
+use Rattle.sl_desk.specs.Returns.{IsReturnsVerdict}
+use Rattle.sl_desk.specs.Checking.{IsCheck}
+use Rattle.sl_desk.specs.Counting.{IsTreeOutput, IsCount}
+use Rattle.sl_desk.specs.Showing.{IsNumbered, IsStage}
 use Rattle.sl_desk.specs.Stages.{stage_number}
 use Rattle.sl_desk.specs.Laws.{HasOneOutput, HasOneStage, HasOneCheck}
 use Rattle.sl_returns.proofs.ReadElections.{read_is}
 use Rattle.sl_desk.proofs.OneMeaning.{one_good_output}
+use Rattle.sl_desk.specs.Reports.{IsReported}
 
 -- what the layers below say
 pub record LowerLaws : Type 0 where
@@ -102,7 +107,7 @@ pub typed_tree : (tree : BookTree) → check_fault tree ≡ None → is_typed tr
 typed_tree tree h = ap is_none h
 
 one_tree_output : (report : Report) (tree : BookTree) (bytes : List ℕ) (v : Verdict Election ReturnsRefusal) (a b : Status) (s t : List ℕ) → is_typed tree ≡ true → IsReturnsVerdict bytes v
-    → IsTreeOutput report tree v a s → IsTreeOutput report tree v b t → (a ≡ b) × (s ≡ t)
+    → IsTreeOutput (IsReported report) tree v a s → IsTreeOutput (IsReported report) tree v b t → (a ≡ b) × (s ≡ t)
 one_tree_output report tree bytes (Refused why) a b s t typed is h k = (h.0 ∙ sym k.0, h.1 ∙ sym k.1)
 one_tree_output report tree bytes (Good e) a b s t typed is h k = one_good_output report tree e typed (read_is (records_in bytes) e is.1) a b s t h k
 
@@ -123,11 +128,11 @@ typed_book : (input : BookInput) (v : Verdict BookTree BookRefusal) → IsBookVe
 typed_book (text source) v h = typed_text source v h
 typed_book (library name) v h = typed_law name (law_text name) v h
 
-one_count : (report : Report) (v : Verdict BookTree BookRefusal) (bytes : List ℕ) (a b : Status) (s t : List ℕ) → IsTypedVerdict v → IsCount report v bytes a s → IsCount report v bytes b t → (a ≡ b) × (s ≡ t)
+one_count : (report : Report) (v : Verdict BookTree BookRefusal) (bytes : List ℕ) (a b : Status) (s t : List ℕ) → IsTypedVerdict v → IsCount (IsReported report) v bytes a s → IsCount (IsReported report) v bytes b t → (a ≡ b) × (s ≡ t)
 one_count report (Refused why) bytes a b s t typed h k = (h.0 ∙ sym k.0, h.1 ∙ sym k.1)
 one_count report (Good tree) bytes a b s t typed h k =
     let same = one_returns_verdict bytes h.0 k.0 h.1 k.1 in
-    one_tree_output report tree bytes h.0 a b s t typed h.1 h.2 (subst (λ (v : Verdict Election ReturnsRefusal). IsTreeOutput report tree v b t) (sym same) k.2)
+    one_tree_output report tree bytes h.0 a b s t typed h.1 h.2 (subst (λ (v : Verdict Election ReturnsRefusal). IsTreeOutput (IsReported report) tree v b t) (sym same) k.2)
 
 one_numbered : (name : List ℕ) (tree : BookTree) (o : Option ℕ) (bytes : List ℕ) (a b : Status) (s t : List ℕ) → is_typed tree ≡ true
     → IsNumbered name tree o bytes a s → IsNumbered name tree o bytes b t → (a ≡ b) × (s ≡ t)
@@ -144,14 +149,14 @@ one_checked (Good tree) a b s t h k = (h.0 ∙ sym k.0, h.1 ∙ sym k.1)
 
 -- two verdicts that are alike count alike, and check alike
 
-counts_alike : (report : Report) (v w : Verdict BookTree BookRefusal) (bytes : List ℕ) (a b : Status) (s t : List ℕ) → IsTypedVerdict v → AreAlike v w → IsCount report v bytes a s → IsCount report w bytes b t
+counts_alike : (report : Report) (v w : Verdict BookTree BookRefusal) (bytes : List ℕ) (a b : Status) (s t : List ℕ) → IsTypedVerdict v → AreAlike v w → IsCount (IsReported report) v bytes a s → IsCount (IsReported report) w bytes b t
     → (a ≡ b) × (s ≡ t)
 unfolding AreAlike
 counts_alike report v w bytes a b s t typed (inl same) h k =
-    one_count report v bytes a b s t typed h (subst (λ (x : Verdict BookTree BookRefusal). IsCount report x bytes b t) (sym same) k)
+    one_count report v bytes a b s t typed h (subst (λ (x : Verdict BookTree BookRefusal). IsCount (IsReported report) x bytes b t) (sym same) k)
 counts_alike report v w bytes a b s t typed (inr (why, reason, first, second, line)) h k =
-    let c : IsCount report (Refused why) bytes a s = subst (λ (x : Verdict BookTree BookRefusal). IsCount report x bytes a s) first h in
-    let d : IsCount report (Refused reason) bytes b t = subst (λ (x : Verdict BookTree BookRefusal). IsCount report x bytes b t) second k in
+    let c : IsCount (IsReported report) (Refused why) bytes a s = subst (λ (x : Verdict BookTree BookRefusal). IsCount (IsReported report) x bytes a s) first h in
+    let d : IsCount (IsReported report) (Refused reason) bytes b t = subst (λ (x : Verdict BookTree BookRefusal). IsCount (IsReported report) x bytes b t) second k in
     (c.0 ∙ sym d.0, c.1 ∙ line ∙ sym d.1)
 
 shows_alike : (name : List ℕ) (v w : Verdict BookTree BookRefusal) (bytes : List ℕ) (a b : Status) (s t : List ℕ) → IsTypedVerdict v → AreAlike v w → IsStage name v bytes a s → IsStage name w bytes b t

@@ -22,7 +22,8 @@ use Rattle.sl_desk.specs.declared.refusal.ReturnsRefusal.{ReturnsRefusal}
 use Rattle.sl_desk.specs.declared.refusal.ReturnsRefusal.TheVariants as returns
 use Rattle.sl_desk.specs.declared.verdict.Verdict.{Verdict}
 use Rattle.sl_desk.specs.declared.verdict.Verdict.TheVariants.{Good, Refused}
-use Rattle.sl_desk.specs.Verdicts.{HasTokens, HasTree, IsTextVerdict, IsReturnsVerdict}
+use Rattle.sl_desk.specs.Books.{HasTokens, HasTree, IsTextVerdict}
+use Rattle.sl_desk.specs.Returns.{IsReturnsVerdict}
 use Rattle.sl_desk.specs.Laws.{OneBookVerdict, OneReturnsVerdict}
 use Rattle.sl_desk.proofs.OneOutput.{LowerLaws, one_text_verdict, one_returns_verdict}
 

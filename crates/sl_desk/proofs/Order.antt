@@ -23,10 +23,20 @@ use Rattle.sl_desk.specs.declared.status.Input.{Input}
 use Rattle.sl_desk.specs.declared.status.Input.TheVariants.{Book, Returns, Code}
 use Rattle.sl_desk.specs.declared.verdict.Verdict.TheVariants.{Good, Refused}
 use Rattle.sl_desk.specs.Failures.{Counts, counts, counts_after}
-use Rattle.sl_desk.specs.Output.{IsTreeOutput, IsCount, IsOutput, IsNumbered, IsStageOutput, IsCodeOutput, IsRun, IsRunCode}
-use Rattle.sl_desk.specs.Reading.{TakesAtMost, IsNoGoodBook, IsNoBookWith, IsNoGoodCode, ReadsBehind, ReadsReturns, ReadsBehindStage, ReadsBehindCode, ForKnown}
+use Rattle.sl_desk.specs.Counting.{IsTreeOutput, IsCount, IsOutput}
+use Rattle.sl_desk.specs.Running.{IsCodeOutput, IsRun, IsRunCode}
+use Rattle.sl_desk.specs.Showing.{IsNumbered, IsStageOutput}
+use Rattle.sl_desk.specs.Counting.{IsNoGoodBook, ReadsReturns}
+use Rattle.sl_desk.specs.Reading.{TakesAtMost, ReadsBehind, ForKnown}
+use Rattle.sl_desk.specs.Running.{IsNoGoodCode, ReadsBehindCode}
+use Rattle.sl_desk.specs.Showing.{IsNoBookWith, ReadsBehindStage}
 use Rattle.sl_desk.specs.Stages.{stage_number}
-use Rattle.sl_desk.specs.Verdicts.{BookInput, IsBookVerdict, IsReturnsVerdict, IsCodeVerdict, unknown_stage, book_line, code_line}
+use Rattle.sl_desk.specs.Books.{BookInput, IsBookVerdict, book_line}
+use Rattle.sl_desk.specs.CodeFiles.{IsCodeVerdict, code_line}
+use Rattle.sl_desk.specs.Returns.{IsReturnsVerdict}
+use Rattle.sl_desk.specs.Showing.{unknown_stage}
+use Rattle.sl_desk.specs.Showing.{ShowsColumn}
+use Rattle.sl_desk.specs.Reports.{IsReported}
 
 -- want of memory is no failure of a reader or a writer
 pub memory_counts : {X : Type 0} (before after : Counts) (r : Result X DeskError) → after ≡ before → IfErr r (λ e. e ≡ NoMemory) → after ≡ counts_after before r
@@ -35,8 +45,8 @@ memory_counts before after (Err e) same h = rw h same
 
 -- the output of a good book on good returns
 pub tree_counts : (report : Report) (known : Option (List ℕ)) (tree : BookTree) (e : Election) (r : Result Answer DeskError)
-    → IfSome known (λ bytes. IsReturnsVerdict bytes (Good e)) → IfOk r (λ a. IsTreeOutput report tree (Good e) a.status a.text.items)
-    → IfOk r (λ a. IfSome known (λ bytes. IsCount report (Good tree) bytes a.status a.text.items))
+    → IfSome known (λ bytes. IsReturnsVerdict bytes (Good e)) → IfOk r (λ a. IsTreeOutput (IsReported report) tree (Good e) a.status a.text.items)
+    → IfOk r (λ a. IfSome known (λ bytes. IsCount (IsReported report) (Good tree) bytes a.status a.text.items))
 tree_counts report known tree e (Err x) judged output = tt
 tree_counts report None tree e (Ok a) judged output = tt
 tree_counts report (Some bytes) tree e (Ok a) judged output = (Good e, judged, output)
@@ -44,7 +54,7 @@ tree_counts report (Some bytes) tree e (Ok a) judged output = (Good e, judged, o
 -- the line that refuses a book, whatever the returns are
 pub refusal_counts : (report : Report) (book : Option BookInput) (returns : Option (List ℕ)) (why : BookRefusal) (ends : Status) (output : List ℕ)
     → IfSome book (λ input. IsBookVerdict input (Refused why)) → ends ≡ status.Refused → output ≡ book_line why
-    → ForKnown book returns (λ input bytes. IsOutput report input bytes ends output)
+    → ForKnown book returns (λ input bytes. IsOutput (IsReported report) input bytes ends output)
 refusal_counts report None returns why ends output bad refused same = tt
 refusal_counts report (Some input) None why ends output bad refused same = tt
 refusal_counts report (Some input) (Some bytes) why ends output bad refused same = (Refused why, bad, (refused, same))
@@ -139,7 +149,7 @@ module _ (name : List ℕ) (tree : BookTree) where
 
   pub counts_stage : (book : Option BookInput) (returns : Option (List ℕ)) (n : ℕ) (r : Result Answer DeskError)
       → IfSome book (λ input. IsBookVerdict input (Good tree)) → Some n ≡ stage_number name tree
-      → IfOk r (λ a. IfSome returns (λ bytes. IsCount (Stage n) (Good tree) bytes a.status a.text.items))
+      → IfOk r (λ a. IfSome returns (λ bytes. IsCount (ShowsColumn n) (Good tree) bytes a.status a.text.items))
       → IfOk r (λ a. ForKnown book returns (λ input bytes. IsStageOutput name input bytes a.status a.text.items))
   counts_stage book returns n (Ok a) good same counted = stage_output book returns (Some n) a.status a.text.items good same counted
   counts_stage book returns n (Err x) good same counted = tt

@@ -28,10 +28,11 @@ use Rattle.sl_desk.specs.declared.report.Report.TheVariants.{Seats, Steps, Stage
 use Rattle.sl_desk.specs.declared.status.Status.{Status}
 use Rattle.sl_desk.specs.declared.verdict.Verdict.TheVariants.{Good}
 use Rattle.sl_desk.specs.Endings.{code_names, shown, IsHeldText, IsEndingOutput, IsRunOutput}
-use Rattle.sl_desk.specs.Output.{IsTableText, IsTreeOutput}
+use Rattle.sl_desk.specs.Counting.{IsTableText, IsTreeOutput}
 use Rattle.sl_desk.specs.Stages.{HasStage}
 use Rattle.sl_desk.proofs.OneMeaning.{same_short}
 use Rattle.sl_desk.proofs.StageColumns.{column_text}
+use Rattle.sl_desk.specs.Reports.{IsReported}
 
 held_same : (h k : Held) → answer.Done h ≡ answer.Done k → h ≡ k
 held_same h k e = cc
@@ -85,12 +86,12 @@ module _ (report : Report) (b : BookTree) (c : CountingCode) (e : Election) (is 
 
   -- a run that is done: the book means a table, and the text of what is held is that of what is reported of it
   halted_is_meant : (r : Report) (base : ℕ) (vacant : Option ℕ) (s : State) (h : Held) (output : List ℕ) → HasStage r b → ending_by b c e ≡ Ended (Halted base vacant s)
-      → answer_of c e (shown r (Ended (Halted base vacant s))) ≡ Some (answer.Done h) → IsHeldText r c e h output → (o : Outcome) → Means b e o → IsTableText r b e output
+      → answer_of c e (shown r (Ended (Halted base vacant s))) ≡ Some (answer.Done h) → IsHeldText r c e h output → (o : Outcome) → Means b e o → IsTableText (IsReported r) b e output
   halted_is_meant r base vacant s h output has ends at text o means =
       go r o has means (subst (λ x. ComesTo c e x o) ends ((is.means e o in_range).0 means)) at text
     where
       go : (r : Report) (o : Outcome) → HasStage r b → Means b e o → ComesTo c e (Ended (Halted base vacant s)) o
-          → answer_of c e (shown r (Ended (Halted base vacant s))) ≡ Some (answer.Done h) → IsHeldText r c e h output → IsTableText r b e output
+          → answer_of c e (shown r (Ended (Halted base vacant s))) ≡ Some (answer.Done h) → IsHeldText r c e h output → IsTableText (IsReported r) b e output
       go Seats (outcome.Table t) has means comes at text =
           let bare : Held = held_of c e base vacant (unrecorded s) in (
             t,
@@ -114,10 +115,10 @@ module _ (report : Report) (b : BookTree) (c : CountingCode) (e : Election) (is 
           )
       go r (outcome.Fault g) has means comes at text = absurd comes
 
-  table_is_meant : is_typed b ≡ true → (h : Held) (output : List ℕ) → HasStage report b → Answers (answer.Done h) → IsHeldText report c e h output → IsTableText report b e output
+  table_is_meant : is_typed b ≡ true → (h : Held) (output : List ℕ) → HasStage report b → Answers (answer.Done h) → IsHeldText report c e h output → IsTableText (IsReported report) b e output
   table_is_meant typed h output has told text = go report (is.ends e in_range).0 has (is.ends e in_range).1 (shown_as (is.ends e in_range).0 (answer.Done h) (is.ends e in_range).1 told) text
     where
-      go : (r : Report) (end : End) → HasStage r b → ending_by b c e ≡ Ended end → answer_of c e (shown r (Ended end)) ≡ Some (answer.Done h) → IsHeldText r c e h output → IsTableText r b e output
+      go : (r : Report) (end : End) → HasStage r b → ending_by b c e ≡ Ended end → answer_of c e (shown r (Ended end)) ≡ Some (answer.Done h) → IsHeldText r c e h output → IsTableText (IsReported r) b e output
       go r (Halted base vacant s) has ends at text = let o = some_outcome b e typed in_range in halted_is_meant r base vacant s h output has ends at text o.0 o.1
       go Seats (Faulted f) has ends at text = absurd (done_or_fault h f (sym (same_Some _ _ at)))
       go Steps (Faulted f) has ends at text = absurd (done_or_fault h f (sym (same_Some _ _ at)))
@@ -127,7 +128,7 @@ module _ (report : Report) (b : BookTree) (c : CountingCode) (e : Election) (is 
 
   -- what the end of the run writes is what the book means
   pub tree_output : is_typed b ≡ true → (a : Answer) (ends : Status) (output : List ℕ) → HasStage report b → Answers a → IsEndingOutput report c e a ends output
-      → IsTreeOutput report b (Good e) ends output
+      → IsTreeOutput (IsReported report) b (Good e) ends output
   tree_output typed (answer.Done h) ends output has told written = inl (written.0, table_is_meant typed h output has told written.1)
   tree_output typed (answer.Fault f) ends output has told written =
       inr (written.0, (f, fault_is_meant f told, written.1 ∙ ap (λ names. fault_text names e f) is.stages))

@@ -25,12 +25,14 @@ use Rattle.sl_desk.specs.declared.verdict.Verdict.{Verdict}
 use Rattle.sl_desk.specs.declared.verdict.Verdict.TheVariants.{Good, Refused}
 use Rattle.sl_desk.specs.Endings.{IsRunOutput}
 use Rattle.sl_desk.specs.Laws.{OneCodeVerdict, HasOneRun, RunsItsCode, RunIsCount}
-use Rattle.sl_desk.specs.Output.{IsTreeOutput, IsCount, IsCodeOutput, IsRun, IsRunCode}
-use Rattle.sl_desk.specs.Verdicts.{IsReturnsVerdict}
+use Rattle.sl_desk.specs.Counting.{IsTreeOutput, IsCount}
+use Rattle.sl_desk.specs.Running.{IsCodeOutput, IsRun, IsRunCode}
+use Rattle.sl_desk.specs.Returns.{IsReturnsVerdict}
 use Rattle.sl_desk.proofs.CodeLengths.{file_fits}
 use Rattle.sl_desk.proofs.OneMeaning.{same_short}
 use Rattle.sl_desk.proofs.OneOutput.{one_returns_verdict}
 use Rattle.sl_desk.proofs.Outcomes.{tree_output}
+use Rattle.sl_desk.specs.Counting.{ShowsSeats}
 
 module _ (one_verdict : OneCodeVerdict) where
   pub runs_its_code : RunsItsCode
@@ -66,7 +68,7 @@ module _ (one_verdict : OneCodeVerdict) where
 
 module _ (b : BookTree) (c : CountingCode) (is : IsCompiled b c) (typed : is_typed b ≡ true) where
   ended_counts : (e : Election) (end : End) (ends : Status) (output : List ℕ) → IsElection e → ending_by b c e ≡ Ended end
-      → IsRunOutput c e (answer_of c e (Ended end)) ends output → IsTreeOutput Seats b (Good e) ends output
+      → IsRunOutput c e (answer_of c e (Ended end)) ends output → IsTreeOutput ShowsSeats b (Good e) ends output
   ended_counts e (Halted base vacant s) ends output in_range at written =
       let held : Held = held_of c e base vacant s in
       let bare : Held = held_of c e base vacant (unrecorded s) in
@@ -76,7 +78,7 @@ module _ (b : BookTree) (c : CountingCode) (is : IsCompiled b c) (typed : is_typ
       tree_output Seats b c e is in_range typed (answer.Fault f) ends output tt (ap (λ x. answer_of c e (without_records x)) at) written
 
   code_counts : (returns : List ℕ) (v : Verdict Election ReturnsRefusal) (ends : Status) (output : List ℕ) → IsReturnsVerdict returns v → IsCodeOutput c v ends output
-      → IsTreeOutput Seats b v ends output
+      → IsTreeOutput ShowsSeats b v ends output
   code_counts returns (Refused why) ends output judged written = written
   code_counts returns (Good e) ends output judged written =
       let in_range = read_is (records_in returns) e judged.1 in
@@ -84,7 +86,7 @@ module _ (b : BookTree) (c : CountingCode) (is : IsCompiled b c) (typed : is_typ
       let same : ending c e (budget_of (length c.stages) e) ≡ Ended end.0 = ap (λ (n : ℕ). ending c e (budget_of n e)) (code_stages_long b c is) ∙ end.1 in
       ended_counts e end.0 ends output in_range end.1 (subst (λ x. IsRunOutput c e (answer_of c e x) ends output) same written)
 
-  pub run_counts : (returns : List ℕ) (ends : Status) (output : List ℕ) → IsRun (Good c) returns ends output → IsCount Seats (Good b) returns ends output
+  pub run_counts : (returns : List ℕ) (ends : Status) (output : List ℕ) → IsRun (Good c) returns ends output → IsCount ShowsSeats (Good b) returns ends output
   run_counts returns ends output h = (h.0, h.1, code_counts returns h.0 ends output h.1 h.2)
 
 pub run_is_count : OneCodeVerdict → RunIsCount

@@ -18,8 +18,8 @@ use Rattle.sl_table.specs.Stages.{stage_text, stage_slot, held_stage_text}
 use Rattle.sl_desk.specs.declared.report.Report.{Report}
 use Rattle.sl_desk.specs.declared.report.Report.TheVariants.{Seats, Steps, Stage}
 use Rattle.sl_desk.specs.Endings.{HasAsked}
-use Rattle.sl_desk.specs.Output.{IsColumnText}
 use Rattle.sl_desk.specs.Stages.{HasStage}
+use Rattle.sl_desk.specs.Showing.{IsColumnText}
 
 nameless : CodeStage
 nameless = record { name = []; slot = 0 }

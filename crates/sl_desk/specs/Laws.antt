@@ -13,8 +13,16 @@ use Rattle.sl_desk.specs.declared.report.Report.TheVariants.{Seats}
 use Rattle.sl_desk.specs.declared.status.Status.{Status}
 use Rattle.sl_desk.specs.declared.verdict.Verdict.{Verdict}
 use Rattle.sl_desk.specs.declared.verdict.Verdict.TheVariants.{Good}
-use Rattle.sl_desk.specs.Verdicts.{BookInput, IsTextVerdict, IsReturnsVerdict, IsCodeVerdict}
-use Rattle.sl_desk.specs.Output.{IsCount, IsOutput, IsStageOutput, IsCheckOutput, IsCodeOf, IsRun, IsRunCode}
+use Rattle.sl_desk.specs.Books.{BookInput, IsTextVerdict}
+use Rattle.sl_desk.specs.CodeFiles.{IsCodeVerdict}
+use Rattle.sl_desk.specs.Returns.{IsReturnsVerdict}
+use Rattle.sl_desk.specs.Checking.{IsCheckOutput}
+use Rattle.sl_desk.specs.Compiling.{IsCodeOf}
+use Rattle.sl_desk.specs.Counting.{IsCount, IsOutput}
+use Rattle.sl_desk.specs.Running.{IsRun, IsRunCode}
+use Rattle.sl_desk.specs.Showing.{IsStageOutput}
+use Rattle.sl_desk.specs.Reports.{IsReported}
+use Rattle.sl_desk.specs.Counting.{ShowsSeats}
 
 -- each text of a book comes to exactly one verdict
 abbrev pub OneBookVerdict : Type 0
@@ -27,7 +35,7 @@ OneReturnsVerdict = (bytes : List ℕ) → ExactlyOne (IsReturnsVerdict bytes)
 -- two outputs of counting the same inputs are one
 abbrev pub HasOneOutput : Type 0
 HasOneOutput = (report : Report) (input : BookInput) (returns : List ℕ) (a b : Status) (s t : List ℕ)
-    → IsOutput report input returns a s → IsOutput report input returns b t → (a ≡ b) × (s ≡ t)
+    → IsOutput (IsReported report) input returns a s → IsOutput (IsReported report) input returns b t → (a ≡ b) × (s ≡ t)
 
 -- two outputs of showing the stage of a name are one
 abbrev pub HasOneStage : Type 0
@@ -54,4 +62,4 @@ RunsItsCode = (c : CountingCode) (returns : List ℕ) (ends : Status) (output : 
 -- and where the code counts as a book means, it writes what counting by that book writes
 abbrev pub RunIsCount : Type 0
 RunIsCount = (tree : BookTree) (file text returns : List ℕ) (ends : Status) (output : List ℕ) → is_typed tree ≡ true → IsCodeOf tree file text
-    → IsRunCode file returns ends output → IsCount Seats (Good tree) returns ends output
+    → IsRunCode file returns ends output → IsCount ShowsSeats (Good tree) returns ends output

@@ -1,21 +1,15 @@
--- What a call takes from its inputs, and in which order (docs/output.md, section 3).
-use Rattle.std.specs.Prelude.{◌≡◌, ◌≢◌, ℕ, ◌+◌, ◌≤◌, List, length, Option, Some, None, Result, Err, IfSome, ⊤}
-use Rattle.std.specs.Option.{option_map}
+-- What a call takes from its inputs (docs/output.md, section 3).
 use Rattle.std.specs.Io.KnownBytes.{Consumes}
-use Rattle.sl_stages.specs.book.Trees.{BookTree}
+use Rattle.std.specs.Option.{option_map}
+use Rattle.std.specs.Prelude.{Err, IfSome, List, None, Option, Result, Some, ⊤, length, ◌+◌, ◌≡◌, ◌≢◌, ◌≤◌, ℕ}
+use Rattle.sl_desk.specs.Books.{BookInput, library, text}
 use Rattle.sl_desk.specs.declared.limits.TheConstants.{MAX_BOOK_BYTES, MAX_RETURNS_BYTES}
-use Rattle.sl_desk.specs.declared.source.BookSource.{BookSource}
 use Rattle.sl_desk.specs.declared.source.BookSource.TheVariants.{Library, Reader}
-use Rattle.sl_desk.specs.declared.status.DeskError.{DeskError}
+use Rattle.sl_desk.specs.declared.source.BookSource.{BookSource}
 use Rattle.sl_desk.specs.declared.status.DeskError.TheVariants as fault
-use Rattle.sl_desk.specs.declared.status.Input.{Input}
+use Rattle.sl_desk.specs.declared.status.DeskError.{DeskError}
 use Rattle.sl_desk.specs.declared.status.Input.TheVariants as input
-use Rattle.sl_desk.specs.declared.verdict.Verdict.TheVariants as verdict
-use Rattle.sl_code.specs.Codes.{CountingCode}
-use Rattle.sl_desk.specs.Stages.{stage_number}
-use Rattle.sl_desk.specs.Verdicts.{BookInput, library, text, IsBookVerdict, IsCodeVerdict}
-
--- ---- the source of a book
+use Rattle.sl_desk.specs.declared.status.Input.{Input}
 
 -- the book that it gives, if its bytes are known
 abbrev pub book_input : {S : Type 0} → (S → Option (List ℕ)) → BookSource S → Option BookInput
@@ -37,8 +31,6 @@ abbrev pub book_bytes : {S : Type 0} → (S → Option (List ℕ)) → BookSourc
 book_bytes remaining (Library name) = None
 book_bytes remaining (Reader r) = remaining r
 
--- ---- what is taken
-
 -- of known bytes at most so many were taken: the rest is a suffix
 abbrev pub TakesAtMost : ℕ → Option (List ℕ) → Option (List ℕ) → Type 0
 TakesAtMost most old new = (taken : List ℕ) × (length taken ≤ most) × Consumes old new taken
@@ -49,20 +41,6 @@ pub record ReadsBook {S : Type 0} (remaining : S → Option (List ℕ)) (old new
   pub named : book_name new ≡ book_name old
   -- no more than one byte past the limit is taken
   pub limited : TakesAtMost (MAX_BOOK_BYTES + 1) (book_bytes remaining old) (book_bytes remaining new)
-
--- ---- the order
-
--- no tree makes the input a good book
-abbrev pub IsNoGoodBook : BookInput → Type 0
-IsNoGoodBook input = (tree : BookTree) → IsBookVerdict input (verdict.Good tree) → ⊥
-
--- no tree that has a stage of that name makes the input a good book
-abbrev pub IsNoBookWith : List ℕ → BookInput → Type 0
-IsNoBookWith name input = (tree : BookTree) (n : ℕ) → IsBookVerdict input (verdict.Good tree) → stage_number name tree ≡ Some n → ⊥
-
--- no code makes the bytes a good code file
-abbrev pub IsNoGoodCode : List ℕ → Type 0
-IsNoGoodCode bytes = (c : CountingCode) → IsCodeVerdict bytes (verdict.Good c) → ⊥
 
 -- a call that reads another input first, of which some are bad, and then returns
 pub record ReadsBehind {R A X : Type 0} (remaining : R → Option (List ℕ)) (first : Input) (known : Option A) (IsBad : A → Type 0) (old new : R)
@@ -75,20 +53,6 @@ pub record ReadsBehind {R A X : Type 0} (remaining : R → Option (List ℕ)) (f
   pub unread : IfSome known (λ a. IsBad a → result ≢ Err (fault.Read input.Returns))
   -- they are as they were where the first input was not read
   pub second : result ≡ Err (fault.Read first) → new ≡ old
-
--- first a book, and then returns
-abbrev pub ReadsReturns : {R X : Type 0} → (R → Option (List ℕ)) → Option BookInput → R → R → Result X DeskError → Type 0
-ReadsReturns remaining book old new result = ReadsBehind remaining input.Book book IsNoGoodBook old new result
-
--- first a book, then the name of a stage, and then returns
-abbrev pub ReadsBehindStage : {R X : Type 0} → List ℕ → (R → Option (List ℕ)) → Option BookInput → R → R → Result X DeskError → Type 0
-ReadsBehindStage name remaining book old new result = ReadsBehind remaining input.Book book (IsNoBookWith name) old new result
-
--- first a code file, and then returns
-abbrev pub ReadsBehindCode : {R X : Type 0} → (R → Option (List ℕ)) → Option (List ℕ) → R → R → Result X DeskError → Type 0
-ReadsBehindCode remaining file old new result = ReadsBehind remaining input.Code file IsNoGoodCode old new result
-
--- ---- inputs that may be unknown
 
 -- both inputs are known, and so it is
 abbrev pub ForKnown : {A B : Type 0} → Option A → Option B → (A → B → Type 0) → Type 0

@@ -1,1 +1,3 @@
+-- Definitions on which no call of the desk and no law rests.
 pub mod Judging
+pub mod Inputs

@@ -4,7 +4,7 @@ ghost use Rattle.std.specs.Prelude.{◌≡◌, ◌≤◌, ◌+◌, length, IfOk,
 ghost use Rattle.sl_laws.specs.Books.{law_text};
 ghost use Rattle.sl_desk.specs.Failures.{counts, counts_after};
 ghost use Rattle.sl_desk.specs.Reading.{book_input, book_failures, ReadsBook, TakesAtMost};
-ghost use Rattle.sl_desk.specs.Verdicts.{IsBookVerdict, IsLawVerdict, IsTextVerdict};
+ghost use Rattle.sl_desk.specs.Books.{IsBookVerdict, IsLawVerdict, IsTextVerdict};
 ghost use Rattle.sl_desk.specs.inner.Judging.{tree_verdict};
 
 use crate::input::{Bytes, read_all};

@@ -2,7 +2,7 @@
 
 ghost use Rattle.std.specs.Prelude.{◌≡◌, ◌+◌, ◌<◌, ◌^◌, IfOk, IfSome};
 ghost use Rattle.sl_desk.specs.Failures.{failures_after, input_counts, counts_after};
-ghost use Rattle.sl_desk.specs.Inputs.{Holds, IsWithin};
+ghost use Rattle.sl_desk.specs.inner.Inputs.{Holds, IsWithin};
 ghost use Rattle.sl_desk.specs.Reading.{TakesAtMost};
 ghost use Rattle.sl_desk.specs.Writing.{Writes};
 

@@ -2,7 +2,9 @@
 
 ghost use Rattle.std.specs.Prelude.{◌≡◌, ◌∷◌, [], IfOk, codes};
 ghost use Rattle.sl_returns.specs.Faults.{fault_number};
-ghost use Rattle.sl_desk.specs.Refusals.{numbered, lex_fault, parse_fault, checked_fault, code_fault, kinds_fault, refused, refused_at};
+ghost use Rattle.sl_desk.specs.Books.{lex_fault, parse_fault, checked_fault};
+ghost use Rattle.sl_desk.specs.CodeFiles.{code_fault, kinds_fault};
+ghost use Rattle.sl_desk.specs.Refusals.{numbered, refused, refused_at};
 
 use sl_check::CheckFault;
 use sl_code::CodeFault;
@@ -30,7 +32,7 @@ pub(crate) enum BookRefusal<'a> {
 }
 
 impl BookRefusal<'_> {
-    ghost use Rattle.sl_desk.specs.Verdicts.{book_line};
+    ghost use Rattle.sl_desk.specs.Books.{book_line};
 
     /// The line that refuses the book.
     pub fn line(self, alloc: Global) -> Result<Vec<u8>, NoMemory>
@@ -56,7 +58,7 @@ pub(crate) enum ReturnsRefusal {
 }
 
 impl ReturnsRefusal {
-    ghost use Rattle.sl_desk.specs.Verdicts.{returns_line};
+    ghost use Rattle.sl_desk.specs.Returns.{returns_line};
 
     /// The line that refuses the returns.
     pub fn line(self, alloc: Global) -> Result<Vec<u8>, NoMemory>
@@ -81,7 +83,7 @@ pub(crate) enum CodeRefusal {
 }
 
 impl CodeRefusal {
-    ghost use Rattle.sl_desk.specs.Verdicts.{code_line};
+    ghost use Rattle.sl_desk.specs.CodeFiles.{code_line};
 
     /// The line that refuses the code file.
     pub fn line(self, alloc: Global) -> Result<Vec<u8>, NoMemory>

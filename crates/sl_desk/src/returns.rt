@@ -3,7 +3,7 @@
 ghost use Rattle.std.specs.Prelude.{◌≡◌, ◌≤◌, ◌+◌, length, IfOk, IfSome};
 ghost use Rattle.sl_desk.specs.Failures.{counts, counts_after};
 ghost use Rattle.sl_desk.specs.Reading.{TakesAtMost};
-ghost use Rattle.sl_desk.specs.Verdicts.{IsReturnsVerdict};
+ghost use Rattle.sl_desk.specs.Returns.{IsReturnsVerdict};
 
 use crate::input::{Bytes, read_all};
 use crate::limits::MAX_RETURNS_BYTES;

@@ -16,7 +16,7 @@ use Rattle.sl_lex.specs.declared.token.Mark.TheVariants.{Semicolon, Equals, Comm
 use Rattle.sl_lex.specs.declared.token.Token.{Token}
 use Rattle.sl_lex.specs.Keywords.{keyword_of}
 use Rattle.sl_lex.specs.Pieces.{blank, mark, IsBlank, IsLetter, IsDigit, IsMark}
-use Rattle.sl_lex.specs.Scan.{IsFront, is_word_byte, is_text_byte}
+use Rattle.sl_lex.specs.inner.Scan.{IsFront, is_word_byte, is_text_byte}
 use Rattle.sl_lex.specs.Tokens.{ShowsAt, HasTokens, HasFault, IsCut, mark_of, number_of}
 use Rattle.sl_lex.proofs.Cuts.{IsCutTo, cut_more, token_at}
 use Rattle.sl_lex.proofs.FrontFacts.{word_front, long_word, number_front, big_number, comment_front, text_front, open_text}

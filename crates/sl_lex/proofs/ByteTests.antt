@@ -5,7 +5,7 @@ use Rattle.std.specs.Char.{is_ascii_digit}
 use Rattle.std.proofs.lemmas.Bool.Decides.{nat_tests}
 use Rattle.memchr.specs.Find.{is_byte}
 use Rattle.sl_lex.specs.Pieces.{IsWordByte, IsDigit, IsTextByte}
-use Rattle.sl_lex.specs.Scan.{is_word_byte, is_text_byte}
+use Rattle.sl_lex.specs.inner.Scan.{is_word_byte, is_text_byte}
 
 pub word_test : (b : ℕ) → Decides (is_word_byte b) (IsWordByte b)
 word_test b = (λ e. grind (arith, nat_tests), λ h. grind (arith, nat_tests))

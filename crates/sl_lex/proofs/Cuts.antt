@@ -5,7 +5,7 @@ use Rattle.std.proofs.lemmas.List.{append-nil, take-append-drop, length-take-le,
 use Rattle.sl_lex.specs.declared.token.Kind.{Kind}
 use Rattle.sl_lex.specs.declared.token.Token.{Token}
 use Rattle.sl_lex.specs.Pieces.{IsLongest}
-use Rattle.sl_lex.specs.Scan.{IsFront}
+use Rattle.sl_lex.specs.inner.Scan.{IsFront}
 use Rattle.sl_lex.specs.Tokens.{Piece, IsCut, IsTooMuch, kind_of, tokens_from}
 
 -- the text is cut up to the offset, and these are the tokens so far

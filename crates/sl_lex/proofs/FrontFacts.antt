@@ -14,7 +14,7 @@ use Rattle.sl_lex.specs.declared.token.Kind.TheVariants as kinds
 use Rattle.sl_lex.specs.declared.fault.LexFault.TheVariants.{OpenString, BigNumber, LongName}
 use Rattle.sl_lex.specs.Keywords.{keyword_of}
 use Rattle.sl_lex.specs.Pieces.{comment, word, number, text, IsLetter, IsDigit, IsWordByte, IsLongest}
-use Rattle.sl_lex.specs.Scan.{BeginsWith, IsFront, is_word_byte, is_text_byte}
+use Rattle.sl_lex.specs.inner.Scan.{BeginsWith, IsFront, is_word_byte, is_text_byte}
 use Rattle.sl_lex.specs.Tokens.{ShowsAt, word_kind, number_of}
 use Rattle.sl_lex.proofs.ByteTests.{word_test, digit_test, line_test}
 use Rattle.sl_lex.proofs.Fronts.{QuoteAt, longest_front, longest_quoted, begins_none_open}

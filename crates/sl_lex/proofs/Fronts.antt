@@ -6,7 +6,7 @@ use Rattle.std.proofs.lemmas.List.{take-append-drop, length-take-le, drop_more, 
 use Rattle.std.proofs.lemmas.List.Sums.{prefix_len-le-length}
 use Rattle.sl_lex.specs.Pieces.{Form, blank, comment, word, number, text, mark, IsPiece, IsTextByte, IsBlank, IsMark, IsLongest, BeginsNone}
 use Rattle.sl_lex.specs.declared.scan.Class.TheVariants as classes
-use Rattle.sl_lex.specs.Scan.{IsOfClass, is_text_byte}
+use Rattle.sl_lex.specs.inner.Scan.{IsOfClass, is_text_byte}
 use Rattle.sl_lex.proofs.ByteTests.{text_test}
 use Rattle.sl_lex.proofs.Forms.{Begins, first_byte, one_form}
 use Rattle.sl_lex.proofs.Runs.{run_passes, run_longest, run_stops}

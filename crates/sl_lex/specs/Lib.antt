@@ -1,5 +1,5 @@
 pub mod Keywords
 pub mod Pieces
-pub mod Scan
 pub mod Spans
 pub mod Tokens
+pub mod inner

@@ -5,7 +5,7 @@ ghost use Rattle.std.specs.List.{prefix_len, position_or_len};
 ghost use Rattle.std.specs.Char.{is_ascii_digit};
 ghost use Rattle.memchr.specs.Find.{is_byte};
 ghost use Rattle.sl_lex.specs.Pieces.{IsDigit, IsLetter};
-ghost use Rattle.sl_lex.specs.Scan.{IsOfClass, is_word_byte, is_text_byte, BeginsWith, IsFront};
+ghost use Rattle.sl_lex.specs.inner.Scan.{IsOfClass, is_word_byte, is_text_byte, BeginsWith, IsFront};
 ghost use Rattle.sl_lex.specs.Tokens.{number_of, ShowsAt, AreTokens, IsRefusal};
 
 use crate::fault::LexFault;

@@ -3,7 +3,7 @@ use Rattle.std.proofs.Common.{◌≡◌, ◌≤◌, ◌<◌, List, length, Optio
 use Rattle.sl_lex.specs.declared.token.Kind.{Kind}
 use Rattle.sl_lex.specs.declared.token.Token.{Token}
 use Rattle.sl_parse.specs.Grammar.{one_token, token}
-use Rattle.sl_parse.specs.Reading.{Read, ◌>>=◌, one, this, taken}
+use Rattle.sl_parse.specs.inner.Reading.{Read, ◌>>=◌, one, this, taken}
 use Rattle.sl_parse.proofs.TokenTests.{Tests, tests_kind}
 use Rattle.sl_parse.proofs.Rules.{IsLimit}
 

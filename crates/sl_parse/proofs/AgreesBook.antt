@@ -16,7 +16,7 @@ use Rattle.sl_parse.specs.Words.{same_kind}
 use Rattle.sl_parse.specs.declared.fault.Cause.TheVariants.{TooManyStages}
 use Rattle.sl_parse.specs.Grammar.{token, one_token, keyword, semicolon, IsStage, AreStages, IsCondition, AreMore, AreConditions, HeadTree, IsHead, IsBase, IsVacate, IsLast, IsBook}
 use Rattle.sl_parse.specs.Faults.{Limits}
-use Rattle.sl_parse.specs.Reading.{◌>>=◌, one, number_in, name_in, quoted_in, base_in, seating_in, is_next, taken, read_stage, read_stages, read_valid, read_winners, read_condition_at, read_condition, read_more, read_conditions, read_head, read_vacate, read_last, read_front, read_book}
+use Rattle.sl_parse.specs.inner.Reading.{◌>>=◌, one, number_in, name_in, quoted_in, base_in, seating_in, is_next, taken, read_stage, read_stages, read_valid, read_winners, read_condition_at, read_condition, read_more, read_conditions, read_head, read_vacate, read_last, read_front, read_book}
 use Rattle.sl_parse.proofs.TokenTests.{IsBaseToken, tests_number, tests_name, tests_vacate, tests_quoted, tests_base, tests_seating}
 use Rattle.sl_parse.proofs.ReadsBook.{condition-shorter, AreWithin}
 use Rattle.sl_parse.proofs.Agrees.{Agrees, then_agrees, agreed, Any, one_agrees, taken_agrees}

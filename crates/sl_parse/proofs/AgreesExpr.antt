@@ -14,7 +14,7 @@ use Rattle.sl_parse.specs.declared.form.Form.{Form}
 use Rattle.sl_parse.specs.declared.form.Form.TheVariants as forms
 use Rattle.sl_parse.specs.Words.{method_word, first_kind}
 use Rattle.sl_parse.specs.Grammar.{◌▸◌, keyword, comma, open_mark, close_mark, IsMajority, IsRefusal, IsExpr}
-use Rattle.sl_parse.specs.Reading.{ReadExpr, is_next, is_clause, axis_in, method_in, number_in, preference_in, read_sum, read_two, read_pair, read_division, read_minima, read_majority, read_refusal, read_split, read_grow, read_form, read_node, no_room, read_expr}
+use Rattle.sl_parse.specs.inner.Reading.{ReadExpr, is_next, is_clause, axis_in, method_in, number_in, preference_in, read_sum, read_two, read_pair, read_division, read_minima, read_majority, read_refusal, read_split, read_grow, read_form, read_node, no_room, read_expr}
 use Rattle.sl_parse.proofs.TokenTests.{form-taken, tests_axis, tests_method, tests_number, tests_preference}
 use Rattle.sl_parse.proofs.Agrees.{Agrees, then_agrees, agreed, Any, one_agrees, taken_agrees}
 

@@ -14,7 +14,7 @@ use Rattle.sl_parse.specs.declared.form.Form.TheVariants as forms
 use Rattle.sl_parse.specs.Words.{first_kind}
 use Rattle.sl_parse.specs.Grammar.{◌▸◌, token, keyword, comma, IsStage, AreStages, HeadTree, IsHead}
 use Rattle.sl_parse.specs.Faults.{Limits, Begins, BeginsExpr, has_two, ToArgument, summed, left, right, at_least, grown_from, ToExpr, InStage, PastStages}
-use Rattle.sl_parse.specs.Reading.{Read, ◌>>=◌, name_in, is_next, is_clause, no_room, read_sum, read_two, read_pair, read_division, read_minima, read_split, read_grow, read_form, read_node, read_expr, read_stage, read_stages, read_front, read_book}
+use Rattle.sl_parse.specs.inner.Reading.{Read, ◌>>=◌, name_in, is_next, is_clause, no_room, read_sum, read_two, read_pair, read_division, read_minima, read_split, read_grow, read_form, read_node, read_expr, read_stage, read_stages, read_front, read_book}
 use Rattle.sl_parse.proofs.SameKind.{kind-same}
 use Rattle.sl_parse.proofs.TokenTests.{form-taken, tests_name}
 use Rattle.sl_parse.proofs.ReadsBook.{Breaks}

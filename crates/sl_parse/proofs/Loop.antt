@@ -10,7 +10,7 @@ use Rattle.sl_parse.specs.declared.fault.Cause.TheVariants.{TooManyStages}
 use Rattle.sl_parse.specs.declared.fault.Stop.{Stop}
 use Rattle.sl_parse.specs.declared.fault.Stop.TheVariants as stops
 use Rattle.sl_parse.specs.Faults.{Limits}
-use Rattle.sl_parse.specs.Reading.{◌>>=◌, Read, Fails, is_next, taken, read_condition, read_more, read_conditions, read_stage, read_stages}
+use Rattle.sl_parse.specs.inner.Reading.{◌>>=◌, Read, Fails, is_next, taken, read_condition, read_more, read_conditions, read_stage, read_stages}
 use Rattle.sl_parse.proofs.ReadsBook.{taken-shorter, read_condition-shorter}
 
 -- what was read before, and what is still read

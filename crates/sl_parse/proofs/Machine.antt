@@ -13,7 +13,7 @@ use Rattle.sl_parse.specs.Faults.{Limits, begins_expr}
 use Rattle.sl_parse.specs.declared.form.Form.{Form}
 use Rattle.sl_parse.specs.declared.form.Form.TheVariants as forms
 use Rattle.sl_parse.specs.Words.{same_kind, form_of}
-use Rattle.sl_parse.specs.Reading.{Read, this, number_in, name_in, vacate_in, quoted_in, axis_in, method_in, preference_in, base_in, seating_in}
+use Rattle.sl_parse.specs.inner.Reading.{Read, this, number_in, name_in, vacate_in, quoted_in, axis_in, method_in, preference_in, base_in, seating_in}
 
 -- what is to come: a token that a test takes (and one that it does take), or a part whose form its first token tells
 pub data Sym : Type 0 where

@@ -11,7 +11,7 @@ use Rattle.sl_parse.specs.declared.fault.Cause.{Cause}
 use Rattle.sl_parse.specs.Grammar.{IsBook}
 use Rattle.sl_parse.specs.Faults.{Limits}
 use Rattle.sl_parse.specs.Parsing.{limits}
-use Rattle.sl_parse.specs.Reading.{Read, read_stages, read_book}
+use Rattle.sl_parse.specs.inner.Reading.{Read, read_stages, read_book}
 use Rattle.sl_parse.proofs.ReadsBook.{AreWithin, StagesRead, reads_stages}
 use Rattle.sl_parse.proofs.Agrees.{Finds}
 use Rattle.sl_parse.proofs.AgreesBook.{book_agrees}

@@ -17,7 +17,7 @@ use Rattle.sl_parse.specs.declared.fault.Cause.{Cause}
 use Rattle.sl_parse.specs.declared.fault.Cause.TheVariants.{TooDeep}
 use Rattle.sl_parse.specs.Grammar.{Part, ◌▸◌, empty, one_token, keyword, comma, open_mark, close_mark, IsMajority, IsRefusal, IsExpr}
 use Rattle.sl_parse.specs.Faults.{Limits, BeginsExpr, has_two, ToArgument, summed, left, right, at_least, grown_from, ToExpr}
-use Rattle.sl_parse.specs.Reading.{Read, ◌>>=◌, ReadExpr, DivisionTree, this, one, taken, axis_in, method_in, number_in, preference_in, read_sum, read_two, read_pair, read_division, read_minima, read_majority, read_refusal, read_split, read_grow, read_expr}
+use Rattle.sl_parse.specs.inner.Reading.{Read, ◌>>=◌, ReadExpr, DivisionTree, this, one, taken, axis_in, method_in, number_in, preference_in, read_sum, read_two, read_pair, read_division, read_minima, read_majority, read_refusal, read_split, read_grow, read_expr}
 use Rattle.sl_parse.proofs.Machine.{Sym, goes, refused, scan_move, expr, after_method, majority, refusal, tok, open_sym, comma_sym, close_sym, axis_sym, method_sym, number_sym, preference_sym, scan}
 use Rattle.sl_parse.proofs.TokenTests.{IsPreference, tests_axis, tests_method, tests_number, tests_preference}
 use Rattle.sl_parse.proofs.Rules.{State, Reads, then_reads, then_reads_front, ends, deeper, reads_one, reads_taken}

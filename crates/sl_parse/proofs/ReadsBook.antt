@@ -16,7 +16,7 @@ use Rattle.sl_parse.specs.declared.fault.Cause.{Cause}
 use Rattle.sl_parse.specs.declared.fault.Cause.TheVariants.{Expected, TooDeep, TooManyStages, After}
 use Rattle.sl_parse.specs.Grammar.{keyword, token, number, one_token, IsStage, AreStages, IsCondition, AreMore, AreConditions, HeadTree, IsHead, IsBase, IsVacate, IsLast, IsBook}
 use Rattle.sl_parse.specs.Faults.{Limits, Begins, BeginsExpr, InStage}
-use Rattle.sl_parse.specs.Reading.{Read, ◌>>=◌, one, this, taken, number_in, name_in, quoted_in, vacate_in, seating_in, base_in, read_stage, read_stages, read_valid, read_winners, read_condition_at, read_condition, read_more, read_conditions, read_head, vacate_or, read_vacate, read_last, book_from, nothing_after, read_front, read_book}
+use Rattle.sl_parse.specs.inner.Reading.{Read, ◌>>=◌, one, this, taken, number_in, name_in, quoted_in, vacate_in, seating_in, base_in, read_stage, read_stages, read_valid, read_winners, read_condition_at, read_condition, read_more, read_conditions, read_head, vacate_or, read_vacate, read_last, book_from, nothing_after, read_front, read_book}
 use Rattle.sl_parse.proofs.SameKind.{same-kind, kind-same}
 use Rattle.sl_parse.proofs.Machine.{Sym, made, expr, condition, or_more, vacate, stages, tok, semicolon_sym, equals_sym, name_sym, number_sym, head_syms, last_syms, start, scan}
 use Rattle.sl_parse.proofs.Rules.{State, Reads, Told, then_reads, then_reads_front, ends, deeper, reads_one, reads_taken}

@@ -9,7 +9,7 @@ use Rattle.sl_parse.specs.declared.form.Form.TheVariants as forms
 use Rattle.sl_parse.specs.Words.{form_of}
 use Rattle.sl_parse.specs.Grammar.{IsExpr}
 use Rattle.sl_parse.specs.Faults.{Limits, begins_expr}
-use Rattle.sl_parse.specs.Reading.{read_form, read_node, no_room, read_expr}
+use Rattle.sl_parse.specs.inner.Reading.{read_form, read_node, no_room, read_expr}
 use Rattle.sl_parse.proofs.Machine.{expr, full, next, scan}
 use Rattle.sl_parse.proofs.TokenTests.{form-is}
 use Rattle.sl_parse.proofs.ReadsArguments.{IsRead, Expr, ExprsRead, reads_sum, reads_pair, reads_split, reads_grow}

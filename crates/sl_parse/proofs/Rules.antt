@@ -7,7 +7,7 @@ use Rattle.sl_parse.specs.declared.fault.Cause.{Cause}
 use Rattle.sl_parse.specs.declared.fault.Cause.TheVariants.{Expected, TooDeep, TooManyStages, After}
 use Rattle.sl_parse.specs.Grammar.{one_token, token}
 use Rattle.sl_parse.specs.Faults.{Limits}
-use Rattle.sl_parse.specs.Reading.{Read, ◌>>=◌, one, found_or, this, taken}
+use Rattle.sl_parse.specs.inner.Reading.{Read, ◌>>=◌, one, found_or, this, taken}
 use Rattle.sl_parse.proofs.Machine.{Sym, one_of, tok, made, scan}
 use Rattle.sl_parse.proofs.TokenTests.{Tests, tests_kind}
 

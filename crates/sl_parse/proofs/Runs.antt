@@ -13,7 +13,7 @@ use Rattle.sl_parse.specs.Words.{same_kind, form_of}
 use Rattle.sl_parse.specs.declared.fault.Cause.{Cause}
 use Rattle.sl_parse.specs.declared.fault.Cause.TheVariants.{Expected, TooDeep, After}
 use Rattle.sl_parse.specs.Faults.{Limits, begins_expr}
-use Rattle.sl_parse.specs.Reading.{Read, this, vacate_in}
+use Rattle.sl_parse.specs.inner.Reading.{Read, this, vacate_in}
 use Rattle.sl_parse.proofs.Machine.{Sym, one_of, expr, condition, or_more, after_method, clause, majority, refusal, vacate, stages, made, Move, goes, refused, over, expr_parts, condition_parts, full, ends_by, next, start, Pending, scan_move, scan, run_move, run}
 
 abbrev failed : Cause → List Token → Read (Unit {0})

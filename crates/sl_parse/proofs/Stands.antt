@@ -16,7 +16,7 @@ use Rattle.sl_parse.specs.Faults.{Limits, IsWhole, IsPrefix, begins_expr, Stands
 use Rattle.sl_parse.specs.declared.form.Form.{Form}
 use Rattle.sl_parse.specs.declared.form.Form.TheVariants as forms
 use Rattle.sl_parse.specs.Words.{same_kind, form_of}
-use Rattle.sl_parse.specs.Reading.{Read, ◌>>=◌, this, vacate_in, read_book}
+use Rattle.sl_parse.specs.inner.Reading.{Read, ◌>>=◌, this, vacate_in, read_book}
 use Rattle.sl_parse.proofs.Machine.{Sym, one_of, expr, condition, or_more, after_method, clause, majority, refusal, vacate, stages, Move, goes, refused, over, Pending, expr_parts, condition_parts, full, ends_by, next, start, scan, run}
 use Rattle.sl_parse.proofs.Runs.{wider, raise, MovesOn, Raised, raised, StopsAt, stopped, scan-run, run-whole, halves, run-append, run_one, run-raise, can_end}
 use Rattle.sl_parse.proofs.Rules.{IsLimit}

@@ -22,7 +22,7 @@ use Rattle.sl_stages.specs.book.Limits.{numbers_of, condition_numbers, book_numb
 use Rattle.sl_parse.specs.Spans.{bytes_of, FitsKind, AreSpans}
 use Rattle.sl_parse.specs.Grammar.{◌▸◌, Part, empty, one_token, token, number, IsMajority, IsRefusal, IsExpr, AreStages, IsCondition, AreMore, AreConditions, HeadTree, IsHead}
 use Rattle.sl_parse.specs.Parsing.{limits}
-use Rattle.sl_parse.specs.Reading.{book_from, read_head, read_stages}
+use Rattle.sl_parse.specs.inner.Reading.{book_from, read_head, read_stages}
 use Rattle.sl_parse.proofs.ReadsBook.{StagesRead, reads_head, reads_stages}
 
 and_true : (a b : Bool) → a ≡ true → b ≡ true → (a && b) ≡ true

@@ -25,7 +25,7 @@ use Rattle.sl_stages.specs.declared.book.Number.{Number}
 use Rattle.sl_stages.specs.declared.book.Seating.{Seating}
 use Rattle.sl_stages.specs.declared.book.Seating.TheVariants as seatings
 use Rattle.sl_parse.specs.Words.{same_kind, stands_for, axis_word, all_axes, axis_of, seating_word, all_seatings, seating_of, method_word, all_methods, method_of, first_kind, all_forms, form_of}
-use Rattle.sl_parse.specs.Reading.{this, number_of, number_in, name_in, vacate_in, quoted_in, axis_in, seating_in, method_in, preference_of, preference_in, base_of, base_in}
+use Rattle.sl_parse.specs.inner.Reading.{this, number_of, number_in, name_in, vacate_in, quoted_in, axis_in, seating_in, method_in, preference_of, preference_in, base_of, base_in}
 use Rattle.sl_lex.proofs.Words.{found_passes}
 use Rattle.sl_parse.proofs.SameKind.{same-kind, kind-same}
 

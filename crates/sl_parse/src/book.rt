@@ -3,7 +3,7 @@
 ghost use Rattle.std.specs.Prelude.{◌≡◌, drop, map, IfOk, IsTrue};
 ghost use Rattle.sl_stages.specs.book.Trees.{stage_of};
 ghost use Rattle.sl_stages.specs.book.Limits.{is_within_limits};
-ghost use Rattle.sl_parse.specs.Reading.{Gives, read_stage, read_stages, read_last, read_book};
+ghost use Rattle.sl_parse.specs.inner.Reading.{Gives, read_stage, read_stages, read_last, read_book};
 ghost use Rattle.sl_stages.specs.book.Books.{book_of};
 ghost use Rattle.sl_parse.specs.Parsing.{limits};
 
@@ -13,7 +13,7 @@ use sl_lex::{Keyword, Kind, Mark};
 use sl_stages::{Book, LastClause, MAX_DEPTH, MAX_PARTS, MAX_STAGES, Stage};
 
 impl<'a> Parser<'a> {
-    #[tactic(auto, unfolding(crate::specs::Reading::read_stage))]
+    #[tactic(auto, unfolding(crate::specs::inner::Reading::read_stage))]
     fn stage(&self, at: usize) -> Result<(Stage, usize), Stop>
         ensures { let all = self.now.tokens.now in
             Gives all (λ x. (stage_of x.0, drop x.1 all)) result
@@ -53,7 +53,7 @@ impl<'a> Parser<'a> {
         Ok((stages, at))
     }
 
-    #[tactic(auto, unfolding(crate::specs::Reading::read_last))]
+    #[tactic(auto, unfolding(crate::specs::inner::Reading::read_last))]
     fn last(&self, at: usize) -> Result<(LastClause, usize), Stop>
         ensures { let all = self.now.tokens.now in
             Gives all (λ x. (x.0, drop x.1 all)) result
@@ -75,7 +75,7 @@ impl<'a> Parser<'a> {
         ))
     }
 
-    #[tactic(auto, unfolding(crate::specs::Reading::read_book, crate::specs::Reading::read_front))]
+    #[tactic(auto, unfolding(crate::specs::inner::Reading::read_book, crate::specs::inner::Reading::read_front))]
     pub fn book(&self) -> Result<Book, Stop>
         ensures { Gives self.now.tokens.now book_of result (read_book self.now.text.now limits self.now.tokens.now) }
     {

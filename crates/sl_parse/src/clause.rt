@@ -1,7 +1,7 @@
 //! Reading clauses that may be left out.
 
 ghost use Rattle.std.specs.Prelude.{◌≡◌, drop};
-ghost use Rattle.sl_parse.specs.Reading.{Gives, is_clause, read_majority, read_refusal, read_vacate};
+ghost use Rattle.sl_parse.specs.inner.Reading.{Gives, is_clause, read_majority, read_refusal, read_vacate};
 
 use crate::fault::Stop;
 use crate::token::Parser;
@@ -26,7 +26,7 @@ impl<'a> Parser<'a> {
     }
 
     /// The majority clause of a split.
-    #[tactic(auto, unfolding(crate::specs::Reading::read_majority))]
+    #[tactic(auto, unfolding(crate::specs::inner::Reading::read_majority))]
     pub fn majority(&self, at: usize) -> Result<(Majority, usize), Stop>
         ensures { let all = self.now.tokens.now in
             Gives all (λ x. (x.0, drop x.1 all)) result
@@ -41,7 +41,7 @@ impl<'a> Parser<'a> {
     }
 
     /// The majority clause of a growth.
-    #[tactic(auto, unfolding(crate::specs::Reading::read_refusal))]
+    #[tactic(auto, unfolding(crate::specs::inner::Reading::read_refusal))]
     pub fn refusal(&self, at: usize) -> Result<(Majority, usize), Stop>
         ensures { let all = self.now.tokens.now in
             Gives all (λ x. (x.0, drop x.1 all)) result
@@ -57,7 +57,7 @@ impl<'a> Parser<'a> {
     }
 
     /// The offset of the word `vacate`, if it stands here.
-    #[tactic(auto, unfolding(crate::specs::Reading::read_vacate))]
+    #[tactic(auto, unfolding(crate::specs::inner::Reading::read_vacate))]
     pub fn vacate(&self, at: usize) -> Result<(Option<usize>, usize), Stop>
         ensures { let all = self.now.tokens.now in
             Gives all (λ x. (x.0, drop x.1 all)) result

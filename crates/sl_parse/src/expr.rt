@@ -3,7 +3,7 @@
 
 ghost use Rattle.std.specs.Prelude.{drop};
 ghost use Rattle.sl_stages.specs.book.Trees.{tree_of, minima_tree};
-ghost use Rattle.sl_parse.specs.Reading.{Gives, read_sum, read_two, read_pair, read_division, read_minima, read_split, read_grow, read_node, read_expr};
+ghost use Rattle.sl_parse.specs.inner.Reading.{Gives, read_sum, read_two, read_pair, read_division, read_minima, read_split, read_grow, read_node, read_expr};
 
 use crate::fault::{Cause, Stop};
 use crate::form::Form;
@@ -24,10 +24,10 @@ pub(crate) struct Division {
 }
 
 impl<'a> Parser<'a> {
-    ghost use Rattle.sl_parse.specs.Views.{division_tree};
+    ghost use Rattle.sl_parse.specs.inner.Views.{division_tree};
 
     #[cycle(expr)]
-    #[tactic(auto, unfolding(crate::specs::Reading::read_expr, crate::specs::Reading::no_room))]
+    #[tactic(auto, unfolding(crate::specs::inner::Reading::read_expr, crate::specs::inner::Reading::no_room))]
     pub fn expr(&self, levels: u32, parts: u32, at: usize) -> Read<Expr>
         ensures { let all = self.now.tokens.now in
             Gives all (λ x. (tree_of x.0, x.1, drop x.2 all)) result
@@ -43,7 +43,7 @@ impl<'a> Parser<'a> {
     }
 
     #[cycle(expr)]
-    #[tactic(auto, unfolding(crate::specs::Reading::read_node, crate::specs::Reading::read_form))]
+    #[tactic(auto, unfolding(crate::specs::inner::Reading::read_node, crate::specs::inner::Reading::read_form))]
     fn node(&self, levels: u32, parts: u32, at: usize) -> Read<Expr>
         ensures { let all = self.now.tokens.now in
             let text = self.now.text.now in
@@ -80,7 +80,7 @@ impl<'a> Parser<'a> {
     }
 
     #[cycle(expr)]
-    #[tactic(auto, unfolding(crate::specs::Reading::read_sum))]
+    #[tactic(auto, unfolding(crate::specs::inner::Reading::read_sum))]
     fn sum(&self, levels: u32, parts: u32, start: usize, at: usize) -> Read<Expr>
         ensures { let all = self.now.tokens.now in
             Gives all (λ x. (tree_of x.0, x.1, drop x.2 all)) result
@@ -104,7 +104,7 @@ impl<'a> Parser<'a> {
 
     /// Two arguments, up to the end of the second.
     #[cycle(expr)]
-    #[tactic(auto, unfolding(crate::specs::Reading::read_two))]
+    #[tactic(auto, unfolding(crate::specs::inner::Reading::read_two))]
     fn two(&self, levels: u32, parts: u32, at: usize) -> Read<(Box<Expr>, Box<Expr>)>
         ensures { let all = self.now.tokens.now in
             Gives all (λ x. ((tree_of x.0.0.value, tree_of x.0.1.value), x.1, drop x.2 all)) result
@@ -118,7 +118,7 @@ impl<'a> Parser<'a> {
     }
 
     #[cycle(expr)]
-    #[tactic(auto, unfolding(crate::specs::Reading::read_pair))]
+    #[tactic(auto, unfolding(crate::specs::inner::Reading::read_pair))]
     fn pair(&self, levels: u32, parts: u32, pairing: Pairing, start: usize, at: usize) -> Read<Expr>
         ensures { let all = self.now.tokens.now in
             Gives all (λ x. (tree_of x.0, x.1, drop x.2 all)) result
@@ -139,7 +139,7 @@ impl<'a> Parser<'a> {
     }
 
     #[cycle(expr)]
-    #[tactic(auto, unfolding(crate::specs::Reading::read_division))]
+    #[tactic(auto, unfolding(crate::specs::inner::Reading::read_division))]
     fn division(&self, levels: u32, parts: u32, at: usize) -> Read<Division>
         ensures { let all = self.now.tokens.now in
             Gives all (λ x. (division_tree x.0, x.1, drop x.2 all)) result
@@ -161,7 +161,7 @@ impl<'a> Parser<'a> {
 
     /// The minima of a split, if they are there.
     #[cycle(expr)]
-    #[tactic(auto, unfolding(crate::specs::Reading::read_minima))]
+    #[tactic(auto, unfolding(crate::specs::inner::Reading::read_minima))]
     fn minima(&self, levels: u32, parts: u32, at: usize) -> Read<Option<Box<Expr>>>
         ensures { let all = self.now.tokens.now in
             Gives all (λ x. (minima_tree x.0, x.1, drop x.2 all)) result
@@ -177,7 +177,7 @@ impl<'a> Parser<'a> {
     }
 
     #[cycle(expr)]
-    #[tactic(auto, unfolding(crate::specs::Reading::read_split))]
+    #[tactic(auto, unfolding(crate::specs::inner::Reading::read_split))]
     fn split(&self, levels: u32, parts: u32, start: usize, at: usize) -> Read<Expr>
         ensures { let all = self.now.tokens.now in
             Gives all (λ x. (tree_of x.0, x.1, drop x.2 all)) result
@@ -202,7 +202,7 @@ impl<'a> Parser<'a> {
     }
 
     #[cycle(expr)]
-    #[tactic(auto, unfolding(crate::specs::Reading::read_grow))]
+    #[tactic(auto, unfolding(crate::specs::inner::Reading::read_grow))]
     fn grow(&self, levels: u32, parts: u32, start: usize, at: usize) -> Read<Expr>
         ensures { let all = self.now.tokens.now in
             Gives all (λ x. (tree_of x.0, x.1, drop x.2 all)) result

@@ -1,7 +1,7 @@
 //! Reading what stands before the stages.
 
 ghost use Rattle.std.specs.Prelude.{◌≡◌, drop};
-ghost use Rattle.sl_parse.specs.Reading.{Gives, read_valid, read_winners, read_condition, read_conditions, read_head};
+ghost use Rattle.sl_parse.specs.inner.Reading.{Gives, read_valid, read_winners, read_condition, read_conditions, read_head};
 
 use crate::fault::{Cause, Stop};
 use crate::token::Parser;
@@ -18,9 +18,9 @@ pub(crate) struct Head {
 }
 
 impl<'a> Parser<'a> {
-    ghost use Rattle.sl_parse.specs.Views.{head_tree};
+    ghost use Rattle.sl_parse.specs.inner.Views.{head_tree};
 
-    #[tactic(auto, unfolding(crate::specs::Reading::read_condition, crate::specs::Reading::read_condition_at))]
+    #[tactic(auto, unfolding(crate::specs::inner::Reading::read_condition, crate::specs::inner::Reading::read_condition_at))]
     fn condition(&self, at: usize) -> Result<(Cond, usize), Stop>
         ensures { let all = self.now.tokens.now in
             Gives all (λ x. (x.0, drop x.1 all)) result
@@ -39,7 +39,7 @@ impl<'a> Parser<'a> {
     }
 
     /// What follows `valid`.
-    #[tactic(auto, unfolding(crate::specs::Reading::read_valid))]
+    #[tactic(auto, unfolding(crate::specs::inner::Reading::read_valid))]
     fn valid(&self, at: usize) -> Result<(Cond, usize), Stop>
         ensures { let all = self.now.tokens.now in
             Gives all (λ x. (x.0, drop x.1 all)) result
@@ -60,7 +60,7 @@ impl<'a> Parser<'a> {
     }
 
     /// What follows `winners`.
-    #[tactic(auto, unfolding(crate::specs::Reading::read_winners))]
+    #[tactic(auto, unfolding(crate::specs::inner::Reading::read_winners))]
     fn winners(&self, at: usize) -> Result<(Cond, usize), Stop>
         ensures { let all = self.now.tokens.now in
             Gives all (λ x. (x.0, drop x.1 all)) result
@@ -90,7 +90,7 @@ impl<'a> Parser<'a> {
         Ok((conditions, at))
     }
 
-    #[tactic(auto, unfolding(crate::specs::Reading::read_head))]
+    #[tactic(auto, unfolding(crate::specs::inner::Reading::read_head))]
     pub fn head(&self, at: usize) -> Result<(Head, usize), Stop>
         ensures { let all = self.now.tokens.now in
             Gives all (λ x. (head_tree x.0, drop x.1 all)) result

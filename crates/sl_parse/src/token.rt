@@ -6,7 +6,7 @@ ghost use Rattle.sl_lex.specs.declared.token.Kind.TheVariants as kinds;
 ghost use Rattle.sl_parse.specs.Spans.{AreSpans};
 ghost use Rattle.sl_parse.specs.Words.{method_of};
 ghost use Rattle.sl_parse.specs.Parsing.{offset};
-ghost use Rattle.sl_parse.specs.Reading.{Gives, one, taken, number_in, name_in, quoted_in, axis_in, seating_in, preference_in, method_in, base_in, is_next};
+ghost use Rattle.sl_parse.specs.inner.Reading.{Gives, one, taken, number_in, name_in, quoted_in, axis_in, seating_in, preference_in, method_in, base_in, is_next};
 
 use crate::fault::{Cause, Stop};
 use sl_lex::{Keyword, Kind, Mark, Token};
@@ -51,7 +51,7 @@ impl<'a> Parser<'a> {
         }
     }
 
-    #[tactic(auto, unfolding(crate::specs::Reading::taken))]
+    #[tactic(auto, unfolding(crate::specs::inner::Reading::taken))]
     pub fn take(&self, kind: Kind, at: usize) -> Result<usize, Stop>
         ensures { let all = self.now.tokens.now in
             Gives all (λ x. drop x all) result

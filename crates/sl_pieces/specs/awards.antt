@@ -1,4 +1,2 @@
 -- The definitions of awards over code.
 pub mod Trees
-pub mod Batches
-pub mod Awards

@@ -1,5 +1,4 @@
 -- The definitions of splits and growths over code.
 pub mod Trees
 pub mod Scopes
-pub mod Houses
 pub mod Nodes

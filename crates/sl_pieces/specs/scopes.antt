@@ -1,5 +1,4 @@
 -- The definitions of walks over scopes and entries.
 pub mod Forms
-pub mod Walks
 pub mod Scopes
 pub mod Sums

@@ -4,7 +4,6 @@ pub mod Meaning
 pub mod Following
 pub mod Achieves
 pub mod Costs
-pub mod Layout
 pub mod Laid
 pub mod Sums
 pub mod Fine

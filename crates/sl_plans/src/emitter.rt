@@ -3,7 +3,7 @@
 ghost use Rattle.std.specs.Prelude.{◌≡◌, ◌+◌, ◌<◌, ◌≤◌, [], ◌∷◌, ◌++◌, map, length, IfOk, OnErr, vec_len, vec_capacity};
 ghost use Rattle.sl_verify.specs.Kinds.{start_kinds};
 ghost use Rattle.sl_plans.specs.Laid.{laid};
-ghost use Rattle.sl_plans.specs.Layout.{filled, tree_of};
+ghost use Rattle.sl_plans.specs.inner.Layout.{filled, tree_of};
 ghost use Rattle.sl_plans.specs.Trees.{size_of, flat, jump_of, to_first, to_next, known_after_all, kinds_after};
 
 use crate::known::{at_join, known_after, known_in_arm, with_cursor_known};

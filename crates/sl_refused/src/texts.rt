@@ -2,7 +2,7 @@
 
 ghost use Rattle.std.specs.Prelude.{IfOk, length};
 ghost use Rattle.sl_machine.specs.Fits.{FitsFault, FitsMemory, FitsRecords};
-ghost use Rattle.sl_table.specs.Fits.{Fits, FitsHeld};
+ghost use Rattle.sl_table.specs.inner.Fits.{Fits, FitsHeld};
 
 use crate::rows::{
     FIRST_BOOK, FIRST_RETURNS, FIVE_LAWS, THREE_LISTS, THREE_LISTS_TABLE, THREE_METHODS, TIED_BOOK,

@@ -9,7 +9,7 @@ use Rattle.sl_returns.specs.declared.fault.FaultKind.TheVariants as fault
 use Rattle.sl_returns.specs.Cells.{Record, cell}
 use Rattle.sl_returns.specs.Kinds.{kind_named}
 use Rattle.sl_returns.specs.Tests.{Pass, FailBy, Refuse, one_test, kind_tests, record_tests}
-use Rattle.sl_returns.specs.Joining.{with_kind, with_record}
+use Rattle.sl_returns.specs.inner.Joining.{with_kind, with_record}
 use Rattle.sl_returns.proofs.TestLemmas.{both, after}
 
 -- a record has its cells

@@ -8,7 +8,7 @@ use Rattle.sl_returns.specs.declared.header.Version.{Version}
 use Rattle.sl_returns.specs.Cells.{Record}
 use Rattle.sl_returns.specs.Headers.{version_of}
 use Rattle.sl_returns.specs.Records.{election_of_records}
-use Rattle.sl_returns.specs.Building.{RefusesLast}
+use Rattle.sl_returns.specs.inner.Building.{RefusesLast}
 use Rattle.sl_returns.specs.Returns.{fault_behind, first_fault, refusal_under, refusal_of, lack_of, behind_header, returns_of, unless}
 
 -- a fault among the first records is the first of all

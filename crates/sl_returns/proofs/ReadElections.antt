@@ -21,7 +21,7 @@ use Rattle.sl_returns.specs.declared.kind.Kind.{Kind}
 use Rattle.sl_returns.specs.declared.kind.Kind.TheVariants as kind
 use Rattle.sl_returns.specs.Cells.{Record, cell, is_blank, is_number, number_of, number_or_none, place_in, place_or_none}
 use Rattle.sl_returns.specs.Faults.{fault_at, row_behind}
-use Rattle.sl_returns.specs.Joining.{with_kind, with_record}
+use Rattle.sl_returns.specs.inner.Joining.{with_kind, with_record}
 use Rattle.sl_returns.specs.Kinds.{kind_named}
 use Rattle.sl_returns.specs.Records.{election_of_records, votes_of, lot_of}
 use Rattle.sl_returns.specs.Returns.{fault_behind, first_fault, refusal_of, lack_of, behind_header, returns_of, unless}

@@ -8,7 +8,7 @@ use Rattle.csv.specs.declared.reader.Reader.{Reader}
 use Rattle.csv.specs.declared.reader.Trim.TheVariants as trim
 use Rattle.csv.specs.Reading.{ExplainsRead, Reached, Ready, default_config, is_flexible, reader_config, reader_state, reader_trim, source_of, stops_reader}
 use Rattle.sl_returns.specs.Cells.{Record}
-use Rattle.sl_returns.specs.Building.{Building, StandsFor}
+use Rattle.sl_returns.specs.inner.Building.{Building, StandsFor}
 
 -- the records read so far, which the builder stands for, and the bytes after them
 pub record IsReading {R : Type 0} (rem : R → Option (List ℕ)) (reader : Reader R) (builder : Building) (text : List ℕ) : Type 0 where

@@ -15,8 +15,8 @@ use Rattle.sl_returns.specs.Cells.{Record, cell, number_in}
 use Rattle.sl_returns.specs.Kinds.{kind_named}
 use Rattle.sl_returns.specs.Records.{election_of_records}
 use Rattle.sl_returns.specs.Tests.{Pass, one_test, kind_tests, record_tests}
-use Rattle.sl_returns.specs.Joining.{with_record}
-use Rattle.sl_returns.specs.Joining as joining
+use Rattle.sl_returns.specs.inner.Joining.{with_record}
+use Rattle.sl_returns.specs.inner.Joining as joining
 use Rattle.sl_returns.proofs.TestLemmas.{parts, holds}
 use Rattle.sl_returns.proofs.NameTests.{is_new, may_join}
 use Rattle.sl_returns.proofs.Rows.{NamesKnown}

@@ -4,9 +4,6 @@ pub mod Cells
 pub mod Headers
 pub mod Tests
 pub mod Records
-pub mod Lots
-pub mod Joining
 pub mod Returns
-pub mod Building
 pub mod Laws
 pub mod inner

@@ -1,2 +1,5 @@
--- How the builder finds the lots told before; no definition cites these.
+-- Definitions on which no call of the desk and no law rests.
 pub mod LotKeys
+pub mod Building
+pub mod Joining
+pub mod Lots

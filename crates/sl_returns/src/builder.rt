@@ -3,7 +3,7 @@
 ghost use Rattle.std.specs.Prelude.{◌≡◌, ◌++◌, ◌∷◌, [], List, None, Some, OnOk, IfOk, IfErr, IfSome, Ok, Err};
 ghost use Rattle.csv.specs.Records.{fields_of};
 ghost use Rattle.sl_returns.specs.Cells.{Record};
-ghost use Rattle.sl_returns.specs.Joining.{TakesRecord, RefusesRecord};
+ghost use Rattle.sl_returns.specs.inner.Joining.{TakesRecord, RefusesRecord};
 
 use crate::fault::{FaultKind, ReturnsFault};
 use crate::header::Version;
@@ -29,7 +29,7 @@ pub struct ReturnsBuilder {
 
 impl Model for ReturnsBuilder {
     ghost use Rattle.std.specs.Prelude.{◌≡◌, None};
-    ghost use Rattle.sl_returns.specs.Building.{Building};
+    ghost use Rattle.sl_returns.specs.inner.Building.{Building};
 
     ghost Value = { Building };
 
@@ -40,7 +40,7 @@ impl Model for ReturnsBuilder {
 }
 
 impl ReturnsBuilder {
-    ghost use Rattle.sl_returns.specs.Building.{Building, StandsFor, RefusesLast};
+    ghost use Rattle.sl_returns.specs.inner.Building.{Building, StandsFor, RefusesLast};
     ghost use Rattle.sl_returns.specs.Returns.{returns_of};
 
     /// A builder that has taken no record. Takes no memory.

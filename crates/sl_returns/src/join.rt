@@ -5,7 +5,7 @@ ghost use Rattle.csv.specs.Records.{fields_of};
 ghost use Rattle.sl_stages.specs.returns.Votes.{IsListVotes};
 ghost use Rattle.sl_stages.specs.returns.Election.{lands_of, parties_of, has_list, with_list};
 ghost use Rattle.sl_returns.specs.Tests.{Pass, Refuse, fills_list, house_tests, land_tests, party_tests, list_tests, win_tests, lot_tests, record_tests};
-ghost use Rattle.sl_returns.specs.Joining.{with_house_of, with_land_of, with_party_of, with_list_of, with_win_of, with_lot_of, with_record};
+ghost use Rattle.sl_returns.specs.inner.Joining.{with_house_of, with_land_of, with_party_of, with_list_of, with_win_of, with_lot_of, with_record};
 
 use crate::cells::{
     A, B, C, COLUMNS, KIND, LAND, PARTY, are_blank, cell, ensure, known_name, known_or_none,

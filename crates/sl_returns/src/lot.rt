@@ -6,7 +6,7 @@ ghost use Rattle.sl_ratio.specs.Names.{spelling_fault};
 ghost use Rattle.sl_stages.specs.returns.Election.{IsLot, lands_of, parties_of, wins_of};
 ghost use Rattle.sl_returns.specs.Records.{lot_of};
 ghost use Rattle.sl_returns.specs.Tests.{Pass, FailBy, lot_cell_tests, fills_lot};
-ghost use Rattle.sl_returns.specs.Lots.{lot_told};
+ghost use Rattle.sl_returns.specs.inner.Lots.{lot_told};
 
 use crate::cells::{A, B, C, LAND, PARTY, cell, ensure, is_name, known_or_none};
 use crate::fault::FaultKind;

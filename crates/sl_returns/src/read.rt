@@ -2,7 +2,7 @@
 
 ghost use Rattle.std.specs.Prelude.{[], ◌≡◌, ◌⊎◌, IfOk, IfErr, Ok, OnOk, Err, true};
 ghost use Rattle.csv.specs.Reading.{error_kind, stops_reader};
-ghost use Rattle.sl_returns.specs.Building.{StandsFor};
+ghost use Rattle.sl_returns.specs.inner.Building.{StandsFor};
 ghost use Rattle.sl_returns.specs.Faults.{no_memory};
 ghost use Rattle.sl_returns.specs.Returns.{records_in, returns_of};
 

@@ -2,7 +2,7 @@
 
 ghost use Rattle.std.specs.Prelude.{◌≡◌, ◌++◌, ◌∷◌, [], false, OnOk};
 ghost use Rattle.sl_returns.specs.Tests.{has_lot, same_lot};
-ghost use Rattle.sl_returns.specs.Lots.{lot_told};
+ghost use Rattle.sl_returns.specs.inner.Lots.{lot_told};
 ghost use Rattle.sl_returns.specs.inner.LotKeys.{lot_kept, fed_alike, same_as_equal};
 
 use crate::lot::ToldLot;

@@ -1,3 +1,5 @@
--- What only code and proofs cite: what the bodies of the bounds lines and of the lines of the parties promise on the way.
+-- Definitions on which no call of the desk and no law rests.
 pub mod Counts
 pub mod PartyCounts
+pub mod Fits
+pub mod Places

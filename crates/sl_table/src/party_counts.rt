@@ -4,7 +4,7 @@ ghost use Rattle.std.specs.Prelude.{◌≡◌, ◌<◌, ◌+◌, ◌^◌, ◌≤
 ghost use Rattle.std.specs.List.{range_with_len};
 ghost use Rattle.sl_stages.specs.returns.Election.{parties_of};
 ghost use Rattle.sl_stages.specs.returns.Facts.{by_party};
-ghost use Rattle.sl_table.specs.Fits.{Fits};
+ghost use Rattle.sl_table.specs.inner.Fits.{Fits};
 ghost use Rattle.sl_table.specs.inner.PartyCounts.{AreCounts, list_seats_of, counts, party_counted, winners_counted};
 
 use sl_ratio::NoMemory;

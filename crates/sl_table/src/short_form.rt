@@ -5,7 +5,7 @@ ghost use Rattle.std.specs.Fmt.{decimal};
 ghost use Rattle.std.specs.List.{zip};
 ghost use Rattle.sl_stages.specs.returns.Election.{lands_of, parties_of};
 ghost use Rattle.sl_stages.specs.returns.Facts.{parties};
-ghost use Rattle.sl_table.specs.Fits.{Fits};
+ghost use Rattle.sl_table.specs.inner.Fits.{Fits};
 ghost use Rattle.sl_table.specs.Lines.{line, with_lines};
 ghost use Rattle.sl_table.specs.Short.{is_single, total_line, party_line, list_line, vacant_line, winner_line, short_text};
 

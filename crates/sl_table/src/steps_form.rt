@@ -2,7 +2,7 @@
 
 ghost use Rattle.std.specs.Prelude.{◌≡◌, false, All, IfOk, OnOk, flat_map, length, map};
 ghost use Rattle.sl_machine.specs.Fits.{FitsRecords, FitsStep};
-ghost use Rattle.sl_table.specs.Fits.{Fits};
+ghost use Rattle.sl_table.specs.inner.Fits.{Fits};
 ghost use Rattle.sl_table.specs.Lines.{with_lines, with_words};
 ghost use Rattle.sl_table.specs.Steps.{mark_words, step_line, IsStepsText};
 

@@ -14,8 +14,8 @@ use Rattle.sl_pieces.specs.seats.Trees.{nothing, most_seats, faulty, not_over, a
 use Rattle.sl_pieces.specs.seats.Trees.{fill_entry, fill, ranking_of, tied, seat, again_of, refuse}
 use Rattle.sl_pieces.specs.nodes.Trees.{shared, search_entry, search_batch, search_seat, find_house}
 use Rattle.sl_blocks.specs.declared.blanks.Block.{Block}
-use Rattle.sl_blocks.specs.Jobs.{slots_of}
-use Rattle.sl_blocks.specs.Given.{divisor_of}
+use Rattle.sl_blocks.specs.inner.Jobs.{slots_of}
+use Rattle.sl_blocks.specs.inner.Given.{divisor_of}
 
 abbrev pub form_in : Block → Form
 form_in b = b.form

@@ -3,7 +3,7 @@
 ghost use Rattle.std.specs.Prelude.{◌≡◌, IfOk, IfSome};
 ghost use Rattle.sl_stages.specs.book.Books.{book_of};
 ghost use Rattle.sl_desk.specs.Failures.{counts, counts_after};
-ghost use Rattle.sl_desk.specs.Output.{IsCheckOutput, check_line};
+ghost use Rattle.sl_desk.specs.Checking.{IsCheckOutput, check_line};
 ghost use Rattle.sl_desk.specs.Reading.{book_input, book_failures, ReadsBook};
 ghost use Rattle.sl_desk.specs.Writing.{Delivers};
 

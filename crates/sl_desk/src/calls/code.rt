@@ -3,7 +3,7 @@
 ghost use Rattle.std.specs.Prelude.{◌≡◌, IfOk, IfErr, IfSome};
 ghost use Rattle.sl_stages.specs.book.Books.{book_of};
 ghost use Rattle.sl_desk.specs.Failures.{counts, counts_after, FailsInOne};
-ghost use Rattle.sl_desk.specs.Output.{IsCodeOf, IsCompilingOutput};
+ghost use Rattle.sl_desk.specs.Compiling.{IsCodeOf, IsCompilingOutput};
 ghost use Rattle.sl_desk.specs.Reading.{book_input, book_failures, ReadsBook};
 ghost use Rattle.sl_desk.specs.Writing.{DeliversBoth};
 

@@ -7,10 +7,14 @@ ghost use Rattle.sl_stages.specs.returns.Election.{IsElection};
 ghost use Rattle.sl_machine.specs.Runs.{budget_of};
 ghost use Rattle.sl_desk.specs.declared.verdict.Verdict.TheVariants as verdict;
 ghost use Rattle.sl_desk.specs.Failures.{counts, counts_after};
-ghost use Rattle.sl_desk.specs.Output.{IsOutput, IsCount, IsTreeOutput};
-ghost use Rattle.sl_desk.specs.Reading.{book_input, book_failures, ForKnown, ReadsBook, ReadsReturns, TakesAtMost};
+ghost use Rattle.sl_desk.specs.Counting.{IsOutput, IsCount, IsTreeOutput};
+ghost use Rattle.sl_desk.specs.Counting.{ReadsReturns};
+ghost use Rattle.sl_desk.specs.Reading.{book_input, book_failures, ForKnown, ReadsBook, TakesAtMost};
 ghost use Rattle.sl_desk.specs.Stages.{HasStage};
 ghost use Rattle.sl_desk.specs.Writing.{Delivers};
+ghost use Rattle.sl_desk.specs.Reports.{IsReported};
+ghost use Rattle.sl_desk.specs.Counting.{ShowsSeats};
+ghost use Rattle.sl_desk.specs.Steps.{ShowsSteps};
 
 use crate::book::read_book;
 use crate::calls::Answer;
@@ -46,7 +50,7 @@ fn outcome(
 ) -> Result<Answer, DeskError>
     requires asked { HasStage report (book_of book.now.book) }
     ensures memory { IfErr result (λ e. e ≡ DeskError.NoMemory) }
-    ensures output { IfOk result (λ a. IsTreeOutput report (book_of book.now.book) (verdict.Good returns.now) a.status a.text.items) }
+    ensures output { IfOk result (λ a. IsTreeOutput (IsReported report) (book_of book.now.book) (verdict.Good returns.now) a.status a.text.items) }
 {
     let code = compile(alloc, book)?;
     let steps = steps_of(&book.book, returns);
@@ -62,7 +66,7 @@ pub(super) fn counted<S: Source>(
     returns: &mut S,
 ) -> Result<Answer, DeskError>
     requires asked { HasStage report (book_of book.now.book) }
-    ensures answer { IfOk result (λ a. IfSome (S.remaining returns.old) (λ bytes. IsCount report (verdict.Good (book_of book.now.book)) bytes a.status a.text.items)) }
+    ensures answer { IfOk result (λ a. IfSome (S.remaining returns.old) (λ bytes. IsCount (IsReported report) (verdict.Good (book_of book.now.book)) bytes a.status a.text.items)) }
     ensures failures { counts 0 (S.failed returns.new) 0 0 ≡ counts_after (counts 0 (S.failed returns.old) 0 0) result }
     ensures limited { TakesAtMost (MAX_RETURNS_BYTES + 1) (S.remaining returns.old) (S.remaining returns.new) }
 {
@@ -81,7 +85,7 @@ fn answer_to<B: Source, R: Source>(
 ) -> Result<Answer, DeskError>
     requires asked { (tree : BookTree) → HasStage report tree }
     ensures answer { IfOk result (λ a. ForKnown (book_input B.remaining book.old) (R.remaining returns.old) (λ input bytes.
-        IsOutput report input bytes a.status a.text.items)) }
+        IsOutput (IsReported report) input bytes a.status a.text.items)) }
     ensures failures { counts (book_failures B.failed book.new) (R.failed returns.new) 0 0
         ≡ counts_after (counts (book_failures B.failed book.old) (R.failed returns.old) 0 0) result }
     ensures book { ReadsBook B.remaining book.old book.new }
@@ -107,7 +111,7 @@ pub fn count<B: Source, R: Source, W: Sink>(
 ) -> Result<Status, DeskError>
     // The text that is delivered is the output of the two inputs, where their bytes are known.
     ensures delivers { Delivers (λ status text. ForKnown (book_input B.remaining book.old) (R.remaining returns.old) (λ input bytes.
-        IsOutput Report.Seats input bytes status text)) (W.contents out.old) (W.contents out.new) result }
+        IsOutput ShowsSeats input bytes status text)) (W.contents out.old) (W.contents out.new) result }
 
     // No call of a source or of the sink failed, or that one of which the error speaks.
     ensures failures { counts (book_failures B.failed book.new) (R.failed returns.new) 0 (W.failed out.new)
@@ -134,7 +138,7 @@ pub fn steps<B: Source, R: Source, W: Sink>(
 ) -> Result<Status, DeskError>
     // The text that is delivered is the output of the two inputs, where their bytes are known.
     ensures delivers { Delivers (λ status text. ForKnown (book_input B.remaining book.old) (R.remaining returns.old) (λ input bytes.
-        IsOutput Report.Steps input bytes status text)) (W.contents out.old) (W.contents out.new) result }
+        IsOutput ShowsSteps input bytes status text)) (W.contents out.old) (W.contents out.new) result }
 
     // No call of a source or of the sink failed, or that one of which the error speaks.
     ensures failures { counts (book_failures B.failed book.new) (R.failed returns.new) 0 (W.failed out.new)

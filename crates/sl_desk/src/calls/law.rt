@@ -2,8 +2,8 @@
 
 ghost use Rattle.std.specs.Prelude.{◌≡◌, IfErr};
 ghost use Rattle.sl_desk.specs.Failures.{counts, counts_after, failures_after};
-ghost use Rattle.sl_desk.specs.Output.{IsLawOutput};
-ghost use Rattle.sl_desk.specs.Verdicts.{unknown_law};
+ghost use Rattle.sl_desk.specs.Library.{IsLawOutput};
+ghost use Rattle.sl_desk.specs.Library.{unknown_law};
 ghost use Rattle.sl_desk.specs.Writing.{Delivers, Writes};
 
 use crate::input::write_all;

@@ -3,8 +3,9 @@
 ghost use Rattle.std.specs.Prelude.{◌≡◌, ◌+◌, IfOk, IfErr, IfSome};
 ghost use Rattle.sl_desk.specs.declared.verdict.Verdict.TheVariants as verdict;
 ghost use Rattle.sl_desk.specs.Failures.{counts, counts_after};
-ghost use Rattle.sl_desk.specs.Output.{IsRun, IsRunCode, IsCodeOutput};
-ghost use Rattle.sl_desk.specs.Reading.{ForKnown, ReadsBehindCode, TakesAtMost};
+ghost use Rattle.sl_desk.specs.Running.{IsRun, IsRunCode, IsCodeOutput};
+ghost use Rattle.sl_desk.specs.Reading.{ForKnown, TakesAtMost};
+ghost use Rattle.sl_desk.specs.Running.{ReadsBehindCode};
 ghost use Rattle.sl_desk.specs.Writing.{Delivers};
 
 use crate::calls::Answer;

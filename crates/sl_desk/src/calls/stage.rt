@@ -4,10 +4,11 @@ ghost use Rattle.std.specs.Prelude.{◌≡◌, IfOk, position};
 ghost use Rattle.std.specs.Str.{bytes_eq};
 ghost use Rattle.sl_stages.specs.book.Books.{book_of};
 ghost use Rattle.sl_desk.specs.Failures.{counts, counts_after};
-ghost use Rattle.sl_desk.specs.Output.{IsStageOutput};
-ghost use Rattle.sl_desk.specs.Reading.{book_input, book_failures, ForKnown, ReadsBook, ReadsBehindStage};
+ghost use Rattle.sl_desk.specs.Showing.{IsStageOutput};
+ghost use Rattle.sl_desk.specs.Reading.{book_input, book_failures, ForKnown, ReadsBook};
+ghost use Rattle.sl_desk.specs.Showing.{ReadsBehindStage};
 ghost use Rattle.sl_desk.specs.Stages.{stage_number};
-ghost use Rattle.sl_desk.specs.Verdicts.{unknown_stage};
+ghost use Rattle.sl_desk.specs.Showing.{unknown_stage};
 ghost use Rattle.sl_desk.specs.Writing.{Delivers};
 
 use crate::book::read_book;

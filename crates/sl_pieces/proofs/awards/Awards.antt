@@ -17,8 +17,8 @@ use Rattle.sl_pieces.specs.arenas.Arenas.{Arena, HasWaiting}
 use Rattle.sl_pieces.specs.declared.registers.TheConstants as reg
 use Rattle.sl_pieces.specs.awards.Trees.{awards, whole_batch, counted_seat, last_batch}
 use Rattle.sl_pieces.specs.awards.Trees as plan
-use Rattle.sl_pieces.specs.awards.Batches.{GivesSeats, EndOfBatches, Between, Within, AfterBatches}
-use Rattle.sl_pieces.specs.awards.Awards.{CanAward, IsCounted, EndsTied, FitsAwards, AreAwarded, AwardsAchieve}
+use Rattle.sl_pieces.specs.inner.awards.Batches.{GivesSeats, EndOfBatches, Between, Within, AfterBatches}
+use Rattle.sl_pieces.specs.inner.awards.Awards.{CanAward, IsCounted, EndsTied, FitsAwards, AreAwarded, AwardsAchieve}
 use Rattle.sl_pieces.proofs.awards.Batches.{batches_achieve}
 use Rattle.sl_pieces.proofs.awards.WholeBatches.{Counts, IsWhole, IsLast, gives_counted, begins_whole, fits_whole}
 use Rattle.sl_pieces.proofs.awards.LastBatch.{last_awarded}

@@ -19,7 +19,7 @@ use Rattle.sl_plans.proofs.KeepingRules.{times_keeping}
 use Rattle.sl_pieces.specs.arenas.Arenas.{Arena, IsArena, HasWaiting}
 use Rattle.sl_pieces.specs.declared.registers.TheConstants as reg
 use Rattle.sl_pieces.specs.awards.Trees.{one_seat, batch_turn, batches}
-use Rattle.sl_pieces.specs.awards.Batches.{GivesSeats, HasBegun, NoBatch, OneBegan, BeginsBatches, Between, Within, EndOfBatches, AfterBatches, FitsLoop, BatchesAchieve}
+use Rattle.sl_pieces.specs.inner.awards.Batches.{GivesSeats, HasBegun, NoBatch, OneBegan, BeginsBatches, Between, Within, EndOfBatches, AfterBatches, FitsLoop, BatchesAchieve}
 use Rattle.sl_pieces.proofs.awards.Turns.{SeatGiven, gives_seat}
 
 -- Where the plan stands with w turns to come, when the entries hold t: between batches, within one, or behind the last one. So many seats

@@ -32,8 +32,8 @@ use Rattle.sl_pieces.proofs.arenas.TableEffects.{waiting_effects}
 use Rattle.sl_pieces.proofs.arenas.Turns.{waiting_turns}
 use Rattle.sl_pieces.specs.declared.registers.TheConstants as reg
 use Rattle.sl_pieces.specs.awards.Trees.{drawn_seats}
-use Rattle.sl_pieces.specs.awards.Batches.{Gets, GivesSeats}
-use Rattle.sl_pieces.specs.awards.Awards.{CanAward, IsCounted, FitsAwards}
+use Rattle.sl_pieces.specs.inner.awards.Batches.{Gets, GivesSeats}
+use Rattle.sl_pieces.specs.inner.awards.Awards.{CanAward, IsCounted, FitsAwards}
 use Rattle.sl_pieces.proofs.awards.Turns.{raised_once, holds_at_most, same_registers}
 
 -- what holds of a state while so many of the last seats, from the settled vector s on, are still to be drawn, and k of them have been

@@ -26,8 +26,8 @@ use Rattle.sl_pieces.proofs.arenas.Lots.{waiting_covered}
 use Rattle.sl_pieces.proofs.arenas.Turns.{waiting_turns}
 use Rattle.sl_pieces.specs.declared.registers.TheConstants as reg
 use Rattle.sl_pieces.specs.awards.Trees.{count_step, drawn_seats, last_batch}
-use Rattle.sl_pieces.specs.awards.Batches.{GivesSeats}
-use Rattle.sl_pieces.specs.awards.Awards.{CanAward, IsCounted, EndsTied, FitsAwards, AreAwarded}
+use Rattle.sl_pieces.specs.inner.awards.Batches.{GivesSeats}
+use Rattle.sl_pieces.specs.inner.awards.Awards.{CanAward, IsCounted, EndsTied, FitsAwards, AreAwarded}
 use Rattle.sl_pieces.proofs.awards.Turns.{holds_at_most}
 use Rattle.sl_pieces.proofs.awards.AwardsTurns.{stepping, step_counted, base_within}
 use Rattle.sl_pieces.proofs.awards.WholeBatches.{Counts, IsLast, counts_peers, counts_stepping, counted_step}

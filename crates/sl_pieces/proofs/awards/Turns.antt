@@ -31,7 +31,7 @@ use Rattle.sl_pieces.proofs.arenas.TableEffects.{waiting_effects}
 use Rattle.sl_pieces.proofs.arenas.Turns.{waiting_turns}
 use Rattle.sl_pieces.specs.declared.registers.TheConstants as reg
 use Rattle.sl_pieces.specs.awards.Trees.{one_seat}
-use Rattle.sl_pieces.specs.awards.Batches.{Gets, GivesSeats, FitsLoop}
+use Rattle.sl_pieces.specs.inner.awards.Batches.{Gets, GivesSeats, FitsLoop}
 
 -- ---- vectors
 

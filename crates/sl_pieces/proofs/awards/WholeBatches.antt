@@ -20,8 +20,8 @@ use Rattle.sl_pieces.specs.arenas.Arenas.{Arena, IsArena, HasWaiting, waiting, s
 use Rattle.sl_pieces.proofs.arenas.Peers.{waiting_peers}
 use Rattle.sl_pieces.specs.declared.registers.TheConstants as reg
 use Rattle.sl_pieces.specs.awards.Trees.{whole_batch, counted_seat}
-use Rattle.sl_pieces.specs.awards.Batches.{Gets, GivesSeats, IsBlind, HasBegun, NoBatch, OneBegan, BeginsBatches, FitsLoop}
-use Rattle.sl_pieces.specs.awards.Awards.{IsCounted, FitsAwards}
+use Rattle.sl_pieces.specs.inner.awards.Batches.{Gets, GivesSeats, IsBlind, HasBegun, NoBatch, OneBegan, BeginsBatches, FitsLoop}
+use Rattle.sl_pieces.specs.inner.awards.Awards.{IsCounted, FitsAwards}
 use Rattle.sl_pieces.proofs.awards.Turns.{holds_at_most, same_registers}
 use Rattle.sl_pieces.proofs.awards.AwardsTurns.{lessened, lessened_before, stepping, step_counted, step_is, base_within, as_many, TurnSums, turn_sums}
 

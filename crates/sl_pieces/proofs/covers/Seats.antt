@@ -34,8 +34,8 @@ use Rattle.sl_pieces.specs.arenas.Arenas.{Arena, IsArena, HasWaiting, table_of, 
 use Rattle.sl_pieces.proofs.arenas.MethodArenas.{covering_arenas}
 use Rattle.sl_pieces.proofs.arenas.TableEffects.{waiting_again}
 use Rattle.sl_pieces.specs.declared.registers.TheConstants as reg
-use Rattle.sl_pieces.specs.awards.Batches.{Gets, GivesSeats, IsBlind}
-use Rattle.sl_pieces.specs.awards.Awards.{CanAward, IsCounted, FitsAwards}
+use Rattle.sl_pieces.specs.inner.awards.Batches.{Gets, GivesSeats, IsBlind}
+use Rattle.sl_pieces.specs.inner.awards.Awards.{CanAward, IsCounted, FitsAwards}
 use Rattle.sl_pieces.proofs.covers.Winners.{IsWinnerOf, each_winner, won, arena, at_winner, has_first, next_winner}
 use Rattle.sl_pieces.proofs.covers.Chosen.{one_chosen, place_more}
 

@@ -38,7 +38,7 @@ use Rattle.sl_pieces.proofs.arenas.Peers.{waiting_peers}
 use Rattle.sl_pieces.proofs.arenas.TableEffects.{waiting_effects}
 use Rattle.sl_pieces.proofs.arenas.Taken.{waiting_taken}
 use Rattle.sl_pieces.specs.declared.registers.TheConstants as reg
-use Rattle.sl_pieces.specs.awards.Awards.{EndsTied}
+use Rattle.sl_pieces.specs.inner.awards.Awards.{EndsTied}
 use Rattle.sl_pieces.proofs.awards.Turns.{raised_once}
 use Rattle.sl_pieces.specs.covers.Trees.{nothing, tied_winners}
 use Rattle.sl_pieces.proofs.covers.Winners.{IsWinnerOf, each_winner, won, entry_of, seat_is, at_winner, nothing_held, next_winner}

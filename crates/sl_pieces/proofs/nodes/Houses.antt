@@ -19,13 +19,13 @@ use Rattle.sl_plans.proofs.Rules.{achieves_more, achieves_from, line_ends, line_
 use Rattle.sl_pieces.specs.scopes.Forms.{Form, OnScope}
 use Rattle.sl_pieces.proofs.scopes.Staying.{scope_stays}
 use Rattle.sl_pieces.specs.declared.registers.TheConstants as reg
-use Rattle.sl_pieces.specs.awards.Batches.{Between, Within, EndOfBatches}
+use Rattle.sl_pieces.specs.inner.awards.Batches.{Between, Within, EndOfBatches}
 use Rattle.sl_pieces.specs.seats.Slots.{Slots}
-use Rattle.sl_pieces.specs.seats.Filling.{IsReady}
+use Rattle.sl_pieces.specs.inner.seats.Filling.{IsReady}
 use Rattle.sl_pieces.specs.seats.Trees.{faulty, not_over}
 use Rattle.sl_pieces.proofs.seats.Refusing.{faulty_ends, not_over_achieves}
 use Rattle.sl_pieces.specs.nodes.Trees.{find_house, take_house}
-use Rattle.sl_pieces.specs.nodes.Houses.{HasHouse, EndsAboveCap, HousesAreFound}
+use Rattle.sl_pieces.specs.inner.nodes.Houses.{HasHouse, EndsAboveCap, HousesAreFound}
 use Rattle.sl_pieces.proofs.nodes.Found.{IsLeast, IsFound, grows_to, above_least, above_within, above_between}
 use Rattle.sl_pieces.proofs.nodes.SearchScope.{with_minima, search_arena, CanSearch, scope_is, minimum_each}
 use Rattle.sl_pieces.proofs.nodes.SearchSeats.{IsSearched, BatchBegun}

@@ -26,7 +26,7 @@ use Rattle.sl_plans.specs.Trees.{Tree}
 use Rattle.sl_plans.specs.Achieves.{Achieves}
 use Rattle.sl_plans.proofs.Rules.{achieves_more, line_ends, line_goes, then_achieves}
 use Rattle.sl_pieces.specs.scopes.Forms.{Form, amounts_of, votes_of, groups_of, OnScope}
-use Rattle.sl_pieces.specs.scopes.Walks.{bare}
+use Rattle.sl_pieces.specs.inner.scopes.Walks.{bare}
 use Rattle.sl_pieces.proofs.scopes.Pieces.{every_there}
 use Rattle.sl_pieces.proofs.scopes.Forms.{each_scope}
 use Rattle.sl_pieces.specs.columns.Columns.{HoldsColumn}

@@ -16,7 +16,7 @@ use Rattle.sl_plans.specs.Achieves.{Achieves}
 use Rattle.sl_plans.proofs.Rules.{achieves_more, achieves_from, line_ends, line_goes, then_achieves}
 use Rattle.sl_pieces.specs.scopes.Forms.{Form, amounts_of, groups_of, scopes_plan, OnScope}
 use Rattle.sl_pieces.specs.scopes.Scopes.{IsScope}
-use Rattle.sl_pieces.specs.scopes.Walks.{bare}
+use Rattle.sl_pieces.specs.inner.scopes.Walks.{bare}
 use Rattle.sl_pieces.proofs.scopes.Forms.{each_scope}
 use Rattle.sl_pieces.proofs.scopes.Scopes.{scopes_hold}
 use Rattle.sl_pieces.proofs.scopes.Staying.{scope_stays}

@@ -39,14 +39,14 @@ use Rattle.sl_pieces.proofs.scopes.Scopes.{scopes_hold}
 use Rattle.sl_pieces.specs.arenas.Arenas.{Arena, IsArena}
 use Rattle.sl_pieces.specs.declared.registers.TheConstants as reg
 use Rattle.sl_pieces.specs.awards.Trees.{awards}
-use Rattle.sl_pieces.specs.awards.Awards.{CanAward, AreAwarded}
+use Rattle.sl_pieces.specs.inner.awards.Awards.{CanAward, AreAwarded}
 use Rattle.sl_pieces.proofs.awards.Awards.{awards_achieve}
 use Rattle.sl_pieces.specs.seats.Slots.{Slots}
 use Rattle.sl_pieces.specs.seats.Trees.{most_seats, again_of, seat, tied, refuse}
-use Rattle.sl_pieces.specs.seats.Seated.{IsSeated, steps_upto}
-use Rattle.sl_pieces.specs.seats.Summing.{StandsBy, EndsDeprived}
-use Rattle.sl_pieces.specs.seats.Filling.{IsFilled, IsReady}
-use Rattle.sl_pieces.specs.seats.Seating.{EndsInTie, AwardsSeats}
+use Rattle.sl_pieces.specs.inner.seats.Seated.{IsSeated, steps_upto}
+use Rattle.sl_pieces.specs.inner.seats.Summing.{StandsBy, EndsDeprived}
+use Rattle.sl_pieces.specs.inner.seats.Filling.{IsFilled, IsReady}
+use Rattle.sl_pieces.specs.inner.seats.Seating.{EndsInTie, AwardsSeats}
 use Rattle.sl_pieces.proofs.seats.Majority.{majority_is_kept}
 use Rattle.sl_pieces.specs.nodes.Scopes.{HasAward, EndsFaulty}
 

@@ -22,8 +22,8 @@ use Rattle.sl_pieces.proofs.scopes.Staying.{scope_stays}
 use Rattle.sl_pieces.specs.declared.registers.TheConstants as reg
 use Rattle.sl_pieces.specs.seats.Slots.{Slots, HasSlots, HasCells, HasMinima, IsUnchanged}
 use Rattle.sl_pieces.specs.seats.Trees.{sums}
-use Rattle.sl_pieces.specs.seats.Summing.{AreSummed}
-use Rattle.sl_pieces.specs.seats.Filling.{IsReady}
+use Rattle.sl_pieces.specs.inner.seats.Summing.{AreSummed}
+use Rattle.sl_pieces.specs.inner.seats.Filling.{IsReady}
 use Rattle.sl_pieces.proofs.seats.Fitting.{weights_fit}
 use Rattle.sl_pieces.proofs.seats.Minima.{cells_kept, minima_kept}
 use Rattle.sl_pieces.proofs.seats.Summing.{sums_achieve}

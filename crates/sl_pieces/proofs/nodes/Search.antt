@@ -28,7 +28,7 @@ use Rattle.sl_plans.specs.Trees.{ones}
 use Rattle.sl_plans.specs.Achieves.{Achieves, Never}
 use Rattle.sl_plans.proofs.Rules.{achieves_from, line_ends, line_goes, then_achieves, if_zero, if_empty}
 use Rattle.sl_pieces.specs.scopes.Forms.{Form, table_of, OnScope}
-use Rattle.sl_pieces.specs.scopes.Walks.{bare}
+use Rattle.sl_pieces.specs.inner.scopes.Walks.{bare}
 use Rattle.sl_pieces.proofs.scopes.Forms.{each_entry}
 use Rattle.sl_pieces.proofs.scopes.Staying.{scope_stays}
 use Rattle.sl_pieces.specs.arenas.Arenas as arenas
@@ -37,7 +37,7 @@ use Rattle.sl_pieces.specs.arenas.Laws.{PeersWait}
 use Rattle.sl_pieces.proofs.arenas.Peers.{waiting_peers}
 use Rattle.sl_pieces.specs.declared.registers.TheConstants as reg
 use Rattle.sl_pieces.specs.awards.Trees.{batches}
-use Rattle.sl_pieces.specs.awards.Batches.{NoBatch, OneBegan, BeginsBatches, FitsLoop, AfterBatches}
+use Rattle.sl_pieces.specs.inner.awards.Batches.{NoBatch, OneBegan, BeginsBatches, FitsLoop, AfterBatches}
 use Rattle.sl_pieces.proofs.awards.Turns.{holds_at_most}
 use Rattle.sl_pieces.proofs.awards.Batches.{batches_achieve}
 use Rattle.sl_pieces.specs.seats.Slots.{Slots}

@@ -15,7 +15,7 @@ use Rattle.sl_pieces.proofs.scopes.Scopes.{scopes_hold}
 use Rattle.sl_pieces.specs.arenas.Arenas.{Arena, divisor_arena}
 use Rattle.sl_pieces.proofs.arenas.MethodArenas.{divisor_arenas}
 use Rattle.sl_pieces.specs.seats.Slots.{Slots}
-use Rattle.sl_pieces.specs.seats.Filling.{IsOfScope, IsReady}
+use Rattle.sl_pieces.specs.inner.seats.Filling.{IsOfScope, IsReady}
 use Rattle.sl_pieces.proofs.seats.SeatingArenas.{OfScope, scope_weighed}
 
 -- the slots where the minima are in that one

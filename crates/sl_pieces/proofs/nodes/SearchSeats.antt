@@ -38,7 +38,7 @@ use Rattle.sl_pieces.specs.arenas.Arenas as arenas
 use Rattle.sl_pieces.specs.arenas.Arenas.{Arena, HasWaiting, seat_of, seat_taken}
 use Rattle.sl_pieces.specs.arenas.Laws.{SeatTaken}
 use Rattle.sl_pieces.specs.declared.registers.TheConstants as reg
-use Rattle.sl_pieces.specs.awards.Batches.{GivesSeats}
+use Rattle.sl_pieces.specs.inner.awards.Batches.{GivesSeats}
 use Rattle.sl_pieces.specs.seats.Slots.{Slots, HasCells}
 use Rattle.sl_pieces.specs.seats.Trees.{nothing, enter_again}
 use Rattle.sl_pieces.proofs.seats.Again.{quotients_again}

@@ -34,9 +34,9 @@ use Rattle.sl_pieces.proofs.arenas.MethodArenas.{divisor_arenas, hamilton_arenas
 use Rattle.sl_pieces.specs.awards.Trees.{awards}
 use Rattle.sl_pieces.specs.seats.Slots.{Slots, HasSlots}
 use Rattle.sl_pieces.specs.seats.Trees.{most_seats, fill, base_of, enter_of, ranking_of, again_of, seat, tied, refuse, refuses_seats}
-use Rattle.sl_pieces.specs.seats.Seated.{steps_upto}
-use Rattle.sl_pieces.specs.seats.Summing.{GoesOn, EndsRefused}
-use Rattle.sl_pieces.specs.seats.Filling.{IsReady, split_arena, split_weights}
+use Rattle.sl_pieces.specs.inner.seats.Seated.{steps_upto}
+use Rattle.sl_pieces.specs.inner.seats.Summing.{GoesOn, EndsRefused}
+use Rattle.sl_pieces.specs.inner.seats.Filling.{IsReady, split_arena, split_weights}
 use Rattle.sl_pieces.proofs.seats.SplitFills.{splits_are_filled}
 use Rattle.sl_pieces.proofs.seats.Seating.{splits_award_seats}
 use Rattle.sl_pieces.proofs.seats.Refusing.{seats_are_refused}

@@ -16,7 +16,7 @@ use Rattle.sl_plans.specs.Trees.{Tree}
 use Rattle.sl_plans.specs.Achieves.{Achieves}
 use Rattle.sl_plans.proofs.Rules.{achieves_more}
 use Rattle.sl_pieces.specs.scopes.Forms.{Form, AllParties, AllLands, AllLists, ListsOfParty, ListsInLand, votes_of, groups_of, on_list, scopes_plan, entries_plan, OnScope, OnItem}
-use Rattle.sl_pieces.specs.scopes.Walks.{bare, Visits, EachEntry, EachScope}
+use Rattle.sl_pieces.specs.inner.scopes.Walks.{bare, Visits, EachEntry, EachScope}
 use Rattle.sl_pieces.proofs.scopes.Pieces.{stands_itself, one_each, passing_each}
 use Rattle.sl_pieces.proofs.scopes.Walking.{Walks, walk_one, walk_as, walk_each, walk_list}
 

@@ -15,7 +15,7 @@ use Rattle.sl_plans.specs.inner.Frames.{may_move, KeepsRest}
 use Rattle.sl_plans.proofs.Rules.{achieves_more}
 use Rattle.sl_plans.proofs.KeepingRules.{achieves_kept}
 use Rattle.sl_pieces.specs.scopes.Forms.{OnScope, OnItem}
-use Rattle.sl_pieces.specs.scopes.Walks.{bare, Visits}
+use Rattle.sl_pieces.specs.inner.scopes.Walks.{bare, Visits}
 
 -- a scope is known by two cursors
 pub scope_stays : (on : Scope) (s t : State) → t.party ≡ s.party → t.land ≡ s.land → OnScope on s → OnScope on t

@@ -15,7 +15,7 @@ use Rattle.sl_machine.proofs.effects.Storing.{register_same, register_other}
 use Rattle.sl_plans.specs.Achieves.{Achieves, Never}
 use Rattle.sl_plans.proofs.Rules.{achieves_more, line_ends, line_goes, then_achieves}
 use Rattle.sl_pieces.specs.scopes.Forms.{Form, votes_of, table_of, OnScope, OnItem}
-use Rattle.sl_pieces.specs.scopes.Walks.{bare, Visits}
+use Rattle.sl_pieces.specs.inner.scopes.Walks.{bare, Visits}
 use Rattle.sl_pieces.specs.scopes.Scopes.{IsEntry}
 use Rattle.sl_pieces.specs.scopes.Sums.{add_cell, EntriesAreSummed}
 use Rattle.sl_pieces.proofs.scopes.Forms.{each_entry}

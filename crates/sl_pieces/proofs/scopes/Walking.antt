@@ -14,7 +14,7 @@ use Rattle.sl_plans.specs.Meaning.{count_of, cursor_of, set_cursor}
 use Rattle.sl_plans.specs.Achieves.{Achieves}
 use Rattle.sl_plans.proofs.Rules.{achieves_more, line_ends, if_no_list, each_achieves}
 use Rattle.sl_pieces.specs.scopes.Forms.{on_list, OnItem}
-use Rattle.sl_pieces.specs.scopes.Walks.{bare, Visits}
+use Rattle.sl_pieces.specs.inner.scopes.Walks.{bare, Visits}
 use Rattle.sl_pieces.proofs.scopes.Pieces.{Stands, stands_piece, length_next}
 
 module _ {X : Type 0} (c : CountingCode) (e : Election) (all : List X) (Inv : ℕ → State → Type 0) (E : End → Type 0) where

@@ -26,7 +26,7 @@ use Rattle.sl_pieces.specs.scopes.Scopes.{IsEntry}
 use Rattle.sl_pieces.specs.declared.registers.TheConstants as reg
 use Rattle.sl_pieces.specs.seats.Slots.{Slots, HasMinima}
 use Rattle.sl_pieces.specs.seats.Trees.{minimum_base, outside_base, whole_base}
-use Rattle.sl_pieces.specs.seats.Filling.{AtEntry, FindsBase}
+use Rattle.sl_pieces.specs.inner.seats.Filling.{AtEntry, FindsBase}
 use Rattle.sl_pieces.proofs.seats.Lists.{number_within}
 
 -- ---- what the plans leave as it was

@@ -39,7 +39,7 @@ use Rattle.sl_pieces.specs.arenas.Arenas.{Arena, seat_of, divisor_arena, hamilto
 use Rattle.sl_pieces.specs.declared.registers.TheConstants as reg
 use Rattle.sl_pieces.specs.seats.Slots.{Slots}
 use Rattle.sl_pieces.specs.seats.Trees.{weigh, enter_quotient, enter_remainder, enter_preferred}
-use Rattle.sl_pieces.specs.seats.Filling.{AtEntry, EntersNext}
+use Rattle.sl_pieces.specs.inner.seats.Filling.{AtEntry, EntersNext}
 use Rattle.sl_pieces.proofs.seats.Bases.{Remains}
 use Rattle.sl_pieces.proofs.seats.Lists.{mapped_at, number_within}
 use Rattle.sl_pieces.proofs.seats.Quotients.{seat_enters}

@@ -20,7 +20,7 @@ use Rattle.sl_pieces.specs.arenas.Arenas as arenas
 use Rattle.sl_pieces.specs.arenas.Arenas.{Arena, seat_of, next_seat}
 use Rattle.sl_pieces.specs.declared.registers.TheConstants as reg
 use Rattle.sl_pieces.specs.seats.Slots.{Slots}
-use Rattle.sl_pieces.specs.seats.Filling.{IsOfScope, told_of}
+use Rattle.sl_pieces.specs.inner.seats.Filling.{IsOfScope, told_of}
 use Rattle.sl_pieces.proofs.seats.Lists.{pieces_more, number_at, numbered_at}
 use Rattle.sl_pieces.proofs.seats.GivenSeats.{given_seat}
 

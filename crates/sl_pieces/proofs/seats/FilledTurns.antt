@@ -24,14 +24,14 @@ use Rattle.sl_plans.proofs.Rules.{achieves_more, line_ends, line_goes, then_achi
 use Rattle.sl_plans.proofs.KeepingRules.{achieves_kept}
 use Rattle.sl_pieces.specs.scopes.Forms.{Form, votes_of, table_of, kind_of, OnItem}
 use Rattle.sl_pieces.specs.scopes.Scopes.{IsEntry, IsScope}
-use Rattle.sl_pieces.specs.scopes.Walks.{bare}
+use Rattle.sl_pieces.specs.inner.scopes.Walks.{bare}
 use Rattle.sl_pieces.proofs.scopes.Staying.{item_stays, Stays, item_kept}
 use Rattle.sl_pieces.specs.arenas.Arenas as arenas
 use Rattle.sl_pieces.specs.arenas.Arenas.{Arena}
 use Rattle.sl_pieces.specs.declared.registers.TheConstants as reg
 use Rattle.sl_pieces.specs.seats.Slots.{Slots, HasSlots, HasCells, HasMinima}
 use Rattle.sl_pieces.specs.seats.Trees.{fill_entry, most_seats}
-use Rattle.sl_pieces.specs.seats.Filling.{AtEntry, FindsBase, EntersNext, IsOfScope}
+use Rattle.sl_pieces.specs.inner.seats.Filling.{AtEntry, FindsBase, EntersNext, IsOfScope}
 use Rattle.sl_pieces.proofs.seats.Lists.{row_more, sum_so_far, rises_far}
 use Rattle.sl_pieces.proofs.seats.Minima.{minima_kept}
 use Rattle.sl_pieces.proofs.seats.GivenSeats.{given_seat, records_all, seats_recorded}

@@ -26,7 +26,7 @@ use Rattle.sl_plans.specs.Trees.{Tree, Line}
 use Rattle.sl_plans.specs.Achieves.{Achieves, Never}
 use Rattle.sl_plans.proofs.Rules.{achieves_more, line_ends, line_goes, then_achieves}
 use Rattle.sl_pieces.specs.scopes.Forms.{Form, table_of, OnScope, OnItem}
-use Rattle.sl_pieces.specs.scopes.Walks.{bare, Visits}
+use Rattle.sl_pieces.specs.inner.scopes.Walks.{bare, Visits}
 use Rattle.sl_pieces.proofs.scopes.Forms.{each_entry}
 use Rattle.sl_pieces.proofs.scopes.Scopes.{scopes_hold}
 use Rattle.sl_pieces.proofs.scopes.Staying.{scope_stays, Stays, entries_visited}
@@ -35,8 +35,8 @@ use Rattle.sl_pieces.specs.arenas.Arenas.{Arena, next_seat}
 use Rattle.sl_pieces.specs.declared.registers.TheConstants as reg
 use Rattle.sl_pieces.specs.seats.Slots.{Slots}
 use Rattle.sl_pieces.specs.seats.Trees.{fill_entry}
-use Rattle.sl_pieces.specs.seats.Seated.{steps_upto}
-use Rattle.sl_pieces.specs.seats.Filling.{told_of, IsFilled, FillsAchieve}
+use Rattle.sl_pieces.specs.inner.seats.Seated.{steps_upto}
+use Rattle.sl_pieces.specs.inner.seats.Filling.{told_of, IsFilled, FillsAchieve}
 use Rattle.sl_pieces.proofs.seats.Lists.{pieces_all, pieces_alike, made_alike}
 use Rattle.sl_pieces.proofs.seats.GivenSeats.{given_seat}
 use Rattle.sl_pieces.proofs.seats.FilledEntries.{FirstFilled, first_waiting, first_given, given_to}

@@ -13,7 +13,7 @@ use Rattle.sl_machine.specs.Effects.{most}
 use Rattle.sl_pieces.specs.scopes.Forms.{Form, AllParties, AllLands, AllLists, ListsOfParty, ListsInLand, votes_of}
 use Rattle.sl_pieces.specs.scopes.Scopes.{IsScope}
 use Rattle.sl_pieces.proofs.scopes.Scopes.{scopes_hold}
-use Rattle.sl_pieces.specs.seats.Summing.{WeightsFit}
+use Rattle.sl_pieces.specs.inner.seats.Summing.{WeightsFit}
 use Rattle.sl_pieces.proofs.seats.Lists.{mapped_at}
 
 -- ---- numbers that rise

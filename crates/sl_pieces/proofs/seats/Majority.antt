@@ -27,7 +27,7 @@ use Rattle.sl_plans.specs.Achieves.{Achieves}
 use Rattle.sl_plans.proofs.Rules.{achieves_more, achieves_from, line_ends, line_goes, then_achieves, if_zero, if_less}
 use Rattle.sl_plans.proofs.KeepingRules.{achieves_kept}
 use Rattle.sl_pieces.specs.scopes.Forms.{Form, entries_plan, OnScope, OnItem}
-use Rattle.sl_pieces.specs.scopes.Walks.{bare, Visits}
+use Rattle.sl_pieces.specs.inner.scopes.Walks.{bare, Visits}
 use Rattle.sl_pieces.specs.scopes.Scopes.{IsScope}
 use Rattle.sl_pieces.proofs.scopes.Forms.{each_entry}
 use Rattle.sl_pieces.proofs.scopes.Scopes.{scopes_hold}
@@ -35,7 +35,7 @@ use Rattle.sl_pieces.proofs.scopes.Staying.{scope_stays, item_stays, entries_vis
 use Rattle.sl_pieces.specs.declared.registers.TheConstants as reg
 use Rattle.sl_pieces.specs.seats.Slots.{Slots, HasSlots, HasCells}
 use Rattle.sl_pieces.specs.seats.Trees.{faulty, nothing, refuse_entry}
-use Rattle.sl_pieces.specs.seats.Summing.{StandsBy, EndsDeprived, MajorityIsKept}
+use Rattle.sl_pieces.specs.inner.seats.Summing.{StandsBy, EndsDeprived, MajorityIsKept}
 use Rattle.sl_pieces.proofs.seats.Unchanged.{LeavesAll, entries_leave, unchanged, seated_unchanged}
 use Rattle.sl_pieces.proofs.seats.Refusing.{faulty_ends}
 

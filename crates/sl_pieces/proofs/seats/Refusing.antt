@@ -28,7 +28,7 @@ use Rattle.sl_pieces.proofs.scopes.Staying.{scope_stays}
 use Rattle.sl_pieces.specs.declared.registers.TheConstants as reg
 use Rattle.sl_pieces.specs.seats.Slots.{Slots, HasSlots}
 use Rattle.sl_pieces.specs.seats.Trees.{faulty, not_over, nothing}
-use Rattle.sl_pieces.specs.seats.Summing.{GoesOn, EndsRefused, SeatsAreRefused}
+use Rattle.sl_pieces.specs.inner.seats.Summing.{GoesOn, EndsRefused, SeatsAreRefused}
 
 -- ---- faults
 

@@ -25,11 +25,11 @@ use Rattle.sl_pieces.proofs.scopes.Staying.{scope_stays}
 use Rattle.sl_pieces.specs.arenas.Arenas.{Arena, HasWaiting, table_of, seat_taken}
 use Rattle.sl_pieces.specs.arenas.Laws.{SeatTaken}
 use Rattle.sl_pieces.specs.declared.registers.TheConstants as reg
-use Rattle.sl_pieces.specs.awards.Batches.{Gets, GivesSeats, IsBlind}
-use Rattle.sl_pieces.specs.awards.Awards.{IsCounted, FitsAwards}
+use Rattle.sl_pieces.specs.inner.awards.Batches.{Gets, GivesSeats, IsBlind}
+use Rattle.sl_pieces.specs.inner.awards.Awards.{IsCounted, FitsAwards}
 use Rattle.sl_pieces.specs.seats.Slots.{Slots, HasSlots, HasCells}
 use Rattle.sl_pieces.specs.seats.Trees.{seat}
-use Rattle.sl_pieces.specs.seats.Seated.{IsSeated}
+use Rattle.sl_pieces.specs.inner.seats.Seated.{IsSeated}
 use Rattle.sl_pieces.proofs.seats.SeatingArenas.{OfScope, places_differ, entry_there}
 use Rattle.sl_pieces.proofs.seats.Unchanged.{LeavesAll, unchanged, seated_unchanged}
 use Rattle.sl_pieces.proofs.seats.SeatLine.{IsTaken, IsGiven, seat_is_taken, seat_is_given}

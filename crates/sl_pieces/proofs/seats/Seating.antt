@@ -17,8 +17,8 @@ use Rattle.sl_pieces.specs.arenas.Laws.{DivisorArena}
 use Rattle.sl_pieces.proofs.arenas.MethodArenas.{divisor_arenas, hamilton_arenas}
 use Rattle.sl_pieces.specs.seats.Slots.{Slots}
 use Rattle.sl_pieces.specs.seats.Trees.{nothing, enter_again}
-use Rattle.sl_pieces.specs.seats.Filling.{IsReady, grown_arena}
-use Rattle.sl_pieces.specs.seats.Seating.{SplitsAwardSeats, GrowthsAwardSeats}
+use Rattle.sl_pieces.specs.inner.seats.Filling.{IsReady, grown_arena}
+use Rattle.sl_pieces.specs.inner.seats.Seating.{SplitsAwardSeats, GrowthsAwardSeats}
 use Rattle.sl_pieces.proofs.seats.SeatingArenas.{OfScope, scope_weighed}
 use Rattle.sl_pieces.proofs.seats.Minima.{minima_long}
 use Rattle.sl_pieces.proofs.seats.Seat.{seats_are_given, seats_fit}

@@ -28,7 +28,7 @@ use Rattle.sl_pieces.proofs.scopes.Scopes.{scopes_hold}
 use Rattle.sl_pieces.specs.arenas.Arenas.{Arena, divisor_arena, hamilton_arena}
 use Rattle.sl_pieces.specs.seats.Slots.{Slots}
 use Rattle.sl_pieces.specs.seats.Trees.{fill, minimum_base, outside_base, whole_base, enter_quotient, enter_remainder, enter_preferred}
-use Rattle.sl_pieces.specs.seats.Filling.{IsOfScope, FindsBase, IsFilled, IsReady, SplitsAreFilled, GrowthsAreFilled, told_of, split_weights}
+use Rattle.sl_pieces.specs.inner.seats.Filling.{IsOfScope, FindsBase, IsFilled, IsReady, SplitsAreFilled, GrowthsAreFilled, told_of, split_weights}
 use Rattle.sl_pieces.proofs.seats.Minima.{minima_long}
 use Rattle.sl_pieces.proofs.seats.Filling.{fills_achieve}
 use Rattle.sl_pieces.proofs.seats.Bases.{minimum_finds, outside_finds, whole_finds, Remains}

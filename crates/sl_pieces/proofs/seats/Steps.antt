@@ -20,10 +20,10 @@ use Rattle.sl_stages.proofs.methods.LadderProofs.{batches}
 use Rattle.sl_stages.proofs.methods.RaisedSeats.{Contains-head}
 use Rattle.sl_machine.specs.State.{State}
 use Rattle.sl_pieces.specs.arenas.Arenas.{Arena}
-use Rattle.sl_pieces.specs.awards.Batches.{Gets}
-use Rattle.sl_pieces.specs.awards.Awards.{IsCounted}
+use Rattle.sl_pieces.specs.inner.awards.Batches.{Gets}
+use Rattle.sl_pieces.specs.inner.awards.Awards.{IsCounted}
 use Rattle.sl_pieces.specs.seats.Slots.{Slots}
-use Rattle.sl_pieces.specs.seats.Seated.{HasSteps, steps_upto}
+use Rattle.sl_pieces.specs.inner.seats.Seated.{HasSteps, steps_upto}
 use Rattle.sl_pieces.proofs.seats.Lists.{numbered_at, number_there, not_it}
 
 -- ---- the records of the seats of a list of entries

@@ -19,7 +19,7 @@ use Rattle.sl_plans.specs.inner.Frames.{may_write_register}
 use Rattle.sl_plans.proofs.Rules.{achieves_more, line_ends, line_goes, then_achieves}
 use Rattle.sl_plans.proofs.KeepingRules.{achieves_kept}
 use Rattle.sl_pieces.specs.scopes.Forms.{Form, votes_of, table_of, entries_plan, OnScope, OnItem}
-use Rattle.sl_pieces.specs.scopes.Walks.{bare, Visits}
+use Rattle.sl_pieces.specs.inner.scopes.Walks.{bare, Visits}
 use Rattle.sl_pieces.specs.scopes.Scopes.{IsEntry}
 use Rattle.sl_pieces.proofs.scopes.Forms.{each_entry}
 use Rattle.sl_pieces.proofs.scopes.Scopes.{scopes_hold}
@@ -27,7 +27,7 @@ use Rattle.sl_pieces.proofs.scopes.Staying.{scope_stays, item_stays, entries_vis
 use Rattle.sl_pieces.specs.declared.registers.TheConstants as reg
 use Rattle.sl_pieces.specs.seats.Slots.{Slots, HasCells, HasMinima}
 use Rattle.sl_pieces.specs.seats.Trees.{add_minimum, sums}
-use Rattle.sl_pieces.specs.seats.Summing.{SumsAchieve}
+use Rattle.sl_pieces.specs.inner.seats.Summing.{SumsAchieve}
 use Rattle.sl_pieces.proofs.seats.Lists.{sum_of_all, sum_so_far}
 use Rattle.sl_pieces.proofs.seats.Minima.{minima_long}
 use Rattle.sl_pieces.proofs.seats.Unchanged.{LeavesAll, entries_leave, register_free, unchanged}

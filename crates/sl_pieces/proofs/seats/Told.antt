@@ -5,7 +5,7 @@ use Rattle.std.specs.List.{filter, zip, enumerate_from}
 use Rattle.std.proofs.lemmas.Bool.{cases_Bool}
 use Rattle.sl_stages.specs.declared.fault.Item.{Item}
 use Rattle.sl_stages.specs.declared.table.Weight.{Weight}
-use Rattle.sl_pieces.specs.seats.Filling.{told_of}
+use Rattle.sl_pieces.specs.inner.seats.Filling.{told_of}
 
 module _ (v : List ℕ) where
   -- where nothing is told of an entry, nothing is told

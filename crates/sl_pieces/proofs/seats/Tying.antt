@@ -27,11 +27,11 @@ use Rattle.sl_pieces.specs.arenas.Arenas.{Arena, seat_of, waiting, table_of}
 use Rattle.sl_pieces.specs.arenas.Laws.{PeersWait}
 use Rattle.sl_pieces.proofs.arenas.Peers.{waiting_peers}
 use Rattle.sl_pieces.specs.declared.registers.TheConstants as reg
-use Rattle.sl_pieces.specs.awards.Awards.{EndsTied}
+use Rattle.sl_pieces.specs.inner.awards.Awards.{EndsTied}
 use Rattle.sl_pieces.specs.seats.Slots.{Slots, HasSlots}
 use Rattle.sl_pieces.specs.seats.Trees.{tied}
-use Rattle.sl_pieces.specs.seats.Seated.{IsSeated}
-use Rattle.sl_pieces.specs.seats.Seating.{EndsInTie}
+use Rattle.sl_pieces.specs.inner.seats.Seated.{IsSeated}
+use Rattle.sl_pieces.specs.inner.seats.Seating.{EndsInTie}
 use Rattle.sl_pieces.proofs.seats.SeatingArenas.{OfScope, place_is, entry_there}
 
 -- ---- what a tie says

@@ -13,7 +13,7 @@ use Rattle.sl_pieces.specs.scopes.Forms.{Form, AllParties, AllLands, AllLists, L
 use Rattle.sl_pieces.specs.arenas.Arenas.{Arena}
 use Rattle.sl_pieces.specs.declared.registers.TheConstants as reg
 use Rattle.sl_pieces.specs.seats.Slots.{Slots, IsUnchanged}
-use Rattle.sl_pieces.specs.seats.Seated.{IsSeated}
+use Rattle.sl_pieces.specs.inner.seats.Seated.{IsSeated}
 
 -- ---- loops over entries
 

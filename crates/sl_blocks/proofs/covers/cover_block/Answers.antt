@@ -1,6 +1,6 @@
 use Rattle.std.proofs.Common.{vec_len, length}
 use Rattle.sl_pieces.specs.covers.Trees.{cover_tree}
-use Rattle.sl_blocks.specs.Covers.{cover_slots}
+use Rattle.sl_blocks.specs.inner.Covers.{cover_slots}
 use Rattle.sl_blocks.proofs.Laid.{laid_at}
 use Rattle.sl_blocks.proofs.LaidBlocks.{cover_stands}
 use Rattle.sl_blocks.proofs.covers.cover_block.Goals as goal

@@ -1,6 +1,6 @@
 use Rattle.std.proofs.Common.{vec_len, arith}
 use Rattle.sl_pieces.specs.nodes.Trees.{grow_tree}
-use Rattle.sl_blocks.specs.Jobs.{slots_of}
+use Rattle.sl_blocks.specs.inner.Jobs.{slots_of}
 use Rattle.sl_blocks.proofs.FineGrowths.{growth_short}
 use Rattle.sl_blocks.proofs.Laid.{form_laid}
 use Rattle.sl_blocks.proofs.LaidBlocks.{growth_stands}

@@ -1,6 +1,6 @@
 use Rattle.std.proofs.Common.{vec_len, unwrap_or, ap}
-use Rattle.sl_plans.specs.Layout.{tree_of}
-use Rattle.sl_blocks.specs.Given.{given_of}
+use Rattle.sl_plans.specs.inner.Layout.{tree_of}
+use Rattle.sl_blocks.specs.inner.Given.{given_of}
 use Rattle.sl_blocks.specs.inner.LayoutParts.{all_with}
 use Rattle.sl_blocks.proofs.Laid.{laid_as, growth_as}
 use Rattle.sl_blocks.proofs.growths.lay_growth_with.Goals as goal

@@ -1,5 +1,5 @@
 use Rattle.sl_stages.specs.book.Books.{book_of}
-use Rattle.sl_compile.specs.Weakest.{few_of}
+use Rattle.sl_compile.specs.inner.Weakest.{few_of}
 use Rattle.sl_compile.proofs.Wholes.{passes}
 use Rattle.sl_compile.proofs.Books.{book_stages_room, book_last_room, book_laid}
 use Rattle.sl_compile.proofs.compiler.lay_book.Goals as goal

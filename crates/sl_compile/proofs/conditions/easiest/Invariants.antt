@@ -1,5 +1,5 @@
 -- The few say what the conditions so far say, and their winners fit four bytes.
-use Rattle.sl_compile.specs.Weakest.{IsSmallIn}
+use Rattle.sl_compile.specs.inner.Weakest.{IsSmallIn}
 use Rattle.sl_compile.proofs.Easier.{SaysFirst}
 use Rattle.sl_compile.proofs.conditions.easiest.Given as goal
 

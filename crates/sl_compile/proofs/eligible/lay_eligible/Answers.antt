@@ -3,11 +3,11 @@ use Rattle.std.specs.Prelude.{unwrap_or}
 use Rattle.sl_stages.specs.declared.book.Cond.TheVariants as condition
 use Rattle.sl_code.specs.declared.instr.Instr.{Instr}
 use Rattle.sl_code.specs.declared.instr.Instr.TheVariants.{Zero}
-use Rattle.sl_plans.specs.Layout.{tree_of}
+use Rattle.sl_plans.specs.inner.Layout.{tree_of}
 use Rattle.sl_plans.specs.Trees.{Tree, Line, Then}
 use Rattle.sl_pieces.specs.facts.Trees.{condition_tree, eligible_tree}
 use Rattle.sl_pieces.specs.exprs.Slots.{fact_slots}
-use Rattle.sl_compile.specs.Weakest.{few_of, given_of, votes_of, per_of}
+use Rattle.sl_compile.specs.inner.Weakest.{few_of, given_of, votes_of, per_of}
 use Rattle.sl_compile.proofs.Places.{room_as, laid_as}
 use Rattle.sl_compile.proofs.FactPlans.{before, share_tree, eligible_plan}
 use Rattle.sl_compile.proofs.eligible.lay_eligible.Goals as goal

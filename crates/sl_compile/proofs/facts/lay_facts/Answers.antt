@@ -1,8 +1,8 @@
 use Rattle.std.proofs.Common.{[], ◌∷◌}
 use Rattle.sl_pieces.specs.facts.Trees.{eligible_tree}
 use Rattle.sl_pieces.specs.exprs.Slots.{fact_slots}
-use Rattle.sl_compile.specs.Weakest.{few_of}
-use Rattle.sl_compile.specs.Slots.{other_facts}
+use Rattle.sl_compile.specs.inner.Weakest.{few_of}
+use Rattle.sl_compile.specs.inner.Slots.{other_facts}
 use Rattle.sl_compile.proofs.Places.{laid_behind}
 use Rattle.sl_compile.proofs.facts.lay_facts.Goals as goal
 

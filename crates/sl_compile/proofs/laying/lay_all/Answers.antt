@@ -1,5 +1,5 @@
 use Rattle.std.proofs.Common.{arith}
-use Rattle.sl_plans.specs.Layout.{tree_of}
+use Rattle.sl_plans.specs.inner.Layout.{tree_of}
 use Rattle.sl_compile.proofs.Places.{item_room, item_next, items_all}
 use Rattle.sl_compile.proofs.laying.lay_all.Goals as goal
 

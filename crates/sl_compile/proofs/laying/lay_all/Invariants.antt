@@ -1,6 +1,6 @@
 -- The plans so far are laid out.
 use Rattle.std.proofs.Common.{map, drop}
-use Rattle.sl_plans.specs.Layout.{tree_of}
+use Rattle.sl_plans.specs.inner.Layout.{tree_of}
 use Rattle.sl_compile.proofs.Places.{LaidSome}
 use Rattle.sl_compile.proofs.laying.lay_all.Given as goal
 

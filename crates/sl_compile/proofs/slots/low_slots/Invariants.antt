@@ -6,7 +6,7 @@ use Rattle.sl_stages.specs.declared.fact.TheConstants.{FACTS}
 use Rattle.sl_stages.specs.book.Typing.{fact_type}
 use Rattle.sl_pieces.specs.declared.slots.TheConstants.{LEVELS}
 use Rattle.sl_books.specs.Codes.{level_shapes}
-use Rattle.sl_compile.specs.Slots.{low_shapes}
+use Rattle.sl_compile.specs.inner.Slots.{low_shapes}
 use Rattle.sl_compile.proofs.slots.low_slots.Given as goal
 
 abbrev pub invariant-loop-fact : goal.invariant-loop-fact

@@ -1,5 +1,5 @@
 use Rattle.sl_stages.specs.book.Trees.{stage_of}
-use Rattle.sl_compile.specs.Earlier.{columns}
+use Rattle.sl_compile.specs.inner.Earlier.{columns}
 use Rattle.sl_compile.proofs.Walks.{expr_room, copy_room, stage_laid}
 use Rattle.sl_compile.proofs.stages.lay_stage.Goals as goal
 

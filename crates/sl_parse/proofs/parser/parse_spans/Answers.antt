@@ -4,7 +4,7 @@ use Rattle.sl_parse.specs.declared.fault.Cause.{Cause}
 use Rattle.sl_parse.specs.declared.fault.Cause.TheVariants.{Expected, TooDeep, TooManyStages, After}
 use Rattle.sl_stages.specs.book.Books.{book_of}
 use Rattle.sl_parse.specs.Parsing.{fault_at, limits, FaultIsAt, IsFaultOf}
-use Rattle.sl_parse.specs.Reading.{read_book}
+use Rattle.sl_parse.specs.inner.Reading.{read_book}
 use Rattle.sl_parse.proofs.OneTree.{within, same_book, not_stopped}
 use Rattle.sl_parse.proofs.Stands.{is_read, is_fault}
 use Rattle.sl_parse.proofs.parser.parse_spans.Goals as goal

@@ -1,5 +1,5 @@
 use Rattle.std.proofs.Common.{◌+◌, ◌++◌, sym, ap, ◌∙◌, vec_len, arith}
-use Rattle.sl_plans.specs.Layout.{tree_of}
+use Rattle.sl_plans.specs.inner.Layout.{tree_of}
 use Rattle.sl_plans.specs.Trees.{flat}
 use Rattle.sl_plans.proofs.Laying.{if_laid}
 use Rattle.sl_plans.proofs.emitter.+put.Goals as goal

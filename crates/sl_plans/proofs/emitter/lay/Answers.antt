@@ -1,5 +1,5 @@
 use Rattle.std.proofs.Common.{vec_len, arith}
-use Rattle.sl_plans.specs.Layout.{tree_of}
+use Rattle.sl_plans.specs.inner.Layout.{tree_of}
 use Rattle.sl_plans.proofs.Laying.{laid_behind}
 use Rattle.sl_plans.proofs.emitter.lay.Goals as goal
 

@@ -1,5 +1,5 @@
 use Rattle.std.proofs.Common.{arith}
-use Rattle.sl_plans.specs.Layout.{filled}
+use Rattle.sl_plans.specs.inner.Layout.{filled}
 use Rattle.sl_plans.proofs.Laying.{known_step, line_more}
 use Rattle.sl_plans.proofs.emitter.put_line.Goals as goal
 

@@ -1,5 +1,5 @@
 use Rattle.std.proofs.Common.{◌≡◌, ◌+◌, ◌≤◌, ◌++◌, map, take, vec_len, vec_capacity}
-use Rattle.sl_plans.specs.Layout.{filled}
+use Rattle.sl_plans.specs.inner.Layout.{filled}
 use Rattle.sl_plans.specs.Trees.{known_after_all}
 use Rattle.sl_plans.proofs.emitter.put_line.Given as goal
 

@@ -1,7 +1,7 @@
 -- The test that fails is the first.
 use Rattle.std.proofs.Common.{List, ap, ◌∙◌}
 use Rattle.sl_stages.specs.declared.returns.Lot.{Lot}
-use Rattle.sl_returns.specs.Lots.{lot_told}
+use Rattle.sl_returns.specs.inner.Lots.{lot_told}
 use Rattle.sl_returns.specs.Tests.{has_lot}
 use Rattle.sl_returns.proofs.TestLemmas.{after, here, exit}
 use Rattle.sl_returns.proofs.join.join_lot.Goals as goal

@@ -3,7 +3,7 @@ use Rattle.std.proofs.Common.{◌≡◌, ◌<◌, ◌∙◌, refl, sym, length, 
 use Rattle.std.proofs.lemmas.Result.{on_ok_weaker}
 use Rattle.csv.specs.Records.{fields_of}
 use Rattle.sl_stages.specs.returns.Election.{with_win}
-use Rattle.sl_returns.specs.Joining.{with_win_of}
+use Rattle.sl_returns.specs.inner.Joining.{with_win_of}
 use Rattle.sl_returns.proofs.join.join_win.Goals.{After-kept}
 use Rattle.std.proofs.lemmas.Bool.{ltb-true}
 use Rattle.sl_stages.specs.declared.limits.TheConstants.{MAX_WINS}

@@ -2,7 +2,7 @@ use Rattle.std.proofs.Common.{◌≡◌, Some, rules}
 use Rattle.sl_stages.specs.book.Trees.{tree_of}
 use Rattle.sl_stages.specs.book.Tests.{first_failing}
 use Rattle.sl_stages.specs.book.Typing.{expr_tests}
-use Rattle.sl_check.specs.Known.{columns}
+use Rattle.sl_check.specs.inner.Known.{columns}
 use Rattle.sl_check.proofs.Failing.{split_fails}
 use Rattle.sl_check.proofs.columns.Columns.+expr.Goals as goal
 

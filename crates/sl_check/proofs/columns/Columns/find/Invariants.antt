@@ -1,7 +1,7 @@
 -- The column is not among those behind it: it is the first of the rest.
 use Rattle.std.proofs.Common.{◌≡◌, find, drop}
 use Rattle.sl_stages.specs.book.Typing.{is_named}
-use Rattle.sl_check.specs.Known.{columns}
+use Rattle.sl_check.specs.inner.Known.{columns}
 use Rattle.sl_check.proofs.columns.Columns.find.Given as goal
 
 abbrev pub invariant-loop-i : goal.invariant-loop-i

@@ -1,6 +1,6 @@
 use Rattle.std.proofs.Common.{true, ap, refl, subst, sym}
-use Rattle.sl_blocks.specs.Jobs.{IsGrowthJob}
-use Rattle.sl_blocks.specs.Layout.{IsLaidGrowth}
+use Rattle.sl_blocks.specs.inner.Jobs.{IsGrowthJob}
+use Rattle.sl_blocks.specs.inner.Layout.{IsLaidGrowth}
 use Rattle.sl_compile.proofs.Jobs.{is_growth_job, growth_laid, growth_none}
 use Rattle.sl_compile.proofs.exprs.Site.growth.Goals.{in-Divisor+in_ok-grow_block, in_default}
 use Rattle.sl_compile.proofs.exprs.Site.growth.Goals as goal

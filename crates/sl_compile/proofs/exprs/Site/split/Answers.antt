@@ -1,6 +1,6 @@
 use Rattle.std.proofs.Common.{subst, sym}
-use Rattle.sl_blocks.specs.Jobs.{IsSplitJob}
-use Rattle.sl_blocks.specs.Layout.{IsLaidSplit}
+use Rattle.sl_blocks.specs.inner.Jobs.{IsSplitJob}
+use Rattle.sl_blocks.specs.inner.Layout.{IsLaidSplit}
 use Rattle.sl_compile.proofs.Jobs.{is_split_job, split_laid}
 use Rattle.sl_compile.proofs.exprs.Site.split.Goals as goal
 

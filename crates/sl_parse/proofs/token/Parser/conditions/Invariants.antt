@@ -1,5 +1,5 @@
 use Rattle.std.proofs.Common.{drop, length}
-use Rattle.sl_parse.specs.Reading.{read_conditions}
+use Rattle.sl_parse.specs.inner.Reading.{read_conditions}
 use Rattle.sl_parse.proofs.Loop.{MayGoOn}
 use Rattle.sl_parse.proofs.token.Parser.conditions.Given as goal
 

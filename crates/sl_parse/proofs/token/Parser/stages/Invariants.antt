@@ -1,7 +1,7 @@
 use Rattle.std.proofs.Common.{◌≡◌, ◌-◌, ◌≤◌, map, drop, vec_len}
 use Rattle.sl_stages.specs.book.Trees.{stage_of}
 use Rattle.sl_parse.specs.Parsing.{limits}
-use Rattle.sl_parse.specs.Reading.{read_stages}
+use Rattle.sl_parse.specs.inner.Reading.{read_stages}
 use Rattle.sl_parse.proofs.Loop.{with_front}
 use Rattle.sl_parse.proofs.token.Parser.stages.Given as goal
 

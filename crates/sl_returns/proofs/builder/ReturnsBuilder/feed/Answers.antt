@@ -1,7 +1,7 @@
 -- What the builder stands for after the record.
 use Rattle.std.proofs.Common.{sym, subst}
 use Rattle.csv.specs.Records.{fields_of}
-use Rattle.sl_returns.specs.Building.{Building, StandsFor}
+use Rattle.sl_returns.specs.inner.Building.{Building, StandsFor}
 use Rattle.sl_returns.proofs.Feeding.{taken, refused}
 use Rattle.sl_returns.proofs.builder.ReturnsBuilder.feed.Goals as goal
 

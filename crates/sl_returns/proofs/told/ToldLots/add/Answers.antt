@@ -3,7 +3,7 @@ use Rattle.std.proofs.Common.{◌≡◌, false, List, [], ◌∷◌, ◌++◌, m
 use Rattle.sl_stages.specs.declared.returns.Lot.{Lot}
 use Rattle.sl_returns.specs.declared.told.LotKey.{LotKey}
 use Rattle.sl_returns.specs.Tests.{has_lot}
-use Rattle.sl_returns.specs.Lots.{lot_told}
+use Rattle.sl_returns.specs.inner.Lots.{lot_told}
 use Rattle.sl_returns.specs.inner.LotKeys.{lot_kept}
 use Rattle.sl_returns.proofs.ToldLots.{inserted}
 use Rattle.sl_returns.proofs.told.ToldLots.add.Goals as goal

@@ -2,7 +2,7 @@
 use Rattle.std.proofs.Common.{List, ap, sym, ◌∙◌}
 use Rattle.sl_stages.specs.declared.returns.Lot.{Lot}
 use Rattle.sl_returns.specs.Tests.{has_lot}
-use Rattle.sl_returns.specs.Lots.{lot_told}
+use Rattle.sl_returns.specs.inner.Lots.{lot_told}
 use Rattle.sl_returns.proofs.ToldLots.{found}
 use Rattle.sl_returns.proofs.told.ToldLots.contains.Goals as goal
 

@@ -1,6 +1,7 @@
 -- What a block of counting code is: it stands behind the code before it, passes the verifier's tests wherever its slots and its stage are, and
 -- does within a share what it is asked for (docs/blocks.md, section 5).
-use Rattle.std.specs.Prelude.{◌≡◌, ◌≤◌, true, List, ◌∷◌, ◌++◌, Option, length}
+use Rattle.std.specs.Prelude.{◌≡◌, ℕ, ◌≤◌, true, List, ◌∷◌, ◌++◌, Option, Some, length, slice_get}
+use Rattle.sl_stages.specs.declared.book.Shape.{Shape}
 use Rattle.sl_stages.specs.returns.Election.{Election, IsElection}
 use Rattle.sl_code.specs.declared.instr.Instr.{Instr}
 use Rattle.sl_code.specs.declared.instr.Instr.TheVariants.{At}
@@ -14,6 +15,10 @@ use Rattle.sl_machine.specs.State.{State, End}
 use Rattle.sl_machine.specs.Runs.{share_of}
 use Rattle.sl_plans.specs.Achieves.{Reaches}
 use Rattle.sl_blocks.specs.declared.blocks.TheConstants.{MAX_BLOCK_INSTRS}
+
+-- each of these slots is one of the code's, with its shape
+abbrev pub HasSlotsOf : List Shape → CountingCode → Type 0
+HasSlotsOf shapes code = (slot : ℕ) (s : Shape) → slice_get shapes slot ≡ Some s → slice_get code.slots slot ≡ Some s
 
 -- `Stands` is what a code has for the block to stand there, `Begins` what holds of a state where it begins, and `Does` and `Ends` are what then
 -- holds of the state that it comes to, or of the end of the run

@@ -9,7 +9,7 @@ use Rattle.sl_plans.specs.Laid.{laid}
 use Rattle.sl_pieces.specs.declared.form.Form.{Form}
 use Rattle.sl_pieces.specs.nodes.Trees.{split_tree, grow_tree}
 use Rattle.sl_blocks.specs.declared.job.Job.{Job}
-use Rattle.sl_blocks.specs.Jobs.{slots_of, IsJob}
+use Rattle.sl_blocks.specs.inner.Jobs.{slots_of, IsJob}
 
 -- the code after is the code before, p instructions, with the plan's behind a declaration
 abbrev pub IsLaid : Tree → ℕ → List Instr → List Instr → Type 0

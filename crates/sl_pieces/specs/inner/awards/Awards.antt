@@ -18,7 +18,7 @@ use Rattle.sl_plans.specs.inner.Frames.{may_write_register}
 use Rattle.sl_pieces.specs.arenas.Arenas.{Arena, IsArena, HasWaiting}
 use Rattle.sl_pieces.specs.declared.registers.TheConstants as reg
 use Rattle.sl_pieces.specs.awards.Trees.{awards}
-use Rattle.sl_pieces.specs.awards.Batches.{GivesSeats, IsBlind}
+use Rattle.sl_pieces.specs.inner.awards.Batches.{GivesSeats, IsBlind}
 
 -- seats up to so many can be awarded in the arena, and counted in a register, by a lot that the machine and the meaning draw alike
 pub record CanAward (c : CountingCode) (e : Election) (a : Arena) (most seats n : ℕ) (meant : List ℕ) : Type 0 where

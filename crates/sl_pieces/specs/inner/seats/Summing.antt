@@ -18,7 +18,7 @@ use Rattle.sl_pieces.specs.arenas.Arenas.{Arena}
 use Rattle.sl_pieces.specs.declared.registers.TheConstants as reg
 use Rattle.sl_pieces.specs.seats.Slots.{Slots, HasSlots, HasCells, HasMinima, IsUnchanged}
 use Rattle.sl_pieces.specs.seats.Trees.{sums, refuses_seats, refuse}
-use Rattle.sl_pieces.specs.seats.Seated.{IsSeated}
+use Rattle.sl_pieces.specs.inner.seats.Seated.{IsSeated}
 
 -- ---- sums
 

@@ -22,7 +22,7 @@ use Rattle.sl_pieces.specs.seats.Slots.{Slots}
 use Rattle.sl_pieces.specs.nodes.Scopes.{stand}
 use Rattle.sl_pieces.specs.nodes.Nodes.{HasResult, EndsWith}
 use Rattle.sl_blocks.specs.declared.job.Job.{Job}
-use Rattle.sl_blocks.specs.Blocks.{IsBlock}
+use Rattle.sl_blocks.specs.inner.Blocks.{HasSlotsOf, IsBlock}
 
 -- ---- the caller's conditions
 
@@ -72,9 +72,9 @@ pub record IsGrowthJob (shapes : List Shape) (j : Job) (cap : ℕ) : Type 0 wher
 
 -- ---- what the blocks do
 
--- a code with slots of these shapes, and with the job's stage
+-- a code that has these slots, each with its shape, whatever others it has, and the job's stage
 pub record HasJob (shapes : List Shape) (j : Job) (code : CountingCode) : Type 0 where
-  pub slots : code.slots ≡ shapes
+  pub slots : HasSlotsOf shapes code
   pub stage : CodeStage
   pub staged : slice_get code.stages j.stage ≡ Some stage
 

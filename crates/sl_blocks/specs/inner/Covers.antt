@@ -11,7 +11,7 @@ use Rattle.sl_machine.specs.Effects.{one_if}
 use Rattle.sl_machine.specs.Memories.{column_of}
 use Rattle.sl_pieces.specs.covers.Trees.{CoverSlots}
 use Rattle.sl_pieces.specs.covers.Covering.{AreCovered, EndsInTie}
-use Rattle.sl_blocks.specs.Blocks.{IsBlock}
+use Rattle.sl_blocks.specs.inner.Blocks.{HasSlotsOf, IsBlock}
 
 -- among slots of these shapes those of the covering are there, and the one that it writes is not that of the seats
 pub record IsCoverJob (shapes : List Shape) (x : CoverSlots) : Type 0 where
@@ -23,10 +23,6 @@ pub record IsCoverJob (shapes : List Shape) (x : CoverSlots) : Type 0 where
 -- the slots of a covering: the numbers of the lists stand in the first scratch slot by list
 abbrev pub cover_slots : (base eligible : ℕ) (scratch : List (List ℕ)) → CoverSlots
 cover_slots base eligible scratch = record { base = base; eligible = eligible; numbers = slice_index (slice_index_or scratch 3 []) 0 }
-
--- a code with slots of these shapes
-pub record HasSlotsOf (shapes : List Shape) (code : CountingCode) : Type 0 where
-  pub slots : code.slots ≡ shapes
 
 -- the parties whose cell is 1
 abbrev pub flagged : CoverSlots → State → ℕ → Bool

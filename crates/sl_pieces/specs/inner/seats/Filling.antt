@@ -27,7 +27,7 @@ use Rattle.sl_pieces.specs.arenas.Arenas.{Arena, HasWaiting, seat_of, divisor_ar
 use Rattle.sl_pieces.specs.declared.registers.TheConstants as reg
 use Rattle.sl_pieces.specs.seats.Slots.{Slots, HasSlots, HasCells, HasMinima}
 use Rattle.sl_pieces.specs.seats.Trees.{fill, base_of, outside_base, enter_of, enter_quotient, ranking_of}
-use Rattle.sl_pieces.specs.seats.Seated.{IsSeated}
+use Rattle.sl_pieces.specs.inner.seats.Seated.{IsSeated}
 
 -- ---- what is asked of the plan for an entry's first seats, and of the one by which it enters the table
 

@@ -17,12 +17,12 @@ use Rattle.sl_stages.specs.laws.Ladders.{IsTop}
 use Rattle.sl_code.specs.Codes.{CountingCode}
 use Rattle.sl_machine.specs.State.{State, End, Faulted}
 use Rattle.sl_pieces.specs.arenas.Arenas.{Arena}
-use Rattle.sl_pieces.specs.awards.Batches.{GivesSeats}
-use Rattle.sl_pieces.specs.awards.Awards.{IsCounted, EndsTied, FitsAwards}
+use Rattle.sl_pieces.specs.inner.awards.Batches.{GivesSeats}
+use Rattle.sl_pieces.specs.inner.awards.Awards.{IsCounted, EndsTied, FitsAwards}
 use Rattle.sl_pieces.specs.seats.Slots.{Slots}
 use Rattle.sl_pieces.specs.seats.Trees.{again_of, seat, tied}
-use Rattle.sl_pieces.specs.seats.Seated.{IsSeated}
-use Rattle.sl_pieces.specs.seats.Filling.{IsReady, split_arena, grown_arena}
+use Rattle.sl_pieces.specs.inner.seats.Seated.{IsSeated}
+use Rattle.sl_pieces.specs.inner.seats.Filling.{IsReady, split_arena, grown_arena}
 use Rattle.sl_pieces.specs.scopes.Forms.{Form}
 
 -- it ends with a tie between these entries, as the lot leaves it

@@ -3,7 +3,7 @@ use Rattle.sl_parse.specs.declared.expr.Division.{Division}
 use Rattle.sl_parse.specs.declared.head.Head.{Head}
 use Rattle.sl_stages.specs.book.Trees.{tree_of}
 use Rattle.sl_parse.specs.Grammar.{HeadTree}
-use Rattle.sl_parse.specs.Reading.{DivisionTree}
+use Rattle.sl_parse.specs.inner.Reading.{DivisionTree}
 
 abbrev pub head_tree : Head → HeadTree
 head_tree h = record { version = h.version; law = h.law.items; house = h.house; eligible = h.eligible.items }

@@ -14,7 +14,7 @@ use Rattle.sl_plans.specs.Achieves.{Achieves}
 use Rattle.sl_pieces.specs.scopes.Forms.{Form, OnScope}
 use Rattle.sl_pieces.specs.declared.registers.TheConstants as reg
 use Rattle.sl_pieces.specs.seats.Slots.{Slots}
-use Rattle.sl_pieces.specs.seats.Filling.{IsReady}
+use Rattle.sl_pieces.specs.inner.seats.Filling.{IsReady}
 use Rattle.sl_pieces.specs.nodes.Trees.{find_house}
 
 -- the amount is the house; the search has written cells of the scope's entries in the result's column, and all else is as it was

@@ -1,0 +1,3 @@
+-- Definitions on which no call of the desk and no law rests.
+pub mod Reading
+pub mod Views

@@ -1,0 +1,3 @@
+-- Of awards: what no call of the desk and no law rests on.
+pub mod Awards
+pub mod Batches
