@@ -1,0 +1,62 @@
+-- How divisor allocations answer to a change of votes (Balinski and Young, Fair Representation, appendix A).
+-- Each law is the contract of a function of `laws`.
+use Rattle.std.specs.Prelude.{◌≡◌, ◌≢◌, ◌⊎◌, ◌↔◌, ℕ, ◌<◌, ◌≤◌, List, length, sum, slice_index}
+use Rattle.sl_ratio.specs.declared.method.Divisor.{Divisor}
+use Rattle.sl_ratio.specs.Quotient.{Quotient, quotient}
+use Rattle.sl_stages.specs.methods.Field.{InField}
+use Rattle.sl_stages.specs.methods.Allocations.{IsDivisorAllocation}
+
+-- the quotient is no infinite one: under Webster and Jefferson each, under the others each but that of a first seat
+abbrev pub IsFinite : Quotient → Type 0
+IsFinite q = 0 < q.den
+
+abbrev pub IsInfinite : Quotient → Type 0
+IsInfinite q = q.den ≡ 0
+
+-- the next quotient of an entry
+abbrev pub next_of : Divisor → List ℕ → List ℕ → ℕ → Quotient
+next_of method v s i = quotient method (slice_index v i) (slice_index s i)
+
+-- i gained votes and j did not; then i does not lose a seat while j gets one more, whatever the seats of the two houses
+abbrev pub PopulationMonotone : Type 0
+PopulationMonotone =
+    (method : Divisor) (v w m : List ℕ) (seats house : ℕ) (s t : List ℕ) →
+    IsDivisorAllocation method v m seats s → IsDivisorAllocation method w m house t →
+    (i j : ℕ) → slice_index v i < slice_index w i → slice_index w j ≤ slice_index v j →
+    IsFinite (next_of method w t i) → slice_index t i < slice_index s i → slice_index t j ≤ slice_index s j
+
+-- i alone gained votes: it has no fewer seats
+abbrev pub VotesMonotone : Type 0
+VotesMonotone =
+    (method : Divisor) (v w m : List ℕ) (seats : ℕ) (s t : List ℕ) →
+    IsDivisorAllocation method v m seats s → IsDivisorAllocation method w m seats t →
+    (i : ℕ) → slice_index v i < slice_index w i → ((j : ℕ) → j ≢ i → slice_index w j ≡ slice_index v j) →
+    IsFinite (next_of method w t i) → slice_index s i ≤ slice_index t i
+
+-- i has more votes than j and no smaller minimum: it has no fewer seats
+abbrev pub VotesOrdered : Type 0
+VotesOrdered =
+    (method : Divisor) (v m : List ℕ) (seats : ℕ) (s : List ℕ) → IsDivisorAllocation method v m seats s →
+    (i j : ℕ) → slice_index v j < slice_index v i → slice_index m j ≤ slice_index m i →
+    IsFinite (next_of method v s i) → slice_index s j ≤ slice_index s i
+
+-- the same entries have votes
+pub record SameField (v w : List ℕ) : Type 0 where
+  pub same_length : length v ≡ length w
+  pub same_entries : (j : ℕ) → InField v j ↔ InField w j
+
+-- s gives each entry its minimum; or a first seat, where it has votes and a minimum of 0
+pub record AreFirstSeats (v m : List ℕ) (seats : ℕ) (s : List ℕ) : Type 0 where
+  pub same_length : length s ≡ length v
+  pub total : sum s ≡ seats
+  pub each : (j : ℕ) →
+      (slice_index s j ≡ slice_index m j) ⊎ (InField v j × (slice_index m j ≡ 0) × (slice_index s j ≡ 1))
+
+-- where a next quotient is infinite, under any votes of the same entries the allocations are those by first seats, and all of them:
+-- a lot decides, and not the votes
+abbrev pub FirstSeatsByLot : Type 0
+FirstSeatsByLot =
+    (method : Divisor) (w m : List ℕ) (seats : ℕ) (t : List ℕ) → IsDivisorAllocation method w m seats t →
+    (i : ℕ) → InField w i → IsInfinite (next_of method w t i) →
+    (slice_index t i ≡ 0)
+    × ((v : List ℕ) → SameField v w → (s : List ℕ) → IsDivisorAllocation method v m seats s ↔ AreFirstSeats v m seats s)

@@ -1,0 +1,32 @@
+-- Allocations by tests that compute: some, and the only ones.
+use Rattle.std.proofs.Common.{◌≡◌, ℕ, true, false, List, length, sum, refl}
+use Rattle.sl_ratio.specs.declared.method.Divisor.{Divisor}
+use Rattle.sl_stages.specs.methods.Allocations.{IsDivisorAllocation}
+use Rattle.sl_stages.specs.methods.Hamilton.{IsHamiltonAllocation}
+use Rattle.sl_stages.specs.laws.Ladders.{divisor_ladders, hamilton_ladders}
+use Rattle.sl_stages.proofs.methods.LadderProofs.{batches}
+use Rattle.sl_stages.proofs.methods.DivisorProofs.{divisor_tops}
+use Rattle.sl_stages.proofs.methods.HamiltonProofs.{hamilton_tops}
+use Rattle.sl_fairness_examples.specs.Examples.{IsOnly}
+use Rattle.sl_fairness_examples.proofs.Tested.{settled_test, top_test, settled_by_test, top_by_test}
+
+module _ (method : Divisor) (v m s : List ℕ) (e : length m ≡ length v) (f : length s ≡ length m) where
+  pub divisor_some : top_test (divisor_ladders method v m) s ≡ true → IsDivisorAllocation method v m (sum s) s
+  divisor_some test =
+      let tops = divisor_tops method v m e in
+      (tops.tops (sum s) s).1 (top_by_test (divisor_ladders method v m) s tops.falling f test)
+
+  pub divisor_only : settled_test (divisor_ladders method v m) s ≡ true → IsOnly (IsDivisorAllocation method v m (sum s)) s
+  divisor_only test =
+      let l = divisor_ladders method v m in
+      let tops = divisor_tops method v m e in
+      let alone = ((batches l tops.falling).settled s (settled_by_test l s tops.falling f test)).alone in
+      ((tops.tops (sum s) s).1 ((alone s).1 refl), λ t h. (alone t).0 ((tops.tops (sum s) t).0 h))
+
+pub hamilton_only : (v s : List ℕ) → length s ≡ length (hamilton_ladders false v (sum s)).base → settled_test (hamilton_ladders false v (sum s)) s ≡ true →
+    IsOnly (IsHamiltonAllocation false v (sum s)) s
+hamilton_only v s f test =
+    let l = hamilton_ladders false v (sum s) in
+    let tops = hamilton_tops false v (sum s) in
+    let alone = ((batches l tops.falling).settled s (settled_by_test l s tops.falling f test)).alone in
+    ((tops.tops s).1 ((alone s).1 refl), λ t h. (alone t).0 ((tops.tops t).0 h))

@@ -1,0 +1,8 @@
+-- The proofs of the examples, by tests that compute.
+pub mod Tested
+pub mod Allocated
+pub mod Remainders
+pub mod OutsideQuota
+pub mod MissingPremises
+pub mod EqualVotes
+pub mod Joined

@@ -1,0 +1,2 @@
+-- What fails, in small numbers.
+pub mod Examples

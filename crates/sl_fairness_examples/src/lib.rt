@@ -1,0 +1,7 @@
+//! What fails: small elections in which a method does what no law of `sl_fairness` rules out, or in which a premise of a law is missing.
+#![tactic(auto)]
+
+pub mod hamilton;
+pub mod joins;
+pub mod premises;
+pub mod quota;

@@ -1,0 +1,28 @@
+//! Allocations outside quota. Each function does nothing: its contract is the example.
+
+ghost use Rattle.sl_fairness_examples.specs.Examples.{WebsterBelow, WebsterAbove, JeffersonAbove, AdamsBelow, MinimaOutside};
+
+/// Webster's method gives fewer seats than the share rounded down: 6 of 9 votes have 3 of 6 seats.
+pub fn webster_below()
+    ensures { WebsterBelow }
+{}
+
+/// Webster's method gives more seats than the share rounded up: 6 of 9 votes have all of 3 seats.
+pub fn webster_above()
+    ensures { WebsterAbove }
+{}
+
+/// Jefferson's method gives more seats than the share rounded up: 4 of 6 votes have all of 3 seats.
+pub fn jefferson_above()
+    ensures { JeffersonAbove }
+{}
+
+/// Adams's method gives fewer seats than the share rounded down: 4 of 6 votes have 1 of 3 seats.
+pub fn adams_below()
+    ensures { AdamsBelow }
+{}
+
+/// With minima no method stays within quota, neither below nor above: 1 of 2 votes has no seat of two, and the other has both.
+pub fn minima_outside()
+    ensures { MinimaOutside }
+{}

@@ -1,0 +1,4 @@
+pub mod Sums
+pub mod Runs
+pub mod Shares
+pub mod Statutes
