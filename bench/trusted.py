@@ -6,7 +6,7 @@
 
 A contract names definitions, and the files of these name others. The script follows the imports from the contract of each call to
 the files in specs/ that it rests on, and counts their definition lines: those that are no import, no comment and not blank. It
-also names each file in specs/ outside inner/ that no call of the desk and no law reaches.
+also names each file in specs/ outside inner/ that no call of the desk and no law reaches, and each file in inner/ that one does.
 """
 import functools
 import pathlib
@@ -172,7 +172,11 @@ def page():
                 continue
             if path not in every and path not in laws:
                 idle.append(path)
+    inner = [path for path in sorted(every | laws, key=by_place) if "inner" in path.parts]
     out += ["", "## Beside the calls and the laws", ""]
+    if inner:
+        out += ["A call of the desk or a law rests on these files in specs/inner/:", ""]
+        out += [f"- {short(path)} ({definition_lines(path)} lines): {first_line(path)}" for path in inner] + [""]
     if idle:
         out += ["No call of the desk and no law reaches these files in specs/ outside inner/:", ""]
         out += [f"- {short(path)} ({definition_lines(path)} lines): {first_line(path)}" for path in idle]
