@@ -7,7 +7,7 @@ use Rattle.sl_verify.specs.Kinds.{start_kinds}
 use Rattle.sl_verify.specs.Needs.{Context}
 use Rattle.sl_plans.specs.Trees.{size_of}
 use Rattle.sl_plans.specs.Fine.{is_fine, judged_by, has_quiet_lines}
-use Rattle.sl_plans.specs.inner.Prices.{price_of, has_price, is_in_share}
+use Rattle.sl_plans.specs.Prices.{price_of, has_price, is_in_share}
 use Rattle.sl_pieces.specs.covers.Trees.{CoverSlots, cover_tree}
 use Rattle.sl_blocks.proofs.FineRoles.{before_one, is_small, small_is_quiet, small_is_priced, small_is_short, MAX_BLOCK_INSTRS}
 use Rattle.sl_blocks.proofs.Renaming.{Renaming, Renames, renamed_is_fine}

@@ -9,7 +9,7 @@ use Rattle.sl_stages.specs.declared.book.Majority.TheVariants as majority
 use Rattle.sl_verify.specs.Kinds.{start_kinds}
 use Rattle.sl_plans.specs.Trees.{size_of}
 use Rattle.sl_plans.specs.Fine.{is_fine, judged_by, has_quiet_lines}
-use Rattle.sl_plans.specs.inner.Prices.{price_of, has_price, is_in_share}
+use Rattle.sl_plans.specs.Prices.{price_of, has_price, is_in_share}
 use Rattle.sl_pieces.specs.declared.form.Form.{Form}
 use Rattle.sl_pieces.specs.declared.form.Form.TheVariants.{AllParties}
 use Rattle.sl_pieces.specs.seats.Slots.{Slots}

@@ -20,7 +20,7 @@ use Rattle.sl_plans.specs.Meaning.{cost}
 use Rattle.sl_plans.specs.Achieves.{Achieves, Reaches}
 use Rattle.sl_plans.specs.Laid.{laid}
 use Rattle.sl_plans.specs.Fine.{is_fine, judged_by, has_quiet_lines}
-use Rattle.sl_plans.specs.inner.Prices.{has_price, price_of, is_in_share}
+use Rattle.sl_plans.specs.Prices.{has_price, price_of, is_in_share}
 use Rattle.sl_plans.proofs.Places.{length-flat}
 use Rattle.sl_plans.proofs.LaidPlans.{plan_stands, laid_is_followed}
 use Rattle.sl_plans.proofs.Kinded.{fine_plans_pass}

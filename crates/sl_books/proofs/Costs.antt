@@ -13,7 +13,7 @@ use Rattle.sl_machine.specs.Runs.{budget_of}
 use Rattle.sl_plans.specs.Trees.{Tree, size_of}
 use Rattle.sl_plans.specs.Meaning.{cost}
 use Rattle.sl_plans.specs.Laid.{cost_all}
-use Rattle.sl_plans.specs.inner.Prices.{Rate, rate_at, price_of, has_price, up_to}
+use Rattle.sl_plans.specs.Prices.{Rate, rate_at, price_of, has_price, up_to}
 use Rattle.sl_plans.proofs.Prices.{plans_cost_their_price}
 use Rattle.sl_books.specs.Codes.{book_pieces}
 use Rattle.sl_books.specs.Laws.{CanCompile}

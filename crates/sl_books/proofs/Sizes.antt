@@ -8,7 +8,7 @@ use Rattle.sl_stages.specs.book.Limits.{is_within_stage, is_within_limits}
 use Rattle.sl_stages.specs.book.Trees.{StageTree}
 use Rattle.sl_verify.specs.Kinds.{start_kinds}
 use Rattle.sl_plans.specs.Trees.{Tree, size_of}
-use Rattle.sl_plans.specs.inner.Prices.{price_of, has_price, up_to}
+use Rattle.sl_plans.specs.Prices.{price_of, has_price, up_to}
 use Rattle.sl_plans.specs.Laid.{laid, laid_all, size_all}
 use Rattle.sl_plans.proofs.Places.{length-flat}
 use Rattle.sl_pieces.specs.closing.Trees.{halting}

@@ -2,6 +2,7 @@
 pub mod Determined
 pub mod Failing
 pub mod FileFacts
+pub mod Found
 pub mod Fronts
 pub mod InstrFacts
 pub mod LowFirst

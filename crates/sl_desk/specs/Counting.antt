@@ -26,7 +26,7 @@ use Rattle.sl_table.specs.Short.{short_text}
 abbrev pub ShowsSeats : BookTree → Election → SeatTable → List ℕ → Type 0
 ShowsSeats tree e t output = output ≡ short_text t e
 
--- the text of a legal fault that it means
+-- the text of a legal fault that the book means on the returns
 abbrev pub IsFaultText : BookTree → Election → List ℕ → Type 0
 IsFaultText tree e output = (f : LegalFault) × Means tree e (outcome.Fault f) × (output ≡ fault_text (names_of tree) e f)
 

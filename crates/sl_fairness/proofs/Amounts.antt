@@ -22,10 +22,11 @@ use Rattle.sl_stages.specs.methods.LeastHouse.{Growth, GrownTo, EmptyField, Abov
 use Rattle.sl_stages.specs.methods.Ties.{Choice, Decided, Tied, IsChoice}
 use Rattle.sl_stages.specs.meaning.Lots.{stage_lot}
 use Rattle.sl_stages.specs.meaning.Records.{Records}
-use Rattle.sl_stages.specs.meaning.Results.{ExprResult, Column, Fault, behind, Continues, Then, Stand, amount_of}
+use Rattle.sl_stages.specs.meaning.Results.{ExprResult, Column, Then, Stand, amount_of}
 use Rattle.sl_stages.specs.meaning.Scopes.{Group, place, cells, scopes}
 use Rattle.sl_stages.specs.meaning.Splits.{Seats, Refused, is_deprived, is_refused, award_of, IsChosen, IsAllocation, refusal, IsSplitAward, IsHouseAward, IsGrowthAward}
 use Rattle.sl_stages.specs.meaning.Expressions.{minima_at, IsSplitIn, split_records, IsSplit, IsGrowthIn, growth_records, IsGrown, Context, stand, shape_in, ExprMeans}
+use Rattle.sl_stages.proofs.meaning.TypedMeaning.{then_column}
 use Rattle.sl_fairness.specs.Amounts.{ComesToColumn, sum_in, SplitsGiveTheAmount, GrowthsGiveTheAmount, MajorityKept, GrownMajorityKept}
 use Rattle.sl_fairness.proofs.Scopes.{shared_award}
 
@@ -138,18 +139,7 @@ module _ (e : Election) (at : Stand) (amounts votes : List ℕ) (can : can_split
       (λ g s is. (seats g s is).0.long ∙ length-map g.entries (λ i. get_or votes (place e i) 0)) shape.One can values r place'.0 g place'.1 h in
       subst (λ s. AreSeats m (cells e g.entries votes) s × ((amount_of e at amounts g ≤ sum s) × (sum s ≤ cap))) (sym award.are) (seats g award.seats award.award)
 
--- ---- what comes before a column is a column: as in the proof of the types of columns (private there)
-
-continued : (Next : List ℕ → ExprResult → Type 0) (p : ExprResult) (values : List ℕ) (r : Records) → Continues Next p (Column values r) → (xs : List ℕ) × (a : Records) × (p ≡ Column xs a) × (q : Records) × Next xs (Column values q)
-continued Next (Fault f) values r h = cc
-continued Next (Column xs a) values r h = of h.0 h.1 h.2 where
-  of : (q : ExprResult) → Next xs q → Column values r ≡ behind a q → (ys : List ℕ) × (c : Records) × (Column xs a ≡ Column ys c) × (d : Records) × Next ys (Column values d)
-  of (Fault f) next is = cc
-  of (Column ys d) next is = let same : ys ≡ values = cc in (xs, a, refl, d, subst (λ c. Next xs (Column c d)) same next)
-
-then_column : (First : ExprResult → Type 0) (Next : List ℕ → ExprResult → Type 0) (values : List ℕ) (r : Records) → Then First Next (Column values r) →
-    (xs : List ℕ) × (a : Records) × First (Column xs a) × (q : Records) × Next xs (Column values q)
-then_column First Next values r h = let on = continued Next h.first values r h.goes_on in (on.0, on.1, subst First on.2 h.comes, on.3, on.4)
+-- ---- what comes before a column is a column
 
 module _ (b : BookTree) (e : Election) (c : Context) (at : ℕ) (s v : ExprTree) (method : Method) (m : Majority) (values : List ℕ) where
   -- the parts of a split that comes to a column

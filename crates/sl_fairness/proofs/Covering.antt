@@ -1,16 +1,12 @@
 -- Where winners are covered.
-use Rattle.std.proofs.Common.{◌≡◌, ℕ, zero, suc, ◌+◌, ◌<◌, ◌&&◌, Bool, true, false, cond, List, [], ◌∷◌, Option, Some, None, is_none, length, map, filter, get_or, nat_eq, min, count_by, sum_by, inl, inr, arith, refl, sym, ap, subst, ◌∙◌}
-use Rattle.std.specs.Prelude.{if◌then◌else◌, zip, flat_map, filter_map, slice_get, option_map, unwrap_or}
+use Rattle.std.proofs.Common.{◌≡◌, ℕ, zero, suc, ◌+◌, ◌&&◌, Bool, true, false, cond, List, [], ◌∷◌, Option, Some, None, is_none, length, map, filter, get_or, nat_eq, min, count_by, sum_by, inl, inr, arith, refl, sym, ap, subst, ◌∙◌}
+use Rattle.std.specs.Prelude.{if◌then◌else◌, zip, flat_map, filter_map, slice_get}
 use Rattle.std.specs.List.{AllByRecursion as Every, AllZip, enumerate_from}
 use Rattle.std.proofs.lemmas.Bool.{and_parts, both_ways, false≢true}
-use Rattle.std.proofs.lemmas.List.{get_or_default}
 use Rattle.std.proofs.lemmas.Option.{none-some, same_Some}
-use Rattle.std.proofs.lemmas.List.Elements.{recursion_from_All}
-use Rattle.std.proofs.lemmas.List.FromFn.{length-enumerate_from, get_or-enumerate_from}
 use Rattle.std.proofs.lemmas.List.Sums.{sum_by-cons}
 use Rattle.sl_stages.specs.declared.book.Seating.{Seating}
 use Rattle.sl_stages.specs.declared.book.Seating.TheVariants as seating
-use Rattle.sl_stages.specs.declared.fault.LegalFault.{LegalFault}
 use Rattle.sl_stages.specs.declared.returns.Win.{Win}
 use Rattle.sl_stages.specs.declared.table.ListSeats.{ListSeats}
 use Rattle.sl_stages.specs.declared.table.Outcome.TheVariants as outcome
@@ -25,27 +21,14 @@ use Rattle.sl_stages.specs.meaning.Seating.{table_line, placed_on, winners_of, t
 use Rattle.sl_stages.specs.meaning.Tables.{SeatTable}
 use Rattle.sl_stages.specs.meaning.Means.{IsCovered, IsSeated}
 use Rattle.sl_stages.specs.laws.MeaningLaws.{IsListOf}
-use Rattle.sl_stages.proofs.meaning.CoveredWinners.{covered_winners}
+use Rattle.sl_stages.proofs.meaning.CoveredWinners.{covered_winners, IsNumbered, are_numbered, table_without_faults}
 use Rattle.sl_stages.proofs.meaning.DistinctLists.{always, every_weaker, every_passes, every_filter, every_zipped}
 use Rattle.sl_stages.proofs.meaning.Members.{among, some_piece, among_numbers}
 use Rattle.sl_fairness.specs.Winners.{base_seats, winners_on, is_single, total_seats, IsLine, CoverKeepsBase, IsCoveredPlace, CoverPlaces}
 use Rattle.sl_fairness.proofs.ListColumns.{sum_mapped, zip_map, each_is_map, are_lists}
 use Rattle.sl_fairness.proofs.Bases.{end_of, one_base, sum_of_base}
 
--- ---- who is seated on a list has a party: as in the proof of how many sit there (private there)
-
--- the winner of that number
-abbrev pub IsNumbered : List Win → ℕ × Win → Type 0
-IsNumbered wins y = (d : Win) → get_or wins y.0 d ≡ y.1
-
-pub are_numbered : (wins : List Win) → Every (IsNumbered wins) (enumerate_from 0 wins)
-are_numbered wins =
-    recursion_from_All (IsNumbered wins) (enumerate_from 0 wins)
-    (λ i x less d.
-    let within : i < length wins = omega (arith, less, length-enumerate_from 0 wins) in
-    let at = get_or-enumerate_from 0 wins i x within in
-    let place : 0 + i ≡ i = omega arith in
-    subst (λ y. get_or wins y.0 d ≡ y.1) (sym at) (ap (λ k. get_or wins k d) place ∙ get_or_default wins i d x.1 within))
+-- ---- who is seated on a list has a party
 
 module _ (eligible : ℕ → Bool) (e : Election) where
   seated_is : (l : ℕ × ℕ) (c : Choice) (y : ℕ × Win) → IsNumbered e.wins y → among (seated_on eligible e (l, c)) y.0 ≡ true → has_eligible_list eligible e y.1 ≡ true
@@ -88,11 +71,6 @@ module _ (eligible : ℕ → Bool) (e : Election) where
 
 -- ---- the table
 
--- as in that proof (private there)
-pub table_without_faults : (faults : List LegalFault) (t u : SeatTable) → outcome.Table t ≡ unwrap_or (option_map (λ f. outcome.Fault f) (slice_get faults 0)) (outcome.Table u) → t ≡ u
-table_without_faults [] t u is = cc
-table_without_faults (f ∷ faults) t u is = cc
-
 pub covered_end : (b : BookTree) (e : Election) (base : List ℕ) (records : Records) (s : Seating) → s ≡ seating.Cover → (u : SeatTable) → IsSeated b e s base records (outcome.Table u) → IsCovered b e base records (outcome.Table u)
 covered_end b e base records seating.Keep is u h = cc
 covered_end b e base records seating.Cover is u h = h
@@ -103,7 +81,7 @@ module _ (b : BookTree) (e : Election) (base : List ℕ) (records : Records) (is
 
   is_table : u ≡ cover_table b e base records pairs
   unfolding pairs
-  is_table = table_without_faults (filter_map (tie_of (is_eligible b.eligible e) e (length b.stages)) pairs) u (cover_table b e base records pairs) covered.is
+  is_table = (table_without_faults (filter_map (tie_of (is_eligible b.eligible e) e (length b.stages)) pairs) u (cover_table b e base records pairs) covered.is).1
 
   places : List Placed
   places = covered_places (is_eligible b.eligible e) e pairs
@@ -186,6 +164,6 @@ cover_places b e t cover means k w at =
     let end = end_of b e t means in
     let covered = covered_end b e end.base end.records b.last.seating cover end.table end.seated in
     let all = zip (lists_of e) covered.choices in
-    let table = table_without_faults (filter_map (tie_of (is_eligible b.eligible e) e (length b.stages)) all) end.table (cover_table b e end.base end.records all) covered.is in
+    let table = (table_without_faults (filter_map (tie_of (is_eligible b.eligible e) e (length b.stages)) all) end.table (cover_table b e end.base end.records all) covered.is).1 in
     let same : t.placed ≡ covered_places (is_eligible b.eligible e) e all = end.placed ∙ ap (λ u. u.placed) table in
     subst (λ places. (p : Placed) × (slice_get places k ≡ Some p) × IsCoveredPlace b e w p) (sym same) (place_at b e all 0 e.wins (are_numbered e.wins) k w at)

@@ -11,18 +11,16 @@ use Rattle.sl_stages.specs.returns.Election.{Election}
 use Rattle.sl_stages.specs.returns.Facts.{lists_of, is_in, is_of, is_eligible, has_eligible_list}
 use Rattle.sl_stages.specs.methods.Ties.{Choice, Decided, Tied}
 use Rattle.sl_stages.specs.meaning.Seating.{winners_of, IsSeating, tie_of, seated_on, cover_place, covered_places, cover_table}
+use Rattle.sl_stages.proofs.meaning.AwardedEntries.{every_at}
+use Rattle.sl_stages.proofs.meaning.CoveredWinners.{chosen_numbers, IsNumbered, are_numbered, table_without_faults}
 use Rattle.sl_stages.proofs.meaning.DistinctLists.{every_weaker, every_passes, every_both}
 use Rattle.sl_stages.proofs.meaning.Members.{In, in_filter, zip_each, among, among_piece, some_piece}
 use Rattle.sl_fairness.specs.Winners.{CoverSeatsLargest}
 use Rattle.sl_fairness.proofs.Bases.{end_of}
-use Rattle.sl_fairness.proofs.Covering.{IsNumbered, are_numbered, table_without_faults, covered_end}
-use Rattle.sl_fairness.proofs.Scopes.{every_at}
+use Rattle.sl_fairness.proofs.Covering.{covered_end}
 use Rattle.sl_fairness.proofs.Amounts.{cell_at}
 
 -- ---- who is seated stands among the winners of the list, beside a 1
-
-abbrev chosen_numbers : List (ℕ × Win) → List ℕ → List ℕ
-chosen_numbers won s = map (λ y. y.0.0) (filter (λ y. nat_eq y.1 1) (zip won s))
 
 record IsSeatedAt (won : List (ℕ × Win)) (s : List ℕ) (k : ℕ) : Type 0 where
   pub place : ℕ
@@ -146,7 +144,7 @@ cover_seats_largest b e t cover means j k v w v_at w_at lands parties sits out =
     let covered = covered_end b e end.base end.records b.last.seating cover end.table end.seated in
     let pairs = zip (lists_of e) covered.choices in
     let seated = flat_map (seated_on eligible e) pairs in
-    let table = table_without_faults (filter_map (tie_of eligible e (length b.stages)) pairs) end.table (cover_table b e end.base end.records pairs) covered.is in
+    let table = (table_without_faults (filter_map (tie_of eligible e (length b.stages)) pairs) end.table (cover_table b e end.base end.records pairs) covered.is).1 in
     let same : t.placed ≡ covered_places eligible e pairs = end.placed ∙ ap (λ u. u.placed) table in
     let at : (n : ℕ) (x : Win) (p : Placed) → slice_get e.wins n ≡ Some x → slice_get t.placed n ≡ Some p → cover_place seated (n, x) ≡ p =
     λ n x p x_at p_at. (let none : 0 + n ≡ n = omega arith in

@@ -14,7 +14,8 @@ use Rattle.sl_stages.proofs.methods.DivisorProofs.{in_range}
 use Rattle.sl_stages.proofs.methods.HamiltonProofs.{at_map, zero_div}
 use Rattle.sl_fairness.specs.Quota.{raised_whole, JeffersonLowerQuota, AdamsUpperQuota, HamiltonInQuota}
 use Rattle.sl_fairness.proofs.Chains.{in_field}
-use Rattle.sl_fairness.proofs.Sums.{sum_times, sum_gap, whole_low, whole_greatest, times_none}
+use Rattle.sl_stages.proofs.methods.HamiltonProofs.{sum_times, whole_low}
+use Rattle.sl_fairness.proofs.Sums.{sum_gap, whole_greatest, times_none}
 
 -- inequalities of products entry by entry, summed, with a gap at i
 pub summed : (a b : ℕ) (xs ys : List ℕ) (i gap : ℕ) → i < length xs → ((j : ℕ) → a * get_or xs j 0 ≤ b * get_or ys j 0) →

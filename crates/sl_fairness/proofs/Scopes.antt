@@ -17,7 +17,7 @@ use Rattle.sl_stages.specs.meaning.Records.{Records}
 use Rattle.sl_stages.specs.meaning.Results.{Column, Fault, Stand, fault_at, fault_of, first_over, AreJoined, IsShared}
 use Rattle.sl_stages.specs.meaning.Scopes.{Group, place, cells, scopes, entries_of, lists_in_land, lists_of_party, told_of, pair_column}
 use Rattle.sl_stages.specs.meaning.Splits.{Award, Seats, Refused, awarded}
-use Rattle.sl_stages.proofs.meaning.AwardedEntries.{told_entry, scope_entries_differ, party_cell, land_cell, pair_cell}
+use Rattle.sl_stages.proofs.meaning.AwardedEntries.{every_at, told_entry, scope_entries_differ, party_cell, land_cell, pair_cell}
 use Rattle.sl_stages.proofs.meaning.DistinctLists.{every_weaker, every_map, every_filter, every_pieces}
 use Rattle.sl_fairness.proofs.ListColumns.{below}
 
@@ -70,12 +70,6 @@ module _ (e : Election) where
   scopes_placed shape.List s can = absurd (false≢true can)
 
 -- ---- lists by their places
-
--- as in the proof of awarded entries (private there)
-pub every_at : {X : Type 0} (P : X → Type 0) (xs : List X) (i : ℕ) (x : X) → Every P xs → slice_get xs i ≡ Some x → P x
-every_at P [] i x all at = absurd (none-some x at)
-every_at P (y ∷ ys) zero x all at = subst P (same_Some y x at) all.0
-every_at P (y ∷ ys) (suc i) x all at = every_at P ys i x all.1 at
 
 zip_at : {X Y : Type 0} (R : X → Y → Type 0) (xs : List X) (ys : List Y) (m : ℕ) (x : X) → AllZip R xs ys → slice_get xs m ≡ Some x → (y : Y) × (slice_get ys m ≡ Some y) × R x y
 zip_at R [] ys m x all at = absurd (none-some x at)

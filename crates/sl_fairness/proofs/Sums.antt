@@ -1,25 +1,10 @@
 -- Sums of lists with a gap at an entry, and whole parts.
-use Rattle.std.proofs.Common.{◌≡◌, ℕ, zero, suc, ◌+◌, ◌*◌, ◌/◌, ◌%◌, ◌<◌, ◌≤◌, List, [], ◌∷◌, length, get_or, set, map, sum, inl, inr, arith, sym, ◌∙◌, subst}
-use Rattle.std.proofs.Math.Nat.{div-add-mod', mul-le-mul_right}
+use Rattle.std.proofs.Common.{◌≡◌, ℕ, zero, suc, ◌+◌, ◌*◌, ◌/◌, ◌<◌, ◌≤◌, List, length, get_or, set, sum, inl, inr, arith, sym, subst}
 use Rattle.std.proofs.lemmas.Bool.{cases_lt, cases_eq}
 use Rattle.std.proofs.lemmas.List.{get_or-set_same, get_or-set_other}
 use Rattle.std.proofs.lemmas.List.Sums.{sum_by-set}
-use Rattle.sl_stages.proofs.methods.SeatSums.{sum-cons, sum_mono}
-
--- as in the proofs of Hamilton's method (private there)
-pub sum_times : (k : ℕ) (xs : List ℕ) → sum (map (λ x. k * x) xs) ≡ k * sum xs
-sum_times k [] = omega arith
-sum_times k (x ∷ xs) = sum-cons (k * x) (map (λ y. k * y) xs) ∙ (let rest = sum_times k xs in rw (sum-cons x xs) (omega (arith, rest)))
-
-pub whole_low : (n d : ℕ) → d * (n / d) ≤ n
-whole_low n d = let parts = div-add-mod' n d in omega (arith, parts)
-
-whole_high : (n d t : ℕ) → 0 < d → n / d < t → n < d * t
-whole_high n d t pos h =
-    let parts = div-add-mod' n d in
-    let low : n % d < d = omega arith in
-    let up : (n / d + 1) * d ≤ t * d = mul-le-mul_right d (omega arith) in
-    omega (arith, parts, low, up)
+use Rattle.sl_stages.proofs.methods.SeatSums.{sum_mono}
+use Rattle.sl_stages.proofs.methods.HamiltonProofs.{whole_high}
 
 -- the whole part is the greatest number that is not above the share
 pub whole_greatest : (n d k : ℕ) → 0 < d → d * k ≤ n → k ≤ n / d

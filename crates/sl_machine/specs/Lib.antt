@@ -3,6 +3,8 @@ pub mod Places
 pub mod Drawn
 pub mod SameLots
 pub mod Effects
+pub mod Seen
+pub mod Frames
 pub mod Runs
 pub mod Comes
 pub mod Unrecorded

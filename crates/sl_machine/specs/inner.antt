@@ -1,7 +1,5 @@
 -- What bodies and proofs alone cite: how the machine's values stand for those of the definitions.
 pub mod Stores
-pub mod Seen
-pub mod Frames
 pub mod Recording
 pub mod Memories
 pub mod Leaving

@@ -13,7 +13,7 @@ ghost use Rattle.sl_machine.specs.State.{with_column};
 ghost use Rattle.sl_machine.specs.Places.{cells_of};
 ghost use Rattle.sl_machine.specs.Effects.{Goes, effect, input_of, names_or_most};
 ghost use Rattle.sl_machine.specs.Safe.{IsInRange};
-ghost use Rattle.sl_machine.specs.inner.Seen.{place_at};
+ghost use Rattle.sl_machine.specs.Seen.{place_at};
 ghost use Rattle.sl_machine.specs.inner.Stores.{state_of, columns_of, sizes_of, sizes_for, effect_of};
 
 use crate::step::Effect;

@@ -8,7 +8,7 @@ ghost use Rattle.sl_code.specs.declared.instr.Instr.TheVariants as instr;
 ghost use Rattle.sl_machine.specs.Places.{scope_at};
 ghost use Rattle.sl_machine.specs.Effects.{effect, stage_of};
 ghost use Rattle.sl_machine.specs.Safe.{IsInRange};
-ghost use Rattle.sl_machine.specs.inner.Seen.{item_at};
+ghost use Rattle.sl_machine.specs.Seen.{item_at};
 ghost use Rattle.sl_machine.specs.inner.Stores.{state_of, sizes_of, effect_of};
 
 use crate::cursors::item_of;

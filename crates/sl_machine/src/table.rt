@@ -17,7 +17,7 @@ ghost use Rattle.sl_machine.specs.Effects.{Goes, effect, given, name_of, winner_
 ghost use Rattle.sl_machine.specs.Drawn.{lot_of};
 ghost use Rattle.sl_machine.specs.Safe.{IsInRange, entries_in};
 ghost use Rattle.sl_machine.specs.inner.Lots.{lots_for};
-ghost use Rattle.sl_machine.specs.inner.Seen.{entry_at, puts_in};
+ghost use Rattle.sl_machine.specs.Seen.{entry_at, puts_in};
 ghost use Rattle.sl_machine.specs.inner.Stores.{state_of, sizes_of, effect_of};
 ghost use Rattle.sl_machine.specs.inner.Tables.{FitsMark};
 

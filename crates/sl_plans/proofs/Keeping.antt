@@ -11,13 +11,13 @@ use Rattle.sl_code.specs.declared.instr.Instr.TheVariants as op
 use Rattle.sl_code.specs.Codes.{CountingCode}
 use Rattle.sl_machine.specs.State.{State}
 use Rattle.sl_machine.specs.Effects.{Effect, Goes, Jumps, Ends, NoCase, effect}
-use Rattle.sl_machine.specs.inner.Frames.{writes_register, writes_slot, writes_cell, writes_place, moves_party, moves_land, moves_win, writes_table, writes_mark, records_step, records_weight, KeepsOthers, Frames}
+use Rattle.sl_machine.specs.Frames.{writes_register, writes_slot, writes_cell, writes_place, moves_party, moves_land, moves_win, writes_table, writes_mark, records_step, records_weight, KeepsOthers, Frames}
 use Rattle.sl_machine.proofs.effects.Framing.{frames}
 use Rattle.sl_plans.specs.declared.plan.Cursor.{Cursor}
 use Rattle.sl_plans.specs.declared.plan.Cursor.TheVariants as cursor
 use Rattle.sl_plans.specs.Trees.{Tree, Line, Stop, Then, If, Each, Times, jump_of, to_first, count_down}
 use Rattle.sl_plans.specs.Meaning.{Course, Onward, Final, Unsaid, then_do, passes, stops, branches, count_of, cursor_of, set_cursor, held, turn_at, for_each, turns_in, at_zero, turns, in_turn, counted, does}
-use Rattle.sl_plans.specs.inner.Frames.{has_instr, seats_winner, PlansKeepTheRest}
+use Rattle.sl_plans.specs.Frames.{has_instr, seats_winner, PlansKeepTheRest}
 
 module _ (c : CountingCode) (e : Election) (writes : Instr → Bool) (Same : State → State → Type 0)
     (itself : (s : State) → Same s s)

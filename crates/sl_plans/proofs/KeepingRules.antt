@@ -10,7 +10,7 @@ use Rattle.sl_plans.specs.declared.plan.Bound.{Bound}
 use Rattle.sl_plans.specs.Trees.{Tree, Each, Times, ones}
 use Rattle.sl_plans.specs.Meaning.{Course, Onward, Final, Unsaid, count_of, cursor_of, set_cursor, turns_in, does}
 use Rattle.sl_plans.specs.Achieves.{Meets, Achieves}
-use Rattle.sl_plans.specs.inner.Frames.{may_write_register, may_move, KeepsRest}
+use Rattle.sl_plans.specs.Frames.{may_write_register, may_move, KeepsRest}
 use Rattle.sl_plans.proofs.Rules.{achieves_more, each_achieves, times_achieves}
 use Rattle.sl_plans.proofs.Keeping.{plans_keep_the_rest}
 

@@ -12,7 +12,7 @@ use Rattle.sl_plans.specs.declared.plan.Bound.TheVariants as bound
 use Rattle.sl_plans.specs.Trees.{Tree, Line, Stop, Then, If, Each, Times}
 use Rattle.sl_plans.specs.Meaning.{count_of, turns_in, cost}
 use Rattle.sl_plans.specs.Costs.{PlansCostTheirPrice, SharesSuffice}
-use Rattle.sl_plans.specs.inner.Prices.{Rate, Price, rate_at, price_at, both_prices, and_steps, rate_times, for_parties, for_lands, for_lists, without_party, without_land, only_fixed, is_nothing, for_each_of, may_be_each, as_often, may_be_often, price_of, has_price, up_to, is_in_share}
+use Rattle.sl_plans.specs.Prices.{Rate, Price, rate_at, price_at, both_prices, and_steps, rate_times, for_parties, for_lands, for_lists, without_party, without_land, only_fixed, is_nothing, for_each_of, may_be_each, as_often, may_be_often, price_of, has_price, up_to, is_in_share}
 
 -- ---- prices at numbers of parties, Länder and winners
 module _ (p l w : ℕ) where

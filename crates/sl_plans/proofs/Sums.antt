@@ -15,7 +15,7 @@ use Rattle.sl_plans.specs.Trees.{Each}
 use Rattle.sl_plans.specs.Achieves.{Achieves, Never}
 use Rattle.sl_verify.specs.Kinds.{start_kinds}
 use Rattle.sl_plans.specs.Fine.{bare, is_fine, judged_by}
-use Rattle.sl_plans.specs.inner.Prices.{price_of, has_price, is_in_share}
+use Rattle.sl_plans.specs.Prices.{price_of, has_price, is_in_share}
 use Rattle.sl_plans.specs.Sums.{add_cell, sum_tree, sum_of_first, ColumnsAreSummed, SumsAreAccepted}
 use Rattle.sl_plans.proofs.Rules.{line_ends, line_goes, then_achieves}
 use Rattle.sl_plans.proofs.KeepingRules.{each_keeping}

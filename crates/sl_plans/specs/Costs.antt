@@ -4,7 +4,7 @@ use Rattle.sl_stages.specs.returns.Election.{Election, lands_of, parties_of, win
 use Rattle.sl_machine.specs.Runs.{share_of}
 use Rattle.sl_plans.specs.Trees.{Tree}
 use Rattle.sl_plans.specs.Meaning.{cost}
-use Rattle.sl_plans.specs.inner.Prices.{price_at, price_of, has_price, is_in_share}
+use Rattle.sl_plans.specs.Prices.{price_at, price_of, has_price, is_in_share}
 
 abbrev pub PlansCostTheirPrice : Type 0
 PlansCostTheirPrice = (e : Election) (tree : Tree) → has_price tree ≡ true → cost e tree ≡ price_at (parties_of e) (lands_of e) (wins_of e) (price_of tree)

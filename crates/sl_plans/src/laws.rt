@@ -4,7 +4,7 @@ ghost use Rattle.sl_plans.specs.Costs.{PlansCostTheirPrice, SharesSuffice};
 ghost use Rattle.sl_plans.specs.Fine.{FinePlansPass, PlansJumpWithin};
 ghost use Rattle.sl_plans.specs.Following.{PlansAreFollowed};
 ghost use Rattle.sl_plans.specs.Sums.{ColumnsAreSummed, SumsAreAccepted};
-ghost use Rattle.sl_plans.specs.inner.Frames.{PlansKeepTheRest};
+ghost use Rattle.sl_plans.specs.Frames.{PlansKeepTheRest};
 
 /// Wherever the instructions of a plan stand, the machine does what the plan says, within the plan's cost.
 pub fn plans_are_followed()

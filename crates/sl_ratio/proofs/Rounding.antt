@@ -1,8 +1,13 @@
 -- Rounding by a divisor that stands between the bounds.
-use Rattle.std.proofs.Common.{◌≡◌, ℕ, zero, suc, ◌+◌, ◌-◌, ◌*◌, ◌/◌, ◌<◌, ◌≤◌, get_or, inl, inr, arith}
+use Rattle.std.proofs.Common.{◌≡◌, ℕ, zero, suc, ◌+◌, ◌-◌, ◌*◌, ◌/◌, ◌<◌, ◌≤◌, List, get_or, inl, inr, arith, subst}
 use Rattle.std.proofs.Math.Nat.{div-eq_of_lt-le, mul-le-mul_right}
 use Rattle.std.proofs.lemmas.Bool.{cases_lt}
+use Rattle.sl_ratio.specs.declared.method.Divisor.{Divisor}
+use Rattle.sl_ratio.specs.declared.method.Divisor.TheVariants.{Adams, Webster, Jefferson}
+use Rattle.sl_ratio.specs.Bounds.{HasWeight, last_quotient, next_quotient, Between}
 use Rattle.sl_ratio.specs.Laws.{EveryDivisorBetween}
+use Rattle.sl_ratio.specs.Quotient.{Quotient, Below, quotient}
+use Rattle.sl_ratio.proofs.Order.{AtMost-Below, Below-AtMost}
 
 rounded : (n d k : ℕ) → 0 < d → k * d ≤ n → n < (k + 1) * d → n / d ≡ k
 rounded n d k pos low high = div-eq_of_lt-le d low high
@@ -36,10 +41,31 @@ not_half v (suc s) p r n pos below above e =
       | inr g ↦ (let least : (2 * suc s + 1) * p ≤ (2 * n + 1) * p = mul-le-mul_right p (omega arith) in omega arith)
     ]
 
+-- a divisor between the bounds is above each next quotient and below that of each last seat
+module _ (method : Divisor) (positive : (v a : ℕ) → 0 < v → 0 < (quotient method v a).num) (v s : List ℕ) (d : Quotient) (h : Between method v s d) where
+  above : (i : ℕ) → HasWeight v i → Below (next_quotient method v s i) d
+  above i f =
+      AtMost-Below (next_quotient method v s i) (next_quotient method v s h.is_next.0) d (positive (get_or v i 0) (get_or s i 0) f)
+      (h.is_next.1.holds.greatest i f) (subst (λ q. Below q d) h.is_next.2 h.above_next)
+
+  below : (i : ℕ) → HasWeight v i → 0 < get_or s i 0 → Below d (last_quotient method v s i)
+  below i f seated =
+      Below-AtMost d (last_quotient method v s h.is_last.0) (last_quotient method v s i) (positive (get_or v i 0) (get_or s i 0 - 1) f)
+      (subst (λ q. Below d q) h.is_last.2 h.below_last) (h.is_last.1.holds.least i f seated)
+
+positive_adams : (v a : ℕ) → 0 < v → 0 < (quotient Adams v a).num
+positive_adams v a f = f
+
+positive_webster : (v a : ℕ) → 0 < v → 0 < (quotient Webster v a).num
+positive_webster v a f = omega arith
+
+positive_jefferson : (v a : ℕ) → 0 < v → 0 < (quotient Jefferson v a).num
+positive_jefferson v a f = f
+
 pub every_divisor_between : EveryDivisorBetween
 every_divisor_between v s d pos = record {
-  adams = λ h i f. up_to (get_or v i 0) (get_or s i 0) d.num d.den pos (h.above_next i f) (h.below_last i f);
-  webster = λ h i f. nearest_to (get_or v i 0) (get_or s i 0) d.num d.den pos (h.above_next i f) (h.below_last i f);
-  no_half = λ h i f n. not_half (get_or v i 0) (get_or s i 0) d.num d.den n pos (h.above_next i f) (h.below_last i f);
-  jefferson = λ h i f. down_to (get_or v i 0) (get_or s i 0) d.num d.den pos (h.above_next i f) (h.below_last i f);
+  adams = λ h i f. up_to (get_or v i 0) (get_or s i 0) d.num d.den pos (above Adams positive_adams v s d h i f) (below Adams positive_adams v s d h i f);
+  webster = λ h i f. nearest_to (get_or v i 0) (get_or s i 0) d.num d.den pos (above Webster positive_webster v s d h i f) (below Webster positive_webster v s d h i f);
+  no_half = λ h i f n. not_half (get_or v i 0) (get_or s i 0) d.num d.den n pos (above Webster positive_webster v s d h i f) (below Webster positive_webster v s d h i f);
+  jefferson = λ h i f. down_to (get_or v i 0) (get_or s i 0) d.num d.den pos (above Jefferson positive_jefferson v s d h i f) (below Jefferson positive_jefferson v s d h i f);
 }

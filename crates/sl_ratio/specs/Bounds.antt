@@ -51,10 +51,14 @@ AreBounds method v s answer =
     (last next : Quotient) × IsLastBound method v s last × IsNextBound method v s next
     × (answer ≡ (if is_le (compare next last) then Some (last, next) else None))
 
--- the divisor p / r stands strictly between every next quotient and every quotient of a last seat
+-- the divisor stands strictly between the two bounds
 pub record Between (method : Divisor) (v s : List ℕ) (divisor : Quotient) : Type 0 where
-  pub above_next : (i : ℕ) → HasWeight v i → Below (next_quotient method v s i) divisor
-  pub below_last : (i : ℕ) → HasWeight v i → 0 < slice_index s i → Below divisor (last_quotient method v s i)
+  pub last : Quotient
+  pub next : Quotient
+  pub is_last : IsLastBound method v s last
+  pub is_next : IsNextBound method v s next
+  pub above_next : Below next divisor
+  pub below_last : Below divisor last
 
 -- v * r / p rounded up, to nearest or down
 abbrev pub round_up : ℕ → Quotient → ℕ

@@ -1,5 +1,5 @@
 -- Stages that a run goes through come to columns, and what columns leaves and pools are.
-use Rattle.std.proofs.Common.{◌≡◌, ℕ, ◌-◌, List, [], ◌∷◌, Some, sum, refl, sym, ap, subst, ◌∙◌}
+use Rattle.std.proofs.Common.{◌≡◌, ℕ, ◌-◌, List, [], ◌∷◌, Some, sum, sym, ap, ◌∙◌}
 use Rattle.std.specs.Prelude.{find, option_map}
 use Rattle.std.proofs.lemmas.Option.{same_Some}
 use Rattle.sl_stages.specs.declared.book.Axis.TheVariants as axis
@@ -10,9 +10,10 @@ use Rattle.sl_stages.specs.book.Trees.{fact, name, StageTree, BookTree}
 use Rattle.sl_stages.specs.returns.Election.{Election}
 use Rattle.sl_stages.specs.meaning.Columns.{is_column_of, fact_column, sum_over, pair_of}
 use Rattle.sl_stages.specs.meaning.Records.{Records}
-use Rattle.sl_stages.specs.meaning.Results.{ExprResult, Column, Fault, plain, behind, Continues, Then}
+use Rattle.sl_stages.specs.meaning.Results.{ExprResult, Column, Fault, plain, Then}
 use Rattle.sl_stages.specs.meaning.Expressions.{Context, ExprMeans}
 use Rattle.sl_stages.specs.meaning.Means.{Known, Through, context_of, with_stage, GoesOn, StagesMean}
+use Rattle.sl_stages.proofs.meaning.TypedMeaning.{then_column}
 use Rattle.sl_statutes.specs.Trees.{pool}
 use Rattle.sl_statutes.specs.Houses.{house_of}
 
@@ -32,19 +33,6 @@ ran b e k s ss end run = of run.0 run.1 run.2 where
 
 pub same_known : (k j : Known) → Through k ≡ Through j → k ≡ j
 same_known k j same = cc
-
--- ---- what comes before a column is a column: as in the proof of the types of columns (private there)
-
-continued : (Next : List ℕ → ExprResult → Type 0) (p : ExprResult) (values : List ℕ) (r : Records) → Continues Next p (Column values r) → (xs : List ℕ) × (a : Records) × (p ≡ Column xs a) × (q : Records) × Next xs (Column values q)
-continued Next (Fault f) values r h = cc
-continued Next (Column xs a) values r h = of h.0 h.1 h.2 where
-  of : (q : ExprResult) → Next xs q → Column values r ≡ behind a q → (ys : List ℕ) × (c : Records) × (Column xs a ≡ Column ys c) × (d : Records) × Next ys (Column values d)
-  of (Fault f) next is = cc
-  of (Column ys d) next is = let same : ys ≡ values = cc in (xs, a, refl, d, subst (λ c. Next xs (Column c d)) same next)
-
-then_column : (First : ExprResult → Type 0) (Next : List ℕ → ExprResult → Type 0) (values : List ℕ) (r : Records) → Then First Next (Column values r) →
-    (xs : List ℕ) × (a : Records) × First (Column xs a) × (q : Records) × Next xs (Column values q)
-then_column First Next values r h = let on = continued Next h.first values r h.goes_on in (on.0, on.1, subst First on.2 h.comes, on.3, on.4)
 
 -- ---- leaves and pools
 

@@ -27,8 +27,8 @@ use Rattle.sl_machine.specs.State.{State, PriorityTable, with_register, with_col
 use Rattle.sl_machine.specs.Places.{both, cell_at, index_at, at_entry, scope_at}
 use Rattle.sl_machine.specs.Drawn.{lot_of}
 use Rattle.sl_machine.specs.Effects.{Effect, Goes, Jumps, NoCase, effect, given, where_positive, winner_at, to_party, first_of, next_of, with_party, with_land, with_win, seat_winner, sets_house, counts_peers, stage_of, name_of, at_scope, with_lot, with_table, with_entry, with_step, with_weight, after_take, takes, enters}
-use Rattle.sl_machine.specs.inner.Seen.{place_at}
-use Rattle.sl_machine.specs.inner.Frames.{writes_register, writes_cell, is_at, moves_party, moves_land, moves_win, writes_table, writes_mark, writes_place, records_step, records_weight, KeepsOthers, Frames}
+use Rattle.sl_machine.specs.Seen.{place_at}
+use Rattle.sl_machine.specs.Frames.{writes_register, writes_cell, is_at, moves_party, moves_land, moves_win, writes_table, writes_mark, writes_place, records_step, records_weight, KeepsOthers, Frames}
 
 -- ---- states that differ in one part
 module _ (c : CountingCode) (e : Election) (i : Instr) (s : State) where

@@ -13,7 +13,7 @@ use Rattle.sl_machine.specs.Effects.{Effect, Goes, Jumps, Ends, NoCase, effect}
 use Rattle.sl_machine.specs.Fits.{FitsEnd, FitsRecords, FitsStep, FitsWeight}
 use Rattle.sl_machine.specs.Runs.{Ending, Ended, OutOfBudget, Stuck, follow, after_step, step_of, run}
 use Rattle.sl_machine.specs.Unrecorded.{unrecorded, unrecorded_end, without_records}
-use Rattle.sl_machine.specs.inner.Frames.{records_step, records_weight}
+use Rattle.sl_machine.specs.Frames.{records_step, records_weight}
 use Rattle.sl_machine.specs.inner.Recording.{unrecorded_effect, state_by, effect_by, ending_by, left_by}
 use Rattle.sl_machine.proofs.runs.Dropping.{drops}
 

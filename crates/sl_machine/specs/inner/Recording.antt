@@ -7,7 +7,7 @@ use Rattle.sl_machine.specs.State.{State}
 use Rattle.sl_machine.specs.Effects.{Effect, Goes, Jumps, Ends, NoCase}
 use Rattle.sl_machine.specs.Runs.{Ending}
 use Rattle.sl_machine.specs.Unrecorded.{unrecorded, unrecorded_end, without_records}
-use Rattle.sl_machine.specs.inner.Frames.{records_step, records_weight}
+use Rattle.sl_machine.specs.Frames.{records_step, records_weight}
 
 abbrev pub unrecorded_effect : Effect → Effect
 unrecorded_effect (Goes s) = Goes (unrecorded s)

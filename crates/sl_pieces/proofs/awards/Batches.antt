@@ -13,7 +13,7 @@ use Rattle.sl_plans.specs.declared.plan.Bound.{Bound}
 use Rattle.sl_plans.specs.Trees.{Tree, Line, If, Times, ones}
 use Rattle.sl_plans.specs.Meaning.{turns_in}
 use Rattle.sl_plans.specs.Achieves.{Achieves, Never}
-use Rattle.sl_plans.specs.inner.Frames.{may_write_register}
+use Rattle.sl_plans.specs.Frames.{may_write_register}
 use Rattle.sl_plans.proofs.Rules.{line_ends, line_goes, then_achieves, achieves_more, achieves_from, if_zero}
 use Rattle.sl_plans.proofs.KeepingRules.{times_keeping}
 use Rattle.sl_pieces.specs.arenas.Arenas.{Arena, IsArena, HasWaiting}

@@ -21,7 +21,7 @@ use Rattle.sl_code.specs.declared.instr.Instr.TheVariants.{Takelot}
 use Rattle.sl_plans.specs.Trees.{Tree, Line, Then, If, ones}
 use Rattle.sl_plans.specs.Meaning.{turns_in}
 use Rattle.sl_plans.specs.Achieves.{Achieves, Never}
-use Rattle.sl_plans.specs.inner.Frames.{KeepsRest}
+use Rattle.sl_plans.specs.Frames.{KeepsRest}
 use Rattle.sl_plans.proofs.Rules.{achieves_from, achieves_more, line_ends, line_goes, then_achieves, if_empty}
 use Rattle.sl_plans.proofs.KeepingRules.{achieves_kept, times_keeping}
 use Rattle.sl_pieces.specs.arenas.Arenas.{Arena, HasWaiting, seat_of, waiting, seat_taken}

@@ -21,7 +21,7 @@ use Rattle.sl_machine.specs.Effects.{Goes, effect}
 use Rattle.sl_machine.proofs.effects.Registers.{set_does, sub_does}
 use Rattle.sl_plans.specs.Trees.{Tree, Line, Then, ones, count_down}
 use Rattle.sl_plans.specs.Achieves.{Achieves, Never}
-use Rattle.sl_plans.specs.inner.Frames.{KeepsRest}
+use Rattle.sl_plans.specs.Frames.{KeepsRest}
 use Rattle.sl_plans.proofs.Rules.{line_ends, line_goes, then_achieves, achieves_more, achieves_from, if_empty}
 use Rattle.sl_plans.proofs.KeepingRules.{achieves_kept}
 use Rattle.sl_pieces.specs.arenas.Arenas.{Arena, IsArena, HasWaiting, seat_of, table_of, waiting, seat_taken}

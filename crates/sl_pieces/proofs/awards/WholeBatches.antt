@@ -13,7 +13,7 @@ use Rattle.sl_machine.specs.Effects as machine
 use Rattle.sl_machine.proofs.effects.Registers.{set_does, mov_does, sub_does}
 use Rattle.sl_plans.specs.Trees.{Tree, ones}
 use Rattle.sl_plans.specs.Achieves.{Achieves, Never}
-use Rattle.sl_plans.specs.inner.Frames.{KeepsRest}
+use Rattle.sl_plans.specs.Frames.{KeepsRest}
 use Rattle.sl_plans.proofs.Rules.{achieves_from, achieves_more, line_ends, line_goes, then_achieves, if_empty, if_less}
 use Rattle.sl_plans.proofs.KeepingRules.{achieves_kept}
 use Rattle.sl_pieces.specs.arenas.Arenas.{Arena, IsArena, HasWaiting, waiting, seat_taken}

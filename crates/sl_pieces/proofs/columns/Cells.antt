@@ -14,7 +14,7 @@ use Rattle.sl_plans.specs.declared.plan.Cursor.TheVariants as cursor
 use Rattle.sl_plans.specs.Trees.{Tree, Each}
 use Rattle.sl_plans.specs.Meaning.{set_cursor}
 use Rattle.sl_plans.specs.Achieves.{Achieves}
-use Rattle.sl_plans.specs.inner.Frames.{may_move}
+use Rattle.sl_plans.specs.Frames.{may_move}
 use Rattle.sl_plans.proofs.Rules.{achieves_more}
 use Rattle.sl_plans.proofs.KeepingRules.{achieves_kept, each_keeping}
 use Rattle.sl_pieces.specs.columns.Trees.{cells_plan}

@@ -24,7 +24,7 @@ use Rattle.sl_plans.specs.declared.plan.Cursor.TheVariants as cursor
 use Rattle.sl_plans.specs.Trees.{Tree, Line, Each}
 use Rattle.sl_plans.specs.Meaning.{count_of, set_cursor}
 use Rattle.sl_plans.specs.Achieves.{Achieves, Never}
-use Rattle.sl_plans.specs.inner.Frames.{may_move, KeepsRest}
+use Rattle.sl_plans.specs.Frames.{may_move, KeepsRest}
 use Rattle.sl_plans.proofs.Rules.{achieves_more, line_ends, line_goes, then_achieves}
 use Rattle.sl_plans.proofs.KeepingRules.{achieves_kept, each_keeping}
 use Rattle.sl_pieces.specs.columns.Trees.{total, cell, cells_plan, add_cells, sum_tree}

@@ -20,7 +20,7 @@ use Rattle.sl_plans.specs.declared.plan.Cursor.{Cursor}
 use Rattle.sl_plans.specs.declared.plan.Cursor.TheVariants as cursor
 use Rattle.sl_plans.specs.Trees.{Tree, Line}
 use Rattle.sl_plans.specs.Achieves.{Achieves, Never}
-use Rattle.sl_plans.specs.inner.Frames.{may_move}
+use Rattle.sl_plans.specs.Frames.{may_move}
 use Rattle.sl_plans.proofs.Rules.{achieves_more, line_ends, line_goes}
 use Rattle.sl_pieces.specs.columns.Trees.{cell, other, cells_plan, pair_instr}
 use Rattle.sl_pieces.specs.columns.Columns.{HoldsColumn, ChangesColumn, GetsColumn}

@@ -15,7 +15,7 @@ use Rattle.sl_machine.proofs.effects.Storing.{cell_same, cell_other_place, cell_
 use Rattle.sl_plans.specs.declared.plan.Cursor.TheVariants as cursor
 use Rattle.sl_plans.specs.Trees.{Each, ones}
 use Rattle.sl_plans.specs.Achieves.{Achieves, Never}
-use Rattle.sl_plans.specs.inner.Frames.{may_write_slot}
+use Rattle.sl_plans.specs.Frames.{may_write_slot}
 use Rattle.sl_plans.proofs.Rules.{achieves_from, line_ends, line_goes, then_achieves, if_zero}
 use Rattle.sl_plans.proofs.KeepingRules.{each_keeping}
 use Rattle.sl_pieces.specs.declared.registers.TheConstants as reg

@@ -15,7 +15,7 @@ use Rattle.sl_machine.specs.State.{State, with_column}
 use Rattle.sl_machine.specs.Effects.{one_if}
 use Rattle.sl_machine.proofs.effects.Registers.{zero_does}
 use Rattle.sl_plans.specs.Achieves.{Achieves, Never}
-use Rattle.sl_plans.specs.inner.Frames.{may_write_slot}
+use Rattle.sl_plans.specs.Frames.{may_write_slot}
 use Rattle.sl_plans.proofs.Rules.{achieves_more, line_ends, then_achieves}
 use Rattle.sl_plans.proofs.KeepingRules.{achieves_kept}
 use Rattle.sl_pieces.specs.facts.Trees.{FactSlots, condition_tree, conditions_tree, eligible_tree}

@@ -16,7 +16,7 @@ use Rattle.sl_machine.specs.Effects.{from_lists}
 use Rattle.sl_machine.proofs.soundness.KeptTables.{list_parts}
 use Rattle.sl_plans.specs.Trees.{Tree}
 use Rattle.sl_plans.specs.Achieves.{Achieves, Never}
-use Rattle.sl_plans.specs.inner.Frames.{may_write_slot, may_seat, may_record_step, may_record_weight}
+use Rattle.sl_plans.specs.Frames.{may_write_slot, may_seat, may_record_step, may_record_weight}
 use Rattle.sl_plans.proofs.Rules.{achieves_more}
 use Rattle.sl_plans.proofs.KeepingRules.{achieves_kept}
 use Rattle.sl_pieces.specs.columns.Columns.{HoldsColumn, GetsColumn}

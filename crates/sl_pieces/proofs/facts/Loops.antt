@@ -9,7 +9,7 @@ use Rattle.sl_machine.specs.Effects.{most, one_if, with_party, with_win}
 use Rattle.sl_plans.specs.declared.plan.Cursor.TheVariants as cursor
 use Rattle.sl_plans.specs.Trees.{Tree, Each}
 use Rattle.sl_plans.specs.Achieves.{Achieves, Never}
-use Rattle.sl_plans.specs.inner.Frames.{may_move, may_write_register}
+use Rattle.sl_plans.specs.Frames.{may_move, may_write_register}
 use Rattle.sl_plans.proofs.Rules.{achieves_more}
 use Rattle.sl_plans.proofs.KeepingRules.{achieves_kept, each_keeping}
 use Rattle.sl_pieces.specs.facts.Trees.{FactSlots}

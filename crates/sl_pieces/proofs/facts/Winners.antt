@@ -20,7 +20,7 @@ use Rattle.sl_machine.proofs.effects.Cursors.{both_are, winner_is, wland_does}
 use Rattle.sl_plans.specs.declared.plan.Cursor.TheVariants as cursor
 use Rattle.sl_plans.specs.declared.plan.Test.TheVariants as test
 use Rattle.sl_plans.specs.Trees.{Tree, Line, Then, If, Each}
-use Rattle.sl_plans.specs.inner.Frames.{may_move}
+use Rattle.sl_plans.specs.Frames.{may_move}
 use Rattle.sl_plans.specs.Achieves.{Achieves, Never}
 use Rattle.sl_plans.proofs.Rules.{achieves_more, if_zero, if_no_list, if_no_party}
 use Rattle.sl_pieces.specs.columns.Columns.{GetsColumn}

@@ -28,7 +28,7 @@ use Rattle.sl_machine.proofs.effects.Storing.{cell_same, cell_other_place, cell_
 use Rattle.sl_plans.specs.declared.plan.Test.TheVariants as test
 use Rattle.sl_plans.specs.Trees.{Line, Then, If, ones, count_down}
 use Rattle.sl_plans.specs.Achieves.{Achieves, Never}
-use Rattle.sl_plans.specs.inner.Frames.{may_write_slot, KeepsRest}
+use Rattle.sl_plans.specs.Frames.{may_write_slot, KeepsRest}
 use Rattle.sl_plans.proofs.Rules.{achieves_more, achieves_from, line_ends, line_goes, then_achieves, if_less}
 use Rattle.sl_plans.proofs.KeepingRules.{achieves_kept}
 use Rattle.sl_pieces.specs.scopes.Forms.{Form, votes_of, table_of, OnScope, OnItem}

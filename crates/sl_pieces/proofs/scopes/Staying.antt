@@ -11,7 +11,7 @@ use Rattle.sl_machine.specs.State.{State, End}
 use Rattle.sl_plans.specs.declared.plan.Cursor.TheVariants as cursor
 use Rattle.sl_plans.specs.Trees.{Tree}
 use Rattle.sl_plans.specs.Achieves.{Achieves}
-use Rattle.sl_plans.specs.inner.Frames.{may_move, KeepsRest}
+use Rattle.sl_plans.specs.Frames.{may_move, KeepsRest}
 use Rattle.sl_plans.proofs.Rules.{achieves_more}
 use Rattle.sl_plans.proofs.KeepingRules.{achieves_kept}
 use Rattle.sl_pieces.specs.scopes.Forms.{OnScope, OnItem}

@@ -19,7 +19,7 @@ use Rattle.sl_machine.proofs.effects.Registers.{set_does, mov_does, mul_does, di
 use Rattle.sl_plans.specs.declared.plan.Cursor.TheVariants as cursor
 use Rattle.sl_plans.specs.Trees.{Tree}
 use Rattle.sl_plans.specs.Achieves.{Achieves, Never}
-use Rattle.sl_plans.specs.inner.Frames.{may_write_register, may_write_slot, may_move, may_write_table, may_seat, may_record_step, may_record_weight}
+use Rattle.sl_plans.specs.Frames.{may_write_register, may_write_slot, may_move, may_write_table, may_seat, may_record_step, may_record_weight}
 use Rattle.sl_plans.proofs.Rules.{achieves_more, achieves_from, line_ends, line_goes, then_achieves, if_zero}
 use Rattle.sl_pieces.specs.scopes.Forms.{Form, table_of, votes_of, OnItem}
 use Rattle.sl_pieces.specs.scopes.Scopes.{IsEntry}

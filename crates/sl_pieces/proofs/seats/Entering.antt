@@ -29,7 +29,7 @@ use Rattle.sl_machine.proofs.effects.Table.{rest_does, lead_does}
 use Rattle.sl_plans.specs.declared.plan.Cursor.TheVariants as cursor
 use Rattle.sl_plans.specs.Trees.{Tree, Line}
 use Rattle.sl_plans.specs.Achieves.{Achieves, Never}
-use Rattle.sl_plans.specs.inner.Frames.{may_write_register, may_write_slot, may_move, may_seat, may_record_step}
+use Rattle.sl_plans.specs.Frames.{may_write_register, may_write_slot, may_move, may_seat, may_record_step}
 use Rattle.sl_plans.proofs.Rules.{achieves_more, achieves_from, line_ends, line_goes, then_achieves, if_less}
 use Rattle.sl_pieces.specs.scopes.Forms.{Form, table_of, kind_of, OnItem}
 use Rattle.sl_pieces.specs.scopes.Scopes.{IsScope}

@@ -19,7 +19,7 @@ use Rattle.sl_machine.proofs.effects.Registers.{get_does, store_does, sub_does, 
 use Rattle.sl_machine.proofs.effects.Storing.{cell_same, cell_other_place, cell_other_slot}
 use Rattle.sl_plans.specs.Trees.{Tree, Line}
 use Rattle.sl_plans.specs.Achieves.{Achieves, Never}
-use Rattle.sl_plans.specs.inner.Frames.{KeepsRest}
+use Rattle.sl_plans.specs.Frames.{KeepsRest}
 use Rattle.sl_plans.proofs.Rules.{achieves_more, line_ends, line_goes, then_achieves, if_zero}
 use Rattle.sl_plans.proofs.KeepingRules.{achieves_kept}
 use Rattle.sl_pieces.specs.scopes.Forms.{Form, votes_of, table_of, kind_of, OnItem}

@@ -18,7 +18,7 @@ use Rattle.sl_machine.proofs.effects.Records.{given_does}
 use Rattle.sl_plans.specs.declared.plan.Bound.TheVariants as bound
 use Rattle.sl_plans.specs.Trees.{Tree, Line, Times, ones}
 use Rattle.sl_plans.specs.Achieves.{Achieves, Never}
-use Rattle.sl_plans.specs.inner.Frames.{KeepsRest}
+use Rattle.sl_plans.specs.Frames.{KeepsRest}
 use Rattle.sl_plans.proofs.Rules.{line_ends, line_goes}
 use Rattle.sl_plans.proofs.KeepingRules.{achieves_kept, times_keeping}
 use Rattle.sl_pieces.specs.scopes.Forms.{OnItem}

@@ -16,7 +16,7 @@ use Rattle.sl_machine.specs.State.{State, PriorityTable, with_register}
 use Rattle.sl_plans.specs.declared.plan.Cursor.TheVariants as cursor
 use Rattle.sl_plans.specs.Trees.{Tree, ones}
 use Rattle.sl_plans.specs.Achieves.{Achieves, Never}
-use Rattle.sl_plans.specs.inner.Frames.{may_write_register, may_write_slot, may_move, may_seat, may_record_step, may_record_weight, KeepsRest}
+use Rattle.sl_plans.specs.Frames.{may_write_register, may_write_slot, may_move, may_seat, may_record_step, may_record_weight, KeepsRest}
 use Rattle.sl_plans.proofs.Rules.{achieves_more, then_achieves}
 use Rattle.sl_plans.proofs.KeepingRules.{achieves_kept}
 use Rattle.sl_machine.proofs.effects.Storing.{register_other}

@@ -15,7 +15,7 @@ use Rattle.sl_machine.specs.Effects.{most}
 use Rattle.sl_machine.proofs.effects.Registers.{set_does, add_does, get_does}
 use Rattle.sl_plans.specs.Trees.{Tree, Line}
 use Rattle.sl_plans.specs.Achieves.{Achieves, Never}
-use Rattle.sl_plans.specs.inner.Frames.{may_write_register}
+use Rattle.sl_plans.specs.Frames.{may_write_register}
 use Rattle.sl_plans.proofs.Rules.{achieves_more, line_ends, line_goes, then_achieves}
 use Rattle.sl_plans.proofs.KeepingRules.{achieves_kept}
 use Rattle.sl_pieces.specs.scopes.Forms.{Form, votes_of, table_of, entries_plan, OnScope, OnItem}

@@ -6,9 +6,9 @@ use Rattle.sl_stages.specs.meaning.Scopes.{Group, place}
 use Rattle.sl_code.specs.declared.instr.Instr.{Instr}
 use Rattle.sl_code.specs.declared.instr.Instr.TheVariants as op
 use Rattle.sl_machine.specs.State.{State}
-use Rattle.sl_machine.specs.inner.Frames.{writes_register, writes_slot, records_step, records_weight}
+use Rattle.sl_machine.specs.Frames.{writes_register, writes_slot, records_step, records_weight}
 use Rattle.sl_plans.specs.Trees.{Tree}
-use Rattle.sl_plans.specs.inner.Frames.{has_instr, may_write_register, may_write_slot, seats_winner, may_seat, may_record_step, may_record_weight, KeepsRest}
+use Rattle.sl_plans.specs.Frames.{has_instr, may_write_register, may_write_slot, seats_winner, may_seat, may_record_step, may_record_weight, KeepsRest}
 use Rattle.sl_pieces.specs.scopes.Forms.{Form, AllParties, AllLands, AllLists, ListsOfParty, ListsInLand, entries_plan, OnScope}
 use Rattle.sl_pieces.specs.arenas.Arenas.{Arena}
 use Rattle.sl_pieces.specs.declared.registers.TheConstants as reg

@@ -56,7 +56,7 @@ told_later : (i : Item) (k : Item) (n : ℕ) (pairs : List (Item × ℕ)) → sa
 told_later i k n pairs is = ap (λ (o : Option (Item × ℕ)). unwrap_or (option_map (λ x. x.1) o) 0) (cond-false (same_item i k) (Some (k, n)) (find (λ x. same_item i x.0) pairs) is)
 
 -- what is at a place of a list is one of those of which a fact holds
-every_at : {X : Type 0} (P : X → Type 0) (xs : List X) (i : ℕ) (x : X) → Every P xs → slice_get xs i ≡ Some x → P x
+pub every_at : {X : Type 0} (P : X → Type 0) (xs : List X) (i : ℕ) (x : X) → Every P xs → slice_get xs i ≡ Some x → P x
 every_at P [] i x all at = absurd (none-some x at)
 every_at P (y ∷ ys) zero x all at = subst P (same_Some y x at) all.0
 every_at P (y ∷ ys) (suc i) x all at = every_at P ys i x all.1 at

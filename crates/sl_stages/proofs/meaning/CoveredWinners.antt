@@ -30,7 +30,7 @@ use Rattle.sl_stages.proofs.meaning.Members.{In, in_map, in_filter, in_pieces, i
 -- ---- as many as there are ones
 
 -- the numbers of those who are seated
-abbrev chosen_numbers : List (ℕ × Win) → List ℕ → List ℕ
+abbrev pub chosen_numbers : List (ℕ × Win) → List ℕ → List ℕ
 chosen_numbers won s = map (λ y. y.0.0) (filter (λ y. nat_eq y.1 1) (zip won s))
 
 count_filter : {X : Type 0} (p q : X → Bool) (xs : List X) → count_by (λ x. p x && q x) xs ≡ count_by q (filter p xs)
@@ -89,10 +89,10 @@ all_chosen (y ∷ won) (n ∷ s) long ones differ =
 -- ---- the winners by their numbers
 
 -- the winner of that number
-abbrev IsNumbered : List Win → ℕ × Win → Type 0
+abbrev pub IsNumbered : List Win → ℕ × Win → Type 0
 IsNumbered wins y = (d : Win) → get_or wins y.0 d ≡ y.1
 
-are_numbered : (wins : List Win) → Every (IsNumbered wins) (enumerate_from 0 wins)
+pub are_numbered : (wins : List Win) → Every (IsNumbered wins) (enumerate_from 0 wins)
 are_numbered wins =
     recursion_from_All (IsNumbered wins) (enumerate_from 0 wins)
     (λ i x less d.
@@ -230,7 +230,7 @@ module _ (eligible : ℕ → Bool) (e : Election) (is : IsElection e) (base : Li
 
 -- ---- the law
 
-table_without_faults : (faults : List LegalFault) (t u : SeatTable) → outcome.Table t ≡ unwrap_or (option_map (λ f. outcome.Fault f) (slice_get faults 0)) (outcome.Table u) → (faults ≡ []) × (t ≡ u)
+pub table_without_faults : (faults : List LegalFault) (t u : SeatTable) → outcome.Table t ≡ unwrap_or (option_map (λ f. outcome.Fault f) (slice_get faults 0)) (outcome.Table u) → (faults ≡ []) × (t ≡ u)
 table_without_faults [] t u is = (refl, cc)
 table_without_faults (f ∷ faults) t u is = cc
 

@@ -41,7 +41,7 @@ continued Next (Column xs a) values r h = of h.0 h.1 h.2 where
   of (Fault f) next is = cc
   of (Column ys d) next is = let same : ys ≡ values = cc in (xs, a, refl, d, subst (λ c. Next xs (Column c d)) same next)
 
-then_column : (First : ExprResult → Type 0) (Next : List ℕ → ExprResult → Type 0) (values : List ℕ) (r : Records) → Then First Next (Column values r) →
+pub then_column : (First : ExprResult → Type 0) (Next : List ℕ → ExprResult → Type 0) (values : List ℕ) (r : Records) → Then First Next (Column values r) →
     (xs : List ℕ) × (a : Records) × First (Column xs a) × (q : Records) × Next xs (Column values q)
 then_column First Next values r h = let on = continued Next h.first values r h.goes_on in (on.0, on.1, subst First on.2 h.comes, on.3, on.4)
 

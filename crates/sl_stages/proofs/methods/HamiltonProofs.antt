@@ -22,7 +22,7 @@ at_map f z [] i = sym z
 at_map f z (x ∷ xs) zero = refl
 at_map f z (x ∷ xs) (suc i) = at_map f z xs i
 
-sum_times : (k : ℕ) (xs : List ℕ) → sum (map (λ x. k * x) xs) ≡ k * sum xs
+pub sum_times : (k : ℕ) (xs : List ℕ) → sum (map (λ x. k * x) xs) ≡ k * sum xs
 sum_times k [] = omega arith
 sum_times k (x ∷ xs) = sum-cons (k * x) (map (λ y. k * y) xs) ∙ (let rest = sum_times k xs in rw (sum-cons x xs) (omega (arith, rest)))
 
@@ -35,10 +35,10 @@ no_votes : (seats total : ℕ) → seats * 0 / total ≡ 0
 no_votes seats total = let z : seats * 0 ≡ 0 = omega arith in rw z (zero_div total)
 
 -- a whole part is not above the share, and the next number is
-whole_low : (n d : ℕ) → d * (n / d) ≤ n
+pub whole_low : (n d : ℕ) → d * (n / d) ≤ n
 whole_low n d = let parts = div-add-mod' n d in omega (arith, parts)
 
-whole_high : (n d t : ℕ) → 0 < d → n / d < t → n < d * t
+pub whole_high : (n d t : ℕ) → 0 < d → n / d < t → n < d * t
 whole_high n d t pos h =
     let parts = div-add-mod' n d in
     let low : n % d < d = omega arith in

@@ -10,7 +10,7 @@ use Rattle.sl_plans.specs.declared.plan.Bound.{Bound}
 use Rattle.sl_plans.specs.Trees.{Tree, ones}
 use Rattle.sl_plans.specs.Meaning.{turns_in}
 use Rattle.sl_plans.specs.Achieves.{Achieves, Never}
-use Rattle.sl_plans.specs.inner.Frames.{may_write_register}
+use Rattle.sl_plans.specs.Frames.{may_write_register}
 use Rattle.sl_pieces.specs.arenas.Arenas.{Arena, IsArena, HasWaiting, seat_taken}
 use Rattle.sl_pieces.specs.arenas.Laws.{SeatTaken}
 use Rattle.sl_pieces.specs.declared.registers.TheConstants as reg

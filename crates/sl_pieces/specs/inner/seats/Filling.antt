@@ -20,7 +20,7 @@ use Rattle.sl_machine.specs.State.{State}
 use Rattle.sl_plans.specs.declared.plan.Cursor.TheVariants as cursor
 use Rattle.sl_plans.specs.Trees.{Tree}
 use Rattle.sl_plans.specs.Achieves.{Achieves, Never}
-use Rattle.sl_plans.specs.inner.Frames.{may_write_register, may_write_slot, may_move, may_write_table, may_seat, may_record_step, may_record_weight}
+use Rattle.sl_plans.specs.Frames.{may_write_register, may_write_slot, may_move, may_write_table, may_seat, may_record_step, may_record_weight}
 use Rattle.sl_pieces.specs.scopes.Forms.{Form, table_of, groups_of, OnScope, OnItem}
 use Rattle.sl_pieces.specs.arenas.Arenas as arenas
 use Rattle.sl_pieces.specs.arenas.Arenas.{Arena, HasWaiting, seat_of, divisor_arena, hamilton_arena}

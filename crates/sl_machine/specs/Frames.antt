@@ -8,7 +8,7 @@ use Rattle.sl_code.specs.declared.instr.Instr.TheVariants as op
 use Rattle.sl_code.specs.Codes.{CountingCode}
 use Rattle.sl_machine.specs.State.{State, Halted, Faulted}
 use Rattle.sl_machine.specs.Effects.{Effect, Goes, Jumps, Ends, NoCase}
-use Rattle.sl_machine.specs.inner.Seen.{place_at}
+use Rattle.sl_machine.specs.Seen.{place_at}
 
 -- ---- what an instruction may write
 
