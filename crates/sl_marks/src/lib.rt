@@ -1,5 +1,8 @@
-//! Marks between which a test may be refused memory: bench/refused.py knows them by the size of the room that they ask for.
+//! Marks between which a test may be refused memory, and the inputs of such tests: bench/refused.py knows the marks by the size of the room
+//! that they ask for.
 #![tactic(auto)]
+
+pub mod rows;
 
 use std::alloc::{AllocError, Global};
 

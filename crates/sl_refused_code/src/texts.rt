@@ -4,14 +4,14 @@ ghost use Rattle.std.specs.Prelude.{IfOk, length};
 ghost use Rattle.sl_machine.specs.Fits.{FitsFault, FitsMemory, FitsRecords};
 ghost use Rattle.sl_table.specs.inner.Fits.{Fits, FitsHeld};
 
-use crate::rows::{
-    FIRST_BOOK, FIRST_RETURNS, FIVE_LAWS, THREE_LISTS, THREE_LISTS_TABLE, THREE_METHODS, TIED_BOOK,
-    TIED_RETURNS,
-};
 use crate::rulebooks::compiled;
 use crate::runs::ending;
 use sl_code::Code;
 use sl_machine::{Ending, Memory};
+use sl_marks::rows::{
+    FIRST_BOOK, FIRST_RETURNS, FIVE_LAWS, THREE_LISTS, THREE_LISTS_TABLE, THREE_METHODS, TIED_BOOK,
+    TIED_RETURNS,
+};
 use sl_marks::{begin, end};
 use sl_memory::calls::{Pace, told};
 use sl_returns::read_returns;

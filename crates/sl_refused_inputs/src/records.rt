@@ -1,7 +1,7 @@
 //! Returns from their records: where memory is refused a builder has failed for good, and else it is the returns of the row.
 
-use crate::rows::{DRAWN_WINNERS, THREE_LISTS};
 use csv::{ByteRecord, ReaderBuilder};
+use sl_marks::rows::{DRAWN_WINNERS, THREE_LISTS};
 use sl_marks::{begin, end};
 use sl_returns::{FaultKind, ReturnsBuilder, ReturnsFault, read_returns};
 use sl_stages::Returns;

@@ -1,10 +1,10 @@
 //! The calls of the desk: where memory is refused nothing was written, and the same call again writes the row's text.
 
-use crate::rows::{
+use sl_desk::{BookSource, DeskError, Status, check_book, code, count, run_code, stage, steps};
+use sl_marks::rows::{
     FIRST_BOOK, FIRST_RETURNS, FIRST_TABLE, FIVE_LAWS, HALT, HALT_TABLE, ONE_LIST, THREE_LISTS,
     THREE_LISTS_TABLE, THREE_METHODS,
 };
-use sl_desk::{BookSource, DeskError, Status, check_book, code, count, run_code, stage, steps};
 use sl_marks::{begin, end};
 use sl_memory::calls::{Pace, ran};
 use sl_memory::memory::{Narrow, Slow};

@@ -1,8 +1,8 @@
 //! Counting code: read from its bytes, spelled in bytes, and listed.
 
-use crate::rows::{FIRST_BOOK, HALT};
 use crate::rulebooks::compiled;
 use sl_code::{Code, CodeFault, from_bytes, listing, to_bytes};
+use sl_marks::rows::{FIRST_BOOK, HALT};
 use sl_marks::{begin, end};
 use std::alloc::Global;
 use std::test::Fail;

@@ -3,9 +3,9 @@
 ghost use Rattle.std.specs.Prelude.{IfOk};
 ghost use Rattle.sl_machine.specs.Fits.{Fits};
 
-use crate::rows::{THREE_LISTS, THREE_METHODS};
 use crate::rulebooks::compiled;
 use sl_machine::{Ending, Memory, budget, run, run_unrecorded};
+use sl_marks::rows::{THREE_LISTS, THREE_METHODS};
 use sl_marks::{begin, end};
 use sl_returns::read_returns;
 use sl_stages::Returns;

@@ -1,11 +1,11 @@
 //! From a rulebook's bytes to its code.
 
-use crate::rows::{THREE_LISTS, THREE_METHODS};
 use crate::runs::{ending, held};
 use sl_check::check;
 use sl_compile::compile;
 use sl_lex::{LexFault, lex};
 use sl_machine::Ending;
+use sl_marks::rows::{THREE_LISTS, THREE_METHODS};
 use sl_marks::{begin, end};
 use sl_parse::{ParseFault, parse};
 use sl_ratio::NoMemory;
