@@ -19,7 +19,7 @@ use Rattle.sl_prio.proofs.Orders.{entry_order}
 
 -- as the places of two other lists, or of the same, have it
 module _ (xs ys : List Entry) (p k q m : ℕ) where
-  moved : ((d : Entry) → get_or ys p d ≡ get_or xs q d) → ((d : Entry) → get_or ys k d ≡ get_or xs m d) → IsUnder xs q m → IsUnder ys p k
+  pub moved : ((d : Entry) → get_or ys p d ≡ get_or xs q d) → ((d : Entry) → get_or ys k d ≡ get_or xs m d) → IsUnder xs q m → IsUnder ys p k
   moved above below h d = (λ i. is_le (entry_cmp (below d i) (above d i))) ∙ h d
 
 under_chain : (xs : List Entry) (p j k : ℕ) → IsUnder xs p j → IsUnder xs j k → IsUnder xs p k

@@ -11,6 +11,7 @@ pub mod Fronts
 pub mod RankedEntries
 pub mod PeerLaws
 pub mod Heaps
+pub mod Gaps
 pub mod Marks
 pub mod Subtrees
 pub mod Seen

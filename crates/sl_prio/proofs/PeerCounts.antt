@@ -5,7 +5,7 @@ use Rattle.std.specs.List.{filter}
 use Rattle.std.specs.Option.{option_map_or}
 use Rattle.std.specs.declared.cmp.Ordering.TheVariants.{Less, Equal, Greater}
 use Rattle.std.specs.Ordering.{nat_cmp, is_le, is_eq, ordering_reverse, ordering_then}
-use Rattle.std.proofs.lemmas.Bool.{and_from, and_parts, cases_Bool, cases_lt, eqb-true, false_from_ne_true, true≢false}
+use Rattle.std.proofs.lemmas.Bool.{and_from, and_parts, cases_Bool, eqb-true, false_from_ne_true, true≢false}
 use Rattle.std.proofs.lemmas.Cmp.{upto}
 use Rattle.std.proofs.lemmas.List.Elements.{All-cons, All-tail, Contains-get_or}
 use Rattle.std.proofs.lemmas.List.Sorted.{All-permutation, Contains-permutation, IsPermutation-sym}
@@ -118,18 +118,6 @@ module _ (xs : List Entry) (ratios : All HasRatio xs) (m : Entry) (fits : HasRat
 
 -- ---- the others with one entry more
 
-alone_among : (ps : List Entry) (x y : Entry) → length ps ≡ 1 → Contains ps x → Contains ps y → x ≡ y
-alone_among [] x y one a b = absurd (Contains-none x a)
-alone_among (p ∷ []) x y one a b =
-    elim (Contains-cases p [] x a) [
-      | inl e ↦ elim (Contains-cases p [] y b) [ inl f ↦ sym e ∙ f | inr c ↦ absurd (Contains-none y c) ]
-      | inr c ↦ absurd (Contains-none x c)
-    ]
-alone_among (p ∷ q ∷ ps) x y one a b = absurd (omega arith)
-
-Contains-length : (ps : List Entry) (x : Entry) → Contains ps x → 0 < length ps
-Contains-length ps x c = let l : c.0 < length ps = c.1 in omega (arith, l)
-
 module _ (xs : List Entry) (ratios : All HasRatio xs) (entry : Entry) (fits : HasRatio entry) where
   held_peer : (y : Entry) → Contains (peers (entry ∷ xs)) y → Contains (entry ∷ xs) y × All (λ other. IsTrue (is_le (compare other.ratio y.ratio))) (entry ∷ xs)
   held_peer y = (peers_are_greatest (entry ∷ xs) (All-cons HasRatio entry xs fits ratios) y).0
@@ -168,48 +156,31 @@ module _ (xs : List Entry) (ratios : All HasRatio xs) (entry : Entry) (fits : Ha
         let new = count_by-cons p entry (peers xs) in
         omega (arith, all, split, here, rest, new)
 
-  module _ (zs : List Entry) (n : ℕ) (h : IsNewPeer xs entry n) (same : peers (entry ∷ xs) ≡ peers zs) (count : ℕ) (distinct : Bool) (old cleared : List Bool)
-      (held : AreCounted (peers xs) count distinct old) (stay : 1 < n → cleared ≡ old) where
-    -- where the new one stands beside others
-    module _ (several : 1 < n) where
-      stayed : HaveMarks (peers xs) cleared
-      stayed = subst (λ (ms : List Bool). HaveMarks (peers xs) ms) (sym (stay several)) held.marked
+  module _ (zs : List Entry) (n : ℕ) (h : IsNewPeer xs entry n) (same : peers (entry ∷ xs) ≡ peers zs) (count : ℕ) (marked : Bool) (old : List Bool)
+      (held : AreCounted (peers xs) count marked old) where
+    apart_beside : IsTrue marked → slice_get old entry.index ≡ Some false → AreApart (peers (entry ∷ xs))
+    apart_beside before fresh = λ index.
+        let joined = joined_count (λ x. nat_eq x.index index) in
+        let split = count_by-cons (λ x. nat_eq x.index index) entry (peers xs) in
+        elim (cases_Bool (nat_eq entry.index index)) [
+          | inl t ↦
+              let none = none_has (peers xs) index
+              (subst (λ k. have_index (peers xs) k ≡ false) (eqb-true entry.index index t) (fresh_index (peers xs) old entry.index (held.indexes before) fresh)) in
+              let here = count_by-yes (λ x. nat_eq x.index index) entry (peers xs) t in
+              omega (arith, joined, here, none)
+          | inr f ↦
+              let here = count_by-no (λ x. nat_eq x.index index) entry (peers xs) f in
+              let rest = held.apart before index in
+              omega (arith, joined, here, rest)
+        ]
 
-      apart_beside : IsTrue distinct → slice_get cleared entry.index ≡ Some false → AreApart (peers (entry ∷ xs))
-      apart_beside before fresh = λ index.
-          let joined = joined_count (λ x. nat_eq x.index index) in
-          let split = count_by-cons (λ x. nat_eq x.index index) entry (peers xs) in
-          elim (cases_Bool (nat_eq entry.index index)) [
-            | inl t ↦
-                let none = none_has (peers xs) index
-                (subst (λ k. have_index (peers xs) k ≡ false) (eqb-true entry.index index t) (fresh_index (peers xs) cleared entry.index stayed fresh)) in
-                let here = count_by-yes (λ x. nat_eq x.index index) entry (peers xs) t in
-                omega (arith, joined, here, none)
-            | inr f ↦
-                let here = count_by-no (λ x. nat_eq x.index index) entry (peers xs) f in
-                let rest = held.apart before index in
-                omega (arith, joined, here, rest)
-          ]
-
-    -- what is counted with the new one, which has a mark
-    pub joined_counted : (m : ℕ) (fresh after : Bool) (new : List Bool) → m ≡ n → (IsTrue fresh → slice_get cleared entry.index ≡ Some false) → (1 < n → IsTrue after → IsTrue distinct × IsTrue fresh)
-        → ((ys : List Entry) (x : Entry) → x.index ≡ entry.index → HaveMarks ys cleared → HaveMarks (x ∷ ys) new) → AreCounted (peers zs) m after new
-    joined_counted m fresh after new is_n lacked both kept = subst (λ (ps : List Entry). AreCounted ps m after new) same (record {
+    -- what is counted with the new one, which is marked only beside others that are
+    pub joined_counted : (m : ℕ) (after : Bool) (new : List Bool) → m ≡ n → (IsTrue after → IsTrue marked × (slice_get old entry.index ≡ Some false))
+        → (IsTrue after → (ys : List Entry) (x : Entry) → x.index ≡ entry.index → HaveMarks ys old → HaveMarks (x ∷ ys) new) → AreCounted (peers zs) m after new
+    joined_counted m after new is_n fresh kept = subst (λ (ps : List Entry). AreCounted ps m after new) same (record {
       counted = is_n ∙ h.count;
-      apart = λ t. elim (cases_lt 1 n) [
-        | inl several ↦ apart_beside several (both several t).0 (lacked (both several t).1)
-        | inr few ↦ λ index.
-            let count = h.count in
-            let most = count_by-le-length (λ x. nat_eq x.index index) (peers (entry ∷ xs)) in
-            omega (arith, few, count, most)
-      ];
-      marked = λ y c. elim (cases_lt 1 n) [
-        | inl several ↦ kept (peers xs) entry refl (stayed several) y (old_or_new y c)
-        | inr few ↦
-            let one : length (peers (entry ∷ xs)) ≡ 1 = (let count = h.count in let some = Contains-length (peers (entry ∷ xs)) y c in omega (arith, few, count, some)) in
-            let e = alone_among (peers (entry ∷ xs)) entry y one h.here c in
-            kept [] entry refl (λ x none. absurd (Contains-none x none)) y (subst (λ (z : Entry). Contains (entry ∷ []) z) e (Contains-head entry []))
-      ];
+      apart = λ t. apart_beside (fresh t).0 (fresh t).1;
+      indexes = λ t y c. kept t (peers xs) entry refl (held.indexes (fresh t).0) y (old_or_new y c);
     })
 
 module _ (xs : List Entry) (ratios : All HasRatio xs) (first : Entry) (is_top : top xs ≡ Some first) where
@@ -348,24 +319,24 @@ module _ (xs : List Entry) (ratios : All HasRatio xs) (first : Entry) (is_top : 
         and_from (has_quotient_of first y) (p y) (has_top_quotient xs ratios first is_top y was).1 parts.1) in
         omega (arith, before, same, split, own, after, new, up)
 
-    left : (n : ℕ) (distinct : Bool) (marks : List Bool) → AreCounted (peers xs) n distinct marks → AreCounted (x ∷ peers ys) n distinct marks
-    left n distinct marks held = record {
+    left : (n : ℕ) (marked : Bool) (marks : List Bool) → AreCounted (peers xs) n marked marks → AreCounted (x ∷ peers ys) n marked marks
+    left n marked marks held = record {
       counted = let before = held.counted in let less = less_than_before in omega (arith, before, less);
       apart = λ t index. let most = held.apart t index in let fewer = left_count (λ y. nat_eq y.index index) in omega (arith, most, fewer);
-      marked = λ y c. elim (Contains-cases x (peers ys) y c) [
-        | inl e ↦ held.marked y (subst (λ (z : Entry). Contains (peers xs) z) e peer)
-        | inr k ↦ held.marked y (left_peer y k)
+      indexes = λ t y c. elim (Contains-cases x (peers ys) y c) [
+        | inl e ↦ held.indexes t y (subst (λ (z : Entry). Contains (peers xs) z) e peer)
+        | inr k ↦ held.indexes t y (left_peer y k)
       ];
     }
 
 -- where there are several peers, what is counted of them is that of one that is taken and those that are left
-pub left_counted : (xs ys : List Entry) (x : Entry) → All HasRatio xs → Contains (peers xs) x → IsPermutation xs (x ∷ ys) → (n : ℕ) (distinct : Bool) (marks : List Bool)
-    → AreCounted (peers xs) n distinct marks → 1 < n → AreCounted (x ∷ peers ys) n distinct marks
-left_counted xs ys x ratios peer taken n distinct marks held several =
+pub left_counted : (xs ys : List Entry) (x : Entry) → All HasRatio xs → Contains (peers xs) x → IsPermutation xs (x ∷ ys) → (n : ℕ) (marked : Bool) (marks : List Bool)
+    → AreCounted (peers xs) n marked marks → 1 < n → AreCounted (x ∷ peers ys) n marked marks
+left_counted xs ys x ratios peer taken n marked marks held several =
     let here = Contains-permutation (x ∷ ys) xs x (IsPermutation-sym xs (x ∷ ys) taken) (Contains-head x ys) in
     let first = has_top xs x here in
     let count = held.counted in
-    left xs ratios first.0 first.1 x ys peer taken (omega (arith, several, count)) n distinct marks held
+    left xs ratios first.0 first.1 x ys peer taken (omega (arith, several, count)) n marked marks held
 
 pub peers_at_most : (xs : List Entry) → length (peers xs) ≤ length xs
 peers_at_most xs = by_top (top xs) refl

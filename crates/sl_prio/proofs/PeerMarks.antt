@@ -96,19 +96,19 @@ module _ (p : Entry → Bool) where
 
 -- ---- what is counted of some entries, without the first
 
-module _ (x : Entry) (xs : List Entry) (n : ℕ) (distinct : Bool) (old : List Bool) (held : AreCounted (x ∷ xs) n distinct old) where
-  none_other : IsTrue distinct → have_index xs x.index ≡ false
+module _ (x : Entry) (xs : List Entry) (n : ℕ) (marked : Bool) (old : List Bool) (held : AreCounted (x ∷ xs) n marked old) where
+  none_other : IsTrue marked → have_index xs x.index ≡ false
   none_other t =
       let p = λ (y : Entry). nat_eq y.index x.index in
       let most = held.apart t x.index in
       let split = count_by-yes p x xs (eq-eqb x.index x.index refl) in
       false_from_ne_true (have_index xs x.index) (λ has. let w = any-Contains p xs has in none_counted p xs w.0 (omega (arith, most, split)) w.1 w.2)
 
-  pub others_counted : (m : ℕ) (new : List Bool) → m + 1 ≡ n → ((ys : List Entry) → (IsTrue distinct → have_index ys x.index ≡ false) → HaveMarks ys old → HaveMarks ys new) → AreCounted xs m distinct new
+  pub others_counted : (m : ℕ) (new : List Bool) → m + 1 ≡ n → (IsTrue marked → (ys : List Entry) → have_index ys x.index ≡ false → HaveMarks ys old → HaveMarks ys new) → AreCounted xs m marked new
   others_counted m new less kept = record {
     counted = let count = held.counted in omega (arith, less, count);
     apart = λ t index. let most = held.apart t index in let split = count_by-cons (λ y. nat_eq y.index index) x xs in omega (arith, most, split);
-    marked = kept xs none_other (λ y c. held.marked y (Contains-tail x xs y c));
+    indexes = λ t. kept t xs (none_other t) (λ y c. held.indexes t y (Contains-tail x xs y c));
   }
 
 -- ---- a peer with an index

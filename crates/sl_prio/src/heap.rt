@@ -4,24 +4,28 @@
 ghost use Rattle.std.specs.Prelude.{◌≡◌, ◌+◌, ◌*◌, ◌<◌, ◌≤◌, ◌∷◌, length, slice_index_or, IsPermutation, MatchOption};
 ghost use Rattle.std.specs.Ordering.{is_gt};
 ghost use Rattle.sl_ratio.specs.Entry.{entry_cmp};
-ghost use Rattle.sl_prio.specs.inner.Heap.{IsHeap, IsHeapBut, MayRise, IsGreatestChild};
+ghost use Rattle.sl_prio.specs.inner.Heap.{IsHeap, IsHeapBut, MayRise, IsGreatestChild, HasNoSmallerParent, IsSmallerParent};
 
 use crate::places::{Places, note};
-use sl_ratio::Entry;
-use std::cmp::Ordering;
+use sl_ratio::{Entry, Ratio};
+
+// The numerator of a quotient times the denominator of another, which has at most 64 bits.
+pub(crate) fn across(ratio: &Ratio, other: &Ratio) -> u128
+    ensures { result ≡ ratio.now.num * other.now.den }
+{
+    ratio.num() * u128::from(other.den() as u64)
+}
 
 // Whether an entry is greater than another. All but those with equal quotients are told apart by these.
 fn exceeds(entry: &Entry, other: &Entry) -> bool
     ensures { result ≡ is_gt (entry_cmp entry.now other.now) }
 {
-    // no ratio has numerator 0, so the quotients are ordered as they are compared
-    prove!(entry.ratio.num() > 0);
-    prove!(other.ratio.num() > 0);
-    match entry.ratio.cmp(&other.ratio) {
-        Ordering::Less => false,
-        Ordering::Equal => entry > other,
-        Ordering::Greater => true,
+    let mine = across(&entry.ratio, &other.ratio);
+    let its = across(&other.ratio, &entry.ratio);
+    if mine == its {
+        return entry > other;
     }
+    mine > its
 }
 
 // Moves the entry at a place up, until its parent is no smaller, and notes the places of those that go down for it.
@@ -30,15 +34,29 @@ pub(crate) fn sift_up(entries: &mut [Entry], places: &mut Places, place: usize)
     ensures moved { IsPermutation entries.old entries.new }
     ensures heap { IsHeap entries.new }
 {
+    let rising = entries[place];
     let mut place = place;
-    while place > 0 {
-        let parent = (place - 1) / 2;
-        if !exceeds(&entries[place], &entries[parent]) {
-            return;
-        }
-        entries.swap(parent, place);
+    while let Some(parent) = smaller_parent(entries, &rising, place) {
+        entries[place] = entries[parent];
         note(places, entries[place].index, place);
         place = parent;
+    }
+    entries[place] = rising;
+}
+
+// The parent of a place, if an entry that comes to that place is greater than the one there.
+fn smaller_parent(entries: &[Entry], entry: &Entry, place: usize) -> Option<usize>
+    requires { place < length entries.now }
+    ensures { MatchOption result (HasNoSmallerParent entries.now entry.now place) (IsSmallerParent entries.now entry.now place) }
+{
+    if place == 0 {
+        return None;
+    }
+    let parent = (place - 1) / 2;
+    if exceeds(entry, &entries[parent]) {
+        Some(parent)
+    } else {
+        None
     }
 }
 
@@ -77,11 +95,13 @@ fn sift_down(entries: &mut [Entry], place: usize) -> usize
     ensures moved { IsPermutation entries.old entries.new }
     ensures settled { MayRise entries.new result }
 {
+    let sinking = entries[place];
     let mut place = place;
     while let Some(child) = greatest_child(entries, place) {
-        entries.swap(place, child);
+        entries[place] = entries[child];
         place = child;
     }
+    entries[place] = sinking;
     place
 }
 

@@ -7,6 +7,7 @@ ghost use Rattle.sl_prio.specs.Prio.{has_quotient_of, peers};
 ghost use Rattle.sl_prio.specs.inner.Heap.{AreCounted, IsKept, IsPeerAt, IsAt, IsFirstNamed, IsDrawnFrom, are_named, is_peer_with, peers_under};
 ghost use Rattle.sl_prio.specs.inner.Marks.{AreApart, AreApartFrom, AreMarks, HaveMarks, names, have_index, first_named};
 
+use crate::heap::across;
 use crate::lot::{MARKS, Marks, is_named, lot_cmp, mark, unmark};
 use crate::places::{Places, note};
 use sl_ratio::Entry;
@@ -15,7 +16,7 @@ use sl_ratio::Entry;
 pub(crate) fn is_peer(top: &Entry, entry: &Entry) -> bool
     ensures { result ≡ has_quotient_of top.now entry.now }
 {
-    top.ratio.cmp(&entry.ratio).is_eq()
+    across(&top.ratio, &entry.ratio) == across(&entry.ratio, &top.ratio)
 }
 
 // The entry at a place, where it is a peer. Where it is none, there is none below it.
@@ -32,61 +33,63 @@ fn peer_at(entries: &[Entry], top: &Entry, place: usize) -> Option<Entry>
     }
 }
 
-// How many peers there are, and whether it is known that no two of them have one index. If so, no other index has a mark.
+// How many peers there are, and whether their indexes have marks, none of them that of two peers.
 #[derive(Clone, Copy, Debug)]
 pub(crate) struct Counted {
     pub(crate) count: usize,
-    pub(crate) distinct: bool,
+    pub(crate) marked: bool,
 }
 
 impl Counted {
     // Where there is no entry.
     pub(crate) const NONE: Counted = Counted {
         count: 0,
-        distinct: true,
+        marked: false,
     };
 
-    // With one peer more, with which there are `count`. `fresh` says whether its index was still to be marked.
-    pub(crate) fn with_one(self, count: usize, fresh: bool) -> Counted
+    // With one peer more, with which there are `count`. Beside others that are marked, it is marked too.
+    pub(crate) fn with_one(self, count: usize, marks: &mut Marks, index: u32) -> Counted
         ensures count { result.count ≡ count }
-        ensures distinct { 1 < count → IsTrue result.distinct → IsTrue self.distinct × IsTrue fresh }
+        ensures fresh { IsTrue result.marked → IsTrue self.marked × (slice_get marks.old index ≡ Some false) }
+        ensures kept { IsTrue result.marked → (xs : List Entry) (x : Entry) → x.index ≡ index → HaveMarks xs marks.old → HaveMarks (x ∷ xs) marks.new }
     {
+        if count == 1 || !self.marked {
+            return Counted {
+                count,
+                marked: false,
+            };
+        }
         Counted {
             count,
-            distinct: count == 1 || (self.distinct && fresh),
+            marked: mark(marks, index),
         }
     }
 }
 
-// Takes the marks of the peers before away, if one entry alone exceeds them. `top` is their top.
-pub(crate) fn clear_exceeded(marks: &mut Marks, count: usize, top: Option<Entry>, before: Counted)
-    ensures { 1 < count → marks.new ≡ marks.old }
-{
-    if count > 1 {
-        return;
-    }
-    if let Some(top) = top {
-        clear_marks(marks, before, top.index);
-    }
-}
-
-// Takes the marks of all peers away, and those that others left behind. `index` is that of one of the peers.
-fn clear_marks(marks: &mut Marks, peers: Counted, index: u32) {
-    if peers.count == 1 && peers.distinct {
-        unmark(marks, index);
-    } else {
-        *marks = [false; MARKS];
-    }
-}
-
-// Counts the peers of a heap, marks their indexes, and notes their places.
-fn count_anew(entries: &[Entry], marks: &mut Marks, places: &mut Places) -> Counted
+// The number of the peers at a place and below it.
+fn count_under(entries: &[Entry], top: &Entry, place: usize) -> usize
     requires kept { IsKept entries.now }
-    ensures { AreCounted (peers entries.now) result.count result.distinct marks.new }
+    requires first { slice_get entries.now 0 ≡ Some top.now }
+    ensures { result ≡ length (peers_under top.now entries.now place) }
+{
+    match peer_at(entries, top, place) {
+        Some(_) => {
+            let left = count_under(entries, top, 2 * place + 1);
+            let right = count_under(entries, top, 2 * place + 2);
+            1 + left + right
+        }
+        None => 0,
+    }
+}
+
+// The number of the peers of a heap's top.
+fn count_peers(entries: &[Entry]) -> usize
+    requires kept { IsKept entries.now }
+    ensures { result ≡ length (peers entries.now) }
 {
     match entries.first() {
-        Some(top) => mark_peers(entries, top, marks, places, 0),
-        None => Counted::NONE,
+        Some(top) => count_under(entries, top, 0),
+        None => 0,
     }
 }
 
@@ -94,50 +97,57 @@ fn count_anew(entries: &[Entry], marks: &mut Marks, places: &mut Places) -> Coun
 pub(crate) fn peers_left(
     entries: &[Entry],
     marks: &mut Marks,
-    places: &mut Places,
     before: Counted,
     gone: &Entry,
 ) -> Counted
     requires kept { IsKept entries.now }
-    requires before { 1 < before.count → AreCounted (gone.now ∷ peers entries.now) before.count before.distinct marks.old }
-    ensures { AreCounted (peers entries.now) result.count result.distinct marks.new }
+    requires before { 1 < before.count → AreCounted (gone.now ∷ peers entries.now) before.count before.marked marks.old }
+    ensures { AreCounted (peers entries.now) result.count result.marked marks.new }
 {
     if before.count > 1 {
-        unmark_gone(marks, before.distinct, gone.index);
+        unmark_gone(marks, before.marked, gone.index);
         return Counted {
             count: before.count - 1,
-            distinct: before.distinct,
+            marked: before.marked,
         };
     }
-    clear_marks(marks, before, gone.index);
-    count_anew(entries, marks, places)
+    Counted {
+        count: count_peers(entries),
+        marked: false,
+    }
 }
 
-// Takes the mark of an index away that a peer had which is gone, if no other can have it.
-fn unmark_gone(marks: &mut Marks, distinct: bool, index: u32)
-    ensures { (xs : List Entry) → (IsTrue distinct → have_index xs index ≡ false) → HaveMarks xs marks.old → HaveMarks xs marks.new }
+// Takes the mark of an index away that a peer had which is gone.
+fn unmark_gone(marks: &mut Marks, marked: bool, index: u32)
+    ensures { IsTrue marked → (xs : List Entry) → have_index xs index ≡ false → HaveMarks xs marks.old → HaveMarks xs marks.new }
 {
-    if distinct {
+    if marked {
         unmark(marks, index);
     }
 }
 
-// The peers of a heap, marked anew where two of them may have one index. No mark is left then of those that are gone.
+// Marks the indexes of a heap's peers, unless they have marks, and notes the peers' places. No mark is left of others.
 pub(crate) fn marked_anew(
     entries: &[Entry],
+    top: &Entry,
     marks: &mut Marks,
     places: &mut Places,
     counted: Counted,
 ) -> Counted
     requires kept { IsKept entries.now }
-    requires counted { AreCounted (peers entries.now) counted.count counted.distinct marks.old }
-    ensures { AreCounted (peers entries.now) result.count result.distinct marks.new }
+    requires first { slice_get entries.now 0 ≡ Some top.now }
+    requires counted { AreCounted (peers entries.now) counted.count counted.marked marks.old }
+    ensures counted { AreCounted (peers entries.now) result.count result.marked marks.new }
+    ensures marks { HaveMarks (peers entries.now) marks.new }
 {
-    if counted.distinct {
+    if counted.marked {
         return counted;
     }
     *marks = [false; MARKS];
-    count_anew(entries, marks, places)
+    Counted {
+        count: counted.count,
+        marked: mark_peers(entries, top, marks, places, 0),
+    }
 }
 
 // Whether a lot with these marks names the index of each peer at a place and below it.
@@ -163,31 +173,27 @@ pub(crate) fn are_named(
     }
 }
 
-// Marks the index of each peer at a place and below it, notes its place, and counts them.
+// Marks the index of each peer at a place and below it, notes its place, and answers whether each was still to be marked.
 fn mark_peers(
     entries: &[Entry],
     top: &Entry,
     marks: &mut Marks,
     places: &mut Places,
     place: usize,
-) -> Counted
+) -> bool
     requires kept { IsKept entries.now }
     requires first { slice_get entries.now 0 ≡ Some top.now }
-    ensures count { result.count ≡ length (peers_under top.now entries.now place) }
     ensures marks { (before : ℕ → Bool) → AreMarks before marks.old → AreMarks (λ index. before index || have_index (peers_under top.now entries.now place) index) marks.new }
-    ensures apart { IsTrue result.distinct → (before : ℕ → Bool) → AreMarks before marks.old → AreApartFrom before (peers_under top.now entries.now place) }
+    ensures apart { IsTrue result → (before : ℕ → Bool) → AreMarks before marks.old → AreApartFrom before (peers_under top.now entries.now place) }
 {
     let Some(peer) = peer_at(entries, top, place) else {
-        return Counted::NONE;
+        return true;
     };
     note(places, peer.index, place);
     let fresh = mark(marks, peer.index);
     let left = mark_peers(entries, top, marks, places, 2 * place + 1);
     let right = mark_peers(entries, top, marks, places, 2 * place + 2);
-    Counted {
-        count: 1 + left.count + right.count,
-        distinct: fresh & left.distinct & right.distinct,
-    }
+    fresh & left & right
 }
 
 // A place at which a peer with an index stands. An index without a mark is not searched for, and one with a mark is first searched for

@@ -4,11 +4,11 @@
 use crate::lot::MARKS;
 
 /// A place for each index below `MARKS`.
-pub(crate) type Places = [u32; MARKS];
+pub(crate) type Places = [u16; MARKS];
 
 // Notes that the peer with an index stands at a place, or above it. It may rise then without a note.
 pub(crate) fn note(places: &mut Places, index: u32, place: usize) {
     if let Some(noted) = places.get_mut(index as usize) {
-        *noted = u32::try_from(place).unwrap_or(u32::MAX);
+        *noted = u16::try_from(place).unwrap_or(u16::MAX);
     }
 }

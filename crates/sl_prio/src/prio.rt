@@ -11,10 +11,8 @@ ghost use Rattle.sl_prio.specs.Prio.{has_quotient_of, top, peers, is_covered};
 ghost use Rattle.sl_prio.specs.Lot.{drawn};
 
 use crate::heap::{sift_up, take_out};
-use crate::lot::{MARKS, Marks, mark, marks};
-use crate::peers::{
-    Counted, are_named, clear_exceeded, drawn_at, is_peer, marked_anew, peers_left,
-};
+use crate::lot::{MARKS, Marks, marks};
+use crate::peers::{Counted, are_named, drawn_at, is_peer, marked_anew, peers_left};
 use crate::places::{Places, note};
 use sl_ratio::{Entry, NoMemory};
 use std::alloc::Global;
@@ -43,7 +41,7 @@ impl Model for Prio {
 
     ghost view = { λ p. p.entries.items };
 
-    ghost invariant = { λ p. IsTable p.entries.items p.counted.count p.counted.distinct p.marks };
+    ghost invariant = { λ p. IsTable p.entries.items p.counted.count p.counted.marked p.marks };
 }
 
 impl Prio {
@@ -65,7 +63,6 @@ impl Prio {
     {
         self.entries.clear();
         self.counted = Counted::NONE;
-        self.marks = [false; MARKS];
     }
 
     /// Puts an entry into the table, beside those that it holds, an equal one too.
@@ -80,7 +77,6 @@ impl Prio {
         // no ratio has numerator 0: in order, only entries with their quotient come between two entries with one quotient
         prove!(entry.ratio.num() > 0);
         let joined = self.peers_with(&entry);
-        let exceeded = self.top();
         let place = self.entries.len();
         self.entries.push(entry)?;
         sift_up(&mut self.entries, &mut self.places, place);
@@ -89,9 +85,7 @@ impl Prio {
         };
         // from there it has risen
         note(&mut self.places, entry.index, place);
-        clear_exceeded(&mut self.marks, count, exceeded, self.counted);
-        let fresh = mark(&mut self.marks, entry.index);
-        self.counted = self.counted.with_one(count, fresh);
+        self.counted = self.counted.with_one(count, &mut self.marks, entry.index);
         Ok(())
     }
 
@@ -211,6 +205,7 @@ impl Prio {
         let top = *self.entries.first()?;
         self.counted = marked_anew(
             &self.entries,
+            &top,
             &mut self.marks,
             &mut self.places,
             self.counted,
@@ -220,7 +215,7 @@ impl Prio {
             &top,
             &self.marks,
             &self.places,
-            self.counted.distinct,
+            self.counted.marked,
             lot,
         );
         Some(self.remove(place))
@@ -234,13 +229,7 @@ impl Prio {
         ensures rest { IsPermutation self.old (result ∷ self.new) }
     {
         let removed = take_out(&mut self.entries, &mut self.places, place);
-        self.counted = peers_left(
-            &self.entries,
-            &mut self.marks,
-            &mut self.places,
-            self.counted,
-            &removed,
-        );
+        self.counted = peers_left(&self.entries, &mut self.marks, self.counted, &removed);
         removed
     }
 }

@@ -1,7 +1,7 @@
 -- Entries in a binary heap. The children of place p stand at 2p + 1 and 2p + 2.
-use Rattle.std.specs.Prelude.{◌≡◌, ℕ, Bool, true, ◌&&◌, Some, nat_eq, zero, suc, ◌+◌, ◌*◌, ◌<◌, ◌≤◌, ◌≢◌, List, [], ◌∷◌, ◌++◌, IsTrue, All, Contains, length, option_to_list, slice_get, slice_index_or}
+use Rattle.std.specs.Prelude.{◌≡◌, ℕ, Bool, true, ◌&&◌, Some, nat_eq, zero, suc, ◌+◌, ◌-◌, ◌*◌, ◌/◌, ◌<◌, ◌≤◌, ◌≢◌, false, List, [], ◌∷◌, ◌++◌, IsTrue, All, Contains, length, option_to_list, slice_get, slice_index_or}
 use Rattle.std.specs.List.{filter, list_all, list_any}
-use Rattle.std.specs.Ordering.{is_le}
+use Rattle.std.specs.Ordering.{is_gt, is_le}
 use Rattle.sl_ratio.specs.declared.entry.Entry.{Entry}
 use Rattle.sl_ratio.specs.Entry.{entry_cmp}
 use Rattle.sl_ratio.specs.Quotient.{FitsRatio}
@@ -39,21 +39,31 @@ pub record IsGreatestChild (xs : List Entry) (j c : ℕ) : Type 0 where
   pub within : c < length xs
   pub greatest : HasChildrenUnder xs j c
 
+-- if place j has a parent, x is not greater than the entry there
+abbrev pub HasNoSmallerParent : List Entry → Entry → ℕ → Type 0
+HasNoSmallerParent xs x j = 0 < j → is_gt (entry_cmp x (slice_index_or xs ((j - 1) / 2) x)) ≡ false
+
+-- p is the parent of place j, and x is greater than the entry there
+pub record IsSmallerParent (xs : List Entry) (x : Entry) (j p : ℕ) : Type 0 where
+  pub above : 0 < j
+  pub parent : p ≡ (j - 1) / 2
+  pub smaller : is_gt (entry_cmp x (slice_index_or xs p x)) ≡ true
+
 -- what the entries of a table keep
 pub record IsKept (xs : List Entry) : Type 0 where
   pub heap : IsHeap xs
   pub ratios : All (λ entry. FitsRatio entry.ratio) xs
 
--- what is counted of some entries: how many they are, and whether no two have one index; their indexes have marks
-pub record AreCounted (xs : List Entry) (count : ℕ) (distinct : Bool) (marks : List Bool) : Type 0 where
+-- what is counted of some entries: how many they are; if they are marked, no two have one index, and their indexes have marks
+pub record AreCounted (xs : List Entry) (count : ℕ) (marked : Bool) (marks : List Bool) : Type 0 where
   pub counted : count ≡ length xs
-  pub apart : IsTrue distinct → AreApart xs
-  pub marked : HaveMarks xs marks
+  pub apart : IsTrue marked → AreApart xs
+  pub indexes : IsTrue marked → HaveMarks xs marks
 
 -- what a table keeps: its entries, and what is counted of the peers
-pub record IsTable (xs : List Entry) (count : ℕ) (distinct : Bool) (marks : List Bool) : Type 0 where
+pub record IsTable (xs : List Entry) (count : ℕ) (marked : Bool) (marks : List Bool) : Type 0 where
   pub kept : IsKept xs
-  pub counted : AreCounted (peers xs) count distinct marks
+  pub counted : AreCounted (peers xs) count marked marks
 
 -- the entries at place p and below it, as far as n levels
 abbrev pub levels : ℕ → List Entry → ℕ → List Entry

@@ -1,40 +1,10 @@
 -- The peers below a place are those of its children.
-use Rattle.std.proofs.Common.{◌+◌, ◌*◌, ◌||◌, ◌&&◌, length, length-append, nat_eq, sym, ap, subst, arith}
+use Rattle.std.proofs.Common.{◌+◌, ◌*◌, ◌||◌, ◌&&◌, nat_eq, sym, subst}
 use Rattle.std.proofs.lemmas.Bool.{and_parts}
 use Rattle.sl_prio.specs.inner.Heap.{peers_under}
 use Rattle.sl_prio.specs.inner.Marks.{AreApartFrom, AreMarks, have_index}
 use Rattle.sl_prio.proofs.Marks.{all_apart, all_marked, fresh_before}
-use Rattle.sl_prio.proofs.Subtrees.{peers_bounded}
 use Rattle.sl_prio.proofs.peers.+mark_peers.Goals as goal
-
-pub overflow_add-result : goal.overflow_add-result
-overflow_add-result t c =
-    let first = c.args.top.now in
-    let xs = c.args.entries.now in
-    let p = c.args.place in
-    let sum = ap length c.in-Some.ensures.peers in
-    let parts = length-append (peers_under first xs (2 * p + 1)) (peers_under first xs (2 * p + 2)) in
-    let most = peers_bounded first xs p in
-    omega (arith, sum, parts, most)
-
-pub overflow_add-result-2 : goal.overflow_add-result-2
-overflow_add-result-2 t c =
-    let first = c.args.top.now in
-    let xs = c.args.entries.now in
-    let p = c.args.place in
-    let sum = ap length c.in-Some.ensures.peers in
-    let parts = length-append (peers_under first xs (2 * p + 1)) (peers_under first xs (2 * p + 2)) in
-    let most = peers_bounded first xs p in
-    omega (arith, sum, parts, most)
-
-pub returns-clause-count : goal.returns-clause-count
-returns-clause-count t c =
-    let first = c.args.top.now in
-    let xs = c.args.entries.now in
-    let p = c.args.place in
-    let sum = ap length c.in-Some.ensures.peers in
-    let parts = length-append (peers_under first xs (2 * p + 1)) (peers_under first xs (2 * p + 2)) in
-    omega (arith, sum, parts)
 
 pub returns-clause-marks : goal.returns-clause-marks
 returns-clause-marks t c = λ before held.
@@ -59,8 +29,8 @@ returns-clause-apart t c = λ distinct before held.
     let left = peers_under first xs (2 * p + 1) in
     let right = peers_under first xs (2 * p + 2) in
     let fresh = c.mark-fresh.result in
-    let all = and_parts (fresh && c.mark_peers-left.result.distinct) c.mark_peers-right.result.distinct distinct in
-    let two = and_parts fresh c.mark_peers-left.result.distinct all.0 in
+    let all = and_parts (fresh && c.mark_peers-left.result) c.mark_peers-right.result distinct in
+    let two = and_parts fresh c.mark_peers-left.result all.0 in
     let was = c.mark-fresh.ensures.marked before held in
     let then = c.mark_peers-left.ensures.marks (λ index. before index || nat_eq peer.index index) was in
     let unmarked = fresh_before before c.args.marks.now peer.index held (c.mark-fresh.ensures.fresh two.0) in

@@ -25,9 +25,9 @@ invariant_of-self-2 c =
     rw (given_back c.push.new.self.len pushed after (omega arith) (omega arith)) (record {
       kept = kept_by more after moved ratios c.sift_up.ensures.heap;
       counted =
-          joined_counted held c.self.invariant.kept.ratios c.args.entry c.num.ensures.fits after c.in-Some.count joined same c.self.inside.counted.count c.self.inside.counted.distinct c.self.inside.marks
-          c.clear_exceeded.new.marks c.self.invariant.counted c.clear_exceeded.ensures c.with_one-self-inside.result.count c.mark-fresh.result c.with_one-self-inside.result.distinct c.mark-fresh.new.marks
-          c.with_one-self-inside.ensures.count c.mark-fresh.ensures.fresh c.with_one-self-inside.ensures.distinct c.mark-fresh.ensures.kept;
+          joined_counted held c.self.invariant.kept.ratios c.args.entry c.num.ensures.fits after c.in-Some.count joined same c.self.inside.counted.count c.self.inside.counted.marked c.self.inside.marks
+          c.self.invariant.counted c.with_one-self-inside.result.count c.with_one-self-inside.result.marked c.with_one-self-inside.new.marks
+          c.with_one-self-inside.ensures.count c.with_one-self-inside.ensures.fresh c.with_one-self-inside.ensures.kept;
     })
 
 pub invariant_of-self-in_default : goal.invariant_of-self-in_default
@@ -44,7 +44,7 @@ invariant_of-self-in_default c =
     let passed = subst (λ (xs : List Entry). peers (c.args.entry ∷ xs) ≡ peers xs) (sym c.self.view_is) c.in_default.ensures in
     rw (given_back c.push.new.self.len pushed after (omega arith) (omega arith)) (record {
       kept = kept_by more after moved ratios c.sift_up.ensures.heap;
-      counted = subst (λ (ps : List Entry). AreCounted ps c.self.inside.counted.count c.self.inside.counted.distinct c.self.inside.marks) (sym passed ∙ same) c.self.invariant.counted;
+      counted = subst (λ (ps : List Entry). AreCounted ps c.self.inside.counted.count c.self.inside.counted.marked c.self.inside.marks) (sym passed ∙ same) c.self.invariant.counted;
     })
 
 pub returns-clause-added : goal.returns-clause-added

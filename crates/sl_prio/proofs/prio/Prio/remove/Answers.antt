@@ -21,13 +21,13 @@ peers_left-self-inside-requires-clause-before c = λ several.
     let here = c.requires.peer removed in
     let named = subst (λ (xs : List Entry). Contains (peers xs) (get_or xs c.args.place removed)) (sym c.self.view_is) here in
     let peer = subst (λ (x : Entry). Contains (peers held) x) (sym c.take_out-removed.ensures.value) named in
-    subst (λ (xs : List Entry). AreCounted (removed ∷ peers xs) before.count before.distinct c.self.inside.marks) (sym c.deref.ensures.value)
-    (left_counted held after removed c.self.invariant.kept.ratios peer c.take_out-removed.ensures.rest before.count before.distinct c.self.inside.marks c.self.invariant.counted several)
+    subst (λ (xs : List Entry). AreCounted (removed ∷ peers xs) before.count before.marked c.self.inside.marks) (sym c.deref.ensures.value)
+    (left_counted held after removed c.self.invariant.kept.ratios peer c.take_out-removed.ensures.rest before.count before.marked c.self.inside.marks c.self.invariant.counted several)
 
 pub invariant_of-self : goal.invariant_of-self
 invariant_of-self c =
     let left = c.peers_left-self-inside in
     let after = c.take_out-removed.new.entries.items in record {
       kept = kept_after c.self.inside.entries.items after c.take_out-removed.result c.take_out-removed.ensures.rest c.self.invariant.kept.ratios c.take_out-removed.ensures.heap;
-      counted = subst (λ (xs : List Entry). AreCounted (peers xs) left.result.count left.result.distinct left.new.marks) c.deref.ensures.value left.ensures;
+      counted = subst (λ (xs : List Entry). AreCounted (peers xs) left.result.count left.result.marked left.new.marks) c.deref.ensures.value left.ensures;
     }

@@ -14,7 +14,7 @@ drawn_at-place-requires-clause-marks c =
     let first = c.in_ok-top.field-0.now in
     let marks = c.marked_anew-self-inside.new.marks in
     let at : slice_get held 0 ≡ Some first = sym (ap (λ (xs : List Entry). slice_get xs 0) c.deref.ensures.value) ∙ sym c.in_ok-top.ensures.value in
-    let marked = subst (λ (xs : List Entry). HaveMarks (peers xs) marks) c.deref-2.ensures.value c.marked_anew-self-inside.ensures.marked in
+    let marked = subst (λ (xs : List Entry). HaveMarks (peers xs) marks) c.deref-2.ensures.value c.marked_anew-self-inside.ensures.marks in
     subst (λ (xs : List Entry). HaveMarks (peers_under first xs 0) marks) (sym c.deref-3.ensures.value) (λ x here. marked x (seen_peer held c.self.invariant.kept.heap first at x here))
 
 pub drawn_at-place-requires-clause-apart : goal.drawn_at-place-requires-clause-apart
@@ -22,7 +22,7 @@ drawn_at-place-requires-clause-apart c = λ distinct.
     let held = c.self.inside.entries.items in
     let first = c.in_ok-top.field-0.now in
     let at : slice_get held 0 ≡ Some first = sym (ap (λ (xs : List Entry). slice_get xs 0) c.deref.ensures.value) ∙ sym c.in_ok-top.ensures.value in
-    let apart = subst (λ (xs : List Entry). AreApart (peers xs)) c.deref-2.ensures.value (c.marked_anew-self-inside.ensures.apart distinct) in
+    let apart = subst (λ (xs : List Entry). AreApart (peers xs)) c.deref-2.ensures.value (c.marked_anew-self-inside.ensures.counted.apart distinct) in
     subst (λ (xs : List Entry). AreApart (peers_under first xs 0)) (sym c.deref-3.ensures.value) (λ index.
     let most = apart index in
     let same = seen_counts held c.self.invariant.kept.heap first at (λ x. nat_eq x.index index) in
