@@ -41,7 +41,7 @@ mod tables;
 use std::io;
 
 // The pages, each with the files that its commands name beside it.
-const PAGES: [&str; 8] = [
+const PAGES: [&str; 9] = [
     "first-count/README.md",
     "first-run/README.md",
     "first-rulebook/README.md",
@@ -50,6 +50,7 @@ const PAGES: [&str; 8] = [
     "covered/README.md",
     "vacant/README.md",
     "growing-house/README.md",
+    "elections/README.md",
 ];
 
 fn main(rt: HostRuntime) -> io::Result<()> {
