@@ -27,6 +27,7 @@ use Rattle.sl_stages.specs.meaning.Scopes.{Group, place, cells, scopes}
 use Rattle.sl_stages.specs.meaning.Splits.{Seats, Refused, is_deprived, is_refused, award_of, IsChosen, IsAllocation, refusal, IsSplitAward, IsHouseAward, IsGrowthAward}
 use Rattle.sl_stages.specs.meaning.Expressions.{minima_at, IsSplitIn, split_records, IsSplit, IsGrowthIn, growth_records, IsGrown, Context, stand, shape_in, ExprMeans}
 use Rattle.sl_stages.proofs.meaning.TypedMeaning.{then_column}
+use Rattle.sl_fairness.specs.Allocated.{SplitsAllocate, SplitsMeetTheMinima, GrowthsAllocate}
 use Rattle.sl_fairness.specs.Amounts.{ComesToColumn, sum_in, SplitsGiveTheAmount, GrowthsGiveTheAmount, MajorityKept, GrownMajorityKept}
 use Rattle.sl_fairness.proofs.Scopes.{shared_award}
 
@@ -58,25 +59,40 @@ allocated : (method : Method) (m : Majority) (v min : List ℕ) (seats : ℕ) (s
 allocated (by.Divisor d) m v min seats s is = (is.same_length, is.total)
 allocated by.Hamilton m v min seats s is = (is.same_length, is.total)
 
-split_seats : (method : Method) (m : Majority) (entries : List Item) (lot v min : List ℕ) (seats : ℕ) (s : List ℕ) → IsSplitAward method m entries lot v min seats (Seats s) → AreSeats m v s × (sum s ≡ seats)
-split_seats method m entries lot v min seats s h = of (refusal v min seats) h where
-  of : (o : Option FaultKind) → MatchOption o (IsChosen (IsAllocation method m v min seats) lot entries m v seats (Seats s)) (λ kind. Seats s ≡ Refused kind) → AreSeats m v s × (sum s ≡ seats)
+split_given : (method : Method) (m : Majority) (entries : List Item) (lot v min : List ℕ) (seats : ℕ) (s : List ℕ) → IsSplitAward method m entries lot v min seats (Seats s) →
+    IsGiven (IsAllocation method m v min seats) m v seats s
+split_given method m entries lot v min seats s h = of (refusal v min seats) h where
+  of : (o : Option FaultKind) → MatchOption o (IsChosen (IsAllocation method m v min seats) lot entries m v seats (Seats s)) (λ kind. Seats s ≡ Refused kind) → IsGiven (IsAllocation method m v min seats) m v seats s
   of (Some kind) is = cc
-  of None chosen =
-      let g = given (IsAllocation method m v min seats) lot entries m v seats s chosen in
-      let parts = allocated method m v min seats s g.allocation in
-      (record { long = parts.0; stands = subst (λ n. is_refused m v n s ≡ false) (sym parts.1) g.stands }, parts.1)
+  of None chosen = given (IsAllocation method m v min seats) lot entries m v seats s chosen
 
-growth_seats : (d : Divisor) (m : Majority) (entries : List Item) (lot v min : List ℕ) (seats cap : ℕ) (s : List ℕ) → IsGrowthAward d m entries lot v min seats cap (Seats s) → AreSeats m v s × ((seats ≤ sum s) × (sum s ≤ cap))
-growth_seats d m entries lot v min seats cap s h = of h.growth h.least h.comes where
-  of : (g : Growth) → IsGrowth d v min seats cap g → IsHouseAward d m entries lot v min g (Seats s) → AreSeats m v s × ((seats ≤ sum s) × (sum s ≤ cap))
+split_seats : (method : Method) (m : Majority) (v min : List ℕ) (seats : ℕ) (s : List ℕ) → IsGiven (IsAllocation method m v min seats) m v seats s → AreSeats m v s × (sum s ≡ seats)
+split_seats method m v min seats s g =
+    let parts = allocated method m v min seats s g.allocation in
+    (record { long = parts.0; stands = subst (λ n. is_refused m v n s ≡ false) (sym parts.1) g.stands }, parts.1)
+
+-- so it is with the allocations of the least house
+record IsGrownGiven (d : Divisor) (m : Majority) (v min : List ℕ) (seats cap : ℕ) (s : List ℕ) : Type 0 where
+  pub least : IsGrowth d v min seats cap (GrownTo (sum s))
+  pub is : IsGiven (IsGrownAllocation d v min (sum s)) m v (sum s) s
+
+growth_given : (d : Divisor) (m : Majority) (entries : List Item) (lot v min : List ℕ) (seats cap : ℕ) (s : List ℕ) → IsGrowthAward d m entries lot v min seats cap (Seats s) → IsGrownGiven d m v min seats cap s
+growth_given d m entries lot v min seats cap s h = of h.growth h.least h.comes where
+  of : (g : Growth) → IsGrowth d v min seats cap g → IsHouseAward d m entries lot v min g (Seats s) → IsGrownGiven d m v min seats cap s
   of EmptyField least is = cc
   of AboveCap least is = cc
   of (GrownTo house) least chosen =
       let g = given (IsGrownAllocation d v min house) lot entries m v house s chosen in
       let total = g.allocation.total in
-      let serves = least.1 in
-      (record { long = g.allocation.same_length; stands = subst (λ n. is_refused m v n s ≡ false) (sym total) g.stands }, (omega (arith, total, serves.from), omega (arith, total, serves.up_to)))
+      record {
+        least = subst (λ n. IsGrowth d v min seats cap (GrownTo n)) (sym total) least;
+        is = subst (λ n. IsGiven (IsGrownAllocation d v min n) m v n s) (sym total) g;
+      }
+
+growth_seats : (d : Divisor) (m : Majority) (v min : List ℕ) (seats cap : ℕ) (s : List ℕ) → IsGrownGiven d m v min seats cap s → AreSeats m v s × ((seats ≤ sum s) × (sum s ≤ cap))
+growth_seats d m v min seats cap s g =
+    let serves = g.least.1 in
+    (record { long = g.is.allocation.same_length; stands = g.is.stands }, (serves.from, serves.up_to))
 
 -- ---- the majority clause
 
@@ -119,25 +135,33 @@ keeps e g votes values is some i there more =
 
 module _ (e : Election) (at : Stand) (amounts votes : List ℕ) (over : Shape) (can : can_split over at.shape ≡ true) (values : List ℕ) (r : Records) (g : Group) (there : Contains (scopes e over at.shape) g) where
   split_in : (method : Method) (m : Majority) (minima : Option (List ℕ)) → IsSplit e at amounts votes over method m minima (Column values r) →
-      AreSeats m (cells e g.entries votes) (cells e g.entries values) × (sum_in e g values ≡ amount_of e at amounts g)
+      IsGiven (IsAllocation method m (cells e g.entries votes) (minima_at e g votes minima) (amount_of e at amounts g)) m (cells e g.entries votes) (amount_of e at amounts g) (cells e g.entries values)
   split_in method m minima h =
       let Award' = IsSplitIn e at amounts votes method m minima in
-      let seats = λ (g : Group) (s : List ℕ) (is : IsSplitIn e at amounts votes method m minima g (Seats s)). split_seats method m g.entries (stage_lot e at.name at.shape g.entries) (cells e g.entries votes) (minima_at e g votes minima) (amount_of e at amounts g) s is in
+      let given' = λ (g : Group) (s : List ℕ) (is : IsSplitIn e at amounts votes method m minima g (Seats s)). split_given method m g.entries (stage_lot e at.name at.shape g.entries) (cells e g.entries votes) (minima_at e g votes minima) (amount_of e at amounts g) s is in
       let place' = stands_at (scopes e over at.shape) g there in
       let award = shared_award e at amounts Award' (split_records e at amounts votes method m minima)
-      (λ g s is. (seats g s is).0.long ∙ length-map g.entries (λ i. get_or votes (place e i) 0)) over can values r place'.0 g place'.1 h in
-      subst (λ s. AreSeats m (cells e g.entries votes) s × (sum s ≡ amount_of e at amounts g)) (sym award.are) (seats g award.seats award.award)
+      (λ g s is. (split_seats method m (cells e g.entries votes) (minima_at e g votes minima) (amount_of e at amounts g) s (given' g s is)).0.long ∙ length-map g.entries (λ i. get_or votes (place e i) 0)) over can values r place'.0 g place'.1 h in
+      subst (IsGiven (IsAllocation method m (cells e g.entries votes) (minima_at e g votes minima) (amount_of e at amounts g)) m (cells e g.entries votes) (amount_of e at amounts g)) (sym award.are) (given' g award.seats award.award)
+
+  seats_in : (method : Method) (m : Majority) (minima : Option (List ℕ)) → IsSplit e at amounts votes over method m minima (Column values r) →
+      AreSeats m (cells e g.entries votes) (cells e g.entries values) × (sum_in e g values ≡ amount_of e at amounts g)
+  seats_in method m minima h = split_seats method m (cells e g.entries votes) (minima_at e g votes minima) (amount_of e at amounts g) (cells e g.entries values) (split_in method m minima h)
 
 module _ (e : Election) (at : Stand) (amounts votes : List ℕ) (can : can_split shape.One at.shape ≡ true) (values : List ℕ) (r : Records) (g : Group) (there : Contains (scopes e shape.One at.shape) g) where
+  divisor_grown : (d : Divisor) (m : Majority) (minima : List ℕ) (cap : ℕ) → IsGrown e at amounts votes (by.Divisor d) m minima cap (Column values r) →
+      IsGrownGiven d m (cells e g.entries votes) (cells e g.entries minima) (amount_of e at amounts g) cap (cells e g.entries values)
+  divisor_grown d m minima cap h =
+      let given' = λ (g : Group) (s : List ℕ) (is : IsGrowthIn e at amounts votes d m minima cap g (Seats s)). growth_given d m g.entries (stage_lot e at.name at.shape g.entries) (cells e g.entries votes) (cells e g.entries minima) (amount_of e at amounts g) cap s is in
+      let place' = stands_at (scopes e shape.One at.shape) g there in
+      let award = shared_award e at amounts (IsGrowthIn e at amounts votes d m minima cap) (growth_records e at amounts votes d minima)
+      (λ g s is. (given' g s is).is.allocation.same_length ∙ length-map g.entries (λ i. get_or votes (place e i) 0)) shape.One can values r place'.0 g place'.1 h in
+      subst (IsGrownGiven d m (cells e g.entries votes) (cells e g.entries minima) (amount_of e at amounts g) cap) (sym award.are) (given' g award.seats award.award)
+
   grown_in : (method : Method) (m : Majority) (minima : List ℕ) (cap : ℕ) → IsGrown e at amounts votes method m minima cap (Column values r) →
       AreSeats m (cells e g.entries votes) (cells e g.entries values) × ((amount_of e at amounts g ≤ sum_in e g values) × (sum_in e g values ≤ cap))
   grown_in by.Hamilton m minima cap h = absurd h
-  grown_in (by.Divisor d) m minima cap h =
-      let seats = λ (g : Group) (s : List ℕ) (is : IsGrowthIn e at amounts votes d m minima cap g (Seats s)). growth_seats d m g.entries (stage_lot e at.name at.shape g.entries) (cells e g.entries votes) (cells e g.entries minima) (amount_of e at amounts g) cap s is in
-      let place' = stands_at (scopes e shape.One at.shape) g there in
-      let award = shared_award e at amounts (IsGrowthIn e at amounts votes d m minima cap) (growth_records e at amounts votes d minima)
-      (λ g s is. (seats g s is).0.long ∙ length-map g.entries (λ i. get_or votes (place e i) 0)) shape.One can values r place'.0 g place'.1 h in
-      subst (λ s. AreSeats m (cells e g.entries votes) s × ((amount_of e at amounts g ≤ sum s) × (sum s ≤ cap))) (sym award.are) (seats g award.seats award.award)
+  grown_in (by.Divisor d) m minima cap h = growth_seats d m (cells e g.entries votes) (cells e g.entries minima) (amount_of e at amounts g) cap (cells e g.entries values) (divisor_grown d m minima cap h)
 
 -- ---- what comes before a column is a column
 
@@ -166,29 +190,30 @@ module _ (b : BookTree) (e : Election) (c : Context) (at : ℕ) (s v : ExprTree)
       record { amounts = one.0; seats = (one.1, one.2); votes = two.0; by_votes = (two.1, two.2); minima = Some three.0; records = three.3; is = three.4 }
 
   -- and those of a growth
-  record GrowthParts (cap : ℕ) : Type 0 where
+  record GrowthParts (least : ExprTree) (cap : ℕ) : Type 0 where
     pub amounts : List ℕ
     pub seats : ComesToColumn b e c s amounts
     pub votes : List ℕ
     pub by_votes : ComesToColumn b e c v votes
     pub minima : List ℕ
+    pub by_minima : ComesToColumn b e c least minima
     pub records : Records
     pub is : IsGrown e (stand c v) amounts votes method m minima cap (Column values records)
 
-  growth_parts : (minima : ExprTree) (cap : Number) → ComesToColumn b e c (grow at s v method minima cap m) values → GrowthParts cap.value
+  growth_parts : (minima : ExprTree) (cap : Number) → ComesToColumn b e c (grow at s v method minima cap m) values → GrowthParts minima cap.value
   growth_parts f cap h =
       let Grown : List ℕ → List ℕ → List ℕ → ExprResult → Type 0 = λ amounts votes minima. IsGrown e (stand c v) amounts votes method m minima cap.value in
       let one = then_column (ExprMeans b e c s) (λ amounts. Then (ExprMeans b e c v) (λ votes. Then (ExprMeans b e c f) (Grown amounts votes))) values h.0 h.1 in
       let two = then_column (ExprMeans b e c v) (λ votes. Then (ExprMeans b e c f) (Grown one.0 votes)) values one.3 one.4 in
       let three = then_column (ExprMeans b e c f) (Grown one.0 two.0) values two.3 two.4 in
-      record { amounts = one.0; seats = (one.1, one.2); votes = two.0; by_votes = (two.1, two.2); minima = three.0; records = three.3; is = three.4 }
+      record { amounts = one.0; seats = (one.1, one.2); votes = two.0; by_votes = (two.1, two.2); minima = three.0; by_minima = (three.1, three.2); records = three.3; is = three.4 }
 
 -- ---- the laws
 
 pub splits_give_the_amount : SplitsGiveTheAmount
 splits_give_the_amount b e c at s v method minima m values can h =
     let p = split_parts b e c at s v method m values minima h in
-    (p.amounts, p.seats, λ g there. (split_in e (stand c v) p.amounts p.votes (shape_in c s) can values p.records g there method m p.minima p.is).1)
+    (p.amounts, p.seats, λ g there. (seats_in e (stand c v) p.amounts p.votes (shape_in c s) can values p.records g there method m p.minima p.is).1)
 
 pub growths_give_the_amount : GrowthsGiveTheAmount
 growths_give_the_amount b e c at s v method minima cap m values can h =
@@ -198,9 +223,53 @@ growths_give_the_amount b e c at s v method minima cap m values can h =
 pub majority_kept : MajorityKept
 majority_kept b e c at s v method minima values can h =
     let p = split_parts b e c at s v method majority.Refuse values minima h in
-    (p.votes, p.by_votes, λ g there. keeps e g p.votes values (split_in e (stand c v) p.amounts p.votes (shape_in c s) can values p.records g there method majority.Refuse p.minima p.is).0)
+    (p.votes, p.by_votes, λ g there. keeps e g p.votes values (seats_in e (stand c v) p.amounts p.votes (shape_in c s) can values p.records g there method majority.Refuse p.minima p.is).0)
 
 pub grown_majority_kept : GrownMajorityKept
 grown_majority_kept b e c at s v method minima cap values can h =
     let p = growth_parts b e c at s v method majority.Refuse values minima cap h in
     (p.votes, p.by_votes, λ g there. keeps e g p.votes values (grown_in e (stand c v) p.amounts p.votes can values p.records g there method majority.Refuse p.minima cap.value p.is).0)
+
+-- ---- allocations
+
+pub splits_allocate : SplitsAllocate
+splits_allocate b e c at s v method m values can h =
+    let Split : List ℕ → List ℕ → ExprResult → Type 0 = λ amounts votes. IsSplit e (stand c v) amounts votes (shape_in c s) method m None in
+    let one = then_column (ExprMeans b e c s) (λ amounts. Then (ExprMeans b e c v) (Split amounts)) values h.0 h.1 in
+    let two = then_column (ExprMeans b e c v) (Split one.0) values one.3 one.4 in
+    (one.0, (one.1, one.2), two.0, (two.1, two.2), λ g there. (split_in e (stand c v) one.0 two.0 (shape_in c s) can values two.3 g there method m None two.4).allocation)
+
+-- the numbers of an entry of a scope, in both columns
+no_less : (e : Election) (g : Group) (low high : List ℕ) → ((j : ℕ) → get_or (cells e g.entries low) j 0 ≤ get_or (cells e g.entries high) j 0) → (i : Item) → Contains g.entries i → get_or low (place e i) 0 ≤ get_or high (place e i) 0
+no_less e g low high le i there =
+    let at = stands_at g.entries i there in
+    let x = cell_at (λ i. get_or low (place e i) 0) g.entries at.0 i at.1 in
+    let y = cell_at (λ i. get_or high (place e i) 0) g.entries at.0 i at.1 in
+    let here = le at.0 in
+    omega (arith, x.1, y.1, here)
+
+pub splits_meet_the_minima : SplitsMeetTheMinima
+splits_meet_the_minima b e c at s v d least m values can h =
+    let Split : List ℕ → List ℕ → List ℕ → ExprResult → Type 0 = λ amounts votes minima. IsSplit e (stand c v) amounts votes (shape_in c s) (by.Divisor d) m (Some minima) in
+    let one = then_column (ExprMeans b e c s) (λ amounts. Then (ExprMeans b e c v) (λ votes. Then (ExprMeans b e c least) (Split amounts votes))) values h.0 h.1 in
+    let two = then_column (ExprMeans b e c v) (λ votes. Then (ExprMeans b e c least) (Split one.0 votes)) values one.3 one.4 in
+    let three = then_column (ExprMeans b e c least) (Split one.0 two.0) values two.3 two.4 in (
+      three.0,
+      (three.1, three.2),
+      λ g there i among.
+          no_less e g three.0 values (split_in e (stand c v) one.0 two.0 (shape_in c s) can values three.3 g there (by.Divisor d) m (Some three.0) three.4).allocation.minima i among,
+    )
+
+pub growths_allocate : GrowthsAllocate
+growths_allocate b e c at s v d least cap m values can h =
+    let p = growth_parts b e c at s v (by.Divisor d) m values least cap h in (
+      p.amounts,
+      p.seats,
+      p.votes,
+      p.by_votes,
+      p.minima,
+      p.by_minima,
+      λ g there.
+          let grown = divisor_grown e (stand c v) p.amounts p.votes can values p.records g there d m p.minima cap.value p.is in
+          (grown.least, grown.is.allocation),
+    )

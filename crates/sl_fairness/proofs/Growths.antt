@@ -1,6 +1,8 @@
 -- The allocations of a house that is grown: those of the field, and the minima outside it.
 use Rattle.std.proofs.Common.{◌≡◌, ℕ, zero, suc, ◌+◌, ◌-◌, ◌≤◌, List, [], ◌∷◌, length, get_or, sum, inl, inr, arith, refl, sym, ap, ◌∙◌, subst}
+use Rattle.std.specs.Prelude.{All}
 use Rattle.std.proofs.lemmas.Bool.{cases_lt}
+use Rattle.std.proofs.lemmas.List.Elements.{All-head, All-tail}
 use Rattle.sl_ratio.specs.declared.method.Divisor.{Divisor}
 use Rattle.sl_ratio.specs.Quotient.{AtMost, quotient}
 use Rattle.sl_stages.specs.methods.Field.{InField, no_minima}
@@ -8,7 +10,9 @@ use Rattle.sl_stages.specs.methods.Allocations.{IsDivisorAllocation}
 use Rattle.sl_stages.specs.methods.LeastHouse.{outside_minima, outside_sum, AllMeet, IsGrownAllocation}
 use Rattle.sl_stages.proofs.methods.SeatSums.{sum-cons, none_needed}
 use Rattle.sl_stages.proofs.methods.HouseProofs.{length-outside, outside_in, growth_batches}
-use Rattle.sl_fairness.specs.Growths.{MeetsEach, GrownHouseMeets, GrowthStays}
+use Rattle.sl_fairness.specs.Growths.{MeetsEach, GrownHouseMeets, GrowthStays, GrownByVotes}
+use Rattle.sl_fairness.specs.Parts.{part}
+use Rattle.sl_fairness.proofs.Parts.{coherent}
 
 -- two lists added, entry by entry
 abbrev added : List ℕ → List ℕ → List ℕ
@@ -86,3 +90,12 @@ growth_stays method v m e seats cap field enough up_to meets = (
   record { from = omega arith; up_to = up_to; outside = enough; met = all_meet method v m e seats enough meets },
   λ h serves. serves.from,
 )
+
+-- entries with votes have no minima there
+no_minima_among : (v m entries : List ℕ) → All (InField v) entries → part entries (outside_minima v m) ≡ no_minima (part entries v)
+no_minima_among v m [] all = refl
+no_minima_among v m (i ∷ entries) all = cc (outside_in v m i (All-head (InField v) i entries all), no_minima_among v m entries (All-tail (InField v) i entries all))
+
+pub grown_by_votes : GrownByVotes
+grown_by_votes method v m house s h entries all =
+    subst (λ k. IsDivisorAllocation method (part entries v) k (sum (part entries s)) (part entries s)) (no_minima_among v m entries all) (coherent method v (outside_minima v m) house s h entries)

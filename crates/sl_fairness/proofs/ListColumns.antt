@@ -49,7 +49,7 @@ module _ {X : Type 0} where
   zip_map R f [] all = tt
   zip_map R f (x ∷ xs) all = (all.0, zip_map R f xs all.1)
 
-map_mapped : {X Y Z : Type 0} (g : Y → Z) (f : X → Y) (xs : List X) → map g (map f xs) ≡ map (λ x. g (f x)) xs
+pub map_mapped : {X Y Z : Type 0} (g : Y → Z) (f : X → Y) (xs : List X) → map g (map f xs) ≡ map (λ x. g (f x)) xs
 map_mapped g f [] = refl
 map_mapped g f (x ∷ xs) = ap (λ zs. g (f x) ∷ zs) (map_mapped g f xs)
 

@@ -58,8 +58,7 @@ votes_monotone method v w m seats s t hs ht i gain others finite =
           elim (cases_eq j i) [
             | inl e ↦ absurd (let more' = subst (λ k. get_or s k 0 < get_or t k 0) e more in omega (arith, more', lost))
             | inr ne ↦
-                (let same = others j ne in
-                let le = population_monotone method v w m seats seats s t hs ht i j gain (omega (arith, same)) finite lost in
+                (let le = population_monotone method v w m seats seats s t hs ht i j gain (others j ne) finite lost in
                 absurd (omega (arith, le, more)))
           ])
     ]

@@ -1,9 +1,11 @@
 -- Houses grown until every allocation meets the minima (docs/methods.md, section 5).
 -- Each law is the contract of a function of `laws`.
-use Rattle.std.specs.Prelude.{◌≡◌, ℕ, ◌≤◌, List, length, slice_index}
+use Rattle.std.specs.Prelude.{◌≡◌, ℕ, ◌≤◌, List, All, length, sum, slice_index}
 use Rattle.sl_ratio.specs.declared.method.Divisor.{Divisor}
-use Rattle.sl_stages.specs.methods.Field.{IsEmptyField}
+use Rattle.sl_stages.specs.methods.Field.{InField, IsEmptyField, no_minima}
+use Rattle.sl_stages.specs.methods.Allocations.{IsDivisorAllocation}
 use Rattle.sl_stages.specs.methods.LeastHouse.{outside_sum, GrownTo, IsGrowth, IsGrownAllocation}
+use Rattle.sl_fairness.specs.Parts.{part}
 
 -- every allocation of the house meets each minimum, in the field and outside it
 abbrev pub MeetsEach : Divisor → List ℕ → List ℕ → ℕ → Type 0
@@ -23,3 +25,10 @@ GrowthStays =
     (method : Divisor) (v m : List ℕ) → length m ≡ length v → (seats cap : ℕ) →
     ¬ IsEmptyField v → outside_sum v m ≤ seats → seats ≤ cap →
     MeetsEach method v m seats → IsGrowth method v m seats cap (GrownTo seats)
+
+-- in a house grown to, any entries with votes have among them an allocation without minima of the seats that they have
+abbrev pub GrownByVotes : Type 0
+GrownByVotes =
+    (method : Divisor) (v m : List ℕ) (house : ℕ) (s : List ℕ) → IsGrownAllocation method v m house s →
+    (entries : List ℕ) → All (InField v) entries →
+    IsDivisorAllocation method (part entries v) (no_minima (part entries v)) (sum (part entries s)) (part entries s)

@@ -8,3 +8,4 @@ pub mod Joining
 pub mod Growths
 pub mod Winners
 pub mod Amounts
+pub mod Allocated

@@ -25,12 +25,12 @@ PopulationMonotone =
     (i j : ℕ) → slice_index v i < slice_index w i → slice_index w j ≤ slice_index v j →
     IsFinite (next_of method w t i) → slice_index t i < slice_index s i → slice_index t j ≤ slice_index s j
 
--- i alone gained votes: it has no fewer seats
+-- i gained votes and no other entry did: it has no fewer seats
 abbrev pub VotesMonotone : Type 0
 VotesMonotone =
     (method : Divisor) (v w m : List ℕ) (seats : ℕ) (s t : List ℕ) →
     IsDivisorAllocation method v m seats s → IsDivisorAllocation method w m seats t →
-    (i : ℕ) → slice_index v i < slice_index w i → ((j : ℕ) → j ≢ i → slice_index w j ≡ slice_index v j) →
+    (i : ℕ) → slice_index v i < slice_index w i → ((j : ℕ) → j ≢ i → slice_index w j ≤ slice_index v j) →
     IsFinite (next_of method w t i) → slice_index s i ≤ slice_index t i
 
 -- i has more votes than j and no smaller minimum: it has no fewer seats

@@ -7,7 +7,7 @@ ghost use Rattle.sl_fairness.specs.Houses.{HouseMonotone, LargerHouse};
 ghost use Rattle.sl_fairness.specs.Parts.{Coherent, PartsReplaced};
 ghost use Rattle.sl_fairness.specs.Quota.{JeffersonLowerQuota, AdamsUpperQuota, HamiltonInQuota};
 ghost use Rattle.sl_fairness.specs.Majorities.{JeffersonMajority};
-ghost use Rattle.sl_fairness.specs.Growths.{GrownHouseMeets, GrowthStays};
+ghost use Rattle.sl_fairness.specs.Growths.{GrownHouseMeets, GrowthStays, GrownByVotes};
 ghost use Rattle.sl_fairness.specs.Joining.{JeffersonJoins, AdamsJoins};
 
 /// Population monotonicity: who gains votes does not lose a seat while another, who gained none, gets one more
@@ -16,7 +16,7 @@ pub fn population_monotone()
     ensures { PopulationMonotone }
 {}
 
-/// Who alone gains votes has no fewer seats in the same house (Balinski and Young, Fair Representation, appendix A).
+/// Who gains votes while no other does has no fewer seats in the same house (Balinski and Young, Fair Representation, appendix A).
 pub fn votes_monotone()
     ensures { VotesMonotone }
 {}
@@ -89,6 +89,12 @@ pub fn grown_house_meets()
 /// A first house whose allocations all meet the minima does not grow (docs/methods.md, section 5).
 pub fn growth_stays()
     ensures { GrowthStays }
+{}
+
+/// In a house that is grown to, any entries with votes have among them an allocation without minima of the seats that they have
+/// (docs/methods.md, section 5).
+pub fn grown_by_votes()
+    ensures { GrownByVotes }
 {}
 
 /// Under Jefferson's method two entries that join lose no seat, or one by a tie

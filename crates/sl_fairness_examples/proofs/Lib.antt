@@ -6,3 +6,6 @@ pub mod OutsideQuota
 pub mod MissingPremises
 pub mod EqualVotes
 pub mod Joined
+pub mod SmallReturns
+pub mod VotesAndOverhang
+pub mod VotesAndGrowth

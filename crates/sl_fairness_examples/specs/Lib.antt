@@ -1,2 +1,3 @@
 -- What fails, in small numbers.
 pub mod Examples
+pub mod VotesThatCost

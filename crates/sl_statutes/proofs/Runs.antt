@@ -14,8 +14,9 @@ use Rattle.sl_stages.specs.meaning.Results.{ExprResult, Column, Fault, plain, Th
 use Rattle.sl_stages.specs.meaning.Expressions.{Context, ExprMeans}
 use Rattle.sl_stages.specs.meaning.Means.{Known, Through, context_of, with_stage, GoesOn, StagesMean}
 use Rattle.sl_stages.proofs.meaning.TypedMeaning.{then_column}
-use Rattle.sl_statutes.specs.Trees.{pool}
+use Rattle.sl_statutes.specs.Trees.{pool, party_votes}
 use Rattle.sl_statutes.specs.Houses.{house_of}
+use Rattle.sl_statutes.specs.Parties.{party_column}
 
 -- ---- a stage that the run goes through
 
@@ -36,7 +37,7 @@ same_known k j same = cc
 
 -- ---- leaves and pools
 
-plain_values : (c values : List ℕ) (r : Records) → Column values r ≡ plain c → values ≡ c
+pub plain_values : (c values : List ℕ) (r : Records) → Column values r ≡ plain c → values ≡ c
 plain_values c values r is = cc
 
 module _ (b : BookTree) (e : Election) (c : Context) (values : List ℕ) (r : Records) where
@@ -66,3 +67,9 @@ pool_is at told b e c values r h =
     let taken : two.0 ≡ sum (fact_column b e told) ∷ [] =
     total_of three.0 (fact_column b e told) two.0 (fact_is b e c three.0 three.1 (at 5) told three.2) (plain_values (sum_over e axis.All three.0) two.0 three.3 three.4) in
     less_of one.0 two.0 values (house_of b e) (sum (fact_column b e told)) house taken (plain_values (pair_of pairings.Less one.0 two.0) values two.3 two.4)
+
+-- the votes are those of each party's lists
+pub votes_are : (at : ℕ → ℕ) (b : BookTree) (e : Election) (c : Context) (votes : List ℕ) (r : Records) → ExprMeans b e c (party_votes at) (Column votes r) → votes ≡ party_column b e
+votes_are at b e c votes r h =
+    let one = then_column (ExprMeans b e c (fact (at 7) facts.Counted)) (λ xs r. r ≡ plain (sum_over e axis.Party xs)) votes r h in
+    plain_values (sum_over e axis.Party one.0) votes one.3 one.4 ∙ ap (sum_over e axis.Party) (fact_is b e c one.0 one.1 (at 7) facts.Counted one.2)

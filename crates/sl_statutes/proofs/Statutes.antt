@@ -23,7 +23,7 @@ use Rattle.sl_fairness.proofs.Covering.{cover_keeps_base}
 use Rattle.sl_statutes.specs.Trees.{law_of_1956, law_of_1985, law_of_2008, law_of_2013, law_of_2023, law_of_2023_order, keep, cover, shares}
 use Rattle.sl_statutes.specs.Statutes.{LastClauses, AreWellFormed, HasRoom, WinnersOf2013}
 use Rattle.sl_statutes.specs.Houses.{house_of, AlwaysGrowsByOverhang, AlwaysKeepsItsSize, OverhangOf1956, OverhangOf1985, OverhangOf2008, TotalOf2023, TotalOf2023Order}
-use Rattle.sl_statutes.proofs.Shares.{lists_share, outside_in_all, independents_in_all}
+use Rattle.sl_statutes.proofs.Shares.{lists_have, lists_share, outside_in_all, independents_in_all}
 
 pub last_clauses : LastClauses
 last_clauses at = (refl, refl, refl, refl, refl, refl)
@@ -57,7 +57,8 @@ module _ (at : ℕ → ℕ) (told : Fact) (method : Method) (m : Majority) (b : 
   base_shares : b.stages ≡ shares at told method m → base_of b.last ≡ base_of (keep at) → (base : List ℕ) → IsBase b e base → sum base ≡ house_of b e - sum (fact_column b e told)
   base_shares stages last base h =
       sym (sum_of_base b e base typed is h)
-      ∙ lists_share at told method m b e h.known (subst (λ ss. StagesMean b e nothing_known ss (Through h.known)) stages h.through) base (subst (λ x. IsLeaf b e h.known.columns x base) last h.is)
+      ∙ lists_have method m b e base (house_of b e - sum (fact_column b e told))
+      (lists_share at told method m b e h.known (subst (λ ss. StagesMean b e nothing_known ss (Through h.known)) stages h.through) base (subst (λ x. IsLeaf b e h.known.columns x base) last h.is))
 
 module _ (at : ℕ → ℕ) (method : Method) (m : Majority) (b : BookTree) (typed : is_typed b ≡ true) where
   grows : b.stages ≡ shares at facts.Outside method m → b.last ≡ keep at → AlwaysGrowsByOverhang b

@@ -2,3 +2,5 @@
 pub mod Trees
 pub mod Statutes
 pub mod Houses
+pub mod Parties
+pub mod Grown

@@ -2,6 +2,8 @@
 
 ghost use Rattle.sl_statutes.specs.Statutes.{LastClauses, AreWellFormed, WinnersOf2013};
 ghost use Rattle.sl_statutes.specs.Houses.{OverhangOf1956, OverhangOf1985, OverhangOf2008, TotalOf2023, TotalOf2023Order};
+ghost use Rattle.sl_statutes.specs.Grown.{HouseOf2013, PartiesOf2013};
+ghost use Rattle.sl_statutes.specs.Parties.{PartiesOf2023, VotesOf2023};
 
 /// The statutes up to 2013 keep the winners, and those of 2023 cover them.
 pub fn last_clauses()
@@ -16,6 +18,18 @@ pub fn are_well_formed()
 /// By the statute of 2013 no list of the table has fewer seats than its winners.
 pub fn winners_of_2013()
     ensures { WinnersOf2013 }
+{}
+
+/// By the statute of 2013 the house grows, from the pool on, to the least one whose allocations all have room for what each party must have;
+/// no list has overhang, and the total is that house with the winners outside, so at least the house.
+pub fn house_of_2013()
+    ensures { HouseOf2013 }
+{}
+
+/// By the statute of 2013 any parties with votes have among them an allocation, by Webster's method without minima, of the seats that they
+/// have.
+pub fn parties_of_2013()
+    ensures { PartiesOf2013 }
 {}
 
 /// By the statute of 1956 the lists share the house without the winners outside. The total is the house with the overhang, as long as no more
@@ -46,4 +60,16 @@ pub fn total_of_2023()
 /// are no more independents than seats.
 pub fn total_of_2023_order()
     ensures { TotalOf2023Order }
+{}
+
+/// By the statutes of 2023, with the order of 2024 or without it, the parties that take part have an allocation by Webster's method of the
+/// house without the independents.
+pub fn parties_of_2023()
+    ensures { PartiesOf2023 }
+{}
+
+/// By the statutes of 2023, with the order of 2024 or without it, more counted votes for one of its lists, and all else equal, cost a party
+/// no seat.
+pub fn votes_of_2023()
+    ensures { VotesOf2023 }
 {}

@@ -1,6 +1,7 @@
 //! Laws of rulebooks, of their meaning (docs/meaning.md). Each function does nothing: its contract is the law.
 
 ghost use Rattle.sl_fairness.specs.Winners.{KeepSeatsAll, KeepTotal, CoverKeepsBase, CoverPlaces, CoverSeatsLargest};
+ghost use Rattle.sl_fairness.specs.Allocated.{SplitsAllocate, SplitsMeetTheMinima, GrowthsAllocate};
 ghost use Rattle.sl_fairness.specs.Amounts.{SplitsGiveTheAmount, GrowthsGiveTheAmount, MajorityKept, GrownMajorityKept};
 
 /// Where winners are kept, each of them sits, on a list or as a single.
@@ -38,6 +39,21 @@ pub fn splits_give_the_amount()
 /// A growth that comes to a column gives out at least its amount, and no more than the cap.
 pub fn growths_give_the_amount()
     ensures { GrowthsGiveTheAmount }
+{}
+
+/// A split without minima gives in each of its scopes an allocation by its method.
+pub fn splits_allocate()
+    ensures { SplitsAllocate }
+{}
+
+/// A split with minima gives each entry of each of its scopes at least its minimum.
+pub fn splits_meet_the_minima()
+    ensures { SplitsMeetTheMinima }
+{}
+
+/// A growth gives an allocation of the least house that meets the minima in each of its allocations.
+pub fn growths_allocate()
+    ensures { GrowthsAllocate }
 {}
 
 /// Where a majority refuses, more than half of the votes of a scope has more than half of its seats, in splits and in growths that come
