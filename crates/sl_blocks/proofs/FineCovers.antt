@@ -6,10 +6,10 @@ use Rattle.sl_verify.specs.declared.needs.TheConstants.{LAST_CLAUSE}
 use Rattle.sl_verify.specs.Kinds.{start_kinds}
 use Rattle.sl_verify.specs.Needs.{Context}
 use Rattle.sl_plans.specs.Trees.{size_of}
-use Rattle.sl_plans.specs.Fine.{is_fine, judged_by, has_quiet_lines}
+use Rattle.sl_plans.specs.Fine.{is_fine, judged_by}
 use Rattle.sl_plans.specs.Prices.{price_of, has_price, is_in_share}
 use Rattle.sl_pieces.specs.covers.Trees.{CoverSlots, cover_tree}
-use Rattle.sl_blocks.proofs.FineRoles.{before_one, is_small, small_is_quiet, small_is_priced, small_is_short, MAX_BLOCK_INSTRS}
+use Rattle.sl_blocks.proofs.FineRoles.{before_one, is_small, small_is_priced, small_is_short, MAX_BLOCK_INSTRS}
 use Rattle.sl_blocks.proofs.Renaming.{Renaming, Renames, renamed_is_fine}
 
 -- the seats of the lists, the eligible parties, the numbers of the lists
@@ -54,9 +54,6 @@ module _ (x : CoverSlots) where
 
   small : is_small (cover_tree x) ≡ true
   small = refl
-
-  pub cover_quiet : has_quiet_lines (cover_tree x) ≡ true
-  cover_quiet = small_is_quiet (cover_tree x) small
 
   -- it takes at most a share, with one step more
   pub cover_priced : (has_price (before_one (cover_tree x)) ≡ true) × (is_in_share (price_of (before_one (cover_tree x))) ≡ true)

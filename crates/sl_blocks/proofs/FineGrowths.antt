@@ -8,13 +8,13 @@ use Rattle.sl_stages.specs.declared.book.Majority.{Majority}
 use Rattle.sl_stages.specs.declared.book.Majority.TheVariants as majority
 use Rattle.sl_verify.specs.Kinds.{start_kinds}
 use Rattle.sl_plans.specs.Trees.{size_of}
-use Rattle.sl_plans.specs.Fine.{is_fine, judged_by, has_quiet_lines}
+use Rattle.sl_plans.specs.Fine.{is_fine, judged_by}
 use Rattle.sl_plans.specs.Prices.{price_of, has_price, is_in_share}
 use Rattle.sl_pieces.specs.declared.form.Form.{Form}
 use Rattle.sl_pieces.specs.declared.form.Form.TheVariants.{AllParties}
 use Rattle.sl_pieces.specs.seats.Slots.{Slots}
 use Rattle.sl_pieces.specs.nodes.Trees.{grow_tree}
-use Rattle.sl_blocks.proofs.FineRoles.{roles, names_of, before_one, IsFineAs, HasShapes, fine_of, small_is_quiet, small_is_priced, small_is_short, MAX_BLOCK_INSTRS}
+use Rattle.sl_blocks.proofs.FineRoles.{roles, names_of, before_one, IsFineAs, HasShapes, fine_of, small_is_priced, small_is_short, MAX_BLOCK_INSTRS}
 
 -- the cap in the plan of roles: 0, or 2 for all others, which is no other number of the plan
 abbrev role_of_cap : ℕ → ℕ
@@ -63,9 +63,6 @@ growth_fine slots stages f x d m cap slot is has =
     fine_of slots stages f x has (number_of_role cap) (numbers cap) (grow_tree f (roles x.minima) d m (role_of_cap cap)) (grow_tree f x d m cap) (with_own x slot cap f d m is)
 
 module _ (f : Form) (x : Slots) (d : Divisor) (m : Majority) (cap slot : ℕ) (is : x.minima ≡ Some slot) where
-  pub growth_quiet : has_quiet_lines (grow_tree f x d m cap) ≡ true
-  growth_quiet = small_is_quiet (grow_tree f x d m cap) (with_own x slot cap f d m is).small
-
   -- it takes at cap a share, with one step more
   pub growth_priced : (has_price (before_one (grow_tree f x d m cap)) ≡ true) × (is_in_share (price_of (before_one (grow_tree f x d m cap))) ≡ true)
   growth_priced = small_is_priced (grow_tree f x d m cap) (with_own x slot cap f d m is).small

@@ -9,7 +9,7 @@ use Rattle.sl_verify.specs.declared.needs.TheConstants.{LAST_CLAUSE}
 use Rattle.sl_verify.specs.Kinds.{start_kinds}
 use Rattle.sl_verify.specs.Needs.{Context}
 use Rattle.sl_plans.specs.Trees.{Tree, Line, Then, size_of, ones}
-use Rattle.sl_plans.specs.Fine.{is_fine, judged_by, has_quiet_lines}
+use Rattle.sl_plans.specs.Fine.{is_fine, judged_by}
 use Rattle.sl_plans.specs.Prices.{price_of, has_price, is_in_share}
 use Rattle.sl_pieces.specs.declared.form.Form.{Form}
 use Rattle.sl_pieces.specs.scopes.Forms.{amounts_of, votes_of}
@@ -55,7 +55,7 @@ abbrev pub before_one : Tree → Tree
 before_one tree = Then (Line (Set ones 1 ∷ [])) tree
 
 abbrev pub is_small : Tree → Bool
-is_small tree = has_quiet_lines tree && (has_price (before_one tree) && (is_in_share (price_of (before_one tree)) && nat_lt (size_of tree) MAX_BLOCK_INSTRS))
+is_small tree = has_price (before_one tree) && (is_in_share (price_of (before_one tree)) && nat_lt (size_of tree) MAX_BLOCK_INSTRS)
 
 -- the plan is small, and it is the plan of roles under those names, which is fine
 pub record IsFineAs (f : Form) (names : Renaming) (role tree : Tree) : Type 0 where
@@ -97,16 +97,13 @@ module _ (slots : ℕ → Option Shape) (stages : ℕ) (f : Form) (x : Slots) (h
       subst (λ t. is_fine (judged_by slots stages) start_kinds t ≡ true) h.same
       (renamed_is_fine (names_of x x.minima number) (role_context f) (judged_by slots stages) (names_fit x.minima refl) start_kinds role h.fine)
 
-pub small_is_quiet : (tree : Tree) → is_small tree ≡ true → has_quiet_lines tree ≡ true
-small_is_quiet tree h = (and_parts (has_quiet_lines tree) _ h).0
-
 pub small_is_priced : (tree : Tree) → is_small tree ≡ true → (has_price (before_one tree) ≡ true) × (is_in_share (price_of (before_one tree)) ≡ true)
 small_is_priced tree h =
-    let priced = and_parts (has_price (before_one tree)) _ (and_parts (has_quiet_lines tree) _ h).1 in
+    let priced = and_parts (has_price (before_one tree)) _ h in
     (priced.0, (and_parts (is_in_share (price_of (before_one tree))) _ priced.1).0)
 
 pub small_is_short : (tree : Tree) → is_small tree ≡ true → size_of tree < MAX_BLOCK_INSTRS
 small_is_short tree h =
-    let priced = and_parts (has_price (before_one tree)) _ (and_parts (has_quiet_lines tree) _ h).1 in
+    let priced = and_parts (has_price (before_one tree)) _ h in
     let few : size_of tree < MAX_BLOCK_INSTRS = ltb-true (size_of tree) MAX_BLOCK_INSTRS (and_parts (is_in_share (price_of (before_one tree))) _ priced.1).1 in
     omega (arith, few)

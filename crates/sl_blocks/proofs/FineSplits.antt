@@ -9,13 +9,13 @@ use Rattle.sl_stages.specs.declared.book.Majority.{Majority}
 use Rattle.sl_stages.specs.declared.book.Majority.TheVariants as majority
 use Rattle.sl_verify.specs.Kinds.{start_kinds}
 use Rattle.sl_plans.specs.Trees.{size_of}
-use Rattle.sl_plans.specs.Fine.{is_fine, judged_by, has_quiet_lines}
+use Rattle.sl_plans.specs.Fine.{is_fine, judged_by}
 use Rattle.sl_plans.specs.Prices.{price_of, has_price, is_in_share}
 use Rattle.sl_pieces.specs.declared.form.Form.{Form}
 use Rattle.sl_pieces.specs.declared.form.Form.TheVariants.{AllParties}
 use Rattle.sl_pieces.specs.seats.Slots.{Slots}
 use Rattle.sl_pieces.specs.nodes.Trees.{split_tree}
-use Rattle.sl_blocks.proofs.FineRoles.{roles, names_of, before_one, IsFineAs, HasShapes, fine_of, small_is_quiet, small_is_priced, small_is_short, MAX_BLOCK_INSTRS}
+use Rattle.sl_blocks.proofs.FineRoles.{roles, names_of, before_one, IsFineAs, HasShapes, fine_of, small_is_priced, small_is_short, MAX_BLOCK_INSTRS}
 
 module _ (x : Slots) where
   abbrev IsFineSplit : Option ℕ → Form → Method → Majority → Type 0
@@ -64,9 +64,6 @@ split_fine slots stages f x method m has =
     fine_of slots stages f x has (λ n. n) (λ n. refl) (split_tree f (roles x.minima) method m) (split_tree f x method m) (split_as x x.minima f method m)
 
 module _ (f : Form) (x : Slots) (method : Method) (m : Majority) where
-  pub split_quiet : has_quiet_lines (split_tree f x method m) ≡ true
-  split_quiet = small_is_quiet (split_tree f x method m) (split_as x x.minima f method m).small
-
   -- it takes at most a share, with one step more
   pub split_priced : (has_price (before_one (split_tree f x method m)) ≡ true) × (is_in_share (price_of (before_one (split_tree f x method m))) ≡ true)
   split_priced = small_is_priced (split_tree f x method m) (split_as x x.minima f method m).small

@@ -4,10 +4,17 @@ pub mod FineRoles
 pub mod FineSplits
 pub mod FineGrowths
 pub mod FineCovers
+pub mod FineColumns
+pub mod FineFacts
+pub mod ProperLists
+pub mod ProperTrees
+pub mod ProperPlans
 pub mod Standing
 pub mod JobSlots
 pub mod Meaning
+pub mod MakingPlans
 pub mod MakingBlocks
 pub mod MakingCovers
+pub mod FactPlans
 pub mod Laid
 pub mod LaidBlocks

@@ -1,5 +1,5 @@
 -- The plans of splits and growths make blocks.
-use Rattle.std.proofs.Common.{◌≡◌, ℕ, suc, ◌<◌, ◌≤◌, zero, List, [], ◌∷◌, ◌++◌, length, Some, slice_get, arith}
+use Rattle.std.proofs.Common.{◌≡◌, ℕ, suc, ◌<◌, ◌≤◌, zero, List, [], ◌∷◌, ◌++◌, length, Some, slice_get, sym, subst, arith}
 use Rattle.std.proofs.lemmas.Option.{none-some}
 use Rattle.sl_ratio.specs.declared.method.Divisor.{Divisor}
 use Rattle.sl_ratio.specs.declared.method.Method.{Method}
@@ -9,18 +9,23 @@ use Rattle.sl_stages.specs.declared.book.Shape.TheVariants as shape
 use Rattle.sl_code.specs.declared.code.CodeStage.{CodeStage}
 use Rattle.sl_code.specs.declared.instr.Instr.{Instr}
 use Rattle.sl_code.specs.Codes.{CountingCode}
+use Rattle.sl_machine.specs.Runs.{share_of}
 use Rattle.sl_plans.specs.Laid.{laid}
 use Rattle.sl_pieces.specs.declared.form.Form.{Form}
 use Rattle.sl_pieces.specs.scopes.Forms.{amounts_of}
+use Rattle.sl_pieces.specs.seats.Slots.{Slots}
 use Rattle.sl_pieces.specs.nodes.Trees.{split_tree, grow_tree}
 use Rattle.sl_pieces.specs.nodes.Nodes.{HasResult, EndsWith}
 use Rattle.sl_pieces.proofs.nodes.Nodes.{splits_achieve, growths_achieve}
 use Rattle.sl_blocks.specs.declared.job.Job.{Job}
+use Rattle.sl_blocks.specs.declared.blocks.TheConstants.{MAX_BLOCK_INSTRS}
 use Rattle.sl_blocks.specs.inner.Jobs.{slots_of, IsJob, TakesMinima, HasJob, HasWeights, SplitMeans, GrowthMeans, IsResultBlock}
 use Rattle.sl_blocks.proofs.FineRoles.{HasShapes}
-use Rattle.sl_blocks.proofs.FineSplits.{split_fine, split_quiet, split_priced, split_short}
-use Rattle.sl_blocks.proofs.FineGrowths.{growth_fine, growth_quiet, growth_priced, growth_short}
-use Rattle.sl_blocks.proofs.Standing.{MakesBlock, is_block}
+use Rattle.sl_blocks.proofs.FineSplits.{split_fine, split_priced, split_short}
+use Rattle.sl_blocks.proofs.FineGrowths.{growth_fine, growth_priced, growth_short}
+use Rattle.sl_blocks.proofs.ProperPlans.{split_ranged, growth_ranged}
+use Rattle.sl_blocks.proofs.ProperTrees.{IsRanged}
+use Rattle.sl_blocks.proofs.Standing.{MakesBlock, MakesPlan, is_block, within_share}
 use Rattle.sl_blocks.proofs.JobSlots.{has_slots}
 use Rattle.sl_blocks.proofs.Meaning.{split_means, growth_means}
 
@@ -42,37 +47,50 @@ module _ (shapes : List Shape) (f : Form) (j : Job) (job : IsJob shapes f j) whe
         stage = there_below code.stages j.stage has.stage has.staged;
       }
 
-  split_makes : (method : Method) → TakesMinima method j.minima
-      → MakesBlock (HasJob shapes j) (HasWeights j) (λ code e state. HasResult e f (slots_of j) (SplitMeans f j method code e state) state) (λ code e state. EndsWith (SplitMeans f j method code e state))
-      (split_tree f (slots_of j) method j.majority)
-  split_makes method takes = record {
-    short = split_short f (slots_of j) method j.majority;
-    quiet = split_quiet f (slots_of j) method j.majority;
+  -- their plans make blocks of what they say
+  pub split_plan : (method : Method) → MakesPlan (HasJob shapes j) (split_tree f (slots_of j) method j.majority)
+  split_plan method = record {
+    ranged = split_ranged f (slots_of j) method j.majority;
     fine = λ code has. split_fine (slice_get code.slots) (length code.stages) f (slots_of j) method j.majority (has_shapes code has);
-    priced = (split_priced f (slots_of j) method j.majority).0;
-    in_share = (split_priced f (slots_of j) method j.majority).1;
+  }
+
+  pub growth_plan : (d : Divisor) (slot cap : ℕ) → j.minima ≡ Some slot → cap ≤ MAX_SEATS → MakesPlan (HasJob shapes j) (grow_tree f (slots_of j) d j.majority cap)
+  growth_plan d slot cap there few = record {
+    ranged = subst (λ o. IsRanged (grow_tree f (record (slots_of j) { minima = o }) d j.majority cap)) (sym there)
+        (growth_ranged (slots_of j) slot f d j.majority cap (omega (arith, few)));
+    fine = λ code has. growth_fine (slice_get code.slots) (length code.stages) f (slots_of j) d j.majority cap slot there (has_shapes code has);
+  }
+
+  -- and of what they mean
+  split_makes : (method : Method) → TakesMinima method j.minima
+      → MakesBlock share_of MAX_BLOCK_INSTRS (HasJob shapes j) (HasWeights j) (λ code e state. HasResult e f (slots_of j) (SplitMeans f j method code e state) state)
+      (λ code e state. EndsWith (SplitMeans f j method code e state)) (split_tree f (slots_of j) method j.majority)
+  split_makes method takes = record {
+    short = let less = split_short f (slots_of j) method j.majority in omega (arith, less);
+    in_time = within_share (split_tree f (slots_of j) method j.majority) (split_priced f (slots_of j) method j.majority);
+    ranged = (split_plan method).ranged;
+    fine = (split_plan method).fine;
     achieves = λ code e state has is weights. split_means shapes f j code job has e is state weights splits_achieve method takes;
   }
 
   growth_makes : (d : Divisor) (slot cap : ℕ) → j.minima ≡ Some slot → amounts_of f ≡ shape.One → cap ≤ MAX_SEATS
-      → MakesBlock (HasJob shapes j) (HasWeights j) (λ code e state. HasResult e f (slots_of j) (GrowthMeans f j slot d cap code e state) state)
+      → MakesBlock share_of MAX_BLOCK_INSTRS (HasJob shapes j) (HasWeights j) (λ code e state. HasResult e f (slots_of j) (GrowthMeans f j slot d cap code e state) state)
       (λ code e state. EndsWith (GrowthMeans f j slot d cap code e state)) (grow_tree f (slots_of j) d j.majority cap)
   growth_makes d slot cap there one few = record {
-    short = growth_short f (slots_of j) d j.majority cap slot there;
-    quiet = growth_quiet f (slots_of j) d j.majority cap slot there;
-    fine = λ code has. growth_fine (slice_get code.slots) (length code.stages) f (slots_of j) d j.majority cap slot there (has_shapes code has);
-    priced = (growth_priced f (slots_of j) d j.majority cap slot there).0;
-    in_share = (growth_priced f (slots_of j) d j.majority cap slot there).1;
+    short = let less = growth_short f (slots_of j) d j.majority cap slot there in omega (arith, less);
+    in_time = within_share (grow_tree f (slots_of j) d j.majority cap) (growth_priced f (slots_of j) d j.majority cap slot there);
+    ranged = (growth_plan d slot cap there few).ranged;
+    fine = (growth_plan d slot cap there few).fine;
     achieves = λ code e state has is weights. growth_means shapes f j code job has e is state weights growths_achieve d slot cap there one few;
   }
 
   -- the instructions of its plan behind a declaration are the block of a split
   pub is_split_block : (method : Method) → TakesMinima method j.minima → (before after : List Instr) →
       after ≡ before ++ laid (length before) (split_tree f (slots_of j) method j.majority) → IsResultBlock shapes f j (SplitMeans f j method) before after
-  is_split_block method takes before after is = is_block _ _ _ _ (split_tree f (slots_of j) method j.majority) (split_makes method takes) before after is
+  is_split_block method takes before after is = is_block share_of MAX_BLOCK_INSTRS _ _ _ _ (split_tree f (slots_of j) method j.majority) (split_makes method takes) before after is
 
   -- and that of a growth
   pub is_growth_block : (d : Divisor) (slot cap : ℕ) → j.minima ≡ Some slot → amounts_of f ≡ shape.One → cap ≤ MAX_SEATS → (before after : List Instr) →
       after ≡ before ++ laid (length before) (grow_tree f (slots_of j) d j.majority cap) → IsResultBlock shapes f j (GrowthMeans f j slot d cap) before after
   is_growth_block d slot cap there one few before after is =
-      is_block _ _ _ _ (grow_tree f (slots_of j) d j.majority cap) (growth_makes d slot cap there one few) before after is
+      is_block share_of MAX_BLOCK_INSTRS _ _ _ _ (grow_tree f (slots_of j) d j.majority cap) (growth_makes d slot cap there one few) before after is

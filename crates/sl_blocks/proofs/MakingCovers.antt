@@ -10,16 +10,19 @@ use Rattle.sl_stages.specs.returns.Election.{Election, lands_of, parties_of}
 use Rattle.sl_code.specs.declared.instr.Instr.{Instr}
 use Rattle.sl_code.specs.Codes.{CountingCode}
 use Rattle.sl_machine.specs.State.{State}
+use Rattle.sl_machine.specs.Runs.{share_of}
 use Rattle.sl_machine.specs.Places.{cells_of}
 use Rattle.sl_machine.specs.Memories.{column_of}
 use Rattle.sl_plans.specs.Laid.{laid}
 use Rattle.sl_pieces.specs.covers.Trees.{CoverSlots, cover_tree}
 use Rattle.sl_pieces.specs.covers.Covering.{HasCoverSlots, BeginsCovering, AreCovered, EndsInTie}
 use Rattle.sl_pieces.proofs.covers.Covering.{coverings_achieve}
-use Rattle.sl_blocks.specs.inner.Blocks.{HasSlotsOf}
+use Rattle.sl_blocks.specs.declared.blocks.TheConstants.{MAX_BLOCK_INSTRS}
+use Rattle.sl_blocks.specs.Blocks.{HasSlotsOf}
 use Rattle.sl_blocks.specs.inner.Covers.{IsCoverJob, flagged, BeginsCover, IsCoverBlock}
-use Rattle.sl_blocks.proofs.FineCovers.{HasCoverShapes, cover_fine, cover_quiet, cover_priced, cover_short}
-use Rattle.sl_blocks.proofs.Standing.{MakesBlock, is_block}
+use Rattle.sl_blocks.proofs.FineCovers.{HasCoverShapes, cover_fine, cover_priced, cover_short}
+use Rattle.sl_blocks.proofs.ProperPlans.{cover_ranged}
+use Rattle.sl_blocks.proofs.Standing.{MakesBlock, MakesPlan, is_block, within_share}
 
 module _ (shapes : List Shape) (x : CoverSlots) (job : IsCoverJob shapes x) where
   module _ (code : CountingCode) (has : HasSlotsOf shapes code) where
@@ -43,15 +46,17 @@ module _ (shapes : List Shape) (x : CoverSlots) (job : IsCoverJob shapes x) wher
     begins_covering : (e : Election) (state : State) → BeginsCover x e state → BeginsCovering e x (flagged x state) (column_of code e state x.base) state
     begins_covering e state begins = record { nobody = begins.nobody; seats = seats_held e state; flags = begins.flags }
 
-  cover_makes : MakesBlock (HasSlotsOf shapes) (λ code e state. BeginsCover x e state)
+  pub cover_plan : MakesPlan (HasSlotsOf shapes) (cover_tree x)
+  cover_plan = record { ranged = cover_ranged x; fine = λ code has. cover_fine x (slice_get code.slots) (length code.stages) (has_shapes code has) }
+
+  cover_makes : MakesBlock share_of MAX_BLOCK_INSTRS (HasSlotsOf shapes) (λ code e state. BeginsCover x e state)
       (λ code e state. AreCovered code e x (flagged x state) (column_of code e state x.base) state)
       (λ code e state. EndsInTie code e (flagged x state) (column_of code e state x.base)) (cover_tree x)
   cover_makes = record {
-    short = cover_short x;
-    quiet = cover_quiet x;
-    fine = λ code has. cover_fine x (slice_get code.slots) (length code.stages) (has_shapes code has);
-    priced = (cover_priced x).0;
-    in_share = (cover_priced x).1;
+    short = let less = cover_short x in omega (arith, less);
+    in_time = within_share (cover_tree x) (cover_priced x);
+    ranged = cover_plan.ranged;
+    fine = cover_plan.fine;
     achieves = λ code e state has is begins.
         coverings_achieve code e x (flagged x state) (column_of code e state x.base) state is (has_slots code has) (begins_covering code has e state begins);
   }
@@ -59,4 +64,4 @@ module _ (shapes : List Shape) (x : CoverSlots) (job : IsCoverJob shapes x) wher
 -- the instructions of its plan behind a declaration are the block of a covering
 pub is_cover_block : (shapes : List Shape) (x : CoverSlots) → IsCoverJob shapes x → (before after : List Instr) →
     after ≡ before ++ laid (length before) (cover_tree x) → IsCoverBlock shapes x before after
-is_cover_block shapes x job before after is = is_block _ _ _ _ (cover_tree x) (cover_makes shapes x job) before after is
+is_cover_block shapes x job before after is = is_block share_of MAX_BLOCK_INSTRS _ _ _ _ (cover_tree x) (cover_makes shapes x job) before after is

@@ -1,2 +1,5 @@
 -- The definitions of blocks.
+pub mod Blocks
+pub mod PlanBlocks
+pub mod Facts
 pub mod inner

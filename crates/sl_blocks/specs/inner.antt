@@ -1,7 +1,7 @@
 -- Definitions on which no call of the desk and no law rests.
-pub mod LayoutParts
-pub mod Blocks
-pub mod Covers
-pub mod Given
 pub mod Jobs
+pub mod Covers
+pub mod Few
 pub mod Layout
+pub mod LayoutParts
+pub mod Given

@@ -1,9 +1,10 @@
 //! The block of a covering.
 
-ghost use Rattle.std.specs.Prelude.{◌≡◌, ◌+◌, ◌≤◌, IfOk, OnErr, length, vec_len};
+ghost use Rattle.std.specs.Prelude.{◌≡◌, ◌+◌, ◌≤◌, [], ◌∷◌, IfOk, OnErr, vec_len};
 ghost use Rattle.sl_pieces.specs.covers.Trees.{cover_tree};
+ghost use Rattle.sl_blocks.specs.Blocks.{HasSlotsOf};
 ghost use Rattle.sl_blocks.specs.inner.Covers.{cover_slots, IsCoverBlock, IsCoverJob};
-ghost use Rattle.sl_blocks.specs.inner.Layout.{IsLaid};
+ghost use Rattle.sl_blocks.specs.PlanBlocks.{AreBlocks};
 
 use crate::awards::{COUNT_LEFT, COUNT_STEP, LESS_LEFT, WHOLE_BATCH, draw_seats};
 use crate::batches::batches;
@@ -241,7 +242,7 @@ pub fn cover_block(
     requires job { IsCoverJob slots.now (cover_slots base eligible scratch) }
     requires room { vec_len code.old + MAX_BLOCK_INSTRS ≤ MAX_INSTRS }
     ensures ok { IfOk result (λ _. IsCoverBlock slots.now (cover_slots base eligible scratch) code.old.items code.new.items) }
-    ensures laid { IfOk result (λ _. IsLaid (cover_tree (cover_slots base eligible scratch)) (length code.old.items) code.old.items code.new.items) }
+    ensures plan { IfOk result (λ _. AreBlocks (HasSlotsOf slots.now) (cover_tree (cover_slots base eligible scratch) ∷ []) code.old.items code.new.items) }
     ensures err { OnErr result (code.new.items ≡ code.old.items) }
 {
     let numbers = scratch[3][0];

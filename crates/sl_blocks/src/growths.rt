@@ -5,8 +5,9 @@ ghost use Rattle.sl_plans.specs.inner.Layout.{tree_of};
 ghost use Rattle.sl_plans.specs.Trees.{size_of};
 ghost use Rattle.sl_blocks.specs.inner.Given.{given_of};
 ghost use Rattle.sl_blocks.specs.inner.Jobs.{IsGrowthBlock, IsGrowthJob};
-ghost use Rattle.sl_blocks.specs.inner.Layout.{IsLaid, IsLaidGrowth};
+ghost use Rattle.sl_blocks.specs.inner.Layout.{IsLaid};
 ghost use Rattle.sl_blocks.specs.inner.LayoutParts.{growth_all};
+ghost use Rattle.sl_blocks.specs.inner.Jobs.{IsGrowthPlan};
 
 use crate::blanks::Block;
 use crate::blocks::{MAX_BLOCK_INSTRS, lay_block};
@@ -39,7 +40,7 @@ pub fn grow_block(
     requires job { IsGrowthJob slots.now job.now cap }
     requires room { vec_len code.old + MAX_BLOCK_INSTRS ≤ MAX_INSTRS }
     ensures ok { IfOk result (λ _. IsGrowthBlock slots.now job.now method cap code.old.items code.new.items) }
-    ensures laid { IfOk result (λ _. IsLaidGrowth slots.now job.now method cap code.old.items code.new.items) }
+    ensures plan { IfOk result (λ _. IsGrowthPlan slots.now job.now method cap code.old.items code.new.items) }
     ensures err { OnErr result (code.new.items ≡ code.old.items) }
 {
     let block = Block {

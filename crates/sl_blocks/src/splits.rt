@@ -5,8 +5,9 @@ ghost use Rattle.sl_plans.specs.inner.Layout.{tree_of};
 ghost use Rattle.sl_plans.specs.Trees.{size_of};
 ghost use Rattle.sl_blocks.specs.inner.Given.{given_of};
 ghost use Rattle.sl_blocks.specs.inner.Jobs.{IsSplitBlock, IsSplitJob};
-ghost use Rattle.sl_blocks.specs.inner.Layout.{IsLaid, IsLaidSplit};
+ghost use Rattle.sl_blocks.specs.inner.Layout.{IsLaid};
 ghost use Rattle.sl_blocks.specs.inner.LayoutParts.{split_all};
+ghost use Rattle.sl_blocks.specs.inner.Jobs.{IsSplitPlan};
 
 use crate::blanks::Block;
 use crate::blocks::{MAX_BLOCK_INSTRS, lay_block};
@@ -37,7 +38,7 @@ pub fn split_block(
     requires job { IsSplitJob slots.now job.now method }
     requires room { vec_len code.old + MAX_BLOCK_INSTRS ≤ MAX_INSTRS }
     ensures ok { IfOk result (λ _. IsSplitBlock slots.now job.now method code.old.items code.new.items) }
-    ensures laid { IfOk result (λ _. IsLaidSplit slots.now job.now method code.old.items code.new.items) }
+    ensures plan { IfOk result (λ _. IsSplitPlan slots.now job.now method code.old.items code.new.items) }
     ensures err { OnErr result (code.new.items ≡ code.old.items) }
 {
     let block = Block {

@@ -1,35 +1,45 @@
 -- The verifier accepts the code of a rulebook.
-use Rattle.std.proofs.Common.{◌≡◌, ℕ, ◌+◌, true, List, [], ◌∷◌, ◌++◌, length, None, Some, refl, ap, arith}
+use Rattle.std.proofs.Common.{◌≡◌, ℕ, ◌+◌, true, List, [], ◌∷◌, ◌++◌, length, Option, None, Some, slice_get, refl, sym, ap, subst, ◌∙◌, arith, length-append}
 use Rattle.std.specs.Prelude.{is_some}
 use Rattle.std.specs.List.{list_all}
-use Rattle.std.proofs.lemmas.Bool.{and_parts}
+use Rattle.std.proofs.Math.Bool.{or-true}
 use Rattle.sl_stages.specs.declared.book.Cond.{Cond}
-use Rattle.sl_stages.specs.book.Tests.{first_failing}
+use Rattle.sl_stages.specs.declared.book.Shape.TheVariants as shape
 use Rattle.sl_stages.specs.book.Trees.{StageTree, BookTree}
-use Rattle.sl_stages.specs.book.Limits.{is_within_stage}
-use Rattle.sl_stages.specs.book.Typing.{Column, stage_column, columns_of, stages_tests, base_tests, version_tests, condition_tests, tests_of, is_typed}
-use Rattle.sl_stages.proofs.Tests.{head_holds, no_fault, pass_parts}
+use Rattle.sl_stages.specs.book.Typing.{Column, type_of, stage_column, columns_of}
+use Rattle.sl_code.specs.declared.instr.Instr.{Instr}
+use Rattle.sl_code.specs.declared.instr.Instr.TheVariants.{Halt, Haltv}
+use Rattle.sl_code.specs.declared.kinds.Kinds.{Kinds}
 use Rattle.sl_code.specs.Codes.{CountingCode}
-use Rattle.sl_code.proofs.Standing.{all_stand, prefix_stands}
-use Rattle.sl_verify.specs.Kinds.{start_kinds}
-use Rattle.sl_verify.specs.Needs.{has_slot}
-use Rattle.sl_verify.specs.WellKinded.{context_of, has_stage_slots}
+use Rattle.sl_verify.specs.Kinds.{start_kinds, covers, no_cursors}
+use Rattle.sl_verify.specs.Needs.{has_slot, has_needs}
+use Rattle.sl_verify.specs.Pieces.{comes_after, are_passed}
+use Rattle.sl_verify.specs.WellKinded.{context_of, has_stage_slots, IsWellKinded}
 use Rattle.sl_verify.proofs.Passing.{both_hold}
+use Rattle.sl_verify.proofs.PieceFacts.{comes_in_row, passed_in_row}
 use Rattle.sl_verify.proofs.Kinded.{kinded_as_passed}
-use Rattle.sl_plans.specs.Laid.{laid_all}
 use Rattle.sl_plans.specs.Fine.{ArePassed}
+use Rattle.sl_pieces.specs.declared.slots.TheConstants.{VACANT_SEATS as vacant_seats}
 use Rattle.sl_pieces.specs.exprs.Slots.{stage_slot, HasBookSlots}
-use Rattle.sl_pieces.specs.exprs.Stages.{stages_pieces}
-use Rattle.sl_pieces.specs.closing.Trees.{last_pieces, halting}
-use Rattle.sl_books.specs.Codes.{facts_pieces, book_pieces, book_instrs, code_stages, book_code}
-use Rattle.sl_books.specs.Laws.{CanCompile, BooksAreKinded}
-use Rattle.sl_books.proofs.Slots.{as_many_stages}
-use Rattle.sl_books.proofs.FineTrees.{AreFine, three_fine}
-use Rattle.sl_books.proofs.FineFacts.{facts_fine}
-use Rattle.sl_books.proofs.FineStages.{stages_fine, last_fine, own_slot, one_more}
-use Rattle.sl_books.proofs.KindsLaid.{in_row, known_last, all_pass, halting_passes}
+use Rattle.sl_pieces.proofs.exprs.StageRules.{last_there, extended}
+use Rattle.sl_pieces.specs.closing.Trees.{final_seats, halting}
+use Rattle.sl_blocks.specs.Blocks.{PassesOn}
+use Rattle.sl_books.specs.Codes.{code_stages, book_code, HasSoFar, AreBookInstrs}
+use Rattle.sl_books.specs.Laws.{BooksAreKinded}
+use Rattle.sl_books.proofs.Rows.{blocks_pass}
+use Rattle.sl_books.proofs.Slots.{has_book_slots, book_has_slots, as_many_stages}
 
 -- ---- the stages of the code
+
+-- the slot of the first stage that is left
+own_slot : (code : CountingCode) (types : List Column) (k : ℕ) (s : StageTree) (ss : List StageTree) → k ≡ length types → HasBookSlots code (columns_of types (s ∷ ss))
+    → slice_get code.slots (stage_slot k) ≡ Some (type_of types s.expr).shape
+own_slot code types k s ss is slots =
+    slots.stages_are k (stage_column types s)
+    (extended (types ++ stage_column types s ∷ []) ss k (stage_column types s) (last_there types (stage_column types s) k is))
+
+one_more : (types : List Column) (c : Column) (k : ℕ) → k ≡ length types → k + 1 ≡ length (types ++ c ∷ [])
+one_more types c k is = omega (arith, is, length-append types (c ∷ []))
 
 -- the slot of each is there
 slots_there : (code : CountingCode) (types : List Column) (k : ℕ) (ss : List StageTree) → k ≡ length types → HasBookSlots code (columns_of types ss)
@@ -39,42 +49,63 @@ slots_there code types k (s ∷ ss) is slots =
     both_hold (has_slot (context_of code) (stage_slot k)) _ (ap is_some (own_slot code types k s ss is slots))
     (slots_there code (types ++ stage_column types s ∷ []) (k + 1) ss (one_more types (stage_column types s) k is) slots)
 
--- ---- the tests of a typed book
+module _ (code : CountingCode) where
+  -- ---- the halt
 
--- those of its stages, and of the base of its last clause
-parts_pass : (b : BookTree) → is_typed b ≡ true
-    → (first_failing (stages_tests [] b.stages) ≡ None) × (first_failing (base_tests (columns_of [] b.stages) b.last.at b.last.base) ≡ None)
-parts_pass b typed =
-    let all = no_fault (tests_of b) typed in
-    let behind = (pass_parts (version_tests b.version b.last.vacate) _ all).1 in
-    let house = head_holds _ _ _ behind in
-    pass_parts (stages_tests [] b.stages) _ (pass_parts (condition_tests b.eligible) _ house.1).1
+  -- any cursors are enough for it
+  none_asked : (k : Kinds) → covers k.cursors no_cursors ≡ true
+  none_asked k = both_hold _ _ (both_hold _ _ (or-true k.cursors.party) (or-true k.cursors.land)) (or-true k.cursors.win)
+
+  halt_needs : (k : Kinds) (slot : ℕ) → slice_get code.slots slot ≡ Some shape.List → has_needs (context_of code) k (Halt slot) ≡ true
+  halt_needs k slot is = rw (is, none_asked k) refl
+
+  haltv_needs : (k : Kinds) (slot other : ℕ) → slice_get code.slots slot ≡ Some shape.List → slice_get code.slots other ≡ Some shape.List
+      → has_needs (context_of code) k (Haltv slot other) ≡ true
+  haltv_needs k slot other is too = rw (is, too, none_asked k) refl
+
+  pub halting_passes : (types : List Column) → HasBookSlots code types → (k : Kinds) (vacate : Option ℕ) → ArePassed (context_of code) (Some k) (halting vacate ∷ []) None
+  halting_passes types slots k None =
+      let final : slice_get code.slots final_seats ≡ Some shape.List = slots.passing_are 0 shape.List (omega arith) in
+      record { passed = rw (halt_needs k final_seats final) refl; after = refl }
+  halting_passes types slots k (Some at) =
+      let final : slice_get code.slots final_seats ≡ Some shape.List = slots.passing_are 0 shape.List (omega arith) in
+      record { passed = rw (haltv_needs k final_seats vacant_seats final slots.vacant_seats_are) refl; after = refl }
 
 -- ---- the whole
 
-module _ (few : List Cond) (b : BookTree) (can : CanCompile few b) (slots : HasBookSlots (book_code few b) (columns_of [] b.stages)) where
-  pieces_fine : AreFine (book_code few b) (book_pieces few b)
-  pieces_fine =
-      let parts = parts_pass b can.typed in
-      let within = and_parts _ (list_all is_within_stage b.stages) can.limits in
-      let many : length (code_stages 0 b.stages) ≡ length b.stages = as_many_stages 0 b.stages in
-      three_fine (book_code few b) (facts_pieces few b) (stages_pieces [] 0 b.stages) (last_pieces (columns_of [] b.stages) b.last)
-      (facts_fine (book_code few b) (columns_of [] b.stages) slots few b)
-      (stages_fine (book_code few b) [] 0 b.stages refl parts.0 within.1 slots (omega (arith, many)))
-      (last_fine (book_code few b) (columns_of [] b.stages) slots b.last parts.1)
+-- the code of a book has the slots and the stages for all of its blocks
+pub has_so_far : (b : BookTree) (instrs : List Instr) → HasSoFar (columns_of [] b.stages) (length b.stages) (book_code b instrs)
+has_so_far b instrs = record { slots = book_has_slots b instrs; stages = let many = as_many_stages 0 b.stages in omega (arith, many) }
 
-  passes : ArePassed (context_of (book_code few b)) (Some start_kinds) (book_instrs few b) None
-  passes =
-      let known = known_last start_kinds (book_pieces few b) in
-      in_row (context_of (book_code few b)) (Some start_kinds) (Some known) None (laid_all 0 (book_pieces few b)) (halting b.last.vacate ∷ [])
-      (all_pass (book_code few b) (book_pieces few b) 0 start_kinds
-      (prefix_stands (book_code few b) 0 (laid_all 0 (book_pieces few b)) (halting b.last.vacate ∷ []) (all_stand (book_code few b))) pieces_fine)
-      (halting_passes (book_code few b) (columns_of [] b.stages) slots known b.last.vacate)
+module _ (few : List Cond) (b : BookTree) (code : List Instr) (are : AreBookInstrs few b code) where
+  abbrev whole : CountingCode
+  whole = book_code b (are.plans ++ halting b.last.vacate ∷ [])
 
-  stages_there : has_stage_slots (book_code few b) ≡ true
-  stages_there = slots_there (book_code few b) [] 0 b.stages refl slots
+  slots : HasBookSlots whole (columns_of [] b.stages)
+  slots = has_book_slots (columns_of [] b.stages) whole (book_has_slots b (are.plans ++ halting b.last.vacate ∷ []))
 
-pub books_are_kinded : ((few : List Cond) (b : BookTree) → CanCompile few b → HasBookSlots (book_code few b) (columns_of [] b.stages)) → BooksAreKinded
-books_are_kinded slots few b can =
-    let pass = passes few b can (slots few b can) in
-    (kinded_as_passed (book_code few b)).1 (stages_there few b can (slots few b can), pass.passed, pass.after)
+  passes : PassesOn whole (Some start_kinds) are.plans
+  passes = blocks_pass are.blocks whole (halting b.last.vacate ∷ []) refl (has_so_far b (are.plans ++ halting b.last.vacate ∷ []))
+
+  halts : ArePassed (context_of whole) (Some passes.kinds) (halting b.last.vacate ∷ []) None
+  halts = halting_passes whole (columns_of [] b.stages) slots passes.kinds b.last.vacate
+
+  all_passed : are_passed (context_of whole) (Some start_kinds) (are.plans ++ halting b.last.vacate ∷ []) ≡ true
+  all_passed =
+      passed_in_row (context_of whole) (Some start_kinds) are.plans (halting b.last.vacate ∷ [])
+      ∙ both_hold (are_passed (context_of whole) (Some start_kinds) are.plans)
+      (are_passed (context_of whole) (comes_after (Some start_kinds) are.plans) (halting b.last.vacate ∷ [])) passes.passed
+      (ap (λ k. are_passed (context_of whole) k (halting b.last.vacate ∷ [])) passes.leaves ∙ halts.passed)
+
+  nothing_behind : comes_after (Some start_kinds) (are.plans ++ halting b.last.vacate ∷ []) ≡ None
+  nothing_behind =
+      comes_in_row (Some start_kinds) are.plans (halting b.last.vacate ∷ [])
+      ∙ ap (λ k. comes_after k (halting b.last.vacate ∷ [])) passes.leaves ∙ halts.after
+
+  pub book_is_kinded : IsWellKinded (book_code b code)
+  book_is_kinded =
+      subst (λ (is : List Instr). IsWellKinded (book_code b is)) (sym are.is)
+      ((kinded_as_passed whole).1 (slots_there whole [] 0 b.stages refl slots, all_passed, nothing_behind))
+
+pub books_are_kinded : BooksAreKinded
+books_are_kinded few b instrs can are = book_is_kinded few b instrs are

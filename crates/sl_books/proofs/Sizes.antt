@@ -5,17 +5,17 @@ use Rattle.std.specs.List.{list_all}
 use Rattle.std.proofs.lemmas.Bool.{and_parts, ltb-true, leb-true}
 use Rattle.sl_stages.specs.declared.limits.TheConstants.{MAX_STAGES, MAX_PARTS}
 use Rattle.sl_stages.specs.book.Limits.{is_within_stage, is_within_limits}
-use Rattle.sl_stages.specs.book.Trees.{StageTree}
-use Rattle.sl_verify.specs.Kinds.{start_kinds}
+use Rattle.sl_stages.specs.declared.book.Cond.{Cond}
+use Rattle.sl_stages.specs.book.Trees.{StageTree, BookTree}
 use Rattle.sl_plans.specs.Trees.{Tree, size_of}
 use Rattle.sl_plans.specs.Prices.{price_of, has_price, up_to}
-use Rattle.sl_plans.specs.Laid.{laid, laid_all, size_all}
-use Rattle.sl_plans.proofs.Places.{length-flat}
+use Rattle.sl_plans.specs.Laid.{size_all}
 use Rattle.sl_pieces.specs.closing.Trees.{halting}
-use Rattle.sl_books.specs.Codes.{book_pieces, book_instrs}
-use Rattle.sl_books.specs.Laws.{BooksAreShort}
+use Rattle.sl_books.specs.Codes.{book_pieces}
+use Rattle.sl_books.specs.Laws.{CanCompile, BooksAreShort}
 use Rattle.sl_books.proofs.CostsOfPlans.{IsModest}
 use Rattle.sl_books.proofs.CostsOfBooks.{total, IsMeasure, fact_plans, book_at_most}
+use Rattle.sl_books.proofs.Rows.{blocks_longer}
 
 size_at_most : (plain by_win size : ℕ) (tree : Tree) → IsModest plain by_win size tree → size_of tree + 1 ≤ size + 1
 size_at_most plain by_win size tree modest =
@@ -39,23 +39,22 @@ sizes_total : (ts : List Tree) → size_all ts ≡ total (λ t. size_of t + 1) t
 sizes_total [] = refl
 sizes_total (t ∷ ts) = ap (λ (n : ℕ). size_of t + 1 + n) (sizes_total ts)
 
--- what is laid out has that size
-pub length-laid_all : (p : ℕ) (ts : List Tree) → length (laid_all p ts) ≡ size_all ts
-length-laid_all p [] = refl
-length-laid_all p (t ∷ ts) =
-    let rest = laid_all (p + (size_of t + 1)) ts in
-    omega (arith, length-append (laid p t) rest, length-flat t start_kinds (p + 1), length-laid_all (p + (size_of t + 1)) ts)
-
 -- a book within the limits has no more stages than these allow
 pub few_stages : (ss : List StageTree) → is_within_limits ss ≡ true → length ss ≤ MAX_STAGES
 few_stages ss within = leb-true (length ss) MAX_STAGES (and_parts (nat_le (length ss) MAX_STAGES) (list_all is_within_stage ss) within).0
 
-pub books_are_short : BooksAreShort
-books_are_short few b can =
+-- the plans of a book and its halt have room
+pub books_fit : (few : List Cond) (b : BookTree) → CanCompile few b → size_all (book_pieces few b) + 1 ≤ 50000
+books_fit few b can =
     let ts = book_pieces few b in
-    let all = book_at_most (λ t. size_of t + 1) 351 15 41 221 sizes_measured few b can in
-    of (length (book_instrs few b)) (total (λ t. size_of t + 1) ts) (length b.stages) (few_stages b.stages can.limits)
-    (let halt = length-append (laid_all 0 ts) (halting b.last.vacate ∷ []) in omega (arith, halt, length-laid_all 0 ts, sizes_total ts)) all
+    of (size_all ts) (total (λ t. size_of t + 1) ts) (length b.stages) (few_stages b.stages can.limits) (sizes_total ts)
+    (book_at_most (λ t. size_of t + 1) 351 15 41 221 sizes_measured few b can)
   where
-    of : (long all stages : ℕ) → stages ≤ MAX_STAGES → long ≡ all + 1 → all ≤ stages * (351 + (MAX_PARTS + 1) * 15) + (fact_plans * 41 + (3 * 15 + 221)) → long ≤ 50000
+    of : (long all stages : ℕ) → stages ≤ MAX_STAGES → long ≡ all → all ≤ stages * (351 + (MAX_PARTS + 1) * 15) + (fact_plans * 41 + (3 * 15 + 221)) → long + 1 ≤ 50000
     of long all stages few is h = omega (arith, few, is, h)
+
+pub books_are_short : BooksAreShort
+books_are_short few b instrs can are =
+    let fit = books_fit few b can in
+    let longer = blocks_longer are.blocks in
+    omega (arith, fit, longer.short, ap length are.is, length-append are.plans (halting b.last.vacate ∷ []))

@@ -1,11 +1,11 @@
 -- The slots and the stages of a book's code are where its plans look for them.
-use Rattle.std.proofs.Common.{◌≡◌, ℕ, zero, suc, ◌+◌, ◌*◌, ◌<◌, ◌≤◌, true, List, [], ◌∷◌, ◌++◌, length, map, Some, slice_get, flat_map, nat_le, refl, sym, ap, ap₂, ◌∙◌, arith}
+use Rattle.std.proofs.Common.{◌≡◌, ℕ, zero, suc, ◌+◌, ◌*◌, ◌<◌, ◌≤◌, true, List, [], ◌∷◌, ◌++◌, length, map, Some, slice_get, flat_map, nat_le, refl, sym, ap, ap₂, ◌∙◌, arith, append_assoc}
 use Rattle.std.specs.List.{range_with_len, list_all}
 use Rattle.std.proofs.lemmas.Bool.{and_parts}
+use Rattle.std.proofs.lemmas.List.{append-nil, map-append}
 use Rattle.std.proofs.lemmas.Option.{none-some, same_Some, slice_get-map}
 use Rattle.sl_stages.specs.declared.fact.Fact.{Fact}
 use Rattle.sl_stages.specs.declared.fact.Fact.TheVariants as facts
-use Rattle.sl_stages.specs.declared.book.Cond.{Cond}
 use Rattle.sl_stages.specs.declared.book.Shape.{Shape}
 use Rattle.sl_stages.specs.declared.book.Shape.TheVariants as shape
 use Rattle.sl_stages.specs.declared.limits.TheConstants.{MAX_STAGES, MAX_DEPTH}
@@ -13,11 +13,15 @@ use Rattle.sl_stages.specs.book.Trees.{StageTree, BookTree}
 use Rattle.sl_stages.specs.book.Limits.{is_within_stage, is_within_limits}
 use Rattle.sl_stages.specs.book.Typing.{Column, columns_of, fact_type, shape_number}
 use Rattle.sl_code.specs.declared.code.CodeStage.{CodeStage}
+use Rattle.sl_code.specs.declared.instr.Instr.{Instr}
+use Rattle.sl_code.specs.Codes.{CountingCode}
 use Rattle.sl_pieces.specs.declared.slots.TheConstants.{LEVELS, PAIR_NUMBERS as pair_numbers}
 use Rattle.sl_pieces.specs.exprs.Slots.{fact_slots, passing, stage_slot, HasBookSlots}
 use Rattle.sl_pieces.specs.exprs.Stages.{HasStages}
-use Rattle.sl_pieces.specs.facts.Laws.{HasFactSlots}
-use Rattle.sl_books.specs.Codes.{code_stages, fact_shapes, closing_shapes, level_shapes, passing_shapes, book_slots, book_code}
+use Rattle.sl_pieces.proofs.exprs.StageRules.{still_there}
+use Rattle.sl_blocks.specs.Blocks.{HasSlotsOf}
+use Rattle.sl_blocks.specs.Facts.{fact_shapes, closing_shapes, HasFirstSlots}
+use Rattle.sl_books.specs.Codes.{code_stages, level_shapes, passing_shapes, book_slots, book_code}
 use Rattle.sl_books.proofs.Known.{columns_long}
 use Rattle.sl_books.proofs.Sizes.{few_stages}
 
@@ -71,30 +75,61 @@ module _ (types : List Column) where
       ∙ slice_get-map (λ c. c.type.shape) types k
       ∙ rw at refl
 
-module _ (few : List Cond) (b : BookTree) where
-  fact_there : (told : Fact) → slice_get (book_slots (columns_of [] b.stages)) (fact_slots.of told) ≡ Some (fact_type told).shape
+  fact_there : (told : Fact) → slice_get (book_slots types) (fact_slots.of told) ≡ Some (fact_type told).shape
   fact_there facts.House = refl
   fact_there told = refl
 
-  facts_there : HasFactSlots (book_code few b) fact_slots
-  facts_there = record {
-    eligible = refl;
-    facts = fact_there;
-    votes = refl;
-    numbers = refl;
-    apart = λ same. omega (arith, same);
-    facts_apart = λ told same. omega (arith, same);
+  -- a code that has the slots of a book has them where its plans look for them
+  pub has_book_slots : (c : CountingCode) → HasSlotsOf (book_slots types) c → HasBookSlots c types
+  has_book_slots c has = record {
+    facts = record {
+      eligible = has _ _ refl;
+      facts = λ told. has _ _ (fact_there told);
+      votes = has _ _ refl;
+      numbers = has _ _ refl;
+      apart = λ same. omega (arith, same);
+      facts_apart = λ told same. omega (arith, same);
+    };
+    pair_numbers_are = has _ _ refl;
+    names_left_are = has _ _ refl;
+    vacant_seats_are = has _ _ refl;
+    passing_are = λ level s low. has (passing level s) s (passing_there level s low);
+    stages_are = λ k t at. has (stage_slot k) t.type.shape (stage_there k t at);
   }
 
-  pub book_has_slots : HasBookSlots (book_code few b) (columns_of [] b.stages)
-  book_has_slots = record {
-    facts = facts_there;
-    pair_numbers_are = refl;
-    names_left_are = refl;
-    vacant_seats_are = refl;
-    passing_are = passing_there (columns_of [] b.stages);
-    stages_are = stage_there (columns_of [] b.stages);
-  }
+-- the slots of a book with one stage more are those of the book and one more
+book_slots_more : (types : List Column) (t : Column) → book_slots (types ++ t ∷ []) ≡ book_slots types ++ t.type.shape ∷ []
+book_slots_more types t =
+    let shapes : List Column → List Shape = λ ts. map (λ c. c.type.shape) ts in
+    let more : List Shape = t.type.shape ∷ [] in
+    ap (λ (xs : List Shape). fact_shapes ++ (closing_shapes ++ (passing_shapes ++ xs))) (map-append (λ (c : Column). c.type.shape) types (t ∷ []))
+    ∙ ap (λ (xs : List Shape). fact_shapes ++ (closing_shapes ++ xs)) (sym (append_assoc passing_shapes (shapes types) more))
+    ∙ ap (λ (xs : List Shape). fact_shapes ++ xs) (sym (append_assoc closing_shapes (passing_shapes ++ shapes types) more))
+    ∙ sym (append_assoc fact_shapes (closing_shapes ++ (passing_shapes ++ shapes types)) more)
+
+-- what is there for more stages is there for fewer
+pub has_fewer : (types : List Column) (t : Column) (c : CountingCode) → HasSlotsOf (book_slots (types ++ t ∷ [])) c → HasSlotsOf (book_slots types) c
+has_fewer types t c has slot s at =
+    has slot s (ap (λ (xs : List Shape). slice_get xs slot) (book_slots_more types t) ∙ still_there (book_slots types) (t.type.shape ∷ []) slot s at)
+
+pub has_none : (types : List Column) (c : CountingCode) → HasSlotsOf (book_slots types) c → HasSlotsOf (book_slots []) c
+has_none types c has slot s at =
+    has slot s
+    (ap (λ (xs : List Shape). slice_get xs slot) (behind_all types)
+    ∙ still_there (book_slots []) (map (λ x. x.type.shape) types) slot s at)
+  where
+    behind_all : (ts : List Column) → book_slots ts ≡ book_slots [] ++ map (λ x. x.type.shape) ts
+    behind_all ts =
+        let shapes : List Shape = map (λ x. x.type.shape) ts in
+        ap (λ (xs : List Shape). fact_shapes ++ (closing_shapes ++ (xs ++ shapes))) (sym (append-nil passing_shapes))
+        ∙ ap (λ (xs : List Shape). fact_shapes ++ xs) (sym (append_assoc closing_shapes (passing_shapes ++ []) shapes))
+        ∙ sym (append_assoc fact_shapes (closing_shapes ++ (passing_shapes ++ [])) shapes)
+
+-- the first slots
+pub has_first : (types : List Column) (c : CountingCode) → HasSlotsOf (book_slots types) c → HasFirstSlots c
+has_first types c has slot s at =
+    let rest : List Shape = passing_shapes ++ map (λ x. x.type.shape) types in
+    has slot s (ap (λ (xs : List Shape). slice_get xs slot) (sym (append_assoc fact_shapes closing_shapes rest)) ∙ still_there (fact_shapes ++ closing_shapes) rest slot s at)
 
 -- ---- stages
 
@@ -133,8 +168,11 @@ same_maps f g (x ∷ xs) (y ∷ ys) long each =
 pub limits_apart : (ss : List StageTree) → is_within_limits ss ≡ true → (length ss ≤ MAX_STAGES) × (list_all is_within_stage ss ≡ true)
 limits_apart ss within = (few_stages ss within, (and_parts (nat_le (length ss) MAX_STAGES) (list_all is_within_stage ss) within).1)
 
-module _ (few : List Cond) (b : BookTree) where
-  pub book_has_stages : is_within_limits b.stages ≡ true → HasStages (book_code few b) 0 b.stages
+module _ (b : BookTree) (instrs : List Instr) where
+  pub book_has_slots : HasSlotsOf (book_slots (columns_of [] b.stages)) (book_code b instrs)
+  book_has_slots slot s at = at
+
+  pub book_has_stages : is_within_limits b.stages ≡ true → HasStages (book_code b instrs) 0 b.stages
   book_has_stages within = record {
     few = let most = (limits_apart b.stages within).0 in omega (arith, most);
     each = λ j s at.
@@ -143,19 +181,19 @@ module _ (few : List Cond) (b : BookTree) where
         (one.0, ap (λ (m : ℕ). slice_get (code_stages 0 b.stages) m) (sym here) ∙ one.1, one.2);
   }
 
-  pub book_has_as_many : length (book_code few b).stages ≡ length b.stages
+  pub book_has_as_many : length (book_code b instrs).stages ≡ length b.stages
   book_has_as_many = as_many_stages 0 b.stages
 
-  pub book_has_names : map (λ s. s.name) (book_code few b).stages ≡ map (λ s. s.name) b.stages
+  pub book_has_names : map (λ s. s.name) (book_code b instrs).stages ≡ map (λ s. s.name) b.stages
   book_has_names = same_names 0 b.stages
 
   -- the slot of a stage is that of its number
-  pub book_stage_slot : (n : ℕ) (stage : CodeStage) → slice_get (book_code few b).stages n ≡ Some stage → stage.slot ≡ stage_slot n
+  pub book_stage_slot : (n : ℕ) (stage : CodeStage) → slice_get (book_code b instrs).stages n ≡ Some stage → stage.slot ≡ stage_slot n
   book_stage_slot n stage at = let here : 0 + n ≡ n = omega arith in slot_at 0 n b.stages stage at ∙ ap stage_slot here
 
   -- and has the shape of its column
-  pub book_has_shapes : map (λ s. slice_get (book_code few b).slots s.slot) (book_code few b).stages ≡ map (λ x. Some x.type.shape) (columns_of [] b.stages)
+  pub book_has_shapes : map (λ s. slice_get (book_code b instrs).slots s.slot) (book_code b instrs).stages ≡ map (λ x. Some x.type.shape) (columns_of [] b.stages)
   book_has_shapes =
-      same_maps (λ (s : CodeStage). slice_get (book_code few b).slots s.slot) (λ (x : Column). Some x.type.shape) (book_code few b).stages (columns_of [] b.stages)
+      same_maps (λ (s : CodeStage). slice_get (book_code b instrs).slots s.slot) (λ (x : Column). Some x.type.shape) (book_code b instrs).stages (columns_of [] b.stages)
       (book_has_as_many ∙ sym (columns_long b.stages))
-      (λ n stage x at typed. ap (slice_get (book_code few b).slots) (book_stage_slot n stage at) ∙ stage_there (columns_of [] b.stages) n x typed)
+      (λ n stage x at typed. ap (slice_get (book_code b instrs).slots) (book_stage_slot n stage at) ∙ stage_there (columns_of [] b.stages) n x typed)

@@ -1,12 +1,13 @@
 -- The laws of compiled rulebooks: each is the contract of a function of `laws` (docs/compiler.md, section 8).
 use Rattle.std.specs.Prelude.{◌≡◌, ◌≤◌, true, List, length}
+use Rattle.sl_code.specs.declared.instr.Instr.{Instr}
 use Rattle.sl_stages.specs.declared.book.Cond.{Cond}
 use Rattle.sl_stages.specs.book.Trees.{BookTree}
 use Rattle.sl_stages.specs.book.Typing.{is_typed}
 use Rattle.sl_stages.specs.book.Limits.{is_within_limits}
 use Rattle.sl_verify.specs.WellKinded.{IsWellKinded}
 use Rattle.sl_books.specs.Conditions.{SayTheSame}
-use Rattle.sl_books.specs.Codes.{book_instrs, book_code}
+use Rattle.sl_books.specs.Codes.{book_code, AreBookInstrs}
 use Rattle.sl_books.specs.Compiled.{IsCompiled}
 
 -- a typed book within the limits, and a few conditions that say what its own say
@@ -16,11 +17,11 @@ pub record CanCompile (few : List Cond) (b : BookTree) : Type 0 where
   pub same : SayTheSame few b.eligible
 
 abbrev pub BooksAreCompiled : Type 0
-BooksAreCompiled = (few : List Cond) (b : BookTree) → CanCompile few b → IsCompiled b (book_code few b)
+BooksAreCompiled = (few : List Cond) (b : BookTree) (instrs : List Instr) → CanCompile few b → AreBookInstrs few b instrs → IsCompiled b (book_code b instrs)
 
 -- the verifier accepts the code
 abbrev pub BooksAreKinded : Type 0
-BooksAreKinded = (few : List Cond) (b : BookTree) → CanCompile few b → IsWellKinded (book_code few b)
+BooksAreKinded = (few : List Cond) (b : BookTree) (instrs : List Instr) → CanCompile few b → AreBookInstrs few b instrs → IsWellKinded (book_code b instrs)
 
 abbrev pub BooksAreShort : Type 0
-BooksAreShort = (few : List Cond) (b : BookTree) → CanCompile few b → length (book_instrs few b) ≤ 50000
+BooksAreShort = (few : List Cond) (b : BookTree) (instrs : List Instr) → CanCompile few b → AreBookInstrs few b instrs → length instrs ≤ 50000

@@ -1,17 +1,18 @@
--- The plans of an expression stand where those of its arguments and then its own do.
+-- The blocks of an expression stand where those of its arguments and then its own do.
 use Rattle.std.proofs.Common.{◌≡◌, ℕ, ◌+◌, ◌*◌, ◌<◌, max, List, [], ◌∷◌, ◌++◌, Result, IfOk, sym, ap, ◌∙◌, subst, arith, append_assoc}
 use Rattle.sl_stages.specs.declared.book.ColumnType.{ColumnType}
 use Rattle.sl_stages.specs.book.Trees.{ExprTree}
 use Rattle.sl_stages.specs.book.Limits.{depth_of}
 use Rattle.sl_stages.specs.book.Typing.{Column, type_of}
 use Rattle.sl_code.specs.declared.instr.Instr.{Instr}
+use Rattle.sl_code.specs.Codes.{CountingCode}
 use Rattle.sl_plans.specs.Trees.{Tree}
 use Rattle.sl_pieces.specs.columns.Trees.{copy_tree}
 use Rattle.sl_pieces.specs.exprs.Slots.{passing}
 use Rattle.sl_pieces.specs.exprs.Pieces.{pieces}
-use Rattle.sl_compile.specs.inner.Laying.{IsLaidAll, HasRoom}
+use Rattle.sl_blocks.specs.PlanBlocks.{AreBlocks, HasRoom}
 use Rattle.sl_compile.specs.inner.Earlier.{Fits}
-use Rattle.sl_compile.proofs.Places.{laid_as, laid_behind, room_as, room_first, room_rest}
+use Rattle.sl_compile.proofs.Places.{blocks_as, blocks_behind, blocks_where, room_as, room_first, room_rest}
 
 -- ---- plans of which some stand first
 
@@ -19,11 +20,12 @@ module _ (whole first own : List Tree) (is : whole ≡ first ++ own) (before : L
   pub first_room : HasRoom whole before → HasRoom first before
   first_room room = room_first first own before (room_as (first ++ own) whole before (sym is) room)
 
-  pub own_room : (after : List Instr) → HasRoom whole before → IsLaidAll first before after → HasRoom own after
+  pub own_room : {T : CountingCode → Type 0} (after : List Instr) → HasRoom whole before → AreBlocks T first before after → HasRoom own after
   own_room after room there = room_rest first own before after (room_as (first ++ own) whole before (sym is) room) there
 
-  pub own_laid : {R E : Type 0} (r : Result R E) (mid after : List Instr) → IsLaidAll first before mid → IfOk r (λ _. IsLaidAll own mid after) → IfOk r (λ _. IsLaidAll whole before after)
-  own_laid r mid after there laid = laid_as r (first ++ own) whole before after (sym is) (laid_behind r first own before mid after there laid)
+  pub own_blocks : {R E : Type 0} (r : Result R E) (S T : CountingCode → Type 0) → ((code : CountingCode) → T code → S code) → (mid after : List Instr) → AreBlocks T first before mid
+      → IfOk r (λ _. AreBlocks S own mid after) → IfOk r (λ _. AreBlocks T whole before after)
+  own_blocks r S T more mid after there blocks = blocks_as r T (first ++ own) whole before after (sym is) (blocks_behind r S T more first own before mid after there blocks)
 
 -- what has this has that
 pub has_as : {E : Type 0} (r : Result ColumnType E) {of t : ColumnType} → of ≡ t → IfOk r (λ has. has ≡ of) → IfOk r (λ has. has ≡ t)
@@ -49,8 +51,9 @@ module _ (types : List Column) {x y : ExprTree} {of : ColumnType} (is : x ≡ y)
     pub copy_room : (code : List Instr) → HasRoom (pieces types stage level x) code → HasRoom own_copy code
     copy_room code room = room_as own_copy (pieces types stage level x) code copy_is room
 
-    pub copy_laid : {R E : Type 0} (r : Result R E) (before after : List Instr) → IfOk r (λ _. IsLaidAll own_copy before after) → IfOk r (λ _. IsLaidAll (pieces types stage level x) before after)
-    copy_laid r before after laid = laid_as r own_copy (pieces types stage level x) before after copy_is laid
+    pub copy_blocks : {R E : Type 0} (r : Result R E) (S T : CountingCode → Type 0) → ((code : CountingCode) → T code → S code) → (before after : List Instr)
+        → IfOk r (λ _. AreBlocks S own_copy before after) → IfOk r (λ _. AreBlocks T (pieces types stage level x) before after)
+    copy_blocks r S T more before after blocks = blocks_as r T own_copy (pieces types stage level x) before after copy_is (blocks_where r S T more own_copy before after blocks)
 
 -- ---- two arguments, and what is by their types
 
@@ -85,12 +88,12 @@ module _ {types : List Column} {stage level : ℕ} {x l r : ExprTree} {has : Col
         ∙ ap (λ (t : ColumnType). both ++ rest t (type_of types r)) (sym have.0)
         ∙ ap (λ (t : ColumnType). both ++ rest of t) (sym have.1)
 
-    pub rest_room : (before after : List Instr) → HasRoom whole before → IsLaidAll both before after → HasRoom (rest of by) after
+    pub rest_room : {T : CountingCode → Type 0} (before after : List Instr) → HasRoom whole before → AreBlocks T both before after → HasRoom (rest of by) after
     rest_room before after room there = own_room whole both (rest of by) behind_both before after room there
 
-    pub rest_laid : {R E : Type 0} (e : Result R E) (before mid after : List Instr) → IsLaidAll both before mid → IfOk e (λ _. IsLaidAll (rest of by) mid after) →
-        IfOk e (λ _. IsLaidAll whole before after)
-    rest_laid e before mid after there laid = own_laid whole both (rest of by) behind_both before e mid after there laid
+    pub rest_blocks : {R E : Type 0} (e : Result R E) (S T : CountingCode → Type 0) → ((code : CountingCode) → T code → S code) → (before mid after : List Instr) → AreBlocks T both before mid →
+        IfOk e (λ _. AreBlocks S (rest of by) mid after) → IfOk e (λ _. AreBlocks T whole before after)
+    rest_blocks e S T more before mid after there blocks = own_blocks whole both (rest of by) behind_both before e S T more mid after there blocks
 
     pub has_both : {E : Type 0} (e : Result ColumnType E) → IfOk e (λ h. h ≡ has of by) → IfOk e (λ h. h ≡ type_of types x)
     has_both e h =

@@ -1,5 +1,5 @@
 -- The arms of an expression: its tree over those of its parts, and what is so of its arguments.
-use Rattle.std.proofs.Common.{◌≡◌, ℕ, ◌+◌, ◌*◌, ◌<◌, max, List, [], ◌∷◌, ◌++◌, Result, IfOk, refl, ap, ◌∙◌, sym, subst, arith}
+use Rattle.std.proofs.Common.{◌≡◌, ℕ, ◌+◌, ◌*◌, ◌<◌, max, true, List, [], ◌∷◌, ◌++◌, Result, IfOk, refl, ap, ◌∙◌, sym, subst, arith}
 use Rattle.std.specs.Global.{Box}
 use Rattle.sl_stages.specs.declared.book.Pairing.{Pairing}
 use Rattle.sl_stages.specs.declared.book.Axis.{Axis}
@@ -9,15 +9,17 @@ use Rattle.sl_stages.specs.declared.book.ColumnType.{ColumnType}
 use Rattle.sl_stages.specs.declared.book.Expr.{Expr, Sum, Pair}
 use Rattle.sl_stages.specs.book.Limits.{depth_of}
 use Rattle.sl_stages.specs.book.Trees.{ExprTree, tree_of, sum, pair}
-use Rattle.sl_stages.specs.book.Typing.{Column, column, shape_over, type_of}
+use Rattle.sl_stages.specs.book.Typing.{Column, column, shape_over, can_sum, type_of, expr_tests, sum_tests}
+use Rattle.sl_stages.proofs.Tests.{pass_parts, head_holds}
 use Rattle.sl_code.specs.declared.instr.Instr.{Instr}
+use Rattle.sl_code.specs.Codes.{CountingCode}
 use Rattle.sl_plans.specs.Trees.{Tree}
 use Rattle.sl_pieces.specs.columns.Trees.{sum_tree, pair_tree, summed}
 use Rattle.sl_pieces.specs.exprs.Slots.{passing}
 use Rattle.sl_pieces.specs.exprs.Pieces.{pieces}
-use Rattle.sl_compile.specs.inner.Laying.{IsLaidAll, HasRoom}
+use Rattle.sl_blocks.specs.PlanBlocks.{AreBlocks, HasRoom}
 use Rattle.sl_compile.specs.inner.Earlier.{Fits}
-use Rattle.sl_compile.proofs.Arguments.{Over, first_room, own_room, own_laid, has_as}
+use Rattle.sl_compile.proofs.Arguments.{Over, first_room, own_room, own_blocks, has_as}
 use Rattle.sl_compile.proofs.Levels.{sum_fits, pair_fits}
 
 -- ---- trees
@@ -31,7 +33,7 @@ pair_is is x_is y_is = rw (x_is, y_is) (ap tree_of is)
 
 -- ---- sums
 
-summed_is : (over : Axis) → shape_over over ≡ summed over
+pub summed_is : (over : Axis) → shape_over over ≡ summed over
 summed_is axis.Party = refl
 summed_is axis.Land = refl
 summed_is axis.All = refl
@@ -64,11 +66,18 @@ module _ (types : List Column) {at : ℕ} {x y : ExprTree} {over : Axis} (is : x
           ∙ ap (λ (t : ColumnType). first ++ sum_tree over t.shape (passing level t.shape) (passing level (summed over)) ∷ []) (sym of_is)
           ∙ ap (λ (s : Shape). first ++ sum_tree over of.shape (passing level of.shape) (passing level s) ∷ []) (sym (summed_is over))
 
-      pub sum_room : (before after : List Instr) → HasRoom whole before → IsLaidAll first before after → HasRoom own after
+      -- its column can be summed so
+      pub sum_can : Fits types level x → can_sum of.shape over ≡ true
+      sum_can fits =
+          let typed = (subst (λ (z : ExprTree). Fits types level z) is fits).typed in
+          ap (λ (t : ColumnType). can_sum t.shape over) of_is ∙ (head_holds _ _ _ (pass_parts (expr_tests types y) (sum_tests at (type_of types y) over) typed).1).0
+
+      pub sum_room : {T : CountingCode → Type 0} (before after : List Instr) → HasRoom whole before → AreBlocks T first before after → HasRoom own after
       sum_room before after room there = own_room whole first own behind_one before after room there
 
-      pub sum_laid : {R E : Type 0} (r : Result R E) (before mid after : List Instr) → IsLaidAll first before mid → IfOk r (λ _. IsLaidAll own mid after) → IfOk r (λ _. IsLaidAll whole before after)
-      sum_laid r before mid after there laid = own_laid whole first own behind_one before r mid after there laid
+      pub sum_blocks : {R E : Type 0} (r : Result R E) (S T : CountingCode → Type 0) → ((code : CountingCode) → T code → S code) → (before mid after : List Instr) → AreBlocks T first before mid
+          → IfOk r (λ _. AreBlocks S own mid after) → IfOk r (λ _. AreBlocks T whole before after)
+      sum_blocks r S T more before mid after there blocks = own_blocks whole first own behind_one before r S T more mid after there blocks
 
 -- ---- pairs
 

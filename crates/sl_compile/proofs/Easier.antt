@@ -18,9 +18,10 @@ use Rattle.sl_stages.specs.returns.Election.{Election}
 use Rattle.sl_stages.specs.returns.Facts.{meets, is_eligible, valid_votes, all_valid_votes}
 use Rattle.sl_pieces.specs.facts.Laws.{IsShare}
 use Rattle.sl_books.specs.Conditions.{SayTheSame}
-use Rattle.sl_compile.specs.declared.easiest.Share.{Share}
-use Rattle.sl_compile.specs.declared.easiest.Easiest.{Easiest}
-use Rattle.sl_compile.specs.inner.Weakest.{share_condition, share_in, winners_in, minority_in, all_in, few_of, is_met, IsFairIn, IsFair}
+use Rattle.sl_blocks.specs.declared.easiest.Share.{Share}
+use Rattle.sl_blocks.specs.declared.easiest.Easiest.{Easiest}
+use Rattle.sl_blocks.specs.inner.Few.{share_condition, share_in, winners_in, minority_in, all_in, few_of}
+use Rattle.sl_compile.specs.inner.Weakest.{is_met, IsFairIn, IsFair}
 
 -- ---- one of two tests
 

@@ -1,6 +1,5 @@
--- The slots of splits and growths are there, and their plans are laid out.
-use Rattle.std.proofs.Common.{◌≡◌, ℕ, zero, suc, ◌+◌, ◌*◌, ◌<◌, ◌≤◌, Bool, true, false, List, [], ◌++◌, length, Some, slice_get, refl, sym, ap, subst, ◌∙◌, arith}
-use Rattle.std.proofs.lemmas.List.{append-nil}
+-- The slots of splits and growths are there, and their blocks stand.
+use Rattle.std.proofs.Common.{◌≡◌, ℕ, zero, suc, ◌+◌, ◌<◌, ◌≤◌, Bool, true, false, List, [], ◌∷◌, length, Some, slice_get, refl, sym, ap, subst, ◌∙◌, arith}
 use Rattle.std.proofs.lemmas.Option.{same_Some}
 use Rattle.sl_ratio.specs.declared.method.Divisor.{Divisor}
 use Rattle.sl_ratio.specs.declared.method.Method.{Method}
@@ -11,22 +10,26 @@ use Rattle.sl_stages.specs.declared.book.Shape.{Shape}
 use Rattle.sl_stages.specs.declared.book.Shape.TheVariants as shape
 use Rattle.sl_stages.specs.declared.limits.TheConstants.{MAX_DEPTH, MAX_STAGES}
 use Rattle.sl_stages.specs.book.Typing.{can_split}
+use Rattle.sl_code.specs.declared.code.CodeStage.{CodeStage}
 use Rattle.sl_code.specs.declared.instr.Instr.{Instr}
-use Rattle.sl_plans.specs.Laid.{laid}
+use Rattle.sl_code.specs.Codes.{CountingCode}
+use Rattle.sl_plans.specs.Trees.{Tree}
 use Rattle.sl_pieces.specs.declared.form.Form.{Form}
 use Rattle.sl_pieces.specs.scopes.Forms.{amounts_of, votes_of}
 use Rattle.sl_pieces.specs.seats.Slots.{Slots}
 use Rattle.sl_pieces.specs.nodes.Trees.{split_tree, grow_tree}
 use Rattle.sl_books.proofs.Slots.{passing_there as passing_in_book}
 use Rattle.sl_blocks.specs.declared.job.Job.{Job}
-use Rattle.sl_blocks.specs.inner.Jobs.{slots_of, IsJob, TakesMinima, IsSplitJob, IsGrowthJob}
+use Rattle.sl_blocks.specs.inner.Jobs.{slots_of, IsJob, TakesMinima, IsSplitJob, IsGrowthJob, HasJob}
 use Rattle.sl_pieces.specs.exprs.Slots.{passing}
 use Rattle.sl_pieces.specs.exprs.Pieces.{form_by, node_slots, split_piece, grow_piece}
 use Rattle.sl_pieces.proofs.exprs.Places.{amounts_apart, other_level}
-use Rattle.sl_compile.specs.inner.Laying.{IsLaidAll}
 use Rattle.sl_compile.specs.inner.Slots.{low_shapes}
 use Rattle.sl_compile.specs.inner.Nodes.{minima_at, top_of, MayHave}
-use Rattle.sl_blocks.specs.inner.Layout.{IsLaidSplit, IsLaidGrowth}
+use Rattle.sl_blocks.specs.PlanBlocks.{AreBlocks}
+use Rattle.sl_blocks.specs.inner.Jobs.{IsSplitPlan, IsGrowthPlan}
+use Rattle.sl_books.specs.Codes.{HasSoFar}
+use Rattle.sl_books.proofs.Rows.{no_blocks, blocks_in}
 
 -- ---- slots
 
@@ -67,6 +70,12 @@ takes level v by.Hamilton true may = absurd may
 
 -- ---- jobs
 
+-- a list of so many stages has each of them
+stage_in : (stages : List CodeStage) (n : ℕ) → n + 1 ≤ length stages → (s : CodeStage) × (slice_get stages n ≡ Some s)
+stage_in [] n few = absurd (omega (arith, few))
+stage_in (s ∷ stages) zero few = (s, refl)
+stage_in (s ∷ stages) (suc n) few = stage_in stages n (omega (arith, few))
+
 module _ (j : Job) (stage level : ℕ) (s v : Shape) (m : Bool) (is : slots_of j ≡ node_slots [] stage level s v (minima_at level v m))
     (can : can_split s v ≡ true) (low : top_of level m ≤ MAX_DEPTH) (few : stage < MAX_STAGES) where
   abbrev form : Form
@@ -104,27 +113,37 @@ module _ (j : Job) (stage level : ℕ) (s v : Shape) (m : Bool) (is : slots_of j
   pub is_split_job : (method : Method) → MayHave method m → IsSplitJob low_shapes j method
   is_split_job method may = record { form = form; job = is_job; takes = subst (λ o. TakesMinima method o) (sym minima_is) (takes level v method m may) }
 
-  -- what is laid out
-  pub split_laid : (method : Method) (majority : Majority) (before after : List Instr) → j.majority ≡ majority → IsLaidSplit low_shapes j method before after →
-      IsLaidAll (split_piece [] stage level s v (minima_at level v m) method majority) before after
-  split_laid method majority before after same h =
-      h form is_job
-      ∙ ap (λ (x : Slots). before ++ laid (length before) (split_tree form x method j.majority)) is
-      ∙ ap (λ (c : Majority). before ++ laid (length before) (split_tree form (node_slots [] stage level s v (minima_at level v m)) method c)) same
-      ∙ ap (λ (w : List Instr). before ++ w) (sym (append-nil _))
+  -- a code with the slots of a book, and the job's stage
+  has_job : (code : CountingCode) → HasSoFar [] (stage + 1) code → HasJob low_shapes j code
+  has_job code has =
+      let there = stage_in code.stages j.stage (omega (arith, ap (λ (x : Slots). x.stage) is, has.stages)) in
+      record { slots = has.slots; stage = there.0; staged = there.1 }
+
+  -- the blocks
+  pub split_blocks : (method : Method) (majority : Majority) (before after : List Instr) → j.majority ≡ majority → IsSplitPlan low_shapes j method before after →
+      AreBlocks (HasSoFar [] (stage + 1)) (split_piece [] stage level s v (minima_at level v m) method majority) before after
+  split_blocks method majority before after same h =
+      subst (λ (c : Majority). AreBlocks (HasSoFar [] (stage + 1)) (split_tree form (node_slots [] stage level s v (minima_at level v m)) method c ∷ []) before after) same
+      (subst (λ (x : Slots). AreBlocks (HasSoFar [] (stage + 1)) (split_tree form x method j.majority ∷ []) before after) is (blocks_in has_job (h form is_job)))
 
   module _ (method : Method) (cap : ℕ) (majority : Majority) (before after code : List Instr) (there : code ≡ after) where
-    pub growth_laid : (d : Divisor) → method ≡ by.Divisor d → j.majority ≡ majority → IsLaidGrowth low_shapes j d cap before after →
-        IsLaidAll (grow_piece [] stage level s v (minima_at level v m) method majority cap) before code
-    growth_laid d kind same h =
-        rw kind (there ∙ h form is_job
-        ∙ ap (λ (x : Slots). before ++ laid (length before) (grow_tree form x d j.majority cap)) is
-        ∙ ap (λ (c : Majority). before ++ laid (length before) (grow_tree form (node_slots [] stage level s v (minima_at level v m)) d c cap)) same
-        ∙ ap (λ (w : List Instr). before ++ w) (sym (append-nil _)))
+    abbrev Grows : Method → List Instr → Type 0
+    Grows by_it to = AreBlocks (HasSoFar [] (stage + 1)) (grow_piece [] stage level s v (minima_at level v m) by_it majority cap) before to
+
+    abbrev grown : Divisor → Slots → Majority → List Tree
+    grown d x c = grow_tree form x d c cap ∷ []
+
+    pub growth_blocks : (d : Divisor) → method ≡ by.Divisor d → j.majority ≡ majority → IsGrowthPlan low_shapes j d cap before after → Grows method code
+    growth_blocks d kind same h =
+        subst (λ (to : List Instr). Grows method to) (sym there)
+        (subst (λ (k : Method). Grows k after) (sym kind)
+        (subst (λ (c : Majority). AreBlocks (HasSoFar [] (stage + 1)) (grown d (node_slots [] stage level s v (minima_at level v m)) c) before after) same
+        (subst (λ (x : Slots). AreBlocks (HasSoFar [] (stage + 1)) (grown d x j.majority) before after) is (blocks_in has_job (h form is_job)))))
 
     -- by Hamilton's method none
-    pub growth_none : method ≡ by.Hamilton → after ≡ before → IsLaidAll (grow_piece [] stage level s v (minima_at level v m) method majority cap) before code
-    growth_none kind none = rw kind (there ∙ none ∙ sym (append-nil before))
+    pub growth_none : method ≡ by.Hamilton → after ≡ before → Grows method code
+    growth_none kind none =
+        subst (λ (to : List Instr). Grows method to) (sym (there ∙ none)) (subst (λ (k : Method). Grows k before) (sym kind) (no_blocks (HasSoFar [] (stage + 1)) before))
 
 pub is_growth_job : (j : Job) (stage level : ℕ) (s v : Shape) (cap : ℕ) → slots_of j ≡ node_slots [] stage level s v (minima_at level v true) →
     can_split s v ≡ true → level + 2 ≤ MAX_DEPTH → stage < MAX_STAGES → s ≡ shape.One → cap ≤ MAX_SEATS → IsGrowthJob low_shapes j cap

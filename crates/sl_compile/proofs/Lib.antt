@@ -5,9 +5,9 @@ pub mod Levels
 pub mod Jobs
 pub mod Walks
 pub mod Arguments
+pub mod Arms
+pub mod Stands
 pub mod Wholes
 pub mod Found
-pub mod FactPlans
-pub mod Arms
 pub mod Splits
 pub mod Books

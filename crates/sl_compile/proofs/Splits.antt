@@ -16,14 +16,16 @@ use Rattle.sl_stages.specs.book.Limits.{depth_of}
 use Rattle.sl_stages.specs.book.Trees.{ExprTree, tree_of, split, without, atleast, grow}
 use Rattle.sl_stages.specs.book.Typing.{Column, column, type_of, can_split}
 use Rattle.sl_code.specs.declared.instr.Instr.{Instr}
+use Rattle.sl_code.specs.Codes.{CountingCode}
 use Rattle.sl_plans.specs.Trees.{Tree}
 use Rattle.sl_pieces.specs.exprs.Pieces.{pieces, split_piece, grow_piece}
-use Rattle.sl_compile.specs.inner.Laying.{IsLaidAll, HasRoom}
+use Rattle.sl_blocks.specs.PlanBlocks.{AreBlocks, HasRoom}
 use Rattle.sl_compile.specs.inner.Earlier.{Fits, FitsMinima, FitsGrowth}
 use Rattle.sl_compile.specs.inner.Nodes.{minima_at, top_of, MayHave}
-use Rattle.sl_compile.proofs.Arguments.{Over, first_room, rest_room, rest_laid}
+use Rattle.sl_compile.proofs.Arguments.{Over, first_room, rest_room, rest_blocks}
 use Rattle.sl_compile.proofs.Levels.{low, split_fits, split_from_fits, grow_fits}
-use Rattle.sl_compile.proofs.Places.{laid_none, laid_behind, room_rest}
+use Rattle.sl_compile.proofs.Places.{blocks_behind, room_rest}
+use Rattle.sl_books.proofs.Rows.{no_blocks}
 
 -- ---- the tree of a split, without minima and with them, and of a growth
 
@@ -145,8 +147,9 @@ module _ {types : List Column} {stage level : ℕ} {x s v : ExprTree} {method : 
   of_minima = minima_plans types stage level minima
 
   -- none are laid out, or some are
-  pub minima_none : (before after : List Instr) → minima ≡ None → after ≡ before → IsLaidAll of_minima before after
-  minima_none before after is same = subst (λ (o : Option (Box Expr)). IsLaidAll (minima_plans types stage level o) before after) (sym is) (same ∙ laid_none before)
+  pub minima_none : {T : CountingCode → Type 0} (before after : List Instr) → minima ≡ None → after ≡ before → AreBlocks T of_minima before after
+  minima_none {T} before after is same =
+      subst (λ (o : Option (Box Expr)). AreBlocks T (minima_plans types stage level o) before after) (sym is) (subst (λ (w : List Instr). AreBlocks T [] before w) (sym same) (no_blocks T before))
 
   module _ {m : Box Expr} {z : Expr} (is : minima ≡ Some m) (z_is : z ≡ m.value) where
     abbrev some : List Tree
@@ -155,12 +158,13 @@ module _ {types : List Column} {stage level : ℕ} {x s v : ExprTree} {method : 
     some_is : of_minima ≡ some
     some_is = ap (minima_plans types stage level) is ∙ ap (λ (y : Expr). pieces types stage (level + 2) (tree_of y)) (sym z_is)
 
-    pub minima_some : (before mid after : List Instr) → after ≡ mid → IsLaidAll some before mid → IsLaidAll of_minima before after
-    minima_some before mid after same laid = same ∙ subst (λ (ts : List Tree). IsLaidAll ts before mid) (sym some_is) laid
+    pub minima_some : {T : CountingCode → Type 0} (before mid after : List Instr) → after ≡ mid → AreBlocks T some before mid → AreBlocks T of_minima before after
+    minima_some {T} before mid after same blocks =
+        subst (λ (w : List Instr). AreBlocks T of_minima before w) (sym same) (subst (λ (ts : List Tree). AreBlocks T ts before mid) (sym some_is) blocks)
 
-    pub minima_asks : {of by : ColumnType} {t : ℕ} (have : (of ≡ type_of types s) × (by ≡ type_of types v)) (before after : List Instr) → 2 * depth_of x ≡ t → HasRoom whole before →
-        IsLaidAll of_both before after → (2 * depth_of (tree_of z) < t) × (Fits types (level + 2) (tree_of z) × HasRoom some after)
-    minima_asks {of} {by} have before after measure room there =
+    pub minima_asks : {T : CountingCode → Type 0} {of by : ColumnType} {t : ℕ} (have : (of ≡ type_of types s) × (by ≡ type_of types v)) (before after : List Instr) → 2 * depth_of x ≡ t → HasRoom whole before →
+        AreBlocks T of_both before after → (2 * depth_of (tree_of z) < t) × (Fits types (level + 2) (tree_of z) × HasRoom some after)
+    minima_asks {T} {of} {by} have before after measure room there =
         let fit = subst (λ (o : Option (Box Expr)). MinimaFit types level x o) is h.third in
         let falls : depth_of (tree_of z) < depth_of x = subst (λ (y : Expr). depth_of (tree_of y) < depth_of x) (sym z_is) fit.1 in
         let behind = ap (λ (ts : List Tree). ts ++ own of.shape by.shape) some_is in (
@@ -172,10 +176,11 @@ module _ {types : List Column} {stage level : ℕ} {x s v : ExprTree} {method : 
         )
 
   module _ {of by : ColumnType} (have : (of ≡ type_of types s) × (by ≡ type_of types v)) where
-    pub node_room : (before mid after : List Instr) → HasRoom whole before → IsLaidAll of_both before mid → IsLaidAll of_minima mid after → HasRoom (own of.shape by.shape) after
+    pub node_room : {T : CountingCode → Type 0} (before mid after : List Instr) → HasRoom whole before → AreBlocks T of_both before mid → AreBlocks T of_minima mid after →
+        HasRoom (own of.shape by.shape) after
     node_room before mid after room there third = room_rest of_minima (own of.shape by.shape) mid after (rest_room h.over have before mid room there) third
 
-    pub node_laid : {R E : Type 0} (r : Result R E) (before mid late after : List Instr) → IsLaidAll of_both before mid → IfOk r (λ _. IsLaidAll (own of.shape by.shape) late after) →
-        IsLaidAll of_minima mid late → IfOk r (λ _. IsLaidAll whole before after)
-    node_laid r before mid late after there laid third =
-        rest_laid h.over have r before mid after there (laid_behind r of_minima (own of.shape by.shape) mid late after third laid)
+    pub node_blocks : {R E : Type 0} (r : Result R E) (S T : CountingCode → Type 0) → ((code : CountingCode) → T code → S code) → (before mid late after : List Instr) →
+        AreBlocks T of_both before mid → IfOk r (λ _. AreBlocks S (own of.shape by.shape) late after) → AreBlocks T of_minima mid late → IfOk r (λ _. AreBlocks T whole before after)
+    node_blocks r S T more before mid late after there blocks third =
+        rest_blocks h.over have r T T (λ code has. has) before mid after there (blocks_behind r S T more of_minima (own of.shape by.shape) mid late after third blocks)

@@ -1,5 +1,5 @@
 -- The walk over the stages: the columns of their names, and what is laid out before each.
-use Rattle.std.proofs.Common.{◌≡◌, ℕ, zero, suc, ◌+◌, ◌<◌, ◌≤◌, List, [], ◌∷◌, ◌++◌, Bool, true, false, cond, not, None, Some, length, map, find, take, drop, get_or, arith, refl, sym, ap, ◌∙◌}
+use Rattle.std.proofs.Common.{◌≡◌, ℕ, zero, suc, ◌+◌, ◌<◌, ◌≤◌, List, [], ◌∷◌, ◌++◌, Bool, true, false, cond, not, None, Some, length, map, find, take, drop, get_or, slice_get, arith, refl, sym, ap, ◌∙◌}
 use Rattle.std.specs.Prelude.{position, unwrap_or}
 use Rattle.std.specs.Str.{bytes_eq}
 use Rattle.std.specs.List.{position_or_len, list_all}
@@ -19,16 +19,21 @@ use Rattle.sl_stages.specs.book.Limits.{is_within_stage, is_within_limits, depth
 use Rattle.sl_stages.specs.book.Typing.{Column, column, is_named, type_or_one, type_of, stage_column, columns_of, stage_tests, stages_tests, splits_in}
 use Rattle.sl_stages.proofs.Tests.{pass_parts, head_holds}
 use Rattle.sl_code.specs.declared.instr.Instr.{Instr}
+use Rattle.sl_code.specs.Codes.{CountingCode}
 use Rattle.sl_plans.specs.Trees.{Tree}
 use Rattle.sl_pieces.specs.columns.Trees.{copy_tree}
 use Rattle.sl_pieces.specs.declared.slots.TheConstants.{LEVELS}
 use Rattle.sl_pieces.specs.exprs.Slots.{passing, stage_slot}
 use Rattle.sl_pieces.specs.exprs.Pieces.{pieces}
 use Rattle.sl_pieces.specs.exprs.Stages.{stage_pieces, stages_pieces}
-use Rattle.sl_compile.specs.inner.Laying.{IsLaidAll, HasRoom}
+use Rattle.sl_pieces.proofs.exprs.StageRules.{last_there}
+use Rattle.sl_blocks.specs.PlanBlocks.{AreBlocks, HasRoom, HasCopy}
 use Rattle.sl_compile.specs.inner.Earlier.{columns, Fits}
-use Rattle.sl_compile.proofs.Places.{laid_none, laid_then, room_first, room_rest, room_as}
-use Rattle.std.proofs.Common.{append_assoc, subst}
+use Rattle.sl_books.specs.Codes.{HasSoFar}
+use Rattle.sl_books.proofs.Rows.{no_blocks, blocks_then, blocks_in}
+use Rattle.sl_books.proofs.Slots.{has_book_slots, has_fewer}
+use Rattle.sl_compile.proofs.Places.{room_first, room_rest, room_as}
+use Rattle.std.proofs.Common.{append_assoc, subst, length-take}
 
 -- ---- names
 
@@ -115,20 +120,40 @@ copy_as of t k from to is first second =
     ∙ ap (λ (n : ℕ). copy_tree of.shape (passing 0 of.shape) n ∷ []) second
     ∙ ap (λ (u : ColumnType). copy_tree u.shape (passing 0 u.shape) (stage_slot k) ∷ []) is
 
+-- what is there with one stage more is there without it
+pub so_far_before : (types : List Column) (c : Column) (k : ℕ) (code : CountingCode) → HasSoFar (types ++ c ∷ []) (k + 1) code → HasSoFar types (k + 1) code
+so_far_before types c k code has = record { slots = has_fewer types c code has.slots; stages = has.stages }
+
 module _ (types : List Column) (k : ℕ) (s : StageTree) (of : ColumnType) (from to : ℕ) (x y : List Instr)
-    (is : of ≡ type_of types s.expr) (first : from ≡ passing 0 of.shape) (second : to ≡ stage_slot k) (laid : IsLaidAll (pieces types k 0 s.expr) x y) where
+    (is : of ≡ type_of types s.expr) (first : from ≡ passing 0 of.shape) (second : to ≡ stage_slot k)
+    (blocks : AreBlocks (HasSoFar types (k + 1)) (pieces types k 0 s.expr) x y) where
   abbrev own : List Tree
   own = copy_tree (type_of types s.expr).shape (passing 0 (type_of types s.expr).shape) (stage_slot k) ∷ []
 
   same : copy_tree of.shape from to ∷ [] ≡ own
   same = copy_as of (type_of types s.expr) k from to is first second
 
-  -- there is room for the copy behind it, and then the stage is laid out
+  -- there is room for the copy behind it, and then the stage is done
   pub copy_room : HasRoom (stage_pieces types k s) x → HasRoom (copy_tree of.shape from to ∷ []) y
-  copy_room room = room_as (copy_tree of.shape from to ∷ []) own y same (room_rest (pieces types k 0 s.expr) own x y room laid)
+  copy_room room = room_as (copy_tree of.shape from to ∷ []) own y same (room_rest (pieces types k 0 s.expr) own x y room blocks)
 
-  pub stage_laid : (z : List Instr) → IsLaidAll (copy_tree of.shape from to ∷ []) y z → IsLaidAll (stage_pieces types k s) x z
-  stage_laid z copied = laid_then (pieces types k 0 s.expr) own x y z laid (subst (λ (ts : List Tree). IsLaidAll ts y z) same copied)
+  -- both columns of the copy are there
+  copy_there : k ≡ length types → (code : CountingCode) → HasSoFar (types ++ stage_column types s ∷ []) (k + 1) code → HasCopy of.shape from to code
+  copy_there number code has =
+      let slots = has_book_slots (types ++ stage_column types s ∷ []) code has.slots in
+      record {
+        from_there = ap (slice_get code.slots) first ∙ slots.passing_are 0 of.shape (omega arith);
+        to_there = ap (slice_get code.slots) second
+            ∙ slots.stages_are k (stage_column types s) (last_there types (stage_column types s) k number)
+            ∙ ap (λ (t : ColumnType). Some t.shape) (sym is);
+      }
+
+  pub stage_blocks : k ≡ length types → (z : List Instr) → AreBlocks (HasCopy of.shape from to) (copy_tree of.shape from to ∷ []) y z →
+      AreBlocks (HasSoFar (types ++ stage_column types s ∷ []) (k + 1)) (stage_pieces types k s) x z
+  stage_blocks number z copied =
+      let Now : CountingCode → Type 0 = HasSoFar (types ++ stage_column types s ∷ []) (k + 1) in
+      blocks_then (blocks_in (so_far_before types (stage_column types s) k) blocks)
+      (subst (λ (ts : List Tree). AreBlocks Now ts y z) same (blocks_in (copy_there number) copied))
 
 -- ---- the walk
 
@@ -140,18 +165,18 @@ few_stages ss within = rw (← length-map ss stage_of) (leb-true _ _ (first_so _
 enough : (depth splits : ℕ) → depth ≤ MAX_DEPTH → splits ≤ 1 → 0 + depth + splits ≤ LEVELS
 enough depth splits deep few = omega arith
 
--- where the first i stages are laid out behind a start
+-- where the blocks of the first i stages stand behind a start
 pub record LaidFirst (ss : List Stage) (ts : List ColumnType) (i : ℕ) (start code : List Instr) : Type 0 where
   pub within : list_all is_within_stage (map stage_of (drop i ss)) ≡ true
   pub tests : first_failing (stages_tests (columns (take i ss) ts) (map stage_of (drop i ss))) ≡ None
   pub have : columns_of [] (map stage_of ss) ≡ columns_of (columns (take i ss) ts) (map stage_of (drop i ss))
   pub done : List Tree
-  pub laid : IsLaidAll done start code
+  pub blocks : AreBlocks (HasSoFar (columns (take i ss) ts) i) done start code
   pub rest : done ++ stages_pieces (columns (take i ss) ts) i (map stage_of (drop i ss)) ≡ stages_pieces [] 0 (map stage_of ss)
 
 pub laid_first : (ss : List Stage) (ts : List ColumnType) (start : List Instr) → is_within_limits (map stage_of ss) ≡ true →
     first_failing (stages_tests [] (map stage_of ss)) ≡ None → LaidFirst ss ts 0 start start
-laid_first ss ts start within tests = record { within = second_so _ _ within; tests = tests; have = refl; done = []; laid = laid_none start; rest = refl }
+laid_first ss ts start within tests = record { within = second_so _ _ within; tests = tests; have = refl; done = []; blocks = no_blocks (HasSoFar [] 0) start; rest = refl }
 
 module _ (ss : List Stage) (ts : List ColumnType) (i : ℕ) (s : Stage) (start code : List Instr) (h : LaidFirst ss ts i start code)
     (lt : i < length ss) (here : s ≡ get_or ss i s) where
@@ -194,12 +219,16 @@ module _ (ss : List Stage) (ts : List ColumnType) (i : ℕ) (s : Stage) (start c
       let all : h.done ++ (stage_pieces known i (stage_of s) ++ rest) ≡ stages_pieces [] 0 (map stage_of ss) =
       ap (λ (xs : List Tree). h.done ++ xs) (sym pieces_here) ∙ h.rest in
       room_first (stage_pieces known i (stage_of s)) rest code
-      (room_rest h.done (stage_pieces known i (stage_of s) ++ rest) start code (subst (λ (xs : List Tree). HasRoom xs start) (sym all) room) h.laid)
+      (room_rest h.done (stage_pieces known i (stage_of s) ++ rest) start code (subst (λ (xs : List Tree). HasRoom xs start) (sym all) room) h.blocks)
+
+  -- a code with this stage has those before
+  before_this : (code : CountingCode) → HasSoFar (known ++ stage_column known (stage_of s) ∷ []) (i + 1) code → HasSoFar known i code
+  before_this code has = record { slots = has_fewer known (stage_column known (stage_of s)) code has.slots; stages = let more = has.stages in omega (arith, more) }
 
   -- one more stage
   pub laid_next : (t : ColumnType) (after : List Instr) → length ss ≤ length ts → t ≡ type_of known (tree_of s.expr) →
-      IsLaidAll (stage_pieces known i (stage_of s)) code after → LaidFirst ss (set ts i t) (suc i) start after
-  laid_next t after long is laid =
+      AreBlocks (HasSoFar (known ++ stage_column known (stage_of s) ∷ []) (i + 1)) (stage_pieces known i (stage_of s)) code after → LaidFirst ss (set ts i t) (suc i) start after
+  laid_next t after long is blocks =
       let one : i + 1 ≡ suc i = omega arith in
       let next : columns (take (suc i) ss) (set ts i t) ≡ known ++ stage_column known (stage_of s) ∷ [] =
       columns_next ss ts i s t lt long here ∙ ap (λ (u : ColumnType). known ++ record { name = s.name; type = u } ∷ []) is in
@@ -208,7 +237,9 @@ module _ (ss : List Stage) (ts : List ColumnType) (i : ℕ) (s : Stage) (start c
         tests = ap (λ (cs : List Column). first_failing (stages_tests cs later)) next ∙ tests_here.1;
         have = h.have ∙ ap (λ (xs : List StageTree). columns_of known xs) split_rest ∙ ap (λ (cs : List Column). columns_of cs later) (sym next);
         done = h.done ++ stage_pieces known i (stage_of s);
-        laid = laid_then h.done (stage_pieces known i (stage_of s)) start code after h.laid laid;
+        blocks = subst (λ (cs : List Column). AreBlocks (HasSoFar cs (suc i)) (h.done ++ stage_pieces known i (stage_of s)) start after) (sym next)
+            (subst (λ (n : ℕ). AreBlocks (HasSoFar (known ++ stage_column known (stage_of s) ∷ []) n) (h.done ++ stage_pieces known i (stage_of s)) start after) one
+            (blocks_then (blocks_in before_this h.blocks) blocks));
         rest = append_assoc h.done (stage_pieces known i (stage_of s)) (stages_pieces (columns (take (suc i) ss) (set ts i t)) (suc i) later)
             ∙ ap (λ (xs : List Tree). h.done ++ xs)
             (ap (λ (cs : List Column). stage_pieces known i (stage_of s) ++ stages_pieces cs (suc i) later) next
@@ -217,9 +248,15 @@ module _ (ss : List Stage) (ts : List ColumnType) (i : ℕ) (s : Stage) (start c
             ∙ h.rest;
       }
 
+-- the number of a stage is that of the columns before it
+pub stage_number : (ss : List Stage) (ts : List ColumnType) (i : ℕ) → i < length ss → length ss ≤ length ts → i ≡ length (columns (take i ss) ts)
+stage_number ss ts i lt long =
+    let taken : length (take i ss) ≡ i = omega (arith, length-take i ss, lt) in
+    sym (same_length (take i ss) ts (omega (arith, taken, lt, long)) ∙ taken)
+
 -- the whole
 pub all_laid : (ss : List Stage) (ts : List ColumnType) (i : ℕ) (start code : List Instr) → i ≡ length ss → LaidFirst ss ts i start code →
-    (columns ss ts ≡ columns_of [] (map stage_of ss)) × IsLaidAll (stages_pieces [] 0 (map stage_of ss)) start code
+    (columns ss ts ≡ columns_of [] (map stage_of ss)) × AreBlocks (HasSoFar (columns_of [] (map stage_of ss)) (length ss)) (stages_pieces [] 0 (map stage_of ss)) start code
 all_laid ss ts i start code end h =
     let none : drop i ss ≡ [] = ap (λ (n : ℕ). drop n ss) end ∙ drop-length ss in
     let all : take i ss ≡ ss = ap (λ (n : ℕ). take n ss) end ∙ take-length ss in
@@ -229,4 +266,9 @@ all_laid ss ts i start code end h =
     sym (append-nil h.done)
     ∙ ap (λ (xs : List Stage). h.done ++ stages_pieces (columns (take i ss) ts) i (map stage_of xs)) (sym none)
     ∙ h.rest in
-    (sym have, subst (λ (xs : List Tree). IsLaidAll xs start code) done h.laid)
+    let types : columns (take i ss) ts ≡ columns_of [] (map stage_of ss) = ap (λ (xs : List Stage). columns xs ts) all ∙ sym have in (
+      sym have,
+      subst (λ (xs : List Tree). AreBlocks (HasSoFar (columns_of [] (map stage_of ss)) (length ss)) xs start code) done
+          (subst (λ (cs : List Column). AreBlocks (HasSoFar cs (length ss)) h.done start code) types
+          (subst (λ (n : ℕ). AreBlocks (HasSoFar (columns (take i ss) ts) n) h.done start code) end h.blocks)),
+    )

@@ -1,5 +1,5 @@
 -- The code of a book, from its parts.
-use Rattle.std.proofs.Common.{◌≡◌, ℕ, ◌<◌, ◌≤◌, ◌^◌, List, [], ◌∷◌, ◌++◌, Bool, true, false, Option, None, Some, length, map, flat_map, take, refl, ap, ◌∙◌, arith, append_assoc, length-append}
+use Rattle.std.proofs.Common.{◌≡◌, ℕ, ◌<◌, ◌≤◌, ◌^◌, List, [], ◌∷◌, ◌++◌, Bool, true, false, Option, None, Some, length, map, flat_map, take, refl, ap, ◌∙◌, arith, append_assoc}
 use Rattle.std.specs.List.{AllByRecursion}
 use Rattle.std.proofs.lemmas.List.Elements.{All-from_recursion}
 use Rattle.sl_stages.specs.declared.book.Stage.{Stage}
@@ -11,16 +11,18 @@ use Rattle.sl_stages.specs.book.Tests.{first_failing}
 use Rattle.sl_stages.specs.book.Typing.{Column, columns_of, version_tests, condition_tests, stages_tests, base_tests, tests_of, is_typed}
 use Rattle.sl_stages.proofs.Tests.{no_fault, pass_parts, head_holds}
 use Rattle.sl_code.specs.declared.instr.Instr.{Instr}
+use Rattle.sl_code.specs.Codes.{CountingCode}
 use Rattle.sl_plans.specs.Trees.{Tree}
-use Rattle.sl_plans.specs.Laid.{laid_all}
-use Rattle.sl_books.specs.Codes.{book_slots, fact_shapes, closing_shapes, passing_shapes}
-use Rattle.sl_compile.specs.declared.easiest.Share.{Share}
-use Rattle.sl_compile.specs.declared.easiest.Easiest.{Easiest}
-use Rattle.sl_compile.specs.inner.Weakest.{share_in, winners_in, minority_in, all_in, few_of, IsFairIn, IsSmallIn, AreSmall}
-use Rattle.sl_compile.specs.inner.Laying.{IsLaidAll, HasRoom}
+use Rattle.sl_books.specs.Codes.{book_slots, passing_shapes}
+use Rattle.sl_blocks.specs.declared.easiest.Share.{Share}
+use Rattle.sl_blocks.specs.declared.easiest.Easiest.{Easiest}
+use Rattle.sl_blocks.specs.Facts.{fact_shapes, closing_shapes}
+use Rattle.sl_blocks.specs.inner.Few.{share_in, winners_in, minority_in, all_in, few_of, AreSmall}
+use Rattle.sl_blocks.specs.PlanBlocks.{AreBlocks, HasRoom}
+use Rattle.sl_compile.specs.inner.Weakest.{IsFairIn, IsSmallIn}
 use Rattle.sl_compile.specs.inner.Slots.{low_shapes}
 use Rattle.sl_compile.specs.inner.Earlier.{columns}
-use Rattle.sl_compile.proofs.Places.{length-laid_all, laid_then, room_first, room_rest}
+use Rattle.sl_compile.proofs.Places.{room_first, room_rest}
 
 abbrev IsSmall : ℕ → Type 0
 IsSmall n = n < 2 ^ 32
@@ -31,6 +33,7 @@ IsSmall n = n < 2 ^ 32
 pub record Passes (b : BookTree) : Type 0 where
   pub conditions : first_failing (condition_tests b.eligible) ≡ None
   pub stages : first_failing (stages_tests [] b.stages) ≡ None
+  pub base : first_failing (base_tests (columns_of [] b.stages) b.last.at b.last.base) ≡ None
 
 pub passes : (b : BookTree) → is_typed b ≡ true → Passes b
 passes b typed =
@@ -38,7 +41,8 @@ passes b typed =
     let rest = (pass_parts (version_tests b.version b.last.vacate) _ all).1 in
     let behind = (head_holds _ _ _ rest).1 in
     let conditions = pass_parts (condition_tests b.eligible) (stages_tests [] b.stages ++ base_tests (columns_of [] b.stages) b.last.at b.last.base) behind in
-    record { conditions = conditions.0; stages = (pass_parts (stages_tests [] b.stages) _ conditions.1).0 }
+    let ends = pass_parts (stages_tests [] b.stages) _ conditions.1 in
+    record { conditions = conditions.0; stages = ends.0; base = ends.1 }
 
 -- ---- three lists of plans
 
@@ -47,21 +51,12 @@ module _ (facts stages last : List Tree) (room : HasRoom (facts ++ (stages ++ la
   pub facts_room : HasRoom facts []
   facts_room = room_first facts (stages ++ last) [] room
 
-  module _ (x : List Instr) (first : IsLaidAll facts [] x) where
+  module _ {F : CountingCode → Type 0} (x : List Instr) (first : AreBlocks F facts [] x) where
     pub stages_room : HasRoom stages x
     stages_room = room_first stages last x (room_rest facts (stages ++ last) [] x room first)
 
-    pub last_room : (y : List Instr) → IsLaidAll stages x y → HasRoom last y
+    pub last_room : {S : CountingCode → Type 0} (y : List Instr) → AreBlocks S stages x y → HasRoom last y
     last_room y second = room_rest stages last x y (room_rest facts (stages ++ last) [] x room first) second
-
--- all of them and a last instruction
-pub three_laid : (facts stages last : List Tree) (end : Instr) (x y z w : List Instr) → IsLaidAll facts [] x → IsLaidAll stages x y → IsLaidAll last y z →
-    w ≡ z ++ end ∷ [] → w ≡ laid_all 0 (facts ++ (stages ++ last)) ++ end ∷ []
-three_laid facts stages last end x y z w first second third is =
-    is ∙ ap (λ (is' : List Instr). is' ++ end ∷ []) (laid_then facts (stages ++ last) [] x z first (laid_then stages last x y z second third))
-
-pub whole_room : (all : List Tree) (end : Instr) → length (laid_all 0 all ++ end ∷ []) ≤ 70000 → HasRoom all []
-whole_room all end short = omega (arith, short, length-append (laid_all 0 all) (end ∷ []), length-laid_all 0 all)
 
 -- ---- slots
 

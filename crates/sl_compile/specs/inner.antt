@@ -1,5 +1,4 @@
 -- Definitions on which no call of the desk and no law rests.
-pub mod Laying
 pub mod Slots
 pub mod Weakest
 pub mod Earlier

@@ -1,22 +1,20 @@
-//! The plans of a rulebook's last clause (docs/compiler.md, section 6).
+//! The blocks of a rulebook's last clause (docs/compiler.md, section 6).
 
-ghost use Rattle.std.specs.Prelude.{◌≡◌, IfOk};
+ghost use Rattle.std.specs.Prelude.{◌≡◌, [], None, IfOk};
+ghost use Rattle.sl_stages.specs.book.Tests.{first_failing};
+ghost use Rattle.sl_stages.specs.book.Typing.{base_tests};
 ghost use Rattle.sl_pieces.specs.closing.Trees.{base_slot, seating_pieces, vacant_pieces, last_pieces, halting};
-ghost use Rattle.sl_compile.specs.inner.Laying.{IsLaidAll, HasRoom};
+ghost use Rattle.sl_blocks.specs.PlanBlocks.{AreBlocks, HasRoom};
+ghost use Rattle.sl_books.specs.Codes.{HasSoFar};
+ghost use Rattle.sl_compile.specs.inner.Nodes.{HasBase};
 ghost use Rattle.sl_compile.specs.inner.Slots.{low_shapes};
 ghost use Rattle.sl_compile.specs.inner.Earlier.{columns};
 
-use crate::columns::{lay_copy, lay_pair};
 use crate::earlier::Earlier;
-use crate::facts::by_winner;
-use crate::laying::lay_one;
 use crate::slots::{FINAL_SEATS, WINNERS};
-use sl_blocks::cover_block;
-use sl_code::{Input, Instr};
-use sl_pieces::registers::OTHER;
+use sl_blocks::{copy_block, cover_block, names_block, pair_block, placing_block};
+use sl_code::Instr;
 use sl_pieces::slots::{ELIGIBLE, NAMES_LEFT, PAIR_NUMBERS, VACANT_SEATS};
-use sl_plans::Part::Fixed;
-use sl_plans::{Cursor, Plan, Test};
 use sl_ratio::NoMemory;
 use sl_stages::{Base, LastClause, Pairing, Seating, Shape};
 
@@ -31,15 +29,6 @@ fn base_slot(earlier: &Earlier<'_>, base: &Base) -> u8
     }
 }
 
-/// Every winner of an eligible party with a list in the Land sits on it, and every other one as a single.
-const PLACE_KEPT: &Plan<'static> = &Plan::Each(
-    Cursor::Win,
-    by_winner!(
-        &Plan::Line(&[Fixed(Instr::Seat)]),
-        &Plan::Line(&[Fixed(Instr::Single)])
-    ),
-);
-
 /// Slots to work in, of which a covering takes the first one of lists.
 const SCRATCH: [[u8; 8]; 4] = [[0; 8], [0; 8], [0; 8], [PAIR_NUMBERS; 8]];
 
@@ -52,11 +41,11 @@ fn lay_seating(
 ) -> Result<(), NoMemory>
     requires slots { slots.now ≡ low_shapes }
     requires room { HasRoom (seating_pieces from seating) code.old.items }
-    ensures { IfOk result (λ _. IsLaidAll (seating_pieces from seating) code.old.items code.new.items) }
+    ensures { IfOk result (λ _. AreBlocks (HasBase from) (seating_pieces from seating) code.old.items code.new.items) }
 {
     match seating {
         Seating::Keep => {
-            lay_pair(
+            pair_block(
                 code,
                 Pairing::Larger,
                 Shape::List,
@@ -64,27 +53,25 @@ fn lay_seating(
                 WINNERS,
                 FINAL_SEATS,
             )?;
-            lay_one(code, PLACE_KEPT, &[])
+            placing_block(code)
         }
         Seating::Cover => {
-            lay_copy(code, Shape::List, from, FINAL_SEATS)?;
+            copy_block(code, Shape::List, from, FINAL_SEATS)?;
             cover_block(code, slots, FINAL_SEATS, ELIGIBLE, SCRATCH)
         }
     }
 }
 
-const NAMES: &Plan<'static> = &Plan::Line(&[Fixed(Instr::Input(NAMES_LEFT, Input::Names))]);
-
 /// Appends, with `vacate`, the seats that neither winners nor names fill.
 fn lay_vacant(code: &mut Vec<Instr>, vacate: Option<usize>) -> Result<(), NoMemory>
     requires { HasRoom (vacant_pieces vacate) code.old.items }
-    ensures { IfOk result (λ _. IsLaidAll (vacant_pieces vacate) code.old.items code.new.items) }
+    ensures { IfOk result (λ _. AreBlocks (HasSoFar [] 0) (vacant_pieces vacate) code.old.items code.new.items) }
 {
     match vacate {
         None => Ok(()),
         Some(_) => {
-            lay_one(code, NAMES, &[])?;
-            lay_pair(
+            names_block(code)?;
+            pair_block(
                 code,
                 Pairing::Less,
                 Shape::List,
@@ -92,7 +79,7 @@ fn lay_vacant(code: &mut Vec<Instr>, vacate: Option<usize>) -> Result<(), NoMemo
                 WINNERS,
                 VACANT_SEATS,
             )?;
-            lay_pair(
+            pair_block(
                 code,
                 Pairing::Less,
                 Shape::List,
@@ -104,7 +91,7 @@ fn lay_vacant(code: &mut Vec<Instr>, vacate: Option<usize>) -> Result<(), NoMemo
     }
 }
 
-/// Appends the plans of the last clause.
+/// Appends the blocks of the last clause.
 ///
 /// # Errors
 /// No memory was found.
@@ -115,10 +102,12 @@ pub fn lay_last(
     last: &LastClause,
 ) -> Result<(), NoMemory>
     requires slots { slots.now ≡ low_shapes }
+    requires typed { let known = columns earlier.now.stages.now earlier.now.types.now
+        in first_failing (base_tests known last.now.at last.now.base) ≡ None }
     requires room { let known = columns earlier.now.stages.now earlier.now.types.now
         in HasRoom (last_pieces known last.now) code.old.items }
     ensures { let known = columns earlier.now.stages.now earlier.now.types.now
-        in IfOk result (λ _. IsLaidAll (last_pieces known last.now) code.old.items code.new.items) }
+        in IfOk result (λ _. AreBlocks (HasSoFar known 0) (last_pieces known last.now) code.old.items code.new.items) }
 {
     let from = base_slot(earlier, &last.base);
     lay_seating(code, slots, from, last.seating)?;

@@ -1,32 +1,31 @@
 //! The code of a whole rulebook.
 
-ghost use Rattle.std.specs.Prelude.{◌≡◌, [], All, IfOk, IsTrue};
+ghost use Rattle.std.specs.Prelude.{◌≡◌, [], IfOk, IsTrue};
 ghost use Rattle.sl_stages.specs.book.Books.{book_of};
 ghost use Rattle.sl_stages.specs.book.Typing.{is_typed, columns_of};
-ghost use Rattle.sl_stages.specs.book.Words.{is_word};
-ghost use Rattle.sl_books.specs.Codes.{book_instrs};
+ghost use Rattle.sl_blocks.specs.inner.Few.{AreSmall, few_of};
+ghost use Rattle.sl_books.specs.Codes.{AreBookInstrs};
 ghost use Rattle.sl_books.specs.Compiled.{IsCompiled};
 ghost use Rattle.sl_books.specs.Laws.{CanCompile};
 ghost use Rattle.sl_compile.specs.inner.Codes.{IsCodeOf};
 ghost use Rattle.sl_compile.specs.inner.Earlier.{columns};
 ghost use Rattle.sl_compile.specs.inner.Slots.{low_shapes};
-ghost use Rattle.sl_compile.specs.inner.Weakest.{few_of};
 
 use crate::closing::{halting, lay_last};
 use crate::conditions::easiest;
 use crate::earlier::Earlier;
-use crate::easiest::Easiest;
 use crate::facts::lay_facts;
 use crate::naming::code_stages;
 use crate::slots::{add_columns, low_slots};
 use crate::stages::lay_stages;
+use sl_blocks::Easiest;
 use sl_code::{Code, Instr};
 use sl_ratio::NoMemory;
 use sl_stages::{Book, CheckedBook, ColumnType, MAX_STAGES, Shape, Stage};
 use sl_verify::{Verified, verify};
 use std::alloc::Global;
 
-/// Appends the plans of a book and its last instruction, and says what the column of each stage has.
+/// Appends the blocks of a book and its last instruction, and says what the column of each stage has.
 fn lay_book(
     code: &mut Vec<Instr>,
     slots: &[Shape],
@@ -36,8 +35,9 @@ fn lay_book(
     requires empty { code.old.items ≡ [] }
     requires slots { slots.now ≡ low_shapes }
     requires can { CanCompile (few_of few.now) (book_of book.now) }
+    requires small { AreSmall (few_of few.now) }
     ensures have { IfOk result (λ types. columns book.now.stages.items types ≡ columns_of [] (book_of book.now).stages) }
-    ensures laid { IfOk result (λ _. code.new.items ≡ book_instrs (few_of few.now) (book_of book.now)) }
+    ensures blocks { IfOk result (λ _. AreBookInstrs (few_of few.now) (book_of book.now) code.new.items) }
 {
     lay_facts(code, few, book.house.value)?;
     let types = lay_stages(code, slots, &book.stages)?;

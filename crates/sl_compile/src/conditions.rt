@@ -6,9 +6,10 @@ ghost use Rattle.sl_stages.specs.book.Typing.{condition_tests};
 ghost use Rattle.sl_stages.specs.returns.Election.{Election};
 ghost use Rattle.sl_stages.specs.returns.Facts.{meets, is_eligible};
 ghost use Rattle.sl_books.specs.Conditions.{SayTheSame};
-ghost use Rattle.sl_compile.specs.inner.Weakest.{few_of, is_met, IsFair, IsFairIn, IsFairShare, IsSmallIn, AreSmall};
+ghost use Rattle.sl_blocks.specs.inner.Few.{few_of, AreSmall};
+ghost use Rattle.sl_compile.specs.inner.Weakest.{is_met, IsFair, IsFairIn, IsFairShare, IsSmallIn};
 
-use crate::easiest::{Easiest, Share};
+use sl_blocks::{Easiest, Share};
 use sl_stages::Cond;
 
 /// The share that is met wherever one of both is.

@@ -1,11 +1,12 @@
-//! The plans of expressions (docs/compiler.md, section 4).
+//! The blocks of expressions (docs/compiler.md, section 4).
 
 ghost use Rattle.std.specs.Prelude.{◌≡◌, ◌+◌, ◌<◌, ◌++◌, IfOk};
 ghost use Rattle.sl_stages.specs.declared.limits.TheConstants.{MAX_STAGES};
 ghost use Rattle.sl_stages.specs.book.Typing.{type_of};
 ghost use Rattle.sl_stages.specs.book.Trees.{tree_of};
 ghost use Rattle.sl_pieces.specs.exprs.Pieces.{pieces};
-ghost use Rattle.sl_compile.specs.inner.Laying.{IsLaidAll, HasRoom};
+ghost use Rattle.sl_books.specs.Codes.{HasSoFar};
+ghost use Rattle.sl_blocks.specs.PlanBlocks.{AreBlocks, HasRoom};
 ghost use Rattle.sl_compile.specs.inner.Slots.{low_shapes};
 ghost use Rattle.sl_compile.specs.inner.Earlier.{columns, Fits};
 
@@ -27,7 +28,7 @@ pub struct Site<'a> {
 }
 
 impl<'a> Site<'a> {
-    /// Appends the plans of two expressions, the second one a level on, and says what the two have.
+    /// Appends the blocks of two expressions, the second one a level on, and says what the two have.
     #[cycle(expr)]
     #[tactic(none)]
     fn both(
@@ -45,15 +46,15 @@ impl<'a> Site<'a> {
             in HasRoom (pieces known self.now.stage level (tree_of left.now) ++ pieces known self.now.stage (level + 1) (tree_of right.now)) code.old.items }
         ensures has { let known = columns self.now.earlier.stages.now self.now.earlier.types.now
             in IfOk result (λ has. (has.0 ≡ type_of known (tree_of left.now)) × (has.1 ≡ type_of known (tree_of right.now))) }
-        ensures laid { let known = columns self.now.earlier.stages.now self.now.earlier.types.now
-            in IfOk result (λ _. IsLaidAll (pieces known self.now.stage level (tree_of left.now) ++ pieces known self.now.stage (level + 1) (tree_of right.now)) code.old.items code.new.items) }
+        ensures blocks { let known = columns self.now.earlier.stages.now self.now.earlier.types.now
+            in IfOk result (λ _. AreBlocks (HasSoFar known (self.now.stage + 1)) (pieces known self.now.stage level (tree_of left.now) ++ pieces known self.now.stage (level + 1) (tree_of right.now)) code.old.items code.new.items) }
     {
         let left = self.expr(code, level, left)?;
         let right = self.expr(code, level + 1, right)?;
         Ok((left, right))
     }
 
-    /// Appends the plans of an expression, which leave its column in the passing one of its shape on that level, and says what it has.
+    /// Appends the blocks of an expression, which leave its column in the passing one of its shape on that level, and says what it has.
     #[cycle(expr)]
     #[tactic(none)]
     pub fn expr(
@@ -68,8 +69,8 @@ impl<'a> Site<'a> {
             in HasRoom (pieces known self.now.stage level (tree_of expr.now)) code.old.items }
         ensures has { let known = columns self.now.earlier.stages.now self.now.earlier.types.now
             in IfOk result (λ has. has ≡ type_of known (tree_of expr.now)) }
-        ensures laid { let known = columns self.now.earlier.stages.now self.now.earlier.types.now
-            in IfOk result (λ _. IsLaidAll (pieces known self.now.stage level (tree_of expr.now)) code.old.items code.new.items) }
+        ensures blocks { let known = columns self.now.earlier.stages.now self.now.earlier.types.now
+            in IfOk result (λ _. AreBlocks (HasSoFar known (self.now.stage + 1)) (pieces known self.now.stage level (tree_of expr.now)) code.old.items code.new.items) }
     {
         match expr {
             Expr::Fact { fact, .. } => copy(code, level, fact_slot(*fact), fact.column_type()),

@@ -2,15 +2,11 @@
 #![tactic(auto)]
 
 mod closing;
-mod columns;
 mod compiler;
 mod conditions;
 mod earlier;
-mod easiest;
-mod eligible;
 mod exprs;
 mod facts;
-mod laying;
 mod naming;
 mod nodes;
 mod slots;

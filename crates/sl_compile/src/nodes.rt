@@ -1,26 +1,26 @@
-//! The own plans of expressions, whose arguments are in passing columns (docs/compiler.md, section 4). Each leaves its column in the passing
+//! The own blocks of expressions, whose arguments are in passing columns (docs/compiler.md, section 4). Each leaves its column in the passing
 //! one of its shape, and says what the column has.
 
 ghost use Rattle.std.specs.Prelude.{◌≡◌, ◌+◌, ◌≤◌, [], ◌∷◌, true, IfOk};
 ghost use Rattle.sl_stages.specs.declared.book.Shape.TheVariants as shape;
 ghost use Rattle.sl_stages.specs.declared.book.Unit.TheVariants as unit;
-ghost use Rattle.sl_stages.specs.book.Typing.{can_split, column, shape_over};
+ghost use Rattle.sl_stages.specs.book.Typing.{can_split, can_sum, column, shape_over};
 ghost use Rattle.sl_blocks.specs.inner.Jobs.{slots_of};
+ghost use Rattle.sl_blocks.specs.PlanBlocks.{AreBlocks, HasCopy, HasRoom};
 ghost use Rattle.sl_pieces.specs.columns.Trees.{copy_tree, pair_tree, sum_tree};
 ghost use Rattle.sl_pieces.specs.exprs.Pieces.{node_slots, split_piece, grow_piece};
 ghost use Rattle.sl_pieces.specs.exprs.Slots.{passing};
-ghost use Rattle.sl_compile.specs.inner.Laying.{IsLaidAll, HasRoom};
+ghost use Rattle.sl_books.specs.Codes.{HasSoFar};
 ghost use Rattle.sl_compile.specs.inner.Nodes.{minima_at, top_of, MayHave};
 
-use crate::columns::{lay_copy, lay_pair, lay_sum};
 use crate::exprs::Site;
 use crate::slots::passing;
-use sl_blocks::{Job, grow_block, split_block};
+use sl_blocks::{Job, copy_block, grow_block, pair_block, split_block, sum_block};
 use sl_code::Instr;
 use sl_ratio::{Method, NoMemory};
 use sl_stages::{Axis, ColumnType, MAX_DEPTH, MAX_SEATS, Majority, Pairing, Shape};
 
-/// Appends the copy of a column.
+/// Appends the block of a copy of a column.
 pub fn copy(
     code: &mut Vec<Instr>,
     level: u8,
@@ -30,13 +30,13 @@ pub fn copy(
     requires level { level ≤ MAX_DEPTH }
     requires room { HasRoom (copy_tree of.shape from (passing level of.shape) ∷ []) code.old.items }
     ensures has { IfOk result (λ has. has ≡ of) }
-    ensures laid { IfOk result (λ _. IsLaidAll (copy_tree of.shape from (passing level of.shape) ∷ []) code.old.items code.new.items) }
+    ensures blocks { IfOk result (λ _. AreBlocks (HasCopy of.shape from (passing level of.shape)) (copy_tree of.shape from (passing level of.shape) ∷ []) code.old.items code.new.items) }
 {
-    lay_copy(code, of.shape, from, passing(level, of.shape))?;
+    copy_block(code, of.shape, from, passing(level, of.shape))?;
     Ok(of)
 }
 
-/// Appends the sum of a column.
+/// Appends the block of a sum of a column, which can be summed so.
 pub fn sum(
     code: &mut Vec<Instr>,
     level: u8,
@@ -44,12 +44,13 @@ pub fn sum(
     over: Axis,
 ) -> Result<ColumnType, NoMemory>
     requires level { level ≤ MAX_DEPTH }
+    requires can { can_sum of.shape over ≡ true }
     requires room { HasRoom (sum_tree over of.shape (passing level of.shape) (passing level (shape_over over)) ∷ []) code.old.items }
     ensures has { IfOk result (λ has. has ≡ column (shape_over over) of.unit) }
-    ensures laid { IfOk result (λ _. IsLaidAll (sum_tree over of.shape (passing level of.shape) (passing level (shape_over over)) ∷ []) code.old.items code.new.items) }
+    ensures blocks { IfOk result (λ _. AreBlocks (HasSoFar [] 0) (sum_tree over of.shape (passing level of.shape) (passing level (shape_over over)) ∷ []) code.old.items code.new.items) }
 {
     let shape = over.shape();
-    lay_sum(
+    sum_block(
         code,
         over,
         of.shape,
@@ -62,7 +63,7 @@ pub fn sum(
     })
 }
 
-/// Appends the pair of a column and one a level on.
+/// Appends the block of a pair of a column and one a level on.
 pub fn pair(
     code: &mut Vec<Instr>,
     level: u8,
@@ -72,10 +73,10 @@ pub fn pair(
     requires level { level + 1 ≤ MAX_DEPTH }
     requires room { HasRoom (pair_tree pairing of.shape (passing level of.shape) (passing (level + 1) of.shape) (passing level of.shape) ∷ []) code.old.items }
     ensures has { IfOk result (λ has. has ≡ of) }
-    ensures laid { IfOk result (λ _. IsLaidAll (pair_tree pairing of.shape (passing level of.shape) (passing (level + 1) of.shape) (passing level of.shape) ∷ []) code.old.items code.new.items) }
+    ensures blocks { IfOk result (λ _. AreBlocks (HasSoFar [] 0) (pair_tree pairing of.shape (passing level of.shape) (passing (level + 1) of.shape) (passing level of.shape) ∷ []) code.old.items code.new.items) }
 {
     let to = passing(level, of.shape);
-    lay_pair(
+    pair_block(
         code,
         pairing,
         of.shape,
@@ -111,7 +112,7 @@ impl<'a> Site<'a> {
         }
     }
 
-    /// Appends the plan of a split.
+    /// Appends the block of a split.
     pub fn split(
         &self,
         code: &mut Vec<Instr>,
@@ -127,14 +128,14 @@ impl<'a> Site<'a> {
         requires may { MayHave method minima }
         requires room { HasRoom (split_piece [] self.now.stage level of.shape by.shape (minima_at level by.shape minima) method majority) code.old.items }
         ensures has { IfOk result (λ has. has ≡ column by.shape unit.Seats) }
-        ensures laid { IfOk result (λ _. IsLaidAll (split_piece [] self.now.stage level of.shape by.shape (minima_at level by.shape minima) method majority) code.old.items code.new.items) }
+        ensures blocks { IfOk result (λ _. AreBlocks (HasSoFar [] (self.now.stage + 1)) (split_piece [] self.now.stage level of.shape by.shape (minima_at level by.shape minima) method majority) code.old.items code.new.items) }
     {
         let job = self.job(level, of.shape, by.shape, minima, majority);
         split_block(code, self.slots, &job, method)?;
         Ok(ColumnType::seats(by.shape))
     }
 
-    /// Appends the plan of a growth; Hamilton's method has none.
+    /// Appends the block of a growth; Hamilton's method has none.
     pub fn growth(
         &self,
         code: &mut Vec<Instr>,
@@ -151,7 +152,7 @@ impl<'a> Site<'a> {
         requires few { cap ≤ MAX_SEATS }
         requires room { HasRoom (grow_piece [] self.now.stage level of.shape by.shape (minima_at level by.shape true) method majority cap) code.old.items }
         ensures has { IfOk result (λ has. has ≡ column by.shape unit.Seats) }
-        ensures laid { IfOk result (λ _. IsLaidAll (grow_piece [] self.now.stage level of.shape by.shape (minima_at level by.shape true) method majority cap) code.old.items code.new.items) }
+        ensures blocks { IfOk result (λ _. AreBlocks (HasSoFar [] (self.now.stage + 1)) (grow_piece [] self.now.stage level of.shape by.shape (minima_at level by.shape true) method majority cap) code.old.items code.new.items) }
     {
         let job = self.job(level, of.shape, by.shape, true, majority);
         if let Method::Divisor(divisor) = method {

@@ -1,40 +1,43 @@
-//! The plans of a rulebook's stages (docs/compiler.md, section 5).
+//! The blocks of a rulebook's stages (docs/compiler.md, section 5).
 
-ghost use Rattle.std.specs.Prelude.{◌≡◌, [], map, None, IfOk, IsTrue};
+ghost use Rattle.std.specs.Prelude.{◌≡◌, ◌+◌, [], ◌∷◌, ◌++◌, length, map, None, IfOk, IsTrue};
 ghost use Rattle.sl_stages.specs.book.Trees.{tree_of, stage_of};
 ghost use Rattle.sl_stages.specs.book.Limits.{is_within_limits};
 ghost use Rattle.sl_stages.specs.book.Tests.{first_failing};
-ghost use Rattle.sl_stages.specs.book.Typing.{type_of, stages_tests, columns_of};
+ghost use Rattle.sl_stages.specs.book.Typing.{type_of, stage_column, stages_tests, columns_of};
 ghost use Rattle.sl_pieces.specs.exprs.Stages.{stage_pieces, stages_pieces};
-ghost use Rattle.sl_compile.specs.inner.Laying.{IsLaidAll, HasRoom};
+ghost use Rattle.sl_books.specs.Codes.{HasSoFar};
+ghost use Rattle.sl_blocks.specs.PlanBlocks.{AreBlocks, HasRoom};
 ghost use Rattle.sl_compile.specs.inner.Slots.{low_shapes};
 ghost use Rattle.sl_compile.specs.inner.Earlier.{columns, Fits};
 
-use crate::columns::lay_copy;
 use crate::earlier::Earlier;
 use crate::exprs::Site;
 use crate::slots::{passing, stage_slot};
+use sl_blocks::copy_block;
 use sl_code::Instr;
 use sl_ratio::NoMemory;
 use sl_stages::{ColumnType, MAX_STAGES, Shape, Stage};
 
-/// Appends the plans of a stage's expression, and the copy of its column into the stage's slot, and says what the column has.
+/// Appends the blocks of a stage's expression, and the copy of its column into the stage's slot, and says what the column has.
 fn lay_stage(code: &mut Vec<Instr>, site: &Site<'_>, stage: &Stage) -> Result<ColumnType, NoMemory>
     requires fits { let known = columns site.now.earlier.stages.now site.now.earlier.types.now
         in Fits known 0 (tree_of stage.now.expr) }
+    requires number { let known = columns site.now.earlier.stages.now site.now.earlier.types.now
+        in site.now.stage ≡ length known }
     requires room { let known = columns site.now.earlier.stages.now site.now.earlier.types.now
         in HasRoom (stage_pieces known site.now.stage (stage_of stage.now)) code.old.items }
     ensures has { let known = columns site.now.earlier.stages.now site.now.earlier.types.now
         in IfOk result (λ has. has ≡ type_of known (tree_of stage.now.expr)) }
-    ensures laid { let known = columns site.now.earlier.stages.now site.now.earlier.types.now
-        in IfOk result (λ _. IsLaidAll (stage_pieces known site.now.stage (stage_of stage.now)) code.old.items code.new.items) }
+    ensures blocks { let known = columns site.now.earlier.stages.now site.now.earlier.types.now
+        in IfOk result (λ _. AreBlocks (HasSoFar (known ++ stage_column known (stage_of stage.now) ∷ []) (site.now.stage + 1)) (stage_pieces known site.now.stage (stage_of stage.now)) code.old.items code.new.items) }
 {
     let of = site.expr(code, 0, &stage.expr)?;
-    lay_copy(code, of.shape, passing(0, of.shape), stage_slot(site.stage))?;
+    copy_block(code, of.shape, passing(0, of.shape), stage_slot(site.stage))?;
     Ok(of)
 }
 
-/// Appends the plans of the stages, and says what the column of each has; what stands behind them is of no stage.
+/// Appends the blocks of the stages, and says what the column of each has; what stands behind them is of no stage.
 ///
 /// # Errors
 /// No memory was found.
@@ -48,7 +51,7 @@ pub fn lay_stages<'a>(
     requires typed { first_failing (stages_tests [] (map stage_of stages.now)) ≡ None }
     requires room { HasRoom (stages_pieces [] 0 (map stage_of stages.now)) code.old.items }
     ensures have { IfOk result (λ types. columns stages.now types ≡ columns_of [] (map stage_of stages.now)) }
-    ensures laid { IfOk result (λ _. IsLaidAll (stages_pieces [] 0 (map stage_of stages.now)) code.old.items code.new.items) }
+    ensures blocks { IfOk result (λ _. AreBlocks (HasSoFar (columns_of [] (map stage_of stages.now)) (length stages.now)) (stages_pieces [] 0 (map stage_of stages.now)) code.old.items code.new.items) }
 {
     let mut types = [ColumnType::seats(Shape::One); MAX_STAGES];
     for (i, stage) in stages.iter().enumerate() {

@@ -1,5 +1,5 @@
 -- By the statute of 2013 the house grows to the least one that has room for all winners of lists.
-use Rattle.std.proofs.Common.{◌≡◌, ℕ, ◌+◌, ◌-◌, ◌<◌, ◌≤◌, Bool, true, false, cond, List, [], ◌∷◌, Some, length, map, filter, max, sum, sum_by, inl, inr, arith, refl, sym, ap, subst, ◌∙◌}
+use Rattle.std.proofs.Common.{◌≡◌, ℕ, ◌-◌, ◌<◌, ◌≤◌, Bool, true, List, [], ◌∷◌, Some, filter, max, sum, sum_by, inl, inr, arith, refl, sym, ap, subst, ◌∙◌}
 use Rattle.std.specs.Prelude.{Contains, slice_index, codes, Option, find, option_map}
 use Rattle.std.specs.List.{AllByRecursion as Every, AllZip}
 use Rattle.std.proofs.lemmas.Bool.{cases_Bool, both_ways, cond-true, cond-false}
@@ -13,9 +13,8 @@ use Rattle.sl_stages.specs.declared.fact.Fact.TheVariants as facts
 use Rattle.sl_stages.specs.declared.fault.Item.{Item}
 use Rattle.sl_stages.specs.declared.fault.Item.TheVariants as item
 use Rattle.sl_stages.specs.declared.table.ListSeats.{ListSeats}
-use Rattle.sl_stages.specs.declared.table.Outcome.TheVariants as outcome
-use Rattle.sl_stages.specs.book.Trees.{ExprTree, fact, name, pair, atleast, StageTree, BookTree}
-use Rattle.sl_stages.specs.returns.Election.{Election, IsElection, lands_of, parties_of, has_list}
+use Rattle.sl_stages.specs.book.Trees.{fact, name, pair, atleast, BookTree}
+use Rattle.sl_stages.specs.returns.Election.{Election, lands_of, parties_of, has_list}
 use Rattle.sl_stages.specs.returns.Facts.{lands, parties, lists_of, list_cell}
 use Rattle.sl_stages.specs.methods.LeastHouse.{GrownTo, IsGrowth, IsGrownAllocation}
 use Rattle.sl_stages.specs.laws.MeaningLaws.{IsListOf}
@@ -25,11 +24,10 @@ use Rattle.sl_stages.specs.meaning.Results.{Column, plain}
 use Rattle.sl_stages.specs.meaning.Scopes.{cells, scopes, entries_of, lists_of_party}
 use Rattle.sl_stages.specs.meaning.Expressions.{Context, ExprMeans}
 use Rattle.sl_stages.specs.meaning.Means.{Known, Through, nothing_known, context_of, with_stage, StagesMean}
-use Rattle.sl_stages.specs.meaning.Tables.{SeatTable}
-use Rattle.sl_stages.proofs.meaning.DistinctLists.{every_weaker, every_both, always}
+use Rattle.sl_stages.proofs.meaning.DistinctLists.{every_weaker, every_both}
 use Rattle.sl_stages.proofs.meaning.TypedMeaning.{then_column}
-use Rattle.sl_fairness.specs.Winners.{base_seats, winners_on, overhang, outside, IsLine}
-use Rattle.sl_fairness.specs.Amounts.{sum_in, number_of}
+use Rattle.sl_fairness.specs.Winners.{base_seats, winners_on, overhang, IsLine}
+use Rattle.sl_fairness.specs.Amounts.{sum_in}
 use Rattle.sl_fairness.proofs.Amounts.{splits_give_the_amount, splits_meet_the_minima, growths_allocate}
 use Rattle.sl_fairness.proofs.Bases.{end_of, sum_of_base}
 use Rattle.sl_fairness.proofs.Growths.{grown_by_votes}
@@ -38,7 +36,7 @@ use Rattle.sl_fairness.proofs.Winners.{keep_total}
 use Rattle.sl_statutes.specs.Trees.{law_of_2013, pool, lands_2013, first_2013, floor_2013, upper_2013, lower_2013, party_votes, number}
 use Rattle.sl_statutes.specs.Houses.{house_of}
 use Rattle.sl_statutes.specs.Parties.{party_column, party_seats, seats_column}
-use Rattle.sl_statutes.specs.Grown.{GrowsToFit, HouseOf2013, PartiesOf2013}
+use Rattle.sl_statutes.specs.Grown.{HouseOf2013, PartiesOf2013}
 use Rattle.sl_statutes.proofs.Sums.{sum_zero, every_number}
 use Rattle.sl_statutes.proofs.Runs.{ran, same_known, fact_is, name_is, pool_is, votes_are, plain_values}
 use Rattle.sl_statutes.proofs.Shares.{all_parties, party_lists, first_in, contained, every_unmap, each_scope, amount_is, last_column, shared_out, outside_in_all}

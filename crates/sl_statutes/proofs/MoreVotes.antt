@@ -1,9 +1,9 @@
 -- By the statutes of 2023 the parties share by Webster's method, so more votes for one of its lists cost a party no seat.
-use Rattle.std.proofs.Common.{◌≡◌, ◌≢◌, ℕ, ◌+◌, ◌-◌, ◌*◌, ◌<◌, ◌≤◌, ◌||◌, Bool, true, false, cond, List, [], ◌∷◌, Option, Some, None, length, get_or, set, sum, sum_by, inl, inr, arith, refl, sym, ap, subst, ◌∙◌}
+use Rattle.std.proofs.Common.{◌≡◌, ◌≢◌, ℕ, ◌+◌, ◌-◌, ◌*◌, ◌<◌, ◌≤◌, Bool, true, false, cond, List, [], ◌∷◌, Option, Some, None, length, get_or, set, sum, sum_by, inl, inr, arith, refl, sym, ap, subst, ◌∙◌}
 use Rattle.std.specs.Prelude.{slice_index, is_some, replicate}
 use Rattle.std.proofs.Math.Nat.{mul-le-mul_left, mul-le-mul_right}
 use Rattle.std.specs.List.{AllByRecursion as Every, list_any}
-use Rattle.std.proofs.lemmas.Bool.{cases_Bool, cases_lt, cases_eq, or_cases, or_left, or_right, leb-true, le-leb, both_ways, cond-true, cond-false}
+use Rattle.std.proofs.lemmas.Bool.{cases_Bool, cases_lt, cases_eq, or_cases, or_left, or_right, leb-true, le-leb, cond-true, cond-false}
 use Rattle.std.proofs.lemmas.List.{get_or-set_same, get_or-set_other}
 use Rattle.sl_ratio.specs.declared.method.Divisor.TheVariants.{Webster}
 use Rattle.sl_ratio.specs.declared.method.Method.TheVariants as by
@@ -16,8 +16,8 @@ use Rattle.sl_stages.specs.declared.returns.ListVotes.{ListVotes}
 use Rattle.sl_stages.specs.book.Trees.{BookTree}
 use Rattle.sl_stages.specs.book.Typing.{is_typed}
 use Rattle.sl_stages.specs.returns.Votes.{valid_in, counted_in}
-use Rattle.sl_stages.specs.returns.Election.{Election, IsElection, lands_of, parties_of, list_at, has_list, with_list}
-use Rattle.sl_stages.specs.returns.Facts.{lands, parties, by_party, list_cell, valid_votes, all_valid_votes, meets, is_eligible, counted_votes}
+use Rattle.sl_stages.specs.returns.Election.{Election, IsElection, lands_of, parties_of, list_at, with_list}
+use Rattle.sl_stages.specs.returns.Facts.{lands, parties, list_cell, valid_votes, all_valid_votes, meets, is_eligible, counted_votes}
 use Rattle.sl_stages.specs.methods.Field.{no_minima}
 use Rattle.sl_stages.specs.methods.Allocations.{IsDivisorAllocation}
 use Rattle.sl_stages.specs.meaning.Columns.{IsLeaf, fact_column}
@@ -29,13 +29,13 @@ use Rattle.sl_stages.proofs.FactReadings.{lists_are_named}
 use Rattle.sl_stages.proofs.methods.SeatSums.{none_needed}
 use Rattle.sl_stages.proofs.meaning.ListPlaces.{by_list_at}
 use Rattle.sl_stages.proofs.meaning.DistinctLists.{every_weaker, every_both, always}
-use Rattle.sl_fairness.specs.Winners.{independents, winners_on}
+use Rattle.sl_fairness.specs.Winners.{independents}
 use Rattle.sl_fairness.specs.Amounts.{sum_in}
 use Rattle.sl_fairness.proofs.ListColumns.{sum_agree, below}
 use Rattle.sl_fairness.proofs.Bases.{end_of}
 use Rattle.sl_fairness.proofs.Covering.{cover_keeps_base}
 use Rattle.sl_fairness.proofs.Votes.{votes_monotone}
-use Rattle.sl_statutes.specs.Trees.{law_of_2023, law_of_2023_order, shares, cover, minorities, common}
+use Rattle.sl_statutes.specs.Trees.{law_of_2023, law_of_2023_order, shares, cover}
 use Rattle.sl_statutes.specs.Houses.{house_of}
 use Rattle.sl_statutes.specs.Parties.{party_column, party_seats, seats_column, AlwaysByWebster, IsGain, NeverLosesByVotes, PartiesOf2023, VotesOf2023}
 use Rattle.sl_statutes.proofs.Sums.{sum_raised, sum_zero}

@@ -1,5 +1,5 @@
 -- What a table gives the lists of a party, and columns of parties.
-use Rattle.std.proofs.Common.{◌≡◌, ◌≢◌, ℕ, ◌<◌, ◌≤◌, Bool, true, false, cond, List, [], ◌∷◌, nat_eq, length, get_or, map, filter, sum_by, arith, refl, sym, ap, subst, ◌∙◌}
+use Rattle.std.proofs.Common.{◌≡◌, ℕ, ◌<◌, ◌≤◌, Bool, true, false, cond, List, [], ◌∷◌, nat_eq, length, get_or, map, filter, sum_by, arith, refl, sym, ap, ◌∙◌}
 use Rattle.std.specs.Prelude.{slice_index}
 use Rattle.std.specs.List.{AllByRecursion as Every, AllZip}
 use Rattle.std.proofs.lemmas.Bool.{eq-eqb, ne_eqb}
@@ -17,7 +17,7 @@ use Rattle.sl_stages.proofs.meaning.DistinctLists.{every_weaker, always}
 use Rattle.sl_fairness.specs.Winners.{base_seats, IsLine}
 use Rattle.sl_fairness.specs.Amounts.{sum_in}
 use Rattle.sl_fairness.proofs.ListColumns.{sum_agree, sum_mapped, sum_pieces, map_mapped, below}
-use Rattle.sl_statutes.specs.Parties.{party_seats, seats_column}
+use Rattle.sl_statutes.specs.Parties.{party_seats}
 use Rattle.sl_statutes.proofs.Sums.{sum_filter, one_term}
 use Rattle.sl_statutes.proofs.Shares.{party_lists, of_party}
 

@@ -11,7 +11,7 @@ use Rattle.sl_machine.specs.Effects.{one_if}
 use Rattle.sl_machine.specs.Memories.{column_of}
 use Rattle.sl_pieces.specs.covers.Trees.{CoverSlots}
 use Rattle.sl_pieces.specs.covers.Covering.{AreCovered, EndsInTie}
-use Rattle.sl_blocks.specs.inner.Blocks.{HasSlotsOf, IsBlock}
+use Rattle.sl_blocks.specs.Blocks.{HasSlotsOf, IsShareBlock}
 
 -- among slots of these shapes those of the covering are there, and the one that it writes is not that of the seats
 pub record IsCoverJob (shapes : List Shape) (x : CoverSlots) : Type 0 where
@@ -36,5 +36,5 @@ pub record BeginsCover (x : CoverSlots) (e : Election) (s : State) : Type 0 wher
 -- the code after is the code before with the block of that covering
 abbrev pub IsCoverBlock : (shapes : List Shape) → CoverSlots → List Instr → List Instr → Type 0
 IsCoverBlock shapes x before after =
-    IsBlock (HasSlotsOf shapes) (λ code e s. BeginsCover x e s)
+    IsShareBlock (HasSlotsOf shapes) (λ code e s. BeginsCover x e s)
     (λ code e s. AreCovered code e x (flagged x s) (column_of code e s x.base) s) (λ code e s. EndsInTie code e (flagged x s) (column_of code e s x.base)) before after

@@ -1,5 +1,5 @@
 -- Splits and growths as blocks: the caller's conditions, and what the blocks do (docs/blocks.md, section 5).
-use Rattle.std.specs.Prelude.{◌≡◌, ◌≢◌, ℕ, ◌<◌, ◌≤◌, List, Option, None, Some, All, slice_get, option_map}
+use Rattle.std.specs.Prelude.{◌≡◌, ◌≢◌, ℕ, ◌<◌, ◌≤◌, List, [], ◌∷◌, Option, None, Some, All, slice_get, option_map}
 use Rattle.sl_ratio.specs.declared.limits.TheConstants.{MAX_WEIGHT, MAX_SEATS}
 use Rattle.sl_ratio.specs.declared.method.Divisor.{Divisor}
 use Rattle.sl_ratio.specs.declared.method.Method.{Method}
@@ -16,27 +16,19 @@ use Rattle.sl_code.specs.Codes.{CountingCode}
 use Rattle.sl_machine.specs.State.{State}
 use Rattle.sl_machine.specs.Memories.{column_of}
 use Rattle.sl_pieces.specs.declared.form.Form.{Form}
-use Rattle.sl_pieces.specs.declared.form.Form.TheVariants.{AllParties, AllLands, AllLists, ListsOfParty, ListsInLand}
 use Rattle.sl_pieces.specs.scopes.Forms.{amounts_of, votes_of}
 use Rattle.sl_pieces.specs.seats.Slots.{Slots}
 use Rattle.sl_pieces.specs.nodes.Scopes.{stand}
 use Rattle.sl_pieces.specs.nodes.Nodes.{HasResult, EndsWith}
+use Rattle.sl_pieces.specs.nodes.Trees.{split_tree, grow_tree}
+use Rattle.sl_blocks.specs.PlanBlocks.{AreBlocks}
 use Rattle.sl_blocks.specs.declared.job.Job.{Job}
-use Rattle.sl_blocks.specs.inner.Blocks.{HasSlotsOf, IsBlock}
+use Rattle.sl_blocks.specs.Blocks.{HasSlotsOf, IsShareBlock}
 
 -- ---- the caller's conditions
 
 abbrev pub slots_of : Job → Slots
 slots_of j = record { stage = j.stage; amounts = j.amount; votes = j.weights; minima = j.minima; result = j.result }
-
--- the form by the shapes of the amounts and of the votes, if seats can be split so
-abbrev pub form_by : Shape → Shape → Option Form
-form_by shape.One shape.Party = Some AllParties
-form_by shape.One shape.Land = Some AllLands
-form_by shape.One shape.List = Some AllLists
-form_by shape.Party shape.List = Some ListsOfParty
-form_by shape.Land shape.List = Some ListsInLand
-form_by _ _ = None
 
 -- among slots of these shapes the job's are there, with the shapes of the form; its result is no other's; and a stage may have its number
 pub record IsJob (shapes : List Shape) (f : Form) (j : Job) : Type 0 where
@@ -103,7 +95,7 @@ pub record GrowthMeans (f : Form) (j : Job) (slot : ℕ) (d : Divisor) (cap : �
 -- a block does as the result says: its column and its records, or its fault
 abbrev pub IsResultBlock : (shapes : List Shape) (f : Form) (j : Job) → (CountingCode → Election → State → ExprResult → Type 0) → List Instr → List Instr → Type 0
 IsResultBlock shapes f j Means before after =
-    IsBlock (HasJob shapes j) (HasWeights j) (λ code e state. HasResult e f (slots_of j) (Means code e state) state) (λ code e state. EndsWith (Means code e state)) before after
+    IsShareBlock (HasJob shapes j) (HasWeights j) (λ code e state. HasResult e f (slots_of j) (Means code e state) state) (λ code e state. EndsWith (Means code e state)) before after
 
 -- the code after is the code before with the block of that split, or of that growth
 abbrev pub IsSplitBlock : (shapes : List Shape) (j : Job) (method : Method) → List Instr → List Instr → Type 0
@@ -112,3 +104,10 @@ IsSplitBlock shapes j method before after = (f : Form) → IsJob shapes f j → 
 abbrev pub IsGrowthBlock : (shapes : List Shape) (j : Job) (d : Divisor) (cap : ℕ) → List Instr → List Instr → Type 0
 IsGrowthBlock shapes j d cap before after =
     (f : Form) (slot : ℕ) → IsJob shapes f j → j.minima ≡ Some slot → IsResultBlock shapes f j (GrowthMeans f j slot d cap) before after
+
+-- the same in the words of plans
+abbrev pub IsSplitPlan : (shapes : List Shape) (j : Job) (method : Method) → List Instr → List Instr → Type 0
+IsSplitPlan shapes j method before after = (f : Form) → IsJob shapes f j → AreBlocks (HasJob shapes j) (split_tree f (slots_of j) method j.majority ∷ []) before after
+
+abbrev pub IsGrowthPlan : (shapes : List Shape) (j : Job) (d : Divisor) (cap : ℕ) → List Instr → List Instr → Type 0
+IsGrowthPlan shapes j d cap before after = (f : Form) → IsJob shapes f j → AreBlocks (HasJob shapes j) (grow_tree f (slots_of j) d j.majority cap ∷ []) before after

@@ -15,7 +15,7 @@ use Rattle.sl_blocks.specs.inner.Jobs.{slots_of, IsJob}
 abbrev pub IsLaid : Tree → ℕ → List Instr → List Instr → Type 0
 IsLaid tree p before after = after ≡ before ++ laid p tree
 
--- the code after is the code before with the plan of that split (sl_pieces, nodes) behind a declaration: a compiler builds on it
+-- the code after is the code before with the plan of that split (sl_pieces, nodes) behind a declaration
 abbrev pub IsLaidSplit : (shapes : List Shape) (j : Job) (method : Method) → List Instr → List Instr → Type 0
 IsLaidSplit shapes j method before after =
     (f : Form) → IsJob shapes f j → IsLaid (split_tree f (slots_of j) method j.majority) (length before) before after

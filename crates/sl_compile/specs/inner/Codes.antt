@@ -2,12 +2,15 @@
 use Rattle.std.specs.Prelude.{◌≡◌, List}
 use Rattle.sl_stages.specs.declared.book.Cond.{Cond}
 use Rattle.sl_stages.specs.book.Trees.{BookTree}
+use Rattle.sl_code.specs.declared.instr.Instr.{Instr}
 use Rattle.sl_code.specs.Codes.{CountingCode}
 use Rattle.sl_books.specs.Conditions.{SayTheSame}
-use Rattle.sl_books.specs.Codes.{book_code}
+use Rattle.sl_books.specs.Codes.{book_code, AreBookInstrs}
 
 -- it is the book's for a few conditions that say what all of the book's say
 pub record IsCodeOf (b : BookTree) (c : CountingCode) : Type 0 where
   pub few : List Cond
   pub same : SayTheSame few b.eligible
-  pub is : c ≡ book_code few b
+  pub instrs : List Instr
+  pub are : AreBookInstrs few b instrs
+  pub is : c ≡ book_code b instrs

@@ -3,7 +3,7 @@ use Rattle.sl_pieces.specs.nodes.Trees.{grow_tree}
 use Rattle.sl_blocks.specs.inner.Jobs.{slots_of}
 use Rattle.sl_blocks.proofs.FineGrowths.{growth_short}
 use Rattle.sl_blocks.proofs.Laid.{form_laid}
-use Rattle.sl_blocks.proofs.LaidBlocks.{growth_stands}
+use Rattle.sl_blocks.proofs.LaidBlocks.{growth_stands, growth_planned}
 use Rattle.sl_blocks.proofs.growths.grow_block.Goals as goal
 
 pub lay_block-requires-clause-fits : goal.lay_block-requires-clause-fits
@@ -11,14 +11,18 @@ lay_block-requires-clause-fits c =
     let j = c.args.job.now in
     omega (arith, c.requires.room, growth_short c.form_of.result (slots_of j) c.args.method j.majority c.args.cap c.requires.job.slot c.requires.job.minima)
 
-pub returns-clause-laid : goal.returns-clause-laid
-returns-clause-laid c =
+pub returns-clause-plan : goal.returns-clause-plan
+returns-clause-plan c =
     let j = c.args.job.now in
     let code = c.args.code.now in
-    form_laid c.lay_block.result c.args.slots.now j (λ f. grow_tree f (slots_of j) c.args.method j.majority c.args.cap)
-    (vec_len code) code.items c.lay_block.new.code.items c.form_of.result code.ok.0 c.form_of.ensures c.lay_block.ensures.ok
+    growth_planned c.args.slots.now code.items c.lay_block.new.code.items j c.lay_block.result c.args.method c.args.cap c.requires.job
+    (form_laid c.lay_block.result c.args.slots.now j (λ f. grow_tree f (slots_of j) c.args.method j.majority c.args.cap)
+    (vec_len code) code.items c.lay_block.new.code.items c.form_of.result code.ok.0 c.form_of.ensures c.lay_block.ensures.ok)
 
 pub returns-clause-ok : goal.returns-clause-ok
 returns-clause-ok c =
-    growth_stands c.args.slots.now c.args.code.now.items c.lay_block.new.code.items c.args.job.now c.lay_block.result c.args.method c.args.cap c.requires.job
-    (returns-clause-laid c)
+    let j = c.args.job.now in
+    let code = c.args.code.now in
+    growth_stands c.args.slots.now code.items c.lay_block.new.code.items j c.lay_block.result c.args.method c.args.cap c.requires.job
+    (form_laid c.lay_block.result c.args.slots.now j (λ f. grow_tree f (slots_of j) c.args.method j.majority c.args.cap)
+    (vec_len code) code.items c.lay_block.new.code.items c.form_of.result code.ok.0 c.form_of.ensures c.lay_block.ensures.ok)

@@ -1,6 +1,5 @@
-use Rattle.sl_books.proofs.Slots.{book_has_slots}
 use Rattle.sl_books.proofs.KindsOfBooks.{books_are_kinded}
 use Rattle.sl_books.proofs.laws.books_are_kinded.Goals as goal
 
 pub returns : goal.returns
-returns c = books_are_kinded (λ few b can. book_has_slots few b)
+returns c = books_are_kinded

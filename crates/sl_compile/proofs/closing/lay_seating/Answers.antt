@@ -1,26 +1,44 @@
-use Rattle.std.proofs.Common.{[], ◌∷◌, length, refl, sym, ap}
+use Rattle.std.proofs.Common.{[], ◌∷◌, subst, sym, ap, arith}
+use Rattle.sl_stages.specs.declared.fact.Fact.TheVariants as facts
 use Rattle.sl_stages.specs.declared.book.Pairing.TheVariants as pairings
 use Rattle.sl_stages.specs.declared.book.Shape.TheVariants as shape
+use Rattle.sl_code.specs.Codes.{CountingCode}
 use Rattle.sl_pieces.specs.columns.Trees.{copy_tree, pair_tree}
 use Rattle.sl_pieces.specs.covers.Trees.{cover_tree}
 use Rattle.sl_pieces.specs.exprs.Slots.{winners_slot}
 use Rattle.sl_pieces.specs.closing.Trees.{final_seats, place_kept, cover_slots, seating_pieces}
-use Rattle.sl_compile.proofs.Places.{laid_as, laid_behind, laid_one}
+use Rattle.sl_blocks.specs.Blocks.{HasSlotsOf}
+use Rattle.sl_blocks.specs.Facts.{HasFirstSlots}
+use Rattle.sl_blocks.specs.PlanBlocks.{HasCopy, HasPair}
+use Rattle.sl_books.proofs.Rows.{blocks_in}
+use Rattle.sl_books.proofs.Slots.{has_book_slots, has_first}
+use Rattle.sl_compile.specs.inner.Nodes.{HasBase}
+use Rattle.sl_compile.proofs.Places.{blocks_as, blocks_behind}
 use Rattle.sl_compile.proofs.closing.lay_seating.Goals as goal
 
-pub returns-in_ok-lay_pair-in-Keep : goal.returns-in_ok-lay_pair-in-Keep
-returns-in_ok-lay_pair-in-Keep c =
+pub returns-in_ok-pair_block-in-Keep : goal.returns-in_ok-pair_block-in-Keep
+returns-in_ok-pair_block-in-Keep c =
+    let from = c.args.from in
     let x = c.args.code.now.items in
-    let z = c.lay_one.new.code.items in
-    laid_as c.lay_one.result _ _ x z (ap (seating_pieces c.args.from) (sym c.in-Keep.is))
-    (laid_behind c.lay_one.result (pair_tree pairings.Larger shape.List c.args.from winners_slot final_seats ∷ []) (place_kept ∷ []) x c.lay_pair.new.code.items z
-    c.in_ok-lay_pair-in-Keep.ensures c.lay_one.ensures)
+    let z = c.placing_block.new.code.items in
+    let has_pair : (code : CountingCode) → HasBase from code → HasPair shape.List from winners_slot final_seats code =
+    λ code has.
+    let slots = has_book_slots [] code has.so_far.slots in
+    record { left_there = has.base; right_there = slots.facts.facts facts.Winners; to_there = slots.passing_are 0 shape.List (omega arith) } in
+    blocks_as c.placing_block.result (HasBase from) _ _ x z (ap (seating_pieces from) (sym c.in-Keep.is))
+    (blocks_behind c.placing_block.result HasFirstSlots (HasBase from) (λ code has. has_first [] code has.so_far.slots)
+    (pair_tree pairings.Larger shape.List from winners_slot final_seats ∷ []) (place_kept ∷ []) x c.pair_block.new.code.items z
+    (blocks_in has_pair c.in_ok-pair_block-in-Keep.ensures.ok) c.placing_block.ensures.ok)
 
-pub returns-in_ok-lay_copy-in-Cover : goal.returns-in_ok-lay_copy-in-Cover
-returns-in_ok-lay_copy-in-Cover c =
+pub returns-in_ok-copy_block-in-Cover : goal.returns-in_ok-copy_block-in-Cover
+returns-in_ok-copy_block-in-Cover c =
+    let from = c.args.from in
     let x = c.args.code.now.items in
-    let y = c.lay_copy.new.code.items in
     let z = c.cover_block.new.code.items in
-    laid_as c.cover_block.result _ _ x z (ap (seating_pieces c.args.from) (sym c.in-Cover.is))
-    (laid_behind c.cover_block.result (copy_tree shape.List c.args.from final_seats ∷ []) (cover_tree cover_slots ∷ []) x y z
-    c.in_ok-lay_copy-in-Cover.ensures (laid_one c.cover_block.result (cover_tree cover_slots) (length y) y z refl c.cover_block.ensures.laid))
+    let has_copy : (code : CountingCode) → HasBase from code → HasCopy shape.List from final_seats code =
+    λ code has. record { from_there = has.base; to_there = (has_book_slots [] code has.so_far.slots).passing_are 0 shape.List (omega arith) } in
+    let has_low : (code : CountingCode) → HasBase from code → HasSlotsOf c.args.slots.now code =
+    λ code has. subst (λ shapes. HasSlotsOf shapes code) (sym c.requires.slots) has.so_far.slots in
+    blocks_as c.cover_block.result (HasBase from) _ _ x z (ap (seating_pieces from) (sym c.in-Cover.is))
+    (blocks_behind c.cover_block.result (HasSlotsOf c.args.slots.now) (HasBase from) has_low (copy_tree shape.List from final_seats ∷ []) (cover_tree cover_slots ∷ [])
+    x c.copy_block.new.code.items z (blocks_in has_copy c.in_ok-copy_block-in-Cover.ensures.ok) c.cover_block.ensures.plan)

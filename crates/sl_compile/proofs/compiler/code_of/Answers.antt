@@ -2,9 +2,9 @@ use Rattle.std.proofs.Common.{◌≡◌, ◌∙◌, List, map, ap, arith}
 use Rattle.sl_stages.specs.declared.book.Stage.{Stage}
 use Rattle.sl_stages.specs.book.Books.{book_of}
 use Rattle.sl_stages.specs.book.Trees.{stage_of}
+use Rattle.sl_blocks.specs.inner.Few.{few_of}
 use Rattle.sl_books.specs.Codes.{code_stages, book_code}
 use Rattle.sl_books.specs.Laws.{CanCompile}
-use Rattle.sl_compile.specs.inner.Weakest.{few_of}
 use Rattle.sl_compile.proofs.Wholes.{passes}
 use Rattle.sl_compile.proofs.Books.{book_can, code_is, code_proper}
 use Rattle.sl_compile.proofs.compiler.code_of.Goals.{In_ok-stages}
@@ -20,18 +20,18 @@ named : (c : In_ok-stages) → c.in_ok-stages.stages.items ≡ code_stages 0 (ma
 named c = c.in_ok-stages.ensures.named ∙ ap (λ (ss : List Stage). code_stages 0 (map stage_of ss)) c.deref-3.ensures.value
 
 is : (c : In_ok-stages) →
-    record { instrs = c.lay_book.new.code.items; stages = c.in_ok-stages.stages.items; slots = c.add_columns.new.slots.items } ≡ book_code (few_of c.easiest-few.result) (book_of c.args.book.now)
+    record { instrs = c.lay_book.new.code.items; stages = c.in_ok-stages.stages.items; slots = c.add_columns.new.slots.items } ≡ book_code (book_of c.args.book.now) c.lay_book.new.code.items
 is c =
     code_is (few_of c.easiest-few.result) c.args.book.now c.lay_book.new.code.items c.in_ok-stages.stages.items c.in_ok-slots.slots.items c.add_columns.new.slots.items
-    c.in_ok-types.types c.len.result (can c) c.in_ok-types.ensures.laid
+    c.in_ok-types.types c.len.result (can c)
     (named c) (omega arith) (c.len.ensures ∙ c.args.book.now.stages.ok.0)
     c.in_ok-slots.ensures c.in_ok-types.ensures.have c.in_ok-add_columns.ensures
 
 pub new-requires : goal.new-requires
 new-requires c =
-    code_proper (few_of c.easiest-few.result) c.args.book.now _ c.in_ok-stages.stages.items (can c) c.easiest-few.ensures.small (named c) c.in_ok-stages.ensures.words (is c)
+    code_proper (few_of c.easiest-few.result) c.args.book.now c.lay_book.new.code.items _ c.in_ok-stages.stages.items (can c) c.in_ok-types.ensures.blocks (named c) c.in_ok-stages.ensures.words (is c)
 
 pub returns : goal.returns
 returns c =
     let here = (goal.at.returns c).In_ok-stages in
-    record { few = few_of c.easiest-few.result; same = (can here).same; is = c.new.ensures ∙ is here }
+    record { few = few_of c.easiest-few.result; same = (can here).same; instrs = c.lay_book.new.code.items; are = here.in_ok-types.ensures.blocks; is = c.new.ensures ∙ is here }

@@ -1,7 +1,7 @@
 use Rattle.std.proofs.Common.{subst, sym}
 use Rattle.sl_blocks.specs.inner.Jobs.{IsSplitJob}
-use Rattle.sl_blocks.specs.inner.Layout.{IsLaidSplit}
-use Rattle.sl_compile.proofs.Jobs.{is_split_job, split_laid}
+use Rattle.sl_blocks.specs.inner.Jobs.{IsSplitPlan}
+use Rattle.sl_compile.proofs.Jobs.{is_split_job, split_blocks}
 use Rattle.sl_compile.proofs.exprs.Site.split.Goals as goal
 
 pub split_block-requires-clause-job : goal.split_block-requires-clause-job
@@ -10,9 +10,9 @@ split_block-requires-clause-job c =
     (is_split_job c.job-job.result c.args.self.now.stage c.args.level c.args.of.shape c.args.by.shape c.args.minima c.job-job.ensures.slots c.requires.can c.requires.levels c.args.self.now.few
     c.args.method c.requires.may)
 
-pub returns-clause-laid : goal.returns-clause-laid
-returns-clause-laid c =
-    split_laid c.job-job.result c.args.self.now.stage c.args.level c.args.of.shape c.args.by.shape c.args.minima c.job-job.ensures.slots c.requires.can c.requires.levels c.args.self.now.few
+pub returns-clause-blocks : goal.returns-clause-blocks
+returns-clause-blocks c =
+    split_blocks c.job-job.result c.args.self.now.stage c.args.level c.args.of.shape c.args.by.shape c.args.minima c.job-job.ensures.slots c.requires.can c.requires.levels c.args.self.now.few
     c.args.method c.args.majority c.args.code.now.items c.split_block.new.code.items c.job-job.ensures.majority
-    (subst (λ shapes. IsLaidSplit shapes c.job-job.result c.args.method c.args.code.now.items c.split_block.new.code.items)
-    c.args.self.now.low c.in_ok-split_block.ensures.laid)
+    (subst (λ shapes. IsSplitPlan shapes c.job-job.result c.args.method c.args.code.now.items c.split_block.new.code.items)
+    c.args.self.now.low c.in_ok-split_block.ensures.plan)

@@ -29,8 +29,8 @@ use Rattle.sl_pieces.specs.covers.Trees.{CoverSlots, cover_tree}
 use Rattle.sl_pieces.specs.columns.Trees.{copy_tree, pair_tree, sum_tree}
 use Rattle.sl_pieces.specs.facts.Trees.{FactSlots, condition_tree, conditions_tree, eligible_tree, fact_tree}
 use Rattle.sl_pieces.specs.closing.Trees.{place_kept}
-use Rattle.sl_books.proofs.ProperLists.{all_append, all_parts, Fits, AllFit, small_fit, in_place, placed_fit}
-use Rattle.sl_books.proofs.ProperTrees.{set_numbers, has_plain_lines, IsRanged}
+use Rattle.sl_blocks.proofs.ProperLists.{all_append, all_parts, Fits, AllFit, small_fit, in_place, placed_fit}
+use Rattle.sl_blocks.proofs.ProperTrees.{set_numbers, has_plain_lines, IsRanged}
 
 -- a plan that sets registers to small numbers alone
 small_ranged : (tree : Tree) → has_plain_lines tree ≡ true → list_all (λ n. nat_lt n 5000) (set_numbers tree) ≡ true → IsRanged tree

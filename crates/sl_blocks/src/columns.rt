@@ -1,16 +1,18 @@
-//! The plans that go over the cells of columns (docs/compiler.md, section 1).
+//! The blocks that go over the cells of columns (docs/compiler.md, section 1).
 
-ghost use Rattle.std.specs.Prelude.{◌≡◌, ℕ, [], ◌∷◌, IfOk};
+ghost use Rattle.std.specs.Prelude.{◌≡◌, ◌+◌, ◌<◌, ℕ, [], ◌∷◌, true, IfOk, OnErr, vec_len};
 ghost use Rattle.sl_code.specs.declared.instr.Instr.TheVariants.{Get, Store};
 ghost use Rattle.sl_plans.specs.inner.Layout.{tree_of};
+ghost use Rattle.sl_plans.specs.Trees.{size_of};
 ghost use Rattle.sl_pieces.specs.columns.Trees.{cells_plan, copy_tree, pair_instr, pair_tree, sum_tree};
-ghost use Rattle.sl_compile.specs.inner.Laying.{IsLaidAll, HasRoom};
+ghost use Rattle.sl_stages.specs.book.Typing.{can_sum};
+ghost use Rattle.sl_blocks.specs.inner.Layout.{IsLaid};
+ghost use Rattle.sl_blocks.specs.PlanBlocks.{AreBlocks, HasCopy, HasPair, HasRoom, HasSum};
 
-use crate::laying::lay_one;
-use sl_code::Instr;
+use sl_code::{Instr, MAX_INSTRS};
 use sl_pieces::registers::{CELL, OTHER, TOTAL};
 use sl_plans::Part::{Fixed, Given};
-use sl_plans::{Cursor, Plan};
+use sl_plans::{Cursor, Plan, lay};
 use sl_ratio::NoMemory;
 use sl_stages::{Axis, Pairing, Shape};
 
@@ -25,27 +27,29 @@ fn lay_cells(
     line: &Plan<'_>,
     given: &[Instr],
 ) -> Result<(), NoMemory>
-    requires { HasRoom (cells_plan shape (tree_of given.now line.now) ∷ []) code.old.items }
-    ensures { IfOk result (λ _. IsLaidAll (cells_plan shape (tree_of given.now line.now) ∷ []) code.old.items code.new.items) }
+    requires { vec_len code.old + size_of (cells_plan shape (tree_of given.now line.now)) < MAX_INSTRS }
+    ensures ok { IfOk result (λ _. IsLaid (cells_plan shape (tree_of given.now line.now)) (vec_len code.old) code.old.items code.new.items) }
+    ensures err { OnErr result (code.new.items ≡ code.old.items) }
 {
     let by_party = Plan::Each(Cursor::Party, &*line);
     let by_land = Plan::Each(Cursor::Land, &*line);
     let by_list = Plan::Each(Cursor::Land, &by_party);
     match shape {
-        Shape::One => lay_one(code, line, given),
-        Shape::Party => lay_one(code, &by_party, given),
-        Shape::Land => lay_one(code, &by_land, given),
-        Shape::List => lay_one(code, &by_list, given),
+        Shape::One => lay(code, line, given),
+        Shape::Party => lay(code, &by_party, given),
+        Shape::Land => lay(code, &by_land, given),
+        Shape::List => lay(code, &by_list, given),
     }
 }
 
-/// Appends a copy of a column.
+/// Appends the block of a copy of a column.
 ///
 /// # Errors
-/// No memory was found.
-pub fn lay_copy(code: &mut Vec<Instr>, shape: Shape, from: u8, to: u8) -> Result<(), NoMemory>
+/// Without memory, the code is as it was.
+pub fn copy_block(code: &mut Vec<Instr>, shape: Shape, from: u8, to: u8) -> Result<(), NoMemory>
     requires { HasRoom (copy_tree shape from to ∷ []) code.old.items }
-    ensures { IfOk result (λ _. IsLaidAll (copy_tree shape from to ∷ []) code.old.items code.new.items) }
+    ensures ok { IfOk result (λ _. AreBlocks (HasCopy shape from to) (copy_tree shape from to ∷ []) code.old.items code.new.items) }
+    ensures err { OnErr result (code.new.items ≡ code.old.items) }
 {
     let given = [Instr::Get(CELL, from), Instr::Store(to, CELL)];
     lay_cells(code, shape, COPY, &given)
@@ -61,11 +65,11 @@ fn pair_instr(pairing: Pairing) -> Instr
     }
 }
 
-/// Appends a pair of columns, cell by cell.
+/// Appends the block of a pair of columns, cell by cell.
 ///
 /// # Errors
-/// No memory was found.
-pub fn lay_pair(
+/// Without memory, the code is as it was.
+pub fn pair_block(
     code: &mut Vec<Instr>,
     pairing: Pairing,
     shape: Shape,
@@ -74,7 +78,8 @@ pub fn lay_pair(
     to: u8,
 ) -> Result<(), NoMemory>
     requires { HasRoom (pair_tree pairing shape left right to ∷ []) code.old.items }
-    ensures { IfOk result (λ _. IsLaidAll (pair_tree pairing shape left right to ∷ []) code.old.items code.new.items) }
+    ensures ok { IfOk result (λ _. AreBlocks (HasPair shape left right to) (pair_tree pairing shape left right to ∷ []) code.old.items code.new.items) }
+    ensures err { OnErr result (code.new.items ≡ code.old.items) }
 {
     let given = [
         Instr::Get(CELL, left),
@@ -134,20 +139,22 @@ fn sum_plan(over: Axis, shape: Shape) -> &'static Plan<'static>
     }
 }
 
-/// Appends a sum by party, by Land, or of all cells of a column of that shape.
+/// Appends the block of a sum by party, by Land, or of all cells of a column of that shape, which can be summed so.
 ///
 /// # Errors
-/// No memory was found.
-pub fn lay_sum(
+/// Without memory, the code is as it was.
+pub fn sum_block(
     code: &mut Vec<Instr>,
     over: Axis,
     shape: Shape,
     from: u8,
     to: u8,
 ) -> Result<(), NoMemory>
-    requires { HasRoom (sum_tree over shape from to ∷ []) code.old.items }
-    ensures { IfOk result (λ _. IsLaidAll (sum_tree over shape from to ∷ []) code.old.items code.new.items) }
+    requires room { HasRoom (sum_tree over shape from to ∷ []) code.old.items }
+    requires can { can_sum shape over ≡ true }
+    ensures ok { IfOk result (λ _. AreBlocks (HasSum over shape from to) (sum_tree over shape from to ∷ []) code.old.items code.new.items) }
+    ensures err { OnErr result (code.new.items ≡ code.old.items) }
 {
     let given = [Instr::Get(CELL, from), Instr::Store(to, TOTAL)];
-    lay_one(code, sum_plan(over, shape), &given)
+    lay(code, sum_plan(over, shape), &given)
 }

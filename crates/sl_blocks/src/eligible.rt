@@ -1,24 +1,23 @@
-//! The plan of the eligible parties (docs/compiler.md, section 2).
+//! The block of the eligible parties (docs/compiler.md, section 2).
 
-ghost use Rattle.std.specs.Prelude.{◌≡◌, [], ◌∷◌, Bool, List, IfOk, cond};
+ghost use Rattle.std.specs.Prelude.{◌≡◌, [], ◌∷◌, Bool, List, IfOk, OnErr, cond};
 ghost use Rattle.sl_code.specs.declared.instr.Instr.{Instr as SpecInstr};
 ghost use Rattle.sl_plans.specs.inner.Layout.{tree_of};
 ghost use Rattle.sl_plans.specs.Trees.{Then};
 ghost use Rattle.sl_pieces.specs.facts.Trees.{eligible_tree};
 ghost use Rattle.sl_pieces.specs.exprs.Slots.{fact_slots};
-ghost use Rattle.sl_compile.specs.inner.Laying.{IsLaidAll, HasRoom};
-ghost use Rattle.sl_compile.specs.inner.Weakest.{few_of, given_of};
+ghost use Rattle.sl_blocks.specs.Facts.{HasFirstSlots};
+ghost use Rattle.sl_blocks.specs.PlanBlocks.{AreBlocks, HasRoom};
+ghost use Rattle.sl_blocks.specs.inner.Few.{AreSmall, few_of, given_of};
 
 use crate::easiest::Easiest;
-use crate::laying::lay_one;
+use crate::entries::NOTHING;
 use sl_code::{Input, Instr};
 use sl_pieces::registers::{CELL, OTHER, OWN, TOTAL};
 use sl_pieces::slots::{ELIGIBLE, NUMBERS, VOTES};
 use sl_plans::Part::{Fixed, Given};
-use sl_plans::{Cursor, ONES, Plan, Test};
+use sl_plans::{Cursor, ONES, Plan, Test, lay};
 use sl_ratio::NoMemory;
-
-pub const NOTHING: &Plan<'static> = &Plan::Line(&[]);
 
 /// One more in the column's cell at the cursors.
 macro_rules! count_one {
@@ -146,18 +145,20 @@ fn given_of(few: &Easiest) -> [Instr; 3]
     ]
 }
 
-/// Appends the plan of the eligible parties.
+/// Appends the block of the eligible parties.
 ///
 /// # Errors
-/// No memory was found.
-pub fn lay_eligible(code: &mut Vec<Instr>, few: &Easiest) -> Result<(), NoMemory>
-    requires { HasRoom (eligible_tree fact_slots (few_of few.now) ∷ []) code.old.items }
-    ensures { IfOk result (λ _. IsLaidAll (eligible_tree fact_slots (few_of few.now) ∷ []) code.old.items code.new.items) }
+/// Without memory, the code is as it was.
+pub fn eligible_block(code: &mut Vec<Instr>, few: &Easiest) -> Result<(), NoMemory>
+    requires room { HasRoom (eligible_tree fact_slots (few_of few.now) ∷ []) code.old.items }
+    requires small { AreSmall (few_of few.now) }
+    ensures ok { IfOk result (λ _. AreBlocks HasFirstSlots (eligible_tree fact_slots (few_of few.now) ∷ []) code.old.items code.new.items) }
+    ensures err { OnErr result (code.new.items ≡ code.old.items) }
 {
     let all = before(few.all, EVERYONE, NOTHING);
     let minorities = before(few.minority, MINORITIES, &all);
     let winners = before(few.winners.is_some(), ENOUGH, &minorities);
     let valid = before(few.valid.is_some(), VALID, &winners);
     let plan = Plan::Then(NOBODY, &valid);
-    lay_one(code, &plan, &given_of(few))
+    lay(code, &plan, &given_of(few))
 }

@@ -23,9 +23,8 @@ use Rattle.sl_pieces.specs.facts.Trees.{conditions_tree, condition_tree, eligibl
 use Rattle.sl_pieces.specs.declared.slots.TheConstants.{FIRST_FACT, VOTES}
 use Rattle.sl_pieces.specs.exprs.Slots.{fact_slots, HasBookSlots}
 use Rattle.sl_blocks.proofs.Renaming.{Renaming, renamed, Renames, renamed_is_fine}
-use Rattle.sl_books.specs.Codes.{fact_shapes, closing_shapes, facts_pieces}
-use Rattle.sl_books.proofs.FineTrees.{IsFineIn, AreFine}
-use Rattle.sl_books.proofs.Told.{AreNumbered}
+use Rattle.sl_blocks.specs.Facts.{fact_shapes, closing_shapes, HasFirstSlots}
+use Rattle.sl_blocks.proofs.Standing.{IsFineIn}
 
 -- ---- the first slots, whatever the stages are
 
@@ -34,10 +33,6 @@ first_shapes k = slice_get (fact_shapes ++ closing_shapes) k
 
 abbrev pub first_context : Context
 first_context = judged_by first_shapes 0
-
--- those behind the facts
-abbrev behind_facts : List Shape
-behind_facts = shape.List ∷ (shape.Party ∷ closing_shapes)
 
 -- each slot keeps its name, and other numbers may come
 abbrev same_slots : (ℕ → ℕ) → Renaming
@@ -70,39 +65,9 @@ numbers share per k = mark_stands 2 share k (by_mark 3 per k k) (omega arith) (m
 
 -- ---- plans with the first slots alone
 
-module _ (code : CountingCode) (types : List Column) (slots : HasBookSlots code types) where
-  -- the slots behind the facts
-  behind_there : (k : ℕ) (s : Shape) → slice_get behind_facts k ≡ Some s → slice_get code.slots (VOTES + k) ≡ Some s
-  behind_there zero s h = slots.facts.votes ∙ h
-  behind_there (suc zero) s h = slots.facts.numbers ∙ h
-  behind_there (suc (suc zero)) s h = slots.pair_numbers_are ∙ h
-  behind_there (suc (suc (suc zero))) s h = slots.names_left_are ∙ h
-  behind_there (suc (suc (suc (suc zero)))) s h = slots.vacant_seats_are ∙ h
-  behind_there (suc (suc (suc (suc (suc k))))) s h = cc
-
-  -- those of the facts from a number on, and the ones behind them
-  facts_there : (n : ℕ) (fs : List Fact) → AreNumbered n fs → n + length fs ≡ length FACTS → (k : ℕ) (s : Shape)
-      → slice_get (map (λ told. (fact_type told).shape) fs ++ behind_facts) k ≡ Some s → slice_get code.slots (FIRST_FACT + (n + k)) ≡ Some s
-  facts_there n [] numbered all k s h =
-      let place : FIRST_FACT + (n + k) ≡ VOTES + k = omega (arith, all) in
-      ap (λ (m : ℕ). slice_get code.slots m) place ∙ behind_there k s h
-  facts_there n (f ∷ fs) numbered all zero s h =
-      let first : fact_number f ≡ n = cc in
-      let place : FIRST_FACT + (n + 0) ≡ fact_slots.of f = omega (arith, first) in
-      ap (λ (m : ℕ). slice_get code.slots m) place ∙ slots.facts.facts f ∙ h
-  facts_there n (f ∷ fs) numbered all (suc k) s h =
-      let rest : AreNumbered (n + 1) fs = cc in
-      let place : FIRST_FACT + (n + suc k) ≡ FIRST_FACT + (n + 1 + k) = omega arith in
-      ap (λ (m : ℕ). slice_get code.slots m) place ∙ facts_there (n + 1) fs rest (omega (arith, all)) k s h
-
-  first_there : (k : ℕ) (s : Shape) → first_shapes k ≡ Some s → slice_get code.slots k ≡ Some s
-  first_there zero s h = slots.facts.eligible ∙ h
-  first_there (suc k) s h =
-      let place : suc k ≡ FIRST_FACT + (0 + k) = omega arith in
-      ap (λ (m : ℕ). slice_get code.slots m) place ∙ facts_there 0 FACTS refl refl k s h
-
+module _ (code : CountingCode) (slots : HasFirstSlots code) where
   same_fit : (share per : ℕ) → Renames (same_slots (number_of_role share per)) first_context (judged_by (slice_get code.slots) (length code.stages))
-  same_fit share per = record { slots = first_there; stage = refl; numbers = numbers share per }
+  same_fit share per = record { slots = slots; stage = refl; numbers = numbers share per }
 
   -- a plan that is, with these two numbers, that of roles
   numbers_fine : (share per : ℕ) (role tree : Tree) → is_fine first_context start_kinds role ≡ true → renamed (same_slots (number_of_role share per)) role ≡ tree → IsFineIn code tree
@@ -145,20 +110,13 @@ module _ (code : CountingCode) (types : List Column) (slots : HasBookSlots code 
       both_hold (is_fine (judged_by (slice_get code.slots) (length code.stages)) start_kinds (condition_tree fact_slots c)) _ (condition_fine c)
       (ap (λ k. is_fine (judged_by (slice_get code.slots) (length code.stages)) k (conditions_tree fact_slots cs)) (nothing_known c) ∙ conditions_fine cs)
 
-  eligible_fine : (cs : List Cond) → IsFineIn code (eligible_tree fact_slots cs)
+  pub eligible_fine : (cs : List Cond) → IsFineIn code (eligible_tree fact_slots cs)
   eligible_fine cs =
       both_hold (is_fine (judged_by (slice_get code.slots) (length code.stages)) start_kinds (Line (Zero fact_slots.eligible ∷ []))) _
       (first_fine (Line (Zero fact_slots.eligible ∷ [])) refl refl) (conditions_fine cs)
 
   -- ---- all of them
 
-  fact_fine : (house : ℕ) (told : Fact) → IsFineIn code (fact_tree fact_slots house told)
+  pub fact_fine : (house : ℕ) (told : Fact) → IsFineIn code (fact_tree fact_slots house told)
   fact_fine house facts.House = first_fine (fact_tree fact_slots house facts.House) refl refl
   fact_fine house told = first_fine (fact_tree fact_slots house told) refl refl
-
-  each_fine : (house : ℕ) (fs : List Fact) → AreFine code (map (fact_tree fact_slots house) fs)
-  each_fine house [] = tt
-  each_fine house (f ∷ fs) = (fact_fine house f, each_fine house fs)
-
-  pub facts_fine : (few : List Cond) (b : BookTree) → AreFine code (facts_pieces few b)
-  facts_fine few b = (eligible_fine few, each_fine b.house.value FACTS)

@@ -17,9 +17,9 @@ use Rattle.sl_plans.specs.declared.plan.Cursor.TheVariants as cursor
 use Rattle.sl_plans.specs.declared.plan.Test.{Test}
 use Rattle.sl_plans.specs.declared.plan.Test.TheVariants as test
 use Rattle.sl_plans.specs.Trees.{Tree, Line, Stop, Then, If, Each, Times, size_of, flat, jump_of, to_first, to_next, ones, at_join, known_after_all, known_after, known_in_arm, known_in_other, known_in_turn, known_after_loop, with_cursor_known, kinds_after}
-use Rattle.sl_plans.specs.Fine.{is_plain}
-use Rattle.sl_plans.specs.Laid.{laid, laid_all, size_all}
-use Rattle.sl_books.proofs.ProperLists.{all_append, all_parts, AllFit}
+use Rattle.sl_plans.specs.Fine.{is_plain, jumps_nowhere, has_quiet_lines}
+use Rattle.sl_plans.specs.Laid.{laid}
+use Rattle.sl_blocks.proofs.ProperLists.{all_append, all_parts, AllFit}
 
 -- ---- what is asked of a plan
 
@@ -223,13 +223,26 @@ plan_in_range (If t a b) plain numbers k p mask below =
 plan_in_range (Each over a) plain numbers k p mask below = each_in_range over a (plan_in_range a plain numbers) k p mask below
 plan_in_range (Times r m a) plain numbers k p mask below = times_in_range r m a (plan_in_range a plain numbers) k p mask below
 
--- plans one behind the other
-pub laid_in_range : (p : ℕ) (ts : List Tree) → AllByRecursion IsRanged ts → p + size_all ts ≤ 2 ^ 32 → AllByRecursion IsInRange (laid_all p ts)
-laid_in_range p [] ranged below = tt
-laid_in_range p (t ∷ ts) ranged below =
-    let here : p + 1 + size_of t ≤ 2 ^ 32 = omega (arith, below) in
-    let rest : p + (size_of t + 1) + size_all ts ≤ 2 ^ 32 = omega (arith, below) in
-    let first = ranged.0 in
-    all_append IsInRange (laid p t) (laid_all (p + (size_of t + 1)) ts)
-    (at_in_range start_kinds (omega arith), plan_in_range t first.plain first.numbers start_kinds (p + 1) (omega arith) here)
-    (laid_in_range (p + (size_of t + 1)) ts ranged.1 rest)
+-- and with the declaration in front of it
+pub laid_in_range : (p : ℕ) (t : Tree) → IsRanged t → p + 1 + size_of t ≤ 2 ^ 32 → AllByRecursion IsInRange (laid p t)
+laid_in_range p t h below = (at_in_range start_kinds (omega arith), plan_in_range t h.plain h.numbers start_kinds (p + 1) (omega arith) below)
+
+-- ---- no line jumps
+
+line_is_quiet : (is : List Instr) → list_all is_plain is ≡ true → list_all jumps_nowhere is ≡ true
+line_is_quiet [] h = refl
+line_is_quiet (i ∷ is) h =
+    let parts = and_parts (is_plain i) (list_all is_plain is) h in
+    and_from (jumps_nowhere i) _ (and_parts (jumps_nowhere i) _ parts.0).0 (line_is_quiet is parts.1)
+
+pub plain_is_quiet : (tree : Tree) → has_plain_lines tree ≡ true → has_quiet_lines tree ≡ true
+plain_is_quiet (Line is) h = line_is_quiet is h
+plain_is_quiet (Stop i) h = (and_parts (jumps_nowhere i) _ h).0
+plain_is_quiet (Then a b) h =
+    let parts = and_parts (has_plain_lines a) (has_plain_lines b) h in
+    and_from (has_quiet_lines a) (has_quiet_lines b) (plain_is_quiet a parts.0) (plain_is_quiet b parts.1)
+plain_is_quiet (If t a b) h =
+    let parts = and_parts (has_plain_lines a) (has_plain_lines b) h in
+    and_from (has_quiet_lines a) (has_quiet_lines b) (plain_is_quiet a parts.0) (plain_is_quiet b parts.1)
+plain_is_quiet (Each over a) h = plain_is_quiet a h
+plain_is_quiet (Times r m a) h = plain_is_quiet a h

@@ -7,9 +7,9 @@ use Rattle.sl_code.specs.declared.instr.Instr.TheVariants.{Zero}
 use Rattle.sl_plans.specs.Trees.{Tree, Line, Then}
 use Rattle.sl_pieces.specs.facts.Trees.{nothing, condition_tree, conditions_tree, eligible_tree}
 use Rattle.sl_pieces.specs.exprs.Slots.{fact_slots}
-use Rattle.sl_compile.specs.declared.easiest.Share.{Share}
-use Rattle.sl_compile.specs.declared.easiest.Easiest.{Easiest}
-use Rattle.sl_compile.specs.inner.Weakest.{share_in, winners_in, minority_in, all_in, few_of, votes_of, per_of}
+use Rattle.sl_blocks.specs.declared.easiest.Share.{Share}
+use Rattle.sl_blocks.specs.declared.easiest.Easiest.{Easiest}
+use Rattle.sl_blocks.specs.inner.Few.{share_in, winners_in, minority_in, all_in, few_of, votes_of, per_of}
 
 -- a plan before another, where it is there
 abbrev pub before : Bool → Tree → Tree → Tree

@@ -1,0 +1,53 @@
+//! The blocks of the last clause beside a covering (docs/compiler.md, section 6).
+
+ghost use Rattle.std.specs.Prelude.{◌≡◌, [], ◌∷◌, IfOk, OnErr};
+ghost use Rattle.sl_code.specs.declared.instr.Instr.TheVariants.{Input as Reads};
+ghost use Rattle.sl_code.specs.declared.operand.Input.TheVariants as input;
+ghost use Rattle.sl_plans.specs.Trees.{Line};
+ghost use Rattle.sl_pieces.specs.closing.Trees.{place_kept};
+ghost use Rattle.sl_pieces.specs.declared.slots.TheConstants.{NAMES_LEFT as names_left};
+ghost use Rattle.sl_blocks.specs.Facts.{HasFirstSlots};
+ghost use Rattle.sl_blocks.specs.PlanBlocks.{AreBlocks, HasRoom};
+
+use crate::facts::by_winner;
+use sl_code::{Input, Instr};
+use sl_pieces::registers::OTHER;
+use sl_pieces::slots::{ELIGIBLE, NAMES_LEFT};
+use sl_plans::Part::Fixed;
+use sl_plans::{Cursor, Plan, Test, lay};
+use sl_ratio::NoMemory;
+
+/// Every winner of an eligible party with a list in the Land sits on it, and every other one as a single.
+const PLACE_KEPT: &Plan<'static> = &Plan::Each(
+    Cursor::Win,
+    by_winner!(
+        &Plan::Line(&[Fixed(Instr::Seat)]),
+        &Plan::Line(&[Fixed(Instr::Single)])
+    ),
+);
+
+const NAMES: &Plan<'static> = &Plan::Line(&[Fixed(Instr::Input(NAMES_LEFT, Input::Names))]);
+
+/// Appends the block that places the winners who are kept.
+///
+/// # Errors
+/// Without memory, the code is as it was.
+pub fn placing_block(code: &mut Vec<Instr>) -> Result<(), NoMemory>
+    requires { HasRoom (place_kept ∷ []) code.old.items }
+    ensures ok { IfOk result (λ _. AreBlocks HasFirstSlots (place_kept ∷ []) code.old.items code.new.items) }
+    ensures err { OnErr result (code.new.items ≡ code.old.items) }
+{
+    lay(code, PLACE_KEPT, &[])
+}
+
+/// Appends the block that reads how many names the lists have left.
+///
+/// # Errors
+/// Without memory, the code is as it was.
+pub fn names_block(code: &mut Vec<Instr>) -> Result<(), NoMemory>
+    requires { HasRoom (Line (Reads names_left input.Names ∷ []) ∷ []) code.old.items }
+    ensures ok { IfOk result (λ _. AreBlocks HasFirstSlots (Line (Reads names_left input.Names ∷ []) ∷ []) code.old.items code.new.items) }
+    ensures err { OnErr result (code.new.items ≡ code.old.items) }
+{
+    lay(code, NAMES, &[])
+}
