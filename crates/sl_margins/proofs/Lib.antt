@@ -1,0 +1,9 @@
+pub mod Overtaking
+pub mod Gains
+pub mod Missing
+pub mod Claimants
+pub mod Units
+pub mod Shortest
+pub mod Dividing
+pub mod Digits
+pub mod BetweenClaims

@@ -1,0 +1,6 @@
+-- The margins of an allocation: missing votes, decimal numbers, and divisors of few digits.
+pub mod MissingVotes
+pub mod Decimals
+pub mod Divisors
+pub mod Laws
+pub mod inner

@@ -1,0 +1,44 @@
+-- The votes that an entry lacks for one more seat (docs/margins.md, section 1). A scope is given by the votes v and the seats s of its
+-- entries, in entry order. A list reads 0 past its end.
+use Rattle.std.specs.Prelude.{◌≢◌, ℕ, ◌+◌, ◌<◌, ◌≤◌, List, Option, Some, None, sum, slice_index, slice_set}
+use Rattle.sl_ratio.specs.declared.method.Divisor.{Divisor}
+use Rattle.sl_ratio.specs.declared.method.Divisor.TheVariants.{Adams, Dean, Hill, Webster, Jefferson}
+use Rattle.sl_stages.specs.methods.Field.{no_minima}
+use Rattle.sl_stages.specs.methods.Allocations.{IsDivisorAllocation}
+
+-- s is an allocation, without minima, of as many seats as it has
+abbrev pub IsAllocation : Divisor → List ℕ → List ℕ → Type 0
+IsAllocation method v s = IsDivisorAllocation method v (no_minima v) (sum s) s
+
+-- the votes with x further ones for entry i, all else equal
+abbrev pub with_further : List ℕ → ℕ → ℕ → List ℕ
+with_further v i x = slice_set v i (slice_index v i + x)
+
+-- with x further votes for entry i, t is an allocation of as many seats as s has
+abbrev pub IsAllocationAfter : Divisor → List ℕ → List ℕ → ℕ → ℕ → List ℕ → Type 0
+IsAllocationAfter method v s i x t = IsDivisorAllocation method (with_further v i x) (no_minima v) (sum s) t
+
+-- x further votes are enough: every allocation gives the entry more seats than it has in s
+abbrev pub AreEnough : Divisor → List ℕ → List ℕ → ℕ → ℕ → Type 0
+AreEnough method v s i x = (t : List ℕ) → IsAllocationAfter method v s i x t → slice_index s i < slice_index t i
+
+-- x further votes are too few: some allocation gives it no more
+abbrev pub AreTooFew : Divisor → List ℕ → List ℕ → ℕ → ℕ → Type 0
+AreTooFew method v s i x = (t : List ℕ) × IsAllocationAfter method v s i x t × (slice_index t i ≤ slice_index s i)
+
+-- the least number of further votes that is enough, or nothing where every number is too few
+abbrev pub AreMissing : Divisor → List ℕ → List ℕ → ℕ → Option ℕ → Type 0
+AreMissing method v s i (Some x) = AreEnough method v s i x × ((y : ℕ) → y < x → AreTooFew method v s i y)
+AreMissing method v s i None = (x : ℕ) → AreTooFew method v s i x
+
+-- the seats of an entry that no votes of another can take: under Adams, Dean and Hill its first one, whose quotient is infinite
+abbrev pub safe_seats : Divisor → ℕ
+safe_seats Adams = 1
+safe_seats Dean = 1
+safe_seats Hill = 1
+safe_seats Webster = 0
+safe_seats Jefferson = 0
+
+-- no entry other than i has a seat that it may lose
+abbrev pub AreOthersSafe : Divisor → List ℕ → ℕ → Type 0
+AreOthersSafe method s i = (j : ℕ) → j ≢ i → slice_index s j ≤ safe_seats method

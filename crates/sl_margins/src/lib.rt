@@ -1,0 +1,14 @@
+//! The margins of an allocation by a divisor method without minima: the votes that an entry lacks for one more seat, who won the last seat
+//! and who has the next claim, a divisor in few digits, and quotients in decimals.
+#![tactic(auto)]
+
+mod claims;
+mod decimal;
+mod divisors;
+pub mod laws;
+mod votes;
+
+pub use claims::{is_allocation, last_seats, next_claims};
+pub use decimal::{Decimal, MAX_PLACES, cut};
+pub use divisors::divisor;
+pub use votes::votes_missing;
