@@ -1,0 +1,83 @@
+//! Sheets as comma-separated values. Each line begins with the key of its sheet, and the first line of a key has those of the columns.
+
+use crate::cell::Cell;
+use crate::sheet::{Head, Sheet};
+use sl_ratio::NoMemory;
+use std::alloc::Global;
+
+// Whether a text has a character that must stand between quotes.
+fn is_quoted(text: &str) -> bool {
+    text.chars()
+        .any(|c| c == ',' || c == '"' || c == '\n' || c == '\r')
+}
+
+// Adds a cell's text, between quotes where it must.
+fn put_cell(out: &mut String, text: &str) -> Result<(), NoMemory> {
+    if !is_quoted(text) {
+        out.push_str(text)?;
+        return Ok(());
+    }
+    out.push('"')?;
+    for character in text.chars() {
+        if character == '"' {
+            out.push('"')?;
+        }
+        out.push(character)?;
+    }
+    out.push('"')?;
+    Ok(())
+}
+
+fn put_heads(out: &mut String, key: &str, heads: &[Head]) -> Result<(), NoMemory> {
+    put_cell(out, key)?;
+    for head in heads {
+        out.push(',')?;
+        put_cell(out, head.key.as_str())?;
+    }
+    out.push('\n')?;
+    Ok(())
+}
+
+fn put_row(alloc: Global, out: &mut String, key: &str, row: &[Cell]) -> Result<(), NoMemory> {
+    put_cell(out, key)?;
+    for cell in row {
+        out.push(',')?;
+        let text = cell.text(alloc)?;
+        put_cell(out, text.as_str())?;
+    }
+    out.push('\n')?;
+    Ok(())
+}
+
+fn put_rows(alloc: Global, out: &mut String, sheet: &Sheet) -> Result<(), NoMemory> {
+    for row in &sheet.rows {
+        put_row(alloc, out, sheet.key, row.as_slice())?;
+    }
+    Ok(())
+}
+
+// Whether the sheet of that number is the first one of its key.
+fn is_first(sheets: &[Sheet], number: usize, key: &str) -> bool {
+    for (place, sheet) in sheets.iter().enumerate() {
+        if sheet.key == key {
+            return place == number;
+        }
+    }
+    true
+}
+
+/// Sheets as comma-separated values.
+///
+/// # Errors
+///
+/// Want of memory.
+pub fn comma_text(alloc: Global, sheets: &[Sheet]) -> Result<String, NoMemory> {
+    let mut out = String::new(alloc);
+    for (number, sheet) in sheets.iter().enumerate() {
+        if is_first(sheets, number, sheet.key) {
+            put_heads(&mut out, sheet.key, sheet.heads.as_slice())?;
+        }
+        put_rows(alloc, &mut out, sheet)?;
+    }
+    Ok(out)
+}
