@@ -142,7 +142,7 @@ def page():
     laws = set()
     for path in sorted(CRATES.glob("*/src/**/*.rt")):
         for _, text in contracts(path):
-            if text.endswith("\n{}") or (CRATES / "sl_desk") in path.parents:
+            if text.endswith("\n{}") or {CRATES / "sl_desk", CRATES / "sl_page"} & set(path.parents):
                 laws |= reached_by(path, text)
     rank = {crate: n for n, crate in enumerate(order())}
     every = set().union(*calls.values())

@@ -1,0 +1,205 @@
+"""Inputs on which the page and the program are compared: those of the repository, and random ones.
+
+A case is (command, book, returns, name): command is count, steps, stage, check or law; book and returns are bytes, or a book is the name of a
+statute of the library, with @ before it; name is that of a stage or of a statute.
+"""
+import pathlib
+import random
+import re
+import sys
+
+TOP = pathlib.Path(__file__).resolve().parent.parent
+EXAMPLES = TOP / "crates" / "sl_rows" / "data"
+ROWS = TOP / "crates" / "sl_rows" / "src"
+sys.path.append(str(TOP / "bench"))
+import elections  # noqa: E402
+
+LAWS = ("1956", "1985", "2008", "2013", "2023", "2023-order")
+METHODS = ("webster", "jefferson", "adams", "hamilton", "hill", "dean")
+STAGE = re.compile(r"\bstage\s+(\w+)")
+
+
+def stages_of(book):
+    return STAGE.findall(book.decode("latin-1"))
+
+
+def examples():
+    """Every book on every returns file of the examples, and each of its stages."""
+    books = ["@" + law for law in LAWS] + [path.read_bytes() for path in sorted(EXAMPLES.glob("**/*.law"))]
+    for book in books:
+        yield "check", book, b"", ""
+        for path in sorted(EXAMPLES.glob("**/*.csv")):
+            returns = path.read_bytes()
+            yield "count", book, returns, ""
+            yield "steps", book, returns, ""
+            for name in ("lower", "upper", "none") if isinstance(book, str) else stages_of(book):
+                yield "stage", book, returns, name
+    for law in (*LAWS, "", "1999", "2023 ", "2023\u00e4"):
+        yield "law", b"", b"", law
+
+
+def literals(path):
+    """The texts in quotes of a source of tests, in order."""
+    text = path.read_text()
+    for raw, plain in re.findall(r'r#"(.*?)"#|"((?:[^"\\]|\\.)*)"', text, re.S):
+        if raw:
+            yield raw
+        else:
+            plain = re.sub(r"\\\n\s*", "", plain)
+            yield re.sub(r"\\(.)", lambda m: {"n": "\n", "t": "\t", "r": "\r", "0": "\0"}.get(m.group(1), m.group(1)), plain)
+
+
+def rows():
+    """The books and the returns that stand in the rows of sl_rows: each book is checked, and counts each returns of its file."""
+    for path in sorted(ROWS.glob("*.rt")):
+        texts = list(dict.fromkeys(literals(path)))
+        books = [text.encode() for text in texts if text.startswith("rulebook")]
+        files = [text.encode() for text in texts if text.startswith("kind")]
+        for book in books:
+            yield "check", book, b"", ""
+            for returns in files:
+                yield "count", book, returns, ""
+                yield "steps", book, returns, ""
+                for name in stages_of(book)[:2]:
+                    yield "stage", book, returns, name
+
+
+class Random:
+    """Random inputs: small elections with many ties, rulebooks of all methods, and a part of both spoilt."""
+
+    def __init__(self, seed):
+        self.rng = random.Random(seed)
+        self.texts = {law: None for law in LAWS}
+
+    def pick(self, *items):
+        return self.rng.choice(items)
+
+    def votes(self):
+        kind = self.rng.random()
+        if kind < 0.4:
+            return self.rng.randrange(0, 12) * 10
+        return self.rng.randrange(0, 2000 if kind < 0.8 else 100_000_000)
+
+    def returns(self):
+        rng = self.rng
+        lands = ["L%d" % i for i in range(rng.randrange(1, rng.choice((3, 5, 17))))]
+        parties = [self.pick("A", "B", "CDU", "x-y_", "Z9") + str(i) for i in range(rng.randrange(1, rng.choice((4, 7, 20))))]
+        second = rng.random() < 0.3
+        records = [("kind2" if second else "kind") + ",land,party,a,b,c"]
+        if rng.random() < 0.7:
+            records.append("house,,,%d,," % rng.choice((1, 2, 3, 5, 7, 10, 20, 31, 100, 598)))
+        records += ["land,%s,,%d,," % (land, self.votes()) for land in lands]
+        records += ["party,,%s,%d,," % (party, rng.random() < 0.1) for party in parties]
+        for land in lands:
+            for party in parties:
+                if rng.random() < 0.85:
+                    valid = self.votes()
+                    left = rng.choice(("", "0", "1", "5")) if second else ""
+                    records.append("list,%s,%s,%d,%d,%s" % (land, party, valid, valid if rng.random() < 0.9 else valid // 2, left))
+        winners = []
+        for i in range(rng.choice((0, 0, 2, 6, 20))):
+            land, party = rng.choice(lands), rng.choice(parties) if rng.random() < 0.9 else ""
+            of = rng.randrange(1, 30)
+            winners.append((land, party, "w%d" % i))
+            records.append("win,%s,%s,w%d,%d,%d" % (land, party, i, rng.randrange(1, of + 1), of))
+        if rng.random() < 0.5:
+            records += self.lots(lands, parties, winners)
+        return ("\n".join(records) + "\n").encode()
+
+    def lots(self, lands, parties, winners):
+        lots = []
+        lots += ["lot,,%s,%s,," % (party, self.pick("upper", "s")) for party in self.rng.sample(parties, len(parties))]
+        lots += ["lot,%s,%s,%s,," % (land, party, self.pick("lower", "s")) for land in lands for party in self.rng.sample(parties, len(parties))]
+        lots += ["lot,%s,%s,seats,%s," % winner for winner in winners]
+        return list(dict.fromkeys(lots))
+
+    def rounding(self, minima):
+        """A method with an option that it has, or now and then one that it may not have."""
+        method = self.pick(*METHODS)
+        if self.rng.random() < 0.05:
+            return method + self.pick(", majority refuse", ", majority prefer", ", atleast winners")
+        if method == "hamilton":
+            return method + self.pick("", "", ", majority refuse", ", majority prefer")
+        return method + self.pick("", "", ", majority refuse", *([", atleast winners"] if minima else []))
+
+    def book(self):
+        rng = self.rng
+        if rng.random() < 0.3:
+            return "@" + rng.choice(LAWS)
+        plain = [method for method in METHODS if method != "hamilton"]
+        eligible = self.pick("all", "all", "valid at least 5 per 100", "valid at least 1 per 10 or winners at least 2", "winners at least 1 or minority")
+        last = self.pick("keep", "cover", "keep vacate")
+        head = 'rulebook %d; law "t"; house %d; eligible %s; ' % (rng.choice((1, 2)) if last != "keep vacate" else 2, rng.choice((1, 4, 8, 20, 99)), eligible)
+        pool = self.pick("house", "less(house, sum(outside, all))", "less(house, sum(independents, all))")
+        kind = rng.random()
+        if kind < 0.3:
+            return (head + "stage s = split(%s, %s, %s); seats s %s;" % (pool, self.pick(*["counted"] * 19, "valid"), self.rounding(True), last)).encode()
+        if kind < 0.75:
+            stages = "stage upper = split(%s, sum(counted, party), %s); stage lower = split(upper, counted, %s); " % (pool, self.rounding(False), self.rounding(True))
+            return (head + stages + "seats lower %s;" % last).encode()
+        stages = "stage lands = split(house, population, %s); stage first = split(lands, counted, %s); " % (self.pick(*METHODS), self.pick(*METHODS))
+        stages += "stage floor = sum(larger(first, winners), party); stage upper = grow(house, sum(counted, party), %s, floor, %d); " % (self.pick(*plain), rng.choice((50, 400, 4000)))
+        stages += "stage lower = split(upper, counted, %s, atleast winners); " % self.pick(*plain)
+        return (head + stages + "seats lower %s;" % last).encode()
+
+    def spoilt(self, data):
+        """The bytes with a few of them changed, cut, or exchanged."""
+        rng, data = self.rng, bytearray(data)
+        for _ in range(rng.choice((1, 1, 2, 5))):
+            at = rng.randrange(len(data) + 1)
+            kind = rng.random()
+            if kind < 0.4 and at < len(data):
+                data[at] = rng.choice(b'0199,,;\n"AaZ_-.# \r\xc3\xbc\x00') if rng.random() < 0.8 else rng.randrange(256)
+            elif kind < 0.6:
+                data[at:at] = rng.choice((b",", b"\n", b";", b"9", b'"', b" ", b"seats", b"\r\n", b"x"))
+            elif kind < 0.8:
+                del data[at:at + rng.choice((1, 1, 3, 10))]
+            elif kind < 0.9:
+                del data[at:]
+            else:
+                lines = data.split(b"\n")
+                rng.shuffle(lines)
+                data = bytearray(b"\n".join(lines))
+        return bytes(data)
+
+    def case(self):
+        rng = self.rng
+        book, returns = self.book(), self.returns()
+        if rng.random() < 0.2:
+            returns = self.spoilt(returns)
+        if isinstance(book, bytes) and rng.random() < 0.2:
+            book = self.spoilt(book)
+        command = rng.choices(("count", "steps", "stage", "check", "law"), (40, 35, 18, 6, 1))[0]
+        if command == "law":
+            return command, b"", b"", rng.choice((*LAWS, "2023x", "x" * 300, ""))
+        names = stages_of(book) if isinstance(book, bytes) else ["pool", "upper", "lower"]
+        return command, book, returns, rng.choice([*names, "none"]) if command == "stage" else ""
+
+
+def random_cases(count, seed):
+    made = Random(seed)
+    for _ in range(count):
+        yield made.case()
+
+
+def largest():
+    """The largest returns: 4 MiB with 64 Länder, 256 parties, 16,384 lists, 2,000 winners and 4,000 lots."""
+    return elections.returns(4194304).encode()
+
+
+def wide():
+    """Returns of 64 Länder and 256 parties, each with a list in each Land, and 600 winners."""
+    rng = random.Random(1)
+    lands = ["Land%02d" % i for i in range(64)]
+    parties = ["Party%03d" % i for i in range(256)]
+    records = ["kind,land,party,a,b,c", "house,,,4000,,"]
+    records += ["land,%s,,%d,," % (land, rng.randrange(1_000_000, 100_000_000)) for land in lands]
+    records += ["party,,%s,1,," % party for party in parties]
+    for land in lands:
+        for party in parties:
+            votes = rng.randrange(1, 1_000_000)
+            records.append("list,%s,%s,%d,%d," % (land, party, votes, votes))
+    for i in range(600):
+        of = rng.randrange(100_000, 300_000)
+        records.append("win,%s,%s,%d,%d,%d" % (rng.choice(lands), rng.choice(parties), i, rng.randrange(1, of), of))
+    return ("\n".join(records) + "\n").encode()

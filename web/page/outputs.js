@@ -1,0 +1,98 @@
+// What the desk writes, read line by line (docs/output.md).
+const outputs = (() => {
+  const linesOf = text => text.split("\n").slice(0, -1);
+
+  // The words of a scope at the begin of a list, and the words behind it.
+  const scopeOf = words => {
+    const length = { all: 1, land: 2, party: 2, list: 3 }[words[0]];
+    return [words.slice(0, length), words.slice(length)];
+  };
+
+  // A seat table.
+  const tableOf = lines => {
+    const table = { total: 0, parties: [], lists: [], vacant: [], singles: [], open: [] };
+    for (const line of lines) {
+      const [kind, ...rest] = line.split(" ");
+      if (kind === "total") table.total = Number(rest[0]);
+      else if (kind === "party") table.parties.push({ party: rest[0], seats: Number(rest[1]), direct: Number(rest[2]) });
+      else if (kind === "list") table.lists.push({ land: rest[0], party: rest[1], seats: Number(rest[2]), direct: Number(rest[3]) });
+      else if (kind === "vacant") table.vacant.push({ land: rest[0], party: rest[1], seats: Number(rest[2]) });
+      else if (kind === "single") table.singles.push(rest[0]);
+      else if (kind === "open") table.open.push(rest[0]);
+    }
+    return table;
+  };
+
+  // A line of a seat: its stage, its scope, its entry, its number there, its step, and the mark that won it.
+  const seatOf = words => {
+    const [scope, rest] = scopeOf(words.slice(1));
+    return { stage: words[0], scope, entry: rest[0], number: Number(rest[1]), step: Number(rest[2]), mark: rest.slice(3).join(" ") };
+  };
+
+  const boundsOf = words => {
+    const [scope, rest] = scopeOf(words.slice(1));
+    return { stage: words[0], scope, last: rest[0], next: rest[1], lot: rest[2] === "lot" };
+  };
+
+  // The steps of the seats, the bounds, and the table behind them.
+  const stepsOf = text => {
+    const lines = linesOf(text);
+    const seats = [], bounds = [], table = [];
+    for (const line of lines) {
+      const words = line.split(" ");
+      if (words[0] === "seat") seats.push(seatOf(words.slice(1)));
+      else if (words[0] === "bounds") bounds.push(boundsOf(words.slice(1)));
+      else table.push(line);
+    }
+    return { seats, bounds, table: tableOf(table) };
+  };
+
+  // The column of a stage.
+  const columnOf = text =>
+    linesOf(text).map(line => {
+      const at = line.lastIndexOf(" ");
+      return { entry: line.slice(0, at), value: line.slice(at + 1) };
+    });
+
+  // A legal fault: its stage, its scope and its kind; of a tie the seats, and the names of those that are tied.
+  const faultOf = line => {
+    const words = line.split(" ").slice(1);
+    const [scope, rest] = scopeOf(words.slice(1));
+    return { stage: words[0], scope, kind: rest[0], seats: Number(rest[1] || 0), names: rest.slice(2) };
+  };
+
+  // A refusal: what is refused, its part, the number of the fault and where it shows.
+  const refusalOf = line => {
+    const words = line.split(" ").slice(1);
+    if (words[0] === "law" || words[0] === "stage") return { input: words[0], name: line.split(" ").slice(2).join(" ") };
+    if (words[1] === "toolong") return { input: words[0], fault: "toolong" };
+    if (words[0] === "returns") return { input: "returns", fault: words[1], row: Number(words[2]) };
+    return { input: words[0], fault: words[1] + " " + words[2], at: Number(words[3]) };
+  };
+
+  // A fraction NUM/DEN as a decimal number, cut behind so many digits.
+  const decimal = (fraction, digits = 2) => {
+    const [num, den] = fraction.split("/").map(BigInt);
+    if (!den) return null;
+    const scale = 10n ** BigInt(digits);
+    const cut = ((num * scale) / den).toString().padStart(digits + 1, "0");
+    return [cut.slice(0, cut.length - digits), cut.slice(cut.length - digits)];
+  };
+
+  // A number of few digits strictly between two fractions, the first the greater one; null where there is none of at most twelve places.
+  const between = (last, next) => {
+    if (last === "inf" || next === "inf") return null;
+    const [a, b] = last.split("/").map(BigInt);
+    const [c, d] = next.split("/").map(BigInt);
+    for (let power = 12; power >= -12; power--) {
+      const up = power > 0 ? 10n ** BigInt(power) : 1n;
+      const down = power < 0 ? 10n ** BigInt(-power) : 1n;
+      // the least multiple k of 10^power above c/d
+      const k = (c * down) / (d * up) + 1n;
+      if (k * up * b < a * down) return { number: k * up, places: power < 0 ? -power : 0 };
+    }
+    return null;
+  };
+
+  return { linesOf, tableOf, stepsOf, columnOf, faultOf, refusalOf, decimal, between };
+})();

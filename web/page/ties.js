@@ -1,0 +1,79 @@
+// A tie: a form in which the names are ordered as the lot has fallen, and the records that it makes.
+const ties = (() => {
+  // With more names than this, a text takes the place of choices.
+  const MOST_CHOICES = 30;
+
+  // Whether the names of a tie are those of Länder: where they may be parties too, the text of the stage says it.
+  const areLands = (fault, facts, book) => {
+    const areAll = list => {
+      const all = new Set(list.map(item => item.name));
+      return fault.names.every(name => all.has(name));
+    };
+    if (!areAll(facts.lands)) return false;
+    if (!areAll(facts.parties)) return true;
+    const clause = book.text.replace(/#.*/g, "").split(";").find(part => part.trim().startsWith("stage " + fault.stage)) || "";
+    return /population|,\s*land\s*\)/.test(clause);
+  };
+
+  // The record of a lot for a name of a tie, as docs/faults.md has its forms.
+  const recordOf = (fault, name, facts, book) => {
+    if (fault.stage === "seats") {
+      const winner = facts.wins.find(w => w.name === name) || { land: fault.scope[1], party: fault.scope[2] };
+      return ["lot", winner.land, winner.party, "seats", name, ""].join(",");
+    }
+    const [land, party] = name.split("/");
+    if (party !== undefined) return ["lot", land, party, fault.stage, "", ""].join(",");
+    return (areLands(fault, facts, book) ? ["lot", name, "", fault.stage, "", ""] : ["lot", "", name, fault.stage, "", ""]).join(",");
+  };
+
+  // Each place has a choice among the names; a choice exchanges two names.
+  const choices = (fault, changed) => {
+    const order = [...fault.names];
+    const place = el("div", {});
+    const exchange = (at, name) => {
+      const other = order.indexOf(name);
+      [order[at], order[other]] = [order[other], order[at]];
+      show();
+      changed(order);
+      place.querySelectorAll("select")[at].focus();
+    };
+    const show = () => shown(place, el("ol", {}, order.map((name, at) => el("li", {},
+      el("label", {}, t("drawn", at + 1), " ",
+        el("select", { onchange: event => exchange(at, event.target.value) },
+          fault.names.map(other => el("option", { value: other, selected: other === name }, names.entry(other)))))))));
+    show();
+    return place;
+  };
+
+  // Many names stand in a text, one on each line, which has to have each of them once.
+  const lines = (fault, changed) => {
+    const all = [...fault.names].sort().join("\n");
+    const read = event => {
+      const order = event.target.value.split("\n").map(line => line.trim()).filter(Boolean);
+      changed([...order].sort().join("\n") === all ? order : null);
+    };
+    const text = el("textarea", { rows: 12, spellcheck: "false", oninput: read });
+    text.value = fault.names.join("\n");
+    return el("label", {}, t("drawnLines"), text);
+  };
+
+  // The form, with the records that it makes.
+  const form = (fault, facts, book, add) => {
+    const result = el("div", { "aria-live": "polite" });
+    const changed = order => {
+      const records = order && order.map(name => recordOf(fault, name, facts, book));
+      shown(result,
+        el("p", {}, t(order ? "lotRecords" : "lotsIncomplete")),
+        order ? el("pre", { class: "lots" }, records.join("\n")) : null,
+        el("p", {}, el("button", { type: "button", class: "add-lots", disabled: !order, onclick: () => add(records) }, t("addLots"))));
+    };
+    changed(fault.names);
+    return el("section", { class: "tie", "aria-label": t("tie") },
+      el("h4", {}, t("tie")),
+      el("p", {}, t("tieHelp", fault.seats, fault.names.length)),
+      fault.names.length > MOST_CHOICES ? lines(fault, changed) : choices(fault, changed),
+      result);
+  };
+
+  return { form, recordOf };
+})();
