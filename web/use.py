@@ -224,7 +224,7 @@ class Use:
     def names(self):
         self.only("2023")
         self.after(lambda: self.browser.choose("#returns-file", DATA / "covered" / "returns.csv"))
-        file = self.file("names.csv", "kind,name,full,colour\nparty,Reds,Die Röten,#aa0000\nland,North,Norden,\nwin,Lakes,Seen,\n".encode())
+        file = self.file("names.csv", "kind,name,full,colour\nconstructor,a,b,\nparty,Reds,Die Röten,#aa0000\nland,North,Norden,\nwin,Lakes,Seen,\n".encode())
         self.browser.choose("#names-file", file)
         self.browser.wait("document.querySelector('#names-answer').innerText !== '' && document.querySelector('.seat')")
         text = self.browser.text(".result")
@@ -276,8 +276,12 @@ class Use:
             self.expect("a sheet", b"/MediaBox [0 0 594.95" in paper or b"/MediaBox [0 0 595" in paper, True)
 
     def real(self):
-        """A real election, with the house of its statute."""
+        """A real election, with the house of its statute; the rulebook of the tie is taken away."""
         self.only("2023-order")
+        self.browser.run("(() => { document.querySelector('#own').open = true; })()")
+        self.after(lambda: self.browser.click("#own-remove"))
+        self.settle()
+        self.expect("the results without the rulebook", self.browser.count(".result"), 1)
         returns = DATA / "elections" / "2025.csv"
         self.after(lambda: self.browser.choose("#returns-file", returns))
         self.browser.wait("document.querySelector('.result[data-book=\"2023-order\"] .house')")

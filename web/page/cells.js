@@ -45,7 +45,7 @@ const cells = (() => {
     if (!record) return [];
     if (fault === "3") return [0];
     if (fault === "9") return [3, 4];
-    const shape = SHAPES[record.cells[0]];
+    const shape = Object.hasOwn(SHAPES, record.cells[0]) && SHAPES[record.cells[0]];
     if (!shape || record.cells.length !== 6) return [];
     const known = namesBefore(records, row);
     const isSecond = records[0].cells[0] === "kind2";

@@ -197,6 +197,7 @@ const page = (() => {
     byId("clear").addEventListener("click", () => takeReturns("", new Uint8Array(0)));
     onFile("own-file", takeBook);
     byId("own-take").addEventListener("click", () => takeBook(state.own ? state.own.name : t("ownBook"), encoded(byId("own-text").value)));
+    byId("own-remove").addEventListener("click", () => takeBook("", new Uint8Array(0)));
     onFile("names-file", takeNames);
     byId("patterns").addEventListener("change", event => {
       state.withPatterns = event.target.checked;

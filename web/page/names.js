@@ -11,7 +11,7 @@ const names = (() => {
     let count = 0;
     for (const { cells } of returns.recordsOf(commas)) {
       const [kind, name, long, colour] = cells.map(cell => cell.trim());
-      if (!full[kind] || !name) continue;
+      if (!Object.hasOwn(full, kind) || !name) continue;
       if (long) full[kind].set(name, long);
       if (kind === "party" && /^#[0-9a-fA-F]{6}$/.test(colour || "")) colours.set(name, colour.toLowerCase());
       count += 1;

@@ -22,6 +22,7 @@ const TEXTS = {
   ownBook: ["Eigenes Regelwerk", "Rulebook of your own"],
   ownBookFile: ["Datei mit einem Regelwerk öffnen", "Open a file with a rulebook"],
   ownBookText: ["Text des Regelwerks", "Text of the rulebook"],
+  ownRemove: ["Regelwerk entfernen", "Remove the rulebook"],
   bookGood: ["Das Regelwerk ist in Ordnung: Fassung {0}, Haus {1}, Stufen {2}.", "The rulebook is in order: version {0}, house {1}, stages {2}."],
   lineColumn: ["Zeile {0}, Spalte {1}", "Line {0}, column {1}"],
   law1956: ["1956 – Höchstzahlen (d’Hondt)", "1956 – greatest numbers (d’Hondt)"],
