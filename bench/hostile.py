@@ -3,7 +3,8 @@
 
     python3 bench/hostile.py [PROGRAM]
 
-Each case is a command with what it has to write on standard output and on standard error, and its exit status; one that differs is printed.
+Each case is a command with what it has to write on standard output and, before an explanation, on standard error, and its exit status; one that
+differs is printed.
 The exit status is 0 if none does. Linux alone, for /dev/full, /dev/zero and /proc.
 """
 import os
@@ -31,6 +32,7 @@ UNMADE = ("missing/file", "book/file", "", "loop", ".", "n" * 5000)
 
 READ = {name: "read fault %s\n" % name for name in ("book", "returns", "code")}
 WRITE = "write fault\n"
+EXPLANATION = "error: "
 
 
 def write_files(folder):
@@ -105,15 +107,20 @@ def start(program, words, folder, out, err):
     return subprocess.Popen([program, *words], cwd=folder, stdin=subprocess.DEVNULL, stdout=out, stderr=err, env={"PATH": os.environ["PATH"]})
 
 
+def without_explanation(said):
+    """What stands on standard error before an explanation."""
+    return said[: said.find(EXPLANATION)] if EXPLANATION in said else said
+
+
 def run(program, words, folder, out=subprocess.PIPE, err=subprocess.PIPE):
-    """What a command writes on the two, as far as they are pipes of its own, and its status."""
+    """What a command writes on the two, as far as they are pipes of its own, and its status. An explanation is left away."""
     child = start(program, words, folder, out, err)
     try:
         wrote, said = child.communicate(timeout=LIMIT)
     except subprocess.TimeoutExpired:
         child.kill()
         wrote, said = child.communicate()
-    return (wrote or b"").decode("latin-1"), (said or b"").decode("latin-1"), child.returncode
+    return (wrote or b"").decode("latin-1"), without_explanation((said or b"").decode("latin-1")), child.returncode
 
 
 def run_closed(program, words, folder):

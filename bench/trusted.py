@@ -19,6 +19,8 @@ PAGE = TOP / "docs" / "trusted.md"
 CALLS = ["count", "steps", "stage", "check_book", "code", "run_code", "law_text"]
 NAMES = re.compile(r"\s*(?:ghost |pub )*use Rattle\.(\w+)\.specs\.([\w.]+)\.\{(.*)\};?$")
 MODULE = re.compile(r"\s*(?:ghost |pub )*use Rattle\.(\w+)\.specs\.([\w.]+)(?: as (\w+))?;?$")
+# Crates whose public functions promise something to whoever uses the program or the page, beside the laws.
+PROMISING = {CRATES / name for name in ("sl_desk", "sl_hints", "sl_margins", "sl_page")}
 WORD = re.compile(r"[^\W\d]\w*")
 
 
@@ -96,7 +98,7 @@ def contracts(path, which=None):
     """The public functions of a source file: the name, and the text from the name to the body."""
     head, name = [], None
     for line in text_of(path).splitlines():
-        start = re.match(r"\s*pub fn (\w+)", line)
+        start = re.match(r"\s*pub (?:extern \"C\" )?fn (\w+)", line)
         if start and (which is None or start[1] in which):
             name, head = start[1], []
         if name:
@@ -142,7 +144,7 @@ def page():
     laws = set()
     for path in sorted(CRATES.glob("*/src/**/*.rt")):
         for _, text in contracts(path):
-            if text.endswith("\n{}") or {CRATES / "sl_desk", CRATES / "sl_page"} & set(path.parents):
+            if text.endswith("\n{}") or PROMISING & set(path.parents):
                 laws |= reached_by(path, text)
     rank = {crate: n for n, crate in enumerate(order())}
     every = set().union(*calls.values())

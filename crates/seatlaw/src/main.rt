@@ -1,7 +1,10 @@
 //! The program: a command line over the calls of the desk.
 #![tactic(auto)]
 
+mod files;
+mod reports;
 mod run;
+mod telling;
 
 use sl_words::request_of;
 use std::process::ExitCode;
@@ -9,7 +12,7 @@ use std::process::ExitCode;
 fn main(rt: HostRuntime) -> anyhow::Result<ExitCode> {
     let words: Vec<String> = std::env::args(&rt)?.collect(rt.alloc())?;
     let status = match request_of(rt.alloc(), words.as_slice()) {
-        Ok(Some(request)) => run::exit_status(&rt, request),
+        Ok(Some(asked)) => run::exit_status(&rt, asked),
         Ok(None) => {
             eprintln!(rt; "no command is given")?;
             1

@@ -1,90 +1,156 @@
 //! Commands over files.
 
-use sl_desk::{BookSource, DeskError, FromRead, Input, Status, ToWrite};
-use sl_words::{Request, Show};
-use std::fs::File;
+use crate::files::{Failure, KeptFile, create, open, open_book, text_of};
+use crate::reports;
+use crate::telling::{Desk, language_of, tell_failure, tell_fault};
+use sl_desk::{BookSource, Input, Status, ToWrite};
+use sl_hints::{BookText, explain_check, explain_count, explain_run, explain_stage};
+use sl_words::{Asked, Request, Show};
 
-// The file at a path, as that input.
-fn open(rt: &HostRuntime, path: &str, input: Input) -> Result<FromRead<File>, DeskError> {
-    match File::open(rt, path) {
-        Ok(file) => Ok(FromRead::new(file)),
-        Err(_) => Err(DeskError::Read(input)),
+// Explains why a count gave nothing to show.
+fn tell_count(
+    desk: Desk<'_>,
+    show: Show<'_>,
+    book: (&str, &BookSource<'_, KeptFile>),
+    returns: (&str, &KeptFile),
+) {
+    let Some(language) = desk.language else {
+        return;
+    };
+    let (Some(text), Some(bytes)) = (text_of(book.1), returns.1.bytes()) else {
+        return;
+    };
+    let alloc = desk.rt.alloc();
+    let explained = match show {
+        Show::Stage(name) => explain_stage(alloc, language, text, bytes, name),
+        Show::Seats | Show::Steps => explain_count(alloc, language, text, bytes),
+    };
+    tell_fault(desk, (book.0, text.bytes()), (returns.0, bytes), explained);
+}
+
+fn count<'a>(
+    desk: Desk<'_>,
+    show: Show<'_>,
+    book: &'a str,
+    returns: &'a str,
+) -> Result<Status, Failure<'a>> {
+    let mut source = open_book(desk.rt, book)?;
+    let mut file = open(desk.rt, returns, Input::Returns)?;
+    let mut out = ToWrite::new(desk.rt.stdout());
+    let alloc = desk.rt.alloc();
+    let status = match show {
+        Show::Seats => sl_desk::count(alloc, &mut source, &mut file, &mut out)?,
+        Show::Steps => sl_desk::steps(alloc, &mut source, &mut file, &mut out)?,
+        Show::Stage(name) => sl_desk::stage(alloc, &mut source, &mut file, name, &mut out)?,
+    };
+    if status != Status::Done {
+        tell_count(desk, show, (book, &source), (returns, &file));
     }
+    Ok(status)
 }
 
-// A rulebook: of the library if the word begins with `@`, else of the file at that path.
-fn open_book<'a>(
-    rt: &HostRuntime,
-    word: &'a str,
-) -> Result<BookSource<'a, FromRead<File>>, DeskError> {
-    match word.strip_prefix('@') {
-        Some(name) => Ok(BookSource::Library(name)),
-        None => Ok(BookSource::Reader(open(rt, word, Input::Book)?)),
+// Explains why a rulebook is refused.
+fn tell_book(desk: Desk<'_>, word: &str, text: Option<BookText<'_>>) {
+    let (Some(language), Some(text)) = (desk.language, text) else {
+        return;
+    };
+    let explained = explain_check(desk.rt.alloc(), language, text);
+    tell_fault(desk, (word, text.bytes()), ("", &[]), explained);
+}
+
+fn check<'a>(desk: Desk<'_>, book: &'a str) -> Result<Status, Failure<'a>> {
+    let mut source = open_book(desk.rt, book)?;
+    let mut out = ToWrite::new(desk.rt.stdout());
+    let status = sl_desk::check_book(desk.rt.alloc(), &mut source, &mut out)?;
+    if status != Status::Done {
+        tell_book(desk, book, text_of(&source));
     }
+    Ok(status)
 }
 
-// An empty file at a path.
-fn create(rt: &HostRuntime, path: &str) -> Result<ToWrite<File>, DeskError> {
-    match File::create(rt, path) {
-        Ok(file) => Ok(ToWrite::new(file)),
-        Err(_) => Err(DeskError::Write),
+fn code<'a>(desk: Desk<'_>, book: &'a str, file: &'a str) -> Result<Status, Failure<'a>> {
+    let mut source = open_book(desk.rt, book)?;
+    let mut file = create(desk.rt, file)?;
+    let mut out = ToWrite::new(desk.rt.stdout());
+    let status = sl_desk::code(desk.rt.alloc(), &mut source, &mut file, &mut out)?;
+    if status != Status::Done {
+        tell_book(desk, book, text_of(&source));
     }
+    Ok(status)
 }
 
-fn count(rt: &HostRuntime, show: Show<'_>, book: &str, returns: &str) -> Result<Status, DeskError> {
-    let mut book = open_book(rt, book)?;
-    let mut returns = open(rt, returns, Input::Returns)?;
-    let mut out = ToWrite::new(rt.stdout());
-    match show {
-        Show::Seats => sl_desk::count(rt.alloc(), &mut book, &mut returns, &mut out),
-        Show::Steps => sl_desk::steps(rt.alloc(), &mut book, &mut returns, &mut out),
-        Show::Stage(name) => sl_desk::stage(rt.alloc(), &mut book, &mut returns, name, &mut out),
+// Explains why the run of a code file gave nothing to show.
+fn tell_run(desk: Desk<'_>, code: (&str, &KeptFile), returns: (&str, &KeptFile)) {
+    let Some(language) = desk.language else {
+        return;
+    };
+    let (Some(file), Some(bytes)) = (code.1.bytes(), returns.1.bytes()) else {
+        return;
+    };
+    let explained = explain_run(desk.rt.alloc(), language, file, bytes);
+    tell_fault(desk, (code.0, file), (returns.0, bytes), explained);
+}
+
+fn run<'a>(desk: Desk<'_>, code: &'a str, returns: &'a str) -> Result<Status, Failure<'a>> {
+    let mut source = open(desk.rt, code, Input::Code)?;
+    let mut file = open(desk.rt, returns, Input::Returns)?;
+    let mut out = ToWrite::new(desk.rt.stdout());
+    let status = sl_desk::run_code(desk.rt.alloc(), &mut source, &mut file, &mut out)?;
+    if status != Status::Done {
+        tell_run(desk, (code, &source), (returns, &file));
     }
+    Ok(status)
 }
 
-fn check(rt: &HostRuntime, book: &str) -> Result<Status, DeskError> {
-    let mut book = open_book(rt, book)?;
-    let mut out = ToWrite::new(rt.stdout());
-    sl_desk::check_book(rt.alloc(), &mut book, &mut out)
+fn law<'a>(desk: Desk<'_>, name: &'a str) -> Result<Status, Failure<'a>> {
+    let mut out = ToWrite::new(desk.rt.stdout());
+    let status = sl_desk::law_text(name, &mut out)?;
+    if status != Status::Done {
+        tell_book(desk, name, Some(BookText::Library(name)));
+    }
+    Ok(status)
 }
 
-fn code(rt: &HostRuntime, book: &str, file: &str) -> Result<Status, DeskError> {
-    let mut book = open_book(rt, book)?;
-    let mut file = create(rt, file)?;
-    let mut out = ToWrite::new(rt.stdout());
-    sl_desk::code(rt.alloc(), &mut book, &mut file, &mut out)
-}
-
-fn run(rt: &HostRuntime, code: &str, returns: &str) -> Result<Status, DeskError> {
-    let mut code = open(rt, code, Input::Code)?;
-    let mut returns = open(rt, returns, Input::Returns)?;
-    let mut out = ToWrite::new(rt.stdout());
-    sl_desk::run_code(rt.alloc(), &mut code, &mut returns, &mut out)
-}
-
-fn law(rt: &HostRuntime, name: &str) -> Result<Status, DeskError> {
-    let mut out = ToWrite::new(rt.stdout());
-    sl_desk::law_text(name, &mut out)
-}
-
-/// Runs a command over files and standard output, and answers the exit status: 5 after an error, also where its line cannot be printed.
-pub fn exit_status(rt: &HostRuntime, request: Request<'_>) -> u8 {
-    let ending = match request {
+// Runs a command of the desk.
+fn ending<'a>(desk: Desk<'_>, request: Request<'a>) -> Result<Status, Failure<'a>> {
+    match request {
         Request::Count {
             show,
             book,
             returns,
-        } => count(rt, show, book, returns),
-        Request::Check { book } => check(rt, book),
-        Request::Code { book, file } => code(rt, book, file),
-        Request::Run { code, returns } => run(rt, code, returns),
-        Request::Law { name } => law(rt, name),
-    };
-    match ending {
+        } => count(desk, show, book, returns),
+        Request::Check { book } => check(desk, book),
+        Request::Code { book, file } => code(desk, book, file),
+        Request::Run { code, returns } => run(desk, code, returns),
+        Request::Law { name } => law(desk, name),
+        Request::Report { .. } => Ok(Status::Done),
+    }
+}
+
+// The exit status of a command of the desk.
+fn desk_status(desk: Desk<'_>, request: Request<'_>) -> u8 {
+    match ending(desk, request) {
         Ok(status) => status.number(),
-        Err(error) => {
-            let _ = eprintln!(rt; "{error}");
+        Err(failure) => {
+            let error = failure.error();
+            let _ = eprintln!(desk.rt; "{error}");
+            tell_failure(desk, &failure);
             5
         }
+    }
+}
+
+/// Runs a command over files and standard output, and answers the exit status: 5 after an error, also where its line cannot be printed. Behind
+/// the line of a refusal, a fault or an error it explains itself on standard error.
+pub fn exit_status(rt: &HostRuntime, asked: Asked<'_>) -> u8 {
+    let language = if asked.options.is_quiet {
+        None
+    } else {
+        Some(language_of(rt, asked.options))
+    };
+    let desk = Desk { rt, language };
+    match asked.request {
+        Request::Report { what, form, names } => reports::exit_status(desk, what, form, names),
+        request => desk_status(desk, request),
     }
 }

@@ -8,6 +8,8 @@ mod parse;
 #[cfg(test)]
 mod quotients;
 #[cfg(test)]
+mod report_words;
+#[cfg(test)]
 mod returns;
 #[cfg(test)]
 mod stages;

@@ -1,6 +1,8 @@
 //! The words of the command line: what they ask for, how they are refused, and the help.
 
-use sl_words::{Request, Show, request_of};
+use crate::report_words;
+use sl_explain::Language;
+use sl_words::{Options, Request, Show, request_of};
 use std::alloc::Global;
 use std::test::*;
 
@@ -29,14 +31,17 @@ fn text_of(alloc: Global, request: Request<'_>) -> Result<String, Fail> {
         Request::Code { book, file } => format!(in alloc; "code of {book} in {file}")?,
         Request::Run { code, returns } => format!(in alloc; "run of {code} and {returns}")?,
         Request::Law { name } => format!(in alloc; "law {name}")?,
+        Request::Report { what, form, names } => {
+            report_words::text_of(alloc, &what, form, names)?
+        }
     })
 }
 
 // What a line asks for, or why it does not; and whether that is an error.
-fn answer(alloc: Global, line: &str) -> Result<(String, bool), Fail> {
+pub(crate) fn answer(alloc: Global, line: &str) -> Result<(String, bool), Fail> {
     let words = words_of(alloc, line)?;
     match request_of(alloc, words.as_slice()) {
-        Ok(Some(request)) => Ok((text_of(alloc, request)?, false)),
+        Ok(Some(asked)) => Ok((text_of(alloc, asked.request)?, false)),
         Ok(None) => Ok((String::new(alloc), false)),
         Err(error) => Ok((format!(in alloc; "{error}")?, error.use_stderr())),
     }
@@ -92,11 +97,39 @@ fn requests(rt: HostRuntime) -> Result<(), Fail> {
     Ok(())
 }
 
+// Lines with options, each with how the command speaks.
+const OPTIONS: [(&str, bool, Option<Language>); 6] = [
+    ("seatlaw check book.law", false, None),
+    ("seatlaw check book.law --quiet", true, None),
+    ("seatlaw count -q @2023 returns.csv", true, None),
+    ("seatlaw law 2023 --lang de", false, Some(Language::German)),
+    ("seatlaw run --lang=en a b", false, Some(Language::English)),
+    (
+        "seatlaw code --lang en -q a b",
+        true,
+        Some(Language::English),
+    ),
+];
+
+#[test]
+fn options(rt: HostRuntime) -> Result<(), Fail> {
+    for (line, is_quiet, language) in OPTIONS {
+        let words = words_of(rt.alloc(), line)?;
+        let wanted = Some(Options { is_quiet, language });
+        let found = match request_of(rt.alloc(), words.as_slice()) {
+            Ok(Some(asked)) => Some(asked.options),
+            _ => None,
+        };
+        assert_eq!(rt; found, wanted, "{line}");
+    }
+    Ok(())
+}
+
 // Lines that are refused, each with the text on standard error.
-const REFUSALS: [(&str, &str); 8] = [
+const REFUSALS: [(&str, &str); 10] = [
     (
         "seatlaw",
-        "error: 'seatlaw' requires a subcommand but one was not provided\n  [subcommands: count, steps, stage, check, code, run, law, help]\n\nUsage: seatlaw <COMMAND>\n\nFor more information, try '--help'.\n",
+        "error: 'seatlaw' requires a subcommand but one was not provided\n  [subcommands: count, steps, stage, check, code, run, law, report, stages, totals, compare, help]\n\nUsage: seatlaw <COMMAND>\n\nFor more information, try '--help'.\n",
     ),
     (
         "seatlaw counts",
@@ -120,11 +153,19 @@ const REFUSALS: [(&str, &str); 8] = [
     ),
     (
         "seatlaw check book.law returns.csv",
-        "error: unexpected argument 'returns.csv' found\n\nUsage: seatlaw check <BOOK>\n\nFor more information, try '--help'.\n",
+        "error: unexpected argument 'returns.csv' found\n\nUsage: seatlaw check [OPTIONS] <BOOK>\n\nFor more information, try '--help'.\n",
     ),
     (
         "seatlaw check --all",
-        "error: unexpected argument '--all' found\n\n  tip: to pass '--all' as a value, use '-- --all'\n\nUsage: seatlaw check <BOOK>\n\nFor more information, try '--help'.\n",
+        "error: unexpected argument '--all' found\n\n  tip: to pass '--all' as a value, use '-- --all'\n\nUsage: seatlaw check [OPTIONS] <BOOK>\n\nFor more information, try '--help'.\n",
+    ),
+    (
+        "seatlaw code own.law own.law",
+        "error: BOOK and OUT are one file, which would be emptied before it is read: write the code to another\n\nUsage: seatlaw <COMMAND>\n\nFor more information, try '--help'.\n",
+    ),
+    (
+        "seatlaw count @2023 returns.csv --lang fr",
+        "error: invalid value 'fr' for '--lang <LANGUAGE>'\n  [possible values: de, en]\n\nFor more information, try '--help'.\n",
     ),
 ];
 
@@ -138,8 +179,16 @@ fn refusals(rt: HostRuntime) -> Result<(), Fail> {
     Ok(())
 }
 
+#[test]
+fn version(rt: HostRuntime) -> Result<(), Fail> {
+    let (text, is_error) = answer(rt.alloc(), "seatlaw --version")?;
+    assert_eq!(rt; text.as_str(), "seatlaw 1.0.0\n");
+    assert!(rt; !is_error);
+    Ok(())
+}
+
 // The exit statuses, with which each help ends.
-const STATUSES: &str = "\n\
+pub(crate) const STATUSES: &str = "\n\
     \n\
     Exit status:\n\
     \x20 0  done\n\
@@ -159,17 +208,22 @@ const HELPS: [(&[&str], &str); 8] = [
          Usage: seatlaw <COMMAND>\n\
          \n\
          Commands:\n\
-         \x20 count  Counts an election and writes its seat table\n\
-         \x20 steps  Counts an election and writes the step that won each seat, then its seat table\n\
-         \x20 stage  Counts an election and writes the numbers of one stage\n\
-         \x20 check  Checks a rulebook and writes a line about it\n\
-         \x20 code   Compiles a rulebook to a code file and writes the listing of the code\n\
-         \x20 run    Runs a code file on returns and writes the seat table\n\
-         \x20 law    Writes a rulebook of the library\n\
-         \x20 help   Print this message or the help of the given subcommand(s)\n\
+         \x20 count    Counts an election and writes its seat table\n\
+         \x20 steps    Counts an election and writes the step that won each seat, then its seat table\n\
+         \x20 stage    Counts an election and writes the numbers of one stage\n\
+         \x20 check    Checks a rulebook and writes a line about it\n\
+         \x20 code     Compiles a rulebook to a code file and writes the listing of the code\n\
+         \x20 run      Runs a code file on returns and writes the seat table\n\
+         \x20 law      Writes a rulebook of the library\n\
+         \x20 report   Counts an election and writes all of it as tables that people read\n\
+         \x20 stages   Counts an election and writes the numbers of all stages\n\
+         \x20 totals   Writes the sums of returns, and warnings of what is likely a mistake\n\
+         \x20 compare  Counts an election by several rulebooks and writes the seats side by side\n\
+         \x20 help     Print this message or the help of the given subcommand(s)\n\
          \n\
          Options:\n\
-         \x20 -h, --help  Print help\n\
+         \x20 -h, --help     Print help\n\
+         \x20 -V, --version  Print version\n\
          \n\
          Each command reads files and writes to standard output; `seatlaw help COMMAND` says more.\n\
          \n\
@@ -184,14 +238,16 @@ const HELPS: [(&[&str], &str); 8] = [
         ],
         "Counts an election and writes its seat table\n\
          \n\
-         Usage: seatlaw count <BOOK> <RETURNS>\n\
+         Usage: seatlaw count [OPTIONS] <BOOK> <RETURNS>\n\
          \n\
          Arguments:\n\
          \x20 <BOOK>     The rulebook: a path, or @NAME for one of the library\n\
          \x20 <RETURNS>  The returns, the numbers of an election: the path of a CSV file\n\
          \n\
          Options:\n\
-         \x20 -h, --help  Print help\n\
+         \x20 -q, --quiet            Leaves explanations on standard error away\n\
+         \x20     --lang <LANGUAGE>  The language of explanations, else that of the environment [possible values: de, en]\n\
+         \x20 -h, --help             Print help\n\
          \n\
          Reads a rulebook and returns. Writes the seats in all, of each party and of each list,\n\
          how many of them constituency winners fill, the seats that stay vacant, and the winners\n\
@@ -204,14 +260,16 @@ const HELPS: [(&[&str], &str); 8] = [
         &["seatlaw steps --help"],
         "Counts an election and writes the step that won each seat, then its seat table\n\
          \n\
-         Usage: seatlaw steps <BOOK> <RETURNS>\n\
+         Usage: seatlaw steps [OPTIONS] <BOOK> <RETURNS>\n\
          \n\
          Arguments:\n\
          \x20 <BOOK>     The rulebook: a path, or @NAME for one of the library\n\
          \x20 <RETURNS>  The returns, the numbers of an election: the path of a CSV file\n\
          \n\
          Options:\n\
-         \x20 -h, --help  Print help\n\
+         \x20 -q, --quiet            Leaves explanations on standard error away\n\
+         \x20     --lang <LANGUAGE>  The language of explanations, else that of the environment [possible values: de, en]\n\
+         \x20 -h, --help             Print help\n\
          \n\
          Reads a rulebook and returns. Writes a line for each seat of a distribution, with the\n\
          step in which it was won and the quotient or remainder that won it; then the bounds\n\
@@ -225,7 +283,7 @@ const HELPS: [(&[&str], &str); 8] = [
         &["seatlaw stage --help"],
         "Counts an election and writes the numbers of one stage\n\
          \n\
-         Usage: seatlaw stage <BOOK> <RETURNS> <NAME>\n\
+         Usage: seatlaw stage [OPTIONS] <BOOK> <RETURNS> <NAME>\n\
          \n\
          Arguments:\n\
          \x20 <BOOK>     The rulebook: a path, or @NAME for one of the library\n\
@@ -233,7 +291,9 @@ const HELPS: [(&[&str], &str); 8] = [
          \x20 <NAME>     The name of a stage of the rulebook: the word after `stage`\n\
          \n\
          Options:\n\
-         \x20 -h, --help  Print help\n\
+         \x20 -q, --quiet            Leaves explanations on standard error away\n\
+         \x20     --lang <LANGUAGE>  The language of explanations, else that of the environment [possible values: de, en]\n\
+         \x20 -h, --help             Print help\n\
          \n\
          Reads a rulebook and returns. Writes a line for each party, Land or list with its number\n\
          in the column of that stage, or one line for a stage that is a single number; or else\n\
@@ -246,13 +306,15 @@ const HELPS: [(&[&str], &str); 8] = [
         &["seatlaw check --help"],
         "Checks a rulebook and writes a line about it\n\
          \n\
-         Usage: seatlaw check <BOOK>\n\
+         Usage: seatlaw check [OPTIONS] <BOOK>\n\
          \n\
          Arguments:\n\
          \x20 <BOOK>  The rulebook: a path, or @NAME for one of the library\n\
          \n\
          Options:\n\
-         \x20 -h, --help  Print help\n\
+         \x20 -q, --quiet            Leaves explanations on standard error away\n\
+         \x20     --lang <LANGUAGE>  The language of explanations, else that of the environment [possible values: de, en]\n\
+         \x20 -h, --help             Print help\n\
          \n\
          Reads a rulebook. Writes its version, its house, the number of its stages and the name\n\
          of its law.\n\
@@ -264,14 +326,16 @@ const HELPS: [(&[&str], &str); 8] = [
         &["seatlaw code --help"],
         "Compiles a rulebook to a code file and writes the listing of the code\n\
          \n\
-         Usage: seatlaw code <BOOK> <OUT>\n\
+         Usage: seatlaw code [OPTIONS] <BOOK> <OUT>\n\
          \n\
          Arguments:\n\
          \x20 <BOOK>  The rulebook: a path, or @NAME for one of the library\n\
          \x20 <OUT>   The code file to write: a path, whose file is made or emptied first\n\
          \n\
          Options:\n\
-         \x20 -h, --help  Print help\n\
+         \x20 -q, --quiet            Leaves explanations on standard error away\n\
+         \x20     --lang <LANGUAGE>  The language of explanations, else that of the environment [possible values: de, en]\n\
+         \x20 -h, --help             Print help\n\
          \n\
          Reads a rulebook. Writes its counting code to the file OUT, and then a line for each\n\
          instruction. OUT is emptied before BOOK is read, so it must be another file; it stays\n\
@@ -284,14 +348,16 @@ const HELPS: [(&[&str], &str); 8] = [
         &["seatlaw run --help"],
         "Runs a code file on returns and writes the seat table\n\
          \n\
-         Usage: seatlaw run <CODE> <RETURNS>\n\
+         Usage: seatlaw run [OPTIONS] <CODE> <RETURNS>\n\
          \n\
          Arguments:\n\
          \x20 <CODE>     The code file, as `code` writes it: a path\n\
          \x20 <RETURNS>  The returns, the numbers of an election: the path of a CSV file\n\
          \n\
          Options:\n\
-         \x20 -h, --help  Print help\n\
+         \x20 -q, --quiet            Leaves explanations on standard error away\n\
+         \x20     --lang <LANGUAGE>  The language of explanations, else that of the environment [possible values: de, en]\n\
+         \x20 -h, --help             Print help\n\
          \n\
          Reads a code file and returns. Writes what `count` writes for the rulebook behind the\n\
          code: its seat table, or else the line of a legal fault.\n\
@@ -303,13 +369,15 @@ const HELPS: [(&[&str], &str); 8] = [
         &["seatlaw law --help"],
         "Writes a rulebook of the library\n\
          \n\
-         Usage: seatlaw law <NAME>\n\
+         Usage: seatlaw law [OPTIONS] <NAME>\n\
          \n\
          Arguments:\n\
          \x20 <NAME>  1956, 1985, 2008, 2013, 2023 or 2023-order\n\
          \n\
          Options:\n\
-         \x20 -h, --help  Print help\n\
+         \x20 -q, --quiet            Leaves explanations on standard error away\n\
+         \x20     --lang <LANGUAGE>  The language of explanations, else that of the environment [possible values: de, en]\n\
+         \x20 -h, --help             Print help\n\
          \n\
          Reads no file. Writes the text of the rulebook, from which one of your own may start.\n\
          \n\

@@ -58,7 +58,7 @@ module _ (report : Report) (b : BookTree) (c : CountingCode) (e : Election) (is 
   shown_as end a ends h = ap (λ x. answer_of c e (shown report x)) (sym ends) ∙ h
 
   -- the run is never out of its budget
-  not_out : Answers answer.OutOfBudget → ⊥
+  pub not_out : Answers answer.OutOfBudget → ⊥
   not_out h = go report (is.ends e in_range).0 (shown_as (is.ends e in_range).0 answer.OutOfBudget (is.ends e in_range).1 h)
     where
       go : (r : Report) (end : End) → answer_of c e (shown r (Ended end)) ≡ Some answer.OutOfBudget → ⊥
@@ -70,7 +70,7 @@ module _ (report : Report) (b : BookTree) (c : CountingCode) (e : Election) (is 
       go (Stage n) (Faulted f) h = fault_or_out f (same_Some _ _ h)
 
   -- a run that ends with a fault: the book means it
-  fault_is_meant : (f : LegalFault) → Answers (answer.Fault f) → Means b e (outcome.Fault f)
+  pub fault_is_meant : (f : LegalFault) → Answers (answer.Fault f) → Means b e (outcome.Fault f)
   fault_is_meant f h = go report (is.ends e in_range).0 (is.ends e in_range).1 (shown_as (is.ends e in_range).0 (answer.Fault f) (is.ends e in_range).1 h)
     where
       meant : (g : LegalFault) → ending_by b c e ≡ Ended (Faulted g) → answer.Fault g ≡ answer.Fault f → Means b e (outcome.Fault f)
@@ -115,7 +115,7 @@ module _ (report : Report) (b : BookTree) (c : CountingCode) (e : Election) (is 
           )
       go r (outcome.Fault g) has means comes at text = absurd comes
 
-  table_is_meant : is_typed b ≡ true → (h : Held) (output : List ℕ) → HasStage report b → Answers (answer.Done h) → IsHeldText report c e h output → IsTableText (IsReported report) b e output
+  pub table_is_meant : is_typed b ≡ true → (h : Held) (output : List ℕ) → HasStage report b → Answers (answer.Done h) → IsHeldText report c e h output → IsTableText (IsReported report) b e output
   table_is_meant typed h output has told text = go report (is.ends e in_range).0 has (is.ends e in_range).1 (shown_as (is.ends e in_range).0 (answer.Done h) (is.ends e in_range).1 told) text
     where
       go : (r : Report) (end : End) → HasStage r b → ending_by b c e ≡ Ended end → answer_of c e (shown r (Ended end)) ≡ Some (answer.Done h) → IsHeldText r c e h output → IsTableText (IsReported r) b e output

@@ -20,8 +20,12 @@ use sl_parse::{ParseFault, parse};
 use sl_ratio::NoMemory;
 use std::alloc::Global;
 
-// What a text comes to: its tokens, their tree, and the tests of the tree.
-fn judge_text<'a>(
+/// What a text comes to: its tokens, their tree, and the tests of the tree.
+///
+/// # Errors
+///
+/// Want of memory.
+pub fn judge_text<'a>(
     alloc: Global,
     text: &[u8],
 ) -> Result<Verdict<CheckedBook, BookRefusal<'a>>, NoMemory>
@@ -44,8 +48,12 @@ fn judge_text<'a>(
     }
 }
 
-// What a name comes to: the text of the library's book, if there is one.
-fn judge_law<'a>(
+/// What a name comes to: the text of the library's book, if there is one.
+///
+/// # Errors
+///
+/// Want of memory.
+pub fn judge_law<'a>(
     alloc: Global,
     name: &'a str,
 ) -> Result<Verdict<CheckedBook, BookRefusal<'a>>, NoMemory>

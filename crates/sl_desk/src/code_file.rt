@@ -16,8 +16,12 @@ use sl_ratio::NoMemory;
 use sl_verify::{Verified, verify};
 use std::alloc::Global;
 
-// What bytes come to as a code file: the code that they spell, and the tests of the verifier.
-fn judge_file(alloc: Global, bytes: &[u8]) -> Result<Verdict<Verified, CodeRefusal>, NoMemory>
+/// What bytes come to as a code file: the code that they spell, and the tests of the verifier.
+///
+/// # Errors
+///
+/// Want of memory.
+pub fn judge_code(alloc: Global, bytes: &[u8]) -> Result<Verdict<Verified, CodeRefusal>, NoMemory>
     requires { length bytes.now ≤ MAX_CODE_BYTES }
     ensures { IfOk result (IsCodeVerdict bytes.now) }
 {
@@ -42,7 +46,7 @@ pub(crate) fn read_code<S: Source>(
     ensures limited { TakesAtMost (MAX_CODE_BYTES + 1) (S.remaining source.old) (S.remaining source.new) }
 {
     match read_all(alloc, source, Input::Code, MAX_CODE_BYTES)? {
-        Bytes::Whole(bytes) => Ok(judge_file(alloc, bytes.as_slice())?),
+        Bytes::Whole(bytes) => Ok(judge_code(alloc, bytes.as_slice())?),
         Bytes::TooLong => Ok(Verdict::Refused(CodeRefusal::TooLong)),
     }
 }

@@ -18,7 +18,7 @@ use std::alloc::Global;
 
 /// Why a rulebook is refused.
 #[derive(Clone, Copy)]
-pub(crate) enum BookRefusal<'a> {
+pub enum BookRefusal<'a> {
     /// The library has no book of that name.
     UnknownLaw(&'a str),
     /// The text has too many bytes.
@@ -35,7 +35,7 @@ impl BookRefusal<'_> {
     ghost use Rattle.sl_desk.specs.Books.{book_line};
 
     /// The line that refuses the book.
-    pub fn line(self, alloc: Global) -> Result<Vec<u8>, NoMemory>
+    pub(crate) fn line(self, alloc: Global) -> Result<Vec<u8>, NoMemory>
         ensures { IfOk result (λ line. line.items ≡ book_line self.entry) }
     {
         match self {
@@ -50,7 +50,7 @@ impl BookRefusal<'_> {
 
 /// Why returns are refused.
 #[derive(Clone, Copy)]
-pub(crate) enum ReturnsRefusal {
+pub enum ReturnsRefusal {
     /// They have too many bytes.
     TooLong,
     /// The records have a fault.
@@ -61,7 +61,7 @@ impl ReturnsRefusal {
     ghost use Rattle.sl_desk.specs.Returns.{returns_line};
 
     /// The line that refuses the returns.
-    pub fn line(self, alloc: Global) -> Result<Vec<u8>, NoMemory>
+    pub(crate) fn line(self, alloc: Global) -> Result<Vec<u8>, NoMemory>
         ensures { IfOk result (λ line. line.items ≡ returns_line self) }
     {
         match self {
@@ -73,7 +73,7 @@ impl ReturnsRefusal {
 
 /// Why a code file is refused.
 #[derive(Clone, Copy)]
-pub(crate) enum CodeRefusal {
+pub enum CodeRefusal {
     /// It has too many bytes.
     TooLong,
     /// The bytes spell no code.
@@ -86,7 +86,7 @@ impl CodeRefusal {
     ghost use Rattle.sl_desk.specs.CodeFiles.{code_line};
 
     /// The line that refuses the code file.
-    pub fn line(self, alloc: Global) -> Result<Vec<u8>, NoMemory>
+    pub(crate) fn line(self, alloc: Global) -> Result<Vec<u8>, NoMemory>
         ensures { IfOk result (λ line. line.items ≡ code_line self) }
     {
         match self {

@@ -16,8 +16,15 @@ use sl_returns::{FaultKind, ReturnsFault, read_returns};
 use sl_stages::Returns;
 use std::alloc::Global;
 
-// What bytes come to as returns.
-fn judge_bytes(alloc: Global, bytes: &[u8]) -> Result<Verdict<Returns, ReturnsRefusal>, NoMemory>
+/// What bytes come to as returns.
+///
+/// # Errors
+///
+/// Want of memory.
+pub fn judge_returns(
+    alloc: Global,
+    bytes: &[u8],
+) -> Result<Verdict<Returns, ReturnsRefusal>, NoMemory>
     requires { length bytes.now ≤ MAX_RETURNS_BYTES }
     ensures { IfOk result (IsReturnsVerdict bytes.now) }
 {
@@ -43,7 +50,7 @@ pub(crate) fn read_election<S: Source>(
     ensures limited { TakesAtMost (MAX_RETURNS_BYTES + 1) (S.remaining source.old) (S.remaining source.new) }
 {
     match read_all(alloc, source, Input::Returns, MAX_RETURNS_BYTES)? {
-        Bytes::Whole(bytes) => Ok(judge_bytes(alloc, bytes.as_slice())?),
+        Bytes::Whole(bytes) => Ok(judge_returns(alloc, bytes.as_slice())?),
         Bytes::TooLong => Ok(Verdict::Refused(ReturnsRefusal::TooLong)),
     }
 }

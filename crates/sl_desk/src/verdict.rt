@@ -2,7 +2,7 @@
 
 /// What an input comes to: something good, or why it is refused.
 #[derive(Drop)]
-pub(crate) enum Verdict<T, R> {
+pub enum Verdict<T, R> {
     Good(T),
     Refused(R),
 }

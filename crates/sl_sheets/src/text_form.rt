@@ -99,45 +99,39 @@ fn pad(out: &mut String, used: usize, width: usize) -> Result<(), NoMemory> {
     Ok(())
 }
 
-// Adds a text at the left or at the right of its column, without blanks behind the last one.
-fn put_text(
-    out: &mut String,
-    text: &str,
-    look: Look,
-    width: usize,
-    is_last: bool,
-) -> Result<(), NoMemory> {
+// Adds a text at the left or at the right of its column.
+fn put_text(out: &mut String, text: &str, look: Look, width: usize) -> Result<(), NoMemory> {
     if let Look::Number = look {
         pad(out, text.width(), width)?;
         out.push_str(text)?;
     } else {
         out.push_str(text)?;
-        if !is_last {
-            pad(out, text.width(), width)?;
-        }
+        pad(out, text.width(), width)?;
     }
     Ok(())
 }
 
-// Adds a line.
+// A line, without blanks at its end.
 fn put_line(
+    alloc: Global,
     out: &mut String,
     line: &[String],
     heads: &[&Head],
     widths: &[usize],
 ) -> Result<(), NoMemory> {
+    let mut row = String::new(alloc);
     for (place, text) in line.iter().enumerate() {
         if place > 0 {
-            out.push_str("  ")?;
+            row.push_str("  ")?;
         }
         let width = widths.get(place).copied().unwrap_or(0);
         let look = match heads.get(place) {
             Some(head) => head.look,
             None => Look::Hidden,
         };
-        let is_last = place.saturating_add(1) == line.len();
-        put_text(out, text.as_str(), look, width, is_last)?;
+        put_text(&mut row, text.as_str(), look, width)?;
     }
+    out.push_str(row.as_str().trim_end())?;
     out.push('\n')?;
     Ok(())
 }
@@ -159,7 +153,13 @@ fn put_sheet(alloc: Global, out: &mut String, sheet: &Sheet) -> Result<(), NoMem
     out.push_str(sheet.title.as_str())?;
     out.push('\n')?;
     for line in &lines {
-        put_line(out, line.as_slice(), heads.as_slice(), widths.as_slice())?;
+        put_line(
+            alloc,
+            out,
+            line.as_slice(),
+            heads.as_slice(),
+            widths.as_slice(),
+        )?;
     }
     Ok(())
 }

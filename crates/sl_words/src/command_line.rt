@@ -1,6 +1,9 @@
 //! The words of the command line.
 
-use crate::help::{COMMANDS, Form, PROGRAM};
+use crate::help::{COMMANDS, Form, PROGRAM, SAME_FILE, VERSION};
+use crate::options::{Options, options_of, with_options};
+use crate::reports::{Report, ReportForm, report_commands, reporting};
+use clap::error::ErrorKind;
 use clap::{Arg, ArgAction, ArgMatches, Command, Error};
 use std::alloc::{AllocError, Global};
 
@@ -16,7 +19,7 @@ pub enum Show<'a> {
 }
 
 /// What a command line asks for.
-#[derive(Clone, Copy)]
+#[derive(Drop)]
 pub enum Request<'a> {
     /// To count an election by a rulebook.
     Count {
@@ -42,10 +45,33 @@ pub enum Request<'a> {
     Law {
         name: &'a str,
     },
+    /// To report in a form, with the full names of a file if one is given.
+    Report {
+        what: Report<'a>,
+        form: ReportForm,
+        names: Option<&'a str>,
+    },
+}
+
+/// A request, and how the command speaks.
+#[derive(Drop)]
+pub struct Asked<'a> {
+    pub request: Request<'a>,
+    pub options: Options,
+}
+
+impl Request<'_> {
+    // Whether it would empty the rulebook that it reads.
+    fn overwrites_its_book(&self) -> bool {
+        match self {
+            Request::Code { book, file } => book == file,
+            _ => false,
+        }
+    }
 }
 
 // A command with its help and its words, each of which must be given.
-fn command_of<'a>(alloc: Global, form: &Form) -> Result<Command<'a>, AllocError> {
+pub(crate) fn command_of<'a>(alloc: Global, form: &Form) -> Result<Command<'a>, AllocError> {
     let mut command = Command::new(alloc, form.name)
         .about(form.about)
         .after_help(form.more);
@@ -60,11 +86,14 @@ fn command_of<'a>(alloc: Global, form: &Form) -> Result<Command<'a>, AllocError>
 }
 
 fn program<'a>(alloc: Global) -> Result<Command<'a>, AllocError> {
-    let mut program = command_of(alloc, &PROGRAM)?.subcommand_required(true);
+    let mut program = command_of(alloc, &PROGRAM)?
+        .version(VERSION)
+        .subcommand_required(true);
     for form in &COMMANDS {
-        program = program.subcommand(command_of(alloc, form)?)?;
+        let command = with_options(alloc, command_of(alloc, form)?)?;
+        program = program.subcommand(command)?;
     }
-    Ok(program)
+    report_commands(alloc, program)
 }
 
 fn counting<'a>(show: Show<'a>, given: &ArgMatches<'a>) -> Option<Request<'a>> {
@@ -90,7 +119,19 @@ fn running<'a>(given: &ArgMatches<'a>) -> Option<Request<'a>> {
 }
 
 // What a command asks for with the words given to it.
-fn asked<'a>(command: &str, given: &ArgMatches<'a>) -> Option<Request<'a>> {
+fn request_by<'a>(
+    alloc: Global,
+    command: &str,
+    given: &ArgMatches<'a>,
+) -> Result<Option<Request<'a>>, AllocError> {
+    if let Some(request) = reporting(alloc, command, given)? {
+        return Ok(Some(request));
+    }
+    Ok(desk_request(command, given))
+}
+
+// What a command of the desk asks for.
+fn desk_request<'a>(command: &str, given: &ArgMatches<'a>) -> Option<Request<'a>> {
     match command {
         "count" => counting(Show::Seats, given),
         "steps" => counting(Show::Steps, given),
@@ -111,11 +152,19 @@ fn asked<'a>(command: &str, given: &ArgMatches<'a>) -> Option<Request<'a>> {
 ///
 /// # Errors
 ///
-/// A refusal or a help of `clap`, or want of memory.
-pub fn request_of<'a>(alloc: Global, words: &'a [String]) -> Result<Option<Request<'a>>, Error> {
-    let matches = program(alloc)?.try_get_matches_from(words)?;
-    Ok(match matches.subcommand() {
-        Some((command, given)) => asked(command, given),
-        None => None,
-    })
+/// A refusal, a help or the version by `clap`, a refusal of `code` with one word for its rulebook and its code file, or want of memory.
+pub fn request_of<'a>(alloc: Global, words: &'a [String]) -> Result<Option<Asked<'a>>, Error> {
+    let mut program = program(alloc)?;
+    let matches = program.try_get_matches_from_mut(words)?;
+    let Some((command, given)) = matches.subcommand() else {
+        return Ok(None);
+    };
+    let Some(request) = request_by(alloc, command, given)? else {
+        return Ok(None);
+    };
+    if request.overwrites_its_book() {
+        return Err(program.error(ErrorKind::ArgumentConflict, SAME_FILE)?);
+    }
+    let options = options_of(given);
+    Ok(Some(Asked { request, options }))
 }

@@ -1,5 +1,12 @@
 //! The texts of the help: of each command its words, what it reads and writes, an example, and the exit statuses.
 
+/// The program's name and version, as `--version` gives them.
+pub const VERSION: &str = "1.0.0";
+
+/// Why `code` refuses one word for its rulebook and its code file.
+pub const SAME_FILE: &str =
+    "BOOK and OUT are one file, which would be emptied before it is read: write the code to another";
+
 /// A command: its name, what it does in a line, its words, each with what it stands for, and the end of its help.
 pub struct Form {
     pub name: &'static str,
@@ -143,6 +150,59 @@ const LAW: Form = Form {
         "law 2023"
     ),
 };
+
+const REPORT: Form = Form {
+    name: "report",
+    about: "Counts an election and writes all of it as tables that people read",
+    words: &[BOOK, RETURNS],
+    more: ending!(
+        "Reads a rulebook and returns. Writes who takes part and why; the seats of parties and\n\
+         lists; for each distribution a divisor, the quotients, the last seat, the next claim and\n\
+         the votes missing for one more; contested lists by share; and winners without a seat.",
+        "report @2023-order returns.csv"
+    ),
+};
+
+const STAGES: Form = Form {
+    name: "stages",
+    about: "Counts an election and writes the numbers of all stages",
+    words: &[BOOK, RETURNS],
+    more: ending!(
+        "Reads a rulebook and returns. Writes a line for each stage with its shape, its unit and\n\
+         its sum, and then the column of each.",
+        "stages @2013 returns.csv"
+    ),
+};
+
+const TOTALS: Form = Form {
+    name: "totals",
+    about: "Writes the sums of returns, and warnings of what is likely a mistake",
+    words: &[RETURNS],
+    more: ending!(
+        "Reads returns, and a rulebook if one is given. Writes the votes and winners in all, by\n\
+         party and by Land; with a rulebook who takes part, and what the others lack for it.\n\
+         Nothing is counted, so there is no legal fault.",
+        "totals returns.csv @2023-order"
+    ),
+};
+
+const COMPARE: Form = Form {
+    name: "compare",
+    about: "Counts an election by several rulebooks and writes the seats side by side",
+    words: &[RETURNS],
+    more: ending!(
+        "Reads returns and rulebooks; without one, the six statutes of the library. Writes the\n\
+         seats of each party by each of them, and the first stage in which they differ from the\n\
+         first one. A legal fault stands in the column of its rulebook.",
+        "compare returns.csv @2008 @2023"
+    ),
+};
+
+/// The commands that report on one count.
+pub const COUNT_REPORTS: [Form; 2] = [REPORT, STAGES];
+
+/// The commands that report on returns: with one rulebook or none, and with any number of them.
+pub const RETURNS_REPORTS: [Form; 2] = [TOTALS, COMPARE];
 
 /// The commands, in the order in which the help lists them.
 pub const COMMANDS: [Form; 7] = [COUNT, STEPS, STAGE, CHECK, CODE, RUN, LAW];

@@ -3,5 +3,9 @@
 
 mod command_line;
 mod help;
+mod options;
+mod reports;
 
-pub use command_line::{Request, Show, request_of};
+pub use command_line::{Asked, Request, Show, request_of};
+pub use options::Options;
+pub use reports::{Report, ReportForm};

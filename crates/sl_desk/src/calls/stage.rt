@@ -33,8 +33,8 @@ fn number_among(stages: &[Stage], name: &str) -> Option<usize>
         .position(|stage| name.as_bytes() == stage.name.as_bytes())
 }
 
-// The number of the stage of that name.
-fn stage_number(book: &Book, name: &str) -> Option<usize>
+/// The number of the stage of that name, from 0, if the book has one.
+pub fn stage_number(book: &Book, name: &str) -> Option<usize>
     ensures { result ≡ stage_number name.now (book_of book.now) }
 {
     number_among(&book.stages, name)

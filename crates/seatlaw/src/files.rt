@@ -1,0 +1,75 @@
+//! Files as inputs and as outputs of the desk.
+
+use sl_desk::{BookSource, DeskError, FromRead, Input, ToWrite};
+use sl_hints::{BookText, Kept};
+use std::fs::File;
+
+/// A file that is read, whose bytes are kept for an explanation.
+pub type KeptFile = Kept<FromRead<File>>;
+
+/// Why a command did not come to its end: a file could not be opened or made, with the reason of the system, or a call of the desk failed.
+#[derive(Drop)]
+pub enum Failure<'a> {
+    Unopened {
+        input: Input,
+        path: &'a str,
+        error: std::io::Error,
+    },
+    Unmade {
+        path: &'a str,
+        error: std::io::Error,
+    },
+    Desk(DeskError),
+}
+
+impl From<DeskError> for Failure<'_> {
+    fn from(error: DeskError) -> Self {
+        Failure::Desk(error)
+    }
+}
+
+impl Failure<'_> {
+    /// The error of the desk that stands for it.
+    pub fn error(&self) -> DeskError {
+        match self {
+            Failure::Unopened { input, .. } => DeskError::Read(*input),
+            Failure::Unmade { .. } => DeskError::Write,
+            Failure::Desk(error) => *error,
+        }
+    }
+}
+
+/// The file at a path, as that input.
+pub fn open<'a>(rt: &HostRuntime, path: &'a str, input: Input) -> Result<KeptFile, Failure<'a>> {
+    match File::open(rt, path) {
+        Ok(file) => Ok(Kept::new(rt.alloc(), FromRead::new(file))),
+        Err(error) => Err(Failure::Unopened { input, path, error }),
+    }
+}
+
+/// A rulebook: of the library if the word begins with `@`, else of the file at that path.
+pub fn open_book<'a>(
+    rt: &HostRuntime,
+    word: &'a str,
+) -> Result<BookSource<'a, KeptFile>, Failure<'a>> {
+    match word.strip_prefix('@') {
+        Some(name) => Ok(BookSource::Library(name)),
+        None => Ok(BookSource::Reader(open(rt, word, Input::Book)?)),
+    }
+}
+
+/// An empty file at a path.
+pub fn create<'a>(rt: &HostRuntime, path: &'a str) -> Result<ToWrite<File>, Failure<'a>> {
+    match File::create(rt, path) {
+        Ok(file) => Ok(ToWrite::new(file)),
+        Err(error) => Err(Failure::Unmade { path, error }),
+    }
+}
+
+/// What was read of a rulebook, if it was kept.
+pub fn text_of<'a>(book: &'a BookSource<'a, KeptFile>) -> Option<BookText<'a>> {
+    match book {
+        BookSource::Library(name) => Some(BookText::Library(name)),
+        BookSource::Reader(file) => Some(BookText::Text(file.bytes()?)),
+    }
+}

@@ -1,0 +1,114 @@
+//! Books that are too long, and expressions and stages that are too many.
+
+use sl_explain::{Explanation, Language, Message, Speaker};
+use sl_hint_pieces::token_span;
+use sl_lex::{Keyword, Kind, Mark, Token};
+use sl_ratio::NoMemory;
+use sl_stages::{MAX_DEPTH, MAX_PARTS, MAX_STAGES};
+use std::alloc::Global;
+
+const LONG_BOOK: Message = Message {
+    english: "the rulebook has more than 65,536 bytes",
+    german: "das Regelwerk hat mehr als 65.536 Bytes",
+};
+
+const LONG_BOOK_REMEDY: Message = Message {
+    english: "is it the right file? A rulebook has some 1,000 bytes; long comments can be cut",
+    german: "ist es die richtige Datei? Ein Regelwerk hat etwa 1.000 Bytes; lange Kommentare lassen sich kürzen",
+};
+
+const TOO_DEEP: Message = Message {
+    english: "this expression lies at level $, and a stage has at most $ levels",
+    german: "dieser Ausdruck liegt auf Ebene $, und eine Stufe hat höchstens $ Ebenen",
+};
+
+const TOO_MANY_PARTS: Message = Message {
+    english: "a stage has at most $ expressions, each one inside another counted, and this is one more",
+    german: "eine Stufe hat höchstens $ Ausdrücke, jeder in einem anderen mitgezählt, und dieser ist einer mehr",
+};
+
+const PARTS_REMEDY: Message = Message {
+    english: "make stages of parts of the expression, above this stage: `stage part = ..;`, and write `part` here",
+    german: "aus Teilen des Ausdrucks Stufen machen, über dieser Stufe: `stage part = ..;`, und hier `part` schreiben",
+};
+
+const NO_ROOM: Message = Message {
+    english: "an expression is missing here, and its stage has no room for one more: it has at most $ levels and $ expressions",
+    german: "hier fehlt ein Ausdruck, und seine Stufe hat keinen Platz mehr dafür: sie hat höchstens $ Ebenen und $ Ausdrücke",
+};
+
+const TOO_MANY_STAGES: Message = Message {
+    english: "a rulebook has at most $ stages, and this is one more",
+    german: "ein Regelwerk hat höchstens $ Stufen, und diese ist eine mehr",
+};
+
+const STAGES_REMEDY: Message = Message {
+    english: "write the expression of a stage that is named only once in the place of its name",
+    german: "den Ausdruck einer Stufe, die nur einmal genannt wird, an die Stelle ihres Namens schreiben",
+};
+
+/// Explains a book that has too many bytes.
+///
+/// # Errors
+///
+/// Want of memory.
+pub fn explain_long_book(alloc: Global, language: Language) -> Result<Explanation, NoMemory> {
+    let speaker = Speaker { alloc, language };
+    let mut explanation = Explanation::new(alloc, speaker.text(&LONG_BOOK, &[])?);
+    speaker.helps(&mut explanation, &LONG_BOOK_REMEDY, &[])?;
+    Ok(explanation)
+}
+
+// The level of an expression at an offset: one more than there are parentheses open in its stage.
+fn level_at(tokens: &[Token], at: usize) -> u64 {
+    let mut level = 1u64;
+    for token in tokens.iter().take_while(|token| token.start < at) {
+        level = match token.kind {
+            Kind::Keyword(Keyword::Stage) => 1,
+            Kind::Mark(Mark::Open) => level.saturating_add(1),
+            Kind::Mark(Mark::Close) => level.saturating_sub(1),
+            _ => level,
+        };
+    }
+    level
+}
+
+/// An expression too many levels down, or one too many in its stage.
+pub fn explain_depth(
+    speaker: Speaker,
+    text: &[u8],
+    tokens: &[Token],
+    at: usize,
+) -> Result<Explanation, NoMemory> {
+    let level = level_at(tokens, at);
+    let span = token_span(text, at);
+    let mut explanation = if level > u64::from(MAX_DEPTH) {
+        let level = level.to_string(speaker.alloc)?;
+        let most = MAX_DEPTH.to_string(speaker.alloc)?;
+        speaker.says_at(&TOO_DEEP, &[level.as_bytes(), most.as_bytes()], span)?
+    } else {
+        let most = MAX_PARTS.to_string(speaker.alloc)?;
+        speaker.says_at(&TOO_MANY_PARTS, &[most.as_bytes()], span)?
+    };
+    speaker.helps(&mut explanation, &PARTS_REMEDY, &[])?;
+    Ok(explanation)
+}
+
+/// An expression that is missing where there is no room for it.
+pub fn explain_no_room(speaker: Speaker, text: &[u8], at: usize) -> Result<Explanation, NoMemory> {
+    let levels = MAX_DEPTH.to_string(speaker.alloc)?;
+    let parts = MAX_PARTS.to_string(speaker.alloc)?;
+    let values = [levels.as_bytes(), parts.as_bytes()];
+    let mut explanation = speaker.says_at(&NO_ROOM, &values, token_span(text, at))?;
+    speaker.helps(&mut explanation, &PARTS_REMEDY, &[])?;
+    Ok(explanation)
+}
+
+/// A stage too many.
+pub fn explain_stages(speaker: Speaker, text: &[u8], at: usize) -> Result<Explanation, NoMemory> {
+    let most = MAX_STAGES.to_string(speaker.alloc)?;
+    let span = token_span(text, at);
+    let mut explanation = speaker.says_at(&TOO_MANY_STAGES, &[most.as_bytes()], span)?;
+    speaker.helps(&mut explanation, &STAGES_REMEDY, &[])?;
+    Ok(explanation)
+}

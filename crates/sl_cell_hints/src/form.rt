@@ -1,0 +1,218 @@
+//! What a cell looks like that should hold the digits of a number.
+
+use sl_ratio::NoMemory;
+use sl_returns_cells::{are_digits, is_number};
+use std::alloc::Global;
+
+/// What a wrong number looks like.
+#[derive(Clone, Copy, PartialEq, Eq)]
+pub enum Form {
+    Empty,
+    Long,
+    Missing,
+    Edged,
+    Negative,
+    Positive,
+    Exponent,
+    Date,
+    Separated,
+    Decimal,
+    Other,
+}
+
+// What stands for a missing value in tables, in small letters.
+const MISSING: [&[u8]; 12] = [
+    b"na", b"n/a", b"#n/a", b"#nv", b"nan", b"null", b"none", b"nil", b"-", b".", b"x", b"?",
+];
+
+// Groups of digits with marks between them, such as points.
+#[derive(Clone, Copy)]
+struct Groups {
+    // the digits of the first, the second and the last group
+    first: usize,
+    second: usize,
+    last: usize,
+    // the marks, one for those that stand together
+    marks: usize,
+    // the last mark's last byte
+    mark: u8,
+    // each group behind the first, up to the last, has three digits
+    are_threes: bool,
+    // nothing else stands there
+    is_pure: bool,
+}
+
+impl Groups {
+    // A digit.
+    fn digit(&mut self) {
+        self.last = self.last.saturating_add(1);
+        if self.marks == 0 {
+            self.first = self.last;
+        } else if self.marks == 1 {
+            self.second = self.last;
+        }
+    }
+
+    // A mark, which ends a group.
+    fn part(&mut self, byte: u8) {
+        self.mark = byte;
+        if self.last > 0 {
+            if self.marks > 0 && self.last != 3 {
+                self.are_threes = false;
+            }
+            self.marks = self.marks.saturating_add(1);
+            self.last = 0;
+        }
+    }
+
+    // Whether the marks stand between thousands.
+    fn are_thousands(&self) -> bool {
+        self.marks > 0 && self.are_threes && self.last == 3 && self.first <= 3
+    }
+
+    // Whether these are a day, a month and a year.
+    fn are_date(&self) -> bool {
+        let is_day = self.first <= 4 && self.second > 0 && self.second <= 2;
+        self.marks == 2 && is_day && self.last > 0 && self.last <= 4
+    }
+}
+
+// Whether a byte may part groups of digits: also the parts of a wide blank or of an apostrophe.
+fn is_mark(byte: u8) -> bool {
+    byte >= 0x80 || b".,'_ -/".contains(&byte)
+}
+
+// The groups of digits of a cell.
+fn groups_of(cell: &[u8]) -> Groups {
+    let mut groups = Groups {
+        first: 0,
+        second: 0,
+        last: 0,
+        marks: 0,
+        mark: 0,
+        are_threes: true,
+        is_pure: true,
+    };
+    for byte in cell {
+        if byte.is_ascii_digit() {
+            groups.digit();
+        } else if is_mark(*byte) {
+            groups.part(*byte);
+        } else {
+            groups.is_pure = false;
+        }
+    }
+    groups
+}
+
+// The form by groups of digits.
+fn form_by_groups(cell: &[u8]) -> Form {
+    let groups = groups_of(cell);
+    let is_point = groups.mark == b'.' || groups.mark == b',';
+    if !groups.is_pure || groups.first == 0 || groups.last == 0 {
+        Form::Other
+    } else if groups.are_date() {
+        Form::Date
+    } else if groups.are_thousands() {
+        Form::Separated
+    } else if is_point {
+        Form::Decimal
+    } else {
+        Form::Other
+    }
+}
+
+// Whether a cell is digits with an exponent, as 3E5 or 3.1e+05.
+fn is_exponent(cell: &[u8]) -> bool {
+    let begins = cell.first().is_some_and(|byte| byte.is_ascii_digit());
+    let has = cell.iter().any(|byte| *byte == b'E' || *byte == b'e');
+    let are_parts = cell
+        .iter()
+        .all(|byte| byte.is_ascii_digit() || b"eE.,+-".contains(byte));
+    begins && has && are_parts
+}
+
+/// A cell without the blanks at its ends.
+pub fn trimmed(cell: &[u8]) -> &[u8] {
+    cell.trim_ascii()
+}
+
+// The cell behind a minus, as a keyboard, a typesetter or a spreadsheet writes it.
+fn behind_minus(cell: &[u8]) -> Option<&[u8]> {
+    if let Some(rest) = cell.strip_prefix(b"-".as_slice()) {
+        return Some(rest);
+    }
+    cell.strip_prefix(b"\xE2\x88\x92".as_slice())
+}
+
+// Whether a cell stands for a missing value.
+fn is_missing(cell: &[u8]) -> bool {
+    MISSING.iter().any(|word| cell.eq_ignore_ascii_case(word))
+}
+
+/// What a cell looks like that is no number.
+pub fn form_of(cell: &[u8]) -> Form {
+    let inner = trimmed(cell);
+    if inner.is_empty() {
+        Form::Empty
+    } else if are_digits(cell) {
+        Form::Long
+    } else if are_digits(inner) {
+        Form::Edged
+    } else if is_missing(inner) {
+        Form::Missing
+    } else if behind_minus(inner).is_some_and(are_digits) {
+        Form::Negative
+    } else if inner.strip_prefix(b"+".as_slice()).is_some_and(are_digits) {
+        Form::Positive
+    } else if is_exponent(inner) {
+        Form::Exponent
+    } else {
+        form_by_groups(inner)
+    }
+}
+
+// The digits of a cell.
+fn digits_of(alloc: Global, cell: &[u8]) -> Result<Vec<u8>, NoMemory> {
+    let mut digits = Vec::new(alloc);
+    for byte in cell {
+        if byte.is_ascii_digit() {
+            digits.push(*byte)?;
+        }
+    }
+    Ok(digits)
+}
+
+// A cell up to its last mark, where only zeros stand behind that.
+fn whole_part(cell: &[u8]) -> Option<&[u8]> {
+    let behind = groups_of(cell).last;
+    let front = cell.get(..cell.len().saturating_sub(behind))?;
+    let zeros = cell.get(front.len()..)?;
+    if zeros.iter().all(|byte| *byte == b'0') {
+        Some(front)
+    } else {
+        None
+    }
+}
+
+/// The digits that a cell was likely meant for, where that is plain.
+///
+/// # Errors
+///
+/// Want of memory.
+pub fn meant(alloc: Global, cell: &[u8]) -> Result<Option<Vec<u8>>, NoMemory> {
+    let source = match form_of(cell) {
+        Form::Edged | Form::Positive | Form::Separated => Some(cell),
+        Form::Decimal => whole_part(trimmed(cell)),
+        _ => None,
+    };
+    let Some(source) = source else {
+        return Ok(None);
+    };
+    let digits = digits_of(alloc, source)?;
+    if is_number(digits.as_slice()) {
+        Ok(Some(digits))
+    } else {
+        Ok(None)
+    }
+}

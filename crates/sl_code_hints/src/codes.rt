@@ -1,0 +1,251 @@
+//! Explanations of code files that are refused, and of runs that take too long.
+
+use sl_code::CodeFault;
+use sl_explain::{Explanation, Language, Message, Speaker};
+use sl_ratio::NoMemory;
+use sl_verify::VerifyFault;
+use std::alloc::Global;
+
+// What is said of a file that does not begin as a code file.
+const EMPTY: Message = Message {
+    english: "the code file is empty",
+    german: "die Code-Datei ist leer",
+};
+
+const BOOK: Message = Message {
+    english: "this is a rulebook and no code file",
+    german: "dies ist ein Regelwerk und keine Code-Datei",
+};
+
+const RETURNS: Message = Message {
+    english: "these are returns and no code file",
+    german: "dies sind Wahlergebnisse und keine Code-Datei",
+};
+
+const MAGIC: Message = Message {
+    english: "this is no code file: one begins with the letters SLC",
+    german: "dies ist keine Code-Datei: Eine solche beginnt mit den Buchstaben SLC",
+};
+
+// The same of its later bytes; the value is the offset from 0.
+const VERSION: Message = Message {
+    english: "byte $ of the code file: the version of the format is not 1",
+    german: "Byte $ der Code-Datei: Die Version des Formats ist nicht 1",
+};
+
+const OP: Message = Message {
+    english: "byte $ of the code file has no meaning at its place",
+    german: "Byte $ der Code-Datei hat an seiner Stelle keine Bedeutung",
+};
+
+const SHORT: Message = Message {
+    english: "the code file ends too early, behind $ bytes",
+    german: "die Code-Datei endet zu früh, nach $ Bytes",
+};
+
+const TRAILING: Message = Message {
+    english: "the code ends before byte $, and the file goes on",
+    german: "der Code endet vor Byte $, und die Datei geht weiter",
+};
+
+const LIMIT: Message = Message {
+    english: "byte $ of the code file begins a number of stages, slots or instructions that is too great",
+    german: "Byte $ der Code-Datei beginnt eine zu große Zahl von Stufen, Spalten oder Befehlen",
+};
+
+const OUT_OF_MEMORY: Message = Message {
+    english: "memory ran out while the code file was read",
+    german: "beim Lesen der Code-Datei ging der Speicher aus",
+};
+
+const LONG: Message = Message {
+    english: "the code file has more than 4,194,304 bytes",
+    german: "die Code-Datei hat mehr als 4.194.304 Bytes",
+};
+
+const BUDGET: Message = Message {
+    english: "the run of the code file takes more steps than any rulebook's does, and was stopped",
+    german: "der Lauf der Code-Datei braucht mehr Schritte als der jedes Regelwerks und wurde abgebrochen",
+};
+
+// What the verifier refuses; the value is the number of the instruction.
+const JUMP: Message = Message {
+    english: "instruction $ of the code jumps to a place without a declaration",
+    german: "Befehl $ des Codes springt an eine Stelle ohne Erklärung",
+};
+
+const REGISTER: Message = Message {
+    english: "instruction $ of the code names a register that there is not",
+    german: "Befehl $ des Codes nennt ein Register, das es nicht gibt",
+};
+
+const KIND: Message = Message {
+    english: "instruction $ of the code needs a register that is not 0, or a cursor that is set",
+    german: "Befehl $ des Codes braucht ein Register, das nicht 0 ist, oder einen gesetzten Zeiger",
+};
+
+const SLOT: Message = Message {
+    english: "instruction $ of the code names a column or a stage that there is not, or a column of another shape",
+    german: "Befehl $ des Codes nennt eine Spalte oder Stufe, die es nicht gibt, oder eine Spalte anderer Form",
+};
+
+const TABLE: Message = Message {
+    english: "instruction $ of the code needs another priority table",
+    german: "Befehl $ des Codes braucht eine andere Rangtabelle",
+};
+
+const MEET: Message = Message {
+    english: "at instruction $ of the code two ways meet with unlike knowledge, or no way leads there",
+    german: "bei Befehl $ des Codes treffen sich zwei Wege mit ungleichem Wissen, oder kein Weg führt hin",
+};
+
+const RUNS_OFF: Message = Message {
+    english: "nothing stands behind instruction $ of the code, where it goes on",
+    german: "hinter Befehl $ des Codes steht nichts, wo er weitergeht",
+};
+
+// What to do.
+const ANEW: Message = Message {
+    english: "write the file anew from its rulebook: `seatlaw code book.law book.slc`",
+    german: "die Datei aus ihrem Regelwerk neu schreiben: `seatlaw code book.law book.slc`",
+};
+
+const CHANGED: Message = Message {
+    english: "a file that `code` has written and nobody has changed is never refused: maybe it was cut off or edited on its way",
+    german: "eine Datei, die `code` schrieb und niemand änderte, wird nie abgelehnt: Vielleicht wurde sie unterwegs gekürzt oder geändert",
+};
+
+const COUNT: Message = Message {
+    english: "a rulebook is counted by `count`: `seatlaw count book.law returns.csv`",
+    german: "ein Regelwerk zählt `count`: `seatlaw count book.law returns.csv`",
+};
+
+const ORDER: Message = Message {
+    english: "the order is CODE, then RETURNS: `seatlaw run book.slc returns.csv`",
+    german: "die Reihenfolge ist CODE, dann RETURNS: `seatlaw run book.slc returns.csv`",
+};
+
+const END_OTHERS: Message = Message {
+    english: "end other programs, and run the command again",
+    german: "andere Programme beenden, und den Befehl noch einmal ausführen",
+};
+
+// What is said of bytes that do not begin as a code file, and what to do.
+fn magic_messages(bytes: &[u8]) -> (&'static Message, &'static Message) {
+    let text = bytes.trim_ascii();
+    if text.is_empty() {
+        (&EMPTY, &ANEW)
+    } else if text.starts_with(b"rulebook") || text.starts_with(b"#") {
+        (&BOOK, &COUNT)
+    } else if text.starts_with(b"kind") || text.starts_with(b"\xEF\xBB\xBFkind") {
+        (&RETURNS, &ORDER)
+    } else {
+        (&MAGIC, &ANEW)
+    }
+}
+
+// The length of the first line.
+fn line_length(bytes: &[u8]) -> usize {
+    match bytes
+        .iter()
+        .position(|byte| *byte == b'\n' || *byte == b'\r')
+    {
+        Some(length) => length,
+        None => bytes.len(),
+    }
+}
+
+// A file that does not begin as a code file.
+fn explain_magic(speaker: Speaker, bytes: &[u8]) -> Result<Explanation, NoMemory> {
+    let (sentence, remedy) = magic_messages(bytes);
+    let mut explanation = speaker.says(sentence, &[])?;
+    if std::str::from_utf8(bytes).is_ok() && !bytes.is_empty() {
+        explanation = explanation.at(0, line_length(bytes));
+    }
+    speaker.helps(&mut explanation, remedy, &[])?;
+    Ok(explanation)
+}
+
+// A fault at an offset, or at an instruction.
+fn explain_at(speaker: Speaker, message: &Message, at: usize) -> Result<Explanation, NoMemory> {
+    let number = speaker.number(at)?;
+    let mut explanation = speaker.says(message, &[number.as_slice()])?;
+    speaker.helps(&mut explanation, &ANEW, &[])?;
+    speaker.helps(&mut explanation, &CHANGED, &[])?;
+    Ok(explanation)
+}
+
+// A sentence without a place, with one remedy.
+fn explain_plainly(
+    speaker: Speaker,
+    message: &Message,
+    remedy: &Message,
+) -> Result<Explanation, NoMemory> {
+    let mut explanation = speaker.says(message, &[])?;
+    speaker.helps(&mut explanation, remedy, &[])?;
+    Ok(explanation)
+}
+
+/// The explanation of the fault that bytes have as a code file.
+///
+/// # Errors
+///
+/// Want of memory.
+pub fn explain_code_bytes(
+    alloc: Global,
+    language: Language,
+    bytes: &[u8],
+    fault: CodeFault,
+) -> Result<Explanation, NoMemory> {
+    let speaker = Speaker { alloc, language };
+    match fault {
+        CodeFault::Magic(_) => explain_magic(speaker, bytes),
+        CodeFault::Short(_) if bytes.is_empty() => explain_magic(speaker, bytes),
+        CodeFault::Version(at) => explain_at(speaker, &VERSION, at),
+        CodeFault::Op(at) => explain_at(speaker, &OP, at),
+        CodeFault::Short(at) => explain_at(speaker, &SHORT, at),
+        CodeFault::Trailing(at) => explain_at(speaker, &TRAILING, at),
+        CodeFault::Limit(at) => explain_at(speaker, &LIMIT, at),
+        CodeFault::NoMemory => explain_plainly(speaker, &OUT_OF_MEMORY, &END_OTHERS),
+    }
+}
+
+/// The explanation of the fault that the verifier finds in a code.
+///
+/// # Errors
+///
+/// Want of memory.
+pub fn explain_code_kinds(
+    alloc: Global,
+    language: Language,
+    fault: VerifyFault,
+) -> Result<Explanation, NoMemory> {
+    let speaker = Speaker { alloc, language };
+    match fault {
+        VerifyFault::Jump(at) => explain_at(speaker, &JUMP, at),
+        VerifyFault::Register(at) => explain_at(speaker, &REGISTER, at),
+        VerifyFault::Kind(at) => explain_at(speaker, &KIND, at),
+        VerifyFault::Slot(at) => explain_at(speaker, &SLOT, at),
+        VerifyFault::TableKind(at) => explain_at(speaker, &TABLE, at),
+        VerifyFault::Meet(at) => explain_at(speaker, &MEET, at),
+        VerifyFault::RunsOff(at) => explain_at(speaker, &RUNS_OFF, at),
+    }
+}
+
+/// The explanation of a code file that is longer than it may be.
+///
+/// # Errors
+///
+/// Want of memory.
+pub fn explain_long_code(alloc: Global, language: Language) -> Result<Explanation, NoMemory> {
+    explain_plainly(Speaker { alloc, language }, &LONG, &ANEW)
+}
+
+/// The explanation of a run that takes more steps than it may.
+///
+/// # Errors
+///
+/// Want of memory.
+pub fn explain_budget(alloc: Global, language: Language) -> Result<Explanation, NoMemory> {
+    explain_plainly(Speaker { alloc, language }, &BUDGET, &ANEW)
+}

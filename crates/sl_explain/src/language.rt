@@ -1,0 +1,51 @@
+//! Messages in two languages, which stand side by side.
+
+use sl_ratio::NoMemory;
+use std::alloc::Global;
+
+/// The language in which a person is spoken to.
+#[derive(Clone, Copy, Debug, PartialEq, Eq)]
+pub enum Language {
+    English,
+    German,
+}
+
+/// A message in both languages. Each `$` in it stands for the next value.
+#[derive(Clone, Copy)]
+pub struct Message {
+    pub english: &'static str,
+    pub german: &'static str,
+}
+
+impl Message {
+    /// The message in a language.
+    pub fn in_language(&self, language: Language) -> &'static str {
+        match language {
+            Language::English => self.english,
+            Language::German => self.german,
+        }
+    }
+
+    /// The text of the message, with these values in place of each `$`, in their order. A `$` behind the last value is left away.
+    ///
+    /// # Errors
+    ///
+    /// Want of memory.
+    pub fn text(
+        &self,
+        alloc: Global,
+        language: Language,
+        values: &[&[u8]],
+    ) -> Result<Vec<u8>, NoMemory> {
+        let mut text = Vec::new(alloc);
+        let mut left = values.iter();
+        for byte in self.in_language(language).as_bytes() {
+            if *byte != b'$' {
+                text.push(*byte)?;
+            } else if let Some(value) = left.next() {
+                text.extend_from_slice(value)?;
+            }
+        }
+        Ok(text)
+    }
+}

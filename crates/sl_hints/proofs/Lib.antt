@@ -1,0 +1,3 @@
+-- Lemmas of this crate.
+mod Commands
+mod Endings

@@ -1,0 +1,2 @@
+-- What the calls of this crate answer.
+pub mod Faults

@@ -1,0 +1,261 @@
+//! Explanations of legal faults.
+
+use crate::counts::{heaviest, majority_party, population, sums_of, winners_in};
+use crate::lots::{add_missing, add_records, add_shapes, add_unknown_stages};
+use crate::words::{item_words, land_name, party_name, scope_words, stage_name};
+use sl_explain::{Explanation, Language, Message, Speaker};
+use sl_ratio::NoMemory;
+use sl_stages::{FaultKind, Item, LegalFault, Returns, Scope};
+use std::alloc::Global;
+
+// What happened; values: the stage, the scope, and for a tie the seats, the number of entries and their names.
+const TIE: Message = Message {
+    english: "stage `$`, $: for $ seat(s) there are $ equal claims, those of $; a lot has to decide",
+    german: "Stufe `$`, $: Um $ Sitz(e) stehen $ gleiche Ansprüche, die von $; ein Los muss entscheiden",
+};
+
+const LIMIT: Message = Message {
+    english: "stage `$`, $: there are more than 4000 seats to give",
+    german: "Stufe `$`, $: Es sind mehr als 4000 Sitze zu vergeben",
+};
+
+const SHORT: Message = Message {
+    english: "stage `$`, $: the minima (`atleast`) need more seats than there are to give",
+    german: "Stufe `$`, $: Die Mindestzahlen (`atleast`) verlangen mehr Sitze, als zu vergeben sind",
+};
+
+const NO_LIST: Message = Message {
+    english: "stage `$`, $: there are seats to give, and nobody who takes part has votes",
+    german: "Stufe `$`, $: Es sind Sitze zu vergeben, und niemand, der teilnimmt, hat Stimmen",
+};
+
+const MAJORITY: Message = Message {
+    english: "stage `$`, $: an entry with more than half of the votes would get no more than half of the seats, and the rulebook has no rule for it",
+    german: "Stufe `$`, $: Wer mehr als die Hälfte der Stimmen hat, erhielte nicht mehr als die Hälfte der Sitze; dafür hat das Regelwerk keine Regel",
+};
+
+const CAP: Message = Message {
+    english: "stage `$`, $: no house up to the cap gives every entry its minimum",
+    german: "Stufe `$`, $: Kein Haus bis zur Obergrenze gibt allen ihre Mindestzahl",
+};
+
+// What to do.
+const FEWER_SEATS: Message = Message {
+    english: "in a rulebook of your own, give fewer seats there: sums of `larger` columns can be so great",
+    german: "in einem eigenen Regelwerk dort weniger Sitze vergeben: Summen von `larger`-Spalten können so groß sein",
+};
+
+const MORE_SEATS: Message = Message {
+    english: "in a rulebook of your own, give more seats there, or write `grow` in place of `split`",
+    german: "in einem eigenen Regelwerk dort mehr Sitze vergeben, oder `grow` statt `split` schreiben",
+};
+
+const WINNERS: Message = Message {
+    english: "the returns have $ winner(s) there; compare their number with the official list",
+    german: "die Wahlergebnisse haben dort $ Wahlkreissieger; ihre Zahl mit der amtlichen Liste vergleichen",
+};
+
+const NO_RECORD: Message = Message {
+    english: "the returns have no `list` record there: add one for each list, as `list,LAND,PARTY,VALID,COUNTED,`",
+    german: "die Wahlergebnisse haben dort keinen `list`-Datensatz: für jede Liste einen einfügen, wie `list,LAND,PARTEI,GÜLTIGE,GEZÄHLTE,`",
+};
+
+const NO_VOTES: Message = Message {
+    english: "the $ list(s) there have no counted votes: correct column b of their `list` records",
+    german: "die $ Liste(n) dort haben keine gezählten Stimmen: Spalte b ihrer `list`-Datensätze berichtigen",
+};
+
+const NOBODY: Message = Message {
+    english: "the $ list(s) there have $ counted votes: maybe none of their parties meets `eligible` of the rulebook; compare the valid votes (column a)",
+    german: "die $ Liste(n) dort haben $ gezählte Stimmen: Vielleicht erfüllt keine ihrer Parteien `eligible` des Regelwerks; gültige Stimmen (Spalte a) vergleichen",
+};
+
+const NO_PEOPLE: Message = Message {
+    english: "each Land has the population 0: write the people into column a of the `land` records",
+    german: "jedes Land hat 0 Einwohner: die Einwohner in Spalte a der `land`-Datensätze schreiben",
+};
+
+const HALF: Message = Message {
+    english: "party `$` has $ of the $ counted votes there",
+    german: "die Partei `$` hat $ der $ gezählten Stimmen dort",
+};
+
+const NO_RULE: Message = Message {
+    english: "nothing in correct returns mends this: look the case up in the statute, and write its rule in place of `majority refuse`",
+    german: "an richtigen Wahlergebnissen ist nichts zu ändern: den Fall im Gesetz nachsehen, und seine Regel statt `majority refuse` schreiben",
+};
+
+const HEAVIEST: Message = Message {
+    english: "the list of `$` in `$` has the most winners for its votes: $ for $ counted votes; correct one of the two, if it is wrong",
+    german: "die Liste von `$` in `$` hat die meisten Wahlkreissieger für ihre Stimmen: $ bei $ gezählten; eines von beiden berichtigen, wenn es falsch ist",
+};
+
+const RAISE_CAP: Message = Message {
+    english: "in a rulebook of your own, raise the number behind `cap`, up to 4000",
+    german: "in einem eigenen Regelwerk die Zahl hinter `cap` erhöhen, bis 4000",
+};
+
+// What happened, but for a tie.
+fn sentence(kind: &FaultKind) -> &'static Message {
+    match kind {
+        FaultKind::Limit => &LIMIT,
+        FaultKind::Short => &SHORT,
+        FaultKind::NoList => &NO_LIST,
+        FaultKind::Majority => &MAJORITY,
+        _ => &CAP,
+    }
+}
+
+// Adds what to do where there is nobody with votes.
+fn add_votes(
+    speaker: Speaker,
+    returns: &Returns,
+    scope: Scope,
+    explanation: &mut Explanation,
+) -> Result<(), NoMemory> {
+    let sums = sums_of(returns, scope);
+    let lists = speaker.number(sums.lists as usize)?;
+    let counted = speaker.number(sums.counted as usize)?;
+    if scope == Scope::All && population(returns) == 0 {
+        speaker.helps(explanation, &NO_PEOPLE, &[])?;
+    }
+    if sums.lists == 0 {
+        speaker.helps(explanation, &NO_RECORD, &[])
+    } else if sums.counted == 0 {
+        speaker.helps(explanation, &NO_VOTES, &[lists.as_slice()])
+    } else {
+        speaker.helps(
+            explanation,
+            &NOBODY,
+            &[lists.as_slice(), counted.as_slice()],
+        )
+    }
+}
+
+// Adds who has more than half of the votes.
+fn add_majority(
+    speaker: Speaker,
+    returns: &Returns,
+    scope: Scope,
+    explanation: &mut Explanation,
+) -> Result<(), NoMemory> {
+    if let Some((party, own)) = majority_party(returns, scope) {
+        let own = speaker.number(own as usize)?;
+        let all = speaker.number(sums_of(returns, scope).counted as usize)?;
+        let name = speaker.shown(party_name(returns, party))?;
+        let values = [name.as_slice(), own.as_slice(), all.as_slice()];
+        speaker.helps(explanation, &HALF, &values)?;
+    }
+    speaker.helps(explanation, &NO_RULE, &[])
+}
+
+// Adds the list with the most winners for its votes.
+fn add_heaviest(
+    speaker: Speaker,
+    returns: &Returns,
+    explanation: &mut Explanation,
+) -> Result<(), NoMemory> {
+    if let Some(burden) = heaviest(returns) {
+        let winners = speaker.number(burden.winners as usize)?;
+        let counted = speaker.number(burden.counted as usize)?;
+        let party = speaker.shown(party_name(returns, burden.party))?;
+        let land = speaker.shown(land_name(returns, burden.land))?;
+        let values = [
+            party.as_slice(),
+            land.as_slice(),
+            winners.as_slice(),
+            counted.as_slice(),
+        ];
+        speaker.helps(explanation, &HEAVIEST, &values)?;
+    }
+    speaker.helps(explanation, &RAISE_CAP, &[])
+}
+
+// Adds the number of winners of a scope.
+fn add_winners(
+    speaker: Speaker,
+    returns: &Returns,
+    scope: Scope,
+    explanation: &mut Explanation,
+) -> Result<(), NoMemory> {
+    let winners = speaker.number(winners_in(returns, scope) as usize)?;
+    speaker.helps(explanation, &WINNERS, &[winners.as_slice()])
+}
+
+// A fault that is no tie.
+fn explain_kind(
+    speaker: Speaker,
+    stage: &[u8],
+    returns: &Returns,
+    fault: &LegalFault,
+) -> Result<Explanation, NoMemory> {
+    let scope = scope_words(speaker, returns, fault.scope)?;
+    let stage = speaker.shown(stage)?;
+    let values = [stage.as_slice(), scope.as_slice()];
+    let mut explanation = speaker.says(sentence(&fault.kind), &values)?;
+    match &fault.kind {
+        FaultKind::Limit => speaker.helps(&mut explanation, &FEWER_SEATS, &[])?,
+        FaultKind::Short => {
+            add_winners(speaker, returns, fault.scope, &mut explanation)?;
+            speaker.helps(&mut explanation, &MORE_SEATS, &[])?;
+        }
+        FaultKind::NoList => add_votes(speaker, returns, fault.scope, &mut explanation)?,
+        FaultKind::Majority => add_majority(speaker, returns, fault.scope, &mut explanation)?,
+        _ => add_heaviest(speaker, returns, &mut explanation)?,
+    }
+    Ok(explanation)
+}
+
+// A tie of some items.
+fn explain_tie(
+    speaker: Speaker,
+    stages: &[&[u8]],
+    returns: &Returns,
+    fault: &LegalFault,
+    seats: u64,
+    items: &[Item],
+) -> Result<Explanation, NoMemory> {
+    let stage = stage_name(stages, fault.stage);
+    let scope = scope_words(speaker, returns, fault.scope)?;
+    let names = item_words(speaker, returns, items)?;
+    let name = speaker.shown(stage)?;
+    let seats = speaker.number(seats as usize)?;
+    let number = speaker.number(items.len())?;
+    let values = [
+        name.as_slice(),
+        scope.as_slice(),
+        seats.as_slice(),
+        number.as_slice(),
+        names.as_slice(),
+    ];
+    let mut explanation = speaker.says(&TIE, &values)?;
+    add_records(speaker, returns, stage, items, &mut explanation)?;
+    add_missing(speaker, returns, stage, items, &mut explanation)?;
+    add_shapes(speaker, returns, stage, items, &mut explanation)?;
+    add_unknown_stages(speaker, stages, returns, &mut explanation)?;
+    Ok(explanation)
+}
+
+/// The explanation of a legal fault of a rulebook with stages of these names, in their order, on the returns.
+///
+/// # Errors
+///
+/// Want of memory.
+pub fn explain_legal(
+    alloc: Global,
+    language: Language,
+    stages: &[&[u8]],
+    returns: &Returns,
+    fault: &LegalFault,
+) -> Result<Explanation, NoMemory> {
+    let speaker = Speaker { alloc, language };
+    match &fault.kind {
+        FaultKind::Tie { seats, names } => {
+            explain_tie(speaker, stages, returns, fault, *seats, names.as_slice())
+        }
+        _ => {
+            let stage = stage_name(stages, fault.stage);
+            explain_kind(speaker, stage, returns, fault)
+        }
+    }
+}

@@ -1,0 +1,260 @@
+//! The lots that decide a tie, and those of the returns that have no effect on it.
+
+use crate::words::{item_words, land_name, party_name, stage_words, win_name};
+use sl_explain::{Explanation, Message, Speaker, nearest};
+use sl_ratio::NoMemory;
+use sl_stages::{Item, Lot, Returns};
+
+// What to do.
+const DRAW: Message = Message {
+    english: "have the lot drawn by whom the statute names; then write one record for each into the returns, the one drawn first at the top:",
+    german: "das Los ziehen lassen, durch wen das Gesetz es bestimmt; dann für jeden eine Zeile in die Wahlergebnisse, der zuerst Gezogene oben:",
+};
+
+// Lots without an effect; values: their number, the stage that they name, and what is meant.
+const NEAR_STAGE: Message = Message {
+    english: "lots without an effect: $, of a stage `$` that the rulebook lacks; did you mean `$`?",
+    german: "Lose ohne Wirkung: $, von einer Stufe `$`, die das Regelwerk nicht hat; war `$` gemeint?",
+};
+
+const NO_STAGE: Message = Message {
+    english: "lots without an effect: $, of a stage `$` that the rulebook lacks; it has $",
+    german: "Lose ohne Wirkung: $, von einer Stufe `$`, die das Regelwerk nicht hat; es hat $",
+};
+
+// The same of the stage of the tie; the value is their number.
+const NOT_PARTIES: Message = Message {
+    english: "lots without an effect: $ of this stage; it is between parties, so a lot has no Land and no constituency",
+    german: "Lose ohne Wirkung: $ dieser Stufe; es geht um Parteien, so hat ein Los kein Land und keinen Wahlkreis",
+};
+
+const NOT_LANDS: Message = Message {
+    english: "lots without an effect: $ of this stage; it is between Länder, so a lot has no party",
+    german: "Lose ohne Wirkung: $ dieser Stufe; es geht um Länder, so hat ein Los keine Partei",
+};
+
+const NOT_LISTS: Message = Message {
+    english: "lots without an effect: $ of this stage; it is between lists, so a lot has both a Land and a party",
+    german: "Lose ohne Wirkung: $ dieser Stufe; es geht um Listen, so hat ein Los ein Land und eine Partei",
+};
+
+const NOT_WINNERS: Message = Message {
+    english: "lots without an effect: $ of `seats`; a lot has the constituency, and the Land and the party of its `win` record",
+    german: "Lose ohne Wirkung: $ von `seats`; ein Los hat den Wahlkreis, und Land und Partei seines `win`-Datensatzes",
+};
+
+const MISSING: Message = Message {
+    english: "the lots of this stage name some of the tied only, and so have no effect; add $",
+    german: "die Lose dieser Stufe nennen nur einige der Gleichen und sind so ohne Wirkung; es fehlt: $",
+};
+
+// Whether a lot gives a winner by the Land and the party of the winner.
+fn gives_winner(returns: &Returns, lot: &Lot, win: usize) -> bool {
+    if win >= returns.wins() || lot.win != Some(win) {
+        return false;
+    }
+    let winner = returns.win(win);
+    lot.land == Some(winner.land) && lot.party.is_some() && lot.party == winner.party
+}
+
+// Whether a lot gives an item.
+fn gives(returns: &Returns, lot: &Lot, item: Item) -> bool {
+    match item {
+        Item::Party(party) => lot.land.is_none() && lot.party == Some(party),
+        Item::Land(land) => lot.land == Some(land) && lot.party.is_none(),
+        Item::List(land, party) => lot.land == Some(land) && lot.party == Some(party),
+        Item::Win(win) => gives_winner(returns, lot, win),
+    }
+}
+
+// Whether a lot gives something of the shape of an item.
+fn is_of_shape(returns: &Returns, lot: &Lot, item: Item) -> bool {
+    match item {
+        Item::Party(_) => lot.land.is_none() && lot.party.is_some(),
+        Item::Land(_) => lot.land.is_some() && lot.party.is_none(),
+        Item::List(_, _) => lot.land.is_some() && lot.party.is_some(),
+        Item::Win(_) => lot.win.is_some_and(|win| gives_winner(returns, lot, win)),
+    }
+}
+
+// Whether a lot of a stage gives an item.
+fn is_named(returns: &Returns, stage: &[u8], item: Item) -> bool {
+    for lot in returns.lots() {
+        if lot.stage.as_bytes() == stage && gives(returns, lot, item) {
+            return true;
+        }
+    }
+    false
+}
+
+// The numbers of the Land, the party and the winner by which a lot gives an item.
+fn parts(returns: &Returns, item: Item) -> (Option<usize>, Option<usize>, Option<usize>) {
+    match item {
+        Item::Party(party) => (None, Some(party), None),
+        Item::Land(land) => (Some(land), None, None),
+        Item::List(land, party) => (Some(land), Some(party), None),
+        Item::Win(win) if win < returns.wins() => {
+            let winner = returns.win(win);
+            (Some(winner.land), winner.party, Some(win))
+        }
+        Item::Win(_) => (None, None, None),
+    }
+}
+
+// The record of a lot for an item.
+fn record(
+    speaker: Speaker,
+    returns: &Returns,
+    stage: &[u8],
+    item: Item,
+) -> Result<Vec<u8>, NoMemory> {
+    let (land, party, win) = parts(returns, item);
+    let mut text = Vec::from_slice(speaker.alloc, b"lot,")?;
+    if let Some(land) = land {
+        text.extend_from_slice(land_name(returns, land))?;
+    }
+    text.push(b',')?;
+    if let Some(party) = party {
+        text.extend_from_slice(party_name(returns, party))?;
+    }
+    text.push(b',')?;
+    text.extend_from_slice(stage)?;
+    text.push(b',')?;
+    if let Some(win) = win {
+        text.extend_from_slice(win_name(returns, win))?;
+    }
+    text.push(b',')?;
+    Ok(text)
+}
+
+/// Adds the records of the lots that decide a tie of these items.
+pub(crate) fn add_records(
+    speaker: Speaker,
+    returns: &Returns,
+    stage: &[u8],
+    items: &[Item],
+    explanation: &mut Explanation,
+) -> Result<(), NoMemory> {
+    speaker.helps(explanation, &DRAW, &[])?;
+    for item in items {
+        explanation.remedy(record(speaker, returns, stage, *item)?)?;
+    }
+    Ok(())
+}
+
+// Whether a name is one of the stages, or `seats`.
+fn is_stage(stages: &[&[u8]], name: &[u8]) -> bool {
+    name == b"seats".as_slice() || stages.iter().any(|stage| *stage == name)
+}
+
+// How many lots name a stage.
+fn lots_of(lots: &[Lot], stage: &[u8]) -> u64 {
+    let mut number = 0u64;
+    for lot in lots {
+        if lot.stage.as_bytes() == stage {
+            number = number.saturating_add(1);
+        }
+    }
+    number
+}
+
+// Adds what is said of the lots of a stage that the book does not have.
+fn add_unknown(
+    speaker: Speaker,
+    stages: &[&[u8]],
+    lots: &[Lot],
+    stage: &[u8],
+    explanation: &mut Explanation,
+) -> Result<(), NoMemory> {
+    let number = speaker.number(lots_of(lots, stage) as usize)?;
+    let name = speaker.shown(stage)?;
+    let near = match nearest(speaker.alloc, stage, stages)? {
+        Some(near) => Some(speaker.shown(near)?),
+        None => None,
+    };
+    let (message, last) = match near {
+        Some(near) => (&NEAR_STAGE, near),
+        None => (&NO_STAGE, stage_words(speaker, stages)?),
+    };
+    let values = [number.as_slice(), name.as_slice(), last.as_slice()];
+    speaker.helps(explanation, message, &values)
+}
+
+/// Adds the lots of stages that the book does not have, each such stage once.
+pub(crate) fn add_unknown_stages(
+    speaker: Speaker,
+    stages: &[&[u8]],
+    returns: &Returns,
+    explanation: &mut Explanation,
+) -> Result<(), NoMemory> {
+    let lots = returns.lots();
+    for (place, lot) in lots.iter().enumerate() {
+        let stage = lot.stage.as_bytes();
+        let before = lots.get(..place).unwrap_or(&[]);
+        if !is_stage(stages, stage) && lots_of(before, stage) == 0 {
+            add_unknown(speaker, stages, lots, stage, explanation)?;
+        }
+    }
+    Ok(())
+}
+
+// How many lots of a stage give nothing of the shape of an item.
+fn lots_of_other_shape(returns: &Returns, stage: &[u8], item: Item) -> u64 {
+    let mut number = 0u64;
+    for lot in returns.lots() {
+        if lot.stage.as_bytes() == stage && !is_of_shape(returns, lot, item) {
+            number = number.saturating_add(1);
+        }
+    }
+    number
+}
+
+// What is said of lots that give nothing of the shape of an item.
+fn shape_message(item: Item) -> &'static Message {
+    match item {
+        Item::Party(_) => &NOT_PARTIES,
+        Item::Land(_) => &NOT_LANDS,
+        Item::List(_, _) => &NOT_LISTS,
+        Item::Win(_) => &NOT_WINNERS,
+    }
+}
+
+/// Adds the lots of the stage of a tie that have another shape than the tied items.
+pub(crate) fn add_shapes(
+    speaker: Speaker,
+    returns: &Returns,
+    stage: &[u8],
+    items: &[Item],
+    explanation: &mut Explanation,
+) -> Result<(), NoMemory> {
+    let Some(item) = items.first() else {
+        return Ok(());
+    };
+    let number = lots_of_other_shape(returns, stage, *item);
+    if number == 0 {
+        return Ok(());
+    }
+    let digits = speaker.number(number as usize)?;
+    speaker.helps(explanation, shape_message(*item), &[digits.as_slice()])
+}
+
+/// Adds the tied items that the lots lack, where they name others of them.
+pub(crate) fn add_missing(
+    speaker: Speaker,
+    returns: &Returns,
+    stage: &[u8],
+    items: &[Item],
+    explanation: &mut Explanation,
+) -> Result<(), NoMemory> {
+    let mut lacking = Vec::new(speaker.alloc);
+    for item in items {
+        if !is_named(returns, stage, *item) {
+            lacking.push(*item)?;
+        }
+    }
+    if lacking.is_empty() || lacking.len() == items.len() {
+        return Ok(());
+    }
+    let names = item_words(speaker, returns, lacking.as_slice())?;
+    speaker.helps(explanation, &MISSING, &[names.as_slice()])
+}

@@ -1,0 +1,130 @@
+//! The names of what a legal fault speaks of.
+
+use sl_explain::{Message, Speaker};
+use sl_ratio::NoMemory;
+use sl_stages::{Item, Returns, Scope};
+
+const ALL: Message = Message {
+    english: "whole country",
+    german: "ganzes Bundesgebiet",
+};
+
+const LAND: Message = Message {
+    english: "Land `$`",
+    german: "Land `$`",
+};
+
+const PARTY: Message = Message {
+    english: "party `$`",
+    german: "Partei `$`",
+};
+
+const LIST: Message = Message {
+    english: "list of `$` in `$`",
+    german: "Liste von `$` in `$`",
+};
+
+// How many names a sentence has at most.
+const NAMED: usize = 12;
+
+// What stands for a name that is not there.
+const NOBODY: &[u8] = b"?";
+
+/// The name of a Land.
+pub(crate) fn land_name(returns: &Returns, land: usize) -> &[u8] {
+    if land < returns.lands() {
+        returns.land_name(land)
+    } else {
+        NOBODY
+    }
+}
+
+/// The name of a party.
+pub(crate) fn party_name(returns: &Returns, party: usize) -> &[u8] {
+    if party < returns.parties() {
+        returns.party_name(party)
+    } else {
+        NOBODY
+    }
+}
+
+/// The constituency of a winner.
+pub(crate) fn win_name(returns: &Returns, win: usize) -> &[u8] {
+    if win < returns.wins() {
+        returns.win_name(win)
+    } else {
+        NOBODY
+    }
+}
+
+/// A scope in words.
+pub(crate) fn scope_words(
+    speaker: Speaker,
+    returns: &Returns,
+    scope: Scope,
+) -> Result<Vec<u8>, NoMemory> {
+    match scope {
+        Scope::All => speaker.text(&ALL, &[]),
+        Scope::Land(land) => speaker.text(&LAND, &[land_name(returns, land)]),
+        Scope::Party(party) => speaker.text(&PARTY, &[party_name(returns, party)]),
+        Scope::List(land, party) => {
+            let names = [party_name(returns, party), land_name(returns, land)];
+            speaker.text(&LIST, &names)
+        }
+    }
+}
+
+// Adds the name of an item, that of a list with its Land first.
+fn push_item(text: &mut Vec<u8>, returns: &Returns, item: Item) -> Result<(), NoMemory> {
+    match item {
+        Item::Party(party) => text.extend_from_slice(party_name(returns, party))?,
+        Item::Land(land) => text.extend_from_slice(land_name(returns, land))?,
+        Item::Win(win) => text.extend_from_slice(win_name(returns, win))?,
+        Item::List(land, party) => {
+            text.extend_from_slice(land_name(returns, land))?;
+            text.push(b'/')?;
+            text.extend_from_slice(party_name(returns, party))?;
+        }
+    }
+    Ok(())
+}
+
+/// The names of some items, the first ones where they are many.
+pub(crate) fn item_words(
+    speaker: Speaker,
+    returns: &Returns,
+    items: &[Item],
+) -> Result<Vec<u8>, NoMemory> {
+    let mut text = Vec::new(speaker.alloc);
+    for (place, item) in items.iter().enumerate() {
+        if place > 0 {
+            text.extend_from_slice(b", ")?;
+        }
+        if place >= NAMED {
+            text.extend_from_slice(b"..")?;
+            return Ok(text);
+        }
+        push_item(&mut text, returns, *item)?;
+    }
+    Ok(text)
+}
+
+/// The names of stages, in quotes.
+pub(crate) fn stage_words(speaker: Speaker, stages: &[&[u8]]) -> Result<Vec<u8>, NoMemory> {
+    let mut text = Vec::new(speaker.alloc);
+    for stage in stages {
+        text.push(b'`')?;
+        text.extend_from_slice(stage)?;
+        text.extend_from_slice(b"`, ")?;
+    }
+    text.extend_from_slice(b"`seats`")?;
+    Ok(text)
+}
+
+/// The name of a stage, or `seats` for the last clause.
+pub(crate) fn stage_name<'a>(stages: &[&'a [u8]], stage: usize) -> &'a [u8] {
+    match stages.get(stage) {
+        Some(name) => *name,
+        None => b"seats",
+    }
+}

@@ -1,0 +1,14 @@
+//! The names and words of sheets: of Länder, parties and constituencies, of stages, methods and conditions, and of legal faults.
+#![tactic(auto)]
+
+mod faults;
+mod full_names;
+mod naming;
+mod rows;
+mod words;
+
+pub use faults::{explanation_sheet, fault_sheet, kind_word};
+pub use full_names::FullNames;
+pub use naming::{Naming, law_name, stage_name};
+pub use rows::{put_land, put_party, put_percent};
+pub use words::{met_text, method_word, shape_word, unit_word};

@@ -1,0 +1,128 @@
+//! Records of no kind.
+
+use sl_explain::{Explanation, Message, nearest};
+use sl_ratio::NoMemory;
+use sl_returns_cells::{COLUMNS, Case, KIND, KIND_WORDS};
+
+// What is said; the value is the first cell.
+const EMPTY_ROW: Message = Message {
+    english: "a row of empty cells is no record",
+    german: "eine Zeile aus leeren Zellen ist kein Datensatz",
+};
+
+const NO_KIND: Message = Message {
+    english: "the first cell is empty: it names the kind of the record",
+    german: "die erste Zelle ist leer: Sie nennt die Art des Datensatzes",
+};
+
+const AGAIN: Message = Message {
+    english: "the header stands a second time",
+    german: "die Kopfzeile steht ein zweites Mal da",
+};
+
+const COMMENT: Message = Message {
+    english: "`$` is no kind of record; there are no comments in returns",
+    german: "`$` ist keine Art von Datensatz; Kommentare gibt es in diesen Dateien nicht",
+};
+
+const OTHER: Message = Message {
+    english: "`$` is no kind of record",
+    german: "`$` ist keine Art von Datensatz",
+};
+
+// What to do.
+const DELETE_ROWS: Message = Message {
+    english: "delete the row, and those like it: a spreadsheet writes them where cells were emptied; delete rows there, not contents",
+    german: "diese und gleiche Zeilen löschen: Eine Tabellenkalkulation schreibt sie für geleerte Zellen; dort ganze Zeilen löschen",
+};
+
+const DELETE: Message = Message {
+    english: "delete the line",
+    german: "die Zeile löschen",
+};
+
+const NEAREST: Message = Message {
+    english: "did you mean `$`? The kinds are written in small letters, without blanks",
+    german: "war `$` gemeint? Die Arten stehen in kleinen Buchstaben, ohne Leerzeichen",
+};
+
+const KINDS: Message = Message {
+    english: "a record begins with `house`, `land`, `party`, `list`, `win` or `lot`; rows of sums and notes are deleted",
+    german: "ein Datensatz beginnt mit `house`, `land`, `party`, `list`, `win` oder `lot`; Summenzeilen und Notizen löschen",
+};
+
+const NO_LAND: Message = Message {
+    english: "the returns have no `land` record",
+    german: "die Datei hat keinen `land`-Datensatz",
+};
+
+const ADD_LAND: Message = Message {
+    english: "add a line for each Land before its lists: `land,NAME,,POPULATION,,`",
+    german: "für jedes Land eine Zeile vor seinen Listen einfügen: `land,NAME,,EINWOHNER,,`",
+};
+
+// Whether all cells of the record are empty.
+fn is_empty_row(case: &Case<'_>) -> bool {
+    (0..COLUMNS).all(|column| case.record.text(column).is_empty())
+}
+
+// What is said of the first cell.
+fn sentence(case: &Case<'_>) -> &'static Message {
+    let cell = case.record.text(KIND);
+    if is_empty_row(case) {
+        &EMPTY_ROW
+    } else if cell.is_empty() {
+        &NO_KIND
+    } else if cell == b"kind".as_slice() || cell == b"kind2".as_slice() {
+        &AGAIN
+    } else if cell.starts_with(b"#") {
+        &COMMENT
+    } else {
+        &OTHER
+    }
+}
+
+// Adds what to do with a first cell that names no kind.
+fn add_kinds(case: &Case<'_>, explanation: &mut Explanation) -> Result<(), NoMemory> {
+    let speaker = case.speaker;
+    let cell = case.record.text(KIND).trim_ascii();
+    match nearest(speaker.alloc, cell, &KIND_WORDS)? {
+        Some(word) => speaker.helps(explanation, &NEAREST, &[word]),
+        None => speaker.helps(explanation, &KINDS, &[]),
+    }
+}
+
+/// The explanation of a record whose first cell is no kind.
+///
+/// # Errors
+///
+/// Want of memory.
+pub fn explain_kind(case: &Case<'_>) -> Result<Explanation, NoMemory> {
+    let speaker = case.speaker;
+    let cell = case.record.text(KIND);
+    let shown = speaker.shown(cell)?;
+    let mut explanation = speaker.says_at(
+        sentence(case),
+        &[shown.as_slice()],
+        case.record.at(KIND),
+    )?;
+    if is_empty_row(case) {
+        speaker.helps(&mut explanation, &DELETE_ROWS, &[])?;
+    } else if cell.starts_with(b"kind") || cell.starts_with(b"#") {
+        speaker.helps(&mut explanation, &DELETE, &[])?;
+    } else {
+        add_kinds(case, &mut explanation)?;
+    }
+    Ok(explanation)
+}
+
+/// The explanation of returns without a Land, at their last record.
+///
+/// # Errors
+///
+/// Want of memory.
+pub fn explain_no_land(case: &Case<'_>) -> Result<Explanation, NoMemory> {
+    let mut explanation = case.speaker.says_at(&NO_LAND, &[], case.record.span)?;
+    case.speaker.helps(&mut explanation, &ADD_LAND, &[])?;
+    Ok(explanation)
+}

@@ -1,0 +1,86 @@
+//! What a command that reports answers: a text in one of the forms, and a status.
+
+use sl_ratio::NoMemory;
+use sl_sheets::{Sheet, aligned_text, comma_text, json_text};
+use std::alloc::Global;
+
+/// The form of an answer.
+#[derive(Clone, Copy)]
+pub enum Shape {
+    Text,
+    Json,
+    Comma,
+}
+
+/// A text, and the exit status that stands for it: 0, 2 where an input is refused, 3 at a legal fault.
+#[derive(Drop)]
+pub struct Answer {
+    pub status: u8,
+    pub text: Vec<u8>,
+}
+
+// The line of a legal fault without its end.
+fn without_end(line: &str) -> &str {
+    match line.strip_suffix('\n') {
+        Some(line) => line,
+        None => line,
+    }
+}
+
+// Sheets as aligned text, behind the line of a legal fault, if there is one.
+fn aligned(alloc: Global, line: Option<&str>, sheets: &[Sheet]) -> Result<String, NoMemory> {
+    let text = aligned_text(alloc, sheets)?;
+    let Some(line) = line else {
+        return Ok(text);
+    };
+    let mut all = String::from_str(alloc, line)?;
+    all.push('\n')?;
+    all.push_str(text.as_str())?;
+    Ok(all)
+}
+
+impl Answer {
+    /// The answer of a command that comes to these sheets, with the line of a legal fault, if it has one.
+    pub(crate) fn of(
+        alloc: Global,
+        command: &str,
+        line: Option<&str>,
+        sheets: &[Sheet],
+        shape: Shape,
+    ) -> Result<Answer, NoMemory> {
+        let status = match line {
+            Some(_) => 3,
+            None => 0,
+        };
+        let text = match shape {
+            Shape::Text => aligned(alloc, line, sheets)?,
+            Shape::Comma => comma_text(alloc, sheets)?,
+            Shape::Json => json_text(alloc, command, status, line.map(without_end), sheets)?,
+        };
+        Ok(Answer {
+            status,
+            text: text.into_bytes(),
+        })
+    }
+
+    /// The line that refuses the names in a record.
+    pub(crate) fn refused_names(alloc: Global, row: u64) -> Result<Answer, NoMemory> {
+        Ok(Answer {
+            status: 2,
+            text: format!(in alloc; "refused names {row}\n")?.into_bytes(),
+        })
+    }
+
+    /// The line that refuses names of too many bytes.
+    pub(crate) fn names_too_long(alloc: Global) -> Result<Answer, NoMemory> {
+        Ok(Answer {
+            status: 2,
+            text: String::from_str(alloc, "refused names toolong\n")?.into_bytes(),
+        })
+    }
+
+    /// Whether the answer refuses an input.
+    pub(crate) fn is_refusal(&self) -> bool {
+        self.status == 2
+    }
+}

@@ -1,0 +1,62 @@
+//! Counts with their records and the columns of their stages.
+
+ghost use Rattle.std.specs.Prelude.{◌≡◌};
+ghost use Rattle.sl_machine.specs.Fits.{FitsMemory};
+
+use sl_code::Code;
+use sl_compile::compile;
+use sl_machine::{Ending, Memory, budget, run};
+use sl_ratio::NoMemory;
+use sl_results::{Column, Counted};
+use sl_stages::{CheckedBook, LegalFault, MAX_STAGES, Returns};
+use sl_table::table_of;
+use std::alloc::Global;
+
+/// What a rulebook comes to on returns: a count, or a legal fault. A code of a rulebook keeps its budget.
+#[derive(Drop)]
+pub(crate) enum Outcome {
+    Counted(Counted),
+    Fault(LegalFault),
+    OutOfBudget,
+}
+
+// The columns of the stages of a code, in what a run holds.
+fn columns(
+    alloc: Global,
+    code: &Code,
+    memory: &Memory,
+    returns: &Returns,
+) -> Result<Vec<Column>, NoMemory>
+    requires { FitsMemory code.now returns.now memory.now }
+{
+    let slots = code.slots();
+    let mut columns = Vec::new(alloc);
+    for stage in code.stages() {
+        let slot = usize::from(stage.slot);
+        if slot < slots.len() {
+            let shape = slots[slot];
+            let cells = Vec::from_slice(alloc, memory.column(slot))?;
+            columns.push(Column { shape, cells })?;
+        }
+    }
+    let _lands = returns.lands();
+    Ok(columns)
+}
+
+/// What a rulebook comes to on returns: its code is run with its budget, and keeps its records.
+pub(crate) fn outcome_of(
+    alloc: Global,
+    book: &CheckedBook,
+    returns: &Returns,
+) -> Result<Outcome, NoMemory> {
+    let code = compile(alloc, book)?;
+    let steps = budget(book.book.stages.len().min(MAX_STAGES), returns);
+    match run(alloc, &code, returns, steps)? {
+        Ending::Done(memory) => Ok(Outcome::Counted(Counted {
+            table: table_of(alloc, &memory, returns)?,
+            columns: columns(alloc, code.code(), &memory, returns)?,
+        })),
+        Ending::Fault(fault) => Ok(Outcome::Fault(fault)),
+        Ending::OutOfBudget => Ok(Outcome::OutOfBudget),
+    }
+}

@@ -1,0 +1,134 @@
+//! Files that are no returns at all.
+
+use sl_explain::{Explanation, Message, Speaker};
+use sl_ratio::NoMemory;
+
+// What is said.
+const EMPTY: Message = Message {
+    english: "the file of the returns is empty",
+    german: "die Datei mit den Wahlergebnissen ist leer",
+};
+
+const UTF16: Message = Message {
+    english: "the file of the returns is in UTF-16, which some programs call \"Unicode\"",
+    german: "die Datei mit den Wahlergebnissen ist in UTF-16, das manche Programme „Unicode“ nennen",
+};
+
+const WORKBOOK: Message = Message {
+    english: "the file of the returns is a workbook or an archive (.xlsx, .ods, .zip), and no CSV file",
+    german: "die Datei mit den Wahlergebnissen ist eine Arbeitsmappe oder ein Archiv (.xlsx, .ods, .zip), keine CSV-Datei",
+};
+
+const CODE: Message = Message {
+    english: "the file of the returns is a code file",
+    german: "die Datei mit den Wahlergebnissen ist eine Code-Datei",
+};
+
+const BOOK: Message = Message {
+    english: "the file of the returns is a rulebook",
+    german: "die Datei mit den Wahlergebnissen ist ein Regelwerk",
+};
+
+// What to do.
+const NO_PATH: Message = Message {
+    english: "give the path of a file that begins with the line `kind,land,party,a,b,c`; maybe it was not saved",
+    german: "den Pfad einer Datei angeben, die mit der Zeile `kind,land,party,a,b,c` beginnt; vielleicht ist sie nicht gespeichert",
+};
+
+const SAVE: Message = Message {
+    english: "save it as CSV in UTF-8, with commas between the cells",
+    german: "als CSV in UTF-8 speichern, mit Kommas zwischen den Zellen",
+};
+
+const ORDER: Message = Message {
+    english: "the order is BOOK, then RETURNS, as in `seatlaw count book.law returns.csv`",
+    german: "die Reihenfolge ist BOOK, dann RETURNS, wie in `seatlaw count book.law returns.csv`",
+};
+
+const RUN: Message = Message {
+    english: "the order is CODE, then RETURNS, as in `seatlaw run book.slc returns.csv`",
+    german: "die Reihenfolge ist CODE, dann RETURNS, wie in `seatlaw run book.slc returns.csv`",
+};
+
+/// What a file is, by its first bytes.
+#[derive(Clone, Copy, PartialEq, Eq)]
+pub(crate) enum FileKind {
+    Empty,
+    Utf16,
+    Workbook,
+    Code,
+    Book,
+    Text,
+}
+
+/// The line that begins at an offset, without its end.
+pub(crate) fn first_line(bytes: &[u8], at: usize) -> &[u8] {
+    let rest = bytes.get(at..).unwrap_or(&[]);
+    match rest
+        .iter()
+        .position(|byte| *byte == b'\n' || *byte == b'\r')
+    {
+        Some(length) => rest.get(..length).unwrap_or(rest),
+        None => rest,
+    }
+}
+
+// The text behind its first line.
+fn behind_line(text: &[u8]) -> &[u8] {
+    let length = first_line(text, 0).len();
+    text.get(length.saturating_add(1)..).unwrap_or(&[])
+}
+
+// Whether a text is a rulebook: behind comments it begins with that word.
+fn is_book(bytes: &[u8]) -> bool {
+    let mut rest = bytes.trim_ascii();
+    for _ in 0..bytes.len() {
+        if !rest.starts_with(b"#") {
+            return rest.starts_with(b"rulebook");
+        }
+        rest = behind_line(rest).trim_ascii();
+    }
+    false
+}
+
+// Whether bytes are of a text in UTF-16.
+fn is_utf16(bytes: &[u8]) -> bool {
+    let has_mark = bytes.starts_with(b"\xFF\xFE") || bytes.starts_with(b"\xFE\xFF");
+    has_mark || bytes.iter().take(64).any(|byte| *byte == 0)
+}
+
+/// What a file is.
+pub(crate) fn file_kind(bytes: &[u8]) -> FileKind {
+    if bytes.trim_ascii().is_empty() || bytes == b"\xEF\xBB\xBF".as_slice() {
+        FileKind::Empty
+    } else if bytes.starts_with(b"PK") || bytes.starts_with(b"\xD0\xCF\x11\xE0") {
+        FileKind::Workbook
+    } else if bytes.starts_with(b"SLC") {
+        FileKind::Code
+    } else if is_utf16(bytes) {
+        FileKind::Utf16
+    } else if is_book(bytes) {
+        FileKind::Book
+    } else {
+        FileKind::Text
+    }
+}
+
+impl FileKind {
+    /// What is said of such a file, and what to do.
+    pub(crate) fn explain(self, speaker: Speaker, bytes: &[u8]) -> Result<Explanation, NoMemory> {
+        let (sentence, remedy) = match self {
+            FileKind::Empty | FileKind::Text => (&EMPTY, &NO_PATH),
+            FileKind::Utf16 => (&UTF16, &SAVE),
+            FileKind::Workbook => (&WORKBOOK, &SAVE),
+            FileKind::Code => (&CODE, &RUN),
+            FileKind::Book => (&BOOK, &ORDER),
+        };
+        let mut explanation = speaker.says(sentence, &[])?;
+        if self == FileKind::Book {
+            explanation = explanation.at(0, first_line(bytes, 0).len());
+        }
+        speaker.helps(&mut explanation, remedy, &[])?;
+        Ok(explanation)
+    }
+}

@@ -1,0 +1,253 @@
+//! Characters that begin no token.
+
+use sl_explain::{Explanation, Message, Span, Speaker};
+use sl_hint_pieces::{character_len, piece, span_within};
+use sl_ratio::NoMemory;
+
+const UNEXPECTED: Message = Message {
+    english: "a rulebook has no `$` outside of comments and quotes",
+    german: "ein Regelwerk hat kein `$` außerhalb von Kommentaren und Anführungszeichen",
+};
+
+const NO_LETTER: Message = Message {
+    english: "the character `$` may stand in comments alone",
+    german: "das Zeichen `$` darf nur in Kommentaren stehen",
+};
+
+const NO_CHARACTER: Message = Message {
+    english: "a byte stands here that is no character of UTF-8: $",
+    german: "hier steht ein Byte, das in UTF-8 kein Zeichen ist: $",
+};
+
+const CONTROL: Message = Message {
+    english: "a control character stands here: the byte $",
+    german: "hier steht ein Steuerzeichen: das Byte $",
+};
+
+const INVISIBLE: Message = Message {
+    english: "a special blank stands here, which looks like a space or like nothing",
+    german: "hier steht ein besonderer Leerraum, der wie ein Leerzeichen oder wie nichts aussieht",
+};
+
+const BEGINNING: Message = Message {
+    english: "a rulebook begins with `rulebook 1;`: is it the right file?",
+    german: "ein Regelwerk beginnt mit `rulebook 1;`: ist es die richtige Datei?",
+};
+
+const PERCENT: Message = Message {
+    english: "write 5 percent as `5 per 100`, and 4.5 percent as `45 per 1000`",
+    german: "5 Prozent als `5 per 100` schreiben, und 4,5 Prozent als `45 per 1000`",
+};
+
+const POINT: Message = Message {
+    english: "numbers are whole: 4.5 percent is `45 per 1000`, and 1,000 is `1000`",
+    german: "Zahlen sind ganz: 4,5 Prozent sind `45 per 1000`, und 1.000 ist `1000`",
+};
+
+const HYPHEN: Message = Message {
+    english: "a name has letters, digits and `_`: write `_` in place of `-`; the difference of two columns is `less(.., ..)`",
+    german: "ein Name hat Buchstaben, Ziffern und `_`: `_` statt `-` schreiben; die Differenz zweier Spalten ist `less(.., ..)`",
+};
+
+const COMMENT: Message = Message {
+    english: "a comment begins with `#` and goes to the end of its line",
+    german: "ein Kommentar beginnt mit `#` und geht bis zum Ende seiner Zeile",
+};
+
+const ARITHMETIC: Message = Message {
+    english: "there are no sums and products by marks: see `sum(.., all)`, `less(.., ..)`, `larger(.., ..)`; a comment begins with `#`",
+    german: "Summen und Produkte gibt es nicht als Zeichen: siehe `sum(.., all)`, `less(.., ..)`, `larger(.., ..)`; ein Kommentar beginnt mit `#`",
+};
+
+const QUOTES: Message = Message {
+    english: "the name of the law stands in straight double quotes: `law \"My law\";`",
+    german: "der Name des Gesetzes steht in geraden doppelten Anführungszeichen: `law \"Mein Gesetz\";`",
+};
+
+const COMPARED: Message = Message {
+    english: "thresholds are written in words: `valid at least 5 per 100`, `winners at least 3`",
+    german: "Schwellen werden in Wörtern geschrieben: `valid at least 5 per 100`, `winners at least 3`",
+};
+
+const COLON: Message = Message {
+    english: "a clause ends with `;`, and a stage is `stage NAME = ..;`",
+    german: "eine Klausel endet mit `;`, und eine Stufe ist `stage NAME = ..;`",
+};
+
+const BRACKETS: Message = Message {
+    english: "there are round parentheses alone, `(` and `)`",
+    german: "es gibt nur runde Klammern, `(` und `)`",
+};
+
+const UNDERSCORE: Message = Message {
+    english: "a name begins with a letter",
+    german: "ein Name beginnt mit einem Buchstaben",
+};
+
+const AT_SIGN: Message = Message {
+    english: "`@` stands before the name of a library's book in a command, and not in a rulebook",
+    german: "`@` steht in einem Kommando vor dem Namen eines Regelwerks der Bibliothek, und nicht in einem Regelwerk",
+};
+
+const LETTER: Message = Message {
+    english: "write letters from A to Z: `Thueringen` for `Thüringen`",
+    german: "Buchstaben von A bis Z schreiben: `Thueringen` für `Thüringen`",
+};
+
+const PLAIN: Message = Message {
+    english: "delete it; names have letters from A to Z, digits and `_`, and the marks are `;`, `=`, `,`, `(` and `)`",
+    german: "es löschen; Namen haben Buchstaben von A bis Z, Ziffern und `_`, und die Zeichen sind `;`, `=`, `,`, `(` und `)`",
+};
+
+const ENCODING: Message = Message {
+    english: "save the file in UTF-8, and write letters from A to Z outside of comments",
+    german: "die Datei in UTF-8 speichern, und außerhalb von Kommentaren Buchstaben von A bis Z schreiben",
+};
+
+const BLANK: Message = Message {
+    english: "delete it, and type a space or a new line in its place",
+    german: "ihn löschen, und an seiner Stelle ein Leerzeichen oder einen Zeilenwechsel tippen",
+};
+
+// What to do about a character of ASCII.
+fn ascii_remedy(byte: u8, next: u8, at: usize) -> Message {
+    match byte {
+        b'<' | b'>' | b'{' | b'[' | b'%' | b'.' if at == 0 => BEGINNING,
+        b'%' => PERCENT,
+        b'.' => POINT,
+        b'/' if next == b'/' || next == b'*' => COMMENT,
+        b'-' if next == b'-' => COMMENT,
+        b'-' => HYPHEN,
+        b'/' | b'*' | b'+' | b'^' => ARITHMETIC,
+        b'\'' | b'`' => QUOTES,
+        b'<' | b'>' => COMPARED,
+        b':' => COLON,
+        b'[' | b']' | b'{' | b'}' => BRACKETS,
+        b'_' => UNDERSCORE,
+        b'@' => AT_SIGN,
+        _ => PLAIN,
+    }
+}
+
+// Quotation marks of every shape but `"`: those of U+2018 to U+201F, and the angled ones.
+pub fn is_curly(character: &[u8]) -> bool {
+    match character {
+        [0xE2, 0x80, 0x98..=0x9F] => true,
+        [0xC2, 0xAB | 0xBB | 0xB4] => true,
+        [0xE2, 0x80, 0xB9 | 0xBA] => true,
+        _ => false,
+    }
+}
+
+// Blanks that are no blank of the language, and marks that no editor shows.
+fn is_special_blank(character: &[u8]) -> bool {
+    match character {
+        [0xC2, 0xA0 | 0xAD | 0x85] => true,
+        [0xE2, 0x80, 0x80..=0x8F | 0xA8..=0xAF] => true,
+        [0xE2, 0x81, 0x9F..=0xA4] => true,
+        [0xEF, 0xBB, 0xBF] => true,
+        [0xE3, 0x80, 0x80] => true,
+        _ => false,
+    }
+}
+
+// Dashes of U+2010 to U+2015, and the minus sign.
+fn is_dash(character: &[u8]) -> bool {
+    matches!(character, [0xE2, 0x80, 0x90..=0x95] | [0xE2, 0x88, 0x92])
+}
+
+// A character above ASCII.
+fn explain_wide(speaker: Speaker, character: &[u8], span: Span) -> Result<Explanation, NoMemory> {
+    if is_special_blank(character) {
+        let mut explanation = speaker.says_at(&INVISIBLE, &[], span)?;
+        speaker.helps(&mut explanation, &BLANK, &[])?;
+        return Ok(explanation);
+    }
+    let mut explanation = speaker.says_at(&NO_LETTER, &[character], span)?;
+    if is_curly(character) {
+        speaker.helps(&mut explanation, &QUOTES, &[])?;
+    } else if is_dash(character) {
+        speaker.helps(&mut explanation, &HYPHEN, &[])?;
+    } else {
+        speaker.helps(&mut explanation, &LETTER, &[])?;
+    }
+    Ok(explanation)
+}
+
+// A byte that is shown by its number.
+fn explain_byte(speaker: Speaker, byte: u8, span: Span) -> Result<Explanation, NoMemory> {
+    let (message, remedy) = if byte < 0x80 {
+        (CONTROL, PLAIN)
+    } else {
+        (NO_CHARACTER, ENCODING)
+    };
+    let number = format!(in speaker.alloc; "0x{byte:02x}")?;
+    let mut explanation = speaker.says_at(&message, &[number.as_bytes()], span)?;
+    speaker.helps(&mut explanation, &remedy, &[])?;
+    Ok(explanation)
+}
+
+/// Explains the character at an offset, which no token begins with.
+pub fn explain_character(
+    speaker: Speaker,
+    text: &[u8],
+    at: usize,
+) -> Result<Explanation, NoMemory> {
+    let rest = text.get(at..).unwrap_or(&[]);
+    let span = span_within(text, at, at.saturating_add(character_len(rest)));
+    let character = piece(text, span);
+    let byte = rest.first().copied().unwrap_or(0);
+    if character.len() > 1 {
+        return explain_wide(speaker, character, span);
+    }
+    if byte < 0x20 || byte >= 0x7F {
+        return explain_byte(speaker, byte, span);
+    }
+    let next = rest.get(1).copied().unwrap_or(0);
+    let mut explanation = speaker.says_at(&UNEXPECTED, &[character], span)?;
+    speaker.helps(&mut explanation, &ascii_remedy(byte, next, at), &[])?;
+    Ok(explanation)
+}
+
+const IN_TEXT: Message = Message {
+    english: "the character `$` may not stand in a text in quotes",
+    german: "das Zeichen `$` darf nicht in einem Text in Anführungszeichen stehen",
+};
+
+const BYTE_IN_TEXT: Message = Message {
+    english: "a text in quotes has printable characters of ASCII, and not the byte $",
+    german: "ein Text in Anführungszeichen hat druckbare Zeichen von ASCII, und nicht das Byte $",
+};
+
+const TEXT_LETTER: Message = Message {
+    english: "write letters from A to Z: `fuer` for `für`; other letters may stand in comments, behind `#`",
+    german: "Buchstaben von A bis Z schreiben: `fuer` für `für`; andere Buchstaben dürfen in Kommentaren stehen, hinter `#`",
+};
+
+const TEXT_PLAIN: Message = Message {
+    english: "write a space or letters from A to Z in its place",
+    german: "an seiner Stelle ein Leerzeichen oder Buchstaben von A bis Z schreiben",
+};
+
+/// Explains the character at an offset, which a text in quotes may not have.
+pub fn explain_in_text(speaker: Speaker, text: &[u8], at: usize) -> Result<Explanation, NoMemory> {
+    let rest = text.get(at..).unwrap_or(&[]);
+    let span = span_within(text, at, at.saturating_add(character_len(rest)));
+    let character = piece(text, span);
+    if character.len() > 1 {
+        let mut explanation = speaker.says_at(&IN_TEXT, &[character], span)?;
+        let remedy = if is_curly(character) {
+            QUOTES
+        } else {
+            TEXT_LETTER
+        };
+        speaker.helps(&mut explanation, &remedy, &[])?;
+        return Ok(explanation);
+    }
+    let byte = rest.first().copied().unwrap_or(0);
+    let number = format!(in speaker.alloc; "0x{byte:02x}")?;
+    let mut explanation = speaker.says_at(&BYTE_IN_TEXT, &[number.as_bytes()], span)?;
+    let remedy = if byte < 0x80 { TEXT_PLAIN } else { ENCODING };
+    speaker.helps(&mut explanation, &remedy, &[])?;
+    Ok(explanation)
+}
