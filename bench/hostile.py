@@ -49,6 +49,13 @@ def faults_of_files():
             yield command + [path, "returns"], "", READ["book"], 5
             yield command + ["book", path], "", READ["returns"], 5
             yield command + ["@2023", path], "", READ["returns"], 5
+        for command in (["report"], ["stages", "--json"]):
+            yield command + [path, "returns"], "", READ["book"], 5
+            yield command + ["book", path], "", READ["returns"], 5
+        for command in (["totals"], ["compare", "--csv"]):
+            yield command + [path, "book"], "", READ["returns"], 5
+            yield command + ["returns", path], "", READ["book"], 5
+            yield command + ["returns", "book", "--names", path], "", "read fault names\n", 5
         yield ["stage", path, "returns", "s"], "", READ["book"], 5
         yield ["stage", "book", path, "s"], "", READ["returns"], 5
         yield ["check", path], "", READ["book"], 5
@@ -153,7 +160,7 @@ class Judge:
 def judge_outputs(judge, program, folder):
     """What cannot be written is a write fault, on a full device, on a closed pipe and without an output; where nothing can be said of it
     either, the status alone says so."""
-    writers = [["law", "2023"], ["steps", "book", "returns"], ["code", "book", "out"]]
+    writers = [["law", "2023"], ["steps", "book", "returns"], ["code", "book", "out"], ["report", "book", "returns"], ["stages", "book", "returns"], ["totals", "returns"], ["compare", "returns"]]
     for words in [words for words, _, _ in good_calls()] + writers:
         with open("/dev/full", "wb", buffering=0) as full:
             judge.compare("full", words, run(program, words, folder, out=full), ("", WRITE, 5))

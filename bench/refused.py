@@ -7,7 +7,7 @@ the gate.
 TESTS are programs of tests; without any, those of the crates sl_refused_* and sl_block_runs are proved and built first. To a test memory is
 refused between its marks (sl_marks), to `seatlaw` from its start, and in each run to one allocation. A line says of a test that has
 marks, or of a command, in how many runs an allocation was refused, and how many runs did not pass; of these the first follows. A command
-passes if it ends as with ample memory, or writes nothing and says on standard error that it is out of memory, with status 5, or with
+passes if it ends as with ample memory, with its explanation or without, or writes nothing and says on standard error that it is out of memory, with status 5, or with
 status 1 where its words are still being read. The exit status is 0 if all passed. A C compiler, `cc`, is needed.
 """
 import argparse
@@ -24,6 +24,7 @@ LIMIT = 60
 
 BOOK = 'rulebook 1; law "t"; house 8; eligible all; stage s = split(house, counted, webster); seats s keep;'
 RETURNS = "kind,land,party,a,b,c\nland,X,,1000,,\nparty,,A,0,,\nlist,X,A,10,10,\n"
+NAMES = "short,full\nA,Alpha\nX,Xanten\n".encode()
 CODE = b"SLC\x01\x00\x01\x03\x01\x00\x00\x00\x29\x00"
 COMMANDS = (
     "count book returns",
@@ -37,6 +38,13 @@ COMMANDS = (
     "run code returns",
     "law 2023",
     "help count",
+    "report book returns",
+    "report book returns --json",
+    "report book book",
+    "stages book returns --csv",
+    "totals returns book",
+    "compare returns book @2013",
+    "compare returns --names names",
 )
 
 # Stands before the C library's malloc and realloc. It counts the allocations, from the start or between the marks, and refuses the one
@@ -168,7 +176,8 @@ def judge_command(count, program, words, shim, folder):
     ample = run(0)
 
     def passes(ran):
-        if (ran.status, ran.out, ran.err, ran.kept) == (ample.status, ample.out, ample.err, ample.kept):
+        said = (ample.err, ample.err.split("error: ")[0])
+        if (ran.status, ran.out, ran.kept) == (ample.status, ample.out, ample.kept) and ran.err in said:
             return True
         wanting = (ran.status, ran.err.lower()) in ((5, "out of memory\n"), (1, "error: out of memory\n"))
         return wanting and ran.out == "" and (ran.kept == b"" or ran.status == 1)
@@ -176,7 +185,7 @@ def judge_command(count, program, words, shim, folder):
 
 
 def judge_commands(count, program, shim, folder):
-    for name, data in (("book", BOOK.encode()), ("returns", RETURNS.encode()), ("code", CODE)):
+    for name, data in (("book", BOOK.encode()), ("returns", RETURNS.encode()), ("code", CODE), ("names", NAMES)):
         with open(os.path.join(folder, name), "wb") as f:
             f.write(data)
     for line in COMMANDS:
