@@ -63,7 +63,7 @@ class Chromium(Browser):
 
     def __init__(self, language, width=1200, height=900):
         super().__init__()
-        self.number, self.session, self.asked = 0, None, []
+        self.number, self.attached, self.asked = 0, None, []
         to_child, self.out = os.pipe()
         self.into, from_child = os.pipe()
         words = ["chromium", "--headless=new", "--no-sandbox", "--disable-gpu", "--no-first-run", "--disable-background-networking",
@@ -76,7 +76,7 @@ class Chromium(Browser):
         self.rest = b""
         self.call("Browser.setDownloadBehavior", behavior="allow", downloadPath=self.downloads)
         target = self.call("Target.createTarget", url="about:blank")["targetId"]
-        self.session = self.call("Target.attachToTarget", targetId=target, flatten=True)["sessionId"]
+        self.attached = self.call("Target.attachToTarget", targetId=target, flatten=True)["sessionId"]
         for domain in ("Page", "Runtime", "Network", "DOM"):
             self.call(domain + ".enable")
         self.call("Page.addScriptToEvaluateOnNewDocument", source="Object.defineProperty(navigator, 'language', { get: () => %s });" % json.dumps(language))
@@ -93,8 +93,8 @@ class Chromium(Browser):
     def call(self, method, **params):
         self.number += 1
         asked = {"id": self.number, "method": method, "params": params}
-        if self.session:
-            asked["sessionId"] = self.session
+        if self.attached:
+            asked["sessionId"] = self.attached
         data = json.dumps(asked).encode() + b"\0"
         while data:
             data = data[os.write(self.out, data):]
