@@ -4,4 +4,5 @@ pub mod Coming
 pub mod Reading
 pub mod Dropping
 pub mod Unrecorded
+pub mod Ahead
 pub mod Leading

@@ -5,4 +5,5 @@ pub mod Memories
 pub mod Leaving
 pub mod Lots
 pub mod Tables
+pub mod Ahead
 pub mod Leading

@@ -1,12 +1,12 @@
 //! Runs of a code on returns.
 
-ghost use Rattle.std.specs.Prelude.{◌≡◌, ◌<◌, ◌≤◌, Some, length, slice_get, IfOk, IfSome, IfNone, IsSome, ◌+◌, ◌*◌};
-ghost use Rattle.sl_code.specs.Proper.{IsProper};
+ghost use Rattle.std.specs.Prelude.{◌≡◌, ◌<◌, ◌≤◌, Some, drop, length, slice_get, IfOk, IfSome, IfNone, IsSome, ◌+◌, ◌*◌};
 ghost use Rattle.sl_ratio.specs.declared.limits.TheConstants.{MAX_SEATS as most_seats, MAX_LANDS, MAX_PARTIES};
 ghost use Rattle.sl_stages.specs.declared.limits.TheConstants.{MAX_STAGES, MAX_WINS};
 ghost use Rattle.sl_machine.specs.Agrees.{IsSafe};
 ghost use Rattle.sl_machine.specs.Answers.{answer_of};
 ghost use Rattle.sl_machine.specs.Fits.{Fits};
+ghost use Rattle.sl_machine.specs.inner.Ahead.{place_of, AreAhead};
 ghost use Rattle.sl_machine.specs.inner.Leading.{LeadsTo, EndsAt, EndsWith, ending_with, FitsWith};
 ghost use Rattle.sl_machine.specs.inner.Lots.{lots_for};
 ghost use Rattle.sl_machine.specs.inner.Recording.{state_by, ending_by};
@@ -57,53 +57,64 @@ pub fn budget(stages: usize, returns: &Returns) -> u64
     (stages as u64 + 2) * share(returns)
 }
 
-// The instruction at a place, where it stands: a copy is written in parts and read in others, which costs more than a step.
-fn instr_at(code: &Code, place: usize) -> &Instr
-    requires { place < length code.now.instrs }
-    ensures stands { slice_get code.now.instrs place ≡ Some result.now }
-    ensures kept { IsProper code.now }
+// The instructions from a place on.
+fn instrs_from(code: &Code, place: usize) -> &[Instr]
+    requires { place ≤ length code.now.instrs }
+    ensures { result.now ≡ drop place code.now.instrs }
 {
-    &code.instrs()[place]
+    &code.instrs()[place..]
 }
 
-// Makes a step from a place, and answers the place to which it comes, but for an instruction that ends the run.
-fn step_from<R: Recording>(
+// The instruction that comes next, where it stands: a copy is written in parts and read in others, which costs more than a step.
+fn next_instr(ahead: &[Instr]) -> &Instr
+    requires { 0 < length ahead.now }
+    ensures { slice_get ahead.now 0 ≡ Some result.now }
+{
+    &ahead[0]
+}
+
+// Makes a step, by the first of the instructions ahead, and answers those that are ahead then, but for an instruction that ends the run.
+fn step_from<'a, R: Recording>(
     store: &mut Store,
-    code: &Code,
+    code: &'a Code,
     returns: &Returns,
     lots: &Lots,
-    place: usize,
-) -> Result<Option<usize>, NoMemory>
-    requires safe { IsSafe code.now returns.now place (state_of store.old) }
+    ahead: &'a [Instr],
+) -> Result<Option<&'a [Instr]>, NoMemory>
+    requires ahead { AreAhead code.now ahead.now }
+    requires safe { IsSafe code.now returns.now (place_of code.now ahead.now) (state_of store.old) }
     requires lots { lots.now ≡ lots_for code.now returns.now }
     requires sizes { sizes_of store.old ≡ sizes_for code.now returns.now }
     requires records { state_by R.records (state_of store.old) ≡ state_of store.old }
-    ensures leads { IfOk result (λ next. IfSome next (λ there. LeadsTo R.records code.now returns.now place (state_of store.old) there (state_of store.new))) }
-    ensures ends { IfOk result (λ next. IfNone next (EndsAt code.now place × (store.new ≡ store.old))) }
+    ensures ahead { IfOk result (λ next. IfSome next (λ there. AreAhead code.now there.now)) }
+    ensures leads { IfOk result (λ next. IfSome next (λ there.
+        LeadsTo R.records code.now returns.now (place_of code.now ahead.now) (state_of store.old) (place_of code.now there.now) (state_of store.new))) }
+    ensures ends { IfOk result (λ next. IfNone next (EndsAt code.now (place_of code.now ahead.now) × (store.new ≡ store.old))) }
     ensures kept { sizes_of store.new ≡ sizes_of store.old }
 {
-    let instr = instr_at(code, place);
+    let instr = next_instr(ahead);
     match store.step::<R>(code, returns, lots, instr)? {
-        Some(Effect::Goes) => Ok(Some(place + 1)),
-        Some(Effect::Jumps) => Ok(Some(instr.target().unwrap() as usize)),
+        Some(Effect::Goes) => Ok(Some(&ahead[1..])),
+        Some(Effect::Jumps) => Ok(Some(instrs_from(code, instr.target().unwrap() as usize))),
         None => Ok(None),
     }
 }
 
-// The end that the instruction at a place gives the run.
+// The end that the first of the instructions ahead gives the run.
 fn end_at<R: Recording>(
     store: &mut Store,
     code: &Code,
     returns: &Returns,
-    place: usize,
+    ahead: &[Instr],
 ) -> Result<End, NoMemory>
-    requires safe { IsSafe code.now returns.now place (state_of store.old) }
+    requires ahead { AreAhead code.now ahead.now }
+    requires safe { IsSafe code.now returns.now (place_of code.now ahead.now) (state_of store.old) }
     requires records { state_by R.records (state_of store.old) ≡ state_of store.old }
-    requires ends { EndsAt code.now place }
-    ensures ends { IfOk result (λ end. EndsWith R.records code.now returns.now place (state_of store.old) end (state_of store.new)) }
+    requires ends { EndsAt code.now (place_of code.now ahead.now) }
+    ensures ends { IfOk result (λ end. EndsWith R.records code.now returns.now (place_of code.now ahead.now) (state_of store.old) end (state_of store.new)) }
     ensures kept { sizes_of store.new ≡ sizes_of store.old }
 {
-    store.end(code, returns, instr_at(code, place))
+    store.end(code, returns, next_instr(ahead))
 }
 
 // Makes at most so many steps from the start, and answers how they end, if they do.
@@ -122,13 +133,14 @@ fn steps<R: Recording>(
     ensures fits { IfOk result (λ end. FitsWith code.now returns.now end (state_of store.new)) }
     ensures kept { IfOk result (λ end. sizes_of store.new ≡ sizes_for code.now returns.now) }
 {
-    let mut place = 0;
+    // the instructions from the place of the run on: a slice, in which a step goes on without a look at where it ends
+    let mut ahead = instrs_from(code, 0);
     let mut left = budget;
     while left > 0 {
         left -= 1;
-        match step_from::<R>(store, code, returns, lots, place)? {
-            Some(next) => place = next,
-            None => return Ok(Some(end_at::<R>(store, code, returns, place)?)),
+        match step_from::<R>(store, code, returns, lots, ahead)? {
+            Some(next) => ahead = next,
+            None => return Ok(Some(end_at::<R>(store, code, returns, ahead)?)),
         }
     }
     Ok(None)

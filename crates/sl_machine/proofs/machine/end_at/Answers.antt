@@ -1,25 +1,26 @@
 -- The end fits, and is that of the run.
 use Rattle.std.proofs.Common.{◌≡◌}
-use Rattle.std.proofs.lemmas.Option.{slice_get_within}
 use Rattle.std.proofs.lemmas.Result.{IfOk-weaker}
 use Rattle.sl_machine.specs.Effects.{Ends, effect}
+use Rattle.sl_machine.specs.inner.Ahead.{place_of}
 use Rattle.sl_machine.specs.inner.Leading.{EndsWith}
 use Rattle.sl_machine.specs.inner.Stores.{state_of, end_with}
+use Rattle.sl_machine.proofs.runs.Ahead.{some_ahead, stands}
 use Rattle.sl_machine.proofs.runs.Leading.{may_here, columns_here, ends_with}
 use Rattle.sl_machine.proofs.machine.end_at.Goals as goal
 
-pub instr_at-requires : goal.instr_at-requires
-instr_at-requires g c = slice_get_within c.args.code.now.instrs c.args.place c.requires.safe.instr c.requires.safe.stands
+pub next_instr-requires : goal.next_instr-requires
+next_instr-requires g c = some_ahead c.args.code.now c.args.ahead.now c.requires.ahead c.requires.safe.instr c.requires.safe.stands
 
 pub end-requires-clause-step : goal.end-requires-clause-step
 end-requires-clause-step g c =
     let code = c.args.code.now in
     let e = c.args.returns.now in
     let s = state_of c.args.store.now in
-    let place = c.args.place in
+    let place = place_of code c.args.ahead.now in
     let safe = c.requires.safe in
-    let i = c.instr_at.result.now in
-    let at = c.instr_at.ensures.stands in
+    let i = c.next_instr.result.now in
+    let at = stands code c.args.ahead.now c.requires.ahead i c.next_instr.ensures in
     may_here code e place s safe i at
 
 pub end-requires-clause-columns : goal.end-requires-clause-columns
@@ -27,25 +28,26 @@ end-requires-clause-columns g c =
     let code = c.args.code.now in
     let e = c.args.returns.now in
     let s = state_of c.args.store.now in
-    let place = c.args.place in
+    let place = place_of code c.args.ahead.now in
     let safe = c.requires.safe in
-    let i = c.instr_at.result.now in
-    let at = c.instr_at.ensures.stands in
+    let i = c.next_instr.result.now in
+    let at = stands code c.args.ahead.now c.requires.ahead i c.next_instr.ensures in
     columns_here code e place s safe i at
 
 pub end-requires-clause-ends : goal.end-requires-clause-ends
 end-requires-clause-ends g c =
-    c.requires.ends c.instr_at.result.now c.instr_at.ensures.stands
+    let i = c.next_instr.result.now in
+    c.requires.ends i (stands c.args.code.now c.args.ahead.now c.requires.ahead i c.next_instr.ensures)
 
 pub returns-clause-ends : goal.returns-clause-ends
 returns-clause-ends g c =
     let code = c.args.code.now in
     let e = c.args.returns.now in
     let s = state_of c.args.store.now in
-    let place = c.args.place in
+    let place = place_of code c.args.ahead.now in
     let safe = c.requires.safe in
-    let i = c.instr_at.result.now in
-    let at = c.instr_at.ensures.stands in
+    let i = c.next_instr.result.now in
+    let at = stands code c.args.ahead.now c.requires.ahead i c.next_instr.ensures in
     let k = g.R.Recording.records in
     let t = state_of c.end.new.self in
     IfOk-weaker c.end.result (λ end. Ends (end_with end t) ≡ effect code e i s) (λ end. EndsWith k code e place s end t)
