@@ -1,6 +1,7 @@
 pub mod CellLemmas
 pub mod TestLemmas
 pub mod NameTests
+pub mod NearNames
 pub mod Joins
 pub mod Places
 pub mod Rows

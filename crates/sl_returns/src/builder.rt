@@ -8,6 +8,7 @@ ghost use Rattle.sl_returns.specs.inner.Joining.{TakesRecord, RefusesRecord};
 use crate::fault::{FaultKind, ReturnsFault};
 use crate::header::Version;
 use crate::join::join;
+use crate::near::Near;
 use crate::told::ToldLots;
 use csv::ByteRecord;
 use sl_stages::Returns;
@@ -20,6 +21,8 @@ pub struct ReturnsBuilder {
     returns: Returns,
     // the lots of the returns
     told: ToldLots,
+    // where the next list mostly stands
+    near: Near,
     // the version that the header told
     version: Option<Version>,
     // the row of the last record
@@ -50,6 +53,7 @@ impl ReturnsBuilder {
         ReturnsBuilder {
             returns: Returns::empty(alloc),
             told: ToldLots::new(alloc),
+            near: Near::first(),
             version: None,
             row: 0,
             fault: None,
@@ -74,7 +78,13 @@ impl ReturnsBuilder {
             return Err(fault);
         }
         let row = self.row.saturating_add(1);
-        match take(&mut self.returns, &mut self.told, self.version, fields) {
+        match take(
+            &mut self.returns,
+            &mut self.told,
+            &mut self.near,
+            self.version,
+            fields,
+        ) {
             Ok(version) => {
                 self.version = Some(version);
                 self.row = row;
@@ -126,6 +136,7 @@ impl ReturnsBuilder {
 fn take(
     returns: &mut Returns,
     told: &mut ToldLots,
+    near: &mut Near,
     version: Option<Version>,
     fields: &ByteRecord,
 ) -> Result<Version, FaultKind>
@@ -137,7 +148,7 @@ fn take(
     match version {
         None => Version::of(fields).ok_or(FaultKind::Header),
         Some(version) => {
-            join(returns, told, version, fields)?;
+            join(returns, told, near, version, fields)?;
             Ok(version)
         }
     }

@@ -15,6 +15,7 @@ use crate::fault::FaultKind;
 use crate::header::Version;
 use crate::kind::Kind;
 use crate::lot::ToldLot;
+use crate::near::Near;
 use crate::told::ToldLots;
 use csv::ByteRecord;
 use sl_ratio::NoMemory;
@@ -101,15 +102,21 @@ fn fills_list(version: Version, fields: &ByteRecord) -> bool
 
 // Joins a list.
 #[tactic(auto, using(crate::proofs::TestLemmas::passes))]
-fn join_list(returns: &mut Returns, version: Version, fields: &ByteRecord) -> Result<(), FaultKind>
+fn join_list(
+    returns: &mut Returns,
+    near: &mut Near,
+    version: Version,
+    fields: &ByteRecord,
+) -> Result<(), FaultKind>
     ensures joined { OnOk result (Pass (list_tests version returns.old (fields_of fields.now)) × (returns.new ≡ with_list_of returns.old (fields_of fields.now))) }
     ensures refused { IfErr result (Refuse (list_tests version returns.old (fields_of fields.now))) }
 {
     ensure(fills_list(version, fields), FaultKind::Fields)?;
     let land_name = cell(fields, LAND);
-    let land = known_name(land_name, returns.find_land(land_name))?;
+    let land = near.known_land(returns, land_name)?;
     let party_name = cell(fields, PARTY);
-    let party = known_name(party_name, returns.find_party(party_name))?;
+    let party = near.known_party(returns, party_name)?;
+    *near = Near::behind(land, party);
     let valid = number(cell(fields, A), 0, MAX_VOTES)?;
     let counted = number(cell(fields, B), 0, MAX_VOTES)?;
     let slate = number_or_none(cell(fields, C), 0, MAX_SLATE)?;
@@ -161,7 +168,7 @@ fn join_lot(
     kept(told.add(&lot))
 }
 
-/// Joins a record behind a header of that version to the returns, and its lot to those told.
+/// Joins a record behind a header of that version to the returns, and its lot to those told. `near` is where a list mostly stands.
 ///
 /// # Errors
 ///
@@ -169,6 +176,7 @@ fn join_lot(
 pub(crate) fn join(
     returns: &mut Returns,
     told: &mut ToldLots,
+    near: &mut Near,
     version: Version,
     fields: &ByteRecord,
 ) -> Result<(), FaultKind>
@@ -182,7 +190,7 @@ pub(crate) fn join(
         Some(Kind::House) => join_house(returns, fields),
         Some(Kind::Land) => join_land(returns, fields),
         Some(Kind::Party) => join_party(returns, fields),
-        Some(Kind::List) => join_list(returns, version, fields),
+        Some(Kind::List) => join_list(returns, near, version, fields),
         Some(Kind::Win) => join_win(returns, fields),
         Some(Kind::Lot) => join_lot(returns, told, fields),
         None => Err(FaultKind::Kind),

@@ -9,6 +9,7 @@ mod join;
 mod kind;
 pub mod laws;
 mod lot;
+mod near;
 mod read;
 mod told;
 

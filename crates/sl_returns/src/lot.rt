@@ -1,11 +1,13 @@
 //! The lot that a record tells.
 
-ghost use Rattle.std.specs.Prelude.{◌≡◌, IfOk, IfErr, OnOk, None};
+ghost use Rattle.std.specs.Prelude.{◌≡◌, ◌<◌, IfOk, IfErr, OnOk, None, if◌then◌else◌};
+ghost use Rattle.std.specs.Option.{ForSome};
 ghost use Rattle.csv.specs.Records.{fields_of};
 ghost use Rattle.sl_ratio.specs.Names.{spelling_fault};
 ghost use Rattle.sl_stages.specs.returns.Election.{IsLot, lands_of, parties_of, wins_of};
+ghost use Rattle.sl_returns.specs.Cells.{is_blank, number_in};
 ghost use Rattle.sl_returns.specs.Records.{lot_of};
-ghost use Rattle.sl_returns.specs.Tests.{Pass, FailBy, lot_cell_tests, fills_lot};
+ghost use Rattle.sl_returns.specs.Tests.{Pass, FailBy, name_or_none_tests, lot_cell_tests, fills_lot};
 ghost use Rattle.sl_returns.specs.inner.Lots.{lot_told};
 
 use crate::cells::{A, B, C, LAND, PARTY, cell, ensure, is_name, known_or_none};
@@ -39,7 +41,7 @@ impl<'a> ToldLot<'a> {
         let stage = cell(fields, A);
         ensure(is_name(stage), FaultKind::Name)?;
         let win_name = cell(fields, B);
-        let win = known_or_none(win_name, returns.find_win(win_name))?;
+        let win = win_or_none(returns, win_name)?;
         Ok(ToldLot {
             land,
             party,
@@ -47,6 +49,20 @@ impl<'a> ToldLot<'a> {
             win,
         })
     }
+}
+
+// The number of the winner of that constituency, which is to be known. Most lots name none, and then none is looked for.
+#[tactic(auto, unfolding(crate::specs::Tests::known_or_none_tests))]
+fn win_or_none(returns: &Returns, name: &[u8]) -> Result<Option<usize>, FaultKind>
+    ensures passed { OnOk result (Pass (name_or_none_tests returns.now.win_names name.now)) }
+    ensures number { IfOk result (λ win. win ≡ (if is_blank name.now then None else number_in returns.now.win_names name.now)) }
+    ensures within { IfOk result (λ win. ForSome win (λ number. number < wins_of returns.now)) }
+    ensures failed { IfErr result (FailBy (name_or_none_tests returns.now.win_names name.now)) }
+{
+    if name.is_empty() {
+        return Ok(None);
+    }
+    known_or_none(name, returns.find_win(name))
 }
 
 // Whether the cells that a lot must fill are filled, and the others are empty: it names a Land or a party, and a

@@ -38,7 +38,7 @@ returns-in_err-win-clause-failed c =
     let land = rw (c.find_land.ensures.number, c.cell-land_name.ensures) at c.in_ok-land.ensures.passed in
     let party = rw (c.find_party.ensures.number, c.cell-party_name.ensures) at c.in_ok-party.ensures.passed in
     let stage = rw (c.is_name.ensures, c.cell-stage.ensures) at c.in_ok-ensure-2.ensures.passed in
-    let win = rw (c.find_win.ensures.number, c.cell-win_name.ensures) at c.in_err-win.ensures.failed in
+    let win = rw c.cell-win_name.ensures at c.in_err-win.ensures.failed in
     refusing c.from_residual-in_err-win.result c.from_residual-in_err-win.ensures.1 (after filled (after land (after party (after stage win))))
 
 pub returns-clause-passed : goal.returns-clause-passed
@@ -47,7 +47,7 @@ returns-clause-passed c =
     let land = rw (c.find_land.ensures.number, c.cell-land_name.ensures) at c.in_ok-land.ensures.passed in
     let party = rw (c.find_party.ensures.number, c.cell-party_name.ensures) at c.in_ok-party.ensures.passed in
     let stage = rw (c.is_name.ensures, c.cell-stage.ensures) at c.in_ok-ensure-2.ensures.passed in
-    let win = rw (c.find_win.ensures.number, c.cell-win_name.ensures) at c.in_ok-win.ensures.passed in
+    let win = rw c.cell-win_name.ensures at c.in_ok-win.ensures.passed in
     both filled (both land (both party (both stage win)))
 
 pub returns-clause-told : goal.returns-clause-told
@@ -57,9 +57,7 @@ returns-clause-told c =
     let land_number = rw c.find_land.ensures.number at c.in_ok-land.ensures.number in
     let party_known = rw c.find_party.ensures.number at c.in_ok-party.ensures.passed in
     let party_number = rw c.find_party.ensures.number at c.in_ok-party.ensures.number in
-    let win_known = rw c.find_win.ensures.number at c.in_ok-win.ensures.passed in
-    let win_number = rw c.find_win.ensures.number at c.in_ok-win.ensures.number in
     let land = land_number ∙ found_or_none e.land_names c.cell-land_name.result.now land_known in
     let party = party_number ∙ found_or_none e.party_names c.cell-party_name.result.now party_known in
-    let win = win_number ∙ found_or_none e.win_names c.cell-win_name.result.now win_known in
+    let win = c.in_ok-win.ensures.number ∙ found_or_none e.win_names c.cell-win_name.result.now c.in_ok-win.ensures.passed in
     rw (land, party, win, c.cell-land_name.ensures, c.cell-party_name.ensures, c.cell-stage.ensures, c.cell-win_name.ensures) (refl {a = lot_of e.land_names e.party_names e.win_names (fields_of c.args.fields.now)})

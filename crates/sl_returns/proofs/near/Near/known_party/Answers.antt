@@ -1,0 +1,17 @@
+-- The name that stands at the place is known, and its place is the number.
+use Rattle.std.proofs.Common.{◌≡◌, Some, slice_get, sym, ap, ◌∙◌}
+use Rattle.std.proofs.lemmas.Slice.Eq.{bytes_eq-Decides}
+use Rattle.sl_ratio.specs.declared.limits.TheConstants.{MAX_PARTIES}
+use Rattle.sl_ratio.specs.Names.{NameList}
+use Rattle.sl_returns.proofs.NearNames.{number_there, known_there}
+use Rattle.sl_returns.proofs.near.Near.known_party.Goals as goal
+
+pub returns-then-eq-clause-passed : goal.returns-then-eq-clause-passed
+returns-then-eq-clause-passed c =
+    let list : NameList = record { limit = MAX_PARTIES; names = c.args.returns.now.party_names } in
+    known_there list c.parties.ensures.kept.party_names c.args.name.now c.args.self.party (c.party_name.ensures ∙ ap Some ((bytes_eq-Decides c.party_name.result.now c.args.name.now).0 (sym c.eq.ensures ∙ c.if-eq.true)))
+
+pub returns-then-eq-clause-number : goal.returns-then-eq-clause-number
+returns-then-eq-clause-number c =
+    let list : NameList = record { limit = MAX_PARTIES; names = c.args.returns.now.party_names } in
+    number_there list c.parties.ensures.kept.party_names c.args.name.now c.args.self.party (c.party_name.ensures ∙ ap Some ((bytes_eq-Decides c.party_name.result.now c.args.name.now).0 (sym c.eq.ensures ∙ c.if-eq.true)))
