@@ -1,5 +1,5 @@
 -- Pieces of runs that follow a plan: one after another, single instructions, lines.
-use Rattle.std.proofs.Common.{◌≡◌, ℕ, suc, ◌+◌, ◌≤◌, List, [], ◌∷◌, length, Some, slice_get, refl, sym, subst, arith}
+use Rattle.std.proofs.Common.{◌≡◌, ℕ, suc, ◌+◌, ◌≤◌, List, [], ◌∷◌, length, Some, slice_get, refl, subst, arith}
 use Rattle.sl_stages.specs.returns.Election.{Election}
 use Rattle.sl_code.specs.declared.instr.Instr.{Instr}
 use Rattle.sl_code.specs.declared.instr.Instr.TheVariants.{Jmp, At}
@@ -63,9 +63,6 @@ module _ (c : CountingCode) (e : Election) where
 
   pub follows_at : (a p q r : ℕ) (s : State) (o : Course) → q ≡ r → Follows c e a p s q o → Follows c e a p s r o
   follows_at a p q r s o h piece = subst (λ (n : ℕ). Follows c e a p s n o) h piece
-
-  pub follows_from : (a p q r : ℕ) (s : State) (o : Course) → p ≡ q → Follows c e a q s r o → Follows c e a p s r o
-  follows_from a p q r s o h piece = subst (λ (n : ℕ). Follows c e a n s r o) (sym h) piece
 
   pub in_order : (a b p q r : ℕ) (s : State) (o : Course) (next : State → Course) → Follows c e a p s q o → ((t : State) → Follows c e b q t r (next t)) → Follows c e (a + b) p s r (then_do o next)
   in_order a b p q r s (Onward t) next first rest = follows_after a b p q r s t (next t) first (rest t)

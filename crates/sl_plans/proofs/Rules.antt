@@ -59,6 +59,16 @@ line_goes {c = c} {e = e} {i = i} {is = is} {s = s} {Q = Q} {E = E} {t = t} at r
   meets = meets_is (does c e (Line (i ∷ is)) s) (does c e (Line is) t) Q E (ap (λ (x : Effect). then_do (passes x) (does c e (Line is))) at) rest.meets;
 }
 
+-- ---- lines of which each instruction goes on: what they do is found by evaluation
+
+-- the plan comes to that state
+pub ends_in : {c : CountingCode} {e : Election} {a : Tree} {s t : State} {Q : State → Type 0} {E : End → Type 0} → does c e a s ≡ Onward t → Q t → Achieves c e a s Q E
+ends_in {c = c} {e = e} {a = a} {s = s} {t = t} {Q = Q} {E = E} at h = record { meets = meets_is (does c e a s) (Onward t) Q E at h }
+
+-- the plan does what another one does in that state
+pub goes_as : {c : CountingCode} {e : Election} {a b : Tree} {s t : State} {Q : State → Type 0} {E : End → Type 0} → Achieves c e b t Q E → does c e a s ≡ does c e b t → Achieves c e a s Q E
+goes_as {c = c} {e = e} {a = a} {b = b} {s = s} {t = t} {Q = Q} {E = E} h same = record { meets = meets_is (does c e a s) (does c e b t) Q E same h.meets }
+
 -- ---- ends, and one plan after another
 
 pub stop_achieves : {c : CountingCode} {e : Election} {i : Instr} {s : State} {Q : State → Type 0} {E : End → Type 0} {x : End} → effect c e i s ≡ Ends x → E x → Achieves c e (Stop i) s Q E
@@ -67,6 +77,18 @@ stop_achieves {c = c} {e = e} {i = i} {s = s} {Q = Q} {E = E} {x = x} at h = rec
 pub then_achieves : {c : CountingCode} {e : Election} {a b : Tree} {s : State} {Q R : State → Type 0} {E : End → Type 0}
     → Achieves c e a s Q E → ((t : State) → Q t → Achieves c e b t R E) → Achieves c e (Then a b) s R E
 then_achieves {c = c} {e = e} {a = a} {b = b} {s = s} {Q = Q} {R = R} {E = E} first rest = record { meets = meets_then (does c e a s) (does c e b) Q R E first.meets (λ t h. (rest t h).meets) }
+
+-- where the first plan comes to that state
+pub then_at : {c : CountingCode} {e : Election} {a b : Tree} {s w : State} {Q : State → Type 0} {E : End → Type 0} → Achieves c e a s (λ t. t ≡ w) E → Achieves c e b w Q E → Achieves c e (Then a b) s Q E
+then_at first rest = then_achieves first (λ t is. achieves_from is rest)
+
+-- a line and a plan after it: an instruction that goes on, and the rest of the line
+module _ {c : CountingCode} {e : Election} {b : Tree} {s : State} {Q : State → Type 0} {E : End → Type 0} where
+  pub line_first : {i : Instr} {is : List Instr} {t : State} → effect c e i s ≡ Goes t → Achieves c e (Then (Line is) b) t Q E → Achieves c e (Then (Line (i ∷ is)) b) s Q E
+  line_first {is = is} at rest = record { meets = subst (λ (x : Effect). Meets (then_do (then_do (passes x) (does c e (Line is))) (does c e b)) Q E) (sym at) rest.meets }
+
+  pub line_over : Achieves c e b s Q E → Achieves c e (Then (Line []) b) s Q E
+  line_over rest = record { meets = rest.meets }
 
 -- ---- tests
 

@@ -15,7 +15,6 @@ use Rattle.sl_plans.specs.Trees.{Each}
 use Rattle.sl_plans.specs.Achieves.{Achieves, Never}
 use Rattle.sl_verify.specs.Kinds.{start_kinds}
 use Rattle.sl_plans.specs.Fine.{bare, is_fine, judged_by}
-use Rattle.sl_plans.specs.Prices.{price_of, has_price, is_in_share}
 use Rattle.sl_plans.specs.Sums.{add_cell, sum_tree, sum_of_first, ColumnsAreSummed, SumsAreAccepted}
 use Rattle.sl_plans.proofs.Rules.{line_ends, line_goes, then_achieves}
 use Rattle.sl_plans.proofs.KeepingRules.{each_keeping}
@@ -97,6 +96,3 @@ sums_are_accepted code k p slot has = record {
   passed = fine_plans_pass code (slice_get code.slots) 0 start_kinds p (sum_tree k) has (λ n s h. h) (omega arith) (sum_is_fine (slice_get code.slots) k slot);
   within = plans_jump_within (bare start_kinds) p (sum_tree k) refl;
 }
-
-pub sum_is_in_share : (k : ℕ) → (has_price (sum_tree k) ≡ true) × (is_in_share (price_of (sum_tree k)) ≡ true)
-sum_is_in_share k = (refl, refl)
