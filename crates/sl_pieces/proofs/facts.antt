@@ -1,7 +1,6 @@
 -- The lemmas of facts over code.
 pub mod Counts
 pub mod Holding
-pub mod Lines
 pub mod Cells
 pub mod Loops
 pub mod Winners

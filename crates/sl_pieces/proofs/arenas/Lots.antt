@@ -8,7 +8,7 @@ use Rattle.std.proofs.lemmas.List.Kept.{AllPairs-from_increasing}
 use Rattle.std.proofs.lemmas.List.Sorted.{Contains-permutation, IsPermutation-append_comm, IsPermutation-sym}
 use Rattle.std.proofs.lemmas.Option.{none-some, same_Some}
 use Rattle.sl_ratio.specs.declared.entry.Entry.{Entry}
-use Rattle.sl_stages.specs.methods.Ties.{Distinct, Lists, NamesAll}
+use Rattle.sl_stages.specs.methods.Ties.{Lists, NamesAll}
 use Rattle.sl_stages.specs.methods.Ties as meaning
 use Rattle.sl_stages.specs.laws.Awards.{DrawsNext}
 use Rattle.sl_stages.specs.laws.Ladders.{Has, IsPeer, RaisesEach}

@@ -7,12 +7,11 @@ use Rattle.sl_stages.proofs.methods.LadderProofs.{batches}
 use Rattle.sl_stages.proofs.methods.WalkProofs.{walks}
 use Rattle.sl_code.specs.Codes.{CountingCode}
 use Rattle.sl_machine.specs.State.{State, End, with_register}
-use Rattle.sl_machine.proofs.effects.Registers.{mov_does}
 use Rattle.sl_plans.specs.declared.plan.Bound.{Bound}
 use Rattle.sl_plans.specs.Trees.{Tree}
 use Rattle.sl_plans.specs.Meaning.{turns_in}
 use Rattle.sl_plans.specs.Achieves.{Achieves, Never}
-use Rattle.sl_plans.proofs.Rules.{achieves_from, achieves_more, line_ends, line_goes, then_achieves}
+use Rattle.sl_plans.proofs.Rules.{achieves_more, then_achieves, goes_as}
 use Rattle.sl_pieces.specs.arenas.Arenas.{Arena, HasWaiting}
 use Rattle.sl_pieces.specs.declared.registers.TheConstants as reg
 use Rattle.sl_pieces.specs.awards.Trees.{awards, whole_batch, counted_seat, last_batch}
@@ -57,17 +56,15 @@ module _ (c : CountingCode) (e : Election) (a : Arena) (most seats n : ℕ) (mea
   all_awarded state waits held all =
       let base : List ℕ = a.ladders.base in
       let begin : IsSettled a.ladders base = (batches a.ladders can.arena.falling).begin in
-      let first : State = with_register reg.ALL_LEFT (state.registers reg.LEFT) state in
       let counts : Counts a seats Held base (set_out state) = counts_first state held all in
       let walked : Achieves c e (plan.batches reg.TURNS bound whole_batch (counted_seat on)) (set_out state) (AfterBatches a seats (IsWhole a seats) (IsLast a seats) (Counts a seats Held)) Never =
       batches_achieve c e a most seats reg.TURNS bound whole_batch (counted_seat on) (IsWhole a seats) (IsLast a seats) (Counts a seats Held) base (set_out state) can.arena can.few
       (gives_counted c e a most seats on Held fits can.arena gives) (begins_whole c e a most seats on Held fits can.arena can.room can.few can.countable)
       (fits_whole c e a most seats on Held fits) begin waits counts counts.left (omega (arith, all, within)) in
-      then_achieves {Q = λ v. v ≡ set_out state} (line_goes (mov_does c e state reg.ALL_LEFT reg.LEFT) (line_goes (mov_does c e first reg.TURNS reg.LEFT) (line_ends refl)))
-      (λ v same.
-      achieves_from same
+      goes_as {t = set_out state}
       (then_achieves {Q = AfterBatches a seats (IsWhole a seats) (IsLast a seats) (Counts a seats Held)} (achieves_more walked (λ after h. h) (λ x never. absurd never))
-      (λ after h. end_awarded h.t after h.waiting h.held h.end)))
+      (λ after h. end_awarded h.t after h.waiting h.held h.end))
+      refl
 
 pub awards_achieve : AwardsAchieve
 awards_achieve c e a most seats n meant bound tie on Held E state can gives ends fits waits held all within =

@@ -15,10 +15,9 @@ use Rattle.sl_code.specs.Codes.{CountingCode}
 use Rattle.sl_machine.specs.State.{State, End, with_register}
 use Rattle.sl_machine.specs.Places.{at_entry}
 use Rattle.sl_machine.specs.Effects as machine
-use Rattle.sl_machine.proofs.effects.Registers.{set_does, mov_does, add_does, sub_does}
 use Rattle.sl_plans.specs.Trees.{Line, ones}
 use Rattle.sl_plans.specs.Achieves.{Achieves}
-use Rattle.sl_plans.proofs.Rules.{line_ends, line_goes}
+use Rattle.sl_plans.proofs.Rules.{ends_in}
 use Rattle.sl_pieces.specs.declared.registers.TheConstants as reg
 use Rattle.sl_pieces.specs.awards.Trees.{count_step}
 
@@ -46,13 +45,7 @@ stepping s =
 
 pub step_counted : {c : CountingCode} {e : Election} {s : State} {Q : State → Type 0} {E : End → Type 0} → Q (stepping s) → Achieves c e (Line count_step) s Q E
 step_counted {c = c} {e = e} {s = s} h =
-    let first : State = with_register reg.STEP (s.registers reg.ALL_LEFT) s in
-    let second : State = with_register reg.STEP (s.registers reg.ALL_LEFT - s.registers reg.LEFT) first in
-    line_goes (mov_does c e s reg.STEP reg.ALL_LEFT)
-    (line_goes (sub_does c e first reg.STEP reg.LEFT)
-    (line_goes (set_does c e second ones 1)
-    (line_goes (add_does c e (with_register ones 1 second) reg.STEP ones)
-    (line_ends h))))
+    ends_in refl h
 
 -- the step is one more than the seats awarded before
 pub step_is : (base awarded seats all_left left most : ℕ) → all_left + base ≡ seats → left + awarded ≡ seats → base ≤ awarded → awarded < seats → seats ≤ most

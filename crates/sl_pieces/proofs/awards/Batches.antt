@@ -7,14 +7,13 @@ use Rattle.sl_stages.proofs.methods.WalkProofs.{walks}
 use Rattle.sl_code.specs.Codes.{CountingCode}
 use Rattle.sl_machine.specs.State.{State, with_register}
 use Rattle.sl_machine.proofs.effects.Storing.{register_other}
-use Rattle.sl_machine.proofs.effects.Registers.{set_does}
 use Rattle.sl_plans.specs.declared.plan.Test.TheVariants as test
 use Rattle.sl_plans.specs.declared.plan.Bound.{Bound}
 use Rattle.sl_plans.specs.Trees.{Tree, Line, If, Times, ones}
 use Rattle.sl_plans.specs.Meaning.{turns_in}
 use Rattle.sl_plans.specs.Achieves.{Achieves, Never}
 use Rattle.sl_plans.specs.Frames.{may_write_register}
-use Rattle.sl_plans.proofs.Rules.{line_ends, line_goes, then_achieves, achieves_more, achieves_from, if_zero}
+use Rattle.sl_plans.proofs.Rules.{line_ends, then_achieves, achieves_more, if_zero, goes_as, then_at}
 use Rattle.sl_plans.proofs.KeepingRules.{times_keeping}
 use Rattle.sl_pieces.specs.arenas.Arenas.{Arena, IsArena, HasWaiting}
 use Rattle.sl_pieces.specs.declared.registers.TheConstants as reg
@@ -115,9 +114,7 @@ module _ (c : CountingCode) (e : Election) (a : Arena) (most seats r : ℕ) (beg
       (if_zero (λ is. begins.begins t state settled waits held is (omega (arith, many))) (λ n is. absurd (omega (arith, none, is))))
       (λ v h. begun_turn w t v many settled h.0 h.1 h.2)
   turn_goes w t state waits held (WithinBatch s peers given mid left some begun many) =
-      then_achieves {Q = λ v. v ≡ state}
-      (if_zero (λ is. absurd (omega (arith, some, is))) (λ n is. line_ends refl))
-      (λ v is. achieves_from is (seat_turn w s peers given t state many mid left some begun waits held))
+      then_at (if_zero (λ is. absurd (omega (arith, some, is))) (λ n is. line_ends refl)) (seat_turn w s peers given t state many mid left some begun waits held)
   turn_goes w t state waits held (BehindLast settled none stopped) =
       then_achieves {Q = λ v. HasWaiting a t v × Held t v × (v.registers reg.IN_BATCH ≡ 0)}
       (if_zero (λ is. begins.rests t state settled waits held is stopped) (λ n is. absurd (omega (arith, none, is))))
@@ -149,8 +146,7 @@ module _ (c : CountingCode) (e : Election) (a : Arena) (most seats r : ℕ) (beg
         held = fits.blind_batch.blind t 0 state held;
         turn = BetweenBatches settled refl (omega (arith, same, many));
       } in
-      then_achieves {Q = λ v. v ≡ none} (line_goes (set_does c e state reg.IN_BATCH 0) (line_ends refl))
-      (λ v is. achieves_from is (all_turns bound none (omega (arith, same, few)) first))
+      goes_as (all_turns bound none (omega (arith, same, few)) first) refl
 
 -- it speaks of all relations, so it is of Type 1 and cannot be a function's contract: it stays a lemma
 pub batches_achieve : BatchesAchieve

@@ -22,7 +22,7 @@ use Rattle.sl_plans.specs.Trees.{Tree, Line, Then, If, ones}
 use Rattle.sl_plans.specs.Meaning.{turns_in}
 use Rattle.sl_plans.specs.Achieves.{Achieves, Never}
 use Rattle.sl_plans.specs.Frames.{KeepsRest}
-use Rattle.sl_plans.proofs.Rules.{achieves_from, achieves_more, line_ends, line_goes, then_achieves, if_empty}
+use Rattle.sl_plans.proofs.Rules.{achieves_more, line_ends, if_empty, line_first, line_over}
 use Rattle.sl_plans.proofs.KeepingRules.{achieves_kept, times_keeping}
 use Rattle.sl_pieces.specs.arenas.Arenas.{Arena, HasWaiting, seat_of, waiting, seat_taken}
 use Rattle.sl_pieces.specs.arenas.Laws.{SeatTaken, DrawnTurn, Turn}
@@ -130,11 +130,8 @@ module _ (c : CountingCode) (e : Election) (a : Arena) (most seats n : ℕ) (mea
           let effects : TableEffects c e a t before_seat = waiting_effects c e most a t before_seat can.arena few drawing.waits in
           let first : Entry = seat_of a seat.turn.entry (slice_index t seat.turn.entry) in
           let one : IsWaiting a t seat.entry seat.gets.taken.others = record { has = seat.gets.has; seats = seat.gets.taken.before } in
-          then_achieves {Q = λ v. v ≡ at_drawn}
-          (line_goes (effects.takes_drawn n can.name first seat.entry seat.gets.taken.others one can.named seat.turn.first seat.drawn_turn.draws) (line_ends refl))
-          (λ v same.
-          achieves_from same
-          (achieves_more
+          line_first (effects.takes_drawn n can.name first seat.entry seat.gets.taken.others one can.named seat.turn.first seat.drawn_turn.draws)
+          (line_over (achieves_more
           (achieves_kept (gives.gives s tied (drawn meant drawing.k tied) t seat.u seat.entry before_seat seat.gets few_then drawing.counted drawing.waits (held_counted t w number state drawing.held)))
           (λ after h. next_drawn after h.0.0 h.0.1 h.1) (λ x h. h)))
 

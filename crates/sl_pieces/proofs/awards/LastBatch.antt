@@ -19,7 +19,7 @@ use Rattle.sl_plans.specs.declared.plan.Bound.{Bound}
 use Rattle.sl_plans.specs.Trees.{Tree, Line, Then, If}
 use Rattle.sl_plans.specs.Meaning.{turns_in}
 use Rattle.sl_plans.specs.Achieves.{Achieves}
-use Rattle.sl_plans.proofs.Rules.{achieves_from, achieves_more, line_ends, then_achieves, if_zero, if_empty, if_not_covered}
+use Rattle.sl_plans.proofs.Rules.{achieves_more, line_ends, then_achieves, if_zero, if_empty, if_not_covered, then_at}
 use Rattle.sl_pieces.specs.arenas.Arenas.{Arena, HasWaiting, waiting}
 use Rattle.sl_pieces.specs.arenas.Laws.{Turn}
 use Rattle.sl_pieces.proofs.arenas.Lots.{waiting_covered}
@@ -84,11 +84,9 @@ module _ (c : CountingCode) (e : Election) (a : Arena) (most seats n : ℕ) (mea
     draw_all : (bound : Bound) (state : State) → NamesAll meant tied → HasWaiting a s state → Counts a seats Held s state → state.registers reg.LEFT ≤ turns_in e bound
         → Achieves c e (Then (Line count_step) (drawn_seats n bound on)) state (AreAwarded a seats meant Held) E
     draw_all bound state names waits counts within =
-        then_achieves {Q = λ v. v ≡ stepping state} (step_counted refl)
-        (λ v same.
-        achieves_from same
+        then_at (step_counted refl)
         (achieves_more (seats_drawn c e a most seats n meant can s tied names scarce on Held fits gives bound (stepping state) within (draw_first names state waits counts))
-        (λ after last. are_drawn names after last) (λ x never. absurd never)))
+        (λ after last. are_drawn names after last) (λ x never. absurd never))
 
     -- ---- it does not
 

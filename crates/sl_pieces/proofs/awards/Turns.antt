@@ -18,11 +18,10 @@ use Rattle.sl_prio.specs.Prio.{top}
 use Rattle.sl_machine.specs.State.{State, with_register}
 use Rattle.sl_machine.specs.Places.{at_entry}
 use Rattle.sl_machine.specs.Effects.{Goes, effect}
-use Rattle.sl_machine.proofs.effects.Registers.{set_does, sub_does}
 use Rattle.sl_plans.specs.Trees.{Tree, Line, Then, ones, count_down}
 use Rattle.sl_plans.specs.Achieves.{Achieves, Never}
 use Rattle.sl_plans.specs.Frames.{KeepsRest}
-use Rattle.sl_plans.proofs.Rules.{line_ends, line_goes, then_achieves, achieves_more, achieves_from, if_empty}
+use Rattle.sl_plans.proofs.Rules.{then_achieves, achieves_more, if_empty, ends_in, line_first, line_over}
 use Rattle.sl_plans.proofs.KeepingRules.{achieves_kept}
 use Rattle.sl_pieces.specs.arenas.Arenas.{Arena, IsArena, HasWaiting, seat_of, table_of, waiting, seat_taken}
 use Rattle.sl_pieces.specs.arenas.Laws.{SeatTaken, Turn}
@@ -84,14 +83,12 @@ module _ (c : CountingCode) (e : Election) (a : Arena) (Held : List ℕ → Stat
   counts_seat u n number state h =
       let one : State = with_register ones 1 state in
       let less : state.registers reg.IN_BATCH - 1 ≡ n = omega (arith, h.left) in
-      line_goes (set_does c e state ones 1)
-      (line_goes (sub_does c e one reg.IN_BATCH ones)
-      (line_ends (record {
+      ends_in refl (record {
         waits = h.waits;
         held = fits.blind_batch.blind u (one.registers reg.IN_BATCH - one.registers ones) one (fits.blind_ones.blind u 1 state h.held);
         left = less;
         step = h.step;
-      })))
+      })
 
   -- what is done with a seat leaves the registers of the batch
   keeps_batch : (u : List ℕ) (n number : ℕ) (state after : State) → state.registers reg.IN_BATCH ≡ n → state.registers reg.STEP ≡ number
@@ -116,9 +113,8 @@ module _ (c : CountingCode) (e : Election) (a : Arena) (Held : List ℕ → Stat
         let same : taken.registers ≡ state.registers = taken_registers e a entry (slice_index t entry) others state in
         let is_waiting : IsWaiting a t entry others = record { has = gets.has; seats = gets.taken.before } in
         let takes : effect c e Take state ≡ Goes taken = (waiting_effects c e most a t state arena few waits).takes entry others is_waiting first in
-        then_achieves {Q = λ v. v ≡ taken} (line_goes takes (line_ends refl)) (λ v is.
-        achieves_from is
-        (then_achieves {Q = AfterSeat a Held u (suc n) number}
+        line_first takes
+        (line_over (then_achieves {Q = AfterSeat a Held u (suc n) number}
         (achieves_more (achieves_kept (gives.gives s peers given t u entry state gets few_after begun waits held))
         (λ v h. keeps_batch u (suc n) number taken v (ap (λ f. f reg.IN_BATCH) same ∙ left) (ap (λ f. f reg.STEP) same) h.0.0 h.0.1 h.1) (λ x h. h))
         (λ v h. counts_seat u n number v h)))

@@ -10,11 +10,10 @@ use Rattle.sl_prio.specs.Ranking.{ranked}
 use Rattle.sl_prio.specs.Prio.{peers}
 use Rattle.sl_machine.specs.State.{State, with_register}
 use Rattle.sl_machine.specs.Effects as machine
-use Rattle.sl_machine.proofs.effects.Registers.{set_does, mov_does, sub_does}
 use Rattle.sl_plans.specs.Trees.{Tree, ones}
 use Rattle.sl_plans.specs.Achieves.{Achieves, Never}
 use Rattle.sl_plans.specs.Frames.{KeepsRest}
-use Rattle.sl_plans.proofs.Rules.{achieves_from, achieves_more, line_ends, line_goes, then_achieves, if_empty, if_less}
+use Rattle.sl_plans.proofs.Rules.{achieves_more, line_ends, line_goes, if_empty, if_less, ends_in, then_at}
 use Rattle.sl_plans.proofs.KeepingRules.{achieves_kept}
 use Rattle.sl_pieces.specs.arenas.Arenas.{Arena, IsArena, HasWaiting, waiting, seat_taken}
 use Rattle.sl_pieces.proofs.arenas.Peers.{waiting_peers}
@@ -87,13 +86,9 @@ module _ (c : CountingCode) (e : Election) (a : Arena) (most seats : ℕ) (on : 
         → Achieves c e (counted_seat on) (seat_taken e a entry (slice_index t entry) gets.taken.others state) (λ after. HasWaiting a u after × Counts a seats Held u after) Never
     unfolding at_seat
     seat_counted few begun waits counts =
-        let start : State = seat_taken e a entry (slice_index t entry) gets.taken.others state in
-        then_achieves {Q = λ v. v ≡ at_seat}
-        (line_goes (set_does c e start ones 1) (line_goes (sub_does c e (with_register ones 1 start) reg.LEFT ones) (line_ends taken_first)))
-        (λ v same.
-        achieves_from same
+        then_at {w = at_seat} (ends_in refl taken_first)
         (achieves_more (achieves_kept (gives.gives s tied given t u entry (lessened state) gets few begun.counted waits (held_less t state counts.held)))
-        (λ after h. (h.0.0, count_seat after begun counts h.0.1 h.1)) (λ x h. h)))
+        (λ after h. (h.0.0, count_seat after begun counts h.0.1 h.1)) (λ x h. h))
 
   pub gives_counted : IsArena most a → GivesSeats c e a most (IsCounted a seats) Held on → GivesSeats c e a most (IsWhole a seats) (Counts a seats Held) (counted_seat on)
   gives_counted arena gives = record {
@@ -114,9 +109,7 @@ module _ (c : CountingCode) (e : Election) (a : Arena) (most seats : ℕ) (on : 
         → Achieves c e whole_batch state Q Never
     whole_batch_ways none scarce enough =
         if_empty waits (λ is. line_ends (none (sym many ∙ is))) (λ n is.
-        let counted : State = with_register reg.PEERS (suc n) state in
-        if_less (λ less. line_ends (scarce n (sym many ∙ is) less)) (λ rest.
-        line_goes (mov_does c e counted reg.IN_BATCH reg.PEERS) (step_counted (enough n (sym many ∙ is) rest))))
+        if_less (λ less. line_ends (scarce n (sym many ∙ is) less)) (λ rest. line_goes refl (step_counted (enough n (sym many ∙ is) rest))))
 
   -- what holds does not depend on the registers of a batch,
   pub counts_peers : (t : List ℕ) (n : ℕ) (state : State) → Counts a seats Held t state → Counts a seats Held t (with_register reg.PEERS n state)

@@ -20,11 +20,10 @@ use Rattle.sl_machine.proofs.effects.Cursors.{winner_is, wland_does}
 use Rattle.sl_machine.proofs.effects.Records.{seat_does, single_does}
 use Rattle.sl_plans.specs.Trees.{Tree, Line}
 use Rattle.sl_plans.specs.Achieves.{Achieves, Never}
-use Rattle.sl_plans.proofs.Rules.{achieves_more, line_ends, line_goes, if_zero, if_no_list, if_no_party}
+use Rattle.sl_plans.proofs.Rules.{achieves_more, line_ends, line_goes, if_zero, if_no_list, if_no_party, line_first, line_over}
 use Rattle.sl_plans.proofs.KeepingRules.{achieves_kept, each_keeping}
 use Rattle.sl_pieces.specs.facts.Trees.{number, by_winner}
 use Rattle.sl_pieces.specs.facts.Laws.{HasFactSlots}
-use Rattle.sl_pieces.proofs.facts.Lines.{line_first, line_over}
 use Rattle.sl_pieces.proofs.facts.Loops.{Flagged}
 use Rattle.sl_pieces.proofs.facts.Winners.{flag_down, flag_up}
 use Rattle.sl_pieces.specs.exprs.Slots.{fact_slots}

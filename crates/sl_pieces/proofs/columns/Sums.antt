@@ -16,7 +16,7 @@ use Rattle.sl_code.specs.Codes.{CountingCode}
 use Rattle.sl_machine.specs.State.{State, with_register}
 use Rattle.sl_machine.specs.Places.{cells_of, cell_at}
 use Rattle.sl_machine.specs.Effects.{most}
-use Rattle.sl_machine.proofs.effects.Registers.{get_does, set_does, add_does, store_does}
+use Rattle.sl_machine.proofs.effects.Registers.{get_does, store_does}
 use Rattle.sl_machine.proofs.effects.Cursors.{both_are}
 use Rattle.sl_machine.proofs.soundness.KeptEntries.{list_below}
 use Rattle.sl_plans.specs.declared.plan.Cursor.{Cursor}
@@ -25,7 +25,7 @@ use Rattle.sl_plans.specs.Trees.{Tree, Line, Each}
 use Rattle.sl_plans.specs.Meaning.{count_of, set_cursor}
 use Rattle.sl_plans.specs.Achieves.{Achieves, Never}
 use Rattle.sl_plans.specs.Frames.{may_move, KeepsRest}
-use Rattle.sl_plans.proofs.Rules.{achieves_more, line_ends, line_goes, then_achieves}
+use Rattle.sl_plans.proofs.Rules.{achieves_more, line_ends, line_goes, then_achieves, ends_in}
 use Rattle.sl_plans.proofs.KeepingRules.{achieves_kept, each_keeping}
 use Rattle.sl_pieces.specs.columns.Trees.{total, cell, cells_plan, add_cells, sum_tree}
 use Rattle.sl_pieces.specs.columns.Columns.{HoldsColumn, GetsColumn}
@@ -51,13 +51,11 @@ module _ (c : CountingCode) (e : Election) (s : Shape) (from to : ℕ) (result :
   one_added : (i q : ℕ) (t : State) → i < length summands → cell_at e s t ≡ Some q → t.columns from q ≡ slice_index summands i → Summed i t → Achieves c e (add_cell from) t (Summed (i + 1)) Never
   one_added i q t less at read h =
       let x : ℕ = t.columns from q in
-      let u : State = with_register cell x t in
-      let v : State = with_register total (min (t.registers total + x) most) u in
+      let v : State = with_register total (min (t.registers total + x) most) (with_register cell x t) in
       let so_far : t.registers total ≡ sum (take i summands) = h.total_is in
       let is : min (t.registers total + x) most ≡ sum (take (i + 1) summands) = omega (arith, so_far, read, next_sum summands i less fits) in
       line_goes (get_does c e t from s known_from cell q at)
-      (line_goes (add_does c e u total cell)
-      (line_ends (record { total_is = is; written = written_with to result before p v.registers t h.written })))
+      (ends_in refl (record { total_is = is; written = written_with to result before p v.registers t h.written }))
 
   summed_suits : (over : Cursor) → may_move (add_cell from) over ≡ false → Suits over (add_cell from) Summed
   summed_suits cursor.Party still = record { still = still; moved = λ n o t h. record { total_is = h.total_is; written = (written_suits to result before cursor.Party (add_cell from) still).moved p o t h.written } }
@@ -89,7 +87,7 @@ module _ (c : CountingCode) (e : Election) (s : Shape) (from to : ℕ) (result :
       let u : State = with_register total 0 t in
       let all : sum (take (length summands) summands) ≡ sum summands = ap sum (take_all (length summands) summands (omega arith)) in
       then_achieves {Q = λ u. Summed 0 u × (cell_at e made u ≡ Some p)}
-      (line_goes (set_does c e t total 0) (line_ends (record { total_is = refl; written = written_with to result before p u.registers t h }, cell_kept e made u.registers t (Some p) at)))
+      (ends_in refl (record { total_is = refl; written = written_with to result before p u.registers t h }, cell_kept e made u.registers t (Some p) at))
       (λ v k.
       then_achieves (walk v k.1 k.0)
       (λ w m. line_goes (store_does c e w to made known_to total p m.1) (line_ends (one_more_written to result before p (w.registers total) w (m.0.total_is ∙ all ∙ is) m.0.written))))

@@ -8,9 +8,9 @@ use Rattle.sl_stages.specs.declared.limits.TheConstants.{MAX_WINS}
 use Rattle.sl_stages.specs.declared.returns.Win.{Win}
 use Rattle.sl_stages.specs.returns.Election.{Election, IsElection, lands_of, parties_of, wins_of}
 use Rattle.sl_code.specs.Codes.{CountingCode}
-use Rattle.sl_machine.specs.State.{State, with_register, with_cell, with_column}
+use Rattle.sl_machine.specs.State.{State, with_register, with_cell}
 use Rattle.sl_machine.specs.Effects.{most, with_win}
-use Rattle.sl_machine.proofs.effects.Registers.{set_does, add_does, get_does, store_does, zero_does}
+use Rattle.sl_machine.proofs.effects.Registers.{get_does, store_does, zero_does}
 use Rattle.sl_machine.proofs.effects.Cursors.{both_are}
 use Rattle.sl_machine.proofs.effects.Storing.{cell_same, cell_other_place, cell_other_slot, column_same, column_other}
 use Rattle.sl_plans.specs.Trees.{ones}
@@ -56,10 +56,8 @@ module _ (c : CountingCode) (e : Election) (x : CoverSlots) (eligible : ℕ → 
             let within : place < lands_of e * parties_of e = cell_within e w.land p seatable.in_land seatable.in_party in
             let old : u.columns x.numbers place ≡ length (front eligible e (pair_at e place) j) = ap (λ (f : ℕ → ℕ → ℕ). f x.numbers place) here.looked.columns ∙ h.counts place within in
             let cell = both_are u.land u.party (λ land party. land * parties_of e + party) w.land p here.land here.party in
-            let one : State = with_register reg.WEIGHT (u.columns x.numbers place) u in
-            let two : State = with_register ones 1 one in
             let more : ℕ = min (u.columns x.numbers place + 1) most in
-            let three : State = with_register reg.WEIGHT more two in
+            let counted : State = with_register reg.WEIGHT more (with_register ones 1 (with_register reg.WEIGHT (u.columns x.numbers place) u)) in
             let now : more ≡ length (front eligible e (pair_at e place) (j + 1)) =
             (let below : j < wins_of e = slice_get_within e.wins j w at in
             let few = front_few eligible e (pair_at e place) j in
@@ -67,20 +65,19 @@ module _ (c : CountingCode) (e : Election) (x : CoverSlots) (eligible : ℕ → 
             let next = one_more (pair_at e place) (says_here eligible e j w p seatable) in
             omega (arith, old, below, few, winners, next)) in
             line_goes (get_does c e u x.numbers shape.List slots.numbers reg.WEIGHT place cell)
-            (line_goes (set_does c e one ones 1)
-            (line_goes (add_does c e two reg.WEIGHT ones)
-            (line_goes (store_does c e three x.numbers shape.List slots.numbers reg.WEIGHT place cell)
+            (line_goes refl (line_goes refl
+            (line_goes (store_does c e counted x.numbers shape.List slots.numbers reg.WEIGHT place cell)
             (line_ends (record {
               counts = λ q in_column. elim (cases_eq q place) [
                 | inl same ↦
-                    ap ((with_cell x.numbers place more three).columns x.numbers) same ∙ cell_same three x.numbers place more ∙ now
+                    ap ((with_cell x.numbers place more counted).columns x.numbers) same ∙ cell_same counted x.numbers place more ∙ now
                     ∙ ap (λ (k : ℕ). length (front eligible e (pair_at e k) (j + 1))) (sym same)
                 | inr other ↦
-                    cell_other_place three x.numbers place more q other ∙ ap (λ (f : ℕ → ℕ → ℕ). f x.numbers q) here.looked.columns ∙ h.counts q in_column
+                    cell_other_place counted x.numbers place more q other ∙ ap (λ (f : ℕ → ℕ → ℕ). f x.numbers q) here.looked.columns ∙ h.counts q in_column
                     ∙ sym (no_more (pair_at e q) (says_elsewhere eligible e j w at p seatable q other))
               ];
               flags = λ party in_column.
-                  cell_other_slot three x.numbers place more x.eligible party apart ∙ ap (λ (f : ℕ → ℕ → ℕ). f x.eligible party) here.looked.columns ∙ h.flags party in_column;
+                  cell_other_slot counted x.numbers place more x.eligible party apart ∙ ap (λ (f : ℕ → ℕ → ℕ). f x.eligible party) here.looked.columns ∙ h.flags party in_column;
             })))))
 
       counts_next : Achieves c e (if_seatable x (count_winner x)) (with_win (Some j) t) (AreCounted e x eligible (j + 1)) Never
@@ -90,7 +87,6 @@ module _ (c : CountingCode) (e : Election) (x : CoverSlots) (eligible : ℕ → 
   pub winners_counted : (s : State) → HasFlags e x eligible s.columns →
       Achieves c e (count_winners x) s (λ t. (q : ℕ) → q < lands_of e * parties_of e → t.columns x.numbers q ≡ many_at e eligible q) Never
   winners_counted s flags =
-      let zeroed : State = with_column x.numbers (λ q. 0) s in
       then_achieves {Q = AreCounted e x eligible 0}
       (line_goes (zero_does c e s x.numbers shape.List slots.numbers)
       (line_ends (record {

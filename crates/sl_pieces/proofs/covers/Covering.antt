@@ -18,10 +18,9 @@ use Rattle.sl_stages.proofs.meaning.Members.{among}
 use Rattle.sl_code.specs.Codes.{CountingCode}
 use Rattle.sl_machine.specs.State.{State, End, with_register}
 use Rattle.sl_machine.specs.Effects.{one_if}
-use Rattle.sl_machine.proofs.effects.Registers.{set_does}
 use Rattle.sl_plans.specs.Trees.{ones}
 use Rattle.sl_plans.specs.Achieves.{Achieves}
-use Rattle.sl_plans.proofs.Rules.{achieves_more, achieves_from, line_ends, line_goes, then_achieves}
+use Rattle.sl_plans.proofs.Rules.{achieves_more, then_achieves, line_first, line_over}
 use Rattle.sl_plans.proofs.KeepingRules.{achieves_kept, times_keeping}
 use Rattle.sl_pieces.specs.declared.registers.TheConstants as reg
 use Rattle.sl_pieces.specs.covers.Trees.{CoverSlots, cover_pair, cover_contested, cover_tree}
@@ -235,9 +234,8 @@ module _ (c : CountingCode) (e : Election) (x : CoverSlots) (eligible : ℕ → 
   covers_all : (t : State) → t.registers reg.NEEDED ≡ count pairs → AreCoveredUpTo 0 (with_register reg.AMOUNT 0 t) →
       Achieves c e (cover_contested x) t (AreCovered c e x eligible base before) (EndsInTie c e eligible base)
   covers_all t needed first =
-      then_achieves {Q = λ v. v ≡ with_register reg.AMOUNT 0 t} (line_goes (set_does c e t reg.AMOUNT 0) (line_ends refl))
-      (λ v same. achieves_from same
-      (times_keeping Inv refl refl (let few = before_few e eligible base pairs in omega (arith, needed, few))
+      line_first refl
+      (line_over (times_keeping Inv refl refl (let few = before_few e eligible base pairs in omega (arith, needed, few))
       (let none = before_none e eligible base in
       record { done = 0; within = omega arith; all = omega (arith, needed, none); covered = first })
       (λ w u some h. covers_one w u h) (λ u none h. covers_last u h)))

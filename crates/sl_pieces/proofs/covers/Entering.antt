@@ -17,7 +17,7 @@ use Rattle.sl_prio.specs.Ranking.{ranked}
 use Rattle.sl_prio.proofs.RankedEntries.{ranked_alike}
 use Rattle.sl_machine.specs.State.{State, PriorityTable, with_register}
 use Rattle.sl_machine.specs.Effects.{most}
-use Rattle.sl_machine.proofs.effects.Registers.{set_does, add_does, get_does}
+use Rattle.sl_machine.proofs.effects.Registers.{get_does}
 use Rattle.sl_machine.proofs.effects.Cursors.{both_are, winner_is}
 use Rattle.sl_machine.proofs.effects.Table.{entered, share_does}
 use Rattle.sl_plans.specs.Trees.{ones}
@@ -91,8 +91,7 @@ module _ (c : CountingCode) (e : Election) (x : CoverSlots) (eligible : ℕ → 
           let more : front eligible e l (j + 1) ≡ front eligible e l j ++ (j, w) ∷ [] = front_more eligible e l j w at ∙ ap (λ b. front eligible e l j ++ cond b ((j, w) ∷ []) []) yes' in
           let tab : PriorityTable = table_with (front eligible e l j) in
           let one : State = entered (record { num = w.first; den = w.valid }) j tab v in
-          let two : State = with_register ones 1 one in
-          let three : State = with_register reg.TOTAL (min (v.registers reg.TOTAL + 1) most) two in
+          let three : State = with_register reg.TOTAL (min (v.registers reg.TOTAL + 1) most) (with_register ones 1 one) in
           let four : State = with_register reg.LEFT (v.columns x.base cell) three in
           let few : length (front eligible e l j) ≤ j = h.few in
           let below : j < wins_of e = slice_get_within e.wins j w at in
@@ -100,8 +99,7 @@ module _ (c : CountingCode) (e : Election) (x : CoverSlots) (eligible : ℕ → 
           let longer : length (front eligible e l j ++ (j, w) ∷ []) ≡ length (front eligible e l j) + 1 = length-append (front eligible e l j) ((j, w) ∷ []) in
           let at_cell = both_are v.land v.party (λ land party. land * parties_of e + party) l.0 l.1 land party in
           line_goes (share_does c e v tab (table ∙ h.table) j win w (winner_is e v j w win at) refl)
-          (line_goes (set_does c e one ones 1)
-          (line_goes (add_does c e two reg.TOTAL ones)
+          (line_goes refl (line_goes refl
           (line_goes (get_does c e three x.base shape.List slots.base reg.LEFT cell at_cell)
           (line_ends
           (subst (λ ys. AreEntered e x eligible base l (j + 1) ys four) (sym more)

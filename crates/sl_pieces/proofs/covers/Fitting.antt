@@ -19,7 +19,7 @@ use Rattle.sl_machine.proofs.effects.Registers.{get_does}
 use Rattle.sl_machine.proofs.effects.Cursors.{both_are}
 use Rattle.sl_machine.proofs.effects.Records.{seat_does}
 use Rattle.sl_plans.specs.Achieves.{Achieves, Never}
-use Rattle.sl_plans.proofs.Rules.{achieves_from, line_ends, line_goes, then_achieves, if_zero}
+use Rattle.sl_plans.proofs.Rules.{line_ends, line_goes, if_zero, line_first, line_over}
 use Rattle.sl_plans.proofs.KeepingRules.{each_keeping}
 use Rattle.sl_pieces.specs.declared.registers.TheConstants as reg
 use Rattle.sl_pieces.specs.covers.Trees.{CoverSlots, if_seatable, seat_fitting, seat_uncontested}
@@ -191,12 +191,9 @@ module _ (c : CountingCode) (e : Election) (x : CoverSlots) (eligible : ℕ → 
       seats_one : Achieves c e (seat_fitting x) u (AreFitted (j + 1)) Never
       seats_one =
           let cell = both_are u.land u.party (λ land party. land * parties_of e + party) w.land p here.land here.party in
-          then_achieves {Q = λ v. v ≡ looked_up}
-          (line_goes (get_does c e u x.numbers shape.List slots.numbers reg.WEIGHT q cell)
-          (line_goes (get_does c e numbered x.base shape.List slots.base reg.LEFT q cell)
-          (line_ends refl)))
-          (λ v same. achieves_from same
-          (if_zero {r = reg.WEIGHT}
+          line_first (get_does c e u x.numbers shape.List slots.numbers reg.WEIGHT q cell)
+          (line_first (get_does c e numbered x.base shape.List slots.base reg.LEFT q cell)
+          (line_over (if_zero {r = reg.WEIGHT}
           (λ none.
           if_zero {r = reg.LEFT}
           (λ no_seats. line_ends (no_place (inr (sym seats ∙ no_seats))))
@@ -211,7 +208,7 @@ module _ (c : CountingCode) (e : Election) (x : CoverSlots) (eligible : ℕ → 
                 (λ n other. ap (λ (b : Bool). if b then placed.OnList else u.placed n) (ne_eqb n j other) ∙ ap (λ f. f n) here.looked.placed);
             read = subst (AreRead e x eligible base) (sym here.looked.columns) h.read;
           }))))
-          (λ k some. line_ends (no_place (inl (contested k some))))))
+          (λ k some. line_ends (no_place (inl (contested k some)))))))
 
     fits_next : Achieves c e (if_seatable x (seat_fitting x)) (with_win (Some j) t) (AreFitted (j + 1)) Never
     fits_next = if_seatable_achieves c e x eligible is slots j w at t h.read.flags (λ p u seatable here. seats_one p u seatable here) passed_by

@@ -9,14 +9,14 @@ use Rattle.sl_stages.specs.returns.Election.{Election, IsElection, lands_of, par
 use Rattle.sl_code.specs.Codes.{CountingCode}
 use Rattle.sl_machine.specs.State.{State, with_register, with_cell}
 use Rattle.sl_machine.specs.Effects.{most, with_party, with_land}
-use Rattle.sl_machine.proofs.effects.Registers.{set_does, mov_does, add_does, sub_does, get_does, store_does}
+use Rattle.sl_machine.proofs.effects.Registers.{get_does, store_does}
 use Rattle.sl_machine.proofs.effects.Cursors.{both_are}
 use Rattle.sl_machine.proofs.effects.Storing.{cell_same, cell_other_place, cell_other_slot}
 use Rattle.sl_plans.specs.declared.plan.Cursor.TheVariants as cursor
-use Rattle.sl_plans.specs.Trees.{Each, ones}
+use Rattle.sl_plans.specs.Trees.{Each}
 use Rattle.sl_plans.specs.Achieves.{Achieves, Never}
 use Rattle.sl_plans.specs.Frames.{may_write_slot}
-use Rattle.sl_plans.proofs.Rules.{achieves_from, line_ends, line_goes, then_achieves, if_zero}
+use Rattle.sl_plans.proofs.Rules.{line_ends, line_goes, then_achieves, if_zero, ends_in, line_first, line_over}
 use Rattle.sl_plans.proofs.KeepingRules.{each_keeping}
 use Rattle.sl_pieces.specs.declared.registers.TheConstants as reg
 use Rattle.sl_pieces.specs.covers.Trees.{CoverSlots, count_winners, number_list, number_contested}
@@ -77,12 +77,9 @@ module _ (c : CountingCode) (e : Election) (x : CoverSlots) (eligible : ℕ → 
     abbrev seated : State
     seated = with_register reg.LEFT (t.columns x.base n) counted
 
-    -- the winners for whom there is no seat
-    abbrev over : State
-    over = with_register reg.WEIGHT (t.columns x.numbers n - t.columns x.base n) seated
-
+    -- the winners for whom there is no seat are counted
     abbrev begun : State
-    begun = with_register reg.SECOND_PASSING 0 over
+    begun = with_register reg.SECOND_PASSING 0 (with_register reg.WEIGHT (t.columns x.numbers n - t.columns x.base n) seated)
 
     many : t.columns x.numbers n ≡ many_at e eligible n
     many = h.counts n (omega arith) within
@@ -102,13 +99,9 @@ module _ (c : CountingCode) (e : Election) (x : CoverSlots) (eligible : ℕ → 
     takes_number : Achieves c e (number_list x) here (InLand l (p + 1)) Never
     takes_number =
         let cell = both_are here.land here.party (λ land party. land * parties_of e + party) l p land refl in
-        then_achieves {Q = λ v. v ≡ begun}
-        (line_goes (get_does c e here x.numbers shape.List slots.numbers reg.WEIGHT n cell)
-        (line_goes (get_does c e counted x.base shape.List slots.base reg.LEFT n cell)
-        (line_goes (sub_does c e seated reg.WEIGHT reg.LEFT)
-        (line_goes (set_does c e over reg.SECOND_PASSING 0)
-        (line_ends refl)))))
-        (λ v same. achieves_from same
+        line_first (get_does c e here x.numbers shape.List slots.numbers reg.WEIGHT n cell)
+        (line_first (get_does c e counted x.base shape.List slots.base reg.LEFT n cell)
+        (line_first refl (line_first refl (line_over
         (then_achieves {Q = HasNumber e eligible base l p n t}
         (if_zero {r = reg.WEIGHT}
         (λ none. line_ends (other_number (all_fit_uncontested e eligible base n (omega (arith, none, many, seats)))))
@@ -117,21 +110,15 @@ module _ (c : CountingCode) (e : Election) (x : CoverSlots) (eligible : ℕ → 
         (λ none. line_ends (other_number (no_seats_uncontested e eligible base n (sym seats ∙ none))))
         (λ m some.
         let contested = contested_by e eligible base n (omega (arith, some, seats)) (omega (arith, more, many, seats)) in
-        let one : State = with_register ones 1 begun in
-        let value : ℕ = min (t.registers reg.NEEDED + 1) most in
-        let two : State = with_register reg.NEEDED value one in
-        let next : value ≡ contested_before e eligible base n + 1 =
+        let next : min (t.registers reg.NEEDED + 1) most ≡ contested_before e eligible base n + 1 =
         (let few = before_few e eligible base n in let all = pairs_countable e is in let so_far = h.count in omega (arith, few, all, so_far, within)) in
-        line_goes (set_does c e begun ones 1)
-        (line_goes (add_does c e one reg.NEEDED ones)
-        (line_goes (mov_does c e two reg.SECOND_PASSING reg.NEEDED)
-        (line_ends (record {
+        ends_in refl (record {
           columns = refl;
           land = land;
           party = refl;
           number = next ∙ sym (number_contested_is e eligible base n contested);
           count = next ∙ sym (before_contested e eligible base n contested);
-        })))))))
+        }))))
         (λ u g.
         let value : ℕ = u.registers reg.SECOND_PASSING in
         let stored : State = with_cell x.numbers n value u in
@@ -148,7 +135,7 @@ module _ (c : CountingCode) (e : Election) (x : CoverSlots) (eligible : ℕ → 
             count = g.count;
           }),
           g.land,
-        )))))
+        ))))))))
 
   numbers_land : (l : ℕ) (t : State) → l < lands_of e → Numbered (l * parties_of e) t →
       Achieves c e (Each cursor.Party (number_list x)) (with_land (Some l) t) (Numbered ((l + 1) * parties_of e)) Never
@@ -168,13 +155,12 @@ module _ (c : CountingCode) (e : Election) (x : CoverSlots) (eligible : ℕ → 
       ((q : ℕ) → q < lands_of e * parties_of e → s.columns x.base q ≡ slice_index base q) → Achieves c e (number_contested x) s (Numbered (lands_of e * parties_of e)) Never
   contested_numbered s counts seats =
       then_achieves {Q = Numbered (0 * parties_of e)}
-      (line_goes (set_does c e s reg.NEEDED 0)
-      (line_ends (record {
+      (ends_in refl (record {
         numbers = λ q less. absurd (omega (arith, less));
         counts = λ q high low. counts q low;
         seats = seats;
         count = sym (before_none e eligible base) ∙ (let none : 0 ≡ 0 * parties_of e = omega arith in ap (contested_before e eligible base) none);
-      })))
+      }))
       (λ t h. each_keeping (λ l. Numbered (l * parties_of e)) refl h (λ l u hl inv. numbers_land l u hl inv)
       (λ u inv. record { numbers = inv.numbers; counts = inv.counts; seats = inv.seats; count = inv.count }))
 

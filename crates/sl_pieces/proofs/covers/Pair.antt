@@ -14,13 +14,11 @@ use Rattle.sl_verify.specs.declared.needs.TheConstants.{LAST_CLAUSE}
 use Rattle.sl_prio.specs.Ranking.{ranked}
 use Rattle.sl_machine.specs.State.{State, with_register}
 use Rattle.sl_machine.specs.Effects.{most, with_table}
-use Rattle.sl_machine.proofs.effects.Registers.{set_does, mov_does, add_does, sub_does}
-use Rattle.sl_machine.proofs.effects.Table.{table_does}
 use Rattle.sl_plans.specs.declared.plan.Bound.TheVariants as bound
 use Rattle.sl_plans.specs.declared.plan.Cursor.TheVariants as cursor
 use Rattle.sl_plans.specs.Trees.{Line, Then, Each, ones}
 use Rattle.sl_plans.specs.Achieves.{Achieves}
-use Rattle.sl_plans.proofs.Rules.{achieves_more, achieves_from, line_ends, line_goes, then_achieves}
+use Rattle.sl_plans.proofs.Rules.{achieves_more, then_achieves, goes_as}
 use Rattle.sl_plans.proofs.KeepingRules.{achieves_kept}
 use Rattle.sl_pieces.specs.arenas.Arenas.{HasWaiting}
 use Rattle.sl_pieces.specs.declared.registers.TheConstants as reg
@@ -79,18 +77,9 @@ module _ (c : CountingCode) (e : Election) (x : CoverSlots) (eligible : ℕ → 
   entered_awarded t h before =
       let total : ℕ = t.registers reg.TOTAL in
       let left : ℕ = t.registers reg.LEFT in
-      let one : State = with_register reg.FIRST_PASSING total t in
-      let two : State = with_register reg.FIRST_PASSING (total - left) one in
-      let three : State = with_register reg.LEFT total two in
-      let four : State = with_register reg.LEFT (total - (total - left)) three in
+      let last : State = with_register reg.LEFT (total - (total - left)) (with_register reg.LEFT total (with_register reg.FIRST_PASSING (total - left) (with_register reg.FIRST_PASSING total t))) in
       let to : total - (total - left) ≡ to_give eligible e base l = (λ z. h.total z - (h.total z - left)) ∙ smaller (length (won eligible e l)) left (list_cell e base l.0 l.1) h.left in
-      then_achieves {Q = λ v. v ≡ four}
-      (line_goes (mov_does c e t reg.FIRST_PASSING reg.TOTAL)
-      (line_goes (sub_does c e one reg.FIRST_PASSING reg.LEFT)
-      (line_goes (mov_does c e two reg.LEFT reg.TOTAL)
-      (line_goes (sub_does c e three reg.LEFT reg.FIRST_PASSING)
-      (line_ends refl)))))
-      (λ v same. achieves_from same (list_awarded four h.few h.table to before))
+      goes_as (list_awarded last h.few h.table to before) refl
 
   -- the whole plan
   pub pair_covered : (t : State) → AreRead e x eligible base t.columns → is_contested e eligible base (l.0 * parties_of e + l.1) ≡ true →
@@ -100,11 +89,8 @@ module _ (c : CountingCode) (e : Election) (x : CoverSlots) (eligible : ℕ → 
   pair_covered t read contested amount placed =
       let place : ℕ = l.0 * parties_of e + l.1 in
       let more : ℕ = min (t.registers reg.AMOUNT + 1) most in
-      let one : State = with_register ones 1 t in
-      let two : State = with_register reg.AMOUNT more one in
-      let three : State = with_register reg.TOTAL 0 two in
-      let four : State = with_register reg.LEFT 0 three in
-      let begun : State = with_table (record { entries = entries.Win; ranking = ranking.Quotients; contents = [] }) four in
+      let counted_one : State = with_register reg.LEFT 0 (with_register reg.TOTAL 0 (with_register reg.AMOUNT more (with_register ones 1 t))) in
+      let begun : State = with_table (record { entries = entries.Win; ranking = ranking.Quotients; contents = [] }) counted_one in
       let counted : more ≡ contested_before e eligible base place + 1 =
       (let within = cell_within e l.0 l.1 in_land in_party in
       let few = pairs_countable e is in
@@ -117,11 +103,4 @@ module _ (c : CountingCode) (e : Election) (x : CoverSlots) (eligible : ℕ → 
       (achieves_kept (winners_enter c e x eligible base l is slots in_land in_party contested begun read (counted ∙ sym (number_contested_is e eligible base place contested)) refl refl))
       (λ u h. h) (λ y never. absurd never))
       (λ u h. entered_awarded u h.0 (λ n w at. h.1.placed refl n ∙ placed n w at)) in
-      then_achieves {Q = λ v. v ≡ begun}
-      (line_goes (set_does c e t ones 1)
-      (line_goes (add_does c e one reg.AMOUNT ones)
-      (line_goes (set_does c e two reg.TOTAL 0)
-      (line_goes (set_does c e three reg.LEFT 0)
-      (line_goes (table_does c e four entries.Win ranking.Quotients)
-      (line_ends refl))))))
-      (λ v same. achieves_from same (achieves_more (achieves_kept after) (λ u h. (h.0, h.1.registers reg.AMOUNT refl ∙ counted)) (λ y h. h)))
+      goes_as (achieves_more (achieves_kept after) (λ u h. (h.0, h.1.registers reg.AMOUNT refl ∙ counted)) (λ y h. h)) refl

@@ -18,7 +18,7 @@ use Rattle.sl_machine.proofs.effects.Cursors.{winner_is, wland_does}
 use Rattle.sl_plans.specs.declared.plan.Test.TheVariants as test
 use Rattle.sl_plans.specs.Trees.{Tree, Line, Then, If}
 use Rattle.sl_plans.specs.Achieves.{Achieves}
-use Rattle.sl_plans.proofs.Rules.{achieves_from, line_ends, line_goes, then_achieves, if_zero, if_no_list, if_no_party}
+use Rattle.sl_plans.proofs.Rules.{line_ends, if_zero, if_no_list, if_no_party, line_first, line_over}
 use Rattle.sl_pieces.specs.declared.registers.TheConstants as reg
 use Rattle.sl_pieces.specs.covers.Trees.{CoverSlots, nothing, if_seatable}
 use Rattle.sl_pieces.specs.covers.Covering.{HasCoverSlots}
@@ -109,9 +109,8 @@ module _ (c : CountingCode) (e : Election) (x : CoverSlots) (eligible : ℕ → 
         (λ bare. line_ends (other (with_party (Some p) on_land) (not_taking p some (and_right (eligible p) (has_list e w.land p) bare))
         (record { columns = refl; placed = refl; table = refl; registers = λ r another. refl })))
         (λ has.
-        then_achieves {Q = λ v. v ≡ flagged} (line_goes (get_does c e (with_party (Some p) on_land) x.eligible shape.Party slots.eligible reg.BASE p refl) (line_ends refl))
-        (λ v same. achieves_from same
-        (if_zero {r = reg.BASE}
+        line_first (get_does c e (with_party (Some p) on_land) x.eligible shape.Party slots.eligible reg.BASE p refl)
+        (line_over (if_zero {r = reg.BASE}
         (λ none. line_ends (other flagged (not_taking p some (and_left (eligible p) (has_list e w.land p) (one_if_none (eligible p) (sym flag ∙ none)))) looked))
         (λ m one. seatable p flagged
         (record { party = some; may = one_if_some (eligible p) m (sym flag ∙ one); listed = has; in_land = is_win.land; in_party = within })
@@ -120,8 +119,7 @@ module _ (c : CountingCode) (e : Election) (x : CoverSlots) (eligible : ℕ → 
     -- the plan for such a winner, and what is to hold for any other
     pub if_seatable_achieves : Achieves c e (if_seatable x body) (with_win (Some j) t) Q E
     if_seatable_achieves =
-        then_achieves {Q = λ v. v ≡ on_land} (line_goes (wland_does c e (with_win (Some j) t) w (winner_is e (with_win (Some j) t) j w refl at)) (line_ends refl))
-        (λ v same. achieves_from same
-        (if_no_party (winner_is e on_land j w refl at)
+        line_first (wland_does c e (with_win (Some j) t) w (winner_is e (with_win (Some j) t) j w refl at))
+        (line_over (if_no_party (winner_is e on_land j w refl at)
         (λ none. line_ends (other (with_party None on_land) (λ l. of_list_by eligible e l j w None none) (record { columns = refl; placed = refl; table = refl; registers = λ r another. refl })))
         (λ p some. with_a_party p some (subst (λ (o : Option ℕ). ForSome o (λ q. q < parties_of e)) some is_win.party p refl))))

@@ -9,12 +9,12 @@ use Rattle.sl_stages.specs.returns.Election.{Election, IsElection, lands_of, par
 use Rattle.sl_code.specs.Codes.{CountingCode}
 use Rattle.sl_machine.specs.State.{State, with_register}
 use Rattle.sl_machine.specs.Effects.{most, with_win}
-use Rattle.sl_machine.proofs.effects.Registers.{mov_does, add_does, sub_does, get_does}
+use Rattle.sl_machine.proofs.effects.Registers.{get_does}
 use Rattle.sl_machine.proofs.effects.Cursors.{both_are}
 use Rattle.sl_plans.specs.declared.plan.Cursor.TheVariants as cursor
 use Rattle.sl_plans.specs.Trees.{Each}
 use Rattle.sl_plans.specs.Achieves.{Achieves, Never}
-use Rattle.sl_plans.proofs.Rules.{achieves_from, line_ends, line_goes, then_achieves, if_zero}
+use Rattle.sl_plans.proofs.Rules.{line_ends, if_zero, goes_as, line_first}
 use Rattle.sl_plans.proofs.KeepingRules.{each_keeping}
 use Rattle.sl_pieces.specs.declared.registers.TheConstants as reg
 use Rattle.sl_pieces.specs.covers.Trees.{CoverSlots, see_winner, of_pair, enter_winner}
@@ -47,20 +47,11 @@ module _ (c : CountingCode) (e : Election) (x : CoverSlots) (eligible : ℕ → 
       abbrev number : ℕ
       number = u.columns x.numbers cell
 
-      abbrev read_number : State
-      read_number = with_register reg.WEIGHT number u
-
-      abbrev first_moved : State
-      first_moved = with_register reg.FIRST_PASSING number read_number
-
       abbrev above : State
-      above = with_register reg.FIRST_PASSING (number - u.registers reg.AMOUNT) first_moved
-
-      abbrev second_moved : State
-      second_moved = with_register reg.SECOND_PASSING (u.registers reg.AMOUNT) above
+      above = with_register reg.FIRST_PASSING (number - u.registers reg.AMOUNT) (with_register reg.FIRST_PASSING number (with_register reg.WEIGHT number u))
 
       abbrev below : State
-      below = with_register reg.SECOND_PASSING (u.registers reg.AMOUNT - number) second_moved
+      below = with_register reg.SECOND_PASSING (u.registers reg.AMOUNT - number) (with_register reg.SECOND_PASSING (u.registers reg.AMOUNT) above)
 
       abbrev apart : State
       apart = with_register reg.FIRST_PASSING (min (number - u.registers reg.AMOUNT + (u.registers reg.AMOUNT - number)) most) below
@@ -94,18 +85,12 @@ module _ (c : CountingCode) (e : Election) (x : CoverSlots) (eligible : ℕ → 
       sees_pair : Achieves c e (of_pair x) u (Seen (j + 1)) Never
       sees_pair =
           let at_cell = both_are u.land u.party (λ land party. land * parties_of e + party) w.land p here.land here.party in
-          then_achieves {Q = λ v. v ≡ apart}
-          (line_goes (get_does c e u x.numbers shape.List slots.numbers reg.WEIGHT cell at_cell)
-          (line_goes (mov_does c e read_number reg.FIRST_PASSING reg.WEIGHT)
-          (line_goes (sub_does c e first_moved reg.FIRST_PASSING reg.AMOUNT)
-          (line_goes (mov_does c e above reg.SECOND_PASSING reg.AMOUNT)
-          (line_goes (sub_does c e second_moved reg.SECOND_PASSING reg.WEIGHT)
-          (line_goes (add_does c e below reg.FIRST_PASSING reg.SECOND_PASSING)
-          (line_ends refl)))))))
-          (λ v same. achieves_from same
+          line_first (get_does c e u x.numbers shape.List slots.numbers reg.WEIGHT cell at_cell)
+          (goes_as {t = apart}
           (if_zero {r = reg.FIRST_PASSING} same_pair
           (λ m far. line_ends (not_entered c e x eligible base l j w at t apart h (other_pair m far) here.looked.columns (here.looked.registers reg.AMOUNT refl) here.looked.table
-          (here.looked.registers reg.TOTAL refl) (here.looked.registers reg.LEFT refl)))))
+          (here.looked.registers reg.TOTAL refl) (here.looked.registers reg.LEFT refl))))
+          refl)
 
     sees : Achieves c e (see_winner x) (with_win (Some j) t) (Seen (j + 1)) Never
     sees = if_seatable_achieves c e x eligible is slots j w at t h.read.flags (λ p u seatable here. sees_pair p u seatable here) (λ u not looked. passed_by u (not l) looked)

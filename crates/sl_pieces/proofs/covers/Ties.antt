@@ -31,7 +31,7 @@ use Rattle.sl_machine.proofs.effects.Table.{entered, share_does}
 use Rattle.sl_plans.specs.declared.plan.Test.TheVariants as test
 use Rattle.sl_plans.specs.Trees.{If, Stop}
 use Rattle.sl_plans.specs.Achieves.{Achieves}
-use Rattle.sl_plans.proofs.Rules.{achieves_from, line_ends, line_goes, then_achieves, stop_achieves, if_no_party, if_empty}
+use Rattle.sl_plans.proofs.Rules.{stop_achieves, if_no_party, if_empty, line_first, line_over}
 use Rattle.sl_pieces.specs.arenas.Arenas.{Arena, HasWaiting, seat_of, waiting, table_of, seat_taken}
 use Rattle.sl_pieces.specs.arenas.Laws.{PeersWait, SeatTaken}
 use Rattle.sl_pieces.proofs.arenas.Peers.{waiting_peers}
@@ -162,15 +162,12 @@ module _ (eligible : ℕ → Bool) (e : Election) (base : List ℕ) (l : ℕ × 
 
       tie_ends_run : Achieves c e tied_winners state (λ after. ⊥) (EndsInListTie c eligible e base l)
       tie_ends_run =
-          then_achieves {Q = λ v. v ≡ on_land}
-          (line_goes takes
-          (line_goes (share_does c e now (table_of a taken.others) refl y.0 wins y.1 (winner_is e now y.0 y.1 wins winner.there) refl)
-          (line_goes (wland_does c e again y.1 (winner_is e again y.0 y.1 wins winner.there))
-          (line_ends refl))))
-          (λ v same. achieves_from same
-          (if_no_party (winner_is e on_land y.0 y.1 wins winner.there)
+          line_first takes
+          (line_first (share_does c e now (table_of a taken.others) refl y.0 wins y.1 (winner_is e now y.0 y.1 wins winner.there) refl)
+          (line_first (wland_does c e again y.1 (winner_is e again y.0 y.1 wins winner.there))
+          (line_over (if_no_party (winner_is e on_land y.0 y.1 wins winner.there)
           (λ none. cc (none, winner.party))
-          (λ p is_of. stops i some winner.listed (with_party (Some p) on_land) holds (ap Some winner.land) (sym is_of ∙ winner.party) left)))
+          (λ p is_of. stops i some winner.listed (with_party (Some p) on_land) holds (ap Some winner.land) (sym is_of ∙ winner.party) left)))))
 
   pub ties_end : (c : CountingCode) (earlier : List ℕ) →
       EndsTied c e (listed eligible e l) (to_give eligible e base l) (meant eligible e l) (AreSeated eligible e l earlier) (EndsInListTie c eligible e base l) tied_winners

@@ -8,7 +8,7 @@ use Rattle.sl_code.specs.Codes.{CountingCode}
 use Rattle.sl_machine.specs.State.{State, with_register, with_column, with_cell}
 use Rattle.sl_machine.specs.Places.{cell_at}
 use Rattle.sl_machine.specs.Effects.{most, one_if}
-use Rattle.sl_machine.proofs.effects.Registers.{set_does, add_does, get_does, store_does}
+use Rattle.sl_machine.proofs.effects.Registers.{get_does, store_does}
 use Rattle.sl_machine.proofs.effects.Storing.{cell_same, cell_other_place, column_same, column_other}
 use Rattle.sl_plans.specs.Trees.{Line, ones}
 use Rattle.sl_plans.specs.Achieves.{Achieves, Never}
@@ -69,8 +69,7 @@ module _ (c : CountingCode) (e : Election) where
       let still : cell_at e at s3 ≡ Some place = cell_stays e at cell (min (x + 1) most) s2 ∙ cell_stays e at ones 1 s1 ∙ cell_stays e at cell x s ∙ there in
       let put : Puts place (min (x + 1) most) (s.columns slot) ((with_cell slot place (min (x + 1) most) s3).columns slot) = stored s3 slot place (min (x + 1) most) in
       line_goes (get_does c e s slot at known cell place there)
-      (line_goes (set_does c e s1 ones 1)
-      (line_goes (add_does c e s2 cell ones)
+      (line_goes refl (line_goes refl
       (line_goes (store_does c e s3 slot at known cell place still) (line_ends (record { here = put.here ∙ sum; others = put.others })))))
 
   -- from a state with the same columns
@@ -96,7 +95,7 @@ module _ (c : CountingCode) (e : Election) where
         let s1 : State = with_register cell 1 s in
         let put : Puts p 1 (s.columns x.eligible) ((with_cell x.eligible p 1 s1).columns x.eligible) = stored s1 x.eligible p 1 in
         let value : (if test then 1 else s.columns x.eligible p) ≡ 1 = ap (λ b. if b then 1 else s.columns x.eligible p) holds in
-        line_goes (set_does c e s cell 1)
+        line_goes refl
         (line_goes (store_does c e s1 x.eligible shape.Party known cell p on) (line_ends (record { here = put.here ∙ sym value; others = put.others })))
 
     pub stays_out : test ≡ false → Achieves c e nothing s (LetIn x p s test) Never

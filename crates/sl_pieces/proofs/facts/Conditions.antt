@@ -11,17 +11,16 @@ use Rattle.sl_code.specs.declared.operand.Input.TheVariants as input
 use Rattle.sl_code.specs.Codes.{CountingCode}
 use Rattle.sl_machine.specs.State.{State, with_register, with_column}
 use Rattle.sl_machine.specs.Effects.{one_if, input_of, winner_at, with_party, with_win}
-use Rattle.sl_machine.proofs.effects.Registers.{set_does, get_does, zero_does, input_does}
+use Rattle.sl_machine.proofs.effects.Registers.{get_does, zero_does, input_does}
 use Rattle.sl_machine.proofs.effects.Cursors.{winner_is}
 use Rattle.sl_plans.specs.declared.plan.Cursor.TheVariants as cursor
 use Rattle.sl_plans.specs.declared.plan.Test.TheVariants as test
 use Rattle.sl_plans.specs.Trees.{Tree, Line, Then, If, Each}
 use Rattle.sl_plans.specs.Achieves.{Achieves, Never}
-use Rattle.sl_plans.proofs.Rules.{then_achieves, if_zero, if_less, if_no_party}
+use Rattle.sl_plans.proofs.Rules.{then_achieves, if_zero, if_less, if_no_party, line_first, line_over}
 use Rattle.sl_plans.proofs.KeepingRules.{achieves_kept}
 use Rattle.sl_pieces.specs.facts.Trees.{FactSlots, cell, number, nothing, let_in, count_one, condition_tree}
 use Rattle.sl_pieces.specs.facts.Laws.{HasFactSlots}
-use Rattle.sl_pieces.proofs.facts.Lines.{line_first, line_over}
 use Rattle.sl_pieces.proofs.facts.Cells.{LetIn, lets_in, stays_out, cell_written, cell_not_written, counts_at, counts_nowhere}
 use Rattle.sl_pieces.proofs.facts.Loops.{Flagged, parties_let_in, winners_counted}
 use Rattle.sl_pieces.proofs.facts.Winners.{flag_down, flag_up, party_is}
@@ -93,6 +92,6 @@ module _ (c : CountingCode) (e : Election) (x : FactSlots) (slots : HasFactSlots
         let u1 : State = with_register number least u in
         let same : (q : ℕ) → u.columns x.eligible q ≡ s.columns x.eligible q =
         λ q. h.1.columns x.eligible (rw (ne_eqb x.eligible x.numbers (λ same. slots.apart (sym same))) refl) q ∙ cell_not_written s x.numbers (λ q. 0) x.eligible q (λ same. slots.apart (sym same)) in
-        line_first (set_does c e u number least) (line_over
+        line_first refl (line_over
         (parties_let_in c e x so has_winners body u1 refl (λ k other. rw (ne_eqb k x.eligible other) refl) (still_flagged u1 same)
         (λ p w less rest. party_judged p (with_party (Some p) w) (rest.columns x.numbers p slots.apart ∙ h.0 p) (rest.registers number refl) refl))))))

@@ -16,12 +16,11 @@ use Rattle.sl_machine.specs.Effects.{one_if}
 use Rattle.sl_machine.proofs.effects.Registers.{zero_does}
 use Rattle.sl_plans.specs.Achieves.{Achieves, Never}
 use Rattle.sl_plans.specs.Frames.{may_write_slot}
-use Rattle.sl_plans.proofs.Rules.{achieves_more, line_ends, then_achieves}
+use Rattle.sl_plans.proofs.Rules.{achieves_more, line_ends, then_achieves, line_first, line_over}
 use Rattle.sl_plans.proofs.KeepingRules.{achieves_kept}
 use Rattle.sl_pieces.specs.facts.Trees.{FactSlots, condition_tree, conditions_tree, eligible_tree}
 use Rattle.sl_pieces.specs.facts.Laws.{HasFactSlots, IsShare, EligibleAreTold}
 use Rattle.sl_pieces.proofs.facts.Holding.{IsSilent, holds_parties}
-use Rattle.sl_pieces.proofs.facts.Lines.{line_first, line_over}
 use Rattle.sl_pieces.proofs.facts.Cells.{cell_written}
 use Rattle.sl_pieces.proofs.facts.Loops.{Flagged}
 use Rattle.sl_pieces.proofs.facts.Votes.{valid_met}

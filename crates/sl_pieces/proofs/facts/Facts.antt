@@ -14,7 +14,7 @@ use Rattle.sl_stages.specs.returns.Facts.{is_eligible, counted_votes}
 use Rattle.sl_code.specs.declared.instr.Instr.TheVariants.{Set, Get, Store, House}
 use Rattle.sl_code.specs.declared.operand.Input.TheVariants as input
 use Rattle.sl_code.specs.Codes.{CountingCode}
-use Rattle.sl_machine.specs.State.{State, with_register, with_column, with_cell}
+use Rattle.sl_machine.specs.State.{State, with_register, with_cell}
 use Rattle.sl_machine.specs.Effects.{one_if, input_of, with_party, with_land}
 use Rattle.sl_machine.proofs.effects.Registers.{set_does, get_does, store_does, input_does, house_there, house_missing}
 use Rattle.sl_machine.proofs.effects.Cursors.{both_are}
@@ -22,14 +22,13 @@ use Rattle.sl_machine.proofs.effects.Storing.{cell_same}
 use Rattle.sl_plans.specs.declared.plan.Test.TheVariants as test
 use Rattle.sl_plans.specs.Trees.{Tree, Line, Then, If}
 use Rattle.sl_plans.specs.Achieves.{Achieves, Never}
-use Rattle.sl_plans.proofs.Rules.{achieves_more, line_ends, line_goes, if_zero}
+use Rattle.sl_plans.proofs.Rules.{achieves_more, line_ends, line_goes, if_zero, line_first, line_over}
 use Rattle.sl_plans.proofs.KeepingRules.{achieves_kept, each_keeping}
 use Rattle.sl_pieces.specs.columns.Columns.{HoldsColumn, GetsColumn}
 use Rattle.sl_pieces.specs.facts.Trees.{FactSlots, cell, number, nothing, house_tree, counted_tree, population_tree, fact_tree}
 use Rattle.sl_pieces.specs.facts.Laws.{HasFactSlots, FactsAreTold}
 use Rattle.sl_pieces.proofs.facts.Counts.{Changed, next_changed}
 use Rattle.sl_pieces.proofs.facts.Holding.{party_of_place, place_within, list_told, holds_one, holds_lists, party_held, gets_column}
-use Rattle.sl_pieces.proofs.facts.Lines.{line_first, line_over}
 use Rattle.sl_pieces.proofs.facts.Cells.{cell_written, cell_not_written, Puts, stored}
 use Rattle.sl_pieces.proofs.facts.Loops.{Flagged}
 use Rattle.sl_pieces.proofs.facts.Winners.{flag_down, flag_up, winners_are_told, outside_are_told, alone_are_told}
@@ -100,7 +99,7 @@ module _ (c : CountingCode) (e : Election) (x : FactSlots) (slots : HasFactSlots
         (if_zero
         (λ zero.
         let put : Puts place 0 (t.columns (x.of facts.Counted)) ((with_cell (x.of facts.Counted) place 0 u2).columns (x.of facts.Counted)) = stored u2 (x.of facts.Counted) place 0 in
-        line_goes (set_does c e u1 cell 0)
+        line_goes refl
         (line_goes (store_does c e u2 (x.of facts.Counted) shape.List (slots.facts facts.Counted) cell place (both_are u.land u.party (λ land party. land * parties_of e + party) l p on refl))
         (line_ends (record { here = put.here ∙ sym (cleared false (flag_down (is_eligible conditions e p) (sym flag ∙ zero))); others = put.others }))))
         (λ n more.
@@ -124,7 +123,6 @@ module _ (c : CountingCode) (e : Election) (x : FactSlots) (slots : HasFactSlots
 
     counted_are_told : Flagged e x (is_eligible conditions e) s → Achieves c e (counted_tree x) s (GetsColumn e shape.List (x.of facts.Counted) (counted_votes conditions e) s) Never
     counted_are_told flagged =
-        let s0 : State = with_column (x.of facts.Counted) (input_of e input.Counted) s in
         gets_column shape.List (x.of facts.Counted) (counted_votes conditions e)
         (line_first (input_does c e s (x.of facts.Counted) shape.List (slots.facts facts.Counted) input.Counted) (line_over
         (each_keeping (λ l. Cleared (l * parties_of e)) refl

@@ -21,20 +21,19 @@ use Rattle.sl_code.specs.declared.operand.Input.TheVariants as input
 use Rattle.sl_code.specs.Codes.{CountingCode}
 use Rattle.sl_machine.specs.State.{State, with_register, with_column}
 use Rattle.sl_machine.specs.Effects.{most, input_of, with_party, with_land}
-use Rattle.sl_machine.proofs.effects.Registers.{set_does, add_does, mul_does, get_does, input_does}
+use Rattle.sl_machine.proofs.effects.Registers.{get_does, input_does}
 use Rattle.sl_machine.proofs.effects.Cursors.{both_are}
 use Rattle.sl_machine.proofs.effects.Storing.{register_same, register_other}
 use Rattle.sl_plans.specs.declared.plan.Cursor.TheVariants as cursor
 use Rattle.sl_plans.specs.declared.plan.Test.TheVariants as test
 use Rattle.sl_plans.specs.Trees.{Tree, Line, Then, If, Each}
 use Rattle.sl_plans.specs.Achieves.{Achieves, Never}
-use Rattle.sl_plans.proofs.Rules.{achieves_more, line_ends, line_goes, then_achieves, if_less}
+use Rattle.sl_plans.proofs.Rules.{achieves_more, line_ends, line_goes, then_achieves, if_less, line_first, line_over}
 use Rattle.sl_plans.proofs.KeepingRules.{achieves_kept, each_keeping}
 use Rattle.sl_pieces.specs.facts.Trees.{FactSlots, all_votes, own_votes, cell, number, nothing, let_in, condition_tree}
 use Rattle.sl_pieces.specs.facts.Laws.{HasFactSlots}
 use Rattle.sl_pieces.proofs.facts.Counts.{range_more, range_within, sum_turned, all_read}
 use Rattle.sl_pieces.proofs.facts.Holding.{list_told}
-use Rattle.sl_pieces.proofs.facts.Lines.{line_first, line_over}
 use Rattle.sl_pieces.proofs.facts.Cells.{cell_written, cell_not_written, LetIn, lets_in, stays_out}
 use Rattle.sl_pieces.proofs.facts.Loops.{Flagged, parties_let_in}
 
@@ -84,7 +83,7 @@ module _ (c : CountingCode) (e : Election) (x : FactSlots) (slots : HasFactSlots
       let kept : u.registers r ≡ s.registers r = register_other s cell v r other in
       let sum : min (u.registers r + u.registers cell) most ≡ min (a + votes_in e l p) most = omega (arith, read, got, kept, total) in
       line_goes (get_does c e s x.votes shape.List slots.votes cell place (both_are s.land s.party (λ l p. l * parties_of e + p) l p land party))
-      (line_goes (add_does c e u r cell) (line_ends (register_same u r (min (u.registers r + u.registers cell) most) ∙ sum)))
+      (line_goes refl (line_ends (register_same u r (min (u.registers r + u.registers cell) most) ∙ sum)))
 
   own_summed : (p : ℕ) (s : State) → p < parties_of e → HoldsVotes s → s.party ≡ Some p → s.registers own_votes ≡ 0
       → Achieves c e (Each cursor.Land (Line (add_votes own_votes))) s (λ t. t.registers own_votes ≡ min (valid_votes e p) most) Never
@@ -154,7 +153,7 @@ module _ (c : CountingCode) (e : Election) (x : FactSlots) (slots : HasFactSlots
         let times : s.registers own_votes * per ≡ has = ap (λ n. n * per) summed ∙ mul_comm (valid_votes e p) per in
         let mine : product ≡ has = omega (arith, times, within) in
         let theirs : s.registers all_votes ≡ least = all ∙ mul_comm (all_valid_votes e) share.value in
-        line_first (set_does c e s number per) (line_first (mul_does c e s1 own_votes number) (line_over
+        line_first refl (line_first refl (line_over
         (if_less
         (λ less. stays_out c e x slots.eligible p s2 on (has_share p) (lt-leb least has (omega (arith, less, mine, theirs))))
         (λ other. lets_in c e x slots.eligible p s2 on (has_share p) (le-leb least has (omega (arith, other, mine, theirs)))))))
@@ -166,7 +165,7 @@ module _ (c : CountingCode) (e : Election) (x : FactSlots) (slots : HasFactSlots
         → Achieves c e one_party s (LetIn x p s (has_share p)) Never
     party_counted p s less held on all =
         let s0 : State = with_register own_votes 0 s in
-        line_first (set_does c e s own_votes 0) (line_over
+        line_first refl (line_over
         (then_achieves (achieves_kept (own_summed p s0 less held on refl)) (λ u h.
         achieves_more (party_judged p u (h.1.party refl ∙ on) (h.1.registers all_votes refl ∙ all) h.0)
         (λ z put.
@@ -182,7 +181,7 @@ module _ (c : CountingCode) (e : Election) (x : FactSlots) (slots : HasFactSlots
         let s2 : State = with_register all_votes 0 s1 in
         let held : HoldsVotes s2 = λ l p in_lands less. cell_written s x.votes cells (l * parties_of e + p) ∙ list_told e l p less valid_in in_lands in
         let still : Flagged e x so s2 = λ p less. cell_not_written s x.votes cells x.eligible p (λ same. apart (sym same)) ∙ flagged p less in
-        line_first (input_does c e s x.votes shape.List slots.votes input.Valid) (line_first (set_does c e s1 all_votes 0) (line_over
+        line_first (input_does c e s x.votes shape.List slots.votes input.Valid) (line_first refl (line_over
         (then_achieves (achieves_kept (all_summed s2 held refl)) (λ u h.
         let u1 : State = with_register number share.value u in
         let product : ℕ = min (u.registers all_votes * share.value) most in
@@ -190,7 +189,7 @@ module _ (c : CountingCode) (e : Election) (x : FactSlots) (slots : HasFactSlots
         let times : u.registers all_votes * share.value ≡ all_valid_votes e * share.value = ap (λ n. n * share.value) h.0 in
         let within : all_valid_votes e * share.value ≤ MAX_WEIGHT * MAX_PER = mul-le (all_valid_votes e) share.value MAX_WEIGHT MAX_PER (all_small e is) few.0 in
         let all : product ≡ all_valid_votes e * share.value = omega (arith, times, within) in
-        line_first (set_does c e u number share.value) (line_first (mul_does c e u1 all_votes number) (line_over
+        line_first refl (line_first refl (line_over
         (parties_let_in c e x so has_share one_party u2 refl (λ k other. rw (ne_eqb k x.eligible other) refl)
         (λ p less. h.1.columns x.eligible refl p ∙ still p less)
         (λ p w less rest.

@@ -22,12 +22,11 @@ use Rattle.sl_plans.specs.declared.plan.Test.TheVariants as test
 use Rattle.sl_plans.specs.Trees.{Tree, Line, Then, If, Each}
 use Rattle.sl_plans.specs.Frames.{may_move}
 use Rattle.sl_plans.specs.Achieves.{Achieves, Never}
-use Rattle.sl_plans.proofs.Rules.{achieves_more, if_zero, if_no_list, if_no_party}
+use Rattle.sl_plans.proofs.Rules.{achieves_more, if_zero, if_no_list, if_no_party, line_first, line_over}
 use Rattle.sl_pieces.specs.columns.Columns.{GetsColumn}
 use Rattle.sl_pieces.specs.facts.Trees.{FactSlots, number, count_one, nothing, by_winner, winners_tree, outside_tree, alone_tree}
 use Rattle.sl_pieces.specs.facts.Laws.{HasFactSlots}
 use Rattle.sl_pieces.proofs.facts.Holding.{land_of_place, party_of_place, holds_lands, holds_lists, WritesOnly, gets_column}
-use Rattle.sl_pieces.proofs.facts.Lines.{line_first, line_over}
 use Rattle.sl_pieces.proofs.facts.Cells.{cell_written, cell_not_written, CountsWhere, counts_at, counts_nowhere}
 use Rattle.sl_pieces.proofs.facts.Loops.{Flagged, winners_counted}
 

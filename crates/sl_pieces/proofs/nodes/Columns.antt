@@ -29,12 +29,6 @@ use Rattle.sl_pieces.proofs.nodes.JoiningLists.{Somewhere, somewhere_or_not, eve
 -- ---- items by their numbers
 
 module _ (e : Election) where
-  place_of : (k : Entries) (q : ℕ) → place e (item_of e k q) ≡ q
-  place_of entries.Party q = refl
-  place_of entries.Land q = refl
-  place_of entries.List q = div-add-mod' q (parties_of e)
-  place_of entries.Win q = refl
-
   same_number : (k : Entries) (q r : ℕ) → same_item (item_of e k q) (item_of e k r) ≡ true → q ≡ r
   same_number entries.Party q r same = eqb-true q r same
   same_number entries.Land q r same = eqb-true q r same

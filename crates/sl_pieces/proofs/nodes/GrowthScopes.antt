@@ -44,7 +44,7 @@ use Rattle.sl_pieces.proofs.seats.SeatingArenas.{scope_weighed}
 use Rattle.sl_pieces.specs.nodes.Trees.{find_house, grow_scope}
 use Rattle.sl_pieces.specs.inner.nodes.Houses.{HasHouse, EndsAboveCap}
 use Rattle.sl_pieces.proofs.nodes.Houses.{houses_are_found}
-use Rattle.sl_pieces.specs.nodes.Scopes.{HoldsArguments, HasAward, EndsFaulty, stand, GrowthScopesAchieve}
+use Rattle.sl_pieces.specs.nodes.Scopes.{HoldsArguments, HasAward, EndsFaulty, stand, DoesScopes}
 use Rattle.sl_pieces.proofs.nodes.Arguments.{minima_long, minima_slot}
 use Rattle.sl_pieces.proofs.nodes.OneScopeBegins.{award_from, IsBegun, arguments_begin, scope_begins}
 use Rattle.sl_pieces.proofs.nodes.OneScope.{IsScopeArena, scope_awards, scope_awarded}
@@ -247,7 +247,10 @@ module _ (c : CountingCode) (e : Election) (f : Form) (x : Slots) (name : List �
         (λ w some. let total : t.registers reg.TOTAL ≡ sum v = begun.ready.total in line_ends (refl, omega (arith, some, total))))
         (λ u h. achieves_from h.0 (cap_achieves t begun h.1)))
 
-pub growth_scopes_achieve : GrowthScopesAchieve
+pub growth_scopes_achieve : (c : CountingCode) (e : Election) (f : Form) (x : Slots) (name : List ℕ) (amounts votes minima : List ℕ) (d : Divisor) (majority : Majority) (cap : ℕ) →
+    IsElection e → HasSlots c f x name → cap ≤ MAX_SEATS →
+    DoesScopes c e f x amounts votes (Some minima) (IsGrowthIn e (stand f x name) amounts votes d majority minima cap)
+    (growth_records e (stand f x name) amounts votes d minima) (grow_scope f x d majority cap)
 unfolding IsAward records Q E
 growth_scopes_achieve c e f x name amounts votes minima d majority cap election slots few = record {
   does = growth_achieves c e f x name amounts votes minima d majority cap election slots few;

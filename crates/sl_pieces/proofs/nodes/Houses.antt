@@ -2,7 +2,7 @@
 use Rattle.std.proofs.Common.{◌≡◌, ℕ, ◌+◌, ◌<◌, ◌≤◌, min, max, List, [], ◌∷◌, sum, refl, sym, subst, ◌∙◌, inl, inr, arith}
 use Rattle.sl_ratio.specs.declared.limits.TheConstants.{MAX_SEATS}
 use Rattle.sl_ratio.specs.declared.method.Divisor.{Divisor}
-use Rattle.sl_stages.specs.returns.Election.{Election}
+use Rattle.sl_stages.specs.returns.Election.{Election, IsElection}
 use Rattle.sl_stages.specs.methods.Field.{InField}
 use Rattle.sl_stages.specs.methods.LeastHouse.{outside_sum, AboveCap, IsGrowth}
 use Rattle.sl_stages.specs.meaning.Scopes.{Group}
@@ -12,10 +12,10 @@ use Rattle.sl_code.specs.declared.operand.EndFault.TheVariants as end
 use Rattle.sl_code.specs.Codes.{CountingCode}
 use Rattle.sl_machine.specs.State.{State, with_register}
 use Rattle.sl_machine.specs.Effects.{most}
-use Rattle.sl_machine.proofs.effects.Registers.{mov_does, add_does, max_does}
 use Rattle.sl_plans.specs.Trees.{Line, Then}
 use Rattle.sl_plans.specs.Achieves.{Achieves}
-use Rattle.sl_plans.proofs.Rules.{achieves_more, achieves_from, line_ends, line_goes, then_achieves, if_zero}
+use Rattle.sl_plans.proofs.Rules.{achieves_more, achieves_from, line_ends, then_achieves, if_zero, goes_as, line_first, line_over}
+use Rattle.std.specs.Prelude.{Some}
 use Rattle.sl_pieces.specs.scopes.Forms.{Form, OnScope}
 use Rattle.sl_pieces.proofs.scopes.Staying.{scope_stays}
 use Rattle.sl_pieces.specs.declared.registers.TheConstants as reg
@@ -25,7 +25,7 @@ use Rattle.sl_pieces.specs.inner.seats.Filling.{IsReady}
 use Rattle.sl_pieces.specs.seats.Trees.{faulty, not_over}
 use Rattle.sl_pieces.proofs.seats.Refusing.{faulty_ends, not_over_achieves}
 use Rattle.sl_pieces.specs.nodes.Trees.{find_house, take_house}
-use Rattle.sl_pieces.specs.inner.nodes.Houses.{HasHouse, EndsAboveCap, HousesAreFound}
+use Rattle.sl_pieces.specs.inner.nodes.Houses.{HasHouse, EndsAboveCap}
 use Rattle.sl_pieces.proofs.nodes.Found.{IsLeast, IsFound, grows_to, above_least, above_within, above_between}
 use Rattle.sl_pieces.proofs.nodes.SearchScope.{with_minima, search_arena, CanSearch, scope_is, minimum_each}
 use Rattle.sl_pieces.proofs.nodes.SearchSeats.{IsSearched, BatchBegun}
@@ -58,11 +58,10 @@ module _ {c : CountingCode} {e : Election} {f : Form} {x : Slots} {name : List �
   grows t s h least =
       let all : ℕ = min (s.registers reg.ALL_LEFT + s.registers reg.NUMBER) most in
       let house : ℕ = max (s.registers reg.AMOUNT) all in
-      let one : State = with_register reg.ALL_LEFT all s in
-      let two : State = with_register reg.AMOUNT house one in
+      let two : State = with_register reg.AMOUNT house (with_register reg.ALL_LEFT all s) in
       let on : OnScope g.scope two = scope_stays g.scope s two refl refl h.on in
       let few : cap ≤ MAX_SEATS = can.few in
-      then_achieves {Q = λ u. u ≡ two} (line_goes (add_does c e s reg.ALL_LEFT reg.NUMBER) (line_goes (max_does c e one reg.AMOUNT reg.ALL_LEFT) (line_ends refl))) (λ u is. achieves_from is
+      goes_as {t = two}
       (not_over_achieves can.ready.slots (scope_is can) two reg.AMOUNT cap end.Cap (λ z. omega (arith, z)) on
       (λ over.
       let above : cap < max seats (outside_sum v m + sum t) = omega (arith, over, h.amount, h.all_left, h.number) in
@@ -81,25 +80,27 @@ module _ {c : CountingCode} {e : Election} {f : Form} {x : Slots} {name : List �
         steps = h.steps;
         weights = h.weights;
         placed = h.placed;
-      })))
+      }))
+      refl
 
   takes_house : (s : State) → HasEnded can s → Achieves c e (take_house f (with_minima x slot) cap) s (HasHouse e x g d v m seats cap before) (EndsAboveCap x g d v m seats cap)
   takes_house s after =
       let t : List ℕ = after.t in
       let h : IsSearched e x g d v m seats before t s = after.held in
-      let one : State = with_register reg.FIRST_PASSING (s.registers reg.IN_BATCH) s in
-      let two : State = with_register reg.FIRST_PASSING (min (s.registers reg.IN_BATCH + s.registers reg.TURNS) most) one in
+      let two : State = with_register reg.FIRST_PASSING (min (s.registers reg.IN_BATCH + s.registers reg.TURNS) most) (with_register reg.FIRST_PASSING (s.registers reg.IN_BATCH) s) in
       let still : IsSearched e x g d v m seats before t two = searched_still can t s two.registers h refl refl refl refl refl in
-      then_achieves {Q = λ u. u ≡ two} (line_goes (mov_does c e s reg.FIRST_PASSING reg.IN_BATCH) (line_goes (add_does c e one reg.FIRST_PASSING reg.TURNS) (line_ends refl)))
-      (λ u is. achieves_from is
-      (then_achieves {Q = λ w. (w ≡ two) × (s.registers reg.IN_BATCH ≡ 0) × (s.registers reg.TURNS ≡ 0)}
+      line_first refl (line_first refl
+      (line_over (then_achieves {Q = λ w. (w ≡ two) × (s.registers reg.IN_BATCH ≡ 0) × (s.registers reg.TURNS ≡ 0)}
       (if_zero (λ none. line_ends (refl, omega (arith, none), omega (arith, none))) (λ n some. ends two still.on (unmet t s h after.end (omega (arith, some)))))
-      (λ w r. achieves_from r.0 (grows t two still (is_least t s h after.end r.1 r.2)))))
+      (λ w r. achieves_from r.0 (grows t two still (is_least t s h after.end r.1 r.2))))))
 
   finds_house : Achieves c e (find_house f (with_minima x slot) d cap) before (HasHouse e x g d v m seats cap before) (EndsAboveCap x g d v m seats cap)
   finds_house = then_achieves {Q = HasEnded can} (achieves_more (search_achieves can) (λ s h. h) (λ y never. absurd never)) takes_house
 
-pub houses_are_found : HousesAreFound
+-- where an entry has weight, and the minima sum to no more than the cap
+pub houses_are_found : (c : CountingCode) (e : Election) (f : Form) (x : Slots) (name : List ℕ) (slot k : ℕ) (g : Group) (d : Divisor) (v m : List ℕ) (seats cap : ℕ) (state : State) →
+    IsElection e → IsReady c e f x name k g v m seats state → x.minima ≡ Some slot → 0 < sum v → sum m ≤ cap → cap ≤ MAX_SEATS →
+    Achieves c e (find_house f x d cap) state (HasHouse e x g d v m seats cap state) (EndsAboveCap x g d v m seats cap)
 houses_are_found c e f x name slot k g d v m seats cap state election ready minima some enough few =
     let same : x ≡ with_minima x slot = λ z. record x { minima = minima z } in
     let can : CanSearch c e f x name slot k g d v m seats cap state = record {

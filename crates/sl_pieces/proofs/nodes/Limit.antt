@@ -13,7 +13,7 @@ use Rattle.sl_machine.specs.State.{State, End, Faulted, with_register}
 use Rattle.sl_machine.proofs.effects.Registers.{get_does}
 use Rattle.sl_machine.proofs.effects.Storing.{register_same}
 use Rattle.sl_plans.specs.Achieves.{Achieves}
-use Rattle.sl_plans.proofs.Rules.{achieves_more, achieves_from, line_ends, line_goes, then_achieves}
+use Rattle.sl_plans.proofs.Rules.{achieves_more, line_first, line_over}
 use Rattle.sl_pieces.specs.scopes.Forms.{Form, amounts_of, groups_of, scopes_plan, OnScope}
 use Rattle.sl_pieces.specs.scopes.Scopes.{IsScope}
 use Rattle.sl_pieces.specs.inner.scopes.Walks.{bare}
@@ -61,9 +61,8 @@ module _ (c : CountingCode) (e : Election) (f : Form) (x : Slots) (name amounts 
         let got : u.registers reg.AMOUNT ≡ n = register_same s reg.AMOUNT n in
         let on_there : OnScope g.scope u = scope_stays g.scope s u refl refl on in
         let still : IsUnchanged start (bare v) = record { columns = inv.still.columns; steps = inv.still.steps; weights = inv.still.weights; placed = inv.still.placed } in
-        then_achieves {Q = λ t. t ≡ u} (line_goes (get_does c e s x.amounts (amounts_of f) slots.amounts reg.AMOUNT g.amount_place (is.amount s on)) (line_ends refl))
-        (λ t same. achieves_from same
-        (not_over_achieves slots is u reg.AMOUNT most_seats end.Limit other on_there
+        line_first (get_does c e s x.amounts (amounts_of f) slots.amounts reg.AMOUNT g.amount_place (is.amount s on))
+        (line_over (not_over_achieves slots is u reg.AMOUNT most_seats end.Limit other on_there
         (λ more. ends g (over_here j g at inv.few (omega (arith, more, read, got))))
         (λ few. (scope_stays g.scope u v refl refl on_there, record { still = still; few = one_further IsFew (groups_of e f) j g at inv.few (omega (arith, few, read, got)) }))))
 

@@ -15,7 +15,7 @@ use Rattle.sl_machine.specs.Effects.{most}
 use Rattle.sl_machine.proofs.effects.Registers.{get_does}
 use Rattle.sl_plans.specs.Trees.{Tree, Line, Then}
 use Rattle.sl_plans.specs.Achieves.{Achieves}
-use Rattle.sl_plans.proofs.Rules.{achieves_more, achieves_from, line_ends, line_goes, then_achieves}
+use Rattle.sl_plans.proofs.Rules.{achieves_more, then_achieves, line_first, line_over}
 use Rattle.sl_pieces.specs.scopes.Forms.{Form, amounts_of, groups_of, OnScope}
 use Rattle.sl_pieces.proofs.scopes.Scopes.{scopes_hold}
 use Rattle.sl_pieces.proofs.scopes.Staying.{scope_stays}
@@ -143,8 +143,7 @@ module _ (c : CountingCode) (e : Election) (f : Form) (x : Slots) (name : List �
       let same : IsUnchanged s t = record { columns = λ slot q. refl; steps = refl; weights = refl; placed = λ winner. refl } in
       let votes : HasCells e g.entries (t.columns x.votes) v = can.votes in
       let minima : HasMinima e g.entries v x.minima t m = minima_kept e g.entries v m s t x.minima (λ slot is q. refl) can.minima in
-      then_achieves {Q = λ u. u ≡ t} (line_goes (get_does c e s x.amounts (amounts_of f) can.slots.amounts reg.AMOUNT g.amount_place cell) (line_ends refl))
-      (λ u is. achieves_from is
-      (then_achieves {Q = AreSummed g v m t}
+      line_first (get_does c e s x.amounts (amounts_of f) can.slots.amounts reg.AMOUNT g.amount_place cell)
+      (line_over (then_achieves {Q = AreSummed g v m t}
       (achieves_more (sums_achieve c e f x name k g v m t can.group can.slots on votes minima) (λ w h. h) (λ y never. absurd never))
       (λ w h. goes w (summed_begun t w same can.amount h))))

@@ -21,12 +21,10 @@ use Rattle.sl_code.specs.declared.operand.Ranking.TheVariants as ranking
 use Rattle.sl_code.specs.Codes.{CountingCode}
 use Rattle.sl_machine.specs.State.{State, with_register}
 use Rattle.sl_machine.specs.Effects.{most, with_table}
-use Rattle.sl_machine.proofs.effects.Registers.{set_does, mov_does}
-use Rattle.sl_machine.proofs.effects.Table.{table_does}
 use Rattle.sl_plans.specs.declared.plan.Bound.TheVariants as bound
 use Rattle.sl_plans.specs.Trees.{ones}
 use Rattle.sl_plans.specs.Achieves.{Achieves, Never}
-use Rattle.sl_plans.proofs.Rules.{achieves_from, line_ends, line_goes, then_achieves, if_zero, if_empty}
+use Rattle.sl_plans.proofs.Rules.{line_ends, then_achieves, if_zero, if_empty, goes_as, ends_in}
 use Rattle.sl_pieces.specs.scopes.Forms.{Form, table_of, OnScope}
 use Rattle.sl_pieces.specs.inner.scopes.Walks.{bare}
 use Rattle.sl_pieces.proofs.scopes.Forms.{each_entry}
@@ -104,12 +102,11 @@ module _ {c : CountingCode} {e : Election} {f : Form} {x : Slots} {name : List �
         (λ nobody. absurd (omega (arith, there, nobody, wait.number)))
         (λ n many.
         let counted : State = with_register reg.PEERS (suc n) state in
-        line_goes (mov_does c e counted reg.IN_BATCH reg.PEERS)
-        (line_ends (
+        ends_in refl (
           waits,
           searched_still t state (with_register reg.IN_BATCH (suc n) counted).registers h refl refl refl refl refl,
           OneBegan next.0 next.1 there (sym many ∙ wait.number) short,
-        ))));
+        )));
     rests = λ t state settled waits h none found.
         if_zero (λ no. line_ends (waits, h, none)) (λ w some. absurd (omega (arith, some, h.turns, found.none_missing)));
   }
@@ -171,14 +168,9 @@ module _ {c : CountingCode} {e : Election} {f : Form} {x : Slots} {name : List �
   search_achieves =
       let Inv : ℕ → State → Type 0 = λ n s. FirstSearched e f x g d v m seats before n n s in
       let n : ℕ = length g.entries in
-      let one : State = with_register reg.NUMBER 0 before in
-      let two : State = with_register reg.TURNS 0 one in
-      let empty : State = with_table (record { entries = table_of f; ranking = ranking.Quotients; contents = [] }) two in
+      let empty : State = with_table (record { entries = table_of f; ranking = ranking.Quotients; contents = [] }) (with_register reg.TURNS 0 (with_register reg.NUMBER 0 before)) in
       then_achieves {Q = λ s. OnScope g.scope s × Inv 0 (bare s)}
-      (line_goes (set_does c e before reg.NUMBER 0)
-      (line_goes (set_does c e one reg.TURNS 0)
-      (line_goes (table_does c e two (table_of f) ranking.Quotients)
-      (line_ends (
+      (ends_in refl (
         scope_stays g.scope before empty refl refl can.ready.on,
         record {
           amount = can.ready.amount;
@@ -193,13 +185,10 @@ module _ {c : CountingCode} {e : Election} {f : Form} {x : Slots} {name : List �
           weights = refl;
           placed = λ winner. refl;
         },
-      )))))
+      ))
       (λ s h.
       then_achieves {Q = λ t. OnScope g.scope t × Inv (length g.entries) (bare t)}
       (each_entry c e f k g (search_entry f (with_minima x slot) d) Inv Never s can.ready.group (entries_searched can) h.0 h.1)
       (λ t r.
-      let none_left : State = with_register reg.ALL_LEFT 0 t in
-      let last : State = with_register reg.LEFT cap none_left in
-      then_achieves {Q = λ u. u ≡ last} (line_goes (set_does c e t reg.ALL_LEFT 0) (line_goes (set_does c e none_left reg.LEFT cap) (line_ends refl)))
-      (λ u is.
-      achieves_from is (batches_from last (scope_stays g.scope t last refl refl r.0) (counted can n n n (bare t) last.registers r.1 refl refl r.1.number r.1.turns) refl refl))))
+      let last : State = with_register reg.LEFT cap (with_register reg.ALL_LEFT 0 t) in
+      goes_as (batches_from last (scope_stays g.scope t last refl refl r.0) (counted can n n n (bare t) last.registers r.1 refl refl r.1.number r.1.turns) refl refl) refl))

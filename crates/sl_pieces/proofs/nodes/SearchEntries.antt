@@ -18,12 +18,12 @@ use Rattle.sl_code.specs.declared.instr.Instr.TheVariants.{Set, Add, Store, Prio
 use Rattle.sl_code.specs.Codes.{CountingCode}
 use Rattle.sl_machine.specs.State.{State, PriorityTable, with_register, with_cell}
 use Rattle.sl_machine.specs.Effects.{most}
-use Rattle.sl_machine.proofs.effects.Registers.{set_does, add_does, get_does, store_does}
+use Rattle.sl_machine.proofs.effects.Registers.{get_does, store_does}
 use Rattle.sl_machine.proofs.effects.Storing.{cell_same, cell_other_place, cell_other_slot}
 use Rattle.sl_plans.specs.declared.plan.Test.TheVariants as test
 use Rattle.sl_plans.specs.Trees.{Line, Then, If}
 use Rattle.sl_plans.specs.Achieves.{Achieves, Never}
-use Rattle.sl_plans.proofs.Rules.{achieves_from, line_ends, line_goes, then_achieves, if_zero}
+use Rattle.sl_plans.proofs.Rules.{line_ends, line_goes, then_achieves, if_zero, ends_in, line_first, line_over}
 use Rattle.sl_pieces.specs.scopes.Forms.{Form, votes_of, table_of, OnItem}
 use Rattle.sl_pieces.specs.scopes.Scopes.{IsEntry}
 use Rattle.sl_pieces.specs.inner.scopes.Walks.{bare, Visits}
@@ -150,12 +150,9 @@ module _ {c : CountingCode} {e : Election} {f : Form} {x : Slots} {name : List �
         let here : State = with_cell x.result (place e i) 0 zero_held in
         let others : List Entry = first_waiting arena j in
         let seat : Entry = seat_of arena j (slice_index none j) in
-        then_achieves {Q = λ t. t ≡ here}
-        (line_goes (set_does c e s reg.HELD 0)
-        (line_goes (store_does c e zero_held x.result (votes_of f) can.ready.slots.result reg.HELD (place e i) (entry.cell zero_held (item_stays i s zero_held refl refl refl on)))
-        (line_ends refl)))
-        (λ t is. achieves_from is
-        (if_zero
+        line_first refl
+        (line_first (store_does c e zero_held x.result (votes_of f) can.ready.slots.result reg.HELD (place e i) (entry.cell zero_held (item_stays i s zero_held refl refl refl on)))
+        (line_over (if_zero
         (λ no_weight.
         let empty : slice_index v j ≡ 0 = omega (arith, weight, no_weight) in
         line_ends (stored (j + 1) (bare s) here.registers s.table h refl refl refl refl (h.table ∙ ap Some (waiting_same g j i at (entries_wait can) empty))))
@@ -165,7 +162,7 @@ module _ {c : CountingCode} {e : Election} {f : Form} {x : Slots} {name : List �
         (seat_enters c e f g (scope_is can) d v none can.ready.weights j (slice_index none j) i here others reg.HELD at (item_stays i s here refl refl refl on) weight field
         (sym (none_needed (length v) j)) (omega (arith, none_needed (length v) j)) h.table)
         (line_ends
-        (stored (j + 1) (bare s) here.registers (Some (arenas.table_of arena (seat ∷ others))) h refl refl refl refl (ap Some (waiting_more g j i at (entries_wait can) field)))))))
+        (stored (j + 1) (bare s) here.registers (Some (arenas.table_of arena (seat ∷ others))) h refl refl refl refl (ap Some (waiting_more g j i at (entries_wait can) field))))))))
 
     -- the sums
     sums : (s : State) → OnItem i s → s.registers reg.WEIGHT ≡ slice_index v j → s.registers reg.BASE ≡ slice_index m j → Searched j j (bare s)
@@ -178,14 +175,12 @@ module _ {c : CountingCode} {e : Election} {f : Form} {x : Slots} {name : List �
         let empty : slice_index v j ≡ 0 = omega (arith, weight, no_weight) in
         let t : State = with_register reg.NUMBER (min (s.registers reg.NUMBER + s.registers reg.BASE) most) s in
         let number : min (s.registers reg.NUMBER + s.registers reg.BASE) most ≡ sum (take (j + 1) (outside_minima v m)) = omega (arith, h.number, base, more.number, (more.outside empty).0) in
-        line_goes (add_does c e s reg.NUMBER reg.BASE)
-        (line_ends (item_stays i s t refl refl refl on, weight, counted j (j + 1) j (bare s) t.registers h refl refl number (h.turns ∙ sym (more.outside empty).1))))
+        ends_in refl (item_stays i s t refl refl refl on, weight, counted j (j + 1) j (bare s) t.registers h refl refl number (h.turns ∙ sym (more.outside empty).1)))
         (λ w some.
         let field : InField v j = omega (arith, weight, some) in
         let t : State = with_register reg.TURNS (min (s.registers reg.TURNS + s.registers reg.BASE) most) s in
         let turns : min (s.registers reg.TURNS + s.registers reg.BASE) most ≡ sum (take (j + 1) (lacking v m (no_minima v))) = omega (arith, h.turns, base, more.turns, (more.inside field).1) in
-        line_goes (add_does c e s reg.TURNS reg.BASE)
-        (line_ends (item_stays i s t refl refl refl on, weight, counted j (j + 1) j (bare s) t.registers h refl refl (h.number ∙ sym (more.inside field).0) turns)))
+        ends_in refl (item_stays i s t refl refl refl on, weight, counted j (j + 1) j (bare s) t.registers h refl refl (h.number ∙ sym (more.inside field).0) turns))
 
     searches_entry : (s : State) → OnItem i s → Searched j j (bare s) → Achieves c e (search_entry f (with_minima x slot) d) s (λ t. Searched (j + 1) (j + 1) (bare t)) Never
     searches_entry s on h =
@@ -193,10 +188,8 @@ module _ {c : CountingCode} {e : Election} {f : Form} {x : Slots} {name : List �
         let two : State = with_register reg.BASE (s.columns slot (place e i)) one in
         let weight : s.columns x.votes (place e i) ≡ slice_index v j = h.columns x.votes (place e i) can.ready.slots.not_votes ∙ can.ready.votes.at j i at in
         let minimum : s.columns slot (place e i) ≡ slice_index m j = h.columns slot (place e i) (can.ready.slots.not_minima slot refl) ∙ can.ready.minima.at j i at in
-        then_achieves {Q = λ t. t ≡ one} (line_goes (get_does c e s x.votes (votes_of f) can.ready.slots.votes reg.WEIGHT (place e i) (entry.cell s on)) (line_ends refl)) (λ t is. achieves_from is
-        (then_achieves {Q = λ u. u ≡ two}
-        (line_goes (get_does c e one slot (votes_of f) (can.ready.slots.minima slot refl) reg.BASE (place e i) (entry.cell one (item_stays i s one refl refl refl on))) (line_ends refl))
-        (λ u are. achieves_from are
+        line_first (get_does c e s x.votes (votes_of f) can.ready.slots.votes reg.WEIGHT (place e i) (entry.cell s on)) (line_over
+        (line_first (get_does c e one slot (votes_of f) (can.ready.slots.minima slot refl) reg.BASE (place e i) (entry.cell one (item_stays i s one refl refl refl on))) (line_over
         (then_achieves {Q = λ w. OnItem i w × (w.registers reg.WEIGHT ≡ slice_index v j) × Searched (j + 1) j (bare w)}
         (sums two (item_stays i s two refl refl refl on) weight minimum (counted j j j (bare s) two.registers h refl refl h.number h.turns)) (λ w r. enters w r.0 r.1 r.2)))))
 

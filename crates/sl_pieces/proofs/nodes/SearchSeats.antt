@@ -23,19 +23,19 @@ use Rattle.sl_code.specs.declared.instr.Instr.TheVariants.{Set, Add, Store}
 use Rattle.sl_code.specs.Codes.{CountingCode}
 use Rattle.sl_machine.specs.State.{State, PriorityTable, with_register, with_cell}
 use Rattle.sl_machine.specs.Effects.{most}
-use Rattle.sl_machine.proofs.effects.Registers.{set_does, add_does, sub_does, get_does, store_does}
+use Rattle.sl_machine.proofs.effects.Registers.{get_does, store_does}
 use Rattle.sl_machine.proofs.effects.Storing.{cell_same, cell_other_place, cell_other_slot}
 use Rattle.sl_plans.specs.declared.plan.Test.TheVariants as test
 use Rattle.sl_plans.specs.Trees.{Line, Then, If, ones, count_down}
 use Rattle.sl_plans.specs.Achieves.{Achieves, Never}
 use Rattle.sl_plans.specs.Frames.{may_write_slot, KeepsRest}
-use Rattle.sl_plans.proofs.Rules.{achieves_more, achieves_from, line_ends, line_goes, then_achieves, if_less}
+use Rattle.sl_plans.proofs.Rules.{achieves_more, line_ends, then_achieves, if_less, goes_as, ends_in, line_first, line_over}
 use Rattle.sl_plans.proofs.KeepingRules.{achieves_kept}
 use Rattle.sl_pieces.specs.scopes.Forms.{Form, votes_of, table_of, OnScope, OnItem}
 use Rattle.sl_pieces.specs.scopes.Scopes.{IsEntry}
 use Rattle.sl_pieces.proofs.scopes.Staying.{item_stays}
 use Rattle.sl_pieces.specs.arenas.Arenas as arenas
-use Rattle.sl_pieces.specs.arenas.Arenas.{Arena, HasWaiting, seat_of, seat_taken}
+use Rattle.sl_pieces.specs.arenas.Arenas.{Arena, HasWaiting, seat_taken}
 use Rattle.sl_pieces.specs.arenas.Laws.{SeatTaken}
 use Rattle.sl_pieces.specs.declared.registers.TheConstants as reg
 use Rattle.sl_pieces.specs.inner.awards.Batches.{GivesSeats}
@@ -121,12 +121,9 @@ module _ {c : CountingCode} {e : Election} {f : Form} {x : Slots} {name : List �
     counts s w on held base turns all_left columns table =
         if_less
         (λ less.
-        let one : State = with_register ones 1 w in
-        let y : State = with_register reg.TURNS (w.registers reg.TURNS - 1) one in
+        let y : State = with_register reg.TURNS (w.registers reg.TURNS - 1) (with_register ones 1 w) in
         let fewer : missing v m t ≡ missing v m u + 1 = one_less_missing v m (minimum_each can) t u j long raised field (omega (arith, less, held, base)) in
-        line_goes (set_does c e w ones 1)
-        (line_goes (sub_does c e one reg.TURNS ones)
-        (line_ends (record { on_item = item_stays i w y refl refl refl on; held = held; turns = omega (arith, turns, fewer); all_left = all_left; columns = columns; table = table }))))
+        ends_in refl (record { on_item = item_stays i w y refl refl refl on; held = held; turns = omega (arith, turns, fewer); all_left = all_left; columns = columns; table = table }))
         (λ met.
         let same : missing v m u ≡ missing v m t = as_much_missing v m (minimum_each can) t u j long raised field (omega (arith, met, held, base)) in
         line_ends (record { on_item = on; held = held; turns = turns ∙ sym same; all_left = all_left; columns = columns; table = table }))
@@ -136,12 +133,9 @@ module _ {c : CountingCode} {e : Election} {f : Form} {x : Slots} {name : List �
         (λ y. HasWaiting arena u y × IsGiven s y) Never
     holds s w votes h =
         let p : ℕ = place e i in
-        let w1 : State = with_register ones 1 w in
         let more : ℕ = min (w.registers reg.HELD + 1) most in
-        let w2 : State = with_register reg.HELD more w1 in
-        let w3 : State = with_cell x.result p more w2 in
-        let w4 : State = with_register ones 1 w3 in
-        let w5 : State = with_register reg.ALL_LEFT (min (w.registers reg.ALL_LEFT + 1) most) w4 in
+        let w2 : State = with_register reg.HELD more (with_register ones 1 w) in
+        let w5 : State = with_register reg.ALL_LEFT (min (w.registers reg.ALL_LEFT + 1) most) (with_register ones 1 (with_cell x.result p more w2)) in
         let holds_more : more ≡ slice_index u j = omega (arith, h.held, next, few) in
         let on : OnItem i w5 = item_stays i w w5 refl refl refl h.on_item in
         let given : IsGiven s w5 = record {
@@ -160,14 +154,12 @@ module _ {c : CountingCode} {e : Election} {f : Form} {x : Slots} {name : List �
         quotients_again c e f (with_minima x slot) name g d v (no_minima v) can.ready.slots can.ready.weights (arena_of can) in
         let has : (held : ℕ) → Has arena.ladders j held = λ held. has_of d v (no_minima v) j held field in
         let low : slice_index (no_minima v) j ≤ slice_index t j = omega (arith, none_needed (length v) j) in
-        then_achieves {Q = λ y. y ≡ w5}
-        (line_goes (set_does c e w ones 1)
-        (line_goes (add_does c e w1 reg.HELD ones)
-        (line_goes (store_does c e w2 x.result (votes_of f) can.ready.slots.result reg.HELD p (entry.cell w2 (item_stays i w w2 refl refl refl h.on_item)))
-        (line_goes (set_does c e w3 ones 1) (line_goes (add_does c e w4 reg.ALL_LEFT ones) (line_ends refl))))))
-        (λ y is. achieves_from is
+        line_first refl (line_first refl
+        (line_first (store_does c e w2 x.result (votes_of f) can.ready.slots.result reg.HELD p (entry.cell w2 (item_stays i w w2 refl refl refl h.on_item)))
+        (goes_as
         (achieves_more (achieves_kept (again.enters t u j i w5 taken at (has (slice_index t j)) low next few on holds_more same_votes h.table))
-        (λ z r. (r.0, given_still s w5 z r.1 given)) (λ z r. r)))
+        (λ z r. (r.0, given_still s w5 z r.1 given)) (λ z r. r))
+        refl)))
 
     seat_is_given : (s : State) → OnItem i s → s.columns x.result (place e i) ≡ slice_index t j → s.columns slot (place e i) ≡ slice_index m j → HasCells e g.entries (s.columns x.votes) v
         → s.registers reg.TURNS ≡ missing v m t → s.registers reg.ALL_LEFT ≡ min (sum t) most → s.table ≡ Some (arenas.table_of arena taken.others)
@@ -175,10 +167,8 @@ module _ {c : CountingCode} {e : Election} {f : Form} {x : Slots} {name : List �
     seat_is_given s on cell minimum votes turns all_left table =
         let one : State = with_register reg.HELD (s.columns x.result (place e i)) s in
         let two : State = with_register reg.BASE (s.columns slot (place e i)) one in
-        then_achieves {Q = λ w. w ≡ one} (line_goes (get_does c e s x.result (votes_of f) can.ready.slots.result reg.HELD (place e i) (entry.cell s on)) (line_ends refl)) (λ w is. achieves_from is
-        (then_achieves {Q = λ y. y ≡ two}
-        (line_goes (get_does c e one slot (votes_of f) (can.ready.slots.minima slot refl) reg.BASE (place e i) (entry.cell one (item_stays i s one refl refl refl on))) (line_ends refl))
-        (λ y are. achieves_from are
+        line_first (get_does c e s x.result (votes_of f) can.ready.slots.result reg.HELD (place e i) (entry.cell s on)) (line_over
+        (line_first (get_does c e one slot (votes_of f) (can.ready.slots.minima slot refl) reg.BASE (place e i) (entry.cell one (item_stays i s one refl refl refl on))) (line_over
         (then_achieves {Q = IsCounted s} (counts s two (item_stays i s two refl refl refl on) cell minimum turns all_left refl table) (λ z h. holds s z votes h)))))
 
     -- what stands with t before the seat stands with u after it

@@ -42,7 +42,7 @@ use Rattle.sl_pieces.proofs.seats.Seating.{splits_award_seats}
 use Rattle.sl_pieces.proofs.seats.Refusing.{seats_are_refused}
 use Rattle.sl_pieces.proofs.seats.SeatingArenas.{scope_weighed}
 use Rattle.sl_pieces.specs.nodes.Trees.{split_scope}
-use Rattle.sl_pieces.specs.nodes.Scopes.{HoldsArguments, HasAward, EndsFaulty, stand, SplitScopesAchieve}
+use Rattle.sl_pieces.specs.nodes.Scopes.{HoldsArguments, HasAward, EndsFaulty, stand, DoesScopes}
 use Rattle.sl_pieces.proofs.nodes.Arguments.{minima_long, minima_taken, same_minima}
 use Rattle.sl_pieces.proofs.nodes.OneScopeBegins.{award_from, others_kept, arguments_begin, scope_begins}
 use Rattle.sl_pieces.proofs.nodes.OneScope.{IsScopeArena, room_of, scope_awards, scope_awarded}
@@ -189,7 +189,10 @@ module _ (c : CountingCode) (e : Election) (f : Form) (x : Slots) (name : List �
         (λ w. award_from e x IsAward records g s t w (others_kept e x g s t begun.unchanged))
         (λ y h. h))))
 
-pub split_scopes_achieve : SplitScopesAchieve
+pub split_scopes_achieve : (c : CountingCode) (e : Election) (f : Form) (x : Slots) (name : List ℕ) (amounts votes : List ℕ) (minima : Option (List ℕ)) (method : Method)
+    (majority : Majority) → IsElection e → HasSlots c f x name → FitsMethod method minima →
+    DoesScopes c e f x amounts votes minima (IsSplitIn e (stand f x name) amounts votes method majority minima)
+    (split_records e (stand f x name) amounts votes method majority minima) (split_scope f x method majority)
 unfolding IsAward records
 split_scopes_achieve c e f x name amounts votes minima method majority election slots fits = record {
   does = scope_achieves c e f x name amounts votes minima method majority election slots fits;

@@ -42,9 +42,6 @@ module _ {X : Type 0} where
         subst (λ (n : ℕ). slice_get all n ≡ Some x) same (h.at (length xs + i) x (get_right xs ys i ∙ is));
   }
 
-  pub stands_as : (all : List X) (j : ℕ) (xs ys : List X) → xs ≡ ys → Stands all j xs → Stands all j ys
-  stands_as all j xs ys same h = subst (λ (zs : List X). Stands all j zs) same h
-
   module _ (f : ℕ → List X) where
     pub stands_piece : (all : List X) (a n j k : ℕ) → k < n → Stands all j (flat_map f (range_with_len a n)) → Stands all (j + length (flat_map f (range_with_len a k))) (f (a + k))
     stands_piece all a zero j k less h = absurd (omega arith)

@@ -10,7 +10,7 @@ use Rattle.sl_stages.specs.meaning.Scopes.{Group, place}
 use Rattle.sl_code.specs.Codes.{CountingCode}
 use Rattle.sl_machine.specs.State.{State, with_register}
 use Rattle.sl_machine.specs.Effects.{most}
-use Rattle.sl_machine.proofs.effects.Registers.{set_does, add_does, get_does}
+use Rattle.sl_machine.proofs.effects.Registers.{set_does, get_does}
 use Rattle.sl_machine.proofs.effects.Storing.{register_same, register_other}
 use Rattle.sl_plans.specs.Achieves.{Achieves, Never}
 use Rattle.sl_plans.proofs.Rules.{achieves_more, line_ends, line_goes, then_achieves}
@@ -48,7 +48,7 @@ module _ (c : CountingCode) (e : Election) (f : Form) (g : Group) (total cell sl
       let next : first_sum (j + 1) ≡ first_sum j + column q = next_sum j i at in
       let sum : min (u.registers total + u.registers cell) most ≡ min (first_sum (j + 1)) most = omega (arith, read, got, kept, so_far, next) in
       line_goes (get_does c e s slot (votes_of f) known cell q ((entry j i at).cell s on))
-      (line_goes (add_does c e u total cell)
+      (line_goes refl
       (line_ends (record { column_is = h.column_is; total_is = register_same u total (min (u.registers total + u.registers cell) most) ∙ sum })))
 
   visits : Visits c e (add_cell total cell slot) g.entries OnItem Summed Never

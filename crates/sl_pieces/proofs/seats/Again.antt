@@ -14,7 +14,7 @@ use Rattle.sl_code.specs.Codes.{CountingCode}
 use Rattle.sl_machine.specs.State.{State, with_register}
 use Rattle.sl_machine.proofs.effects.Registers.{get_does}
 use Rattle.sl_plans.specs.Achieves.{Achieves, Never}
-use Rattle.sl_plans.proofs.Rules.{achieves_from, line_ends, line_goes, then_achieves, if_zero}
+use Rattle.sl_plans.proofs.Rules.{line_ends, line_goes, if_zero, line_first, line_over}
 use Rattle.sl_pieces.specs.scopes.Forms.{Form, votes_of, table_of, OnItem}
 use Rattle.sl_pieces.specs.scopes.Scopes.{IsEntry}
 use Rattle.sl_pieces.proofs.scopes.Staying.{item_stays}
@@ -47,9 +47,8 @@ module _ (c : CountingCode) (e : Election) (f : Form) (x : Slots) (name : List �
     enters_quotient : Achieves c e (enter_again x d) s (HasWaiting divided u) Never
     enters_quotient =
         let entry : IsEntry e (table_of f) (votes_of f) g.scope i = of.scope.entry j i at in
-        then_achieves {Q = λ after. after ≡ weighed} (line_goes (get_does c e s x.votes (votes_of f) slots.votes reg.WEIGHT (place e i) (entry.cell s on)) (line_ends refl))
-        (λ after is. achieves_from is
-        (if_zero (λ none. absurd (omega (arith, some_weight, votes, none))) (λ w some.
+        line_first (get_does c e s x.votes (votes_of f) slots.votes reg.WEIGHT (place e i) (entry.cell s on))
+        (line_over (if_zero (λ none. absurd (omega (arith, some_weight, votes, none))) (λ w some.
         line_goes
         (seat_enters c e f g of.scope d v m light j (slice_index u j) i weighed taken.others reg.HELD at (item_stays i s weighed refl refl refl on) votes some_weight held high table)
         (line_ends ((waiting_again divided j t u weighed taken table).entered has)))))

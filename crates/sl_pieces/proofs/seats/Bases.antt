@@ -15,12 +15,12 @@ use Rattle.sl_stages.proofs.methods.SeatSums.{none_needed, entry_le_sum}
 use Rattle.sl_code.specs.Codes.{CountingCode}
 use Rattle.sl_machine.specs.State.{State, with_register}
 use Rattle.sl_machine.specs.Effects.{most}
-use Rattle.sl_machine.proofs.effects.Registers.{set_does, mov_does, mul_does, div_does, rem_does, get_does}
+use Rattle.sl_machine.proofs.effects.Registers.{div_does, rem_does, get_does}
 use Rattle.sl_plans.specs.declared.plan.Cursor.TheVariants as cursor
 use Rattle.sl_plans.specs.Trees.{Tree}
 use Rattle.sl_plans.specs.Achieves.{Achieves, Never}
 use Rattle.sl_plans.specs.Frames.{may_write_register, may_write_slot, may_move, may_write_table, may_seat, may_record_step, may_record_weight}
-use Rattle.sl_plans.proofs.Rules.{achieves_more, achieves_from, line_ends, line_goes, then_achieves, if_zero}
+use Rattle.sl_plans.proofs.Rules.{achieves_more, line_ends, line_goes, if_zero, ends_in, line_first, line_over}
 use Rattle.sl_pieces.specs.scopes.Forms.{Form, table_of, votes_of, OnItem}
 use Rattle.sl_pieces.specs.scopes.Scopes.{IsEntry}
 use Rattle.sl_pieces.specs.declared.registers.TheConstants as reg
@@ -74,7 +74,7 @@ module _ (c : CountingCode) (e : Election) (x : Slots) (g : Group) (v m : List �
         → OnItem i s → HasMinima e g.entries v o s m → Achieves c e (minimum_base o) s (λ t. t.registers reg.BASE ≡ slice_index m j) Never
     minimum_at None known j i s at on minima =
         let none : 0 ≡ slice_index m j = sym (ap (λ (xs : List ℕ). slice_index xs j) minima ∙ none_needed (length v) j) in
-        line_goes (set_does c e s reg.BASE 0) (line_ends none)
+        ends_in refl none
     minimum_at (Some slot) known j i s at on minima =
         line_goes (get_does c e s slot (votes_of f) (known slot refl) reg.BASE (place e i) ((entry j i at).cell s on)) (line_ends (minima.at j i at))
 
@@ -94,7 +94,7 @@ module _ (c : CountingCode) (e : Election) (x : Slots) (g : Group) (v m : List �
           (λ none. achieves_more (minimum_at x.minima known j i s at here.on_item minima) (λ t h. (h ∙ sym (outside_at v m j long (sym here.weight ∙ none)), tt)) (λ y r. r))
           (λ w some.
           let field : InField v j = omega (arith, here.weight, some) in
-          line_goes (set_does c e s reg.BASE 0) (line_ends (sym (outside_in v m j field), tt))))
+          ends_in refl (sym (outside_in v m j field), tt)))
 
   -- ---- whole parts
 
@@ -106,14 +106,10 @@ module _ (c : CountingCode) (e : Election) (x : Slots) (g : Group) (v m : List �
       → Achieves c e whole_base s (λ t. (t.registers reg.BASE ≡ whole v seats j) × Remains j (t.registers reg.STEP)) Never
   whole_at j s amount total weight fits =
       let n : ℕ = min (s.registers reg.AMOUNT * s.registers reg.WEIGHT) most in
-      let t : State = with_register reg.BASE (s.registers reg.AMOUNT) s in
-      let u : State = with_register reg.BASE n t in
-      let w : State = with_register reg.STEP n u in
+      let w : State = with_register reg.STEP n (with_register reg.BASE n (with_register reg.BASE (s.registers reg.AMOUNT) s)) in
       let exact : n ≡ seats * slice_index v j = rw (amount, weight) (omega (arith, fits)) in
-      then_achieves {Q = λ y. y ≡ w}
-      (line_goes (mov_does c e s reg.BASE reg.AMOUNT) (line_goes (mul_does c e t reg.BASE reg.WEIGHT) (line_goes (mov_does c e u reg.STEP reg.BASE) (line_ends refl))))
-      (λ y is. achieves_from is
-      (if_zero {r = reg.TOTAL}
+      line_first refl (line_first refl (line_first refl
+      (line_over (if_zero {r = reg.TOTAL}
       (λ none.
       let low : slice_index v j ≤ sum v = entry_le_sum v j in
       let without : slice_index v j ≡ 0 = omega (arith, low, none, total) in
@@ -126,7 +122,7 @@ module _ (c : CountingCode) (e : Election) (x : Slots) (g : Group) (v m : List �
       (line_ends (
         ap (λ k. k / w.registers reg.TOTAL) exact ∙ ap (λ k. seats * slice_index v j / k) all,
         λ field. ap (λ k. k % w.registers reg.TOTAL) exact ∙ ap (λ k. seats * slice_index v j % k) all,
-      ))))))
+      ))))))))
     where
       no_whole : (n weight : ℕ) → n ≡ seats * weight → weight ≡ 0 → n ≡ seats * weight / sum v
       no_whole n weight is none =

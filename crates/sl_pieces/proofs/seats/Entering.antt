@@ -23,14 +23,13 @@ use Rattle.sl_code.specs.Numbers.{divisor_of, rounding_of}
 use Rattle.sl_machine.specs.State.{State, with_register}
 use Rattle.sl_machine.specs.Places.{item_of}
 use Rattle.sl_machine.specs.Effects.{Goes, most, stage_of, with_entry, with_weight}
-use Rattle.sl_machine.proofs.effects.Registers.{mov_does, add_does}
 use Rattle.sl_machine.proofs.effects.Records.{weigh_does}
 use Rattle.sl_machine.proofs.effects.Table.{rest_does, lead_does}
 use Rattle.sl_plans.specs.declared.plan.Cursor.TheVariants as cursor
 use Rattle.sl_plans.specs.Trees.{Tree, Line}
 use Rattle.sl_plans.specs.Achieves.{Achieves, Never}
 use Rattle.sl_plans.specs.Frames.{may_write_register, may_write_slot, may_move, may_seat, may_record_step}
-use Rattle.sl_plans.proofs.Rules.{achieves_more, achieves_from, line_ends, line_goes, then_achieves, if_less}
+use Rattle.sl_plans.proofs.Rules.{achieves_more, line_ends, line_goes, if_less, goes_as}
 use Rattle.sl_pieces.specs.scopes.Forms.{Form, table_of, kind_of, OnItem}
 use Rattle.sl_pieces.specs.scopes.Scopes.{IsScope}
 use Rattle.sl_pieces.proofs.scopes.Staying.{item_stays}
@@ -195,19 +194,13 @@ module _ (c : CountingCode) (e : Election) (f : Form) (g : Group) (scope : IsSco
   preferred_enters j held i s others at here part base within step table =
       let weight : ℕ = min (s.registers reg.WEIGHT + s.registers reg.WEIGHT) most in
       let seats_held : ℕ = min (s.registers reg.BASE + s.registers reg.BASE) most in
-      let t : State = with_register reg.FIRST_PASSING (s.registers reg.WEIGHT) s in
-      let u : State = with_register reg.FIRST_PASSING weight t in
-      let w : State = with_register reg.SECOND_PASSING (s.registers reg.BASE) u in
-      let last : State = with_register reg.SECOND_PASSING seats_held w in
+      let u : State = with_register reg.FIRST_PASSING weight (with_register reg.FIRST_PASSING (s.registers reg.WEIGHT) s) in
+      let last : State = with_register reg.SECOND_PASSING seats_held (with_register reg.SECOND_PASSING (s.registers reg.BASE) u) in
       let on : OnItem i last = item_stays i s last refl refl refl here.on_item in
       let low : slice_index v j ≤ MAX_WEIGHT = number_within MAX_WEIGHT v j weights in
       let twice_weight : weight ≡ 2 * slice_index v j = omega (arith, here.weight, low) in
       let twice_whole : seats_held ≡ 2 * whole v seats j = omega (arith, base, part, within, few) in
-      then_achieves {Q = λ y. y ≡ last}
-      (line_goes (mov_does c e s reg.FIRST_PASSING reg.WEIGHT)
-      (line_goes (add_does c e t reg.FIRST_PASSING reg.WEIGHT)
-      (line_goes (mov_does c e u reg.SECOND_PASSING reg.BASE) (line_goes (add_does c e w reg.SECOND_PASSING reg.BASE) (line_ends refl)))))
-      (λ y is. achieves_from is
+      goes_as {t = last}
       (if_less {r = reg.TOTAL} {q = reg.FIRST_PASSING}
       (λ over.
       let most_votes : sum v < weight = omega (arith, over, here.total) in
@@ -220,7 +213,8 @@ module _ (c : CountingCode) (e : Election) (f : Form) (g : Group) (scope : IsSco
       lead_enters true j held i last others at on table (leads j weight seats_held twice_weight twice_whole most_votes few_seats)))
       (λ under.
       let votes : weight ≤ sum v = omega (arith, under, here.total) in
-      rest_enters true j held i last others at on table step (light j weight twice_weight votes))))
+      rest_enters true j held i last others at on table step (light j weight twice_weight votes)))
+      refl
 
   pub remainders_enter : (x : Slots) (m : List ℕ) (prefer : Bool)
       → EntersNext c e g (hamilton_arena prefer v seats (table_of f) (map (place e) g.entries)) v seats (Remains c e x g v m seats) (λ j i. []) (if prefer then enter_preferred else enter_remainder)

@@ -15,7 +15,7 @@ use Rattle.sl_code.specs.declared.operand.Ranking.{Ranking}
 use Rattle.sl_code.specs.Codes.{CountingCode}
 use Rattle.sl_machine.specs.State.{State, with_register, with_cell}
 use Rattle.sl_machine.specs.Places.{index_at, item_of}
-use Rattle.sl_machine.proofs.effects.Registers.{get_does, store_does, sub_does, set_does, mov_does}
+use Rattle.sl_machine.proofs.effects.Registers.{get_does, store_does}
 use Rattle.sl_machine.proofs.effects.Storing.{cell_same, cell_other_place, cell_other_slot}
 use Rattle.sl_plans.specs.Trees.{Tree, Line}
 use Rattle.sl_plans.specs.Achieves.{Achieves, Never}
@@ -146,17 +146,13 @@ module _ {c : CountingCode} {e : Election} {f : Form} {x : Slots} {name : List �
       let p : ℕ = place e i in
       let b : ℕ = s.registers reg.BASE in
       let first : State = with_cell x.result p b s in
-      let second : State = with_register reg.LEFT (s.registers reg.LEFT - b) first in
-      let third : State = with_register reg.NUMBER 0 second in
-      let last : State = with_register reg.TURNS b third in
+      let last : State = with_register reg.TURNS b (with_register reg.NUMBER 0 (with_register reg.LEFT (s.registers reg.LEFT - b) first)) in
       let is : b ≡ slice_index a.ladders.base j = h.base_is in
       let so_far : s.registers reg.LEFT ≡ seats - sum (take j a.ladders.base) = h.filled.left in
       let sums = sum_so_far a.ladders.base j base_within in
       let next : sum (take (j + 1) a.ladders.base) ≡ sum (take j a.ladders.base) + slice_index a.ladders.base j = sums.0 in
       line_goes (store_does c e s x.result (votes_of f) given.slots.result reg.BASE p (entry.cell s h.at_entry.on_item))
-      (line_goes (sub_does c e first reg.LEFT reg.BASE)
-      (line_goes (set_does c e second reg.NUMBER 0)
-      (line_goes (mov_does c e third reg.TURNS reg.BASE)
+      (line_goes refl (line_goes refl (line_goes refl
       (line_ends (
         record {
           at_entry = at_entry_as s last h.at_entry (item_stays i s last refl refl refl h.at_entry.on_item) refl refl refl;

@@ -20,11 +20,9 @@ use Rattle.sl_code.specs.declared.operand.Ranking.{Ranking}
 use Rattle.sl_code.specs.Codes.{CountingCode}
 use Rattle.sl_machine.specs.State.{State, PriorityTable, with_register}
 use Rattle.sl_machine.specs.Effects.{with_table}
-use Rattle.sl_machine.proofs.effects.Registers.{mov_does}
-use Rattle.sl_machine.proofs.effects.Table.{table_does}
 use Rattle.sl_plans.specs.Trees.{Tree, Line}
 use Rattle.sl_plans.specs.Achieves.{Achieves, Never}
-use Rattle.sl_plans.proofs.Rules.{achieves_more, line_ends, line_goes, then_achieves}
+use Rattle.sl_plans.proofs.Rules.{achieves_more, then_achieves, ends_in}
 use Rattle.sl_pieces.specs.scopes.Forms.{Form, table_of, OnScope, OnItem}
 use Rattle.sl_pieces.specs.inner.scopes.Walks.{bare, Visits}
 use Rattle.sl_pieces.proofs.scopes.Forms.{each_entry}
@@ -79,13 +77,10 @@ module _ {c : CountingCode} {e : Election} {f : Form} {x : Slots} {name : List �
       → Achieves c e (Line (Table (table_of f) by ∷ (Mov reg.LEFT reg.AMOUNT ∷ []))) before (λ t. OnScope g.scope t × FirstFilled e x g a v seats told before 0 0 0 (bare t)) Never
   begins on amount total =
       let empty : PriorityTable = record { entries = table_of f; ranking = by; contents = [] } in
-      let first : State = with_table empty before in
-      let last : State = with_register reg.LEFT (before.registers reg.AMOUNT) first in
+      let last : State = with_register reg.LEFT (before.registers reg.AMOUNT) (with_table empty before) in
       let all : seats ≡ seats - sum [] = omega arith in
       let same : empty ≡ arenas.table_of a (first_waiting a 0) = ap₂ (λ k r. record { entries = k; ranking = r; contents = [] }) (sym given.arena.entries) (sym given.arena.ranking) in
-      line_goes (table_does c e before (table_of f) by)
-      (line_goes (mov_does c e first reg.LEFT reg.AMOUNT)
-      (line_ends (
+      ends_in refl (
         scope_stays g.scope before last refl refl on,
         record {
           amount = amount;
@@ -99,7 +94,7 @@ module _ {c : CountingCode} {e : Election} {f : Form} {x : Slots} {name : List �
           steps = sym (append-nil before.steps);
           weights = sym (append-nil before.weights);
         },
-      )))
+      )
 
   ends : (s : State) → OnScope g.scope s → FirstFilled e x g a v seats told before (length g.entries) (length g.entries) (length g.entries) (bare s)
       → IsFilled e x g a v seats (flat_map (λ y. told_of told v y.0 y.1) (enumerate_from 0 g.entries)) before s

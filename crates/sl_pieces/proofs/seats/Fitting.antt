@@ -1,6 +1,6 @@
 -- The weights of a scope's entries sum to a number that a register holds.
 use Rattle.std.proofs.Common.{◌≡◌, ℕ, zero, suc, ◌+◌, ◌*◌, ◌<◌, ◌≤◌, List, length, map, refl, sym, subst, inl, inr, arith, mul-le-mul_right}
-use Rattle.std.specs.Prelude.{sum, slice_index}
+use Rattle.std.specs.Prelude.{sum, slice_index, All, Some, slice_get}
 use Rattle.std.specs.List.Sorted.{IsStrictlyIncreasing}
 use Rattle.std.proofs.lemmas.List.{length-map}
 use Rattle.std.proofs.lemmas.List.Sums.{sum_by-le}
@@ -10,11 +10,11 @@ use Rattle.sl_stages.specs.returns.Election.{Election, IsElection, lands_of, par
 use Rattle.sl_stages.specs.meaning.Scopes.{Group, place}
 use Rattle.sl_machine.specs.Places.{cells_of}
 use Rattle.sl_machine.specs.Effects.{most}
-use Rattle.sl_pieces.specs.scopes.Forms.{Form, AllParties, AllLands, AllLists, ListsOfParty, ListsInLand, votes_of}
+use Rattle.sl_pieces.specs.scopes.Forms.{Form, AllParties, AllLands, AllLists, ListsOfParty, ListsInLand, votes_of, groups_of}
 use Rattle.sl_pieces.specs.scopes.Scopes.{IsScope}
 use Rattle.sl_pieces.proofs.scopes.Scopes.{scopes_hold}
-use Rattle.sl_pieces.specs.inner.seats.Summing.{WeightsFit}
 use Rattle.sl_pieces.proofs.seats.Lists.{mapped_at}
+use Rattle.sl_pieces.specs.seats.Slots.{HasCells}
 
 -- ---- numbers that rise
 
@@ -78,7 +78,9 @@ few_cells e f is = of f
     of ListsOfParty = lists
     of ListsInLand = lists
 
-pub weights_fit : WeightsFit
+-- weights of a scope's entries sum to a number that a register holds
+pub weights_fit : (e : Election) (f : Form) (m : ℕ) (g : Group) (column : ℕ → ℕ) (v : List ℕ) → IsElection e → slice_get (groups_of e f) m ≡ Some g →
+    HasCells e g.entries column v → All (λ weight. weight ≤ MAX_WEIGHT) v → sum v ≤ most
 weights_fit e f m g column v is at cells small =
     let entries : length g.entries ≤ cells_of e (votes_of f) = few_entries e f g (scopes_hold e f m g at) in
     let all : cells_of e (votes_of f) ≤ MAX_LANDS * MAX_PARTIES = few_cells e f is in

@@ -13,7 +13,6 @@ use Rattle.sl_code.specs.Codes.{CountingCode}
 use Rattle.sl_machine.specs.State.{State, PriorityTable, with_register}
 use Rattle.sl_machine.specs.Places.{scope_at, index_at, item_of}
 use Rattle.sl_machine.specs.Effects.{most, stage_of, with_step}
-use Rattle.sl_machine.proofs.effects.Registers.{set_does, add_does}
 use Rattle.sl_machine.proofs.effects.Records.{given_does}
 use Rattle.sl_plans.specs.declared.plan.Bound.TheVariants as bound
 use Rattle.sl_plans.specs.Trees.{Tree, Line, Times, ones}
@@ -62,18 +61,15 @@ module _ (c : CountingCode) (e : Election) (stage : ℕ) (k : ScopeKind) (on : S
   one_recorded : (steps : List SeatStep) (n w : ℕ) (s : State) → n ≤ most_seats → Recorded steps n (suc w) s
       → Achieves c e (records_one stage k) (with_register reg.TURNS w (with_register ones 1 s)) (Recorded steps n w) Never
   one_recorded steps n w s few h =
-      let first : State = with_register reg.TURNS w (with_register ones 1 s) in
-      let second : State = with_register ones 1 first in
       let x : ℕ = min (s.registers reg.NUMBER + 1) most in
-      let third : State = with_register reg.NUMBER x second in
+      let third : State = with_register reg.NUMBER x (with_register ones 1 (with_register reg.TURNS w (with_register ones 1 s))) in
       let here : OnItem i third = item_stays i s third refl refl refl h.on_item in
       let last : State = with_step (record { stage = stage; scope = on; entry = item_of e t.entries p; n = x; step = 0; mark = mark.Given }) third in
       let within : suc w ≤ n = h.within in
       let number : s.registers reg.NUMBER ≡ n - suc w = h.number in
       let next : n - suc w + 1 ≡ n - w = omega (arith, within) in
       let is : x ≡ n - suc w + 1 = omega (arith, number, within, few) in
-      line_goes (set_does c e first ones 1)
-      (line_goes (add_does c e second reg.NUMBER ones)
+      line_goes refl (line_goes refl
       (line_goes (given_does c e third stage k stage on numbered (scope third here) t p h.table (index third here) reg.NUMBER)
       (line_ends (record {
         within = omega (arith, within);

@@ -20,13 +20,16 @@ use Rattle.sl_code.specs.declared.operand.EndFault.TheVariants as end
 use Rattle.sl_code.specs.Codes.{CountingCode}
 use Rattle.sl_machine.specs.State.{State, End, with_register}
 use Rattle.sl_machine.specs.Effects.{most}
-use Rattle.sl_machine.proofs.effects.Registers.{add_does, get_does}
+use Rattle.sl_machine.proofs.effects.Registers.{get_does}
 use Rattle.sl_plans.specs.declared.plan.Test.TheVariants as test
 use Rattle.sl_plans.specs.Trees.{Tree, Line, Then, If}
 use Rattle.sl_plans.specs.Achieves.{Achieves}
-use Rattle.sl_plans.proofs.Rules.{achieves_more, achieves_from, line_ends, line_goes, then_achieves, if_zero, if_less}
+use Rattle.sl_plans.proofs.Rules.{achieves_more, line_ends, if_zero, if_less, line_first, line_over}
 use Rattle.sl_plans.proofs.KeepingRules.{achieves_kept}
-use Rattle.sl_pieces.specs.scopes.Forms.{Form, entries_plan, OnScope, OnItem}
+use Rattle.sl_stages.specs.declared.table.Weight.{Weight}
+use Rattle.sl_pieces.specs.inner.seats.Seated.{IsSeated}
+use Rattle.sl_pieces.specs.arenas.Arenas.{Arena}
+use Rattle.sl_pieces.specs.scopes.Forms.{Form, entries_plan, OnScope, OnItem, groups_of}
 use Rattle.sl_pieces.specs.inner.scopes.Walks.{bare, Visits}
 use Rattle.sl_pieces.specs.scopes.Scopes.{IsScope}
 use Rattle.sl_pieces.proofs.scopes.Forms.{each_entry}
@@ -34,8 +37,8 @@ use Rattle.sl_pieces.proofs.scopes.Scopes.{scopes_hold}
 use Rattle.sl_pieces.proofs.scopes.Staying.{scope_stays, item_stays, entries_visited}
 use Rattle.sl_pieces.specs.declared.registers.TheConstants as reg
 use Rattle.sl_pieces.specs.seats.Slots.{Slots, HasSlots, HasCells}
-use Rattle.sl_pieces.specs.seats.Trees.{faulty, nothing, refuse_entry}
-use Rattle.sl_pieces.specs.inner.seats.Summing.{StandsBy, EndsDeprived, MajorityIsKept}
+use Rattle.sl_pieces.specs.seats.Trees.{faulty, nothing, refuse_entry, refuse}
+use Rattle.sl_pieces.specs.inner.seats.Summing.{StandsBy, EndsDeprived}
 use Rattle.sl_pieces.proofs.seats.Unchanged.{LeavesAll, entries_leave, unchanged, seated_unchanged}
 use Rattle.sl_pieces.proofs.seats.Refusing.{faulty_ends}
 
@@ -124,8 +127,7 @@ module _ (c : CountingCode) (e : Election) (f : Form) (x : Slots) (name : List �
   one_major j i t at on h major =
       let q : ℕ = place e i in
       let k : ℕ = t.columns x.result q in
-      let u : State = with_register reg.HELD k t in
-      let w : State = with_register reg.HELD (min (k + k) most) u in
+      let w : State = with_register reg.HELD (min (k + k) most) (with_register reg.HELD k t) in
       let long : length v ≡ length g.entries = weights.one_each in
       let less : j < length v = omega (arith, long, slice_get_within g.entries j i at) in
       let held : k ≡ slice_index s j = ap (λ (r : ℕ → ℕ → ℕ). r x.result q) h.columns ∙ seated.at j i at in
@@ -133,10 +135,8 @@ module _ (c : CountingCode) (e : Election) (f : Form) (x : Slots) (name : List �
       let amount : t.registers reg.AMOUNT ≡ seats = h.amount in
       let big : 2 * MAX_SEATS < most = omega arith in
       let more : nat_lt (sum v) (2 * slice_index v j) ≡ true = lt-ltb (sum v) (2 * slice_index v j) major in
-      then_achieves {Q = λ y. y ≡ w}
-      (line_goes (get_does c e t x.result _ slots.result reg.HELD q ((scope.entry j i at).cell t on)) (line_goes (add_does c e u reg.HELD reg.HELD) (line_ends refl)))
-      (λ y same. achieves_from same
-      (if_less
+      line_first (get_does c e t x.result _ slots.result reg.HELD q ((scope.entry j i at).cell t on))
+      (line_first refl (line_over (if_less
       (λ enough. line_ends (record {
         columns = h.columns;
         amount = h.amount;
@@ -149,25 +149,22 @@ module _ (c : CountingCode) (e : Election) (f : Form) (x : Slots) (name : List �
         refused = refused_deprived m v seats s is some (one_deprived v seats s lengths j less
             (and_from (nat_lt (sum v) (2 * slice_index v j)) (nat_le (2 * slice_index s j) seats) more (le-leb (2 * slice_index s j) seats (omega (arith, short, amount, held, big, few, part, all)))));
         is = refl;
-      }))))
+      })))))
 
   one_entry : (j : ℕ) (i : Item) (t : State) → slice_get g.entries j ≡ Some i → OnItem i t → Allowed j (bare t)
       → Achieves c e (refuse_entry f x) t (λ u. Allowed (j + 1) (bare u)) (EndsDeprived x g v seats m s)
   one_entry j i t at on h =
       let q : ℕ = place e i in
       let n : ℕ = t.columns x.votes q in
-      let u : State = with_register reg.WEIGHT n t in
-      let w : State = with_register reg.WEIGHT (min (n + n) most) u in
+      let w : State = with_register reg.WEIGHT (min (n + n) most) (with_register reg.WEIGHT n t) in
       let long : length v ≡ length g.entries = weights.one_each in
       let less : j < length v = omega (arith, long, slice_get_within g.entries j i at) in
       let weight : n ≡ slice_index v j = ap (λ (r : ℕ → ℕ → ℕ). r x.votes q) h.columns ∙ weights.at j i at in
       let light : slice_index v j ≤ MAX_WEIGHT = All-get_or (λ y. y ≤ MAX_WEIGHT) v j 0 less small in
       let total : t.registers reg.TOTAL ≡ sum v = h.total in
       let big : 2 * MAX_WEIGHT ≤ most = omega arith in
-      then_achieves {Q = λ y. y ≡ w}
-      (line_goes (get_does c e t x.votes _ slots.votes reg.WEIGHT q ((scope.entry j i at).cell t on)) (line_goes (add_does c e u reg.WEIGHT reg.WEIGHT) (line_ends refl)))
-      (λ y same. achieves_from same
-      (if_less
+      line_first (get_does c e t x.votes _ slots.votes reg.WEIGHT q ((scope.entry j i at).cell t on))
+      (line_first refl (line_over (if_less
       (λ major. one_major j i w at (item_stays i t w refl refl refl on) (record { columns = h.columns; amount = h.amount; total = h.total; none = h.none })
       (omega (arith, major, total, weight, light, big)))
       (λ minor. line_ends (record {
@@ -176,7 +173,7 @@ module _ (c : CountingCode) (e : Election) (f : Form) (x : Slots) (name : List �
         total = h.total;
         none = next_allowed v seats s lengths j less h.none
             (and_left (nat_lt (sum v) (2 * slice_index v j)) (nat_le (2 * slice_index s j) seats) (le-ltb (sum v) (2 * slice_index v j) (omega (arith, minor, total, weight, light, big))));
-      }))))
+      })))))
 
   visits : Visits c e (refuse_entry f x) g.entries OnItem Allowed (EndsDeprived x g v seats m s)
   visits = entries_visited (record { party = refl; land = refl; win = refl }) one_entry
@@ -184,7 +181,11 @@ module _ (c : CountingCode) (e : Election) (f : Form) (x : Slots) (name : List �
 refuse_leaves : (f : Form) (x : Slots) → LeavesAll (entries_plan f (refuse_entry f x))
 refuse_leaves f x = entries_leave f (refuse_entry f x) (record { columns = λ slot. refl; steps = refl; weights = refl; placed = refl })
 
-pub majority_is_kept : MajorityIsKept
+pub majority_is_kept : (c : CountingCode) (e : Election) (f : Form) (x : Slots) (name : List ℕ) (k : ℕ) (g : Group) (a : Arena) (v : List ℕ) (seats : ℕ) (told : List Weight)
+    (majority : Majority) (before : State) (s : List ℕ) (state : State) → slice_get (groups_of e f) k ≡ Some g → HasSlots c f x name →
+    HasCells e g.entries (before.columns x.votes) v → All (λ weight. weight ≤ MAX_WEIGHT) v → sum s ≡ seats → seats ≤ MAX_SEATS →
+    IsSeated e x g a v seats told before s state →
+    Achieves c e (refuse f x majority) state (StandsBy e x g a v seats told majority before s) (EndsDeprived x g v seats majority s)
 majority_is_kept c e f x name k g a v seats told majority before s state at slots cells small all few h =
     elim (cases_Bool (is_refuse majority)) [
       | inl is ↦

@@ -1,6 +1,6 @@
 -- Plans that end with a fault of their scope: where a number is too high, and where seats are refused before any is given out.
 use Rattle.std.proofs.Common.{◌≡◌, ◌≢◌, ℕ, suc, ◌<◌, ◌≤◌, ◌&&◌, List, Some, None, if◌then◌else◌, refl, subst, ◌∙◌, arith}
-use Rattle.std.specs.Prelude.{sum, nat_eq, nat_lt}
+use Rattle.std.specs.Prelude.{sum, nat_eq, nat_lt, min, slice_get}
 use Rattle.std.proofs.lemmas.Bool.{cond-true, cond-false, lt-ltb, le-ltb, eq-eqb, ne_eqb, and_from, and_left, and_right}
 use Rattle.sl_ratio.specs.declared.limits.TheConstants.{MAX_SEATS}
 use Rattle.sl_stages.specs.declared.fault.FaultKind.TheVariants as fault
@@ -15,20 +15,19 @@ use Rattle.sl_machine.specs.State.{State, End, Faulted, with_register}
 use Rattle.sl_machine.specs.Effects as effects
 use Rattle.sl_machine.specs.Effects.{most}
 use Rattle.sl_machine.proofs.effects.Records.{fault_ends}
-use Rattle.sl_machine.proofs.effects.Registers.{set_does}
 use Rattle.sl_machine.proofs.effects.Storing.{register_same, register_other}
 use Rattle.sl_plans.specs.declared.plan.Test.TheVariants as test
 use Rattle.sl_plans.specs.Trees.{Tree, If}
 use Rattle.sl_plans.specs.Achieves.{Achieves}
-use Rattle.sl_plans.proofs.Rules.{achieves_from, line_ends, line_goes, stop_achieves, then_achieves, if_zero, if_less}
-use Rattle.sl_pieces.specs.scopes.Forms.{Form, kind_of, OnScope}
+use Rattle.sl_plans.proofs.Rules.{line_ends, stop_achieves, then_achieves, if_zero, if_less, line_first, line_over}
+use Rattle.sl_pieces.specs.scopes.Forms.{Form, kind_of, OnScope, groups_of}
 use Rattle.sl_pieces.specs.scopes.Scopes.{IsScope}
 use Rattle.sl_pieces.proofs.scopes.Scopes.{scopes_hold}
 use Rattle.sl_pieces.proofs.scopes.Staying.{scope_stays}
 use Rattle.sl_pieces.specs.declared.registers.TheConstants as reg
 use Rattle.sl_pieces.specs.seats.Slots.{Slots, HasSlots}
-use Rattle.sl_pieces.specs.seats.Trees.{faulty, not_over, nothing}
-use Rattle.sl_pieces.specs.inner.seats.Summing.{GoesOn, EndsRefused, SeatsAreRefused}
+use Rattle.sl_pieces.specs.seats.Trees.{faulty, not_over, nothing, refuses_seats}
+use Rattle.sl_pieces.specs.inner.seats.Summing.{GoesOn, EndsRefused}
 
 -- ---- faults
 
@@ -46,9 +45,8 @@ module _ {c : CountingCode} {e : Election} {f : Form} {x : Slots} {name : List �
       let t : State = with_register reg.FIRST_PASSING n s in
       let same : t.registers r ≡ s.registers r = register_other s reg.FIRST_PASSING n r other in
       let limit : t.registers reg.FIRST_PASSING ≡ n = register_same s reg.FIRST_PASSING n in
-      then_achieves {Q = λ u. u ≡ t} (line_goes (set_does c e s reg.FIRST_PASSING n) (line_ends refl))
-      (λ u is. achieves_from is
-      (if_less
+      line_first refl
+      (line_over (if_less
       (λ more. faulty_ends t why (scope_stays g.scope s t refl refl on) (over (omega (arith, more, same, limit))))
       (λ few. line_ends (within (omega (arith, few, same, limit))))))
 
@@ -75,7 +73,10 @@ module _ (v m : List ℕ) (seats : ℕ) where
 
 -- ---- the plan
 
-pub seats_are_refused : SeatsAreRefused
+pub seats_are_refused : (c : CountingCode) (e : Election) (f : Form) (x : Slots) (name : List ℕ) (k : ℕ) (g : Group) (v m : List ℕ) (seats : ℕ) (state : State) →
+    slice_get (groups_of e f) k ≡ Some g → HasSlots c f x name → OnScope g.scope state → seats ≤ MAX_SEATS → state.registers reg.AMOUNT ≡ seats →
+    state.registers reg.TOTAL ≡ sum v → state.registers reg.NEEDED ≡ min (sum m) most →
+    Achieves c e (refuses_seats f x) state (GoesOn g v m seats state) (EndsRefused x g v m seats)
 seats_are_refused c e f x name k g v m seats state at slots on small amount total needed =
     let big : MAX_SEATS < most = omega arith in
     let Q : State → Type 0 = GoesOn g v m seats state in

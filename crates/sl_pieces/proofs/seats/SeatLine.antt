@@ -14,7 +14,7 @@ use Rattle.sl_code.specs.Codes.{CountingCode}
 use Rattle.sl_machine.specs.State.{State, PriorityTable, with_register, with_cell}
 use Rattle.sl_machine.specs.Places.{index_at, item_of, at_entry}
 use Rattle.sl_machine.specs.Effects.{most, with_step}
-use Rattle.sl_machine.proofs.effects.Registers.{set_does, add_does, get_does, store_does}
+use Rattle.sl_machine.proofs.effects.Registers.{get_does, store_does}
 use Rattle.sl_machine.proofs.effects.Records.{emit_does}
 use Rattle.sl_machine.proofs.effects.Storing.{cell_same, cell_other_place, cell_other_slot}
 use Rattle.sl_plans.specs.Trees.{Line, ones}
@@ -135,7 +135,6 @@ module _ (c : CountingCode) (e : Election) (f : Form) (x : Slots) (name : List â
           (IsGiven x p n i (awarded_step x.stage g.scope i n (s.registers reg.STEP) s.mark) s) Never
       seat_is_given =
           line_goes (get_does c e s x.result (votes_of f) slots.result reg.HELD p (entry.cell s on))
-          (line_goes (set_does c e read ones 1)
-          (line_goes (add_does c e (with_register ones 1 read) reg.HELD ones)
+          (line_goes refl (line_goes refl
           (line_goes (store_does c e counted x.result (votes_of f) slots.result reg.HELD p (entry.cell counted (on_same counted refl refl refl)))
           (emits t kind stored (on_same stored refl refl refl) table next given_here))))

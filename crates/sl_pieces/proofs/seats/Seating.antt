@@ -17,13 +17,16 @@ use Rattle.sl_pieces.specs.arenas.Laws.{DivisorArena}
 use Rattle.sl_pieces.proofs.arenas.MethodArenas.{divisor_arenas, hamilton_arenas}
 use Rattle.sl_pieces.specs.seats.Slots.{Slots}
 use Rattle.sl_pieces.specs.seats.Trees.{nothing, enter_again}
-use Rattle.sl_pieces.specs.inner.seats.Filling.{IsReady, grown_arena}
-use Rattle.sl_pieces.specs.inner.seats.Seating.{SplitsAwardSeats, GrowthsAwardSeats}
+use Rattle.sl_pieces.specs.inner.seats.Filling.{IsReady, grown_arena, split_arena}
+use Rattle.sl_pieces.specs.inner.seats.Seating.{AwardsSeats}
 use Rattle.sl_pieces.proofs.seats.SeatingArenas.{OfScope, scope_weighed}
 use Rattle.sl_pieces.proofs.seats.Minima.{minima_long}
 use Rattle.sl_pieces.proofs.seats.Seat.{seats_are_given, seats_fit}
 use Rattle.sl_pieces.proofs.seats.Again.{quotients_again, remainders_again}
 use Rattle.sl_pieces.proofs.seats.Tying.{ties_end}
+use Rattle.sl_stages.specs.declared.book.Majority.{Majority}
+use Rattle.sl_ratio.specs.declared.method.Method.{Method}
+use Rattle.sl_stages.specs.declared.table.Weight.{Weight}
 
 module _ (c : CountingCode) (e : Election) (f : Form) (x : Slots) (name : List ℕ) (k : ℕ) (g : Group) (v m : List ℕ) (seats : ℕ) (before : State)
     (ready : IsReady c e f x name k g v m seats before) where
@@ -53,7 +56,10 @@ module _ (c : CountingCode) (e : Election) (f : Form) (x : Slots) (name : List �
     scope = scope;
   }
 
-pub splits_award_seats : SplitsAwardSeats
+-- in a split
+pub splits_award_seats : (c : CountingCode) (e : Election) (f : Form) (x : Slots) (name : List ℕ) (k : ℕ) (g : Group) (method : Method) (majority : Majority) (v m : List ℕ)
+    (seats : ℕ) (told : List Weight) (meant : List ℕ) (before : State) → IsReady c e f x name k g v m seats before →
+    AwardsSeats c e f x g (split_arena e f g method majority v m seats) v seats told meant before method
 splits_award_seats c e f x name k g (by.Divisor d) majority v m seats told meant before ready =
     let a = divisor_arena d v m (table_of f) (map (place e) g.entries) in
     let of : OfScope e f g a = divisor_of_scope c e f x name k g v m seats before ready d in
@@ -73,7 +79,10 @@ splits_award_seats c e f x name k g by.Hamilton majority v m seats told meant be
       ends = ties_end c e f x name g a v seats told meant before ready.slots of ready.few;
     }
 
-pub growths_award_seats : GrowthsAwardSeats
+-- and in a growth
+pub growths_award_seats : (c : CountingCode) (e : Election) (f : Form) (x : Slots) (name : List ℕ) (k : ℕ) (g : Group) (d : Divisor) (v m : List ℕ)
+    (seats : ℕ) (told : List Weight) (meant : List ℕ) (before : State) → IsReady c e f x name k g v m seats before →
+    AwardsSeats c e f x g (grown_arena e f g d v m) v seats told meant before (by.Divisor d)
 growths_award_seats c e f x name k g d v m seats told meant before ready =
     let a = grown_arena e f g d v m in
     let of : OfScope e f g a = grown_of_scope c e f x name k g v m seats before ready d in

@@ -9,7 +9,7 @@ use Rattle.sl_ratio.specs.declared.method.Divisor.{Divisor}
 use Rattle.sl_ratio.specs.declared.method.Method.TheVariants as by
 use Rattle.sl_stages.specs.declared.fault.Item.{Item}
 use Rattle.sl_stages.specs.declared.table.Weight.{Weight}
-use Rattle.sl_stages.specs.returns.Election.{Election}
+use Rattle.sl_stages.specs.returns.Election.{Election, IsElection}
 use Rattle.sl_stages.specs.book.Typing.{is_prefer}
 use Rattle.sl_stages.specs.methods.Hamilton.{whole, whole_parts}
 use Rattle.sl_stages.specs.methods.LeastHouse.{outside_minima}
@@ -22,13 +22,15 @@ use Rattle.sl_code.specs.Codes.{CountingCode}
 use Rattle.sl_machine.specs.State.{State}
 use Rattle.sl_plans.specs.Trees.{Tree}
 use Rattle.sl_plans.specs.Achieves.{Achieves, Never}
+use Rattle.sl_ratio.specs.declared.method.Method.{Method}
+use Rattle.sl_stages.specs.declared.book.Majority.{Majority}
 use Rattle.sl_pieces.specs.scopes.Forms.{Form, table_of}
 use Rattle.sl_pieces.specs.scopes.Scopes.{IsScope}
 use Rattle.sl_pieces.proofs.scopes.Scopes.{scopes_hold}
 use Rattle.sl_pieces.specs.arenas.Arenas.{Arena, divisor_arena, hamilton_arena}
 use Rattle.sl_pieces.specs.seats.Slots.{Slots}
-use Rattle.sl_pieces.specs.seats.Trees.{fill, minimum_base, outside_base, whole_base, enter_quotient, enter_remainder, enter_preferred}
-use Rattle.sl_pieces.specs.inner.seats.Filling.{IsOfScope, FindsBase, IsFilled, IsReady, SplitsAreFilled, GrowthsAreFilled, told_of, split_weights}
+use Rattle.sl_pieces.specs.seats.Trees.{fill, minimum_base, outside_base, whole_base, enter_quotient, enter_remainder, enter_preferred, base_of, enter_of, ranking_of}
+use Rattle.sl_pieces.specs.inner.seats.Filling.{IsOfScope, FindsBase, IsFilled, IsReady, told_of, split_weights, split_arena, grown_arena}
 use Rattle.sl_pieces.proofs.seats.Minima.{minima_long}
 use Rattle.sl_pieces.proofs.seats.Filling.{fills_achieve}
 use Rattle.sl_pieces.proofs.seats.Bases.{minimum_finds, outside_finds, whole_finds, Remains}
@@ -112,9 +114,17 @@ module _ (c : CountingCode) (e : Election) (f : Form) (x : Slots) (name : List �
       (quotients_fill d (outside_minima v m) (outside_base x.minima) (length-outside v m minima_each ∙ ready.votes.one_each)
       (outside_finds c e x g v m seats f scope.entry ready.slots.minima minima_each) within)
 
-pub splits_are_filled : SplitsAreFilled
+-- the scope of a split is filled: with minima by a divisor method; by Hamilton's there are none
+pub splits_are_filled : (c : CountingCode) (e : Election) (f : Form) (x : Slots) (name : List ℕ) (k : ℕ) (g : Group) (method : Method) (majority : Majority) (v m : List ℕ)
+    (seats : ℕ) (state : State) → IsElection e → IsReady c e f x name k g v m seats state → sum (split_arena e f g method majority v m seats).ladders.base ≤ seats →
+    Achieves c e (fill f x (ranking_of method) (base_of method x) (enter_of f x method majority)) state
+    (IsFilled e x g (split_arena e f g method majority v m seats) v seats (split_weights x g method v) state) Never
 splits_are_filled c e f x name k g (by.Divisor d) majority v m seats state is ready within = minima_fill c e f x name k g v m seats state ready d within
 splits_are_filled c e f x name k g by.Hamilton majority v m seats state is ready within = remainders_fill c e f x name k g v m seats state ready (is_prefer majority) within
 
-pub growths_are_filled : GrowthsAreFilled
+-- so is that of the house that a growth found: only entries without weight have their minimum before
+pub growths_are_filled : (c : CountingCode) (e : Election) (f : Form) (x : Slots) (name : List ℕ) (slot k : ℕ) (g : Group) (d : Divisor) (v m : List ℕ) (seats : ℕ) (state : State) →
+    IsElection e → IsReady c e f x name k g v m seats state → x.minima ≡ Some slot → sum (outside_minima v m) ≤ seats →
+    Achieves c e (fill f x (ranking_of (by.Divisor d)) (outside_base x.minima) (enter_quotient f x d)) state
+    (IsFilled e x g (grown_arena e f g d v m) v seats [] state) Never
 growths_are_filled c e f x name slot k g d v m seats state is ready there within = outside_fill c e f x name k g v m seats state ready d slot there within

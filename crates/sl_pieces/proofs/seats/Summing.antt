@@ -12,22 +12,22 @@ use Rattle.sl_code.specs.declared.instr.Instr.TheVariants as op
 use Rattle.sl_code.specs.Codes.{CountingCode}
 use Rattle.sl_machine.specs.State.{State, with_register}
 use Rattle.sl_machine.specs.Effects.{most}
-use Rattle.sl_machine.proofs.effects.Registers.{set_does, add_does, get_does}
+use Rattle.sl_machine.proofs.effects.Registers.{get_does}
 use Rattle.sl_plans.specs.Trees.{Tree, Line}
 use Rattle.sl_plans.specs.Achieves.{Achieves, Never}
 use Rattle.sl_plans.specs.Frames.{may_write_register}
-use Rattle.sl_plans.proofs.Rules.{achieves_more, line_ends, line_goes, then_achieves}
+use Rattle.sl_plans.proofs.Rules.{achieves_more, line_ends, line_goes, then_achieves, ends_in}
 use Rattle.sl_plans.proofs.KeepingRules.{achieves_kept}
-use Rattle.sl_pieces.specs.scopes.Forms.{Form, votes_of, table_of, entries_plan, OnScope, OnItem}
+use Rattle.sl_pieces.specs.scopes.Forms.{Form, votes_of, table_of, entries_plan, OnScope, OnItem, groups_of}
 use Rattle.sl_pieces.specs.inner.scopes.Walks.{bare, Visits}
 use Rattle.sl_pieces.specs.scopes.Scopes.{IsEntry}
 use Rattle.sl_pieces.proofs.scopes.Forms.{each_entry}
 use Rattle.sl_pieces.proofs.scopes.Scopes.{scopes_hold}
 use Rattle.sl_pieces.proofs.scopes.Staying.{scope_stays, item_stays, entries_visited}
 use Rattle.sl_pieces.specs.declared.registers.TheConstants as reg
-use Rattle.sl_pieces.specs.seats.Slots.{Slots, HasCells, HasMinima}
+use Rattle.sl_pieces.specs.seats.Slots.{Slots, HasCells, HasMinima, HasSlots}
 use Rattle.sl_pieces.specs.seats.Trees.{add_minimum, sums}
-use Rattle.sl_pieces.specs.inner.seats.Summing.{SumsAchieve}
+use Rattle.sl_pieces.specs.inner.seats.Summing.{AreSummed}
 use Rattle.sl_pieces.proofs.seats.Lists.{sum_of_all, sum_so_far}
 use Rattle.sl_pieces.proofs.seats.Minima.{minima_long}
 use Rattle.sl_pieces.proofs.seats.Unchanged.{LeavesAll, entries_leave, register_free, unchanged}
@@ -92,8 +92,7 @@ module _ (c : CountingCode) (e : Election) (f : Form) (g : Group) (votes : ℕ) 
       let long : length m ≡ length g.entries = minima.one_each in
       let less : j < length m = omega (arith, long, slice_get_within g.entries j i at) in
       line_goes (get_does c e u slot (votes_of f) (there slot refl) reg.BASE q ((entry j i at).cell u on))
-      (line_goes (add_does c e (with_register reg.BASE x u) reg.NEEDED reg.BASE)
-      (line_ends (record { columns = columns; total = total; needed = next_held m j (u.registers reg.NEEDED) x less needed read })))
+      (ends_in refl (record { columns = columns; total = total; needed = next_held m j (u.registers reg.NEEDED) x less needed read }))
 
   one_entry : (o : Option ℕ) → ((slot : ℕ) → o ≡ Some slot → slice_get c.slots slot ≡ Some (votes_of f)) → HasMinima e g.entries v o before m
       → (j : ℕ) (i : Item) (s : State) → slice_get g.entries j ≡ Some i → OnItem i s → Summed j (bare s) → Achieves c e (body_of votes o) s (λ t. Summed (j + 1) (bare t)) Never
@@ -106,7 +105,7 @@ module _ (c : CountingCode) (e : Election) (f : Form) (g : Group) (votes : ℕ) 
       let long : length v ≡ length g.entries = weights.one_each in
       let less : j < length v = omega (arith, long, slice_get_within g.entries j i at) in
       line_goes (get_does c e s votes (votes_of f) known reg.WEIGHT q ((entry j i at).cell s on))
-      (line_goes (add_does c e u reg.TOTAL reg.WEIGHT)
+      (line_goes refl
       (one_minimum o there minima j i w at (item_stays i s w refl refl refl on) h.columns (next_held v j (s.registers reg.TOTAL) x less h.total read) h.needed))
 
   visits : (o : Option ℕ) → ((slot : ℕ) → o ≡ Some slot → slice_get c.slots slot ≡ Some (votes_of f)) → HasMinima e g.entries v o before m
@@ -127,7 +126,10 @@ sums_leave f x =
     let body : LeavesAll (entries_plan f (body_of x.votes x.minima)) = entries_leave f (body_of x.votes x.minima) (body_leaves x.votes x.minima) in
     record { columns = body.columns; steps = body.steps; weights = body.weights; placed = body.placed }
 
-pub sums_achieve : SumsAchieve
+pub sums_achieve : (c : CountingCode) (e : Election) (f : Form) (x : Slots) (name : List ℕ) (k : ℕ) (g : Group) (v m : List ℕ) (state : State) →
+    slice_get (groups_of e f) k ≡ Some g → HasSlots c f x name → OnScope g.scope state → HasCells e g.entries (state.columns x.votes) v →
+    HasMinima e g.entries v x.minima state m →
+    Achieves c e (sums f x) state (AreSummed g v m state) Never
 sums_achieve c e f x name k g v m state at slots on weights minima =
     let entry : (j : ℕ) (i : Item) → slice_get g.entries j ≡ Some i → IsEntry e (table_of f) (votes_of f) g.scope i = (scopes_hold e f k g at).entry in
     let Inv : ℕ → State → Type 0 = Summed c e f g x.votes v m state slots.votes entry weights in
@@ -135,8 +137,7 @@ sums_achieve c e f x name k g v m state at slots on weights minima =
     let long : length m ≡ length g.entries = minima_long e g.entries v m x.minima state weights.one_each minima ∙ weights.one_each in
     let course : Achieves c e (sums f x) state (λ t. OnScope g.scope t × Inv (length g.entries) (bare t)) Never =
     then_achieves {Q = λ t. OnScope g.scope t × Inv 0 (bare t)}
-    (line_goes (set_does c e state reg.TOTAL 0) (line_goes (set_does c e (with_register reg.TOTAL 0 state) reg.NEEDED 0)
-    (line_ends (scope_stays g.scope state begun refl refl on, record { columns = refl; total = first_none v; needed = first_none m }))))
+    (ends_in refl (scope_stays g.scope state begun refl refl on, record { columns = refl; total = first_none v; needed = first_none m }))
     (λ t h. each_entry c e f k g (body_of x.votes x.minima) Inv Never t at (visits c e f g x.votes v m state slots.votes entry weights x.minima slots.minima minima) h.0 h.1) in
     achieves_more (achieves_kept course)
     (λ t h. record {

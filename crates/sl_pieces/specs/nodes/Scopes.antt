@@ -1,28 +1,22 @@
 -- What the plan of a scope achieves: the award that the scope comes to, or its fault (docs/blocks.md, section 4).
 use Rattle.std.specs.Prelude.{◌≡◌, ◌≢◌, ℕ, ◌≤◌, List, Option, None, Some, ◌++◌, All, slice_get, slice_index, IsPermutation}
 use Rattle.sl_ratio.specs.declared.limits.TheConstants.{MAX_WEIGHT, MAX_SEATS}
-use Rattle.sl_ratio.specs.declared.method.Divisor.{Divisor}
-use Rattle.sl_ratio.specs.declared.method.Method.{Method}
-use Rattle.sl_stages.specs.declared.book.Majority.{Majority}
 use Rattle.sl_stages.specs.declared.book.Shape.{Shape}
 use Rattle.sl_stages.specs.declared.fault.Item.{Item}
 use Rattle.sl_stages.specs.declared.fault.FaultKind.{FaultKind}
 use Rattle.sl_stages.specs.declared.table.SeatStep.{SeatStep}
-use Rattle.sl_stages.specs.returns.Election.{Election, IsElection}
+use Rattle.sl_stages.specs.returns.Election.{Election}
 use Rattle.sl_stages.specs.meaning.Scopes.{Group, place}
 use Rattle.sl_stages.specs.meaning.Records.{Records}
 use Rattle.sl_stages.specs.meaning.Splits.{Award, Seats, Refused}
 use Rattle.sl_stages.specs.meaning.Results.{Stand, fault_at}
-use Rattle.sl_stages.specs.meaning.Expressions.{IsSplitIn, split_records, IsGrowthIn, growth_records}
-use Rattle.sl_stages.specs.laws.OneLaws.{FitsMethod}
 use Rattle.sl_code.specs.Codes.{CountingCode}
 use Rattle.sl_machine.specs.State.{State, End, Faulted}
 use Rattle.sl_plans.specs.Trees.{Tree}
 use Rattle.sl_plans.specs.Achieves.{Achieves}
 use Rattle.sl_pieces.specs.scopes.Forms.{Form, amounts_of, votes_of, groups_of, OnScope}
 use Rattle.sl_pieces.specs.columns.Columns.{HoldsColumn}
-use Rattle.sl_pieces.specs.seats.Slots.{Slots, HasSlots, HasCells}
-use Rattle.sl_pieces.specs.nodes.Trees.{split_scope, grow_scope}
+use Rattle.sl_pieces.specs.seats.Slots.{Slots, HasCells}
 
 -- ---- the arguments
 
@@ -72,16 +66,3 @@ pub record DoesScopes (c : CountingCode) (e : Election) (f : Form) (x : Slots) (
 abbrev pub stand : Form → Slots → List ℕ → Stand
 stand f x name = record { stage = x.stage; name = name; shape = votes_of f }
 
-abbrev pub SplitScopesAchieve : Type 0
-SplitScopesAchieve =
-    (c : CountingCode) (e : Election) (f : Form) (x : Slots) (name : List ℕ) (amounts votes : List ℕ) (minima : Option (List ℕ)) (method : Method)
-    (majority : Majority) → IsElection e → HasSlots c f x name → FitsMethod method minima →
-    DoesScopes c e f x amounts votes minima (IsSplitIn e (stand f x name) amounts votes method majority minima)
-    (split_records e (stand f x name) amounts votes method majority minima) (split_scope f x method majority)
-
-abbrev pub GrowthScopesAchieve : Type 0
-GrowthScopesAchieve =
-    (c : CountingCode) (e : Election) (f : Form) (x : Slots) (name : List ℕ) (amounts votes minima : List ℕ) (d : Divisor) (majority : Majority) (cap : ℕ) →
-    IsElection e → HasSlots c f x name → cap ≤ MAX_SEATS →
-    DoesScopes c e f x amounts votes (Some minima) (IsGrowthIn e (stand f x name) amounts votes d majority minima cap)
-    (growth_records e (stand f x name) amounts votes d minima) (grow_scope f x d majority cap)

@@ -1,21 +1,16 @@
 -- What the search for the house of a growth achieves (docs/blocks.md, section 4).
-use Rattle.std.specs.Prelude.{◌≡◌, ◌≢◌, ℕ, ◌<◌, ◌≤◌, List, Some, sum, slice_get}
-use Rattle.sl_ratio.specs.declared.limits.TheConstants.{MAX_SEATS}
+use Rattle.std.specs.Prelude.{◌≡◌, ◌≢◌, ℕ, List, Some, sum, slice_get}
 use Rattle.sl_ratio.specs.declared.method.Divisor.{Divisor}
 use Rattle.sl_stages.specs.declared.fault.Item.{Item}
 use Rattle.sl_stages.specs.declared.fault.FaultKind.TheVariants as fault
-use Rattle.sl_stages.specs.returns.Election.{Election, IsElection}
+use Rattle.sl_stages.specs.returns.Election.{Election}
 use Rattle.sl_stages.specs.methods.LeastHouse.{GrownTo, AboveCap, IsGrowth}
 use Rattle.sl_stages.specs.meaning.Scopes.{Group, place}
 use Rattle.sl_stages.specs.meaning.Results.{fault_at}
-use Rattle.sl_code.specs.Codes.{CountingCode}
 use Rattle.sl_machine.specs.State.{State, End, Faulted}
-use Rattle.sl_plans.specs.Achieves.{Achieves}
-use Rattle.sl_pieces.specs.scopes.Forms.{Form, OnScope}
+use Rattle.sl_pieces.specs.scopes.Forms.{OnScope}
 use Rattle.sl_pieces.specs.declared.registers.TheConstants as reg
 use Rattle.sl_pieces.specs.seats.Slots.{Slots}
-use Rattle.sl_pieces.specs.inner.seats.Filling.{IsReady}
-use Rattle.sl_pieces.specs.nodes.Trees.{find_house}
 
 -- the amount is the house; the search has written cells of the scope's entries in the result's column, and all else is as it was
 pub record HasHouse (e : Election) (x : Slots) (g : Group) (d : Divisor) (v m : List ℕ) (seats cap : ℕ) (before after : State) : Type 0 where
@@ -35,9 +30,3 @@ pub record EndsAboveCap (x : Slots) (g : Group) (d : Divisor) (v m : List ℕ) (
   pub above : IsGrowth d v m seats cap AboveCap
   pub is : end ≡ Faulted (fault_at x.stage g.scope fault.Cap)
 
--- where an entry has weight, and the minima sum to no more than the cap
-abbrev pub HousesAreFound : Type 0
-HousesAreFound =
-    (c : CountingCode) (e : Election) (f : Form) (x : Slots) (name : List ℕ) (slot k : ℕ) (g : Group) (d : Divisor) (v m : List ℕ) (seats cap : ℕ) (state : State) →
-    IsElection e → IsReady c e f x name k g v m seats state → x.minima ≡ Some slot → 0 < sum v → sum m ≤ cap → cap ≤ MAX_SEATS →
-    Achieves c e (find_house f x d cap) state (HasHouse e x g d v m seats cap state) (EndsAboveCap x g d v m seats cap)

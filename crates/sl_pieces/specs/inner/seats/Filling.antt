@@ -9,7 +9,7 @@ use Rattle.sl_ratio.specs.declared.method.Method.TheVariants as by
 use Rattle.sl_stages.specs.declared.book.Majority.{Majority}
 use Rattle.sl_stages.specs.declared.fault.Item.{Item}
 use Rattle.sl_stages.specs.declared.table.Weight.{Weight}
-use Rattle.sl_stages.specs.returns.Election.{Election, IsElection}
+use Rattle.sl_stages.specs.returns.Election.{Election}
 use Rattle.sl_stages.specs.book.Typing.{is_prefer}
 use Rattle.sl_stages.specs.methods.LeastHouse.{outside_minima}
 use Rattle.sl_stages.specs.meaning.Scopes.{Group, place}
@@ -26,7 +26,7 @@ use Rattle.sl_pieces.specs.arenas.Arenas as arenas
 use Rattle.sl_pieces.specs.arenas.Arenas.{Arena, HasWaiting, seat_of, divisor_arena, hamilton_arena}
 use Rattle.sl_pieces.specs.declared.registers.TheConstants as reg
 use Rattle.sl_pieces.specs.seats.Slots.{Slots, HasSlots, HasCells, HasMinima}
-use Rattle.sl_pieces.specs.seats.Trees.{fill, base_of, outside_base, enter_of, enter_quotient, ranking_of}
+use Rattle.sl_pieces.specs.seats.Trees.{fill}
 use Rattle.sl_pieces.specs.inner.seats.Seated.{IsSeated}
 
 -- ---- what is asked of the plan for an entry's first seats, and of the one by which it enters the table
@@ -131,18 +131,3 @@ pub record IsReady (c : CountingCode) (e : Election) (f : Form) (x : Slots) (nam
   pub votes : HasCells e g.entries (s.columns x.votes) v
   pub minima : HasMinima e g.entries v x.minima s m
 
--- the scope of a split is filled: with minima by a divisor method; by Hamilton's there are none
-abbrev pub SplitsAreFilled : Type 0
-SplitsAreFilled =
-    (c : CountingCode) (e : Election) (f : Form) (x : Slots) (name : List ℕ) (k : ℕ) (g : Group) (method : Method) (majority : Majority) (v m : List ℕ)
-    (seats : ℕ) (state : State) → IsElection e → IsReady c e f x name k g v m seats state → sum (split_arena e f g method majority v m seats).ladders.base ≤ seats →
-    Achieves c e (fill f x (ranking_of method) (base_of method x) (enter_of f x method majority)) state
-    (IsFilled e x g (split_arena e f g method majority v m seats) v seats (split_weights x g method v) state) Never
-
--- so is that of the house that a growth found: only entries without weight have their minimum before
-abbrev pub GrowthsAreFilled : Type 0
-GrowthsAreFilled =
-    (c : CountingCode) (e : Election) (f : Form) (x : Slots) (name : List ℕ) (slot k : ℕ) (g : Group) (d : Divisor) (v m : List ℕ) (seats : ℕ) (state : State) →
-    IsElection e → IsReady c e f x name k g v m seats state → x.minima ≡ Some slot → sum (outside_minima v m) ≤ seats →
-    Achieves c e (fill f x (ranking_of (by.Divisor d)) (outside_base x.minima) (enter_quotient f x d)) state
-    (IsFilled e x g (grown_arena e f g d v m) v seats [] state) Never

@@ -2,10 +2,7 @@
 -- (docs/blocks.md, section 3).
 use Rattle.std.specs.Prelude.{◌≡◌, ℕ, List}
 use Rattle.sl_ratio.specs.declared.limits.TheConstants.{MAX_SEATS}
-use Rattle.sl_ratio.specs.declared.method.Divisor.{Divisor}
 use Rattle.sl_ratio.specs.declared.method.Method.{Method}
-use Rattle.sl_ratio.specs.declared.method.Method.TheVariants as by
-use Rattle.sl_stages.specs.declared.book.Majority.{Majority}
 use Rattle.sl_stages.specs.declared.fault.FaultKind.TheVariants as fault
 use Rattle.sl_stages.specs.declared.table.Weight.{Weight}
 use Rattle.sl_stages.specs.returns.Election.{Election}
@@ -22,7 +19,6 @@ use Rattle.sl_pieces.specs.inner.awards.Awards.{IsCounted, EndsTied, FitsAwards}
 use Rattle.sl_pieces.specs.seats.Slots.{Slots}
 use Rattle.sl_pieces.specs.seats.Trees.{again_of, seat, tied}
 use Rattle.sl_pieces.specs.inner.seats.Seated.{IsSeated}
-use Rattle.sl_pieces.specs.inner.seats.Filling.{IsReady, split_arena, grown_arena}
 use Rattle.sl_pieces.specs.scopes.Forms.{Form}
 
 -- it ends with a tie between these entries, as the lot leaves it
@@ -39,16 +35,3 @@ pub record AwardsSeats (c : CountingCode) (e : Election) (f : Form) (x : Slots) 
   pub fits : FitsAwards (IsSeated e x g a v seats told before) (seat f x (again_of x method))
   pub ends : EndsTied c e a seats meant (IsSeated e x g a v seats told before) (EndsInTie x g a seats meant) (tied f x)
 
--- in a split
-abbrev pub SplitsAwardSeats : Type 0
-SplitsAwardSeats =
-    (c : CountingCode) (e : Election) (f : Form) (x : Slots) (name : List ℕ) (k : ℕ) (g : Group) (method : Method) (majority : Majority) (v m : List ℕ)
-    (seats : ℕ) (told : List Weight) (meant : List ℕ) (before : State) → IsReady c e f x name k g v m seats before →
-    AwardsSeats c e f x g (split_arena e f g method majority v m seats) v seats told meant before method
-
--- and in a growth
-abbrev pub GrowthsAwardSeats : Type 0
-GrowthsAwardSeats =
-    (c : CountingCode) (e : Election) (f : Form) (x : Slots) (name : List ℕ) (k : ℕ) (g : Group) (d : Divisor) (v m : List ℕ)
-    (seats : ℕ) (told : List Weight) (meant : List ℕ) (before : State) → IsReady c e f x name k g v m seats before →
-    AwardsSeats c e f x g (grown_arena e f g d v m) v seats told meant before (by.Divisor d)
