@@ -1,16 +1,12 @@
 -- What the verifier finds in the plans of facts: they are judged by evaluation, with the slots of facts and of the last clause alone.
-use Rattle.std.proofs.Common.{◌≡◌, ℕ, zero, suc, ◌+◌, ◌≤◌, Bool, true, false, ◌==◌, if◌then◌else◌, List, [], ◌∷◌, ◌++◌, length, map, Option, Some, slice_get, refl, sym, subst, ap, ◌∙◌, arith}
+use Rattle.std.proofs.Common.{◌≡◌, ℕ, zero, suc, ◌+◌, ◌≤◌, Bool, true, false, ◌==◌, if◌then◌else◌, List, [], ◌∷◌, ◌++◌, length, Option, slice_get, refl, sym, subst, ap, ◌∙◌, arith}
 use Rattle.std.specs.Prelude.{nat_lt}
 use Rattle.std.proofs.lemmas.Bool.{eqb-true, lt-ltb}
 use Rattle.sl_stages.specs.declared.fact.Fact.{Fact}
 use Rattle.sl_stages.specs.declared.fact.Fact.TheVariants as facts
-use Rattle.sl_stages.specs.declared.fact.TheConstants.{FACTS}
 use Rattle.sl_stages.specs.declared.book.Shape.{Shape}
-use Rattle.sl_stages.specs.declared.book.Shape.TheVariants as shape
 use Rattle.sl_stages.specs.declared.book.Cond.{Cond}
 use Rattle.sl_stages.specs.declared.book.Cond.TheVariants as condition
-use Rattle.sl_stages.specs.book.Typing.{Column, fact_number, fact_type}
-use Rattle.sl_stages.specs.book.Trees.{BookTree}
 use Rattle.sl_code.specs.declared.instr.Instr.TheVariants.{Zero}
 use Rattle.sl_code.specs.Codes.{CountingCode}
 use Rattle.sl_verify.specs.declared.needs.TheConstants.{LAST_CLAUSE}
@@ -20,8 +16,7 @@ use Rattle.sl_verify.proofs.Passing.{both_hold}
 use Rattle.sl_plans.specs.Trees.{Tree, Line}
 use Rattle.sl_plans.specs.Fine.{is_fine, judged_by, kinds_along}
 use Rattle.sl_pieces.specs.facts.Trees.{conditions_tree, condition_tree, eligible_tree, fact_tree}
-use Rattle.sl_pieces.specs.declared.slots.TheConstants.{FIRST_FACT, VOTES}
-use Rattle.sl_pieces.specs.exprs.Slots.{fact_slots, HasBookSlots}
+use Rattle.sl_pieces.specs.exprs.Slots.{fact_slots}
 use Rattle.sl_blocks.proofs.Renaming.{Renaming, renamed, Renames, renamed_is_fine}
 use Rattle.sl_blocks.specs.Facts.{fact_shapes, closing_shapes, HasFirstSlots}
 use Rattle.sl_blocks.proofs.Standing.{IsFineIn}
@@ -39,10 +34,6 @@ abbrev same_slots : (ℕ → ℕ) → Renaming
 same_slots number = record { slot = λ k. k; stage = LAST_CLAUSE; number = number }
 
 -- ---- numbers that are 0 or not: 0 stands for itself, and a mark for all others
-
-abbrev role_of : ℕ → ℕ → ℕ
-role_of mark zero = 0
-role_of mark (suc n) = mark
 
 abbrev by_mark : ℕ → ℕ → ℕ → ℕ → ℕ
 by_mark mark zero k other = other

@@ -13,7 +13,6 @@ use Rattle.sl_machine.specs.Runs.{share_of}
 use Rattle.sl_plans.specs.Laid.{laid}
 use Rattle.sl_pieces.specs.declared.form.Form.{Form}
 use Rattle.sl_pieces.specs.scopes.Forms.{amounts_of}
-use Rattle.sl_pieces.specs.seats.Slots.{Slots}
 use Rattle.sl_pieces.specs.nodes.Trees.{split_tree, grow_tree}
 use Rattle.sl_pieces.specs.nodes.Nodes.{HasResult, EndsWith}
 use Rattle.sl_pieces.proofs.nodes.Nodes.{splits_achieve, growths_achieve}

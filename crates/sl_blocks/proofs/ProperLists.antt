@@ -1,9 +1,8 @@
 -- What holds of each element of a list, by recursion: of lists in a row, and of numbers below 2^64.
-use Rattle.std.proofs.Common.{◌≡◌, ℕ, ◌<◌, ◌≤◌, ◌^◌, Bool, true, false, ◌==◌, if◌then◌else◌, List, [], ◌∷◌, ◌++◌, map, arith}
-use Rattle.std.specs.Prelude.{nat_lt, nat_le}
+use Rattle.std.proofs.Common.{◌≡◌, ℕ, ◌<◌, ◌^◌, Bool, true, false, ◌==◌, if◌then◌else◌, List, [], ◌∷◌, ◌++◌, map, arith}
+use Rattle.std.specs.Prelude.{nat_lt}
 use Rattle.std.specs.List.{AllByRecursion, list_all}
-use Rattle.std.proofs.lemmas.Bool.{and_parts, ltb-true, leb-true}
-use Rattle.sl_ratio.specs.declared.limits.TheConstants.{MAX_NUMBER}
+use Rattle.std.proofs.lemmas.Bool.{and_parts, ltb-true}
 
 module _ {X : Type 0} (P : X → Type 0) where
   pub all_append : (xs ys : List X) → AllByRecursion P xs → AllByRecursion P ys → AllByRecursion P (xs ++ ys)
@@ -29,14 +28,6 @@ small_fit (x ∷ xs) h =
     let parts = and_parts (nat_lt x 5000) (list_all (λ n. nat_lt n 5000) xs) h in
     let below : x < 5000 = ltb-true x 5000 parts.0 in
     (omega (arith, below), small_fit xs parts.1)
-
--- the numbers of a rulebook are small
-pub written_fit : (xs : List ℕ) → list_all (λ n. nat_le n MAX_NUMBER) xs ≡ true → AllFit xs
-written_fit [] h = tt
-written_fit (x ∷ xs) h =
-    let parts = and_parts (nat_le x MAX_NUMBER) (list_all (λ n. nat_le n MAX_NUMBER) xs) h in
-    let below : x ≤ MAX_NUMBER = leb-true x MAX_NUMBER parts.0 in
-    (omega (arith, below), written_fit xs parts.1)
 
 -- a number in the place of 2, and all others as they are
 abbrev pub in_place : ℕ → ℕ → ℕ

@@ -14,7 +14,7 @@ use Rattle.sl_code.specs.Codes.{CountingCode}
 use Rattle.sl_verify.specs.Kinds.{start_kinds, covers, no_cursors}
 use Rattle.sl_verify.specs.Needs.{has_slot, has_needs}
 use Rattle.sl_verify.specs.Pieces.{comes_after, are_passed}
-use Rattle.sl_verify.specs.WellKinded.{context_of, has_stage_slots, IsWellKinded}
+use Rattle.sl_verify.specs.WellKinded.{context_of, IsWellKinded}
 use Rattle.sl_verify.proofs.Passing.{both_hold}
 use Rattle.sl_verify.proofs.PieceFacts.{comes_in_row, passed_in_row}
 use Rattle.sl_verify.proofs.Kinded.{kinded_as_passed}

@@ -1,5 +1,5 @@
 -- Blocks one behind the other: what they are together, by what each of them is.
-use Rattle.std.proofs.Common.{◌≡◌, ◌⊎◌, ℕ, ◌+◌, ◌≤◌, true, List, [], ◌∷◌, ◌++◌, All, length, Some, refl, sym, ap, subst, ◌∙◌, inl, inr, arith, append_assoc, append-nil, length-append}
+use Rattle.std.proofs.Common.{◌≡◌, ℕ, ◌+◌, ◌≤◌, List, [], ◌∷◌, ◌++◌, All, length, Some, refl, sym, ap, subst, ◌∙◌, inl, inr, arith, append_assoc, append-nil, length-append}
 use Rattle.std.proofs.lemmas.List.Elements.{All-nil, All-append}
 use Rattle.sl_stages.specs.returns.Election.{Election, IsElection}
 use Rattle.sl_code.specs.declared.code.TheConstants.{MAX_INSTRS}
@@ -15,12 +15,12 @@ use Rattle.sl_verify.proofs.PieceFacts.{comes_in_row, passed_in_row}
 use Rattle.sl_machine.specs.State.{State, End}
 use Rattle.sl_machine.specs.Comes.{Comes}
 use Rattle.sl_machine.proofs.runs.Coming.{stays, after, ends_after, ends_wider}
-use Rattle.sl_plans.specs.Trees.{Tree, size_of}
+use Rattle.sl_plans.specs.Trees.{Tree}
 use Rattle.sl_plans.specs.Meaning.{Course, Onward, Final, Unsaid, does, cost}
-use Rattle.sl_plans.specs.Achieves.{Meets, Achieves, Reaches}
+use Rattle.sl_plans.specs.Achieves.{Meets, Reaches}
 use Rattle.sl_plans.specs.Laid.{size_all, cost_all, AchievesAll}
-use Rattle.sl_blocks.specs.Blocks.{PassesOn, IsBlock}
-use Rattle.sl_blocks.specs.PlanBlocks.{IsSaid, IsPlanBlock, InRow, AreBlocks, HasRoom}
+use Rattle.sl_blocks.specs.Blocks.{PassesOn}
+use Rattle.sl_blocks.specs.PlanBlocks.{IsSaid, IsPlanBlock, InRow, AreBlocks}
 
 -- ---- rows
 

@@ -5,7 +5,6 @@ use Rattle.sl_stages.specs.declared.book.Shape.TheVariants as shape
 use Rattle.sl_stages.specs.declared.table.Placed.TheVariants as placed
 use Rattle.sl_stages.specs.returns.Election.{Election, parties_of}
 use Rattle.sl_code.specs.declared.instr.Instr.{Instr}
-use Rattle.sl_code.specs.Codes.{CountingCode}
 use Rattle.sl_machine.specs.State.{State}
 use Rattle.sl_machine.specs.Effects.{one_if}
 use Rattle.sl_machine.specs.Memories.{column_of}
