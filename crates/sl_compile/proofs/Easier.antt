@@ -1,13 +1,10 @@
 -- Few conditions say what many say.
-use Rattle.std.proofs.Common.{◌≡◌, ℕ, suc, ◌*◌, ◌<◌, ◌≤◌, Bool, true, false, ◌||◌, List, [], ◌∷◌, ◌++◌, All, Option, None, Some, length, length-append, drop, min, inl, inr, refl, sym, ap, subst, ◌∙◌, arith}
-use Rattle.std.specs.List.{list_any}
+use Rattle.std.proofs.Common.{◌≡◌, ℕ, suc, ◌*◌, ◌<◌, ◌≤◌, Bool, true, false, ◌||◌, List, [], ◌∷◌, ◌++◌, All, Option, None, Some, length, length-append, drop, refl, sym, ap, subst, ◌∙◌, arith}
 use Rattle.std.specs.Cmp.{first_so, second_so}
 use Rattle.std.proofs.Math.Nat.{mul-le-mul_left, le_of_mul-le-mul_left, mul_comm, mul_left_comm}
 use Rattle.std.proofs.Math.Seq.{drop-length}
 use Rattle.std.proofs.lemmas.Bool.{leb-true, le-leb}
-use Rattle.std.proofs.lemmas.Bool.Decides.{leb_tells}
 use Rattle.std.proofs.lemmas.List.Elements.{All-nil, All-cons, All-append}
-use Rattle.std.proofs.lemmas.List.Folds.{list_any-append}
 use Rattle.sl_stages.specs.declared.book.Cond.{Cond}
 use Rattle.sl_stages.specs.declared.book.Cond.TheVariants as condition
 use Rattle.sl_stages.specs.declared.check_fault.CheckFault.TheVariants as fault
@@ -59,131 +56,9 @@ second_easier e party a b some less =
 
 -- ---- one more condition
 
-or_comm : (p r : Bool) → (p || r) ≡ (r || p)
-or_comm true true = refl
-or_comm true false = refl
-or_comm false true = refl
-or_comm false false = refl
-
 or_nil : (p : Bool) → (p || false) ≡ p
 or_nil true = refl
 or_nil false = refl
-
-first_more : (v r p : Bool) → ((v || p) || r) ≡ ((v || r) || p)
-first_more true r p = refl
-first_more false r p = or_comm p r
-
-second_more : (v w r p : Bool) → (v || ((w || p) || r)) ≡ ((v || (w || r)) || p)
-second_more true w r p = refl
-second_more false w r p = first_more w r p
-
-third_more : (v w m r p : Bool) → (v || (w || ((m || p) || r))) ≡ ((v || (w || (m || r))) || p)
-third_more true w m r p = refl
-third_more false w m r p = second_more w m r p
-
-last_more : (v w m a p : Bool) → (v || (w || (m || (a || p)))) ≡ ((v || (w || (m || a))) || p)
-last_more true w m a p = refl
-last_more false true m a p = refl
-last_more false false true a p = refl
-last_more false false false a p = refl
-
-module _ (e : Election) (party : ℕ) where
-  abbrev meet : List Cond → Bool
-  meet cs = list_any (meets e party) cs
-
-  -- by each kind of condition
-  pub by_kinds : (few : Easiest) → is_eligible (few_of few) e party ≡ (meet (share_in few.valid) || (meet (winners_in few.winners) || (meet (minority_in few.minority) || meet (all_in few.all))))
-  by_kinds few =
-      let p : Cond → Bool = meets e party in
-      list_any-append p (share_in few.valid) (winners_in few.winners ++ (minority_in few.minority ++ all_in few.all))
-      ∙ ap (λ (b : Bool). meet (share_in few.valid) || b)
-      (list_any-append p (winners_in few.winners) (minority_in few.minority ++ all_in few.all)
-      ∙ ap (λ (b : Bool). meet (winners_in few.winners) || b) (list_any-append p (minority_in few.minority) (all_in few.all)))
-
-  abbrev kinds : (v w m a : Bool) → Bool
-  kinds v w m a = v || (w || (m || a))
-
-  -- where one kind says more
-  more_valid : (few : Easiest) (best new : Share) → meet (share_in (Some best)) ≡ (meet (share_in few.valid) || is_met e party new) →
-      is_eligible (few_of (record few { valid = Some best })) e party ≡ (is_eligible (few_of few) e party || is_met e party new)
-  more_valid few best new h =
-      by_kinds (record few { valid = Some best })
-      ∙ ap (λ (v : Bool). kinds v (meet (winners_in few.winners)) (meet (minority_in few.minority)) (meet (all_in few.all))) h
-      ∙ first_more (meet (share_in few.valid)) (meet (winners_in few.winners) || (meet (minority_in few.minority) || meet (all_in few.all))) (is_met e party new)
-      ∙ ap (λ (b : Bool). b || is_met e party new) (sym (by_kinds few))
-
-  more_winners : (few : Easiest) (best new : ℕ) → meet (winners_in (Some best)) ≡ (meet (winners_in few.winners) || meets e party (condition.Winners new)) →
-      is_eligible (few_of (record few { winners = Some best })) e party ≡ (is_eligible (few_of few) e party || meets e party (condition.Winners new))
-  more_winners few best new h =
-      by_kinds (record few { winners = Some best })
-      ∙ ap (λ (w : Bool). kinds (meet (share_in few.valid)) w (meet (minority_in few.minority)) (meet (all_in few.all))) h
-      ∙ second_more (meet (share_in few.valid)) (meet (winners_in few.winners)) (meet (minority_in few.minority) || meet (all_in few.all)) (meets e party (condition.Winners new))
-      ∙ ap (λ (b : Bool). b || meets e party (condition.Winners new)) (sym (by_kinds few))
-
-  minority_more : (b : Bool) → meet (minority_in true) ≡ (meet (minority_in b) || meets e party condition.Minority)
-  minority_more true = or_twice (meets e party condition.Minority) where
-    or_twice : (p : Bool) → (p || false) ≡ ((p || false) || p)
-    or_twice true = refl
-    or_twice false = refl
-  minority_more false = or_nil (meets e party condition.Minority)
-
-  all_more : (b : Bool) → meet (all_in true) ≡ (meet (all_in b) || true)
-  all_more true = refl
-  all_more false = refl
-
-  pub more_minority : (few : Easiest) → is_eligible (few_of (record few { minority = true })) e party ≡ (is_eligible (few_of few) e party || meets e party condition.Minority)
-  more_minority few =
-      by_kinds (record few { minority = true })
-      ∙ ap (λ (m : Bool). kinds (meet (share_in few.valid)) (meet (winners_in few.winners)) m (meet (all_in few.all))) (minority_more few.minority)
-      ∙ third_more (meet (share_in few.valid)) (meet (winners_in few.winners)) (meet (minority_in few.minority)) (meet (all_in few.all)) (meets e party condition.Minority)
-      ∙ ap (λ (b : Bool). b || meets e party condition.Minority) (sym (by_kinds few))
-
-  pub more_all : (few : Easiest) → is_eligible (few_of (record few { all = true })) e party ≡ (is_eligible (few_of few) e party || meets e party condition.All)
-  more_all few =
-      by_kinds (record few { all = true })
-      ∙ ap (λ (a : Bool). kinds (meet (share_in few.valid)) (meet (winners_in few.winners)) (meet (minority_in few.minority)) a) (all_more few.all)
-      ∙ last_more (meet (share_in few.valid)) (meet (winners_in few.winners)) (meet (minority_in few.minority)) (meet (all_in few.all)) true
-      ∙ ap (λ (b : Bool). b || true) (sym (by_kinds few))
-
-  -- the first of its kind
-  pub first_valid : (few : Easiest) (new : Share) → few.valid ≡ None → is_eligible (few_of (record few { valid = Some new })) e party ≡ (is_eligible (few_of few) e party || is_met e party new)
-  first_valid few new none =
-      more_valid few new new (or_nil (is_met e party new) ∙ ap (λ (o : Option Share). meet (share_in o) || is_met e party new) (sym none))
-
-  -- the easier one of two
-  pub best_valid : (few : Easiest) (known best new : Share) → few.valid ≡ Some known → is_met e party best ≡ (is_met e party known || is_met e party new) →
-      is_eligible (few_of (record few { valid = Some best })) e party ≡ (is_eligible (few_of few) e party || is_met e party new)
-  best_valid few known best new here h =
-      more_valid few best new
-      (or_nil (is_met e party best) ∙ h ∙ ap (λ (b : Bool). b || is_met e party new) (sym (or_nil (is_met e party known)))
-      ∙ ap (λ (o : Option Share). meet (share_in o) || is_met e party new) (sym here))
-
-  pub first_winners : (few : Easiest) (new : ℕ) → few.winners ≡ None →
-      is_eligible (few_of (record few { winners = Some new })) e party ≡ (is_eligible (few_of few) e party || meets e party (condition.Winners new))
-  first_winners few new none =
-      more_winners few new new
-      (or_nil (meets e party (condition.Winners new)) ∙ ap (λ (o : Option ℕ). meet (winners_in o) || meets e party (condition.Winners new)) (sym none))
-
-  pub least_winners : (few : Easiest) (known new : ℕ) → few.winners ≡ Some known →
-      is_eligible (few_of (record few { winners = Some (min known new) })) e party ≡ (is_eligible (few_of few) e party || meets e party (condition.Winners new))
-  least_winners few known new here =
-      more_winners few (min known new) new
-      (or_nil (meets e party (condition.Winners (min known new))) ∙ least known new
-      ∙ ap (λ (b : Bool). b || meets e party (condition.Winners new)) (sym (or_nil (meets e party (condition.Winners known))))
-      ∙ ap (λ (o : Option ℕ). meet (winners_in o) || meets e party (condition.Winners new)) (sym here))
-    where
-      enough : ℕ → Bool
-      enough n = meets e party (condition.Winners n)
-
-      least : (a b : ℕ) → meets e party (condition.Winners (min a b)) ≡ (meets e party (condition.Winners a) || meets e party (condition.Winners b))
-      least a b = elim (leb_tells a b) [
-        | inl less ↦ let is : min a b ≡ a = omega (arith, less.1) in
-            ap (λ (n : ℕ). meets e party (condition.Winners n)) is
-            ∙ or_left _ _ (λ met. le-leb a _ (omega (arith, less.1, leb-true b _ met)))
-        | inr more ↦ let is : min a b ≡ b = omega (arith, more.1) in
-            ap (λ (n : ℕ). meets e party (condition.Winners n)) is
-            ∙ or_right _ _ (λ met. le-leb b _ (omega (arith, more.1, leb-true a _ met)))
-      ]
 
 -- ---- what holds of them
 
@@ -241,10 +116,6 @@ pub record SaysFirst (conditions : List Cond) (i : ℕ) (few : Easiest) : Type 0
   pub same : (e : Election) (party : ℕ) → (is_eligible (few_of few) e party || is_eligible (drop i conditions) e party) ≡ is_eligible conditions e party
   pub tests : first_failing (condition_tests (drop i conditions)) ≡ None
 
-pub none_said : (conditions : List Cond) → first_failing (condition_tests conditions) ≡ None →
-    SaysFirst conditions 0 (record { valid = None; winners = None; minority = false; all = false })
-none_said conditions tests = record { fair = tt; same = λ e party. refl; tests = tests }
-
 -- a condition whose test holds is fair
 pub head_fair : (c : Cond) (cs : List Cond) → first_failing (condition_tests (c ∷ cs)) ≡ None → IsFair c × (first_failing (condition_tests cs) ≡ None)
 head_fair (condition.Valid share per) cs pass =
@@ -276,10 +147,6 @@ one_more_said conditions i few more c lt here said fair same = record {
       ∙ said.same e party;
   tests = (next_fair conditions i c lt here said.tests).1;
 }
-
-pub condition_fair : (conditions : List Cond) (i : ℕ) (few : Easiest) (c : Cond) → i < length conditions → drop i conditions ≡ c ∷ drop (suc i) conditions →
-    SaysFirst conditions i few → IsFair c
-condition_fair conditions i few c lt here said = (next_fair conditions i c lt here said.tests).0
 
 pub all_said : (conditions : List Cond) (few : Easiest) → SaysFirst conditions (length conditions) few → SayTheSame (few_of few) conditions
 all_said conditions few said = record {

@@ -5,8 +5,8 @@ use Rattle.std.specs.Str.{bytes_eq}
 use Rattle.std.specs.List.{position_or_len, list_all}
 use Rattle.std.specs.Cmp.{first_so, second_so}
 use Rattle.std.proofs.Math.ListN.{set}
-use Rattle.std.proofs.lemmas.List.{append-nil, length-map}
-use Rattle.std.proofs.Math.Seq.{drop-cons, drop-length, take-length}
+use Rattle.std.proofs.lemmas.List.{length-map}
+use Rattle.std.proofs.Math.Seq.{drop-cons}
 use Rattle.std.proofs.lemmas.Bool.{leb-true}
 use Rattle.sl_stages.specs.declared.book.Stage.{Stage}
 use Rattle.sl_stages.specs.declared.book.Shape.TheVariants as shape
@@ -30,7 +30,7 @@ use Rattle.sl_pieces.proofs.exprs.StageRules.{last_there}
 use Rattle.sl_blocks.specs.PlanBlocks.{AreBlocks, HasRoom, HasCopy}
 use Rattle.sl_compile.specs.inner.Earlier.{columns, Fits}
 use Rattle.sl_books.specs.Codes.{HasSoFar}
-use Rattle.sl_books.proofs.Rows.{no_blocks, blocks_then, blocks_in}
+use Rattle.sl_books.proofs.Rows.{blocks_then, blocks_in}
 use Rattle.sl_books.proofs.Slots.{has_book_slots, has_fewer}
 use Rattle.sl_compile.proofs.Places.{room_first, room_rest, room_as}
 use Rattle.std.proofs.Common.{append_assoc, subst, length-take}
@@ -174,10 +174,6 @@ pub record LaidFirst (ss : List Stage) (ts : List ColumnType) (i : ℕ) (start c
   pub blocks : AreBlocks (HasSoFar (columns (take i ss) ts) i) done start code
   pub rest : done ++ stages_pieces (columns (take i ss) ts) i (map stage_of (drop i ss)) ≡ stages_pieces [] 0 (map stage_of ss)
 
-pub laid_first : (ss : List Stage) (ts : List ColumnType) (start : List Instr) → is_within_limits (map stage_of ss) ≡ true →
-    first_failing (stages_tests [] (map stage_of ss)) ≡ None → LaidFirst ss ts 0 start start
-laid_first ss ts start within tests = record { within = second_so _ _ within; tests = tests; have = refl; done = []; blocks = no_blocks (HasSoFar [] 0) start; rest = refl }
-
 module _ (ss : List Stage) (ts : List ColumnType) (i : ℕ) (s : Stage) (start code : List Instr) (h : LaidFirst ss ts i start code)
     (lt : i < length ss) (here : s ≡ get_or ss i s) where
   abbrev known : List Column
@@ -253,22 +249,3 @@ pub stage_number : (ss : List Stage) (ts : List ColumnType) (i : ℕ) → i < le
 stage_number ss ts i lt long =
     let taken : length (take i ss) ≡ i = omega (arith, length-take i ss, lt) in
     sym (same_length (take i ss) ts (omega (arith, taken, lt, long)) ∙ taken)
-
--- the whole
-pub all_laid : (ss : List Stage) (ts : List ColumnType) (i : ℕ) (start code : List Instr) → i ≡ length ss → LaidFirst ss ts i start code →
-    (columns ss ts ≡ columns_of [] (map stage_of ss)) × AreBlocks (HasSoFar (columns_of [] (map stage_of ss)) (length ss)) (stages_pieces [] 0 (map stage_of ss)) start code
-all_laid ss ts i start code end h =
-    let none : drop i ss ≡ [] = ap (λ (n : ℕ). drop n ss) end ∙ drop-length ss in
-    let all : take i ss ≡ ss = ap (λ (n : ℕ). take n ss) end ∙ take-length ss in
-    let have : columns_of [] (map stage_of ss) ≡ columns ss ts =
-    h.have ∙ ap (λ (xs : List Stage). columns_of (columns (take i ss) ts) (map stage_of xs)) none ∙ ap (λ (xs : List Stage). columns xs ts) all in
-    let done : h.done ≡ stages_pieces [] 0 (map stage_of ss) =
-    sym (append-nil h.done)
-    ∙ ap (λ (xs : List Stage). h.done ++ stages_pieces (columns (take i ss) ts) i (map stage_of xs)) (sym none)
-    ∙ h.rest in
-    let types : columns (take i ss) ts ≡ columns_of [] (map stage_of ss) = ap (λ (xs : List Stage). columns xs ts) all ∙ sym have in (
-      sym have,
-      subst (λ (xs : List Tree). AreBlocks (HasSoFar (columns_of [] (map stage_of ss)) (length ss)) xs start code) done
-          (subst (λ (cs : List Column). AreBlocks (HasSoFar cs (length ss)) h.done start code) types
-          (subst (λ (n : ℕ). AreBlocks (HasSoFar (columns (take i ss) ts) n) h.done start code) end h.blocks)),
-    )
