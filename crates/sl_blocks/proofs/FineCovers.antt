@@ -1,15 +1,12 @@
--- What the verifier finds in the plan of a covering, and what it costs.
-use Rattle.std.proofs.Common.{◌≡◌, ℕ, zero, suc, ◌<◌, true, Option, Some, refl, ◌∙◌}
+-- What the verifier finds in the plan of a covering.
+use Rattle.std.proofs.Common.{◌≡◌, ℕ, zero, suc, true, Option, Some, refl, ◌∙◌}
 use Rattle.sl_stages.specs.declared.book.Shape.{Shape}
 use Rattle.sl_stages.specs.declared.book.Shape.TheVariants as shape
 use Rattle.sl_verify.specs.declared.needs.TheConstants.{LAST_CLAUSE}
 use Rattle.sl_verify.specs.Kinds.{start_kinds}
 use Rattle.sl_verify.specs.Needs.{Context}
-use Rattle.sl_plans.specs.Trees.{size_of}
 use Rattle.sl_plans.specs.Fine.{is_fine, judged_by}
-use Rattle.sl_plans.specs.Prices.{price_of, has_price, is_in_share}
 use Rattle.sl_pieces.specs.covers.Trees.{CoverSlots, cover_tree}
-use Rattle.sl_blocks.proofs.FineRoles.{before_one, is_small, small_is_priced, small_is_short, MAX_BLOCK_INSTRS}
 use Rattle.sl_blocks.proofs.Renaming.{Renaming, Renames, renamed_is_fine}
 
 -- the seats of the lists, the eligible parties, the numbers of the lists
@@ -51,13 +48,3 @@ module _ (x : CoverSlots) where
   -- where the slots have their shapes, its instructions have what they need, whatever stages there are
   pub cover_fine : (slots : ℕ → Option Shape) (stages : ℕ) → HasCoverShapes slots x → is_fine (judged_by slots stages) start_kinds (cover_tree x) ≡ true
   cover_fine slots stages has = renamed_is_fine names role_context (judged_by slots stages) (names_fit slots stages has) start_kinds (cover_tree roles) refl
-
-  small : is_small (cover_tree x) ≡ true
-  small = refl
-
-  -- it takes at most a share, with one step more
-  pub cover_priced : (has_price (before_one (cover_tree x)) ≡ true) × (is_in_share (price_of (before_one (cover_tree x))) ≡ true)
-  cover_priced = small_is_priced (cover_tree x) small
-
-  pub cover_short : size_of (cover_tree x) < MAX_BLOCK_INSTRS
-  cover_short = small_is_short (cover_tree x) small

@@ -1,5 +1,5 @@
--- What the verifier finds in the plan of a growth, and what it costs.
-use Rattle.std.proofs.Common.{◌≡◌, ℕ, zero, suc, ◌<◌, Bool, true, false, ◌==◌, Option, Some, if◌then◌else◌, refl, sym, subst, ◌∙◌, arith}
+-- What the verifier finds in the plan of a growth, which numbers it sets registers to, and what it costs.
+use Rattle.std.proofs.Common.{◌≡◌, ℕ, zero, suc, Bool, true, false, ◌==◌, Option, Some, if◌then◌else◌, refl, sym, subst, ◌∙◌, arith}
 use Rattle.std.specs.Prelude.{nat_lt}
 use Rattle.std.proofs.lemmas.Bool.{eqb-true, lt-ltb}
 use Rattle.sl_ratio.specs.declared.method.Divisor.{Divisor}
@@ -7,14 +7,15 @@ use Rattle.sl_stages.specs.declared.book.Shape.{Shape}
 use Rattle.sl_stages.specs.declared.book.Majority.{Majority}
 use Rattle.sl_stages.specs.declared.book.Majority.TheVariants as majority
 use Rattle.sl_verify.specs.Kinds.{start_kinds}
-use Rattle.sl_plans.specs.Trees.{size_of}
 use Rattle.sl_plans.specs.Fine.{is_fine, judged_by}
-use Rattle.sl_plans.specs.Prices.{price_of, has_price, is_in_share}
 use Rattle.sl_pieces.specs.declared.form.Form.{Form}
 use Rattle.sl_pieces.specs.declared.form.Form.TheVariants.{AllParties}
 use Rattle.sl_pieces.specs.seats.Slots.{Slots}
 use Rattle.sl_pieces.specs.nodes.Trees.{grow_tree}
-use Rattle.sl_blocks.proofs.FineRoles.{roles, names_of, before_one, IsFineAs, HasShapes, fine_of, small_is_priced, small_is_short, MAX_BLOCK_INSTRS}
+use Rattle.sl_blocks.proofs.Modest.{IsNodePlan}
+use Rattle.sl_blocks.proofs.ProperLists.{Fits}
+use Rattle.sl_blocks.proofs.ProperTrees.{IsRanged}
+use Rattle.sl_blocks.proofs.FineRoles.{roles, names_of, IsFineAs, HasShapes, fine_of, ranged_as}
 
 -- the cap in the plan of roles: 0, or 2 for all others, which is no other number of the plan
 abbrev role_of_cap : ℕ → ℕ
@@ -33,6 +34,14 @@ numbers (suc n) k = by_case (k == 2) refl
     by_case true e = lt-ltb 0 (suc n) (omega arith) ∙ sym (lt-ltb 0 k (omega (arith, eqb-true k 2 e)))
     by_case false e = refl
 
+number_fits : (cap : ℕ) → Fits cap → (n : ℕ) → Fits n → Fits (number_of_role cap n)
+number_fits zero fits n h = h
+number_fits (suc cap) fits n h = by_case (n == 2)
+  where
+    by_case : (b : Bool) → Fits (if b then suc cap else n)
+    by_case true = fits
+    by_case false = h
+
 module _ (x : Slots) where
   abbrev IsFineGrowth : ℕ → ℕ → Form → Divisor → Majority → Type 0
   IsFineGrowth slot cap f d m =
@@ -40,14 +49,14 @@ module _ (x : Slots) where
 
   -- each form and each majority clause is a case of its own: first one of them, then the others
   growth_as : (slot cap : ℕ) (f : Form) (d : Divisor) (m : Majority) → IsFineGrowth slot cap f d m
-  growth_as slot zero AllParties d majority.Free = record { fine = refl; same = refl; small = refl }
-  growth_as slot zero AllParties d _ = record { fine = refl; same = refl; small = refl }
-  growth_as slot zero _ d majority.Free = record { fine = refl; same = refl; small = refl }
-  growth_as slot zero _ d _ = record { fine = refl; same = refl; small = refl }
-  growth_as slot (suc n) AllParties d majority.Free = record { fine = refl; same = refl; small = refl }
-  growth_as slot (suc n) AllParties d _ = record { fine = refl; same = refl; small = refl }
-  growth_as slot (suc n) _ d majority.Free = record { fine = refl; same = refl; small = refl }
-  growth_as slot (suc n) _ d _ = record { fine = refl; same = refl; small = refl }
+  growth_as slot zero AllParties d majority.Free = record { fine = refl; ranged = refl; same = refl; modest = refl }
+  growth_as slot zero AllParties d _ = record { fine = refl; ranged = refl; same = refl; modest = refl }
+  growth_as slot zero _ d majority.Free = record { fine = refl; ranged = refl; same = refl; modest = refl }
+  growth_as slot zero _ d _ = record { fine = refl; ranged = refl; same = refl; modest = refl }
+  growth_as slot (suc n) AllParties d majority.Free = record { fine = refl; ranged = refl; same = refl; modest = refl }
+  growth_as slot (suc n) AllParties d _ = record { fine = refl; ranged = refl; same = refl; modest = refl }
+  growth_as slot (suc n) _ d majority.Free = record { fine = refl; ranged = refl; same = refl; modest = refl }
+  growth_as slot (suc n) _ d _ = record { fine = refl; ranged = refl; same = refl; modest = refl }
 
   -- with the slots' own minima
   with_own : (slot cap : ℕ) (f : Form) (d : Divisor) (m : Majority) → x.minima ≡ Some slot
@@ -63,9 +72,10 @@ growth_fine slots stages f x d m cap slot is has =
     fine_of slots stages f x has (number_of_role cap) (numbers cap) (grow_tree f (roles x.minima) d m (role_of_cap cap)) (grow_tree f x d m cap) (with_own x slot cap f d m is)
 
 module _ (f : Form) (x : Slots) (d : Divisor) (m : Majority) (cap slot : ℕ) (is : x.minima ≡ Some slot) where
-  -- it takes at cap a share, with one step more
-  pub growth_priced : (has_price (before_one (grow_tree f x d m cap)) ≡ true) × (is_in_share (price_of (before_one (grow_tree f x d m cap))) ≡ true)
-  growth_priced = small_is_priced (grow_tree f x d m cap) (with_own x slot cap f d m is).small
+  pub growth_ranged : Fits cap → IsRanged (grow_tree f x d m cap)
+  growth_ranged fits =
+      ranged_as (names_of x x.minima (number_of_role cap)) (number_fits cap fits) f (grow_tree f (roles x.minima) d m (role_of_cap cap)) (grow_tree f x d m cap)
+      (with_own x slot cap f d m is)
 
-  pub growth_short : size_of (grow_tree f x d m cap) < MAX_BLOCK_INSTRS
-  growth_short = small_is_short (grow_tree f x d m cap) (with_own x slot cap f d m is).small
+  pub growth_modest : IsNodePlan (grow_tree f x d m cap)
+  growth_modest = record { is = (with_own x slot cap f d m is).modest }

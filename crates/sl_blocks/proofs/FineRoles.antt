@@ -1,21 +1,24 @@
 -- A plan whose slots and whose stage are 0, 1, 2 and 3, its roles, is judged by evaluation, and with it the plan of any slots.
-use Rattle.std.proofs.Common.{◌≡◌, ℕ, zero, suc, ◌<◌, Bool, true, ◌&&◌, ◌||◌, ◌==◌, [], ◌∷◌, Option, None, Some, refl, ap, subst, ◌∙◌, arith}
+use Rattle.std.proofs.Common.{◌≡◌, ℕ, zero, suc, ◌<◌, true, ◌||◌, ◌==◌, List, [], ◌∷◌, map, flat_map, Option, None, Some, refl, ap, subst, ◌∙◌}
 use Rattle.std.specs.Prelude.{nat_lt}
 use Rattle.std.proofs.Math.Bool.{or-true}
-use Rattle.std.proofs.lemmas.Bool.{and_parts, ltb-true, lt-ltb}
+use Rattle.std.specs.List.{list_all}
+use Rattle.std.proofs.lemmas.Bool.{and_parts, and_from, lt-ltb}
 use Rattle.sl_stages.specs.declared.book.Shape.{Shape}
+use Rattle.sl_code.specs.declared.instr.Instr.{Instr}
 use Rattle.sl_code.specs.declared.instr.Instr.TheVariants.{Set}
 use Rattle.sl_verify.specs.declared.needs.TheConstants.{LAST_CLAUSE}
 use Rattle.sl_verify.specs.Kinds.{start_kinds}
 use Rattle.sl_verify.specs.Needs.{Context}
-use Rattle.sl_plans.specs.Trees.{Tree, Line, Then, size_of, ones}
-use Rattle.sl_plans.specs.Fine.{is_fine, judged_by}
-use Rattle.sl_plans.specs.Prices.{price_of, has_price, is_in_share}
+use Rattle.sl_plans.specs.Trees.{Tree, Line, Stop, Then, If, Each, Times}
+use Rattle.sl_plans.specs.Fine.{is_plain, is_fine, judged_by}
 use Rattle.sl_pieces.specs.declared.form.Form.{Form}
 use Rattle.sl_pieces.specs.scopes.Forms.{amounts_of, votes_of}
 use Rattle.sl_pieces.specs.seats.Slots.{Slots}
-pub use Rattle.sl_blocks.specs.declared.blocks.TheConstants.{MAX_BLOCK_INSTRS}
-use Rattle.sl_blocks.proofs.Renaming.{Renaming, renamed, Renames, renamed_is_fine}
+use Rattle.sl_blocks.proofs.Renaming.{Renaming, renamed_instr, renamed, Renames, renamed_is_fine}
+use Rattle.sl_blocks.proofs.Modest.{is_modest}
+use Rattle.sl_blocks.proofs.ProperLists.{all_append, all_parts, Fits, AllFit}
+use Rattle.sl_blocks.proofs.ProperTrees.{set_number, set_numbers, has_plain_lines, IsRanged, is_ranged, small_ranged}
 
 -- ---- roles
 
@@ -50,18 +53,12 @@ names_of x minima number = record { slot = slot_of_role x minima; stage = x.stag
 
 -- ---- what is evaluated
 
--- one step more, for the declaration in front of a block
-abbrev pub before_one : Tree → Tree
-before_one tree = Then (Line (Set ones 1 ∷ [])) tree
-
-abbrev pub is_small : Tree → Bool
-is_small tree = has_price (before_one tree) && (is_in_share (price_of (before_one tree)) && nat_lt (size_of tree) MAX_BLOCK_INSTRS)
-
--- the plan is small, and it is the plan of roles under those names, which is fine
+-- the plan of roles is fine and sets registers to small numbers alone; under those names it is the plan, and that is modest
 pub record IsFineAs (f : Form) (names : Renaming) (role tree : Tree) : Type 0 where
   pub fine : is_fine (role_context f) start_kinds role ≡ true
+  pub ranged : is_ranged role ≡ true
   pub same : renamed names role ≡ tree
-  pub small : is_small tree ≡ true
+  pub modest : is_modest 500000 0 350 tree ≡ true
 
 -- ---- what follows from it
 
@@ -97,13 +94,43 @@ module _ (slots : ℕ → Option Shape) (stages : ℕ) (f : Form) (x : Slots) (h
       subst (λ t. is_fine (judged_by slots stages) start_kinds t ≡ true) h.same
       (renamed_is_fine (names_of x x.minima number) (role_context f) (judged_by slots stages) (names_fit x.minima refl) start_kinds role h.fine)
 
-pub small_is_priced : (tree : Tree) → is_small tree ≡ true → (has_price (before_one tree) ≡ true) × (is_in_share (price_of (before_one tree)) ≡ true)
-small_is_priced tree h =
-    let priced = and_parts (has_price (before_one tree)) _ h in
-    (priced.0, (and_parts (is_in_share (price_of (before_one tree))) _ priced.1).0)
+-- ---- numbers under new names
 
-pub small_is_short : (tree : Tree) → is_small tree ≡ true → size_of tree < MAX_BLOCK_INSTRS
-small_is_short tree h =
-    let priced = and_parts (has_price (before_one tree)) _ h in
-    let few : size_of tree < MAX_BLOCK_INSTRS = ltb-true (size_of tree) MAX_BLOCK_INSTRS (and_parts (is_in_share (price_of (before_one tree))) _ priced.1).1 in
-    omega (arith, few)
+module _ (names : Renaming) (fits : (n : ℕ) → Fits n → Fits (names.number n)) where
+  abbrev Ranged : Tree → Type 0
+  Ranged tree = (has_plain_lines tree ≡ true) × AllFit (set_numbers tree)
+
+  instr_ranged : (i : Instr) → is_plain i ≡ true → AllFit (set_number i) → (is_plain (renamed_instr names i) ≡ true) × AllFit (set_number (renamed_instr names i))
+  instr_ranged (Set r n) plain h = (refl, (fits n h.0, tt))
+  instr_ranged _ plain h = (plain, h)
+
+  line_ranged : (is : List Instr) → Ranged (Line is) → Ranged (Line (map (renamed_instr names) is))
+  line_ranged [] h = h
+  line_ranged (i ∷ is) h =
+      let plains = and_parts (is_plain i) (list_all is_plain is) h.0 in
+      let numbers = all_parts Fits (set_number i) (flat_map set_number is) h.1 in
+      let first = instr_ranged i plains.0 numbers.0 in
+      let rest = line_ranged is (plains.1, numbers.1) in
+      (and_from (is_plain (renamed_instr names i)) _ first.0 rest.0, all_append Fits (set_number (renamed_instr names i)) _ first.1 rest.1)
+
+  both_ranged : (a b c d : Tree) → (Ranged a → Ranged c) → (Ranged b → Ranged d) → Ranged (Then a b) → Ranged (Then c d)
+  both_ranged a b c d one two h =
+      let plains = and_parts (has_plain_lines a) (has_plain_lines b) h.0 in
+      let numbers = all_parts Fits (set_numbers a) (set_numbers b) h.1 in
+      let first = one (plains.0, numbers.0) in
+      let second = two (plains.1, numbers.1) in
+      (and_from (has_plain_lines c) (has_plain_lines d) first.0 second.0, all_append Fits (set_numbers c) (set_numbers d) first.1 second.1)
+
+  still_ranged : (tree : Tree) → Ranged tree → Ranged (renamed names tree)
+  still_ranged (Line is) h = line_ranged is h
+  still_ranged (Stop i) h = instr_ranged i h.0 h.1
+  still_ranged (Then a b) h = both_ranged a b (renamed names a) (renamed names b) (still_ranged a) (still_ranged b) h
+  still_ranged (If t a b) h = both_ranged a b (renamed names a) (renamed names b) (still_ranged a) (still_ranged b) h
+  still_ranged (Each over a) h = still_ranged a h
+  still_ranged (Times r m a) h = still_ranged a h
+
+  pub ranged_as : (f : Form) (role tree : Tree) → IsFineAs f names role tree → IsRanged tree
+  ranged_as f role tree h =
+      let small = small_ranged role h.ranged in
+      let all = still_ranged role (small.plain, small.numbers) in
+      subst IsRanged h.same (record { plain = all.0; numbers = all.1 })

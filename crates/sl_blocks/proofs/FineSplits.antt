@@ -1,5 +1,5 @@
--- What the verifier finds in the plan of a split, and what it costs.
-use Rattle.std.proofs.Common.{◌≡◌, ℕ, ◌<◌, true, Option, None, Some, refl}
+-- What the verifier finds in the plan of a split, which numbers it sets registers to, and what it costs.
+use Rattle.std.proofs.Common.{◌≡◌, ℕ, true, Option, None, Some, refl}
 use Rattle.sl_ratio.specs.declared.method.Divisor.{Divisor}
 use Rattle.sl_ratio.specs.declared.method.Divisor.TheVariants as divisor
 use Rattle.sl_ratio.specs.declared.method.Method.{Method}
@@ -8,14 +8,14 @@ use Rattle.sl_stages.specs.declared.book.Shape.{Shape}
 use Rattle.sl_stages.specs.declared.book.Majority.{Majority}
 use Rattle.sl_stages.specs.declared.book.Majority.TheVariants as majority
 use Rattle.sl_verify.specs.Kinds.{start_kinds}
-use Rattle.sl_plans.specs.Trees.{size_of}
 use Rattle.sl_plans.specs.Fine.{is_fine, judged_by}
-use Rattle.sl_plans.specs.Prices.{price_of, has_price, is_in_share}
 use Rattle.sl_pieces.specs.declared.form.Form.{Form}
 use Rattle.sl_pieces.specs.declared.form.Form.TheVariants.{AllParties}
 use Rattle.sl_pieces.specs.seats.Slots.{Slots}
 use Rattle.sl_pieces.specs.nodes.Trees.{split_tree}
-use Rattle.sl_blocks.proofs.FineRoles.{roles, names_of, before_one, IsFineAs, HasShapes, fine_of, small_is_priced, small_is_short, MAX_BLOCK_INSTRS}
+use Rattle.sl_blocks.proofs.Modest.{IsNodePlan}
+use Rattle.sl_blocks.proofs.ProperTrees.{IsRanged}
+use Rattle.sl_blocks.proofs.FineRoles.{roles, names_of, IsFineAs, HasShapes, fine_of, ranged_as}
 
 module _ (x : Slots) where
   abbrev IsFineSplit : Option ℕ → Form → Method → Majority → Type 0
@@ -23,33 +23,33 @@ module _ (x : Slots) where
 
   -- each form and each majority clause is a case of its own: first one of them, then the others
   by_hamilton : (f : Form) (m : Majority) → IsFineSplit None f by.Hamilton m
-  by_hamilton AllParties majority.Free = record { fine = refl; same = refl; small = refl }
-  by_hamilton AllParties _ = record { fine = refl; same = refl; small = refl }
-  by_hamilton _ majority.Free = record { fine = refl; same = refl; small = refl }
-  by_hamilton _ _ = record { fine = refl; same = refl; small = refl }
+  by_hamilton AllParties majority.Free = record { fine = refl; ranged = refl; same = refl; modest = refl }
+  by_hamilton AllParties _ = record { fine = refl; ranged = refl; same = refl; modest = refl }
+  by_hamilton _ majority.Free = record { fine = refl; ranged = refl; same = refl; modest = refl }
+  by_hamilton _ _ = record { fine = refl; ranged = refl; same = refl; modest = refl }
 
   by_hamilton_from : (slot : ℕ) (f : Form) (m : Majority) → IsFineSplit (Some slot) f by.Hamilton m
-  by_hamilton_from slot AllParties majority.Free = record { fine = refl; same = refl; small = refl }
-  by_hamilton_from slot AllParties _ = record { fine = refl; same = refl; small = refl }
-  by_hamilton_from slot _ majority.Free = record { fine = refl; same = refl; small = refl }
-  by_hamilton_from slot _ _ = record { fine = refl; same = refl; small = refl }
+  by_hamilton_from slot AllParties majority.Free = record { fine = refl; ranged = refl; same = refl; modest = refl }
+  by_hamilton_from slot AllParties _ = record { fine = refl; ranged = refl; same = refl; modest = refl }
+  by_hamilton_from slot _ majority.Free = record { fine = refl; ranged = refl; same = refl; modest = refl }
+  by_hamilton_from slot _ _ = record { fine = refl; ranged = refl; same = refl; modest = refl }
 
   by_divisor_from : (slot : ℕ) (d : Divisor) (f : Form) (m : Majority) → IsFineSplit (Some slot) f (by.Divisor d) m
-  by_divisor_from slot d AllParties majority.Free = record { fine = refl; same = refl; small = refl }
-  by_divisor_from slot d AllParties _ = record { fine = refl; same = refl; small = refl }
-  by_divisor_from slot d _ majority.Free = record { fine = refl; same = refl; small = refl }
-  by_divisor_from slot d _ _ = record { fine = refl; same = refl; small = refl }
+  by_divisor_from slot d AllParties majority.Free = record { fine = refl; ranged = refl; same = refl; modest = refl }
+  by_divisor_from slot d AllParties _ = record { fine = refl; ranged = refl; same = refl; modest = refl }
+  by_divisor_from slot d _ majority.Free = record { fine = refl; ranged = refl; same = refl; modest = refl }
+  by_divisor_from slot d _ _ = record { fine = refl; ranged = refl; same = refl; modest = refl }
 
   -- without minima weights are told, by some divisors
   by_divisor : (d : Divisor) (f : Form) (m : Majority) → IsFineSplit None f (by.Divisor d) m
-  by_divisor divisor.Adams AllParties majority.Free = record { fine = refl; same = refl; small = refl }
-  by_divisor divisor.Adams AllParties _ = record { fine = refl; same = refl; small = refl }
-  by_divisor divisor.Adams _ majority.Free = record { fine = refl; same = refl; small = refl }
-  by_divisor divisor.Adams _ _ = record { fine = refl; same = refl; small = refl }
-  by_divisor _ AllParties majority.Free = record { fine = refl; same = refl; small = refl }
-  by_divisor _ AllParties _ = record { fine = refl; same = refl; small = refl }
-  by_divisor _ _ majority.Free = record { fine = refl; same = refl; small = refl }
-  by_divisor _ _ _ = record { fine = refl; same = refl; small = refl }
+  by_divisor divisor.Adams AllParties majority.Free = record { fine = refl; ranged = refl; same = refl; modest = refl }
+  by_divisor divisor.Adams AllParties _ = record { fine = refl; ranged = refl; same = refl; modest = refl }
+  by_divisor divisor.Adams _ majority.Free = record { fine = refl; ranged = refl; same = refl; modest = refl }
+  by_divisor divisor.Adams _ _ = record { fine = refl; ranged = refl; same = refl; modest = refl }
+  by_divisor _ AllParties majority.Free = record { fine = refl; ranged = refl; same = refl; modest = refl }
+  by_divisor _ AllParties _ = record { fine = refl; ranged = refl; same = refl; modest = refl }
+  by_divisor _ _ majority.Free = record { fine = refl; ranged = refl; same = refl; modest = refl }
+  by_divisor _ _ _ = record { fine = refl; ranged = refl; same = refl; modest = refl }
 
   split_as : (minima : Option ℕ) (f : Form) (method : Method) (m : Majority) → IsFineSplit minima f method m
   split_as None f (by.Divisor d) m = by_divisor d f m
@@ -63,10 +63,8 @@ pub split_fine : (slots : ℕ → Option Shape) (stages : ℕ) (f : Form) (x : S
 split_fine slots stages f x method m has =
     fine_of slots stages f x has (λ n. n) (λ n. refl) (split_tree f (roles x.minima) method m) (split_tree f x method m) (split_as x x.minima f method m)
 
-module _ (f : Form) (x : Slots) (method : Method) (m : Majority) where
-  -- it takes at most a share, with one step more
-  pub split_priced : (has_price (before_one (split_tree f x method m)) ≡ true) × (is_in_share (price_of (before_one (split_tree f x method m))) ≡ true)
-  split_priced = small_is_priced (split_tree f x method m) (split_as x x.minima f method m).small
+pub split_ranged : (f : Form) (x : Slots) (method : Method) (m : Majority) → IsRanged (split_tree f x method m)
+split_ranged f x method m = ranged_as (names_of x x.minima (λ n. n)) (λ n h. h) f (split_tree f (roles x.minima) method m) (split_tree f x method m) (split_as x x.minima f method m)
 
-  pub split_short : size_of (split_tree f x method m) < MAX_BLOCK_INSTRS
-  split_short = small_is_short (split_tree f x method m) (split_as x x.minima f method m).small
+pub split_modest : (f : Form) (x : Slots) (method : Method) (m : Majority) → IsNodePlan (split_tree f x method m)
+split_modest f x method m = record { is = (split_as x x.minima f method m).modest }

@@ -1,5 +1,6 @@
 -- The lemmas of blocks.
 pub mod Renaming
+pub mod Modest
 pub mod FineRoles
 pub mod FineSplits
 pub mod FineGrowths
@@ -8,7 +9,7 @@ pub mod FineColumns
 pub mod FineFacts
 pub mod ProperLists
 pub mod ProperTrees
-pub mod ProperPlans
+pub mod JudgedPlans
 pub mod Standing
 pub mod JobSlots
 pub mod Meaning

@@ -1,5 +1,5 @@
 -- The plans of splits and growths make blocks.
-use Rattle.std.proofs.Common.{◌≡◌, ℕ, suc, ◌<◌, ◌≤◌, zero, List, [], ◌∷◌, ◌++◌, length, Some, slice_get, sym, subst, arith}
+use Rattle.std.proofs.Common.{◌≡◌, ℕ, suc, ◌<◌, ◌≤◌, zero, List, [], ◌∷◌, ◌++◌, length, Some, slice_get, arith}
 use Rattle.std.proofs.lemmas.Option.{none-some}
 use Rattle.sl_ratio.specs.declared.method.Divisor.{Divisor}
 use Rattle.sl_ratio.specs.declared.method.Method.{Method}
@@ -20,11 +20,10 @@ use Rattle.sl_blocks.specs.declared.job.Job.{Job}
 use Rattle.sl_blocks.specs.declared.blocks.TheConstants.{MAX_BLOCK_INSTRS}
 use Rattle.sl_blocks.specs.inner.Jobs.{slots_of, IsJob, TakesMinima, HasJob, HasWeights, SplitMeans, GrowthMeans, IsResultBlock}
 use Rattle.sl_blocks.proofs.FineRoles.{HasShapes}
-use Rattle.sl_blocks.proofs.FineSplits.{split_fine, split_priced, split_short}
-use Rattle.sl_blocks.proofs.FineGrowths.{growth_fine, growth_priced, growth_short}
-use Rattle.sl_blocks.proofs.ProperPlans.{split_ranged, growth_ranged}
-use Rattle.sl_blocks.proofs.ProperTrees.{IsRanged}
-use Rattle.sl_blocks.proofs.Standing.{MakesBlock, MakesPlan, is_block, within_share}
+use Rattle.sl_blocks.proofs.Modest.{size_at_most, within_share}
+use Rattle.sl_blocks.proofs.FineSplits.{split_fine, split_ranged, split_modest}
+use Rattle.sl_blocks.proofs.FineGrowths.{growth_fine, growth_ranged, growth_modest}
+use Rattle.sl_blocks.proofs.Standing.{MakesBlock, MakesPlan, is_block}
 use Rattle.sl_blocks.proofs.JobSlots.{has_slots}
 use Rattle.sl_blocks.proofs.Meaning.{split_means, growth_means}
 
@@ -55,8 +54,7 @@ module _ (shapes : List Shape) (f : Form) (j : Job) (job : IsJob shapes f j) whe
 
   pub growth_plan : (d : Divisor) (slot cap : ℕ) → j.minima ≡ Some slot → cap ≤ MAX_SEATS → MakesPlan (HasJob shapes j) (grow_tree f (slots_of j) d j.majority cap)
   growth_plan d slot cap there few = record {
-    ranged = subst (λ o. IsRanged (grow_tree f (record (slots_of j) { minima = o }) d j.majority cap)) (sym there)
-        (growth_ranged (slots_of j) slot f d j.majority cap (omega (arith, few)));
+    ranged = growth_ranged f (slots_of j) d j.majority cap slot there (omega (arith, few));
     fine = λ code has. growth_fine (slice_get code.slots) (length code.stages) f (slots_of j) d j.majority cap slot there (has_shapes code has);
   }
 
@@ -65,8 +63,8 @@ module _ (shapes : List Shape) (f : Form) (j : Job) (job : IsJob shapes f j) whe
       → MakesBlock share_of MAX_BLOCK_INSTRS (HasJob shapes j) (HasWeights j) (λ code e state. HasResult e f (slots_of j) (SplitMeans f j method code e state) state)
       (λ code e state. EndsWith (SplitMeans f j method code e state)) (split_tree f (slots_of j) method j.majority)
   split_makes method takes = record {
-    short = let less = split_short f (slots_of j) method j.majority in omega (arith, less);
-    in_time = within_share (split_tree f (slots_of j) method j.majority) (split_priced f (slots_of j) method j.majority);
+    short = let less = size_at_most 500000 0 350 _ (split_modest f (slots_of j) method j.majority) in omega (arith, less);
+    in_time = within_share 500000 0 350 _ (omega arith) (omega arith) (split_modest f (slots_of j) method j.majority);
     ranged = (split_plan method).ranged;
     fine = (split_plan method).fine;
     achieves = λ code e state has is weights. split_means shapes f j code job has e is state weights splits_achieve method takes;
@@ -76,8 +74,8 @@ module _ (shapes : List Shape) (f : Form) (j : Job) (job : IsJob shapes f j) whe
       → MakesBlock share_of MAX_BLOCK_INSTRS (HasJob shapes j) (HasWeights j) (λ code e state. HasResult e f (slots_of j) (GrowthMeans f j slot d cap code e state) state)
       (λ code e state. EndsWith (GrowthMeans f j slot d cap code e state)) (grow_tree f (slots_of j) d j.majority cap)
   growth_makes d slot cap there one few = record {
-    short = let less = growth_short f (slots_of j) d j.majority cap slot there in omega (arith, less);
-    in_time = within_share (grow_tree f (slots_of j) d j.majority cap) (growth_priced f (slots_of j) d j.majority cap slot there);
+    short = let less = size_at_most 500000 0 350 _ (growth_modest f (slots_of j) d j.majority cap slot there) in omega (arith, less);
+    in_time = within_share 500000 0 350 _ (omega arith) (omega arith) (growth_modest f (slots_of j) d j.majority cap slot there);
     ranged = (growth_plan d slot cap there few).ranged;
     fine = (growth_plan d slot cap there few).fine;
     achieves = λ code e state has is weights. growth_means shapes f j code job has e is state weights growths_achieve d slot cap there one few;

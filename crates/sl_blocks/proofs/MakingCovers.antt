@@ -20,9 +20,11 @@ use Rattle.sl_pieces.proofs.covers.Covering.{coverings_achieve}
 use Rattle.sl_blocks.specs.declared.blocks.TheConstants.{MAX_BLOCK_INSTRS}
 use Rattle.sl_blocks.specs.Blocks.{HasSlotsOf}
 use Rattle.sl_blocks.specs.inner.Covers.{IsCoverJob, flagged, BeginsCover, IsCoverBlock}
-use Rattle.sl_blocks.proofs.FineCovers.{HasCoverShapes, cover_fine, cover_priced, cover_short}
-use Rattle.sl_blocks.proofs.ProperPlans.{cover_ranged}
-use Rattle.sl_blocks.proofs.Standing.{MakesBlock, MakesPlan, is_block, within_share}
+use Rattle.sl_blocks.proofs.FineCovers.{HasCoverShapes, cover_fine}
+use Rattle.sl_blocks.proofs.Modest.{size_at_most, within_share}
+use Rattle.sl_blocks.proofs.ProperTrees.{small_ranged}
+use Rattle.sl_blocks.proofs.JudgedPlans.{judged_modest, cover_judged}
+use Rattle.sl_blocks.proofs.Standing.{MakesBlock, MakesPlan, is_block}
 
 module _ (shapes : List Shape) (x : CoverSlots) (job : IsCoverJob shapes x) where
   module _ (code : CountingCode) (has : HasSlotsOf shapes code) where
@@ -47,14 +49,14 @@ module _ (shapes : List Shape) (x : CoverSlots) (job : IsCoverJob shapes x) wher
     begins_covering e state begins = record { nobody = begins.nobody; seats = seats_held e state; flags = begins.flags }
 
   pub cover_plan : MakesPlan (HasSlotsOf shapes) (cover_tree x)
-  cover_plan = record { ranged = cover_ranged x; fine = λ code has. cover_fine x (slice_get code.slots) (length code.stages) (has_shapes code has) }
+  cover_plan = record { ranged = small_ranged _ (cover_judged x).ranged; fine = λ code has. cover_fine x (slice_get code.slots) (length code.stages) (has_shapes code has) }
 
   cover_makes : MakesBlock share_of MAX_BLOCK_INSTRS (HasSlotsOf shapes) (λ code e state. BeginsCover x e state)
       (λ code e state. AreCovered code e x (flagged x state) (column_of code e state x.base) state)
       (λ code e state. EndsInTie code e (flagged x state) (column_of code e state x.base)) (cover_tree x)
   cover_makes = record {
-    short = let less = cover_short x in omega (arith, less);
-    in_time = within_share (cover_tree x) (cover_priced x);
+    short = let less = size_at_most 70 70 220 (cover_tree x) (judged_modest 70 70 220 _ (cover_judged x)) in omega (arith, less);
+    in_time = within_share 70 70 220 (cover_tree x) (omega arith) (omega arith) (judged_modest 70 70 220 _ (cover_judged x));
     ranged = cover_plan.ranged;
     fine = cover_plan.fine;
     achieves = λ code e state has is begins.

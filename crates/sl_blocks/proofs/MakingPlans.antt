@@ -25,7 +25,8 @@ use Rattle.sl_blocks.specs.PlanBlocks.{AreBlocks, HasCopy, HasPair, HasSum}
 use Rattle.sl_blocks.proofs.FineColumns.{copy_fine, pair_fine, sum_fine}
 use Rattle.sl_blocks.proofs.FineFacts.{first_fine, eligible_fine, fact_fine}
 use Rattle.sl_blocks.proofs.ProperLists.{Fits}
-use Rattle.sl_blocks.proofs.ProperPlans.{copy_ranged, pair_ranged, sum_ranged, eligible_ranged, fact_ranged, placing_ranged}
+use Rattle.sl_blocks.proofs.ProperTrees.{small_ranged}
+use Rattle.sl_blocks.proofs.JudgedPlans.{copy_judged, pair_judged, sum_judged, eligible_ranged, fact_ranged}
 use Rattle.sl_blocks.proofs.Standing.{MakesPlan, is_plan_block}
 
 -- what is laid out of a plan is its block
@@ -44,19 +45,19 @@ made (Err y) Stands t p before after make place laid = laid
 
 pub copy_makes : (s : Shape) (from to : ℕ) → MakesPlan (HasCopy s from to) (copy_tree s from to)
 copy_makes s from to = record {
-  ranged = copy_ranged s from to;
+  ranged = small_ranged _ (copy_judged s from to).ranged;
   fine = λ code has. copy_fine _ (length code.stages) s from to has.from_there has.to_there;
 }
 
 pub pair_makes : (pairing : Pairing) (s : Shape) (left right to : ℕ) → MakesPlan (HasPair s left right to) (pair_tree pairing s left right to)
 pair_makes pairing s left right to = record {
-  ranged = pair_ranged pairing s left right to;
+  ranged = small_ranged _ (pair_judged pairing s left right to).ranged;
   fine = λ code has. pair_fine _ (length code.stages) pairing s left right to has.left_there has.right_there has.to_there;
 }
 
 pub sum_makes : (over : Axis) (s : Shape) (from to : ℕ) → can_sum s over ≡ true → MakesPlan (HasSum over s from to) (sum_tree over s from to)
 sum_makes over s from to can = record {
-  ranged = sum_ranged over s from to;
+  ranged = small_ranged _ (sum_judged over s from to).ranged;
   fine = λ code has. sum_fine _ (length code.stages) over s from to can has.from_there has.to_there;
 }
 
@@ -76,7 +77,7 @@ fact_makes house told low = record { ranged = fact_ranged fact_slots house told 
 -- ---- the last clause
 
 pub placing_makes : MakesPlan HasFirstSlots place_kept
-placing_makes = record { ranged = placing_ranged; fine = λ code has. first_fine code has place_kept refl refl }
+placing_makes = record { ranged = small_ranged _ refl; fine = λ code has. first_fine code has place_kept refl refl }
 
 pub names_make : MakesPlan HasFirstSlots (Line (Input names_left input.Names ∷ []))
 names_make = record { ranged = record { plain = refl; numbers = tt }; fine = λ code has. first_fine code has (Line (Input names_left input.Names ∷ [])) refl refl }

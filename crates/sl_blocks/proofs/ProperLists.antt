@@ -1,5 +1,5 @@
 -- What holds of each element of a list, by recursion: of lists in a row, and of numbers below 2^64.
-use Rattle.std.proofs.Common.{◌≡◌, ℕ, ◌<◌, ◌^◌, Bool, true, false, ◌==◌, if◌then◌else◌, List, [], ◌∷◌, ◌++◌, map, arith}
+use Rattle.std.proofs.Common.{◌≡◌, ℕ, ◌<◌, ◌^◌, true, List, [], ◌∷◌, ◌++◌, arith}
 use Rattle.std.specs.Prelude.{nat_lt}
 use Rattle.std.specs.List.{AllByRecursion, list_all}
 use Rattle.std.proofs.lemmas.Bool.{and_parts, ltb-true}
@@ -28,15 +28,3 @@ small_fit (x ∷ xs) h =
     let parts = and_parts (nat_lt x 5000) (list_all (λ n. nat_lt n 5000) xs) h in
     let below : x < 5000 = ltb-true x 5000 parts.0 in
     (omega (arith, below), small_fit xs parts.1)
-
--- a number in the place of 2, and all others as they are
-abbrev pub in_place : ℕ → ℕ → ℕ
-in_place most n = if n == 2 then most else n
-
-pub placed_fit : (most : ℕ) → Fits most → (xs : List ℕ) → AllFit xs → AllFit (map (in_place most) xs)
-placed_fit most fits [] h = tt
-placed_fit most fits (x ∷ xs) h = (by_case (x == 2), placed_fit most fits xs h.1)
-  where
-    by_case : (b : Bool) → Fits (if b then most else x)
-    by_case true = fits
-    by_case false = h.0

@@ -19,7 +19,7 @@ use Rattle.sl_plans.specs.declared.plan.Test.TheVariants as test
 use Rattle.sl_plans.specs.Trees.{Tree, Line, Stop, Then, If, Each, Times, size_of, flat, jump_of, to_first, to_next, ones, at_join, known_after_all, known_after, known_in_arm, known_in_other, known_in_turn, known_after_loop, with_cursor_known, kinds_after}
 use Rattle.sl_plans.specs.Fine.{is_plain, jumps_nowhere, has_quiet_lines}
 use Rattle.sl_plans.specs.Laid.{laid}
-use Rattle.sl_blocks.proofs.ProperLists.{all_append, all_parts, AllFit}
+use Rattle.sl_blocks.proofs.ProperLists.{all_append, all_parts, AllFit, small_fit}
 
 -- ---- what is asked of a plan
 
@@ -49,6 +49,13 @@ has_plain_lines (Times r m a) = has_plain_lines a
 pub record IsRanged (tree : Tree) : Type 0 where
   pub plain : has_plain_lines tree ≡ true
   pub numbers : AllFit (set_numbers tree)
+
+-- so is a plan that sets registers to small numbers alone
+abbrev pub is_ranged : Tree → Bool
+is_ranged tree = has_plain_lines tree && list_all (λ n. nat_lt n 5000) (set_numbers tree)
+
+pub small_ranged : (tree : Tree) → is_ranged tree ≡ true → IsRanged tree
+small_ranged tree h = let parts = and_parts (has_plain_lines tree) _ h in record { plain = parts.0; numbers = small_fit (set_numbers tree) parts.1 }
 
 -- ---- instructions
 

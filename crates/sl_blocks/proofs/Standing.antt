@@ -16,22 +16,18 @@ use Rattle.sl_verify.specs.Pieces.{JumpsWithin}
 use Rattle.sl_verify.specs.WellKinded.{context_of}
 use Rattle.sl_verify.proofs.PieceFacts.{nothing_asked}
 use Rattle.sl_machine.specs.State.{State, End}
-use Rattle.sl_machine.specs.Runs.{share_of}
 use Rattle.sl_machine.proofs.runs.Coming.{wider, ends_wider}
 use Rattle.sl_plans.specs.Trees.{Tree, size_of, flat}
 use Rattle.sl_plans.specs.Meaning.{Course, Onward, Final, Unsaid, does, cost}
 use Rattle.sl_plans.specs.Achieves.{Meets, Achieves, Reaches}
 use Rattle.sl_plans.specs.Laid.{laid}
 use Rattle.sl_plans.specs.Fine.{ArePassed, is_fine, judged_by, kinds_along}
-use Rattle.sl_plans.specs.Prices.{has_price, price_of, is_in_share}
 use Rattle.sl_plans.proofs.Places.{length-flat}
 use Rattle.sl_plans.proofs.LaidPlans.{plan_stands, laid_is_followed}
 use Rattle.sl_plans.proofs.Kinded.{fine_plans_pass}
 use Rattle.sl_plans.proofs.Targets.{plans_jump_within}
-use Rattle.sl_plans.proofs.Prices.{shares_suffice}
 use Rattle.sl_blocks.specs.Blocks.{PassesOn, IsBlock}
 use Rattle.sl_blocks.specs.PlanBlocks.{IsSaid, IsPlanBlock}
-use Rattle.sl_blocks.proofs.FineRoles.{before_one}
 use Rattle.sl_blocks.proofs.ProperTrees.{IsRanged, laid_in_range, plain_is_quiet}
 
 -- with the slots and the stages of the code, where nothing is known
@@ -100,10 +96,6 @@ is_block time most Stands Begins Does Ends tree h before after is =
           subst (λ (q : ℕ). Reaches code e (time e) p state q (Does code e state) (Ends code e state)) ends_at
           (runs_through time most Stands Begins Does Ends tree h p code e state stands has is_election begins);
     }
-
--- the declaration and the plan take a share at most
-pub within_share : (tree : Tree) → (has_price (before_one tree) ≡ true) × (is_in_share (price_of (before_one tree)) ≡ true) → (e : Election) → cost e tree + 1 ≤ share_of e
-within_share tree priced e = let dear : 1 + cost e tree ≤ share_of e = shares_suffice e (before_one tree) priced.0 priced.1 in omega (arith, dear)
 
 -- ---- what the plan says
 

@@ -1,5 +1,5 @@
 -- What the plans of a rulebook take together, by a measure of each of them: its steps, or its instructions.
-use Rattle.std.proofs.Common.{◌≡◌, ℕ, suc, ◌+◌, ◌*◌, ◌≤◌, true, List, [], ◌∷◌, ◌++◌, length, map, Option, None, Some, arith}
+use Rattle.std.proofs.Common.{◌≡◌, ℕ, suc, ◌+◌, ◌*◌, ◌≤◌, true, List, [], ◌∷◌, ◌++◌, length, map, Option, None, Some, refl, arith}
 use Rattle.std.specs.Prelude.{nat_le}
 use Rattle.std.specs.List.{list_all}
 use Rattle.std.proofs.lemmas.Bool.{and_parts, leb-true}
@@ -35,7 +35,10 @@ use Rattle.sl_pieces.specs.exprs.Stages.{stage_pieces, stages_pieces}
 use Rattle.sl_pieces.specs.closing.Trees.{base_slot, final_seats, cover_slots, seating_pieces, vacant_pieces, last_pieces}
 use Rattle.sl_books.specs.Codes.{facts_pieces, book_pieces}
 use Rattle.sl_books.specs.Laws.{CanCompile}
-use Rattle.sl_books.proofs.CostsOfPlans.{IsNodePlan, IsColumnPlan, IsFactPlan, IsCoverPlan, copy_modest, pair_modest, sum_modest, line_modest, nothing_modest, condition_modest, fact_modest, placing_modest, cover_modest, split_modest, growth_modest}
+use Rattle.sl_blocks.proofs.Modest.{IsNodePlan}
+use Rattle.sl_blocks.proofs.JudgedPlans.{IsColumnPlan, IsFactPlan, IsCoverPlan, copy_judged, pair_judged, sum_judged, line_modest, nothing_modest, condition_modest, fact_modest, place_kept_modest, cover_judged}
+use Rattle.sl_blocks.proofs.FineSplits.{split_modest}
+use Rattle.sl_blocks.proofs.FineGrowths.{growth_modest}
 
 -- the sum of a measure over some plans
 abbrev pub total : (Tree → ℕ) → List Tree → ℕ
@@ -106,7 +109,7 @@ module _ (f : Tree → ℕ) (node column fact cover : ℕ) (m : IsMeasure f node
   -- ---- expressions
   module _ (types : List Column) (stage : ℕ) where
     fact_at_most : (level : ℕ) (s : Shape) (slot : ℕ) → total f (copy_tree s slot (passing level s) ∷ []) ≤ at_most node column 0 1
-    fact_at_most level s slot = leaf node column _ (one_at_most f _ column (m.columns _ (copy_modest s slot (passing level s))))
+    fact_at_most level s slot = leaf node column _ (one_at_most f _ column (m.columns _ (copy_judged s slot (passing level s))))
 
     split_at_most : (level : ℕ) (seats votes : Shape) (minima : Option ℕ) (method : Method) (major : Majority) →
         total f (split_piece types stage level seats votes minima method major) ≤ node
@@ -116,7 +119,7 @@ module _ (f : Tree → ℕ) (node column fact cover : ℕ) (m : IsMeasure f node
     grow_at_most : (level : ℕ) (seats votes : Shape) (slot : ℕ) (method : Method) (major : Majority) (most : ℕ) →
         total f (grow_piece types stage level seats votes (Some slot) method major most) ≤ node
     grow_at_most level seats votes slot (by.Divisor d) major most =
-        one_at_most f _ node (m.nodes _ (growth_modest (node_slots types stage level seats votes (Some slot)) slot (form_by seats votes) d major most))
+        one_at_most f _ node (m.nodes _ (growth_modest (form_by seats votes) (node_slots types stage level seats votes (Some slot)) d major most slot refl))
     grow_at_most level seats votes slot by.Hamilton major most = omega arith
 
     -- each part has one plan of its own
@@ -125,11 +128,11 @@ module _ (f : Tree → ℕ) (node column fact cover : ℕ) (m : IsMeasure f node
     pieces_at_most level (name at n) = fact_at_most level _ _
     pieces_at_most level (sum at x over) =
         after_one node column _ (splits_in x) (parts_of x)
-        (both_at_most f (pieces types stage level x) _ _ column (pieces_at_most level x) (one_at_most f _ column (m.columns _ (sum_modest over _ _ _))))
+        (both_at_most f (pieces types stage level x) _ _ column (pieces_at_most level x) (one_at_most f _ column (m.columns _ (sum_judged over _ _ _))))
     pieces_at_most level (pair at pairing l r) =
         after_two node column _ (splits_in l) (splits_in r) (parts_of l) (parts_of r)
         (both_at_most f (pieces types stage level l) _ _ _ (pieces_at_most level l)
-        (both_at_most f (pieces types stage (level + 1) r) _ _ column (pieces_at_most (level + 1) r) (one_at_most f _ column (m.columns _ (pair_modest pairing _ _ _ _)))))
+        (both_at_most f (pieces types stage (level + 1) r) _ _ column (pieces_at_most (level + 1) r) (one_at_most f _ column (m.columns _ (pair_judged pairing _ _ _ _)))))
     pieces_at_most level (split at s v method without major) =
         split_of_two node column _ (splits_in s) (splits_in v) (parts_of s) (parts_of v)
         (both_at_most f (pieces types stage level s) _ _ _ (pieces_at_most level s)
@@ -153,7 +156,7 @@ module _ (f : Tree → ℕ) (node column fact cover : ℕ) (m : IsMeasure f node
   stage_at_most types k s single within =
       let few : parts_of s.expr ≤ MAX_PARTS = leb-true (parts_of s.expr) MAX_PARTS (and_parts (nat_le (depth_of s.expr) MAX_DEPTH) (nat_le (parts_of s.expr) MAX_PARTS) within).1 in
       stage_sum node column (total f (stage_pieces types k s)) (splits_in s.expr) (parts_of s.expr) single few
-      (both_at_most f (pieces types k 0 s.expr) _ _ column (pieces_at_most types k 0 s.expr) (one_at_most f _ column (m.columns _ (copy_modest _ _ _))))
+      (both_at_most f (pieces types k 0 s.expr) _ _ column (pieces_at_most types k 0 s.expr) (one_at_most f _ column (m.columns _ (copy_judged _ _ _))))
 
   stages_at_most : (types : List Column) (k : ℕ) (ss : List StageTree) → first_failing (stages_tests types ss) ≡ None → list_all is_within_stage ss ≡ true
       → total f (stages_pieces types k ss) ≤ length ss * (node + (MAX_PARTS + 1) * column)
@@ -192,20 +195,20 @@ module _ (f : Tree → ℕ) (node column fact cover : ℕ) (m : IsMeasure f node
   -- ---- the last clause
   seating_at_most : (from : ℕ) (s : Seating) → total f (seating_pieces from s) ≤ fact + (column + cover)
   seating_at_most from seating.Keep =
-      let one = m.columns _ (pair_modest pairings.Larger shape.List from winners_slot final_seats) in
-      let two = m.facts _ placing_modest in
+      let one = m.columns _ (pair_judged pairings.Larger shape.List from winners_slot final_seats) in
+      let two = m.facts _ place_kept_modest in
       omega (arith, one, two)
   seating_at_most from seating.Cover =
-      let one = m.columns _ (copy_modest shape.List from final_seats) in
-      let two = m.covers _ (cover_modest cover_slots) in
+      let one = m.columns _ (copy_judged shape.List from final_seats) in
+      let two = m.covers _ (cover_judged cover_slots) in
       omega (arith, one, two)
 
   vacant_at_most : (vacate : Option ℕ) → total f (vacant_pieces vacate) ≤ fact + 2 * column
   vacant_at_most None = omega arith
   vacant_at_most (Some vacate) =
       let one = m.facts (Line (Input names_left input.Names ∷ [])) (line_modest (Input names_left input.Names)) in
-      let two = m.columns _ (pair_modest pairings.Less shape.List final_seats winners_slot vacant_seats) in
-      let three = m.columns _ (pair_modest pairings.Less shape.List vacant_seats names_left vacant_seats) in
+      let two = m.columns _ (pair_judged pairings.Less shape.List final_seats winners_slot vacant_seats) in
+      let three = m.columns _ (pair_judged pairings.Less shape.List vacant_seats names_left vacant_seats) in
       omega (arith, one, two, three)
 
   last_at_most : (types : List Column) (last : LastClause) → total f (last_pieces types last) ≤ 2 * fact + (3 * column + cover)

@@ -2,7 +2,6 @@
 pub mod Wanted
 pub mod Known
 pub mod Rows
-pub mod CostsOfPlans
 pub mod CostsOfBooks
 pub mod Costs
 pub mod Sizes

@@ -1,37 +1,29 @@
 -- The instructions of a rulebook are no more than 50,000.
-use Rattle.std.proofs.Common.{◌≡◌, ℕ, ◌+◌, ◌*◌, ◌≤◌, ◌<◌, true, List, [], ◌∷◌, length, refl, ap, arith, length-append}
-use Rattle.std.specs.Prelude.{nat_lt, nat_le}
+use Rattle.std.proofs.Common.{◌≡◌, ℕ, ◌+◌, ◌*◌, ◌≤◌, true, List, [], ◌∷◌, length, refl, ap, arith, length-append}
+use Rattle.std.specs.Prelude.{nat_le}
 use Rattle.std.specs.List.{list_all}
-use Rattle.std.proofs.lemmas.Bool.{and_parts, ltb-true, leb-true}
+use Rattle.std.proofs.lemmas.Bool.{and_parts, leb-true}
 use Rattle.sl_stages.specs.declared.limits.TheConstants.{MAX_STAGES, MAX_PARTS}
 use Rattle.sl_stages.specs.book.Limits.{is_within_stage, is_within_limits}
 use Rattle.sl_stages.specs.declared.book.Cond.{Cond}
 use Rattle.sl_stages.specs.book.Trees.{StageTree, BookTree}
 use Rattle.sl_plans.specs.Trees.{Tree, size_of}
-use Rattle.sl_plans.specs.Prices.{price_of, has_price, up_to}
 use Rattle.sl_plans.specs.Laid.{size_all}
 use Rattle.sl_pieces.specs.closing.Trees.{halting}
 use Rattle.sl_books.specs.Codes.{book_pieces}
 use Rattle.sl_books.specs.Laws.{CanCompile, BooksAreShort}
-use Rattle.sl_books.proofs.CostsOfPlans.{IsModest}
+use Rattle.sl_blocks.proofs.Modest.{size_at_most}
+use Rattle.sl_blocks.proofs.JudgedPlans.{judged_modest}
 use Rattle.sl_books.proofs.CostsOfBooks.{total, IsMeasure, fact_plans, book_at_most}
 use Rattle.sl_books.proofs.Rows.{blocks_longer}
-
-size_at_most : (plain by_win size : ℕ) (tree : Tree) → IsModest plain by_win size tree → size_of tree + 1 ≤ size + 1
-size_at_most plain by_win size tree modest =
-    let priced = and_parts (has_price tree) _ modest.is in
-    let rates = and_parts (up_to plain (price_of tree).plain) _ priced.1 in
-    let wins = and_parts (up_to by_win (price_of tree).by_win) (nat_lt (size_of tree) (size + 1)) rates.1 in
-    let few : size_of tree < size + 1 = ltb-true (size_of tree) (size + 1) wins.1 in
-    omega (arith, few)
 
 -- instructions as a measure of plans
 sizes_measured : IsMeasure (λ t. size_of t + 1) 351 15 41 221
 sizes_measured = record {
   nodes = size_at_most 500000 0 350;
-  columns = size_at_most 19 0 14;
+  columns = λ t h. size_at_most 19 0 14 t (judged_modest 19 0 14 t h);
   facts = size_at_most 30 30 40;
-  covers = size_at_most 70 70 220;
+  covers = λ t h. size_at_most 70 70 220 t (judged_modest 70 70 220 t h);
   joins = λ a b. omega arith;
 }
 

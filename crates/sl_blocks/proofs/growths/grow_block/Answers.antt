@@ -1,7 +1,8 @@
 use Rattle.std.proofs.Common.{vec_len, arith}
 use Rattle.sl_pieces.specs.nodes.Trees.{grow_tree}
 use Rattle.sl_blocks.specs.inner.Jobs.{slots_of}
-use Rattle.sl_blocks.proofs.FineGrowths.{growth_short}
+use Rattle.sl_blocks.proofs.Modest.{size_at_most}
+use Rattle.sl_blocks.proofs.FineGrowths.{growth_modest}
 use Rattle.sl_blocks.proofs.Laid.{form_laid}
 use Rattle.sl_blocks.proofs.LaidBlocks.{growth_stands, growth_planned}
 use Rattle.sl_blocks.proofs.growths.grow_block.Goals as goal
@@ -9,7 +10,8 @@ use Rattle.sl_blocks.proofs.growths.grow_block.Goals as goal
 pub lay_block-requires-clause-fits : goal.lay_block-requires-clause-fits
 lay_block-requires-clause-fits c =
     let j = c.args.job.now in
-    omega (arith, c.requires.room, growth_short c.form_of.result (slots_of j) c.args.method j.majority c.args.cap c.requires.job.slot c.requires.job.minima)
+    let modest = growth_modest c.form_of.result (slots_of j) c.args.method j.majority c.args.cap c.requires.job.slot c.requires.job.minima in
+    omega (arith, c.requires.room, size_at_most 500000 0 350 (grow_tree c.form_of.result (slots_of j) c.args.method j.majority c.args.cap) modest)
 
 pub returns-clause-plan : goal.returns-clause-plan
 returns-clause-plan c =

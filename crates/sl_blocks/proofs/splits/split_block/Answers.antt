@@ -1,7 +1,8 @@
 use Rattle.std.proofs.Common.{vec_len, arith}
 use Rattle.sl_pieces.specs.nodes.Trees.{split_tree}
 use Rattle.sl_blocks.specs.inner.Jobs.{slots_of}
-use Rattle.sl_blocks.proofs.FineSplits.{split_short}
+use Rattle.sl_blocks.proofs.Modest.{size_at_most}
+use Rattle.sl_blocks.proofs.FineSplits.{split_modest}
 use Rattle.sl_blocks.proofs.Laid.{form_laid}
 use Rattle.sl_blocks.proofs.LaidBlocks.{split_stands, split_planned}
 use Rattle.sl_blocks.proofs.splits.split_block.Goals as goal
@@ -9,7 +10,8 @@ use Rattle.sl_blocks.proofs.splits.split_block.Goals as goal
 pub lay_block-requires-clause-fits : goal.lay_block-requires-clause-fits
 lay_block-requires-clause-fits c =
     let j = c.args.job.now in
-    omega (arith, c.requires.room, split_short c.form_of.result (slots_of j) c.args.method j.majority)
+    let modest = split_modest c.form_of.result (slots_of j) c.args.method j.majority in
+    omega (arith, c.requires.room, size_at_most 500000 0 350 (split_tree c.form_of.result (slots_of j) c.args.method j.majority) modest)
 
 pub returns-clause-plan : goal.returns-clause-plan
 returns-clause-plan c =
