@@ -28,13 +28,11 @@ use Rattle.sl_plans.proofs.Loops.{each_runs, turns_run}
 
 first_does : (over : Cursor) (to : ℕ) (c : CountingCode) (e : Election) (s : State) → effect c e (to_first over to) s ≡ first_of (count_of e over) (set_cursor over) s
 first_does cursor.Party to c e s = refl
-first_does cursor.Land to c e s = refl
-first_does cursor.Win to c e s = refl
+first_does _ to c e s = refl
 
 next_does : (over : Cursor) (to : ℕ) (c : CountingCode) (e : Election) (s : State) → effect c e (to_next over to) s ≡ next_of (count_of e over) (cursor_of over s) (set_cursor over) s
 next_does cursor.Party to c e s = refl
-next_does cursor.Land to c e s = refl
-next_does cursor.Win to c e s = refl
+next_does _ to c e s = refl
 
 module _ (c : CountingCode) (e : Election) where
   abbrev Runs : Tree → Type 0

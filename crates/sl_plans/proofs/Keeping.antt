@@ -10,7 +10,7 @@ use Rattle.sl_code.specs.declared.instr.Instr.{Instr}
 use Rattle.sl_code.specs.declared.instr.Instr.TheVariants as op
 use Rattle.sl_code.specs.Codes.{CountingCode}
 use Rattle.sl_machine.specs.State.{State}
-use Rattle.sl_machine.specs.Effects.{Effect, Goes, Jumps, Ends, NoCase, effect}
+use Rattle.sl_machine.specs.Effects.{Effect, Goes, Jumps, effect}
 use Rattle.sl_machine.specs.Frames.{writes_register, writes_slot, writes_cell, writes_place, moves_party, moves_land, moves_win, writes_table, writes_mark, records_step, records_weight, KeepsOthers, Frames}
 use Rattle.sl_machine.proofs.effects.Framing.{frames}
 use Rattle.sl_plans.specs.declared.plan.Cursor.{Cursor}
@@ -31,33 +31,26 @@ module _ (c : CountingCode) (e : Election) (writes : Instr → Bool) (Same : Sta
 
   stays_from : (s t : State) (o : Course) → Same s t → Stays t o → Stays s o
   stays_from s t (Onward u) first rest = on s t u first rest
-  stays_from s t (Final x) first rest = tt
-  stays_from s t Unsaid first rest = tt
+  stays_from s t _ first rest = tt
 
   stays_then : (s : State) (o : Course) (next : State → Course) → Stays s o → ((t : State) → Stays t (next t)) → Stays s (then_do o next)
   stays_then s (Onward t) next first rest = stays_from s t (next t) first (rest t)
-  stays_then s (Final x) next first rest = tt
-  stays_then s Unsaid next first rest = tt
+  stays_then s _ next first rest = tt
 
   -- ---- instructions
   passes_stays : (i : Instr) (s : State) → writes i ≡ false → (x : Effect) → Frames c e i s x → Stays s (passes x)
   passes_stays i s free (Goes t) h = by_instr i s t free h
-  passes_stays i s free (Jumps t) h = tt
-  passes_stays i s free (Ends x) h = tt
-  passes_stays i s free NoCase h = tt
+  passes_stays i s free _ h = tt
 
   stops_stays : (s : State) (x : Effect) → Stays s (stops x)
   stops_stays s (Goes t) = tt
-  stops_stays s (Jumps t) = tt
-  stops_stays s (Ends x) = tt
-  stops_stays s NoCase = tt
+  stops_stays s _ = tt
 
   branches_stays : (i : Instr) (s : State) (arm other : State → Course) → writes i ≡ false → ((t : State) → Stays t (arm t)) → ((t : State) → Stays t (other t))
       → (x : Effect) → Frames c e i s x → Stays s (branches x arm other)
   branches_stays i s arm other free in_arm in_other (Goes t) h = stays_from s t (other t) (by_instr i s t free h) (in_other t)
   branches_stays i s arm other free in_arm in_other (Jumps t) h = stays_from s t (arm t) (by_instr i s t free h) (in_arm t)
-  branches_stays i s arm other free in_arm in_other (Ends x) h = tt
-  branches_stays i s arm other free in_arm in_other NoCase h = tt
+  branches_stays i s arm other free in_arm in_other _ h = tt
 
   line_stays : (is : List Instr) → list_any writes is ≡ false → (s : State) → Stays s (in_turn c e is s)
   line_stays [] free s = itself s
@@ -165,18 +158,15 @@ plans_keep_the_rest c e tree s t is =
     -- a cursor is set, and all else is as it was
     kept_registers : (over : Cursor) (o : Option ℕ) (u : State) (q : ℕ) → (set_cursor over o u).registers q ≡ u.registers q
     kept_registers cursor.Party o u q = refl
-    kept_registers cursor.Land o u q = refl
-    kept_registers cursor.Win o u q = refl
+    kept_registers _ o u q = refl
 
     kept_columns : (over : Cursor) (o : Option ℕ) (u : State) (slot place : ℕ) → (set_cursor over o u).columns slot place ≡ u.columns slot place
     kept_columns cursor.Party o u slot place = refl
-    kept_columns cursor.Land o u slot place = refl
-    kept_columns cursor.Win o u slot place = refl
+    kept_columns _ o u slot place = refl
 
     kept_party : (over : Cursor) (o : Option ℕ) (u : State) → moves_party (to_first over 0) ≡ false → (set_cursor over o u).party ≡ u.party
     kept_party cursor.Party o u free = cc
-    kept_party cursor.Land o u free = refl
-    kept_party cursor.Win o u free = refl
+    kept_party _ o u free = refl
 
     kept_land : (over : Cursor) (o : Option ℕ) (u : State) → moves_land (to_first over 0) ≡ false → (set_cursor over o u).land ≡ u.land
     kept_land cursor.Party o u free = refl
@@ -190,25 +180,20 @@ plans_keep_the_rest c e tree s t is =
 
     kept_table : (over : Cursor) (o : Option ℕ) (u : State) → (set_cursor over o u).table ≡ u.table
     kept_table cursor.Party o u = refl
-    kept_table cursor.Land o u = refl
-    kept_table cursor.Win o u = refl
+    kept_table _ o u = refl
 
     kept_mark : (over : Cursor) (o : Option ℕ) (u : State) → (set_cursor over o u).mark ≡ u.mark
     kept_mark cursor.Party o u = refl
-    kept_mark cursor.Land o u = refl
-    kept_mark cursor.Win o u = refl
+    kept_mark _ o u = refl
 
     kept_placed : (over : Cursor) (o : Option ℕ) (u : State) (w : ℕ) → (set_cursor over o u).placed w ≡ u.placed w
     kept_placed cursor.Party o u w = refl
-    kept_placed cursor.Land o u w = refl
-    kept_placed cursor.Win o u w = refl
+    kept_placed _ o u w = refl
 
     kept_steps : (over : Cursor) (o : Option ℕ) (u : State) → (set_cursor over o u).steps ≡ u.steps
     kept_steps cursor.Party o u = refl
-    kept_steps cursor.Land o u = refl
-    kept_steps cursor.Win o u = refl
+    kept_steps _ o u = refl
 
     kept_weights : (over : Cursor) (o : Option ℕ) (u : State) → (set_cursor over o u).weights ≡ u.weights
     kept_weights cursor.Party o u = refl
-    kept_weights cursor.Land o u = refl
-    kept_weights cursor.Win o u = refl
+    kept_weights _ o u = refl

@@ -8,7 +8,7 @@ use Rattle.sl_plans.specs.declared.plan.Cursor.{Cursor}
 use Rattle.sl_plans.specs.declared.plan.Cursor.TheVariants as cursor
 use Rattle.sl_plans.specs.declared.plan.Bound.{Bound}
 use Rattle.sl_plans.specs.Trees.{Tree, Each, Times, ones}
-use Rattle.sl_plans.specs.Meaning.{Course, Onward, Final, Unsaid, count_of, cursor_of, set_cursor, turns_in, does}
+use Rattle.sl_plans.specs.Meaning.{Course, Onward, count_of, cursor_of, set_cursor, turns_in, does}
 use Rattle.sl_plans.specs.Achieves.{Meets, Achieves}
 use Rattle.sl_plans.specs.Frames.{may_write_register, may_move, KeepsRest}
 use Rattle.sl_plans.proofs.Rules.{achieves_more, each_achieves, times_achieves}
@@ -20,8 +20,7 @@ achieves_kept {c = c} {e = e} {tree = tree} {s = s} {Q = Q} {E = E} h = record {
   where
     of : (o : Course) → does c e tree s ≡ o → Meets o Q E → Meets o (λ t. Q t × KeepsRest tree s t) E
     of (Onward t) is q = (q, plans_keep_the_rest c e tree s t is)
-    of (Final x) is q = q
-    of Unsaid is q = q
+    of _ is q = q
 
 pub cursor_kept : (over : Cursor) (tree : Tree) (s t : State) → KeepsRest tree s t → may_move tree over ≡ false → cursor_of over t ≡ cursor_of over s
 cursor_kept cursor.Party tree s t h free = h.party free
@@ -30,8 +29,7 @@ cursor_kept cursor.Win tree s t h free = h.win free
 
 cursor_same : (over : Cursor) (o : Option ℕ) (s : State) → cursor_of over (set_cursor over o s) ≡ o
 cursor_same cursor.Party o s = refl
-cursor_same cursor.Land o s = refl
-cursor_same cursor.Win o s = refl
+cursor_same _ o s = refl
 
 -- a loop whose body does not move its cursor
 pub each_keeping : (Inv : ℕ → State → Type 0) {c : CountingCode} {e : Election} {over : Cursor} {body : Tree} {s : State} {Q : State → Type 0} {E : End → Type 0}

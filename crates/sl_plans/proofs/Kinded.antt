@@ -76,43 +76,23 @@ module _ (x : Context) where
 module _ (to : ℕ) where
   jump_goes_on : (t : Test) → ends (jump_of t to) ≡ false
   jump_goes_on (test.Zero r) = refl
-  jump_goes_on (test.Less r q) = refl
-  jump_goes_on test.NoList = refl
-  jump_goes_on test.NoParty = refl
-  jump_goes_on (test.Empty r) = refl
-  jump_goes_on (test.NotCovered n) = refl
+  jump_goes_on _ = refl
 
   jump_declares : (t : Test) → declared_by (jump_of t to) ≡ None
   jump_declares (test.Zero r) = refl
-  jump_declares (test.Less r q) = refl
-  jump_declares test.NoList = refl
-  jump_declares test.NoParty = refl
-  jump_declares (test.Empty r) = refl
-  jump_declares (test.NotCovered n) = refl
+  jump_declares _ = refl
 
   jump_needs : (x : Context) (k : Kinds) (t : Test) → has_needs x k (jump_of t to) ≡ has_needs x k (jump_of t 0)
   jump_needs x k (test.Zero r) = refl
-  jump_needs x k (test.Less r q) = refl
-  jump_needs x k test.NoList = refl
-  jump_needs x k test.NoParty = refl
-  jump_needs x k (test.Empty r) = refl
-  jump_needs x k (test.NotCovered n) = refl
+  jump_needs x k _ = refl
 
   jump_carries : (k : Kinds) (t : Test) → carried k (jump_of t to) ≡ carried k (jump_of t 0)
   jump_carries k (test.Zero r) = refl
-  jump_carries k (test.Less r q) = refl
-  jump_carries k test.NoList = refl
-  jump_carries k test.NoParty = refl
-  jump_carries k (test.Empty r) = refl
-  jump_carries k (test.NotCovered n) = refl
+  jump_carries k _ = refl
 
   jump_next : (k : Kinds) (t : Test) → kinds_next k (jump_of t to) ≡ kinds_next k (jump_of t 0)
   jump_next k (test.Zero r) = refl
-  jump_next k (test.Less r q) = refl
-  jump_next k test.NoList = refl
-  jump_next k test.NoParty = refl
-  jump_next k (test.Empty r) = refl
-  jump_next k (test.NotCovered n) = refl
+  jump_next k _ = refl
 
 -- what a loop's two jumps have in common
 record LoopJump (i j : Instr) (to : ℕ) : Type 0 where
@@ -125,13 +105,11 @@ record LoopJump (i j : Instr) (to : ℕ) : Type 0 where
 
 first_jump : (over : Cursor) (to : ℕ) → LoopJump (to_first over to) (to_first over 0) to
 first_jump cursor.Party to = record { goes_on = refl; declares_none = refl; target = refl; needs = λ x k. refl; carries = λ k. refl; next = λ k. refl }
-first_jump cursor.Land to = record { goes_on = refl; declares_none = refl; target = refl; needs = λ x k. refl; carries = λ k. refl; next = λ k. refl }
-first_jump cursor.Win to = record { goes_on = refl; declares_none = refl; target = refl; needs = λ x k. refl; carries = λ k. refl; next = λ k. refl }
+first_jump _ to = record { goes_on = refl; declares_none = refl; target = refl; needs = λ x k. refl; carries = λ k. refl; next = λ k. refl }
 
 next_jump : (over : Cursor) (to : ℕ) → LoopJump (to_next over to) (to_next over 0) to
 next_jump cursor.Party to = record { goes_on = refl; declares_none = refl; target = refl; needs = λ x k. refl; carries = λ k. refl; next = λ k. refl }
-next_jump cursor.Land to = record { goes_on = refl; declares_none = refl; target = refl; needs = λ x k. refl; carries = λ k. refl; next = λ k. refl }
-next_jump cursor.Win to = record { goes_on = refl; declares_none = refl; target = refl; needs = λ x k. refl; carries = λ k. refl; next = λ k. refl }
+next_jump _ to = record { goes_on = refl; declares_none = refl; target = refl; needs = λ x k. refl; carries = λ k. refl; next = λ k. refl }
 
 -- ---- what is known, and what comes
 bare_line : (k : Kinds) (is : List Instr) → bare (kinds_along_all k is) ≡ known_after_all (bare k) is
@@ -142,19 +120,16 @@ bare_along : (k : Kinds) (tree : Tree) → bare (kinds_along k tree) ≡ kinds_a
 bare_along k (Line is) = bare_line k is
 bare_along k (Stop i) = refl
 bare_along k (Then a b) = bare_along (kinds_along k a) b ∙ ap (λ m. kinds_after m b) (bare_along k a)
-bare_along k (If t a b) = refl
 bare_along k (Each cursor.Party a) = refl
-bare_along k (Each cursor.Land a) = refl
-bare_along k (Each cursor.Win a) = refl
-bare_along k (Times r m a) = refl
+bare_along k (Each _ a) = refl
+bare_along k _ = refl
 
 bare_other : (k : Kinds) (t : Test) → bare (kinds_next k (jump_of t 0)) ≡ known_in_other (bare k) t
 bare_other k t = refl
 
 bare_turn : (k : Kinds) (over : Cursor) → bare (known_in_turn (bare k) over) ≡ known_in_turn (bare k) over
 bare_turn k cursor.Party = refl
-bare_turn k cursor.Land = refl
-bare_turn k cursor.Win = refl
+bare_turn k _ = refl
 
 -- ---- plans
 module _ (code : CountingCode) (slots : ℕ → Option Shape) (stages : ℕ) where

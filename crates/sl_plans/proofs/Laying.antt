@@ -52,11 +52,7 @@ if_laid k p t a b start one two three four five six jump in_other in_arm joined 
     -- which cursors and table are known after a jump does not depend on its target
     other_known : (u : Test) (m : Kinds) (to : ℕ) → known_after m (jump_of u to) ≡ known_in_other m u
     other_known (test.Zero r) m to = refl
-    other_known (test.Less r q) m to = refl
-    other_known test.NoList m to = refl
-    other_known test.NoParty m to = refl
-    other_known (test.Empty r) m to = refl
-    other_known (test.NotCovered n) m to = refl
+    other_known _ m to = refl
 
     in_one : (s fb fa : List Instr) (x y z w : Instr) → ((((((s ++ x ∷ []) ++ fb) ++ y ∷ []) ++ z ∷ []) ++ fa) ++ w ∷ []) ≡ s ++ (x ∷ (fb ++ (y ∷ (z ∷ (fa ++ (w ∷ []))))))
     in_one s fb fa x y z w = simp append_assoc refl

@@ -8,14 +8,13 @@ use Rattle.sl_machine.specs.State.{State}
 use Rattle.sl_machine.specs.Comes.{Comes}
 use Rattle.sl_machine.proofs.runs.Coming.{after, wider}
 use Rattle.sl_plans.specs.declared.plan.Cursor.{Cursor}
-use Rattle.sl_plans.specs.Meaning.{Course, Onward, Final, Unsaid, then_do, cursor_of, set_cursor, held, turn_at, for_each, each_of, at_zero, turns}
+use Rattle.sl_plans.specs.Meaning.{Course, Onward, Unsaid, then_do, cursor_of, set_cursor, held, turn_at, for_each, each_of, at_zero, turns}
 use Rattle.sl_plans.specs.Following.{Follows}
 use Rattle.sl_plans.proofs.Pieces.{follows_after, follows_wider, in_order, and_on}
 
 then_assoc : (o : Course) (f g : State → Course) → then_do (then_do o f) g ≡ then_do o (λ s. then_do (f s) g)
 then_assoc (Onward s) f g = refl
-then_assoc (Final x) f g = refl
-then_assoc Unsaid f g = refl
+then_assoc _ f g = refl
 
 module _ (c : CountingCode) (e : Election) where
   -- a loop over parties, Länder or winners: p0 has the start, p1 the declaration, p2 the body, p3 the step, p4 what is declared after it

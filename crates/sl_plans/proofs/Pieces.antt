@@ -25,29 +25,19 @@ use Rattle.sl_plans.specs.Following.{Follows}
 -- where a test leads does not depend on its target
 pub same_jump : (t : Test) (to : ℕ) (c : CountingCode) (e : Election) (s : State) → effect c e (jump_of t to) s ≡ effect c e (jump_of t 0) s
 same_jump (test.Zero r) to c e s = refl
-same_jump (test.Less r q) to c e s = refl
-same_jump test.NoList to c e s = refl
-same_jump test.NoParty to c e s = refl
-same_jump (test.Empty r) to c e s = refl
-same_jump (test.NotCovered n) to c e s = refl
+same_jump _ to c e s = refl
 
 pub jump_target : (t : Test) (to : ℕ) → target_of (jump_of t to) ≡ Some to
 jump_target (test.Zero r) to = refl
-jump_target (test.Less r q) to = refl
-jump_target test.NoList to = refl
-jump_target test.NoParty to = refl
-jump_target (test.Empty r) to = refl
-jump_target (test.NotCovered n) to = refl
+jump_target _ to = refl
 
 pub first_target : (over : Cursor) (to : ℕ) → target_of (to_first over to) ≡ Some to
 first_target cursor.Party to = refl
-first_target cursor.Land to = refl
-first_target cursor.Win to = refl
+first_target _ to = refl
 
 pub next_target : (over : Cursor) (to : ℕ) → target_of (to_next over to) ≡ Some to
 next_target cursor.Party to = refl
-next_target cursor.Land to = refl
-next_target cursor.Win to = refl
+next_target _ to = refl
 
 module _ (c : CountingCode) (e : Election) where
   -- ---- one piece after another
@@ -79,9 +69,7 @@ module _ (c : CountingCode) (e : Election) where
   module _ (p : ℕ) (s : State) (i : Instr) (at : slice_get c.instrs p ≡ Some i) where
     pub passes_of : (x : Effect) → effect c e i s ≡ x → Follows c e 1 p s (p + 1) (passes x)
     passes_of (Goes t) is = goes c e p s i at t is
-    passes_of (Jumps t) is = tt
-    passes_of (Ends x) is = tt
-    passes_of NoCase is = tt
+    passes_of _ is = tt
 
     pub stops_of : (q : ℕ) (x : Effect) → effect c e i s ≡ x → Follows c e 1 p s q (stops x)
     stops_of q (Goes t) is = tt
@@ -93,8 +81,7 @@ module _ (c : CountingCode) (e : Election) where
         → (x : Effect) → effect c e i s ≡ x → Follows c e (1 + b) p s q (branches x arm other)
     branches_of to q b arm other target in_arm in_other (Goes t) is = follows_after 1 b p (p + 1) q s t (other t) (goes c e p s i at t is) (in_other t)
     branches_of to q b arm other target in_arm in_other (Jumps t) is = follows_after 1 b p to q s t (arm t) (jumps c e p s i at t to is target) (in_arm t)
-    branches_of to q b arm other target in_arm in_other (Ends x) is = tt
-    branches_of to q b arm other target in_arm in_other NoCase is = tt
+    branches_of to q b arm other target in_arm in_other _ is = tt
 
   pub declares : (p q : ℕ) (k : Kinds) → p + 1 ≡ q → slice_get c.instrs p ≡ Some (At k) → (s : State) → Comes c e 1 p s q s
   declares p q k next at s = comes_at c e 1 p (p + 1) q s s next (goes c e p s (At k) at s refl)

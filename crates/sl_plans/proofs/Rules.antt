@@ -26,8 +26,7 @@ use Rattle.sl_plans.specs.Achieves.{Meets, Achieves}
 
 meets_then : (o : Course) (next : State → Course) (Q R : State → Type 0) (E : End → Type 0) → Meets o Q E → ((t : State) → Q t → Meets (next t) R E) → Meets (then_do o next) R E
 meets_then (Onward t) next Q R E first rest = rest t first
-meets_then (Final x) next Q R E first rest = first
-meets_then Unsaid next Q R E first rest = first
+meets_then _ next Q R E first rest = first
 
 meets_more : (o : Course) (Q R : State → Type 0) (E F : End → Type 0) → Meets o Q E → ((t : State) → Q t → R t) → ((x : End) → E x → F x) → Meets o R F
 meets_more (Onward t) Q R E F first on over = on t first

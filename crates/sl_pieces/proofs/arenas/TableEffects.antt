@@ -32,9 +32,7 @@ module _ (c : CountingCode) (e : Election) (most : ℕ) (a : Arena) (t : List �
 
 same_table : (e : Election) (k : Entries) (index : ℕ) (s : State) → (at_entry e k index s).table ≡ s.table
 same_table e entries.Party index s = refl
-same_table e entries.Land index s = refl
-same_table e entries.List index s = refl
-same_table e entries.Win index s = refl
+same_table e _ index s = refl
 
 pub waiting_effects : WaitingEffects
 waiting_effects c e most a t state arena few waits = record {

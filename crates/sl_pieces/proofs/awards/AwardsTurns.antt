@@ -31,9 +31,7 @@ module _ (e : Election) where
   -- the seat may be counted once an entry is taken, or before
   pub lessened_before : (k : Entries) (index : ℕ) (s : State) → lessened (at_entry e k index s) ≡ at_entry e k index (lessened s)
   lessened_before entries.Party index s = refl
-  lessened_before entries.Land index s = refl
-  lessened_before entries.List index s = refl
-  lessened_before entries.Win index s = refl
+  lessened_before _ index s = refl
 
 -- the state with the step of the batch that begins
 abbrev pub stepping : State → State

@@ -50,9 +50,7 @@ holds_at_most most seats t few within i = omega (arith, few, within, entry_le_su
 pub moved : (e : Election) (k : Entries) (index : ℕ) (s : State)
     → at_entry e k index s ≡ record s { party = (at_entry e k index s).party; land = (at_entry e k index s).land; win = (at_entry e k index s).win }
 moved e entries.Party index s = refl
-moved e entries.Land index s = refl
-moved e entries.List index s = refl
-moved e entries.Win index s = refl
+moved e _ index s = refl
 
 pub same_registers : (e : Election) (k : Entries) (index : ℕ) (s : State) → (at_entry e k index s).registers ≡ s.registers
 same_registers e k index s = ap (λ (u : State). u.registers) (moved e k index s)

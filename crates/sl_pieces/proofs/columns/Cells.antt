@@ -40,9 +40,7 @@ suits_shape shape.List body Inv party land = (party, land)
 -- a register is no cursor
 pub cell_kept : (e : Election) (s : Shape) (f : ℕ → ℕ) (t : State) (o : Option ℕ) → cell_at e s t ≡ o → cell_at e s (record t { registers = f }) ≡ o
 cell_kept e shape.One f t o h = h
-cell_kept e shape.Party f t o h = h
-cell_kept e shape.Land f t o h = h
-cell_kept e shape.List f t o h = h
+cell_kept e _ f t o h = h
 
 -- the cells of the Länder, party by party
 module _ (c : CountingCode) (e : Election) (body : Tree) (Inv : ℕ → State → Type 0) (E : End → Type 0) (party : Suits cursor.Party body Inv) (land : Suits cursor.Land body Inv)

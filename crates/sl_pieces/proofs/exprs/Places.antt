@@ -6,7 +6,7 @@ use Rattle.sl_stages.specs.declared.fact.Fact.{Fact}
 use Rattle.sl_stages.specs.declared.fact.Fact.TheVariants as facts
 use Rattle.sl_stages.specs.declared.limits.TheConstants.{MAX_DEPTH}
 use Rattle.sl_stages.specs.book.Typing.{shape_number}
-use Rattle.sl_pieces.specs.scopes.Forms.{Form, AllParties, AllLands, AllLists, ListsOfParty, ListsInLand, amounts_of, votes_of}
+use Rattle.sl_pieces.specs.scopes.Forms.{Form, AllParties, amounts_of, votes_of}
 use Rattle.sl_pieces.specs.exprs.Slots.{fact_slots, passing, FIRST_PASSING_SLOT, FIRST_STAGE_SLOT}
 
 pub number_few : (s : Shape) → shape_number s ≤ 3
@@ -53,7 +53,4 @@ wider k first later from (inr high) = inr high
 
 pub amounts_apart : (f : Form) (level : ℕ) → passing level (amounts_of f) ≢ passing level (votes_of f)
 amounts_apart AllParties level same = omega (arith, same)
-amounts_apart AllLands level same = omega (arith, same)
-amounts_apart AllLists level same = omega (arith, same)
-amounts_apart ListsOfParty level same = omega (arith, same)
-amounts_apart ListsInLand level same = omega (arith, same)
+amounts_apart _ level same = omega (arith, same)

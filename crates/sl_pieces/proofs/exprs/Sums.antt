@@ -66,8 +66,7 @@ fits_axis shape.Land axis.Land can = absurd (false≢true can)
 
 summed_is : (over : Axis) → summed over ≡ shape_over over
 summed_is axis.Party = refl
-summed_is axis.Land = refl
-summed_is axis.All = refl
+summed_is _ = refl
 
 module _ {c : CountingCode} {e : Election} (level : ℕ) (there : (s : Shape) → slice_get c.slots (passing level s) ≡ Some s) (low : level ≤ MAX_DEPTH) (s : Shape) where
   pub sum_all : (over : Axis) (xs : List ℕ) (state : State) → can_sum s over ≡ true → HoldsColumn e s (state.columns (passing level s)) xs

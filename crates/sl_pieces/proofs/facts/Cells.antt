@@ -18,9 +18,7 @@ use Rattle.sl_pieces.specs.facts.Trees.{FactSlots, cell, count_one, let_in, noth
 -- a register is no cursor
 cell_stays : (e : Election) (at : Shape) (r v : ℕ) (s : State) → cell_at e at (with_register r v s) ≡ cell_at e at s
 cell_stays e shape.One r v s = refl
-cell_stays e shape.Party r v s = refl
-cell_stays e shape.Land r v s = refl
-cell_stays e shape.List r v s = refl
+cell_stays e _ r v s = refl
 
 -- in that place the column has the value, and elsewhere it is as it was
 pub record Puts (place value : ℕ) (before after : ℕ → ℕ) : Type 0 where

@@ -57,9 +57,7 @@ module _ (x : FactSlots) (k : ℕ) (eligible : k ≢ x.eligible) (votes : k ≢ 
 module _ (x : FactSlots) where
   condition_silent : (one : Cond) → IsSilent (condition_tree x one)
   condition_silent (condition.Valid share per) = record { steps = refl; weights = refl; seats = refl }
-  condition_silent (condition.Winners least) = record { steps = refl; weights = refl; seats = refl }
-  condition_silent condition.Minority = record { steps = refl; weights = refl; seats = refl }
-  condition_silent condition.All = record { steps = refl; weights = refl; seats = refl }
+  condition_silent _ = record { steps = refl; weights = refl; seats = refl }
 
   conditions_silent : (conditions : List Cond) → IsSilent (conditions_tree x conditions)
   conditions_silent [] = record { steps = refl; weights = refl; seats = refl }

@@ -19,7 +19,7 @@ use Rattle.sl_code.specs.declared.operand.Entries.{Entries}
 use Rattle.sl_code.specs.declared.operand.Entries.TheVariants as entries
 use Rattle.sl_machine.specs.Places.{cells_of, item_of}
 use Rattle.sl_machine.proofs.soundness.KeptTables.{list_parts}
-use Rattle.sl_pieces.specs.scopes.Forms.{Form, AllParties, AllLands, AllLists, ListsOfParty, ListsInLand, amounts_of, votes_of, table_of, groups_of}
+use Rattle.sl_pieces.specs.scopes.Forms.{Form, AllParties, AllLands, amounts_of, votes_of, table_of, groups_of}
 use Rattle.sl_pieces.specs.scopes.Scopes.{IsEntry}
 use Rattle.sl_pieces.proofs.scopes.Scopes.{scopes_hold, scopes_apart}
 use Rattle.sl_pieces.specs.columns.Columns.{HoldsColumn}
@@ -56,16 +56,12 @@ module _ (e : Election) (pairs : List (Item × ℕ)) where
   told_cell : (f : Form) (q : ℕ) → q < cells_of e (votes_of f) → get_or (pair_column e (votes_of f) pairs) q 0 ≡ told_of pairs (item_of e (table_of f) q)
   told_cell AllParties q within = party_cell e pairs q within
   told_cell AllLands q within = land_cell e pairs q within
-  told_cell AllLists q within = list_cell q within
-  told_cell ListsOfParty q within = list_cell q within
-  told_cell ListsInLand q within = list_cell q within
+  told_cell _ q within = list_cell q within
 
   wide : (f : Form) → length (pair_column e (votes_of f) pairs) ≡ cells_of e (votes_of f)
   wide AllParties = length-map-range_with_len (λ party. told_of pairs (item.Party party)) 0 (parties_of e)
   wide AllLands = length-map-range_with_len (λ land. told_of pairs (item.Land land)) 0 (lands_of e)
-  wide AllLists = length_by_list e (λ land party. told_of pairs (item.List land party))
-  wide ListsOfParty = length_by_list e (λ land party. told_of pairs (item.List land party))
-  wide ListsInLand = length_by_list e (λ land party. told_of pairs (item.List land party))
+  wide _ = length_by_list e (λ land party. told_of pairs (item.List land party))
 
 -- ---- awards in a column
 

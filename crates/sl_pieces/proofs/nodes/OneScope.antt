@@ -33,7 +33,7 @@ use Rattle.sl_plans.specs.declared.plan.Bound.TheVariants as bound
 use Rattle.sl_plans.specs.Trees.{Tree, Then}
 use Rattle.sl_plans.specs.Achieves.{Achieves, Never}
 use Rattle.sl_plans.proofs.Rules.{achieves_more, then_achieves}
-use Rattle.sl_pieces.specs.scopes.Forms.{Form, AllParties, AllLands, AllLists, ListsOfParty, ListsInLand, votes_of, table_of}
+use Rattle.sl_pieces.specs.scopes.Forms.{Form, AllParties, votes_of, table_of}
 use Rattle.sl_pieces.specs.scopes.Scopes.{IsScope}
 use Rattle.sl_pieces.proofs.scopes.Scopes.{scopes_hold}
 use Rattle.sl_pieces.specs.arenas.Arenas.{Arena, IsArena}
@@ -70,10 +70,7 @@ room_of l v seats some none s on less =
 
 lot_is : (e : Election) (name : List ℕ) (f : Form) (items : List Item) → lot_meant e name (table_of f) items ≡ stage_lot e name (votes_of f) items
 lot_is e name AllParties items = refl
-lot_is e name AllLands items = refl
-lot_is e name AllLists items = refl
-lot_is e name ListsOfParty items = refl
-lot_is e name ListsInLand items = refl
+lot_is e name _ items = refl
 
 module _ (c : CountingCode) (e : Election) (f : Form) (x : Slots) (name : List ℕ) (k : ℕ) (g : Group) (v m : List ℕ) (seats : ℕ) (a : Arena) (state : State)
     (ready : IsReady c e f x name k g v m seats state) (is : IsScopeArena e f g seats a) where

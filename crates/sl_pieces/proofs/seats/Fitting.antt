@@ -10,7 +10,7 @@ use Rattle.sl_stages.specs.returns.Election.{Election, IsElection, lands_of, par
 use Rattle.sl_stages.specs.meaning.Scopes.{Group, place}
 use Rattle.sl_machine.specs.Places.{cells_of}
 use Rattle.sl_machine.specs.Effects.{most}
-use Rattle.sl_pieces.specs.scopes.Forms.{Form, AllParties, AllLands, AllLists, ListsOfParty, ListsInLand, votes_of, groups_of}
+use Rattle.sl_pieces.specs.scopes.Forms.{Form, AllParties, AllLands, votes_of, groups_of}
 use Rattle.sl_pieces.specs.scopes.Scopes.{IsScope}
 use Rattle.sl_pieces.proofs.scopes.Scopes.{scopes_hold}
 use Rattle.sl_pieces.proofs.seats.Lists.{mapped_at}
@@ -74,9 +74,7 @@ few_cells e f is = of f
     of : (f : Form) → cells_of e (votes_of f) ≤ MAX_LANDS * MAX_PARTIES
     of AllParties = omega (arith, p)
     of AllLands = omega (arith, l)
-    of AllLists = lists
-    of ListsOfParty = lists
-    of ListsInLand = lists
+    of _ = lists
 
 -- weights of a scope's entries sum to a number that a register holds
 pub weights_fit : (e : Election) (f : Form) (m : ℕ) (g : Group) (column : ℕ → ℕ) (v : List ℕ) → IsElection e → slice_get (groups_of e f) m ≡ Some g →
