@@ -38,9 +38,7 @@ record IsFineAs (s made : Shape) (left right to : ℕ) (role tree : Tree) : Type
 
 copy_as : (s : Shape) (from to : ℕ) → IsFineAs s s from from to (copy_tree s 0 2) (copy_tree s from to)
 copy_as shape.One from to = record { fine = refl; same = refl }
-copy_as shape.Party from to = record { fine = refl; same = refl }
-copy_as shape.Land from to = record { fine = refl; same = refl }
-copy_as shape.List from to = record { fine = refl; same = refl }
+copy_as _ from to = record { fine = refl; same = refl }
 
 pair_as : (pairing : Pairing) (s : Shape) (left right to : ℕ) → IsFineAs s s left right to (pair_tree pairing s 0 1 2) (pair_tree pairing s left right to)
 pair_as pairings.Larger shape.One left right to = record { fine = refl; same = refl }
@@ -55,12 +53,7 @@ sum_as axis.All shape.List from to can = record { fine = refl; same = refl }
 sum_as axis.All shape.Party from to can = record { fine = refl; same = refl }
 sum_as axis.All shape.Land from to can = record { fine = refl; same = refl }
 sum_as axis.All shape.One from to can = absurd (false≢true can)
-sum_as axis.Party shape.One from to can = absurd (false≢true can)
-sum_as axis.Party shape.Party from to can = absurd (false≢true can)
-sum_as axis.Party shape.Land from to can = absurd (false≢true can)
-sum_as axis.Land shape.One from to can = absurd (false≢true can)
-sum_as axis.Land shape.Party from to can = absurd (false≢true can)
-sum_as axis.Land shape.Land from to can = absurd (false≢true can)
+sum_as _ _ from to can = absurd (false≢true can)
 
 -- ---- what follows from it
 

@@ -1,5 +1,5 @@
 -- What the verifier finds in the plans of facts: they are judged by evaluation, with the slots of facts and of the last clause alone.
-use Rattle.std.proofs.Common.{◌≡◌, ℕ, zero, suc, ◌+◌, ◌≤◌, Bool, true, false, ◌==◌, if◌then◌else◌, List, [], ◌∷◌, ◌++◌, length, Option, slice_get, refl, sym, subst, ap, ◌∙◌, arith}
+use Rattle.std.proofs.Common.{◌≡◌, ℕ, zero, suc, ◌≤◌, Bool, true, false, ◌==◌, if◌then◌else◌, List, [], ◌∷◌, ◌++◌, length, Option, slice_get, refl, sym, subst, ap, ◌∙◌, arith}
 use Rattle.std.specs.Prelude.{nat_lt}
 use Rattle.std.proofs.lemmas.Bool.{eqb-true, lt-ltb}
 use Rattle.sl_stages.specs.declared.fact.Fact.{Fact}
@@ -91,9 +91,7 @@ module _ (code : CountingCode) (slots : HasFirstSlots code) where
   -- behind it nothing is known
   nothing_known : (c : Cond) → kinds_along start_kinds (condition_tree fact_slots c) ≡ start_kinds
   nothing_known (condition.Valid share per) = refl
-  nothing_known (condition.Winners least) = refl
-  nothing_known condition.Minority = refl
-  nothing_known condition.All = refl
+  nothing_known _ = refl
 
   conditions_fine : (cs : List Cond) → IsFineIn code (conditions_tree fact_slots cs)
   conditions_fine [] = refl

@@ -65,9 +65,7 @@ line_modest i = record { is = refl }
 
 pub condition_modest : (x : FactSlots) (c : Cond) → IsFactPlan (condition_tree x c)
 condition_modest x (condition.Valid share per) = record { is = refl }
-condition_modest x (condition.Winners least) = record { is = refl }
-condition_modest x condition.Minority = record { is = refl }
-condition_modest x condition.All = record { is = refl }
+condition_modest x _ = record { is = refl }
 
 pub nothing_modest : IsFactPlan (Line [])
 nothing_modest = record { is = refl }
@@ -87,8 +85,7 @@ condition_ranged : (x : FactSlots) (c : Cond) → AllFit (condition_numbers c) �
 condition_ranged x (condition.Valid share per) fit =
     record { plain = refl; numbers = (omega arith, (fit.0, (omega arith, (fit.1.0, (omega arith, tt))))) }
 condition_ranged x (condition.Winners least) fit = record { plain = refl; numbers = (omega arith, (fit.0, (omega arith, tt))) }
-condition_ranged x condition.Minority fit = small_ranged _ refl
-condition_ranged x condition.All fit = small_ranged _ refl
+condition_ranged x _ fit = small_ranged _ refl
 
 conditions_ranged : (x : FactSlots) (few : List Cond) → AllFit (flat_map condition_numbers few) → IsRanged (conditions_tree x few)
 conditions_ranged x [] fit = record { plain = refl; numbers = tt }

@@ -139,8 +139,7 @@ module _ (to : ℕ) (h : to < 2 ^ 32) where
 
 mask_in_loop : (over : Cursor) (b : Bool) (k : Kinds) → HasMask k → HasMask (with_cursor_known over b (at_join k))
 mask_in_loop cursor.Party b k h = h
-mask_in_loop cursor.Land b k h = h
-mask_in_loop cursor.Win b k h = h
+mask_in_loop _ b k h = h
 
 mask_after_line : (is : List Instr) (k : Kinds) → HasMask k → HasMask (known_after_all k is)
 mask_after_line [] k h = h

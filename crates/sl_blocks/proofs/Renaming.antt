@@ -154,9 +154,7 @@ module _ (names : Renaming) (x y : Context) (w : Renames names x y) where
   along (Line is) k = along_all is k
   along (Stop i) k = refl
   along (Then a b) k = ap (λ m. kinds_along m (renamed names b)) (along a k) ∙ along b (kinds_along k a)
-  along (If t a b) k = refl
-  along (Each over a) k = refl
-  along (Times r m a) k = refl
+  along _ k = refl
 
   -- ---- plans
   abbrev StaysFine : Tree → Type 0
@@ -204,13 +202,11 @@ module _ (names : Renaming) (x y : Context) (w : Renames names x y) where
   -- what the jumps of a loop need
   first_needs : (over : Cursor) (k : Kinds) → has_needs y k (to_first over 0) ≡ has_needs x k (to_first over 0)
   first_needs cursor.Party k = refl
-  first_needs cursor.Land k = refl
-  first_needs cursor.Win k = refl
+  first_needs _ k = refl
 
   next_needs : (over : Cursor) (k : Kinds) → has_needs y k (to_next over 0) ≡ has_needs x k (to_next over 0)
   next_needs cursor.Party k = refl
-  next_needs cursor.Land k = refl
-  next_needs cursor.Win k = refl
+  next_needs _ k = refl
 
   each_fine : (over : Cursor) (a : Tree) → StaysFine a → StaysFine (Each over a)
   each_fine over a fine_a k h =

@@ -41,9 +41,7 @@ levels_then n count rest = flat_map (λ (level : ℕ). level_shapes) (range_with
 -- the column of a shape on the first of some levels
 on_first : (n count : ℕ) (rest : List Shape) (s : Shape) → slice_get (levels_then n (suc count) rest) (4 * 0 + shape_number s) ≡ Some s
 on_first n count rest shape.One = refl
-on_first n count rest shape.Party = refl
-on_first n count rest shape.Land = refl
-on_first n count rest shape.List = refl
+on_first n count rest _ = refl
 
 -- and on any of them
 on_level : (n count level : ℕ) (rest : List Shape) (s : Shape) → level < count → slice_get (levels_then n count rest) (4 * level + shape_number s) ≡ Some s

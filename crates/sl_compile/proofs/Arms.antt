@@ -35,8 +35,7 @@ pair_is is x_is y_is = rw (x_is, y_is) (ap tree_of is)
 
 pub summed_is : (over : Axis) → shape_over over ≡ summed over
 summed_is axis.Party = refl
-summed_is axis.Land = refl
-summed_is axis.All = refl
+summed_is _ = refl
 
 module _ (types : List Column) {at : ℕ} {x y : ExprTree} {over : Axis} (is : x ≡ sum at y over) where
   pub sum_has : {E : Type 0} (r : Result ColumnType E) {of : ColumnType} → of ≡ type_of types y → IfOk r (λ has. has ≡ column (shape_over over) of.unit) → IfOk r (λ has. has ≡ type_of types x)

@@ -123,9 +123,7 @@ head_fair (condition.Valid share per) cs pass =
     let most = leb-true _ _ (second_so _ _ h.0) in
     let parts = first_so _ _ h.0 in
     ((leb-true _ _ (first_so _ _ parts), leb-true _ _ (second_so _ _ parts), most), h.1)
-head_fair (condition.Winners least) cs pass = (tt, pass)
-head_fair condition.Minority cs pass = (tt, pass)
-head_fair condition.All cs pass = (tt, pass)
+head_fair _ cs pass = (tt, pass)
 
 next_fair : (conditions : List Cond) (i : ℕ) (c : Cond) → i < length conditions → drop i conditions ≡ c ∷ drop (suc i) conditions →
     first_failing (condition_tests (drop i conditions)) ≡ None → IsFair c × (first_failing (condition_tests (drop (suc i) conditions)) ≡ None)

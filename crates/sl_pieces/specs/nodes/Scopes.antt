@@ -65,4 +65,3 @@ pub record DoesScopes (c : CountingCode) (e : Election) (f : Form) (x : Slots) (
 -- where a split or a growth stands
 abbrev pub stand : Form → Slots → List ℕ → Stand
 stand f x name = record { stage = x.stage; name = name; shape = votes_of f }
-

@@ -29,4 +29,3 @@ pub record HasHouse (e : Election) (x : Slots) (g : Group) (d : Divisor) (v m : 
 pub record EndsAboveCap (x : Slots) (g : Group) (d : Divisor) (v m : List ℕ) (seats cap : ℕ) (end : End) : Type 0 where
   pub above : IsGrowth d v m seats cap AboveCap
   pub is : end ≡ Faulted (fault_at x.stage g.scope fault.Cap)
-

@@ -130,4 +130,3 @@ pub record IsReady (c : CountingCode) (e : Election) (f : Form) (x : Slots) (nam
   pub total : s.registers reg.TOTAL ≡ sum v
   pub votes : HasCells e g.entries (s.columns x.votes) v
   pub minima : HasMinima e g.entries v x.minima s m
-

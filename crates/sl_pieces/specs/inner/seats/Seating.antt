@@ -34,4 +34,3 @@ pub record AwardsSeats (c : CountingCode) (e : Election) (f : Form) (x : Slots) 
   pub gives : GivesSeats c e a MAX_SEATS (IsCounted a seats) (IsSeated e x g a v seats told before) (seat f x (again_of x method))
   pub fits : FitsAwards (IsSeated e x g a v seats told before) (seat f x (again_of x method))
   pub ends : EndsTied c e a seats meant (IsSeated e x g a v seats told before) (EndsInTie x g a seats meant) (tied f x)
-

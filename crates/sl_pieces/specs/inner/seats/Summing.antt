@@ -18,7 +18,6 @@ use Rattle.sl_pieces.specs.inner.seats.Seated.{IsSeated}
 
 -- ---- sums
 
-
 -- the sums are in their registers, or the most that a register holds, and all else is as it was
 pub record AreSummed (g : Group) (v m : List ℕ) (before after : State) : Type 0 where
   pub on : OnScope g.scope after
@@ -26,7 +25,6 @@ pub record AreSummed (g : Group) (v m : List ℕ) (before after : State) : Type 
   pub total : after.registers reg.TOTAL ≡ min (sum v) most
   pub needed : after.registers reg.NEEDED ≡ min (sum m) most
   pub unchanged : IsUnchanged before after
-
 
 -- ---- what refuses the seats before any is given out
 
@@ -41,7 +39,6 @@ pub record EndsRefused (x : Slots) (g : Group) (v m : List ℕ) (seats : ℕ) (e
   pub refused : refusal v m seats ≡ Some kind
   pub is : end ≡ Faulted (fault_at x.stage g.scope kind)
 
-
 -- ---- the majority clause
 
 -- the seats stand, and the clause doesn't refuse them
@@ -53,4 +50,3 @@ pub record StandsBy (e : Election) (x : Slots) (g : Group) (a : Arena) (v : List
 pub record EndsDeprived (x : Slots) (g : Group) (v : List ℕ) (seats : ℕ) (majority : Majority) (s : List ℕ) (end : End) : Type 0 where
   pub refused : is_refused majority v seats s ≡ true
   pub is : end ≡ Faulted (fault_at x.stage g.scope fault.Majority)
-
