@@ -7,8 +7,8 @@ use sl_stages::{Item, Lot, Returns};
 
 // What to do.
 const DRAW: Message = Message {
-    english: "have the lot drawn by whom the statute names; then write one record for each into the returns, the one drawn first at the top:",
-    german: "das Los ziehen lassen, durch wen das Gesetz es bestimmt; dann für jeden eine Zeile in die Wahlergebnisse, der zuerst Gezogene oben:",
+    english: "have the lot drawn by whom the statute names; then write one record for each into the returns, in the order of the lot and not of this list, the first drawn at the top:",
+    german: "das Los ziehen lassen, durch wen das Gesetz es bestimmt; dann für jeden eine Zeile in die Wahlergebnisse, in der Reihenfolge des Loses und nicht dieser Liste, der zuerst Gezogene oben:",
 };
 
 // Lots without an effect; values: their number, the stage that they name, and what is meant.
