@@ -6,9 +6,11 @@ mod claims;
 mod decimal;
 mod divisors;
 pub mod laws;
+mod limits;
 mod votes;
 
 pub use claims::{is_allocation, last_seats, next_claims};
 pub use decimal::{Decimal, MAX_PLACES, cut};
 pub use divisors::divisor;
+pub use limits::are_within;
 pub use votes::votes_missing;

@@ -27,8 +27,9 @@ fn has_votes(votes: &[u64]) -> bool
     false
 }
 
-/// Whether there are as many votes as seats, within the limits, and not all votes are 0.
-pub(crate) fn are_within(votes: &[u64], seats: &[u32]) -> bool
+/// Whether the margins may be asked of these votes and seats: there are as many of the one as of the other, within their limits, and not all
+/// votes are 0.
+pub fn are_within(votes: &[u64], seats: &[u32]) -> bool
     ensures same_length { IsTrue result → length seats.now ≡ length votes.now }
     ensures weights { IsTrue result → All (λ v. v ≤ MAX_WEIGHT) votes.now }
     ensures seats { IsTrue result → All (λ s. s ≤ MAX_SEATS) seats.now }

@@ -2,9 +2,8 @@
 #![tactic(auto)]
 
 mod decimals;
-mod limits;
 
-use sl_margins::{divisor, is_allocation, last_seats, next_claims, votes_missing};
+use sl_margins::{are_within, divisor, is_allocation, last_seats, next_claims, votes_missing};
 use sl_ratio::Divisor;
 
 // Parties by their seats, each with its votes.
@@ -26,7 +25,7 @@ fn show_entries(
     votes: &[u64],
     seats: &[u32],
 ) -> anyhow::Result<()> {
-    if !limits::are_within(votes, seats) || !is_allocation(method, votes, seats) {
+    if !are_within(votes, seats) || !is_allocation(method, votes, seats) {
         return Ok(());
     }
     for entry in 0..votes.len() {
@@ -47,7 +46,7 @@ fn show_edges(
     votes: &[u64],
     seats: &[u32],
 ) -> anyhow::Result<()> {
-    if !limits::are_within(votes, seats) {
+    if !are_within(votes, seats) {
         return Ok(());
     }
     match divisor(method, votes, seats) {

@@ -3,7 +3,6 @@
 #![tactic(auto)]
 
 mod fraction;
-mod limits;
 mod margins;
 mod places;
 mod scopes;

@@ -3,8 +3,9 @@
 ghost use Rattle.std.specs.Prelude.{◌≤◌, All};
 ghost use Rattle.sl_margins.specs.MissingVotes.{IsAllocation};
 
-use crate::limits::are_within;
-use sl_margins::{Decimal, divisor, is_allocation, last_seats, next_claims, votes_missing};
+use sl_margins::{
+    Decimal, are_within, divisor, is_allocation, last_seats, next_claims, votes_missing,
+};
 use sl_ratio::{Divisor, MAX_SEATS, MAX_WEIGHT, NoMemory};
 use std::alloc::Global;
 
