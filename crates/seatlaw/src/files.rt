@@ -1,7 +1,10 @@
 //! Files as inputs and as outputs of the desk.
 
-use sl_desk::{BookSource, DeskError, FromRead, Input, ToWrite};
-use sl_hints::{BookText, Kept};
+use sl_desk::{
+    BookSource, BookText, DeskError, FromRead, Input, MAX_BOOK_BYTES, MAX_CODE_BYTES,
+    MAX_RETURNS_BYTES, ToWrite,
+};
+use sl_hints::Kept;
 use std::fs::File;
 
 /// A file that is read, whose bytes are kept for an explanation.
@@ -39,10 +42,20 @@ impl Failure<'_> {
     }
 }
 
+// How many bytes the desk reads of an input at most: its limit, and one more to see that there are too many.
+fn room_for(input: Input) -> usize {
+    let limit = match input {
+        Input::Book => MAX_BOOK_BYTES,
+        Input::Code => MAX_CODE_BYTES,
+        Input::Returns => MAX_RETURNS_BYTES,
+    };
+    limit + 1
+}
+
 /// The file at a path, as that input.
 pub fn open<'a>(rt: &HostRuntime, path: &'a str, input: Input) -> Result<KeptFile, Failure<'a>> {
     match File::open(rt, path) {
-        Ok(file) => Ok(Kept::new(rt.alloc(), FromRead::new(file))),
+        Ok(file) => Ok(Kept::new(rt.alloc(), FromRead::new(file), room_for(input))),
         Err(error) => Err(Failure::Unopened { input, path, error }),
     }
 }

@@ -2,12 +2,12 @@
 
 use crate::files::Failure;
 use crate::telling::{Desk, tell_failure, tell_fault};
-use sl_desk::{FromRead, Input, MAX_BOOK_BYTES, MAX_RETURNS_BYTES, ToWrite};
-use sl_hints::{BookText, explain_check, explain_count};
+use sl_desk::{BookText, FromRead, Input, MAX_BOOK_BYTES, MAX_RETURNS_BYTES, ToWrite};
+use sl_hints::{explain_check, explain_count};
 use sl_ratio::NoMemory;
 use sl_report::{
-    Answer, MAX_NAMES_BYTES, Named, ReportError, Rulebook, STATUTES, Shape, bytes_of, compare,
-    deliver, report, stages, totals,
+    Answer, MAX_NAMES_BYTES, Named, ReportError, STATUTES, Shape, bytes_of, compare, deliver,
+    report, stages, totals,
 };
 use sl_words::{Report, ReportForm};
 use std::fs::File;
@@ -20,15 +20,7 @@ struct Loaded<'a> {
 }
 
 impl<'a> Loaded<'a> {
-    // As the reports take it.
-    fn rulebook(&'a self) -> Rulebook<'a> {
-        match &self.text {
-            Some(text) => Rulebook::Text(text.as_slice()),
-            None => Rulebook::Library(self.word.strip_prefix('@').unwrap_or(self.word)),
-        }
-    }
-
-    // As explanations take it.
+    // As the reports and the explanations take it.
     fn text(&'a self) -> BookText<'a> {
         match &self.text {
             Some(text) => BookText::Text(text.as_slice()),
@@ -189,7 +181,7 @@ fn named_books<'a>(rt: &HostRuntime, books: &'a [Loaded<'a>]) -> Result<Vec<Name
     for loaded in books {
         named.push(Named {
             word: loaded.word,
-            book: loaded.rulebook(),
+            book: loaded.text(),
         })?;
     }
     Ok(named)
@@ -209,7 +201,7 @@ fn compared(rt: &HostRuntime, loads: &Loads<'_>, shape: Shape) -> Result<Answer,
 // A report on the returns alone, or with a rulebook.
 fn totalled(rt: &HostRuntime, loads: &Loads<'_>, shape: Shape) -> Result<Answer, NoMemory> {
     let book = match loads.books.first() {
-        Some(book) => Some(book.rulebook()),
+        Some(book) => Some(book.text()),
         None => None,
     };
     let names = bytes(&loads.names);
@@ -227,10 +219,8 @@ fn answer_of(
     let returns = loads.returns.as_slice();
     let names = bytes(&loads.names);
     match (what, loads.books.first()) {
-        (Report::Count { .. }, Some(book)) => report(alloc, book.rulebook(), returns, names, shape),
-        (Report::Stages { .. }, Some(book)) => {
-            stages(alloc, book.rulebook(), returns, names, shape)
-        }
+        (Report::Count { .. }, Some(book)) => report(alloc, book.text(), returns, names, shape),
+        (Report::Stages { .. }, Some(book)) => { stages(alloc, book.text(), returns, names, shape) }
         (Report::Totals { .. }, _) => totalled(rt, loads, shape),
         _ => compared(rt, loads, shape),
     }

@@ -3,8 +3,8 @@
 use crate::files::{Failure, KeptFile, create, open, open_book, text_of};
 use crate::reports;
 use crate::telling::{Desk, language_of, tell_failure, tell_fault};
-use sl_desk::{BookSource, Input, Status, ToWrite};
-use sl_hints::{BookText, explain_check, explain_count, explain_run, explain_stage};
+use sl_desk::{BookSource, BookText, Input, Status, ToWrite};
+use sl_hints::{explain_check, explain_count, explain_run, explain_stage};
 use sl_words::{Asked, Request, Show};
 
 // Explains why a count gave nothing to show.

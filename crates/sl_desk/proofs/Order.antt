@@ -14,7 +14,6 @@ use Rattle.sl_desk.specs.declared.calls.Answer.{Answer}
 use Rattle.sl_desk.specs.declared.refusal.BookRefusal.{BookRefusal}
 use Rattle.sl_desk.specs.declared.refusal.CodeRefusal.{CodeRefusal}
 use Rattle.sl_desk.specs.declared.report.Report.{Report}
-use Rattle.sl_desk.specs.declared.report.Report.TheVariants.{Stage}
 use Rattle.sl_desk.specs.declared.status.Status.{Status}
 use Rattle.sl_desk.specs.declared.status.Status.TheVariants as status
 use Rattle.sl_desk.specs.declared.status.DeskError.{DeskError}

@@ -9,7 +9,6 @@ use Rattle.sl_stages.specs.laws.OneLaws.{ExactlyOne}
 use Rattle.sl_verify.specs.WellKinded.{IsWellKinded}
 use Rattle.sl_desk.specs.declared.refusal.CodeRefusal.{CodeRefusal}
 use Rattle.sl_desk.specs.declared.report.Report.{Report}
-use Rattle.sl_desk.specs.declared.report.Report.TheVariants.{Seats}
 use Rattle.sl_desk.specs.declared.status.Status.{Status}
 use Rattle.sl_desk.specs.declared.verdict.Verdict.{Verdict}
 use Rattle.sl_desk.specs.declared.verdict.Verdict.TheVariants.{Good}

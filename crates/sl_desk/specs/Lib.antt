@@ -4,6 +4,7 @@ pub mod Writing
 pub mod Refusals
 pub mod Library
 pub mod Books
+pub mod Judging
 pub mod Returns
 pub mod CodeFiles
 pub mod Stages

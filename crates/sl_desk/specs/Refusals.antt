@@ -1,8 +1,7 @@
 -- The lines of refusals: what all of them have (docs/output.md, section 2).
 use Rattle.std.specs.Fmt.{decimal}
-use Rattle.std.specs.Prelude.{List, codes, ◌++◌, ◌+◌, ◌∷◌, ℕ, []}
+use Rattle.std.specs.Prelude.{List, codes, ◌++◌, ◌∷◌, ℕ, []}
 use Rattle.sl_desk.specs.declared.refusal.Numbered.{Numbered}
-use Rattle.sl_desk.specs.declared.status.DeskError.TheVariants as fault
 use Rattle.sl_table.specs.Lines.{line}
 
 -- a fault by its number, and where it shows

@@ -1,3 +1,2 @@
 -- Definitions on which no call of the desk and no law rests.
-pub mod Judging
 pub mod Inputs

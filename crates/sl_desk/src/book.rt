@@ -5,7 +5,7 @@ ghost use Rattle.sl_laws.specs.Books.{law_text};
 ghost use Rattle.sl_desk.specs.Failures.{counts, counts_after};
 ghost use Rattle.sl_desk.specs.Reading.{book_input, book_failures, ReadsBook, TakesAtMost};
 ghost use Rattle.sl_desk.specs.Books.{IsBookVerdict, IsLawVerdict, IsTextVerdict};
-ghost use Rattle.sl_desk.specs.inner.Judging.{tree_verdict};
+ghost use Rattle.sl_desk.specs.Judging.{input_of, tree_verdict};
 
 use crate::input::{Bytes, read_all};
 use crate::limits::MAX_BOOK_BYTES;
@@ -20,18 +20,37 @@ use sl_parse::{ParseFault, parse};
 use sl_ratio::NoMemory;
 use std::alloc::Global;
 
-/// What a text comes to: its tokens, their tree, and the tests of the tree.
+/// A rulebook: of the library, by its name without `@`, or the bytes of a text.
+#[derive(Clone, Copy)]
+pub enum BookText<'a> {
+    Library(&'a str),
+    Text(&'a [u8]),
+}
+
+impl<'a> BookText<'a> {
+    /// The bytes of its text; none where the library has no rulebook of that name.
+    pub fn bytes(self) -> &'a [u8] {
+        match self {
+            BookText::Library(name) => law(name).unwrap_or("").as_bytes(),
+            BookText::Text(text) => text,
+        }
+    }
+}
+
+/// What a text comes to: its length, its tokens, their tree, and the tests of the tree.
 ///
 /// # Errors
 ///
 /// Want of memory.
-pub fn judge_text<'a>(
+pub(crate) fn judge_text<'a>(
     alloc: Global,
     text: &[u8],
 ) -> Result<Verdict<CheckedBook, BookRefusal<'a>>, NoMemory>
-    requires { length text.now ≤ MAX_BOOK_BYTES }
     ensures { IfOk result (λ v. IsTextVerdict text.now (tree_verdict v)) }
 {
+    if text.len() > MAX_BOOK_BYTES {
+        return Ok(Verdict::Refused(BookRefusal::TooLong));
+    }
     let tokens = match lex(alloc, text) {
         Ok(tokens) => tokens,
         Err(LexFault::NoMemory) => return Err(NoMemory),
@@ -53,7 +72,7 @@ pub fn judge_text<'a>(
 /// # Errors
 ///
 /// Want of memory.
-pub fn judge_law<'a>(
+pub(crate) fn judge_law<'a>(
     alloc: Global,
     name: &'a str,
 ) -> Result<Verdict<CheckedBook, BookRefusal<'a>>, NoMemory>
@@ -77,6 +96,23 @@ fn read_text<'a, S: Source>(
     match read_all(alloc, reader, Input::Book, MAX_BOOK_BYTES)? {
         Bytes::Whole(text) => Ok(judge_text(alloc, text.as_slice())?),
         Bytes::TooLong => Ok(Verdict::Refused(BookRefusal::TooLong)),
+    }
+}
+
+/// What a rulebook comes to.
+///
+/// # Errors
+///
+/// Want of memory.
+pub fn judge_book<'a>(
+    alloc: Global,
+    book: BookText<'a>,
+) -> Result<Verdict<CheckedBook, BookRefusal<'a>>, NoMemory>
+    ensures { IfOk result (λ v. IsBookVerdict (input_of book.entry) (tree_verdict v)) }
+{
+    match book {
+        BookText::Library(name) => judge_law(alloc, name),
+        BookText::Text(text) => judge_text(alloc, text),
     }
 }
 

@@ -22,9 +22,11 @@ use std::alloc::Global;
 ///
 /// Want of memory.
 pub fn judge_code(alloc: Global, bytes: &[u8]) -> Result<Verdict<Verified, CodeRefusal>, NoMemory>
-    requires { length bytes.now ≤ MAX_CODE_BYTES }
     ensures { IfOk result (IsCodeVerdict bytes.now) }
 {
+    if bytes.len() > MAX_CODE_BYTES {
+        return Ok(Verdict::Refused(CodeRefusal::TooLong));
+    }
     let code = match from_bytes(alloc, bytes) {
         Ok(code) => code,
         Err(CodeFault::NoMemory) => return Err(NoMemory),

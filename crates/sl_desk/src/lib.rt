@@ -15,7 +15,7 @@ mod source;
 mod status;
 mod verdict;
 
-pub use book::{judge_law, judge_text};
+pub use book::{BookText, judge_book};
 pub use calls::check::check_book;
 pub use calls::code::code;
 pub use calls::count::{count, steps};

@@ -25,9 +25,11 @@ pub fn judge_returns(
     alloc: Global,
     bytes: &[u8],
 ) -> Result<Verdict<Returns, ReturnsRefusal>, NoMemory>
-    requires { length bytes.now ≤ MAX_RETURNS_BYTES }
     ensures { IfOk result (IsReturnsVerdict bytes.now) }
 {
+    if bytes.len() > MAX_RETURNS_BYTES {
+        return Ok(Verdict::Refused(ReturnsRefusal::TooLong));
+    }
     match read_returns(alloc, bytes) {
         Ok(returns) => Ok(Verdict::Good(returns)),
         Err(

@@ -1,7 +1,7 @@
 -- The fault of the inputs of a command, by the verdicts of the desk on the same bytes.
 use Rattle.std.specs.Prelude.{List, None, Option, Some, length, option_map, ◌≡◌, ◌⊎◌, ℕ}
 use Rattle.sl_code.specs.Codes.{CountingCode}
-use Rattle.sl_desk.specs.Books.{BookInput, IsBookVerdict, library, text}
+use Rattle.sl_desk.specs.Books.{BookInput, IsBookVerdict}
 use Rattle.sl_desk.specs.CodeFiles.{IsCodeVerdict}
 use Rattle.sl_desk.specs.Returns.{IsReturnsVerdict}
 use Rattle.sl_desk.specs.Stages.{stage_number}
@@ -9,8 +9,6 @@ use Rattle.sl_desk.specs.declared.refusal.BookRefusal.{BookRefusal}
 use Rattle.sl_desk.specs.declared.refusal.CodeRefusal.{CodeRefusal}
 use Rattle.sl_desk.specs.declared.refusal.ReturnsRefusal.{ReturnsRefusal}
 use Rattle.sl_desk.specs.declared.verdict.Verdict.TheVariants.{Good, Refused}
-use Rattle.sl_hints.specs.declared.fault.BookText.{BookText}
-use Rattle.sl_hints.specs.declared.fault.BookText.TheVariants as given
 use Rattle.sl_hints.specs.declared.fault.Explained.{Explained}
 use Rattle.sl_hints.specs.declared.fault.Fault.{Fault}
 use Rattle.sl_hints.specs.declared.fault.Fault.TheVariants as fault
@@ -25,11 +23,6 @@ use Rattle.sl_stages.specs.declared.table.Outcome.TheVariants as outcome
 use Rattle.sl_stages.specs.meaning.Means.{Means}
 use Rattle.sl_stages.specs.meaning.Tables.{SeatTable}
 use Rattle.sl_stages.specs.returns.Election.{Election}
-
--- the desk's input
-abbrev pub input_of : BookText → BookInput
-input_of (given.Library name) = library name.now
-input_of (given.Text bytes) = text bytes.now
 
 -- the fault of which an explanation speaks
 abbrev pub fault_in : Option Explained → Option Fault

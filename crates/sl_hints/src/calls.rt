@@ -2,18 +2,22 @@
 
 ghost use Rattle.std.specs.Prelude.{◌≡◌, IfOk, Some};
 ghost use Rattle.sl_stages.specs.book.Books.{book_of};
-ghost use Rattle.sl_hints.specs.Faults.{ending_fault, fault_in, input_of, IsCheckFault, IsCodeFault, IsCountFault, IsEndingFault, IsOutcomeFault, IsRunFault, IsStageFault, IsTreeFault};
+ghost use Rattle.sl_desk.specs.Judging.{input_of};
+ghost use Rattle.sl_hints.specs.Faults.{ending_fault, fault_in, IsCheckFault, IsCodeFault, IsCountFault, IsEndingFault, IsOutcomeFault, IsRunFault, IsStageFault, IsTreeFault};
 ghost use Rattle.sl_hints.specs.declared.fault.Fault.TheVariants as fault;
 
-use crate::fault::{BookText, Explained, Fault};
-use crate::judging::{count_ending, judge_book, judge_code, judge_returns, run_ending};
+use crate::fault::{Explained, Fault};
+use crate::judging::{count_ending, run_ending};
 use sl_book_hints::{
     explain_grammar, explain_long_book, explain_test, explain_tokens, explain_unknown_law,
     explain_unknown_stage,
 };
 use sl_check::CheckedBook;
 use sl_code::CodeStage;
-use sl_desk::{BookRefusal, CodeRefusal, ReturnsRefusal, Verdict, stage_number};
+use sl_desk::{
+    BookRefusal, BookText, CodeRefusal, ReturnsRefusal, Verdict, judge_book, judge_code,
+    judge_returns, stage_number,
+};
 use sl_explain::{Explanation, Language};
 use sl_legal_hints::{
     explain_budget, explain_code_bytes, explain_code_kinds, explain_legal, explain_long_code,

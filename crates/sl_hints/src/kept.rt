@@ -11,27 +11,36 @@ use std::alloc::Global;
 #[derive(Drop)]
 pub struct Kept<S> {
     source: S,
-    bytes: Vec<u8>,
-    is_whole: bool,
+    bytes: Option<Vec<u8>>,
 }
 
 impl<S: Source> Kept<S> {
-    /// A source over this one, of which nothing has been read. Takes no memory.
-    pub fn new(alloc: Global, source: S) -> Kept<S> {
+    /// A source over this one, of which nothing has been read. Takes memory for `room` bytes, so that they need not move as more are read.
+    /// Where there is none, nothing is kept.
+    pub fn new(alloc: Global, source: S, room: usize) -> Kept<S> {
         Kept {
             source,
-            bytes: Vec::new(alloc),
-            is_whole: true,
+            bytes: Vec::with_capacity(alloc, room).ok(),
         }
     }
 
     /// The bytes that were read, or `None` where there was no memory for them.
     pub fn bytes(&self) -> Option<&[u8]> {
-        if self.is_whole {
-            Some(self.bytes.as_slice())
-        } else {
-            None
+        match &self.bytes {
+            Some(bytes) => Some(bytes.as_slice()),
+            None => None,
         }
+    }
+}
+
+// Keeps some more bytes; where there is no memory for them, none at all.
+fn keep(kept: &mut Option<Vec<u8>>, read: &[u8]) {
+    let fits = match kept {
+        Some(bytes) => bytes.extend_from_slice(read).is_ok(),
+        None => true,
+    };
+    if !fits {
+        *kept = None;
     }
 }
 
@@ -42,10 +51,7 @@ impl<S: Source> Source for Kept<S> {
 
     fn fetch(&mut self, buf: &mut [u8]) -> Result<usize, Failed> {
         let length = self.source.fetch(buf)?;
-        let read = buf.get(..length).unwrap_or(&[]);
-        if self.bytes.extend_from_slice(read).is_err() {
-            self.is_whole = false;
-        }
+        keep(&mut self.bytes, buf.get(..length).unwrap_or(&[]));
         Ok(length)
     }
 

@@ -9,6 +9,6 @@ mod kept;
 mod opening;
 
 pub use calls::{explain_check, explain_count, explain_run, explain_stage};
-pub use fault::{BookText, Explained, Fault};
+pub use fault::{Explained, Fault};
 pub use kept::Kept;
 pub use opening::{explain_opening, explain_writing};

@@ -79,8 +79,8 @@ impl Answer {
         })
     }
 
-    /// Whether the answer refuses an input.
-    pub(crate) fn is_refusal(&self) -> bool {
-        self.status == 2
+    /// The text as a line of UTF-8, as all is that counting writes.
+    pub(crate) fn line(&self) -> &str {
+        std::str::from_utf8(self.text.as_slice()).unwrap_or("")
     }
 }

@@ -1,15 +1,16 @@
 //! The commands.
 
 use crate::answer::{Answer, Shape};
-use crate::cases::{Rulebook, counted, read_book, read_election};
+use crate::cases::{Case, read_book, read_election};
 use crate::runs::{Outcome, outcome_of};
 use crate::streams::MAX_NAMES_BYTES;
 use sl_count_sheets::report_sheets;
+use sl_desk::BookText;
 use sl_naming::{FullNames, Naming, explanation_sheet, fault_sheet};
 use sl_ratio::NoMemory;
 use sl_results::{Counted, Setting, parts_of};
 use sl_sheets::Sheet;
-use sl_stages::{CheckedBook, LegalFault, Returns};
+use sl_stages::{Book, CheckedBook, LegalFault, Returns};
 use sl_total_sheets::{Judged, compare_sheets, stage_sheets, total_sheets};
 use std::alloc::Global;
 
@@ -17,34 +18,34 @@ use std::alloc::Global;
 #[derive(Clone, Copy)]
 pub struct Named<'a> {
     pub word: &'a str,
-    pub book: Rulebook<'a>,
+    pub book: BookText<'a>,
 }
 
 /// The six statutes of the library, which are compared where no rulebook is given.
 pub const STATUTES: [Named<'static>; 6] = [
     Named {
         word: "@1956",
-        book: Rulebook::Library("1956"),
+        book: BookText::Library("1956"),
     },
     Named {
         word: "@1985",
-        book: Rulebook::Library("1985"),
+        book: BookText::Library("1985"),
     },
     Named {
         word: "@2008",
-        book: Rulebook::Library("2008"),
+        book: BookText::Library("2008"),
     },
     Named {
         word: "@2013",
-        book: Rulebook::Library("2013"),
+        book: BookText::Library("2013"),
     },
     Named {
         word: "@2023",
-        book: Rulebook::Library("2023"),
+        book: BookText::Library("2023"),
     },
     Named {
         word: "@2023-order",
-        book: Rulebook::Library("2023-order"),
+        book: BookText::Library("2023-order"),
     },
 ];
 
@@ -78,14 +79,6 @@ fn names_of(alloc: Global, names: Option<&[u8]>) -> Result<Result<FullNames, Ans
     }
 }
 
-// The text of an answer.
-fn line_of(answer: &Answer) -> &str {
-    match std::str::from_utf8(answer.text.as_slice()) {
-        Ok(line) => line,
-        Err(_) => "",
-    }
-}
-
 // The sheets of a count.
 fn counted_sheets(
     alloc: Global,
@@ -116,13 +109,13 @@ fn fault_sheets(
     Ok(sheets)
 }
 
-// What a good book comes to on good returns, behind what counting wrote.
+// What a good book comes to on good returns. A legal fault has the line with which counting ends.
 fn shown(
     alloc: Global,
     show: Show,
+    case: Case<'_>,
     book: &CheckedBook,
     naming: &Naming<'_>,
-    written: Answer,
     shape: Shape,
 ) -> Result<Answer, NoMemory> {
     let returns = naming.returns;
@@ -135,10 +128,16 @@ fn shown(
         }
         Outcome::Fault(fault) => {
             let sheets = fault_sheets(alloc, &setting, naming, &fault)?;
-            let line = line_of(&written);
-            Answer::of(alloc, show.command(), Some(line), sheets.as_slice(), shape)
+            let written = case.counted(alloc)?;
+            Answer::of(
+                alloc,
+                show.command(),
+                Some(written.line()),
+                sheets.as_slice(),
+                shape,
+            )
         }
-        Outcome::OutOfBudget => Ok(written),
+        Outcome::OutOfBudget => case.counted(alloc),
     }
 }
 
@@ -146,31 +145,24 @@ fn shown(
 fn one_book(
     alloc: Global,
     show: Show,
-    book: Rulebook<'_>,
-    returns: &[u8],
+    case: Case<'_>,
     names: Option<&[u8]>,
     shape: Shape,
 ) -> Result<Answer, NoMemory> {
-    let written = counted(alloc, book, returns)?;
-    if written.is_refusal() {
-        return Ok(written);
-    }
+    let book = read_book(alloc, case.book)?;
+    let returns = read_election(alloc, case.returns)?;
+    let (Some(book), Some(returns)) = (book, returns) else {
+        return case.counted(alloc);
+    };
     let full = match names_of(alloc, names)? {
         Ok(full) => full,
         Err(refused) => return Ok(refused),
     };
-    let book = read_book(alloc, book)?;
-    let returns = read_election(alloc, returns)?;
-    match (book, returns) {
-        (Some(book), Some(returns)) => {
-            let naming = Naming {
-                returns: &returns,
-                full: &full,
-            };
-            shown(alloc, show, &book, &naming, written, shape)
-        }
-        _ => Ok(written),
-    }
+    let naming = Naming {
+        returns: &returns,
+        full: &full,
+    };
+    shown(alloc, show, case, &book, &naming, shape)
 }
 
 /// What a book comes to on returns, in full. Inputs that `count` refuses are refused by the same line, and a legal fault has its line first.
@@ -180,12 +172,12 @@ fn one_book(
 /// Want of memory.
 pub fn report(
     alloc: Global,
-    book: Rulebook<'_>,
+    book: BookText<'_>,
     returns: &[u8],
     names: Option<&[u8]>,
     shape: Shape,
 ) -> Result<Answer, NoMemory> {
-    one_book(alloc, Show::Report, book, returns, names, shape)
+    one_book(alloc, Show::Report, Case { book, returns }, names, shape)
 }
 
 /// The columns of all stages of a book, as `report` refuses inputs and tells of a legal fault.
@@ -195,27 +187,23 @@ pub fn report(
 /// Want of memory.
 pub fn stages(
     alloc: Global,
-    book: Rulebook<'_>,
+    book: BookText<'_>,
     returns: &[u8],
     names: Option<&[u8]>,
     shape: Shape,
 ) -> Result<Answer, NoMemory> {
-    one_book(alloc, Show::Stages, book, returns, names, shape)
+    one_book(alloc, Show::Stages, Case { book, returns }, names, shape)
 }
 
 // The totals of good returns, with a good book if one is given.
 fn totals_of(
     alloc: Global,
-    book: Option<&CheckedBook>,
+    book: Option<&Book>,
     returns: &Returns,
     full: &FullNames,
     shape: Shape,
 ) -> Result<Answer, NoMemory> {
     let naming = Naming { returns, full };
-    let book = match book {
-        Some(book) => Some(&book.book),
-        None => None,
-    };
     let parts = match book {
         Some(book) => parts_of(alloc, book.eligible.as_slice(), returns)?,
         None => parts_of(alloc, &[], returns)?,
@@ -232,71 +220,49 @@ fn totals_of(
 /// Want of memory.
 pub fn totals(
     alloc: Global,
-    book: Option<Rulebook<'_>>,
+    book: Option<BookText<'_>>,
     returns: &[u8],
     names: Option<&[u8]>,
     shape: Shape,
 ) -> Result<Answer, NoMemory> {
-    let written = counted(alloc, book.unwrap_or(Rulebook::Library("2023")), returns)?;
-    if written.is_refusal() {
-        return Ok(written);
-    }
+    let case = Case {
+        book: book.unwrap_or(BookText::Library("2023")),
+        returns,
+    };
+    let checked = read_book(alloc, case.book)?;
+    let returns = read_election(alloc, returns)?;
+    let (Some(checked), Some(returns)) = (checked, returns) else {
+        return case.counted(alloc);
+    };
     let full = match names_of(alloc, names)? {
         Ok(full) => full,
         Err(refused) => return Ok(refused),
     };
-    let book = match book {
-        Some(book) => read_book(alloc, book)?,
+    let given = match book {
+        Some(_) => Some(&checked.book),
         None => None,
     };
-    match read_election(alloc, returns)? {
-        Some(returns) => totals_of(alloc, book.as_ref(), &returns, &full, shape),
-        None => Ok(written),
-    }
+    totals_of(alloc, given, &returns, &full, shape)
 }
 
-// A book with what it comes to, or `None` where it is not well formed.
-fn judge(alloc: Global, named: Named<'_>, returns: &Returns) -> Result<Option<Judged>, NoMemory> {
-    let Some(book) = read_book(alloc, named.book)? else {
-        return Ok(None);
-    };
+// A book with what it comes to.
+fn judged(
+    alloc: Global,
+    word: &str,
+    book: CheckedBook,
+    returns: &Returns,
+) -> Result<Judged, NoMemory> {
     let (counted, fault) = match outcome_of(alloc, &book, returns)? {
         Outcome::Counted(counted) => (Some(counted), None),
         Outcome::Fault(fault) => (None, Some(fault)),
         Outcome::OutOfBudget => (None, None),
     };
-    Ok(Some(Judged {
-        word: String::from_str(alloc, named.word)?,
+    Ok(Judged {
+        word: String::from_str(alloc, word)?,
         book,
         counted,
         fault,
-    }))
-}
-
-// The first refusal by a book or of the returns, if there is one.
-fn refusal(alloc: Global, books: &[Named<'_>], returns: &[u8]) -> Result<Option<Answer>, NoMemory> {
-    for named in books {
-        let written = counted(alloc, named.book, returns)?;
-        if written.is_refusal() {
-            return Ok(Some(written));
-        }
-    }
-    Ok(None)
-}
-
-// The books with what they come to.
-fn all_judged(
-    alloc: Global,
-    books: &[Named<'_>],
-    returns: &Returns,
-) -> Result<Vec<Judged>, NoMemory> {
-    let mut all: Vec<Judged> = Vec::new(alloc);
-    for named in books {
-        if let Some(judged) = judge(alloc, *named, returns)? {
-            all.push(judged)?;
-        }
-    }
-    Ok(all)
+    })
 }
 
 /// Several books on the same returns, side by side. Inputs that `count` refuses are refused by the same line; a legal fault stands in its column.
@@ -312,19 +278,33 @@ pub fn compare(
     names: Option<&[u8]>,
     shape: Shape,
 ) -> Result<Answer, NoMemory> {
-    if let Some(refused) = refusal(alloc, books, returns)? {
-        return Ok(refused);
+    let election = read_election(alloc, returns)?;
+    let mut all: Vec<Judged> = Vec::new(alloc);
+    for named in books {
+        match (read_book(alloc, named.book)?, &election) {
+            (Some(book), Some(election)) => {
+                all.push(judged(alloc, named.word, book, election)?)?;
+            }
+            _ => return Case {
+                book: named.book,
+                returns,
+            }
+            .counted(alloc),
+        }
     }
+    let Some(election) = election else {
+        return Case {
+            book: BookText::Library("2023"),
+            returns,
+        }
+        .counted(alloc);
+    };
     let full = match names_of(alloc, names)? {
         Ok(full) => full,
         Err(refused) => return Ok(refused),
     };
-    let Some(returns) = read_election(alloc, returns)? else {
-        return counted(alloc, Rulebook::Library("2023"), returns);
-    };
-    let all = all_judged(alloc, books, &returns)?;
     let naming = Naming {
-        returns: &returns,
+        returns: &election,
         full: &full,
     };
     let sheets = compare_sheets(alloc, &naming, all.as_slice())?;

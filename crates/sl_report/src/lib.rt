@@ -9,5 +9,4 @@ mod streams;
 
 pub use answer::{Answer, Shape};
 pub use calls::{Named, STATUTES, compare, report, stages, totals};
-pub use cases::Rulebook;
 pub use streams::{MAX_NAMES_BYTES, ReportError, bytes_of, deliver};

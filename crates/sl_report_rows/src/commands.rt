@@ -1,8 +1,9 @@
 //! The commands over files.
 
 use crate::lines::Line;
+use sl_desk::BookText;
 use sl_ratio::NoMemory;
-use sl_report::{Answer, Named, Rulebook, STATUTES, compare, report, stages, totals};
+use sl_report::{Answer, Named, STATUTES, compare, report, stages, totals};
 use std::fs;
 use std::io::{self, Error, ErrorKind};
 
@@ -17,11 +18,11 @@ struct Loaded<'a> {
 }
 
 impl<'a> Loaded<'a> {
-    fn rulebook(&'a self) -> Rulebook<'a> {
+    fn rulebook(&'a self) -> BookText<'a> {
         match (&self.text, self.word.strip_prefix('@')) {
-            (Some(text), _) => Rulebook::Text(text.as_str().as_bytes()),
-            (None, Some(name)) => Rulebook::Library(name),
-            (None, None) => Rulebook::Library(self.word),
+            (Some(text), _) => BookText::Text(text.as_str().as_bytes()),
+            (None, Some(name)) => BookText::Library(name),
+            (None, None) => BookText::Library(self.word),
         }
     }
 

@@ -1,7 +1,7 @@
 use Rattle.std.proofs.Common.{rules}
+use Rattle.sl_desk.specs.Judging.{input_of}
 use Rattle.sl_hints.proofs.Commands.{stage_fault}
 use Rattle.sl_hints.proofs.calls.explain_stage.Goals as goal
-use Rattle.sl_hints.specs.Faults.{input_of}
 use Rattle.sl_stages.specs.book.Books.{book_of}
 
 pub returns-in-Some : goal.returns-in-Some

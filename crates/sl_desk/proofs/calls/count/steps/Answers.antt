@@ -1,4 +1,3 @@
-use Rattle.sl_desk.specs.declared.report.Report.TheVariants.{Steps}
 use Rattle.sl_desk.specs.Counting.{IsOutput}
 use Rattle.sl_desk.specs.Reading.{book_input, ForKnown}
 use Rattle.sl_desk.proofs.Delivering.{delivers_text}
