@@ -87,7 +87,7 @@ impl Store {
         ensures within { result < slice_index (sizes_for code.now returns.now).columns slot }
     {
         let shape = code.slots()[usize::from(slot)];
-        self.cell_index(returns, shape).unwrap()
+        self.cell_index(returns, shape)
     }
 
     // A cell of a column.

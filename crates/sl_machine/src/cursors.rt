@@ -64,17 +64,29 @@ impl Store {
         Some(land * returns.parties() + party)
     }
 
-    /// The cell of a column of that shape at the cursors.
-    pub(crate) fn cell_index(&self, returns: &Returns, shape: Shape) -> Option<usize>
-        requires { IsInRange returns.now (state_of self.now) }
-        ensures value { result ≡ cell_at returns.now shape (state_of self.now) }
-        ensures within { IfSome result (λ place. place < cells_of returns.now shape) }
+    // The number of the list at the cursors of the Land and the party, which are set.
+    fn known_list_index(&self, returns: &Returns) -> usize
+        requires land { IsSome (state_of self.now).land }
+        requires party { IsSome (state_of self.now).party }
+        requires range { IsInRange returns.now (state_of self.now) }
+        ensures value { let s = state_of self.now in both s.land s.party (λ land party. land * parties_of returns.now + party) ≡ Some result }
+        ensures within { result < lands_of returns.now * parties_of returns.now }
+    {
+        self.cursors.land.unwrap() * returns.parties() + self.cursors.party.unwrap()
+    }
+
+    /// The cell of a column of that shape at the cursors, of which those of its shape are set: a read of a cell tests none.
+    pub(crate) fn cell_index(&self, returns: &Returns, shape: Shape) -> usize
+        requires set { IsSome (cell_at returns.now shape (state_of self.now)) }
+        requires range { IsInRange returns.now (state_of self.now) }
+        ensures value { cell_at returns.now shape (state_of self.now) ≡ Some result }
+        ensures within { result < cells_of returns.now shape }
     {
         match shape {
-            Shape::One => Some(0),
-            Shape::Party => self.cursors.party,
-            Shape::Land => self.cursors.land,
-            Shape::List => self.list_index(returns),
+            Shape::One => 0,
+            Shape::Party => self.cursors.party.unwrap(),
+            Shape::Land => self.cursors.land.unwrap(),
+            Shape::List => self.known_list_index(returns),
         }
     }
 
