@@ -1,6 +1,6 @@
 //! The cursors: what they stand at, and how they move.
 
-ghost use Rattle.std.specs.Prelude.{◌≡◌, ◌<◌, ◌+◌, ◌*◌, ℕ, Option, Some, IsSome, IfSome, if◌then◌else◌};
+ghost use Rattle.std.specs.Prelude.{◌≡◌, ◌<◌, ◌+◌, ◌*◌, ℕ, Option, Some, IsSome, if◌then◌else◌};
 ghost use Rattle.sl_verify.specs.declared.known.TheConstants.{REGISTERS};
 ghost use Rattle.sl_code.specs.Codes.{CountingCode};
 ghost use Rattle.sl_code.specs.declared.instr.Instr.TheVariants as instr;
@@ -53,19 +53,8 @@ pub(crate) fn item_of(returns: &Returns, entries: Entries, index: usize) -> Item
 }
 
 impl Store {
-    // The number of the list at the cursors.
-    fn list_index(&self, returns: &Returns) -> Option<usize>
-        requires { IsInRange returns.now (state_of self.now) }
-        ensures value { let s = state_of self.now in result ≡ both s.land s.party (λ land party. land * parties_of returns.now + party) }
-        ensures within { IfSome result (λ place. place < lands_of returns.now * parties_of returns.now) }
-    {
-        let land = self.cursors.land?;
-        let party = self.cursors.party?;
-        Some(land * returns.parties() + party)
-    }
-
     // The number of the list at the cursors of the Land and the party, which are set.
-    fn known_list_index(&self, returns: &Returns) -> usize
+    fn list_index(&self, returns: &Returns) -> usize
         requires land { IsSome (state_of self.now).land }
         requires party { IsSome (state_of self.now).party }
         requires range { IsInRange returns.now (state_of self.now) }
@@ -86,21 +75,22 @@ impl Store {
             Shape::One => 0,
             Shape::Party => self.cursors.party.unwrap(),
             Shape::Land => self.cursors.land.unwrap(),
-            Shape::List => self.known_list_index(returns),
+            Shape::List => self.list_index(returns),
         }
     }
 
-    /// The number of the table's entry at the cursors.
-    pub(crate) fn entry_index(&self, returns: &Returns, entries: Entries) -> Option<usize>
-        requires { IsInRange returns.now (state_of self.now) }
-        ensures value { result ≡ index_at returns.now entries (state_of self.now) }
-        ensures within { IfSome result (λ index. index < entries_in returns.now entries) }
+    /// The number of the table's entry at the cursors, of which those of such entries are set.
+    pub(crate) fn entry_index(&self, returns: &Returns, entries: Entries) -> usize
+        requires set { IsSome (index_at returns.now entries (state_of self.now)) }
+        requires range { IsInRange returns.now (state_of self.now) }
+        ensures value { index_at returns.now entries (state_of self.now) ≡ Some result }
+        ensures within { result < entries_in returns.now entries }
     {
         match entries {
-            Entries::Party => self.cursors.party,
-            Entries::Land => self.cursors.land,
+            Entries::Party => self.cursors.party.unwrap(),
+            Entries::Land => self.cursors.land.unwrap(),
             Entries::List => self.list_index(returns),
-            Entries::Win => self.cursors.win,
+            Entries::Win => self.cursors.win.unwrap(),
         }
     }
 

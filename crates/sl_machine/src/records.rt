@@ -39,7 +39,7 @@ impl Store {
         ensures { item_at returns.now (state_of self.now) ≡ Some result }
     {
         let entries = self.table.entries().unwrap();
-        let index = self.entry_index(returns, entries).unwrap();
+        let index = self.entry_index(returns, entries);
         item_of(returns, entries, index)
     }
 

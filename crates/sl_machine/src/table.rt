@@ -50,7 +50,7 @@ impl Store {
         ensures kept { sizes_of self.new ≡ sizes_of self.old }
     {
         let entries = self.table.entries().unwrap();
-        let index = self.entry_index(returns, entries).unwrap();
+        let index = self.entry_index(returns, entries);
         self.table.enter(Entry {
             ratio,
             index: index as u32,
