@@ -1,9 +1,10 @@
 -- What the cells of a record hold.
-use Rattle.std.proofs.Common.{◌≡◌, ◌≤◌, ◌<◌, ◌+◌, ◌-◌, ◌*◌, ◌^◌, ◌&&◌, ℕ, zero, suc, List, [], ◌∷◌, length, take, get_or, Option, Some, None, true, not, nat_le, lit<, refl, sym, arith}
+use Rattle.std.proofs.Common.{◌≡◌, ◌≤◌, ◌<◌, ◌+◌, ◌-◌, ◌*◌, ◌^◌, ℕ, zero, suc, List, [], ◌∷◌, length, take, get_or, Option, Some, None, true, nat_le, lit<, refl, sym, ◌∙◌, arith}
 use Rattle.std.proofs.Math.Nat.{pow-le-pow_right}
 use Rattle.std.proofs.lemmas.Bool.{and_parts, leb-true}
 use Rattle.std.proofs.lemmas.Int.Digits.{digits_value-lt, digits_value_more}
 use Rattle.std.proofs.lemmas.List.{length-take-le}
+use Rattle.std.proofs.lemmas.List.Folds.{list_all_more}
 use Rattle.std.proofs.lemmas.Option.{same_Some, none-some}
 use Rattle.std.proofs.lemmas.Str.{digit_value_digit}
 use Rattle.std.specs.Char.{digit_value, is_ascii_digit}
@@ -12,7 +13,6 @@ use Rattle.std.specs.List.{list_all}
 use Rattle.std.specs.Str.Parse.{AllDigits, digits_value}
 use Rattle.csv.specs.Records.{field_at}
 use Rattle.sl_returns.specs.declared.cells.TheConstants.{MAX_DIGITS}
-use Rattle.sl_returns.specs.Cells.{is_blank, is_number}
 
 -- a field that is there is the cell, and where there is none the cell is empty
 pub cell_there : (fields : List (List ℕ)) (i : ℕ) (f : List ℕ) → Some f ≡ field_at fields i → f ≡ get_or fields i []
@@ -42,32 +42,23 @@ all_digits (c ∷ cs) h =
     let here : digit_value c < 10 = omega (arith, range.0, range.1, value) in
     (here, all_digits cs rest)
 
-digit_at : (ds : List ℕ) (i : ℕ) → list_all is_ascii_digit ds ≡ true → i < length ds → IsInRange 48 57 (get_or ds i 0)
-digit_at [] i h l = absurd (omega arith)
-digit_at (c ∷ cs) zero h l = in_range c (and_parts (is_ascii_digit c) (list_all is_ascii_digit cs) h).0
-digit_at (c ∷ cs) (suc i) h l = digit_at cs i (and_parts (is_ascii_digit c) (list_all is_ascii_digit cs) h).1 (omega arith)
-
-all_taken : (n : ℕ) (ds : List ℕ) → AllDigits 10 ds → AllDigits 10 (take n ds)
-all_taken zero ds h = tt
-all_taken (suc n) [] h = tt
-all_taken (suc n) (c ∷ cs) h = (h.0, all_taken n cs h.1)
-
--- what reading one more digit of a number adds, and that the number stays small
+-- reading digits that are all digits, and one more: it adds its value, and the number stays small
 pub record Reads (ds : List ℕ) (i : ℕ) : Type 0 where
   pub digit : 48 ≤ get_or ds i 0
+  pub digits : list_all is_ascii_digit (take (i + 1) ds) ≡ true
   pub next : digits_value 10 (take (i + 1) ds) ≡ digits_value 10 (take i ds) * 10 + (get_or ds i 0 - 48)
   pub small : digits_value 10 (take (i + 1) ds) < 10 ^ MAX_DIGITS
 
-pub reads : (ds : List ℕ) (i : ℕ) → is_number ds ≡ true → i < length ds → Reads ds i
-reads ds i number l =
-    let (few, digits) = and_parts (not (is_blank ds) && nat_le (length ds) MAX_DIGITS) (list_all is_ascii_digit ds) number in
-    let short = leb-true (length ds) MAX_DIGITS (and_parts (not (is_blank ds)) (nat_le (length ds) MAX_DIGITS) few).1 in
-    let at = digit_at ds i digits l in
+pub reads : (ds : List ℕ) (i : ℕ) → length ds ≤ MAX_DIGITS → list_all is_ascii_digit (take i ds) ≡ true → is_ascii_digit (get_or ds i 0) ≡ true → i < length ds → Reads ds i
+reads ds i short before here l =
+    let at = in_range (get_or ds i 0) here in
     let value = digit_value_digit (get_or ds i 0) at in
+    let digits : list_all is_ascii_digit (take (i + 1) ds) ≡ true = list_all_more is_ascii_digit ds i 0 l ∙ rw (before, here) refl in
     let taken = length-take-le (i + 1) ds (omega arith) in
-    let below = digits_value-lt 10 (take (i + 1) ds) (all_taken (i + 1) ds (all_digits ds digits)) in
+    let below = digits_value-lt 10 (take (i + 1) ds) (all_digits (take (i + 1) ds) digits) in
     record {
       digit = at.0;
+      digits = digits;
       next = omega (arith, digits_value_more 10 ds i l, value);
       small =
           let few : length (take (i + 1) ds) ≤ MAX_DIGITS = omega arith in

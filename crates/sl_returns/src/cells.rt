@@ -103,30 +103,21 @@ pub(crate) fn known_or_none(name: &[u8], found: Option<usize>) -> Result<Option<
     Ok(Some(number))
 }
 
-// Whether each byte is a digit.
-fn are_digits(bytes: &[u8]) -> bool
-    ensures { result ≡ list_all is_ascii_digit bytes.now }
+// The number that a cell spells, if it is one to twelve digits.
+fn spelled_number(cell: &[u8]) -> Option<u64>
+    ensures { result ≡ (if is_number cell.now then Some (number_of cell.now) else None) }
 {
-    bytes.iter().all(|byte| byte.is_ascii_digit())
-}
-
-// Whether a cell is one to twelve digits.
-fn is_number(cell: &[u8]) -> bool
-    ensures { result ≡ is_number cell.now }
-{
-    !cell.is_empty() && cell.len() <= MAX_DIGITS && are_digits(cell)
-}
-
-// The number that digits spell.
-fn number_of(digits: &[u8]) -> u64
-    requires { IsTrue (is_number digits.now) }
-    ensures { result ≡ number_of digits.now }
-{
-    let mut number = 0;
-    for digit in digits {
-        number = number * 10 + u64::from(*digit - b'0');
+    if cell.is_empty() || cell.len() > MAX_DIGITS {
+        return None;
     }
-    number
+    let mut number = 0;
+    for byte in cell {
+        if !byte.is_ascii_digit() {
+            return None;
+        }
+        number = number * 10 + u64::from(*byte - b'0');
+    }
+    Some(number)
 }
 
 // The number of a cell, from the least to the greatest.
@@ -135,8 +126,7 @@ pub(crate) fn number(cell: &[u8], least: u32, greatest: u32) -> Result<u32, Faul
     ensures passed { IfOk result (λ n. Pass (number_tests cell.now least greatest) × (n ≡ number_of cell.now) × (least ≤ n) × (n ≤ greatest)) }
     ensures failed { IfErr result (FailBy (number_tests cell.now least greatest)) }
 {
-    ensure(is_number(cell), FaultKind::Number)?;
-    let number = number_of(cell);
+    let number = spelled_number(cell).ok_or(FaultKind::Number)?;
     ensure(
         u64::from(least) <= number && number <= u64::from(greatest),
         FaultKind::Range,

@@ -1,5 +1,5 @@
 -- The name that stands at the place is known, and its place is the number.
-use Rattle.std.proofs.Common.{◌≡◌, Some, slice_get, sym, ap, ◌∙◌}
+use Rattle.std.proofs.Common.{Some, sym, ap, ◌∙◌}
 use Rattle.std.proofs.lemmas.Slice.Eq.{bytes_eq-Decides}
 use Rattle.sl_ratio.specs.declared.limits.TheConstants.{MAX_LANDS}
 use Rattle.sl_ratio.specs.Names.{NameList}
