@@ -1,5 +1,5 @@
 -- The step is one that may be made, and leads on.
-use Rattle.std.proofs.Common.{◌≡◌, IsTrue, IfSome, IfNone, ◌<◌, ◌≤◌, ◌+◌, ◌-◌, ℕ, List, length, drop, take, Option, Some, IsSome, sym, ap, subst, ◌∙◌, arith}
+use Rattle.std.proofs.Common.{◌≡◌, IsTrue, IfSome, IfNone, ◌≤◌, ◌+◌, ◌-◌, ℕ, length, drop, take, Option, Some, IsSome, sym, ap, subst, ◌∙◌, arith}
 use Rattle.std.proofs.lemmas.List.{take_rest}
 use Rattle.std.proofs.lemmas.Option.{same_Some, slice_get_within}
 use Rattle.sl_code.specs.declared.instr.Instr.{Instr}
@@ -9,7 +9,7 @@ use Rattle.sl_machine.specs.inner.Ahead.{place_of, AreAhead}
 use Rattle.sl_machine.specs.inner.Leading.{LeadsTo, ends_run}
 use Rattle.sl_machine.specs.inner.Recording.{left_by}
 use Rattle.sl_machine.specs.inner.Stores.{state_of, effect_of}
-use Rattle.sl_machine.proofs.runs.Ahead.{some_ahead, stands, next_place, next_ahead, from_place, from_place_ahead}
+use Rattle.sl_machine.proofs.runs.Ahead.{some_ahead, stands, next_place, next_ahead, from_place}
 use Rattle.sl_machine.proofs.runs.Leading.{may_here, columns_here, goes_on, has_target, jumps_to}
 use Rattle.sl_machine.proofs.machine.step_from.Goals as goal
 

@@ -1,6 +1,5 @@
 -- A step leads on, and what is left of the run ends as the whole.
-use Rattle.std.proofs.Common.{◌≡◌, ℕ, suc, ◌-◌, ◌<◌, ◌≤◌, length, Option, List, IfSome, IfNone, sym, ap, subst, ◌∙◌, arith}
-use Rattle.sl_code.specs.declared.instr.Instr.{Instr}
+use Rattle.std.proofs.Common.{◌≡◌, ℕ, suc, ◌-◌, ◌<◌, IfSome, IfNone, sym, ap, subst, ◌∙◌, arith}
 use Rattle.sl_machine.specs.declared.store.Store.{Store}
 use Rattle.sl_machine.specs.Agrees.{IsSafe}
 use Rattle.sl_machine.specs.Runs.{run}
