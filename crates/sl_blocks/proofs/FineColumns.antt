@@ -52,7 +52,6 @@ sum_as axis.Land shape.List from to can = record { fine = refl; same = refl }
 sum_as axis.All shape.List from to can = record { fine = refl; same = refl }
 sum_as axis.All shape.Party from to can = record { fine = refl; same = refl }
 sum_as axis.All shape.Land from to can = record { fine = refl; same = refl }
-sum_as axis.All shape.One from to can = absurd (false≢true can)
 sum_as _ _ from to can = absurd (false≢true can)
 
 -- ---- what follows from it

@@ -10,7 +10,7 @@ use Rattle.sl_machine.specs.Runs.{share_of}
 use Rattle.sl_plans.specs.Trees.{Tree, size_of}
 use Rattle.sl_plans.specs.Meaning.{cost}
 use Rattle.sl_plans.specs.Prices.{Rate, rate_at, price_of, has_price, up_to}
-use Rattle.sl_plans.proofs.Prices.{plans_cost_their_price}
+use Rattle.sl_plans.proofs.Prices.{plans_cost_their_price, times_below}
 
 -- the plan has a price; none of its first four numbers is above the first number, none of the others above the second; and its instructions are no
 -- more than the third
@@ -35,10 +35,6 @@ size_at_most plain by_win size tree modest =
     omega (arith, few)
 
 -- ---- steps
-
--- a number that is at most n, k times
-times_below : (a n k : ℕ) → a < n + 1 → k * a ≤ k * n
-times_below a n k h = mul-le-mul_left k (omega (arith, h))
 
 -- a rate none of whose numbers is above n, for so many parties and Länder
 rate_at_most : (p l n : ℕ) (r : Rate) → up_to n r ≡ true → rate_at p l r ≤ (p + 1) * (l + 1) * n

@@ -35,12 +35,12 @@ use Rattle.sl_machine.proofs.effects.Storing.{column_by_cells}
 use Rattle.sl_pieces.specs.columns.Columns.{HoldsColumn}
 use Rattle.sl_pieces.specs.declared.slots.TheConstants.{FIRST_STAGE_SLOT}
 use Rattle.sl_pieces.specs.exprs.Slots.{stage_slot, HasBookSlots}
-use Rattle.sl_pieces.proofs.exprs.StageRules.{still_holds}
 use Rattle.sl_pieces.specs.closing.Trees.{final_seats, vacant_slot}
 use Rattle.sl_books.specs.Compiled.{ComesTo, HasStageColumns}
 use Rattle.sl_books.proofs.Known.{known_types}
 use Rattle.sl_books.proofs.Runs.{IsDone}
 use Rattle.sl_books.proofs.Ends.{IsBookEnd}
+use Rattle.sl_pieces.proofs.columns.Cells.{still_holds}
 
 -- ---- a table has the records of its stages
 

@@ -18,10 +18,11 @@ use Rattle.sl_machine.specs.State.{State, End, Faulted, start}
 use Rattle.sl_plans.specs.Trees.{Tree}
 use Rattle.sl_plans.specs.Achieves.{Never}
 use Rattle.sl_plans.specs.Laid.{AchievesAll}
+use Rattle.sl_pieces.proofs.columns.Cells.{still_holds}
 use Rattle.sl_pieces.specs.facts.Laws.{flags}
 use Rattle.sl_pieces.specs.exprs.Slots.{HasBookSlots}
 use Rattle.sl_pieces.specs.exprs.Stages.{stages_pieces, HasStages, IsBehind, HasColumns, EndsStopped}
-use Rattle.sl_pieces.proofs.exprs.StageRules.{all_more, all_then, still_holds}
+use Rattle.sl_pieces.proofs.exprs.StageRules.{all_more, all_then}
 use Rattle.sl_pieces.proofs.exprs.Stages.{stages_achieve}
 use Rattle.sl_pieces.specs.closing.Trees.{last_pieces}
 use Rattle.sl_pieces.specs.closing.Closing.{BeginsClosing, HasClosed, EndsInOutcome, ClosingsAchieve}

@@ -18,23 +18,16 @@ use Rattle.sl_code.specs.Codes.{CountingCode}
 use Rattle.sl_pieces.specs.declared.slots.TheConstants.{LEVELS, PAIR_NUMBERS as pair_numbers}
 use Rattle.sl_pieces.specs.exprs.Slots.{fact_slots, passing, stage_slot, HasBookSlots}
 use Rattle.sl_pieces.specs.exprs.Stages.{HasStages}
-use Rattle.sl_pieces.proofs.exprs.StageRules.{still_there}
 use Rattle.sl_blocks.specs.Blocks.{HasSlotsOf}
 use Rattle.sl_blocks.specs.Facts.{fact_shapes, closing_shapes, HasFirstSlots}
 use Rattle.sl_books.specs.Codes.{code_stages, level_shapes, passing_shapes, book_slots, book_code}
 use Rattle.sl_books.proofs.Known.{columns_long}
 use Rattle.sl_books.proofs.Sizes.{few_stages}
+use Rattle.sl_pieces.proofs.scopes.Pieces.{get_left, get_right}
 
 -- ---- slots
 
--- what stands behind the first of two lists
-behind : {X : Type 0} (xs ys : List X) (n : ℕ) → slice_get (xs ++ ys) (length xs + n) ≡ slice_get ys n
-behind [] ys n = let same : 0 + n ≡ n = omega arith in ap (λ (m : ℕ). slice_get ys m) same
-behind (x ∷ xs) ys n =
-    let same : suc (length xs) + n ≡ suc (length xs + n) = omega arith in
-    ap (λ (m : ℕ). slice_get (x ∷ (xs ++ ys)) m) same ∙ behind xs ys n
-
--- the shapes of some levels, the first of that number, and what stands behind them
+-- the shapes of some levels, the first of that number, and what stands get_right them
 abbrev levels_then : ℕ → ℕ → List Shape → List Shape
 levels_then n count rest = flat_map (λ (level : ℕ). level_shapes) (range_with_len n count) ++ rest
 
@@ -59,17 +52,17 @@ module _ (types : List Column) where
   passing_there level s low =
       let place : passing level s ≡ pair_numbers + (3 + (4 * level + shape_number s)) = omega arith in
       ap (λ (m : ℕ). slice_get (book_slots types) m) place
-      ∙ behind fact_shapes (closing_shapes ++ (passing_shapes ++ stage_shapes)) (3 + (4 * level + shape_number s))
-      ∙ behind closing_shapes (passing_shapes ++ stage_shapes) (4 * level + shape_number s)
+      ∙ get_right fact_shapes (closing_shapes ++ (passing_shapes ++ stage_shapes)) (3 + (4 * level + shape_number s))
+      ∙ get_right closing_shapes (passing_shapes ++ stage_shapes) (4 * level + shape_number s)
       ∙ on_level 0 LEVELS level stage_shapes s (omega (arith, low))
 
   stage_there : (k : ℕ) (t : Column) → slice_get types k ≡ Some t → slice_get (book_slots types) (stage_slot k) ≡ Some t.type.shape
   stage_there k t at =
       let place : stage_slot k ≡ pair_numbers + (3 + (4 * LEVELS + k)) = omega arith in
       ap (λ (m : ℕ). slice_get (book_slots types) m) place
-      ∙ behind fact_shapes (closing_shapes ++ (passing_shapes ++ stage_shapes)) (3 + (4 * LEVELS + k))
-      ∙ behind closing_shapes (passing_shapes ++ stage_shapes) (4 * LEVELS + k)
-      ∙ behind passing_shapes stage_shapes k
+      ∙ get_right fact_shapes (closing_shapes ++ (passing_shapes ++ stage_shapes)) (3 + (4 * LEVELS + k))
+      ∙ get_right closing_shapes (passing_shapes ++ stage_shapes) (4 * LEVELS + k)
+      ∙ get_right passing_shapes stage_shapes k
       ∙ slice_get-map (λ c. c.type.shape) types k
       ∙ rw at refl
 
@@ -108,13 +101,13 @@ book_slots_more types t =
 -- what is there for more stages is there for fewer
 pub has_fewer : (types : List Column) (t : Column) (c : CountingCode) → HasSlotsOf (book_slots (types ++ t ∷ [])) c → HasSlotsOf (book_slots types) c
 has_fewer types t c has slot s at =
-    has slot s (ap (λ (xs : List Shape). slice_get xs slot) (book_slots_more types t) ∙ still_there (book_slots types) (t.type.shape ∷ []) slot s at)
+    has slot s (ap (λ (xs : List Shape). slice_get xs slot) (book_slots_more types t) ∙ get_left (book_slots types) (t.type.shape ∷ []) slot s at)
 
 pub has_none : (types : List Column) (c : CountingCode) → HasSlotsOf (book_slots types) c → HasSlotsOf (book_slots []) c
 has_none types c has slot s at =
     has slot s
     (ap (λ (xs : List Shape). slice_get xs slot) (behind_all types)
-    ∙ still_there (book_slots []) (map (λ x. x.type.shape) types) slot s at)
+    ∙ get_left (book_slots []) (map (λ x. x.type.shape) types) slot s at)
   where
     behind_all : (ts : List Column) → book_slots ts ≡ book_slots [] ++ map (λ x. x.type.shape) ts
     behind_all ts =
@@ -127,7 +120,7 @@ has_none types c has slot s at =
 pub has_first : (types : List Column) (c : CountingCode) → HasSlotsOf (book_slots types) c → HasFirstSlots c
 has_first types c has slot s at =
     let rest : List Shape = passing_shapes ++ map (λ x. x.type.shape) types in
-    has slot s (ap (λ (xs : List Shape). slice_get xs slot) (sym (append_assoc fact_shapes closing_shapes rest)) ∙ still_there (fact_shapes ++ closing_shapes) rest slot s at)
+    has slot s (ap (λ (xs : List Shape). slice_get xs slot) (sym (append_assoc fact_shapes closing_shapes rest)) ∙ get_left (fact_shapes ++ closing_shapes) rest slot s at)
 
 -- ---- stages
 

@@ -15,7 +15,7 @@ use Rattle.sl_machine.specs.State.{State}
 use Rattle.sl_pieces.specs.columns.Columns.{HoldsColumn, GetsColumn}
 use Rattle.sl_pieces.specs.exprs.Slots.{fact_slots}
 use Rattle.sl_pieces.specs.facts.Laws.{flags}
-use Rattle.sl_pieces.proofs.exprs.StageRules.{still_holds}
+use Rattle.sl_pieces.proofs.columns.Cells.{still_holds}
 
 -- nothing is recorded, and nobody is placed
 pub record IsBlank (s : State) : Type 0 where

@@ -113,7 +113,7 @@ plans_cost_their_price e tree h = price_is e tree h
 
 -- ---- shares
 
-times_below : (a n k : ℕ) → a < n + 1 → k * a ≤ k * n
+pub times_below : (a n k : ℕ) → a < n + 1 → k * a ≤ k * n
 times_below a n k h = mul-le-mul_left k (omega arith)
 
 rate_below : (p l n : ℕ) (r : Rate) → up_to n r ≡ true → rate_at p l r ≤ n + n * p + n * l + n * (l * p)

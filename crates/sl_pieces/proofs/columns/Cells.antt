@@ -1,5 +1,5 @@
 -- The walk over the cells of a column: a body that leads from so many cells done to one more does all of them.
-use Rattle.std.proofs.Common.{◌≡◌, ℕ, ◌+◌, ◌*◌, ◌<◌, false, Option, Some, None, refl, subst, ◌∙◌, arith}
+use Rattle.std.proofs.Common.{◌≡◌, ℕ, ◌+◌, ◌*◌, ◌<◌, false, List, Option, Some, None, refl, subst, ◌∙◌, arith}
 use Rattle.sl_stages.specs.declared.book.Shape.{Shape}
 use Rattle.sl_stages.specs.declared.book.Shape.TheVariants as shape
 use Rattle.sl_stages.specs.returns.Election.{Election, lands_of, parties_of}
@@ -17,6 +17,7 @@ use Rattle.sl_plans.specs.Achieves.{Achieves}
 use Rattle.sl_plans.specs.Frames.{may_move}
 use Rattle.sl_plans.proofs.Rules.{achieves_more}
 use Rattle.sl_plans.proofs.KeepingRules.{achieves_kept, each_keeping}
+use Rattle.sl_pieces.specs.columns.Columns.{HoldsColumn}
 use Rattle.sl_pieces.specs.columns.Trees.{cells_plan}
 
 -- the body does not move the cursor, and what the invariant says holds wherever the cursor stands
@@ -85,3 +86,7 @@ each_cell c e shape.Party body Inv E t suits turn h =
 each_cell c e shape.Land body Inv E t suits turn h =
     each_keeping Inv suits.still h (λ l u hl inv. turn l (with_land (Some l) u) hl refl (suits.moved l (Some l) u inv)) (λ u inv. suits.moved (lands_of e) None u inv)
 each_cell c e shape.List body Inv E t suits turn h = each_list c e body Inv E suits.0 suits.1 turn t h
+
+-- the same cells hold the same values
+pub still_holds : (e : Election) (s : Shape) (before after : ℕ → ℕ) (values : List ℕ) → ((q : ℕ) → after q ≡ before q) → HoldsColumn e s before values → HoldsColumn e s after values
+still_holds e s before after values same h = record { long = h.long; at = λ q below. same q ∙ h.at q below }

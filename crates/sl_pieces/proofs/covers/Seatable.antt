@@ -1,5 +1,5 @@
 -- The winners of parties that are eligible and have a list in the winner's Land: at each of them the cursors are set to that list.
-use Rattle.std.proofs.Common.{◌≡◌, ℕ, suc, ◌+◌, ◌*◌, ◌<◌, ◌&&◌, ◌==◌, ◌≢◌, Bool, true, false, [], ◌∷◌, Option, Some, None, nat_eq, slice_get, refl, sym, ap, subst, ◌∙◌, arith}
+use Rattle.std.proofs.Common.{◌≡◌, ℕ, ◌+◌, ◌*◌, ◌<◌, ◌&&◌, ◌==◌, ◌≢◌, Bool, true, false, [], ◌∷◌, Option, Some, None, nat_eq, slice_get, refl, sym, ap, subst, ◌∙◌}
 use Rattle.std.specs.Prelude.{if◌then◌else◌}
 use Rattle.std.specs.Option.{ForSome}
 use Rattle.std.proofs.lemmas.Bool.{and_left, and_right, false_from_ne_true}
@@ -19,21 +19,12 @@ use Rattle.sl_plans.specs.declared.plan.Test.TheVariants as test
 use Rattle.sl_plans.specs.Trees.{Tree, Line, Then, If}
 use Rattle.sl_plans.specs.Achieves.{Achieves}
 use Rattle.sl_plans.proofs.Rules.{line_ends, if_zero, if_no_list, if_no_party, line_first, line_over}
+use Rattle.sl_pieces.proofs.facts.Winners.{flag_down, flag_up}
 use Rattle.sl_pieces.specs.declared.registers.TheConstants as reg
 use Rattle.sl_pieces.specs.covers.Trees.{CoverSlots, nothing, if_seatable}
 use Rattle.sl_pieces.specs.covers.Covering.{HasCoverSlots}
 use Rattle.sl_pieces.proofs.covers.Pairs.{pair_at, pair_is}
 use Rattle.sl_pieces.proofs.covers.Winners.{of_list, of_list_by, is_winner, says_winner}
-
--- ---- flags
-
-one_if_none : (b : Bool) → one_if b ≡ 0 → b ≡ false
-one_if_none true is = absurd (omega (arith, is))
-one_if_none false is = refl
-
-one_if_some : (b : Bool) (w : ℕ) → one_if b ≡ suc w → b ≡ true
-one_if_some true w is = refl
-one_if_some false w is = absurd (omega (arith, is))
 
 -- ---- a winner
 
@@ -111,9 +102,9 @@ module _ (c : CountingCode) (e : Election) (x : CoverSlots) (eligible : ℕ → 
         (λ has.
         line_first (get_does c e (with_party (Some p) on_land) x.eligible shape.Party slots.eligible reg.BASE p refl)
         (line_over (if_zero {r = reg.BASE}
-        (λ none. line_ends (other flagged (not_taking p some (and_left (eligible p) (has_list e w.land p) (one_if_none (eligible p) (sym flag ∙ none)))) looked))
+        (λ none. line_ends (other flagged (not_taking p some (and_left (eligible p) (has_list e w.land p) (flag_down (eligible p) (sym flag ∙ none)))) looked))
         (λ m one. seatable p flagged
-        (record { party = some; may = one_if_some (eligible p) m (sym flag ∙ one); listed = has; in_land = is_win.land; in_party = within })
+        (record { party = some; may = flag_up (eligible p) m (sym flag ∙ one); listed = has; in_land = is_win.land; in_party = within })
         (record { looked = looked; win = refl; land = refl; party = refl })))))
 
     -- the plan for such a winner, and what is to hold for any other

@@ -30,13 +30,14 @@ use Rattle.sl_machine.proofs.drawing.LotProofs.{same_lots}
 use Rattle.sl_machine.proofs.effects.Records.{seat_does}
 use Rattle.sl_plans.specs.Trees.{Line, ones}
 use Rattle.sl_plans.proofs.Rules.{line_ends, line_goes}
+use Rattle.sl_pieces.proofs.seats.Lists.{mapped_at}
 use Rattle.sl_pieces.specs.arenas.Arenas.{Arena, IsArena, HasWaiting, table_of, seat_taken}
 use Rattle.sl_pieces.proofs.arenas.MethodArenas.{covering_arenas}
 use Rattle.sl_pieces.proofs.arenas.TableEffects.{waiting_again}
 use Rattle.sl_pieces.specs.declared.registers.TheConstants as reg
 use Rattle.sl_pieces.specs.inner.awards.Batches.{Gets, GivesSeats, IsBlind}
 use Rattle.sl_pieces.specs.inner.awards.Awards.{CanAward, IsCounted, FitsAwards}
-use Rattle.sl_pieces.proofs.covers.Winners.{IsWinnerOf, each_winner, won, arena, at_winner, has_first, next_winner}
+use Rattle.sl_pieces.proofs.covers.Winners.{IsWinnerOf, each_winner, won, arena, has_first, next_winner}
 use Rattle.sl_pieces.proofs.covers.Chosen.{one_chosen, place_more}
 
 -- who is placed where, when the winners of the list hold these seats
@@ -138,7 +139,7 @@ module _ (eligible : ℕ → Bool) (e : Election) (base : List ℕ) (l : ℕ × 
           let next = next_winner (won eligible e l) i (slice_index t i) gets.has in
           let y : ℕ × Win = next.0 in
           let winner : IsWinnerOf eligible e l y = each_winner eligible e l i y next.1 in
-          let number : slice_index a.places i ≡ y.0 = at_winner (λ x. x.0) (won eligible e l) i y next.1 in
+          let number : slice_index a.places i ≡ y.0 = mapped_at (λ x. x.0) (won eligible e l) i y next.1 in
           let on_list : has_list e y.1.land l.1 ≡ true = ap (λ (n : ℕ). has_list e n l.1) winner.land ∙ winner.listed in
           line_goes (seat_does c e now y.0 (ap Some number) y.1 winner.there l.1 winner.party on_list)
           (line_ends (

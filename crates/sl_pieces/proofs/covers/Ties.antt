@@ -8,12 +8,12 @@ use Rattle.sl_stages.specs.declared.fault.FaultKind.TheVariants as fault
 use Rattle.sl_stages.specs.declared.fault.Scope.TheVariants as scope
 use Rattle.sl_stages.specs.declared.returns.Win.{Win}
 use Rattle.sl_stages.specs.returns.Election.{Election, IsElection, has_list}
-use Rattle.sl_stages.specs.methods.Ties.{Lists, Tied, NamesAll, IsChoice}
+use Rattle.sl_stages.specs.methods.Ties.{Lists, Tied, IsChoice}
 use Rattle.sl_stages.specs.meaning.Splits.{entries_at}
 use Rattle.sl_stages.specs.meaning.Results.{fault_at}
 use Rattle.sl_stages.specs.meaning.Seating.{winner_items, IsSeating}
 use Rattle.sl_stages.specs.laws.Ladders.{IsPeer, IsSettled, IsTop, RaisesEach}
-use Rattle.sl_stages.proofs.methods.RaisedSeats.{raise, Contains-none, Contains-head, Contains-tail}
+use Rattle.sl_stages.proofs.methods.RaisedSeats.{raise, Contains-head, Contains-tail}
 use Rattle.sl_code.specs.Codes.{CountingCode}
 use Rattle.sl_code.specs.declared.instr.Instr.TheVariants.{Take, Tie}
 use Rattle.sl_code.specs.declared.operand.Entries.TheVariants as entries
@@ -32,6 +32,8 @@ use Rattle.sl_plans.specs.declared.plan.Test.TheVariants as test
 use Rattle.sl_plans.specs.Trees.{If, Stop}
 use Rattle.sl_plans.specs.Achieves.{Achieves}
 use Rattle.sl_plans.proofs.Rules.{stop_achieves, if_no_party, if_empty, line_first, line_over}
+use Rattle.sl_pieces.proofs.seats.Tying.{first_tied}
+use Rattle.sl_pieces.proofs.seats.Lists.{mapped_at}
 use Rattle.sl_pieces.specs.arenas.Arenas.{Arena, HasWaiting, seat_of, waiting, table_of, seat_taken}
 use Rattle.sl_pieces.specs.arenas.Laws.{PeersWait, SeatTaken}
 use Rattle.sl_pieces.proofs.arenas.Peers.{waiting_peers}
@@ -41,7 +43,7 @@ use Rattle.sl_pieces.specs.declared.registers.TheConstants as reg
 use Rattle.sl_pieces.specs.inner.awards.Awards.{EndsTied}
 use Rattle.sl_pieces.proofs.awards.Turns.{raised_once}
 use Rattle.sl_pieces.specs.covers.Trees.{nothing, tied_winners}
-use Rattle.sl_pieces.proofs.covers.Winners.{IsWinnerOf, each_winner, won, entry_of, seat_is, at_winner, nothing_held, next_winner}
+use Rattle.sl_pieces.proofs.covers.Winners.{IsWinnerOf, each_winner, won, entry_of, seat_is, nothing_held, next_winner}
 use Rattle.sl_pieces.proofs.covers.Seats.{AreSeated, listed, to_give, meant, is_arena, tops}
 
 -- the run ends with a tie of the list, as its choice leaves it
@@ -51,11 +53,6 @@ pub record EndsInListTie (c : CountingCode) (eligible : ℕ → Bool) (e : Elect
   pub choice : IsSeating eligible e base l (Tied number among)
   pub there : has_list e l.0 l.1 ≡ true
   pub is : end ≡ Faulted (fault_at (length c.stages) (scope.List l.0 l.1) (fault.Tie number (entries_at (winner_items eligible e l.0 l.1) among)))
-
--- where not all are named there is one
-some_entry : (lot among : List ℕ) → ¬ NamesAll lot among → (i : ℕ) × (slice_get among 0 ≡ Some i) × Contains among i
-some_entry lot [] missing = absurd (missing (λ i there. absurd (Contains-none i there)))
-some_entry lot (i ∷ is) missing = (i, refl, Contains-head i is)
 
 module _ (eligible : ℕ → Bool) (e : Election) (base : List ℕ) (l : ℕ × ℕ) (is : IsElection e) where
   -- no winner has two seats
@@ -77,7 +74,7 @@ module _ (eligible : ℕ → Bool) (e : Election) (base : List ℕ) (l : ℕ × 
   items_are s (j ∷ js) each =
       let found = next_winner (won eligible e l) j (slice_index s j) (each j (Contains-head j js)).next in
       let rest = items_are s js (λ k there. each k (Contains-tail j js k there)) in
-      let number : slice_index (listed eligible e l).places j ≡ found.0.0 = at_winner (λ x. x.0) (won eligible e l) j found.0 found.1 in
+      let number : slice_index (listed eligible e l).places j ≡ found.0.0 = mapped_at (λ x. x.0) (won eligible e l) j found.0 found.1 in
       let there : slice_get (winner_items eligible e l.0 l.1) j ≡ Some (item.Win found.0.0) =
       slice_get-map (λ x. item.Win x.0) (won eligible e l) j ∙ ap (option_map (λ x. item.Win x.0)) found.1 in
       rw there ((λ z. item.Win (number z) ∷ rest z))
@@ -145,7 +142,7 @@ module _ (eligible : ℕ → Bool) (e : Election) (base : List ℕ) (l : ℕ × 
       on_land = with_land (Some y.1.land) again
 
       wins : now.win ≡ Some y.0
-      wins = ap Some (at_winner (λ x. x.0) (won eligible e l) i y at)
+      wins = ap Some (mapped_at (λ x. x.0) (won eligible e l) i y at)
 
       takes : effect c e Take state ≡ Goes now
       takes =
@@ -173,7 +170,7 @@ module _ (eligible : ℕ → Bool) (e : Election) (base : List ℕ) (l : ℕ × 
       EndsTied c e (listed eligible e l) (to_give eligible e base l) (meant eligible e l) (AreSeated eligible e l earlier) (EndsInListTie c eligible e base l) tied_winners
   ties_end c earlier = record {
     ends = λ s tied state settled lists waits held left choice.
-        let some = some_entry (meant eligible e l) tied choice.1 in
+        let some = first_tied (meant eligible e l) tied choice.1 in
         let peer : IsPeer (listed eligible e l).ladders s some.0 = lists.has_only some.0 some.2 in
         let found = next_winner (won eligible e l) some.0 (slice_index s some.0) peer.next in
         tie_ends_run c s tied settled lists choice some.0 found.0 found.1 some.1 peer state waits left;

@@ -15,6 +15,7 @@ use Rattle.sl_stages.specs.returns.Facts.{is_in, is_of, has_eligible_list}
 use Rattle.sl_stages.specs.meaning.Seating.{winners_of}
 use Rattle.sl_stages.proofs.methods.SeatSums.{none_needed}
 use Rattle.sl_pieces.specs.arenas.Arenas.{Arena, seat_of, next_seat, waiting, covering_arena}
+use Rattle.sl_pieces.proofs.seats.Lists.{mapped_at}
 
 -- ---- who is a winner of a list
 
@@ -117,9 +118,6 @@ module _ (eligible : ℕ → Bool) (e : Election) (l : ℕ × ℕ) where
 abbrev pub entry_of : ℕ × Win → Entry
 entry_of y = record { ratio = record { num = y.1.first; den = y.1.valid }; index = y.0 }
 
-pub at_winner : {X : Type 0} (f : X → ℕ) (xs : List X) (i : ℕ) (y : X) → slice_get xs i ≡ Some y → slice_index (map f xs) i ≡ f y
-at_winner f xs i y at = get_or_from_slice_get (map f xs) i (f y) 0 (slice_get-map f xs i ∙ ap (option_map f) at)
-
 one_each : {X : Type 0} (f : ℕ → List X) (g : ℕ → X) (a n : ℕ) → ((i : ℕ) → i < a + n → f i ≡ g i ∷ []) → flat_map f (range_with_len a n) ≡ map g (range_with_len a n)
 one_each f g a zero each = refl
 one_each f g a (suc n) each = rw (each a (omega arith)) (ap (λ xs. g a ∷ xs) (one_each f g (a + 1) n (λ i less. each i (omega (arith, less)))))
@@ -130,9 +128,9 @@ module _ (winners : List (ℕ × Win)) where
 
   pub seat_is : (i held : ℕ) (y : ℕ × Win) → slice_get winners i ≡ Some y → seat_of arena i held ≡ entry_of y
   seat_is i held y at =
-      let first = at_winner (λ x. x.1.first) winners i y at in
-      let valid = at_winner (λ x. x.1.valid) winners i y at in
-      let number = at_winner (λ x. x.0) winners i y at in
+      let first = mapped_at (λ x. x.1.first) winners i y at in
+      let valid = mapped_at (λ x. x.1.valid) winners i y at in
+      let number = mapped_at (λ x. x.0) winners i y at in
       λ z. record { ratio = record { num = first z; den = valid z }; index = number z }
 
   -- nobody has a seat at first

@@ -11,7 +11,7 @@ use Rattle.sl_stages.specs.declared.book.Unit.TheVariants as unit
 use Rattle.sl_stages.specs.declared.book.ColumnType.{ColumnType}
 use Rattle.sl_stages.specs.declared.limits.TheConstants.{MAX_DEPTH}
 use Rattle.sl_stages.specs.book.Tests.{first_failing}
-use Rattle.sl_stages.specs.book.Trees.{ExprTree, fact, name, sum, pair, split, without, atleast, grow}
+use Rattle.sl_stages.specs.book.Trees.{ExprTree, fact, split, without}
 use Rattle.sl_stages.specs.book.Limits.{depth_of}
 use Rattle.sl_stages.specs.book.Typing.{splits_in, column, can_split, pair_tests, split_tests, split_from_tests, grow_tests}
 use Rattle.sl_stages.specs.laws.OneLaws.{FitsMethod}
@@ -23,12 +23,8 @@ use Rattle.sl_pieces.specs.declared.slots.TheConstants.{LEVELS}
 
 some_depth : (x : ExprTree) → 1 ≤ depth_of x
 some_depth (fact at told) = omega arith
-some_depth (name at n) = omega arith
-some_depth (sum at x over) = omega arith
-some_depth (pair at pairing l r) = omega arith
 some_depth (split at s v method without majority) = omega arith
-some_depth (split at s v method (atleast m) majority) = omega arith
-some_depth (grow at s v method m limit majority) = omega arith
+some_depth _ = omega arith
 
 pub low_level : (x : ExprTree) (level : ℕ) → level + depth_of x + splits_in x ≤ LEVELS → level ≤ MAX_DEPTH
 low_level x level within = let deep = some_depth x in omega (arith, deep, within)

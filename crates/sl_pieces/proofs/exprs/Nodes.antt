@@ -152,16 +152,9 @@ module _ (c : CountingCode) (types : List Column) (stage : ℕ) (name : List ℕ
     by_form P each shape.One shape.Party can = each AllParties
     by_form P each shape.One shape.Land can = each AllLands
     by_form P each shape.One shape.List can = each AllLists
-    by_form P each shape.One shape.One can = absurd (false≢true can)
     by_form P each shape.Party shape.List can = each ListsOfParty
-    by_form P each shape.Party shape.One can = absurd (false≢true can)
-    by_form P each shape.Party shape.Party can = absurd (false≢true can)
-    by_form P each shape.Party shape.Land can = absurd (false≢true can)
     by_form P each shape.Land shape.List can = each ListsInLand
-    by_form P each shape.Land shape.One can = absurd (false≢true can)
-    by_form P each shape.Land shape.Party can = absurd (false≢true can)
-    by_form P each shape.Land shape.Land can = absurd (false≢true can)
-    by_form P each shape.List v can = absurd (false≢true can)
+    by_form P each _ _ can = absurd (false≢true can)
 
     pub split_all : (slot : Option ℕ) (minima : Option (List ℕ)) (method : Method) (majority : Majority) → FitsMethod method minima → (s v : Shape) → can_split s v ≡ true
         → HasMinimaAt level v slot → Holds s v slot minima

@@ -1,7 +1,5 @@
 -- Rules for plans one after the other, and what stays where columns and stages are added.
-use Rattle.std.proofs.Common.{◌≡◌, ℕ, zero, suc, ◌+◌, ◌≤◌, List, [], ◌∷◌, ◌++◌, length, Some, slice_get, refl, subst, ◌∙◌, arith}
-use Rattle.std.proofs.lemmas.Option.{none-some}
-use Rattle.sl_stages.specs.declared.book.Shape.{Shape}
+use Rattle.std.proofs.Common.{◌≡◌, ℕ, zero, suc, ◌+◌, ◌≤◌, List, [], ◌∷◌, ◌++◌, length, Some, slice_get, refl, subst, arith}
 use Rattle.sl_stages.specs.declared.limits.TheConstants.{MAX_STAGES}
 use Rattle.sl_stages.specs.book.Trees.{StageTree}
 use Rattle.sl_stages.specs.book.Typing.{Column, stage_column, columns_of}
@@ -11,7 +9,7 @@ use Rattle.sl_machine.specs.State.{State, End}
 use Rattle.sl_plans.specs.Trees.{Tree}
 use Rattle.sl_plans.specs.Laid.{AchievesAll}
 use Rattle.sl_plans.proofs.Rules.{achieves_more}
-use Rattle.sl_pieces.specs.columns.Columns.{HoldsColumn}
+use Rattle.sl_pieces.proofs.scopes.Pieces.{get_left}
 use Rattle.sl_pieces.specs.exprs.Slots.{HasBookSlots}
 use Rattle.sl_pieces.specs.exprs.Stages.{HasStages}
 
@@ -31,11 +29,6 @@ all_then c e Q E ys (x ∷ xs) s h = achieves_more h (all_then c e Q E ys xs) (�
 -- ---- lists that grow
 
 module _ {X : Type 0} where
-  pub still_there : (xs ys : List X) (j : ℕ) (x : X) → slice_get xs j ≡ Some x → slice_get (xs ++ ys) j ≡ Some x
-  still_there [] ys j x at = absurd (none-some x at)
-  still_there (y ∷ xs) ys zero x at = at
-  still_there (y ∷ xs) ys (suc j) x at = still_there xs ys j x at
-
   pub last_there : (xs : List X) (x : X) (n : ℕ) → n ≡ length xs → slice_get (xs ++ x ∷ []) n ≡ Some x
   last_there [] x zero is = refl
   last_there [] x (suc n) is = absurd (omega (arith, is))
@@ -44,15 +37,11 @@ module _ {X : Type 0} where
 
 -- ---- columns
 
--- the same cells hold the same values
-pub still_holds : (e : Election) (s : Shape) (before after : ℕ → ℕ) (values : List ℕ) → ((q : ℕ) → after q ≡ before q) → HoldsColumn e s before values → HoldsColumn e s after values
-still_holds e s before after values same h = record { long = h.long; at = λ q below. same q ∙ h.at q below }
-
 -- ---- the types of the stages before are those of a prefix of all
 
 pub extended : (types : List Column) (ss : List StageTree) (j : ℕ) (t : Column) → slice_get types j ≡ Some t → slice_get (columns_of types ss) j ≡ Some t
 extended types [] j t at = at
-extended types (s ∷ ss) j t at = extended (types ++ stage_column types s ∷ []) ss j t (still_there types (stage_column types s ∷ []) j t at)
+extended types (s ∷ ss) j t at = extended (types ++ stage_column types s ∷ []) ss j t (get_left types (stage_column types s ∷ []) j t at)
 
 pub slots_before : (c : CountingCode) (types : List Column) (ss : List StageTree) → HasBookSlots c (columns_of types ss) → HasBookSlots c types
 slots_before c types ss h = record {

@@ -25,6 +25,7 @@ use Rattle.sl_machine.specs.State.{State, End}
 use Rattle.sl_plans.specs.Trees.{Tree}
 use Rattle.sl_plans.specs.Laid.{AchievesAll}
 use Rattle.sl_plans.proofs.Rules.{achieves_more}
+use Rattle.sl_pieces.proofs.columns.Cells.{still_holds}
 use Rattle.sl_pieces.specs.columns.Columns.{HoldsColumn, GetsColumn}
 use Rattle.sl_pieces.specs.columns.Trees.{copy_tree}
 use Rattle.sl_pieces.proofs.columns.Writing.{columns_are_copied}
@@ -36,7 +37,7 @@ use Rattle.sl_pieces.proofs.exprs.Places.{fact_low, number_few}
 use Rattle.sl_pieces.specs.exprs.Meaning.{HoldsKnown, StandsIn, HasExpr, ExprsAchieve}
 use Rattle.sl_pieces.specs.exprs.Stages.{stage_pieces, stages_pieces, HasStages, IsBehind, HasColumns, EndsStopped, StagesAchieve}
 use Rattle.sl_pieces.proofs.exprs.Expressions.{exprs_achieve}
-use Rattle.sl_pieces.proofs.exprs.StageRules.{all_more, all_then, last_there, still_holds, extended, slots_before, rest_staged}
+use Rattle.sl_pieces.proofs.exprs.StageRules.{all_more, all_then, last_there, extended, slots_before, rest_staged}
 
 -- what stands behind a stage
 record HasStage (b : BookTree) (e : Election) (k : Known) (s : StageTree) (before after : State) : Type 0 where

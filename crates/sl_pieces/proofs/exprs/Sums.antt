@@ -35,13 +35,9 @@ use Rattle.sl_pieces.proofs.exprs.Arguments.{ComesTo, plain_all}
 
 unit_few : (s : Shape) (u : Units) → most_of (column s u) ≤ MAX_WEIGHT
 unit_few shape.One unit.Seats = omega arith
-unit_few shape.One unit.Votes = omega arith
-unit_few shape.Party unit.Seats = omega arith
-unit_few shape.Party unit.Votes = omega arith
-unit_few shape.Land unit.Seats = omega arith
-unit_few shape.Land unit.Votes = omega arith
-unit_few shape.List unit.Seats = omega arith
-unit_few shape.List unit.Votes = omega arith
+unit_few shape.One _ = omega arith
+unit_few _ unit.Seats = omega arith
+unit_few _ _ = omega arith
 
 -- the numbers of a column of a type are weights
 pub typed_weights : (e : Election) (t : ColumnType) (values : List ℕ) → FitsType e t values → All (λ n. n ≤ MAX_WEIGHT) values
@@ -57,12 +53,7 @@ fits_axis : (s : Shape) (over : Axis) → can_sum s over ≡ true → FitsAxis o
 fits_axis s axis.All can = tt
 fits_axis shape.List axis.Party can = refl
 fits_axis shape.List axis.Land can = refl
-fits_axis shape.One axis.Party can = absurd (false≢true can)
-fits_axis shape.One axis.Land can = absurd (false≢true can)
-fits_axis shape.Party axis.Party can = absurd (false≢true can)
-fits_axis shape.Party axis.Land can = absurd (false≢true can)
-fits_axis shape.Land axis.Party can = absurd (false≢true can)
-fits_axis shape.Land axis.Land can = absurd (false≢true can)
+fits_axis _ _ can = absurd (false≢true can)
 
 summed_is : (over : Axis) → summed over ≡ shape_over over
 summed_is axis.Party = refl

@@ -24,11 +24,12 @@ use Rattle.sl_plans.specs.Trees.{Tree, Line, Then, If}
 use Rattle.sl_plans.specs.Achieves.{Achieves, Never}
 use Rattle.sl_plans.proofs.Rules.{achieves_more, line_ends, line_goes, if_zero, line_first, line_over}
 use Rattle.sl_plans.proofs.KeepingRules.{achieves_kept, each_keeping}
+use Rattle.sl_pieces.proofs.scopes.Scopes.{party_again}
 use Rattle.sl_pieces.specs.columns.Columns.{HoldsColumn, GetsColumn}
 use Rattle.sl_pieces.specs.facts.Trees.{FactSlots, cell, number, nothing, house_tree, counted_tree, population_tree, fact_tree}
 use Rattle.sl_pieces.specs.facts.Laws.{HasFactSlots, FactsAreTold}
 use Rattle.sl_pieces.proofs.facts.Counts.{Changed, next_changed}
-use Rattle.sl_pieces.proofs.facts.Holding.{party_of_place, place_within, list_told, holds_one, holds_lists, party_held, gets_column}
+use Rattle.sl_pieces.proofs.facts.Holding.{place_within, list_told, holds_one, holds_lists, party_held, gets_column}
 use Rattle.sl_pieces.proofs.facts.Cells.{cell_written, cell_not_written, Puts, stored}
 use Rattle.sl_pieces.proofs.facts.Loops.{Flagged}
 use Rattle.sl_pieces.proofs.facts.Winners.{flag_down, flag_up, winners_are_told, outside_are_told, alone_are_told}
@@ -83,7 +84,7 @@ module _ (c : CountingCode) (e : Election) (x : FactSlots) (slots : HasFactSlots
       flags : Flagged e x (is_eligible conditions e) t
 
     new_there : (l p : ℕ) → p < parties_of e → new_cell (l * parties_of e + p) ≡ (if is_eligible conditions e p then old_cell (l * parties_of e + p) else 0)
-    new_there l p less = ap (λ n. if is_eligible conditions e n then old_cell (l * parties_of e + p) else 0) (party_of_place e l p less)
+    new_there l p less = ap (λ n. if is_eligible conditions e n then old_cell (l * parties_of e + p) else 0) (party_again e l p less)
 
     list_cleared : (l p : ℕ) (t : State) → l < lands_of e → p < parties_of e → Cleared (l * parties_of e + p) t → t.land ≡ Some l
         → Achieves c e one_list (with_party (Some p) t) (λ u. Puts (l * parties_of e + p) (new_cell (l * parties_of e + p)) (t.columns (x.of facts.Counted)) (u.columns (x.of facts.Counted))) Never

@@ -2,7 +2,7 @@
 use Rattle.std.proofs.Common.{◌≡◌, ◌≢◌, ℕ, ◌+◌, ◌*◌, ◌/◌, ◌%◌, ◌<◌, ◌≤◌, false, List, [], ◌∷◌, Option, get_or, if◌then◌else◌, refl, sym, ap, ◌∙◌, arith}
 use Rattle.std.proofs.Math.Nat.{mul-le-mul_right}
 use Rattle.std.proofs.lemmas.Bool.{lt-ltb}
-use Rattle.std.proofs.lemmas.Nat.{div-mul-add, mod-mul-add, div-add-mod'}
+use Rattle.std.proofs.lemmas.Nat.{div-add-mod'}
 use Rattle.std.proofs.lemmas.List.FromFn.{length-map-range_with_len, get_or-map-range_with_len}
 use Rattle.sl_stages.specs.declared.book.Shape.{Shape}
 use Rattle.sl_stages.specs.declared.book.Shape.TheVariants as shape
@@ -19,17 +19,12 @@ use Rattle.sl_plans.specs.Achieves.{Achieves, Never}
 use Rattle.sl_plans.specs.Frames.{may_write_slot, may_seat, may_record_step, may_record_weight}
 use Rattle.sl_plans.proofs.Rules.{achieves_more}
 use Rattle.sl_plans.proofs.KeepingRules.{achieves_kept}
+use Rattle.sl_pieces.proofs.scopes.Scopes.{land_again, party_again}
 use Rattle.sl_pieces.specs.columns.Columns.{HoldsColumn, GetsColumn}
 
 -- ---- the place of a pair of Land and party
 
 module _ (e : Election) (land party : ℕ) (less : party < parties_of e) where
-  pub land_of_place : (land * parties_of e + party) / parties_of e ≡ land
-  land_of_place = div-mul-add land (parties_of e) party less
-
-  pub party_of_place : (land * parties_of e + party) % parties_of e ≡ party
-  party_of_place = mod-mul-add land (parties_of e) party less
-
   pub place_within : land < lands_of e → land * parties_of e + party < lands_of e * parties_of e
   place_within in_lands =
       let high : (land + 1) * parties_of e ≤ lands_of e * parties_of e = mul-le-mul_right (parties_of e) (omega arith) in
@@ -40,7 +35,7 @@ module _ (e : Election) (land party : ℕ) (less : party < parties_of e) where
   list_told f in_lands =
       let place : ℕ = land * parties_of e + party in
       ap (λ b. if b then f (list_at e (place / parties_of e) (place % parties_of e)) else 0) (lt-ltb place (lands_of e * parties_of e) (place_within in_lands))
-      ∙ ap (λ l. f (list_at e l (place % parties_of e))) land_of_place ∙ ap (λ p. f (list_at e land p)) party_of_place
+      ∙ ap (λ l. f (list_at e l (place % parties_of e))) (land_again e land party less) ∙ ap (λ p. f (list_at e land p)) (party_again e land party less)
 
 -- ---- columns
 

@@ -23,10 +23,11 @@ use Rattle.sl_plans.specs.Trees.{Tree, Line, Then, If, Each}
 use Rattle.sl_plans.specs.Frames.{may_move}
 use Rattle.sl_plans.specs.Achieves.{Achieves, Never}
 use Rattle.sl_plans.proofs.Rules.{achieves_more, if_zero, if_no_list, if_no_party, line_first, line_over}
+use Rattle.sl_pieces.proofs.scopes.Scopes.{land_again, party_again}
 use Rattle.sl_pieces.specs.columns.Columns.{GetsColumn}
 use Rattle.sl_pieces.specs.facts.Trees.{FactSlots, number, count_one, nothing, by_winner, winners_tree, outside_tree, alone_tree}
 use Rattle.sl_pieces.specs.facts.Laws.{HasFactSlots}
-use Rattle.sl_pieces.proofs.facts.Holding.{land_of_place, party_of_place, holds_lands, holds_lists, WritesOnly, gets_column}
+use Rattle.sl_pieces.proofs.facts.Holding.{holds_lands, holds_lists, WritesOnly, gets_column}
 use Rattle.sl_pieces.proofs.facts.Cells.{cell_written, cell_not_written, CountsWhere, counts_at, counts_nowhere}
 use Rattle.sl_pieces.proofs.facts.Loops.{Flagged, winners_counted}
 
@@ -88,8 +89,8 @@ module _ (conditions : List Cond) (e : Election) where
     module _ (less : p < parties_of e) where
       listed_there : counts_in_list (w.land * parties_of e + p) w ≡ true
       listed_there =
-          let land : (w.land * parties_of e + p) / parties_of e ≡ w.land = land_of_place e w.land p less in
-          let party : (w.land * parties_of e + p) % parties_of e ≡ p = party_of_place e w.land p less in
+          let land : (w.land * parties_of e + p) / parties_of e ≡ w.land = land_again e w.land p less in
+          let party : (w.land * parties_of e + p) % parties_of e ≡ p = party_again e w.land p less in
           ap (λ l. takes_part conditions e l ((w.land * parties_of e + p) % parties_of e) && (is_in l w && is_of ((w.land * parties_of e + p) % parties_of e) w)) land
           ∙ ap (λ n. takes_part conditions e w.land n && (is_in w.land w && is_of n w)) party
           ∙ and_from (takes_part conditions e w.land p) (is_in w.land w && is_of p w) part (in_land w (is_of p w) (party_is w (Some p) p of ∙ eq-eqb p p refl))
@@ -115,8 +116,8 @@ module _ (conditions : List Cond) (e : Election) where
   counted_there : (land party : ℕ) → party < parties_of e → count_by (counts_in_list (land * parties_of e + party)) e.wins ≡ winners_of land party
   counted_there land party less =
       let q : ℕ = land * parties_of e + party in
-      ap (λ l. count_by (λ w. takes_part conditions e l (q % parties_of e) && (is_in l w && is_of (q % parties_of e) w)) e.wins) (land_of_place e land party less)
-      ∙ ap (λ n. count_by (λ w. takes_part conditions e land n && (is_in land w && is_of n w)) e.wins) (party_of_place e land party less)
+      ap (λ l. count_by (λ w. takes_part conditions e l (q % parties_of e) && (is_in l w && is_of (q % parties_of e) w)) e.wins) (land_again e land party less)
+      ∙ ap (λ n. count_by (λ w. takes_part conditions e land n && (is_in land w && is_of n w)) e.wins) (party_again e land party less)
       ∙ count_if (takes_part conditions e land party) (λ w. is_in land w && is_of party w) e.wins
 
   outside_there : (w : Win) → is_on_list conditions e w ≡ false → counts_outside w.land w ≡ true

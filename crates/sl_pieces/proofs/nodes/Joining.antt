@@ -25,11 +25,11 @@ use Rattle.sl_machine.proofs.effects.Storing.{column_same, column_other}
 use Rattle.sl_plans.specs.Trees.{Tree}
 use Rattle.sl_plans.specs.Achieves.{Achieves}
 use Rattle.sl_plans.proofs.Rules.{achieves_more, line_ends, line_goes, then_achieves}
+use Rattle.sl_pieces.proofs.columns.Cells.{still_holds}
+use Rattle.sl_stages.proofs.meaning.AwardedEntries.{every_at}
 use Rattle.sl_pieces.specs.scopes.Forms.{Form, amounts_of, votes_of, groups_of, OnScope}
 use Rattle.sl_pieces.specs.inner.scopes.Walks.{bare}
-use Rattle.sl_pieces.proofs.scopes.Pieces.{every_there}
 use Rattle.sl_pieces.proofs.scopes.Forms.{each_scope}
-use Rattle.sl_pieces.specs.columns.Columns.{HoldsColumn}
 use Rattle.sl_pieces.specs.seats.Slots.{Slots, HasSlots, IsUnchanged}
 use Rattle.sl_pieces.specs.nodes.Trees.{shared}
 use Rattle.sl_pieces.specs.nodes.Scopes.{HoldsMinima, HoldsArguments, HasAward, EndsFaulty, DoesScopes, stand}
@@ -40,21 +40,18 @@ use Rattle.sl_pieces.proofs.nodes.Columns.{HoldsAwards, no_awards, one_award_mor
 
 -- ---- arguments stay where their slots do
 
-holds_again : (e : Election) (over : Shape) (before after : ℕ → ℕ) (values : List ℕ) → ((q : ℕ) → after q ≡ before q) → HoldsColumn e over before values → HoldsColumn e over after values
-holds_again e over before after values same h = record { long = h.long; at = λ q within. same q ∙ h.at q within }
-
 minima_again : (e : Election) (over : Shape) (slot : Option ℕ) (minima : Option (List ℕ)) (s t : State) → ((k : ℕ) → slot ≡ Some k → (q : ℕ) → t.columns k q ≡ s.columns k q) →
     HoldsMinima e over slot s minima → HoldsMinima e over slot t minima
 minima_again e over None None s t same h = h
 minima_again e over None (Some m) s t same h = h
 minima_again e over (Some k) None s t same h = h
-minima_again e over (Some k) (Some m) s t same h = holds_again e over (s.columns k) (t.columns k) m (same k refl) h
+minima_again e over (Some k) (Some m) s t same h = still_holds e over (s.columns k) (t.columns k) m (same k refl) h
 
 arguments_again : (c : CountingCode) (e : Election) (f : Form) (x : Slots) (name amounts votes : List ℕ) (minima : Option (List ℕ)) (s t : State) → HasSlots c f x name →
     ((slot q : ℕ) → slot ≢ x.result → t.columns slot q ≡ s.columns slot q) → HoldsArguments e f x amounts votes minima s → HoldsArguments e f x amounts votes minima t
 arguments_again c e f x name amounts votes minima s t slots same h = record {
-  amounts_are = holds_again e (amounts_of f) (s.columns x.amounts) (t.columns x.amounts) amounts (λ q. same x.amounts q slots.not_amounts) h.amounts_are;
-  votes_are = holds_again e (votes_of f) (s.columns x.votes) (t.columns x.votes) votes (λ q. same x.votes q slots.not_votes) h.votes_are;
+  amounts_are = still_holds e (amounts_of f) (s.columns x.amounts) (t.columns x.amounts) amounts (λ q. same x.amounts q slots.not_amounts) h.amounts_are;
+  votes_are = still_holds e (votes_of f) (s.columns x.votes) (t.columns x.votes) votes (λ q. same x.votes q slots.not_votes) h.votes_are;
   minima_are = minima_again e (votes_of f) x.minima minima s t (λ k is q. same k q (slots.not_minima k is)) h.minima_are;
   weights = h.weights;
 }
@@ -148,7 +145,7 @@ module _ (c : CountingCode) (e : Election) (f : Form) (x : Slots) (name amounts 
   one_scope none few j g s at on inv =
       achieves_more
       (does.does j g s at on (arguments_again c e f x name amounts votes minima start s slots inv.columns holds)
-      (every_there (λ g. slice_index amounts g.amount_place ≤ MAX_SEATS) (groups_of e f) j g few at))
+      (every_at (λ g. slice_index amounts g.amount_place ≤ MAX_SEATS) (groups_of e f) j g few at))
       (λ t h. (h.on, one_more j g s t at inv h)) (λ y h. first_fault j g (bare s) y none at inv h)
 
   -- all scopes have their seats

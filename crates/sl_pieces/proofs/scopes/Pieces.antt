@@ -1,24 +1,18 @@
 -- The elements of a list at their places; and lists in pieces, one for each number below another: where the pieces stand.
 use Rattle.std.proofs.Common.{◌≡◌, ℕ, zero, suc, ◌+◌, ◌<◌, Bool, List, [], ◌∷◌, ◌++◌, length, map, filter, if◌then◌else◌, Some, refl, sym, ap, subst, ◌∙◌, inl, inr, arith}
 use Rattle.std.specs.Prelude.{flat_map, slice_get}
-use Rattle.std.specs.List.{AllByRecursion as Every, range_with_len}
+use Rattle.std.specs.List.{range_with_len}
 use Rattle.std.proofs.lemmas.Bool.{cases_Bool, cond-true, cond-false}
 use Rattle.std.proofs.lemmas.List.{length-append, append-nil}
-use Rattle.std.proofs.lemmas.Option.{none-some, same_Some}
-
--- what holds of each element holds of the one at a place
-pub every_there : {X : Type 0} (P : X → Type 0) (xs : List X) (i : ℕ) (x : X) → Every P xs → slice_get xs i ≡ Some x → P x
-every_there P [] i x all at = absurd (none-some x at)
-every_there P (y ∷ ys) zero x all at = subst P (same_Some y x at) all.0
-every_there P (y ∷ ys) (suc i) x all at = every_there P ys i x all.1 at
+use Rattle.std.proofs.lemmas.Option.{none-some}
 
 module _ {X : Type 0} where
-  get_left : (xs ys : List X) (i : ℕ) (x : X) → slice_get xs i ≡ Some x → slice_get (xs ++ ys) i ≡ Some x
+  pub get_left : (xs ys : List X) (i : ℕ) (x : X) → slice_get xs i ≡ Some x → slice_get (xs ++ ys) i ≡ Some x
   get_left [] ys i x at = absurd (none-some x at)
   get_left (y ∷ xs) ys zero x at = at
   get_left (y ∷ xs) ys (suc i) x at = get_left xs ys i x at
 
-  get_right : (xs ys : List X) (i : ℕ) → slice_get (xs ++ ys) (length xs + i) ≡ slice_get ys i
+  pub get_right : (xs ys : List X) (i : ℕ) → slice_get (xs ++ ys) (length xs + i) ≡ slice_get ys i
   get_right [] ys i = let same : 0 + i ≡ i = omega arith in ap (λ (n : ℕ). slice_get ys n) same
   get_right (x ∷ xs) ys i =
       let same : suc (length xs) + i ≡ suc (length xs + i) = omega arith in

@@ -20,9 +20,9 @@ use Rattle.sl_machine.specs.Places.{both}
 use Rattle.sl_stages.proofs.meaning.DistinctLists.{every_map, every_filter, every_pieces, every_weaker}
 use Rattle.sl_pieces.specs.scopes.Forms.{AllParties, AllLands, AllLists, ListsOfParty, ListsInLand, groups_of, OnScope, OnItem}
 use Rattle.sl_pieces.specs.scopes.Scopes.{IsEntry, IsScope, ScopesHold, ScopesApart}
-use Rattle.sl_pieces.proofs.scopes.Pieces.{every_there}
 use Rattle.sl_pieces.proofs.scopes.Rising.{Rises, between, rises_range, rises_filter, rises_map, rises_append, increasing}
 use Rattle.sl_pieces.proofs.scopes.Forms.{only_one, made_of, all_group, party_group, land_group}
+use Rattle.sl_stages.proofs.meaning.AwardedEntries.{every_at}
 
 -- ---- the place of a pair
 
@@ -123,7 +123,7 @@ module _ (e : Election) where
     kind = λ s on. refl;
     amount = λ s on. refl;
     increasing = increasing (place e) (entries_of e shape.Party) (rises_map (λ k. k) (place e) item.Party (λ p r less. less) (parties e) (rises_range 0 (parties_of e)));
-    entry = λ j i at. every_there (IsEntry e entries.Party shape.Party scope.All) (entries_of e shape.Party) j i
+    entry = λ j i at. every_at (IsEntry e entries.Party shape.Party scope.All) (entries_of e shape.Party) j i
         (every_map (IsEntry e entries.Party shape.Party scope.All) item.Party (parties e) (each_below (λ p. IsEntry e entries.Party shape.Party scope.All (item.Party p)) (parties_of e) (party_entry e))) at;
   }
 
@@ -133,7 +133,7 @@ module _ (e : Election) where
     kind = λ s on. refl;
     amount = λ s on. refl;
     increasing = increasing (place e) (entries_of e shape.Land) (rises_map (λ k. k) (place e) item.Land (λ l k less. less) (lands e) (rises_range 0 (lands_of e)));
-    entry = λ j i at. every_there (IsEntry e entries.Land shape.Land scope.All) (entries_of e shape.Land) j i
+    entry = λ j i at. every_at (IsEntry e entries.Land shape.Land scope.All) (entries_of e shape.Land) j i
         (every_map (IsEntry e entries.Land shape.Land scope.All) item.Land (lands e) (each_below (λ l. IsEntry e entries.Land shape.Land scope.All (item.Land l)) (lands_of e) (land_entry e))) at;
   }
 
@@ -145,7 +145,7 @@ module _ (e : Election) where
         kind = λ s on. refl;
         amount = λ s on. refl;
         increasing = increasing (place e) (entries_of e shape.List) (lists_rise e 0 (lands_of e));
-        entry = λ j i at. every_there P (entries_of e shape.List) j i
+        entry = λ j i at. every_at P (entries_of e shape.List) j i
             (every_pieces P (lists_in_land e) (lands e)
             (each_below (λ l. Every P (lists_in_land e l)) (lands_of e) (λ l in_lands. in_land_each e P l (λ p in_parties. list_entry e scope.All l p in_lands in_parties (λ s on. tt))))) at;
       }
@@ -158,7 +158,7 @@ module _ (e : Election) where
         kind = λ s on. ap (λ o. option_map scope.Party o) on;
         amount = λ s on. on;
         increasing = increasing (place e) (lists_of_party e p) (of_party_rises e p in_parties);
-        entry = λ j i at. every_there P (lists_of_party e p) j i (of_party_each e P p (λ l in_lands. list_entry e (scope.Party p) l p in_lands in_parties (λ s on. on.1))) at;
+        entry = λ j i at. every_at P (lists_of_party e p) j i (of_party_each e P p (λ l in_lands. list_entry e (scope.Party p) l p in_lands in_parties (λ s on. on.1))) at;
       }
 
   land_scope : (l : ℕ) → l < lands_of e → IsScope e ListsInLand (land_group e l)
@@ -169,7 +169,7 @@ module _ (e : Election) where
         kind = λ s on. ap (λ o. option_map scope.Land o) on;
         amount = λ s on. on;
         increasing = increasing (place e) (lists_in_land e l) (in_land_rises e l);
-        entry = λ j i at. every_there P (lists_in_land e l) j i (in_land_each e P l (λ p in_parties. list_entry e (scope.Land l) l p in_lands in_parties (λ s on. on.0))) at;
+        entry = λ j i at. every_at P (lists_in_land e l) j i (in_land_each e P l (λ p in_parties. list_entry e (scope.Land l) l p in_lands in_parties (λ s on. on.0))) at;
       }
 
   -- the scopes of parties, and of Länder, by their numbers
@@ -212,13 +212,13 @@ scopes_apart e ListsOfParty m n g h at there differ j k i x first second same =
     let one : (g ≡ party_group e m) × (m < parties_of e) = party_scope_at e m g at in
     let other : (h ≡ party_group e n) × (n < parties_of e) = party_scope_at e n h there in
     let P : ℕ → Item → Type 0 = λ p y. place e y % parties_of e ≡ p in
-    let is : P m i = every_there (P m) (lists_of_party e m) j i (of_party_each e (P m) m (λ l less. party_again e l m one.1)) (subst (λ (y : Group). slice_get y.entries j ≡ Some i) one.0 first) in
-    let are : P n x = every_there (P n) (lists_of_party e n) k x (of_party_each e (P n) n (λ l less. party_again e l n other.1)) (subst (λ (y : Group). slice_get y.entries k ≡ Some x) other.0 second) in
+    let is : P m i = every_at (P m) (lists_of_party e m) j i (of_party_each e (P m) m (λ l less. party_again e l m one.1)) (subst (λ (y : Group). slice_get y.entries j ≡ Some i) one.0 first) in
+    let are : P n x = every_at (P n) (lists_of_party e n) k x (of_party_each e (P n) n (λ l less. party_again e l n other.1)) (subst (λ (y : Group). slice_get y.entries k ≡ Some x) other.0 second) in
     differ (sym is ∙ ap (λ q. q % parties_of e) same ∙ are)
 scopes_apart e ListsInLand m n g h at there differ j k i x first second same =
     let one : (g ≡ land_group e m) × (m < lands_of e) = land_scope_at e m g at in
     let other : (h ≡ land_group e n) × (n < lands_of e) = land_scope_at e n h there in
     let P : ℕ → Item → Type 0 = λ l y. place e y / parties_of e ≡ l in
-    let is : P m i = every_there (P m) (lists_in_land e m) j i (in_land_each e (P m) m (λ p less. land_again e m p less)) (subst (λ (y : Group). slice_get y.entries j ≡ Some i) one.0 first) in
-    let are : P n x = every_there (P n) (lists_in_land e n) k x (in_land_each e (P n) n (λ p less. land_again e n p less)) (subst (λ (y : Group). slice_get y.entries k ≡ Some x) other.0 second) in
+    let is : P m i = every_at (P m) (lists_in_land e m) j i (in_land_each e (P m) m (λ p less. land_again e m p less)) (subst (λ (y : Group). slice_get y.entries j ≡ Some i) one.0 first) in
+    let are : P n x = every_at (P n) (lists_in_land e n) k x (in_land_each e (P n) n (λ p less. land_again e n p less)) (subst (λ (y : Group). slice_get y.entries k ≡ Some x) other.0 second) in
     differ (sym is ∙ ap (λ q. q / parties_of e) same ∙ are)

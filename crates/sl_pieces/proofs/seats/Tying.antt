@@ -41,7 +41,7 @@ some_there [] i c = absurd (Contains-none i c)
 some_there (x ∷ xs) i c = omega arith
 
 -- some entry is tied, so that some seat is
-first_tied : (lot among : List ℕ) → ¬ NamesAll lot among → (i : ℕ) × (slice_get among 0 ≡ Some i) × Contains among i
+pub first_tied : (lot among : List ℕ) → ¬ NamesAll lot among → (i : ℕ) × (slice_get among 0 ≡ Some i) × Contains among i
 first_tied lot [] missing = absurd (missing (λ i c. absurd (Contains-none i c)))
 first_tied lot (i ∷ is) missing = (i, refl, Contains-head i is)
 
