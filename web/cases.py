@@ -1,12 +1,12 @@
 """Inputs on which the page and the program are compared: those of the repository, and random ones.
 
-A case is (command, book, returns, name): command is count, steps, stage, check or law; book and returns are bytes, or a book is the name of a
-statute of the library, with @ before it; name is that of a stage or of a statute.
+A case is a call of the page, `explain_` before a command for what the program writes to standard error.
 """
 import pathlib
 import random
 import re
 import sys
+import typing
 
 TOP = pathlib.Path(__file__).resolve().parent.parent
 EXAMPLES = TOP / "crates" / "sl_rows" / "data"
@@ -17,6 +17,40 @@ import elections  # noqa: E402
 LAWS = ("1956", "1985", "2008", "2013", "2023", "2023-order")
 METHODS = ("webster", "jefferson", "adams", "hamilton", "hill", "dean")
 STAGE = re.compile(r"\bstage\s+(\w+)")
+ELECTIONS = TOP / "crates" / "sl_report_rows" / "data" / "elections"
+LANGUAGES = ("de", "en")
+
+
+class Case(typing.NamedTuple):
+    """A call: book and returns are bytes, or a book is the name of a statute of the library, with @ before it; a book of no bytes is none.
+
+    name is that of a stage or of a statute, or of `compare` the words of the rulebooks, of which `book` stands for the bytes; names is a file of
+    full names, of which no bytes are none.
+    """
+
+    command: str
+    book: typing.Union[bytes, str] = b""
+    returns: bytes = b""
+    name: str = ""
+    names: bytes = b""
+    language: str = "en"
+
+
+def reports(book, returns, names=b""):
+    """The calls that report on returns, with a book and without one."""
+    yield Case("report", book, returns, names=names)
+    yield Case("totals", book, returns, names=names)
+    yield Case("totals", b"", returns, names=names)
+    if isinstance(book, str):
+        yield Case("compare", b"", returns, "%s @2008 @2013" % book, names)
+    else:
+        yield Case("compare", book, returns, "@2023 book", names)
+
+
+def explanations(book, returns):
+    """The explanations of a count by a book, in both languages."""
+    for language in LANGUAGES:
+        yield Case("explain_count", book, returns, language=language)
 
 
 def stages_of(book):
@@ -27,15 +61,20 @@ def examples():
     """Every book on every returns file of the examples, and each of its stages."""
     books = ["@" + law for law in LAWS] + [path.read_bytes() for path in sorted(EXAMPLES.glob("**/*.law"))]
     for book in books:
-        yield "check", book, b"", ""
+        yield Case("check", book)
         for path in sorted(EXAMPLES.glob("**/*.csv")):
             returns = path.read_bytes()
-            yield "count", book, returns, ""
-            yield "steps", book, returns, ""
+            yield Case("count", book, returns)
+            yield Case("steps", book, returns)
             for name in ("lower", "upper", "none") if isinstance(book, str) else stages_of(book):
-                yield "stage", book, returns, name
+                yield Case("stage", book, returns, name)
+            yield from reports(book, returns)
+            yield from explanations(book, returns)
     for law in (*LAWS, "", "1999", "2023 ", "2023\u00e4"):
-        yield "law", b"", b"", law
+        yield Case("law", name=law)
+    for path in sorted(ELECTIONS.glob("20*.csv")):
+        for names in ((ELECTIONS / "names.csv").read_bytes(), b"CDU,Union\nSPD\n", b"a,b,c\n", b"\xff,x\n"):
+            yield from reports("@2023-order", path.read_bytes(), names)
 
 
 def literals(path):
@@ -56,12 +95,22 @@ def rows():
         books = [text.encode() for text in texts if text.startswith("rulebook")]
         files = [text.encode() for text in texts if text.startswith("kind")]
         for book in books:
-            yield "check", book, b"", ""
+            yield Case("check", book)
+            for language in LANGUAGES:
+                yield Case("explain_check", book, language=language)
             for returns in files:
-                yield "count", book, returns, ""
-                yield "steps", book, returns, ""
+                yield Case("count", book, returns)
+                yield Case("steps", book, returns)
                 for name in stages_of(book)[:2]:
-                    yield "stage", book, returns, name
+                    yield Case("stage", book, returns, name)
+                yield from reports(book, returns)
+                yield from explanations(book, returns)
+
+
+# How often of a hundred random inputs each command is tried.
+COMMANDS = {
+    "count": 25, "steps": 22, "stage": 12, "check": 4, "law": 1, "report": 10, "totals": 5, "compare": 5, "explain_count": 12, "explain_check": 4,
+}
 
 
 class Random:
@@ -169,11 +218,17 @@ class Random:
             returns = self.spoilt(returns)
         if isinstance(book, bytes) and rng.random() < 0.2:
             book = self.spoilt(book)
-        command = rng.choices(("count", "steps", "stage", "check", "law"), (40, 35, 18, 6, 1))[0]
+        command = rng.choices(*zip(*COMMANDS.items()))[0]
         if command == "law":
-            return command, b"", b"", rng.choice((*LAWS, "2023x", "x" * 300, ""))
-        names = stages_of(book) if isinstance(book, bytes) else ["pool", "upper", "lower"]
-        return command, book, returns, rng.choice([*names, "none"]) if command == "stage" else ""
+            return Case(command, name=rng.choice((*LAWS, "2023x", "x" * 300, "")))
+        stages = stages_of(book) if isinstance(book, bytes) else ["pool", "upper", "lower"]
+        case = Case(command, book, returns, names=rng.choice((b"", b"", b"L0,Land Null\nB0,\"B, die Null\"\n", b"L0\n")), language=rng.choice(LANGUAGES))
+        if command == "stage":
+            return case._replace(name=rng.choice([*stages, "none"]))
+        if command == "compare":
+            words = rng.sample(["@" + law for law in LAWS], rng.randrange(1, 4))
+            return case._replace(book=book if isinstance(book, bytes) else b"", name=" ".join(words + ["book"] * isinstance(book, bytes)))
+        return case
 
 
 def random_cases(count, seed):

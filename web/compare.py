@@ -1,4 +1,7 @@
-"""Compares what the page's calls answer with what the program writes, byte for byte, and the statuses."""
+"""Compares what the page's calls answer with what the program writes, byte for byte, and the statuses.
+
+A statute of the library is given to the page by its text; an explanation is given by the program on standard error, and names the files `book` and `returns`.
+"""
 import base64
 import json
 import os
@@ -29,40 +32,63 @@ def by_page(browser, calls):
     return [(status, base64.b64decode(text)) for status, text in browser.run(ASK % json.dumps(asked))]
 
 
+def words_of(case):
+    """The words of the program for a case, whose inputs are files of a folder."""
+    command = case.command.removeprefix("explain_")
+    if command == "law":
+        return ["law", "--", case.name]
+    book = case.book if isinstance(case.book, str) else "book"
+    names = ["--names", "names"] if case.names else []
+    if command in ("report", "totals"):
+        inputs = [book, "returns"] if command == "report" else ["returns", *([book] if case.book else [])]
+        return [command, "--json", *names, "--", *inputs]
+    if command == "compare":
+        return [command, "--json", *names, "--", "returns", *case.name.split()]
+    inputs = {"check": [book], "stage": [book, "returns", case.name]}.get(command, [book, "returns"])
+    language = ["--lang", case.language] if command != case.command else []
+    return [command, *language, "--", *inputs]
+
+
 def by_program(program, folder, case):
     """What the program writes, and its exit status."""
-    command, book, returns, name = case
-    if command == "law":
-        words = ["law", "--", name]
-    else:
-        if isinstance(book, bytes):
-            with open(os.path.join(folder, "book"), "wb") as f:
-                f.write(book)
-        with open(os.path.join(folder, "returns"), "wb") as f:
-            f.write(returns)
-        words = [command, "--", book if isinstance(book, str) else "book"]
-        if command != "check":
-            words.append("returns")
-        if command == "stage":
-            words.append(name)
-    done = subprocess.run([program, *words], cwd=folder, capture_output=True, timeout=120)
-    return done.returncode, done.stdout
+    for name in ("book", "returns", "names"):
+        data = getattr(case, name)
+        if isinstance(data, bytes):
+            with open(os.path.join(folder, name), "wb") as f:
+                f.write(data)
+    done = subprocess.run([program, *words_of(case)], cwd=folder, capture_output=True, timeout=120)
+    return done.returncode, done.stderr if case.command.startswith("explain_") else done.stdout
 
 
 def call_of(case, laws):
-    """The page's call of a case: a statute of the library is given by its text."""
-    command, book, returns, name = case
-    if command == "law":
-        return ["law", name.encode()]
-    text = laws[book[1:]] if isinstance(book, str) else book
-    inputs = {"check": [text], "stage": [text, returns, name.encode()]}
-    return [command, *inputs.get(command, [text, returns])]
+    """The page's call of a case."""
+    if case.command == "law":
+        return ["law", case.name.encode()]
+    book = laws[case.book[1:]] if isinstance(case.book, str) else case.book
+    inputs = {
+        "check": [book],
+        "stage": [book, case.returns, case.name.encode()],
+        "report": [book, case.returns, case.names],
+        "totals": [book, case.returns, case.names],
+        "compare": ["\n".join(case.name.split()).encode(), book, case.returns, case.names],
+    }
+    command = case.command.removeprefix("explain_")
+    language = [case.language.encode()] if command != case.command else []
+    return [case.command, *language, *inputs.get(command, [book, case.returns])]
+
+
+def told(case, laws):
+    """The case of an explanation with the text of its book in place of a name, since the explanation names the file."""
+    if case.command.startswith("explain_") and isinstance(case.book, str):
+        return case._replace(book=laws[case.book[1:]])
+    return case
 
 
 def compared(browser, program, what, all_cases):
     """Compares the cases, and answers how many differ; the first ones are printed."""
     laws = dict(zip(cases.LAWS, (text for _, text in by_page(browser, [["law", law.encode()] for law in cases.LAWS]))))
     count, statuses, differ, batch = 0, {}, 0, []
+    commands = {}
 
     def judge():
         nonlocal count, differ
@@ -70,6 +96,7 @@ def compared(browser, program, what, all_cases):
         for case, answer in zip(batch, answers):
             wanted = by_program(program, folder, case)
             count += 1
+            commands[case.command] = commands.get(case.command, 0) + 1
             statuses[wanted[0]] = statuses.get(wanted[0], 0) + 1
             if answer != wanted:
                 differ += 1
@@ -79,11 +106,12 @@ def compared(browser, program, what, all_cases):
 
     with tempfile.TemporaryDirectory() as folder:
         for case in all_cases:
-            batch.append(case)
+            batch.append(told(case, laws))
             if len(batch) == AT_ONCE:
                 judge()
         judge()
     found = ", ".join("%d with status %d" % (number, status) for status, number in sorted(statuses.items()))
+    found += "; " + ", ".join("%d %s" % (number, command) for command, number in commands.items())
     print("%s, %s: %d cases (%s), %d differ" % (browser.name, what, count, found, differ), flush=True)
     return differ
 
@@ -99,7 +127,7 @@ def timed(browser, program, what, returns):
     with tempfile.TemporaryDirectory() as folder:
         for law, (_, text) in zip(cases.LAWS, laws):
             answer = by_page(browser, [["count", text, returns]])[0]
-            wanted = by_program(program, folder, ("count", "@" + law, returns, ""))
+            wanted = by_program(program, folder, cases.Case("count", "@" + law, returns))
             if answer != wanted:
                 wrong += 1
                 print("differs: %s by @%s: %r, and not %r" % (what, law, (answer[0], answer[1][:200]), (wanted[0], wanted[1][:200])))
@@ -125,7 +153,7 @@ def program_time(program, folder, law):
     best = None
     for _ in range(5):
         began = time.perf_counter()
-        subprocess.run([program, "count", "@" + law, "returns"], cwd=folder, stdout=subprocess.DEVNULL)
+        subprocess.run([program, "count", "--quiet", "@" + law, "returns"], cwd=folder, stdout=subprocess.DEVNULL)
         took = (time.perf_counter() - began) * 1000
         best = took if best is None else min(best, took)
     return best

@@ -15,8 +15,8 @@ PAGE = pathlib.Path(__file__).resolve().parent / "page"
 DESK = ("desk.js",)
 WORKER = (*DESK, "worker.js")
 SCRIPTS = (
-    "texts.js", "explained.js", *DESK, "calls.js", "outputs.js", "returns.js", "cells.js", "names.js", "colours.js", "parts.js", "house.js", "tables.js",
-    "steps.js", "ties.js", "inputs.js", "saving.js", "main.js",
+    "texts.js", *DESK, "calls.js", "outputs.js", "returns.js", "names.js", "colours.js", "parts.js", "explanations.js", "house.js", "tables.js",
+    "steps.js", "margins.js", "ties.js", "inputs.js", "saving.js", "main.js",
 )
 
 

@@ -11,12 +11,14 @@ PICTURES = cases.TOP / "docs" / "page"
 DATA = cases.EXAMPLES
 TIE = DATA / "tie"
 # Which pictures are kept, by the language of the page.
-KEPT = {"de": {"real", "tie", "phone"}, "en": {"comparison", "refused", "seat"}}
+KEPT = {"de": {"real", "tie", "phone", "refused-book"}, "en": {"comparison", "refused", "seat", "margins"}}
 WORDS = {
-    "de": {"title": "Sitzverteilung des Bundestags", "direct": "davon Wahlkreissieger", "refused": "Die Ergebnisse sind zurückgewiesen", "number": "andere Zeichen als Ziffern",
-           "tie": "Ein Los muss entscheiden", "book": "Zeile 1, Spalte 28", "seat": "Wie dieser Sitz gewonnen wurde", "thousand": "1.000.000"},
-    "en": {"title": "Seats of the Bundestag", "direct": "of these constituency winners", "refused": "The returns are refused", "number": "other characters than digits",
-           "tie": "A lot has to decide", "book": "Line 1, column 28", "seat": "How this seat was won", "thousand": "1,000,000"},
+    "de": {"title": "Sitzverteilung des Bundestags", "direct": "davon Wahlkreissieger", "refused": "Die Ergebnisse sind zurückgewiesen",
+           "tie": "Ein Los muss entscheiden", "book": "Zeile 2, Spalte 7", "seat": "Wie dieser Sitz gewonnen wurde", "thousand": "1.000.000",
+           "house": "Die Ergebnisse haben ein Haus von 10, das Regelwerk eines von 598.", "few": "Nur 2 Parteien: Eine Sperrklausel braucht die Stimmen aller Parteien."},
+    "en": {"title": "Seats of the Bundestag", "direct": "of these constituency winners", "refused": "The returns are refused",
+           "tie": "A lot has to decide", "book": "Line 2, column 7", "seat": "How this seat was won", "thousand": "1,000,000",
+           "house": "the returns have a house of 10, the rulebook of 598", "few": "2 parties alone: a threshold needs the votes of all parties"},
 }
 
 
@@ -52,6 +54,17 @@ class Use:
     def written(self, *words):
         done = subprocess.run([self.program, *map(str, words)], capture_output=True, timeout=120)
         return [line.split(" ") for line in done.stdout.decode().splitlines()]
+
+    def tables(self, command, *words):
+        """The tables of a report by their keys."""
+        done = subprocess.run([self.program, command, "--json", *map(str, words)], capture_output=True, timeout=120)
+        return json.loads(done.stdout)["tables"]
+
+    def told(self, command, *words):
+        """The sentence and the remedies of an explanation, as the page shows them."""
+        done = subprocess.run([self.program, command, "--lang", self.language, *map(str, words)], capture_output=True, timeout=120)
+        lines = done.stderr.decode().replace("`", "").splitlines()
+        return lines[0].split(": ", 1)[1], [line.split(": ", 1)[1] for line in lines if line.startswith("  = ")]
 
     def table(self, book, returns):
         """The lines of the program's table by their first word."""
@@ -121,10 +134,29 @@ class Use:
         for law in ("2008", "2023-order"):
             self.shown_table(law, returns)
         self.expect_in("the head of a table", self.words["direct"], self.browser.text(".result table.parties"))
-        self.open("#totals-part")
-        self.expect_in("the totals", self.words["thousand"], self.browser.text("#totals"))
+        self.before_the_count(returns)
         self.browser.run("document.querySelector('#result-part').scrollIntoView()")
         self.picture("house")
+
+    def before_the_count(self, returns):
+        """The totals and the warnings, by the statutes of 2008 and of 2023 with its order."""
+        wanted = {law: self.tables("totals", returns, "@" + law) for law in ("2008", "2023-order")}
+        self.open("#totals-part")
+        self.expect_in("the totals", self.words["thousand"], self.browser.text("#totals"))
+        found = [[row[0], row[5]] for row in self.rows("#totals table.totals")[:-1]]
+        self.expect("who takes part", found, [[row["party"], row["condition"] or "–"] for row in wanted["2008"]["votes"]])
+        warnings = self.list("#warnings")
+        self.expect("the number of warnings", len(warnings), len({row["text"] for tables in wanted.values() for row in tables["warnings"]}))
+        for part in ("2008: " + self.words["house"], self.words["few"]):
+            self.expect("whether there is the warning " + part, part in warnings, True)
+
+    def list(self, css):
+        return self.browser.run("[...document.querySelectorAll(%s)].map(item => item.textContent)" % json.dumps(css + " li"))
+
+    def shown_told(self, what, css, told):
+        """An explanation of the program stands in a part of the page."""
+        self.expect("the sentence of " + what, self.browser.text(css + " .told .sentence"), told[0])
+        self.expect("the remedies of " + what, self.list(css + " .told"), told[1])
 
     def dropped_file(self):
         returns = DATA / "six-laws" / "returns.csv"
@@ -134,6 +166,11 @@ class Use:
         for law in cases.LAWS:
             self.shown_table(law, returns)
         self.expect("the comparison", self.browser.count(".comparison"), 1)
+        wanted = [row for row in self.tables("compare", returns)["compare"] if row["party"]]
+        found = [[cell.split(" ")[0] for cell in row] for row in self.rows(".comparison > .scrolls")[:len(wanted)]]
+        self.expect("the seats side by side", found, [[row["party"], *(str(row["@" + law]) for law in cases.LAWS)] for row in wanted])
+        differs = [row["differs"] or "–" for row in self.tables("compare", returns)["books"]]
+        self.expect("where the statutes differ", self.rows(".comparison > .scrolls")[-2][1:], differs)
         self.browser.run("document.querySelector('#result-part').scrollIntoView()")
         self.picture("comparison")
 
@@ -150,10 +187,7 @@ class Use:
         self.expect("the focus", self.browser.run("document.activeElement.dataset.seat"), "1")
         self.browser.press("Enter")
         self.browser.wait("document.querySelector('.seat-steps').textContent.includes('600000/3')")
-        self.open("details.bounds")
-        wanted = [[line[1], line[-2], line[-1]] for line in lines if line[0] == "bounds"]
-        found = [[row[0], row[3].split(" ")[0], row[4].split(" ")[0]] for row in self.rows("details.bounds table.bounds")]
-        self.expect("the bounds", found, wanted)
+        self.margins(lines, self.tables("report", "@2023", returns))
         self.open("details.all-steps")
         wanted = [[line[1], line[4], line[5]] for line in lines if line[:3] == ["seat", "upper", "all"]]
         found = [[row[0], row[3], row[4]] for row in self.rows("details.all-steps table.steps")]
@@ -166,14 +200,34 @@ class Use:
         self.browser.run("document.querySelector('.seat-steps').scrollIntoView({ block: 'center' })")
         self.picture("seat")
 
+    def margins(self, lines, tables):
+        """The divisors, the quotients, the last seats, and the votes missing for one more seat in each scope."""
+        self.open("details.bounds")
+        rows = self.rows("details.bounds table.bounds")
+        wanted = [[line[1], line[-2], line[-1]] for line in lines if line[0] == "bounds"]
+        self.expect("the bounds", [[row[0], row[4].split(" ")[0], row[6].split(" ")[0]] for row in rows], wanted)
+        plain = [[row[0], row[2], row[3].replace(".", "").replace(",", ""), row[5], row[7]] for row in rows]
+        self.expect("the divisors", plain, [[row["stage"], str(row["seats"]), row["divisor"], row["last"], row["next"]] for row in tables["scopes"]])
+        for scope in tables["scopes"]:
+            key = "%s %s" % (scope["stage"], scope["scope"])
+            self.browser.run("(() => { const s = document.querySelector('details.bounds select'); s.value = %s; s.dispatchEvent(new Event('change')); })()" % json.dumps(key))
+            wanted = [[row["entry"].replace("/", " / "), str(row["seats"]), str(row["missing"])] for row in tables["entries"] if (row["stage"], row["scope"]) == (scope["stage"], scope["scope"])]
+            found = [[row[0], row[3], row[4].replace(".", "").replace(",", "")] for row in self.rows("details.bounds table.missing")]
+            self.expect("the votes missing in %s" % key, found, wanted)
+        self.browser.run("document.querySelector('details.bounds').scrollIntoView()")
+        self.picture("margins")
+
     def refused_record(self):
         self.only("2023-order")
         text = (DATA / "covered" / "returns.csv").read_text().replace("list,South,Reds,140000", "list,South,Reds,140.000")
         self.browser.run("(() => { document.querySelector('#paste-part').open = true; document.querySelector('#returns-text').value = %s; })()" % json.dumps(text))
         self.after(lambda: self.browser.click("#take"))
         answer = self.browser.text("#returns-answer")
-        for part in (self.words["refused"], self.words["number"], "refused returns 5 9", "list,South,Reds,140.000,140000,"):
+        for part in (self.words["refused"], "refused returns 5 9", "list,South,Reds,140.000,140000,"):
             self.expect_in("the refusal", part, answer)
+        told = self.told("count", "@2023-order", self.file("refused.csv", text.encode()))
+        self.shown_told("the refusal", "#returns-answer", told)
+        self.expect("what stands below the record", self.browser.run("document.querySelector('#bad-record').nextElementSibling.textContent"), told[0])
         self.expect("the marked record", self.browser.run("document.querySelector('#bad-record th').textContent.split(' ')[0]"), "9")
         self.expect("the marked cell", self.marked_cells(), ["140.000"])
         self.browser.run("document.querySelector('#returns-answer').scrollIntoView()")
@@ -198,18 +252,25 @@ class Use:
 
     def refused_book(self):
         self.browser.run("(() => { document.querySelector('#own').open = true; })()")
-        book = self.file("bad.law", b'rulebook 1; law "t"; house 4001; eligible all; seats winners keep;')
+        book = self.file("bad.law", b'rulebook 1; law "t";\nhouse 4001; eligible all;\nseats winners keep;')
         self.after(lambda: self.browser.choose("#own-file", book))
         answer = self.browser.text("#own-answer")
         self.expect_in("the refusal of a book", self.words["book"], answer)
         self.expect_in("the refusal of a book", "refused book check 2 27", answer)
         self.expect("the marked word", self.browser.run("document.querySelector('#own-answer mark').textContent"), "4001")
+        self.shown_told("the refusal of a book", "#own-answer", self.told("check", book))
+        around = [self.browser.run("document.querySelector('#own-answer .told').%sElementSibling.textContent" % side) for side in ("previous", "next")]
+        self.expect("the text around what is said of a book", around, ['rulebook 1; law "t";\nhouse 4001; eligible all;', "seats winners keep;"])
+        self.browser.run("document.querySelector('#own-answer').scrollIntoView({ block: 'center' })")
+        self.picture("refused-book")
 
     def tie(self):
         self.only()
         self.after(lambda: self.browser.drop("#drop", TIE / "book.law"))
         self.after(lambda: self.browser.choose("#returns-file", TIE / "returns.csv"))
         self.expect_in("the tie", self.words["tie"], self.browser.text(".tie"))
+        sentence, remedies = self.told("count", TIE / "book.law", TIE / "returns.csv")
+        self.shown_told("the tie", ".fault", (sentence, [remedy for remedy in remedies if not remedy.startswith("lot,")]))
         self.browser.run("(() => { const s = document.querySelectorAll('.tie select')[0]; s.value = 'Town/Greens'; s.dispatchEvent(new Event('change')); })()")
         self.browser.run("document.querySelector('.tie').scrollIntoView({ block: 'center' })")
         self.picture("tie")
@@ -224,9 +285,13 @@ class Use:
     def names(self):
         self.only("2023")
         self.after(lambda: self.browser.choose("#returns-file", DATA / "covered" / "returns.csv"))
+        short = self.file("short.csv", "Reds,Rote\nLakes,Alle Seen\n".encode())
+        self.browser.choose("#names-file", short)
+        self.browser.wait("document.querySelector('.seat') && document.querySelector('.result').textContent.includes('Rote')")
+        self.expect_in("the result with short names", "Alle Seen", self.browser.text(".result"))
         file = self.file("names.csv", "kind,name,full,colour\nconstructor,a,b,\nparty,Reds,Die Röten,#aa0000\nland,North,Norden,\nwin,Lakes,Seen,\n".encode())
         self.browser.choose("#names-file", file)
-        self.browser.wait("document.querySelector('#names-answer').innerText !== '' && document.querySelector('.seat')")
+        self.browser.wait("document.querySelector('.seat') && document.querySelector('.result').textContent.includes('Röten')")
         text = self.browser.text(".result")
         for part in ("Die Röten", "Seen"):
             self.expect_in("the result with names", part, text)
@@ -245,6 +310,9 @@ class Use:
             self.browser.click('.result[data-book="2023"] .save-' + button)
             done = subprocess.run([self.program, command, "@2023", str(returns)], capture_output=True, timeout=120)
             self.expect("the saved " + name, self.browser.downloaded(name), done.stdout)
+        self.browser.click('.result[data-book="2023"] .save-saveReport')
+        self.expect("the parties of the saved report", [row["party"] for row in json.loads(self.browser.downloaded("seatlaw-2023-report.json"))["tables"]["parties"]],
+                    [row["party"] for row in self.tables("report", "@2023", returns)["parties"]])
         saved = json.loads(self.browser.run("window.page.saving.jsonOf(window.page.state.results[0])"))
         table = self.table("@2023", returns)
         self.expect("the JSON", [[p["party"], str(p["seats"]), str(p["direct"])] for p in saved["table"]["parties"]], table["party"])

@@ -1,5 +1,7 @@
 // What the user gives: statutes, a rulebook, returns and names; and how these are shown.
 const LAWS = ["1956", "1985", "2008", "2013", "2023", "2023-order"];
+const OWN_WORD = "book"; // the word of the user's rulebook in a comparison
+const NO_BYTES = new Uint8Array(0);
 const ROWS = 100; // records shown at once
 
 const EXAMPLE = `kind,land,party,a,b,c
@@ -19,13 +21,15 @@ win,North,Reds,Valley,41000,102000
 win,South,Blues,Forest,60000,98000
 `;
 
-// What the page knows: the statutes of the library with their texts, which are chosen, the user's rulebook, the returns, and the results.
-const state = { laws: [], chosen: new Set(["2023-order"]), own: null, returns: null, from: 0, results: [], turn: 0, withPatterns: false };
+// What the page knows: the statutes of the library with their texts, which are chosen, the user's rulebook, the returns with their totals, and the results.
+const state = {
+  laws: [], chosen: new Set(["2023-order"]), own: null, returns: null, from: 0, totals: [], results: [], compared: null, turn: 0, withPatterns: false,
+};
 
 const inputs = (() => {
   const chosenBooks = () => {
-    const laws = state.laws.filter(law => state.chosen.has(law.name)).map(law => ({ ...law, title: t("law" + law.name) }));
-    return state.own && state.own.good ? [...laws, { ...state.own, title: state.own.name }] : laws;
+    const laws = state.laws.filter(law => state.chosen.has(law.name)).map(law => ({ ...law, word: "@" + law.name, title: t("law" + law.name) }));
+    return state.own && state.own.good ? [...laws, { ...state.own, word: OWN_WORD, title: state.own.name }] : laws;
   };
 
   // Asks the desk for the texts of the library.
@@ -53,31 +57,29 @@ const inputs = (() => {
         }), " ", t("law" + law.name)),
       opened(t("bookText", "@" + law.name), body => shown(body, el("pre", {}, law.text))))));
 
-  // The line and the column of an offset in bytes.
-  const placeOf = (bytes, at) => {
-    const before = decoded(bytes.slice(0, at)).split("\n");
-    return [before.length, before[before.length - 1].length + 1];
-  };
-
-  // A refused rulebook: its text up to the place, a mark there, and the rest.
-  const marked = (bytes, at) => {
-    const [before, after] = [decoded(bytes.slice(0, at)), decoded(bytes.slice(at))];
-    const word = (after.match(/^(\w+|"[^"\n]*"?|\S|\s)/) || [""])[0];
-    return el("pre", { class: "marked", tabindex: "0" }, before, el("mark", {}, word === "" || word === "\n" ? "⏎" : word), after.slice(word.length));
+  // A refused rulebook: its text with a mark at the place, and below that line what is said of it.
+  const marked = ({ text }, told) => {
+    const [from, to] = explanations.spanOf(text, told.place);
+    const word = text.slice(from, to).trimEnd();
+    const length = text.slice(from).search(/[\r\n]|$/);
+    const rest = text.slice(from + length).replace(/^(\r\n|\r|\n)/, "");
+    return el("div", { class: "marked" },
+      el("pre", { tabindex: "0" }, text.slice(0, from), el("mark", {}, word || "⏎"), text.slice(from + word.length, from + length)),
+      explanations.part(told),
+      rest ? el("pre", { tabindex: "0" }, rest) : null);
   };
 
   const bookAnswer = own => {
-    const line = own.line.trimEnd();
     if (own.good) {
-      const words = line.split(" ");
+      const words = own.line.split(" ");
       return el("p", { class: "good" }, t("bookGood", words[1], words[3], words[5]));
     }
-    const refusal = outputs.refusalOf(line);
-    const place = refusal.at === undefined ? null : placeOf(own.bytes, refusal.at);
+    const told = own.told[language];
+    const place = told && told.place;
     return el("div", { class: "refused", role: "alert" },
-      el("p", {}, el("strong", {}, t("refusedBook")), place ? " (" + t("lineColumn", ...place) + ")" : "", ": ", explained(keyOfRefusal(refusal))),
-      el("p", {}, el("code", {}, line)),
-      place ? marked(own.bytes, refusal.at) : null);
+      el("p", {}, el("strong", {}, t("refusedBook")), place ? " (" + t("lineColumn", place.line, place.column) + ")" : ""),
+      el("p", {}, el("code", {}, own.line)),
+      place ? marked(own, told) : explanations.part(told));
   };
 
   const showOwn = () => {
@@ -88,31 +90,43 @@ const inputs = (() => {
   // Takes a rulebook of the user's, which the desk judges.
   const takeBook = async (name, bytes) => {
     const answer = await calls.ask("check", bytes);
-    state.own = bytes.length ? { name, bytes, text: decoded(bytes), line: decoded(answer.bytes), good: answer.status === 0 } : null;
+    const good = answer.status === 0;
+    const told = good ? null : await explanations.ask("check", bytes);
+    state.own = bytes.length ? { name, bytes, text: decoded(bytes), line: decoded(answer.bytes).trimEnd(), good, told } : null;
     showOwn();
   };
 
   // ---- returns
 
-  // The record that the desk refuses in the returns, if it does.
-  const refusedRow = () => {
-    const bad = state.results.find(r => r.status === 2 && r.text.startsWith("refused returns"));
-    return bad ? outputs.refusalOf(bad.text.trimEnd()) : null;
+  // The result in which the returns are refused, if they are, with the number of the record.
+  const refusedReturns = () => {
+    const result = state.results.find(r => r.status === 2 && r.text.startsWith("refused returns"));
+    return result && { line: result.text.trimEnd(), row: outputs.rowOf(result.text.trimEnd()), told: result.told[language] };
   };
 
-  const rowOf = (record, i, refused) => {
-    const bad = refused && refused.row === i + 1;
-    const marks = bad ? cells.marked(state.returns.records, refused) : [];
-    const width = Math.max(6, record.cells.length);
-    const parts = Array.from({ length: width }, (_, k) =>
-      el("td", marks.includes(k) ? { class: "bad-cell", "aria-invalid": "true" } : {}, record.cells[k] === undefined ? "" : record.cells[k]));
-    return el("tr", { class: bad ? "bad" : null, "aria-invalid": bad ? "true" : null, id: bad ? "bad-record" : null },
-      el("th", { scope: "row" }, String(i + 1), bad ? el("strong", {}, " ← " + t("refusedRecord")) : ""), parts);
+  // A record that is refused: its cells with those marked that are spoken of, and below it what is said.
+  const refusedRow = (record, head, { told }) => {
+    const marks = told && told.place ? returns.cellsIn(record, explanations.spanOf(state.returns.text, told.place)) : [];
+    const mark = k => (marks.includes(k) ? { class: "bad-cell", "aria-invalid": "true" } : {});
+    return [
+      el("tr", { class: "bad", "aria-invalid": "true", id: "bad-record" },
+        el("th", { scope: "row" }, head, el("strong", {}, " ← " + t("refusedRecord"))),
+        cellsOf(record).map((cell, k) => el("td", mark(k), cell))),
+      told && el("tr", { class: "told" }, el("td", { colspan: cellsOf(record).length + 1 }, explanations.spoken(told.sentence))),
+    ];
   };
+
+  // The cells of a record, at least six.
+  const cellsOf = ({ cells }) => [...cells, ...Array(Math.max(0, 6 - cells.length)).fill("")];
+
+  const rowOf = (record, number, refused) =>
+    refused && refused.row === number
+      ? refusedRow(record, String(number), refused)
+      : el("tr", {}, el("th", { scope: "row" }, String(number)), cellsOf(record).map(cell => el("td", {}, cell)));
 
   const showRecords = () => {
     const { records } = state.returns;
-    const refused = refusedRow();
+    const refused = refusedReturns();
     const from = Math.max(0, Math.min(state.from, records.length - 1));
     const to = Math.min(records.length, from + ROWS);
     const turn = step => el("button", {
@@ -127,17 +141,38 @@ const inputs = (() => {
       el("div", { class: "scrolls", tabindex: "0", role: "region", "aria-label": t("returns") },
         el("table", { class: "records" },
           el("thead", {}, el("tr", {}, [t("record"), "kind", "land", "party", "a", "b", "c"].map(head => el("th", { scope: "col" }, head)))),
-          el("tbody", {}, records.slice(from, to).map((record, i) => rowOf(record, from + i, refused))))));
+          el("tbody", {}, records.slice(from, to).map((record, i) => rowOf(record, from + i + 1, refused))))));
   };
 
-  const returnsAnswer = () => {
-    const refused = refusedRow();
-    if (!refused) return null;
+  const returnsAnswer = refused => {
     const record = state.returns.records[refused.row - 1];
     return el("div", { class: "refused", role: "alert" },
-      el("p", {}, el("strong", {}, t("refusedReturns")), record ? " (" + t("atRecord", refused.row, record.line) + ")" : "", ": ", explained(keyOfRefusal(refused))),
+      el("p", {}, el("strong", {}, t("refusedReturns")), record ? " (" + t("atRecord", refused.row, record.line) + ")" : ""),
+      el("p", {}, el("code", {}, refused.line)),
       record ? el("pre", {}, record.cells.join(",")) : null,
-      el("p", {}, el("code", {}, state.results.find(r => r.status === 2).text.trimEnd())));
+      explanations.part(refused.told));
+  };
+
+  // The totals by each rulebook, or without one where none is chosen; none of returns that are refused.
+  const totalsOf = async books => {
+    const all = [];
+    for (const book of books.length ? books : [null]) {
+      const tables = outputs.tablesOf(await calls.ask("totals", book ? book.bytes : NO_BYTES, state.returns.bytes, NO_BYTES));
+      if (tables) all.push({ book, tables });
+    }
+    return all;
+  };
+
+  // The warnings, each once; before one that not all rulebooks give stand the names of those that give it.
+  const warnings = () => {
+    const givers = new Map();
+    for (const { book, tables } of state.totals) {
+      for (const row of tables.warnings) {
+        const text = warningText(row);
+        givers.set(text, (givers.get(text) || new Set()).add(book && book.name));
+      }
+    }
+    return [...givers].map(([text, books]) => el("li", {}, books.size < state.totals.length ? [...books].join(", ") + ": " : "", text));
   };
 
   // Shows the returns, with the record that is refused in sight.
@@ -146,15 +181,13 @@ const inputs = (() => {
     shown(byId("returns-taken"), given ? t("taken", given.name, grouped(given.records.length), grouped(given.bytes.length)) : t("noReturns"));
     byId("returns-parts").hidden = !given;
     if (!given) return;
-    const refused = refusedRow();
+    const refused = refusedReturns();
     if (refused && refused.row) state.from = Math.max(0, Math.min(refused.row - 20, given.records.length - ROWS));
     byId("records-part").open = byId("records-part").open || Boolean(refused);
-    shown(byId("returns-answer"), returnsAnswer());
+    shown(byId("returns-answer"), refused ? returnsAnswer(refused) : null);
     showRecords();
-    const stages = chosenBooks().flatMap(book => steps.stagesOf(book.text));
-    const warnings = refused ? [] : returns.warningsOf(given.facts, stages);
-    shown(byId("warnings"), warnings.map(([key, ...words]) => el("li", {}, t(key, ...words))));
-    shown(byId("totals"), refused ? null : [tables.totals(given.facts), el("p", { class: "note" }, t("totalsNote"))]);
+    shown(byId("warnings"), warnings());
+    shown(byId("totals"), state.totals.length ? [tables.totals(state.totals[0]), el("p", { class: "note" }, t("totalsNote"))] : null);
   };
 
   const takeReturns = (name, bytes) => {
@@ -162,7 +195,7 @@ const inputs = (() => {
     const records = returns.recordsOf(text);
     state.returns = bytes.length ? { name, bytes, text, records, facts: returns.factsOf(records) } : null;
     state.from = 0;
-    if (state.returns) colours.setOrder(state.returns.facts.parties.map(p => p.name));
+    if (state.returns) colours.setOrder(state.returns.facts.parties);
   };
 
   // Appends records to the returns.
@@ -176,5 +209,5 @@ const inputs = (() => {
     takeReturns(name, all);
   };
 
-  return { chosenBooks, readLaws, readFile, showBooks, showOwn, takeBook, showReturns, takeReturns, append };
+  return { chosenBooks, readLaws, readFile, showBooks, showOwn, takeBook, totalsOf, showReturns, takeReturns, append };
 })();

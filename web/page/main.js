@@ -10,7 +10,10 @@ const page = (() => {
   const resultOf = async book => {
     const counted = await calls.ask("count", book.bytes, state.returns.bytes);
     const result = { book, status: counted.status, text: decoded(counted.bytes), took: counted.took };
-    if (counted.status !== 0) return result;
+    if (counted.status !== 0) {
+      result.told = await explanations.ask("count", book.bytes, state.returns.bytes);
+      return result;
+    }
     result.table = outputs.tableOf(outputs.linesOf(result.text));
     const stepped = await calls.ask("steps", book.bytes, state.returns.bytes);
     result.stepsText = decoded(stepped.bytes);
@@ -18,20 +21,34 @@ const page = (() => {
     return result;
   };
 
+  // What the rulebooks come to side by side, as `compare` has it; nothing where they cannot be compared.
+  const comparedOf = async books => {
+    if (books.length < 2) return null;
+    const own = books.find(book => book.word === OWN_WORD);
+    const words = encoded(books.map(book => book.word).join("\n"));
+    return outputs.tablesOf(await calls.ask("compare", words, own ? own.bytes : NO_BYTES, state.returns.bytes, NO_BYTES));
+  };
+
+  // A legal fault; of a tie with the form in which it is drawn.
+  const legalFault = (result, line) => {
+    const fault = outputs.faultOf(line);
+    const told = result.told[language];
+    const add = records => {
+      inputs.append(records);
+      recount();
+    };
+    const form = fault.kind === "tie" ? ties.form(fault, told, add) : null;
+    return el("div", { class: "fault" },
+      el("p", { role: "alert" }, el("strong", {}, t("fault")), " (", fault.stage, ", ", steps.scopeName(fault.scope), ")"),
+      el("p", {}, el("code", {}, line)),
+      explanations.part(form ? ties.withoutRecords(told) : told),
+      form);
+  };
+
   // A result without a table.
   const refusal = result => {
     const line = result.text.trimEnd();
-    if (result.status === 3) {
-      const fault = outputs.faultOf(line);
-      const add = records => {
-        inputs.append(records);
-        recount();
-      };
-      return el("div", { class: "fault" },
-        el("p", { role: "alert" }, el("strong", {}, t("fault")), " (", fault.stage, ", ", steps.scopeName(fault.scope), "): ", explained(fault.kind)),
-        el("p", {}, el("code", {}, line)),
-        fault.kind === "tie" ? ties.form(fault, state.returns.facts, result.book, add) : null);
-    }
+    if (result.status === 3) return legalFault(result, line);
     if (result.status === 2) return el("div", { class: "refused" }, el("p", {}, el("strong", {}, t("refusedOther")), ": ", el("code", {}, line)));
     return el("p", { class: "refused", role: "alert" }, t("noMemory"), " ", result.error || "");
   };
@@ -46,7 +63,7 @@ const page = (() => {
       tables.parties(result, winnerOf),
       tables.lists(result),
       tables.others(result, winnerOf),
-      result.steps ? [steps.bounds(result), steps.all(result)] : null,
+      result.steps ? [margins.all(result), steps.all(result)] : null,
       steps.columns(result),
     ];
   };
@@ -59,7 +76,7 @@ const page = (() => {
 
   // The choices of colours, where that part is open.
   const showColours = () => {
-    const parties = state.returns && byId("colours-part").open ? state.returns.facts.parties.map(p => p.name) : [];
+    const parties = state.returns && byId("colours-part").open ? state.returns.facts.parties : [];
     shown(byId("colours"), parties.map(party => el("label", { class: "colour" },
       el("input", {
         type: "color", value: colours.of(party), "aria-label": t("colourOf", names.party(party)),
@@ -77,12 +94,11 @@ const page = (() => {
   const showResults = async () => {
     const turn = ++showing;
     document.body.classList.toggle("with-patterns", state.withPatterns);
-    const good = state.results.filter(r => r.table);
     byId("result-part").hidden = !state.results.length;
-    byId("save-returns").hidden = !state.returns || !state.returns.facts.lots.length;
+    byId("save-returns").hidden = !state.returns || !state.returns.facts.lots;
     const place = el("div", { class: "side-by-side" });
     shown(byId("results"), place);
-    if (good.length > 1) byId("results").prepend(tables.comparison(good));
+    if (state.compared) byId("results").prepend(tables.comparison(state.compared, state.results));
     for (const result of state.results) {
       await pause();
       if (turn !== showing) return;
@@ -91,19 +107,25 @@ const page = (() => {
     document.body.dataset.shown = String(turn);
   };
 
-  // Counts anew by each chosen rulebook; a later count takes the place of one that is under way.
+  // Sums up the returns, and counts anew by each chosen rulebook; a later count takes the place of one that is under way.
   const recount = async () => {
     const turn = ++state.turn;
-    if (!state.returns) {
-      state.results = [];
-    } else {
+    Object.assign(state, { results: [], compared: null, totals: [] });
+    if (state.returns) {
       say("counting");
+      const books = inputs.chosenBooks();
+      const totals = await inputs.totalsOf(books);
+      if (turn !== state.turn) return;
+      state.totals = totals;
+      inputs.showReturns();
       const results = [];
-      for (const book of inputs.chosenBooks()) {
+      for (const book of books) {
         results.push(await resultOf(book));
         if (turn !== state.turn) return;
       }
-      state.results = results;
+      const compared = await comparedOf(books);
+      if (turn !== state.turn) return;
+      Object.assign(state, { results, compared });
     }
     inputs.showReturns();
     await pause();
@@ -156,6 +178,7 @@ const page = (() => {
 
   const takeNames = (name, bytes) => {
     const count = names.read(decoded(bytes));
+    for (const result of state.results) result.report = null;
     showAll();
     shown(byId("names-answer"), t("namesTaken", count));
   };
@@ -165,7 +188,7 @@ const page = (() => {
     const bytes = await inputs.readFile(file);
     const head = decoded(bytes.slice(0, 2000)).replace(/^\s*(#.*\n\s*)*/, "");
     if (/^rulebook\b/.test(head)) await takeBook(file.name, bytes);
-    else if (/^\ufeff?kind[,;]name\b/.test(head)) takeNames(file.name, bytes);
+    else if (/^\ufeff?(kind[,;]name\b|[^,;\r\n]*[,;][^,;\r\n]*[\r\n])/.test(head)) takeNames(file.name, bytes);
     else await takeReturns(file.name, bytes);
   };
 

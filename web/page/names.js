@@ -1,4 +1,5 @@
-// Full names and colours of parties, Länder and constituencies: from a csv file with the columns kind, name, full, colour.
+// Full names and colours of parties, Länder and constituencies: from a csv file with the columns kind, name, full, colour, or with the short name and the
+// full one alone, as `--names` takes them.
 const names = (() => {
   const full = { party: new Map(), land: new Map(), win: new Map() };
   const colours = new Map();
@@ -9,8 +10,14 @@ const names = (() => {
     colours.clear();
     const commas = text.split("\n")[0].includes(";") ? text.replace(/;/g, ",") : text;
     let count = 0;
-    for (const { cells } of returns.recordsOf(commas)) {
-      const [kind, name, long, colour] = cells.map(cell => cell.trim());
+    for (const record of returns.recordsOf(commas)) {
+      const cells = record.cells.map(cell => cell.trim());
+      if (cells.length === 2) {
+        for (const map of Object.values(full)) map.set(...cells);
+        count += 1;
+        continue;
+      }
+      const [kind, name, long, colour] = cells;
       if (!Object.hasOwn(full, kind) || !name) continue;
       if (long) full[kind].set(name, long);
       if (kind === "party" && /^#[0-9a-fA-F]{6}$/.test(colour || "")) colours.set(name, colour.toLowerCase());
@@ -21,8 +28,16 @@ const names = (() => {
 
   const of = (kind, name) => full[kind].get(name) || name;
 
+  // The file of full names that the calls take: a short and a full one in each record.
+  const bytes = () => {
+    const quoted = cell => '"' + cell.replace(/"/g, '""') + '"';
+    const records = Object.values(full).flatMap(map => [...map].map(pair => pair.map(quoted).join(",") + "\n"));
+    return encoded(records.join(""));
+  };
+
   return {
     read,
+    bytes,
     colourOf: party => colours.get(party),
     party: name => of("party", name),
     land: name => of("land", name),

@@ -61,38 +61,18 @@ const outputs = (() => {
     return { stage: words[0], scope, kind: rest[0], seats: Number(rest[1] || 0), names: rest.slice(2) };
   };
 
-  // A refusal: what is refused, its part, the number of the fault and where it shows.
-  const refusalOf = line => {
-    const words = line.split(" ").slice(1);
-    if (words[0] === "law" || words[0] === "stage") return { input: words[0], name: line.split(" ").slice(2).join(" ") };
-    if (words[1] === "toolong") return { input: words[0], fault: "toolong" };
-    if (words[0] === "returns") return { input: "returns", fault: words[1], row: Number(words[2]) };
-    return { input: words[0], fault: words[1] + " " + words[2], at: Number(words[3]) };
-  };
+  // The number of the record that a line `refused returns` names, if it names one.
+  const rowOf = line => Number(line.split(" ")[3]) || 0;
 
-  // A fraction NUM/DEN as a decimal number, cut behind so many digits.
-  const decimal = (fraction, digits = 2) => {
+  // A fraction NUM/DEN in decimals, cut behind the second place.
+  const cut = fraction => {
     const [num, den] = fraction.split("/").map(BigInt);
-    if (!den) return null;
-    const scale = 10n ** BigInt(digits);
-    const cut = ((num * scale) / den).toString().padStart(digits + 1, "0");
-    return [cut.slice(0, cut.length - digits), cut.slice(cut.length - digits)];
+    const digits = ((num * 100n) / den).toString().padStart(3, "0");
+    return digits.slice(0, -2) + "." + digits.slice(-2);
   };
 
-  // A number of few digits strictly between two fractions, the first the greater one; null where there is none of at most twelve places.
-  const between = (last, next) => {
-    if (last === "inf" || next === "inf") return null;
-    const [a, b] = last.split("/").map(BigInt);
-    const [c, d] = next.split("/").map(BigInt);
-    for (let power = 12; power >= -12; power--) {
-      const up = power > 0 ? 10n ** BigInt(power) : 1n;
-      const down = power < 0 ? 10n ** BigInt(-power) : 1n;
-      // the least multiple k of 10^power above c/d
-      const k = (c * down) / (d * up) + 1n;
-      if (k * up * b < a * down) return { number: k * up, places: power < 0 ? -power : 0 };
-    }
-    return null;
-  };
+  // The tables of a report in JSON; nothing where the call did not come to them.
+  const tablesOf = ({ status, bytes }) => (status === 0 ? JSON.parse(decoded(bytes)).tables : null);
 
-  return { linesOf, tableOf, stepsOf, columnOf, faultOf, refusalOf, decimal, between };
+  return { linesOf, tableOf, stepsOf, columnOf, faultOf, rowOf, cut, tablesOf };
 })();

@@ -44,6 +44,11 @@ const saving = (() => {
     return "<!DOCTYPE html>\n" + copy.outerHTML + "\n";
   };
 
+  const saveReport = async (name, result) => {
+    const { bytes } = await calls.ask("report", result.book.bytes, state.returns.bytes, names.bytes());
+    save(name + "-report.json", "application/json", bytes);
+  };
+
   const button = (key, press) => el("button", { type: "button", class: "save-" + key, onclick: press }, t(key));
 
   // What can be saved of a result.
@@ -53,6 +58,7 @@ const saving = (() => {
       button("saveTable", () => save(name + ".txt", "text/plain", result.text)), " ",
       result.steps ? [button("saveSteps", () => save(name + "-steps.txt", "text/plain", result.stepsText)), " "] : null,
       result.table ? [button("saveCsv", () => save(name + ".csv", "text/csv", csvOf(result))), " "] : null,
+      result.table ? [button("saveReport", () => saveReport(name, result)), " "] : null,
       button("saveJson", () => save(name + ".json", "application/json", jsonOf(result))));
   };
 

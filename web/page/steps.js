@@ -1,4 +1,4 @@
-// The steps of seats, the divisors of scopes, and the columns of stages.
+// The steps of seats, and the columns of stages.
 const steps = (() => {
   const scopeName = scope =>
     scope[0] === "all" ? t("allScope")
@@ -6,18 +6,14 @@ const steps = (() => {
         : scope[0] === "party" ? t("partyScope", names.party(scope[1]))
           : t("listScope", names.land(scope[1]), names.party(scope[2]));
 
-  // A fraction as a decimal number with its thousands apart.
-  const fraction = text => {
-    const cut = outputs.decimal(text);
-    return cut ? grouped(cut[0]) + point() + cut[1] : "∞";
-  };
+  // A quotient as a fraction and as a decimal number.
+  const quotient = text => (text === "inf" ? "∞" : text + " = " + decimal(outputs.cut(text)));
 
   const markName = mark =>
     mark === "-" ? t("given")
-      : mark === "inf" ? "∞"
-        : mark === "lead" ? t("majorityLead")
-          : mark.startsWith("rest ") ? t("rest", mark.slice(5))
-            : mark + " = " + fraction(mark);
+      : mark === "lead" ? t("majorityLead")
+        : mark.startsWith("rest ") ? t("rest", mark.slice(5))
+          : quotient(mark);
 
   const rowOf = seat => [seat.stage, scopeName(seat.scope), names.entry(seat.entry), seat.number, seat.step, markName(seat.mark)];
 
@@ -36,27 +32,6 @@ const steps = (() => {
       own.length ? table(list + " " + seat.number, own) : el("p", {}, t("seatNoSteps")),
       party.length ? opened(t("ofParty"), body => shown(body, table(t("ofParty"), party))) : null,
     ];
-  };
-
-  // A short divisor between two quotients, as the language writes it.
-  const divisor = bounds => {
-    if (bounds.lot) return t("byLot");
-    const found = outputs.between(bounds.last, bounds.next);
-    if (!found) return "–";
-    const digits = String(found.number).padStart(found.places + 1, "0");
-    const whole = digits.slice(0, digits.length - found.places);
-    return grouped(whole) + (found.places ? point() + digits.slice(-found.places) : "");
-  };
-
-  // The divisors of all scopes that have bounds.
-  const bounds = result => {
-    const rows = result.steps.bounds.map(b => [
-      b.stage, scopeName(b.scope), divisor(b),
-      b.last === "inf" ? "∞" : b.last + " = " + fraction(b.last), b.next + " = " + fraction(b.next),
-    ]);
-    return opened(t("bounds"), body => shown(body,
-      el("p", { class: "note" }, t("boundsNote")),
-      tableWith(t("bounds"), [t("stage"), t("scope"), t("divisor"), t("last"), t("next")], rows, { class: "bounds" })), { class: "bounds" });
   };
 
   // The steps of a stage's scope, which are chosen from a list.
@@ -96,5 +71,5 @@ const steps = (() => {
     }, { class: "columns" });
   };
 
-  return { ofSeat, bounds, all, columns, stagesOf, scopeName };
+  return { ofSeat, all, columns, scopeName, quotient };
 })();

@@ -58,47 +58,61 @@ const tables = (() => {
     ];
   };
 
-  // A number, and its difference from another in parentheses.
+  // A number, and its difference from another in parentheses; where a fault takes its place, the kind of the fault.
   const against = (number, base) => {
-    const by = number - base;
+    if (typeof number !== "number") return number || "–";
+    const by = typeof base === "number" ? number - base : 0;
     return { aligned: grouped(number) + (by ? " (" + (by > 0 ? "+" : "−") + grouped(Math.abs(by)) + ")" : "") };
   };
 
-  // Several statutes side by side, with the differences from the first.
-  const comparison = results => {
-    const first = results[0].table;
-    const heads = [t("party"), ...results.map(r => r.book.name)];
-    const rowOf = (head, value) => {
-      const values = results.map(r => value(r.table));
-      return { cells: [head, ...values.map(number => against(number, values[0]))], mark: values.some(number => number !== values[0]) ? "differs" : null };
-    };
-    const seats = party => table => (table.parties.find(p => p.party === party) || { seats: 0 }).seats;
-    const rows = first.parties.map(p => rowOf(named(p.party), seats(p.party)));
-    rows.push(rowOf(t("singles"), table => table.singles.length), rowOf(t("open"), table => table.open.length), rowOf(t("sum"), table => table.total));
+  // A row of numbers, with their differences from the first.
+  const rowAgainst = (head, values) => ({
+    cells: [head, ...values.map(number => against(number, values[0]))],
+    mark: values.some(number => number !== values[0]) ? "differs" : null,
+  });
+
+  // The lists whose seats are not the same in all of these results.
+  const listsApart = results => {
     const keyOf = list => list.land + "/" + list.party;
-    const indexes = new Map(results.map(r => [r.table, new Map(r.table.lists.map(l => [keyOf(l), l.seats]))]));
-    const seatsOfList = list => table => indexes.get(table).get(keyOf(list)) || 0;
+    const seats = results.map(result => new Map(result.table.lists.map(list => [keyOf(list), list.seats])));
+    const rows = results[0].table.lists
+      .map(list => rowAgainst(names.entry(keyOf(list)), seats.map(of => of.get(keyOf(list)) || 0)))
+      .filter(row => row.mark);
+    return tableWith(t("lists"), [t("lists"), ...results.map(result => result.book.name)], rows);
+  };
+
+  // Several statutes side by side, as `compare` has them, with the differences from the first.
+  const comparison = (compared, results) => {
+    const { books, compare } = compared;
+    const valuesOf = row => books.map(book => row[book.book]);
+    const good = results.filter(result => result.table);
+    const rows = compare.filter(row => row.party !== null).map(row => rowAgainst(named(row.party), valuesOf(row)));
+    rows.push(rowAgainst(t("open"), books.map(book => book.open)));
+    rows.push({ cells: [t("differsIn"), ...books.map(book => book.differs || "–")] });
+    rows.push({ ...rowAgainst(t("sum"), valuesOf(compare.find(row => row.party === null))), mark: "sum" });
     return el("section", { class: "comparison", "aria-label": t("compared") },
       el("h3", {}, t("compared")),
-      tableWith(t("parties"), heads, rows),
+      tableWith(t("parties"), [t("party"), ...results.map(result => result.book.name)], rows),
       el("p", { class: "note" }, t("comparedNote", results[0].book.name)),
-      opened(t("lists"), body => {
-        const rows = first.lists.map(l => rowOf(names.land(l.land) + " / " + names.party(l.party), seatsOfList(l))).filter(row => row.mark);
-        shown(body, tableWith(t("lists"), [t("lists"), ...heads.slice(1)], rows));
-      }));
+      good.length > 1 ? opened(t("lists"), body => shown(body, listsApart(good))) : null);
   };
 
-  // Sums of the returns: each party's votes.
-  const totals = facts => {
-    const { all, parties } = returns.votesOf(facts);
-    const rows = parties.map(p => [
-      [swatch(p.party), " ", p.minority ? t("minority", names.party(p.party)) : names.party(p.party)],
-      p.valid, { aligned: percent(p.valid, all) }, p.counted, p.wins,
+  // Sums of the returns, and who takes part by a rulebook, as `totals` has them.
+  const totals = ({ book, tables }) => {
+    const sums = tables.totals[0];
+    const lacks = number => (number === null ? { aligned: "–" } : number);
+    const rows = tables.votes.map(row => [
+      named(row.party), row.valid, { aligned: row.percent === null ? "–" : decimal(row.percent) }, row.counted, row.winners,
+      ...(book ? [row.condition || "–", lacks(row.votes_short), lacks(row.winners_short)] : []),
     ]);
-    const sum = key => parties.reduce((total, p) => total + p[key], 0);
-    rows.push({ cells: [t("sum"), all, { aligned: percent(all, all) }, sum("counted"), facts.wins.length], mark: "sum" });
-    return tableWith(t("totals"), [t("party"), t("valid"), t("percent"), t("countedVotes"), t("winners")], rows, { class: "totals" });
+    rows.push({ cells: [t("sum"), sums.valid, "", sums.counted, sums.winners, ...(book ? ["", "", ""] : [])], mark: "sum" });
+    const heads = ["valid", "percent", "countedVotes", "winners"].map(key => t(key));
+    const byBook = book ? [t("takesPart", book.name), t("votesShort"), t("winnersShort")] : [];
+    return [
+      el("p", {}, t("totalsOf", grouped(sums.lands), grouped(sums.parties), grouped(sums.lists), grouped(sums.winners), grouped(sums.independents))),
+      tableWith(t("totals"), [t("party"), ...heads, ...byBook], rows, { class: "totals" }),
+    ];
   };
 
-  return { parties, lists, others, comparison, totals, percent, named };
+  return { parties, lists, others, comparison, totals };
 })();

@@ -48,23 +48,23 @@ const TEXTS = {
   earlier: ["Frühere", "Earlier"],
   later: ["Spätere", "Later"],
   refusedRecord: ["zurückgewiesen", "refused"],
-  namesFile: ["Datei mit vollen Namen (kind,name,full,colour)", "File of full names (kind,name,full,colour)"],
+  namesFile: ["Datei mit vollen Namen (kind,name,full,colour oder kurz,lang)", "File of full names (kind,name,full,colour or short,full)"],
   namesTaken: ["{0} Namen gelesen.", "{0} names read."],
   // before the count
   totals: ["Summen der Ergebnisse", "Totals of the returns"],
-  totalsNote: ["Von der Seite addiert, nicht vom bewiesenen Programm.", "Added up by the page, not by the proved program."],
+  totalsOf: [
+    "Länder {0}, Parteien {1}, Listen {2}, Wahlkreissieger {3}, davon ohne Partei {4}.", "Länder {0}, parties {1}, lists {2}, constituency winners {3}, of these without a party {4}.",
+  ],
+  totalsNote: ["Vom Programm addiert; die Summen sind getestet, nicht bewiesen.", "Added up by the program; the sums are tested, not proved."],
   party: ["Partei", "Party"],
   valid: ["gültige Stimmen", "valid votes"],
   countedVotes: ["gewertete Stimmen", "counted votes"],
   percent: ["Prozent", "Percent"],
   winners: ["Wahlkreise", "Constituencies"],
+  takesPart: ["nimmt teil durch ({0})", "takes part by ({0})"],
+  votesShort: ["es fehlen Stimmen", "lacks votes"],
+  winnersShort: ["es fehlen Wahlkreise", "lacks constituencies"],
   sum: ["Summe", "Sum"],
-  minority: ["{0} (Minderheit)", "{0} (minority)"],
-  warnPeople: ["Alle Länder haben gleich viele Einwohner: Das Gesetz von 2013 verteilt danach.", "All Länder have the same people: the statute of 2013 splits by them."],
-  warnEmptyLists: ["{0} Listen ohne gewertete Stimmen.", "{0} lists without counted votes."],
-  warnNoParty: ["{0} Wahlkreissieger ohne Partei.", "{0} constituency winners without a party."],
-  warnNoWinners: ["Länder ohne Wahlkreissieger: {0}.", "Länder without constituency winners: {0}."],
-  warnLotStage: ["Lose der Stufe {0}, die kein gewähltes Gesetz hat, bleiben ohne Wirkung.", "Lots of the stage {0}, which no chosen statute has, have no effect."],
   // the result
   result: ["3. Sitze", "3. Seats"],
   resultOf: ["Sitze nach: {0}", "Seats by: {0}"],
@@ -92,6 +92,7 @@ const TEXTS = {
   of: ["von", "of"],
   share: ["Anteil", "Share"],
   compared: ["Vergleich", "Comparison"],
+  differsIn: ["weicht ab in der Stufe", "differs in the stage"],
   comparedNote: ["In Klammern der Unterschied zu {0}.", "In parentheses the difference from {0}."],
   // steps
   steps: ["Schritte der Sitze", "Steps of the seats"],
@@ -107,14 +108,25 @@ const TEXTS = {
   given: ["gegeben", "given"],
   rest: ["Rest {0}", "remainder {0}"],
   majorityLead: ["Mehrheitsklausel", "majority clause"],
-  bounds: ["Divisoren", "Divisors"],
+  bounds: ["Divisoren und fehlende Stimmen", "Divisors and missing votes"],
   boundsNote: [
-    "Jede Zahl zwischen den beiden Quotienten rundet die Stimmen auf die Sitze. Die Quotienten sind bewiesen, den kurzen Divisor dazwischen wählt die Seite.",
-    "Every number between the two quotients rounds the votes to the seats. The quotients are proved; the short divisor between them is chosen by the page.",
+    "Jede Zahl zwischen den beiden Quotienten rundet die Stimmen auf die Sitze; der Divisor hat davon die wenigsten Ziffern. Bei Hare/Niemeyer steht die Quote da.",
+    "Every number between the two quotients rounds the votes to the seats; the divisor has the fewest digits of these. By largest remainders it is the quota.",
   ],
   last: ["letzter Sitz", "last seat"],
+  lastOf: ["letzter Sitz an", "last seat to"],
   next: ["nächster Anspruch", "next claim"],
+  nextOf: ["nächster Anspruch von", "next claim of"],
   divisor: ["Divisor", "Divisor"],
+  quota: ["Quote {0}", "quota {0}"],
+  votes: ["Stimmen", "Votes"],
+  quotient: ["Quotient", "Quotient"],
+  minimum: ["Mindestzahl", "Minimum"],
+  missing: ["Stimmen bis zum nächsten Sitz", "Votes missing for one more seat"],
+  missingNote: [
+    "So viele weitere Stimmen, alles andere gleich, geben sicher einen Sitz mehr, und weniger nicht. Mit Mindestzahlen, in einem wachsenden Haus und bei Hare/Niemeyer bleibt das offen.",
+    "So many further votes, all else equal, are certain to give one more seat, and fewer are not. With minima, in a house that grows and by largest remainders this stays open.",
+  ],
   byLot: ["durch Los", "by lot"],
   column: ["Werte einer Stufe", "Values of a stage"],
   value: ["Wert", "Value"],
@@ -141,21 +153,31 @@ const TEXTS = {
   fault: ["Das Gesetz ergibt keine Sitze", "The statute gives no seats"],
   atRecord: ["Satz {0}, Zeile {1}", "Record {0}, line {1}"],
   noMemory: ["Der Speicher reicht nicht.", "Out of memory."],
-  written: ["Geschrieben wird:", "What is written:"],
   // saving
   saveTable: ["Tabelle speichern (.txt)", "Save the table (.txt)"],
   saveSteps: ["Schritte speichern (.txt)", "Save the steps (.txt)"],
   saveCsv: ["Sitze speichern (.csv)", "Save the seats (.csv)"],
   saveJson: ["JSON speichern", "Save JSON"],
+  saveReport: ["Bericht speichern (.json)", "Save the report (.json)"],
   savePage: ["Seite speichern", "Save the page"],
   print: ["Drucken", "Print"],
   // the foot
   about: ["Was bewiesen ist", "What is proved"],
   aboutText: [
-    "Der Text, den ein Aufruf schreibt, ist der des Programms seatlaw: Für jedes Gesetz und alle Ergebnisse ist bewiesen, dass er das Ergebnis ist, das das Regelwerk bestimmt. Nicht bewiesen sind die Übersetzung für den Browser, der Browser und diese Seite um die Aufrufe herum: Bild, Tabellen, Summen und Ordnungen.",
-    "The text that a call writes is that of the program seatlaw: for each statute and all returns it is proved to be the outcome that the rulebook means. Not proved are the translation for the browser, the browser, and this page around the calls: the picture, tables, sums and orders.",
+    "Der Text, den ein Aufruf schreibt, ist der des Programms seatlaw. Bewiesen ist für jedes Gesetz und alle Ergebnisse, dass die Sitze die sind, die das Regelwerk bestimmt, und dass eine Erklärung von dem Fehler spricht, der vorliegt. Berichte, Summen und die Worte der Erklärungen sind getestet. Nicht bewiesen sind die Übersetzung für den Browser, der Browser und diese Seite um die Aufrufe herum: Bild, Tabellen und Ordnungen.",
+    "The text that a call writes is that of the program seatlaw. It is proved for each statute and all returns that the seats are those that the rulebook means, and that an explanation speaks of the fault that there is. Reports, sums and the words of explanations are tested. Not proved are the translation for the browser, the browser, and this page around the calls: the picture, tables and orders.",
   ],
   sumOf: ["SHA-256 des Moduls: {0}", "SHA-256 of the module: {0}"],
+};
+
+// The warnings that `totals` gives, in German: by their key, what is taken from the English text, and the words around it.
+const WARNINGS = {
+  people: [/^all Länder/, "Alle Länder haben gleich viele Einwohner; das Gesetz von 2013 verteilt das Haus danach."],
+  land_without_winners: [/^no constituency of (\S+) has/, "Kein Wahlkreis von {0} hat einen Sieger."],
+  winners_without_list: [/^(\S+) has (\d+) winners/, "{0} hat {1} Wahlkreissieger und keine Liste."],
+  lot_unused: [/^a lot names (\S+), which/, "Ein Los nennt {0}; das ist keine Stufe des Regelwerks."],
+  house: [/house of (\d+), the rulebook of (\d+)$/, "Die Ergebnisse haben ein Haus von {0}, das Regelwerk eines von {1}."],
+  few_parties: [/^(\d+) parties alone/, "Nur {0} Parteien: Eine Sperrklausel braucht die Stimmen aller Parteien."],
 };
 
 // The language: 0 for German, 1 for English.
@@ -164,6 +186,19 @@ let language = (navigator.language || "en").toLowerCase().startsWith("de") ? 0 :
 const withWords = (text, words) => text.replace(/\{(\d)\}/g, (_, i) => words[i]);
 const t = (key, ...words) => withWords(TEXTS[key][language], words);
 
+// A warning in the language of the page; one that the page does not know stays as it is.
+const warningText = ({ warning, text }) => {
+  const [pattern, german] = WARNINGS[warning] || [];
+  const found = !language && pattern && pattern.exec(text);
+  return found ? withWords(german, found.slice(1)) : text;
+};
+
 // A number with its thousands apart, as the language writes it.
 const grouped = number => String(number).replace(/\B(?=(\d{3})+$)/g, language ? "," : ".");
 const point = () => (language ? "." : ",");
+
+// A decimal number as the language writes it.
+const decimal = text => {
+  const [whole, places] = text.split(".");
+  return grouped(whole) + (places ? point() + places : "");
+};

@@ -3,27 +3,10 @@ const ties = (() => {
   // With more names than this, a text takes the place of choices.
   const MOST_CHOICES = 30;
 
-  // Whether the names of a tie are those of Länder: where they may be parties too, the text of the stage says it.
-  const areLands = (fault, facts, book) => {
-    const areAll = list => {
-      const all = new Set(list.map(item => item.name));
-      return fault.names.every(name => all.has(name));
-    };
-    if (!areAll(facts.lands)) return false;
-    if (!areAll(facts.parties)) return true;
-    const clause = book.text.replace(/#.*/g, "").split(";").find(part => part.trim().startsWith("stage " + fault.stage)) || "";
-    return /population|,\s*land\s*\)/.test(clause);
-  };
-
-  // The record of a lot for a name of a tie, as docs/faults.md has its forms.
-  const recordOf = (fault, name, facts, book) => {
-    if (fault.stage === "seats") {
-      const winner = facts.wins.find(w => w.name === name) || { land: fault.scope[1], party: fault.scope[2] };
-      return ["lot", winner.land, winner.party, "seats", name, ""].join(",");
-    }
-    const [land, party] = name.split("/");
-    if (party !== undefined) return ["lot", land, party, fault.stage, "", ""].join(",");
-    return (areLands(fault, facts, book) ? ["lot", name, "", fault.stage, "", ""] : ["lot", "", name, fault.stage, "", ""]).join(",");
+  // The records of the lots, by the names of the tie: the explanation has one for each name, in their order.
+  const recordsOf = (fault, told) => {
+    const records = told ? told.remedies.filter(remedy => remedy.startsWith("lot,")) : [];
+    return records.length === fault.names.length ? new Map(fault.names.map((name, i) => [name, records[i]])) : null;
   };
 
   // Each place has a choice among the names; a choice exchanges two names.
@@ -58,10 +41,12 @@ const ties = (() => {
   };
 
   // The form, with the records that it makes.
-  const form = (fault, facts, book, add) => {
+  const form = (fault, told, add) => {
+    const all = recordsOf(fault, told);
+    if (!all) return null;
     const result = el("div", { "aria-live": "polite" });
     const changed = order => {
-      const records = order && order.map(name => recordOf(fault, name, facts, book));
+      const records = order && order.map(name => all.get(name));
       shown(result,
         el("p", {}, t(order ? "lotRecords" : "lotsIncomplete")),
         order ? el("pre", { class: "lots" }, records.join("\n")) : null,
@@ -75,5 +60,8 @@ const ties = (() => {
       result);
   };
 
-  return { form, recordOf };
+  // What an explanation says beside the records, which the form has.
+  const withoutRecords = told => told && { ...told, remedies: told.remedies.filter(remedy => !remedy.startsWith("lot,")) };
+
+  return { form, withoutRecords };
 })();

@@ -1,1 +1,3 @@
+-- What the exports hand over.
 pub mod Handing
+pub mod Telling

@@ -1,4 +1,4 @@
-//! The desk for a web page: calls over memory that the page hands in (docs/page.md).
+//! Counting, reports and explanations for a web page: calls over memory that the page hands in (docs/page.md).
 #![tactic(auto)]
 
 ghost use Rattle.std.specs.Prelude.{◌≤◌, length, take};
@@ -8,13 +8,21 @@ ghost use Rattle.sl_desk.specs.Counting.{IsOutput, ShowsSeats};
 ghost use Rattle.sl_desk.specs.Library.{IsLawOutput};
 ghost use Rattle.sl_desk.specs.Showing.{IsStageOutput};
 ghost use Rattle.sl_desk.specs.Steps.{ShowsSteps};
+ghost use Rattle.sl_hints.specs.Faults.{IsCheckFault, IsCountFault};
 ghost use Rattle.sl_page.specs.Handing.{HandsOver};
+ghost use Rattle.sl_page.specs.Telling.{TellsFault};
 
+mod compared;
 mod taken;
+mod told;
 
-use sl_desk::{BookSource, FromRead};
+use compared::compare_words;
+use sl_desk::{BookSource, BookText, FromRead};
+use sl_hints::{explain_check, explain_count};
+use sl_report::{Shape, report, totals};
 use std::alloc::Global;
-use taken::{NO_NAME, Taken, hand_over};
+use taken::{NO_NAME, Taken, hand_answer, hand_over};
+use told::{language_of, tell};
 
 /// Counts the returns by the rulebook. Answers the exit status of the program, 0, 2 or 3, with what it writes in `out` and how many bytes that
 /// are in `count`; or 5 where memory ran out, and 6 where `out` is too short.
@@ -105,4 +113,100 @@ pub extern "C" fn page_law(alloc: Global, name: &[u8], out: &mut [u8], count: &m
     let mut taken = Taken::new(alloc);
     let ending = sl_desk::law_text(name, &mut taken);
     hand_over(ending, taken.text.as_slice(), out, count)
+}
+
+/// The JSON of `report` for these returns, with the full names of that file; a file of no bytes gives none. Statuses as in `page_count`.
+#[unsafe(no_mangle)]
+pub extern "C" fn page_report(
+    alloc: Global,
+    book: &[u8],
+    returns: &[u8],
+    names: &[u8],
+    out: &mut [u8],
+    count: &mut usize,
+) -> u32
+    ensures { count.new ≤ length out.new }
+{
+    let book = BookText::Text(book);
+    let answer = report(alloc, book, returns, Some(names), Shape::Json);
+    hand_answer(answer, out, count)
+}
+
+/// The JSON of `totals` for these returns, with a book if it has bytes, and names as in `page_report`.
+#[unsafe(no_mangle)]
+pub extern "C" fn page_totals(
+    alloc: Global,
+    book: &[u8],
+    returns: &[u8],
+    names: &[u8],
+    out: &mut [u8],
+    count: &mut usize,
+) -> u32
+    ensures { count.new ≤ length out.new }
+{
+    let book = if book.is_empty() {
+        None
+    } else {
+        Some(BookText::Text(book))
+    };
+    let answer = totals(alloc, book, returns, Some(names), Shape::Json);
+    hand_answer(answer, out, count)
+}
+
+/// The JSON of `compare` for these returns by rulebooks, whose words stand on a line each: a word with `@` is that of a statute of the library, and
+/// any other one that of the book. Names as in `page_report`; 7 where the words are no UTF-8.
+#[unsafe(no_mangle)]
+pub extern "C" fn page_compare(
+    alloc: Global,
+    words: &[u8],
+    book: &[u8],
+    returns: &[u8],
+    names: &[u8],
+    out: &mut [u8],
+    count: &mut usize,
+) -> u32
+    ensures { count.new ≤ length out.new }
+{
+    *count = 0;
+    let Ok(words) = std::str::from_utf8(words) else {
+        return NO_NAME;
+    };
+    let answer = compare_words(alloc, words, book, returns, names);
+    hand_answer(answer, out, count)
+}
+
+/// Why `check` refuses a rulebook, explained in German where the language is `de`, and else in English: the number of the status of `check`, and
+/// what the program writes to standard error for a file `book`. 5 and 6 as in `page_count`.
+#[unsafe(no_mangle)]
+pub extern "C" fn page_explain_check(
+    alloc: Global,
+    language: &[u8],
+    book: &[u8],
+    out: &mut [u8],
+    count: &mut usize,
+) -> u32
+    ensures fault { TellsFault (IsCheckFault (text book.now)) result (take count.new out.new) }
+    ensures within { count.new ≤ length out.new }
+{
+    let language = language_of(language);
+    let explained = explain_check(alloc, language, BookText::Text(book));
+    tell(alloc, language, explained, book, &[], out, count)
+}
+
+/// Why `count` and `steps` write no table, as `page_explain_check` tells it, for files `book` and `returns`.
+#[unsafe(no_mangle)]
+pub extern "C" fn page_explain_count(
+    alloc: Global,
+    language: &[u8],
+    book: &[u8],
+    returns: &[u8],
+    out: &mut [u8],
+    count: &mut usize,
+) -> u32
+    ensures fault { TellsFault (IsCountFault (text book.now) returns.now) result (take count.new out.new) }
+    ensures within { count.new ≤ length out.new }
+{
+    let language = language_of(language);
+    let explained = explain_count(alloc, language, BookText::Text(book), returns);
+    tell(alloc, language, explained, book, returns, out, count)
 }

@@ -1,9 +1,11 @@
-//! What a call of the desk writes, kept in memory, and handed over to the page.
+//! What a call writes, kept in memory, and handed over to the page.
 
 ghost use Rattle.std.specs.Prelude.{◌≡◌, ◌<◌, ◌≤◌, Some, Ok, [], length, take};
 ghost use Rattle.sl_desk.specs.Statuses.{status_number};
 
 use sl_desk::{DeskError, Failed, Sink, Status};
+use sl_ratio::NoMemory;
+use sl_report::Answer;
 use std::alloc::Global;
 
 /// What an export answers where memory ran out.
@@ -54,8 +56,23 @@ impl Sink for Taken {
     }
 }
 
-/// Puts what a call wrote into `out` and its length into `count`, and answers the number of the call's status. Where the call failed it
-/// answers `NO_MEMORY`, and where `out` is too short `NO_ROOM`; `count` is then 0.
+/// Puts a text into `out` and its length into `count`, and answers the number that is given. Where `out` is too short it answers `NO_ROOM`, and
+/// `count` is 0.
+pub(crate) fn put(number: u8, written: &[u8], out: &mut [u8], count: &mut usize) -> u32
+    ensures text { result < 5 → (result ≡ number) × (take count.new out.new ≡ written.now) }
+    ensures within { count.new ≤ length out.new }
+{
+    *count = 0;
+    let n = written.len();
+    if n > out.len() {
+        return NO_ROOM;
+    }
+    out[..n].copy_from_slice(written);
+    *count = n;
+    u32::from(number)
+}
+
+/// Puts what a call of the desk wrote, with the number of its status. Where the call failed it answers `NO_MEMORY`, and `count` is 0.
 pub(crate) fn hand_over(
     ending: Result<Status, DeskError>,
     written: &[u8],
@@ -69,11 +86,20 @@ pub(crate) fn hand_over(
     let Ok(status) = ending else {
         return NO_MEMORY;
     };
-    let n = written.len();
-    if n > out.len() {
-        return NO_ROOM;
+    put(status.number(), written, out, count)
+}
+
+/// Puts what a report answers, with its status. Where memory ran out it answers `NO_MEMORY`, and `count` is 0.
+pub(crate) fn hand_answer(
+    answer: Result<Answer, NoMemory>,
+    out: &mut [u8],
+    count: &mut usize,
+) -> u32
+    ensures { count.new ≤ length out.new }
+{
+    *count = 0;
+    match answer {
+        Ok(answer) => put(answer.status, answer.text.as_slice(), out, count),
+        Err(_) => NO_MEMORY,
     }
-    out[..n].copy_from_slice(written);
-    *count = n;
-    u32::from(status.number())
 }
