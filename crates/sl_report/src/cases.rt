@@ -64,23 +64,21 @@ impl Case<'_> {
     }
 }
 
-// What is good, if it is not refused.
-fn good<T: Drop, R: Drop>(verdict: Verdict<T, R>) -> Option<T> {
-    match verdict {
-        Verdict::Good(good) => Some(good),
-        Verdict::Refused(_) => None,
-    }
-}
-
 /// A rulebook, if it is well formed.
 pub(crate) fn read_book(
     alloc: Global,
     book: BookText<'_>,
 ) -> Result<Option<CheckedBook>, NoMemory> {
-    Ok(good(judge_book(alloc, book)?))
+    match judge_book(alloc, book)? {
+        Verdict::Good(book) => Ok(Some(book)),
+        Verdict::Refused(_) => Ok(None),
+    }
 }
 
 /// Returns, if they are in order.
 pub(crate) fn read_election(alloc: Global, bytes: &[u8]) -> Result<Option<Returns>, NoMemory> {
-    Ok(good(judge_returns(alloc, bytes)?))
+    match judge_returns(alloc, bytes)? {
+        Verdict::Good(returns) => Ok(Some(returns)),
+        Verdict::Refused(_) => Ok(None),
+    }
 }
