@@ -17,7 +17,7 @@ use Rattle.sl_plans.specs.Trees.{Tree, Line}
 use Rattle.sl_plans.specs.Fine.{is_fine, judged_by, kinds_along}
 use Rattle.sl_pieces.specs.facts.Trees.{conditions_tree, condition_tree, eligible_tree, fact_tree}
 use Rattle.sl_pieces.specs.exprs.Slots.{fact_slots}
-use Rattle.sl_blocks.proofs.Renaming.{Renaming, renamed, Renames, renamed_is_fine}
+use Rattle.sl_plans.proofs.Renaming.{Renaming, renamed, Renames, renamed_is_fine}
 use Rattle.sl_blocks.specs.Facts.{fact_shapes, closing_shapes, HasFirstSlots}
 use Rattle.sl_blocks.proofs.Standing.{IsFineIn}
 

@@ -1,15 +1,5 @@
 -- The lemmas of blocks.
-pub mod Renaming
-pub mod Modest
-pub mod FineRoles
-pub mod FineSplits
-pub mod FineGrowths
-pub mod FineCovers
-pub mod FineColumns
 pub mod FineFacts
-pub mod ProperLists
-pub mod ProperTrees
-pub mod JudgedPlans
 pub mod Standing
 pub mod JobSlots
 pub mod Meaning

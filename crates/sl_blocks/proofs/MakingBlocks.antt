@@ -19,10 +19,10 @@ use Rattle.sl_pieces.proofs.nodes.Nodes.{splits_achieve, growths_achieve}
 use Rattle.sl_blocks.specs.declared.job.Job.{Job}
 use Rattle.sl_blocks.specs.declared.blocks.TheConstants.{MAX_BLOCK_INSTRS}
 use Rattle.sl_blocks.specs.inner.Jobs.{slots_of, IsJob, TakesMinima, HasJob, HasWeights, SplitMeans, GrowthMeans, IsResultBlock}
-use Rattle.sl_blocks.proofs.FineRoles.{HasShapes}
-use Rattle.sl_blocks.proofs.Modest.{size_at_most, within_share}
-use Rattle.sl_blocks.proofs.FineSplits.{split_fine, split_ranged, split_modest}
-use Rattle.sl_blocks.proofs.FineGrowths.{growth_fine, growth_ranged, growth_modest}
+use Rattle.sl_pieces.proofs.judged.Roles.{HasShapes}
+use Rattle.sl_plans.proofs.Modest.{size_at_most, within_share}
+use Rattle.sl_pieces.proofs.judged.Splits.{split_fine, split_ranged, split_modest}
+use Rattle.sl_pieces.proofs.judged.Growths.{growth_fine, growth_ranged, growth_modest}
 use Rattle.sl_blocks.proofs.Standing.{MakesBlock, MakesPlan, is_block}
 use Rattle.sl_blocks.proofs.JobSlots.{has_slots}
 use Rattle.sl_blocks.proofs.Meaning.{split_means, growth_means}

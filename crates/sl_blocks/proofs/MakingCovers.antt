@@ -20,10 +20,10 @@ use Rattle.sl_pieces.proofs.covers.Covering.{coverings_achieve}
 use Rattle.sl_blocks.specs.declared.blocks.TheConstants.{MAX_BLOCK_INSTRS}
 use Rattle.sl_blocks.specs.Blocks.{HasSlotsOf}
 use Rattle.sl_blocks.specs.inner.Covers.{IsCoverJob, flagged, BeginsCover, IsCoverBlock}
-use Rattle.sl_blocks.proofs.FineCovers.{HasCoverShapes, cover_fine}
-use Rattle.sl_blocks.proofs.Modest.{size_at_most, within_share}
-use Rattle.sl_blocks.proofs.ProperTrees.{small_ranged}
-use Rattle.sl_blocks.proofs.JudgedPlans.{judged_modest, cover_judged}
+use Rattle.sl_pieces.proofs.judged.Covers.{HasCoverShapes, cover_fine}
+use Rattle.sl_plans.proofs.Modest.{size_at_most, within_share}
+use Rattle.sl_plans.proofs.ProperTrees.{small_ranged}
+use Rattle.sl_pieces.proofs.judged.SmallPlans.{judged_modest, cover_judged}
 use Rattle.sl_blocks.proofs.Standing.{MakesBlock, MakesPlan, is_block}
 
 module _ (shapes : List Shape) (x : CoverSlots) (job : IsCoverJob shapes x) where

@@ -22,11 +22,11 @@ use Rattle.sl_blocks.specs.Facts.{HasFirstSlots}
 use Rattle.sl_blocks.specs.inner.Few.{AreSmall}
 use Rattle.sl_blocks.specs.inner.Layout.{IsLaid}
 use Rattle.sl_blocks.specs.PlanBlocks.{AreBlocks, HasCopy, HasPair, HasSum}
-use Rattle.sl_blocks.proofs.FineColumns.{copy_fine, pair_fine, sum_fine}
+use Rattle.sl_pieces.proofs.judged.Columns.{copy_fine, pair_fine, sum_fine}
 use Rattle.sl_blocks.proofs.FineFacts.{first_fine, eligible_fine, fact_fine}
-use Rattle.sl_blocks.proofs.ProperLists.{Fits}
-use Rattle.sl_blocks.proofs.ProperTrees.{small_ranged}
-use Rattle.sl_blocks.proofs.JudgedPlans.{copy_judged, pair_judged, sum_judged, eligible_ranged, fact_ranged}
+use Rattle.sl_plans.proofs.ProperLists.{Fits}
+use Rattle.sl_plans.proofs.ProperTrees.{small_ranged}
+use Rattle.sl_pieces.proofs.judged.SmallPlans.{copy_judged, pair_judged, sum_judged, eligible_ranged, fact_ranged}
 use Rattle.sl_blocks.proofs.Standing.{MakesPlan, is_plan_block}
 
 -- what is laid out of a plan is its block

@@ -28,7 +28,7 @@ use Rattle.sl_plans.proofs.Kinded.{fine_plans_pass}
 use Rattle.sl_plans.proofs.Targets.{plans_jump_within}
 use Rattle.sl_blocks.specs.Blocks.{PassesOn, IsBlock}
 use Rattle.sl_blocks.specs.PlanBlocks.{IsSaid, IsPlanBlock}
-use Rattle.sl_blocks.proofs.ProperTrees.{IsRanged, laid_in_range, plain_is_quiet}
+use Rattle.sl_plans.proofs.ProperTrees.{IsRanged, laid_in_range, plain_is_quiet}
 
 -- with the slots and the stages of the code, where nothing is known
 abbrev pub IsFineIn : CountingCode → Tree → Type 0

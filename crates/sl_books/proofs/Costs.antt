@@ -12,8 +12,8 @@ use Rattle.sl_plans.specs.Meaning.{cost}
 use Rattle.sl_plans.specs.Laid.{cost_all}
 use Rattle.sl_books.specs.Codes.{book_pieces}
 use Rattle.sl_books.specs.Laws.{CanCompile}
-use Rattle.sl_blocks.proofs.Modest.{steps, with_one}
-use Rattle.sl_blocks.proofs.JudgedPlans.{judged_modest}
+use Rattle.sl_plans.proofs.Modest.{steps, with_one}
+use Rattle.sl_pieces.proofs.judged.SmallPlans.{judged_modest}
 use Rattle.sl_books.proofs.CostsOfBooks.{total, IsMeasure, fact_plans, book_at_most}
 
 module _ (e : Election) where

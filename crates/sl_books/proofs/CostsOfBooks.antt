@@ -35,10 +35,10 @@ use Rattle.sl_pieces.specs.exprs.Stages.{stage_pieces, stages_pieces}
 use Rattle.sl_pieces.specs.closing.Trees.{base_slot, final_seats, cover_slots, seating_pieces, vacant_pieces, last_pieces}
 use Rattle.sl_books.specs.Codes.{facts_pieces, book_pieces}
 use Rattle.sl_books.specs.Laws.{CanCompile}
-use Rattle.sl_blocks.proofs.Modest.{IsNodePlan}
-use Rattle.sl_blocks.proofs.JudgedPlans.{IsColumnPlan, IsFactPlan, IsCoverPlan, copy_judged, pair_judged, sum_judged, line_modest, nothing_modest, condition_modest, fact_modest, place_kept_modest, cover_judged}
-use Rattle.sl_blocks.proofs.FineSplits.{split_modest}
-use Rattle.sl_blocks.proofs.FineGrowths.{growth_modest}
+use Rattle.sl_plans.proofs.Modest.{IsNodePlan}
+use Rattle.sl_pieces.proofs.judged.SmallPlans.{IsColumnPlan, IsFactPlan, IsCoverPlan, copy_judged, pair_judged, sum_judged, line_modest, nothing_modest, condition_modest, fact_modest, place_kept_modest, cover_judged}
+use Rattle.sl_pieces.proofs.judged.Splits.{split_modest}
+use Rattle.sl_pieces.proofs.judged.Growths.{growth_modest}
 
 -- the sum of a measure over some plans
 abbrev pub total : (Tree → ℕ) → List Tree → ℕ

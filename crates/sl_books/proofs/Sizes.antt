@@ -12,8 +12,8 @@ use Rattle.sl_plans.specs.Laid.{size_all}
 use Rattle.sl_pieces.specs.closing.Trees.{halting}
 use Rattle.sl_books.specs.Codes.{book_pieces}
 use Rattle.sl_books.specs.Laws.{CanCompile, BooksAreShort}
-use Rattle.sl_blocks.proofs.Modest.{size_at_most}
-use Rattle.sl_blocks.proofs.JudgedPlans.{judged_modest}
+use Rattle.sl_plans.proofs.Modest.{size_at_most}
+use Rattle.sl_pieces.proofs.judged.SmallPlans.{judged_modest}
 use Rattle.sl_books.proofs.CostsOfBooks.{total, IsMeasure, fact_plans, book_at_most}
 use Rattle.sl_books.proofs.Rows.{blocks_longer}
 

@@ -9,3 +9,4 @@ pub mod nodes
 pub mod exprs
 pub mod covers
 pub mod closing
+pub mod judged

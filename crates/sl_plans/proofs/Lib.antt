@@ -13,3 +13,7 @@ pub mod Sums
 pub mod Kinded
 pub mod Targets
 pub mod LaidPlans
+pub mod Renaming
+pub mod Modest
+pub mod ProperLists
+pub mod ProperTrees

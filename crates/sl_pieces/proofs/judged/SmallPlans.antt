@@ -19,9 +19,9 @@ use Rattle.sl_pieces.specs.covers.Trees.{CoverSlots, cover_tree}
 use Rattle.sl_pieces.specs.columns.Trees.{copy_tree, pair_tree, sum_tree}
 use Rattle.sl_pieces.specs.facts.Trees.{FactSlots, condition_tree, conditions_tree, eligible_tree, fact_tree}
 use Rattle.sl_pieces.specs.closing.Trees.{place_kept}
-use Rattle.sl_blocks.proofs.Modest.{is_modest, IsModest}
-use Rattle.sl_blocks.proofs.ProperLists.{all_append, all_parts, Fits, AllFit}
-use Rattle.sl_blocks.proofs.ProperTrees.{set_numbers, IsRanged, is_ranged, small_ranged}
+use Rattle.sl_plans.proofs.Modest.{is_modest, IsModest}
+use Rattle.sl_plans.proofs.ProperLists.{all_append, all_parts, Fits, AllFit}
+use Rattle.sl_plans.proofs.ProperTrees.{set_numbers, IsRanged, is_ranged, small_ranged}
 
 -- a modest plan that sets registers to small numbers alone
 pub record IsJudged (plain by_win size : ℕ) (tree : Tree) : Type 0 where

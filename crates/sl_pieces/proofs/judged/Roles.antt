@@ -15,10 +15,10 @@ use Rattle.sl_plans.specs.Fine.{is_plain, is_fine, judged_by}
 use Rattle.sl_pieces.specs.declared.form.Form.{Form}
 use Rattle.sl_pieces.specs.scopes.Forms.{amounts_of, votes_of}
 use Rattle.sl_pieces.specs.seats.Slots.{Slots}
-use Rattle.sl_blocks.proofs.Renaming.{Renaming, renamed_instr, renamed, Renames, renamed_is_fine}
-use Rattle.sl_blocks.proofs.Modest.{is_modest}
-use Rattle.sl_blocks.proofs.ProperLists.{all_append, all_parts, Fits, AllFit}
-use Rattle.sl_blocks.proofs.ProperTrees.{set_number, set_numbers, has_plain_lines, IsRanged, is_ranged, small_ranged}
+use Rattle.sl_plans.proofs.Renaming.{Renaming, renamed_instr, renamed, Renames, renamed_is_fine}
+use Rattle.sl_plans.proofs.Modest.{is_modest}
+use Rattle.sl_plans.proofs.ProperLists.{all_append, all_parts, Fits, AllFit}
+use Rattle.sl_plans.proofs.ProperTrees.{set_number, set_numbers, has_plain_lines, IsRanged, is_ranged, small_ranged}
 
 -- ---- roles
 

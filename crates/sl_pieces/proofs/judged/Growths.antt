@@ -12,10 +12,10 @@ use Rattle.sl_pieces.specs.declared.form.Form.{Form}
 use Rattle.sl_pieces.specs.declared.form.Form.TheVariants.{AllParties}
 use Rattle.sl_pieces.specs.seats.Slots.{Slots}
 use Rattle.sl_pieces.specs.nodes.Trees.{grow_tree}
-use Rattle.sl_blocks.proofs.Modest.{IsNodePlan}
-use Rattle.sl_blocks.proofs.ProperLists.{Fits}
-use Rattle.sl_blocks.proofs.ProperTrees.{IsRanged}
-use Rattle.sl_blocks.proofs.FineRoles.{roles, names_of, IsFineAs, HasShapes, fine_of, ranged_as}
+use Rattle.sl_plans.proofs.Modest.{IsNodePlan}
+use Rattle.sl_plans.proofs.ProperLists.{Fits}
+use Rattle.sl_plans.proofs.ProperTrees.{IsRanged}
+use Rattle.sl_pieces.proofs.judged.Roles.{roles, names_of, IsFineAs, HasShapes, fine_of, ranged_as}
 
 -- the cap in the plan of roles: 0, or 2 for all others, which is no other number of the plan
 abbrev role_of_cap : ℕ → ℕ

@@ -19,7 +19,7 @@ use Rattle.sl_plans.specs.declared.plan.Test.TheVariants as test
 use Rattle.sl_plans.specs.Trees.{Tree, Line, Stop, Then, If, Each, Times, size_of, flat, jump_of, to_first, to_next, ones, at_join, known_after_all, known_after, known_in_arm, known_in_other, known_in_turn, known_after_loop, with_cursor_known, kinds_after}
 use Rattle.sl_plans.specs.Fine.{is_plain, jumps_nowhere, has_quiet_lines}
 use Rattle.sl_plans.specs.Laid.{laid}
-use Rattle.sl_blocks.proofs.ProperLists.{all_append, all_parts, AllFit, small_fit}
+use Rattle.sl_plans.proofs.ProperLists.{all_append, all_parts, AllFit, small_fit}
 
 -- ---- what is asked of a plan
 

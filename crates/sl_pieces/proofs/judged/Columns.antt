@@ -13,7 +13,7 @@ use Rattle.sl_verify.specs.Kinds.{start_kinds}
 use Rattle.sl_plans.specs.Trees.{Tree}
 use Rattle.sl_plans.specs.Fine.{is_fine, judged_by}
 use Rattle.sl_pieces.specs.columns.Trees.{copy_tree, pair_tree, sum_tree, summed}
-use Rattle.sl_blocks.proofs.Renaming.{Renaming, renamed, Renames, renamed_is_fine}
+use Rattle.sl_plans.proofs.Renaming.{Renaming, renamed, Renames, renamed_is_fine}
 
 -- two columns of one shape, and the result
 abbrev shape_of_role : Shape → Shape → ℕ → Option Shape

@@ -13,9 +13,9 @@ use Rattle.sl_pieces.specs.declared.form.Form.{Form}
 use Rattle.sl_pieces.specs.declared.form.Form.TheVariants.{AllParties}
 use Rattle.sl_pieces.specs.seats.Slots.{Slots}
 use Rattle.sl_pieces.specs.nodes.Trees.{split_tree}
-use Rattle.sl_blocks.proofs.Modest.{IsNodePlan}
-use Rattle.sl_blocks.proofs.ProperTrees.{IsRanged}
-use Rattle.sl_blocks.proofs.FineRoles.{roles, names_of, IsFineAs, HasShapes, fine_of, ranged_as}
+use Rattle.sl_plans.proofs.Modest.{IsNodePlan}
+use Rattle.sl_plans.proofs.ProperTrees.{IsRanged}
+use Rattle.sl_pieces.proofs.judged.Roles.{roles, names_of, IsFineAs, HasShapes, fine_of, ranged_as}
 
 module _ (x : Slots) where
   abbrev IsFineSplit : Option ℕ → Form → Method → Majority → Type 0

@@ -7,7 +7,7 @@ use Rattle.sl_verify.specs.Kinds.{start_kinds}
 use Rattle.sl_verify.specs.Needs.{Context}
 use Rattle.sl_plans.specs.Fine.{is_fine, judged_by}
 use Rattle.sl_pieces.specs.covers.Trees.{CoverSlots, cover_tree}
-use Rattle.sl_blocks.proofs.Renaming.{Renaming, Renames, renamed_is_fine}
+use Rattle.sl_plans.proofs.Renaming.{Renaming, Renames, renamed_is_fine}
 
 -- the seats of the lists, the eligible parties, the numbers of the lists
 abbrev roles : CoverSlots
