@@ -2,15 +2,13 @@
 
 use crate::endings::status_of;
 use crate::laws;
-use crate::rows::{COVERING, FIRST_BOOK, ONE_LIST, THREE_SEATS};
+use crate::rows::{COVERING, ONE_LIST, THREE_SEATS};
 use sl_desk::{BookSource, DeskError, Failed, Input, Source, Status, check_book};
 use sl_memory::calls::{Pace, checked, coded, counted, counted_by, ran, staged, stepped, told};
+use sl_memory::inputs::{FIRST_BOOK, RETURNS};
 use sl_memory::memory::{Ending, Narrow, Slow};
 use std::alloc::Global;
 use std::process::Abort;
-
-const RETURNS: &str =
-    "kind,land,party,a,b,c\nland,X,,1000,,\nparty,,A,0,,\nlist,X,A,10,10,\nwin,X,A,w1,5,9\nwin,X,,w2,5,9\n";
 
 const TABLE: &str = "total 2\nparty A 1 1\nlist X A 1 1\nsingle w2\n";
 

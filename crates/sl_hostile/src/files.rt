@@ -1,9 +1,10 @@
 //! Code files that are cut at every byte, which are refused with their length, and files with a byte changed, which are refused or run.
 
 use crate::endings::{STEPS, assert_text};
-use crate::rows::{FIRST_BOOK, ONE_LIST};
+use crate::rows::ONE_LIST;
 use sl_desk::Status;
 use sl_memory::calls::{Pace, coded, ran};
+use sl_memory::inputs::FIRST_BOOK;
 use sl_memory::memory::Ending;
 use std::alloc::{AllocError, Global};
 use std::process::Abort;

@@ -34,10 +34,6 @@ pub struct Row {
 /// Returns of a Land, a party and its list.
 pub const ONE_LIST: &str = "kind,land,party,a,b,c\nland,X,,1000,,\nparty,,A,0,,\nlist,X,A,10,10,\n";
 
-/// A book of one stage, which keeps its winners.
-pub const FIRST_BOOK: &str =
-    "rulebook 1; law \"t\"; house 8; eligible all; stage pool = less(house, sum(outside, all)); seats winners keep;";
-
 /// Books of one split, of three seats and of two; in the last one winners are seated by their shares.
 pub const THREE_SEATS: &str =
     "rulebook 1; law \"t\"; house 3; eligible all; stage s = split(house, counted, webster); seats s keep;";

@@ -1,5 +1,6 @@
-//! The calls of the desk over memory: readers and writers that go in small steps and fail at a call of one's choice, for tests.
+//! The calls of the desk over memory: readers and writers that go in small steps and fail at a call of one's choice, and inputs for them, for tests.
 #![tactic(auto)]
 
 pub mod calls;
+pub mod inputs;
 pub mod memory;

@@ -1,10 +1,8 @@
 //! Counts at the limits of returns: each limit met, and gone past by one.
 
-use crate::inputs::Text;
-use crate::rows::{
-    BuiltCountRow, CountRow, FIRST_BOOK, RETURNS, TABLE, assert_built_counts, assert_counts,
-};
+use crate::rows::{BuiltCountRow, CountRow, assert_built_counts, assert_counts};
 use sl_desk::Status;
+use sl_memory::inputs::{FIRST_BOOK, RETURNS, TABLE, Text};
 use std::test::Fail;
 
 const RECORDS: [BuiltCountRow; 8] = [

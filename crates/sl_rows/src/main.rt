@@ -1,15 +1,7 @@
-//! Worked examples over the calls of the desk. The program runs the commands on the pages of the examples. The tests are rows of inputs and of
-//! what is written, inputs and outputs over memory, and what is judged, read and written first.
+//! Worked examples of counts. The program runs the commands on the pages of the examples. The tests are rows of rulebooks and returns, and of what
+//! `count`, `steps` and `stage` write.
 #![tactic(auto)]
 
-#[cfg(test)]
-mod adapters;
-#[cfg(test)]
-mod check_limits;
-#[cfg(test)]
-mod checks;
-#[cfg(test)]
-mod codes;
 #[cfg(test)]
 mod count_limits;
 #[cfg(test)]
@@ -17,20 +9,12 @@ mod counts;
 #[cfg(test)]
 mod faults;
 #[cfg(test)]
-mod inputs;
-#[cfg(test)]
-mod library;
-#[cfg(test)]
 mod library_counts;
-#[cfg(test)]
-mod order;
 mod pages;
 #[cfg(test)]
 mod returns;
 #[cfg(test)]
 mod rows;
-#[cfg(test)]
-mod runs;
 #[cfg(test)]
 mod stages;
 #[cfg(test)]

@@ -1,7 +1,8 @@
 //! Counts on returns that are refused, each fault once, and on returns in the forms that csv reads.
 
-use crate::rows::{CountRow, FIRST_BOOK, TABLE, assert_counts};
+use crate::rows::{CountRow, assert_counts};
 use sl_desk::Status;
+use sl_memory::inputs::{FIRST_BOOK, TABLE};
 
 const FAULTS: [CountRow; 13] = [
     (

@@ -1,22 +1,11 @@
-//! What a row asks of a call of the desk, and how it is tested.
+//! What a row asks of `count`, `steps` and `stage`, and how it is tested.
 
-use crate::inputs::Text;
 use sl_desk::Status;
-use sl_memory::calls::{Pace, checked, counted, counted_by, ran, staged, staged_by, stepped};
+use sl_memory::calls::{Pace, counted, counted_by, staged, staged_by, stepped};
+use sl_memory::inputs::Text;
 use sl_memory::memory::Ending;
 use std::alloc::{AllocError, Global};
 use std::process::Abort;
-
-/// A book of one stage, which keeps its winners.
-pub const FIRST_BOOK: &str =
-    "rulebook 1; law \"t\"; house 8; eligible all; stage pool = less(house, sum(outside, all)); seats winners keep;";
-
-/// Returns of a Land, a party, its list and two winners, one of whom has no party.
-pub const RETURNS: &str =
-    "kind,land,party,a,b,c\nland,X,,1000,,\nparty,,A,0,,\nlist,X,A,10,10,\nwin,X,A,w1,5,9\nwin,X,,w2,5,9\n";
-
-/// What the first book comes to on them.
-pub const TABLE: &str = "total 2\nparty A 1 1\nlist X A 1 1\nsingle w2\n";
 
 // Bytes that a source gives, or a sink takes, at once: all, or one.
 const STEPS: [usize; 2] = [4096, 1];
@@ -60,21 +49,6 @@ pub type StageRow = (
     &'static str,
     Status,
 );
-
-/// A row: its name, the bytes of the code file, the returns, what `run` writes, and its status.
-pub type RunRow = (
-    &'static str,
-    &'static [u8],
-    &'static str,
-    &'static str,
-    Status,
-);
-
-/// A row: its name, the book, what `check` writes, and its status.
-pub type CheckRow = (&'static str, &'static str, &'static str, Status);
-
-/// The same with a book that is built.
-pub type BuiltCheckRow = (&'static str, Text, &'static str, Status);
 
 // Asserts how a call ends, and what was written.
 fn assert_ending(rt: &impl Abort, ending: &Ending, text: &[u8], status: Status, name: &str) {
@@ -160,40 +134,4 @@ pub fn assert_stages_by(rt: &impl Abort, alloc: Global, rows: &[StageRow]) {
             assert_ending(rt, &ending, text.as_bytes(), *status, name);
         }
     }
-}
-
-/// Asserts that `run` writes and ends as each of these rows says.
-pub fn assert_runs(rt: &impl Abort, alloc: Global, rows: &[RunRow]) {
-    for (name, code, returns, text, status) in rows {
-        for step in STEPS {
-            let ending = ran(alloc, code, returns.as_bytes(), Pace::of(step));
-            assert_ending(rt, &ending, text.as_bytes(), *status, name);
-        }
-    }
-}
-
-/// Asserts that `check` writes and ends as each of these rows says.
-pub fn assert_checks(rt: &impl Abort, alloc: Global, rows: &[CheckRow]) {
-    for (name, book, text, status) in rows {
-        for step in STEPS {
-            let ending = checked(alloc, book.as_bytes(), Pace::of(step));
-            assert_ending(rt, &ending, text.as_bytes(), *status, name);
-        }
-    }
-}
-
-/// The same of rows with a book that is built.
-pub fn assert_built_checks(
-    rt: &impl Abort,
-    alloc: Global,
-    rows: &[BuiltCheckRow],
-) -> Result<(), AllocError> {
-    for (name, book, text, status) in rows {
-        let book = book.bytes(alloc)?;
-        for step in STEPS {
-            let ending = checked(alloc, book.as_slice(), Pace::of(step));
-            assert_ending(rt, &ending, text.as_bytes(), *status, name);
-        }
-    }
-    Ok(())
 }

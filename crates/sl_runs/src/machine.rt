@@ -5,7 +5,6 @@ mod numbers;
 mod records;
 mod winners;
 
-use crate::files::joined;
 use sl_code::from_bytes;
 use sl_machine::{Ending, Memory, budget, run};
 use sl_returns::read_returns;
@@ -50,7 +49,7 @@ fn held(alloc: Global, file: &[u8], text: &str) -> Result<Memory, Fail> {
 
 // The same of a code file in pieces.
 fn held_of(alloc: Global, pieces: &[&[u8]], text: &str) -> Result<Memory, Fail> {
-    held(alloc, joined(alloc, pieces)?.as_slice(), text)
+    held(alloc, pieces.concat(alloc)?.as_slice(), text)
 }
 
 // The seats and the names of the tie in which such a run ends.

@@ -102,7 +102,7 @@ fn a_lot_that_is_drawn(rt: HostRuntime) -> Result<(), Fail> {
 
 #[test]
 fn a_tie(rt: HostRuntime) -> Result<(), Fail> {
-    let (seats, names) = tie_of(rt.alloc(), joined(rt.alloc(), &AWARDS)?.as_slice(), TIED)?;
+    let (seats, names) = tie_of(rt.alloc(), AWARDS.concat(rt.alloc())?.as_slice(), TIED)?;
     assert_eq!(rt; seats, 1);
     assert_eq!(rt;
         names.as_slice(),

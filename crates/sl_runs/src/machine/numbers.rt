@@ -136,13 +136,13 @@ const NO_NUMBER: u64 = u64::MAX;
 fn columns_of_returns(rt: HostRuntime) -> Result<(), Fail> {
     let alloc = rt.alloc();
     let cases = [
-        (joined(alloc, &VOTES)?, [10, 0, 0, 5], [4, 0, 0, 3]),
+        (VOTES.concat(alloc)?, [10, 0, 0, 5], [4, 0, 0, 3]),
         (
-            joined(alloc, &NAMES)?,
+            NAMES.concat(alloc)?,
             [7, NO_NUMBER, NO_NUMBER, NO_NUMBER],
             [0, 0, 0, 0],
         ),
-        (joined(alloc, &PEOPLE)?, [100, 100, 200, 200], [0, 1, 0, 1]),
+        (PEOPLE.concat(alloc)?, [100, 100, 200, 200], [0, 1, 0, 1]),
     ];
     for (file, base, vacant) in cases {
         let halted = held(alloc, file.as_slice(), TWO_LISTS)?;

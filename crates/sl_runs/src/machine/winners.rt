@@ -93,7 +93,7 @@ fn greatest_shares(rt: HostRuntime) -> Result<(), Fail> {
 
 #[test]
 fn equal_shares(rt: HostRuntime) -> Result<(), Fail> {
-    let file = joined(rt.alloc(), &SHARES)?;
+    let file = SHARES.concat(rt.alloc())?;
     let (seats, names) = tie_of(rt.alloc(), file.as_slice(), EQUAL_SHARES)?;
     assert_eq!(rt; seats, 1);
     assert_eq!(rt; names.as_slice(), [Item::Win(1), Item::Win(2)].as_slice());

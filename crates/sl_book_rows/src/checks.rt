@@ -1,7 +1,8 @@
 //! Checks: what is written for good books, and for each fault of a book.
 
-use crate::rows::{CheckRow, FIRST_BOOK, assert_checks};
+use crate::rows::{CheckRow, assert_checks};
 use sl_desk::Status;
+use sl_memory::inputs::FIRST_BOOK;
 
 const GOOD: [CheckRow; 5] = [
     (

@@ -98,3 +98,14 @@ fn lots_are_read_in_their_order(rt: HostRuntime) -> Result<(), Fail> {
     assert!(rt; are_drawn(returns.lots()));
     Ok(())
 }
+
+#[test]
+fn text_of_a_fault(rt: HostRuntime) -> Result<(), Fail> {
+    let fault = ReturnsFault {
+        row: 7,
+        kind: FaultKind::Range,
+    };
+    let text = format!(in rt.alloc(); "{fault}")?;
+    assert_eq!(rt; text.as_str(), "record 7: a number is out of its range");
+    Ok(())
+}

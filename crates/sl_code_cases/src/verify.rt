@@ -1,6 +1,5 @@
 //! Codes of small files, and the first fault of each.
 
-use crate::files::joined;
 use sl_code::{Code, from_bytes};
 use sl_stages::Shape;
 use sl_verify::{VerifyFault, verify};
@@ -14,7 +13,7 @@ fn code(alloc: Global, slots: &[u8], instrs: &[&[u8]]) -> Result<Code, Fail> {
     file.extend_from_slice(slots)?;
     let count = u32::try_from(instrs.len()).unwrap_or(u32::MAX);
     file.extend_from_slice(&count.to_le_bytes())?;
-    file.extend_from_slice(joined(alloc, instrs)?.as_slice())?;
+    file.extend_from_slice(instrs.concat(alloc)?.as_slice())?;
     Ok(from_bytes(alloc, file.as_slice())?)
 }
 

@@ -1,8 +1,19 @@
-//! The texts of the rows: those that stand as they are, and long ones that are built.
+//! Inputs of calls: small ones that many tests take, and long ones that are built.
 
 use std::alloc::{AllocError, Global};
 
-/// A text of a row.
+/// A book of one stage, which keeps its winners.
+pub const FIRST_BOOK: &str =
+    "rulebook 1; law \"t\"; house 8; eligible all; stage pool = less(house, sum(outside, all)); seats winners keep;";
+
+/// Returns of a Land, a party, its list and two winners, one of whom has no party.
+pub const RETURNS: &str =
+    "kind,land,party,a,b,c\nland,X,,1000,,\nparty,,A,0,,\nlist,X,A,10,10,\nwin,X,A,w1,5,9\nwin,X,,w2,5,9\n";
+
+/// What the first book comes to on them.
+pub const TABLE: &str = "total 2\nparty A 1 1\nlist X A 1 1\nsingle w2\n";
+
+/// A text: as it stands, or built.
 #[derive(Clone, Copy)]
 pub enum Text {
     /// As it stands.

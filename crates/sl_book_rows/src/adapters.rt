@@ -2,10 +2,10 @@
 
 ghost use Rattle.std.specs.Prelude.{Some};
 
-use crate::rows::{FIRST_BOOK, RETURNS, TABLE};
 use sl_desk::{
     BookSource, DeskError, Failed, FromRead, Input, Sink, Source, Status, ToWrite, count,
 };
+use sl_memory::inputs::{FIRST_BOOK, RETURNS, TABLE};
 use sl_memory::memory::Ending;
 use std::alloc::Global;
 use std::io::{self, Error, ErrorKind, Read, Write};

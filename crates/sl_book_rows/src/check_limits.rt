@@ -1,8 +1,8 @@
 //! Checks at the limits of a book: each limit met, and gone past by one.
 
-use crate::inputs::Text;
-use crate::rows::{BuiltCheckRow, CheckRow, FIRST_BOOK, assert_built_checks, assert_checks};
+use crate::rows::{BuiltCheckRow, CheckRow, assert_built_checks, assert_checks};
 use sl_desk::Status;
+use sl_memory::inputs::{FIRST_BOOK, Text};
 use std::test::Fail;
 
 const LIMITS: [CheckRow; 18] = [

@@ -1,9 +1,8 @@
 //! Code files of rulebooks: what `code` writes for a book, and what a run of the written file comes to.
 
-use crate::inputs::Text;
-use crate::rows::{FIRST_BOOK, RETURNS, TABLE};
 use sl_desk::Status;
 use sl_memory::calls::{Pace, coded, coded_by, ran};
+use sl_memory::inputs::{FIRST_BOOK, RETURNS, TABLE, Text};
 use sl_memory::memory::Ending;
 use std::alloc::Global;
 use std::process::Abort;

@@ -1,8 +1,8 @@
 //! What is judged, read and written first, and what is left where that fails.
 
-use crate::rows::{FIRST_BOOK, RETURNS};
 use sl_desk::{BookSource, DeskError, Input, Status, check_book, count};
 use sl_memory::calls::{Pace, coded, counted, staged};
+use sl_memory::inputs::{FIRST_BOOK, RETURNS};
 use sl_memory::memory::{Ending, Narrow, Slow};
 use std::alloc::Global;
 use std::process::Abort;

@@ -2,7 +2,6 @@
 
 use sl_lex::LexFault;
 use sl_parse::ParseFault;
-use sl_returns::{FaultKind, ReturnsFault};
 use std::test::*;
 
 #[test]
@@ -12,11 +11,5 @@ fn texts_of_faults(rt: HostRuntime) -> Result<(), Fail> {
     assert_eq!(rt; lexed.as_str(), "the word at 4 has over 12 bytes");
     let parsed = format!(in alloc; "{}", ParseFault::TooManyStages(652))?;
     assert_eq!(rt; parsed.as_str(), "the stage at 652 is one too many");
-    let returns = ReturnsFault {
-        row: 7,
-        kind: FaultKind::Range,
-    };
-    let returns = format!(in alloc; "{returns}")?;
-    assert_eq!(rt; returns.as_str(), "record 7: a number is out of its range");
     Ok(())
 }

@@ -1,0 +1,7 @@
+//! Worked cases of quotients and priority tables, as tests.
+#![tactic(auto)]
+
+#[cfg(test)]
+mod quotients;
+#[cfg(test)]
+mod tables;
