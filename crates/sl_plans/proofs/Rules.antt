@@ -20,7 +20,7 @@ use Rattle.sl_plans.specs.declared.plan.Cursor.{Cursor}
 use Rattle.sl_plans.specs.declared.plan.Bound.{Bound}
 use Rattle.sl_plans.specs.Trees.{Tree, Line, Stop, Then, If, Each, Times, jump_of, ones}
 use Rattle.sl_plans.specs.Meaning.{Course, Onward, Final, Unsaid, then_do, passes, stops, branches, count_of, cursor_of, set_cursor, held, turn_at, for_each, turns_in, at_zero, turns, counted, does}
-use Rattle.sl_plans.specs.Achieves.{Meets, Achieves}
+use Rattle.sl_plans.specs.Achieves.{Meets, Achieves, Never}
 
 -- ---- courses
 
@@ -41,6 +41,14 @@ meets_is o p Q E is h = subst (λ (x : Course). Meets x Q E) (sym is) h
 pub achieves_more : {c : CountingCode} {e : Election} {tree : Tree} {s : State} {Q R : State → Type 0} {E F : End → Type 0}
     → Achieves c e tree s Q E → ((t : State) → Q t → R t) → ((x : End) → E x → F x) → Achieves c e tree s R F
 achieves_more {c = c} {e = e} {tree = tree} {s = s} {Q = Q} {R = R} {E = E} {F = F} h on over = record { meets = meets_more (does c e tree s) Q R E F h.meets on over }
+
+-- where the run ends, it ends as before
+pub achieves_so : {c : CountingCode} {e : Election} {tree : Tree} {s : State} {Q R : State → Type 0} {E : End → Type 0} → Achieves c e tree s Q E → ((t : State) → Q t → R t) → Achieves c e tree s R E
+achieves_so h on = achieves_more h on (λ x end. end)
+
+-- a plan that never ends the run ends it in no wrong way
+pub achieves_never : {c : CountingCode} {e : Election} {tree : Tree} {s : State} {Q : State → Type 0} {E : End → Type 0} → Achieves c e tree s Q Never → Achieves c e tree s Q E
+achieves_never h = achieves_more h (λ t q. q) (λ x never. absurd never)
 
 -- the same in a state under another name
 pub achieves_from : {c : CountingCode} {e : Election} {tree : Tree} {s t : State} {Q : State → Type 0} {E : End → Type 0} → s ≡ t → Achieves c e tree t Q E → Achieves c e tree s Q E

@@ -11,7 +11,7 @@ use Rattle.sl_plans.specs.declared.plan.Bound.{Bound}
 use Rattle.sl_plans.specs.Trees.{Tree}
 use Rattle.sl_plans.specs.Meaning.{turns_in}
 use Rattle.sl_plans.specs.Achieves.{Achieves, Never}
-use Rattle.sl_plans.proofs.Rules.{achieves_more, then_achieves, goes_as}
+use Rattle.sl_plans.proofs.Rules.{then_achieves, goes_as, achieves_never}
 use Rattle.sl_pieces.specs.arenas.Arenas.{Arena, HasWaiting}
 use Rattle.sl_pieces.specs.declared.registers.TheConstants as reg
 use Rattle.sl_pieces.specs.awards.Trees.{awards, whole_batch, counted_seat, last_batch}
@@ -62,7 +62,7 @@ module _ (c : CountingCode) (e : Election) (a : Arena) (most seats n : ℕ) (mea
       (gives_counted c e a most seats on Held fits can.arena gives) (begins_whole c e a most seats on Held fits can.arena can.room can.few can.countable)
       (fits_whole c e a most seats on Held fits) begin waits counts counts.left (omega (arith, all, within)) in
       goes_as {t = set_out state}
-      (then_achieves {Q = AfterBatches a seats (IsWhole a seats) (IsLast a seats) (Counts a seats Held)} (achieves_more walked (λ after h. h) (λ x never. absurd never))
+      (then_achieves {Q = AfterBatches a seats (IsWhole a seats) (IsLast a seats) (Counts a seats Held)} (achieves_never walked)
       (λ after h. end_awarded h.t after h.waiting h.held h.end))
       refl
 

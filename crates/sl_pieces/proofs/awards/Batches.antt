@@ -13,7 +13,7 @@ use Rattle.sl_plans.specs.Trees.{Tree, Line, If, Times, ones}
 use Rattle.sl_plans.specs.Meaning.{turns_in}
 use Rattle.sl_plans.specs.Achieves.{Achieves, Never}
 use Rattle.sl_plans.specs.Frames.{may_write_register}
-use Rattle.sl_plans.proofs.Rules.{line_ends, then_achieves, achieves_more, if_zero, goes_as, then_at}
+use Rattle.sl_plans.proofs.Rules.{line_ends, then_achieves, if_zero, goes_as, then_at, achieves_so}
 use Rattle.sl_plans.proofs.KeepingRules.{times_keeping}
 use Rattle.sl_pieces.specs.arenas.Arenas.{Arena, IsArena, HasWaiting}
 use Rattle.sl_pieces.specs.declared.registers.TheConstants as reg
@@ -89,9 +89,8 @@ module _ (c : CountingCode) (e : Election) (a : Arena) (most seats r : ℕ) (beg
       if_zero (λ none. absurd (omega (arith, some, none)))
       (λ n is.
       let rest : length given + suc n ≡ length peers = omega (arith, left, is) in
-      achieves_more (gives_seat c e a Held r begin on fits most Begun arena gives seats n s peers given t state within (omega (arith, many)) mid rest begun waits held is)
-      (λ v h. seat_over w n (state.registers reg.STEP) s peers given t v many rest begun h)
-      (λ x h. h))
+      achieves_so (gives_seat c e a Held r begin on fits most Begun arena gives seats n s peers given t state within (omega (arith, many)) mid rest begun waits held is)
+      (λ v h. seat_over w n (state.registers reg.STEP) s peers given t v many rest begun h))
 
   idle_turn : (w : ℕ) (t : List ℕ) (state : State) → IsSettled a.ladders t → Stopped t → HasWaiting a t state → Held t state → state.registers reg.IN_BATCH ≡ 0
       → Achieves c e (If (test.Zero reg.IN_BATCH) (Line []) (one_seat on)) state (Before w) Never

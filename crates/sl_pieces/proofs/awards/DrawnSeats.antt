@@ -22,8 +22,8 @@ use Rattle.sl_plans.specs.Trees.{Tree, Line, Then, If, ones}
 use Rattle.sl_plans.specs.Meaning.{turns_in}
 use Rattle.sl_plans.specs.Achieves.{Achieves, Never}
 use Rattle.sl_plans.specs.Frames.{KeepsRest}
-use Rattle.sl_plans.proofs.Rules.{achieves_more, line_ends, if_empty, line_first, line_over}
-use Rattle.sl_plans.proofs.KeepingRules.{achieves_kept, times_keeping}
+use Rattle.sl_plans.proofs.Rules.{line_ends, if_empty, line_first, line_over}
+use Rattle.sl_plans.proofs.KeepingRules.{times_keeping, achieves_keeping}
 use Rattle.sl_pieces.specs.arenas.Arenas.{Arena, HasWaiting, seat_of, waiting, seat_taken}
 use Rattle.sl_pieces.specs.arenas.Laws.{SeatTaken, DrawnTurn, Turn}
 use Rattle.sl_pieces.specs.arenas.Effects.{IsWaiting, TableEffects}
@@ -131,9 +131,9 @@ module _ (c : CountingCode) (e : Election) (a : Arena) (most seats n : ℕ) (mea
           let first : Entry = seat_of a seat.turn.entry (slice_index t seat.turn.entry) in
           let one : IsWaiting a t seat.entry seat.gets.taken.others = record { has = seat.gets.has; seats = seat.gets.taken.before } in
           line_first (effects.takes_drawn n can.name first seat.entry seat.gets.taken.others one can.named seat.turn.first seat.drawn_turn.draws)
-          (line_over (achieves_more
-          (achieves_kept (gives.gives s tied (drawn meant drawing.k tied) t seat.u seat.entry before_seat seat.gets few_then drawing.counted drawing.waits (held_counted t w number state drawing.held)))
-          (λ after h. next_drawn after h.0.0 h.0.1 h.1) (λ x h. h)))
+          (line_over (achieves_keeping
+          (gives.gives s tied (drawn meant drawing.k tied) t seat.u seat.entry before_seat seat.gets few_then drawing.counted drawing.waits (held_counted t w number state drawing.held))
+          (λ after h kept. next_drawn after h.0 h.1 kept)))
 
     draw_turn : (w : ℕ) (state : State) → IsDrawing a seats meant Held s tied (suc w) state
         → Achieves c e (If (test.Empty reg.PEERS) (Line []) (Then (Line (Takelot n ∷ [])) on)) (with_register reg.LEFT w (with_register ones 1 state))

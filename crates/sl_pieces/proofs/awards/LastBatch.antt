@@ -19,7 +19,7 @@ use Rattle.sl_plans.specs.declared.plan.Bound.{Bound}
 use Rattle.sl_plans.specs.Trees.{Tree, Line, Then, If}
 use Rattle.sl_plans.specs.Meaning.{turns_in}
 use Rattle.sl_plans.specs.Achieves.{Achieves}
-use Rattle.sl_plans.proofs.Rules.{achieves_more, line_ends, then_achieves, if_zero, if_empty, if_not_covered, then_at}
+use Rattle.sl_plans.proofs.Rules.{achieves_more, line_ends, then_achieves, if_zero, if_empty, if_not_covered, then_at, achieves_so}
 use Rattle.sl_pieces.specs.arenas.Arenas.{Arena, HasWaiting, waiting}
 use Rattle.sl_pieces.specs.arenas.Laws.{Turn}
 use Rattle.sl_pieces.proofs.arenas.Lots.{waiting_covered}
@@ -109,7 +109,7 @@ module _ (c : CountingCode) (e : Election) (a : Arena) (most seats n : ℕ) (mea
         if_not_covered waits first_turn.first can.named
         (λ open_lot.
         let choice : IsChoice (IsTop a.ladders seats) meant (Tied (seats - sum s) tied) = tied_choice (λ names. true≢false (sym (covered.1 names) ∙ open_lot)) in
-        achieves_more (ends.ends s tied counted settled listed waits now.held (omega (arith, now.left)) choice) (λ v never. absurd never) (λ x h. h))
+        achieves_so (ends.ends s tied counted settled listed waits now.held (omega (arith, now.left)) choice) (λ v never. absurd never))
         (λ all. line_ends (waits, now, covered.0 all)))
 
   pub last_awarded : (bound : Bound) (state : State) → seats - sum a.ladders.base ≤ turns_in e bound → HasWaiting a s state → Counts a seats Held s state

@@ -21,8 +21,8 @@ use Rattle.sl_machine.specs.Effects.{Goes, effect}
 use Rattle.sl_plans.specs.Trees.{Tree, Line, Then, ones, count_down}
 use Rattle.sl_plans.specs.Achieves.{Achieves, Never}
 use Rattle.sl_plans.specs.Frames.{KeepsRest}
-use Rattle.sl_plans.proofs.Rules.{then_achieves, achieves_more, if_empty, ends_in, line_first, line_over}
-use Rattle.sl_plans.proofs.KeepingRules.{achieves_kept}
+use Rattle.sl_plans.proofs.Rules.{then_achieves, if_empty, ends_in, line_first, line_over, achieves_so}
+use Rattle.sl_plans.proofs.KeepingRules.{achieves_keeping}
 use Rattle.sl_pieces.specs.arenas.Arenas.{Arena, IsArena, HasWaiting, seat_of, table_of, waiting, seat_taken}
 use Rattle.sl_pieces.specs.arenas.Laws.{SeatTaken, Turn}
 use Rattle.sl_pieces.specs.arenas.Effects.{IsWaiting}
@@ -113,8 +113,8 @@ module _ (c : CountingCode) (e : Election) (a : Arena) (Held : List ℕ → Stat
         let takes : effect c e Take state ≡ Goes taken = (waiting_effects c e most a t state arena few waits).takes entry others is_waiting first in
         line_first takes
         (line_over (then_achieves {Q = AfterSeat a Held u (suc n) number}
-        (achieves_more (achieves_kept (gives.gives s peers given t u entry state gets few_after begun waits held))
-        (λ v h. keeps_batch u (suc n) number taken v (ap (λ f. f reg.IN_BATCH) same ∙ left) (ap (λ f. f reg.STEP) same) h.0.0 h.0.1 h.1) (λ x h. h))
+        (achieves_keeping (gives.gives s peers given t u entry state gets few_after begun waits held)
+        (λ v h kept. keeps_batch u (suc n) number taken v (ap (λ f. f reg.IN_BATCH) same ∙ left) (ap (λ f. f reg.STEP) same) h.0 h.1 kept))
         (λ v h. counts_seat u n number v h)))
 
     -- the plan of a seat, within a batch of which seats are left
@@ -149,6 +149,5 @@ module _ (c : CountingCode) (e : Election) (a : Arena) (Held : List ℕ → Stat
         (λ none. let some = turn.some in absurd (omega (arith, some, none)))
         (λ m is.
         let counted : State = with_register reg.PEERS (suc m) state in
-        achieves_more (takes_seat s peers given t u entry n counted gets few few_after turn.first begun waits (fits.blind_peers.blind t (suc m) state held) left)
-        (λ v h. record { u = u; entry = entry; mid = goes.0; total = total; after = h })
-        (λ x h. h))
+        achieves_so (takes_seat s peers given t u entry n counted gets few few_after turn.first begun waits (fits.blind_peers.blind t (suc m) state held) left)
+        (λ v h. record { u = u; entry = entry; mid = goes.0; total = total; after = h }))

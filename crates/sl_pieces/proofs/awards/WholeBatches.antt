@@ -13,8 +13,8 @@ use Rattle.sl_machine.specs.Effects as machine
 use Rattle.sl_plans.specs.Trees.{Tree, ones}
 use Rattle.sl_plans.specs.Achieves.{Achieves, Never}
 use Rattle.sl_plans.specs.Frames.{KeepsRest}
-use Rattle.sl_plans.proofs.Rules.{achieves_more, line_ends, line_goes, if_empty, if_less, ends_in, then_at}
-use Rattle.sl_plans.proofs.KeepingRules.{achieves_kept}
+use Rattle.sl_plans.proofs.Rules.{line_ends, line_goes, if_empty, if_less, ends_in, then_at}
+use Rattle.sl_plans.proofs.KeepingRules.{achieves_keeping}
 use Rattle.sl_pieces.specs.arenas.Arenas.{Arena, IsArena, HasWaiting, waiting, seat_taken}
 use Rattle.sl_pieces.proofs.arenas.Peers.{waiting_peers}
 use Rattle.sl_pieces.specs.declared.registers.TheConstants as reg
@@ -87,8 +87,8 @@ module _ (c : CountingCode) (e : Election) (a : Arena) (most seats : ℕ) (on : 
     unfolding at_seat
     seat_counted few begun waits counts =
         then_at {w = at_seat} (ends_in refl taken_first)
-        (achieves_more (achieves_kept (gives.gives s tied given t u entry (lessened state) gets few begun.counted waits (held_less t state counts.held)))
-        (λ after h. (h.0.0, count_seat after begun counts h.0.1 h.1)) (λ x h. h))
+        (achieves_keeping (gives.gives s tied given t u entry (lessened state) gets few begun.counted waits (held_less t state counts.held))
+        (λ after h kept. (h.0, count_seat after begun counts h.1 kept)))
 
   pub gives_counted : IsArena most a → GivesSeats c e a most (IsCounted a seats) Held on → GivesSeats c e a most (IsWhole a seats) (Counts a seats Held) (counted_seat on)
   gives_counted arena gives = record {

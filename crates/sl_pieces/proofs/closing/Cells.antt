@@ -17,7 +17,7 @@ use Rattle.sl_machine.specs.Places.{cells_of}
 use Rattle.sl_machine.specs.Memories.{column_of}
 use Rattle.sl_machine.proofs.effects.Storing.{width_of, column_at}
 use Rattle.sl_plans.specs.Achieves.{Achieves, Never}
-use Rattle.sl_plans.proofs.Rules.{achieves_more}
+use Rattle.sl_plans.proofs.Rules.{achieves_so}
 use Rattle.sl_pieces.specs.columns.Columns.{HoldsColumn, ChangesColumn}
 use Rattle.sl_pieces.specs.columns.Trees.{pair_tree}
 use Rattle.sl_pieces.proofs.columns.Writing.{pairs_are_taken}
@@ -69,9 +69,9 @@ module _ (c : CountingCode) (e : Election) (left right to : ℕ) (s : State) (kn
 
   pub pair_made : (pairing : Pairing) → Achieves c e (pair_tree pairing shape.List left right to) s (IsMade e (paired pairing) left right to s) Never
   pair_made pairing =
-      achieves_more
+      achieves_so
       (pairs_are_taken c e pairing shape.List left right to lefts rights s known_left known_right known_to apart (holds_itself e shape.List (s.columns left)) (holds_itself e shape.List (s.columns right)))
-      (λ t h. made (paired pairing) t h.holds h.changes) (λ x h. h)
+      (λ t h. made (paired pairing) t h.holds h.changes)
 
 -- ---- what is held in the end
 

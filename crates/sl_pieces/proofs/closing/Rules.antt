@@ -5,13 +5,13 @@ use Rattle.sl_code.specs.Codes.{CountingCode}
 use Rattle.sl_machine.specs.State.{State, End}
 use Rattle.sl_plans.specs.Trees.{Tree}
 use Rattle.sl_plans.specs.Achieves.{Achieves, Never}
-use Rattle.sl_plans.proofs.Rules.{achieves_more}
+use Rattle.sl_plans.proofs.Rules.{achieves_more, achieves_so}
 use Rattle.sl_pieces.proofs.exprs.Following.{AllAchieve}
 
 -- the first plan, and then the others
 pub all_first : {c : CountingCode} {e : Election} {t : Tree} {ts : List Tree} {s : State} {Q R : State → Type 0} {E : End → Type 0}
     → Achieves c e t s Q E → ((u : State) → Q u → AllAchieve c e ts u R E) → AllAchieve c e (t ∷ ts) s R E
-all_first h rest = record { all = achieves_more h (λ u k. (rest u k).all) (λ x k. k) }
+all_first h rest = record { all = achieves_so h (λ u k. (rest u k).all) }
 
 -- a plan that never ends the run, with what follows from where it goes on
 pub goes_on : {c : CountingCode} {e : Election} {t : Tree} {s : State} {Q R : State → Type 0} {E : End → Type 0}

@@ -1,8 +1,7 @@
 -- What stands behind the plans that seat winners: the seats of the lists, and who sits on them.
-use Rattle.std.proofs.Common.{◌≡◌, ℕ, ◌+◌, ◌-◌, ◌*◌, ◌<◌, ◌≤◌, List, length, map, get_or, Some, slice_get, sym, inl, inr, arith}
+use Rattle.std.proofs.Common.{◌≡◌, ℕ, ◌+◌, ◌-◌, ◌*◌, ◌<◌, ◌≤◌, List, length, map, get_or, Some, slice_get, sym}
 use Rattle.std.specs.List.{range_with_len}
 use Rattle.std.proofs.lemmas.List.FromFn.{fill_by_all}
-use Rattle.std.proofs.lemmas.Option.{slice_get_cases}
 use Rattle.sl_stages.specs.declared.book.Shape.TheVariants as shape
 use Rattle.sl_stages.specs.declared.returns.Win.{Win}
 use Rattle.sl_stages.specs.declared.table.Outcome.TheVariants as outcome
@@ -19,6 +18,7 @@ use Rattle.sl_machine.specs.Effects.{most}
 use Rattle.sl_pieces.specs.columns.Columns.{HoldsColumn}
 use Rattle.sl_pieces.specs.exprs.Slots.{winners_slot, FIRST_STAGE_SLOT}
 use Rattle.sl_pieces.specs.closing.Trees.{final_seats}
+use Rattle.sl_plans.proofs.KeepingRules.{element_there}
 
 -- the table that the book means has so many seats on each list and these places; the seats and the places are in the state
 pub record HasSeated (b : BookTree) (e : Election) (k : Known) (before after : State) : Type 0 where
@@ -39,8 +39,4 @@ pub record HasSeated (b : BookTree) (e : Election) (k : Known) (before after : S
 pub places_are : (e : Election) (s : State) (places : List Placed) → length places ≡ wins_of e →
     ((n : ℕ) (w : Win) → slice_get e.wins n ≡ Some w → n < wins_of e → get_or places n placed.Unseated ≡ s.placed n) → map s.placed (range_with_len 0 (wins_of e)) ≡ places
 places_are e s places long each =
-    sym (fill_by_all s.placed places (wins_of e) placed.Unseated long (λ n less.
-    elim (slice_get_cases e.wins n).1 [
-      | inl found ↦ each n found.0 found.2 less
-      | inr past ↦ absurd (let far = past.0 in omega (arith, less, far))
-    ]))
+    sym (fill_by_all s.placed places (wins_of e) placed.Unseated long (λ n less. let there = element_there e.wins n less in each n there.0 there.1 less))

@@ -15,8 +15,7 @@ use Rattle.sl_plans.specs.Trees.{Tree, Each}
 use Rattle.sl_plans.specs.Meaning.{set_cursor}
 use Rattle.sl_plans.specs.Achieves.{Achieves}
 use Rattle.sl_plans.specs.Frames.{may_move}
-use Rattle.sl_plans.proofs.Rules.{achieves_more}
-use Rattle.sl_plans.proofs.KeepingRules.{achieves_kept, each_keeping}
+use Rattle.sl_plans.proofs.KeepingRules.{each_keeping, achieves_keeping}
 use Rattle.sl_pieces.specs.columns.Columns.{HoldsColumn}
 use Rattle.sl_pieces.specs.columns.Trees.{cells_plan}
 
@@ -55,8 +54,8 @@ module _ (c : CountingCode) (e : Election) (body : Tree) (Inv : ℕ → State �
       let q : ℕ = l * parties_of e + p in
       let next : q + 1 ≡ l * parties_of e + (p + 1) = omega arith in
       let at : cell_at e shape.List u ≡ Some q = both_are u.land u.party (λ land party. land * parties_of e + party) l p h.1 refl in
-      achieves_more (achieves_kept (turn q u (list_below l p (lands_of e) (parties_of e) hl hp) at (party.moved q (Some p) t h.0)))
-      (λ v k. (subst (λ (n : ℕ). Inv n v) next k.0, k.1.land land.still ∙ h.1)) (λ x k. k)
+      achieves_keeping (turn q u (list_below l p (lands_of e) (parties_of e) hl hp) at (party.moved q (Some p) t h.0))
+      (λ v k kept. (subst (λ (n : ℕ). Inv n v) next k, kept.land land.still ∙ h.1))
 
   one_land : (l : ℕ) (t : State) → l < lands_of e → Inv (l * parties_of e) t → Achieves c e (Each cursor.Party body) (with_land (Some l) t) (Inv ((l + 1) * parties_of e)) E
   one_land l t hl h =

@@ -25,8 +25,8 @@ use Rattle.sl_plans.specs.Trees.{Tree, Line, Each}
 use Rattle.sl_plans.specs.Meaning.{count_of, set_cursor}
 use Rattle.sl_plans.specs.Achieves.{Achieves, Never}
 use Rattle.sl_plans.specs.Frames.{may_move, KeepsRest}
-use Rattle.sl_plans.proofs.Rules.{achieves_more, line_ends, line_goes, then_achieves, ends_in}
-use Rattle.sl_plans.proofs.KeepingRules.{achieves_kept, each_keeping}
+use Rattle.sl_plans.proofs.Rules.{line_ends, line_goes, then_achieves, ends_in, achieves_so}
+use Rattle.sl_plans.proofs.KeepingRules.{each_keeping, achieves_keeping}
 use Rattle.sl_pieces.specs.columns.Trees.{total, cell, cells_plan, add_cells, sum_tree}
 use Rattle.sl_pieces.specs.columns.Columns.{HoldsColumn, GetsColumn}
 use Rattle.sl_pieces.specs.columns.Laws.{SumsAreTaken}
@@ -76,7 +76,7 @@ module _ (c : CountingCode) (e : Election) (s : Shape) (from to : ℕ) (result :
       let v : State = set_cursor over (Some i) u in
       let h : Summed i v = suits.moved i (Some i) u inv.0 in
       let at : On v × (cell_at e s v ≡ Some (place i)) = turn i u inv.1 in
-      achieves_more (achieves_kept (one_added i (place i) v (omega (arith, long, less)) at.1 (read i v less h.written) h)) (λ w k. (k.0, kept v w k.1 at.0)) (λ x k. k))
+      achieves_keeping (one_added i (place i) v (omega (arith, long, less)) at.1 (read i v less h.written) h) (λ w k rest. (k, kept v w rest at.0)))
       (λ u inv. (subst (λ (n : ℕ). Summed n (set_cursor over None u)) (sym long) (suits.moved (count_of e over) None u inv.0), end u inv.1))
 
   -- the sum is made and stored
@@ -175,12 +175,12 @@ module _ (c : CountingCode) (e : Election) (from to : ℕ) (xs : List ℕ) (stat
       let here : q ≡ 0 = omega (arith, hq) in
       subst (λ (n : ℕ). Achieves c e (add_cells (cells_plan s) from to) t (Written to result state (n + 1)) Never) (sym here)
       (one_sum c e s from to result state 0 xs known_from fits (cells_plan s) shape.One t known_to refl
-      (λ u on first. achieves_more
+      (λ u on first. achieves_so
       (each_cell c e s line Inv Never u (suits_shape s line Inv (suits cursor.Party refl) (suits cursor.Land refl))
       (λ i v less spot inv. one_added c e s from to result state 0 xs known_from fits i i v (omega (arith, holds.long, less)) spot
       (as_before to result state from 0 i v (omega arith) inv.written ∙ holds.at i less) inv)
       first)
-      (λ v inv. (subst (λ (n : ℕ). Inv n v) (sym holds.long) inv, refl)) (λ x k. k))
+      (λ v inv. (subst (λ (n : ℕ). Inv n v) (sym holds.long) inv, refl)))
       refl (subst (λ (n : ℕ). Written to result state n t) here h)))
 
 pub sums_are_taken : SumsAreTaken

@@ -21,7 +21,7 @@ use Rattle.sl_plans.specs.declared.plan.Cursor.TheVariants as cursor
 use Rattle.sl_plans.specs.Trees.{Tree, Line}
 use Rattle.sl_plans.specs.Achieves.{Achieves, Never}
 use Rattle.sl_plans.specs.Frames.{may_move}
-use Rattle.sl_plans.proofs.Rules.{achieves_more, line_ends, line_goes}
+use Rattle.sl_plans.proofs.Rules.{line_ends, line_goes, achieves_so}
 use Rattle.sl_pieces.specs.columns.Trees.{cell, other, cells_plan, pair_instr}
 use Rattle.sl_pieces.specs.columns.Columns.{HoldsColumn, ChangesColumn, GetsColumn}
 use Rattle.sl_pieces.specs.columns.Laws.{ColumnsAreCopied, PairsAreTaken}
@@ -86,8 +86,8 @@ pub column_written : (c : CountingCode) (e : Election) (s : Shape) (slot : ℕ) 
     → ((q : ℕ) (t : State) → q < cells_of e s → cell_at e s t ≡ Some q → Written slot (slice_index values) before q t → Achieves c e body t (Written slot (slice_index values) before (q + 1)) Never)
     → Achieves c e (cells_plan s body) before (GetsColumn e s slot values before) Never
 column_written c e s slot values body before long suits turn =
-    achieves_more (each_cell c e s body (Written slot (slice_index values) before) Never before suits turn (none_written slot (slice_index values) before))
-    (λ t h. record { holds = record { long = long; at = h.done }; changes = h.changes }) (λ x k. k)
+    achieves_so (each_cell c e s body (Written slot (slice_index values) before) Never before suits turn (none_written slot (slice_index values) before))
+    (λ t h. record { holds = record { long = long; at = h.done }; changes = h.changes })
 
 -- the same of a line that moves no cursor
 line_written : (c : CountingCode) (e : Election) (s : Shape) (slot : ℕ) (values : List ℕ) (is : List Instr) (before : State)

@@ -1,7 +1,7 @@
 -- The winners of each list are counted.
 use Rattle.std.proofs.Common.{◌≡◌, ◌≢◌, ℕ, ◌+◌, ◌*◌, ◌<◌, ◌≤◌, Bool, true, false, cond, min, [], ◌∷◌, ◌++◌, length, Some, slice_get, refl, sym, ap, ◌∙◌, inl, inr, arith}
 use Rattle.std.proofs.lemmas.Bool.{cases_eq}
-use Rattle.std.proofs.lemmas.Option.{slice_get_cases, slice_get_within}
+use Rattle.std.proofs.lemmas.Option.{slice_get_within}
 use Rattle.std.proofs.lemmas.List.{append-nil, length-append}
 use Rattle.sl_stages.specs.declared.book.Shape.TheVariants as shape
 use Rattle.sl_stages.specs.declared.limits.TheConstants.{MAX_WINS}
@@ -16,7 +16,7 @@ use Rattle.sl_machine.proofs.effects.Storing.{cell_same, cell_other_place, cell_
 use Rattle.sl_plans.specs.Trees.{ones}
 use Rattle.sl_plans.specs.Achieves.{Achieves, Never}
 use Rattle.sl_plans.proofs.Rules.{line_ends, line_goes, then_achieves}
-use Rattle.sl_plans.proofs.KeepingRules.{each_keeping}
+use Rattle.sl_plans.proofs.KeepingRules.{wins_keeping}
 use Rattle.sl_pieces.specs.declared.registers.TheConstants as reg
 use Rattle.sl_pieces.specs.covers.Trees.{CoverSlots, if_seatable, count_winner, count_winners}
 use Rattle.sl_pieces.specs.covers.Covering.{HasCoverSlots}
@@ -94,9 +94,5 @@ module _ (c : CountingCode) (e : Election) (x : CoverSlots) (eligible : ℕ → 
         flags = λ party within. ap (λ (f : ℕ → ℕ). f party) (column_other s x.numbers (λ p. 0) x.eligible apart) ∙ flags party within;
       })))
       (λ t first.
-      each_keeping (AreCounted e x eligible) refl first
-      (λ j u less h. elim (slice_get_cases e.wins j).1 [
-        | inl found ↦ counts_next j found.0 found.2 u h
-        | inr past ↦ absurd (let far = past.0 in omega (arith, less, far))
-      ])
+      wins_keeping (AreCounted e x eligible) refl first (λ j w u at h. counts_next j w at u h)
       (λ u h q within. h.counts q within ∙ ap length (front_all eligible e (pair_at e q))))

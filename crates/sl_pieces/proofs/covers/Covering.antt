@@ -20,7 +20,7 @@ use Rattle.sl_machine.specs.State.{State, End, with_register}
 use Rattle.sl_machine.specs.Effects.{one_if}
 use Rattle.sl_plans.specs.Trees.{ones}
 use Rattle.sl_plans.specs.Achieves.{Achieves}
-use Rattle.sl_plans.proofs.Rules.{achieves_more, then_achieves, line_first, line_over}
+use Rattle.sl_plans.proofs.Rules.{achieves_more, then_achieves, line_first, line_over, achieves_never, achieves_so}
 use Rattle.sl_plans.proofs.KeepingRules.{achieves_kept, times_keeping}
 use Rattle.sl_pieces.specs.declared.registers.TheConstants as reg
 use Rattle.sl_pieces.specs.covers.Trees.{CoverSlots, cover_pair, cover_contested, cover_tree}
@@ -194,12 +194,12 @@ module _ (c : CountingCode) (e : Election) (x : CoverSlots) (eligible : ℕ → 
       elim (reached (suc w) t h) [
         | inl last ↦ absurd (let none = last.1 in omega (arith, none, all))
         | inr found ↦
-            achieves_more (covers_next found.0 found.1 t found.4 found.2 (with_register reg.NEEDED w (with_register ones 1 t)) refl refl refl refl refl)
+            achieves_so (covers_next found.0 found.1 t found.4 found.2 (with_register reg.NEEDED w (with_register ones 1 t)) refl refl refl refl refl)
             (λ v g.
             let low = found.1 in
             let same = found.3 in
             let next = before_contested e eligible base found.0 found.2 in
-            record { done = found.0 + 1; within = omega (arith, low); all = omega (arith, all, same, next); covered = g }) (λ end tied. tied)
+            record { done = found.0 + 1; within = omega (arith, low); all = omega (arith, all, same, next); covered = g })
       ]
 
   covers_last : (t : State) → Inv 0 t → AreCovered c e x eligible base before t
@@ -246,15 +246,15 @@ module _ (c : CountingCode) (e : Election) (x : CoverSlots) (eligible : ℕ → 
 
   covered : BeginsCovering e x eligible base before → Achieves c e (cover_tree x) before (AreCovered c e x eligible base before) (EndsInTie c e eligible base)
   covered begins =
-      then_achieves (achieves_more (achieves_kept (singles_placed c e before begins.nobody)) (λ t h. h) (λ y never. absurd never))
+      then_achieves (achieves_never (achieves_kept (singles_placed c e before begins.nobody)))
       (λ t singles.
       let flags : (party : ℕ) → party < parties_of e → t.columns x.eligible party ≡ one_if (eligible party) = (λ party less. singles.1.columns x.eligible refl party ∙ begins.flags party less) in
-      then_achieves (achieves_more (achieves_kept (winners_counted c e x eligible is slots flags_apart t flags)) (λ u h. h) (λ y never. absurd never))
+      then_achieves (achieves_never (achieves_kept (winners_counted c e x eligible is slots flags_apart t flags)))
       (λ u counts.
       let counted : (slot q : ℕ) → slot ≢ x.numbers → u.columns slot q ≡ before.columns slot q =
       (λ slot q other. counts.1.columns slot (counts_alone x slot other) q ∙ singles.1.columns slot refl q) in
       then_achieves
-      (achieves_more (achieves_kept (contested_numbered c e x eligible base is slots u counts.0 (λ q less. counted x.base q slots.apart ∙ begins.seats q less))) (λ v h. h) (λ y never. absurd never))
+      (achieves_never (achieves_kept (contested_numbered c e x eligible base is slots u counts.0 (λ q less. counted x.base q slots.apart ∙ begins.seats q less))))
       (λ v numbers.
       let kept : (slot q : ℕ) → slot ≢ x.numbers → v.columns slot q ≡ before.columns slot q =
       (λ slot q other. numbers.1.columns slot (numbers_alone x slot other) q ∙ counted slot q other) in
@@ -264,8 +264,8 @@ module _ (c : CountingCode) (e : Election) (x : CoverSlots) (eligible : ℕ → 
         flags = λ party less. kept x.eligible party flags_apart ∙ begins.flags party less;
       } in
       then_achieves
-      (achieves_more
-      (achieves_kept (uncontested_seated c e x eligible base is slots v read (λ n w at. numbers.1.placed refl n ∙ counts.1.placed refl n ∙ singles.0 n w at))) (λ s h. h) (λ y never. absurd never))
+      (achieves_never
+      (achieves_kept (uncontested_seated c e x eligible base is slots v read (λ n w at. numbers.1.placed refl n ∙ counts.1.placed refl n ∙ singles.0 n w at))))
       (λ s fits.
       let stay : (slot q : ℕ) → s.columns slot q ≡ v.columns slot q = (λ slot q. fits.1.columns slot refl q) in
       covers_all s (fits.1.registers reg.NEEDED refl ∙ numbers.0.count)

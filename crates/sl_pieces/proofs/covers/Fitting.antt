@@ -1,10 +1,10 @@
 -- Where the lists are not contested, all winners are seated at once.
-use Rattle.std.proofs.Common.{◌≡◌, ◌≢◌, ◌⊎◌, ℕ, zero, suc, ◌+◌, ◌-◌, ◌*◌, ◌<◌, Bool, true, false, List, [], ◌∷◌, ◌++◌, map, nat_eq, Some, slice_get, refl, sym, ap, subst, ◌∙◌, inl, inr, arith, ne_eqb}
+use Rattle.std.proofs.Common.{◌≡◌, ◌≢◌, ◌⊎◌, ℕ, zero, suc, ◌+◌, ◌-◌, ◌*◌, ◌<◌, Bool, true, false, List, [], ◌∷◌, ◌++◌, map, nat_eq, Some, slice_get, refl, sym, ap, subst, ◌∙◌, inl, inr, arith}
 use Rattle.std.specs.Prelude.{slice_index, flat_map, is_none, if◌then◌else◌}
 use Rattle.std.specs.List.{range_with_len, enumerate_from}
 use Rattle.std.proofs.lemmas.Bool.{cases_Bool, cases_eq, eq-eqb, eqb-true, or_cases, or_from, or_left, or_right, false_from_ne_true, false≢true}
 use Rattle.std.proofs.lemmas.List.Folds.{list_any-append}
-use Rattle.std.proofs.lemmas.Option.{same_Some, slice_get_cases, slice_get_within}
+use Rattle.std.proofs.lemmas.Option.{same_Some, slice_get_within}
 use Rattle.sl_stages.specs.declared.book.Shape.TheVariants as shape
 use Rattle.sl_stages.specs.declared.returns.Win.{Win}
 use Rattle.sl_stages.specs.declared.table.Placed.{Placed}
@@ -13,20 +13,20 @@ use Rattle.sl_stages.specs.returns.Election.{Election, IsElection, lands_of, par
 use Rattle.sl_stages.specs.meaning.Seating.{cover_place}
 use Rattle.sl_stages.proofs.meaning.Members.{In, in_map, in_filter, in_range, among, among_piece}
 use Rattle.sl_code.specs.Codes.{CountingCode}
-use Rattle.sl_machine.specs.State.{State, with_register, with_place}
+use Rattle.sl_machine.specs.State.{State, with_register}
 use Rattle.sl_machine.specs.Effects.{with_win}
 use Rattle.sl_machine.proofs.effects.Registers.{get_does}
 use Rattle.sl_machine.proofs.effects.Cursors.{both_are}
 use Rattle.sl_machine.proofs.effects.Records.{seat_does}
 use Rattle.sl_plans.specs.Achieves.{Achieves, Never}
 use Rattle.sl_plans.proofs.Rules.{line_ends, line_goes, if_zero, line_first, line_over}
-use Rattle.sl_plans.proofs.KeepingRules.{each_keeping}
+use Rattle.sl_plans.proofs.KeepingRules.{wins_keeping}
 use Rattle.sl_pieces.specs.declared.registers.TheConstants as reg
 use Rattle.sl_pieces.specs.covers.Trees.{CoverSlots, if_seatable, seat_fitting, seat_uncontested}
 use Rattle.sl_pieces.specs.covers.Covering.{HasCoverSlots}
 use Rattle.sl_pieces.proofs.covers.Pairs.{pair_at, cell_within}
 use Rattle.sl_pieces.proofs.covers.Winners.{IsWinnerOf, of_list, says_winner, each_winner, won}
-use Rattle.sl_pieces.proofs.covers.Singles.{ArePlaced, place_next}
+use Rattle.sl_pieces.proofs.covers.Singles.{ArePlaced, place_next, placed_next}
 use Rattle.sl_pieces.proofs.covers.Seatable.{IsSeatable, OnlyLooked, IsAtList, says_here, says_elsewhere, if_seatable_achieves}
 use Rattle.sl_pieces.proofs.covers.Contested.{is_contested, number_of, number_contested_is, number_other_is, at_once, nobody_contested, nobody_without_seats, everybody_fits}
 use Rattle.sl_pieces.proofs.covers.Entering.{AreRead}
@@ -198,14 +198,12 @@ module _ (c : CountingCode) (e : Election) (x : CoverSlots) (eligible : ℕ → 
           if_zero {r = reg.LEFT}
           (λ no_seats. line_ends (no_place (inr (sym seats ∙ no_seats))))
           (λ m some.
-          let now : State = with_place j placed.OnList looked_up in
           let there : among fitting j ≡ true = is_fitting eligible e base j w at q m within (says_here eligible e j w p seatable) (uncontested none) (sym seats ∙ some) in
           let lone : Placed = if is_none w.party then placed.Single else placed.Unseated in
           line_goes (seat_does c e looked_up j here.win w at p seatable.party seatable.listed)
           (line_ends (record {
-            places = place_next e (cover_place fitting) (cover_place []) j w t now at h.places
-                (ap (λ (b : Bool). if b then placed.OnList else u.placed j) (eq-eqb j j refl) ∙ ap (λ (b : Bool). if b then placed.OnList else lone) (sym there))
-                (λ n other. ap (λ (b : Bool). if b then placed.OnList else u.placed n) (ne_eqb n j other) ∙ ap (λ f. f n) here.looked.placed);
+            places = placed_next e (cover_place fitting) (cover_place []) j w placed.OnList t looked_up at h.places here.looked.placed
+                (ap (λ (b : Bool). if b then placed.OnList else lone) (sym there));
             read = subst (AreRead e x eligible base) (sym here.looked.columns) h.read;
           }))))
           (λ k some. line_ends (no_place (inl (contested k some)))))))
@@ -217,11 +215,7 @@ module _ (c : CountingCode) (e : Election) (x : CoverSlots) (eligible : ℕ → 
   pub uncontested_seated : (s : State) → AreRead e x eligible base s.columns → ((n : ℕ) (w : Win) → slice_get e.wins n ≡ Some w → s.placed n ≡ cover_place [] (n, w)) →
       Achieves c e (seat_uncontested x) s (λ t. (n : ℕ) (w : Win) → slice_get e.wins n ≡ Some w → t.placed n ≡ cover_place fitting (n, w)) Never
   uncontested_seated s read singles =
-      each_keeping AreFitted refl
+      wins_keeping AreFitted refl
       (record { places = record { first = λ n w at less. absurd (omega (arith, less)); rest = λ n w at high. singles n w at }; read = read })
-      (λ j t below h.
-      elim (slice_get_cases e.wins j).1 [
-        | inl found ↦ fits_next j found.0 found.2 t h
-        | inr past ↦ absurd (let far = past.0 in omega (arith, below, far))
-      ])
+      (λ j w t at h. fits_next j w at t h)
       (λ t h n w at. h.places.first n w at (slice_get_within e.wins n w at))

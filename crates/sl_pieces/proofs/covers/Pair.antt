@@ -18,8 +18,8 @@ use Rattle.sl_plans.specs.declared.plan.Bound.TheVariants as bound
 use Rattle.sl_plans.specs.declared.plan.Cursor.TheVariants as cursor
 use Rattle.sl_plans.specs.Trees.{Line, Then, Each, ones}
 use Rattle.sl_plans.specs.Achieves.{Achieves}
-use Rattle.sl_plans.proofs.Rules.{achieves_more, then_achieves, goes_as}
-use Rattle.sl_plans.proofs.KeepingRules.{achieves_kept}
+use Rattle.sl_plans.proofs.Rules.{then_achieves, goes_as, achieves_so, achieves_never}
+use Rattle.sl_plans.proofs.KeepingRules.{achieves_kept, achieves_keeping}
 use Rattle.sl_pieces.specs.arenas.Arenas.{HasWaiting}
 use Rattle.sl_pieces.specs.declared.registers.TheConstants as reg
 use Rattle.sl_pieces.specs.awards.Trees.{awards}
@@ -62,13 +62,12 @@ module _ (c : CountingCode) (e : Election) (x : CoverSlots) (eligible : ℕ → 
       ap (λ ks. earlier ++ ks) (none_chosen (won eligible e l) a.ladders.base (nothing_held (won eligible e l))) ∙ append-nil earlier in
       let first : AreSeated eligible e l earlier a.ladders.base t = record { placed = λ n w at. before n w at ∙ (λ z. cover_place (sym nobody z) (n, w)) } in
       let none = no_seats_yet eligible e base l is in
-      achieves_more
+      achieves_so
       (awards_achieve c e a (seats + 1) seats LAST_CLAUSE (meant eligible e l) bound.Wins tied_winners (Line (Seat ∷ []))
       (AreSeated eligible e l earlier) (EndsInListTie c eligible e base l) t
       (can_award eligible e base l is c few) (seats_are_given eligible e base l is earlier c) (ties_end eligible e base l is c earlier) (seats_fit eligible e base l is earlier) waits first
       (omega (arith, left, none)) (omega (arith, left, few)))
       (λ u h. record { s = h.s; choice = ((tops eligible e base l is).choice seats (meant eligible e l) (Decided h.s)).0 h.choice; placed = h.held.placed })
-      (λ y h. h)
 
   -- from the table with all winners on
   entered_awarded : (t : State) → AreEntered e x eligible base l (wins_of e) (won eligible e l) t →
@@ -99,8 +98,7 @@ module _ (c : CountingCode) (e : Election) (x : CoverSlots) (eligible : ℕ → 
       let after : Achieves c e (Then (Each cursor.Win (see_winner x)) (Then seats_to_give (awards LAST_CLAUSE bound.Wins tied_winners (Line (Seat ∷ []))))) begun
       (IsListSeated eligible e base l earlier) (EndsInListTie c eligible e base l) =
       then_achieves
-      (achieves_more
-      (achieves_kept (winners_enter c e x eligible base l is slots in_land in_party contested begun read (counted ∙ sym (number_contested_is e eligible base place contested)) refl refl))
-      (λ u h. h) (λ y never. absurd never))
+      (achieves_never
+      (achieves_kept (winners_enter c e x eligible base l is slots in_land in_party contested begun read (counted ∙ sym (number_contested_is e eligible base place contested)) refl refl)))
       (λ u h. entered_awarded u h.0 (λ n w at. h.1.placed refl n ∙ placed n w at)) in
-      goes_as (achieves_more (achieves_kept after) (λ u h. (h.0, h.1.registers reg.AMOUNT refl ∙ counted)) (λ y h. h)) refl
+      goes_as (achieves_keeping after (λ u h kept. (h, kept.registers reg.AMOUNT refl ∙ counted))) refl

@@ -1,8 +1,8 @@
 -- All winners are seen: those of the list of the amount's number enter the table.
-use Rattle.std.proofs.Common.{◌≡◌, ℕ, suc, ◌+◌, ◌-◌, ◌*◌, ◌<◌, Bool, false, true, min, List, [], Some, slice_get, refl, sym, ap, subst, ◌∙◌, inl, inr, arith}
+use Rattle.std.proofs.Common.{◌≡◌, ℕ, suc, ◌+◌, ◌-◌, ◌*◌, ◌<◌, Bool, false, true, min, List, [], Some, slice_get, refl, sym, ap, subst, ◌∙◌, arith}
 use Rattle.std.proofs.lemmas.Bool.{false_from_ne_true}
 use Rattle.std.proofs.lemmas.Nat.{same_from_place}
-use Rattle.std.proofs.lemmas.Option.{same_Some, slice_get_cases}
+use Rattle.std.proofs.lemmas.Option.{same_Some}
 use Rattle.sl_stages.specs.declared.book.Shape.TheVariants as shape
 use Rattle.sl_stages.specs.declared.returns.Win.{Win}
 use Rattle.sl_stages.specs.returns.Election.{Election, IsElection, lands_of, parties_of, wins_of}
@@ -15,7 +15,7 @@ use Rattle.sl_plans.specs.declared.plan.Cursor.TheVariants as cursor
 use Rattle.sl_plans.specs.Trees.{Each}
 use Rattle.sl_plans.specs.Achieves.{Achieves, Never}
 use Rattle.sl_plans.proofs.Rules.{line_ends, if_zero, goes_as, line_first}
-use Rattle.sl_plans.proofs.KeepingRules.{each_keeping}
+use Rattle.sl_plans.proofs.KeepingRules.{wins_keeping}
 use Rattle.sl_pieces.specs.declared.registers.TheConstants as reg
 use Rattle.sl_pieces.specs.covers.Trees.{CoverSlots, see_winner, of_pair, enter_winner}
 use Rattle.sl_pieces.specs.covers.Covering.{HasCoverSlots}
@@ -101,12 +101,9 @@ module _ (c : CountingCode) (e : Election) (x : CoverSlots) (eligible : ℕ → 
   winners_enter t read amount table total =
       let first : AreEntered e x eligible base l 0 [] t =
       record { read = read; amount = amount; table = table; total = total; few = omega arith; left = λ some. absurd (omega (arith, some)) } in
-      each_keeping Seen refl
+      wins_keeping Seen refl
       (subst (λ ys. AreEntered e x eligible base l 0 ys t) (sym (front_none eligible e l)) first)
-      (λ j u less h. elim (slice_get_cases e.wins j).1 [
-        | inl found ↦ sees j found.0 found.2 u h
-        | inr past ↦ absurd (let far = past.0 in omega (arith, less, far))
-      ])
+      (λ j w u at h. sees j w at u h)
       (λ u h.
       let all : AreEntered e x eligible base l (wins_of e) (won eligible e l) u = subst (λ ys. AreEntered e x eligible base l (wins_of e) ys u) (front_all eligible e l) h in
       record { read = all.read; amount = all.amount; table = all.table; total = all.total; few = all.few; left = all.left })

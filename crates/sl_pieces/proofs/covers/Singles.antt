@@ -1,8 +1,8 @@
 -- The winners without a party are singles.
-use Rattle.std.proofs.Common.{◌≡◌, ◌≢◌, ℕ, ◌+◌, ◌<◌, ◌≤◌, Bool, ◌==◌, [], ◌∷◌, Option, Some, None, is_none, slice_get, refl, sym, ap, ◌∙◌, inl, inr, arith, ne_eqb}
+use Rattle.std.proofs.Common.{◌≡◌, ◌≢◌, ℕ, ◌+◌, ◌<◌, ◌≤◌, Bool, [], ◌∷◌, Option, Some, None, is_none, slice_get, refl, sym, ap, ◌∙◌, inl, inr, arith, ne_eqb}
 use Rattle.std.specs.Prelude.{if◌then◌else◌}
 use Rattle.std.proofs.lemmas.Bool.{cases_eq, eq-eqb}
-use Rattle.std.proofs.lemmas.Option.{same_Some, slice_get_cases, slice_get_within}
+use Rattle.std.proofs.lemmas.Option.{same_Some, slice_get_within}
 use Rattle.sl_stages.specs.declared.returns.Win.{Win}
 use Rattle.sl_stages.specs.declared.table.Placed.{Placed}
 use Rattle.sl_stages.specs.declared.table.Placed.TheVariants as placed
@@ -18,7 +18,7 @@ use Rattle.sl_plans.specs.declared.plan.Test.TheVariants as test
 use Rattle.sl_plans.specs.Trees.{Line, If}
 use Rattle.sl_plans.specs.Achieves.{Achieves, Never}
 use Rattle.sl_plans.proofs.Rules.{line_ends, line_goes, if_no_party}
-use Rattle.sl_plans.proofs.KeepingRules.{each_keeping}
+use Rattle.sl_plans.proofs.KeepingRules.{wins_keeping}
 use Rattle.sl_pieces.specs.covers.Trees.{nothing, place_singles}
 
 -- the first winners are placed as the one rule says, and the others as the other does
@@ -40,6 +40,13 @@ place_next e now old i w t u at h here others = record {
   rest = λ n v there high. others n (λ same. omega (arith, high, same)) ∙ h.rest n v there (omega (arith, high));
 }
 
+-- where it is that winner who is placed
+pub placed_next : (e : Election) (now old : ℕ × Win → Placed) (i : ℕ) (w : Win) (where_to : Placed) (t u : State) → slice_get e.wins i ≡ Some w → ArePlaced e now old i t →
+    u.placed ≡ t.placed → where_to ≡ now (i, w) → ArePlaced e now old (i + 1) (with_place i where_to u)
+placed_next e now old i w where_to t u at h same right =
+    place_next e now old i w t (with_place i where_to u) at h (ap (λ (b : Bool). if b then where_to else u.placed i) (eq-eqb i i refl) ∙ right)
+    (λ n other. ap (λ (b : Bool). if b then where_to else u.placed n) (ne_eqb n i other) ∙ ap (λ (f : ℕ → Placed). f n) same)
+
 module _ (c : CountingCode) (e : Election) where
   -- nobody is placed but singles
   abbrev Singled : ℕ → State → Type 0
@@ -51,10 +58,9 @@ module _ (c : CountingCode) (e : Election) where
       if_no_party (winner_is e (with_win (Some i) t) i w refl at)
       (λ none.
       let u : State = with_party None (with_win (Some i) t) in
-      let here : (if i == i then placed.Single else t.placed i) ≡ cover_place [] (i, w) =
-      ap (λ (b : Bool). if b then placed.Single else t.placed i) (eq-eqb i i refl) ∙ ap (λ (o : Option ℕ). if is_none o then placed.Single else placed.Unseated) (sym none) in
       line_goes (single_does c e u i refl)
-      (line_ends (place_next e (cover_place []) (λ y. placed.Unseated) i w t (with_place i placed.Single u) at h here (λ n other. ap (λ (b : Bool). if b then placed.Single else t.placed n) (ne_eqb n i other)))))
+      (line_ends (placed_next e (cover_place []) (λ y. placed.Unseated) i w placed.Single t u at h refl
+      (ap (λ (o : Option ℕ). if is_none o then placed.Single else placed.Unseated) (sym none)))))
       (λ p some.
       let u : State = with_party (Some p) (with_win (Some i) t) in
       let here : t.placed i ≡ cover_place [] (i, w) = h.rest i w at (omega arith) ∙ ap (λ (o : Option ℕ). if is_none o then placed.Single else placed.Unseated) (sym some) in
@@ -63,11 +69,7 @@ module _ (c : CountingCode) (e : Election) where
   pub singles_placed : (s : State) → ((n : ℕ) → s.placed n ≡ placed.Unseated) →
       Achieves c e place_singles s (λ t. (n : ℕ) (w : Win) → slice_get e.wins n ≡ Some w → t.placed n ≡ cover_place [] (n, w)) Never
   singles_placed s nobody =
-      each_keeping Singled refl
+      wins_keeping Singled refl
       (record { first = λ n w at less. absurd (omega (arith, less)); rest = λ n w at high. nobody n })
-      (λ i t below h.
-      elim (slice_get_cases e.wins i).1 [
-        | inl found ↦ places_one i found.0 t found.2 h
-        | inr past ↦ absurd (let far = past.0 in omega (arith, below, far))
-      ])
+      (λ i w t at h. places_one i w t at h)
       (λ t h n w at. h.first n w at (slice_get_within e.wins n w at))

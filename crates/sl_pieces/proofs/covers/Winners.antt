@@ -1,9 +1,9 @@
 -- The winners of a list, and how their seats wait in the table.
-use Rattle.std.proofs.Common.{◌≡◌, ℕ, zero, suc, ◌+◌, ◌<◌, ◌≤◌, ◌&&◌, Bool, true, List, [], ◌∷◌, map, length, All, Option, Some, None, option_map, nat_eq, nat_lt, slice_get, get_or, take, cond, ◌++◌, refl, sym, ap, ◌∙◌, inl, inr, arith}
+use Rattle.std.proofs.Common.{◌≡◌, ℕ, zero, suc, ◌+◌, ◌<◌, ◌≤◌, ◌&&◌, Bool, true, List, [], ◌∷◌, map, length, All, Option, Some, None, option_map, nat_eq, nat_lt, slice_get, get_or, take, cond, ◌++◌, refl, sym, ap, ◌∙◌, arith}
 use Rattle.std.specs.Prelude.{filter, flat_map, slice_index, if◌then◌else◌}
 use Rattle.std.specs.List.{range_with_len, enumerate_from}
 use Rattle.std.proofs.lemmas.Bool.{and_parts, and_from, eqb-true, eq-eqb, lt-ltb, ltb-true, false≢true}
-use Rattle.std.proofs.lemmas.Option.{slice_get-get_or, get_or_from_slice_get, slice_get-map, slice_get_within, slice_get_cases}
+use Rattle.std.proofs.lemmas.Option.{slice_get-get_or, get_or_from_slice_get, slice_get-map, slice_get_within}
 use Rattle.std.proofs.lemmas.List.{length-map, length-take, take_all}
 use Rattle.std.proofs.lemmas.List.Elements.{All-get_or, All-filter, filter_passes, filter_more}
 use Rattle.std.proofs.lemmas.List.Sums.{length-filter, count_by-le-length}
@@ -16,6 +16,7 @@ use Rattle.sl_stages.specs.meaning.Seating.{winners_of}
 use Rattle.sl_stages.proofs.methods.SeatSums.{none_needed}
 use Rattle.sl_pieces.specs.arenas.Arenas.{Arena, seat_of, next_seat, waiting, covering_arena}
 use Rattle.sl_pieces.proofs.seats.Lists.{mapped_at}
+use Rattle.sl_plans.proofs.KeepingRules.{element_there}
 
 -- ---- who is a winner of a list
 
@@ -148,10 +149,8 @@ module _ (winners : List (ℕ × Win)) where
       let firsts : List ℕ = map (λ x. x.1.first) winners in
       let parts = and_parts (nat_lt i (length firsts)) (nat_eq held 0) has in
       let short : i < length firsts = ltb-true i (length firsts) parts.0 in
-      elim (slice_get_cases winners i).1 [
-        | inl found ↦ (found.0, found.2, eqb-true held 0 parts.1)
-        | inr past ↦ absurd (let far = past.0 in omega (arith, far, short, length-map winners (λ x. x.1.first)))
-      ]
+      let there = element_there winners i (omega (arith, short, length-map winners (λ x. x.1.first))) in
+      (there.0, there.1, eqb-true held 0 parts.1)
 
   pub all_wait : map entry_of winners ≡ waiting arena arena.ladders.base
   all_wait =
@@ -162,10 +161,8 @@ module _ (winners : List (ℕ × Win)) where
       ∙ ap (λ (b : Bool). if b then seat_of arena i 0 ∷ [] else []) (has_first i (omega (arith, less, long)))) in
       let seats : map entry_of winners ≡ map (λ i. seat_of arena i 0) (range_with_len 0 (length arena.places)) =
       fill_by_all (λ i. seat_of arena i 0) (map entry_of winners) (length arena.places) (seat_of arena 0 0) (length-map winners entry_of ∙ sym long)
-      (λ k less. elim (slice_get_cases winners k).1 [
-        | inl found ↦
-            (let there : slice_get (map entry_of winners) k ≡ Some (entry_of found.0) = slice_get-map entry_of winners k ∙ ap (option_map entry_of) found.2 in
-            get_or_from_slice_get (map entry_of winners) k (entry_of found.0) (seat_of arena 0 0) there ∙ sym (seat_is k 0 found.0 found.2))
-        | inr past ↦ absurd (let far = past.0 in omega (arith, far, less, long))
-      ]) in
+      (λ k less.
+      let found = element_there winners k (omega (arith, less, long)) in
+      let there : slice_get (map entry_of winners) k ≡ Some (entry_of found.0) = slice_get-map entry_of winners k ∙ ap (option_map entry_of) found.1 in
+      get_or_from_slice_get (map entry_of winners) k (entry_of found.0) (seat_of arena 0 0) there ∙ sym (seat_is k 0 found.0 found.1)) in
       seats ∙ sym pieces

@@ -23,7 +23,7 @@ use Rattle.sl_machine.specs.State.{State}
 use Rattle.sl_machine.specs.Effects.{stage_of, name_of}
 use Rattle.sl_plans.specs.Trees.{Tree}
 use Rattle.sl_plans.specs.Achieves.{Achieves}
-use Rattle.sl_plans.proofs.Rules.{achieves_more}
+use Rattle.sl_plans.proofs.Rules.{achieves_so}
 use Rattle.sl_pieces.specs.columns.Columns.{HoldsColumn}
 use Rattle.sl_pieces.specs.scopes.Forms.{Form, AllParties, AllLands, AllLists, ListsOfParty, ListsInLand, amounts_of, votes_of}
 use Rattle.sl_pieces.specs.seats.Slots.{Slots, HasSlots}
@@ -114,9 +114,9 @@ module _ (c : CountingCode) (types : List Column) (stage : ℕ) (name : List ℕ
         → Achieves c e tree u (HasResult e f (node_slots types stage level (amounts_of f) (votes_of f) slot) IsResult u) (EndsWith IsResult)
         → AllAchieve c e (tree ∷ []) u (ComesTo e IsResult (votes_of f) (passing level (votes_of f)) (first_of level) u) (EndsWith IsResult)
     node_all f slot tree IsResult h =
-        all_one (achieves_more h
+        all_one (achieves_so h
         (λ t k. comes_node e f (node_slots types stage level (amounts_of f) (votes_of f) slot) IsResult (first_of level) u t (first_before level (votes_of f))
-        (stages_above level (votes_of f) (omega (arith, low))) k) (λ x k. k))
+        (stages_above level (votes_of f) (omega (arith, low))) k))
 
     abbrev at_votes : Shape → Stand
     at_votes v = record { stage = stage; name = name; shape = v }

@@ -8,7 +8,7 @@ use Rattle.sl_code.specs.Codes.{CountingCode}
 use Rattle.sl_machine.specs.State.{State, End}
 use Rattle.sl_plans.specs.Trees.{Tree}
 use Rattle.sl_plans.specs.Laid.{AchievesAll}
-use Rattle.sl_plans.proofs.Rules.{achieves_more}
+use Rattle.sl_plans.proofs.Rules.{achieves_more, achieves_so}
 use Rattle.sl_pieces.proofs.scopes.Pieces.{get_left}
 use Rattle.sl_pieces.specs.exprs.Slots.{HasBookSlots}
 use Rattle.sl_pieces.specs.exprs.Stages.{HasStages}
@@ -24,7 +24,7 @@ all_more c e Q R E F on over (t ∷ ts) s h = achieves_more h (all_more c e Q R 
 pub all_then : (c : CountingCode) (e : Election) (Q : State → Type 0) (E : End → Type 0) (ys xs : List Tree) (s : State) →
     AchievesAll c e xs s (λ u. AchievesAll c e ys u Q E) E → AchievesAll c e (xs ++ ys) s Q E
 all_then c e Q E ys [] s h = h
-all_then c e Q E ys (x ∷ xs) s h = achieves_more h (all_then c e Q E ys xs) (λ v k. k)
+all_then c e Q E ys (x ∷ xs) s h = achieves_so h (all_then c e Q E ys xs)
 
 -- ---- lists that grow
 

@@ -12,7 +12,7 @@ use Rattle.sl_machine.proofs.effects.Registers.{get_does, store_does}
 use Rattle.sl_machine.proofs.effects.Storing.{cell_same, cell_other_place, column_same, column_other}
 use Rattle.sl_plans.specs.Trees.{Line, ones}
 use Rattle.sl_plans.specs.Achieves.{Achieves, Never}
-use Rattle.sl_plans.proofs.Rules.{achieves_more, line_ends, line_goes}
+use Rattle.sl_plans.proofs.Rules.{line_ends, line_goes, achieves_so}
 use Rattle.sl_pieces.specs.facts.Trees.{FactSlots, cell, count_one, let_in, nothing}
 
 -- a register is no cursor
@@ -79,9 +79,8 @@ module _ (c : CountingCode) (e : Election) where
     pub counts_at : (at : Shape) (place : ℕ) → slice_get c.slots slot ≡ Some at → cell_at e at u ≡ Some place → s.columns slot place < most
         → test place ≡ true → ((q : ℕ) → q ≢ place → test q ≡ false) → Achieves c e (Line (count_one slot)) u (CountsWhere slot test s) Never
     counts_at at place known there below holds nowhere =
-        achieves_more (counts_one u at slot place known there (subst (λ (f : ℕ → ℕ). f place < most) (sym as_before) below))
+        achieves_so (counts_one u at slot place known there (subst (λ (f : ℕ → ℕ). f place < most) (sym as_before) below))
         (λ t put. one_place test place (s.columns slot) (t.columns slot) (subst (λ (f : ℕ → ℕ). Puts place (f place + 1) f (t.columns slot)) as_before put) holds nowhere)
-        (λ o h. h)
 
     pub counts_nowhere : ((q : ℕ) → test q ≡ false) → Achieves c e nothing u (CountsWhere slot test s) Never
     counts_nowhere nowhere = line_ends (λ q. ap (λ (f : ℕ → ℕ). f q) as_before ∙ none_there (test q) (s.columns slot q) (nowhere q))

@@ -53,12 +53,6 @@ all_read P xs i d none each =
 
 -- ---- counts
 
-pub element_there : {X : Type 0} (xs : List X) (i : ℕ) → i < length xs → (x : X) × (slice_get xs i ≡ Some x)
-element_there xs i less = elim ((slice_get_cases xs i).1) [
-  | inl there ↦ (there.0, there.2)
-  | inr past ↦ absurd (omega (arith, past.0))
-]
-
 one_of : (b : Bool) → cond {A = ℕ} b 1 0 ≡ one_if b
 one_of true = refl
 one_of false = refl

@@ -16,8 +16,8 @@ use Rattle.sl_machine.specs.Effects.{one_if}
 use Rattle.sl_machine.proofs.effects.Registers.{zero_does}
 use Rattle.sl_plans.specs.Achieves.{Achieves, Never}
 use Rattle.sl_plans.specs.Frames.{may_write_slot}
-use Rattle.sl_plans.proofs.Rules.{achieves_more, line_ends, then_achieves, line_first, line_over}
-use Rattle.sl_plans.proofs.KeepingRules.{achieves_kept}
+use Rattle.sl_plans.proofs.Rules.{line_ends, then_achieves, line_first, line_over, achieves_so}
+use Rattle.sl_plans.proofs.KeepingRules.{achieves_keeping}
 use Rattle.sl_pieces.specs.facts.Trees.{FactSlots, condition_tree, conditions_tree, eligible_tree}
 use Rattle.sl_pieces.specs.facts.Laws.{HasFactSlots, IsShare, EligibleAreTold}
 use Rattle.sl_pieces.proofs.facts.Holding.{IsSilent, holds_parties}
@@ -85,22 +85,20 @@ module _ (c : CountingCode) (e : Election) (x : FactSlots) (slots : HasFactSlots
       or_none false = refl
   conditions_met (one ∷ rest) so s few flagged =
       then_achieves (condition_met so one s (All-head IsShare one rest few) flagged) (λ t h.
-      achieves_more (conditions_met rest (λ p. so p || meets e p one) t (All-tail IsShare one rest few) h)
-      (λ u k p less. k p less ∙ ap one_if (either_one (so p) (meets e p one) (list_any (meets e p) rest))) (λ o k. k))
+      achieves_so (conditions_met rest (λ p. so p || meets e p one) t (All-tail IsShare one rest few) h)
+      (λ u k p less. k p less ∙ ap one_if (either_one (so p) (meets e p one) (list_any (meets e p) rest))))
 
 pub eligible_are_told : EligibleAreTold
 eligible_are_told c e x conditions s is slots few =
     let s0 : State = with_column x.eligible (λ q. 0) s in
     let silent : IsSilent (conditions_tree x conditions) = conditions_silent x conditions in
-    achieves_more
-    (achieves_kept
+    achieves_keeping
     (line_first (zero_does c e s x.eligible shape.Party slots.eligible) (line_over
-    (conditions_met c e x slots is conditions (λ p. false) s0 few (λ p less. cell_written s x.eligible (λ q. 0) p)))))
-    (λ t h. record {
-      holds = holds_parties e (t.columns x.eligible) (λ party. one_if (is_eligible conditions e party)) h.0;
-      columns = λ k q eligible votes numbers. h.1.columns k (eligible_keeps x k eligible votes numbers conditions) q;
-      steps = h.1.steps_kept silent.steps;
-      weights = h.1.weights_kept silent.weights;
-      placed = h.1.placed silent.seats;
+    (conditions_met c e x slots is conditions (λ p. false) s0 few (λ p less. cell_written s x.eligible (λ q. 0) p))))
+    (λ t h kept. record {
+      holds = holds_parties e (t.columns x.eligible) (λ party. one_if (is_eligible conditions e party)) h;
+      columns = λ k q eligible votes numbers. kept.columns k (eligible_keeps x k eligible votes numbers conditions) q;
+      steps = kept.steps_kept silent.steps;
+      weights = kept.weights_kept silent.weights;
+      placed = kept.placed silent.seats;
     })
-    (λ o h. h)

@@ -22,8 +22,8 @@ use Rattle.sl_machine.proofs.effects.Storing.{cell_same}
 use Rattle.sl_plans.specs.declared.plan.Test.TheVariants as test
 use Rattle.sl_plans.specs.Trees.{Tree, Line, Then, If}
 use Rattle.sl_plans.specs.Achieves.{Achieves, Never}
-use Rattle.sl_plans.proofs.Rules.{achieves_more, line_ends, line_goes, if_zero, line_first, line_over}
-use Rattle.sl_plans.proofs.KeepingRules.{achieves_kept, each_keeping}
+use Rattle.sl_plans.proofs.Rules.{line_ends, line_goes, if_zero, line_first, line_over}
+use Rattle.sl_plans.proofs.KeepingRules.{each_keeping, achieves_keeping}
 use Rattle.sl_pieces.proofs.scopes.Scopes.{party_again}
 use Rattle.sl_pieces.specs.columns.Columns.{HoldsColumn, GetsColumn}
 use Rattle.sl_pieces.specs.facts.Trees.{FactSlots, cell, number, nothing, house_tree, counted_tree, population_tree, fact_tree}
@@ -111,16 +111,15 @@ module _ (c : CountingCode) (e : Election) (x : FactSlots) (slots : HasFactSlots
     next_cleared l p t in_lands less h on =
         let place : ℕ = l * parties_of e + p in
         let next : place + 1 ≡ l * parties_of e + (p + 1) = omega arith in
-        achieves_more (achieves_kept (list_cleared l p t in_lands less h on))
-        (λ u k. (
+        achieves_keeping (list_cleared l p t in_lands less h on)
+        (λ u k kept. (
           subst (λ n. Cleared n u) next
               (record {
-                column = next_changed old_cell new_cell (lands_of e * parties_of e) place (t.columns (x.of facts.Counted)) (u.columns (x.of facts.Counted)) h.column k.0.others k.0.here;
-                flags = λ q below. k.1.columns x.eligible (rw (ne_eqb x.eligible (x.of facts.Counted) (λ same. apart (sym same))) refl) q ∙ h.flags q below;
+                column = next_changed old_cell new_cell (lands_of e * parties_of e) place (t.columns (x.of facts.Counted)) (u.columns (x.of facts.Counted)) h.column k.others k.here;
+                flags = λ q below. kept.columns x.eligible (rw (ne_eqb x.eligible (x.of facts.Counted) (λ same. apart (sym same))) refl) q ∙ h.flags q below;
               }),
-          k.1.land refl ∙ on,
+          kept.land refl ∙ on,
         ))
-        (λ o k. k)
 
     counted_are_told : Flagged e x (is_eligible conditions e) s → Achieves c e (counted_tree x) s (GetsColumn e shape.List (x.of facts.Counted) (counted_votes conditions e) s) Never
     counted_are_told flagged =

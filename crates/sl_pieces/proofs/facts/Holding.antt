@@ -17,8 +17,7 @@ use Rattle.sl_machine.proofs.soundness.KeptTables.{list_parts}
 use Rattle.sl_plans.specs.Trees.{Tree}
 use Rattle.sl_plans.specs.Achieves.{Achieves, Never}
 use Rattle.sl_plans.specs.Frames.{may_write_slot, may_seat, may_record_step, may_record_weight}
-use Rattle.sl_plans.proofs.Rules.{achieves_more}
-use Rattle.sl_plans.proofs.KeepingRules.{achieves_kept}
+use Rattle.sl_plans.proofs.KeepingRules.{achieves_keeping}
 use Rattle.sl_pieces.proofs.scopes.Scopes.{land_again, party_again}
 use Rattle.sl_pieces.specs.columns.Columns.{HoldsColumn, GetsColumn}
 
@@ -89,9 +88,8 @@ pub gets_column : {c : CountingCode} {e : Election} {tree : Tree} {s : State} (a
     → Achieves c e tree s (λ t. HoldsColumn e at (t.columns slot) values) Never
     → WritesOnly slot tree → IsSilent tree → Achieves c e tree s (GetsColumn e at slot values s) Never
 gets_column at slot values h only silent =
-    achieves_more (achieves_kept h)
-    (λ t k. record {
-      holds = k.0;
-      changes = record { columns = λ j q other. k.1.columns j (only j other) q; steps = k.1.steps_kept silent.steps; weights = k.1.weights_kept silent.weights; placed = k.1.placed silent.seats };
+    achieves_keeping h
+    (λ t k kept. record {
+      holds = k;
+      changes = record { columns = λ j q other. kept.columns j (only j other) q; steps = kept.steps_kept silent.steps; weights = kept.weights_kept silent.weights; placed = kept.placed silent.seats };
     })
-    (λ x h. h)

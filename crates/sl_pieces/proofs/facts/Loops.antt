@@ -10,10 +10,9 @@ use Rattle.sl_plans.specs.declared.plan.Cursor.TheVariants as cursor
 use Rattle.sl_plans.specs.Trees.{Tree, Each}
 use Rattle.sl_plans.specs.Achieves.{Achieves, Never}
 use Rattle.sl_plans.specs.Frames.{may_move, may_write_register}
-use Rattle.sl_plans.proofs.Rules.{achieves_more}
-use Rattle.sl_plans.proofs.KeepingRules.{achieves_kept, each_keeping}
+use Rattle.sl_plans.proofs.KeepingRules.{each_keeping, wins_keeping, achieves_keeping}
 use Rattle.sl_pieces.specs.facts.Trees.{FactSlots}
-use Rattle.sl_pieces.proofs.facts.Counts.{Changed, next_changed, element_there, count_more, count_within}
+use Rattle.sl_pieces.proofs.facts.Counts.{Changed, next_changed, count_more, count_within}
 use Rattle.sl_pieces.proofs.facts.Holding.{WritesOnly}
 use Rattle.sl_pieces.proofs.facts.Cells.{LetIn, CountsWhere}
 
@@ -45,13 +44,12 @@ module _ (c : CountingCode) (e : Election) (x : FactSlots) (so test : ℕ → Bo
       each_keeping InTurn free
       (record { done = λ q less. absurd (omega arith); rest = λ q high less. flagged q less }, record { columns = λ k q other. refl; registers = λ r kept. refl })
       (λ p t less inv.
-      achieves_more (achieves_kept (turn p t less inv.1))
-      (λ u h. (
-        next_changed (λ q. one_if (so q)) (λ q. one_if (so q || test q)) (parties_of e) p (t.columns x.eligible) (u.columns x.eligible) inv.0 h.0.others
-            (h.0.here ∙ ap (λ n. if test p then 1 else n) (inv.0.rest p (omega arith) less) ∙ either (so p) (test p)),
-        record { columns = λ k q other. h.1.columns k (only k other) q ∙ inv.1.columns k q other; registers = λ r kept. h.1.registers r kept ∙ inv.1.registers r kept },
-      ))
-      (λ o h. h))
+      achieves_keeping (turn p t less inv.1)
+      (λ u h rest. (
+        next_changed (λ q. one_if (so q)) (λ q. one_if (so q || test q)) (parties_of e) p (t.columns x.eligible) (u.columns x.eligible) inv.0 h.others
+            (h.here ∙ ap (λ n. if test p then 1 else n) (inv.0.rest p (omega arith) less) ∙ either (so p) (test p)),
+        record { columns = λ k q other. rest.columns k (only k other) q ∙ inv.1.columns k q other; registers = λ r kept. rest.registers r kept ∙ inv.1.registers r kept },
+      )))
       (λ t inv p less. inv.0.done p less)
 
 -- ---- winners
@@ -70,13 +68,11 @@ module _ (c : CountingCode) (e : Election) (is : IsElection e) (slot : ℕ) (tes
       → Achieves c e body (with_win (Some j) t) (CountsWhere slot (λ q. test q w) t) Never)
       → Achieves c e (Each cursor.Win body) s (λ t. (q : ℕ) → t.columns slot q ≡ count_by (test q) e.wins) Never
   winners_counted free only zeros turn =
-      each_keeping Counting free (record { cells = zeros; kept = λ k q other. refl })
-      (λ j t less inv.
-      let there : (w : Win) × (slice_get e.wins j ≡ Some w) = element_there e.wins j less in
-      achieves_more (achieves_kept (turn j there.0 t there.1 inv.kept (small j t inv)))
-      (λ u h. record {
-        cells = λ q. h.0 q ∙ ap (λ n. n + one_if (test q there.0)) (inv.cells q) ∙ sym (count_more (test q) e.wins j there.0 there.1);
-        kept = λ k q other. h.1.columns k (only k other) q ∙ inv.kept k q other;
-      })
-      (λ o h. h))
+      wins_keeping Counting free (record { cells = zeros; kept = λ k q other. refl })
+      (λ j w t at inv.
+      achieves_keeping (turn j w t at inv.kept (small j t inv))
+      (λ u h rest. record {
+        cells = λ q. h q ∙ ap (λ n. n + one_if (test q w)) (inv.cells q) ∙ sym (count_more (test q) e.wins j w at);
+        kept = λ k q other. rest.columns k (only k other) q ∙ inv.kept k q other;
+      }))
       (λ t inv q. inv.cells q ∙ ap (count_by (test q)) (take_all (length e.wins) e.wins (omega arith)))

@@ -28,8 +28,8 @@ use Rattle.sl_plans.specs.declared.plan.Cursor.TheVariants as cursor
 use Rattle.sl_plans.specs.declared.plan.Test.TheVariants as test
 use Rattle.sl_plans.specs.Trees.{Tree, Line, Then, If, Each}
 use Rattle.sl_plans.specs.Achieves.{Achieves, Never}
-use Rattle.sl_plans.proofs.Rules.{achieves_more, line_ends, line_goes, then_achieves, if_less, line_first, line_over}
-use Rattle.sl_plans.proofs.KeepingRules.{achieves_kept, each_keeping}
+use Rattle.sl_plans.proofs.Rules.{line_ends, line_goes, then_achieves, if_less, line_first, line_over, achieves_so}
+use Rattle.sl_plans.proofs.KeepingRules.{achieves_kept, each_keeping, achieves_keeping}
 use Rattle.sl_pieces.specs.facts.Trees.{FactSlots, all_votes, own_votes, cell, number, nothing, let_in, condition_tree}
 use Rattle.sl_pieces.specs.facts.Laws.{HasFactSlots}
 use Rattle.sl_pieces.proofs.facts.Counts.{range_more, range_within, sum_turned, all_read}
@@ -92,13 +92,12 @@ module _ (c : CountingCode) (e : Election) (x : FactSlots) (slots : HasFactSlots
       each_keeping (λ l t. (t.registers own_votes ≡ min (so_far l) most) × HoldsVotes t × (t.party ≡ Some p)) refl
       ((let none : 0 ≡ min 0 most = omega arith in zero ∙ none), held, on)
       (λ l t in_lands inv.
-      achieves_more (achieves_kept (votes_added own_votes (so_far l) l p (with_land (Some l) t) (λ same. absurd (omega (arith, same))) in_lands less inv.1 refl inv.2 inv.0))
-      (λ u h. (
-        h.0 ∙ ap (λ n. min n most) (sym (range_more (λ l. votes_in e l p) l)),
-        (λ k q below within. h.1.columns x.votes refl (k * parties_of e + q) ∙ inv.1 k q below within),
-        h.1.party refl ∙ inv.2,
-      ))
-      (λ o h. h))
+      achieves_keeping (votes_added own_votes (so_far l) l p (with_land (Some l) t) (λ same. absurd (omega (arith, same))) in_lands less inv.1 refl inv.2 inv.0)
+      (λ u h kept. (
+        h ∙ ap (λ n. min n most) (sym (range_more (λ l. votes_in e l p) l)),
+        (λ k q below within. kept.columns x.votes refl (k * parties_of e + q) ∙ inv.1 k q below within),
+        kept.party refl ∙ inv.2,
+      )))
       (λ t inv. inv.0)
 
   abbrev row_sum : ℕ → ℕ
@@ -115,9 +114,8 @@ module _ (c : CountingCode) (e : Election) (x : FactSlots) (slots : HasFactSlots
       ((let none : lands_sum l ≡ lands_sum l + 0 = omega arith in total ∙ ap (λ n. min n most) none), held, refl)
       (λ p t less inv.
       let next : so_far p + votes_in e l p ≡ so_far (p + 1) = omega (arith, range_more (votes_in e l) p) in
-      achieves_more (achieves_kept (votes_added all_votes (so_far p) l p (with_party (Some p) t) (λ same. absurd (omega (arith, same))) in_lands less inv.1 inv.2 refl inv.0))
-      (λ u h. (h.0 ∙ ap (λ n. min n most) next, (λ k q below within. h.1.columns x.votes refl (k * parties_of e + q) ∙ inv.1 k q below within), h.1.land refl ∙ inv.2))
-      (λ o h. h))
+      achieves_keeping (votes_added all_votes (so_far p) l p (with_party (Some p) t) (λ same. absurd (omega (arith, same))) in_lands less inv.1 inv.2 refl inv.0)
+      (λ u h kept. (h ∙ ap (λ n. min n most) next, (λ k q below within. kept.columns x.votes refl (k * parties_of e + q) ∙ inv.1 k q below within), kept.land refl ∙ inv.2)))
       (λ t inv. inv.0 ∙ ap (λ n. min n most) (sym (range_more row_sum l)))
 
   all_summed : (s : State) → HoldsVotes s → s.registers all_votes ≡ 0
@@ -126,8 +124,8 @@ module _ (c : CountingCode) (e : Election) (x : FactSlots) (slots : HasFactSlots
       each_keeping (λ l t. (t.registers all_votes ≡ min (lands_sum l) most) × HoldsVotes t) refl
       ((let none : 0 ≡ min 0 most = omega arith in zero ∙ none), held)
       (λ l t in_lands inv.
-      achieves_more (achieves_kept (land_summed l t in_lands inv.1 inv.0))
-      (λ u h. (h.0, λ k q below within. h.1.columns x.votes refl (k * parties_of e + q) ∙ inv.1 k q below within)) (λ o h. h))
+      achieves_keeping (land_summed l t in_lands inv.1 inv.0)
+      (λ u h kept. (h, λ k q below within. kept.columns x.votes refl (k * parties_of e + q) ∙ inv.1 k q below within)))
       (λ t inv. (let all : lands_sum (lands_of e) ≡ all_valid_votes e = all_by_land e is in omega (arith, inv.0, all, all_small e is)))
 
   -- ---- the plan
@@ -167,11 +165,10 @@ module _ (c : CountingCode) (e : Election) (x : FactSlots) (slots : HasFactSlots
         let s0 : State = with_register own_votes 0 s in
         line_first refl (line_over
         (then_achieves (achieves_kept (own_summed p s0 less held on refl)) (λ u h.
-        achieves_more (party_judged p u (h.1.party refl ∙ on) (h.1.registers all_votes refl ∙ all) h.0)
+        achieves_so (party_judged p u (h.1.party refl ∙ on) (h.1.registers all_votes refl ∙ all) h.0)
         (λ z put.
         let same : (q : ℕ) → u.columns x.eligible q ≡ s.columns x.eligible q = λ q. h.1.columns x.eligible refl q in
-        record { here = put.here ∙ ap (λ n. if has_share p then 1 else n) (same p); others = λ q other. put.others q other ∙ same q })
-        (λ o k. k))))
+        record { here = put.here ∙ ap (λ n. if has_share p then 1 else n) (same p); others = λ q other. put.others q other ∙ same q }))))
 
     pub valid_met : (so : ℕ → Bool) (s : State) → x.votes ≢ x.eligible → Flagged e x so s
         → Achieves c e (condition_tree x (condition.Valid share per)) s (Flagged e x (λ p. so p || has_share p)) Never

@@ -22,7 +22,7 @@ use Rattle.sl_plans.specs.declared.plan.Test.TheVariants as test
 use Rattle.sl_plans.specs.Trees.{Tree, Line, Then, If, Each}
 use Rattle.sl_plans.specs.Frames.{may_move}
 use Rattle.sl_plans.specs.Achieves.{Achieves, Never}
-use Rattle.sl_plans.proofs.Rules.{achieves_more, if_zero, if_no_list, if_no_party, line_first, line_over}
+use Rattle.sl_plans.proofs.Rules.{if_zero, if_no_list, if_no_party, line_first, line_over, achieves_so}
 use Rattle.sl_pieces.proofs.scopes.Scopes.{land_again, party_again}
 use Rattle.sl_pieces.specs.columns.Columns.{GetsColumn}
 use Rattle.sl_pieces.specs.facts.Trees.{FactSlots, number, count_one, nothing, by_winner, winners_tree, outside_tree, alone_tree}
@@ -44,7 +44,7 @@ flag_up false n h = absurd (omega (arith, h))
 pub party_is : (w : Win) (o : Option ℕ) (n : ℕ) → w.party ≡ o → is_of n w ≡ is_of n (record w { party = o })
 party_is w o n h = ap (λ (p : Option ℕ). is_of n (record w { party = p })) h
 
-on_list_is : (conditions : List Cond) (e : Election) (w : Win) (o : Option ℕ) → w.party ≡ o → is_on_list conditions e w ≡ is_on_list conditions e (record w { party = o })
+pub on_list_is : (conditions : List Cond) (e : Election) (w : Win) (o : Option ℕ) → w.party ≡ o → is_on_list conditions e w ≡ is_on_list conditions e (record w { party = o })
 on_list_is conditions e w o h = ap (λ (p : Option ℕ). is_on_list conditions e (record w { party = p })) h
 
 in_land : (w : Win) (b : Bool) → b ≡ true → is_in w.land w && b ≡ true
@@ -130,28 +130,28 @@ module _ (c : CountingCode) (e : Election) (x : FactSlots) (slots : HasFactSlots
   part_within l p part = (lists_are_named e l p is (and_parts (is_eligible conditions e p) (has_list e l p) part).1).1
 
   -- the plan for winners on lists finds the cursors on the list, and the one for others the Land's
-  by_winner_achieves : {on_list outside : Tree} {Q : State → Type 0} (w : Win) (s : State) → winner_at e s ≡ Some w → Flagged e x (is_eligible conditions e) s
-      → ((p : ℕ) (t : State) → w.party ≡ Some p → takes_part conditions e w.land p ≡ true → t.columns ≡ s.columns → t.land ≡ Some w.land → t.party ≡ Some p
-      → Achieves c e on_list t Q Never)
-      → ((t : State) → is_on_list conditions e w ≡ false → t.columns ≡ s.columns → t.land ≡ Some w.land → Achieves c e outside t Q Never)
+  pub by_winner_achieves : {on_list outside : Tree} {Q : State → Type 0} (w : Win) (s : State) → winner_at e s ≡ Some w → Flagged e x (is_eligible conditions e) s
+      → ((p : ℕ) (t : State) → w.party ≡ Some p → takes_part conditions e w.land p ≡ true → t.columns ≡ s.columns → t.placed ≡ s.placed → t.win ≡ s.win → t.land ≡ Some w.land
+      → t.party ≡ Some p → Achieves c e on_list t Q Never)
+      → ((t : State) → is_on_list conditions e w ≡ false → t.columns ≡ s.columns → t.placed ≡ s.placed → t.win ≡ s.win → t.land ≡ Some w.land → Achieves c e outside t Q Never)
       → Achieves c e (by_winner x on_list outside) s Q Never
   by_winner_achieves w s winner flagged on off =
       let u : State = with_land (Some w.land) s in
       line_first (wland_does c e s w winner) (line_over
       (if_no_party {w = w} winner
-      (λ none. off (with_party None u) (on_list_is conditions e w None none) refl refl)
+      (λ none. off (with_party None u) (on_list_is conditions e w None none) refl refl refl refl)
       (λ p of.
       let v : State = with_party (Some p) u in
       if_no_list {l = w.land} {p = p} refl refl
-      (λ missing. off v (on_list_is conditions e w (Some p) of ∙ and_right (is_eligible conditions e p) (has_list e w.land p) missing) refl refl)
+      (λ missing. off v (on_list_is conditions e w (Some p) of ∙ and_right (is_eligible conditions e p) (has_list e w.land p) missing) refl refl refl refl)
       (λ listed.
       let less : p < parties_of e = (lists_are_named e w.land p is listed).1 in
       let flag : s.columns x.eligible p ≡ one_if (is_eligible conditions e p) = flagged p less in
       let v1 : State = with_register number (s.columns x.eligible p) v in
       line_first (get_does c e v x.eligible shape.Party slots.eligible number p refl) (line_over
       (if_zero
-      (λ zero. off v1 (on_list_is conditions e w (Some p) of ∙ and_left (is_eligible conditions e p) (has_list e w.land p) (flag_down (is_eligible conditions e p) (sym flag ∙ zero))) refl refl)
-      (λ n more. on p v1 of (and_from (is_eligible conditions e p) (has_list e w.land p) (flag_up (is_eligible conditions e p) n (sym flag ∙ more)) listed) refl refl refl)))))))
+      (λ zero. off v1 (on_list_is conditions e w (Some p) of ∙ and_left (is_eligible conditions e p) (has_list e w.land p) (flag_down (is_eligible conditions e p) (sym flag ∙ zero))) refl refl refl refl)
+      (λ n more. on p v1 of (and_from (is_eligible conditions e p) (has_list e w.land p) (flag_up (is_eligible conditions e p) n (sym flag ∙ more)) listed) refl refl refl refl refl)))))))
 
   -- a column of zeros, in which the winners are counted one after another
   counted_winners : (slot : ℕ) (at : Shape) (test : ℕ → Win → Bool) (body : Tree) (s : State) → slice_get c.slots slot ≡ Some at
@@ -171,7 +171,7 @@ module _ (c : CountingCode) (e : Election) (x : FactSlots) (slots : HasFactSlots
         let slot : ℕ = x.of facts.Independents in
         let counts : ℕ → Win → Bool = counts_alone conditions e in
         gets_column shape.Land slot (independent_winners conditions e)
-        (achieves_more
+        (achieves_so
         (counted_winners slot shape.Land counts (Then (Line (Wland ∷ [])) (If test.NoParty (Line (count_one slot)) nothing)) s (slots.facts facts.Independents) refl (λ k other. rw (ne_eqb k slot other) refl)
         (λ j w t there kept small.
         let t0 : State = with_win (Some j) t in
@@ -183,7 +183,7 @@ module _ (c : CountingCode) (e : Election) (x : FactSlots) (slots : HasFactSlots
         counts_at c e slot (λ q. counts q w) t (with_party None u) refl shape.Land w.land (slots.facts facts.Independents) refl (small w.land)
         (in_land w (is_none w.party) (ap is_none none)) (in_no_other w (is_none w.party)))
         (λ p of. counts_nowhere c e slot (λ q. counts q w) t (with_party (Some p) u) refl (λ q. and_right (is_in q w) (is_none w.party) (ap is_none of)))))))
-        (λ t cells. holds_lands e (t.columns slot) (λ land. count_by (counts land) e.wins) (λ q less. cells q)) (λ o h. h))
+        (λ t cells. holds_lands e (t.columns slot) (λ land. count_by (counts land) e.wins) (λ q less. cells q)))
         (λ k other. rw (ne_eqb k slot other) refl) (record { steps = refl; weights = refl; seats = refl })
 
     module _ (flagged : Flagged e x (is_eligible conditions e) s) where
@@ -196,15 +196,15 @@ module _ (c : CountingCode) (e : Election) (x : FactSlots) (slots : HasFactSlots
           let slot : ℕ = x.of facts.Outside in
           let counts : ℕ → Win → Bool = counts_outside conditions e in
           gets_column shape.Land slot (outside_winners conditions e)
-          (achieves_more
+          (achieves_so
           (counted_winners slot shape.Land counts (by_winner x nothing (Line (count_one slot))) s (slots.facts facts.Outside) refl (λ k other. rw (ne_eqb k slot other) refl)
           (λ j w t there kept small.
           let t0 : State = with_win (Some j) t in
           by_winner_achieves w t0 (winner_is e t0 j w refl there) (flagged_in slot j t apart kept)
-          (λ p u of part columns land party. counts_nowhere c e slot (λ q. counts q w) t u columns (listed_not_outside conditions e w p of part))
-          (λ u off columns land.
+          (λ p u of part columns placed win land party. counts_nowhere c e slot (λ q. counts q w) t u columns (listed_not_outside conditions e w p of part))
+          (λ u off columns placed win land.
           counts_at c e slot (λ q. counts q w) t u columns shape.Land w.land (slots.facts facts.Outside) land (small w.land) (outside_there conditions e w off) (in_no_other w (not (is_on_list conditions e w))))))
-          (λ t cells. holds_lands e (t.columns slot) (λ land. count_by (counts land) e.wins) (λ q less. cells q)) (λ o h. h))
+          (λ t cells. holds_lands e (t.columns slot) (λ land. count_by (counts land) e.wins) (λ q less. cells q)))
           (λ k other. rw (ne_eqb k slot other) refl) (record { steps = refl; weights = refl; seats = refl })
 
       pub winners_are_told : (x.of facts.Winners) ≢ x.eligible → Achieves c e (winners_tree x) s (GetsColumn e shape.List (x.of facts.Winners) (list_winners conditions e) s) Never
@@ -212,17 +212,17 @@ module _ (c : CountingCode) (e : Election) (x : FactSlots) (slots : HasFactSlots
           let slot : ℕ = x.of facts.Winners in
           let counts : ℕ → Win → Bool = counts_in_list conditions e in
           gets_column shape.List slot (list_winners conditions e)
-          (achieves_more
+          (achieves_so
           (counted_winners slot shape.List counts (by_winner x (Line (count_one slot)) nothing) s (slots.facts facts.Winners) refl (λ k other. rw (ne_eqb k slot other) refl)
           (λ j w t there kept small.
           let t0 : State = with_win (Some j) t in
           by_winner_achieves w t0 (winner_is e t0 j w refl there) (flagged_in slot j t apart kept)
-          (λ p u of part columns land party.
+          (λ p u of part columns placed win land party.
           let place : ℕ = w.land * parties_of e + p in
           let less : p < parties_of e = part_within w.land p part in
           counts_at c e slot (λ q. counts q w) t u columns shape.List place (slots.facts facts.Winners) (both_are u.land u.party (λ l n. l * parties_of e + n) w.land p land party) (small place)
           (listed_there conditions e w p of part less) (listed_nowhere_else conditions e w p of part less))
-          (λ u off columns land. counts_nowhere c e slot (λ q. counts q w) t u columns (unlisted conditions e w w.party refl off))))
+          (λ u off columns placed win land. counts_nowhere c e slot (λ q. counts q w) t u columns (unlisted conditions e w w.party refl off))))
           (λ t cells. holds_lists e (t.columns slot) (winners_of conditions e)
-          (λ land party in_lands in_parties. cells (land * parties_of e + party) ∙ counted_there conditions e land party in_parties)) (λ o h. h))
+          (λ land party in_lands in_parties. cells (land * parties_of e + party) ∙ counted_there conditions e land party in_parties)))
           (λ k other. rw (ne_eqb k slot other) refl) (record { steps = refl; weights = refl; seats = refl })

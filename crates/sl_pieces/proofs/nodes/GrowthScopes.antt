@@ -26,7 +26,7 @@ use Rattle.sl_plans.specs.declared.plan.Test.TheVariants as test
 use Rattle.sl_plans.specs.declared.plan.Bound.TheVariants as bound
 use Rattle.sl_plans.specs.Trees.{Tree, Then, If}
 use Rattle.sl_plans.specs.Achieves.{Achieves}
-use Rattle.sl_plans.proofs.Rules.{achieves_more, achieves_from, line_ends, then_achieves, if_zero}
+use Rattle.sl_plans.proofs.Rules.{achieves_more, achieves_from, line_ends, then_achieves, if_zero, achieves_so}
 use Rattle.sl_pieces.specs.scopes.Forms.{Form, votes_of, table_of, groups_of, OnScope}
 use Rattle.sl_pieces.proofs.scopes.Scopes.{scopes_hold}
 use Rattle.sl_pieces.proofs.scopes.Staying.{scope_stays}
@@ -194,7 +194,7 @@ module _ (c : CountingCode) (e : Election) (f : Form) (x : Slots) (name : List �
         let slot = minima_slot e (votes_of f) s x.minima minima arguments.minima_are in
         then_achieves {Q = HasHouse e x g d v m seats cap t}
         (achieves_more (houses_are_found c e f x name slot.0 k g d v m seats cap t election ready slot.1 some within cap_few) (λ u h. h) above_ends)
-        (λ u h. achieves_more (house_awards t u ready some h)
+        (λ u h. achieves_so (house_awards t u ready some h)
         (λ w. award_from e x IsAward records g s u w
         (record {
           elsewhere = λ q out. h.elsewhere q out ∙ same.columns x.result q;
@@ -202,8 +202,7 @@ module _ (c : CountingCode) (e : Election) (f : Form) (x : Slots) (name : List �
           steps = h.steps ∙ same.steps;
           weights = h.weights ∙ same.weights;
           placed = λ winner. h.placed winner ∙ same.placed winner;
-        }))
-        (λ y r. r))
+        })))
 
     -- the minima may sum to more than the cap
     cap_achieves : (t : State) → IsBegun c e f x name k g v m seats s t → 0 < sum v → Achieves c e (Then (not_over f x reg.NEEDED cap end.Cap) house_rest) t Q E

@@ -14,7 +14,7 @@ use Rattle.sl_machine.specs.State.{State, with_register}
 use Rattle.sl_machine.specs.Effects.{most}
 use Rattle.sl_plans.specs.Trees.{Line, Then}
 use Rattle.sl_plans.specs.Achieves.{Achieves}
-use Rattle.sl_plans.proofs.Rules.{achieves_more, achieves_from, line_ends, then_achieves, if_zero, goes_as, line_first, line_over}
+use Rattle.sl_plans.proofs.Rules.{achieves_from, line_ends, then_achieves, if_zero, goes_as, line_first, line_over, achieves_never}
 use Rattle.std.specs.Prelude.{Some}
 use Rattle.sl_pieces.specs.scopes.Forms.{Form, OnScope}
 use Rattle.sl_pieces.proofs.scopes.Staying.{scope_stays}
@@ -95,7 +95,7 @@ module _ {c : CountingCode} {e : Election} {f : Form} {x : Slots} {name : List �
       (λ w r. achieves_from r.0 (grows t two still (is_least t s h after.end r.1 r.2))))))
 
   finds_house : Achieves c e (find_house f (with_minima x slot) d cap) before (HasHouse e x g d v m seats cap before) (EndsAboveCap x g d v m seats cap)
-  finds_house = then_achieves {Q = HasEnded can} (achieves_more (search_achieves can) (λ s h. h) (λ y never. absurd never)) takes_house
+  finds_house = then_achieves {Q = HasEnded can} (achieves_never (search_achieves can)) takes_house
 
 -- where an entry has weight, and the minima sum to no more than the cap
 pub houses_are_found : (c : CountingCode) (e : Election) (f : Form) (x : Slots) (name : List ℕ) (slot k : ℕ) (g : Group) (d : Divisor) (v m : List ℕ) (seats cap : ℕ) (state : State) →

@@ -24,7 +24,7 @@ use Rattle.sl_machine.proofs.effects.Registers.{zero_does}
 use Rattle.sl_machine.proofs.effects.Storing.{column_same, column_other}
 use Rattle.sl_plans.specs.Trees.{Tree}
 use Rattle.sl_plans.specs.Achieves.{Achieves}
-use Rattle.sl_plans.proofs.Rules.{achieves_more, line_ends, line_goes, then_achieves}
+use Rattle.sl_plans.proofs.Rules.{achieves_more, line_ends, line_goes, then_achieves, achieves_so}
 use Rattle.sl_pieces.proofs.columns.Cells.{still_holds}
 use Rattle.sl_stages.proofs.meaning.AwardedEntries.{every_at}
 use Rattle.sl_pieces.specs.scopes.Forms.{Form, amounts_of, votes_of, groups_of, OnScope}
@@ -197,7 +197,7 @@ module _ (c : CountingCode) (e : Election) (f : Form) (x : Slots) (name amounts 
       (λ t h.
       then_achieves {Q = λ u. Done 0 (bare u)} (line_goes (zero_does c e t x.result (votes_of f) slots.result) (line_ends (none_done t h.0)))
       (λ u first.
-      achieves_more (each_scope c e f tree Done (EndsWith Result) u (record { visit = one_scope h.1.0 h.1.1 }) first) (λ v last. all_done v h.1.0 last) (λ y end. end)))
+      achieves_so (each_scope c e f tree Done (EndsWith Result) u (record { visit = one_scope h.1.0 h.1.1 }) first) (λ v last. all_done v h.1.0 last)))
 
 pub scopes_are_joined : ScopesAreJoined
 scopes_are_joined c e f x name amounts votes minima IsAward records tree state slots choose does holds =

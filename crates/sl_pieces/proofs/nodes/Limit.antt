@@ -13,7 +13,7 @@ use Rattle.sl_machine.specs.State.{State, End, Faulted, with_register}
 use Rattle.sl_machine.proofs.effects.Registers.{get_does}
 use Rattle.sl_machine.proofs.effects.Storing.{register_same}
 use Rattle.sl_plans.specs.Achieves.{Achieves}
-use Rattle.sl_plans.proofs.Rules.{achieves_more, line_first, line_over}
+use Rattle.sl_plans.proofs.Rules.{line_first, line_over, achieves_so}
 use Rattle.sl_pieces.specs.scopes.Forms.{Form, amounts_of, groups_of, scopes_plan, OnScope}
 use Rattle.sl_pieces.specs.scopes.Scopes.{IsScope}
 use Rattle.sl_pieces.specs.inner.scopes.Walks.{bare}
@@ -69,9 +69,8 @@ module _ (c : CountingCode) (e : Election) (f : Form) (x : Slots) (name amounts 
     pub limit_tested : Achieves c e (scopes_plan f (within_limit f x)) start (λ t. IsUnchanged start t × (FirstOver None × Every IsFew (groups_of e f))) E
     limit_tested =
         let all : take (length (groups_of e f)) (groups_of e f) ≡ groups_of e f = take_all (length (groups_of e f)) (groups_of e f) (le_refl (length (groups_of e f))) in
-        achieves_more
+        achieves_so
         (each_scope c e f (within_limit f x) Tested E start (record { visit = one_scope })
         (record { still = record { columns = λ slot q. refl; steps = refl; weights = refl; placed = λ w. refl }; few = tt }))
         (λ t h. let few : Every IsFew (groups_of e f) = subst (Every IsFew) all h.few in
         (record { columns = h.still.columns; steps = h.still.steps; weights = h.still.weights; placed = h.still.placed }, (none_over e (stand f x name) amounts (groups_of e f) few, few)))
-        (λ y h. h)

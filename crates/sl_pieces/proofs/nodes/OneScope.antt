@@ -32,7 +32,7 @@ use Rattle.sl_machine.proofs.drawing.LotProofs.{same_lots}
 use Rattle.sl_plans.specs.declared.plan.Bound.TheVariants as bound
 use Rattle.sl_plans.specs.Trees.{Tree, Then}
 use Rattle.sl_plans.specs.Achieves.{Achieves, Never}
-use Rattle.sl_plans.proofs.Rules.{achieves_more, then_achieves}
+use Rattle.sl_plans.proofs.Rules.{achieves_more, then_achieves, achieves_never}
 use Rattle.sl_pieces.specs.scopes.Forms.{Form, AllParties, votes_of, table_of}
 use Rattle.sl_pieces.specs.scopes.Scopes.{IsScope}
 use Rattle.sl_pieces.proofs.scopes.Scopes.{scopes_hold}
@@ -175,5 +175,5 @@ module _ (c : CountingCode) (e : Election) (f : Form) (x : Slots) (name : List �
           → Achieves c e (Then filling (Then (awards x.stage (bound.AtMost most_seats) (tied f x) (seat f x (again_of x method))) (refuse f x majority))) state
           (HasAward e x IsAward records g state) (EndsFaulty x IsAward g)
       scope_awarded filling fills =
-          then_achieves {Q = IsFilled e x g a v seats told state} (achieves_more fills (λ t h. h) (λ y never. absurd never))
+          then_achieves {Q = IsFilled e x g a v seats told state} (achieves_never fills)
           (λ t h. then_achieves {Q = AreAwarded a seats meant Held} (achieves_more (filled_awards t h) (λ u w. w) tie_ends) chosen_stands)

@@ -15,7 +15,7 @@ use Rattle.sl_machine.specs.Effects.{most}
 use Rattle.sl_machine.proofs.effects.Registers.{get_does}
 use Rattle.sl_plans.specs.Trees.{Tree, Line, Then}
 use Rattle.sl_plans.specs.Achieves.{Achieves}
-use Rattle.sl_plans.proofs.Rules.{achieves_more, then_achieves, line_first, line_over}
+use Rattle.sl_plans.proofs.Rules.{then_achieves, line_first, line_over, achieves_never}
 use Rattle.sl_pieces.specs.scopes.Forms.{Form, amounts_of, groups_of, OnScope}
 use Rattle.sl_pieces.proofs.scopes.Scopes.{scopes_hold}
 use Rattle.sl_pieces.proofs.scopes.Staying.{scope_stays}
@@ -145,5 +145,5 @@ module _ (c : CountingCode) (e : Election) (f : Form) (x : Slots) (name : List �
       let minima : HasMinima e g.entries v x.minima t m = minima_kept e g.entries v m s t x.minima (λ slot is q. refl) can.minima in
       line_first (get_does c e s x.amounts (amounts_of f) can.slots.amounts reg.AMOUNT g.amount_place cell)
       (line_over (then_achieves {Q = AreSummed g v m t}
-      (achieves_more (sums_achieve c e f x name k g v m t can.group can.slots on votes minima) (λ w h. h) (λ y never. absurd never))
+      (achieves_never (sums_achieve c e f x name k g v m t can.group can.slots on votes minima))
       (λ w h. goes w (summed_begun t w same can.amount h))))

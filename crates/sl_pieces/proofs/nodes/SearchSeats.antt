@@ -29,8 +29,8 @@ use Rattle.sl_plans.specs.declared.plan.Test.TheVariants as test
 use Rattle.sl_plans.specs.Trees.{Line, Then, If, ones, count_down}
 use Rattle.sl_plans.specs.Achieves.{Achieves, Never}
 use Rattle.sl_plans.specs.Frames.{may_write_slot, KeepsRest}
-use Rattle.sl_plans.proofs.Rules.{achieves_more, line_ends, then_achieves, if_less, goes_as, ends_in, line_first, line_over}
-use Rattle.sl_plans.proofs.KeepingRules.{achieves_kept}
+use Rattle.sl_plans.proofs.Rules.{line_ends, then_achieves, if_less, goes_as, ends_in, line_first, line_over}
+use Rattle.sl_plans.proofs.KeepingRules.{achieves_keeping}
 use Rattle.sl_pieces.specs.scopes.Forms.{Form, votes_of, table_of, OnScope, OnItem}
 use Rattle.sl_pieces.specs.scopes.Scopes.{IsEntry}
 use Rattle.sl_pieces.proofs.scopes.Staying.{item_stays}
@@ -157,8 +157,8 @@ module _ {c : CountingCode} {e : Election} {f : Form} {x : Slots} {name : List �
         line_first refl (line_first refl
         (line_first (store_does c e w2 x.result (votes_of f) can.ready.slots.result reg.HELD p (entry.cell w2 (item_stays i w w2 refl refl refl h.on_item)))
         (goes_as
-        (achieves_more (achieves_kept (again.enters t u j i w5 taken at (has (slice_index t j)) low next few on holds_more same_votes h.table))
-        (λ z r. (r.0, given_still s w5 z r.1 given)) (λ z r. r))
+        (achieves_keeping (again.enters t u j i w5 taken at (has (slice_index t j)) low next few on holds_more same_votes h.table)
+        (λ z r kept. (r, given_still s w5 z kept given)))
         refl)))
 
     seat_is_given : (s : State) → OnItem i s → s.columns x.result (place e i) ≡ slice_index t j → s.columns slot (place e i) ≡ slice_index m j → HasCells e g.entries (s.columns x.votes) v
@@ -226,11 +226,9 @@ module _ {c : CountingCode} {e : Election} {f : Form} {x : Slots} {name : List �
           at = λ q y in_it. column x.votes (place e y) ∙ h.columns x.votes (place e y) can.ready.slots.not_votes ∙ can.ready.votes.at q y in_it;
         } in
         let least : IsSettled (free_ladders d v) u → missing v m u ≡ 0 → IsLeast d v m u = least_after d v m (minimum_each can) s peers (j ∷ given) u mid short in
-        achieves_more
-        (achieves_kept
+        achieves_keeping
         (seat_is_given j i t u at field long gets.raised (few j) gets.taken now taken_now.on_item (column x.result (place e i) ∙ h.cells.at j i at)
         (column slot (place e i) ∙ h.columns slot (place e i) (can.ready.slots.not_minima slot refl) ∙ can.ready.minima.at j i at) votes
-        (register reg.TURNS ∙ h.turns) (register reg.ALL_LEFT ∙ h.all_left) taken_now.table))
-        (λ after r. (r.0.0, searched_next j i t u at field long gets.raised (few j) gets.taken tab (arena.won j (slice_index t j)) state now after taken_now r.0.1 r.1 h least))
-        (λ y r. r);
+        (register reg.TURNS ∙ h.turns) (register reg.ALL_LEFT ∙ h.all_left) taken_now.table)
+        (λ after r kept. (r.0, searched_next j i t u at field long gets.raised (few j) gets.taken tab (arena.won j (slice_index t j)) state now after taken_now r.1 kept h least));
   }

@@ -27,7 +27,7 @@ use Rattle.sl_machine.specs.State.{State, End}
 use Rattle.sl_plans.specs.Trees.{Tree, Then}
 use Rattle.sl_plans.specs.Achieves.{Achieves}
 use Rattle.sl_plans.specs.declared.plan.Bound.TheVariants as bound
-use Rattle.sl_plans.proofs.Rules.{achieves_more, achieves_from, then_achieves}
+use Rattle.sl_plans.proofs.Rules.{achieves_more, achieves_from, then_achieves, achieves_so}
 use Rattle.sl_pieces.specs.scopes.Forms.{Form, votes_of, table_of, groups_of, OnScope}
 use Rattle.sl_pieces.proofs.scopes.Scopes.{scopes_hold}
 use Rattle.sl_pieces.proofs.arenas.MethodArenas.{divisor_arenas, hamilton_arenas}
@@ -185,9 +185,8 @@ module _ (c : CountingCode) (e : Election) (f : Form) (x : Slots) (name : List �
         (λ t begun. then_achieves {Q = GoesOn g v m seats t}
         (achieves_more (seats_are_refused c e f x name k g v m seats t at slots begun.ready.on few begun.ready.amount begun.ready.total begun.needed) (λ u h. h) refused_ends)
         (λ u h. achieves_from (sym h.same)
-        (achieves_more (rest_awards t begun.ready h.no_refusal)
-        (λ w. award_from e x IsAward records g s t w (others_kept e x g s t begun.unchanged))
-        (λ y h. h))))
+        (achieves_so (rest_awards t begun.ready h.no_refusal)
+        (λ w. award_from e x IsAward records g s t w (others_kept e x g s t begun.unchanged)))))
 
 pub split_scopes_achieve : (c : CountingCode) (e : Election) (f : Form) (x : Slots) (name : List ℕ) (amounts votes : List ℕ) (minima : Option (List ℕ)) (method : Method)
     (majority : Majority) → IsElection e → HasSlots c f x name → FitsMethod method minima →

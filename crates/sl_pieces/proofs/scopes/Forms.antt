@@ -14,7 +14,7 @@ use Rattle.sl_machine.specs.State.{State, End}
 use Rattle.sl_plans.specs.declared.plan.Cursor.TheVariants as cursor
 use Rattle.sl_plans.specs.Trees.{Tree}
 use Rattle.sl_plans.specs.Achieves.{Achieves}
-use Rattle.sl_plans.proofs.Rules.{achieves_more}
+use Rattle.sl_plans.proofs.Rules.{achieves_so}
 use Rattle.sl_pieces.specs.scopes.Forms.{Form, AllParties, AllLands, AllLists, ListsOfParty, ListsInLand, votes_of, groups_of, on_list, scopes_plan, entries_plan, OnScope, OnItem}
 use Rattle.sl_pieces.specs.inner.scopes.Walks.{bare, Visits, EachEntry, EachScope}
 use Rattle.sl_pieces.proofs.scopes.Pieces.{stands_itself, one_each, passing_each}
@@ -134,4 +134,4 @@ module _ (c : CountingCode) (e : Election) (body : Tree) (Inv : ℕ → State �
 pub each_scope : EachScope
 each_scope c e f body Inv E s h inv =
     let all : 0 + length (groups_of e f) ≡ length (groups_of e f) = omega arith in
-    achieves_more ((takes_all c e body Inv E f h).walk 0 s (stands_itself (groups_of e f)) tt inv) (λ t r. subst (λ (n : ℕ). Inv n (bare t)) all r.1) (λ x r. r)
+    achieves_so ((takes_all c e body Inv E f h).walk 0 s (stands_itself (groups_of e f)) tt inv) (λ t r. subst (λ (n : ℕ). Inv n (bare t)) all r.1)

@@ -12,8 +12,7 @@ use Rattle.sl_plans.specs.declared.plan.Cursor.TheVariants as cursor
 use Rattle.sl_plans.specs.Trees.{Tree}
 use Rattle.sl_plans.specs.Achieves.{Achieves}
 use Rattle.sl_plans.specs.Frames.{may_move, KeepsRest}
-use Rattle.sl_plans.proofs.Rules.{achieves_more}
-use Rattle.sl_plans.proofs.KeepingRules.{achieves_kept}
+use Rattle.sl_plans.proofs.KeepingRules.{achieves_keeping}
 use Rattle.sl_pieces.specs.scopes.Forms.{OnScope, OnItem}
 use Rattle.sl_pieces.specs.inner.scopes.Walks.{bare, Visits}
 
@@ -45,5 +44,5 @@ pub entries_visited : {c : CountingCode} {e : Election} {body : Tree} {all : Lis
     → ((j : ℕ) (i : Item) (s : State) → slice_get all j ≡ Some i → OnItem i s → Inv j (bare s) → Achieves c e body s (λ t. Inv (j + 1) (bare t)) E)
     → Visits c e body all OnItem Inv E
 entries_visited {body = body} stays turn = record {
-  visit = λ j i s at on inv. achieves_more (achieves_kept (turn j i s at on inv)) (λ t r. (item_kept body stays s t r.1 i on, r.0)) (λ x r. r);
+  visit = λ j i s at on inv. achieves_keeping (turn j i s at on inv) (λ t r kept. (item_kept body stays s t kept i on, r));
 }

@@ -13,7 +13,7 @@ use Rattle.sl_machine.specs.Effects.{most}
 use Rattle.sl_machine.proofs.effects.Registers.{set_does, get_does}
 use Rattle.sl_machine.proofs.effects.Storing.{register_same, register_other}
 use Rattle.sl_plans.specs.Achieves.{Achieves, Never}
-use Rattle.sl_plans.proofs.Rules.{achieves_more, line_ends, line_goes, then_achieves}
+use Rattle.sl_plans.proofs.Rules.{line_ends, line_goes, then_achieves, achieves_so}
 use Rattle.sl_pieces.specs.scopes.Forms.{Form, votes_of, table_of, OnScope, OnItem}
 use Rattle.sl_pieces.specs.inner.scopes.Walks.{bare, Visits}
 use Rattle.sl_pieces.specs.scopes.Scopes.{IsEntry}
@@ -69,5 +69,5 @@ entries_are_summed c e f m g total cell slot s at known other on =
     let Inv : ℕ → State → Type 0 = Summed c e f g total cell slot column known other entry in
     then_achieves {Q = λ t. OnScope g.scope t × Inv 0 (bare t)}
     (line_goes (set_does c e s total 0) (line_ends (scope_stays g.scope s (with_register total 0 s) refl refl on, begins c e f g total cell slot column known other entry (bare (with_register total 0 s)) refl (register_same s total 0))))
-    (λ t h. achieves_more (each_entry c e f m g (add_cell total cell slot) Inv Never t at (visits c e f g total cell slot column known other entry) h.0 h.1)
-    (λ u r. (r.0, ends c e f g total cell slot column known other entry (bare u) r.1)) (λ x r. r))
+    (λ t h. achieves_so (each_entry c e f m g (add_cell total cell slot) Inv Never t at (visits c e f g total cell slot column known other entry) h.0 h.1)
+    (λ u r. (r.0, ends c e f g total cell slot column known other entry (bare u) r.1)))

@@ -12,7 +12,7 @@ use Rattle.sl_plans.specs.declared.plan.Cursor.{Cursor}
 use Rattle.sl_plans.specs.Trees.{Tree, Each}
 use Rattle.sl_plans.specs.Meaning.{count_of, cursor_of, set_cursor}
 use Rattle.sl_plans.specs.Achieves.{Achieves}
-use Rattle.sl_plans.proofs.Rules.{achieves_more, line_ends, if_no_list, each_achieves}
+use Rattle.sl_plans.proofs.Rules.{line_ends, if_no_list, each_achieves, achieves_so}
 use Rattle.sl_pieces.specs.scopes.Forms.{on_list, OnItem}
 use Rattle.sl_pieces.specs.inner.scopes.Walks.{bare, Visits}
 use Rattle.sl_pieces.proofs.scopes.Pieces.{Stands, stands_piece, length_next}
@@ -56,12 +56,11 @@ module _ {X : Type 0} (c : CountingCode) (e : Election) (all : List X) (Inv : �
           let before : ℕ → ℕ = λ k. length (flat_map f (range_with_len 0 k)) in
           each_achieves (λ k t. On t × Inv (j + before k) (bare t))
           (on, subst (λ (m : ℕ). Inv m (bare s)) (omega arith) inv)
-          (λ k t less h. achieves_more
+          (λ k t less h. achieves_so
           ((each k less).walk (j + before k) (set_cursor over (Some k) t)
           (subst (λ (m : ℕ). Stands all (j + before k) (f m)) (from_zero k) (stands_piece f all 0 n j k less stands)) (turns.begins k t h.0) (subst (λ (u : State). Inv (j + before k) u) (sym (turns.hidden (Some k) t)) h.1))
           (λ u r. let next : before (k + 1) ≡ before k + length (f k) = length_next f 0 k ∙ ap (λ (m : ℕ). before k + length (f m)) (from_zero k) in
-          (turns.stays k u r.0, (turns.leaves k u r.0, subst (λ (m : ℕ). Inv m (bare u)) (omega (arith, next)) r.1)))
-          (λ x h. h))
+          (turns.stays k u r.0, (turns.leaves k u r.0, subst (λ (m : ℕ). Inv m (bare u)) (omega (arith, next)) r.1))))
           (λ t h. (turns.ends t h.0, subst (λ (u : State). Inv (j + before n) u) (sym (turns.hidden None t)) h.1))
 
 -- where a Land and a party have a list, the body takes it; else nothing is done, and there is nothing to take

@@ -20,7 +20,7 @@ use Rattle.sl_plans.specs.declared.plan.Cursor.TheVariants as cursor
 use Rattle.sl_plans.specs.Trees.{Tree}
 use Rattle.sl_plans.specs.Achieves.{Achieves, Never}
 use Rattle.sl_plans.specs.Frames.{may_write_register, may_write_slot, may_move, may_write_table, may_seat, may_record_step, may_record_weight}
-use Rattle.sl_plans.proofs.Rules.{achieves_more, line_ends, line_goes, if_zero, ends_in, line_first, line_over}
+use Rattle.sl_plans.proofs.Rules.{line_ends, line_goes, if_zero, ends_in, line_first, line_over, achieves_so}
 use Rattle.sl_pieces.specs.scopes.Forms.{Form, table_of, votes_of, OnItem}
 use Rattle.sl_pieces.specs.scopes.Scopes.{IsEntry}
 use Rattle.sl_pieces.specs.declared.registers.TheConstants as reg
@@ -83,7 +83,7 @@ module _ (c : CountingCode) (e : Election) (x : Slots) (g : Group) (v m : List �
       pub minimum_finds : FindsBase c e x g v m seats m (λ j n. Unit {0}) (minimum_base x.minima)
       minimum_finds =
           found m (λ j n. Unit {0}) (minimum_base x.minima) (minimum_writes x.minima)
-          (λ j i s at here minima. achieves_more (minimum_at x.minima known j i s at here.on_item minima) (λ t h. (h, tt)) (λ y r. r))
+          (λ j i s at here minima. achieves_so (minimum_at x.minima known j i s at here.on_item minima) (λ t h. (h, tt)))
 
       -- the minima outside the field
       pub outside_finds : length m ≡ length v → FindsBase c e x g v m seats (outside_minima v m) (λ j n. Unit {0}) (outside_base x.minima)
@@ -91,7 +91,7 @@ module _ (c : CountingCode) (e : Election) (x : Slots) (g : Group) (v m : List �
           found (outside_minima v m) (λ j n. Unit {0}) (outside_base x.minima) (outside_writes x.minima)
           (λ j i s at here minima.
           if_zero {r = reg.WEIGHT}
-          (λ none. achieves_more (minimum_at x.minima known j i s at here.on_item minima) (λ t h. (h ∙ sym (outside_at v m j long (sym here.weight ∙ none)), tt)) (λ y r. r))
+          (λ none. achieves_so (minimum_at x.minima known j i s at here.on_item minima) (λ t h. (h ∙ sym (outside_at v m j long (sym here.weight ∙ none)), tt)))
           (λ w some.
           let field : InField v j = omega (arith, here.weight, some) in
           ends_in refl (sym (outside_in v m j field), tt)))
@@ -136,4 +136,4 @@ module _ (c : CountingCode) (e : Election) (x : Slots) (g : Group) (v m : List �
       (λ j i s at here minima.
       let small : slice_index v j ≤ MAX_WEIGHT = number_within MAX_WEIGHT v j weights in
       let high : seats * slice_index v j ≤ MAX_SEATS * slice_index v j = mul-le-mul_right (slice_index v j) few in
-      achieves_more (whole_at j s here.amount here.total here.weight (omega (arith, small, high))) (λ t h. (h.0 ∙ sym (at_wholes prefer v seats j), h.1)) (λ y r. r))
+      achieves_so (whole_at j s here.amount here.total here.weight (omega (arith, small, high))) (λ t h. (h.0 ∙ sym (at_wholes prefer v seats j), h.1)))

@@ -29,7 +29,7 @@ use Rattle.sl_plans.specs.declared.plan.Cursor.TheVariants as cursor
 use Rattle.sl_plans.specs.Trees.{Tree, Line}
 use Rattle.sl_plans.specs.Achieves.{Achieves, Never}
 use Rattle.sl_plans.specs.Frames.{may_write_register, may_write_slot, may_move, may_seat, may_record_step}
-use Rattle.sl_plans.proofs.Rules.{achieves_more, line_ends, line_goes, if_less, goes_as}
+use Rattle.sl_plans.proofs.Rules.{line_ends, line_goes, if_less, goes_as, achieves_so}
 use Rattle.sl_pieces.specs.scopes.Forms.{Form, table_of, kind_of, OnItem}
 use Rattle.sl_pieces.specs.scopes.Scopes.{IsScope}
 use Rattle.sl_pieces.proofs.scopes.Staying.{item_stays}
@@ -101,7 +101,7 @@ module _ (c : CountingCode) (e : Election) (f : Form) (g : Group) (scope : IsSco
     plain_enters d =
         entering c e g (arena_of d) v seats Any (λ j i. []) (Line (Prio d reg.WEIGHT reg.BASE ∷ [])) (refl, refl, refl, λ slot. refl, refl, refl, refl, refl, refl)
         (λ j i s others at here positive base within rest table.
-        achieves_more (prio_enters d j i s others at here.on_item here.weight positive base within table) (λ t h. (h.0, h.1 ∙ sym (append-nil s.weights))) (λ y r. r))
+        achieves_so (prio_enters d j i s others at here.on_item here.weight positive base within table) (λ t h. (h.0, h.1 ∙ sym (append-nil s.weights))))
 
     -- the weight of an entry, as it is told
     abbrev pub weight_of : Divisor → ℕ → Item → Weight
@@ -221,9 +221,9 @@ module _ (c : CountingCode) (e : Election) (f : Form) (g : Group) (scope : IsSco
   remainders_enter x m false =
       entering c e g (arena false) v seats (Remains c e x g v m seats) (λ j i. []) enter_remainder (refl, refl, refl, λ slot. refl, refl, refl, refl, refl, refl)
       (λ j i s others at here positive base within rest table.
-      achieves_more (rest_enters false j (slice_index (whole_parts v seats) j) i s others at here.on_item table (rest positive) refl) (λ t h. (h.0, h.1 ∙ sym (append-nil s.weights))) (λ y r. r))
+      achieves_so (rest_enters false j (slice_index (whole_parts v seats) j) i s others at here.on_item table (rest positive) refl) (λ t h. (h.0, h.1 ∙ sym (append-nil s.weights))))
   remainders_enter x m true =
       entering c e g (arena true) v seats (Remains c e x g v m seats) (λ j i. []) enter_preferred (refl, refl, refl, λ slot. refl, refl, refl, refl, refl, refl)
       (λ j i s others at here positive base within rest table.
-      achieves_more (preferred_enters j (slice_index (whole_parts v seats) j) i s others at here (at_wholes true v seats j) base within (rest positive) table)
-      (λ t h. (h.0, h.1 ∙ sym (append-nil s.weights))) (λ y r. r))
+      achieves_so (preferred_enters j (slice_index (whole_parts v seats) j) i s others at here (at_wholes true v seats j) base within (rest positive) table)
+      (λ t h. (h.0, h.1 ∙ sym (append-nil s.weights))))

@@ -20,8 +20,8 @@ use Rattle.sl_machine.proofs.effects.Storing.{cell_same, cell_other_place, cell_
 use Rattle.sl_plans.specs.Trees.{Tree, Line}
 use Rattle.sl_plans.specs.Achieves.{Achieves, Never}
 use Rattle.sl_plans.specs.Frames.{KeepsRest}
-use Rattle.sl_plans.proofs.Rules.{achieves_more, line_ends, line_goes, then_achieves, if_zero}
-use Rattle.sl_plans.proofs.KeepingRules.{achieves_kept}
+use Rattle.sl_plans.proofs.Rules.{line_ends, line_goes, then_achieves, if_zero, achieves_so}
+use Rattle.sl_plans.proofs.KeepingRules.{achieves_keeping}
 use Rattle.sl_pieces.specs.scopes.Forms.{Form, votes_of, table_of, kind_of, OnItem}
 use Rattle.sl_pieces.specs.scopes.Scopes.{IsEntry, IsScope}
 use Rattle.sl_pieces.specs.inner.scopes.Walks.{bare}
@@ -101,9 +101,8 @@ module _ {c : CountingCode} {e : Election} {f : Form} {x : Slots} {name : List �
   based s here h =
       let finds : FindsBase c e x g v m seats a.ladders.base Rest base = given.finds in
       let minima : HasMinima e g.entries v x.minima s m = minima_kept e g.entries v m before s x.minima (λ slot is q. h.columns slot q (given.slots.not_minima slot is)) given.minima in
-      achieves_more (achieves_kept (finds.finds j i s at here minima))
-      (λ t r.
-      let kept : KeepsRest base s t = r.1 in
+      achieves_keeping (finds.finds j i s at here minima)
+      (λ t r kept.
       let stays : Stays base = record { party = finds.keeps_party; land = finds.keeps_land; win = finds.keeps_win } in
       let amount : t.registers reg.AMOUNT ≡ s.registers reg.AMOUNT = kept.registers reg.AMOUNT finds.keeps_amount in
       let total : t.registers reg.TOTAL ≡ s.registers reg.TOTAL = kept.registers reg.TOTAL finds.keeps_total in
@@ -118,10 +117,9 @@ module _ {c : CountingCode} {e : Election} {f : Form} {x : Slots} {name : List �
               placed = kept.placed finds.seats_nobody;
             })
             (kept.table finds.keeps_table ∙ h.table) (kept.steps_kept finds.tells_no_step ∙ h.steps) (kept.weights_kept finds.tells_no_weight ∙ h.weights);
-        base_is = r.0.0;
-        rest = r.0.1;
+        base_is = r.0;
+        rest = r.1;
       })
-      (λ end never. never)
 
   -- they are written down
   stored_cells : (s : State) → ((q : ℕ) (y : Item) → q < j → slice_get g.entries q ≡ Some y → s.columns x.result (place e y) ≡ slice_index a.ladders.base q)
@@ -183,7 +181,7 @@ module _ {c : CountingCode} {e : Election} {f : Form} {x : Slots} {name : List �
       let few : seats ≤ MAX_SEATS = given.few in
       let most : MAX_SEATS ≡ most_seats = refl in
       let tree : Tree = records_all x.stage (kind_of f) in
-      achieves_more
+      achieves_so
       (seats_recorded c e x.stage (kind_of f) g.scope i (arenas.table_of a (first_waiting a j)) (place e i) given.slots.stage
       (λ u on. given.scope.kind u (entry.scope u on))
       (λ u on. ap (λ k. index_at e k u) given.arena.entries ∙ entry.index u on)
@@ -204,15 +202,13 @@ module _ {c : CountingCode} {e : Election} {f : Form} {x : Slots} {name : List �
         base_is = kept.registers reg.BASE refl ∙ h.base_is;
         rest = subst (Rest j) (sym (kept.registers reg.STEP refl)) h.rest;
       })
-      (λ end never. never)
 
   -- its next one enters the table
   entered : (s : State) → Stands (j + 1) (j + 1) j s → 0 < slice_index v j → Achieves c e enter s (λ t. FirstFilled e x g a v seats told before (j + 1) (j + 1) (j + 1) (bare t)) Never
   entered s h some =
       let enters : EntersNext c e g a v seats Rest told enter = given.enters in
-      achieves_more (achieves_kept (enters.enters j i s (first_waiting a j) at h.at_entry some h.base_is seats_within h.rest h.filled.table))
-      (λ t r.
-      let kept : KeepsRest enter s t = r.1 in
+      achieves_keeping (enters.enters j i s (first_waiting a j) at h.at_entry some h.base_is seats_within h.rest h.filled.table)
+      (λ t r kept.
       filled_as (j + 1) (j + 1) (bare t) h.filled
       (record {
         amount = kept.registers reg.AMOUNT enters.keeps_amount;
@@ -221,10 +217,9 @@ module _ {c : CountingCode} {e : Election} {f : Form} {x : Slots} {name : List �
         columns = λ slot q. kept.columns slot (enters.keeps_slots slot) q;
         placed = kept.placed enters.seats_nobody;
       })
-      (r.0.0 ∙ ap (λ table. Some table) (waiting_more g j i at given.arena some))
+      (r.0 ∙ ap (λ table. Some table) (waiting_more g j i at given.arena some))
       (kept.steps_kept enters.tells_no_step ∙ h.filled.steps)
-      (r.0.1 ∙ row_more before.weights (first_told g v told j) (first_told g v told (j + 1)) (told j i) s.weights h.filled.weights (told_more g j i at v told some)))
-      (λ end never. never)
+      (r.1 ∙ row_more before.weights (first_told g v told j) (first_told g v told (j + 1)) (told j i) s.weights h.filled.weights (told_more g j i at v told some)))
 
   skipped : (s : State) → Stands (j + 1) (j + 1) j s → slice_index v j ≡ 0 → FirstFilled e x g a v seats told before (j + 1) (j + 1) (j + 1) (bare s)
   skipped s h none =

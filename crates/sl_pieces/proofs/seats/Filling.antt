@@ -22,7 +22,7 @@ use Rattle.sl_machine.specs.State.{State, PriorityTable, with_register}
 use Rattle.sl_machine.specs.Effects.{with_table}
 use Rattle.sl_plans.specs.Trees.{Tree, Line}
 use Rattle.sl_plans.specs.Achieves.{Achieves, Never}
-use Rattle.sl_plans.proofs.Rules.{achieves_more, then_achieves, ends_in}
+use Rattle.sl_plans.proofs.Rules.{then_achieves, ends_in, achieves_so}
 use Rattle.sl_pieces.specs.scopes.Forms.{Form, table_of, OnScope, OnItem}
 use Rattle.sl_pieces.specs.inner.scopes.Walks.{bare, Visits}
 use Rattle.sl_pieces.proofs.scopes.Forms.{each_entry}
@@ -137,5 +137,5 @@ fills_achieve c e f x name k g a by v m seats Rest told base enter state at slot
       minima = minima;
     } in
     then_achieves (begins given on amount total) (λ t h.
-    achieves_more (each_entry c e f k g (fill_entry f x base enter) (λ j. FirstFilled e x g a v seats told state j j j) Never t at (visits given) h.0 h.1)
-    (λ u r. ends given u r.0 r.1) (λ end never. never))
+    achieves_so (each_entry c e f k g (fill_entry f x base enter) (λ j. FirstFilled e x g a v seats told state j j j) Never t at (visits given) h.0 h.1)
+    (λ u r. ends given u r.0 r.1))

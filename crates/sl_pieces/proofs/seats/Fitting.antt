@@ -1,10 +1,9 @@
 -- The weights of a scope's entries sum to a number that a register holds.
-use Rattle.std.proofs.Common.{◌≡◌, ℕ, zero, suc, ◌+◌, ◌*◌, ◌<◌, ◌≤◌, List, length, map, refl, sym, subst, inl, inr, arith, mul-le-mul_right}
+use Rattle.std.proofs.Common.{◌≡◌, ℕ, zero, suc, ◌+◌, ◌*◌, ◌<◌, ◌≤◌, List, length, map, refl, sym, subst, arith, mul-le-mul_right}
 use Rattle.std.specs.Prelude.{sum, slice_index, All, Some, slice_get}
 use Rattle.std.specs.List.Sorted.{IsStrictlyIncreasing}
 use Rattle.std.proofs.lemmas.List.{length-map}
 use Rattle.std.proofs.lemmas.List.Sums.{sum_by-le}
-use Rattle.std.proofs.lemmas.Option.{slice_get_cases}
 use Rattle.sl_ratio.specs.declared.limits.TheConstants.{MAX_WEIGHT, MAX_LANDS, MAX_PARTIES}
 use Rattle.sl_stages.specs.returns.Election.{Election, IsElection, lands_of, parties_of}
 use Rattle.sl_stages.specs.meaning.Scopes.{Group, place}
@@ -15,6 +14,7 @@ use Rattle.sl_pieces.specs.scopes.Scopes.{IsScope}
 use Rattle.sl_pieces.proofs.scopes.Scopes.{scopes_hold}
 use Rattle.sl_pieces.proofs.seats.Lists.{mapped_at}
 use Rattle.sl_pieces.specs.seats.Slots.{HasCells}
+use Rattle.sl_plans.proofs.KeepingRules.{element_there}
 
 -- ---- numbers that rise
 
@@ -44,12 +44,8 @@ module _ (e : Election) (f : Form) (g : Group) (h : IsScope e f g) where
   place_below : (k : ℕ) → k < length (map (place e) g.entries) → slice_index (map (place e) g.entries) k < cells_of e (votes_of f)
   place_below k less =
       let long : length (map (place e) g.entries) ≡ length g.entries = length-map g.entries (place e) in
-      elim (slice_get_cases g.entries k).1 [
-        | inl some ↦
-            let is : slice_index (map (place e) g.entries) k ≡ place e some.0 = mapped_at (place e) g.entries k some.0 some.2 in
-            subst (λ (n : ℕ). n < cells_of e (votes_of f)) (sym is) (h.entry k some.0 some.2).within
-        | inr none ↦ let past : length g.entries ≤ k = none.0 in absurd (omega (arith, less, long, past))
-      ]
+      let there = element_there g.entries k (omega (arith, less, long)) in
+      subst (λ (n : ℕ). n < cells_of e (votes_of f)) (sym (mapped_at (place e) g.entries k there.0 there.1)) (h.entry k there.0 there.1).within
 
   few_entries : length g.entries ≤ cells_of e (votes_of f)
   few_entries =

@@ -24,8 +24,8 @@ use Rattle.sl_machine.proofs.effects.Registers.{get_does}
 use Rattle.sl_plans.specs.declared.plan.Test.TheVariants as test
 use Rattle.sl_plans.specs.Trees.{Tree, Line, Then, If}
 use Rattle.sl_plans.specs.Achieves.{Achieves}
-use Rattle.sl_plans.proofs.Rules.{achieves_more, line_ends, if_zero, if_less, line_first, line_over}
-use Rattle.sl_plans.proofs.KeepingRules.{achieves_kept}
+use Rattle.sl_plans.proofs.Rules.{line_ends, if_zero, if_less, line_first, line_over}
+use Rattle.sl_plans.proofs.KeepingRules.{achieves_keeping}
 use Rattle.sl_stages.specs.declared.table.Weight.{Weight}
 use Rattle.sl_pieces.specs.inner.seats.Seated.{IsSeated}
 use Rattle.sl_pieces.specs.arenas.Arenas.{Arena}
@@ -222,10 +222,9 @@ majority_is_kept c e f x name k g a v seats told majority before s state at slot
         let run : Achieves c e loop state (λ t. OnScope g.scope t × Inv (length g.entries) (bare t)) E =
         each_entry c e f k g (refuse_entry f x) Inv E state at (visits c e f x name g v seats majority s state slots scope weights h.cells small all few is some) h.on
         (record { columns = refl; amount = h.amount; total = h.total; none = begins_allowed v seats s }) in
-        achieves_more (achieves_kept run)
-        (λ t r. record {
-          seated = seated_unchanged e x g a v seats told before s state t h (unchanged loop state t (refuse_leaves f x) r.1) r.0.0 (r.0.1.amount ∙ sym h.amount) (r.0.1.total ∙ sym h.total);
+        achieves_keeping run
+        (λ t r kept. record {
+          seated = seated_unchanged e x g a v seats told before s state t h (unchanged loop state t (refuse_leaves f x) kept) r.0 (r.1.amount ∙ sym h.amount) (r.1.total ∙ sym h.total);
           allowed = allowed_none majority v seats s
-              (all_allowed v seats s (lengths c e f x name g v seats majority s state slots scope weights h.cells small all few is some) (length g.entries) weights.one_each r.0.1.none);
+              (all_allowed v seats s (lengths c e f x name g v seats majority s state slots scope weights h.cells small all few is some) (length g.entries) weights.one_each r.1.none);
         })
-        (λ y r. r)

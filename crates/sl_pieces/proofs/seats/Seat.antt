@@ -17,8 +17,8 @@ use Rattle.sl_plans.specs.declared.plan.Cursor.TheVariants as cursor
 use Rattle.sl_plans.specs.Trees.{Tree, ones}
 use Rattle.sl_plans.specs.Achieves.{Achieves, Never}
 use Rattle.sl_plans.specs.Frames.{may_write_register, may_write_slot, may_move, may_seat, may_record_step, may_record_weight, KeepsRest}
-use Rattle.sl_plans.proofs.Rules.{achieves_more, then_achieves}
-use Rattle.sl_plans.proofs.KeepingRules.{achieves_kept}
+use Rattle.sl_plans.proofs.Rules.{then_achieves}
+use Rattle.sl_plans.proofs.KeepingRules.{achieves_keeping}
 use Rattle.sl_machine.proofs.effects.Storing.{register_other}
 use Rattle.sl_pieces.specs.scopes.Forms.{Form, OnItem}
 use Rattle.sl_pieces.proofs.scopes.Staying.{scope_stays}
@@ -134,9 +134,9 @@ module _ (c : CountingCode) (e : Election) (f : Form) (x : Slots) (name : List �
           seated_next s peers given t u j i gets at (table_of a gets.taken.others) (a.won j held) mine state now next taken got seated step counted is in
           let still : HasCells e g.entries (next.columns x.votes) v =
           record { one_each = votes.one_each; at = λ k h there. after.columns x.votes (place e h) slots.not_votes ∙ votes.at k h there } in
-          achieves_more
-          (achieves_kept (re.enters t u j i next gets.taken at gets.has low more high got.on_item (got.held ∙ sym more) still (got.table ∙ taken.table)))
-          (λ end r. (r.0, seated_still again re u next end r.1 after)) (λ y r. r));
+          achieves_keeping
+          (re.enters t u j i next gets.taken at gets.has low more high got.on_item (got.held ∙ sym more) still (got.table ∙ taken.table))
+          (λ end r kept. (r, seated_still again re u next end kept after)));
     }
 
     pub seats_fit : FitsAwards (IsSeated e x g a v seats told before) (seat f x again)

@@ -3,7 +3,6 @@ use Rattle.std.proofs.Common.{◌≡◌, ◌≢◌, ℕ, ◌<◌, ◌≤◌, Lis
 use Rattle.std.specs.Prelude.{slice_index}
 use Rattle.std.proofs.lemmas.Bool.{cases_lt}
 use Rattle.std.proofs.lemmas.List.{length-map}
-use Rattle.std.proofs.lemmas.Option.{slice_get_cases}
 use Rattle.sl_ratio.specs.declared.limits.TheConstants.{MAX_WEIGHT, MAX_SEATS}
 use Rattle.sl_stages.specs.declared.fault.Item.{Item}
 use Rattle.sl_stages.specs.returns.Election.{Election}
@@ -14,6 +13,7 @@ use Rattle.sl_pieces.specs.scopes.Forms.{Form, table_of}
 use Rattle.sl_pieces.specs.scopes.Scopes.{IsScope}
 use Rattle.sl_pieces.specs.seats.Slots.{HasCells}
 use Rattle.sl_pieces.proofs.seats.Lists.{mapped_at, rises_far}
+use Rattle.sl_plans.proofs.KeepingRules.{element_there}
 
 pub record OfScope (e : Election) (f : Form) (g : Group) (a : Arena) : Type 0 where
   pub arena : IsArena MAX_SEATS a
@@ -47,7 +47,5 @@ module _ (e : Election) (f : Form) (g : Group) (a : Arena) (of : OfScope e f g a
   entry_there j held has =
       let low : j < length a.ladders.base = of.arena.falling.within j held has in
       let long : length a.places ≡ length g.entries = ap (λ ps. length ps) of.places ∙ length-map g.entries (place e) in
-      elim (slice_get_cases g.entries j).1 [
-        | inl found ↦ (found.0, found.2)
-        | inr past ↦ absurd (let far = past.0 in let same = of.arena.long in omega (arith, low, long, far, same))
-      ]
+      let same = of.arena.long in
+      element_there g.entries j (omega (arith, low, long, same))

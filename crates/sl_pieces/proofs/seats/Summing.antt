@@ -16,8 +16,8 @@ use Rattle.sl_machine.proofs.effects.Registers.{get_does}
 use Rattle.sl_plans.specs.Trees.{Tree, Line}
 use Rattle.sl_plans.specs.Achieves.{Achieves, Never}
 use Rattle.sl_plans.specs.Frames.{may_write_register}
-use Rattle.sl_plans.proofs.Rules.{achieves_more, line_ends, line_goes, then_achieves, ends_in}
-use Rattle.sl_plans.proofs.KeepingRules.{achieves_kept}
+use Rattle.sl_plans.proofs.Rules.{line_ends, line_goes, then_achieves, ends_in}
+use Rattle.sl_plans.proofs.KeepingRules.{achieves_keeping}
 use Rattle.sl_pieces.specs.scopes.Forms.{Form, votes_of, table_of, entries_plan, OnScope, OnItem, groups_of}
 use Rattle.sl_pieces.specs.inner.scopes.Walks.{bare, Visits}
 use Rattle.sl_pieces.specs.scopes.Scopes.{IsEntry}
@@ -139,12 +139,11 @@ sums_achieve c e f x name k g v m state at slots on weights minima =
     then_achieves {Q = λ t. OnScope g.scope t × Inv 0 (bare t)}
     (ends_in refl (scope_stays g.scope state begun refl refl on, record { columns = refl; total = first_none v; needed = first_none m }))
     (λ t h. each_entry c e f k g (body_of x.votes x.minima) Inv Never t at (visits c e f g x.votes v m state slots.votes entry weights x.minima slots.minima minima) h.0 h.1) in
-    achieves_more (achieves_kept course)
-    (λ t h. record {
-      on = h.0.0;
-      amount = h.1.registers reg.AMOUNT (register_free f (body_of x.votes x.minima) reg.AMOUNT (body_keeps_amount x.votes x.minima));
-      total = h.0.1.total ∙ ap (λ n. min n most) (first_all v (length g.entries) weights.one_each);
-      needed = h.0.1.needed ∙ ap (λ n. min n most) (first_all m (length g.entries) long);
-      unchanged = unchanged (sums f x) state t (sums_leave f x) h.1;
+    achieves_keeping course
+    (λ t h kept. record {
+      on = h.0;
+      amount = kept.registers reg.AMOUNT (register_free f (body_of x.votes x.minima) reg.AMOUNT (body_keeps_amount x.votes x.minima));
+      total = h.1.total ∙ ap (λ n. min n most) (first_all v (length g.entries) weights.one_each);
+      needed = h.1.needed ∙ ap (λ n. min n most) (first_all m (length g.entries) long);
+      unchanged = unchanged (sums f x) state t (sums_leave f x) kept;
     })
-    (λ y r. r)
