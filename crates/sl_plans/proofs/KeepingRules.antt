@@ -1,5 +1,7 @@
 -- Rules for plans that leave something as it was.
-use Rattle.std.proofs.Common.{◌≡◌, ℕ, suc, ◌+◌, ◌<◌, ◌≤◌, false, ◌==◌, List, length, Option, Some, None, slice_get, refl, ◌∙◌, inl, inr, arith}
+use Rattle.std.proofs.Common.{◌≡◌, ℕ, suc, ◌+◌, ◌<◌, ◌≤◌, Bool, true, false, ◌==◌, List, [], ◌∷◌, length, Option, Some, None, slice_get, nat_eq, refl, sym, ap, subst, ◌∙◌, inl, inr, arith}
+use Rattle.std.specs.List.{list_any, AllByRecursion as Every}
+use Rattle.std.proofs.lemmas.Bool.{or_parts, or_cases, eqb-true}
 use Rattle.std.proofs.lemmas.Option.{slice_get_cases}
 use Rattle.sl_stages.specs.declared.returns.Win.{Win}
 use Rattle.sl_stages.specs.returns.Election.{Election, wins_of}
@@ -23,6 +25,21 @@ element_there xs i less = elim ((slice_get_cases xs i).1) [
   | inl there ↦ (there.0, there.2)
   | inr past ↦ absurd (omega (arith, past.0))
 ]
+
+-- what no element of a list passes, this one does not
+pub free_of : (p : ℕ → Bool) (rs : List ℕ) → list_any p rs ≡ false → (r : ℕ) → list_any (nat_eq r) rs ≡ true → p r ≡ false
+free_of p [] none r there = cc there
+free_of p (q ∷ rs) none r there =
+    let nor = or_parts (p q) (list_any p rs) none in
+    elim (or_cases (nat_eq r q) (list_any (nat_eq r) rs) there) [
+      | inl is ↦ ap p (eqb-true r q is) ∙ nor.0
+      | inr rest ↦ free_of p rs nor.1 r rest
+    ]
+
+-- what holds of each number of a list holds of this one
+pub each_of : (P : ℕ → Type 0) (rs : List ℕ) → Every P rs → (r : ℕ) → list_any (nat_eq r) rs ≡ true → P r
+each_of P [] all r there = cc there
+each_of P (q ∷ rs) all r there = elim (or_cases (nat_eq r q) (list_any (nat_eq r) rs) there) [ inl is ↦ subst P (sym (eqb-true r q is)) all.0 | inr rest ↦ each_of P rs all.1 r rest ]
 
 -- what the plan cannot write is as it was, too
 pub achieves_kept : {c : CountingCode} {e : Election} {tree : Tree} {s : State} {Q : State → Type 0} {E : End → Type 0} → Achieves c e tree s Q E → Achieves c e tree s (λ t. Q t × KeepsRest tree s t) E

@@ -1,5 +1,8 @@
 -- The plan of batches walks from settled vector to settled vector, a seat a turn.
-use Rattle.std.proofs.Common.{◌≡◌, ℕ, zero, suc, ◌+◌, ◌<◌, ◌≤◌, false, ◌==◌, List, [], ◌∷◌, length, sum, refl, sym, subst, inl, inr, arith, ne_eqb}
+use Rattle.std.proofs.Common.{◌≡◌, ◌≢◌, ℕ, zero, suc, ◌+◌, ◌<◌, ◌≤◌, false, List, [], ◌∷◌, length, sum, refl, sym, subst, inl, inr, arith, true, ◌∙◌}
+use Rattle.std.specs.List.{list_any}
+use Rattle.std.specs.Prelude.{nat_eq}
+use Rattle.std.proofs.lemmas.Bool.{eq-eqb, false≢true}
 use Rattle.sl_stages.specs.returns.Election.{Election}
 use Rattle.sl_stages.specs.laws.Ladders.{IsSettled}
 use Rattle.sl_stages.specs.laws.Walks.{MidBatch}
@@ -14,11 +17,11 @@ use Rattle.sl_plans.specs.Meaning.{turns_in}
 use Rattle.sl_plans.specs.Achieves.{Achieves, Never}
 use Rattle.sl_plans.specs.Frames.{may_write_register}
 use Rattle.sl_plans.proofs.Rules.{line_ends, then_achieves, if_zero, goes_as, then_at, achieves_so}
-use Rattle.sl_plans.proofs.KeepingRules.{times_keeping}
+use Rattle.sl_plans.proofs.KeepingRules.{times_keeping, free_of}
 use Rattle.sl_pieces.specs.arenas.Arenas.{Arena, IsArena, HasWaiting}
 use Rattle.sl_pieces.specs.declared.registers.TheConstants as reg
 use Rattle.sl_pieces.specs.awards.Trees.{one_seat, batch_turn, batches}
-use Rattle.sl_pieces.specs.inner.awards.Batches.{GivesSeats, HasBegun, NoBatch, OneBegan, BeginsBatches, Between, Within, EndOfBatches, AfterBatches, FitsLoop, BatchesAchieve}
+use Rattle.sl_pieces.specs.inner.awards.Batches.{GivesSeats, HasBegun, NoBatch, OneBegan, BeginsBatches, Between, Within, EndOfBatches, AfterBatches, FitsLoop, BatchesAchieve, walk_registers}
 use Rattle.sl_pieces.proofs.awards.Turns.{SeatGiven, gives_seat}
 
 -- Where the plan stands with w turns to come, when the entries hold t: between batches, within one, or behind the last one. So many seats
@@ -39,10 +42,7 @@ pub record BeforeTurn (a : Arena) (seats : ℕ) (Begun : List ℕ → ℕ → Ty
 -- the plan of a turn does not write the loop's register
 keeps_turns : (Held : List ℕ → State → Type 0) (r : ℕ) (begin on : Tree) → FitsLoop Held r begin on → may_write_register (batch_turn begin on) r ≡ false
 keeps_turns Held r begin on fits =
-    let peers : (r == reg.PEERS) ≡ false = ne_eqb r reg.PEERS (λ same. fits.not_peers (sym same)) in
-    let in_batch : (r == reg.IN_BATCH) ≡ false = ne_eqb r reg.IN_BATCH (λ same. fits.not_batch (sym same)) in
-    let own : (r == ones) ≡ false = ne_eqb r ones (λ same. fits.own (sym same)) in
-    rw (fits.begin_keeps, fits.on_keeps, peers, in_batch, own) refl
+    rw (fits.begin_keeps, fits.on_keeps, free_of (nat_eq r) walk_registers fits.apart reg.PEERS refl, free_of (nat_eq r) walk_registers fits.apart reg.IN_BATCH refl, free_of (nat_eq r) walk_registers fits.apart ones refl) refl
 
 module _ (c : CountingCode) (e : Election) (a : Arena) (most seats r : ℕ) (begin on : Tree)
     (Begun : List ℕ → ℕ → Type 0) (Stopped : List ℕ → Type 0) (Held : List ℕ → State → Type 0)
@@ -52,16 +52,20 @@ module _ (c : CountingCode) (e : Election) (a : Arena) (most seats r : ℕ) (beg
   abbrev Before : ℕ → State → Type 0
   Before = BeforeTurn a seats Begun Stopped Held
 
+  -- other registers are not the loop's
+  apart : (q : ℕ) → list_any (nat_eq q) walk_registers ≡ true → q ≢ r
+  apart q there same = false≢true (sym (free_of (nat_eq r) walk_registers fits.apart q there) ∙ eq-eqb r q (sym same))
+
   -- the count of a turn changes nothing of it
   counted : (w : ℕ) (state : State) → Before (suc w) state → Before (suc w) (with_register r w (with_register ones 1 state))
   counted w state h =
       let one : State = with_register ones 1 state in
-      let batch : (with_register r w one).registers reg.IN_BATCH ≡ state.registers reg.IN_BATCH = register_other one r w reg.IN_BATCH fits.not_batch in
-      let step : (with_register r w one).registers reg.STEP ≡ state.registers reg.STEP = register_other one r w reg.STEP fits.not_step in
+      let batch : (with_register r w one).registers reg.IN_BATCH ≡ state.registers reg.IN_BATCH = register_other one r w reg.IN_BATCH (apart reg.IN_BATCH refl) in
+      let step : (with_register r w one).registers reg.STEP ≡ state.registers reg.STEP = register_other one r w reg.STEP (apart reg.STEP refl) in
       record {
         t = h.t;
         waits = h.waits;
-        held = fits.blind.blind h.t w one (fits.blind_ones.blind h.t 1 state h.held);
+        held = fits.own.blind h.t w one ((fits.blind ones refl).blind h.t 1 state h.held);
         turn = rw (batch, step) h.turn;
       }
 
@@ -128,7 +132,7 @@ module _ (c : CountingCode) (e : Election) (a : Arena) (most seats r : ℕ) (beg
   all_turns : (bound : Bound) (state : State) → state.registers r ≤ turns_in e bound → Before (state.registers r) state
       → Achieves c e (Times r bound (batch_turn begin on)) state (AfterBatches a seats Begun Stopped Held) Never
   all_turns bound state few first =
-      times_keeping Before (ne_eqb r ones (λ same. fits.own (sym same))) (keeps_turns Held r begin on fits) few first
+      times_keeping Before (free_of (nat_eq r) walk_registers fits.apart ones refl) (keeps_turns Held r begin on fits) few first
       (λ w u is h. let here : Before (suc w) (with_register r w (with_register ones 1 u)) = counted w u h in
       turn_goes w here.t (with_register r w (with_register ones 1 u)) here.waits here.held here.turn)
       (λ u is h. record { t = h.t; waiting = h.waits; held = h.held; end = ends_so h.t u h.turn })
@@ -138,11 +142,11 @@ module _ (c : CountingCode) (e : Election) (a : Arena) (most seats r : ℕ) (beg
       → Achieves c e (batches r bound begin on) state (AfterBatches a seats Begun Stopped Held) Never
   all_batches bound t state settled waits held many few =
       let none : State = with_register reg.IN_BATCH 0 state in
-      let same : none.registers r ≡ state.registers r = register_other state reg.IN_BATCH 0 r (λ is. fits.not_batch (sym is)) in
+      let same : none.registers r ≡ state.registers r = register_other state reg.IN_BATCH 0 r (λ is. apart reg.IN_BATCH refl (sym is)) in
       let first : Before (none.registers r) none = record {
         t = t;
         waits = waits;
-        held = fits.blind_batch.blind t 0 state held;
+        held = (fits.blind reg.IN_BATCH refl).blind t 0 state held;
         turn = BetweenBatches settled refl (omega (arith, same, many));
       } in
       goes_as (all_turns bound none (omega (arith, same, few)) first) refl

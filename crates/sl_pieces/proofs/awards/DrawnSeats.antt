@@ -21,9 +21,9 @@ use Rattle.sl_code.specs.declared.instr.Instr.TheVariants.{Takelot}
 use Rattle.sl_plans.specs.Trees.{Tree, Line, Then, If, ones}
 use Rattle.sl_plans.specs.Meaning.{turns_in}
 use Rattle.sl_plans.specs.Achieves.{Achieves, Never}
-use Rattle.sl_plans.specs.Frames.{KeepsRest}
+use Rattle.sl_plans.specs.Frames.{KeepsRest, may_write_register}
 use Rattle.sl_plans.proofs.Rules.{line_ends, if_empty, line_first, line_over}
-use Rattle.sl_plans.proofs.KeepingRules.{times_keeping, achieves_keeping}
+use Rattle.sl_plans.proofs.KeepingRules.{times_keeping, achieves_keeping, free_of}
 use Rattle.sl_pieces.specs.arenas.Arenas.{Arena, HasWaiting, seat_of, waiting, seat_taken}
 use Rattle.sl_pieces.specs.arenas.Laws.{SeatTaken, DrawnTurn, Turn}
 use Rattle.sl_pieces.specs.arenas.Effects.{IsWaiting, TableEffects}
@@ -33,7 +33,7 @@ use Rattle.sl_pieces.proofs.arenas.Turns.{waiting_turns}
 use Rattle.sl_pieces.specs.declared.registers.TheConstants as reg
 use Rattle.sl_pieces.specs.awards.Trees.{drawn_seats}
 use Rattle.sl_pieces.specs.inner.awards.Batches.{Gets, GivesSeats}
-use Rattle.sl_pieces.specs.inner.awards.Awards.{CanAward, IsCounted, FitsAwards}
+use Rattle.sl_pieces.specs.inner.awards.Awards.{CanAward, IsCounted, FitsAwards, award_registers}
 use Rattle.sl_pieces.proofs.awards.Turns.{raised_once, holds_at_most, same_registers}
 
 -- what holds of a state while so many of the last seats, from the settled vector s on, are still to be drawn, and k of them have been
@@ -92,7 +92,7 @@ module _ (c : CountingCode) (e : Election) (a : Arena) (most seats n : ℕ) (mea
     held_counted : (t : List ℕ) (w n : ℕ) (state : State) → Held t state → Held t (with_register reg.PEERS n (with_register reg.LEFT w (with_register ones 1 state)))
     held_counted t w n state h =
         let one : State = with_register ones 1 state in
-        fits.blind_peers.blind t n (with_register reg.LEFT w one) (fits.blind_left.blind t w one (fits.blind_ones.blind t 1 state h))
+        (fits.blind reg.PEERS refl).blind t n (with_register reg.LEFT w one) ((fits.blind reg.LEFT refl).blind t w one ((fits.blind ones refl).blind t 1 state h))
 
     module _ (w : ℕ) (state : State) (drawing : IsDrawing a seats meant Held s tied (suc w) state) (seat : DrawnSeat e a meant can.name s tied drawing.t drawing.k) (number : ℕ) where
       -- the state of the machine before the seat is taken, and where the plan for it begins
@@ -109,7 +109,7 @@ module _ (c : CountingCode) (e : Election) (a : Arena) (most seats n : ℕ) (mea
       next_drawn : (after : State) → HasWaiting a seat.u after → Held seat.u after → KeepsRest on at_drawn after → IsDrawing a seats meant Held s tied w after
       next_drawn after waits held kept =
           let all : sum s + drawing.k + suc w ≡ seats = drawing.number in
-          let same : after.registers reg.STEP ≡ state.registers reg.STEP = kept.registers reg.STEP fits.keeps_step ∙ same_step in
+          let same : after.registers reg.STEP ≡ state.registers reg.STEP = kept.registers reg.STEP (free_of (may_write_register on) award_registers fits.keeps reg.STEP refl) ∙ same_step in
           record {
             t = seat.u;
             k = drawing.k + 1;
@@ -150,4 +150,4 @@ module _ (c : CountingCode) (e : Election) (a : Arena) (most seats n : ℕ) (mea
     pub seats_drawn : (bound : Bound) (state : State) → state.registers reg.LEFT ≤ turns_in e bound → IsDrawing a seats meant Held s tied (state.registers reg.LEFT) state
         → Achieves c e (drawn_seats n bound on) state (IsDrawing a seats meant Held s tied 0) Never
     seats_drawn bound state within first =
-        times_keeping (IsDrawing a seats meant Held s tied) refl fits.keeps_left within first (λ w t is drawing. draw_turn w t drawing) (λ t is last. last)
+        times_keeping (IsDrawing a seats meant Held s tied) refl (free_of (may_write_register on) award_registers fits.keeps reg.LEFT refl) within first (λ w t is drawing. draw_turn w t drawing) (λ t is last. last)

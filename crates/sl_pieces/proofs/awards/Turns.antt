@@ -20,9 +20,9 @@ use Rattle.sl_machine.specs.Places.{at_entry}
 use Rattle.sl_machine.specs.Effects.{Goes, effect}
 use Rattle.sl_plans.specs.Trees.{Tree, Line, Then, ones, count_down}
 use Rattle.sl_plans.specs.Achieves.{Achieves, Never}
-use Rattle.sl_plans.specs.Frames.{KeepsRest}
+use Rattle.sl_plans.specs.Frames.{KeepsRest, may_write_register}
 use Rattle.sl_plans.proofs.Rules.{then_achieves, if_empty, ends_in, line_first, line_over, achieves_so}
-use Rattle.sl_plans.proofs.KeepingRules.{achieves_keeping}
+use Rattle.sl_plans.proofs.KeepingRules.{achieves_keeping, free_of}
 use Rattle.sl_pieces.specs.arenas.Arenas.{Arena, IsArena, HasWaiting, seat_of, table_of, waiting, seat_taken}
 use Rattle.sl_pieces.specs.arenas.Laws.{SeatTaken, Turn}
 use Rattle.sl_pieces.specs.arenas.Effects.{IsWaiting}
@@ -83,7 +83,7 @@ module _ (c : CountingCode) (e : Election) (a : Arena) (Held : List ℕ → Stat
       let less : state.registers reg.IN_BATCH - 1 ≡ n = omega (arith, h.left) in
       ends_in refl (record {
         waits = h.waits;
-        held = fits.blind_batch.blind u (one.registers reg.IN_BATCH - one.registers ones) one (fits.blind_ones.blind u 1 state h.held);
+        held = (fits.blind reg.IN_BATCH refl).blind u (one.registers reg.IN_BATCH - one.registers ones) one ((fits.blind ones refl).blind u 1 state h.held);
         left = less;
         step = h.step;
       })
@@ -94,8 +94,8 @@ module _ (c : CountingCode) (e : Election) (a : Arena) (Held : List ℕ → Stat
   keeps_batch u n number state after left step waits held kept = record {
     waits = waits;
     held = held;
-    left = kept.registers reg.IN_BATCH fits.on_keeps_batch ∙ left;
-    step = kept.registers reg.STEP fits.on_keeps_step ∙ step;
+    left = kept.registers reg.IN_BATCH (free_of (may_write_register on) (reg.IN_BATCH ∷ reg.STEP ∷ []) fits.keeps reg.IN_BATCH refl) ∙ left;
+    step = kept.registers reg.STEP (free_of (may_write_register on) (reg.IN_BATCH ∷ reg.STEP ∷ []) fits.keeps reg.STEP refl) ∙ step;
   }
 
   module _ (most : ℕ) (Begun : List ℕ → ℕ → Type 0) (arena : IsArena most a) (gives : GivesSeats c e a most Begun Held on) where
@@ -149,5 +149,5 @@ module _ (c : CountingCode) (e : Election) (a : Arena) (Held : List ℕ → Stat
         (λ none. let some = turn.some in absurd (omega (arith, some, none)))
         (λ m is.
         let counted : State = with_register reg.PEERS (suc m) state in
-        achieves_so (takes_seat s peers given t u entry n counted gets few few_after turn.first begun waits (fits.blind_peers.blind t (suc m) state held) left)
+        achieves_so (takes_seat s peers given t u entry n counted gets few few_after turn.first begun waits ((fits.blind reg.PEERS refl).blind t (suc m) state held) left)
         (λ v h. record { u = u; entry = entry; mid = goes.0; total = total; after = h }))

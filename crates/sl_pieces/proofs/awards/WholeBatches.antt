@@ -1,6 +1,7 @@
 -- Whole batches of peers, while there are seats for all of them.
-use Rattle.std.proofs.Common.{◌≡◌, ℕ, suc, ◌+◌, ◌-◌, ◌<◌, ◌≤◌, Bool, false, ◌==◌, if◌then◌else◌, length, List, sum, refl, sym, ap, ◌∙◌, arith}
-use Rattle.std.specs.Prelude.{slice_index}
+use Rattle.std.proofs.Common.{◌≡◌, ℕ, suc, ◌+◌, ◌-◌, ◌<◌, ◌≤◌, Bool, false, ◌==◌, if◌then◌else◌, length, List, sum, refl, sym, ap, ◌∙◌, arith, true, [], ◌∷◌}
+use Rattle.std.specs.Prelude.{slice_index, nat_eq}
+use Rattle.std.specs.List.{list_any}
 use Rattle.sl_stages.specs.returns.Election.{Election}
 use Rattle.sl_stages.specs.methods.Ties.{Lists}
 use Rattle.sl_stages.specs.laws.Ladders.{Has, IsSettled, IsPeer, HasRoom}
@@ -12,15 +13,15 @@ use Rattle.sl_machine.specs.State.{State, with_register}
 use Rattle.sl_machine.specs.Effects as machine
 use Rattle.sl_plans.specs.Trees.{Tree, ones}
 use Rattle.sl_plans.specs.Achieves.{Achieves, Never}
-use Rattle.sl_plans.specs.Frames.{KeepsRest}
+use Rattle.sl_plans.specs.Frames.{KeepsRest, may_write_register}
 use Rattle.sl_plans.proofs.Rules.{line_ends, line_goes, if_empty, if_less, ends_in, then_at}
-use Rattle.sl_plans.proofs.KeepingRules.{achieves_keeping}
+use Rattle.sl_plans.proofs.KeepingRules.{achieves_keeping, free_of, each_of}
 use Rattle.sl_pieces.specs.arenas.Arenas.{Arena, IsArena, HasWaiting, waiting, seat_taken}
 use Rattle.sl_pieces.proofs.arenas.Peers.{waiting_peers}
 use Rattle.sl_pieces.specs.declared.registers.TheConstants as reg
 use Rattle.sl_pieces.specs.awards.Trees.{whole_batch, counted_seat}
 use Rattle.sl_pieces.specs.inner.awards.Batches.{Gets, GivesSeats, IsBlind, HasBegun, NoBatch, OneBegan, BeginsBatches, FitsLoop}
-use Rattle.sl_pieces.specs.inner.awards.Awards.{IsCounted, FitsAwards}
+use Rattle.sl_pieces.specs.inner.awards.Awards.{IsCounted, FitsAwards, award_registers}
 use Rattle.sl_pieces.proofs.awards.Turns.{holds_at_most, same_registers}
 use Rattle.sl_pieces.proofs.awards.AwardsTurns.{lessened, lessened_before, stepping, step_counted, step_is, base_within, as_many, TurnSums, turn_sums}
 
@@ -40,10 +41,13 @@ pub record IsLast (a : Arena) (seats : ℕ) (t : List ℕ) : Type 0 where
   pub scarce : (tied : List ℕ) → Lists (IsPeer a.ladders t) tied → seats < sum t + length tied
 
 module _ (c : CountingCode) (e : Election) (a : Arena) (most seats : ℕ) (on : Tree) (Held : List ℕ → State → Type 0) (fits : FitsAwards Held on) where
-  pub counts_blind : (r : ℕ) → (reg.LEFT == r) ≡ false → (reg.ALL_LEFT == r) ≡ false → IsBlind Held r → IsBlind (Counts a seats Held) r
-  counts_blind r not_left not_all blind = record {
+  keeps : (r : ℕ) → list_any (nat_eq r) award_registers ≡ true → may_write_register on r ≡ false
+  keeps = free_of (may_write_register on) award_registers fits.keeps
+
+  pub counts_blind : (r : ℕ) → (reg.LEFT == r) ≡ false → (reg.ALL_LEFT == r) ≡ false → list_any (nat_eq r) (ones ∷ reg.PEERS ∷ award_registers) ≡ true → IsBlind (Counts a seats Held) r
+  counts_blind r not_left not_all of = record {
     blind = λ t value state h. record {
-      held = blind.blind t value state h.held;
+      held = (fits.blind r of).blind t value state h.held;
       left = ap (λ (b : Bool). (if b then value else state.registers reg.LEFT) + sum t) not_left ∙ h.left;
       all_left = ap (λ (b : Bool). (if b then value else state.registers reg.ALL_LEFT) + sum a.ladders.base) not_all ∙ h.all_left;
     };
@@ -54,7 +58,7 @@ module _ (c : CountingCode) (e : Election) (a : Arena) (most seats : ℕ) (on : 
   held_less : (t : List ℕ) (state : State) → Held t state → Held t (lessened state)
   held_less t state h =
       let s : State = with_register ones 1 state in
-      fits.blind_left.blind t (state.registers reg.LEFT - 1) s (fits.blind_ones.blind t 1 state h)
+      (fits.blind reg.LEFT refl).blind t (state.registers reg.LEFT - 1) s ((fits.blind ones refl).blind t 1 state h)
 
   module _ (arena : IsArena most a) (gives : GivesSeats c e a most (IsCounted a seats) Held on) (s tied given t u : List ℕ) (entry : ℕ) (state : State)
       (gets : Gets a s tied given t u entry) where
@@ -73,8 +77,8 @@ module _ (c : CountingCode) (e : Election) (a : Arena) (most seats : ℕ) (on : 
     count_seat : (after : State) → IsWhole a seats s (state.registers reg.STEP) → Counts a seats Held t state → Held u after → KeepsRest on at_seat after → Counts a seats Held u after
     count_seat after begun counts held kept =
         let sums : TurnSums s tied given t u = turn_sums a.ladders arena.falling s tied given t u entry gets.batch gets.one_of gets.left gets.raised in
-        let left : after.registers reg.LEFT ≡ state.registers reg.LEFT - 1 = kept.registers reg.LEFT fits.keeps_left ∙ at_seat_registers reg.LEFT in
-        let all : after.registers reg.ALL_LEFT ≡ state.registers reg.ALL_LEFT = kept.registers reg.ALL_LEFT fits.keeps_all_left ∙ at_seat_registers reg.ALL_LEFT in
+        let left : after.registers reg.LEFT ≡ state.registers reg.LEFT - 1 = kept.registers reg.LEFT (keeps reg.LEFT refl) ∙ at_seat_registers reg.LEFT in
+        let all : after.registers reg.ALL_LEFT ≡ state.registers reg.ALL_LEFT = kept.registers reg.ALL_LEFT (keeps reg.ALL_LEFT refl) ∙ at_seat_registers reg.ALL_LEFT in
         let enough : sum s + length tied ≤ seats = begun.enough tied gets.batch.listed in
         record {
           held = held;
@@ -113,16 +117,17 @@ module _ (c : CountingCode) (e : Election) (a : Arena) (most seats : ℕ) (on : 
 
   -- what holds does not depend on the registers of a batch,
   pub counts_peers : (t : List ℕ) (n : ℕ) (state : State) → Counts a seats Held t state → Counts a seats Held t (with_register reg.PEERS n state)
-  counts_peers t n state h = (counts_blind reg.PEERS refl refl fits.blind_peers).blind t n state h
+  counts_peers t n state h = (counts_blind reg.PEERS refl refl refl).blind t n state h
 
   counts_batch : (t : List ℕ) (n : ℕ) (state : State) → Counts a seats Held t state → Counts a seats Held t (with_register reg.IN_BATCH n state)
-  counts_batch t n state h = (counts_blind reg.IN_BATCH refl refl fits.blind_batch).blind t n state h
+  counts_batch t n state h = (counts_blind reg.IN_BATCH refl refl refl).blind t n state h
 
   held_stepping : (t : List ℕ) (state : State) → Held t state → Held t (stepping state)
   held_stepping t state h =
       let first : State = with_register reg.STEP (state.registers reg.ALL_LEFT) state in
       let second : State = with_register reg.STEP (state.registers reg.ALL_LEFT - state.registers reg.LEFT) first in
-      fits.blind_step.blind t _ (with_register ones 1 second) (fits.blind_ones.blind t 1 second (fits.blind_step.blind t _ first (fits.blind_step.blind t _ state h)))
+      let step : IsBlind Held reg.STEP = fits.blind reg.STEP refl in
+      step.blind t _ (with_register ones 1 second) ((fits.blind ones refl).blind t 1 second (step.blind t _ first (step.blind t _ state h)))
 
   pub counts_stepping : (t : List ℕ) (state : State) → Counts a seats Held t state → Counts a seats Held t (stepping state)
   counts_stepping t state h = record { held = held_stepping t state h.held; left = h.left; all_left = h.all_left }
@@ -192,16 +197,11 @@ module _ (c : CountingCode) (e : Election) (a : Arena) (most seats : ℕ) (on : 
 
   pub fits_whole : FitsLoop (Counts a seats Held) reg.TURNS whole_batch (counted_seat on)
   fits_whole = record {
-    own = λ h. omega (arith, h);
-    not_peers = λ h. omega (arith, h);
-    not_batch = λ h. omega (arith, h);
-    not_step = λ h. omega (arith, h);
-    blind = counts_blind reg.TURNS refl refl fits.blind_turns;
-    blind_ones = counts_blind ones refl refl fits.blind_ones;
-    blind_peers = counts_blind reg.PEERS refl refl fits.blind_peers;
-    blind_batch = counts_blind reg.IN_BATCH refl refl fits.blind_batch;
+    apart = refl;
+    own = counts_blind reg.TURNS refl refl refl;
+    blind = each_of (IsBlind (Counts a seats Held)) (ones ∷ reg.PEERS ∷ reg.IN_BATCH ∷ [])
+        (counts_blind ones refl refl refl, (counts_blind reg.PEERS refl refl refl, (counts_blind reg.IN_BATCH refl refl refl, tt)));
     begin_keeps = refl;
-    on_keeps = fits.keeps_turns;
-    on_keeps_batch = fits.keeps_batch;
-    on_keeps_step = fits.keeps_step;
+    on_keeps = keeps reg.TURNS refl;
+    keeps = rw (keeps reg.IN_BATCH refl, keeps reg.STEP refl) refl;
   }

@@ -28,14 +28,13 @@ use Rattle.sl_machine.specs.Drawn.{lot_of}
 use Rattle.sl_machine.specs.SameLots.{SameLot, AreEntries}
 use Rattle.sl_machine.proofs.drawing.LotProofs.{same_lots}
 use Rattle.sl_machine.proofs.effects.Records.{seat_does}
-use Rattle.sl_plans.specs.Trees.{Line, ones}
+use Rattle.sl_plans.specs.Trees.{Line}
 use Rattle.sl_plans.proofs.Rules.{line_ends, line_goes}
 use Rattle.sl_pieces.proofs.seats.Lists.{mapped_at}
 use Rattle.sl_pieces.specs.arenas.Arenas.{Arena, IsArena, HasWaiting, table_of, seat_taken}
 use Rattle.sl_pieces.proofs.arenas.MethodArenas.{covering_arenas}
 use Rattle.sl_pieces.proofs.arenas.TableEffects.{waiting_again}
-use Rattle.sl_pieces.specs.declared.registers.TheConstants as reg
-use Rattle.sl_pieces.specs.inner.awards.Batches.{Gets, GivesSeats, IsBlind}
+use Rattle.sl_pieces.specs.inner.awards.Batches.{Gets, GivesSeats}
 use Rattle.sl_pieces.specs.inner.awards.Awards.{CanAward, IsCounted, FitsAwards}
 use Rattle.sl_pieces.proofs.covers.Winners.{IsWinnerOf, each_winner, won, arena, has_first, next_winner}
 use Rattle.sl_pieces.proofs.covers.Chosen.{one_chosen, place_more}
@@ -148,21 +147,8 @@ module _ (eligible : ℕ → Bool) (e : Election) (base : List ℕ) (l : ℕ × 
           ));
     }
 
-    blind_of : (r : ℕ) → IsBlind Seated r
-    blind_of r = record { blind = λ t value s h. record { placed = h.placed } }
-
     pub seats_fit : FitsAwards Seated (Line (Seat ∷ []))
     seats_fit = record {
-      keeps_left = refl;
-      keeps_all_left = refl;
-      keeps_turns = refl;
-      keeps_batch = refl;
-      keeps_step = refl;
-      blind_left = blind_of reg.LEFT;
-      blind_all_left = blind_of reg.ALL_LEFT;
-      blind_turns = blind_of reg.TURNS;
-      blind_peers = blind_of reg.PEERS;
-      blind_batch = blind_of reg.IN_BATCH;
-      blind_step = blind_of reg.STEP;
-      blind_ones = blind_of ones;
+      keeps = refl;
+      blind = λ r of. record { blind = λ t value s h. record { placed = h.placed } };
     }

@@ -1,5 +1,5 @@
 -- The search of a growth: all entries of its scope are read, and then batches of peers get seats until the minima of the field are met.
-use Rattle.std.proofs.Common.{◌≡◌, ℕ, suc, ◌<◌, ◌≤◌, min, List, [], length, sum, Some, refl, sym, ap, ◌∙◌, arith}
+use Rattle.std.proofs.Common.{◌≡◌, ℕ, suc, ◌<◌, ◌≤◌, min, List, [], length, sum, Some, refl, sym, ap, ◌∙◌, arith, ◌∷◌}
 use Rattle.std.specs.Prelude.{slice_index}
 use Rattle.std.specs.List.{range_with_len}
 use Rattle.std.proofs.lemmas.List.{length-map}
@@ -25,6 +25,7 @@ use Rattle.sl_plans.specs.declared.plan.Bound.TheVariants as bound
 use Rattle.sl_plans.specs.Trees.{ones}
 use Rattle.sl_plans.specs.Achieves.{Achieves, Never}
 use Rattle.sl_plans.proofs.Rules.{line_ends, then_achieves, if_zero, if_empty, goes_as, ends_in}
+use Rattle.sl_plans.proofs.KeepingRules.{each_of}
 use Rattle.sl_pieces.specs.scopes.Forms.{Form, table_of, OnScope}
 use Rattle.sl_pieces.specs.inner.scopes.Walks.{bare}
 use Rattle.sl_pieces.proofs.scopes.Forms.{each_entry}
@@ -35,7 +36,7 @@ use Rattle.sl_pieces.specs.arenas.Laws.{PeersWait}
 use Rattle.sl_pieces.proofs.arenas.Peers.{waiting_peers}
 use Rattle.sl_pieces.specs.declared.registers.TheConstants as reg
 use Rattle.sl_pieces.specs.awards.Trees.{batches}
-use Rattle.sl_pieces.specs.inner.awards.Batches.{NoBatch, OneBegan, BeginsBatches, FitsLoop, AfterBatches}
+use Rattle.sl_pieces.specs.inner.awards.Batches.{IsBlind, NoBatch, OneBegan, BeginsBatches, FitsLoop, AfterBatches}
 use Rattle.sl_pieces.proofs.awards.Turns.{holds_at_most}
 use Rattle.sl_pieces.proofs.awards.Batches.{batches_achieve}
 use Rattle.sl_pieces.specs.seats.Slots.{Slots}
@@ -113,18 +114,16 @@ module _ {c : CountingCode} {e : Election} {f : Form} {x : Slots} {name : List �
 
   fits_loop : FitsLoop Held reg.LEFT search_batch (search_seat (with_minima x slot) d)
   fits_loop = record {
-    own = λ h. omega (arith, h);
-    not_peers = λ h. omega (arith, h);
-    not_batch = λ h. omega (arith, h);
-    not_step = λ h. omega (arith, h);
-    blind = record { blind = λ t value s h. searched_still t s (with_register reg.LEFT value s).registers h refl refl refl refl refl };
-    blind_ones = record { blind = λ t value s h. searched_still t s (with_register ones value s).registers h refl refl refl refl refl };
-    blind_peers = record { blind = λ t value s h. searched_still t s (with_register reg.PEERS value s).registers h refl refl refl refl refl };
-    blind_batch = record { blind = λ t value s h. searched_still t s (with_register reg.IN_BATCH value s).registers h refl refl refl refl refl };
+    apart = refl;
+    own = record { blind = λ t value s h. searched_still t s (with_register reg.LEFT value s).registers h refl refl refl refl refl };
+    blind = each_of (IsBlind Held) (ones ∷ reg.PEERS ∷ reg.IN_BATCH ∷ []) (
+      record { blind = λ t value s h. searched_still t s (with_register ones value s).registers h refl refl refl refl refl },
+      (record { blind = λ t value s h. searched_still t s (with_register reg.PEERS value s).registers h refl refl refl refl refl },
+      (record { blind = λ t value s h. searched_still t s (with_register reg.IN_BATCH value s).registers h refl refl refl refl refl }, tt)),
+    );
     begin_keeps = refl;
     on_keeps = refl;
-    on_keeps_batch = refl;
-    on_keeps_step = refl;
+    keeps = refl;
   }
 
   -- ---- the whole search

@@ -56,19 +56,8 @@ module _ (c : CountingCode) (e : Election) (f : Form) (x : Slots) (name : List �
   pub quotients_again : OfScope e f g divided → ReEnters c e x g divided v (enter_again x d)
   quotients_again of = record {
     enters = λ t u j i s taken at has low more high on held votes table. enters_quotient of t u j i s taken at has high on held (votes.at j i at) table;
-    keeps_amount = refl;
-    keeps_total = refl;
-    keeps_left = refl;
-    keeps_all_left = refl;
-    keeps_turns = refl;
-    keeps_batch = refl;
-    keeps_step = refl;
-    keeps_slots = λ slot. refl;
-    keeps_party = refl;
-    keeps_land = refl;
-    seats_nobody = refl;
-    tells_no_step = refl;
-    tells_no_weight = refl;
+    leaves = record { registers = refl; columns = λ slot. refl; party = refl; land = refl; win = refl; placed = refl; steps = refl };
+    weights = refl;
   }
 
 -- ---- by largest remainders there is none any more
@@ -86,17 +75,6 @@ remainders_again c e f x g prefer v seats =
       enters = λ t u j i s taken at has low more high on held votes table.
           let base = (hamilton_ladders_law prefer v seats).wholes j in
           line_ends ((waiting_again a j t u s taken table).ended (no_remainder prefer v seats j (slice_index u j) (omega (arith, base, low, more))));
-      keeps_amount = refl;
-      keeps_total = refl;
-      keeps_left = refl;
-      keeps_all_left = refl;
-      keeps_turns = refl;
-      keeps_batch = refl;
-      keeps_step = refl;
-      keeps_slots = λ slot. refl;
-      keeps_party = refl;
-      keeps_land = refl;
-      seats_nobody = refl;
-      tells_no_step = refl;
-      tells_no_weight = refl;
+      leaves = record { registers = refl; columns = λ slot. refl; party = refl; land = refl; win = refl; placed = refl; steps = refl };
+      weights = refl;
     }

@@ -1,5 +1,5 @@
 -- The plans for the first seats of an entry find them.
-use Rattle.std.proofs.Common.{◌≡◌, ℕ, ◌*◌, ◌/◌, ◌%◌, ◌≤◌, Bool, false, List, length, All, Option, Some, None, min, sum, slice_get, refl, sym, ap, ◌∙◌, arith}
+use Rattle.std.proofs.Common.{◌≡◌, ℕ, ◌*◌, ◌/◌, ◌%◌, ◌≤◌, Bool, false, List, length, All, Option, Some, None, min, sum, slice_get, refl, sym, ap, ◌∙◌, arith, ◌∷◌, []}
 use Rattle.std.specs.Prelude.{slice_index}
 use Rattle.std.proofs.Math.Nat.{mul-le-mul_right}
 use Rattle.sl_ratio.specs.declared.limits.TheConstants.{MAX_WEIGHT, MAX_SEATS}
@@ -16,57 +16,32 @@ use Rattle.sl_code.specs.Codes.{CountingCode}
 use Rattle.sl_machine.specs.State.{State, with_register}
 use Rattle.sl_machine.specs.Effects.{most}
 use Rattle.sl_machine.proofs.effects.Registers.{div_does, rem_does, get_does}
-use Rattle.sl_plans.specs.declared.plan.Cursor.TheVariants as cursor
 use Rattle.sl_plans.specs.Trees.{Tree}
 use Rattle.sl_plans.specs.Achieves.{Achieves, Never}
-use Rattle.sl_plans.specs.Frames.{may_write_register, may_write_slot, may_move, may_write_table, may_seat, may_record_step, may_record_weight}
+use Rattle.sl_plans.specs.Frames.{may_write_table, may_record_weight}
 use Rattle.sl_plans.proofs.Rules.{line_ends, line_goes, if_zero, ends_in, line_first, line_over, achieves_so}
 use Rattle.sl_pieces.specs.scopes.Forms.{Form, table_of, votes_of, OnItem}
 use Rattle.sl_pieces.specs.scopes.Scopes.{IsEntry}
 use Rattle.sl_pieces.specs.declared.registers.TheConstants as reg
 use Rattle.sl_pieces.specs.seats.Slots.{Slots, HasMinima}
 use Rattle.sl_pieces.specs.seats.Trees.{minimum_base, outside_base, whole_base}
-use Rattle.sl_pieces.specs.inner.seats.Filling.{AtEntry, FindsBase}
+use Rattle.sl_pieces.specs.inner.seats.Filling.{FindsBase, Leaves}
 use Rattle.sl_pieces.proofs.seats.Lists.{number_within}
 
 -- ---- what the plans leave as it was
 
-abbrev WritesRegisters : Tree → Type 0
-WritesRegisters tree =
-    (may_write_register tree reg.AMOUNT ≡ false) × (may_write_register tree reg.TOTAL ≡ false) × (may_write_register tree reg.LEFT ≡ false) × (may_write_register tree reg.WEIGHT ≡ false)
-    × ((slot : ℕ) → may_write_slot tree slot ≡ false) × (may_move tree cursor.Party ≡ false) × (may_move tree cursor.Land ≡ false) × (may_move tree cursor.Win ≡ false)
-    × (may_write_table tree ≡ false) × (may_seat tree ≡ false) × (may_record_step tree ≡ false) × (may_record_weight tree ≡ false)
+abbrev LeavesEntry : Tree → Type 0
+LeavesEntry tree = Leaves (reg.AMOUNT ∷ reg.TOTAL ∷ reg.LEFT ∷ reg.WEIGHT ∷ []) tree × (may_write_table tree ≡ false) × (may_record_weight tree ≡ false)
 
-minimum_writes : (o : Option ℕ) → WritesRegisters (minimum_base o)
-minimum_writes None = (refl, refl, refl, refl, λ slot. refl, refl, refl, refl, refl, refl, refl, refl)
-minimum_writes (Some slot) = (refl, refl, refl, refl, λ other. refl, refl, refl, refl, refl, refl, refl, refl)
+minimum_leaves : (o : Option ℕ) → LeavesEntry (minimum_base o)
+minimum_leaves None = (record { registers = refl; columns = λ slot. refl; party = refl; land = refl; win = refl; placed = refl; steps = refl }, refl, refl)
+minimum_leaves (Some _) = (record { registers = refl; columns = λ slot. refl; party = refl; land = refl; win = refl; placed = refl; steps = refl }, refl, refl)
 
-outside_writes : (o : Option ℕ) → WritesRegisters (outside_base o)
-outside_writes None = (refl, refl, refl, refl, λ slot. refl, refl, refl, refl, refl, refl, refl, refl)
-outside_writes (Some slot) = (refl, refl, refl, refl, λ other. refl, refl, refl, refl, refl, refl, refl, refl)
+outside_leaves : (o : Option ℕ) → LeavesEntry (outside_base o)
+outside_leaves None = (record { registers = refl; columns = λ slot. refl; party = refl; land = refl; win = refl; placed = refl; steps = refl }, refl, refl)
+outside_leaves (Some _) = (record { registers = refl; columns = λ slot. refl; party = refl; land = refl; win = refl; placed = refl; steps = refl }, refl, refl)
 
 module _ (c : CountingCode) (e : Election) (x : Slots) (g : Group) (v m : List ℕ) (seats : ℕ) where
-  -- what is left to show of such a plan
-  found : (b : List ℕ) (Rest : ℕ → ℕ → Type 0) (tree : Tree) → WritesRegisters tree
-      → ((j : ℕ) (i : Item) (s : State) → slice_get g.entries j ≡ Some i → AtEntry g v seats j i s → HasMinima e g.entries v x.minima s m →
-      Achieves c e tree s (λ after. (after.registers reg.BASE ≡ slice_index b j) × Rest j (after.registers reg.STEP)) Never)
-      → FindsBase c e x g v m seats b Rest tree
-  found b Rest tree (amount, total, left, weight, slots, party, land, win, table, seated, step, told) finds = record {
-    finds = finds;
-    keeps_amount = amount;
-    keeps_total = total;
-    keeps_left = left;
-    keeps_weight = weight;
-    keeps_slots = slots;
-    keeps_party = party;
-    keeps_land = land;
-    keeps_win = win;
-    keeps_table = table;
-    seats_nobody = seated;
-    tells_no_step = step;
-    tells_no_weight = told;
-  }
-
   -- ---- minima
 
   module _ (f : Form) (entry : (j : ℕ) (i : Item) → slice_get g.entries j ≡ Some i → IsEntry e (table_of f) (votes_of f) g.scope i) where
@@ -82,19 +57,22 @@ module _ (c : CountingCode) (e : Election) (x : Slots) (g : Group) (v m : List �
       -- the minimum of each entry
       pub minimum_finds : FindsBase c e x g v m seats m (λ j n. Unit {0}) (minimum_base x.minima)
       minimum_finds =
-          found m (λ j n. Unit {0}) (minimum_base x.minima) (minimum_writes x.minima)
-          (λ j i s at here minima. achieves_so (minimum_at x.minima known j i s at here.on_item minima) (λ t h. (h, tt)))
+          let (leaves, table, weights) = minimum_leaves x.minima in
+          record { finds = λ j i s at here minima. achieves_so (minimum_at x.minima known j i s at here.on_item minima) (λ t h. (h, tt)); leaves = leaves; table = table; weights = weights }
 
       -- the minima outside the field
       pub outside_finds : length m ≡ length v → FindsBase c e x g v m seats (outside_minima v m) (λ j n. Unit {0}) (outside_base x.minima)
       outside_finds long =
-          found (outside_minima v m) (λ j n. Unit {0}) (outside_base x.minima) (outside_writes x.minima)
-          (λ j i s at here minima.
-          if_zero {r = reg.WEIGHT}
-          (λ none. achieves_so (minimum_at x.minima known j i s at here.on_item minima) (λ t h. (h ∙ sym (outside_at v m j long (sym here.weight ∙ none)), tt)))
-          (λ w some.
-          let field : InField v j = omega (arith, here.weight, some) in
-          ends_in refl (sym (outside_in v m j field), tt)))
+          let (leaves, table, weights) = outside_leaves x.minima in
+          record {
+            finds = λ j i s at here minima.
+                if_zero {r = reg.WEIGHT}
+                (λ none. achieves_so (minimum_at x.minima known j i s at here.on_item minima) (λ t h. (h ∙ sym (outside_at v m j long (sym here.weight ∙ none)), tt)))
+                (λ w some. ends_in refl (sym (outside_in v m j (omega (arith, here.weight, some))), tt));
+            leaves = leaves;
+            table = table;
+            weights = weights;
+          }
 
   -- ---- whole parts
 
@@ -131,9 +109,12 @@ module _ (c : CountingCode) (e : Election) (x : Slots) (g : Group) (v m : List �
 
   -- the whole part of each entry, and its remainder
   pub whole_finds : (prefer : Bool) → All (λ weight. weight ≤ MAX_WEIGHT) v → seats ≤ MAX_SEATS → FindsBase c e x g v m seats (whole_parts v seats) Remains whole_base
-  whole_finds prefer weights few =
-      found (whole_parts v seats) Remains whole_base (refl, refl, refl, refl, λ slot. refl, refl, refl, refl, refl, refl, refl, refl)
-      (λ j i s at here minima.
-      let small : slice_index v j ≤ MAX_WEIGHT = number_within MAX_WEIGHT v j weights in
-      let high : seats * slice_index v j ≤ MAX_SEATS * slice_index v j = mul-le-mul_right (slice_index v j) few in
-      achieves_so (whole_at j s here.amount here.total here.weight (omega (arith, small, high))) (λ t h. (h.0 ∙ sym (at_wholes prefer v seats j), h.1)))
+  whole_finds prefer weights few = record {
+    finds = λ j i s at here minima.
+        let small : slice_index v j ≤ MAX_WEIGHT = number_within MAX_WEIGHT v j weights in
+        let high : seats * slice_index v j ≤ MAX_SEATS * slice_index v j = mul-le-mul_right (slice_index v j) few in
+        achieves_so (whole_at j s here.amount here.total here.weight (omega (arith, small, high))) (λ t h. (h.0 ∙ sym (at_wholes prefer v seats j), h.1));
+    leaves = record { registers = refl; columns = λ slot. refl; party = refl; land = refl; win = refl; placed = refl; steps = refl };
+    table = refl;
+    weights = refl;
+  }

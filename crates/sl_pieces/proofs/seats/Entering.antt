@@ -25,10 +25,8 @@ use Rattle.sl_machine.specs.Places.{item_of}
 use Rattle.sl_machine.specs.Effects.{Goes, most, stage_of, with_entry, with_weight}
 use Rattle.sl_machine.proofs.effects.Records.{weigh_does}
 use Rattle.sl_machine.proofs.effects.Table.{rest_does, lead_does}
-use Rattle.sl_plans.specs.declared.plan.Cursor.TheVariants as cursor
-use Rattle.sl_plans.specs.Trees.{Tree, Line}
+use Rattle.sl_plans.specs.Trees.{Line}
 use Rattle.sl_plans.specs.Achieves.{Achieves, Never}
-use Rattle.sl_plans.specs.Frames.{may_write_register, may_write_slot, may_move, may_seat, may_record_step}
 use Rattle.sl_plans.proofs.Rules.{line_ends, line_goes, if_less, goes_as, achieves_so}
 use Rattle.sl_pieces.specs.scopes.Forms.{Form, table_of, kind_of, OnItem}
 use Rattle.sl_pieces.specs.scopes.Scopes.{IsScope}
@@ -42,31 +40,6 @@ use Rattle.sl_pieces.specs.inner.seats.Filling.{AtEntry, EntersNext}
 use Rattle.sl_pieces.proofs.seats.Bases.{Remains}
 use Rattle.sl_pieces.proofs.seats.Lists.{mapped_at, number_within}
 use Rattle.sl_pieces.proofs.seats.Quotients.{seat_enters}
-
--- ---- what the plans leave as it was, and what is left to show of them
-
-abbrev WritesTable : Tree → Type 0
-WritesTable tree =
-    (may_write_register tree reg.AMOUNT ≡ false) × (may_write_register tree reg.TOTAL ≡ false) × (may_write_register tree reg.LEFT ≡ false) × ((slot : ℕ) → may_write_slot tree slot ≡ false)
-    × (may_move tree cursor.Party ≡ false) × (may_move tree cursor.Land ≡ false) × (may_move tree cursor.Win ≡ false) × (may_seat tree ≡ false) × (may_record_step tree ≡ false)
-
-entering : (c : CountingCode) (e : Election) (g : Group) (a : Arena) (v : List ℕ) (seats : ℕ) (Rest : ℕ → ℕ → Type 0) (told : ℕ → Item → List Weight) (tree : Tree) → WritesTable tree
-    → ((j : ℕ) (i : Item) (s : State) (others : List Entry) → slice_get g.entries j ≡ Some i → AtEntry g v seats j i s → 0 < slice_index v j →
-    s.registers reg.BASE ≡ slice_index a.ladders.base j → slice_index a.ladders.base j ≤ seats → Rest j (s.registers reg.STEP) → s.table ≡ Some (arenas.table_of a others) →
-    Achieves c e tree s (λ t. (t.table ≡ Some (arenas.table_of a (seat_of a j (slice_index a.ladders.base j) ∷ others))) × (t.weights ≡ s.weights ++ told j i)) Never)
-    → EntersNext c e g a v seats Rest told tree
-entering c e g a v seats Rest told tree (amount, total, left, slots, party, land, win, seated, step) enters = record {
-  enters = enters;
-  keeps_amount = amount;
-  keeps_total = total;
-  keeps_left = left;
-  keeps_slots = slots;
-  keeps_party = party;
-  keeps_land = land;
-  keeps_win = win;
-  seats_nobody = seated;
-  tells_no_step = step;
-}
 
 -- ---- an entry of the table
 
@@ -98,10 +71,11 @@ module _ (c : CountingCode) (e : Election) (f : Form) (g : Group) (scope : IsSco
     Any j n = Unit {0}
 
     plain_enters : (d : Divisor) → EntersNext c e g (arena_of d) v seats Any (λ j i. []) (Line (Prio d reg.WEIGHT reg.BASE ∷ []))
-    plain_enters d =
-        entering c e g (arena_of d) v seats Any (λ j i. []) (Line (Prio d reg.WEIGHT reg.BASE ∷ [])) (refl, refl, refl, λ slot. refl, refl, refl, refl, refl, refl)
-        (λ j i s others at here positive base within rest table.
-        achieves_so (prio_enters d j i s others at here.on_item here.weight positive base within table) (λ t h. (h.0, h.1 ∙ sym (append-nil s.weights))))
+    plain_enters d = record {
+      enters = λ j i s others at here positive base within rest table.
+          achieves_so (prio_enters d j i s others at here.on_item here.weight positive base within table) (λ t h. (h.0, h.1 ∙ sym (append-nil s.weights)));
+      leaves = record { registers = refl; columns = λ slot. refl; party = refl; land = refl; win = refl; placed = refl; steps = refl };
+    }
 
     -- the weight of an entry, as it is told
     abbrev pub weight_of : Divisor → ℕ → Item → Weight
@@ -120,19 +94,19 @@ module _ (c : CountingCode) (e : Election) (f : Form) (g : Group) (scope : IsSco
     module _ (stage : stage_of c.stages x.stage ≡ Some x.stage) where
       weighed_enters : (by : Rounding) → EntersNext c e g (arena_of (divisor_of by)) v seats Any (λ j i. weight_of (divisor_of by) j i ∷ [])
           (Line (Weigh x.stage (kind_of f) by reg.WEIGHT ∷ (Prio (divisor_of by) reg.WEIGHT reg.BASE ∷ [])))
-      weighed_enters by =
-          entering c e g (arena_of (divisor_of by)) v seats Any (λ j i. weight_of (divisor_of by) j i ∷ [])
-          (Line (Weigh x.stage (kind_of f) by reg.WEIGHT ∷ (Prio (divisor_of by) reg.WEIGHT reg.BASE ∷ []))) (refl, refl, refl, λ slot. refl, refl, refl, refl, refl, refl)
-          (λ j i s others at here positive base within rest table.
-          let low : slice_index v j ≤ MAX_WEIGHT = number_within MAX_WEIGHT v j weights in
-          let all : min (s.registers reg.WEIGHT) MAX_WEIGHT ≡ slice_index v j = omega (arith, here.weight, low) in
-          let one_less : s.registers reg.WEIGHT ≡ suc (s.registers reg.WEIGHT - 1) = omega (arith, here.weight, positive) in
-          let is : Weight = weight_of (divisor_of by) j i in
-          let tells = weigh_does c e s x.stage (kind_of f) x.stage g.scope stage (scope.kind s here.on_scope) (arenas.table_of (arena_of (divisor_of by)) others) (place e i) table
-          ((scope.entry j i at).index s here.on_item) by reg.WEIGHT (s.registers reg.WEIGHT - 1) one_less in
-          let t : State = with_weight is s in
-          line_goes (tells ∙ told_as (divisor_of by) (min (s.registers reg.WEIGHT) MAX_WEIGHT) j i (item_of e (table_of f) (place e i)) s (scope.entry j i at).item all)
-          (prio_enters (divisor_of by) j i t others at (item_stays i s t refl refl refl here.on_item) here.weight positive base within table))
+      weighed_enters by = record {
+        enters = λ j i s others at here positive base within rest table.
+            let low : slice_index v j ≤ MAX_WEIGHT = number_within MAX_WEIGHT v j weights in
+            let all : min (s.registers reg.WEIGHT) MAX_WEIGHT ≡ slice_index v j = omega (arith, here.weight, low) in
+            let one_less : s.registers reg.WEIGHT ≡ suc (s.registers reg.WEIGHT - 1) = omega (arith, here.weight, positive) in
+            let is : Weight = weight_of (divisor_of by) j i in
+            let tells = weigh_does c e s x.stage (kind_of f) x.stage g.scope stage (scope.kind s here.on_scope) (arenas.table_of (arena_of (divisor_of by)) others) (place e i) table
+            ((scope.entry j i at).index s here.on_item) by reg.WEIGHT (s.registers reg.WEIGHT - 1) one_less in
+            let t : State = with_weight is s in
+            line_goes (tells ∙ told_as (divisor_of by) (min (s.registers reg.WEIGHT) MAX_WEIGHT) j i (item_of e (table_of f) (place e i)) s (scope.entry j i at).item all)
+            (prio_enters (divisor_of by) j i t others at (item_stays i s t refl refl refl here.on_item) here.weight positive base within table);
+        leaves = record { registers = refl; columns = λ slot. refl; party = refl; land = refl; win = refl; placed = refl; steps = refl };
+      }
 
       -- the weights of a method that rounds are told where no minima are written
       entered : (o : Option Rounding) (d : Divisor) → let by : Divisor = unwrap_or (option_map divisor_of o) d in
@@ -218,12 +192,14 @@ module _ (c : CountingCode) (e : Election) (f : Form) (g : Group) (scope : IsSco
 
   pub remainders_enter : (x : Slots) (m : List ℕ) (prefer : Bool)
       → EntersNext c e g (hamilton_arena prefer v seats (table_of f) (map (place e) g.entries)) v seats (Remains c e x g v m seats) (λ j i. []) (if prefer then enter_preferred else enter_remainder)
-  remainders_enter x m false =
-      entering c e g (arena false) v seats (Remains c e x g v m seats) (λ j i. []) enter_remainder (refl, refl, refl, λ slot. refl, refl, refl, refl, refl, refl)
-      (λ j i s others at here positive base within rest table.
-      achieves_so (rest_enters false j (slice_index (whole_parts v seats) j) i s others at here.on_item table (rest positive) refl) (λ t h. (h.0, h.1 ∙ sym (append-nil s.weights))))
-  remainders_enter x m true =
-      entering c e g (arena true) v seats (Remains c e x g v m seats) (λ j i. []) enter_preferred (refl, refl, refl, λ slot. refl, refl, refl, refl, refl, refl)
-      (λ j i s others at here positive base within rest table.
-      achieves_so (preferred_enters j (slice_index (whole_parts v seats) j) i s others at here (at_wholes true v seats j) base within (rest positive) table)
-      (λ t h. (h.0, h.1 ∙ sym (append-nil s.weights))))
+  remainders_enter x m false = record {
+    enters = λ j i s others at here positive base within rest table.
+        achieves_so (rest_enters false j (slice_index (whole_parts v seats) j) i s others at here.on_item table (rest positive) refl) (λ t h. (h.0, h.1 ∙ sym (append-nil s.weights)));
+    leaves = record { registers = refl; columns = λ slot. refl; party = refl; land = refl; win = refl; placed = refl; steps = refl };
+  }
+  remainders_enter x m true = record {
+    enters = λ j i s others at here positive base within rest table.
+        achieves_so (preferred_enters j (slice_index (whole_parts v seats) j) i s others at here (at_wholes true v seats j) base within (rest positive) table)
+        (λ t h. (h.0, h.1 ∙ sym (append-nil s.weights)));
+    leaves = record { registers = refl; columns = λ slot. refl; party = refl; land = refl; win = refl; placed = refl; steps = refl };
+  }

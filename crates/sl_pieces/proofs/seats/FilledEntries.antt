@@ -1,5 +1,5 @@
 -- What stands while the entries of a scope get their first seats, one entry after another.
-use Rattle.std.proofs.Common.{◌≡◌, ◌≢◌, ℕ, ◌+◌, ◌-◌, ◌<◌, Bool, true, false, nat_lt, if◌then◌else◌, List, [], ◌∷◌, ◌++◌, length, map, take, Some, sum, sym, ap, ◌∙◌, append-nil, lt-ltb, le-ltb, arith}
+use Rattle.std.proofs.Common.{◌≡◌, ◌≢◌, ℕ, ◌+◌, ◌-◌, ◌<◌, Bool, true, false, nat_lt, if◌then◌else◌, List, [], ◌∷◌, ◌++◌, length, map, take, Some, sum, refl, sym, ap, ◌∙◌, append-nil, lt-ltb, le-ltb, arith}
 use Rattle.std.specs.Prelude.{flat_map, slice_get, slice_index}
 use Rattle.std.specs.List.{range_with_len, enumerate_from}
 use Rattle.std.proofs.lemmas.List.{length-map}
@@ -20,9 +20,12 @@ use Rattle.sl_pieces.specs.arenas.Arenas as arenas
 use Rattle.sl_pieces.specs.arenas.Arenas.{Arena, seat_of, next_seat}
 use Rattle.sl_pieces.specs.declared.registers.TheConstants as reg
 use Rattle.sl_pieces.specs.seats.Slots.{Slots}
-use Rattle.sl_pieces.specs.inner.seats.Filling.{IsOfScope, told_of}
+use Rattle.sl_pieces.specs.inner.seats.Filling.{IsOfScope, told_of, Leaves}
 use Rattle.sl_pieces.proofs.seats.Lists.{pieces_more, number_at, numbered_at}
 use Rattle.sl_pieces.proofs.seats.GivenSeats.{given_seat}
+use Rattle.sl_pieces.proofs.seats.Unchanged.{register_kept}
+use Rattle.sl_plans.specs.Frames.{KeepsRest}
+use Rattle.sl_plans.specs.Trees.{Tree}
 
 -- ---- of the first entries: their next seats, the records of their first ones, and their weights that are told
 
@@ -94,12 +97,24 @@ pub record FirstFilled (e : Election) (x : Slots) (g : Group) (a : Arena) (v : L
   pub weights : s.weights ≡ before.weights ++ first_told g v told m
 
 -- the second state has the seats of the first
-pub record SameSeats (s t : State) : Type 0 where
-  pub amount : t.registers reg.AMOUNT ≡ s.registers reg.AMOUNT
-  pub total : t.registers reg.TOTAL ≡ s.registers reg.TOTAL
-  pub left : t.registers reg.LEFT ≡ s.registers reg.LEFT
-  pub columns : (slot q : ℕ) → t.columns slot q ≡ s.columns slot q
-  pub placed : (winner : ℕ) → t.placed winner ≡ s.placed winner
+abbrev pub SameSeats : State → State → Type 0
+SameSeats s t = record {
+  amount : t.registers reg.AMOUNT ≡ s.registers reg.AMOUNT;
+  total : t.registers reg.TOTAL ≡ s.registers reg.TOTAL;
+  left : t.registers reg.LEFT ≡ s.registers reg.LEFT;
+  columns : (slot q : ℕ) → t.columns slot q ≡ s.columns slot q;
+  placed : (winner : ℕ) → t.placed winner ≡ s.placed winner;
+}
+
+-- after a plan that leaves them
+pub same_seats : {more : List ℕ} {tree : Tree} {s t : State} → Leaves (reg.AMOUNT ∷ reg.TOTAL ∷ reg.LEFT ∷ more) tree → KeepsRest tree s t → SameSeats s t
+same_seats leaves kept = record {
+  amount = register_kept leaves kept reg.AMOUNT refl;
+  total = register_kept leaves kept reg.TOTAL refl;
+  left = register_kept leaves kept reg.LEFT refl;
+  columns = λ slot q. kept.columns slot (leaves.columns slot) q;
+  placed = kept.placed leaves.placed;
+}
 
 pub filled_as : {e : Election} {x : Slots} {g : Group} {a : Arena} {v : List ℕ} {seats : ℕ} {told : ℕ → Item → List Weight} {before : State} {n k m : ℕ} {s : State} (p q : ℕ) (t : State)
     → FirstFilled e x g a v seats told before n k m s → SameSeats s t → t.table ≡ Some (arenas.table_of a (first_waiting a q)) → t.steps ≡ before.steps ++ first_given x.stage g a p

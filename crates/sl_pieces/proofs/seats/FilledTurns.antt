@@ -25,7 +25,7 @@ use Rattle.sl_plans.proofs.KeepingRules.{achieves_keeping}
 use Rattle.sl_pieces.specs.scopes.Forms.{Form, votes_of, table_of, kind_of, OnItem}
 use Rattle.sl_pieces.specs.scopes.Scopes.{IsEntry, IsScope}
 use Rattle.sl_pieces.specs.inner.scopes.Walks.{bare}
-use Rattle.sl_pieces.proofs.scopes.Staying.{item_stays, Stays, item_kept}
+use Rattle.sl_pieces.proofs.scopes.Staying.{item_stays}
 use Rattle.sl_pieces.specs.arenas.Arenas as arenas
 use Rattle.sl_pieces.specs.arenas.Arenas.{Arena}
 use Rattle.sl_pieces.specs.declared.registers.TheConstants as reg
@@ -35,7 +35,8 @@ use Rattle.sl_pieces.specs.inner.seats.Filling.{AtEntry, FindsBase, EntersNext, 
 use Rattle.sl_pieces.proofs.seats.Lists.{row_more, sum_so_far, rises_far}
 use Rattle.sl_pieces.proofs.seats.Minima.{minima_kept}
 use Rattle.sl_pieces.proofs.seats.GivenSeats.{given_seat, records_all, seats_recorded}
-use Rattle.sl_pieces.proofs.seats.FilledEntries.{FirstFilled, filled_as, first_waiting, first_given, first_told, given_more, told_more, told_same, waiting_more, waiting_same}
+use Rattle.sl_pieces.proofs.seats.FilledEntries.{FirstFilled, filled_as, first_waiting, first_given, first_told, given_more, told_more, told_same, waiting_more, waiting_same, same_seats, SameSeats}
+use Rattle.sl_pieces.proofs.seats.Unchanged.{register_kept}
 
 -- what is given of a scope that is filled, from the state before on
 pub record Fills (c : CountingCode) (e : Election) (f : Form) (x : Slots) (name : List ℕ) (g : Group) (a : Arena) (by : Ranking) (v m : List ℕ) (seats : ℕ) (Rest : ℕ → ℕ → Type 0)
@@ -103,20 +104,11 @@ module _ {c : CountingCode} {e : Election} {f : Form} {x : Slots} {name : List �
       let minima : HasMinima e g.entries v x.minima s m = minima_kept e g.entries v m before s x.minima (λ slot is q. h.columns slot q (given.slots.not_minima slot is)) given.minima in
       achieves_keeping (finds.finds j i s at here minima)
       (λ t r kept.
-      let stays : Stays base = record { party = finds.keeps_party; land = finds.keeps_land; win = finds.keeps_win } in
-      let amount : t.registers reg.AMOUNT ≡ s.registers reg.AMOUNT = kept.registers reg.AMOUNT finds.keeps_amount in
-      let total : t.registers reg.TOTAL ≡ s.registers reg.TOTAL = kept.registers reg.TOTAL finds.keeps_total in
+      let same : SameSeats s t = same_seats finds.leaves kept in
+      let on : OnItem i t = item_stays i s t (kept.party finds.leaves.party) (kept.land finds.leaves.land) (kept.win finds.leaves.win) here.on_item in
       record {
-        at_entry = at_entry_as s t here (item_kept base stays s t kept i here.on_item) amount total (kept.registers reg.WEIGHT finds.keeps_weight);
-        filled = filled_as j j t h
-            (record {
-              amount = amount;
-              total = total;
-              left = kept.registers reg.LEFT finds.keeps_left;
-              columns = λ slot q. kept.columns slot (finds.keeps_slots slot) q;
-              placed = kept.placed finds.seats_nobody;
-            })
-            (kept.table finds.keeps_table ∙ h.table) (kept.steps_kept finds.tells_no_step ∙ h.steps) (kept.weights_kept finds.tells_no_weight ∙ h.weights);
+        at_entry = at_entry_as s t here on same.amount same.total (register_kept finds.leaves kept reg.WEIGHT refl);
+        filled = filled_as j j t h same (kept.table finds.table ∙ h.table) (kept.steps_kept finds.leaves.steps ∙ h.steps) (kept.weights_kept finds.weights ∙ h.weights);
         base_is = r.0;
         rest = r.1;
       })
@@ -190,12 +182,11 @@ module _ {c : CountingCode} {e : Election} {f : Form} {x : Slots} {name : List �
       (λ t r.
       let kept : KeepsRest tree s t = r.1 in
       let amount : t.registers reg.AMOUNT ≡ s.registers reg.AMOUNT = kept.registers reg.AMOUNT refl in
-      let total : t.registers reg.TOTAL ≡ s.registers reg.TOTAL = kept.registers reg.TOTAL refl in
+      let same : SameSeats s t =
+      record { amount = amount; total = kept.registers reg.TOTAL refl; left = kept.registers reg.LEFT refl; columns = λ slot. kept.columns slot refl; placed = kept.placed refl } in
       record {
-        at_entry = at_entry_as s t h.at_entry (item_kept tree (record { party = refl; land = refl; win = refl }) s t kept i h.at_entry.on_item) amount total (kept.registers reg.WEIGHT refl);
-        filled = filled_as (j + 1) j t h.filled
-            (record { amount = amount; total = total; left = kept.registers reg.LEFT refl; columns = λ slot q. kept.columns slot refl q; placed = kept.placed refl })
-            (kept.table refl ∙ h.filled.table)
+        at_entry = at_entry_as s t h.at_entry (item_stays i s t (kept.party refl) (kept.land refl) (kept.win refl) h.at_entry.on_item) same.amount same.total (kept.registers reg.WEIGHT refl);
+        filled = filled_as (j + 1) j t h.filled same (kept.table refl ∙ h.filled.table)
             (r.0 ∙ row_more before.steps (first_given x.stage g a j) (first_given x.stage g a (j + 1)) (map (given_seat x.stage g.scope i) (range_with_len 0 n)) s.steps h.filled.steps
             (given_more g j i at x.stage a))
             (kept.weights_kept refl ∙ h.filled.weights);
@@ -209,16 +200,9 @@ module _ {c : CountingCode} {e : Election} {f : Form} {x : Slots} {name : List �
       let enters : EntersNext c e g a v seats Rest told enter = given.enters in
       achieves_keeping (enters.enters j i s (first_waiting a j) at h.at_entry some h.base_is seats_within h.rest h.filled.table)
       (λ t r kept.
-      filled_as (j + 1) (j + 1) (bare t) h.filled
-      (record {
-        amount = kept.registers reg.AMOUNT enters.keeps_amount;
-        total = kept.registers reg.TOTAL enters.keeps_total;
-        left = kept.registers reg.LEFT enters.keeps_left;
-        columns = λ slot q. kept.columns slot (enters.keeps_slots slot) q;
-        placed = kept.placed enters.seats_nobody;
-      })
+      filled_as (j + 1) (j + 1) (bare t) h.filled (same_seats enters.leaves kept)
       (r.0 ∙ ap (λ table. Some table) (waiting_more g j i at given.arena some))
-      (kept.steps_kept enters.tells_no_step ∙ h.filled.steps)
+      (kept.steps_kept enters.leaves.steps ∙ h.filled.steps)
       (r.1 ∙ row_more before.weights (first_told g v told j) (first_told g v told (j + 1)) (told j i) s.weights h.filled.weights (told_more g j i at v told some)))
 
   skipped : (s : State) → Stands (j + 1) (j + 1) j s → slice_index v j ≡ 0 → FirstFilled e x g a v seats told before (j + 1) (j + 1) (j + 1) (bare s)

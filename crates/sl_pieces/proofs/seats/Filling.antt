@@ -65,9 +65,9 @@ module _ {c : CountingCode} {e : Election} {f : Form} {x : Slots} {name : List �
     {told : ℕ → Item → List Weight} {base enter : Tree} {before : State} (given : Fills c e f x name g a by v m seats Rest told base enter before) where
   stays : Stays (fill_entry f x base enter)
   stays = record {
-    party = rw (given.finds.keeps_party, given.enters.keeps_party) refl;
-    land = rw (given.finds.keeps_land, given.enters.keeps_land) refl;
-    win = rw (given.finds.keeps_win, given.enters.keeps_win) refl;
+    party = rw (given.finds.leaves.party, given.enters.leaves.party) refl;
+    land = rw (given.finds.leaves.land, given.enters.leaves.land) refl;
+    win = rw (given.finds.leaves.win, given.enters.leaves.win) refl;
   }
 
   visits : Visits c e (fill_entry f x base enter) g.entries OnItem (λ j. FirstFilled e x g a v seats told before j j j) Never

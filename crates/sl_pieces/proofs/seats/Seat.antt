@@ -1,8 +1,9 @@
 -- What stands while the seats of a scope are given out still stands after a seat more, and the plan of a seat leads there.
-use Rattle.std.proofs.Common.{◌≡◌, ◌≢◌, ℕ, ◌+◌, ◌≤◌, false, List, [], ◌∷◌, ◌++◌, Some, slice_get, refl, sym, ap, subst, ◌∙◌, inl, inr, arith}
-use Rattle.std.specs.Prelude.{slice_index}
-use Rattle.std.proofs.lemmas.Bool.{cases_eq}
+use Rattle.std.proofs.Common.{◌≡◌, ◌≢◌, ℕ, ◌+◌, ◌≤◌, false, List, [], ◌∷◌, ◌++◌, Some, slice_get, refl, sym, ap, subst, ◌∙◌, inl, inr, arith, true}
+use Rattle.std.specs.Prelude.{slice_index, nat_eq}
+use Rattle.std.proofs.lemmas.Bool.{cases_eq, or_parts, false≢true}
 use Rattle.std.proofs.lemmas.Option.{same_Some}
+use Rattle.std.specs.List.{list_any}
 use Rattle.sl_ratio.specs.declared.limits.TheConstants.{MAX_SEATS}
 use Rattle.sl_stages.specs.declared.fault.Item.{Item}
 use Rattle.sl_stages.specs.declared.table.Mark.{Mark}
@@ -13,10 +14,9 @@ use Rattle.sl_stages.specs.meaning.Scopes.{Group, place}
 use Rattle.sl_stages.specs.laws.Ladders.{Has}
 use Rattle.sl_code.specs.Codes.{CountingCode}
 use Rattle.sl_machine.specs.State.{State, PriorityTable, with_register}
-use Rattle.sl_plans.specs.declared.plan.Cursor.TheVariants as cursor
 use Rattle.sl_plans.specs.Trees.{Tree, ones}
 use Rattle.sl_plans.specs.Achieves.{Achieves, Never}
-use Rattle.sl_plans.specs.Frames.{may_write_register, may_write_slot, may_move, may_seat, may_record_step, may_record_weight, KeepsRest}
+use Rattle.sl_plans.specs.Frames.{may_write_register, may_record_weight, KeepsRest}
 use Rattle.sl_plans.proofs.Rules.{then_achieves}
 use Rattle.sl_plans.proofs.KeepingRules.{achieves_keeping}
 use Rattle.sl_machine.proofs.effects.Storing.{register_other}
@@ -26,14 +26,15 @@ use Rattle.sl_pieces.specs.arenas.Arenas.{Arena, HasWaiting, table_of, seat_take
 use Rattle.sl_pieces.specs.arenas.Laws.{SeatTaken}
 use Rattle.sl_pieces.specs.declared.registers.TheConstants as reg
 use Rattle.sl_pieces.specs.inner.awards.Batches.{Gets, GivesSeats, IsBlind}
-use Rattle.sl_pieces.specs.inner.awards.Awards.{IsCounted, FitsAwards}
+use Rattle.sl_pieces.specs.inner.awards.Awards.{IsCounted, FitsAwards, award_registers}
 use Rattle.sl_pieces.specs.seats.Slots.{Slots, HasSlots, HasCells}
 use Rattle.sl_pieces.specs.seats.Trees.{seat}
 use Rattle.sl_pieces.specs.inner.seats.Seated.{IsSeated}
 use Rattle.sl_pieces.proofs.seats.SeatingArenas.{OfScope, places_differ, entry_there}
-use Rattle.sl_pieces.proofs.seats.Unchanged.{LeavesAll, unchanged, seated_unchanged}
+use Rattle.sl_pieces.proofs.seats.Unchanged.{unchanged, seated_unchanged, register_kept}
 use Rattle.sl_pieces.proofs.seats.SeatLine.{IsTaken, IsGiven, seat_is_taken, seat_is_given}
 use Rattle.sl_pieces.proofs.seats.Steps.{one_more, others_same, above_base, awarded_step, steps_grow}
+use Rattle.sl_pieces.specs.inner.seats.Filling.{Leaves}
 
 -- what is asked of the plan by which an entry's next seat waits again: it writes nothing that stands while seats are given out, and no register
 -- of the awards
@@ -42,19 +43,8 @@ pub record ReEnters (c : CountingCode) (e : Election) (x : Slots) (g : Group) (a
       slice_index a.ladders.base j ≤ slice_index t j → slice_index u j ≡ slice_index t j + 1 → slice_index u j ≤ MAX_SEATS → OnItem i s →
       s.registers reg.HELD ≡ slice_index u j → HasCells e g.entries (s.columns x.votes) v → s.table ≡ Some (table_of a taken.others) →
       Achieves c e again s (HasWaiting a u) Never
-  pub keeps_amount : may_write_register again reg.AMOUNT ≡ false
-  pub keeps_total : may_write_register again reg.TOTAL ≡ false
-  pub keeps_left : may_write_register again reg.LEFT ≡ false
-  pub keeps_all_left : may_write_register again reg.ALL_LEFT ≡ false
-  pub keeps_turns : may_write_register again reg.TURNS ≡ false
-  pub keeps_batch : may_write_register again reg.IN_BATCH ≡ false
-  pub keeps_step : may_write_register again reg.STEP ≡ false
-  pub keeps_slots : (slot : ℕ) → may_write_slot again slot ≡ false
-  pub keeps_party : may_move again cursor.Party ≡ false
-  pub keeps_land : may_move again cursor.Land ≡ false
-  pub seats_nobody : may_seat again ≡ false
-  pub tells_no_step : may_record_step again ≡ false
-  pub tells_no_weight : may_record_weight again ≡ false
+  pub leaves : Leaves (reg.AMOUNT ∷ reg.TOTAL ∷ award_registers) again
+  pub weights : may_record_weight again ≡ false
 
 module _ (c : CountingCode) (e : Election) (f : Form) (x : Slots) (name : List ℕ) (g : Group) (a : Arena) (v : List ℕ) (seats : ℕ) (told : List Weight) (before : State)
     (slots : HasSlots c f x name) (of : OfScope e f g a) where
@@ -62,18 +52,20 @@ module _ (c : CountingCode) (e : Election) (f : Form) (x : Slots) (name : List �
   seated_still : (again : Tree) (re : ReEnters c e x g a v again) (u : List ℕ) (s t : State) → KeepsRest again s t →
       IsSeated e x g a v seats told before u s → IsSeated e x g a v seats told before u t
   seated_still again re u s t kept seated =
-      let leaves : LeavesAll again = record { columns = re.keeps_slots; steps = re.tells_no_step; weights = re.tells_no_weight; placed = re.seats_nobody } in
-      seated_unchanged e x g a v seats told before u s t seated (unchanged again s t leaves kept) (scope_stays g.scope s t (kept.party re.keeps_party) (kept.land re.keeps_land) seated.on)
-      (kept.registers reg.AMOUNT re.keeps_amount) (kept.registers reg.TOTAL re.keeps_total)
+      let leaves = re.leaves in
+      seated_unchanged e x g a v seats told before u s t seated (unchanged again s t (record { columns = leaves.columns; steps = leaves.steps; weights = re.weights; placed = leaves.placed }) kept)
+      (scope_stays g.scope s t (kept.party leaves.party) (kept.land leaves.land) seated.on) (register_kept leaves kept reg.AMOUNT refl) (register_kept leaves kept reg.TOTAL refl)
 
-  -- registers other than two are no part of it
-  seated_blind : (r : ℕ) → reg.AMOUNT ≢ r → reg.TOTAL ≢ r → IsBlind (IsSeated e x g a v seats told before) r
-  seated_blind r not_amount not_total = record {
-    blind = λ t value s seated.
-        let u : State = with_register r value s in
-        seated_unchanged e x g a v seats told before t s u seated (record { columns = λ slot q. refl; steps = refl; weights = refl; placed = λ winner. refl })
-        (scope_stays g.scope s u refl refl seated.on) (register_other s r value reg.AMOUNT not_amount) (register_other s r value reg.TOTAL not_total);
-  }
+  -- the registers of the awards are no part of it
+  seated_blind : (r : ℕ) → list_any (nat_eq r) (ones ∷ reg.PEERS ∷ award_registers) ≡ true → IsBlind (IsSeated e x g a v seats told before) r
+  seated_blind r of =
+      let apart : (q : ℕ) → list_any (nat_eq q) (ones ∷ reg.PEERS ∷ award_registers) ≡ false → q ≢ r = (λ q none same. false≢true (sym none ∙ ap (λ (k : ℕ). list_any (nat_eq k) (ones ∷ reg.PEERS ∷ award_registers)) same ∙ of)) in
+      record {
+        blind = λ t value s seated.
+            let u : State = with_register r value s in
+            seated_unchanged e x g a v seats told before t s u seated (record { columns = λ slot q. refl; steps = refl; weights = refl; placed = λ winner. refl })
+            (scope_stays g.scope s u refl refl seated.on) (register_other s r value reg.AMOUNT (apart reg.AMOUNT refl)) (register_other s r value reg.TOTAL (apart reg.TOTAL refl));
+      }
 
   -- ---- a seat more
 
@@ -141,16 +133,6 @@ module _ (c : CountingCode) (e : Election) (f : Form) (x : Slots) (name : List �
 
     pub seats_fit : FitsAwards (IsSeated e x g a v seats told before) (seat f x again)
     seats_fit = record {
-      keeps_left = re.keeps_left;
-      keeps_all_left = re.keeps_all_left;
-      keeps_turns = re.keeps_turns;
-      keeps_batch = re.keeps_batch;
-      keeps_step = re.keeps_step;
-      blind_left = seated_blind reg.LEFT (λ z. omega (arith, z)) (λ z. omega (arith, z));
-      blind_all_left = seated_blind reg.ALL_LEFT (λ z. omega (arith, z)) (λ z. omega (arith, z));
-      blind_turns = seated_blind reg.TURNS (λ z. omega (arith, z)) (λ z. omega (arith, z));
-      blind_peers = seated_blind reg.PEERS (λ z. omega (arith, z)) (λ z. omega (arith, z));
-      blind_batch = seated_blind reg.IN_BATCH (λ z. omega (arith, z)) (λ z. omega (arith, z));
-      blind_step = seated_blind reg.STEP (λ z. omega (arith, z)) (λ z. omega (arith, z));
-      blind_ones = seated_blind ones (λ z. omega (arith, z)) (λ z. omega (arith, z));
+      keeps = (or_parts (may_write_register again reg.TOTAL) _ (or_parts (may_write_register again reg.AMOUNT) _ re.leaves.registers).1).1;
+      blind = seated_blind;
     }

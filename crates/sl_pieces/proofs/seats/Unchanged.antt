@@ -1,5 +1,7 @@
 -- Plans that write no column, record nothing and seat no winner; and the seats of a scope, which stand while nothing of them is written.
-use Rattle.std.proofs.Common.{◌≡◌, ℕ, Bool, false, List, refl, ◌∙◌}
+use Rattle.std.proofs.Common.{◌≡◌, ℕ, Bool, false, List, refl, ◌∙◌, true}
+use Rattle.std.specs.List.{list_any}
+use Rattle.std.specs.Prelude.{nat_eq}
 use Rattle.sl_stages.specs.declared.table.Weight.{Weight}
 use Rattle.sl_stages.specs.returns.Election.{Election}
 use Rattle.sl_stages.specs.meaning.Scopes.{Group, place}
@@ -9,11 +11,13 @@ use Rattle.sl_machine.specs.State.{State}
 use Rattle.sl_machine.specs.Frames.{writes_register, writes_slot, records_step, records_weight}
 use Rattle.sl_plans.specs.Trees.{Tree}
 use Rattle.sl_plans.specs.Frames.{has_instr, may_write_register, may_write_slot, seats_winner, may_seat, may_record_step, may_record_weight, KeepsRest}
+use Rattle.sl_plans.proofs.KeepingRules.{free_of}
 use Rattle.sl_pieces.specs.scopes.Forms.{Form, AllParties, AllLands, AllLists, ListsOfParty, ListsInLand, entries_plan, OnScope}
 use Rattle.sl_pieces.specs.arenas.Arenas.{Arena}
 use Rattle.sl_pieces.specs.declared.registers.TheConstants as reg
 use Rattle.sl_pieces.specs.seats.Slots.{Slots, IsUnchanged}
 use Rattle.sl_pieces.specs.inner.seats.Seated.{IsSeated}
+use Rattle.sl_pieces.specs.inner.seats.Filling.{Leaves}
 
 -- ---- loops over entries
 
@@ -54,6 +58,10 @@ unchanged tree s t h k = record {
   weights = k.weights_kept h.weights;
   placed = λ winner. k.placed h.placed winner;
 }
+
+-- a register that a plan leaves
+pub register_kept : {kept : List ℕ} {tree : Tree} {s t : State} → Leaves kept tree → KeepsRest tree s t → (r : ℕ) → list_any (nat_eq r) kept ≡ true → t.registers r ≡ s.registers r
+register_kept {kept = kept} {tree = tree} leaves rest r of = rest.registers r (free_of (may_write_register tree) kept leaves.registers r of)
 
 -- seats stand in a state of the same columns and records, where the cursors of the scope and the registers of amount and total are the same
 pub seated_unchanged : (e : Election) (x : Slots) (g : Group) (a : Arena) (v : List ℕ) (seats : ℕ) (told : List Weight) (before : State) (t : List ℕ) (s u : State)

@@ -1,6 +1,7 @@
 -- What the plan of awards achieves: the choice that the stage's lot makes among the tops of an arena, or the tie that it leaves
 -- (docs/blocks.md, section 2).
-use Rattle.std.specs.Prelude.{◌≡◌, ℕ, ◌+◌, ◌-◌, ◌<◌, ◌≤◌, false, List, Some, sum}
+use Rattle.std.specs.Prelude.{◌≡◌, ℕ, ◌+◌, ◌-◌, ◌<◌, ◌≤◌, true, false, List, [], ◌∷◌, Some, nat_eq, sum}
+use Rattle.std.specs.List.{list_any}
 use Rattle.sl_stages.specs.returns.Election.{Election}
 use Rattle.sl_stages.specs.methods.Ties.{Lists, Decided, Tied, IsChoice}
 use Rattle.sl_stages.specs.laws.Ladders.{IsPeer, IsSettled, IsTop, HasRoom}
@@ -43,20 +44,14 @@ pub record EndsTied (c : CountingCode) (e : Election) (a : Arena) (seats : ℕ) 
       state.registers reg.LEFT ≡ seats - sum s → IsChoice (IsTop a.ladders seats) meant (Tied (seats - sum s) tied) →
       Achieves c e tie state (λ after. ⊥) E
 
--- what is asked of the plan for a seat, and of what holds while seats are awarded: neither touches the registers of the awards
+-- the registers of the awards
+abbrev pub award_registers : List ℕ
+award_registers = reg.LEFT ∷ reg.ALL_LEFT ∷ reg.TURNS ∷ reg.IN_BATCH ∷ reg.STEP ∷ []
+
+-- what is asked of the plan for a seat, and of what holds while seats are awarded: neither touches these registers
 pub record FitsAwards (Held : List ℕ → State → Type 0) (on : Tree) : Type 0 where
-  pub keeps_left : may_write_register on reg.LEFT ≡ false
-  pub keeps_all_left : may_write_register on reg.ALL_LEFT ≡ false
-  pub keeps_turns : may_write_register on reg.TURNS ≡ false
-  pub keeps_batch : may_write_register on reg.IN_BATCH ≡ false
-  pub keeps_step : may_write_register on reg.STEP ≡ false
-  pub blind_left : IsBlind Held reg.LEFT
-  pub blind_all_left : IsBlind Held reg.ALL_LEFT
-  pub blind_turns : IsBlind Held reg.TURNS
-  pub blind_peers : IsBlind Held reg.PEERS
-  pub blind_batch : IsBlind Held reg.IN_BATCH
-  pub blind_step : IsBlind Held reg.STEP
-  pub blind_ones : IsBlind Held ones
+  pub keeps : list_any (may_write_register on) award_registers ≡ false
+  pub blind : (r : ℕ) → list_any (nat_eq r) (ones ∷ reg.PEERS ∷ award_registers) ≡ true → IsBlind Held r
 
 -- the seats are awarded as the lot decides
 pub record AreAwarded (a : Arena) (seats : ℕ) (meant : List ℕ) (Held : List ℕ → State → Type 0) (state : State) : Type 0 where

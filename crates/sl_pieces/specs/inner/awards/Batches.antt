@@ -1,5 +1,6 @@
 -- What the plan of batches achieves: it walks from settled vector to settled vector of an arena, a seat a turn (docs/blocks.md, section 2).
-use Rattle.std.specs.Prelude.{◌≡◌, ◌⊎◌, ℕ, ◌+◌, ◌<◌, ◌≤◌, false, List, [], ◌∷◌, length, sum, slice_index, Contains}
+use Rattle.std.specs.Prelude.{◌≡◌, ◌⊎◌, ℕ, ◌+◌, ◌<◌, ◌≤◌, true, false, List, [], ◌∷◌, length, nat_eq, sum, slice_index, Contains}
+use Rattle.std.specs.List.{list_any}
 use Rattle.sl_stages.specs.returns.Election.{Election}
 use Rattle.sl_stages.specs.methods.Ties.{Lists}
 use Rattle.sl_stages.specs.laws.Ladders.{Has, IsPeer, IsSettled, RaisesEach}
@@ -71,20 +72,18 @@ pub record AfterBatches (a : Arena) (seats : ℕ) (Begun : List ℕ → ℕ → 
   pub held : Held t state
   pub end : EndOfBatches a seats Begun Stopped t state
 
+-- the registers of a walk
+abbrev pub walk_registers : List ℕ
+walk_registers = ones ∷ reg.PEERS ∷ reg.IN_BATCH ∷ reg.STEP ∷ []
+
 -- what is asked of a walk with these plans: the loop's register is no other's, and neither plan writes one of the loop's
 pub record FitsLoop (Held : List ℕ → State → Type 0) (r : ℕ) (begin on : Tree) : Type 0 where
-  pub own : ones ≡ r → ⊥
-  pub not_peers : reg.PEERS ≡ r → ⊥
-  pub not_batch : reg.IN_BATCH ≡ r → ⊥
-  pub not_step : reg.STEP ≡ r → ⊥
-  pub blind : IsBlind Held r
-  pub blind_ones : IsBlind Held ones
-  pub blind_peers : IsBlind Held reg.PEERS
-  pub blind_batch : IsBlind Held reg.IN_BATCH
+  pub apart : list_any (nat_eq r) walk_registers ≡ false
+  pub own : IsBlind Held r
+  pub blind : (q : ℕ) → list_any (nat_eq q) (ones ∷ reg.PEERS ∷ reg.IN_BATCH ∷ []) ≡ true → IsBlind Held q
   pub begin_keeps : may_write_register begin r ≡ false
   pub on_keeps : may_write_register on r ≡ false
-  pub on_keeps_batch : may_write_register on reg.IN_BATCH ≡ false
-  pub on_keeps_step : may_write_register on reg.STEP ≡ false
+  pub keeps : list_any (may_write_register on) (reg.IN_BATCH ∷ reg.STEP ∷ []) ≡ false
 
 -- from a settled vector, with a turn for each seat up to so many
 abbrev pub BatchesAchieve : Type 1

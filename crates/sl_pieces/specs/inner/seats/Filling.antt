@@ -1,6 +1,6 @@
 -- What the plan achieves that gives each entry of a scope its first seats and enters its next one in the table (docs/blocks.md, section 3).
 use Rattle.std.specs.Prelude.{◌≡◌, ℕ, ◌-◌, ◌<◌, ◌≤◌, ◌&&◌, false, List, [], ◌∷◌, ◌++◌, Some, is_none, flat_map, map, nat_lt, sum, All, length, slice_get, slice_index, if◌then◌else◌}
-use Rattle.std.specs.List.{enumerate_from}
+use Rattle.std.specs.List.{enumerate_from, list_any}
 use Rattle.sl_ratio.specs.declared.entry.Entry.{Entry}
 use Rattle.sl_ratio.specs.declared.limits.TheConstants.{MAX_WEIGHT, MAX_SEATS}
 use Rattle.sl_ratio.specs.declared.method.Divisor.{Divisor}
@@ -39,23 +39,24 @@ pub record AtEntry (g : Group) (v : List ℕ) (seats j : ℕ) (i : Item) (s : St
   pub total : s.registers reg.TOTAL ≡ sum v
   pub weight : s.registers reg.WEIGHT ≡ slice_index v j
 
+-- a plan that writes none of these registers and no column, leaves the cursors, seats nobody and tells no step
+pub record Leaves (kept : List ℕ) (tree : Tree) : Type 0 where
+  pub registers : list_any (may_write_register tree) kept ≡ false
+  pub columns : (slot : ℕ) → may_write_slot tree slot ≡ false
+  pub party : may_move tree cursor.Party ≡ false
+  pub land : may_move tree cursor.Land ≡ false
+  pub win : may_move tree cursor.Win ≡ false
+  pub placed : may_seat tree ≡ false
+  pub steps : may_record_step tree ≡ false
+
 -- it finds them, and leaves what is known of the register of steps; it writes nothing but registers
 pub record FindsBase (c : CountingCode) (e : Election) (x : Slots) (g : Group) (v m : List ℕ) (seats : ℕ) (b : List ℕ) (Rest : ℕ → ℕ → Type 0) (tree : Tree) :
     Type 0 where
   pub finds : (j : ℕ) (i : Item) (s : State) → slice_get g.entries j ≡ Some i → AtEntry g v seats j i s → HasMinima e g.entries v x.minima s m →
       Achieves c e tree s (λ after. (after.registers reg.BASE ≡ slice_index b j) × Rest j (after.registers reg.STEP)) Never
-  pub keeps_amount : may_write_register tree reg.AMOUNT ≡ false
-  pub keeps_total : may_write_register tree reg.TOTAL ≡ false
-  pub keeps_left : may_write_register tree reg.LEFT ≡ false
-  pub keeps_weight : may_write_register tree reg.WEIGHT ≡ false
-  pub keeps_slots : (slot : ℕ) → may_write_slot tree slot ≡ false
-  pub keeps_party : may_move tree cursor.Party ≡ false
-  pub keeps_land : may_move tree cursor.Land ≡ false
-  pub keeps_win : may_move tree cursor.Win ≡ false
-  pub keeps_table : may_write_table tree ≡ false
-  pub seats_nobody : may_seat tree ≡ false
-  pub tells_no_step : may_record_step tree ≡ false
-  pub tells_no_weight : may_record_weight tree ≡ false
+  pub leaves : Leaves (reg.AMOUNT ∷ reg.TOTAL ∷ reg.LEFT ∷ reg.WEIGHT ∷ []) tree
+  pub table : may_write_table tree ≡ false
+  pub weights : may_record_weight tree ≡ false
 
 -- the weight of entry j that is told, if it has one
 abbrev pub told_of : (ℕ → Item → List Weight) → List ℕ → ℕ → Item → List Weight
@@ -69,15 +70,7 @@ pub record EntersNext (c : CountingCode) (e : Election) (g : Group) (a : Arena) 
       s.table ≡ Some (arenas.table_of a others) →
       Achieves c e tree s
       (λ after. (after.table ≡ Some (arenas.table_of a (seat_of a j (slice_index a.ladders.base j) ∷ others))) × (after.weights ≡ s.weights ++ told j i)) Never
-  pub keeps_amount : may_write_register tree reg.AMOUNT ≡ false
-  pub keeps_total : may_write_register tree reg.TOTAL ≡ false
-  pub keeps_left : may_write_register tree reg.LEFT ≡ false
-  pub keeps_slots : (slot : ℕ) → may_write_slot tree slot ≡ false
-  pub keeps_party : may_move tree cursor.Party ≡ false
-  pub keeps_land : may_move tree cursor.Land ≡ false
-  pub keeps_win : may_move tree cursor.Win ≡ false
-  pub seats_nobody : may_seat tree ≡ false
-  pub tells_no_step : may_record_step tree ≡ false
+  pub leaves : Leaves (reg.AMOUNT ∷ reg.TOTAL ∷ reg.LEFT ∷ []) tree
 
 -- the arena is of the scope's entries, and those with weight have a next seat when they hold their first ones
 pub record IsOfScope (e : Election) (f : Form) (g : Group) (by : Ranking) (v : List ℕ) (a : Arena) : Type 0 where
