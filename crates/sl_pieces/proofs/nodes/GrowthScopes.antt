@@ -29,7 +29,6 @@ use Rattle.sl_plans.specs.Achieves.{Achieves}
 use Rattle.sl_plans.proofs.Rules.{achieves_more, achieves_from, line_ends, then_achieves, if_zero, achieves_so}
 use Rattle.sl_pieces.specs.scopes.Forms.{Form, votes_of, table_of, groups_of, OnScope}
 use Rattle.sl_pieces.proofs.scopes.Scopes.{scopes_hold}
-use Rattle.sl_pieces.proofs.scopes.Staying.{scope_stays}
 use Rattle.sl_pieces.proofs.arenas.MethodArenas.{divisor_arenas}
 use Rattle.sl_pieces.specs.declared.registers.TheConstants as reg
 use Rattle.sl_pieces.specs.awards.Trees.{awards}
@@ -95,20 +94,6 @@ house_arena c e f x name k g d v m house state ready long enough i field =
 -- ---- the plan
 
 module _ (c : CountingCode) (e : Election) (f : Form) (x : Slots) (name : List ℕ) (k : ℕ) (g : Group) (v m : List ℕ) (seats : ℕ) where
-  -- a number in passing changes nothing
-  ready_passing : (n : ℕ) (t : State) → IsReady c e f x name k g v m seats t → IsReady c e f x name k g v m seats (with_register reg.FIRST_PASSING n t)
-  ready_passing n t h = record {
-    group = h.group;
-    slots = h.slots;
-    few = h.few;
-    weights = h.weights;
-    on = scope_stays g.scope t (with_register reg.FIRST_PASSING n t) refl refl h.on;
-    amount = h.amount;
-    total = h.total;
-    votes = h.votes;
-    minima = minima_kept e g.entries v m t (with_register reg.FIRST_PASSING n t) x.minima (λ slot is q. refl) h.minima;
-  }
-
   -- the scope with the house in the place of its amount
   ready_house : (d : Divisor) (cap : ℕ) (t u : State) → cap ≤ MAX_SEATS → IsReady c e f x name k g v m seats t → (h : HasHouse e x g d v m seats cap t u)
       → IsReady c e f x name k g v m h.house u
@@ -122,8 +107,8 @@ module _ (c : CountingCode) (e : Election) (f : Form) (x : Slots) (name : List �
         on = h.on;
         amount = h.amount;
         total = h.total;
-        votes = cells_kept e g.entries (t.columns x.votes) (u.columns x.votes) v (λ q. h.columns x.votes q ready.slots.not_votes) ready.votes;
-        minima = minima_kept e g.entries v m t u x.minima (λ slot is q. h.columns slot q (ready.slots.not_minima slot is)) ready.minima;
+        votes = cells_kept e g.entries (t.columns x.votes) (u.columns x.votes) v (λ q. h.kept.columns x.votes q ready.slots.not_votes) ready.votes;
+        minima = minima_kept e g.entries v m t u x.minima (λ slot is q. h.kept.columns slot q (ready.slots.not_minima slot is)) ready.minima;
       }
 
 module _ (c : CountingCode) (e : Election) (f : Form) (x : Slots) (name : List ℕ) (amounts votes minima : List ℕ) (d : Divisor) (majority : Majority) (cap : ℕ)
@@ -197,11 +182,11 @@ module _ (c : CountingCode) (e : Election) (f : Form) (x : Slots) (name : List �
         (λ u h. achieves_so (house_awards t u ready some h)
         (λ w. award_from e x IsAward records g s u w
         (record {
-          elsewhere = λ q out. h.elsewhere q out ∙ same.columns x.result q;
-          columns = λ slot q other. h.columns slot q other ∙ same.columns slot q;
-          steps = h.steps ∙ same.steps;
-          weights = h.weights ∙ same.weights;
-          placed = λ winner. h.placed winner ∙ same.placed winner;
+          elsewhere = λ q out. h.kept.elsewhere q out ∙ same.columns x.result q;
+          columns = λ slot q other. h.kept.columns slot q other ∙ same.columns slot q;
+          steps = h.kept.steps ∙ same.steps;
+          weights = h.kept.weights ∙ same.weights;
+          placed = λ winner. h.kept.placed winner ∙ same.placed winner;
         })))
 
     -- the minima may sum to more than the cap
@@ -210,13 +195,6 @@ module _ (c : CountingCode) (e : Election) (f : Form) (x : Slots) (name : List �
     cap_achieves t begun some =
         let u : State = with_register reg.FIRST_PASSING cap t in
         let field : (i : ℕ) × InField v i = some_less [] v some in
-        let ready : IsReady c e f x name k g v m seats u = ready_passing c e f x name k g v m seats cap t begun.ready in
-        let same : IsUnchanged s u = record {
-          columns = begun.unchanged.columns;
-          steps = begun.unchanged.steps;
-          weights = begun.unchanged.weights;
-          placed = begun.unchanged.placed;
-        } in
         let needed : t.registers reg.NEEDED ≡ min (sum m) most = begun.needed in
         let big : MAX_SEATS < most = omega arith in
         then_achieves {Q = λ w. (w ≡ u) × (sum m ≤ cap)}
@@ -228,7 +206,7 @@ module _ (c : CountingCode) (e : Election) (f : Form) (x : Slots) (name : List �
           is = refl;
         })
         (λ other. (refl, omega (arith, other, needed, big, cap_few))))
-        (λ w h. achieves_from h.0 (house_achieves u same ready some h.1))
+        (λ w h. achieves_from h.0 (house_achieves u begun.unchanged begun.ready some h.1))
 
     growth_achieves : Achieves c e (grow_scope f x d majority cap) s Q E
     unfolding v m seats award_rest house_rest IsAward E

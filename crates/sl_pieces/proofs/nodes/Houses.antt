@@ -17,7 +17,6 @@ use Rattle.sl_plans.specs.Achieves.{Achieves}
 use Rattle.sl_plans.proofs.Rules.{achieves_from, line_ends, then_achieves, if_zero, goes_as, line_first, line_over, achieves_never}
 use Rattle.std.specs.Prelude.{Some}
 use Rattle.sl_pieces.specs.scopes.Forms.{Form, OnScope}
-use Rattle.sl_pieces.proofs.scopes.Staying.{scope_stays}
 use Rattle.sl_pieces.specs.declared.registers.TheConstants as reg
 use Rattle.sl_pieces.specs.inner.awards.Batches.{Between, Within, EndOfBatches}
 use Rattle.sl_pieces.specs.seats.Slots.{Slots}
@@ -29,7 +28,7 @@ use Rattle.sl_pieces.specs.inner.nodes.Houses.{HasHouse, EndsAboveCap}
 use Rattle.sl_pieces.proofs.nodes.Found.{IsLeast, IsFound, grows_to, above_least, above_within, above_between}
 use Rattle.sl_pieces.proofs.nodes.SearchScope.{with_minima, search_arena, CanSearch, scope_is, minimum_each}
 use Rattle.sl_pieces.proofs.nodes.SearchSeats.{IsSearched, BatchBegun}
-use Rattle.sl_pieces.proofs.nodes.Search.{HasEnded, searched_still, search_achieves}
+use Rattle.sl_pieces.proofs.nodes.Search.{HasEnded, search_achieves}
 
 module _ {c : CountingCode} {e : Election} {f : Form} {x : Slots} {name : List ℕ} {slot k : ℕ} {g : Group} {d : Divisor} {v m : List ℕ} {seats cap : ℕ} {before : State}
     (can : CanSearch c e f x name slot k g d v m seats cap before) (field : (i : ℕ) × InField v i) where
@@ -59,10 +58,9 @@ module _ {c : CountingCode} {e : Election} {f : Form} {x : Slots} {name : List �
       let all : ℕ = min (s.registers reg.ALL_LEFT + s.registers reg.NUMBER) most in
       let house : ℕ = max (s.registers reg.AMOUNT) all in
       let two : State = with_register reg.AMOUNT house (with_register reg.ALL_LEFT all s) in
-      let on : OnScope g.scope two = scope_stays g.scope s two refl refl h.on in
       let few : cap ≤ MAX_SEATS = can.few in
       goes_as {t = two}
-      (not_over_achieves can.ready.slots (scope_is can) two reg.AMOUNT cap end.Cap (λ z. omega (arith, z)) on
+      (not_over_achieves can.ready.slots (scope_is can) two reg.AMOUNT cap end.Cap (λ z. omega (arith, z)) h.on
       (λ over.
       let above : cap < max seats (outside_sum v m + sum t) = omega (arith, over, h.amount, h.all_left, h.number) in
       record { above = above_least d v m (minimum_each can) field.0 field.1 seats cap t least above; is = refl })
@@ -74,12 +72,8 @@ module _ {c : CountingCode} {e : Election} {f : Form} {x : Slots} {name : List �
         grown = grows_to d v m (minimum_each can) field.0 field.1 seats cap t house least is_house within;
         amount = refl;
         total = h.total;
-        on = scope_stays g.scope two (with_register reg.FIRST_PASSING cap two) refl refl on;
-        elsewhere = h.elsewhere;
-        columns = h.columns;
-        steps = h.steps;
-        weights = h.weights;
-        placed = h.placed;
+        on = h.on;
+        kept = h.kept;
       }))
       refl
 
@@ -88,11 +82,10 @@ module _ {c : CountingCode} {e : Election} {f : Form} {x : Slots} {name : List �
       let t : List ℕ = after.t in
       let h : IsSearched e x g d v m seats before t s = after.held in
       let two : State = with_register reg.FIRST_PASSING (min (s.registers reg.IN_BATCH + s.registers reg.TURNS) most) (with_register reg.FIRST_PASSING (s.registers reg.IN_BATCH) s) in
-      let still : IsSearched e x g d v m seats before t two = searched_still can t s two.registers h refl refl refl refl refl in
       line_first refl (line_first refl
       (line_over (then_achieves {Q = λ w. (w ≡ two) × (s.registers reg.IN_BATCH ≡ 0) × (s.registers reg.TURNS ≡ 0)}
-      (if_zero (λ none. line_ends (refl, omega (arith, none), omega (arith, none))) (λ n some. ends two still.on (unmet t s h after.end (omega (arith, some)))))
-      (λ w r. achieves_from r.0 (grows t two still (is_least t s h after.end r.1 r.2))))))
+      (if_zero (λ none. line_ends (refl, omega (arith, none), omega (arith, none))) (λ n some. ends two h.on (unmet t s h after.end (omega (arith, some)))))
+      (λ w r. achieves_from r.0 (grows t two h (is_least t s h after.end r.1 r.2))))))
 
   finds_house : Achieves c e (find_house f (with_minima x slot) d cap) before (HasHouse e x g d v m seats cap before) (EndsAboveCap x g d v m seats cap)
   finds_house = then_achieves {Q = HasEnded can} (achieves_never (search_achieves can)) takes_house

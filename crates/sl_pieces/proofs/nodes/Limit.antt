@@ -19,7 +19,6 @@ use Rattle.sl_pieces.specs.scopes.Scopes.{IsScope}
 use Rattle.sl_pieces.specs.inner.scopes.Walks.{bare}
 use Rattle.sl_pieces.proofs.scopes.Forms.{each_scope}
 use Rattle.sl_pieces.proofs.scopes.Scopes.{scopes_hold}
-use Rattle.sl_pieces.proofs.scopes.Staying.{scope_stays}
 use Rattle.sl_pieces.specs.columns.Columns.{HoldsColumn}
 use Rattle.sl_pieces.specs.declared.registers.TheConstants as reg
 use Rattle.sl_pieces.specs.seats.Slots.{Slots, HasSlots, IsUnchanged}
@@ -59,12 +58,10 @@ module _ (c : CountingCode) (e : Election) (f : Form) (x : Slots) (name amounts 
         let other : reg.AMOUNT ≢ reg.FIRST_PASSING = λ h. omega (arith, h) in
         let read : n ≡ slice_index amounts g.amount_place = inv.still.columns x.amounts g.amount_place ∙ holds.at g.amount_place is.within in
         let got : u.registers reg.AMOUNT ≡ n = register_same s reg.AMOUNT n in
-        let on_there : OnScope g.scope u = scope_stays g.scope s u refl refl on in
-        let still : IsUnchanged start (bare v) = record { columns = inv.still.columns; steps = inv.still.steps; weights = inv.still.weights; placed = inv.still.placed } in
         line_first (get_does c e s x.amounts (amounts_of f) slots.amounts reg.AMOUNT g.amount_place (is.amount s on))
-        (line_over (not_over_achieves slots is u reg.AMOUNT most_seats end.Limit other on_there
+        (line_over (not_over_achieves slots is u reg.AMOUNT most_seats end.Limit other on
         (λ more. ends g (over_here j g at inv.few (omega (arith, more, read, got))))
-        (λ few. (scope_stays g.scope u v refl refl on_there, record { still = still; few = one_further IsFew (groups_of e f) j g at inv.few (omega (arith, few, read, got)) }))))
+        (λ few. (on, record { still = inv.still; few = one_further IsFew (groups_of e f) j g at inv.few (omega (arith, few, read, got)) }))))
 
     pub limit_tested : Achieves c e (scopes_plan f (within_limit f x)) start (λ t. IsUnchanged start t × (FirstOver None × Every IsFew (groups_of e f))) E
     limit_tested =
@@ -72,5 +69,4 @@ module _ (c : CountingCode) (e : Election) (f : Form) (x : Slots) (name amounts 
         achieves_so
         (each_scope c e f (within_limit f x) Tested E start (record { visit = one_scope })
         (record { still = record { columns = λ slot q. refl; steps = refl; weights = refl; placed = λ w. refl }; few = tt }))
-        (λ t h. let few : Every IsFew (groups_of e f) = subst (Every IsFew) all h.few in
-        (record { columns = h.still.columns; steps = h.still.steps; weights = h.still.weights; placed = h.still.placed }, (none_over e (stand f x name) amounts (groups_of e f) few, few)))
+        (λ t h. let few : Every IsFew (groups_of e f) = subst (Every IsFew) all h.few in (h.still, (none_over e (stand f x name) amounts (groups_of e f) few, few)))

@@ -1,10 +1,9 @@
 -- How a scope begins: its amount and its sums. And what stays of a state while it gets its seats.
-use Rattle.std.proofs.Common.{◌≡◌, ◌≢◌, ℕ, ◌≤◌, List, [], ◌∷◌, ◌++◌, All, min, Option, Some, refl, ap, ◌∙◌, arith}
+use Rattle.std.proofs.Common.{◌≡◌, ℕ, ◌≤◌, List, [], ◌∷◌, ◌++◌, All, min, Option, Some, refl, ap, ◌∙◌, arith}
 use Rattle.std.specs.Prelude.{sum, slice_get, slice_index}
 use Rattle.sl_ratio.specs.declared.limits.TheConstants.{MAX_WEIGHT, MAX_SEATS}
-use Rattle.sl_stages.specs.declared.fault.Item.{Item}
 use Rattle.sl_stages.specs.returns.Election.{Election, IsElection}
-use Rattle.sl_stages.specs.meaning.Scopes.{Group, place, cells}
+use Rattle.sl_stages.specs.meaning.Scopes.{Group, cells}
 use Rattle.sl_stages.specs.meaning.Expressions.{minima_at}
 use Rattle.sl_stages.specs.meaning.Records.{Records}
 use Rattle.sl_stages.specs.meaning.Splits.{Award}
@@ -18,7 +17,6 @@ use Rattle.sl_plans.specs.Achieves.{Achieves}
 use Rattle.sl_plans.proofs.Rules.{then_achieves, line_first, line_over, achieves_never}
 use Rattle.sl_pieces.specs.scopes.Forms.{Form, amounts_of, groups_of, OnScope}
 use Rattle.sl_pieces.proofs.scopes.Scopes.{scopes_hold}
-use Rattle.sl_pieces.proofs.scopes.Staying.{scope_stays}
 use Rattle.sl_pieces.specs.declared.registers.TheConstants as reg
 use Rattle.sl_pieces.specs.seats.Slots.{Slots, HasSlots, HasCells, HasMinima, IsUnchanged}
 use Rattle.sl_pieces.specs.seats.Trees.{sums}
@@ -29,16 +27,9 @@ use Rattle.sl_pieces.proofs.seats.Minima.{cells_kept, minima_kept}
 use Rattle.sl_pieces.proofs.seats.Summing.{sums_achieve}
 use Rattle.sl_pieces.specs.nodes.Scopes.{HoldsArguments, HasAward}
 use Rattle.sl_pieces.proofs.nodes.Arguments.{column_cells, cells_within, minima_cells}
+use Rattle.sl_pieces.specs.inner.nodes.Houses.{KeepsOthers}
 
 -- ---- what stays
-
--- all is as it was, but for cells of the scope's entries in the result's column
-pub record KeepsOthers (e : Election) (x : Slots) (g : Group) (before after : State) : Type 0 where
-  pub elsewhere : (q : ℕ) → ((j : ℕ) (i : Item) → slice_get g.entries j ≡ Some i → place e i ≢ q) → after.columns x.result q ≡ before.columns x.result q
-  pub columns : (slot q : ℕ) → slot ≢ x.result → after.columns slot q ≡ before.columns slot q
-  pub steps : after.steps ≡ before.steps
-  pub weights : after.weights ≡ before.weights
-  pub placed : (winner : ℕ) → after.placed winner ≡ before.placed winner
 
 pub award_from : (e : Election) (x : Slots) (IsAward : Group → Award → Type 0) (records : Group → List ℕ → Records) (g : Group) (s t u : State) → KeepsOthers e x g s t
     → HasAward e x IsAward records g t u → HasAward e x IsAward records g s u
@@ -138,12 +129,9 @@ module _ (c : CountingCode) (e : Election) (f : Form) (x : Slots) (name : List �
   scope_begins rest R E goes =
       let n : ℕ = s.columns x.amounts g.amount_place in
       let t : State = with_register reg.AMOUNT n s in
-      let on : OnScope g.scope t = scope_stays g.scope s t refl refl can.on in
       let cell = (scopes_hold e f k g can.group).amount s can.on in
       let same : IsUnchanged s t = record { columns = λ slot q. refl; steps = refl; weights = refl; placed = λ winner. refl } in
-      let votes : HasCells e g.entries (t.columns x.votes) v = can.votes in
-      let minima : HasMinima e g.entries v x.minima t m = minima_kept e g.entries v m s t x.minima (λ slot is q. refl) can.minima in
       line_first (get_does c e s x.amounts (amounts_of f) can.slots.amounts reg.AMOUNT g.amount_place cell)
       (line_over (then_achieves {Q = AreSummed g v m t}
-      (achieves_never (sums_achieve c e f x name k g v m t can.group can.slots on votes minima))
+      (achieves_never (sums_achieve c e f x name k g v m t can.group can.slots can.on can.votes can.minima))
       (λ w h. goes w (summed_begun t w same can.amount h))))

@@ -1,5 +1,5 @@
 -- The search of a growth: all entries of its scope are read, and then batches of peers get seats until the minima of the field are met.
-use Rattle.std.proofs.Common.{◌≡◌, ℕ, suc, ◌<◌, ◌≤◌, min, List, [], length, sum, Some, refl, sym, ap, ◌∙◌, arith, ◌∷◌}
+use Rattle.std.proofs.Common.{◌≡◌, ℕ, ◌<◌, ◌≤◌, min, List, [], length, sum, Some, refl, sym, ap, ◌∙◌, arith, ◌∷◌}
 use Rattle.std.specs.Prelude.{slice_index}
 use Rattle.std.specs.List.{range_with_len}
 use Rattle.std.proofs.lemmas.List.{length-map}
@@ -29,7 +29,6 @@ use Rattle.sl_plans.proofs.KeepingRules.{each_of}
 use Rattle.sl_pieces.specs.scopes.Forms.{Form, table_of, OnScope}
 use Rattle.sl_pieces.specs.inner.scopes.Walks.{bare}
 use Rattle.sl_pieces.proofs.scopes.Forms.{each_entry}
-use Rattle.sl_pieces.proofs.scopes.Staying.{scope_stays}
 use Rattle.sl_pieces.specs.arenas.Arenas as arenas
 use Rattle.sl_pieces.specs.arenas.Arenas.{Arena, next_seat, waiting}
 use Rattle.sl_pieces.specs.arenas.Laws.{PeersWait}
@@ -47,7 +46,7 @@ use Rattle.sl_pieces.specs.nodes.Trees.{search_entry, search_batch, search_seat,
 use Rattle.sl_pieces.proofs.nodes.Meeting.{length-lacking, first_missing}
 use Rattle.sl_pieces.proofs.nodes.Found.{IsShort, IsFound, is_short, peers_there, least_at_first}
 use Rattle.sl_pieces.proofs.nodes.SearchScope.{with_minima, search_arena, CanSearch, weight_each, minimum_each, arena_of}
-use Rattle.sl_pieces.proofs.nodes.SearchEntries.{FirstSearched, counted, entries_searched}
+use Rattle.sl_pieces.proofs.nodes.SearchEntries.{FirstSearched, entries_searched}
 use Rattle.sl_pieces.proofs.nodes.SearchSeats.{IsSearched, BatchBegun, search_gives}
 
 module _ {c : CountingCode} {e : Election} {f : Form} {x : Slots} {name : List ℕ} {slot k : ℕ} {g : Group} {d : Divisor} {v m : List ℕ} {seats cap : ℕ} {before : State}
@@ -64,26 +63,6 @@ module _ {c : CountingCode} {e : Election} {f : Form} {x : Slots} {name : List �
 
   laws : LadderLaws (free_ladders d v)
   laws = ladders.batches (free_ladders d v) (arena_of can).arena.falling
-
-  -- only other registers changed
-  pub searched_still : (t : List ℕ) (s : State) (registers : ℕ → ℕ) → Held t s → registers reg.AMOUNT ≡ s.registers reg.AMOUNT → registers reg.TOTAL ≡ s.registers reg.TOTAL
-      → registers reg.NUMBER ≡ s.registers reg.NUMBER → registers reg.ALL_LEFT ≡ s.registers reg.ALL_LEFT → registers reg.TURNS ≡ s.registers reg.TURNS
-      → Held t (record s { registers = registers })
-  searched_still t s registers h amount total number all_left turns = record {
-    on = scope_stays g.scope s (record s { registers = registers }) refl refl h.on;
-    amount = amount ∙ h.amount;
-    total = total ∙ h.total;
-    number = number ∙ h.number;
-    all_left = all_left ∙ h.all_left;
-    turns = turns ∙ h.turns;
-    cells = h.cells;
-    elsewhere = h.elsewhere;
-    columns = h.columns;
-    steps = h.steps;
-    weights = h.weights;
-    placed = h.placed;
-    least = h.least;
-  }
 
   -- ---- batches
 
@@ -102,10 +81,9 @@ module _ {c : CountingCode} {e : Election} {f : Form} {x : Slots} {name : List �
         if_empty {t = arenas.table_of arena (waiting arena t)} waits
         (λ nobody. absurd (omega (arith, there, nobody, wait.number)))
         (λ n many.
-        let counted : State = with_register reg.PEERS (suc n) state in
         ends_in refl (
           waits,
-          searched_still t state (with_register reg.IN_BATCH (suc n) counted).registers h refl refl refl refl refl,
+          h,
           OneBegan next.0 next.1 there (sym many ∙ wait.number) short,
         )));
     rests = λ t state settled waits h none found.
@@ -115,12 +93,8 @@ module _ {c : CountingCode} {e : Election} {f : Form} {x : Slots} {name : List �
   fits_loop : FitsLoop Held reg.LEFT search_batch (search_seat (with_minima x slot) d)
   fits_loop = record {
     apart = refl;
-    own = record { blind = λ t value s h. searched_still t s (with_register reg.LEFT value s).registers h refl refl refl refl refl };
-    blind = each_of (IsBlind Held) (ones ∷ reg.PEERS ∷ reg.IN_BATCH ∷ []) (
-      record { blind = λ t value s h. searched_still t s (with_register ones value s).registers h refl refl refl refl refl },
-      (record { blind = λ t value s h. searched_still t s (with_register reg.PEERS value s).registers h refl refl refl refl refl },
-      (record { blind = λ t value s h. searched_still t s (with_register reg.IN_BATCH value s).registers h refl refl refl refl refl }, tt)),
-    );
+    own = record { blind = λ t value s h. h };
+    blind = each_of (IsBlind Held) (ones ∷ reg.PEERS ∷ reg.IN_BATCH ∷ []) (record { blind = λ t value s h. h }, (record { blind = λ t value s h. h }, (record { blind = λ t value s h. h }, tt)));
     begin_keeps = refl;
     on_keeps = refl;
     keeps = refl;
@@ -136,17 +110,13 @@ module _ {c : CountingCode} {e : Election} {f : Form} {x : Slots} {name : List �
       let given : 0 ≡ min (sum (no_minima v)) most = omega (arith, sum_zeros (length v)) in
       record {
         on = on;
-        amount = h.amount;
-        total = h.total;
+        amount = h.held.amount;
+        total = h.held.total;
         number = h.number ∙ sum_of_all (outside_minima v m) n (length-outside v m (minimum_each can) ∙ weight_each can);
         all_left = none_left ∙ given;
         turns = h.turns ∙ first_missing v m (no_minima v) n (length-lacking v m (no_minima v) (minimum_each can) zeros ∙ weight_each can);
-        cells = record { one_each = zeros ∙ weight_each can; at = λ j i at. h.cells j i (slice_get_within g.entries j i at) at ∙ sym (none_needed (length v) j) };
-        elsewhere = h.elsewhere;
-        columns = h.columns;
-        steps = h.steps;
-        weights = h.weights;
-        placed = h.placed;
+        cells = record { one_each = zeros ∙ weight_each can; at = λ j i at. h.held.cells j i (slice_get_within g.entries j i at) at ∙ sym (none_needed (length v) j) };
+        kept = h.held.kept;
         least = λ settled none. least_at_first d v m (minimum_each can) none;
       }
 
@@ -160,7 +130,7 @@ module _ {c : CountingCode} {e : Election} {f : Form} {x : Slots} {name : List �
       let all : first_waiting arena (length g.entries) ≡ waiting arena (no_minima v) = pieces_all (next_seat arena (no_minima v)) (range_with_len 0 n) (length g.entries) long in
       batches_achieve c e arena MAX_SEATS cap reg.LEFT (bound.AtMost most_seats) search_batch (search_seat (with_minima x slot) d) (BatchBegun v m) (IsFound d v m) Held (no_minima v) s
       (arena_of can).arena few (search_gives can) begins_batches fits_loop laws.begin
-      (h.table ∙ ap (λ xs. Some (arenas.table_of arena xs)) all) (first_held s on h none_left)
+      (h.held.table ∙ ap (λ xs. Some (arenas.table_of arena xs)) all) (first_held s on h none_left)
       (omega (arith, left, sum_zeros (length v))) (omega (arith, left, few))
 
   pub search_achieves : Achieves c e (search f (with_minima x slot) d cap) before HasEnded Never
@@ -170,19 +140,17 @@ module _ {c : CountingCode} {e : Election} {f : Form} {x : Slots} {name : List �
       let empty : State = with_table (record { entries = table_of f; ranking = ranking.Quotients; contents = [] }) (with_register reg.TURNS 0 (with_register reg.NUMBER 0 before)) in
       then_achieves {Q = λ s. OnScope g.scope s × Inv 0 (bare s)}
       (ends_in refl (
-        scope_stays g.scope before empty refl refl can.ready.on,
+        can.ready.on,
         record {
-          amount = can.ready.amount;
-          total = can.ready.total;
           number = refl;
           turns = refl;
-          cells = λ q i less at. absurd (omega (arith, less));
-          elsewhere = λ q none. refl;
-          columns = λ y q other. refl;
-          table = refl;
-          steps = refl;
-          weights = refl;
-          placed = λ winner. refl;
+          held = record {
+            amount = can.ready.amount;
+            total = can.ready.total;
+            cells = λ q i less at. absurd (omega (arith, less));
+            kept = record { elsewhere = λ q none. refl; columns = λ y q other. refl; steps = refl; weights = refl; placed = λ winner. refl };
+            table = refl;
+          };
         },
       ))
       (λ s h.
@@ -190,4 +158,4 @@ module _ {c : CountingCode} {e : Election} {f : Form} {x : Slots} {name : List �
       (each_entry c e f k g (search_entry f (with_minima x slot) d) Inv Never s can.ready.group (entries_searched can) h.0 h.1)
       (λ t r.
       let last : State = with_register reg.LEFT cap (with_register reg.ALL_LEFT 0 t) in
-      goes_as (batches_from last (scope_stays g.scope t last refl refl r.0) (counted can n n n (bare t) last.registers r.1 refl refl r.1.number r.1.turns) refl refl) refl))
+      goes_as (batches_from last r.0 (record { number = r.1.number; turns = r.1.turns; held = r.1.held }) refl refl) refl))

@@ -1,6 +1,6 @@
 -- The search of a growth reads the entries of its scope: their minima are summed, outside the field and in it, and those of the field wait for
 -- their first seats.
-use Rattle.std.proofs.Common.{◌≡◌, ◌≢◌, ℕ, ◌+◌, ◌<◌, ◌≤◌, min, List, [], ◌∷◌, length, take, sum, Option, Some, slice_get, refl, sym, ap, ◌∙◌, inl, inr, arith}
+use Rattle.std.proofs.Common.{◌≡◌, ℕ, ◌+◌, ◌<◌, ◌≤◌, min, List, [], ◌∷◌, length, take, sum, Option, Some, slice_get, refl, sym, ap, ◌∙◌, inl, inr, arith}
 use Rattle.std.specs.Prelude.{slice_index}
 use Rattle.std.proofs.lemmas.Bool.{cases_eq}
 use Rattle.std.proofs.lemmas.Option.{same_Some, slice_get_within}
@@ -27,7 +27,7 @@ use Rattle.sl_plans.proofs.Rules.{line_ends, line_goes, then_achieves, if_zero, 
 use Rattle.sl_pieces.specs.scopes.Forms.{Form, votes_of, table_of, OnItem}
 use Rattle.sl_pieces.specs.scopes.Scopes.{IsEntry}
 use Rattle.sl_pieces.specs.inner.scopes.Walks.{bare, Visits}
-use Rattle.sl_pieces.proofs.scopes.Staying.{item_stays, entries_visited}
+use Rattle.sl_pieces.proofs.scopes.Staying.{entries_visited}
 use Rattle.sl_pieces.specs.arenas.Arenas as arenas
 use Rattle.sl_pieces.specs.arenas.Arenas.{Arena, seat_of}
 use Rattle.sl_pieces.specs.declared.registers.TheConstants as reg
@@ -40,20 +40,23 @@ use Rattle.sl_pieces.proofs.seats.SeatingArenas.{places_differ}
 use Rattle.sl_pieces.specs.nodes.Trees.{search_entry}
 use Rattle.sl_pieces.proofs.nodes.Meeting.{lacking, lacking_at, lacking_in, length-lacking, lacking_within, outside_within}
 use Rattle.sl_pieces.proofs.nodes.SearchScope.{with_minima, search_arena, CanSearch, scope_is, weight_each, minimum_each, entries_wait}
+use Rattle.sl_pieces.specs.inner.nodes.Houses.{KeepsOthers}
 
--- the minima of the first n entries are summed, and the first k of them hold no seats and wait
+-- the first k entries of the search hold no seats and wait
+abbrev pub FirstHeld : Election → Form → Slots → Group → Divisor → List ℕ → ℕ → State → ℕ → State → Type 0
+FirstHeld e f x g d v seats before k s = record {
+  amount : s.registers reg.AMOUNT ≡ seats;
+  total : s.registers reg.TOTAL ≡ sum v;
+  cells : (q : ℕ) (i : Item) → q < k → slice_get g.entries q ≡ Some i → s.columns x.result (place e i) ≡ 0;
+  kept : KeepsOthers e x g before s;
+  table : s.table ≡ Some (arenas.table_of (search_arena e f g d v) (first_waiting (search_arena e f g d v) k));
+}
+
+-- and the minima of the first n entries are summed
 pub record FirstSearched (e : Election) (f : Form) (x : Slots) (g : Group) (d : Divisor) (v m : List ℕ) (seats : ℕ) (before : State) (n k : ℕ) (s : State) : Type 0 where
-  pub amount : s.registers reg.AMOUNT ≡ seats
-  pub total : s.registers reg.TOTAL ≡ sum v
   pub number : s.registers reg.NUMBER ≡ sum (take n (outside_minima v m))
   pub turns : s.registers reg.TURNS ≡ sum (take n (lacking v m (no_minima v)))
-  pub cells : (q : ℕ) (i : Item) → q < k → slice_get g.entries q ≡ Some i → s.columns x.result (place e i) ≡ 0
-  pub elsewhere : (q : ℕ) → ((j : ℕ) (i : Item) → slice_get g.entries j ≡ Some i → place e i ≢ q) → s.columns x.result q ≡ before.columns x.result q
-  pub columns : (slot q : ℕ) → slot ≢ x.result → s.columns slot q ≡ before.columns slot q
-  pub table : s.table ≡ Some (arenas.table_of (search_arena e f g d v) (first_waiting (search_arena e f g d v) k))
-  pub steps : s.steps ≡ before.steps
-  pub weights : s.weights ≡ before.weights
-  pub placed : (winner : ℕ) → s.placed winner ≡ before.placed winner
+  pub held : FirstHeld e f x g d v seats before k s
 
 -- the minima of one entry more are summed
 pub record OneMore (v m : List ℕ) (j : ℕ) : Type 0 where
@@ -90,23 +93,6 @@ module _ {c : CountingCode} {e : Election} {f : Form} {x : Slots} {name : List �
   abbrev pub Searched : ℕ → ℕ → State → Type 0
   Searched = FirstSearched e f x g d v m seats before
 
-  -- only registers changed
-  pub counted : (n p q : ℕ) (s : State) (registers : ℕ → ℕ) → Searched n q s → registers reg.AMOUNT ≡ s.registers reg.AMOUNT → registers reg.TOTAL ≡ s.registers reg.TOTAL
-      → registers reg.NUMBER ≡ sum (take p (outside_minima v m)) → registers reg.TURNS ≡ sum (take p (lacking v m (no_minima v))) → Searched p q (record s { registers = registers })
-  counted n p q s registers h amount total number turns = record {
-    amount = amount ∙ h.amount;
-    total = total ∙ h.total;
-    number = number;
-    turns = turns;
-    cells = h.cells;
-    elsewhere = h.elsewhere;
-    columns = h.columns;
-    table = h.table;
-    steps = h.steps;
-    weights = h.weights;
-    placed = h.placed;
-  }
-
   module _ (j : ℕ) (i : Item) (at : slice_get g.entries j ≡ Some i) where
     entry : IsEntry e (table_of f) (votes_of f) g.scope i
     entry = (scope_is can).entry j i at
@@ -115,15 +101,12 @@ module _ {c : CountingCode} {e : Election} {f : Form} {x : Slots} {name : List �
     within = slice_get_within g.entries j i at
 
     -- the entry holds no seat, and it may wait
-    stored : (n : ℕ) (s : State) (registers : ℕ → ℕ) (table : Option PriorityTable) → Searched n j s → registers reg.AMOUNT ≡ s.registers reg.AMOUNT
-        → registers reg.TOTAL ≡ s.registers reg.TOTAL → registers reg.NUMBER ≡ s.registers reg.NUMBER → registers reg.TURNS ≡ s.registers reg.TURNS
-        → table ≡ Some (arenas.table_of arena (first_waiting arena (j + 1)))
-        → Searched n (j + 1) (record (with_cell x.result (place e i) 0 s) { registers = registers; table = table })
-    stored n s registers table h amount total number turns waits = record {
+    stored : (s : State) (registers : ℕ → ℕ) (table : Option PriorityTable) → FirstHeld e f x g d v seats before j s → registers reg.AMOUNT ≡ s.registers reg.AMOUNT
+        → registers reg.TOTAL ≡ s.registers reg.TOTAL → table ≡ Some (arenas.table_of arena (first_waiting arena (j + 1)))
+        → FirstHeld e f x g d v seats before (j + 1) (record (with_cell x.result (place e i) 0 s) { registers = registers; table = table })
+    stored s registers table h amount total waits = record {
       amount = amount ∙ h.amount;
       total = total ∙ h.total;
-      number = number ∙ h.number;
-      turns = turns ∙ h.turns;
       cells = λ q y less there.
           elim (cases_eq q j) [
             | inl same ↦
@@ -132,12 +115,14 @@ module _ {c : CountingCode} {e : Election} {f : Form} {x : Slots} {name : List �
             | inr other ↦
                 cell_other_place s x.result (place e i) 0 (place e y) (places_differ e g f (scope_is can) q j y i there at other) ∙ h.cells q y (omega (arith, less, other)) there
           ];
-      elsewhere = λ q none. cell_other_place s x.result (place e i) 0 q (λ same. none j i at (sym same)) ∙ h.elsewhere q none;
-      columns = λ y q other. cell_other_slot s x.result (place e i) 0 y q other ∙ h.columns y q other;
+      kept = record {
+        elsewhere = λ q none. cell_other_place s x.result (place e i) 0 q (λ same. none j i at (sym same)) ∙ h.kept.elsewhere q none;
+        columns = λ y q other. cell_other_slot s x.result (place e i) 0 y q other ∙ h.kept.columns y q other;
+        steps = h.kept.steps;
+        weights = h.kept.weights;
+        placed = h.kept.placed;
+      };
       table = waits;
-      steps = h.steps;
-      weights = h.weights;
-      placed = h.placed;
     }
 
     -- the last part of the plan: the cell, and the table
@@ -151,18 +136,21 @@ module _ {c : CountingCode} {e : Election} {f : Form} {x : Slots} {name : List �
         let others : List Entry = first_waiting arena j in
         let seat : Entry = seat_of arena j (slice_index none j) in
         line_first refl
-        (line_first (store_does c e zero_held x.result (votes_of f) can.ready.slots.result reg.HELD (place e i) (entry.cell zero_held (item_stays i s zero_held refl refl refl on)))
+        (line_first (store_does c e zero_held x.result (votes_of f) can.ready.slots.result reg.HELD (place e i) (entry.cell zero_held on))
         (line_over (if_zero
         (λ no_weight.
         let empty : slice_index v j ≡ 0 = omega (arith, weight, no_weight) in
-        line_ends (stored (j + 1) (bare s) here.registers s.table h refl refl refl refl (h.table ∙ ap Some (waiting_same g j i at (entries_wait can) empty))))
+        line_ends (record { number = h.number; turns = h.turns; held = stored (bare s) here.registers s.table h.held refl refl (h.held.table ∙ ap Some (waiting_same g j i at (entries_wait can) empty)) }))
         (λ w some.
         let field : InField v j = omega (arith, weight, some) in
         line_goes
-        (seat_enters c e f g (scope_is can) d v none can.ready.weights j (slice_index none j) i here others reg.HELD at (item_stays i s here refl refl refl on) weight field
-        (sym (none_needed (length v) j)) (omega (arith, none_needed (length v) j)) h.table)
-        (line_ends
-        (stored (j + 1) (bare s) here.registers (Some (arenas.table_of arena (seat ∷ others))) h refl refl refl refl (ap Some (waiting_more g j i at (entries_wait can) field))))))))
+        (seat_enters c e f g (scope_is can) d v none can.ready.weights j (slice_index none j) i here others reg.HELD at on weight field
+        (sym (none_needed (length v) j)) (omega (arith, none_needed (length v) j)) h.held.table)
+        (line_ends (record {
+          number = h.number;
+          turns = h.turns;
+          held = stored (bare s) here.registers (Some (arenas.table_of arena (seat ∷ others))) h.held refl refl (ap Some (waiting_more g j i at (entries_wait can) field));
+        }))))))
 
     -- the sums
     sums : (s : State) → OnItem i s → s.registers reg.WEIGHT ≡ slice_index v j → s.registers reg.BASE ≡ slice_index m j → Searched j j (bare s)
@@ -173,25 +161,23 @@ module _ {c : CountingCode} {e : Election} {f : Form} {x : Slots} {name : List �
         if_zero
         (λ no_weight.
         let empty : slice_index v j ≡ 0 = omega (arith, weight, no_weight) in
-        let t : State = with_register reg.NUMBER (min (s.registers reg.NUMBER + s.registers reg.BASE) most) s in
         let number : min (s.registers reg.NUMBER + s.registers reg.BASE) most ≡ sum (take (j + 1) (outside_minima v m)) = omega (arith, h.number, base, more.number, (more.outside empty).0) in
-        ends_in refl (item_stays i s t refl refl refl on, weight, counted j (j + 1) j (bare s) t.registers h refl refl number (h.turns ∙ sym (more.outside empty).1)))
+        ends_in refl (on, weight, record { number = number; turns = h.turns ∙ sym (more.outside empty).1; held = h.held }))
         (λ w some.
         let field : InField v j = omega (arith, weight, some) in
-        let t : State = with_register reg.TURNS (min (s.registers reg.TURNS + s.registers reg.BASE) most) s in
         let turns : min (s.registers reg.TURNS + s.registers reg.BASE) most ≡ sum (take (j + 1) (lacking v m (no_minima v))) = omega (arith, h.turns, base, more.turns, (more.inside field).1) in
-        ends_in refl (item_stays i s t refl refl refl on, weight, counted j (j + 1) j (bare s) t.registers h refl refl (h.number ∙ sym (more.inside field).0) turns))
+        ends_in refl (on, weight, record { number = h.number ∙ sym (more.inside field).0; turns = turns; held = h.held }))
 
     searches_entry : (s : State) → OnItem i s → Searched j j (bare s) → Achieves c e (search_entry f (with_minima x slot) d) s (λ t. Searched (j + 1) (j + 1) (bare t)) Never
     searches_entry s on h =
         let one : State = with_register reg.WEIGHT (s.columns x.votes (place e i)) s in
         let two : State = with_register reg.BASE (s.columns slot (place e i)) one in
-        let weight : s.columns x.votes (place e i) ≡ slice_index v j = h.columns x.votes (place e i) can.ready.slots.not_votes ∙ can.ready.votes.at j i at in
-        let minimum : s.columns slot (place e i) ≡ slice_index m j = h.columns slot (place e i) (can.ready.slots.not_minima slot refl) ∙ can.ready.minima.at j i at in
+        let weight : s.columns x.votes (place e i) ≡ slice_index v j = h.held.kept.columns x.votes (place e i) can.ready.slots.not_votes ∙ can.ready.votes.at j i at in
+        let minimum : s.columns slot (place e i) ≡ slice_index m j = h.held.kept.columns slot (place e i) (can.ready.slots.not_minima slot refl) ∙ can.ready.minima.at j i at in
         line_first (get_does c e s x.votes (votes_of f) can.ready.slots.votes reg.WEIGHT (place e i) (entry.cell s on)) (line_over
-        (line_first (get_does c e one slot (votes_of f) (can.ready.slots.minima slot refl) reg.BASE (place e i) (entry.cell one (item_stays i s one refl refl refl on))) (line_over
+        (line_first (get_does c e one slot (votes_of f) (can.ready.slots.minima slot refl) reg.BASE (place e i) (entry.cell one on)) (line_over
         (then_achieves {Q = λ w. OnItem i w × (w.registers reg.WEIGHT ≡ slice_index v j) × Searched (j + 1) j (bare w)}
-        (sums two (item_stays i s two refl refl refl on) weight minimum (counted j j j (bare s) two.registers h refl refl h.number h.turns)) (λ w r. enters w r.0 r.1 r.2)))))
+        (sums two on weight minimum (record { number = h.number; turns = h.turns; held = h.held })) (λ w r. enters w r.0 r.1 r.2)))))
 
   pub entries_searched : Visits c e (search_entry f (with_minima x slot) d) g.entries OnItem (λ n s. FirstSearched e f x g d v m seats before n n s) Never
   entries_searched = entries_visited (record { party = refl; land = refl; win = refl }) (λ j i s at on h. searches_entry j i at s on h)

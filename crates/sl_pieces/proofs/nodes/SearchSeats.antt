@@ -50,22 +50,21 @@ use Rattle.sl_pieces.specs.nodes.Trees.{search_seat}
 use Rattle.sl_pieces.proofs.nodes.Meeting.{missing, sum_one_more, one_less_missing, as_much_missing}
 use Rattle.sl_pieces.proofs.nodes.Found.{IsShort, IsLeast, least_after}
 use Rattle.sl_pieces.proofs.nodes.SearchScope.{with_minima, search_arena, CanSearch, scope_is, weight_each, minimum_each, arena_of}
+use Rattle.sl_pieces.specs.inner.nodes.Houses.{KeepsOthers}
 
 -- the entries of the scope hold t in the search, and all else is as it was before
-pub record IsSearched (e : Election) (x : Slots) (g : Group) (d : Divisor) (v m : List ℕ) (seats : ℕ) (before : State) (t : List ℕ) (s : State) : Type 0 where
-  pub on : OnScope g.scope s
-  pub amount : s.registers reg.AMOUNT ≡ seats
-  pub total : s.registers reg.TOTAL ≡ sum v
-  pub number : s.registers reg.NUMBER ≡ outside_sum v m
-  pub all_left : s.registers reg.ALL_LEFT ≡ min (sum t) most
-  pub turns : s.registers reg.TURNS ≡ missing v m t
-  pub cells : HasCells e g.entries (s.columns x.result) t
-  pub elsewhere : (q : ℕ) → ((j : ℕ) (i : Item) → slice_get g.entries j ≡ Some i → place e i ≢ q) → s.columns x.result q ≡ before.columns x.result q
-  pub columns : (slot q : ℕ) → slot ≢ x.result → s.columns slot q ≡ before.columns slot q
-  pub steps : s.steps ≡ before.steps
-  pub weights : s.weights ≡ before.weights
-  pub placed : (winner : ℕ) → s.placed winner ≡ before.placed winner
-  pub least : IsSettled (free_ladders d v) t → missing v m t ≡ 0 → IsLeast d v m t
+abbrev pub IsSearched : Election → Slots → Group → Divisor → List ℕ → List ℕ → ℕ → State → List ℕ → State → Type 0
+IsSearched e x g d v m seats before t s = record {
+  on : OnScope g.scope s;
+  amount : s.registers reg.AMOUNT ≡ seats;
+  total : s.registers reg.TOTAL ≡ sum v;
+  number : s.registers reg.NUMBER ≡ outside_sum v m;
+  all_left : s.registers reg.ALL_LEFT ≡ min (sum t) most;
+  turns : s.registers reg.TURNS ≡ missing v m t;
+  cells : HasCells e g.entries (s.columns x.result) t;
+  kept : KeepsOthers e x g before s;
+  least : IsSettled (free_ladders d v) t → missing v m t ≡ 0 → IsLeast d v m t;
+}
 
 -- what is known of a batch that has begun
 abbrev pub BatchBegun : List ℕ → List ℕ → List ℕ → ℕ → Type 0
@@ -123,7 +122,7 @@ module _ {c : CountingCode} {e : Election} {f : Form} {x : Slots} {name : List �
         (λ less.
         let y : State = with_register reg.TURNS (w.registers reg.TURNS - 1) (with_register ones 1 w) in
         let fewer : missing v m t ≡ missing v m u + 1 = one_less_missing v m (minimum_each can) t u j long raised field (omega (arith, less, held, base)) in
-        ends_in refl (record { on_item = item_stays i w y refl refl refl on; held = held; turns = omega (arith, turns, fewer); all_left = all_left; columns = columns; table = table }))
+        ends_in refl (record { on_item = on; held = held; turns = omega (arith, turns, fewer); all_left = all_left; columns = columns; table = table }))
         (λ met.
         let same : missing v m u ≡ missing v m t = as_much_missing v m (minimum_each can) t u j long raised field (omega (arith, met, held, base)) in
         line_ends (record { on_item = on; held = held; turns = turns ∙ sym same; all_left = all_left; columns = columns; table = table }))
@@ -137,9 +136,8 @@ module _ {c : CountingCode} {e : Election} {f : Form} {x : Slots} {name : List �
         let w2 : State = with_register reg.HELD more (with_register ones 1 w) in
         let w5 : State = with_register reg.ALL_LEFT (min (w.registers reg.ALL_LEFT + 1) most) (with_register ones 1 (with_cell x.result p more w2)) in
         let holds_more : more ≡ slice_index u j = omega (arith, h.held, next, few) in
-        let on : OnItem i w5 = item_stays i w w5 refl refl refl h.on_item in
         let given : IsGiven s w5 = record {
-          on_item = on;
+          on_item = h.on_item;
           cell = cell_same w2 x.result p more ∙ holds_more;
           elsewhere = λ q other. cell_other_place w2 x.result p more q other ∙ ap (λ (y : ℕ → ℕ → ℕ). y x.result q) h.columns;
           turns = h.turns;
@@ -155,9 +153,9 @@ module _ {c : CountingCode} {e : Election} {f : Form} {x : Slots} {name : List �
         let has : (held : ℕ) → Has arena.ladders j held = λ held. has_of d v (no_minima v) j held field in
         let low : slice_index (no_minima v) j ≤ slice_index t j = omega (arith, none_needed (length v) j) in
         line_first refl (line_first refl
-        (line_first (store_does c e w2 x.result (votes_of f) can.ready.slots.result reg.HELD p (entry.cell w2 (item_stays i w w2 refl refl refl h.on_item)))
+        (line_first (store_does c e w2 x.result (votes_of f) can.ready.slots.result reg.HELD p (entry.cell w2 h.on_item))
         (goes_as
-        (achieves_keeping (again.enters t u j i w5 taken at (has (slice_index t j)) low next few on holds_more same_votes h.table)
+        (achieves_keeping (again.enters t u j i w5 taken at (has (slice_index t j)) low next few h.on_item holds_more same_votes h.table)
         (λ z r kept. (r, given_still s w5 z kept given)))
         refl)))
 
@@ -168,8 +166,8 @@ module _ {c : CountingCode} {e : Election} {f : Form} {x : Slots} {name : List �
         let one : State = with_register reg.HELD (s.columns x.result (place e i)) s in
         let two : State = with_register reg.BASE (s.columns slot (place e i)) one in
         line_first (get_does c e s x.result (votes_of f) can.ready.slots.result reg.HELD (place e i) (entry.cell s on)) (line_over
-        (line_first (get_does c e one slot (votes_of f) (can.ready.slots.minima slot refl) reg.BASE (place e i) (entry.cell one (item_stays i s one refl refl refl on))) (line_over
-        (then_achieves {Q = IsCounted s} (counts s two (item_stays i s two refl refl refl on) cell minimum turns all_left refl table) (λ z h. holds s z votes h)))))
+        (line_first (get_does c e one slot (votes_of f) (can.ready.slots.minima slot refl) reg.BASE (place e i) (entry.cell one on)) (line_over
+        (then_achieves {Q = IsCounted s} (counts s two on cell minimum turns all_left refl table) (λ z h. holds s z votes h)))))
 
     -- what stands with t before the seat stands with u after it
     searched_next : (tab : PriorityTable) (mark : Mark) (state now after : State) → IsTaken i tab mark state now → IsGiven now after → KeepsRest (search_seat (with_minima x slot) d) now after
@@ -196,13 +194,15 @@ module _ {c : CountingCode} {e : Election} {f : Form} {x : Slots} {name : List �
                       ∙ sym (raised.others q (not_it j q other))
                 ];
           };
-          elsewhere = λ q none. given.elsewhere q (λ same. none j i at (sym same)) ∙ column x.result q ∙ h.elsewhere q none;
-          columns = λ y q other.
-              let free : may_write_slot (search_seat (with_minima x slot) d) y ≡ false = rw (ne_eqb y x.result other) refl in
-              kept.columns y free q ∙ column y q ∙ h.columns y q other;
-          steps = kept.steps_kept refl ∙ taken_now.steps ∙ h.steps;
-          weights = kept.weights_kept refl ∙ taken_now.weights ∙ h.weights;
-          placed = λ winner. kept.placed refl winner ∙ ap (λ (y : ℕ → Placed). y winner) taken_now.placed ∙ h.placed winner;
+          kept = record {
+            elsewhere = λ q none. given.elsewhere q (λ same. none j i at (sym same)) ∙ column x.result q ∙ h.kept.elsewhere q none;
+            columns = λ y q other.
+                let free : may_write_slot (search_seat (with_minima x slot) d) y ≡ false = rw (ne_eqb y x.result other) refl in
+                kept.columns y free q ∙ column y q ∙ h.kept.columns y q other;
+            steps = kept.steps_kept refl ∙ taken_now.steps ∙ h.kept.steps;
+            weights = kept.weights_kept refl ∙ taken_now.weights ∙ h.kept.weights;
+            placed = λ winner. kept.placed refl winner ∙ ap (λ (y : ℕ → Placed). y winner) taken_now.placed ∙ h.kept.placed winner;
+          };
           least = least;
         }
 
@@ -223,12 +223,12 @@ module _ {c : CountingCode} {e : Election} {f : Form} {x : Slots} {name : List �
         let column : (y q : ℕ) → now.columns y q ≡ state.columns y q = λ y q. ap (λ (z : ℕ → ℕ → ℕ). z y q) taken_now.columns in
         let votes : HasCells e g.entries (now.columns x.votes) v = record {
           one_each = weight_each can;
-          at = λ q y in_it. column x.votes (place e y) ∙ h.columns x.votes (place e y) can.ready.slots.not_votes ∙ can.ready.votes.at q y in_it;
+          at = λ q y in_it. column x.votes (place e y) ∙ h.kept.columns x.votes (place e y) can.ready.slots.not_votes ∙ can.ready.votes.at q y in_it;
         } in
         let least : IsSettled (free_ladders d v) u → missing v m u ≡ 0 → IsLeast d v m u = least_after d v m (minimum_each can) s peers (j ∷ given) u mid short in
         achieves_keeping
         (seat_is_given j i t u at field long gets.raised (few j) gets.taken now taken_now.on_item (column x.result (place e i) ∙ h.cells.at j i at)
-        (column slot (place e i) ∙ h.columns slot (place e i) (can.ready.slots.not_minima slot refl) ∙ can.ready.minima.at j i at) votes
+        (column slot (place e i) ∙ h.kept.columns slot (place e i) (can.ready.slots.not_minima slot refl) ∙ can.ready.minima.at j i at) votes
         (register reg.TURNS ∙ h.turns) (register reg.ALL_LEFT ∙ h.all_left) taken_now.table)
         (λ after r kept. (r.0, searched_next j i t u at field long gets.raised (few j) gets.taken tab (arena.won j (slice_index t j)) state now after taken_now r.1 kept h least));
   }

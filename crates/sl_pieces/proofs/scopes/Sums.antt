@@ -20,7 +20,7 @@ use Rattle.sl_pieces.specs.scopes.Scopes.{IsEntry}
 use Rattle.sl_pieces.specs.scopes.Sums.{add_cell, EntriesAreSummed}
 use Rattle.sl_pieces.proofs.scopes.Forms.{each_entry}
 use Rattle.sl_pieces.proofs.scopes.Scopes.{scopes_hold}
-use Rattle.sl_pieces.proofs.scopes.Staying.{scope_stays, entries_visited}
+use Rattle.sl_pieces.proofs.scopes.Staying.{entries_visited}
 
 module _ (c : CountingCode) (e : Election) (f : Form) (g : Group) (total cell slot : ℕ) (column : ℕ → ℕ) (known : slice_get c.slots slot ≡ Some (votes_of f)) (other : total ≢ cell)
     (entry : (j : ℕ) (i : Item) → slice_get g.entries j ≡ Some i → IsEntry e (table_of f) (votes_of f) g.scope i) where
@@ -68,6 +68,6 @@ entries_are_summed c e f m g total cell slot s at known other on =
     let entry : (j : ℕ) (i : Item) → slice_get g.entries j ≡ Some i → IsEntry e (table_of f) (votes_of f) g.scope i = (scopes_hold e f m g at).entry in
     let Inv : ℕ → State → Type 0 = Summed c e f g total cell slot column known other entry in
     then_achieves {Q = λ t. OnScope g.scope t × Inv 0 (bare t)}
-    (line_goes (set_does c e s total 0) (line_ends (scope_stays g.scope s (with_register total 0 s) refl refl on, begins c e f g total cell slot column known other entry (bare (with_register total 0 s)) refl (register_same s total 0))))
+    (line_goes (set_does c e s total 0) (line_ends (on, begins c e f g total cell slot column known other entry (bare (with_register total 0 s)) refl (register_same s total 0))))
     (λ t h. achieves_so (each_entry c e f m g (add_cell total cell slot) Inv Never t at (visits c e f g total cell slot column known other entry) h.0 h.1)
     (λ u r. (r.0, ends c e f g total cell slot column known other entry (bare u) r.1)))

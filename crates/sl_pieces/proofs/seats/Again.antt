@@ -17,7 +17,6 @@ use Rattle.sl_plans.specs.Achieves.{Achieves, Never}
 use Rattle.sl_plans.proofs.Rules.{line_ends, line_goes, if_zero, line_first, line_over}
 use Rattle.sl_pieces.specs.scopes.Forms.{Form, votes_of, table_of, OnItem}
 use Rattle.sl_pieces.specs.scopes.Scopes.{IsEntry}
-use Rattle.sl_pieces.proofs.scopes.Staying.{item_stays}
 use Rattle.sl_pieces.specs.arenas.Arenas.{Arena, HasWaiting, divisor_arena, hamilton_arena, table_of as table_with}
 use Rattle.sl_pieces.specs.arenas.Laws.{SeatTaken}
 use Rattle.sl_pieces.proofs.arenas.TableEffects.{waiting_again}
@@ -50,7 +49,7 @@ module _ (c : CountingCode) (e : Election) (f : Form) (x : Slots) (name : List �
         line_first (get_does c e s x.votes (votes_of f) slots.votes reg.WEIGHT (place e i) (entry.cell s on))
         (line_over (if_zero (λ none. absurd (omega (arith, some_weight, votes, none))) (λ w some.
         line_goes
-        (seat_enters c e f g of.scope d v m light j (slice_index u j) i weighed taken.others reg.HELD at (item_stays i s weighed refl refl refl on) votes some_weight held high table)
+        (seat_enters c e f g of.scope d v m light j (slice_index u j) i weighed taken.others reg.HELD at on votes some_weight held high table)
         (line_ends ((waiting_again divided j t u weighed taken table).entered has)))))
 
   pub quotients_again : OfScope e f g divided → ReEnters c e x g divided v (enter_again x d)

@@ -30,7 +30,6 @@ use Rattle.sl_plans.specs.Achieves.{Achieves, Never}
 use Rattle.sl_plans.proofs.Rules.{line_ends, line_goes, if_less, goes_as, achieves_so}
 use Rattle.sl_pieces.specs.scopes.Forms.{Form, table_of, kind_of, OnItem}
 use Rattle.sl_pieces.specs.scopes.Scopes.{IsScope}
-use Rattle.sl_pieces.proofs.scopes.Staying.{item_stays}
 use Rattle.sl_pieces.specs.arenas.Arenas as arenas
 use Rattle.sl_pieces.specs.arenas.Arenas.{Arena, seat_of, divisor_arena, hamilton_arena}
 use Rattle.sl_pieces.specs.declared.registers.TheConstants as reg
@@ -104,7 +103,7 @@ module _ (c : CountingCode) (e : Election) (f : Form) (g : Group) (scope : IsSco
             ((scope.entry j i at).index s here.on_item) by reg.WEIGHT (s.registers reg.WEIGHT - 1) one_less in
             let t : State = with_weight is s in
             line_goes (tells ∙ told_as (divisor_of by) (min (s.registers reg.WEIGHT) MAX_WEIGHT) j i (item_of e (table_of f) (place e i)) s (scope.entry j i at).item all)
-            (prio_enters (divisor_of by) j i t others at (item_stays i s t refl refl refl here.on_item) here.weight positive base within table);
+            (prio_enters (divisor_of by) j i t others at here.on_item here.weight positive base within table);
         leaves = record { registers = refl; columns = λ slot. refl; party = refl; land = refl; win = refl; placed = refl; steps = refl };
       }
 
@@ -170,7 +169,6 @@ module _ (c : CountingCode) (e : Election) (f : Form) (g : Group) (scope : IsSco
       let seats_held : ℕ = min (s.registers reg.BASE + s.registers reg.BASE) most in
       let u : State = with_register reg.FIRST_PASSING weight (with_register reg.FIRST_PASSING (s.registers reg.WEIGHT) s) in
       let last : State = with_register reg.SECOND_PASSING seats_held (with_register reg.SECOND_PASSING (s.registers reg.BASE) u) in
-      let on : OnItem i last = item_stays i s last refl refl refl here.on_item in
       let low : slice_index v j ≤ MAX_WEIGHT = number_within MAX_WEIGHT v j weights in
       let twice_weight : weight ≡ 2 * slice_index v j = omega (arith, here.weight, low) in
       let twice_whole : seats_held ≡ 2 * whole v seats j = omega (arith, base, part, within, few) in
@@ -181,13 +179,13 @@ module _ (c : CountingCode) (e : Election) (f : Form) (g : Group) (scope : IsSco
       if_less {r = reg.AMOUNT} {q = reg.SECOND_PASSING}
       (λ above.
       let many : seats < seats_held = omega (arith, above, here.amount) in
-      rest_enters true j held i last others at on table step (served j seats_held twice_whole many))
+      rest_enters true j held i last others at here.on_item table step (served j seats_held twice_whole many))
       (λ below.
       let few_seats : seats_held ≤ seats = omega (arith, below, here.amount) in
-      lead_enters true j held i last others at on table (leads j weight seats_held twice_weight twice_whole most_votes few_seats)))
+      lead_enters true j held i last others at here.on_item table (leads j weight seats_held twice_weight twice_whole most_votes few_seats)))
       (λ under.
       let votes : weight ≤ sum v = omega (arith, under, here.total) in
-      rest_enters true j held i last others at on table step (light j weight twice_weight votes)))
+      rest_enters true j held i last others at here.on_item table step (light j weight twice_weight votes)))
       refl
 
   pub remainders_enter : (x : Slots) (m : List ℕ) (prefer : Bool)

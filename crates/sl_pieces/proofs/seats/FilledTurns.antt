@@ -90,10 +90,9 @@ module _ {c : CountingCode} {e : Election} {f : Form} {x : Slots} {name : List �
   weighed s on h =
       let p : ℕ = place e i in
       let t : State = with_register reg.WEIGHT (s.columns x.votes p) s in
-      let here : OnItem i t = item_stays i s t refl refl refl on in
       line_goes (get_does c e s x.votes (votes_of f) given.slots.votes reg.WEIGHT p (entry.cell s on))
       (line_ends (
-        record { on_item = here; on_scope = entry.scope t here; amount = h.amount; total = h.total; weight = h.columns x.votes p given.slots.not_votes ∙ given.votes.at j i at },
+        record { on_item = on; on_scope = entry.scope t on; amount = h.amount; total = h.total; weight = h.columns x.votes p given.slots.not_votes ∙ given.votes.at j i at },
         filled_as j j t h (record { amount = refl; total = refl; left = refl; columns = λ slot q. refl; placed = λ winner. refl }) h.table h.steps h.weights,
       ))
 
@@ -145,7 +144,7 @@ module _ {c : CountingCode} {e : Election} {f : Form} {x : Slots} {name : List �
       (line_goes refl (line_goes refl (line_goes refl
       (line_ends (
         record {
-          at_entry = at_entry_as s last h.at_entry (item_stays i s last refl refl refl h.at_entry.on_item) refl refl refl;
+          at_entry = at_entry_as s last h.at_entry h.at_entry.on_item refl refl refl;
           filled = record {
             amount = h.filled.amount;
             total = h.filled.total;

@@ -27,7 +27,7 @@ use Rattle.sl_pieces.specs.scopes.Forms.{Form, table_of, OnScope, OnItem}
 use Rattle.sl_pieces.specs.inner.scopes.Walks.{bare, Visits}
 use Rattle.sl_pieces.proofs.scopes.Forms.{each_entry}
 use Rattle.sl_pieces.proofs.scopes.Scopes.{scopes_hold}
-use Rattle.sl_pieces.proofs.scopes.Staying.{scope_stays, Stays, entries_visited}
+use Rattle.sl_pieces.proofs.scopes.Staying.{Stays, entries_visited}
 use Rattle.sl_pieces.specs.arenas.Arenas as arenas
 use Rattle.sl_pieces.specs.arenas.Arenas.{Arena, next_seat}
 use Rattle.sl_pieces.specs.declared.registers.TheConstants as reg
@@ -81,7 +81,7 @@ module _ {c : CountingCode} {e : Election} {f : Form} {x : Slots} {name : List �
       let all : seats ≡ seats - sum [] = omega arith in
       let same : empty ≡ arenas.table_of a (first_waiting a 0) = ap₂ (λ k r. record { entries = k; ranking = r; contents = [] }) (sym given.arena.entries) (sym given.arena.ranking) in
       ends_in refl (
-        scope_stays g.scope before last refl refl on,
+        on,
         record {
           amount = amount;
           total = total;

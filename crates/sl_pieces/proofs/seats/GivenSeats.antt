@@ -21,7 +21,6 @@ use Rattle.sl_plans.specs.Frames.{KeepsRest}
 use Rattle.sl_plans.proofs.Rules.{line_ends, line_goes}
 use Rattle.sl_plans.proofs.KeepingRules.{achieves_kept, times_keeping}
 use Rattle.sl_pieces.specs.scopes.Forms.{OnItem}
-use Rattle.sl_pieces.proofs.scopes.Staying.{item_stays}
 use Rattle.sl_pieces.specs.declared.registers.TheConstants as reg
 use Rattle.sl_pieces.specs.awards.Trees.{count_up}
 use Rattle.sl_pieces.specs.seats.Trees.{most_seats}
@@ -63,20 +62,19 @@ module _ (c : CountingCode) (e : Election) (stage : ℕ) (k : ScopeKind) (on : S
   one_recorded steps n w s few h =
       let x : ℕ = min (s.registers reg.NUMBER + 1) most in
       let third : State = with_register reg.NUMBER x (with_register ones 1 (with_register reg.TURNS w (with_register ones 1 s))) in
-      let here : OnItem i third = item_stays i s third refl refl refl h.on_item in
       let last : State = with_step (record { stage = stage; scope = on; entry = item_of e t.entries p; n = x; step = 0; mark = mark.Given }) third in
       let within : suc w ≤ n = h.within in
       let number : s.registers reg.NUMBER ≡ n - suc w = h.number in
       let next : n - suc w + 1 ≡ n - w = omega (arith, within) in
       let is : x ≡ n - suc w + 1 = omega (arith, number, within, few) in
       line_goes refl (line_goes refl
-      (line_goes (given_does c e third stage k stage on numbered (scope third here) t p h.table (index third here) reg.NUMBER)
+      (line_goes (given_does c e third stage k stage on numbered (scope third h.on_item) t p h.table (index third h.on_item) reg.NUMBER)
       (line_ends (record {
         within = omega (arith, within);
         number = is ∙ next;
         steps_are = one_more steps s.steps (n - suc w) x (item_of e t.entries p) item is h.steps_are ∙ ap (λ m. steps ++ map (given_seat stage on i) (range_with_len 0 m)) next;
         table = h.table;
-        on_item = item_stays i s last refl refl refl h.on_item;
+        on_item = h.on_item;
       }))))
 
   pub seats_recorded : (n : ℕ) (s : State) → n ≤ most_seats → s.registers reg.TURNS ≡ n → s.registers reg.NUMBER ≡ 0 → s.table ≡ Some t → OnItem i s

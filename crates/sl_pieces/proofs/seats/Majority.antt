@@ -34,7 +34,7 @@ use Rattle.sl_pieces.specs.inner.scopes.Walks.{bare, Visits}
 use Rattle.sl_pieces.specs.scopes.Scopes.{IsScope}
 use Rattle.sl_pieces.proofs.scopes.Forms.{each_entry}
 use Rattle.sl_pieces.proofs.scopes.Scopes.{scopes_hold}
-use Rattle.sl_pieces.proofs.scopes.Staying.{scope_stays, item_stays, entries_visited}
+use Rattle.sl_pieces.proofs.scopes.Staying.{entries_visited}
 use Rattle.sl_pieces.specs.declared.registers.TheConstants as reg
 use Rattle.sl_pieces.specs.seats.Slots.{Slots, HasSlots, HasCells}
 use Rattle.sl_pieces.specs.seats.Trees.{faulty, nothing, refuse_entry, refuse}
@@ -144,7 +144,7 @@ module _ (c : CountingCode) (e : Election) (f : Form) (x : Slots) (name : List �
         none = next_allowed v seats s lengths j less h.none
             (and_right (nat_lt (sum v) (2 * slice_index v j)) (nat_le (2 * slice_index s j) seats) (lt-leb (2 * slice_index s j) seats (omega (arith, enough, amount, held, big, few))));
       }))
-      (λ short. faulty_ends slots scope w end.Majority (scope_stays g.scope t w refl refl ((scope.entry j i at).scope t on))
+      (λ short. faulty_ends slots scope w end.Majority ((scope.entry j i at).scope t on)
       (record {
         refused = refused_deprived m v seats s is some (one_deprived v seats s lengths j less
             (and_from (nat_lt (sum v) (2 * slice_index v j)) (nat_le (2 * slice_index s j) seats) more (le-leb (2 * slice_index s j) seats (omega (arith, short, amount, held, big, few, part, all)))));
@@ -165,7 +165,7 @@ module _ (c : CountingCode) (e : Election) (f : Form) (x : Slots) (name : List �
       let big : 2 * MAX_WEIGHT ≤ most = omega arith in
       line_first (get_does c e t x.votes _ slots.votes reg.WEIGHT q ((scope.entry j i at).cell t on))
       (line_first refl (line_over (if_less
-      (λ major. one_major j i w at (item_stays i t w refl refl refl on) (record { columns = h.columns; amount = h.amount; total = h.total; none = h.none })
+      (λ major. one_major j i w at on (record { columns = h.columns; amount = h.amount; total = h.total; none = h.none })
       (omega (arith, major, total, weight, light, big)))
       (λ minor. line_ends (record {
         columns = h.columns;

@@ -23,7 +23,6 @@ use Rattle.sl_plans.proofs.Rules.{line_ends, stop_achieves, then_achieves, if_ze
 use Rattle.sl_pieces.specs.scopes.Forms.{Form, kind_of, OnScope, groups_of}
 use Rattle.sl_pieces.specs.scopes.Scopes.{IsScope}
 use Rattle.sl_pieces.proofs.scopes.Scopes.{scopes_hold}
-use Rattle.sl_pieces.proofs.scopes.Staying.{scope_stays}
 use Rattle.sl_pieces.specs.declared.registers.TheConstants as reg
 use Rattle.sl_pieces.specs.seats.Slots.{Slots, HasSlots}
 use Rattle.sl_pieces.specs.seats.Trees.{faulty, not_over, nothing, refuses_seats}
@@ -47,7 +46,7 @@ module _ {c : CountingCode} {e : Election} {f : Form} {x : Slots} {name : List �
       let limit : t.registers reg.FIRST_PASSING ≡ n = register_same s reg.FIRST_PASSING n in
       line_first refl
       (line_over (if_less
-      (λ more. faulty_ends t why (scope_stays g.scope s t refl refl on) (over (omega (arith, more, same, limit))))
+      (λ more. faulty_ends t why on (over (omega (arith, more, same, limit))))
       (λ few. line_ends (within (omega (arith, few, same, limit))))))
 
 -- ---- refusals

@@ -64,7 +64,7 @@ module _ (c : CountingCode) (e : Election) (f : Form) (x : Slots) (name : List �
         blind = λ t value s seated.
             let u : State = with_register r value s in
             seated_unchanged e x g a v seats told before t s u seated (record { columns = λ slot q. refl; steps = refl; weights = refl; placed = λ winner. refl })
-            (scope_stays g.scope s u refl refl seated.on) (register_other s r value reg.AMOUNT (apart reg.AMOUNT refl)) (register_other s r value reg.TOTAL (apart reg.TOTAL refl));
+            seated.on (register_other s r value reg.AMOUNT (apart reg.AMOUNT refl)) (register_other s r value reg.TOTAL (apart reg.TOTAL refl));
       }
 
   -- ---- a seat more

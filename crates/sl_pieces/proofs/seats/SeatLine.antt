@@ -22,7 +22,6 @@ use Rattle.sl_plans.specs.Achieves.{Achieves, Never}
 use Rattle.sl_plans.proofs.Rules.{line_ends, line_goes}
 use Rattle.sl_pieces.specs.scopes.Forms.{Form, votes_of, table_of, kind_of, OnItem}
 use Rattle.sl_pieces.specs.scopes.Scopes.{IsEntry}
-use Rattle.sl_pieces.proofs.scopes.Staying.{item_stays}
 use Rattle.sl_pieces.specs.arenas.Arenas.{Arena, table_of as table_with, seat_taken}
 use Rattle.sl_pieces.specs.declared.registers.TheConstants as reg
 use Rattle.sl_pieces.specs.awards.Trees.{count_up}
@@ -109,16 +108,13 @@ module _ (c : CountingCode) (e : Election) (f : Form) (x : Slots) (name : List �
     abbrev stored : State
     stored = with_cell x.result p (min (s.columns x.result p + 1) most) counted
 
-    on_same : (t : State) → t.party ≡ s.party → t.land ≡ s.land → t.win ≡ s.win → OnItem i t
-    on_same t party land win = item_stays i s t party land win on
-
     module _ (t : PriorityTable) (kind : t.entries ≡ table_of f) (table : s.table ≡ Some t) (had : s.columns x.result p ≡ n) (few : n + 1 ≤ MAX_SEATS) where
       next : min (s.columns x.result p + 1) most ≡ n + 1
       next = omega (arith, had, few)
 
       given_here : IsGiven x p n i (awarded_step x.stage g.scope i n (s.registers reg.STEP) s.mark) s (with_step (awarded_step x.stage g.scope i n (s.registers reg.STEP) s.mark) stored)
       given_here = record {
-        on_item = on_same (with_step (awarded_step x.stage g.scope i n (s.registers reg.STEP) s.mark) stored) refl refl refl;
+        on_item = on;
         held = next;
         amount = refl;
         total = refl;
@@ -136,5 +132,5 @@ module _ (c : CountingCode) (e : Election) (f : Form) (x : Slots) (name : List �
       seat_is_given =
           line_goes (get_does c e s x.result (votes_of f) slots.result reg.HELD p (entry.cell s on))
           (line_goes refl (line_goes refl
-          (line_goes (store_does c e counted x.result (votes_of f) slots.result reg.HELD p (entry.cell counted (on_same counted refl refl refl)))
-          (emits t kind stored (on_same stored refl refl refl) table next given_here))))
+          (line_goes (store_does c e counted x.result (votes_of f) slots.result reg.HELD p (entry.cell counted on))
+          (emits t kind stored on table next given_here))))

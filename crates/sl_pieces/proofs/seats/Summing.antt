@@ -23,7 +23,7 @@ use Rattle.sl_pieces.specs.inner.scopes.Walks.{bare, Visits}
 use Rattle.sl_pieces.specs.scopes.Scopes.{IsEntry}
 use Rattle.sl_pieces.proofs.scopes.Forms.{each_entry}
 use Rattle.sl_pieces.proofs.scopes.Scopes.{scopes_hold}
-use Rattle.sl_pieces.proofs.scopes.Staying.{scope_stays, item_stays, entries_visited}
+use Rattle.sl_pieces.proofs.scopes.Staying.{entries_visited}
 use Rattle.sl_pieces.specs.declared.registers.TheConstants as reg
 use Rattle.sl_pieces.specs.seats.Slots.{Slots, HasCells, HasMinima, HasSlots}
 use Rattle.sl_pieces.specs.seats.Trees.{add_minimum, sums}
@@ -106,7 +106,7 @@ module _ (c : CountingCode) (e : Election) (f : Form) (g : Group) (votes : ℕ) 
       let less : j < length v = omega (arith, long, slice_get_within g.entries j i at) in
       line_goes (get_does c e s votes (votes_of f) known reg.WEIGHT q ((entry j i at).cell s on))
       (line_goes refl
-      (one_minimum o there minima j i w at (item_stays i s w refl refl refl on) h.columns (next_held v j (s.registers reg.TOTAL) x less h.total read) h.needed))
+      (one_minimum o there minima j i w at on h.columns (next_held v j (s.registers reg.TOTAL) x less h.total read) h.needed))
 
   visits : (o : Option ℕ) → ((slot : ℕ) → o ≡ Some slot → slice_get c.slots slot ≡ Some (votes_of f)) → HasMinima e g.entries v o before m
       → Visits c e (body_of votes o) g.entries OnItem Summed Never
@@ -137,7 +137,7 @@ sums_achieve c e f x name k g v m state at slots on weights minima =
     let long : length m ≡ length g.entries = minima_long e g.entries v m x.minima state weights.one_each minima ∙ weights.one_each in
     let course : Achieves c e (sums f x) state (λ t. OnScope g.scope t × Inv (length g.entries) (bare t)) Never =
     then_achieves {Q = λ t. OnScope g.scope t × Inv 0 (bare t)}
-    (ends_in refl (scope_stays g.scope state begun refl refl on, record { columns = refl; total = first_none v; needed = first_none m }))
+    (ends_in refl (on, record { columns = refl; total = first_none v; needed = first_none m }))
     (λ t h. each_entry c e f k g (body_of x.votes x.minima) Inv Never t at (visits c e f g x.votes v m state slots.votes entry weights x.minima slots.minima minima) h.0 h.1) in
     achieves_keeping course
     (λ t h kept. record {

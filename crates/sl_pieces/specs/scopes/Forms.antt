@@ -1,5 +1,5 @@
 -- The five forms of a split or a growth, and the plans that go over their scopes and over the entries of a scope.
-use Rattle.std.specs.Prelude.{◌≡◌, List, [], Some}
+use Rattle.std.specs.Prelude.{◌≡◌, ℕ, List, [], Option, Some}
 use Rattle.sl_stages.specs.declared.book.Shape.{Shape}
 use Rattle.sl_stages.specs.declared.book.Shape.TheVariants as shape
 use Rattle.sl_stages.specs.declared.fault.Scope.{Scope}
@@ -77,15 +77,21 @@ entries_plan ListsInLand x = Each cursor.Party (on_list x)
 -- ---- cursors
 
 -- the cursors of a scope stand at it; the scope of all entries has none
+abbrev pub ScopeAt : Scope → Option ℕ → Option ℕ → Type 0
+ScopeAt scope.All party land = Unit {0}
+ScopeAt (scope.Party p) party land = party ≡ Some p
+ScopeAt (scope.Land l) party land = land ≡ Some l
+ScopeAt (scope.List l p) party land = (land ≡ Some l) × (party ≡ Some p)
+
 abbrev pub OnScope : Scope → State → Type 0
-OnScope scope.All s = Unit {0}
-OnScope (scope.Party party) s = s.party ≡ Some party
-OnScope (scope.Land land) s = s.land ≡ Some land
-OnScope (scope.List land party) s = (s.land ≡ Some land) × (s.party ≡ Some party)
+OnScope on s = ScopeAt on s.party s.land
 
 -- the cursors of an entry stand at it
+abbrev pub ItemAt : Item → Option ℕ → Option ℕ → Option ℕ → Type 0
+ItemAt (item.Party p) party land win = party ≡ Some p
+ItemAt (item.Land l) party land win = land ≡ Some l
+ItemAt (item.List l p) party land win = (land ≡ Some l) × (party ≡ Some p)
+ItemAt (item.Win w) party land win = win ≡ Some w
+
 abbrev pub OnItem : Item → State → Type 0
-OnItem (item.Party party) s = s.party ≡ Some party
-OnItem (item.Land land) s = s.land ≡ Some land
-OnItem (item.List land party) s = (s.land ≡ Some land) × (s.party ≡ Some party)
-OnItem (item.Win win) s = s.win ≡ Some win
+OnItem i s = ItemAt i s.party s.land s.win

@@ -36,15 +36,20 @@ pub record HasCells (e : Election) (entries : List Item) (column : ℕ → ℕ) 
   pub at : (j : ℕ) (i : Item) → slice_get entries j ≡ Some i → column (place e i) ≡ slice_index v j
 
 -- the minima of its entries, 0 for each where there is no slot of minima
+abbrev pub MinimaIn : Election → List Item → List ℕ → Option ℕ → (ℕ → ℕ → ℕ) → List ℕ → Type 0
+MinimaIn e entries v None columns m = m ≡ no_minima v
+MinimaIn e entries v (Some slot) columns m = HasCells e entries (columns slot) m
+
 abbrev pub HasMinima : Election → List Item → List ℕ → Option ℕ → State → List ℕ → Type 0
-HasMinima e entries v None s m = m ≡ no_minima v
-HasMinima e entries v (Some slot) s m = HasCells e entries (s.columns slot) m
+HasMinima e entries v slot s m = MinimaIn e entries v slot s.columns m
 
 -- ---- what stays
 
 -- columns, records and the places of winners are the same
-pub record IsUnchanged (before after : State) : Type 0 where
-  pub columns : (slot q : ℕ) → after.columns slot q ≡ before.columns slot q
-  pub steps : after.steps ≡ before.steps
-  pub weights : after.weights ≡ before.weights
-  pub placed : (winner : ℕ) → after.placed winner ≡ before.placed winner
+abbrev pub IsUnchanged : State → State → Type 0
+IsUnchanged before after = record {
+  columns : (slot q : ℕ) → after.columns slot q ≡ before.columns slot q;
+  steps : after.steps ≡ before.steps;
+  weights : after.weights ≡ before.weights;
+  placed : (winner : ℕ) → after.placed winner ≡ before.placed winner;
+}

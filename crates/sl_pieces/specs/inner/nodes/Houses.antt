@@ -12,6 +12,16 @@ use Rattle.sl_pieces.specs.scopes.Forms.{OnScope}
 use Rattle.sl_pieces.specs.declared.registers.TheConstants as reg
 use Rattle.sl_pieces.specs.seats.Slots.{Slots}
 
+-- all is as it was, but for registers, cursors, the table and cells of the scope's entries in the result's column
+abbrev pub KeepsOthers : Election → Slots → Group → State → State → Type 0
+KeepsOthers e x g before after = record {
+  elsewhere : (q : ℕ) → ((j : ℕ) (i : Item) → slice_get g.entries j ≡ Some i → place e i ≢ q) → after.columns x.result q ≡ before.columns x.result q;
+  columns : (slot q : ℕ) → slot ≢ x.result → after.columns slot q ≡ before.columns slot q;
+  steps : after.steps ≡ before.steps;
+  weights : after.weights ≡ before.weights;
+  placed : (winner : ℕ) → after.placed winner ≡ before.placed winner;
+}
+
 -- the amount is the house; the search has written cells of the scope's entries in the result's column, and all else is as it was
 pub record HasHouse (e : Election) (x : Slots) (g : Group) (d : Divisor) (v m : List ℕ) (seats cap : ℕ) (before after : State) : Type 0 where
   pub house : ℕ
@@ -19,11 +29,7 @@ pub record HasHouse (e : Election) (x : Slots) (g : Group) (d : Divisor) (v m : 
   pub amount : after.registers reg.AMOUNT ≡ house
   pub total : after.registers reg.TOTAL ≡ sum v
   pub on : OnScope g.scope after
-  pub elsewhere : (q : ℕ) → ((j : ℕ) (i : Item) → slice_get g.entries j ≡ Some i → place e i ≢ q) → after.columns x.result q ≡ before.columns x.result q
-  pub columns : (slot q : ℕ) → slot ≢ x.result → after.columns slot q ≡ before.columns slot q
-  pub steps : after.steps ≡ before.steps
-  pub weights : after.weights ≡ before.weights
-  pub placed : (winner : ℕ) → after.placed winner ≡ before.placed winner
+  pub kept : KeepsOthers e x g before after
 
 -- no house up to the cap serves, and the run ends so
 pub record EndsAboveCap (x : Slots) (g : Group) (d : Divisor) (v m : List ℕ) (seats cap : ℕ) (end : End) : Type 0 where

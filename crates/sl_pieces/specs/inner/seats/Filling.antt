@@ -113,13 +113,15 @@ split_weights x g (by.Divisor d) v = if is_none x.minima && tells_weights d then
 split_weights x g by.Hamilton v = []
 
 -- what stands before a scope is filled
-pub record IsReady (c : CountingCode) (e : Election) (f : Form) (x : Slots) (name : List ℕ) (k : ℕ) (g : Group) (v m : List ℕ) (seats : ℕ) (s : State) : Type 0 where
-  pub group : slice_get (groups_of e f) k ≡ Some g
-  pub slots : HasSlots c f x name
-  pub few : seats ≤ MAX_SEATS
-  pub weights : All (λ weight. weight ≤ MAX_WEIGHT) v
-  pub on : OnScope g.scope s
-  pub amount : s.registers reg.AMOUNT ≡ seats
-  pub total : s.registers reg.TOTAL ≡ sum v
-  pub votes : HasCells e g.entries (s.columns x.votes) v
-  pub minima : HasMinima e g.entries v x.minima s m
+abbrev pub IsReady : CountingCode → Election → Form → Slots → List ℕ → ℕ → Group → List ℕ → List ℕ → ℕ → State → Type 0
+IsReady c e f x name k g v m seats s = record {
+  group : slice_get (groups_of e f) k ≡ Some g;
+  slots : HasSlots c f x name;
+  few : seats ≤ MAX_SEATS;
+  weights : All (λ weight. weight ≤ MAX_WEIGHT) v;
+  on : OnScope g.scope s;
+  amount : s.registers reg.AMOUNT ≡ seats;
+  total : s.registers reg.TOTAL ≡ sum v;
+  votes : HasCells e g.entries (s.columns x.votes) v;
+  minima : HasMinima e g.entries v x.minima s m;
+}
