@@ -3,7 +3,6 @@ pub mod Rules
 pub mod Cells
 pub mod Bases
 pub mod Seated
-pub mod Placing
 pub mod Kept
 pub mod Covered
 pub mod Vacancies

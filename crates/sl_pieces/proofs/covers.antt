@@ -4,7 +4,6 @@ pub mod Singles
 pub mod Winners
 pub mod Seatable
 pub mod Contested
-pub mod Counting
 pub mod Numbers
 pub mod Uncontested
 pub mod Entering

@@ -6,5 +6,4 @@ pub mod Loops
 pub mod Winners
 pub mod Facts
 pub mod Votes
-pub mod Conditions
 pub mod Eligible

@@ -1,16 +1,13 @@
 -- The lemmas of splits and growths over code.
 pub mod JoiningLists
-pub mod Limit
 pub mod Columns
 pub mod Joining
 pub mod Arguments
-pub mod OneScopeBegins
 pub mod OneScope
 pub mod SplitScopes
 pub mod Meeting
 pub mod Found
 pub mod SearchScope
-pub mod SearchEntries
 pub mod SearchSeats
 pub mod Search
 pub mod Houses

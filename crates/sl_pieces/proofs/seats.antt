@@ -8,16 +8,13 @@ pub mod Summing
 pub mod Majority
 pub mod GivenSeats
 pub mod FilledEntries
-pub mod FilledTurns
 pub mod Filling
 pub mod Bases
 pub mod Quotients
 pub mod Entering
 pub mod Told
-pub mod SplitFills
 pub mod Steps
 pub mod SeatingArenas
-pub mod SeatLine
 pub mod Seat
 pub mod Again
 pub mod Tying

@@ -28,8 +28,7 @@ use Rattle.sl_pieces.specs.covers.Covering.{HasCoverSlots, BeginsCovering, AreCo
 use Rattle.sl_pieces.proofs.covers.Pairs.{pair_at, lists_among, all_lists, no_lists, listed_more, unlisted_more, lists_behind}
 use Rattle.sl_pieces.proofs.covers.Singles.{singles_placed}
 use Rattle.sl_pieces.proofs.covers.Contested.{is_contested, contested_before, before_none, before_contested, before_other, before_up_to, before_few, nobody_contested}
-use Rattle.sl_pieces.proofs.covers.Counting.{winners_counted}
-use Rattle.sl_pieces.proofs.covers.Numbers.{contested_numbered, counts_alone, numbers_alone}
+use Rattle.sl_pieces.proofs.covers.Numbers.{winners_counted, contested_numbered, counts_alone, numbers_alone}
 use Rattle.sl_pieces.proofs.covers.Uncontested.{uncontested_choice}
 use Rattle.sl_pieces.proofs.covers.Fitting.{fitting_from, fitting_more, fitting_none, uncontested_seated}
 use Rattle.sl_pieces.proofs.covers.Entering.{AreRead}

@@ -35,7 +35,7 @@ use Rattle.sl_pieces.specs.awards.Trees.{awards}
 use Rattle.sl_pieces.specs.seats.Slots.{Slots, HasSlots, IsUnchanged}
 use Rattle.sl_pieces.specs.seats.Trees.{nothing, faulty, not_over, most_seats, fill, outside_base, enter_quotient, ranking_of, again_of, seat, tied, refuse}
 use Rattle.sl_pieces.specs.inner.seats.Filling.{IsReady, grown_arena}
-use Rattle.sl_pieces.proofs.seats.SplitFills.{growths_are_filled}
+use Rattle.sl_pieces.proofs.seats.Filling.{growths_are_filled}
 use Rattle.sl_pieces.proofs.seats.Seating.{growths_award_seats}
 use Rattle.sl_pieces.proofs.seats.Refusing.{faulty_ends, not_over_achieves}
 use Rattle.sl_pieces.proofs.seats.Minima.{cells_kept, minima_kept}
@@ -45,8 +45,7 @@ use Rattle.sl_pieces.specs.inner.nodes.Houses.{HasHouse, EndsAboveCap}
 use Rattle.sl_pieces.proofs.nodes.Houses.{houses_are_found}
 use Rattle.sl_pieces.specs.nodes.Scopes.{HoldsArguments, HasAward, EndsFaulty, stand, DoesScopes}
 use Rattle.sl_pieces.proofs.nodes.Arguments.{minima_long, minima_slot}
-use Rattle.sl_pieces.proofs.nodes.OneScopeBegins.{award_from, IsBegun, arguments_begin, scope_begins}
-use Rattle.sl_pieces.proofs.nodes.OneScope.{IsScopeArena, scope_awards, scope_awarded}
+use Rattle.sl_pieces.proofs.nodes.OneScope.{award_from, IsBegun, arguments_begin, scope_begins, IsScopeArena, scope_awards, scope_awarded}
 
 -- ---- what a growth comes to
 

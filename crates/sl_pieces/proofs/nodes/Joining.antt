@@ -1,42 +1,91 @@
--- The scopes of a split or a growth, one after another: their seats make the column and their records follow each other, or the first fault ends the run.
-use Rattle.std.proofs.Common.{◌≡◌, ◌≢◌, ℕ, ◌+◌, ◌≤◌, List, [], ◌∷◌, ◌++◌, length, Option, Some, None, MatchOption, slice_get, slice_index, IsPermutation, refl, sym, ap, subst, ◌∙◌, arith, append_assoc, append-nil}
-use Rattle.std.specs.Prelude.{zip, flat_map}
+-- The scopes of a split or a growth, one after another: none has too many seats, their seats make the column, or the first fault ends the run.
+use Rattle.std.proofs.Common.{◌≡◌, ◌≢◌, ℕ, ◌+◌, ◌<◌, ◌≤◌, List, length, take, drop, suc, Option, Some, None, slice_get, slice_index, refl, ap, subst, ◌∙◌, arith, le_refl, take_all, [], ◌∷◌, ◌++◌, MatchOption, IsPermutation, sym, append_assoc, append-nil}
 use Rattle.std.specs.List.{AllByRecursion as Every, AllZip}
+use Rattle.std.specs.Prelude.{zip, flat_map}
 use Rattle.std.proofs.lemmas.List.{flat_map_more, length_push}
 use Rattle.std.proofs.lemmas.List.Sorted.{IsPermutation-refl, IsPermutation-append}
 use Rattle.std.proofs.lemmas.Option.{slice_get_within}
 use Rattle.sl_ratio.specs.declared.limits.TheConstants.{MAX_SEATS}
-use Rattle.sl_stages.specs.declared.book.Shape.{Shape}
 use Rattle.sl_stages.specs.declared.fault.FaultKind.TheVariants as fault
+use Rattle.sl_stages.specs.returns.Election.{Election}
+use Rattle.sl_stages.specs.meaning.Scopes.{Group, pair_column}
+use Rattle.sl_stages.specs.meaning.Results.{fault_at, first_over, ExprResult, Fault, AreJoined, IsShared}
+use Rattle.sl_stages.proofs.meaning.JoinedScopes.{none_over, over_after, IsSeats, joined_fault, joined_seats}
+use Rattle.sl_stages.specs.declared.book.Shape.{Shape}
 use Rattle.sl_stages.specs.declared.fault.LegalFault.{LegalFault}
 use Rattle.sl_stages.specs.declared.table.SeatStep.{SeatStep}
 use Rattle.sl_stages.specs.declared.table.Weight.{Weight}
-use Rattle.sl_stages.specs.returns.Election.{Election}
-use Rattle.sl_stages.specs.meaning.Scopes.{Group, pair_column}
 use Rattle.sl_stages.specs.meaning.Records.{Records}
 use Rattle.sl_stages.specs.meaning.Splits.{Award, Seats, Refused, awarded}
-use Rattle.sl_stages.specs.meaning.Results.{ExprResult, Fault, fault_at, first_over, AreJoined, IsShared}
 use Rattle.sl_stages.proofs.meaning.DistinctLists.{every_append}
-use Rattle.sl_stages.proofs.meaning.JoinedScopes.{IsSeats, joined_fault, joined_seats}
-use Rattle.sl_code.specs.Codes.{CountingCode}
-use Rattle.sl_machine.specs.State.{State, End, Faulted, with_column}
-use Rattle.sl_machine.proofs.effects.Registers.{zero_does}
-use Rattle.sl_machine.proofs.effects.Storing.{column_same, column_other}
-use Rattle.sl_plans.specs.Trees.{Tree}
-use Rattle.sl_plans.specs.Achieves.{Achieves}
-use Rattle.sl_plans.proofs.Rules.{achieves_more, line_ends, line_goes, then_achieves, achieves_so}
-use Rattle.sl_pieces.proofs.columns.Cells.{still_holds}
 use Rattle.sl_stages.proofs.meaning.AwardedEntries.{every_at}
-use Rattle.sl_pieces.specs.scopes.Forms.{Form, amounts_of, votes_of, groups_of, OnScope}
+use Rattle.sl_code.specs.declared.operand.EndFault.TheVariants as end
+use Rattle.sl_code.specs.Codes.{CountingCode}
+use Rattle.sl_machine.specs.State.{State, End, Faulted, with_register, with_column}
+use Rattle.sl_machine.proofs.effects.Registers.{get_does, zero_does}
+use Rattle.sl_machine.proofs.effects.Storing.{register_same, column_same, column_other}
+use Rattle.sl_plans.specs.Achieves.{Achieves}
+use Rattle.sl_plans.proofs.Rules.{line_first, line_over, achieves_so, achieves_more, line_ends, line_goes, then_achieves}
+use Rattle.sl_plans.specs.Trees.{Tree}
+use Rattle.sl_pieces.specs.scopes.Forms.{Form, amounts_of, groups_of, scopes_plan, OnScope, votes_of}
+use Rattle.sl_pieces.specs.scopes.Scopes.{IsScope}
 use Rattle.sl_pieces.specs.inner.scopes.Walks.{bare}
 use Rattle.sl_pieces.proofs.scopes.Forms.{each_scope}
+use Rattle.sl_pieces.proofs.scopes.Scopes.{scopes_hold}
+use Rattle.sl_pieces.specs.columns.Columns.{HoldsColumn}
+use Rattle.sl_pieces.specs.declared.registers.TheConstants as reg
 use Rattle.sl_pieces.specs.seats.Slots.{Slots, HasSlots, IsUnchanged}
-use Rattle.sl_pieces.specs.nodes.Trees.{shared}
-use Rattle.sl_pieces.specs.nodes.Scopes.{HoldsMinima, HoldsArguments, HasAward, EndsFaulty, DoesScopes, stand}
+use Rattle.sl_pieces.specs.seats.Trees.{most_seats}
+use Rattle.sl_pieces.proofs.seats.Refusing.{not_over_achieves}
+use Rattle.sl_pieces.specs.nodes.Trees.{within_limit, shared}
+use Rattle.sl_pieces.specs.nodes.Scopes.{stand, HoldsMinima, HoldsArguments, HasAward, EndsFaulty, DoesScopes}
+use Rattle.sl_pieces.proofs.nodes.JoiningLists.{split_there, one_further, zip_none, zip_push, no_pairs, EachPair, pairs_push, all_paired, completed}
+use Rattle.sl_pieces.proofs.columns.Cells.{still_holds}
 use Rattle.sl_pieces.specs.nodes.Nodes.{HasResult, EndsWith, ScopesAreJoined}
-use Rattle.sl_pieces.proofs.nodes.JoiningLists.{zip_none, zip_push, no_pairs, EachPair, pairs_push, all_paired, completed}
-use Rattle.sl_pieces.proofs.nodes.Limit.{limit_tested}
 use Rattle.sl_pieces.proofs.nodes.Columns.{HoldsAwards, no_awards, one_award_more, awards_make}
+
+module _ (c : CountingCode) (e : Election) (f : Form) (x : Slots) (name amounts : List ℕ) (start : State) (slots : HasSlots c f x name)
+    (holds : HoldsColumn e (amounts_of f) (start.columns x.amounts) amounts) where
+  -- the first scope with too many seats
+  abbrev FirstOver : Option Group → Type 0
+  FirstOver o = first_over e (stand f x name) amounts (groups_of e f) ≡ o
+
+  abbrev IsFew : Group → Type 0
+  IsFew g = slice_index amounts g.amount_place ≤ MAX_SEATS
+
+  -- no scope before number j has, and nothing but registers was written
+  record Tested (j : ℕ) (t : State) : Type 0 where
+    still : IsUnchanged start t
+    few : Every IsFew (take j (groups_of e f))
+
+  over_here : (j : ℕ) (g : Group) → slice_get (groups_of e f) j ≡ Some g → Every IsFew (take j (groups_of e f)) → MAX_SEATS < slice_index amounts g.amount_place → FirstOver (Some g)
+  over_here j g at few over =
+      ap (first_over e (stand f x name) amounts) (split_there (groups_of e f) j g at)
+      ∙ over_after e (stand f x name) amounts (take j (groups_of e f)) (drop (suc j) (groups_of e f)) g few over
+
+  module _ (E : End → Type 0) (ends : (g : Group) → FirstOver (Some g) → E (Faulted (fault_at x.stage g.scope fault.Limit))) where
+    scope_tested : (j : ℕ) (g : Group) (s : State) → slice_get (groups_of e f) j ≡ Some g → OnScope g.scope s → Tested j (bare s) →
+        Achieves c e (within_limit f x) s (λ t. OnScope g.scope t × Tested (j + 1) (bare t)) E
+    scope_tested j g s at on inv =
+        let is : IsScope e f g = scopes_hold e f j g at in
+        let n : ℕ = s.columns x.amounts g.amount_place in
+        let u : State = with_register reg.AMOUNT n s in
+        let v : State = with_register reg.FIRST_PASSING most_seats u in
+        let other : reg.AMOUNT ≢ reg.FIRST_PASSING = λ h. omega (arith, h) in
+        let read : n ≡ slice_index amounts g.amount_place = inv.still.columns x.amounts g.amount_place ∙ holds.at g.amount_place is.within in
+        let got : u.registers reg.AMOUNT ≡ n = register_same s reg.AMOUNT n in
+        line_first (get_does c e s x.amounts (amounts_of f) slots.amounts reg.AMOUNT g.amount_place (is.amount s on))
+        (line_over (not_over_achieves slots is u reg.AMOUNT most_seats end.Limit other on
+        (λ more. ends g (over_here j g at inv.few (omega (arith, more, read, got))))
+        (λ few. (on, record { still = inv.still; few = one_further IsFew (groups_of e f) j g at inv.few (omega (arith, few, read, got)) }))))
+
+    pub limit_tested : Achieves c e (scopes_plan f (within_limit f x)) start (λ t. IsUnchanged start t × (FirstOver None × Every IsFew (groups_of e f))) E
+    limit_tested =
+        let all : take (length (groups_of e f)) (groups_of e f) ≡ groups_of e f = take_all (length (groups_of e f)) (groups_of e f) (le_refl (length (groups_of e f))) in
+        achieves_so
+        (each_scope c e f (within_limit f x) Tested E start (record { visit = scope_tested })
+        (record { still = record { columns = λ slot q. refl; steps = refl; weights = refl; placed = λ w. refl }; few = tt }))
+        (λ t h. let few : Every IsFew (groups_of e f) = subst (Every IsFew) all h.few in (h.still, (none_over e (stand f x name) amounts (groups_of e f) few, few)))
 
 -- ---- arguments stay where their slots do
 

@@ -42,8 +42,7 @@ use Rattle.sl_pieces.specs.inner.awards.Batches.{GivesSeats}
 use Rattle.sl_pieces.specs.seats.Slots.{Slots, HasCells}
 use Rattle.sl_pieces.specs.seats.Trees.{nothing, enter_again}
 use Rattle.sl_pieces.proofs.seats.Again.{quotients_again}
-use Rattle.sl_pieces.proofs.seats.Seat.{ReEnters}
-use Rattle.sl_pieces.proofs.seats.SeatLine.{IsTaken, seat_is_taken}
+use Rattle.sl_pieces.proofs.seats.Seat.{ReEnters, IsTaken, seat_is_taken}
 use Rattle.sl_pieces.proofs.seats.SeatingArenas.{places_differ, entry_there}
 use Rattle.sl_pieces.proofs.seats.Lists.{not_it}
 use Rattle.sl_pieces.specs.nodes.Trees.{search_seat}

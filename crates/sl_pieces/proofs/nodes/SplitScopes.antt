@@ -37,15 +37,14 @@ use Rattle.sl_pieces.specs.seats.Trees.{most_seats, fill, base_of, enter_of, ran
 use Rattle.sl_pieces.specs.inner.seats.Seated.{steps_upto}
 use Rattle.sl_pieces.specs.inner.seats.Summing.{GoesOn, EndsRefused}
 use Rattle.sl_pieces.specs.inner.seats.Filling.{IsReady, split_arena, split_weights}
-use Rattle.sl_pieces.proofs.seats.SplitFills.{splits_are_filled}
+use Rattle.sl_pieces.proofs.seats.Filling.{splits_are_filled}
 use Rattle.sl_pieces.proofs.seats.Seating.{splits_award_seats}
 use Rattle.sl_pieces.proofs.seats.Refusing.{seats_are_refused}
 use Rattle.sl_pieces.proofs.seats.SeatingArenas.{scope_weighed}
 use Rattle.sl_pieces.specs.nodes.Trees.{split_scope}
 use Rattle.sl_pieces.specs.nodes.Scopes.{HoldsArguments, HasAward, EndsFaulty, stand, DoesScopes}
 use Rattle.sl_pieces.proofs.nodes.Arguments.{minima_long, minima_taken, same_minima}
-use Rattle.sl_pieces.proofs.nodes.OneScopeBegins.{award_from, others_kept, arguments_begin, scope_begins}
-use Rattle.sl_pieces.proofs.nodes.OneScope.{IsScopeArena, room_of, scope_awards, scope_awarded}
+use Rattle.sl_pieces.proofs.nodes.OneScope.{award_from, others_kept, arguments_begin, scope_begins, IsScopeArena, room_of, scope_awards, scope_awarded}
 
 -- ---- what is known where nothing refuses the seats
 
