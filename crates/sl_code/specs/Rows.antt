@@ -115,29 +115,3 @@ stages_of i = filter_map stage_in (operands_of i)
 -- where it may jump: no instruction has two targets
 abbrev pub target_of : Instr → Option ℕ
 target_of i = slice_get (filter_map target_in (operands_of i)) 0
-
--- ---- what it reads and writes
-
-abbrev read_in : Part → Option Operand
-read_in (reads x) = Some x
-read_in (writes x) = None
-read_in (changes x) = Some x
-read_in (has x) = None
-
-abbrev written_in : Part → Option Operand
-written_in (reads x) = None
-written_in (writes x) = Some x
-written_in (changes x) = Some x
-written_in (has x) = None
-
-abbrev pub registers_read : Instr → List ℕ
-registers_read i = filter_map register_in (filter_map read_in (row_of i).parts)
-
-abbrev pub registers_written : Instr → List ℕ
-registers_written i = filter_map register_in (filter_map written_in (row_of i).parts)
-
-abbrev pub slots_read : Instr → List ℕ
-slots_read i = filter_map slot_in (filter_map read_in (row_of i).parts)
-
-abbrev pub slots_written : Instr → List ℕ
-slots_written i = filter_map slot_in (filter_map written_in (row_of i).parts)

@@ -1,6 +1,5 @@
 -- A text that is delivered, and two texts that are.
 use Rattle.std.proofs.Common.{◌≡◌, Result, Ok, Err, Option, List, ℕ, IfErr, refl, sym, ap, subst, ◌∙◌, inl, inr}
-use Rattle.std.specs.Io.KnownBytes.{Appends}
 use Rattle.sl_desk.specs.declared.status.Status.{Status}
 use Rattle.sl_desk.specs.declared.status.DeskError.{DeskError}
 use Rattle.sl_desk.specs.declared.status.DeskError.TheVariants.{Read, Write, NoMemory}
@@ -23,24 +22,16 @@ delivers_text IsText s t old new (Err NoMemory) h d = d
 abbrev pub Are : Status → List ℕ → List ℕ → Status → List ℕ → List ℕ → Type 0
 Are s a b status x y = (status ≡ s) × (x ≡ a) × (y ≡ b)
 
--- the first was written whole, and the second was delivered
-pub delivers_second : (s : Status) (a b : List ℕ) (first first' second second' : Option (List ℕ)) (r : Result Status DeskError) → Appends first first' a
-    → Delivers (λ status text. (status ≡ s) × (text ≡ b)) second second' r → IfErr r (λ e. e ≡ Write) → DeliversBoth (Are s a b) first first' second second' r
-delivers_second s a b first first' second second' (Ok status) written d is = (a, d.0, (d.1.0, refl, d.1.1), written, d.2)
-delivers_second s a b first first' second second' (Err Write) written d is = (d.0, a, d.1, (d.2.0, refl, d.2.1), inr (written, d.3))
-delivers_second s a b first first' second second' (Err (Read input)) written d is = absurd cc
-delivers_second s a b first first' second second' (Err NoMemory) written d is = absurd cc
-
 -- where the two texts that were to be written are of the relation
-pub delivers_texts : (AreTexts : Status → List ℕ → List ℕ → Type 0) (s : Status) (a b : List ℕ) (first first' second second' : Option (List ℕ)) (r : Result Status DeskError)
-    → AreTexts s a b → DeliversBoth (Are s a b) first first' second second' r → DeliversBoth AreTexts first first' second second' r
-delivers_texts AreTexts s a b first first' second second' (Ok status) h d = (d.0, d.1, are status d.0 d.1 h d.2, d.3, d.4)
+pub delivers_texts : (AreTexts : Status → List ℕ → List ℕ → Type 0) (s : Status) (a b : List ℕ) (failed failed' : ℕ) (first first' second second' : Option (List ℕ)) (r : Result Status DeskError)
+    → AreTexts s a b → DeliversBoth (Are s a b) failed failed' first first' second second' r → DeliversBoth AreTexts failed failed' first first' second second' r
+delivers_texts AreTexts s a b failed failed' first first' second second' (Ok status) h d = (d.0, d.1, are status d.0 d.1 h d.2, d.3, d.4)
   where
     are : (status : Status) (x y : List ℕ) → AreTexts s a b → Are s a b status x y → AreTexts status x y
     are status x y h same = rw (same.0, same.1, same.2) h
-delivers_texts AreTexts s a b first first' second second' (Err Write) h d = (d.0, d.1, d.2, rw (d.3.0, d.3.1, d.3.2) h, d.4)
-delivers_texts AreTexts s a b first first' second second' (Err (Read input)) h d = d
-delivers_texts AreTexts s a b first first' second second' (Err NoMemory) h d = d
+delivers_texts AreTexts s a b failed failed' first first' second second' (Err Write) h d = (d.0, d.1, d.2, rw (d.3.0, d.3.1, d.3.2) h, d.4)
+delivers_texts AreTexts s a b failed failed' first first' second second' (Err (Read input)) h d = d
+delivers_texts AreTexts s a b failed failed' first first' second second' (Err NoMemory) h d = d
 
 -- ---- failures of one of two writers
 

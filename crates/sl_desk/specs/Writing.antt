@@ -1,5 +1,5 @@
 -- What a call leaves in its writer (docs/output.md, section 3).
-use Rattle.std.specs.Prelude.{ℕ, ◌⊎◌, Option, List, take, Result, Ok, Err}
+use Rattle.std.specs.Prelude.{◌≡◌, ℕ, ◌⊎◌, Option, List, take, Result, Ok, Err}
 use Rattle.std.specs.Io.KnownBytes.{Appends, Keeps}
 use Rattle.sl_desk.specs.declared.status.Status.{Status}
 use Rattle.sl_desk.specs.declared.status.DeskError.{DeskError}
@@ -23,12 +23,12 @@ Delivers IsText old new (Err (fault.Read input)) = Keeps old new
 Delivers IsText old new (Err fault.NoMemory) = Keeps old new
 
 -- a call that writes one text and then another: its status has texts that were appended whole; after Write a prefix of the first was, and nothing of
--- the second, or the first whole and a prefix of the second; after any other error nothing
-abbrev pub DeliversBoth : (Status → List ℕ → List ℕ → Type 0) → (first first' second second' : Option (List ℕ)) → Result Status DeskError → Type 0
-DeliversBoth AreTexts first first' second second' (Ok status) =
+-- the second, or the first whole, by a writer that did not fail, and a prefix of the second; after any other error nothing
+abbrev pub DeliversBoth : (Status → List ℕ → List ℕ → Type 0) → (failed failed' : ℕ) → (first first' second second' : Option (List ℕ)) → Result Status DeskError → Type 0
+DeliversBoth AreTexts failed failed' first first' second second' (Ok status) =
     (a b : List ℕ) × AreTexts status a b × Appends first first' a × Appends second second' b
-DeliversBoth AreTexts first first' second second' (Err fault.Write) =
+DeliversBoth AreTexts failed failed' first first' second second' (Err fault.Write) =
     (status : Status) × (a b : List ℕ) × AreTexts status a b
-    × ((AppendsPrefix first first' a × Keeps second second') ⊎ (Appends first first' a × AppendsPrefix second second' b))
-DeliversBoth AreTexts first first' second second' (Err (fault.Read input)) = Keeps first first' × Keeps second second'
-DeliversBoth AreTexts first first' second second' (Err fault.NoMemory) = Keeps first first' × Keeps second second'
+    × ((AppendsPrefix first first' a × Keeps second second') ⊎ ((failed' ≡ failed) × Appends first first' a × AppendsPrefix second second' b))
+DeliversBoth AreTexts failed failed' first first' second second' (Err (fault.Read input)) = Keeps first first' × Keeps second second'
+DeliversBoth AreTexts failed failed' first first' second second' (Err fault.NoMemory) = Keeps first first' × Keeps second second'

@@ -31,7 +31,7 @@ impl Compilation {
     // Writes the file, and then the answer.
     fn deliver<F: Sink, W: Sink>(&self, file: &mut F, out: &mut W) -> Result<Status, DeskError>
         ensures delivers { DeliversBoth (λ status bytes text. (status ≡ self.now.answer.status) × (bytes ≡ self.now.file.items) × (text ≡ self.now.answer.text.items))
-            (F.contents file.old) (F.contents file.new) (W.contents out.old) (W.contents out.new) result }
+            (F.failed file.old) (F.failed file.new) (F.contents file.old) (F.contents file.new) (W.contents out.old) (W.contents out.new) result }
         ensures failures { FailsInOne 0 0 (F.failed file.old) (F.failed file.new) (W.failed out.old) (W.failed out.new) result }
         ensures error { IfErr result (λ e. e ≡ DeskError.Write) }
     {
@@ -90,7 +90,7 @@ pub fn code<B: Source, F: Sink, W: Sink>(
 ) -> Result<Status, DeskError>
     // The bytes and the text that are delivered are the output of the book, where its bytes are known.
     ensures delivers { DeliversBoth (λ status bytes text. IfSome (book_input B.remaining book.old) (λ input.
-        IsCompilingOutput input status bytes text)) (F.contents file.old) (F.contents file.new) (W.contents out.old) (W.contents out.new) result }
+        IsCompilingOutput input status bytes text)) (F.failed file.old) (F.failed file.new) (F.contents file.old) (F.contents file.new) (W.contents out.old) (W.contents out.new) result }
 
     // No call of the source or of a sink failed, or that one of which the error speaks.
     ensures failures { FailsInOne (book_failures B.failed book.old) (book_failures B.failed book.new)
