@@ -135,17 +135,20 @@ const ENTER_WINNER: &Plan<'static> = &Plan::Line(&[
     GET_SEATS,
 ]);
 
-/// Is the winner one of the list whose turn it is? The number of the winner's list and that one have no difference.
+/// Is the winner one of the list whose turn it is, by the number of the winner's list? Only a list of an eligible party is contested, so
+/// that is not asked again.
 const OF_PAIR: &Plan<'static> = &Plan::Then(
-    &Plan::Line(&[
-        GET_NUMBER,
-        Fixed(Instr::Mov(FIRST_PASSING, WEIGHT)),
-        Fixed(Instr::Sub(FIRST_PASSING, AMOUNT)),
-        Fixed(Instr::Mov(SECOND_PASSING, AMOUNT)),
-        Fixed(Instr::Sub(SECOND_PASSING, WEIGHT)),
-        Fixed(Instr::Add(FIRST_PASSING, SECOND_PASSING)),
-    ]),
-    &Plan::If(Test::Zero(FIRST_PASSING), ENTER_WINNER, NOTHING),
+    &Plan::Line(&[GET_NUMBER]),
+    &Plan::If(
+        Test::Less(WEIGHT, AMOUNT),
+        NOTHING,
+        &Plan::If(Test::Less(AMOUNT, WEIGHT), NOTHING, ENTER_WINNER),
+    ),
+);
+
+const SEE_WINNER: &Plan<'static> = &Plan::Then(
+    &Plan::Line(&[Fixed(Instr::Wland)]),
+    &Plan::If(Test::NoParty, NOTHING, OF_PAIR),
 );
 
 /// The smaller one of the list's seats and its winners.
@@ -200,7 +203,7 @@ const COVER_PAIR: &Plan<'static> = &Plan::Then(
         Fixed(Instr::Table(Entries::Win, Ranking::Quotients)),
     ]),
     &Plan::Then(
-        &Plan::Each(Cursor::Win, if_seatable!(OF_PAIR)),
+        &Plan::Each(Cursor::Win, SEE_WINNER),
         &Plan::Then(
             SEATS_TO_GIVE,
             &Plan::Then(COUNT_LEFT, &Plan::Then(WHOLE_BATCHES, LAST_BATCH)),

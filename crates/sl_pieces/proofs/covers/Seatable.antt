@@ -70,7 +70,7 @@ abbrev pub HasFlags : Election → CoverSlots → (ℕ → Bool) → (ℕ → �
 HasFlags e x eligible columns = (party : ℕ) → party < parties_of e → columns x.eligible party ≡ one_if (eligible party)
 
 module _ (c : CountingCode) (e : Election) (x : CoverSlots) (eligible : ℕ → Bool) (is : IsElection e) (slots : HasCoverSlots c x) (j : ℕ) (w : Win) (at : slice_get e.wins j ≡ Some w) where
-  is_win : IsWin (lands_of e) (parties_of e) w
+  pub is_win : IsWin (lands_of e) (parties_of e) w
   is_win =
       let holds : (w : Win) → Type 0 = IsWin (lands_of e) (parties_of e) in
       subst holds (get_or_from_slice_get e.wins j w w at) (All-get_or holds e.wins j w (slice_get_within e.wins j w at) is.places)

@@ -1,6 +1,6 @@
 -- The plan of a covering: on each list its winners are seated by their shares, as many as the list has seats (docs/blocks.md, section 6).
 use Rattle.std.specs.Prelude.{ℕ, [], ◌∷◌, ◌++◌}
-use Rattle.sl_code.specs.declared.instr.Instr.TheVariants.{Set, Mov, Add, Sub, Get, Store, Zero, Table, Wland, Share, Take, Tie, Seat, Single}
+use Rattle.sl_code.specs.declared.instr.Instr.TheVariants.{Set, Mov, Sub, Get, Store, Zero, Table, Wland, Share, Take, Tie, Seat, Single}
 use Rattle.sl_code.specs.declared.operand.Entries.TheVariants as entries
 use Rattle.sl_code.specs.declared.operand.Ranking.TheVariants as ranking
 use Rattle.sl_code.specs.declared.operand.ScopeKind.TheVariants as kind
@@ -62,15 +62,14 @@ seat_uncontested x = Each cursor.Win (if_seatable x (seat_fitting x))
 abbrev pub enter_winner : CoverSlots → Tree
 enter_winner x = Line (Share ∷ (count_up reg.TOTAL ++ Get reg.LEFT x.base ∷ []))
 
--- is it one: the list has the number
+-- is it one: the list has the number. A contested list is one of an eligible party, so that is not asked again
 abbrev pub of_pair : CoverSlots → Tree
 of_pair x =
-    Then (Line (Get reg.WEIGHT x.numbers ∷ (Mov reg.FIRST_PASSING reg.WEIGHT ∷ (Sub reg.FIRST_PASSING reg.AMOUNT ∷ (Mov reg.SECOND_PASSING reg.AMOUNT ∷
-    (Sub reg.SECOND_PASSING reg.WEIGHT ∷ (Add reg.FIRST_PASSING reg.SECOND_PASSING ∷ [])))))))
-    (If (test.Zero reg.FIRST_PASSING) (enter_winner x) nothing)
+    Then (Line (Get reg.WEIGHT x.numbers ∷ []))
+    (If (test.Less reg.WEIGHT reg.AMOUNT) nothing (If (test.Less reg.AMOUNT reg.WEIGHT) nothing (enter_winner x)))
 
 abbrev pub see_winner : CoverSlots → Tree
-see_winner x = if_seatable x (of_pair x)
+see_winner x = Then (Line (Wland ∷ [])) (If test.NoParty nothing (of_pair x))
 
 -- the smaller one of the list's seats and its winners are to be given out
 abbrev pub seats_to_give : Tree
