@@ -5,3 +5,4 @@ pub mod LotProofs
 pub mod LotDraws
 pub mod Drawing
 pub mod PeerLists
+pub mod Passing

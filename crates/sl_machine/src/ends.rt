@@ -96,7 +96,7 @@ impl Store {
         requires stage { IsTrue (has_stage (context_of code.now) stage) }
         requires scope { IsSome (scope_at scope (state_of self.old)) }
         requires seats { seats < REGISTERS }
-        requires top { IsSome (option_and_then (λ t. top t.contents) self.old.table) }
+        requires top { IsSome (option_and_then (λ t. top t.contents) self.old.table.on) }
         requires range { IsInRange returns.now (state_of self.old) }
         ensures follows { IfOk result (λ end. Ends (end_with end (state_of self.new))
             ≡ effect code.now returns.now (instr.Tie stage scope seats) (state_of self.old)) }

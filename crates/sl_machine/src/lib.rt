@@ -4,6 +4,7 @@
 mod arithmetic;
 mod columns;
 mod cursors;
+mod draws;
 mod ends;
 pub mod laws;
 mod lots;

@@ -8,13 +8,11 @@ ghost use Rattle.sl_machine.specs.Answers.{answer_of};
 ghost use Rattle.sl_machine.specs.Fits.{Fits};
 ghost use Rattle.sl_machine.specs.inner.Ahead.{place_of, AreAhead};
 ghost use Rattle.sl_machine.specs.inner.Leading.{LeadsTo, EndsAt, EndsWith, ending_with, FitsWith};
-ghost use Rattle.sl_machine.specs.inner.Lots.{lots_for};
 ghost use Rattle.sl_machine.specs.inner.Recording.{state_by, ending_by};
 ghost use Rattle.sl_machine.specs.Runs.{run, ending, share_of, budget_of};
 ghost use Rattle.sl_machine.specs.Unrecorded.{without_records};
 ghost use Rattle.sl_machine.specs.inner.Stores.{state_of, sizes_of, sizes_for};
 
-use crate::lots::Lots;
 use crate::memory::Memory;
 use crate::step::{Drops, Effect, End, Keeps, Recording};
 use crate::store::Store;
@@ -78,12 +76,10 @@ fn step_from<'a, R: Recording>(
     store: &mut Store,
     code: &'a Code,
     returns: &Returns,
-    lots: &Lots,
     ahead: &'a [Instr],
 ) -> Result<Option<&'a [Instr]>, NoMemory>
     requires ahead { AreAhead code.now ahead.now }
     requires safe { IsSafe code.now returns.now (place_of code.now ahead.now) (state_of store.old) }
-    requires lots { lots.now ≡ lots_for code.now returns.now }
     requires sizes { sizes_of store.old ≡ sizes_for code.now returns.now }
     requires records { state_by R.records (state_of store.old) ≡ state_of store.old }
     ensures ahead { IfOk result (λ next. IfSome next (λ there. AreAhead code.now there.now)) }
@@ -93,7 +89,7 @@ fn step_from<'a, R: Recording>(
     ensures kept { sizes_of store.new ≡ sizes_of store.old }
 {
     let instr = next_instr(ahead);
-    match store.step::<R>(code, returns, lots, instr)? {
+    match store.step::<R>(code, returns, instr)? {
         Some(Effect::Goes) => Ok(Some(&ahead[1..])),
         Some(Effect::Jumps) => Ok(Some(instrs_from(code, instr.target().unwrap() as usize))),
         None => Ok(None),
@@ -122,11 +118,9 @@ fn steps<R: Recording>(
     store: &mut Store,
     code: &Code,
     returns: &Returns,
-    lots: &Lots,
     budget: u64,
 ) -> Result<Option<End>, NoMemory>
     requires safe { IsSafe code.now returns.now 0 (state_of store.old) }
-    requires lots { lots.now ≡ lots_for code.now returns.now }
     requires sizes { sizes_of store.old ≡ sizes_for code.now returns.now }
     requires records { state_by R.records (state_of store.old) ≡ state_of store.old }
     ensures end { IfOk result (λ end. ending_by R.records (run code.now returns.now budget 0 (state_of store.old)) ≡ ending_with end (state_of store.new)) }
@@ -138,7 +132,7 @@ fn steps<R: Recording>(
     let mut left = budget;
     while left > 0 {
         left -= 1;
-        match step_from::<R>(store, code, returns, lots, ahead)? {
+        match step_from::<R>(store, code, returns, ahead)? {
             Some(next) => ahead = next,
             None => return Ok(Some(end_at::<R>(store, code, returns, ahead)?)),
         }
@@ -157,9 +151,8 @@ fn run_with<R: Recording>(
     ensures fits { IfOk result (Fits code.now returns.now) }
 {
     let code = code.code();
-    let lots = Lots::of(alloc, code, returns)?;
     let mut store = Store::start(alloc, code, returns)?;
-    match steps::<R>(&mut store, code, returns, &lots, budget)? {
+    match steps::<R>(&mut store, code, returns, budget)? {
         Some(End::Halted { base, vacant }) => Ok(Ending::Done(Memory::new(store, base, vacant)?)),
         Some(End::Faulted(fault)) => Ok(Ending::Fault(fault)),
         None => Ok(Ending::OutOfBudget),

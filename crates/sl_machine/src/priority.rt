@@ -1,10 +1,11 @@
-//! The priority table, which is on or off.
+//! The priority table, which is on or off, and the lots that draw from it.
 
-ghost use Rattle.std.specs.Prelude.{◌≡◌, ◌<◌, ℕ, All, Some, None, [], List, IsSome, IfOk, OnOk, length, map, drop, option_map};
+ghost use Rattle.std.specs.Prelude.{◌≡◌, ◌<◌, All, Some, None, [], List, IsSome, IfOk, OnOk, length, map, drop, slice_get, option_map};
 ghost use Rattle.std.specs.Option.{ForSome, option_and_then};
 ghost use Rattle.sl_code.specs.declared.operand.Ranking.TheVariants as ranking;
 ghost use Rattle.sl_prio.specs.Prio.{top, peers, is_covered};
 ghost use Rattle.sl_prio.specs.Lot.{drawn};
+ghost use Rattle.sl_machine.specs.inner.Lots.{lot_at, lot_in};
 ghost use Rattle.sl_stages.specs.returns.Election.{Election};
 ghost use Rattle.sl_machine.specs.State.{State};
 ghost use Rattle.sl_machine.specs.Places.{at_entry, item_of};
@@ -13,6 +14,8 @@ ghost use Rattle.sl_machine.specs.Safe.{entries_in};
 ghost use Rattle.sl_machine.specs.inner.Tables.{FitsMark};
 
 use crate::cursors::item_of;
+use crate::draws::Draws;
+use crate::lots::Lots;
 use crate::store::append;
 use sl_code::{Entries, Ranking};
 use sl_prio::Prio;
@@ -36,26 +39,27 @@ pub(crate) struct Taken {
     pub mark: Mark,
 }
 
-/// The priority table: what it is while it is on, and its entries.
-#[derive(Debug, Drop)]
+/// The priority table: what it is while it is on, its entries, and the lots that draw from it.
+#[derive(Drop)]
 pub(crate) struct PriorityTable {
     kind: Option<TableKind>,
     prio: Prio,
+    lots: Lots,
+    draws: Draws,
 }
 
 impl Model for PriorityTable {
-    ghost use Rattle.std.specs.Prelude.{Option};
-    ghost use Rattle.sl_machine.specs.State.{PriorityTable as Table};
+    ghost use Rattle.sl_machine.specs.inner.Lots.{LotTable};
 
-    ghost Value = { Option Table };
+    ghost Value = { LotTable };
 
     ghost use Rattle.std.specs.Prelude.{All};
     ghost use Rattle.sl_ratio.specs.Quotient.{FitsRatio};
-    ghost use Rattle.sl_machine.specs.inner.Tables.{table_in, HasMarks};
+    ghost use Rattle.sl_machine.specs.inner.Tables.{table_in, HasMarks, HasPassed};
 
-    ghost view = { table_in };
+    ghost view = { λ t. record { on = table_in t; lots = t.lots } };
 
-    ghost invariant = { λ t. HasMarks t × All (λ x. FitsRatio x.ratio) t.prio };
+    ghost invariant = { λ t. HasMarks t × All (λ x. FitsRatio x.ratio) t.prio × HasPassed t };
 }
 
 // The mark of an entry that is taken from a table with that ranking.
@@ -96,27 +100,31 @@ impl TableKind {
 }
 
 impl PriorityTable {
-    /// A table that is off. Takes no memory.
-    pub(crate) fn off(alloc: Global) -> PriorityTable
-        ensures { result ≡ None }
+    /// A table that is off, and the lots that are to draw from it. Takes no memory.
+    pub(crate) fn off(alloc: Global, lots: Lots) -> PriorityTable
+        ensures { result ≡ record { on = None; lots = lots } }
     {
         PriorityTable {
             kind: None,
             prio: Prio::new(alloc),
+            lots,
+            draws: Draws::NONE,
         }
     }
 
     /// Puts the table on, without entries.
     pub(crate) fn open(&mut self, entries: Entries, ranking: Ranking)
-        ensures { self.new ≡ Some (record { entries = entries; ranking = ranking; contents = [] }) }
+        ensures on { self.new.on ≡ Some (record { entries = entries; ranking = ranking; contents = [] }) }
+        ensures lots { self.new.lots ≡ self.old.lots }
     {
         self.prio.clear();
+        self.draws = Draws::NONE;
         self.kind = Some(TableKind { entries, ranking });
     }
 
     /// What the entries are, while the table is on.
     pub(crate) fn entries(&self) -> Option<Entries>
-        ensures { result ≡ option_map (λ t. t.entries) self.now }
+        ensures { result ≡ option_map (λ t. t.entries) self.now.on }
     {
         match self.kind {
             Some(kind) => Some(kind.entries),
@@ -130,50 +138,72 @@ impl PriorityTable {
     ///
     /// Want of memory.
     pub(crate) fn enter(&mut self, entry: Entry) -> Result<(), NoMemory>
-        requires { ForSome self.old (λ t. FitsMark t.ranking entry.ratio) }
-        ensures { OnOk result (self.new ≡ option_map (with_entry entry) self.old) }
+        requires { ForSome self.old.on (λ t. FitsMark t.ranking entry.ratio) }
+        ensures entered { OnOk result (self.new.on ≡ option_map (with_entry entry) self.old.on) }
+        ensures lots { self.new.lots ≡ self.old.lots }
     {
         // no ratio has numerator 0, so the peers stand first in a ranking
         prove!(entry.ratio.num() > 0);
+        self.draws = self.draws.with_entry(&self.prio, &entry);
         self.prio.put(entry)
     }
 
     /// The number of peers.
     pub(crate) fn peers(&self) -> usize
-        ensures { ForSome self.now (λ t. result ≡ length (peers t.contents)) }
+        ensures { ForSome self.now.on (λ t. result ≡ length (peers t.contents)) }
     {
         self.prio.peers()
     }
 
+    /// The lot of a stage.
+    pub(crate) fn lot(&self, stage: usize) -> &[u32]
+        requires stage { stage < length self.now.lots }
+        requires on { IsSome self.now.on }
+        ensures { lot_at stage self.now ≡ Some result.now }
+    {
+        let kind = self.kind.unwrap();
+        self.lots.lot(stage, kind.entries)
+    }
+
     /// Whether a lot names every peer.
     pub(crate) fn covers(&self, lot: &[u32]) -> bool
-        ensures { ForSome self.now (λ t. result ≡ is_covered lot.now t.contents) }
+        ensures { ForSome self.now.on (λ t. result ≡ is_covered lot.now t.contents) }
     {
         self.prio.covers(lot)
     }
 
     /// Takes the greatest entry.
     pub(crate) fn take(&mut self) -> Taken
-        requires { IsSome (option_and_then (λ t. top t.contents) self.old) }
-        ensures taken { (e : Election) (s : State) → given self.old (λ t. takes e t (top t.contents) s)
-            ≡ Goes (at_entry e result.entries result.index (record s { table = self.new; mark = result.mark })) }
-        ensures within { (e : Election) → ForSome self.old (λ t. All (λ x. x.index < entries_in e t.entries) t.contents) → result.index < entries_in e result.entries }
+        requires { IsSome (option_and_then (λ t. top t.contents) self.old.on) }
+        ensures taken { (e : Election) (s : State) → given self.old.on (λ t. takes e t (top t.contents) s)
+            ≡ Goes (at_entry e result.entries result.index (record s { table = self.new.on; mark = result.mark })) }
+        ensures within { (e : Election) → ForSome self.old.on (λ t. All (λ x. x.index < entries_in e t.entries) t.contents) → result.index < entries_in e result.entries }
+        ensures lots { self.new.lots ≡ self.old.lots }
     {
         let kind = self.kind.unwrap();
+        self.draws = Draws::NONE;
         let entry = self.prio.take().unwrap();
         kind.taken(entry)
     }
 
-    /// Takes the peer that a lot draws.
-    pub(crate) fn take_lot(&mut self, lot: &[u32]) -> Taken
-        requires { IsSome (option_and_then (λ t. top t.contents) self.old) }
-        ensures taken { (e : Election) (s : State) → given self.old (λ t. takes e t (drawn lot.now t.contents) s)
-            ≡ Goes (at_entry e result.entries result.index (record s { table = self.new; mark = result.mark })) }
-        ensures within { (e : Election) → ForSome self.old (λ t. All (λ x. x.index < entries_in e t.entries) t.contents) → result.index < entries_in e result.entries }
+    /// Takes the peer that the lot of a stage draws.
+    pub(crate) fn take_lot(&mut self, stage: usize) -> Taken
+        requires stage { stage < length self.old.lots }
+        requires top { IsSome (option_and_then (λ t. top t.contents) self.old.on) }
+        ensures taken { (e : Election) (s : State) → given self.old.on (λ t. given (option_map (lot_in t.entries) (slice_get self.old.lots stage)) (λ lot. takes e t (drawn lot t.contents) s))
+            ≡ Goes (at_entry e result.entries result.index (record s { table = self.new.on; mark = result.mark })) }
+        ensures within { (e : Election) → ForSome self.old.on (λ t. All (λ x. x.index < entries_in e t.entries) t.contents) → result.index < entries_in e result.entries }
+        ensures lots { self.new.lots ≡ self.old.lots }
     {
         let kind = self.kind.unwrap();
-        let entry = self.prio.take_lot(lot).unwrap();
-        kind.taken(entry)
+        let lot = self.lots.lot(stage, kind.entries);
+        let passed = self.draws.passed(stage);
+        let drawn = self.prio.take_lot_from(lot, passed).unwrap();
+        self.draws = Draws {
+            stage,
+            passed: drawn.passed,
+        };
+        kind.taken(drawn.entry)
     }
 
     /// Takes the peers, and answers their items, from the greatest on.
@@ -186,12 +216,14 @@ impl PriorityTable {
         alloc: Global,
         returns: &Returns,
     ) -> Result<Vec<Item>, NoMemory>
-        requires table { IsSome self.old }
-        requires range { ForSome self.old (λ t. All (λ x. x.index < entries_in returns.now t.entries) t.contents) }
-        ensures items { IfOk result (λ items. option_map (λ t. map (λ x. item_of returns.now t.entries x.index) (peers t.contents)) self.old ≡ Some items.items) }
-        ensures rest { OnOk result (ForSome self.old (λ t. self.new ≡ Some (record t { contents = drop (length (peers t.contents)) t.contents }))) }
+        requires table { IsSome self.old.on }
+        requires range { ForSome self.old.on (λ t. All (λ x. x.index < entries_in returns.now t.entries) t.contents) }
+        ensures items { IfOk result (λ items. option_map (λ t. map (λ x. item_of returns.now t.entries x.index) (peers t.contents)) self.old.on ≡ Some items.items) }
+        ensures rest { OnOk result (ForSome self.old.on (λ t. self.new.on ≡ Some (record t { contents = drop (length (peers t.contents)) t.contents }))) }
+        ensures lots { self.new.lots ≡ self.old.lots }
     {
         let kind = self.kind.unwrap();
+        self.draws = Draws::NONE;
         let mut items = Vec::new(alloc);
         for _ in 0..self.prio.peers() {
             let peer = self.prio.take().unwrap();

@@ -5,7 +5,6 @@ ghost use Rattle.sl_verify.specs.Needs.{has_columns};
 ghost use Rattle.sl_verify.specs.WellKinded.{context_of};
 ghost use Rattle.sl_machine.specs.Effects.{Ends, effect};
 ghost use Rattle.sl_stages.specs.returns.Election.{IsElection};
-ghost use Rattle.sl_machine.specs.inner.Lots.{lots_for};
 ghost use Rattle.sl_machine.specs.inner.Recording.{state_by, left_by};
 ghost use Rattle.sl_machine.specs.declared.step.Records.{Records};
 ghost use Rattle.sl_machine.specs.Safe.{MayStep};
@@ -13,7 +12,6 @@ ghost use Rattle.sl_machine.specs.inner.Leading.{ends_run};
 ghost use Rattle.sl_machine.specs.inner.Stores.{state_of, sizes_of, sizes_for, effect_of, end_with};
 
 use crate::ends::{halt, halt_with_vacant};
-use crate::lots::Lots;
 use crate::store::Store;
 use sl_code::{Code, Instr};
 use sl_ratio::NoMemory;
@@ -82,12 +80,10 @@ impl Store {
         &mut self,
         code: &Code,
         returns: &Returns,
-        lots: &Lots,
         instr: &Instr,
     ) -> Result<Option<Effect>, NoMemory>
         requires step { MayStep code.now returns.now instr.now (state_of self.old) }
         requires election { IsElection returns.now }
-        requires lots { lots.now ≡ lots_for code.now returns.now }
         requires columns { IsTrue (has_columns (context_of code.now) instr.now) }
         requires sizes { sizes_of self.old ≡ sizes_for code.now returns.now }
         requires records { state_by R.records (state_of self.old) ≡ state_of self.old }
@@ -133,8 +129,8 @@ impl Store {
             Instr::Share => Ok(Some(self.enter_share(returns)?)),
             Instr::Peers(register, _) => Ok(Some(self.count_peers(register))),
             Instr::Take => Ok(Some(self.take_top(returns))),
-            Instr::Lot(stage, _) => Ok(Some(self.jump_without_lot(code, lots, stage))),
-            Instr::Takelot(stage) => Ok(Some(self.take_drawn(code, returns, lots, stage))),
+            Instr::Lot(stage, _) => Ok(Some(self.jump_without_lot(code, stage))),
+            Instr::Takelot(stage) => Ok(Some(self.take_drawn(code, returns, stage))),
             Instr::Emit(stage, scope, number, step) => match R::records() {
                 Records::Kept => Ok(Some(self.emit(code, returns, stage, scope, number, step)?)),
                 Records::Dropped => Ok(Some(Effect::Goes)),

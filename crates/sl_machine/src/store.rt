@@ -6,6 +6,7 @@ ghost use Rattle.sl_machine.specs.State.{start};
 ghost use Rattle.sl_machine.specs.Places.{cells_of};
 ghost use Rattle.sl_machine.specs.inner.Stores.{state_of, sizes_of, sizes_for};
 
+use crate::lots::Lots;
 use crate::priority::PriorityTable;
 use sl_code::Code;
 use sl_ratio::{NoMemory, Ratio};
@@ -104,6 +105,7 @@ impl Store {
     {
         let columns = blank_columns(alloc, code.slots(), returns)?;
         let placed = unseated(alloc, returns.wins())?;
+        let lots = Lots::of(alloc, code, returns)?;
         Ok(Store {
             alloc,
             registers: [0; REGISTERS as usize],
@@ -113,7 +115,7 @@ impl Store {
                 land: None,
                 win: None,
             },
-            table: PriorityTable::off(alloc),
+            table: PriorityTable::off(alloc, lots),
             mark: Mark::Quotient(Ratio::new(1, 1)),
             steps: Vec::new(alloc),
             weights: Vec::new(alloc),

@@ -21,7 +21,6 @@ ghost use Rattle.sl_machine.specs.Seen.{entry_at, puts_in};
 ghost use Rattle.sl_machine.specs.inner.Stores.{state_of, sizes_of, effect_of};
 ghost use Rattle.sl_machine.specs.inner.Tables.{FitsMark};
 
-use crate::lots::Lots;
 use crate::priority::Taken;
 use crate::records::stage_number;
 use crate::step::Effect;
@@ -44,7 +43,7 @@ impl Store {
     fn enter(&mut self, returns: &Returns, ratio: Ratio) -> Result<Effect, NoMemory>
         requires entry { IsSome (entry_at returns.now (state_of self.old)) }
         requires election { IsElection returns.now }
-        requires fits { ForSome self.old.table (λ t. FitsMark t.ranking ratio) }
+        requires fits { ForSome self.old.table.on (λ t. FitsMark t.ranking ratio) }
         requires range { IsInRange returns.now (state_of self.old) }
         ensures follows { IfOk result (λ next. effect_of next (state_of self.new) ≡ puts_in returns.now ratio (state_of self.old)) }
         ensures kept { sizes_of self.new ≡ sizes_of self.old }
@@ -70,7 +69,7 @@ impl Store {
         requires seats { seats < REGISTERS }
         requires positive { 0 < (state_of self.old).registers weight }
         requires election { IsElection returns.now }
-        requires ranking { ForSome self.old.table (λ t. t.ranking ≡ ranking.Quotients) }
+        requires ranking { ForSome self.old.table.on (λ t. t.ranking ≡ ranking.Quotients) }
         requires entry { IsSome (entry_at returns.now (state_of self.old)) }
         requires range { IsInRange returns.now (state_of self.old) }
         ensures follows { IfOk result (λ next. let s = state_of self.old in effect_of next (state_of self.new)
@@ -129,7 +128,7 @@ impl Store {
     /// Sets a register to the number of peers, and jumps where there are none.
     pub(crate) fn count_peers(&mut self, register: u8) -> Effect
         requires register { register < REGISTERS }
-        requires table { IsSome self.old.table }
+        requires table { IsSome self.old.table.on }
         ensures follows { (c : CountingCode) (e : Election) → effect_of result (state_of self.new) ≡ effect c e (instr.Peers register 0) (state_of self.old) }
         ensures kept { sizes_of self.new ≡ sizes_of self.old }
     {
@@ -154,7 +153,7 @@ impl Store {
 
     /// Takes the greatest entry.
     pub(crate) fn take_top(&mut self, returns: &Returns) -> Effect
-        requires top { IsSome (option_and_then (λ t. top t.contents) self.old.table) }
+        requires top { IsSome (option_and_then (λ t. top t.contents) self.old.table.on) }
         requires range { IsInRange returns.now (state_of self.old) }
         ensures follows { (c : CountingCode) → effect_of result (state_of self.new) ≡ effect c returns.now instr.Take (state_of self.old) }
         ensures kept { sizes_of self.new ≡ sizes_of self.old }
@@ -164,25 +163,25 @@ impl Store {
     }
 
     // The lot of a stage in such a table.
-    fn lot<'a>(&self, code: &Code, lots: &'a Lots, stage: u8) -> &'a [u32]
+    fn lot(&self, code: &Code, stage: u8) -> &[u32]
         requires stage { IsTrue (has_stage (context_of code.now) stage) }
-        requires table { IsSome self.now.table }
-        requires lots { (e : Election) × (lots.now ≡ lots_for code.now e) }
-        ensures { (e : Election) → lots.now ≡ lots_for code.now e →
-            option_and_then (λ t. option_map (lot_of e t.entries) (name_of code.now.stages stage)) self.now.table ≡ Some result.now }
+        requires table { IsSome self.now.table.on }
+        requires lots { (e : Election) × (self.now.table.lots ≡ lots_for code.now e) }
+        ensures { (e : Election) → self.now.table.lots ≡ lots_for code.now e →
+            option_and_then (λ t. option_map (lot_of e t.entries) (name_of code.now.stages stage)) self.now.table.on ≡ Some result.now }
     {
-        lots.lot(stage_number(code, stage), self.table.entries().unwrap())
+        self.table.lot(stage_number(code, stage))
     }
 
     /// Jumps unless the stage's lot names every peer.
-    pub(crate) fn jump_without_lot(&self, code: &Code, lots: &Lots, stage: u8) -> Effect
+    pub(crate) fn jump_without_lot(&self, code: &Code, stage: u8) -> Effect
         requires stage { IsTrue (has_stage (context_of code.now) stage) }
-        requires top { IsSome (option_and_then (λ t. top t.contents) self.now.table) }
-        requires lots { (e : Election) × (lots.now ≡ lots_for code.now e) }
-        ensures { (e : Election) → lots.now ≡ lots_for code.now e →
+        requires top { IsSome (option_and_then (λ t. top t.contents) self.now.table.on) }
+        requires lots { (e : Election) × (self.now.table.lots ≡ lots_for code.now e) }
+        ensures { (e : Election) → self.now.table.lots ≡ lots_for code.now e →
             effect_of result (state_of self.now) ≡ effect code.now e (instr.Lot stage 0) (state_of self.now) }
     {
-        if self.table.covers(self.lot(code, lots, stage)) {
+        if self.table.covers(self.lot(code, stage)) {
             Effect::Goes
         } else {
             Effect::Jumps
@@ -190,22 +189,15 @@ impl Store {
     }
 
     /// Takes the peer that the stage's lot draws.
-    pub(crate) fn take_drawn(
-        &mut self,
-        code: &Code,
-        returns: &Returns,
-        lots: &Lots,
-        stage: u8,
-    ) -> Effect
+    pub(crate) fn take_drawn(&mut self, code: &Code, returns: &Returns, stage: u8) -> Effect
         requires stage { IsTrue (has_stage (context_of code.now) stage) }
-        requires top { IsSome (option_and_then (λ t. top t.contents) self.old.table) }
-        requires lots { lots.now ≡ lots_for code.now returns.now }
+        requires top { IsSome (option_and_then (λ t. top t.contents) self.old.table.on) }
+        requires lots { self.old.table.lots ≡ lots_for code.now returns.now }
         requires range { IsInRange returns.now (state_of self.old) }
         ensures follows { effect_of result (state_of self.new) ≡ effect code.now returns.now (instr.Takelot stage) (state_of self.old) }
         ensures kept { sizes_of self.new ≡ sizes_of self.old }
     {
-        let lot = self.lot(code, lots, stage);
-        let taken = self.table.take_lot(lot);
+        let taken = self.table.take_lot(stage_number(code, stage));
         self.move_to_taken(returns, taken)
     }
 }

@@ -1,9 +1,8 @@
 -- What is among the elements of a list, and what a search finds there.
-use Rattle.std.proofs.Common.{◌≡◌, ℕ, zero, suc, ◌+◌, ◌<◌, ◌≤◌, ◌⊎◌, ◌&&◌, Bool, true, false, cond, List, [], ◌∷◌, ◌++◌, length, drop, drop-cons, get_or, Some, None, slice_get, All, Contains, count_by, refl, sym, ap, subst, ◌∙◌, inl, inr, arith}
+use Rattle.std.proofs.Common.{◌≡◌, ℕ, zero, suc, ◌+◌, ◌<◌, ◌≤◌, ◌⊎◌, ◌&&◌, Bool, true, false, cond, List, [], ◌∷◌, ◌++◌, length, get_or, Some, None, slice_get, All, Contains, count_by, refl, sym, ap, subst, ◌∙◌, inl, inr, arith}
 use Rattle.std.specs.List.{find, filter, list_any}
 use Rattle.std.proofs.Math.Bool.{or-true}
 use Rattle.std.proofs.lemmas.Bool.{cases_Bool}
-use Rattle.std.proofs.lemmas.List.{drop_all}
 use Rattle.std.proofs.lemmas.List.Sums.{sum_by-cons}
 use Rattle.std.proofs.lemmas.Option.{same_Some, slice_get_within, get_or_from_slice_get}
 
@@ -61,18 +60,6 @@ module _ {X : Type 0} (p : X → Bool) where
           | inr k ↦ find-only ys x k t (λ z c u. only z (Contains-tail y ys z c) u)
         ])
       ]
-
-  -- a search from a place on
-  pub find_here : (xs : List X) (k : ℕ) (d : X) → k < length xs → p (get_or xs k d) ≡ true → find p (drop k xs) ≡ Some (get_or xs k d)
-  find_here xs k d l t = ap (find p) (drop-cons xs k d l) ∙ rw t refl
-
-  pub find_behind : (xs : List X) (k : ℕ) (d : X) → k < length xs → p (get_or xs k d) ≡ false → find p (drop k xs) ≡ find p (drop (k + 1) xs)
-  find_behind xs k d l f =
-      let e : suc k ≡ k + 1 = omega arith in
-      ap (find p) (drop-cons xs k d l) ∙ rw f (ap (λ n. find p (drop n xs)) e)
-
-  pub find_past_end : (xs : List X) (k : ℕ) → length xs ≤ k → find p (drop k xs) ≡ None
-  find_past_end xs k l = ap (find p) (drop_all k xs l)
 
   pub any-at : (xs : List X) (x : X) → Contains xs x → p x ≡ true → list_any p xs ≡ true
   any-at [] x h t = absurd (Contains-none x h)

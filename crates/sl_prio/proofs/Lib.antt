@@ -18,3 +18,4 @@ pub mod Seen
 pub mod PeerCounts
 pub mod PeerMarks
 pub mod DrawnPeers
+pub mod PassedNames

@@ -338,6 +338,14 @@ left_counted xs ys x ratios peer taken n marked marks held several =
     let count = held.counted in
     left xs ratios first.0 first.1 x ys peer taken (omega (arith, several, count)) n marked marks held
 
+-- those that are left then were peers before
+pub left_peers : (xs ys : List Entry) (x : Entry) → All HasRatio xs → Contains (peers xs) x → IsPermutation xs (x ∷ ys) → 1 < length (peers xs)
+    → (y : Entry) → Contains (peers ys) y → Contains (peers xs) y
+left_peers xs ys x ratios peer taken several =
+    let here = Contains-permutation (x ∷ ys) xs x (IsPermutation-sym xs (x ∷ ys) taken) (Contains-head x ys) in
+    let first = has_top xs x here in
+    left_peer xs ratios first.0 first.1 x ys peer taken several
+
 pub peers_at_most : (xs : List Entry) → length (peers xs) ≤ length xs
 peers_at_most xs = by_top (top xs) refl
   where

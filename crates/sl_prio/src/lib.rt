@@ -8,4 +8,4 @@ mod peers;
 mod places;
 mod prio;
 
-pub use prio::Prio;
+pub use prio::{Drawn, Prio};

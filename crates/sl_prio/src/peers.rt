@@ -5,7 +5,7 @@ ghost use Rattle.std.specs.Prelude.{◌≡◌, ◌<◌, ◌||◌, ◌∷◌, ℕ
 ghost use Rattle.sl_ratio.specs.declared.entry.Entry.{Entry};
 ghost use Rattle.sl_prio.specs.Prio.{has_quotient_of, peers};
 ghost use Rattle.sl_prio.specs.inner.Heap.{AreCounted, IsKept, IsPeerAt, IsAt, IsFirstNamed, IsDrawnFrom, are_named, is_peer_with, peers_under};
-ghost use Rattle.sl_prio.specs.inner.Marks.{AreApart, AreApartFrom, AreMarks, HaveMarks, names, have_index, first_named};
+ghost use Rattle.sl_prio.specs.inner.Marks.{AreApart, AreApartFrom, AreMarks, HaveMarks, IsPassed, names, have_index, first_named};
 
 use crate::heap::across;
 use crate::lot::{MARKS, Marks, is_named, lot_cmp, mark, unmark};
@@ -247,21 +247,32 @@ fn place_above(entries: &[Entry], top: &Entry, index: u32, noted: usize) -> Opti
     Some(place)
 }
 
-// A place at which a peer stands that has the first name of a lot that is the index of a peer.
+/// A name of a lot, by its place there, and the place of the heap at which a peer stands.
+#[derive(Clone, Copy, Debug)]
+pub(crate) struct Named {
+    pub(crate) name: usize,
+    pub(crate) peer: usize,
+}
+
+// The first name of a lot that is the index of a peer, and a place at which such a peer stands. The names before `passed` are those of no
+// peers.
 fn first_named(
     entries: &[Entry],
     top: &Entry,
     marks: &Marks,
     places: &Places,
     lot: &[u32],
-) -> Option<usize>
+    passed: usize,
+) -> Option<Named>
     requires kept { IsKept entries.now }
     requires marks { HaveMarks (peers_under top.now entries.now 0) marks.now }
-    ensures { MatchOption result (first_named lot.now (peers_under top.now entries.now 0) ≡ None) (IsFirstNamed lot.now top.now entries.now) }
+    requires passed { IsPassed lot.now passed (peers_under top.now entries.now 0) }
+    ensures peer { MatchOption result (first_named lot.now (peers_under top.now entries.now 0) ≡ None) (λ named. IsFirstNamed lot.now top.now entries.now named.peer) }
+    ensures passed { IfSome result (λ named. IsPassed lot.now named.name (peers_under top.now entries.now 0)) }
 {
-    for named in lot {
-        if let Some(place) = place_of(entries, top, marks, places, *named) {
-            return Some(place);
+    for name in passed..lot.len() {
+        if let Some(peer) = place_of(entries, top, marks, places, lot[name]) {
+            return Some(Named { name, peer });
         }
     }
     None
@@ -283,7 +294,8 @@ fn draw(entries: &[Entry], top: &Entry, lot: &[u32], place: usize, best: usize) 
     draw(entries, top, lot, 2 * place + 2, left)
 }
 
-// The place of the peer that a lot draws. Of peers that it does not name it draws the top.
+// The peer that a lot draws, and a place of the lot before which it names no peer. Of peers that it does not name it draws the top. The
+// names before `passed` are those of no peers.
 pub(crate) fn drawn_at(
     entries: &[Entry],
     top: &Entry,
@@ -291,19 +303,28 @@ pub(crate) fn drawn_at(
     places: &Places,
     distinct: bool,
     lot: &[u32],
-) -> usize
+    passed: usize,
+) -> Named
     requires kept { IsKept entries.now }
     requires first { slice_get entries.now 0 ≡ Some top.now }
     requires marks { HaveMarks (peers_under top.now entries.now 0) marks.now }
     requires apart { IsTrue distinct → AreApart (peers_under top.now entries.now 0) }
-    ensures { IsDrawnFrom lot.now entries.now (peers_under top.now entries.now 0) 0 result }
+    requires passed { IsPassed lot.now passed (peers_under top.now entries.now 0) }
+    ensures drawn { IsDrawnFrom lot.now entries.now (peers_under top.now entries.now 0) 0 result.peer }
+    ensures passed { IsPassed lot.now result.name (peers_under top.now entries.now 0) }
 {
-    let Some(place) = first_named(entries, top, marks, places, lot) else {
-        return 0;
+    let Some(named) = first_named(entries, top, marks, places, lot, passed) else {
+        return Named {
+            name: lot.len(),
+            peer: 0,
+        };
     };
     if distinct {
-        return place;
+        return named;
     }
-    let index = entries[place].index;
-    draw(entries, top, &[index], 0, 0)
+    let index = entries[named.peer].index;
+    Named {
+        name: named.name,
+        peer: draw(entries, top, &[index], 0, 0),
+    }
 }

@@ -1,6 +1,6 @@
 //! The entries of a scope, from which the greatest is taken first.
 
-ghost use Rattle.std.specs.Prelude.{◌≡◌, ◌<◌, ◌&&◌, ◌↔◌, IsTrue, Contains, [], ◌∷◌, length, slice_get, slice_index_or, OnOk, OnErr, IfSome, IfNone, IsPermutation, MatchOption, Some};
+ghost use Rattle.std.specs.Prelude.{◌≡◌, ◌<◌, ◌&&◌, ◌↔◌, IsTrue, Contains, [], ◌∷◌, length, slice_get, slice_index_or, OnOk, OnErr, IfSome, IfNone, IsPermutation, MatchOption, Some, option_map};
 ghost use Rattle.sl_prio.specs.inner.Heap.{IsNewPeer};
 ghost use Rattle.std.specs.List.{count_by, filter};
 ghost use Rattle.std.specs.Ordering.{is_gt, is_ge};
@@ -9,6 +9,7 @@ ghost use Rattle.sl_ratio.specs.Entry.{entry_cmp};
 ghost use Rattle.sl_prio.specs.Ranking.{ranked};
 ghost use Rattle.sl_prio.specs.Prio.{has_quotient_of, top, peers, is_covered};
 ghost use Rattle.sl_prio.specs.Lot.{drawn};
+ghost use Rattle.sl_prio.specs.inner.Marks.{IsPassed};
 
 use crate::heap::{sift_up, take_out};
 use crate::lot::{MARKS, Marks, marks};
@@ -18,6 +19,13 @@ use sl_ratio::{Entry, NoMemory};
 use std::alloc::Global;
 use std::cmp::Ordering;
 use std::marker::Model;
+
+/// An entry that a lot drew, and a place of the lot before which it names none of the peers that are left.
+#[derive(Clone, Copy, Debug)]
+pub struct Drawn {
+    pub entry: Entry,
+    pub passed: usize,
+}
 
 /// A priority table: the entries that it holds, of which the greatest is the top. The peers of the top are the entries with its
 /// quotient, the top among them.
@@ -202,6 +210,18 @@ impl Prio {
         ensures rest { IfSome result (λ entry. IsPermutation self.old (entry ∷ self.new)) }
         ensures none { IfNone result (self.new ≡ self.old) }
     {
+        Some(self.take_lot_from(lot, 0)?.entry)
+    }
+
+    /// Takes the peer that a lot draws away as `take_lot` does, but looks for its name from the place `passed` of the lot on: the names
+    /// before are those of no peers. Draws that go on from place to place pass over a lot once, as long as no peer joins the others.
+    pub fn take_lot_from(&mut self, lot: &[u32], passed: usize) -> Option<Drawn>
+        requires { IsPassed lot.now passed (peers self.old) }
+        ensures drawn { option_map (λ taken. taken.entry) result ≡ drawn lot.now self.old }
+        ensures rest { IfSome result (λ taken. IsPermutation self.old (taken.entry ∷ self.new)) }
+        ensures passed { IfSome result (λ taken. IsPassed lot.now taken.passed (peers self.new)) }
+        ensures none { IfNone result (self.new ≡ self.old) }
+    {
         let top = *self.entries.first()?;
         self.counted = marked_anew(
             &self.entries,
@@ -210,15 +230,23 @@ impl Prio {
             &mut self.places,
             self.counted,
         );
-        let place = drawn_at(
+        let named = drawn_at(
             &self.entries,
             &top,
             &self.marks,
             &self.places,
             self.counted.marked,
             lot,
+            passed,
         );
-        Some(self.remove(place))
+        // behind the last of the peers come others
+        let passed = if self.counted.count > 1 {
+            named.name
+        } else {
+            0
+        };
+        let entry = self.remove(named.peer);
+        Some(Drawn { entry, passed })
     }
 
     // Takes the peer at a place away.

@@ -1,4 +1,4 @@
--- The lot of a stage in the table that is on.
+-- What is said of the table that is on, where there is a top.
 use Rattle.std.proofs.Common.{◌≡◌, ◌≢◌, ℕ, zero, suc, List, Option, Some, None, IsSome, option_map, refl, ap, ◌∙◌}
 use Rattle.std.specs.Option.{option_and_then}
 use Rattle.std.proofs.lemmas.Option.{same_Some}
@@ -15,13 +15,11 @@ given_some : (o : Option Entry) (x : Effect) → IsSome o → given o (λ first.
 given_some None x h = cc
 given_some (Some first) x h = refl
 
-module _ (e : Election) (go : PriorityTable → List ℕ → Effect) where
-  pub lot_there : (table : Option PriorityTable) (name : Option (List ℕ)) (lot : List ℕ) → IsSome (option_and_then (λ t. top t.contents) table)
-      → option_and_then (λ t. option_map (lot_of e t.entries) name) table ≡ Some lot
-      → given table (λ t. given (top t.contents) (λ first. given name (λ n. go t (lot_of e t.entries n)))) ≡ given table (λ t. go t lot)
-  lot_there None name lot some h = refl
-  lot_there (Some t) None lot some h = cc
-  lot_there (Some t) (Some n) lot some h = given_some (top t.contents) (go t (lot_of e t.entries n)) some ∙ ap (go t) (same_Some (lot_of e t.entries n) lot h)
+-- where there is a top, a lot has something to draw from
+pub topped : (e : Election) (go : PriorityTable → List ℕ → Effect) (table : Option PriorityTable) (name : Option (List ℕ)) → IsSome (option_and_then (λ t. top t.contents) table)
+    → given table (λ t. given (top t.contents) (λ first. given name (λ n. go t (lot_of e t.entries n)))) ≡ given table (λ t. given name (λ n. go t (lot_of e t.entries n)))
+topped e go None name some = refl
+topped e go (Some t) name some = given_some (top t.contents) (given name (λ n. go t (lot_of e t.entries n))) some
 
 -- what is said of the table's entries, where there is a top
 pub said_there : {A : Type 0} (table : Option PriorityTable) (said : PriorityTable → A) (x : A) (go : A → Effect) → IsSome (option_and_then (λ t. top t.contents) table)

@@ -1,6 +1,6 @@
 -- The lots of a code's stages in tables of each kind of entries.
-use Rattle.std.specs.Prelude.{ℕ, List, [], ◌∷◌, ◌++◌, map, codes}
-use Rattle.std.specs.Option.{option_map, option_to_list}
+use Rattle.std.specs.Prelude.{ℕ, List, [], ◌∷◌, ◌++◌, Option, map, codes, slice_get}
+use Rattle.std.specs.Option.{option_and_then, option_map, option_to_list}
 use Rattle.sl_stages.specs.declared.returns.Lot.{Lot}
 use Rattle.sl_stages.specs.returns.Election.{Election}
 use Rattle.sl_stages.specs.meaning.Scopes.{place}
@@ -8,6 +8,7 @@ use Rattle.sl_code.specs.Codes.{CountingCode}
 use Rattle.sl_code.specs.declared.operand.Entries.{Entries}
 use Rattle.sl_code.specs.declared.operand.Entries.TheVariants as entries
 use Rattle.sl_machine.specs.Drawn.{given_in, lot_of}
+use Rattle.sl_machine.specs.State.{PriorityTable}
 
 -- the lot of a stage, in a table of parties, of Länder, of lists, of winners
 pub record StageLots : Type 0 where
@@ -38,3 +39,12 @@ stage_lots e name = record { party = lot_of e entries.Party name; land = lot_of 
 -- those of the stages, and behind them those of the last clause
 abbrev pub lots_for : CountingCode → Election → List StageLots
 lots_for c e = map (λ stage. stage_lots e stage.name) c.stages ++ stage_lots e (codes "seats") ∷ []
+
+-- the priority table, while it is on, and the lots that draw from it
+pub record LotTable : Type 0 where
+  pub on : Option PriorityTable
+  pub lots : List StageLots
+
+-- the lot of a stage in the table that is on
+abbrev pub lot_at : ℕ → LotTable → Option (List ℕ)
+lot_at stage t = option_and_then (λ table. option_map (lot_in table.entries) (slice_get t.lots stage)) t.on

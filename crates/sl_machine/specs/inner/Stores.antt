@@ -11,6 +11,7 @@ use Rattle.sl_machine.specs.declared.store.Store.{Store}
 use Rattle.sl_machine.specs.State.{State, End, Halted, Faulted}
 use Rattle.sl_machine.specs.Places.{cells_of}
 use Rattle.sl_machine.specs.Effects.{Effect, Goes, Jumps}
+use Rattle.sl_machine.specs.inner.Lots.{StageLots, lots_for}
 
 -- the columns, each as the list of its cells
 abbrev pub columns_of : Store → List (List ℕ)
@@ -24,24 +25,25 @@ state_of s = record {
   party = s.cursors.party;
   land = s.cursors.land;
   win = s.cursors.win;
-  table = s.table;
+  table = s.table.on;
   mark = s.mark;
   steps = s.steps.items;
   weights = s.weights.items;
   placed = λ w. slice_index_or s.placed.items w placed.Unseated;
 }
 
--- how many cells each column has, and how many winners there are
+-- what no step changes: how many cells each column has, how many winners there are, and the lots
 pub record Sizes : Type 0 where
   pub columns : List ℕ
   pub winners : ℕ
+  pub lots : List StageLots
 
 abbrev pub sizes_of : Store → Sizes
-sizes_of s = record { columns = map length (columns_of s); winners = length s.placed.items }
+sizes_of s = record { columns = map length (columns_of s); winners = length s.placed.items; lots = s.table.lots }
 
--- the sizes that a code and returns ask for
+-- those that a code and returns ask for
 abbrev pub sizes_for : CountingCode → Election → Sizes
-sizes_for c e = record { columns = map (cells_of e) c.slots; winners = wins_of e }
+sizes_for c e = record { columns = map (cells_of e) c.slots; winners = wins_of e; lots = lots_for c e }
 
 -- the end that a body answers, and the effect, with the state that it leaves
 abbrev pub end_with : Answer → State → End

@@ -1,7 +1,8 @@
--- Marks of indexes.
-use Rattle.std.specs.Prelude.{◌≡◌, ◌+◌, ◌<◌, ◌≤◌, ℕ, Bool, true, cond, Contains, List, Option, length, nat_eq, slice_index_or}
+-- Indexes that have marks, or that a lot names.
+use Rattle.std.specs.Prelude.{◌≡◌, ◌+◌, ◌<◌, ◌≤◌, ℕ, All, Bool, true, cond, Contains, List, Option, length, nat_eq, slice_index_or}
 use Rattle.std.specs.List.{count_by, find, list_any}
 use Rattle.sl_ratio.specs.declared.entry.Entry.{Entry}
+use Rattle.sl_prio.specs.Lot.{place_in_lot}
 
 -- whether a lot names an index
 abbrev pub names : List ℕ → ℕ → Bool
@@ -14,6 +15,10 @@ have_index xs index = list_any (λ x. nat_eq x.index index) xs
 -- the first name of a lot that is the index of an entry
 abbrev pub first_named : List ℕ → List Entry → Option ℕ
 first_named lot xs = find (have_index xs) lot
+
+-- a lot names none of some entries before a place
+abbrev pub IsPassed : List ℕ → ℕ → List Entry → Type 0
+IsPassed lot place xs = All (λ x. place ≤ place_in_lot lot x.index) xs
 
 -- each index that has a mark is marked exactly if it passes
 abbrev pub AreMarks : (ℕ → Bool) → List Bool → Type 0

@@ -44,8 +44,8 @@ new-requires-clause-vacant g c = λ slot named.
     let columns = ap (λ (z : Sizes). length z.columns) c.in_ok-base.ensures.kept ∙ length-map code.slots _ in
     omega (arith, columns, below)
 
-pub returns-in-Some-Halted-clause-fits : goal.returns-in-Some-Halted-clause-fits
-returns-in-Some-Halted-clause-fits g c =
+pub returns-in_ok-new-in-Some-Halted-clause-fits : goal.returns-in_ok-new-in-Some-Halted-clause-fits
+returns-in_ok-new-in-Some-Halted-clause-fits g c =
     let code = c.code-code.result.now in
     let e = c.args.returns.now in
     let h = c.in-Some-Halted in

@@ -10,16 +10,20 @@ use Rattle.sl_machine.specs.declared.priority.TableKind.{TableKind}
 use Rattle.sl_machine.specs.Places.{item_of}
 use Rattle.sl_machine.specs.Safe.{entries_in}
 use Rattle.sl_machine.specs.inner.Tables.{FitsMark}
+use Rattle.sl_machine.specs.inner.Lots.{LotTable}
 use Rattle.sl_machine.proofs.Priorities.{taken_fits}
 use Rattle.sl_machine.proofs.drawing.PeerLists.{top_left, peers_taken, rest_behind, one_more, range_held, peers_told, rest_told}
+use Rattle.sl_machine.proofs.drawing.Passing.{no_draws}
 use Rattle.sl_machine.proofs.priority.PriorityTable.take_peers.Goals as goal
 
 pub loop-init : goal.loop-init
 loop-init c = record {
   kind = c.unwrap-kind.ensures;
+  lots = refl;
+  draws = refl;
   marks = c.self.invariant.0 c.unwrap-kind.result c.unwrap-kind.ensures;
   ratios = c.self.invariant.1;
-  range = range_held c.args.returns.now c.self.inside.kind c.unwrap-kind.result c.self.inside.prio c.args.self.now c.unwrap-kind.ensures c.self.view_is c.requires.range;
+  range = range_held c.args.returns.now c.self.inside.kind c.unwrap-kind.result c.self.inside.prio c.args.self.now.on c.unwrap-kind.ensures (ap (λ (t : LotTable). t.on) c.self.view_is) c.requires.range;
   rest = refl;
   items = c.new-items.ensures.items;
 }
@@ -44,6 +48,7 @@ invariant_of-self-in_err-append c =
     let same = λ (k : TableKind) (is : c.loop.self-inside.kind ≡ Some k). same_Some c.unwrap-kind.result k (sym c.loop.invariant.kind ∙ is) in (
       (λ k is. subst (λ (k : TableKind). All (λ x. FitsMark k.ranking x.ratio) c.take.new.self) (same k is) marks),
       (taken_fits (λ x. FitsRatio x.ratio) _ _ _ rest c.loop.invariant.ratios).1,
+      (λ k is lot at. no_draws lot (peers c.take.new.self) c.loop.self-inside.draws.passed c.loop.invariant.draws),
     )
 
 pub loop-preserved : goal.loop-preserved
@@ -57,6 +62,8 @@ loop-preserved c =
     (λ x. item_of e k.entries x.index) c.loop.items.items c.loop.invariant.items in
     record {
       kind = c.loop.invariant.kind;
+      lots = c.loop.invariant.lots;
+      draws = c.loop.invariant.draws;
       marks = (taken_fits (λ x. FitsMark k.ranking x.ratio) _ _ _ rest c.loop.invariant.marks).1;
       ratios = (taken_fits (λ x. FitsRatio x.ratio) _ _ _ rest c.loop.invariant.ratios).1;
       range = (taken_fits (λ x. x.index < entries_in e k.entries) _ _ _ rest c.loop.invariant.range).1;
@@ -67,11 +74,26 @@ loop-preserved c =
 pub returns-clause-items : goal.returns-clause-items
 returns-clause-items c =
     let all : c.loop.counter ≡ length (peers c.self.inside.prio) = omega arith in
-    peers_told c.args.returns.now c.self.inside.kind c.unwrap-kind.result c.self.inside.prio c.args.self.now c.unwrap-kind.ensures c.self.view_is
+    peers_told c.args.returns.now c.self.inside.kind c.unwrap-kind.result c.self.inside.prio c.args.self.now.on c.unwrap-kind.ensures (ap (λ (t : LotTable). t.on) c.self.view_is)
     _ c.loop.items.items (rw all (peers_taken c.self.inside.prio c.self.invariant.1)) c.loop.invariant.items
 
 pub returns-clause-rest : goal.returns-clause-rest
 returns-clause-rest c =
     let all : c.loop.counter ≡ length (peers c.self.inside.prio) = omega arith in
-    rest_told c.args.returns.now c.self.inside.kind c.unwrap-kind.result c.self.inside.prio c.args.self.now c.unwrap-kind.ensures c.self.view_is
+    rest_told c.args.returns.now c.self.inside.kind c.unwrap-kind.result c.self.inside.prio c.args.self.now.on c.unwrap-kind.ensures (ap (λ (t : LotTable). t.on) c.self.view_is)
     c.loop.self-inside.prio c.loop.self-inside.kind c.loop.invariant.kind (rw all at c.loop.invariant.rest)
+
+pub invariant_of-self : goal.invariant_of-self
+invariant_of-self c =
+    let l = c.loop in
+    let same = λ (k : TableKind) (is : l.self-inside.kind ≡ Some k). same_Some c.unwrap-kind.result k (sym l.invariant.kind ∙ is) in (
+      (λ k is. subst (λ (k : TableKind). All (λ x. FitsMark k.ranking x.ratio) l.self-inside.prio) (same k is) l.invariant.marks),
+      l.invariant.ratios,
+      (λ k is lot at. no_draws lot (peers l.self-inside.prio) l.self-inside.draws.passed l.invariant.draws),
+    )
+
+pub returns-in_err-append-clause-lots : goal.returns-in_err-append-clause-lots
+returns-in_err-append-clause-lots c = c.loop.invariant.lots ∙ ap (λ (t : LotTable). t.lots) c.self.view_is
+
+pub returns-clause-lots : goal.returns-clause-lots
+returns-clause-lots c = c.loop.invariant.lots ∙ ap (λ (t : LotTable). t.lots) c.self.view_is

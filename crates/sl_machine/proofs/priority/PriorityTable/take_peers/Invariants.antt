@@ -10,6 +10,8 @@ use Rattle.sl_machine.proofs.priority.PriorityTable.take_peers.Given as goal
 abbrev pub invariant-loop : goal.invariant-loop
 invariant-loop l = record {
   kind : l.self-inside.kind ≡ Some l.kind;
+  lots : l.self-inside.lots ≡ l.initial.self-inside.lots;
+  draws : l.self-inside.draws.passed ≡ 0;
   marks : All (λ x. FitsMark l.kind.ranking x.ratio) l.self-inside.prio;
   ratios : All (λ x. FitsRatio x.ratio) l.self-inside.prio;
   range : All (λ x. x.index < entries_in l.returns l.kind.entries) l.self-inside.prio;

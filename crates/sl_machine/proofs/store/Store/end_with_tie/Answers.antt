@@ -27,7 +27,7 @@ same_fault code e stage x why s table = refl
 
 pub fault-requires-clause-scope : goal.fault-requires-clause-scope
 fault-requires-clause-scope c =
-    subst (λ (o : Option Scope). IsSome o) (same_scope c.args.scope (state_of c.args.self.now) c.take_peers.new.self) c.requires.scope
+    subst (λ (o : Option Scope). IsSome o) (same_scope c.args.scope (state_of c.args.self.now) c.take_peers.new.self.on) c.requires.scope
 
 pub returns-clause-follows : goal.returns-clause-follows
 returns-clause-follows c =
@@ -36,8 +36,8 @@ returns-clause-follows c =
     let items = c.in_ok-take_peers.field-0.items in
     let said : PriorityTable → List Item = λ t. map (λ x. item_of e t.entries x.index) (peers t.contents) in
     c.fault.ensures e
-    ∙ same_fault c.args.code.now e c.args.stage c.args.scope (fault.Tie c.register-seats.result c.new-names.result) s c.take_peers.new.self
+    ∙ same_fault c.args.code.now e c.args.stage c.args.scope (fault.Tie c.register-seats.result c.new-names.result) s c.take_peers.new.self.on
     ∙ ap (λ (names : List Item). faults c.args.code.now e c.args.stage c.args.scope (fault.Tie c.register-seats.result names) s) c.new-names.ensures
     ∙ ap (λ (seats : ℕ). faults c.args.code.now e c.args.stage c.args.scope (fault.Tie seats items) s) c.register-seats.ensures
-    ∙ sym (said_there c.args.self.now.table said items
+    ∙ sym (said_there c.args.self.now.table.on said items
     (λ names. faults c.args.code.now e c.args.stage c.args.scope (fault.Tie (s.registers c.args.seats) names) s) c.requires.top c.in_ok-take_peers.ensures.items)

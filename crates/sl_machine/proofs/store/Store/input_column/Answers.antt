@@ -38,7 +38,7 @@ returns-clause-kept c =
     ∙ ap (λ (k : ℕ). get_or ws k 0) c.from.ensures ∙ get_or_from_slice_get ws c.args.slot n 0 c.requires.width in
     let long = ap length c.read_column.ensures ∙ length-map-range_with_len (input_of c.args.returns.now c.args.input) 0 n ∙ sym width in
     let kept = widths_kept (λ row. row.items) rows c.from.result row there c.index_mut-column.ensures.value c.read_column.new.column long in
-    ap (λ (ws : List ℕ). record { columns = ws; winners = length c.args.self.now.placed.items }) kept
+    ap (λ (ws : List ℕ). record { columns = ws; winners = length c.args.self.now.placed.items; lots = c.args.self.now.table.lots }) kept
 
 pub returns-clause-follows : goal.returns-clause-follows
 returns-clause-follows c =

@@ -5,6 +5,7 @@ use Rattle.sl_stages.specs.declared.table.Mark.TheVariants as mark
 use Rattle.sl_stages.specs.declared.table.Placed.{Placed}
 use Rattle.sl_stages.specs.declared.table.Placed.TheVariants as placed
 use Rattle.sl_verify.specs.declared.known.TheConstants.{REGISTERS}
+use Rattle.sl_machine.specs.inner.Lots.{LotTable}
 use Rattle.sl_machine.proofs.stores.Starting.{zero_at, unseated_at, blank, blank_at, blank_widths, started}
 use Rattle.sl_machine.proofs.store.Store.start.Goals as goal
 
@@ -15,10 +16,10 @@ returns-clause-state c =
     let columns = map (λ column. column.items) c.in_ok-columns.columns.items in
     let blanks : columns ≡ map (blank e) slots = c.in_ok-columns.ensures ∙ ap (map (blank e)) c.slots.ensures.slots in
     let nobody : c.in_ok-placed.placed.items ≡ replicate c.wins.result placed.Unseated = c.in_ok-placed.ensures in
-    started (replicate {A = ℕ} REGISTERS 0) columns c.off.result (mark.Quotient c.new.result) c.new-2.result.items c.new-3.result.items c.in_ok-placed.placed.items
+    started (replicate {A = ℕ} REGISTERS 0) columns c.off.result.on (mark.Quotient c.new.result) c.new-2.result.items c.new-3.result.items c.in_ok-placed.placed.items
     (zero_at REGISTERS)
     (λ k p. ap (λ (css : List (List ℕ)). get_or (get_or css k []) p 0) blanks ∙ blank_at e slots k p)
-    c.off.ensures (ap mark.Quotient c.new.ensures.value) c.new-2.ensures.items c.new-3.ensures.items
+    (ap (λ (t : LotTable). t.on) c.off.ensures) (ap mark.Quotient c.new.ensures.value) c.new-2.ensures.items c.new-3.ensures.items
     (λ w. ap (λ (ps : List Placed). get_or ps w placed.Unseated) nobody ∙ unseated_at c.wins.result w)
 
 pub returns-clause-fits : goal.returns-clause-fits
@@ -30,4 +31,5 @@ returns-clause-fits c =
     let nobody : c.in_ok-placed.placed.items ≡ replicate c.wins.result placed.Unseated = c.in_ok-placed.ensures in
     let widths = ap (map length) blanks ∙ blank_widths e slots in
     let winners = ap length nobody ∙ length-replicate {A = Placed} c.wins.result placed.Unseated ∙ c.wins.ensures.number in
-    λ i. record { columns = widths i; winners = winners i }
+    let lots = ap (λ (t : LotTable). t.lots) c.off.ensures ∙ c.in_ok-lots.ensures in
+    λ i. record { columns = widths i; winners = winners i; lots = lots i }

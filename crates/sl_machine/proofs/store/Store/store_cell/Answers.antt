@@ -27,7 +27,7 @@ returns-clause-kept c =
     let there : c.from.result < length rows = omega (arith, c.place-place.ensures.slot, ap length widths, length-map (columns_of c.args.self.now) length, length-map rows (λ row. row.items)) in
     let row = c.index_mut-column.result.now in
     let kept = widths_kept (λ row. row.items) rows c.from.result row there c.index_mut-column.ensures.value (with_item row c.place-place.result c.register-value.result) (length-set row.items c.place-place.result c.register-value.result) in
-    ap (λ (ws : List ℕ). record { columns = ws; winners = length c.args.self.now.placed.items }) kept
+    ap (λ (ws : List ℕ). record { columns = ws; winners = length c.args.self.now.placed.items; lots = c.args.self.now.table.lots }) kept
 
 pub returns-clause-follows : goal.returns-clause-follows
 returns-clause-follows c =

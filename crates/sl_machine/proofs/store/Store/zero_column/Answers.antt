@@ -18,7 +18,7 @@ returns-clause-kept c =
     let row = c.index_mut-column.result.now in
     let long = ap length c.clear.ensures ∙ length-replicate (length row.items) 0 in
     let kept = widths_kept (λ row. row.items) rows c.from.result row there c.index_mut-column.ensures.value c.clear.new.column long in
-    ap (λ (ws : List ℕ). record { columns = ws; winners = length c.args.self.now.placed.items }) kept
+    ap (λ (ws : List ℕ). record { columns = ws; winners = length c.args.self.now.placed.items; lots = c.args.self.now.table.lots }) kept
 
 pub returns-clause-follows : goal.returns-clause-follows
 returns-clause-follows c =

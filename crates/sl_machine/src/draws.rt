@@ -1,0 +1,57 @@
+//! Draws from the lot of a stage, one after the other, among the same peers.
+
+ghost use Rattle.std.specs.Prelude.{◌≡◌, ◌≤◌, ◌∷◌, ℕ, All, List, false, if◌then◌else◌, nat_eq};
+ghost use Rattle.std.specs.Option.{option_map_or};
+ghost use Rattle.std.specs.Ordering.{is_lt};
+ghost use Rattle.sl_ratio.specs.Quotient.{compare, FitsRatio};
+ghost use Rattle.sl_prio.specs.Prio.{top, peers};
+ghost use Rattle.sl_prio.specs.inner.Marks.{IsPassed};
+
+use sl_prio::Prio;
+use sl_ratio::Entry;
+
+/// The stage whose lot drew last, and a place of that lot before which it names none of the peers. The next draw goes on from there.
+#[derive(Clone, Copy, Debug)]
+pub(crate) struct Draws {
+    pub(crate) stage: usize,
+    pub(crate) passed: usize,
+}
+
+// Whether an entry has a smaller quotient than the top.
+fn is_behind_top(prio: &Prio, entry: &Entry) -> bool
+    ensures { result ≡ option_map_or (λ first. is_lt (compare entry.now.ratio first.ratio)) (top prio.now) false }
+{
+    match prio.top() {
+        Some(top) => entry.ratio.cmp(&top.ratio).is_lt(),
+        None => false,
+    }
+}
+
+impl Draws {
+    /// Before the first draw.
+    pub(crate) const NONE: Draws = Draws {
+        stage: 0,
+        passed: 0,
+    };
+
+    /// A place of a stage's lot before which it names none of the peers.
+    pub(crate) fn passed(self, stage: usize) -> usize
+        ensures { result ≡ (if nat_eq stage self.stage then self.passed else 0) }
+    {
+        if stage == self.stage { self.passed } else { 0 }
+    }
+
+    /// The draws with one entry more, which go on where that is behind the peers.
+    pub(crate) fn with_entry(self, prio: &Prio, entry: &Entry) -> Draws
+        requires { All (λ x. FitsRatio x.ratio) (entry.now ∷ prio.now) }
+        ensures stage { result.stage ≡ self.stage }
+        ensures no_farther { result.passed ≤ self.passed }
+        ensures passed { (lot : List ℕ) → IsPassed lot self.passed (peers prio.now) → IsPassed lot result.passed (peers (entry.now ∷ prio.now)) }
+    {
+        let stays = self.passed > 0 && is_behind_top(prio, entry);
+        Draws {
+            stage: self.stage,
+            passed: if stays { self.passed } else { 0 },
+        }
+    }
+}
