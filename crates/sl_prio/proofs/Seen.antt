@@ -1,7 +1,8 @@
 -- What the peers below the first place say of a table.
-use Rattle.std.proofs.Common.{◌≡◌, ℕ, Bool, List, count_by, length, slice_get, Some, Contains, sym, ap, subst, ◌∙◌, inl, inr}
+use Rattle.std.proofs.Common.{◌≡◌, ℕ, Bool, List, [], ◌∷◌, ◌++◌, Option, None, MatchOption, is_some, false, count_by, length, slice_get, Some, Contains, sym, ap, subst, ◌∙◌, inl, inr}
 use Rattle.std.specs.List.{list_any}
 use Rattle.std.specs.Prelude.{nat_eq}
+use Rattle.std.proofs.lemmas.Bool.{true≢false}
 use Rattle.std.proofs.lemmas.List.Elements.{All-tail}
 use Rattle.std.proofs.lemmas.List.Sorted.{Contains-permutation, IsPermutation-sym}
 use Rattle.sl_ratio.specs.declared.entry.Entry.{Entry}
@@ -9,14 +10,18 @@ use Rattle.sl_prio.specs.Ranking.{ranked}
 use Rattle.sl_prio.specs.Prio.{top, peers, is_covered}
 use Rattle.sl_prio.specs.Lot.{drawn, lot_cmp}
 use Rattle.sl_prio.specs.Laws.{AnswersAlike}
-use Rattle.sl_prio.specs.inner.Heap.{IsHeap, IsDrawnOf, are_named, peers_under, subtree}
+use Rattle.sl_prio.specs.inner.Heap.{IsHeap, IsKept, IsPeerAt, IsDrawnOf, are_named, peers_under, subtree}
 use Rattle.sl_prio.proofs.Finding.{Contains-cases}
 use Rattle.sl_prio.proofs.Greatest.{AtMost}
 use Rattle.sl_prio.proofs.Heaps.{top_at_first}
 use Rattle.sl_prio.proofs.LawProofs.{order_is_free}
 use Rattle.sl_prio.proofs.Rankings.{counts_alike, ranked-permutation}
-use Rattle.sl_prio.proofs.Subtrees.{subtree_permutation}
-use Rattle.sl_prio.proofs.Tables.{peers-at_top, peers-length, peers-list_all, top-peer, drawn-is}
+use Rattle.sl_prio.proofs.Subtrees.{subtree_permutation, peers_at}
+use Rattle.sl_prio.proofs.Tables.{has_own_quotient, peers-at_top, peers-length, peers-list_all, top-peer, drawn-is}
+
+unless_some : (P : Type 0) (Q : Entry → Type 0) (o : Option Entry) → MatchOption o P Q → is_some o ≡ false → P
+unless_some P Q None h none = h
+unless_some P Q (Some x) h none = absurd (true≢false none)
 
 module _ (xs : List Entry) (heap : IsHeap xs) (first : Entry) (at : slice_get xs 0 ≡ Some first) where
   same : AnswersAlike xs (subtree xs 0)
@@ -27,6 +32,15 @@ module _ (xs : List Entry) (heap : IsHeap xs) (first : Entry) (at : slice_get xs
 
   pub seen_length : length (peers_under first xs 0) ≡ length (peers xs)
   seen_length = peers-length (subtree xs 0) first first_is ∙ ap length (sym same.same_peers)
+
+  -- there is one where none stands at a child of the first place
+  pub seen_alone : IsKept xs → (left right : Option Entry) → MatchOption left (peers_under first xs 1 ≡ []) (IsPeerAt first xs 1) →
+      MatchOption right (peers_under first xs 2 ≡ []) (IsPeerAt first xs 2) → is_some left ≡ false → is_some right ≡ false → length (peers xs) ≡ 1
+  seen_alone kept left right of_left of_right no_left no_right =
+      let none_left : peers_under first xs 1 ≡ [] = unless_some (peers_under first xs 1 ≡ []) (IsPeerAt first xs 1) left of_left no_left in
+      let none_right : peers_under first xs 2 ≡ [] = unless_some (peers_under first xs 2 ≡ []) (IsPeerAt first xs 2) right of_right no_right in
+      let all : peers_under first xs 0 ≡ first ∷ (peers_under first xs 1 ++ peers_under first xs 2) = (peers_at first xs kept at 0 first at (has_own_quotient first)).peers in
+      sym seen_length ∙ ap length all ∙ (λ i. length (first ∷ (none_left i ++ none_right i)))
 
   pub seen_named : (lot : List ℕ) → are_named lot (peers_under first xs 0) ≡ is_covered lot xs
   seen_named lot = peers-list_all (subtree xs 0) first first_is (λ peer. list_any (λ named. nat_eq named peer.index) lot) ∙ sym (same.same_covers lot)

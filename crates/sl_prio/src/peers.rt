@@ -82,12 +82,22 @@ fn count_under(entries: &[Entry], top: &Entry, place: usize) -> usize
     }
 }
 
+// Whether the top of a heap has no other peer: one would stand at a child of it.
+fn is_alone(entries: &[Entry], top: &Entry) -> bool
+    requires kept { IsKept entries.now }
+    requires first { slice_get entries.now 0 ≡ Some top.now }
+    ensures { IsTrue result → length (peers entries.now) ≡ 1 }
+{
+    peer_at(entries, top, 1).is_none() && peer_at(entries, top, 2).is_none()
+}
+
 // The number of the peers of a heap's top.
 fn count_peers(entries: &[Entry]) -> usize
     requires kept { IsKept entries.now }
     ensures { result ≡ length (peers entries.now) }
 {
     match entries.first() {
+        Some(top) if is_alone(entries, top) => 1,
         Some(top) => count_under(entries, top, 0),
         None => 0,
     }
