@@ -1,8 +1,9 @@
 -- What joins an election leaves it an election.
-use Rattle.std.proofs.Common.{◌≡◌, ℕ, zero, suc, ◌+◌, ◌<◌, ◌≤◌, Bool, List, [], ◌∷◌, ◌++◌, length, get_or, set, replicate, Option, Some, None, arith, refl, sym, ap, subst, ◌∙◌}
+use Rattle.std.proofs.Common.{◌≡◌, ℕ, zero, suc, ◌<◌, ◌≤◌, Bool, List, [], ◌∷◌, ◌++◌, length, get_or, set, replicate, Option, Some, None, arith, refl, ap, subst, ◌∙◌}
 use Rattle.std.proofs.lemmas.List.{length_push, length-set, length-replicate, get_or-set_same, get_or-set_other, set-set}
 use Rattle.std.proofs.lemmas.List.Elements.{All-push, All-replicate, All-set, All-get_or, All-weaker}
 use Rattle.std.specs.List.{All}
+use Rattle.std.specs.Option.{ForSome}
 use Rattle.std.proofs.lemmas.Option.{none-some, same_Some}
 use Rattle.sl_ratio.specs.declared.limits.TheConstants.{MAX_SEATS, MAX_LANDS, MAX_PARTIES, MAX_VOTES}
 use Rattle.sl_ratio.specs.Names.{name_fault}
@@ -53,76 +54,31 @@ blank_row (suc width) n zero above = refl
 blank_row (suc width) n (suc party) above = blank_row width zero party (omega arith)
 
 pub is_with_house : (e : Election) (seats : ℕ) → IsElection e → 1 ≤ seats → seats ≤ MAX_SEATS → IsElection (with_house e seats)
-is_with_house e seats is least most = record {
-  house = λ h same. subst (λ m. (1 ≤ m) × (m ≤ MAX_SEATS)) (same_Some seats h same) (least, most);
-  lands = is.lands;
-  parties = is.parties;
-  winners = is.winners;
-  land_names = is.land_names;
-  party_names = is.party_names;
-  win_names = is.win_names;
-  populations = is.populations;
-  rows = is.rows;
-  minorities = is.minorities;
-  wins = is.wins;
-  people = is.people;
-  widths = is.widths;
-  votes = is.votes;
-  ends = is.ends;
-  places = is.places;
-  drawn = is.drawn;
-  lots = is.lots;
-}
+is_with_house e seats is least most =
+    let house : ForSome (Some seats) (λ h. (1 ≤ h) × (h ≤ MAX_SEATS)) = λ h same. subst (λ m. (1 ≤ m) × (m ≤ MAX_SEATS)) (same_Some seats h same) (least, most) in
+    search house
 
 pub is_with_land : (e : Election) (name : List ℕ) (people : ℕ) → IsElection e → name_fault (record { limit = MAX_LANDS; names = e.land_names }) name ≡ None → people ≤ MAX_VOTES → IsElection (with_land e name people)
 is_with_land e name people is may most =
     let free = (joins (record { limit = MAX_LANDS; names = e.land_names }) name may).free in
     let named = length_push e.land_names name in
-    record {
-      house = is.house;
-      lands = omega arith;
-      parties = is.parties;
-      winners = is.winners;
-      land_names = with_name (record { limit = MAX_LANDS; names = e.land_names }) name may is.land_names;
-      party_names = is.party_names;
-      win_names = is.win_names;
-      populations = length_push e.populations people ∙ ap (λ n. n + 1) is.populations ∙ sym named;
-      rows = length_push {X = List (Option ListVotes)} e.cells (replicate MAX_PARTIES None) ∙ ap (λ n. n + 1) is.rows ∙ sym named;
-      minorities = is.minorities;
-      wins = is.wins;
-      people = All-push (λ n. n ≤ MAX_VOTES) e.populations people is.people most;
-      widths = All-push (λ row. length row ≡ MAX_PARTIES) e.cells (replicate MAX_PARTIES None) is.widths (length-replicate {A = Option ListVotes} MAX_PARTIES None);
-      votes = All-push (All IsCell) e.cells (replicate MAX_PARTIES None) is.votes (All-replicate IsCell MAX_PARTIES None blank_cell);
-      ends = All-push (EndsBefore (length e.party_names)) e.cells (replicate MAX_PARTIES None) is.ends (blank_row MAX_PARTIES (length e.party_names));
-      places = wins_stay e _ _ is (omega arith) (omega arith);
-      drawn = is.drawn;
-      lots = lots_stay e _ _ _ is (omega arith) (omega arith) (omega arith);
-    }
+    let names = with_name (record { limit = MAX_LANDS; names = e.land_names }) name may is.land_names in
+    let wide = length-replicate {A = Option ListVotes} MAX_PARTIES None in
+    let votes = All-push (All IsCell) e.cells (replicate MAX_PARTIES None) is.votes (All-replicate IsCell MAX_PARTIES None blank_cell) in
+    let ends = All-push (EndsBefore (length e.party_names)) e.cells (replicate MAX_PARTIES None) is.ends (blank_row MAX_PARTIES (length e.party_names)) in
+    let places = wins_stay e (length (e.land_names ++ name ∷ [])) (length e.party_names) is (omega arith) (omega arith) in
+    let lots = lots_stay e (length (e.land_names ++ name ∷ [])) (length e.party_names) (length e.win_names) is (omega arith) (omega arith) (omega arith) in
+    search (arith, length_push, All-push)
 
 pub is_with_party : (e : Election) (name : List ℕ) (minority : Bool) → IsElection e → name_fault (record { limit = MAX_PARTIES; names = e.party_names }) name ≡ None → IsElection (with_party e name minority)
 is_with_party e name minority is may =
     let free = (joins (record { limit = MAX_PARTIES; names = e.party_names }) name may).free in
     let named = length_push e.party_names name in
-    record {
-      house = is.house;
-      lands = is.lands;
-      parties = omega arith;
-      winners = is.winners;
-      land_names = is.land_names;
-      party_names = with_name (record { limit = MAX_PARTIES; names = e.party_names }) name may is.party_names;
-      win_names = is.win_names;
-      populations = is.populations;
-      rows = is.rows;
-      minorities = length_push e.minorities minority ∙ ap (λ n. n + 1) is.minorities ∙ sym named;
-      wins = is.wins;
-      people = is.people;
-      widths = is.widths;
-      votes = is.votes;
-      ends = All-weaker (EndsBefore (length e.party_names)) (EndsBefore (length (e.party_names ++ name ∷ []))) (λ row end party above. end party (omega (arith, named, above))) e.cells is.ends;
-      places = wins_stay e _ _ is (omega arith) (omega arith);
-      drawn = is.drawn;
-      lots = lots_stay e _ _ _ is (omega arith) (omega arith) (omega arith);
-    }
+    let names = with_name (record { limit = MAX_PARTIES; names = e.party_names }) name may is.party_names in
+    let ends = All-weaker (EndsBefore (length e.party_names)) (EndsBefore (length (e.party_names ++ name ∷ []))) (λ row end party above. end party (omega (arith, named, above))) e.cells is.ends in
+    let places = wins_stay e (length e.land_names) (length (e.party_names ++ name ∷ [])) is (omega arith) (omega arith) in
+    let lots = lots_stay e (length e.land_names) (length (e.party_names ++ name ∷ [])) (length e.win_names) is (omega arith) (omega arith) (omega arith) in
+    search (arith, length_push)
 
 -- the cell of a list
 list_cell : (v : ListVotes) → IsListVotes v → IsCell (Some v)
@@ -135,27 +91,12 @@ list_within row party n cell before ends other above = get_or-set_other row part
 pub is_with_list : (e : Election) (land party : ℕ) (votes : ListVotes) → IsElection e → land < length e.land_names → party < length e.party_names → IsListVotes votes → IsElection (with_list e land party votes)
 is_with_list e land party votes is within of_party of_list =
     let row = get_or e.cells land [] in
+    let written = set row party (Some votes) in
     let there : land < length e.cells = omega (arith, is.rows) in
-    record {
-      house = is.house;
-      lands = is.lands;
-      parties = is.parties;
-      winners = is.winners;
-      land_names = is.land_names;
-      party_names = is.party_names;
-      win_names = is.win_names;
-      populations = is.populations;
-      rows = length-set e.cells land _ ∙ is.rows;
-      minorities = is.minorities;
-      wins = is.wins;
-      people = is.people;
-      widths = All-set (λ row. length row ≡ MAX_PARTIES) e.cells land _ (length-set row party (Some votes) ∙ All-get_or (λ row. length row ≡ MAX_PARTIES) e.cells land [] there is.widths) is.widths;
-      votes = All-set (All IsCell) e.cells land _ (All-set IsCell row party (Some votes) (list_cell votes of_list) (All-get_or (All IsCell) e.cells land [] there is.votes)) is.votes;
-      ends = All-set (EndsBefore (length e.party_names)) e.cells land _ (list_within row party (length e.party_names) (Some votes) of_party (All-get_or (EndsBefore (length e.party_names)) e.cells land [] there is.ends)) is.ends;
-      places = is.places;
-      drawn = is.drawn;
-      lots = is.lots;
-    }
+    let wide = length-set row party (Some votes) ∙ All-get_or (λ row. length row ≡ MAX_PARTIES) e.cells land [] there is.widths in
+    let told = All-set (All IsCell) e.cells land written (All-set IsCell row party (Some votes) (list_cell votes of_list) (All-get_or (All IsCell) e.cells land [] there is.votes)) is.votes in
+    let ends = All-set (EndsBefore (length e.party_names)) e.cells land written (list_within row party (length e.party_names) (Some votes) of_party (All-get_or (EndsBefore (length e.party_names)) e.cells land [] there is.ends)) is.ends in
+    search (arith, length-set, All-set)
 
 -- a row has a cell for each party
 pub cell_within : (e : Election) (land party : ℕ) → IsElection e → land < length e.land_names → party < length e.party_names → party < length (get_or e.cells land [])
@@ -202,45 +143,9 @@ pub is_with_win : (e : Election) (name : List ℕ) (win : Win) → IsElection e 
 is_with_win e name win is may placed =
     let free = (joins (record { limit = MAX_WINS; names = e.win_names }) name may).free in
     let named = length_push e.win_names name in
-    record {
-      house = is.house;
-      lands = is.lands;
-      parties = is.parties;
-      winners = omega arith;
-      land_names = is.land_names;
-      party_names = is.party_names;
-      win_names = with_name (record { limit = MAX_WINS; names = e.win_names }) name may is.win_names;
-      populations = is.populations;
-      rows = is.rows;
-      minorities = is.minorities;
-      wins = named ∙ ap (λ n. n + 1) is.wins ∙ sym (length_push e.wins win);
-      people = is.people;
-      widths = is.widths;
-      votes = is.votes;
-      ends = is.ends;
-      places = All-push (IsWin (length e.land_names) (length e.party_names)) e.wins win is.places placed;
-      drawn = is.drawn;
-      lots = lots_stay e _ _ _ is (omega arith) (omega arith) (omega arith);
-    }
+    let names = with_name (record { limit = MAX_WINS; names = e.win_names }) name may is.win_names in
+    let lots = lots_stay e (length e.land_names) (length e.party_names) (length (e.win_names ++ name ∷ [])) is (omega arith) (omega arith) (omega arith) in
+    search (arith, length_push, All-push)
 
 pub is_with_lot : (e : Election) (lot : Lot) → IsElection e → length e.lots < MAX_LOTS → IsLot (length e.land_names) (length e.party_names) (length e.win_names) lot → IsElection (with_lot e lot)
-is_with_lot e lot is free named = record {
-  house = is.house;
-  lands = is.lands;
-  parties = is.parties;
-  winners = is.winners;
-  land_names = is.land_names;
-  party_names = is.party_names;
-  win_names = is.win_names;
-  populations = is.populations;
-  rows = is.rows;
-  minorities = is.minorities;
-  wins = is.wins;
-  people = is.people;
-  widths = is.widths;
-  votes = is.votes;
-  ends = is.ends;
-  places = is.places;
-  drawn = let more = length_push e.lots lot in omega arith;
-  lots = All-push (IsLot (length e.land_names) (length e.party_names) (length e.win_names)) e.lots lot is.lots named;
-}
+is_with_lot e lot is free named = search (arith, length_push, All-push)

@@ -5,6 +5,7 @@ pub mod OneResult
 pub mod OneOutcome
 pub mod MeaningProofs
 pub mod ListPlaces
+pub mod EachList
 pub mod PlainRuns
 pub mod Members
 pub mod PlacedWinners

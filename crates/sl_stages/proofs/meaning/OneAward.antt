@@ -44,16 +44,16 @@ one_choice X lot entries m v seats defined d =
 -- ---- splits
 
 -- where nothing refuses the seats, the minima leave room, and an empty field gets no more than they need
-record HasNone (v m : List ℕ) (seats : ℕ) : Type 0 where
-  room : sum m ≤ seats
-  empty : IsEmptyField v → sum m ≡ seats
+pub record HasNone (v m : List ℕ) (seats : ℕ) : Type 0 where
+  pub room : sum m ≤ seats
+  pub empty : IsEmptyField v → sum m ≡ seats
 
 both_false : {K : Type 0} (a b : Bool) (x y : K) → (if a then Some x else if b then Some y else None) ≡ None → (a ≡ false) × (b ≡ false)
 both_false true b x y h = cc
 both_false false true x y h = cc
 both_false false false x y h = (refl, refl)
 
-none_refused : (v m : List ℕ) (seats : ℕ) → refusal v m seats ≡ None → HasNone v m seats
+pub none_refused : (v m : List ℕ) (seats : ℕ) → refusal v m seats ≡ None → HasNone v m seats
 none_refused v m seats none =
     let tests = both_false (nat_lt seats (sum m)) (nat_eq (sum v) 0 && nat_lt (sum m) seats) fault.Short fault.NoList none in
     let room : sum m ≤ seats = ltb-false seats (sum m) tests.0 in

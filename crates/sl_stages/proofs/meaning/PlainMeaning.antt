@@ -1,11 +1,9 @@
 -- A plain book means the table that it comes to.
-use Rattle.std.proofs.Common.{◌≡◌, ℕ, ◌<◌, ◌&&◌, true, List, [], ◌∷◌, Option, Some, None, is_none, nat_eq, map, filter, ◌↔◌, arith, refl, sym, ap, subst, ◌∙◌}
+use Rattle.std.proofs.Common.{◌≡◌, ℕ, ◌<◌, ◌&&◌, true, List, [], Option, Some, None, is_none, nat_eq, map, ◌↔◌, refl, sym, ap, subst, ◌∙◌}
 use Rattle.std.specs.Prelude.{IsPermutation}
-use Rattle.std.specs.List.{All, flat_map, range_with_len, list_all}
+use Rattle.std.specs.List.{list_all}
 use Rattle.std.proofs.lemmas.Bool.{and_parts, false≢true}
 use Rattle.std.proofs.lemmas.List.{nil_from_length}
-use Rattle.std.proofs.lemmas.List.Elements.{All-head, All-tail, All-filter, All-weaker, All-from_get_or}
-use Rattle.std.proofs.lemmas.List.FromFn.{length-range_with_len, get_or-range_with_len}
 use Rattle.std.proofs.lemmas.List.Sorted.{length_permutation}
 use Rattle.sl_stages.specs.declared.book.Base.{Base}
 use Rattle.sl_stages.specs.declared.book.Base.TheVariants as base
@@ -18,8 +16,7 @@ use Rattle.sl_stages.specs.declared.table.Outcome.TheVariants as outcome
 use Rattle.sl_stages.specs.meaning.Tables.{SeatTable}
 use Rattle.sl_stages.specs.book.Trees.{BookTree}
 use Rattle.sl_stages.specs.returns.Votes.{slate_in}
-use Rattle.sl_stages.specs.returns.Election.{Election, lands_of, parties_of, list_at, has_list}
-use Rattle.sl_stages.specs.returns.Facts.{lands, parties}
+use Rattle.sl_stages.specs.returns.Election.{Election, lands_of, parties_of, list_at}
 use Rattle.sl_stages.specs.book.Typing.{splits_in}
 use Rattle.sl_stages.specs.meaning.PlainBooks.{IsColumn, ComesTo, is_keep, kept_list, kept_lists, kept_table}
 use Rattle.sl_stages.specs.meaning.Columns.{NamedColumn, IsLeaf}
@@ -28,22 +25,10 @@ use Rattle.sl_stages.specs.meaning.Records.{no_records}
 use Rattle.sl_stages.specs.meaning.Seating.{placed_on, vacant_of, table_line, kept_seats, keep_table}
 use Rattle.sl_stages.specs.meaning.Means.{Through, SameOutcome, IsSeated, EndsAs, Means}
 use Rattle.sl_stages.specs.laws.MeaningLaws.{PlainOutcomes}
+use Rattle.sl_stages.proofs.meaning.EachList.{each_list_agree}
 use Rattle.sl_stages.proofs.meaning.PlacedWinners.{kept_direct}
 use Rattle.sl_stages.proofs.meaning.PlainRuns.{bare, AllPlain, from_run, to_run}
 use Rattle.sl_stages.proofs.meaning.MeaningProofs.{same_itself}
-
--- ---- lists made of others
-
-map_agree : {X Y : Type 0} (f g : X → Y) (xs : List X) → All (λ x. f x ≡ g x) xs → map f xs ≡ map g xs
-map_agree f g [] all = refl
-map_agree f g (x ∷ xs) all = cc (All-head (λ x. f x ≡ g x) x xs all, map_agree f g xs (All-tail (λ x. f x ≡ g x) x xs all))
-
-pieces_agree : {X Y : Type 0} (f g : X → List Y) (xs : List X) → All (λ x. f x ≡ g x) xs → flat_map f xs ≡ flat_map g xs
-pieces_agree f g [] all = refl
-pieces_agree f g (x ∷ xs) all = cc (All-head (λ x. f x ≡ g x) x xs all, pieces_agree f g xs (All-tail (λ x. f x ≡ g x) x xs all))
-
-below : (n : ℕ) → All (λ k. k < n) (range_with_len 0 n)
-below n = All-from_get_or (λ k. k < n) (range_with_len 0 n) 0 (λ i within. let is = get_or-range_with_len 0 n i 0 (omega (arith, length-range_with_len 0 n)) in omega (arith, is, length-range_with_len 0 n))
 
 -- ---- the table
 
@@ -58,22 +43,8 @@ module _ (b : BookTree) (e : Election) (base : List ℕ) (none : is_none b.last.
       let vacant = none_vacant b.last.vacate none (slate_in (list_at e land party)) (kept_seats b e base land party) (placed_on e (map (kept_place b e) e.wins) land party) in
       cc (direct, vacant)
 
-  line : ℕ → ℕ → ListSeats
-  line = table_line b e (kept_seats b e base) (map (kept_place b e) e.wins)
-
-  lines_in : (land : ℕ) → land < lands_of e → map (line land) (filter (has_list e land) (parties e)) ≡ map (kept_list b e base land) (filter (has_list e land) (parties e))
-  unfolding line
-  lines_in land in_lands =
-      map_agree (line land) (kept_list b e base land) (filter (has_list e land) (parties e))
-      (All-weaker (λ party. party < parties_of e) (λ party. line land party ≡ kept_list b e base land party) (λ party in_parties. same_line land party in_lands in_parties)
-      (filter (has_list e land) (parties e)) (All-filter (has_list e land) (λ party. party < parties_of e) (parties e) (below (parties_of e))))
-
   same_lists : (keep_table b e base no_records).lists ≡ kept_lists b e base
-  unfolding line
-  same_lists =
-      pieces_agree (λ land. map (line land) (filter (has_list e land) (parties e))) (λ land. map (kept_list b e base land) (filter (has_list e land) (parties e))) (lands e)
-      (All-weaker (λ land. land < lands_of e) (λ land. map (line land) (filter (has_list e land) (parties e)) ≡ map (kept_list b e base land) (filter (has_list e land) (parties e))) lines_in
-      (lands e) (below (lands_of e)))
+  same_lists = each_list_agree e (table_line b e (kept_seats b e base) (map (kept_place b e) e.wins)) (kept_list b e base) (λ land party there. same_line land party there.in_lands there.in_parties)
 
   same_table : keep_table b e base no_records ≡ kept_table b e base
   same_table = ap (λ (l : List ListSeats). record { lists = l; placed = map (kept_place b e) e.wins; steps = []; weights = [] }) same_lists

@@ -1,7 +1,6 @@
 -- A well-formed expression is a column of its type, and so are the stages of a well-formed book.
 use Rattle.std.proofs.Common.{◌≡◌, ℕ, ◌≤◌, ◌&&◌, true, false, List, [], ◌∷◌, ◌++◌, Option, Some, None, refl, sym, ap, subst, ◌∙◌, inl, inr, arith}
-use Rattle.std.specs.Prelude.{find, option_map, unwrap_or, nat_le}
-use Rattle.std.specs.Option.{ForSome}
+use Rattle.std.specs.Prelude.{find, option_map, nat_le}
 use Rattle.std.specs.List.{AllZip}
 use Rattle.std.specs.Str.{bytes_eq}
 use Rattle.std.proofs.lemmas.Bool.{cases_Bool, cond-true, cond-false, and_parts, not-true, leb-true, false≢true}

@@ -6,8 +6,7 @@ use Rattle.sl_stages.specs.laws.Ladders.{Raises, RaisesEach}
 use Rattle.sl_stages.specs.methods.Ties.{Distinct, Lists, IsRaised, IsTied, AreTied, Choice, Decided, Tied, NamesAll, drawn, IsChoice, IsWellDefined}
 use Rattle.sl_stages.proofs.methods.ListedEntries.{find_all}
 use Rattle.sl_stages.proofs.methods.RaisedSeats.{increasing_distinct, cases_Contains, Contains-cases, Contains-none}
-use Rattle.sl_stages.proofs.methods.RaisedSeats.{raise, length-raise, raise_other, raise_at}
-use Rattle.sl_stages.proofs.methods.TieLaw.{HasTies, equal_lists, below_length, raise_chosen, raised_more, more_raised}
+use Rattle.sl_stages.proofs.methods.TieLaw.{HasTies, equal_lists, raised_is, below_length, raise_chosen, raised_more, more_raised}
 use Rattle.sl_stages.proofs.methods.DrawnLots.{fits_in, same_entries, drawn_only, drawn_distinct, drawn_length, cases_NamesAll}
 
 module _ (X : List ℕ → Type 0) (tied : List ℕ) (k : ℕ) (law : HasTies X tied k) where
@@ -126,11 +125,7 @@ drawn_choice X base tied k are l members lot d names t h =
     let chosen = drawn lot k tied in
     let dc = drawn_distinct lot k tied d in
     let inside : (i : ℕ) → Contains chosen i → i < length base = λ i c. within i (drawn_only lot k tied i c) in
-    let e : raise base chosen ≡ t = equal_lists (raise base chosen) t (length-raise base chosen ∙ sym h.same_length) (λ i.
-    elim (cases_Contains chosen i) [
-      | inl c ↦ raise_at base chosen i dc c (inside i c) ∙ sym (h.raised i c)
-      | inr out ↦ raise_other base chosen i out ∙ sym (h.others i out)
-    ]) in
+    let e = raised_is base t chosen dc inside h in
     let made = raise_chosen base tied k dp within chosen dc (drawn_only lot k tied) (drawn_length lot k tied d dp names (omega arith)) in
     let ht : X t = each t (subst (λ y. Raises tied k base y) e made) in (
       tied,

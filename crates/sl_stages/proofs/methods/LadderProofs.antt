@@ -9,18 +9,9 @@ use Rattle.sl_ratio.proofs.Order.{AtMost-trans, Below-AtMost}
 use Rattle.sl_stages.proofs.methods.RaisedSeats.{raise, length-raise, sum-raise, raise_other, raise_at, increasing_distinct, cases_Contains}
 use Rattle.sl_stages.proofs.methods.OneBatch.{has_below, falls_to, falls_to_weak, settled_below, settled_above, batch_only, batch_each, batch_all, peers_within}
 use Rattle.sl_stages.proofs.methods.ManyBatches.{list_peers, some_peer, begin, tops_well_defined}
-use Rattle.sl_stages.proofs.methods.TieLaw.{HasTies, tied_some, none_raised, equal_lists}
+use Rattle.sl_stages.proofs.methods.TieLaw.{HasTies, tied_some, none_raised, raised_is}
 use Rattle.sl_stages.proofs.methods.ChoiceLaw.{one_member, drawn_choice}
 use Rattle.sl_stages.proofs.methods.StepLaw.{step_is}
-
--- a seat more for each entry gives one vector
-pub raised_is : (s t entries : List ℕ) → Distinct entries → ((p : ℕ) → Contains entries p → p < length s) → RaisesEach entries s t → raise s entries ≡ t
-raised_is s t entries d within h =
-    equal_lists (raise s entries) t (length-raise s entries ∙ sym h.same_length) (λ i.
-    elim (cases_Contains entries i) [
-      | inl c ↦ raise_at s entries i d c (within i c) ∙ sym (h.raised i c)
-      | inr out ↦ raise_other s entries i out ∙ sym (h.others i out)
-    ])
 
 pub raise_each : (s entries : List ℕ) → Distinct entries → ((p : ℕ) → Contains entries p → p < length s) → RaisesEach entries s (raise s entries)
 raise_each s entries d within = record {

@@ -53,35 +53,35 @@ module _ (l : Ladders) (law : AreFalling l) where
       let low = hs.above i in
       has_below i (get_or s i 0) (get_or t i 0 - 1) low (omega arith) (ht.there i (omega (arith, low)))
 
-  -- a settled vector is below each top of at least as many seats
+  -- a settled vector does not have more than a top at one place and less at another
+  not_crossed : (s t : List ℕ) (n i j : ℕ) → IsSettled l s → IsTop l n t → get_or t i 0 < get_or s i 0 → get_or s j 0 < get_or t j 0 → ⊥
+  not_crossed s t n i j hs ht less more =
+      let mi : get_or l.base i 0 ≤ get_or t i 0 = ht.on.above i in
+      let mj : get_or l.base j 0 ≤ get_or s j 0 = hs.on.above j in
+      let ti = has_next t s i ht.on hs.on less in
+      let sj = has_next s t j hs.on ht.on more in
+      let si = hs.on.there i (omega arith) in
+      let tj = ht.on.there j (omega arith) in
+      -- rank(i, t_i) ≤ rank(j, t_j - 1) ≤ rank(j, s_j) < rank(i, s_i - 1) ≤ rank(i, t_i)
+      let one = ht.min_max j i (omega arith) ti in
+      let two = falls_to_weak j (get_or s j 0) (get_or t j 0 - 1) mj (omega arith) tj in
+      let three = hs.apart i j (omega arith) sj in
+      let four = falls_to_weak i (get_or t i 0) (get_or s i 0 - 1) mi (omega arith) si in
+      let A = l.rank i (get_or t i 0) in
+      let B = l.rank j (get_or t j 0 - 1) in
+      let C = l.rank j (get_or s j 0) in
+      let D = l.rank i (get_or s i 0 - 1) in
+      let pos = law.positive i (get_or t i 0) ti in
+      let ac = AtMost-trans A B C (law.positive j (get_or t j 0 - 1) tj) one two in
+      let ad = AtMost-Below A C D pos ac three in
+      Below-irrefl A (Below-AtMost A D A pos ad four)
+
+  -- so it is below each top of at least as many seats
   pub settled_below : (s t : List ℕ) (n : ℕ) → IsSettled l s → IsTop l n t → sum s ≤ n → (i : ℕ) → get_or s i 0 ≤ get_or t i 0
   settled_below s t n hs ht le i =
       elim (cases_lt (get_or t i 0) (get_or s i 0)) [
         | inr g ↦ g
-        | inl less ↦
-            (let le' : sum s ≤ sum t = omega (arith, ht.total) in
-            let found = some_greater s t i le' less in
-            let j = found.0 in
-            let more : get_or s j 0 < get_or t j 0 = found.1 in
-            let mi : get_or l.base i 0 ≤ get_or t i 0 = ht.on.above i in
-            let mj : get_or l.base j 0 ≤ get_or s j 0 = hs.on.above j in
-            let ti = has_next t s i ht.on hs.on less in
-            let sj = has_next s t j hs.on ht.on more in
-            let si = hs.on.there i (omega arith) in
-            let tj = ht.on.there j (omega arith) in
-            -- rank(i, t_i) ≤ rank(j, t_j - 1) ≤ rank(j, s_j) < rank(i, s_i - 1) ≤ rank(i, t_i)
-            let one = ht.min_max j i (omega arith) ti in
-            let two = falls_to_weak j (get_or s j 0) (get_or t j 0 - 1) mj (omega arith) tj in
-            let three = hs.apart i j (omega arith) sj in
-            let four = falls_to_weak i (get_or t i 0) (get_or s i 0 - 1) mi (omega arith) si in
-            let A = l.rank i (get_or t i 0) in
-            let B = l.rank j (get_or t j 0 - 1) in
-            let C = l.rank j (get_or s j 0) in
-            let D = l.rank i (get_or s i 0 - 1) in
-            let pos = law.positive i (get_or t i 0) ti in
-            let ac = AtMost-trans A B C (law.positive j (get_or t j 0 - 1) tj) one two in
-            let ad = AtMost-Below A C D pos ac three in
-            absurd (Below-irrefl A (Below-AtMost A D A pos ad four)))
+        | inl less ↦ (let found = some_greater s t i (omega (arith, ht.total)) less in absurd (not_crossed s t n i found.0 hs ht less found.1))
       ]
 
   -- and above each top of at most as many
@@ -89,30 +89,7 @@ module _ (l : Ladders) (law : AreFalling l) where
   settled_above s t n hs ht le i =
       elim (cases_lt (get_or s i 0) (get_or t i 0)) [
         | inr g ↦ g
-        | inl less ↦
-            (let le' : sum t ≤ sum s = omega (arith, ht.total) in
-            let found = some_greater t s i le' less in
-            let j = found.0 in
-            let more : get_or t j 0 < get_or s j 0 = found.1 in
-            let mi : get_or l.base i 0 ≤ get_or s i 0 = hs.on.above i in
-            let mj : get_or l.base j 0 ≤ get_or t j 0 = ht.on.above j in
-            let si = has_next s t i hs.on ht.on less in
-            let tj = has_next t s j ht.on hs.on more in
-            let ti = ht.on.there i (omega arith) in
-            let sj = hs.on.there j (omega arith) in
-            -- rank(j, t_j) ≤ rank(i, t_i - 1) ≤ rank(i, s_i) < rank(j, s_j - 1) ≤ rank(j, t_j)
-            let one = ht.min_max i j (omega arith) tj in
-            let two = falls_to_weak i (get_or s i 0) (get_or t i 0 - 1) mi (omega arith) ti in
-            let three = hs.apart j i (omega arith) si in
-            let four = falls_to_weak j (get_or t j 0) (get_or s j 0 - 1) mj (omega arith) sj in
-            let A = l.rank j (get_or t j 0) in
-            let B = l.rank i (get_or t i 0 - 1) in
-            let C = l.rank i (get_or s i 0) in
-            let D = l.rank j (get_or s j 0 - 1) in
-            let pos = law.positive j (get_or t j 0) tj in
-            let ac = AtMost-trans A B C (law.positive i (get_or t i 0 - 1) ti) one two in
-            let ad = AtMost-Below A C D pos ac three in
-            absurd (Below-irrefl A (Below-AtMost A D A pos ad four)))
+        | inl less ↦ (let found = some_greater t s i (omega (arith, ht.total)) less in absurd (not_crossed s t n found.0 i hs ht found.1 less))
       ]
 
   -- a vector with a seat more on each peer, and still more at one place, has too many seats

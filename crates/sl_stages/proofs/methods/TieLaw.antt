@@ -4,7 +4,7 @@ use Rattle.std.specs.Prelude.{Contains}
 use Rattle.std.specs.List.Sorted.{IsStrictlyIncreasing}
 use Rattle.std.proofs.lemmas.Bool.{cases_lt, cases_eq}
 use Rattle.std.proofs.lemmas.List.{ext_get_or}
-use Rattle.sl_stages.specs.laws.Ladders.{Raises}
+use Rattle.sl_stages.specs.laws.Ladders.{Raises, RaisesEach}
 use Rattle.sl_stages.specs.methods.Ties.{Distinct, Lists, IsRaised, IsTied, AreTied}
 use Rattle.sl_stages.proofs.methods.SeatSums.{sum_mono_strict}
 use Rattle.sl_stages.proofs.methods.ListedEntries.{find_all}
@@ -22,6 +22,15 @@ pub record HasTies (X : List ℕ → Type 0) (tied : List ℕ) (k : ℕ) : Type 
 
 pub equal_lists : (s t : List ℕ) → length s ≡ length t → ((i : ℕ) → get_or s i 0 ≡ get_or t i 0) → s ≡ t
 equal_lists s t e h = ext_get_or 0 s t e (λ i l. h i)
+
+-- a seat more for each entry gives one vector
+pub raised_is : (s t entries : List ℕ) → Distinct entries → ((p : ℕ) → Contains entries p → p < length s) → RaisesEach entries s t → raise s entries ≡ t
+raised_is s t entries d within h =
+    equal_lists (raise s entries) t (length-raise s entries ∙ sym h.same_length) (λ i.
+    elim (cases_Contains entries i) [
+      | inl c ↦ raise_at s entries i d c (within i c) ∙ sym (h.raised i c)
+      | inr out ↦ raise_other s entries i out ∙ sym (h.others i out)
+    ])
 
 pub below_length : (s : List ℕ) (i n : ℕ) → n < get_or s i 0 → i < length s
 below_length [] i n h = absurd (omega arith)

@@ -6,7 +6,8 @@ use Rattle.sl_stages.specs.laws.Ladders.{Ladders, AreFalling, IsSettled, IsPeer,
 use Rattle.sl_stages.specs.laws.Walks.{MidBatch, Walks}
 use Rattle.sl_stages.proofs.methods.RaisedSeats.{Contains-head, Contains-tail, Contains-cases, Contains-none, cases_Contains, increasing_distinct, sum-raise}
 use Rattle.sl_stages.proofs.methods.DrawnLots.{fits_in}
-use Rattle.sl_stages.proofs.methods.LadderProofs.{raised_is, batches}
+use Rattle.sl_stages.proofs.methods.LadderProofs.{batches}
+use Rattle.sl_stages.proofs.methods.TieLaw.{raised_is}
 
 -- all of these entries are among those, or one is not
 all_or_one : (xs ys : List ℕ) → ((i : ℕ) → Contains xs i → Contains ys i) ⊎ ((i : ℕ) × Contains xs i × ¬ Contains ys i)
