@@ -1,11 +1,9 @@
 -- Instructions of one operation have operands alike; so an instruction stands or fails in one way alone.
-use Rattle.std.proofs.Common.{◌≡◌, ℕ, ◌+◌, ◌*◌, Bool, false, List, [], ◌∷◌, ◌++◌, length, map, flat_map, get_or, Option, Some, None, IsTrue, refl, sym, ap, subst, ◌∙◌, append_assoc}
-use Rattle.sl_ratio.specs.declared.method.Divisor.TheVariants as divisors
+use Rattle.std.proofs.Common.{◌≡◌, ℕ, ◌+◌, ◌*◌, Bool, false, List, [], ◌∷◌, ◌++◌, length, map, flat_map, Option, Some, None, IsTrue, refl, sym, ap, subst, ◌∙◌, append_assoc}
 use Rattle.sl_code.specs.declared.fault.Cause.TheVariants as causes
 use Rattle.sl_code.specs.declared.fault.Stop.{Stop}
 use Rattle.sl_code.specs.declared.instr.Instr.{Instr}
-use Rattle.sl_code.specs.declared.instr.Instr.TheVariants.{Set, Mov, Add, Sub, Mul, Div, Rem, Max, Jmp, Jz, Jlt, Jnl, Get, Store, Zero, Input, House, Wparty, Wland, Fparty, Nparty, Fland, Nland, Fwin, Nwin, Table, Prio, Rest, Lead, Share, Peers, Take, Lot, Takelot, Emit, Given, Fault, Tie, Seat, Single, Halt, At, Haltv, Weigh}
-use Rattle.sl_code.specs.declared.kinds.Kinds.{Kinds}
+use Rattle.sl_code.specs.declared.instr.Instr.TheVariants.{Set}
 use Rattle.sl_code.specs.declared.kinds.TableState.{TableState}
 use Rattle.sl_code.specs.declared.operand.EndFault.{EndFault}
 use Rattle.sl_code.specs.declared.operand.EndFault.TheVariants as faults
@@ -15,8 +13,6 @@ use Rattle.sl_code.specs.declared.operand.Input.{Input as InputColumn}
 use Rattle.sl_code.specs.declared.operand.Input.TheVariants as inputs
 use Rattle.sl_code.specs.declared.operand.Ranking.{Ranking}
 use Rattle.sl_code.specs.declared.operand.Ranking.TheVariants as rankings
-use Rattle.sl_code.specs.declared.operand.Rounding.TheVariants as roundings
-use Rattle.sl_code.specs.declared.operand.ScopeKind.TheVariants as scopes
 use Rattle.sl_code.specs.declared.parts.Operand.{Operand}
 use Rattle.sl_code.specs.declared.parts.Operand.TheVariants as o
 use Rattle.sl_code.specs.Numbers.{ranking_number, entries_number, input_number, fault_number, table_number, flag}
@@ -26,63 +22,12 @@ use Rattle.sl_code.specs.Spelling.{instr_bytes}
 use Rattle.sl_code.specs.Faults.{FailsTests, FailsInstr, missing, meaningless, in_operands, instr_tests, stop_at, IsAny}
 use Rattle.sl_code.proofs.Failing.{scope_passes, entries_passes, method_passes, rounding_passes, cursors_passes}
 use Rattle.sl_code.proofs.Determined.{passed, tests_one}
+use Rattle.sl_code.proofs.Values.{builders, instr_at}
 use Rattle.sl_code.proofs.Fronts.{head, tail, back_same, no_front}
 
-nothing : Kinds
-nothing = record { positive = record { mask = 0 }; cursors = record { party = false; land = false; win = false }; table = None }
-
--- an instruction for each operation, in order; the first stands for none
-templates : List Instr
-templates =
-    Wland
-    ∷ Set 0 0
-    ∷ Mov 0 0
-    ∷ Add 0 0
-    ∷ Sub 0 0
-    ∷ Mul 0 0
-    ∷ Div 0 0
-    ∷ Rem 0 0
-    ∷ Max 0 0
-    ∷ Jmp 0
-    ∷ Jz 0 0
-    ∷ Jlt 0 0 0
-    ∷ Jnl 0
-    ∷ Get 0 0
-    ∷ Store 0 0
-    ∷ Zero 0
-    ∷ Input 0 inputs.Valid
-    ∷ House 0
-    ∷ Wparty 0
-    ∷ Wland
-    ∷ Fparty 0
-    ∷ Nparty 0
-    ∷ Fland 0
-    ∷ Nland 0
-    ∷ Fwin 0
-    ∷ Nwin 0
-    ∷ Table entries.Party rankings.Quotients
-    ∷ Prio divisors.Adams 0 0
-    ∷ Rest 0
-    ∷ Lead
-    ∷ Share
-    ∷ Peers 0 0
-    ∷ Take
-    ∷ Lot 0 0
-    ∷ Takelot 0
-    ∷ Emit 0 scopes.All 0 0
-    ∷ Given 0 scopes.All 0
-    ∷ Fault 0 scopes.All faults.Limit
-    ∷ Tie 0 scopes.All 0
-    ∷ Seat
-    ∷ Single
-    ∷ Halt 0
-    ∷ At nothing
-    ∷ Haltv 0 0
-    ∷ Weigh 0 scopes.All roundings.Adams 0
-    ∷ []
-
+-- an instruction of that operation
 abbrev like : ℕ → Instr
-like op = get_or templates op Wland
+like op = instr_at op []
 
 abbrev pub widths : Instr → List ℕ
 widths i = map (λ x. length (bytes_of x)) (operands_of i)
@@ -91,17 +36,17 @@ abbrev width : Instr → ℕ
 width i = length (flat_map bytes_of (operands_of i))
 
 like_tests : (i : Instr) → instr_tests i ≡ instr_tests (like (opcode_of i))
-unfolding templates
+unfolding instr_at builders
 like_tests (Set a b) = refl
 like_tests x = refl
 
 like_width : (i : Instr) → width i ≡ width (like (opcode_of i))
-unfolding templates two_bytes four_bytes eight_bytes
+unfolding instr_at builders two_bytes four_bytes eight_bytes
 like_width (Set a b) = refl
 like_width x = refl
 
 like_widths : (i : Instr) → widths i ≡ widths (like (opcode_of i))
-unfolding templates two_bytes four_bytes eight_bytes
+unfolding instr_at builders two_bytes four_bytes eight_bytes
 like_widths (Set a b) = refl
 like_widths x = refl
 

@@ -22,10 +22,6 @@ pub record NameFront (n : ℕ) (here now : List ℕ) : Type 0 where
   pub letter : IsTrue (is_letter first)
   pub passes : IsTrue (list_all is_name_byte more)
 
-pub name_begins : (b : ℕ) (here now : List ℕ) → here ≡ b ∷ now → IsTrue (is_letter b) → NameFront 1 here now
-name_begins b here now stands letter =
-    record { first = b; more = []; stands = stands; long = refl; letter = letter; passes = refl }
-
 pub name_grows : (i b : ℕ) (here now next : List ℕ) → NameFront i here now → now ≡ b ∷ next → IsTrue (is_name_byte b) → NameFront (i + 1) here next
 name_grows i b here now next front stands passes = record {
   first = front.first;
@@ -59,19 +55,12 @@ name_positive n ok = ltb-true 0 n (and_parts (nat_lt 0 n) (nat_le n MAX_NAME_BYT
 more_any : (test : ℕ → Bool) (tests : List (ℕ → Bool)) (here : List ℕ) (stop : Stop) → FailsAhead (test ∷ []) here stop → FailsAhead (test ∷ tests) here stop
 more_any test tests here stop failing = record { fails = λ more. failing.fails (tests ++ more) }
 
-no_length : IsTrue (is_name_length 0) → ⊥
-no_length ok = false≢true ok
-
 passes_over : (p : ℕ → Bool) (m : ℕ) (read now : List ℕ) (stop : Stop) → IsTrue (list_all p read) → length read < m → FailsAhead (p ∷ []) now stop → FailsAhead (replicate m p) (read ++ now) stop
 passes_over p zero read now stop passes fewer failing = absurd (omega (arith, fewer))
 passes_over p (suc m) [] now stop passes fewer failing = more_any p (replicate m p) now stop failing
 passes_over p (suc m) (b ∷ read) now stop passes fewer failing =
     let both : IsTrue (p b) × IsTrue (list_all p read) = and_parts (p b) (list_all p read) passes in
     later p (replicate m p) b (b ∷ read ++ now) (read ++ now) stop refl (passes_over p m read now stop both.1 (omega (arith, fewer)) failing) both.0
-
-pub letter_stops : (n : ℕ) (here : List ℕ) (stop : Stop) → IsTrue (is_name_length n) → FailsAhead (is_letter ∷ []) here stop → FailsAhead (name_tests n) here stop
-letter_stops zero here stop ok failing = absurd (no_length ok)
-letter_stops (suc n) here stop ok failing = more_any is_letter (replicate n is_name_byte) here stop failing
 
 pub name_byte_stops : (n i : ℕ) (old here now : List ℕ) (stop : Stop) → NameFront i here now → here ≡ old → i < n → FailsAhead (is_name_byte ∷ []) now stop → FailsAhead (name_tests n) old stop
 name_byte_stops zero i old here now stop front here_is fewer failing = absurd (omega (arith, fewer))

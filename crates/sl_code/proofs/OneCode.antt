@@ -120,9 +120,4 @@ pub reads_one : (c : CountingCode) (answer : Result CountingCode CodeFault) → 
     → (answer ≡ Ok c) ⊎ (answer ≡ Err faults.NoMemory)
 reads_one c (Ok d) is_c h = inl (ap Ok (code_one d c h.1 is_c (sym h.0)))
 reads_one c (Err faults.NoMemory) is_c h = inr refl
-reads_one c (Err (faults.Magic at)) is_c h = absurd (spelling_none c _ is_c.limits is_c.words h)
-reads_one c (Err (faults.Version at)) is_c h = absurd (spelling_none c _ is_c.limits is_c.words h)
-reads_one c (Err (faults.Op at)) is_c h = absurd (spelling_none c _ is_c.limits is_c.words h)
-reads_one c (Err (faults.Short at)) is_c h = absurd (spelling_none c _ is_c.limits is_c.words h)
-reads_one c (Err (faults.Trailing at)) is_c h = absurd (spelling_none c _ is_c.limits is_c.words h)
-reads_one c (Err (faults.Limit at)) is_c h = absurd (spelling_none c _ is_c.limits is_c.words h)
+reads_one c (Err fault) is_c h = absurd (spelling_none c fault is_c.limits is_c.words h)

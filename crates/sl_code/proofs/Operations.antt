@@ -2,24 +2,18 @@
 use Rattle.std.proofs.Common.{◌≡◌, ℕ, zero, suc, ◌<◌, ◌≤◌, Bool, false, List, [], ◌∷◌, ◌++◌, append-nil, None, Result, ◌⊎◌, inl, inr, refl, sym, subst, ◌∙◌, arith, lit≤}
 use Rattle.std.specs.Result.{IfErr}
 use Rattle.std.proofs.lemmas.Result.{IfErr-weaker}
-use Rattle.sl_ratio.specs.declared.method.Divisor.TheVariants as divisors
 use Rattle.sl_code.specs.declared.fault.Cause.TheVariants as causes
 use Rattle.sl_code.specs.declared.fault.Stop.{Stop}
 use Rattle.sl_code.specs.declared.instr.Instr.{Instr}
-use Rattle.sl_code.specs.declared.instr.Instr.TheVariants.{Set, Mov, Add, Sub, Mul, Div, Rem, Max, Jmp, Jz, Jlt, Jnl, Get, Store, Zero, Input, House, Wparty, Fparty, Nparty, Fland, Nland, Fwin, Nwin, Table, Prio, Rest, Peers, Lot, Takelot, Emit, Given, Fault, Tie, Halt, At, Haltv, Weigh}
+use Rattle.sl_code.specs.declared.instr.Instr.TheVariants.{Set, Mov, Add, Sub, Mul, Div, Rem, Max, Jmp, Jz, Jnl, Get, Store, Zero, House, Wparty, Fparty, Nparty, Fland, Nland, Fwin, Nwin, Rest, Peers, Lot, Takelot, Given, Tie, Halt, Haltv}
 use Rattle.sl_code.specs.declared.kinds.Kinds.{Kinds}
-use Rattle.sl_code.specs.declared.operand.EndFault.TheVariants as faults
-use Rattle.sl_code.specs.declared.operand.Entries.TheVariants as entries
-use Rattle.sl_code.specs.declared.operand.Input.TheVariants as inputs
-use Rattle.sl_code.specs.declared.operand.Ranking.TheVariants as rankings
-use Rattle.sl_code.specs.declared.operand.Rounding.TheVariants as roundings
 use Rattle.sl_code.specs.declared.operand.ScopeKind.TheVariants as scopes
 use Rattle.sl_code.specs.Rows.{opcode_of}
-use Rattle.sl_code.specs.Operands.{is_any, is_below, is_scope, is_entries, is_ranking, is_input, is_method, is_rounding, is_end_fault}
+use Rattle.sl_code.specs.Operands.{is_any, is_scope}
 use Rattle.sl_code.specs.Faults.{FailsTests, FailsInstr, meaningless, in_operands, IsOperation, instr_tests, stop_at}
 use Rattle.sl_code.specs.Reading.{FailsAhead}
 
-nothing : Kinds
+pub nothing : Kinds
 nothing = record { positive = record { mask = 0 }; cursors = record { party = false; land = false; win = false }; table = None }
 
 -- an instruction of that operation, whose operands have these tests
@@ -39,36 +33,9 @@ like_fails op tests old here r l old_is =
     }))
 
 -- an operation that is known
-one_fails : (i : Instr) (op : ℕ) (old here : List ℕ) (r : Result Instr Stop) → op ≡ opcode_of i → old ≡ op ∷ here → IfErr r (FailsAhead (instr_tests i) here) → IfErr r (FailsInstr old)
+pub one_fails : (i : Instr) (op : ℕ) (old here : List ℕ) (r : Result Instr Stop) → op ≡ opcode_of i → old ≡ op ∷ here → IfErr r (FailsAhead (instr_tests i) here) → IfErr r (FailsInstr old)
 one_fails i op old here r is old_is failing =
     like_fails op (instr_tests i) old here r (record { like = i; operation = sym is; same = refl }) old_is failing
-
-pub set_fails : (op : ℕ) (old here : List ℕ) (r : Result Instr Stop) → op ≡ 1 → old ≡ op ∷ here → IfErr r (FailsAhead (is_any ∷ is_any ∷ is_any ∷ is_any ∷ is_any ∷ is_any ∷ is_any ∷ is_any ∷ is_any ∷ []) here) → IfErr r (FailsInstr old)
-set_fails = one_fails (Set 0 0)
-
-pub less_fails : (op : ℕ) (old here : List ℕ) (r : Result Instr Stop) → op ≡ 11 → old ≡ op ∷ here → IfErr r (FailsAhead (is_any ∷ is_any ∷ is_any ∷ is_any ∷ is_any ∷ is_any ∷ []) here) → IfErr r (FailsInstr old)
-less_fails = one_fails (Jlt 0 0 0)
-
-pub input_fails : (op : ℕ) (old here : List ℕ) (r : Result Instr Stop) → op ≡ 16 → old ≡ op ∷ here → IfErr r (FailsAhead (is_any ∷ is_input ∷ []) here) → IfErr r (FailsInstr old)
-input_fails = one_fails (Input 0 inputs.Valid)
-
-pub table_fails : (op : ℕ) (old here : List ℕ) (r : Result Instr Stop) → op ≡ 26 → old ≡ op ∷ here → IfErr r (FailsAhead (is_entries ∷ is_ranking ∷ []) here) → IfErr r (FailsInstr old)
-table_fails = one_fails (Table entries.Party rankings.Quotients)
-
-pub prio_fails : (op : ℕ) (old here : List ℕ) (r : Result Instr Stop) → op ≡ 27 → old ≡ op ∷ here → IfErr r (FailsAhead (is_method ∷ is_any ∷ is_any ∷ []) here) → IfErr r (FailsInstr old)
-prio_fails = one_fails (Prio divisors.Adams 0 0)
-
-pub emit_fails : (op : ℕ) (old here : List ℕ) (r : Result Instr Stop) → op ≡ 35 → old ≡ op ∷ here → IfErr r (FailsAhead (is_any ∷ is_scope ∷ is_any ∷ is_any ∷ []) here) → IfErr r (FailsInstr old)
-emit_fails = one_fails (Emit 0 scopes.All 0 0)
-
-pub fault_fails : (op : ℕ) (old here : List ℕ) (r : Result Instr Stop) → op ≡ 37 → old ≡ op ∷ here → IfErr r (FailsAhead (is_any ∷ is_scope ∷ is_end_fault ∷ []) here) → IfErr r (FailsInstr old)
-fault_fails = one_fails (Fault 0 scopes.All faults.Limit)
-
-pub at_fails : (op : ℕ) (old here : List ℕ) (r : Result Instr Stop) → op ≡ 42 → old ≡ op ∷ here → IfErr r (FailsAhead (is_any ∷ is_any ∷ is_below 8 ∷ is_below 17 ∷ []) here) → IfErr r (FailsInstr old)
-at_fails = one_fails (At nothing)
-
-pub weigh_fails : (op : ℕ) (old here : List ℕ) (r : Result Instr Stop) → op ≡ 44 → old ≡ op ∷ here → IfErr r (FailsAhead (is_any ∷ is_scope ∷ is_rounding ∷ is_any ∷ []) here) → IfErr r (FailsInstr old)
-weigh_fails = one_fails (Weigh 0 scopes.All roundings.Adams 0)
 
 binary_like : (op : ℕ) → 2 ≤ op → op ≤ 8 → Like op (is_any ∷ is_any ∷ [])
 binary_like (suc (suc zero)) low high = record { like = Mov 0 0; operation = refl; same = refl }

@@ -70,22 +70,3 @@ module _ (c : CountingCode) where
     where
       suc_is : (n : ℕ) → suc n ≡ n + 1
       suc_is n = omega arith
-
--- ---- more code
-
--- more instructions after those of a code change nothing, and more before them move them on
-pub stand_with_more : (c d : CountingCode) (at : ℕ) (is more : List Instr) → d.instrs ≡ c.instrs ++ more → HasAt c at is → HasAt d at is
-stand_with_more c d at is more e h = record {
-  before = h.before;
-  after = h.after ++ more;
-  placed = h.placed;
-  whole = e ∙ ap (λ xs. xs ++ more) h.whole ∙ append_assoc h.before (is ++ h.after) more ∙ ap (λ xs. h.before ++ xs) (append_assoc is h.after more);
-}
-
-pub stand_behind_more : (c d : CountingCode) (at : ℕ) (is more : List Instr) → d.instrs ≡ more ++ c.instrs → HasAt c at is → HasAt d (length more + at) is
-stand_behind_more c d at is more e h = record {
-  before = more ++ h.before;
-  after = h.after;
-  placed = omega (arith, length-append more h.before, h.placed);
-  whole = e ∙ ap (λ xs. more ++ xs) h.whole ∙ sym (append_assoc more h.before (is ++ h.after));
-}

@@ -118,7 +118,7 @@ table_back (Some s) = state_back s.entries s.ranking s.ready
 abbrev at : List ℕ → ℕ → ℕ
 at values k = get_or values k 0
 
-builders : List (List ℕ → Instr)
+unfoldable pub builders : List (List ℕ → Instr)
 builders =
     (λ v. Wland)
     ∷ (λ v. Set (at v 0) (at v 1))
@@ -167,7 +167,7 @@ builders =
     ∷ (λ v. Weigh (at v 0) (scope_at (at v 1)) (rounding_at (at v 2)) (at v 3))
     ∷ []
 
-instr_at : ℕ → List ℕ → Instr
+unfoldable pub instr_at : ℕ → List ℕ → Instr
 instr_at op = get_or builders op (λ v. Wland)
 
 instr_back : (i : Instr) → instr_at (opcode_of i) (map value_of (operands_of i)) ≡ i
