@@ -16,9 +16,6 @@ use Rattle.sl_prio.proofs.Subtrees.{subtree_permutation}
 
 -- ---- marks
 
-pub own_marks : (marks : List Bool) → AreMarks (λ index. get_or marks index false) marks
-own_marks marks = λ index d l. get_or_default marks index d false l
-
 pub has_own : (xs : List Entry) (x : Entry) → Contains xs x → have_index xs x.index ≡ true
 has_own xs x c = any-at (λ y. nat_eq y.index x.index) xs x c (eq-eqb x.index x.index refl)
 
