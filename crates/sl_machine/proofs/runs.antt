@@ -1,7 +1,6 @@
 -- Steps and runs: one step, pieces of runs, and what a step of the program leads to.
 pub mod Stepping
 pub mod Coming
-pub mod Reading
 pub mod Dropping
 pub mod Unrecorded
 pub mod Ahead

@@ -1,7 +1,6 @@
 -- What an instruction cannot write stays.
-use Rattle.std.proofs.Common.{◌≡◌, ℕ, zero, suc, ◌+◌, Bool, true, false, ◌==◌, ◌&&◌, nat_lt, min, List, [], ◌∷◌, length, Option, Some, None, slice_get, if◌then◌else◌, refl, sym, ap, ◌∙◌, append-nil}
+use Rattle.std.proofs.Common.{◌≡◌, ℕ, zero, suc, ◌+◌, Bool, true, false, ◌==◌, ◌&&◌, nat_lt, min, List, length, Option, Some, None, slice_get, if◌then◌else◌, refl, ap, ◌∙◌, rules, append-nil}
 use Rattle.std.specs.Option.{option_and_then}
-use Rattle.std.proofs.lemmas.Bool.{true≢false}
 use Rattle.sl_ratio.specs.declared.entry.Entry.{Entry}
 use Rattle.sl_ratio.specs.declared.limits.TheConstants.{MAX_WEIGHT, MAX_SEATS}
 use Rattle.sl_ratio.specs.Quotient.{Quotient, quotient}
@@ -33,240 +32,43 @@ use Rattle.sl_machine.specs.Frames.{writes_register, writes_cell, is_at, moves_p
 -- ---- states that differ in one part
 module _ (c : CountingCode) (e : Election) (i : Instr) (s : State) where
   pub keeps_all : KeepsOthers c e i s s
-  keeps_all = record {
-    registers = λ q h. refl;
-    columns = λ k p h. refl;
-    party = λ h. refl;
-    land = λ h. refl;
-    win = λ h. refl;
-    table = λ h. refl;
-    mark = λ h. refl;
-    placed = λ w h. refl;
-    steps = ([], sym (append-nil s.steps));
-    weights = ([], sym (append-nil s.weights));
-    steps_kept = λ h. refl;
-    weights_kept = λ h. refl;
-  }
+  keeps_all = search (rules, append-nil)
 
   keeps_register : (r value : ℕ) → ((q : ℕ) → writes_register i q ≡ (q == r)) → KeepsOthers c e i s (with_register r value s)
-  keeps_register r value is = record {
-    registers = λ q h. ap (λ (b : Bool). if b then value else s.registers q) (sym (is q) ∙ h);
-    columns = λ k p h. refl;
-    party = λ h. refl;
-    land = λ h. refl;
-    win = λ h. refl;
-    table = λ h. refl;
-    mark = λ h. refl;
-    placed = λ w h. refl;
-    steps = ([], sym (append-nil s.steps));
-    weights = ([], sym (append-nil s.weights));
-    steps_kept = λ h. refl;
-    weights_kept = λ h. refl;
-  }
+  keeps_register r value is = search (rules, append-nil, is)
 
   keeps_cell : (k p value : ℕ) → ((slot place : ℕ) → writes_cell c e s i slot place ≡ ((slot == k) && (place == p))) → KeepsOthers c e i s (with_cell k p value s)
-  keeps_cell k p value is = record {
-    registers = λ q h. refl;
-    columns = λ slot place h. ap (λ (b : Bool). if b then value else s.columns slot place) (sym (is slot place) ∙ h);
-    party = λ h. refl;
-    land = λ h. refl;
-    win = λ h. refl;
-    table = λ h. refl;
-    mark = λ h. refl;
-    placed = λ w h. refl;
-    steps = ([], sym (append-nil s.steps));
-    weights = ([], sym (append-nil s.weights));
-    steps_kept = λ h. refl;
-    weights_kept = λ h. refl;
-  }
+  keeps_cell k p value is = search (rules, append-nil, is)
 
   keeps_column : (k : ℕ) (f : ℕ → ℕ) → ((slot place : ℕ) → writes_cell c e s i slot place ≡ (slot == k)) → KeepsOthers c e i s (with_column k f s)
-  keeps_column k f is = record {
-    registers = λ q h. refl;
-    columns = λ slot place h. ap (λ (b : Bool). (if b then f else s.columns slot) place) (sym (is slot place) ∙ h);
-    party = λ h. refl;
-    land = λ h. refl;
-    win = λ h. refl;
-    table = λ h. refl;
-    mark = λ h. refl;
-    placed = λ w h. refl;
-    steps = ([], sym (append-nil s.steps));
-    weights = ([], sym (append-nil s.weights));
-    steps_kept = λ h. refl;
-    weights_kept = λ h. refl;
-  }
+  keeps_column k f is = search (rules, append-nil, is)
 
   keeps_party : (o : Option ℕ) → moves_party i ≡ true → KeepsOthers c e i s (with_party o s)
-  keeps_party o moves = record {
-    registers = λ q h. refl;
-    columns = λ k p h. refl;
-    party = λ h. absurd (true≢false (sym moves ∙ h));
-    land = λ h. refl;
-    win = λ h. refl;
-    table = λ h. refl;
-    mark = λ h. refl;
-    placed = λ w h. refl;
-    steps = ([], sym (append-nil s.steps));
-    weights = ([], sym (append-nil s.weights));
-    steps_kept = λ h. refl;
-    weights_kept = λ h. refl;
-  }
+  keeps_party o moves = search (rules, append-nil)
 
   keeps_land : (o : Option ℕ) → moves_land i ≡ true → KeepsOthers c e i s (with_land o s)
-  keeps_land o moves = record {
-    registers = λ q h. refl;
-    columns = λ k p h. refl;
-    party = λ h. refl;
-    land = λ h. absurd (true≢false (sym moves ∙ h));
-    win = λ h. refl;
-    table = λ h. refl;
-    mark = λ h. refl;
-    placed = λ w h. refl;
-    steps = ([], sym (append-nil s.steps));
-    weights = ([], sym (append-nil s.weights));
-    steps_kept = λ h. refl;
-    weights_kept = λ h. refl;
-  }
+  keeps_land o moves = search (rules, append-nil)
 
   keeps_win : (o : Option ℕ) → moves_win i ≡ true → KeepsOthers c e i s (with_win o s)
-  keeps_win o moves = record {
-    registers = λ q h. refl;
-    columns = λ k p h. refl;
-    party = λ h. refl;
-    land = λ h. refl;
-    win = λ h. absurd (true≢false (sym moves ∙ h));
-    table = λ h. refl;
-    mark = λ h. refl;
-    placed = λ w h. refl;
-    steps = ([], sym (append-nil s.steps));
-    weights = ([], sym (append-nil s.weights));
-    steps_kept = λ h. refl;
-    weights_kept = λ h. refl;
-  }
+  keeps_win o moves = search (rules, append-nil)
 
   keeps_table : (t : PriorityTable) → writes_table i ≡ true → KeepsOthers c e i s (with_table t s)
-  keeps_table t writes = record {
-    registers = λ q h. refl;
-    columns = λ k p h. refl;
-    party = λ h. refl;
-    land = λ h. refl;
-    win = λ h. refl;
-    table = λ h. absurd (true≢false (sym writes ∙ h));
-    mark = λ h. refl;
-    placed = λ w h. refl;
-    steps = ([], sym (append-nil s.steps));
-    weights = ([], sym (append-nil s.weights));
-    steps_kept = λ h. refl;
-    weights_kept = λ h. refl;
-  }
+  keeps_table t writes = search (rules, append-nil)
 
   keeps_placed : (w : ℕ) (where_to : Placed) → ((v : ℕ) → writes_place s i v ≡ (v == w)) → KeepsOthers c e i s (with_place w where_to s)
-  keeps_placed w where_to is = record {
-    registers = λ q h. refl;
-    columns = λ k p h. refl;
-    party = λ h. refl;
-    land = λ h. refl;
-    win = λ h. refl;
-    table = λ h. refl;
-    mark = λ h. refl;
-    placed = λ v h. ap (λ (b : Bool). if b then where_to else s.placed v) (sym (is v) ∙ h);
-    steps = ([], sym (append-nil s.steps));
-    weights = ([], sym (append-nil s.weights));
-    steps_kept = λ h. refl;
-    weights_kept = λ h. refl;
-  }
+  keeps_placed w where_to is = search (rules, append-nil, is)
 
   keeps_step : (x : SeatStep) → records_step i ≡ true → KeepsOthers c e i s (with_step x s)
-  keeps_step x adds = record {
-    registers = λ q h. refl;
-    columns = λ k p h. refl;
-    party = λ h. refl;
-    land = λ h. refl;
-    win = λ h. refl;
-    table = λ h. refl;
-    mark = λ h. refl;
-    placed = λ w h. refl;
-    steps = (x ∷ [], refl);
-    weights = ([], sym (append-nil s.weights));
-    steps_kept = λ h. absurd (true≢false (sym adds ∙ h));
-    weights_kept = λ h. refl;
-  }
+  keeps_step x adds = search (rules, append-nil)
 
   keeps_weight : (x : Weight) → records_weight i ≡ true → KeepsOthers c e i s (with_weight x s)
-  keeps_weight x adds = record {
-    registers = λ q h. refl;
-    columns = λ k p h. refl;
-    party = λ h. refl;
-    land = λ h. refl;
-    win = λ h. refl;
-    table = λ h. refl;
-    mark = λ h. refl;
-    placed = λ w h. refl;
-    steps = ([], sym (append-nil s.steps));
-    weights = (x ∷ [], refl);
-    steps_kept = λ h. refl;
-    weights_kept = λ h. absurd (true≢false (sym adds ∙ h));
-  }
+  keeps_weight x adds = search (rules, append-nil)
 
   -- an entry is taken: cursors, table and mark change
   keeps_taken : (k : Entries) (index : ℕ) (table : Option PriorityTable) (m : Mark) → moves_party i ≡ true → moves_land i ≡ true → moves_win i ≡ true → writes_table i ≡ true → writes_mark i ≡ true
       → KeepsOthers c e i s (at_entry e k index (record s { table = table; mark = m }))
-  keeps_taken entries.Party index table m p l w t marks = record {
-    registers = λ q h. refl;
-    columns = λ k p h. refl;
-    party = λ h. absurd (true≢false (sym p ∙ h));
-    land = λ h. absurd (true≢false (sym l ∙ h));
-    win = λ h. absurd (true≢false (sym w ∙ h));
-    table = λ h. absurd (true≢false (sym t ∙ h));
-    mark = λ h. absurd (true≢false (sym marks ∙ h));
-    placed = λ w h. refl;
-    steps = ([], sym (append-nil s.steps));
-    weights = ([], sym (append-nil s.weights));
-    steps_kept = λ h. refl;
-    weights_kept = λ h. refl;
-  }
-  keeps_taken entries.Land index table m p l w t marks = record {
-    registers = λ q h. refl;
-    columns = λ k p h. refl;
-    party = λ h. absurd (true≢false (sym p ∙ h));
-    land = λ h. absurd (true≢false (sym l ∙ h));
-    win = λ h. absurd (true≢false (sym w ∙ h));
-    table = λ h. absurd (true≢false (sym t ∙ h));
-    mark = λ h. absurd (true≢false (sym marks ∙ h));
-    placed = λ w h. refl;
-    steps = ([], sym (append-nil s.steps));
-    weights = ([], sym (append-nil s.weights));
-    steps_kept = λ h. refl;
-    weights_kept = λ h. refl;
-  }
-  keeps_taken entries.List index table m p l w t marks = record {
-    registers = λ q h. refl;
-    columns = λ k p h. refl;
-    party = λ h. absurd (true≢false (sym p ∙ h));
-    land = λ h. absurd (true≢false (sym l ∙ h));
-    win = λ h. absurd (true≢false (sym w ∙ h));
-    table = λ h. absurd (true≢false (sym t ∙ h));
-    mark = λ h. absurd (true≢false (sym marks ∙ h));
-    placed = λ w h. refl;
-    steps = ([], sym (append-nil s.steps));
-    weights = ([], sym (append-nil s.weights));
-    steps_kept = λ h. refl;
-    weights_kept = λ h. refl;
-  }
-  keeps_taken entries.Win index table m p l w t marks = record {
-    registers = λ q h. refl;
-    columns = λ k p h. refl;
-    party = λ h. absurd (true≢false (sym p ∙ h));
-    land = λ h. absurd (true≢false (sym l ∙ h));
-    win = λ h. absurd (true≢false (sym w ∙ h));
-    table = λ h. absurd (true≢false (sym t ∙ h));
-    mark = λ h. absurd (true≢false (sym marks ∙ h));
-    placed = λ w h. refl;
-    steps = ([], sym (append-nil s.steps));
-    weights = ([], sym (append-nil s.weights));
-    steps_kept = λ h. refl;
-    weights_kept = λ h. refl;
-  }
+  keeps_taken entries.Party index table m p l w t marks = search (rules, append-nil)
+  keeps_taken k index table m p l w t marks = search (rules, append-nil)
 
 -- ---- the forms of effects
 module _ (c : CountingCode) (e : Election) (s : State) (i : Instr) where

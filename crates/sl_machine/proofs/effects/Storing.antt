@@ -1,18 +1,15 @@
 -- Registers, cells and columns that were written, as they are read again.
-use Rattle.std.proofs.Common.{◌≡◌, ◌≢◌, ℕ, ◌<◌, Bool, List, length, map, get_or, set, Some, if◌then◌else◌, refl, sym, ap, ◌∙◌, inl, inr, arith, eq-eqb, ne_eqb}
+use Rattle.std.proofs.Common.{◌≡◌, ◌≢◌, ℕ, ◌<◌, Bool, List, length, map, get_or, set, if◌then◌else◌, refl, sym, ap, ◌∙◌, inl, inr, arith, eq-eqb, ne_eqb}
 use Rattle.std.specs.List.{range_with_len}
 use Rattle.std.proofs.lemmas.Bool.{cases_eq}
 use Rattle.std.proofs.lemmas.Grind.{get_or-set_at}
 use Rattle.std.proofs.lemmas.List.{length-set, get_or-set_other}
-use Rattle.std.proofs.lemmas.Nat.{div-add-mod'}
 use Rattle.std.proofs.lemmas.List.FromFn.{fill_by_all, length-map-range_with_len, get_or-map-range_with_len}
 use Rattle.sl_stages.specs.declared.book.Shape.TheVariants as shape
-use Rattle.sl_stages.specs.returns.Election.{Election, parties_of}
-use Rattle.sl_code.specs.declared.operand.Entries.{Entries}
-use Rattle.sl_code.specs.declared.operand.Entries.TheVariants as entries
+use Rattle.sl_stages.specs.returns.Election.{Election}
 use Rattle.sl_code.specs.Codes.{CountingCode}
 use Rattle.sl_machine.specs.State.{State, with_register, with_column, with_cell}
-use Rattle.sl_machine.specs.Places.{cells_of, index_at, at_entry}
+use Rattle.sl_machine.specs.Places.{cells_of}
 use Rattle.sl_machine.specs.Memories.{column_of}
 
 module _ (s : State) where
@@ -38,11 +35,6 @@ module _ (s : State) where
 
   pub column_other : (k : ℕ) (f : ℕ → ℕ) (j : ℕ) → j ≢ k → (with_column k f s).columns j ≡ s.columns j
   column_other k f j other = ap (λ (b : Bool). if b then f else s.columns j) (ne_eqb j k other)
-
--- the entry of which the cursors are is the one at the cursors
-pub entry_again : (e : Election) (k : Entries) (index : ℕ) (s : State) → index_at e k (at_entry e k index s) ≡ Some index
-entry_again e entries.List index s = ap (λ (n : ℕ). Some n) (div-add-mod' index (parties_of e))
-entry_again e k index s = refl
 
 -- ---- a slot's column as the list of its cells
 module _ (c : CountingCode) (e : Election) where

@@ -21,18 +21,18 @@ module _ (c : CountingCode) where
   from_place_ahead p within = ap (λ (q : ℕ). drop q c.instrs) (sym (from_place p within))
 
   -- ---- what is ahead
-  module _ (ahead : List Instr) (are : AreAhead c ahead) where
+  module _ {ahead : List Instr} (are : AreAhead c ahead) where
     pub first_is : slice_get ahead 0 ≡ slice_get c.instrs (place_of c ahead)
     first_is = ap (λ (xs : List Instr). slice_get xs 0) are ∙ first_from c.instrs (place_of c ahead)
 
-    pub stands : (i : Instr) → slice_get ahead 0 ≡ Some i → slice_get c.instrs (place_of c ahead) ≡ Some i
-    stands i first = sym first_is ∙ first
+    pub stands : {i : Instr} → slice_get ahead 0 ≡ Some i → slice_get c.instrs (place_of c ahead) ≡ Some i
+    stands first = sym first_is ∙ first
 
     counted : length ahead ≡ length c.instrs - place_of c ahead
     counted = ap length are ∙ length-drop (place_of c ahead) c.instrs
 
-    pub some_ahead : (i : Instr) → slice_get c.instrs (place_of c ahead) ≡ Some i → 0 < length ahead
-    some_ahead i at = omega (arith, slice_get_within c.instrs (place_of c ahead) i at, counted)
+    pub some_ahead : {i : Instr} → slice_get c.instrs (place_of c ahead) ≡ Some i → 0 < length ahead
+    some_ahead {i} at = omega (arith, slice_get_within c.instrs (place_of c ahead) i at, counted)
 
     rest_is : drop 1 ahead ≡ drop (place_of c ahead + 1) c.instrs
     rest_is = ap (drop 1) are ∙ drop-drop 1 (place_of c ahead) c.instrs

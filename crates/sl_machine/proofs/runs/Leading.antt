@@ -34,7 +34,7 @@ no_record k (op.Halt slot) x ends = refl
 no_record k (op.Haltv slot vacant) x ends = refl
 no_record k _ x ends = absurd (true≢false (sym ends))
 
-module _ (c : CountingCode) (e : Election) (p : ℕ) (s : State) (safe : IsSafe c e p s) (i : Instr) (at : slice_get c.instrs p ≡ Some i) where
+module _ {c : CountingCode} {e : Election} {p : ℕ} {s : State} (safe : IsSafe c e p s) {i : Instr} (at : slice_get c.instrs p ≡ Some i) where
   next : StepsSafely c e p s
   next = safe_steps c e p s safe
 
@@ -86,14 +86,14 @@ module _ (c : CountingCode) (e : Election) (p : ℕ) (s : State) (safe : IsSafe 
     runs_on : (x : Effect) → x ≡ left_by k i (effect c e i s) → (n : ℕ) → ending_by k (run c e (suc n) p s) ≡ ending_by k (after_step (follow p (target_of i) x) (run c e n))
     runs_on x h n = first n ∙ goes_by c e k n p (target_of i) (effect c e i s) ∙ ap (λ (y : Effect). ending_by k (after_step (follow p (target_of i) y) (run c e n))) (sym (left x h))
 
-    pub goes_on : (t : State) → Goes t ≡ left_by k i (effect c e i s) → LeadsTo k c e p s (p + 1) t
-    goes_on t h = let there = is_good (Goes t) h in (there.0, there.1, runs_on (Goes t) h)
+    pub goes_on : {t : State} → Goes t ≡ left_by k i (effect c e i s) → LeadsTo k c e p s (p + 1) t
+    goes_on {t} h = let there = is_good (Goes t) h in (there.0, there.1, runs_on (Goes t) h)
 
-    pub has_target : (t : State) → Jumps t ≡ left_by k i (effect c e i s) → IsSome (target_of i)
-    has_target t h = ap is_some (is_good (Jumps t) h).0.target
+    pub has_target : {t : State} → Jumps t ≡ left_by k i (effect c e i s) → IsSome (target_of i)
+    has_target {t} h = ap is_some (is_good (Jumps t) h).0.target
 
-    pub jumps_to : (t : State) (q : ℕ) → Jumps t ≡ left_by k i (effect c e i s) → target_of i ≡ Some q → LeadsTo k c e p s q t
-    jumps_to t q h target =
+    pub jumps_to : {t : State} {q : ℕ} → Jumps t ≡ left_by k i (effect c e i s) → target_of i ≡ Some q → LeadsTo k c e p s q t
+    jumps_to {t} {q} h target =
         let there = is_good (Jumps t) h in
         let place : there.0.place ≡ q = same_Some there.0.place q (sym there.0.target ∙ target) in
         (subst (λ (r : ℕ). IsSafe c e r t) place there.0.safe, there.1, λ n. runs_on (Jumps t) h n ∙ ap (λ (o : Option ℕ). ending_by k (after_step (to_target o t) (run c e n))) target)

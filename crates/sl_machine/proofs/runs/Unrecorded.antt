@@ -11,7 +11,7 @@ use Rattle.sl_machine.specs.State.{State, End, Halted, Faulted, start}
 use Rattle.sl_machine.specs.Agrees.{IsSafe}
 use Rattle.sl_machine.specs.Effects.{Effect, Goes, Jumps, Ends, NoCase, effect}
 use Rattle.sl_machine.specs.Fits.{FitsEnd, FitsRecords, FitsStep, FitsWeight}
-use Rattle.sl_machine.specs.Runs.{Ending, Ended, OutOfBudget, Stuck, follow, after_step, step_of, run}
+use Rattle.sl_machine.specs.Runs.{Ending, Ended, Stuck, follow, after_step, step_of, run}
 use Rattle.sl_machine.specs.Unrecorded.{unrecorded, unrecorded_end, without_records}
 use Rattle.sl_machine.specs.Frames.{records_step, records_weight}
 use Rattle.sl_machine.specs.inner.Recording.{unrecorded_effect, state_by, effect_by, ending_by, left_by}
@@ -21,10 +21,6 @@ use Rattle.sl_machine.proofs.runs.Dropping.{drops}
 pub start_by : (k : Records) → state_by k start ≡ start
 start_by records.Kept = refl
 start_by records.Dropped = refl
-
-pub out_by : (k : Records) → ending_by k OutOfBudget ≡ OutOfBudget
-out_by records.Kept = refl
-out_by records.Dropped = refl
 
 twice_end : (x : End) → unrecorded_end x ≡ unrecorded_end (unrecorded_end x)
 twice_end (Halted base vacant s) = refl

@@ -1,5 +1,5 @@
 -- States that keep what is known of them: where a part of the state changes, and the same part of the kinds.
-use Rattle.std.proofs.Common.{◌≡◌, ℕ, zero, suc, ◌<◌, Bool, true, false, not, ◌&&◌, ◌||◌, if◌then◌else◌, arith, List, [], ◌∷◌, length, slice_get, Option, Some, None, IsTrue, IsSome, IsSomeAnd, All, refl, subst, ◌∙◌}
+use Rattle.std.proofs.Common.{◌≡◌, ℕ, zero, suc, ◌<◌, Bool, true, false, not, ◌&&◌, ◌||◌, if◌then◌else◌, arith, List, [], ◌∷◌, length, slice_get, Option, Some, None, IsTrue, IsSome, IsSomeAnd, All, refl, subst, ◌∙◌, rules}
 use Rattle.std.specs.Bool.{⊤}
 use Rattle.std.specs.Option.{ForSome, option_map_or}
 use Rattle.std.proofs.lemmas.Bool.{and_parts}
@@ -45,63 +45,37 @@ Follows e k i NoCase = ⊥
 
 module _ (e : Election) (k : Kinds) (s : State) (h : Keeps e k s) where
   pub keeps_registers : (set : Registers) (registers : ℕ → ℕ) → ArePositive set registers → Keeps e (record k { positive = set }) (record s { registers = registers })
-  keeps_registers set registers all = record {
-    agrees = record { positive = all; cursors = h.agrees.cursors; table = h.agrees.table };
-    range = record { party = h.range.party; land = h.range.land; win = h.range.win; table = h.range.table };
-  }
+  keeps_registers set registers all = search rules
 
   pub keeps_records : (columns : ℕ → ℕ → ℕ) (mark : Mark) (steps : List SeatStep) (weights : List Weight) (placed : ℕ → Placed)
       → Keeps e k (record s { columns = columns; mark = mark; steps = steps; weights = weights; placed = placed })
-  keeps_records columns mark steps weights placed = record {
-    agrees = record { positive = h.agrees.positive; cursors = h.agrees.cursors; table = h.agrees.table };
-    range = record { party = h.range.party; land = h.range.land; win = h.range.win; table = h.range.table };
-  }
+  keeps_records columns mark steps weights placed = search rules
 
   pub keeps_cursors : (set : Cursors) (party land win : Option ℕ) → AreSet set party land win
       → ForSome party (λ p. p < parties_of e) → ForSome land (λ l. l < lands_of e) → ForSome win (λ w. w < wins_of e) → Keeps e (record k { cursors = set }) (record s { party = party; land = land; win = win })
-  keeps_cursors set party land win all below_party below_land below_win = record {
-    agrees = record { positive = h.agrees.positive; cursors = all; table = h.agrees.table };
-    range = record { party = below_party; land = below_land; win = below_win; table = h.range.table };
-  }
+  keeps_cursors set party land win all below_party below_land below_win = search rules
 
   pub keeps_known : (known : Option TableState) → HasTable known s.table → Keeps e (record k { table = known }) s
-  keeps_known known is = record {
-    agrees = record { positive = h.agrees.positive; cursors = h.agrees.cursors; table = is };
-    range = h.range;
-  }
+  keeps_known known is = search rules
 
   pub keeps_party : (b : Bool) (party : Option ℕ) → (IsTrue b → IsSome party) → ForSome party (λ p. p < parties_of e)
       → Keeps e (record k { cursors = with_party b k.cursors }) (record s { party = party })
-  keeps_party b party known below = record {
-    agrees = record { positive = h.agrees.positive; cursors = record { party = known; land = h.agrees.cursors.land; win = h.agrees.cursors.win }; table = h.agrees.table };
-    range = record { party = below; land = h.range.land; win = h.range.win; table = h.range.table };
-  }
+  keeps_party b party known below = search rules
 
   pub keeps_land : (b : Bool) (land : Option ℕ) → (IsTrue b → IsSome land) → ForSome land (λ l. l < lands_of e)
       → Keeps e (record k { cursors = with_land b k.cursors }) (record s { land = land })
-  keeps_land b land known below = record {
-    agrees = record { positive = h.agrees.positive; cursors = record { party = h.agrees.cursors.party; land = known; win = h.agrees.cursors.win }; table = h.agrees.table };
-    range = record { party = h.range.party; land = below; win = h.range.win; table = h.range.table };
-  }
+  keeps_land b land known below = search rules
 
   pub keeps_win : (b : Bool) (win : Option ℕ) → (IsTrue b → IsSome win) → ForSome win (λ w. w < wins_of e)
       → Keeps e (record k { cursors = with_win b k.cursors }) (record s { win = win })
-  keeps_win b win known below = record {
-    agrees = record { positive = h.agrees.positive; cursors = record { party = h.agrees.cursors.party; land = h.agrees.cursors.land; win = known }; table = h.agrees.table };
-    range = record { party = h.range.party; land = h.range.land; win = below; table = h.range.table };
-  }
+  keeps_win b win known below = search rules
 
   pub keeps_table : (known : TableState) (t : PriorityTable) → IsTable known t → All (λ x. x.index < entries_in e t.entries) t.contents
       → Keeps e (record k { table = Some known }) (record s { table = Some t })
-  keeps_table known t is below = record {
-    agrees = record { positive = h.agrees.positive; cursors = h.agrees.cursors; table = is };
-    range = record {
-      party = h.range.party;
-      land = h.range.land;
-      win = h.range.win;
-      table = λ u same. subst (λ (v : PriorityTable). All (λ x. x.index < entries_in e v.entries) v.contents) (same_Some t u same) below;
-    };
-  }
+  keeps_table known t is below =
+      let entries : ForSome (Some t) (λ u. All (λ x. x.index < entries_in e u.entries) u.contents) =
+      λ u same. subst (λ (v : PriorityTable). All (λ x. x.index < entries_in e v.entries) v.contents) (same_Some t u same) below in
+      search rules
 
 -- ---- kinds that are implied
 pub same_entries-is : (a b : Entries) → IsTrue (same_entries a b) → a ≡ b

@@ -1,8 +1,9 @@
 -- Columns of cells, and what a write changes.
-use Rattle.std.proofs.Common.{◌≡◌, ℕ, ◌<◌, Bool, true, false, ◌==◌, ◌&&◌, List, [], length, map, get_or, set, Option, Some, None, if◌then◌else◌, refl, sym, ap, ◌∙◌, arith}
+use Rattle.std.proofs.Common.{◌≡◌, ℕ, ◌<◌, Bool, true, false, ◌==◌, ◌&&◌, List, [], length, map, get_or, slice_get, set, Option, Some, None, if◌then◌else◌, refl, sym, ap, ◌∙◌, arith}
 use Rattle.std.specs.Option.{option_and_then}
 use Rattle.std.proofs.lemmas.Grind.{common_steps}
 use Rattle.std.proofs.lemmas.List.{get_or-map, length-map, map-set, set-get_or}
+use Rattle.std.proofs.lemmas.Option.{slice_get_within, get_or_from_slice_get}
 use Rattle.sl_machine.specs.State.{State}
 use Rattle.sl_machine.specs.Effects.{Effect, given}
 
@@ -68,3 +69,21 @@ module _ {R : Type 0} (items : R → List ℕ) (rows : List R) (k : ℕ) (row : 
       ap (λ (css : List (List ℕ)). cell_in css q r) (map-set items rows k other)
       ∙ column_set (map items rows) k (items other) q r in_columns
       ∙ picked (q == k) (items other) f (cell_in (map items rows) q) r h
+
+-- the row of a slot, by the widths of all columns
+module _ {R : Type 0} (items : R → List ℕ) (rows : List R) {k slot : ℕ} {row : R} (at : k ≡ slot) (is : row ≡ get_or rows k row) where
+  row_there : slot < length (map length (map items rows)) → k < length rows
+  row_there low = omega (arith, length-map (map items rows) length, length-map rows items)
+
+  width_there : (there : k < length rows) → length (items row) ≡ get_or (map length (map items rows)) slot 0
+  width_there there = row_width items rows k row there is ∙ ap (λ (j : ℕ). get_or (map length (map items rows)) j 0) at
+
+  pub row_of_width : {n : ℕ} → slice_get (map length (map items rows)) slot ≡ Some n → (k < length rows) × (length (items row) ≡ n)
+  row_of_width {n} width =
+      let there = row_there (slice_get_within (map length (map items rows)) slot n width) in
+      (there, width_there there ∙ get_or_from_slice_get (map length (map items rows)) slot n 0 width)
+
+  pub place_in_row : {ws : List ℕ} {place : ℕ} → map length (map items rows) ≡ ws → slot < length ws → place < get_or ws slot 0 → (k < length rows) × (place < length (items row))
+  place_in_row {ws} {place} e low within =
+      let there = row_there (omega (arith, ap length e)) in
+      (there, omega (arith, width_there there, ap (λ (xs : List ℕ). get_or xs slot 0) e))

@@ -45,24 +45,18 @@ module _ (e : Election) where
 pub started : (registers : List ℕ) (css : List (List ℕ)) (table : Option PriorityTable) (mark : Mark) (steps : List SeatStep) (weights : List Weight) (seated : List Placed)
     → ((r : ℕ) → get_or registers r 0 ≡ 0) → ((k p : ℕ) → get_or (get_or css k []) p 0 ≡ 0) → table ≡ None → mark ≡ start.mark → steps ≡ [] → weights ≡ []
     → ((w : ℕ) → get_or seated w placed.Unseated ≡ placed.Unseated)
-    → ◌≡◌ {A = State} (record {
+    → ◌≡◌ {A = State} (record start {
       registers = λ r. get_or registers r 0;
       columns = λ k p. get_or (get_or css k []) p 0;
-      party = None;
-      land = None;
-      win = None;
       table = table;
       mark = mark;
       steps = steps;
       weights = weights;
       placed = λ w. get_or seated w placed.Unseated;
     }) start
-started registers css table mark steps weights seated r c t m s w p = λ i. record {
+started registers css table mark steps weights seated r c t m s w p = λ i. record start {
   registers = λ q. r q i;
   columns = λ k q. c k q i;
-  party = None;
-  land = None;
-  win = None;
   table = t i;
   mark = m i;
   steps = s i;

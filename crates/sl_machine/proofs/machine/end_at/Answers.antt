@@ -10,45 +10,25 @@ use Rattle.sl_machine.proofs.runs.Leading.{may_here, columns_here, ends_with}
 use Rattle.sl_machine.proofs.machine.end_at.Goals as goal
 
 pub next_instr-requires : goal.next_instr-requires
-next_instr-requires g c = some_ahead c.args.code.now c.args.ahead.now c.requires.ahead c.requires.safe.instr c.requires.safe.stands
+next_instr-requires g c = some_ahead c.args.code.now c.requires.ahead c.requires.safe.stands
 
 pub end-requires-clause-step : goal.end-requires-clause-step
-end-requires-clause-step g c =
-    let code = c.args.code.now in
-    let e = c.args.returns.now in
-    let s = state_of c.args.store.now in
-    let place = place_of code c.args.ahead.now in
-    let safe = c.requires.safe in
-    let i = c.next_instr.result.now in
-    let at = stands code c.args.ahead.now c.requires.ahead i c.next_instr.ensures in
-    may_here code e place s safe i at
+end-requires-clause-step g c = may_here c.requires.safe (stands c.args.code.now c.requires.ahead c.next_instr.ensures)
 
 pub end-requires-clause-columns : goal.end-requires-clause-columns
-end-requires-clause-columns g c =
-    let code = c.args.code.now in
-    let e = c.args.returns.now in
-    let s = state_of c.args.store.now in
-    let place = place_of code c.args.ahead.now in
-    let safe = c.requires.safe in
-    let i = c.next_instr.result.now in
-    let at = stands code c.args.ahead.now c.requires.ahead i c.next_instr.ensures in
-    columns_here code e place s safe i at
+end-requires-clause-columns g c = columns_here c.requires.safe (stands c.args.code.now c.requires.ahead c.next_instr.ensures)
 
 pub end-requires-clause-ends : goal.end-requires-clause-ends
-end-requires-clause-ends g c =
-    let i = c.next_instr.result.now in
-    c.requires.ends i (stands c.args.code.now c.args.ahead.now c.requires.ahead i c.next_instr.ensures)
+end-requires-clause-ends g c = c.requires.ends c.next_instr.result.now (stands c.args.code.now c.requires.ahead c.next_instr.ensures)
 
 pub returns-clause-ends : goal.returns-clause-ends
 returns-clause-ends g c =
     let code = c.args.code.now in
     let e = c.args.returns.now in
     let s = state_of c.args.store.now in
-    let place = place_of code c.args.ahead.now in
-    let safe = c.requires.safe in
     let i = c.next_instr.result.now in
-    let at = stands code c.args.ahead.now c.requires.ahead i c.next_instr.ensures in
+    let at = stands code c.requires.ahead c.next_instr.ensures in
     let k = g.R.Recording.records in
     let t = state_of c.end.new.self in
-    IfOk-weaker c.end.result (λ end. Ends (end_with end t) ≡ effect code e i s) (λ end. EndsWith k code e place s end t)
-    (λ end same. ends_with code e place s safe i at k c.requires.records end t (c.requires.ends i at) same) c.end.ensures.follows
+    IfOk-weaker c.end.result (λ end. Ends (end_with end t) ≡ effect code e i s) (λ end. EndsWith k code e (place_of code c.args.ahead.now) s end t)
+    (λ end same. ends_with c.requires.safe at k c.requires.records end t (c.requires.ends i at) same) c.end.ensures.follows
