@@ -34,7 +34,7 @@ use Rattle.sl_pieces.specs.covers.Covering.{AreChoices, AreCovered, EndsInTie}
 use Rattle.sl_pieces.specs.covers.Trees.{cover_tree}
 use Rattle.sl_pieces.proofs.covers.Covering.{coverings_achieve}
 use Rattle.sl_pieces.specs.exprs.Slots.{fact_slots, winners_slot, HasBookSlots}
-use Rattle.sl_pieces.proofs.exprs.Arguments.{column_kept}
+use Rattle.sl_pieces.proofs.columns.Cells.{still_holds}
 use Rattle.sl_pieces.proofs.exprs.Following.{AllAchieve, all_one}
 use Rattle.sl_pieces.specs.closing.Trees.{base_slot, final_seats, cover_slots, seating_pieces}
 use Rattle.sl_pieces.specs.closing.Closing.{BeginsClosing, EndsInOutcome}
@@ -141,7 +141,7 @@ module _ (c : CountingCode) (b : BookTree) (e : Election) (k : Known) (before s 
         few = λ land party in_lands in_parties.
             let small : slice_index h.values (land * parties_of e + party) ≤ MAX_SEATS = h.small (land * parties_of e + party) (place_within e land party in_parties in_lands) in
             omega (arith, small);
-        winners = column_kept e shape.List (list_winners b.eligible e) (s.columns winners_slot) (u.columns winners_slot)
+        winners = still_holds e shape.List (s.columns winners_slot) (u.columns winners_slot) (list_winners b.eligible e)
             (λ q. a.columns winners_slot q (λ same. omega (arith, same)) ∙ g.changes.columns winners_slot q (λ same. omega (arith, same))) (begins.behind.known.facts facts.Winners);
         steps = a.steps ∙ g.changes.steps;
         weights = a.weights ∙ g.changes.weights;

@@ -38,7 +38,7 @@ use Rattle.sl_pieces.proofs.covers.Singles.{ArePlaced as PlacedSoFar, placed_nex
 use Rattle.sl_pieces.specs.exprs.Slots.{fact_slots, winners_slot, HasBookSlots}
 use Rattle.sl_pieces.specs.closing.Trees.{place_kept, base_slot, final_seats, seating_pieces}
 use Rattle.sl_pieces.proofs.facts.Holding.{place_within, party_held}
-use Rattle.sl_pieces.proofs.exprs.Arguments.{column_kept}
+use Rattle.sl_pieces.proofs.columns.Cells.{still_holds}
 use Rattle.sl_pieces.proofs.exprs.Following.{AllAchieve, all_one}
 use Rattle.sl_pieces.specs.closing.Closing.{BeginsClosing}
 use Rattle.sl_pieces.proofs.closing.Rules.{all_first, goes_on}
@@ -126,7 +126,7 @@ module _ (c : CountingCode) (b : BookTree) (e : Election) (k : Known) (before s 
             let base_few : slice_index h.values place ≤ MAX_SEATS = h.small place within in
             let won_few : slice_index (list_winners b.eligible e) place ≤ MAX_SEATS = seats_small e (list_winners b.eligible e) (winners_typed b.eligible e is) place within in
             omega (arith, base_few, won_few);
-        winners = column_kept e shape.List (list_winners b.eligible e) (s.columns winners_slot) (u.columns winners_slot)
+        winners = still_holds e shape.List (s.columns winners_slot) (u.columns winners_slot) (list_winners b.eligible e)
             (λ q. p.columns winners_slot q ∙ g.changes.columns winners_slot q (λ same. omega (arith, same))) winners;
         steps = p.steps ∙ g.changes.steps;
         weights = p.weights ∙ g.changes.weights;

@@ -1,21 +1,20 @@
 -- The table that the book means stands in what is held: its lists, line by line, and its places.
-use Rattle.std.proofs.Common.{◌≡◌, ℕ, ◌+◌, ◌-◌, ◌*◌, ◌<◌, ◌≤◌, All, List, [], ◌∷◌, length, map, filter, replicate, get_or, slice_index, Option, None, Some, refl, sym, ap, ◌∙◌, inl, inr, arith}
-use Rattle.std.specs.List.{flat_map, range_with_len}
+use Rattle.std.proofs.Common.{◌≡◌, ℕ, ◌+◌, ◌-◌, ◌*◌, ◌<◌, ◌≤◌, List, length, map, replicate, slice_index, Option, None, Some, refl, sym, ap, ◌∙◌, inl, inr, arith}
+use Rattle.std.specs.List.{range_with_len}
 use Rattle.std.proofs.lemmas.Bool.{cases_lt}
 use Rattle.std.proofs.lemmas.List.{length-replicate, get_or-replicate, get_or_past}
-use Rattle.std.proofs.lemmas.List.Elements.{All-head, All-tail, All-filter, All-from_get_or, filter_passes}
-use Rattle.std.proofs.lemmas.List.FromFn.{length-range_with_len, get_or-range_with_len}
 use Rattle.sl_stages.specs.declared.book.Shape.TheVariants as shape
 use Rattle.sl_stages.specs.declared.returns.ListVotes.{ListVotes}
 use Rattle.sl_stages.specs.declared.table.Placed.{Placed}
 use Rattle.sl_stages.specs.book.Trees.{BookTree}
 use Rattle.sl_stages.specs.book.Typing.{Column}
-use Rattle.sl_stages.specs.returns.Election.{Election, lands_of, parties_of, wins_of, list_at, has_list}
-use Rattle.sl_stages.specs.returns.Facts.{lands, parties, each_list, list_cell, list_winners}
+use Rattle.sl_stages.specs.returns.Election.{Election, lands_of, parties_of, wins_of, list_at}
+use Rattle.sl_stages.specs.returns.Facts.{list_cell, list_winners}
 use Rattle.sl_stages.specs.returns.Votes.{slate_in}
 use Rattle.sl_stages.specs.meaning.Means.{Known}
 use Rattle.sl_stages.specs.meaning.Seating.{placed_on, vacant_of as vacant_by, table_line, table_of}
 use Rattle.sl_stages.specs.laws.MeaningLaws.{IsListOf}
+use Rattle.sl_stages.proofs.meaning.EachList.{each_list_agree}
 use Rattle.sl_code.specs.Codes.{CountingCode}
 use Rattle.sl_machine.specs.State.{State}
 use Rattle.sl_machine.specs.Effects.{most, from_lists, names_or_most}
@@ -30,33 +29,6 @@ use Rattle.sl_pieces.proofs.closing.Seated.{HasSeated}
 use Rattle.sl_pieces.proofs.closing.Vacancies.{HasVacant}
 
 -- ---- what is said of each list
-
--- functions that agree on each element make the same list of them
-map_agree : {X Y : Type 0} (f g : X → Y) (xs : List X) → All (λ x. f x ≡ g x) xs → map f xs ≡ map g xs
-map_agree f g [] all = refl
-map_agree f g (x ∷ xs) all = cc (All-head (λ x. f x ≡ g x) x xs all, map_agree f g xs (All-tail (λ x. f x ≡ g x) x xs all))
-
-pieces_agree : {X Y : Type 0} (f g : X → List Y) (xs : List X) → All (λ x. f x ≡ g x) xs → flat_map f xs ≡ flat_map g xs
-pieces_agree f g [] all = refl
-pieces_agree f g (x ∷ xs) all = cc (All-head (λ x. f x ≡ g x) x xs all, pieces_agree f g xs (All-tail (λ x. f x ≡ g x) x xs all))
-
--- each number of a range is below its end
-below : (n : ℕ) → All (λ k. k < n) (range_with_len 0 n)
-below n = All-from_get_or (λ k. k < n) (range_with_len 0 n) 0 (λ i within. let is = get_or-range_with_len 0 n i 0 (omega (arith, length-range_with_len 0 n)) in omega (arith, is, length-range_with_len 0 n))
-
--- two functions that agree on each list give the same of all lists
-module _ {X : Type 0} (e : Election) (f g : ℕ → ℕ → X) (same : (land party : ℕ) → IsListOf e land party → f land party ≡ g land party) where
-  in_land : (land : ℕ) → land < lands_of e → map (f land) (filter (has_list e land) (parties e)) ≡ map (g land) (filter (has_list e land) (parties e))
-  in_land land within =
-      let all = All-filter (has_list e land) (λ party. party < parties_of e) (parties e) (below (parties_of e)) in
-      let has = filter_passes (has_list e land) (parties e) in
-      map_agree (f land) (g land) (filter (has_list e land) (parties e))
-      (λ i d less. same land (get_or (filter (has_list e land) (parties e)) i d) (record { in_lands = within; in_parties = all i d less; has = has i d less }))
-
-  each_list_agree : each_list e f ≡ each_list e g
-  each_list_agree =
-      pieces_agree (λ land. map (f land) (filter (has_list e land) (parties e))) (λ land. map (g land) (filter (has_list e land) (parties e))) (lands e)
-      (λ i d less. in_land (get_or (lands e) i d) (below (lands_of e) i d less))
 
 -- ---- vacant seats
 

@@ -14,6 +14,7 @@ use Rattle.sl_plans.proofs.Rules.{achieves_more}
 use Rattle.sl_pieces.specs.columns.Columns.{HoldsColumn, GetsColumn}
 use Rattle.sl_pieces.specs.nodes.Nodes.{EndsWith}
 use Rattle.sl_pieces.specs.exprs.Slots.{passing, FIRST_STAGE_SLOT}
+use Rattle.sl_pieces.proofs.columns.Cells.{still_holds}
 use Rattle.sl_pieces.proofs.exprs.Following.{AllAchieve, all_more, all_then, all_one}
 use Rattle.sl_pieces.proofs.exprs.Places.{first_of, first_same, first_next, level_below, outside, wider}
 
@@ -38,10 +39,6 @@ pub record HasArgument (e : Election) (IsResult : ExprResult → Type 0) (shape 
   pub result : IsResult (Column values records)
   pub column : HoldsColumn e shape (s.columns slot) values
 
-pub column_kept : (e : Election) (shape : Shape) (values : List ℕ) (before after : ℕ → ℕ) → ((q : ℕ) → after q ≡ before q) → HoldsColumn e shape before values
-    → HoldsColumn e shape after values
-column_kept e shape values before after same h = record { long = h.long; at = λ q within. same q ∙ h.at q within }
-
 module _ {e : Election} {IsResult : ExprResult → Type 0} {shape : Shape} {slot : ℕ} where
   pub argument : {first : ℕ} {s t : State} → (h : ComesTo e IsResult shape slot first s t) → HasArgument e IsResult shape slot t h.values
   argument h = record { records = h.records; result = h.result; column = h.column }
@@ -51,7 +48,7 @@ module _ {e : Election} {IsResult : ExprResult → Type 0} {shape : Shape} {slot
   argument_kept {s = s} {t = t} {values = values} below h later = record {
     records = h.records;
     result = h.result;
-    column = column_kept e shape values (s.columns slot) (t.columns slot) (λ q. later.columns slot q (inl below)) h.column;
+    column = still_holds e shape (s.columns slot) (t.columns slot) values (λ q. later.columns slot q (inl below)) h.column;
   }
 
 -- ---- one behind the other

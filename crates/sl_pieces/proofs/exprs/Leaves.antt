@@ -22,7 +22,8 @@ use Rattle.sl_pieces.specs.exprs.Slots.{fact_slots, passing, stage_slot, HasBook
 use Rattle.sl_pieces.specs.exprs.Meaning.{HoldsKnown}
 use Rattle.sl_pieces.proofs.exprs.Following.{AllAchieve}
 use Rattle.sl_pieces.proofs.exprs.Places.{first_of, fact_low, facts_below, first_before, stages_above, outside}
-use Rattle.sl_pieces.proofs.exprs.Arguments.{ComesTo, column_kept, plain_all}
+use Rattle.sl_pieces.proofs.exprs.Arguments.{ComesTo, plain_all}
+use Rattle.sl_pieces.proofs.columns.Cells.{still_holds}
 
 -- ---- what is known stays known
 
@@ -30,7 +31,7 @@ module _ {b : BookTree} {e : Election} {types : List Column} {columns : List Nam
   known_when_kept : (s t : State) → ((k q : ℕ) → (k < FIRST_PASSING_SLOT) ⊎ (FIRST_STAGE_SLOT ≤ k) → t.columns k q ≡ s.columns k q) → HoldsKnown b e types columns s → HoldsKnown b e types columns t
   known_when_kept s t same h =
       let kept : (k : ℕ) (shape : Shape) (values : List ℕ) → (k < FIRST_PASSING_SLOT) ⊎ (FIRST_STAGE_SLOT ≤ k) → HoldsColumn e shape (s.columns k) values → HoldsColumn e shape (t.columns k) values =
-      λ k shape values apart holds. column_kept e shape values (s.columns k) (t.columns k) (λ q. same k q apart) holds in
+      λ k shape values apart holds. still_holds e shape (s.columns k) (t.columns k) values (λ q. same k q apart) holds in
       record {
         facts = λ told. kept (fact_slots.of told) _ _ (inl (fact_low told)) (h.facts told);
         stages = λ k u x typed valued. kept (stage_slot k) _ _ (inr (omega arith)) (h.stages k u x typed valued);

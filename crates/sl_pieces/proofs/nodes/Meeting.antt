@@ -7,7 +7,7 @@ use Rattle.sl_stages.specs.methods.LeastHouse.{outside_minima, Meets}
 use Rattle.sl_stages.specs.laws.Ladders.{RaisesEach}
 use Rattle.sl_stages.proofs.methods.SeatSums.{some_less, sum_mono, entry_le_sum}
 use Rattle.sl_stages.proofs.methods.RaisedSeats.{Contains-none, Contains-head, sum-raise}
-use Rattle.sl_stages.proofs.methods.LadderProofs.{raised_is}
+use Rattle.sl_stages.proofs.methods.TieLaw.{raised_is}
 use Rattle.sl_stages.proofs.methods.HouseProofs.{outside_at, outside_in}
 use Rattle.sl_stages.proofs.methods.DivisorProofs.{in_range}
 use Rattle.sl_pieces.proofs.seats.Lists.{sum_of_all, only_it, not_it}

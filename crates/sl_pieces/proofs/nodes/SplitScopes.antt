@@ -1,16 +1,13 @@
 -- The plan of a split in one scope: what refuses the seats, or the seats that its method gives.
-use Rattle.std.proofs.Common.{◌≡◌, ℕ, ◌≤◌, ◌&&◌, Bool, true, false, List, [], length, Option, Some, None, refl, sym, ap, subst, inl, inr, arith}
-use Rattle.std.specs.Prelude.{MatchOption, sum, slice_get, slice_index, nat_eq, nat_lt, is_none, if◌then◌else◌}
-use Rattle.std.proofs.lemmas.Bool.{and_cases, ltb-false, eqb-false}
+use Rattle.std.proofs.Common.{◌≡◌, ℕ, ◌≤◌, ◌&&◌, List, [], length, Option, Some, None, refl, sym, ap, subst, arith}
+use Rattle.std.specs.Prelude.{MatchOption, sum, slice_get, slice_index, is_none, if◌then◌else◌}
 use Rattle.sl_ratio.specs.declared.limits.TheConstants.{MAX_SEATS}
 use Rattle.sl_ratio.specs.declared.method.Method.{Method}
 use Rattle.sl_ratio.specs.declared.method.Method.TheVariants as by
 use Rattle.sl_stages.specs.declared.book.Majority.{Majority}
 use Rattle.sl_stages.specs.declared.fault.FaultKind.{FaultKind}
-use Rattle.sl_stages.specs.declared.fault.FaultKind.TheVariants as fault
 use Rattle.sl_stages.specs.returns.Election.{Election, IsElection}
 use Rattle.sl_stages.specs.book.Typing.{is_prefer}
-use Rattle.sl_stages.specs.methods.Field.{IsEmptyField}
 use Rattle.sl_stages.specs.methods.Ties.{Choice, IsChoice}
 use Rattle.sl_stages.specs.meaning.Scopes.{Group, cells}
 use Rattle.sl_stages.specs.meaning.Lots.{stage_lot}
@@ -19,9 +16,10 @@ use Rattle.sl_stages.specs.meaning.Splits.{Award, Refused, refusal, IsAllocation
 use Rattle.sl_stages.specs.meaning.Expressions.{IsSplitIn, split_records, minima_at}
 use Rattle.sl_stages.specs.laws.Ladders.{IsTop}
 use Rattle.sl_stages.specs.laws.OneLaws.{FitsMethod}
-use Rattle.sl_stages.proofs.methods.DivisorProofs.{divisor_ladders_law, empty_fields}
+use Rattle.sl_stages.proofs.methods.DivisorProofs.{divisor_ladders_law}
 use Rattle.sl_stages.proofs.methods.HamiltonProofs.{hamilton_ladders_law}
 use Rattle.sl_stages.proofs.meaning.OneAward.{TakesMinima}
+use Rattle.sl_stages.proofs.meaning.OneAward.{HasNone, none_refused}
 use Rattle.sl_code.specs.Codes.{CountingCode}
 use Rattle.sl_machine.specs.State.{State, End}
 use Rattle.sl_plans.specs.Trees.{Tree, Then}
@@ -46,33 +44,10 @@ use Rattle.sl_pieces.specs.nodes.Scopes.{HoldsArguments, HasAward, EndsFaulty, s
 use Rattle.sl_pieces.proofs.nodes.Arguments.{minima_long, minima_taken, same_minima}
 use Rattle.sl_pieces.proofs.nodes.OneScope.{award_from, others_kept, arguments_begin, scope_begins, IsScopeArena, room_of, scope_awards, scope_awarded}
 
--- ---- what is known where nothing refuses the seats
-
--- the minima leave room, and an empty field gets no more than they need
-record LeavesRoom (v m : List ℕ) (seats : ℕ) : Type 0 where
-  room : sum m ≤ seats
-  empty : IsEmptyField v → seats ≤ sum m
-
-both_false : {K : Type 0} (a b : Bool) (x y : K) → (if a then Some x else if b then Some y else None) ≡ None → (a ≡ false) × (b ≡ false)
-both_false true b x y h = cc
-both_false false true x y h = cc
-both_false false false x y h = (refl, refl)
-
-leaves_room : (v m : List ℕ) (seats : ℕ) → refusal v m seats ≡ None → LeavesRoom v m seats
-leaves_room v m seats none =
-    let tests = both_false (nat_lt seats (sum m)) (nat_eq (sum v) 0 && nat_lt (sum m) seats) fault.Short fault.NoList none in
-    record {
-      room = ltb-false seats (sum m) tests.0;
-      empty = λ empty. elim (and_cases (nat_eq (sum v) 0) (nat_lt (sum m) seats) tests.1) [
-        | inl some ↦ absurd (eqb-false (sum v) 0 some ((empty_fields v).0 empty))
-        | inr full ↦ ltb-false (sum m) seats full
-      ];
-    }
-
 -- ---- the arena of the method
 
 module _ (c : CountingCode) (e : Election) (f : Form) (x : Slots) (name : List ℕ) (k : ℕ) (g : Group) (majority : Majority) (v m : List ℕ) (seats : ℕ) (state : State)
-    (ready : IsReady c e f x name k g v m seats state) (long : length m ≡ length v) (leaves : LeavesRoom v m seats) where
+    (ready : IsReady c e f x name k g v m seats state) (long : length m ≡ length v) (leaves : HasNone v m seats) where
   split_in_arena : (method : Method) → TakesMinima method m → IsScopeArena e f g seats (split_arena e f g method majority v m seats)
   split_in_arena (by.Divisor d) takes =
       let weighed = scope_weighed e f g (state.columns x.votes) v (scopes_hold e f k g ready.group) ready.votes ready.weights in
@@ -80,7 +55,7 @@ module _ (c : CountingCode) (e : Election) (f : Form) (x : Slots) (name : List �
       record {
         arena = (divisor_arenas d v (table_of f) _ weighed).with_minima m long;
         enough = leaves.room;
-        room = room_of _ v seats (tops.room seats) leaves.empty;
+        room = room_of _ v seats (tops.room seats) (λ empty. let all = leaves.empty empty in omega (arith, all));
         entries = refl;
         places = refl;
       }
@@ -91,7 +66,7 @@ module _ (c : CountingCode) (e : Election) (f : Form) (x : Slots) (name : List �
       record {
         arena = hamilton_arenas (is_prefer majority) v seats (table_of f) _ weighed ready.few MAX_SEATS;
         enough = tops.within;
-        room = room_of _ v seats tops.room (λ empty. let few : seats ≤ sum m = leaves.empty empty in omega (arith, few, none));
+        room = room_of _ v seats tops.room (λ empty. let all = leaves.empty empty in omega (arith, all, none));
         entries = refl;
         places = refl;
       }
@@ -157,7 +132,7 @@ module _ (c : CountingCode) (e : Election) (f : Form) (x : Slots) (name : List �
     rest_awards t ready none =
         let long : length m ≡ length v = minima_long e g votes minima in
         let meant : List ℕ = stage_lot e name (votes_of f) g.entries in
-        let is = split_in_arena c e f x name k g majority v m seats t ready long (leaves_room v m seats none) method (minima_taken e g votes method minima fits) in
+        let is = split_in_arena c e f x name k g majority v m seats t ready long (none_refused v m seats none) method (minima_taken e g votes method minima fits) in
         scope_awarded c e f x name k g v m seats (split_arena e f g method majority v m seats) (split_weights x g method v) meant majority method IsAward records t
         (record {
           award = split_chosen e f g method majority v m seats meant long none;
