@@ -34,11 +34,7 @@ module _ (P R : ExprResult → Type 0) (turn : (r : ExprResult) → P r → R r)
     result = turn _ h.result;
     column = h.column;
     columns = h.columns;
-    added = h.added;
-    steps = h.steps;
-    are = h.are;
-    weights = h.weights;
-    placed = h.placed;
+    adds = h.adds;
   }
 
   ends_as : (end : End) → EndsWith P end → EndsWith R end

@@ -1,6 +1,5 @@
 -- From the start on, the plans of a book's facts come to a state that holds them, and in which nothing else is done yet.
-use Rattle.std.proofs.Common.{◌≡◌, ℕ, ◌+◌, ◌<◌, List, [], ◌∷◌, length, map, refl, sym, subst, arith, append-nil}
-use Rattle.std.proofs.lemmas.List.Sorted.{IsPermutation-refl}
+use Rattle.std.proofs.Common.{◌≡◌, ℕ, ◌+◌, ◌<◌, List, [], ◌∷◌, length, map, refl, sym, subst, arith}
 use Rattle.std.proofs.lemmas.Option.{none-some}
 use Rattle.sl_stages.specs.declared.book.Cond.{Cond}
 use Rattle.sl_stages.specs.declared.book.Shape.TheVariants as shape
@@ -25,6 +24,7 @@ use Rattle.sl_pieces.proofs.facts.Eligible.{eligible_are_told}
 use Rattle.sl_pieces.proofs.facts.Facts.{facts_are_told}
 use Rattle.sl_pieces.specs.exprs.Slots.{fact_slots}
 use Rattle.sl_pieces.specs.exprs.Stages.{IsBehind}
+use Rattle.sl_pieces.proofs.nodes.Added.{adds_none}
 use Rattle.sl_books.specs.Conditions.{SayTheSame}
 use Rattle.sl_books.specs.Codes.{facts_pieces}
 use Rattle.sl_books.proofs.Told.{IsBlank, Told, AreNumbered, one_told}
@@ -51,11 +51,7 @@ module _ (c : CountingCode) (few : List Cond) (b : BookTree) (e : Election) (is 
       typed = tt;
       known = record { facts = λ told. h.facts told (all_numbered told); stages = λ k t x type named. absurd (none-some t type) };
       low = λ slot q below. refl;
-      added = [];
-      steps = sym (append-nil s.steps);
-      are = IsPermutation-refl [];
-      weights = sym (append-nil s.weights);
-      placed = λ winner. refl;
+      adds = adds_none s s refl refl (λ winner. refl);
     };
     flags = h.flags;
     blank = h.blank;

@@ -79,16 +79,16 @@ module _ (c : CountingCode) (b : BookTree) (e : Election) (is : IsElection e) (t
     has : HasRecords h.known.records h.closed.table
     has = seated_has b e h.known.records h.closed.table b.last.seating h.closed.means.base h.closed.means.seated
 
-    steps_added : s.steps ≡ h.behind.added
-    steps_added = h.closed.steps ∙ added_only h.staged.steps h.told.steps h.behind.added h.behind.steps h.blank.steps
+    steps_added : s.steps ≡ h.behind.adds.added
+    steps_added = h.closed.steps ∙ added_only h.staged.steps h.told.steps h.behind.adds.added h.behind.adds.steps h.blank.steps
 
     weights_added : s.weights ≡ h.known.records.weights
-    weights_added = h.closed.weights ∙ added_only h.staged.weights h.told.weights h.known.records.weights h.behind.weights h.blank.weights
+    weights_added = h.closed.weights ∙ added_only h.staged.weights h.told.weights h.known.records.weights h.behind.adds.weights h.blank.weights
 
     same_steps : IsPermutation s.steps h.closed.table.steps
     same_steps =
         subst (λ (xs : List SeatStep). IsPermutation xs h.closed.table.steps) (sym steps_added)
-        (subst (λ (xs : List SeatStep). IsPermutation h.behind.added xs) (sym has.steps) h.behind.are)
+        (subst (λ (xs : List SeatStep). IsPermutation h.behind.adds.added xs) (sym has.steps) h.behind.adds.are)
 
     same_weights : IsPermutation s.weights h.closed.table.weights
     same_weights = subst (λ (xs : List Weight). IsPermutation s.weights xs) (weights_added ∙ sym has.weights) (IsPermutation-refl s.weights)

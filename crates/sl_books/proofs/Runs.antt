@@ -68,7 +68,7 @@ module _ (c : CountingCode) (few : List Cond) (b : BookTree) (e : Election) (is 
         let begins : BeginsClosing b e h.known s t = record {
           behind = h.behind;
           flags = still_holds e shape.Party (s.columns 0) (t.columns 0) (flags b.eligible e) (λ q. h.behind.low 0 q (omega arith)) told.flags;
-          nobody = λ winner. h.behind.placed winner ∙ told.blank.nobody winner;
+          nobody = λ winner. h.behind.adds.placed winner ∙ told.blank.nobody winner;
         } in
         subst (λ (ts : List Column). AchievesAll c e (last_pieces ts b.last) t (IsDone c b e) (IsStopped b e)) types
         (all_more c e (HasClosed c b e h.known t) (IsDone c b e) (EndsInOutcome b e h.known) (IsStopped b e)

@@ -1,4 +1,5 @@
 -- The lemmas of splits and growths over code.
+pub mod Added
 pub mod JoiningLists
 pub mod Columns
 pub mod Joining

@@ -1,8 +1,6 @@
 -- Columns that come one behind another: the arguments of an expression, from left to right, and then its own.
-use Rattle.std.proofs.Common.{◌≡◌, ◌⊎◌, ℕ, ◌+◌, ◌<◌, ◌≤◌, List, [], ◌∷◌, ◌++◌, IsPermutation, refl, sym, ap, ◌∙◌, inl, arith, append_assoc, append-nil}
-use Rattle.std.proofs.lemmas.List.Sorted.{IsPermutation-refl, IsPermutation-append}
+use Rattle.std.proofs.Common.{◌≡◌, ℕ, ◌+◌, ◌<◌, ◌≤◌, List, [], ◌∷◌, ◌++◌, refl, ◌∙◌, inl, arith}
 use Rattle.sl_stages.specs.declared.book.Shape.{Shape}
-use Rattle.sl_stages.specs.declared.table.SeatStep.{SeatStep}
 use Rattle.sl_stages.specs.returns.Election.{Election}
 use Rattle.sl_stages.specs.meaning.Records.{Records, no_records, both_records}
 use Rattle.sl_stages.specs.meaning.Results.{ExprResult, Column, Fault, plain, behind, Then}
@@ -17,21 +15,10 @@ use Rattle.sl_pieces.specs.exprs.Slots.{passing, FIRST_STAGE_SLOT}
 use Rattle.sl_pieces.proofs.columns.Cells.{still_holds}
 use Rattle.sl_pieces.proofs.exprs.Following.{AllAchieve, all_more, all_then, all_one}
 use Rattle.sl_pieces.proofs.exprs.Places.{first_of, first_same, first_next, level_below, outside, wider}
+use Rattle.sl_pieces.proofs.nodes.Added.{adds_none, adds_more}
+use Rattle.sl_pieces.specs.exprs.Meaning.{ComesTo}
 
 -- ---- columns that come, and those that stay
-
--- a result comes to a column: it is in that slot, its records are added, and no slot below the first one and no stage's is changed
-pub record ComesTo (e : Election) (IsResult : ExprResult → Type 0) (shape : Shape) (slot first : ℕ) (before after : State) : Type 0 where
-  pub values : List ℕ
-  pub records : Records
-  pub result : IsResult (Column values records)
-  pub column : HoldsColumn e shape (after.columns slot) values
-  pub columns : (k q : ℕ) → (k < first) ⊎ (FIRST_STAGE_SLOT ≤ k) → after.columns k q ≡ before.columns k q
-  pub added : List SeatStep
-  pub steps : after.steps ≡ before.steps ++ added
-  pub are : IsPermutation added records.steps
-  pub weights : after.weights ≡ before.weights ++ records.weights
-  pub placed : (winner : ℕ) → after.placed winner ≡ before.placed winner
 
 -- a result's column is in that slot
 pub record HasArgument (e : Election) (IsResult : ExprResult → Type 0) (shape : Shape) (slot : ℕ) (s : State) (values : List ℕ) : Type 0 where
@@ -65,11 +52,7 @@ module _ (e : Election) (First : ExprResult → Type 0) (Next : List ℕ → Exp
     result = goes_behind one.values one.records (Column two.values two.records) one.result two.result;
     column = two.column;
     columns = λ k q apart. two.columns k q (wider k from later lower apart) ∙ one.columns k q (wider k from first low apart);
-    added = one.added ++ two.added;
-    steps = two.steps ∙ ap (λ l. l ++ two.added) one.steps ∙ append_assoc s.steps one.added two.added;
-    are = IsPermutation-append one.added one.records.steps two.added two.records.steps one.are two.are;
-    weights = two.weights ∙ ap (λ l. l ++ two.records.weights) one.weights ∙ append_assoc s.weights one.records.weights two.records.weights;
-    placed = λ winner. two.placed winner ∙ one.placed winner;
+    adds = adds_more one.records two.records s t u one.adds two.adds;
   }
 
   first_ends : (x : End) → EndsWith First x → EndsWith (Then First Next) x
@@ -97,11 +80,7 @@ comes_plain e IsResult shape slot first values s t from within result h = record
   result = result;
   column = h.holds;
   columns = λ k q apart. h.changes.columns k q (outside k first slot apart from within);
-  added = [];
-  steps = h.changes.steps ∙ sym (append-nil s.steps);
-  are = IsPermutation-refl [];
-  weights = h.changes.weights ∙ sym (append-nil s.weights);
-  placed = h.changes.placed;
+  adds = adds_none s t h.changes.steps h.changes.weights h.changes.placed;
 }
 
 pub plain_all : {c : CountingCode} {e : Election} {tree : Tree} {IsResult : ExprResult → Type 0} {shape : Shape} {slot first : ℕ} {values : List ℕ} {s : State}

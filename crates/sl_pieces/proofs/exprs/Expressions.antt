@@ -28,10 +28,10 @@ use Rattle.sl_plans.specs.Trees.{Tree}
 use Rattle.sl_pieces.specs.nodes.Nodes.{EndsWith}
 use Rattle.sl_pieces.specs.exprs.Slots.{fact_slots, passing, stage_slot, LEVELS}
 use Rattle.sl_pieces.specs.exprs.Pieces.{pieces}
-use Rattle.sl_pieces.specs.exprs.Meaning.{HoldsKnown, StandsIn, HasExpr, ExprsAchieve}
-use Rattle.sl_pieces.proofs.exprs.Following.{AllAchieve, all_more}
+use Rattle.sl_pieces.specs.exprs.Meaning.{HoldsKnown, StandsIn, ExprsAchieve, ComesTo}
+use Rattle.sl_pieces.proofs.exprs.Following.{AllAchieve}
 use Rattle.sl_pieces.proofs.exprs.Places.{first_of, fact_low, facts_below, first_same}
-use Rattle.sl_pieces.proofs.exprs.Arguments.{ComesTo, then_all, two_arguments, three_arguments}
+use Rattle.sl_pieces.proofs.exprs.Arguments.{then_all, two_arguments, three_arguments}
 use Rattle.sl_pieces.proofs.exprs.Leaves.{known_kept, leaf_all, HasNamed, has_named}
 use Rattle.sl_pieces.proofs.exprs.Sums.{typed_weights, typed_numbers, sum_all, pair_all}
 use Rattle.sl_pieces.proofs.exprs.Nodes.{HasStage, has_stage, no_minima_at, some_minima_at, split_all, grow_all}
@@ -163,21 +163,6 @@ module _ (code : CountingCode) (b : BookTree) (e : Election) (c : Context) (type
       absurd (no_hamilton (type_of c.types x) (type_of c.types v) (type_of c.types m) limit.value
       (grow_passes at (type_of c.types x) (type_of c.types v) (type_of c.types m) by.Hamilton limit majority p.3))
 
-has_expr : (b : BookTree) (e : Election) (c : Context) (x : ExprTree) (level : ℕ) (s t : State)
-    → ComesTo e (ExprMeans b e c x) (shape_in c x) (passing level (shape_in c x)) (first_of level) s t → HasExpr b e c x level s t
-has_expr b e c x level s t h = record {
-  values = h.values;
-  records = h.records;
-  means = h.result;
-  column = h.column;
-  columns = h.columns;
-  added = h.added;
-  steps = h.steps;
-  are = h.are;
-  weights = h.weights;
-  placed = h.placed;
-}
-
 pub exprs_achieve : ExprsAchieve
 exprs_achieve code b e c x level s typed is known pass within stands holds =
-    (all_more (goes code b e c typed is known stands x level s pass within holds) (λ t h. has_expr b e c x level s t h) (λ x h. h)).all
+    (goes code b e c typed is known stands x level s pass within holds).all

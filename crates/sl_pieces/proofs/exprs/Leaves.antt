@@ -19,10 +19,10 @@ use Rattle.sl_pieces.specs.columns.Trees.{copy_tree}
 use Rattle.sl_pieces.proofs.columns.Writing.{columns_are_copied}
 use Rattle.sl_pieces.specs.nodes.Nodes.{EndsWith}
 use Rattle.sl_pieces.specs.exprs.Slots.{fact_slots, passing, stage_slot, HasBookSlots, FIRST_PASSING_SLOT, FIRST_STAGE_SLOT}
-use Rattle.sl_pieces.specs.exprs.Meaning.{HoldsKnown}
+use Rattle.sl_pieces.specs.exprs.Meaning.{HoldsKnown, ComesTo}
 use Rattle.sl_pieces.proofs.exprs.Following.{AllAchieve}
 use Rattle.sl_pieces.proofs.exprs.Places.{first_of, fact_low, facts_below, first_before, stages_above, outside}
-use Rattle.sl_pieces.proofs.exprs.Arguments.{ComesTo, plain_all}
+use Rattle.sl_pieces.proofs.exprs.Arguments.{plain_all}
 use Rattle.sl_pieces.proofs.columns.Cells.{still_holds}
 
 -- ---- what is known stays known

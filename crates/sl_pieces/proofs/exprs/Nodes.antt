@@ -35,7 +35,7 @@ use Rattle.sl_pieces.specs.exprs.Slots.{passing, FIRST_STAGE_SLOT}
 use Rattle.sl_pieces.specs.exprs.Pieces.{form_by, node_slots}
 use Rattle.sl_pieces.proofs.exprs.Following.{AllAchieve, all_one}
 use Rattle.sl_pieces.proofs.exprs.Places.{first_of, first_before, stages_above, other_level, outside, amounts_apart}
-use Rattle.sl_pieces.proofs.exprs.Arguments.{ComesTo}
+use Rattle.sl_pieces.specs.exprs.Meaning.{ComesTo}
 
 -- ---- the columns of arguments and of results
 
@@ -47,11 +47,7 @@ comes_node e f x IsResult first s t from within h = record {
   result = h.result;
   column = h.column;
   columns = λ k q apart. h.columns k q (outside k first x.result apart from within);
-  added = h.added;
-  steps = h.steps;
-  are = h.are;
-  weights = h.weights;
-  placed = h.placed;
+  adds = h.adds;
 }
 
 -- ---- the slots of a split or a growth

@@ -1,8 +1,7 @@
 -- The plans of stages achieve what the stages mean, where those of expressions do: by induction over the stages that are left.
-use Rattle.std.proofs.Common.{◌≡◌, ◌≢◌, ℕ, suc, ◌+◌, ◌*◌, ◌<◌, ◌≤◌, true, List, [], ◌∷◌, ◌++◌, length, None, Some, slice_get, nat_le, refl, sym, ap, subst, ◌∙◌, inl, inr, arith, append_assoc, length-append}
+use Rattle.std.proofs.Common.{◌≡◌, ◌≢◌, ℕ, suc, ◌+◌, ◌*◌, ◌<◌, ◌≤◌, true, List, [], ◌∷◌, ◌++◌, length, None, Some, slice_get, nat_le, refl, sym, subst, ◌∙◌, inl, inr, arith, length-append}
 use Rattle.std.specs.List.{list_all}
 use Rattle.std.proofs.lemmas.Bool.{and_parts, leb-true}
-use Rattle.std.proofs.lemmas.List.Sorted.{IsPermutation-append}
 use Rattle.std.proofs.lemmas.Option.{slice_get_within}
 use Rattle.std.proofs.lemmas.Slice.Zip.{AllZip-long, all_zipped_more}
 use Rattle.sl_stages.specs.declared.book.Shape.{Shape}
@@ -38,6 +37,7 @@ use Rattle.sl_pieces.specs.exprs.Meaning.{HoldsKnown, StandsIn, HasExpr, ExprsAc
 use Rattle.sl_pieces.specs.exprs.Stages.{stage_pieces, stages_pieces, HasStages, IsBehind, HasColumns, EndsStopped, StagesAchieve}
 use Rattle.sl_pieces.proofs.exprs.Expressions.{exprs_achieve}
 use Rattle.sl_pieces.proofs.exprs.StageRules.{all_more, all_then, last_there, extended, slots_before, rest_staged}
+use Rattle.sl_pieces.proofs.nodes.Added.{adds_more}
 
 -- what stands behind a stage
 record HasStage (b : BookTree) (e : Election) (k : Known) (s : StageTree) (before after : State) : Type 0 where
@@ -45,10 +45,6 @@ record HasStage (b : BookTree) (e : Election) (k : Known) (s : StageTree) (befor
   records : Records
   means : ExprMeans b e (context_of k s) s.expr (results.Column values records)
   behind : IsBehind b e (with_stage k s values records) before after
-
--- what is added to a list that was added to
-added_twice : {X : Type 0} (first added more mid all : List X) → all ≡ mid ++ more → mid ≡ first ++ added → all ≡ first ++ (added ++ more)
-added_twice first added more mid all one two = one ∙ ap (λ xs. xs ++ more) two ∙ append_assoc first added more
 
 -- an expression within the limits has a level for each of its parts
 deep_enough : (s : StageTree) → is_within_stage s ≡ true → splits_in s.expr ≤ 1 → 0 + depth_of s.expr + splits_in s.expr ≤ LEVELS
@@ -121,14 +117,16 @@ module _ (b : BookTree) (e : Election) (k : Known) (s : StageTree) (before start
     stage_behind : is_typed b ≡ true → IsElection e → first_failing (expr_tests k.types s.expr) ≡ None → IsBehind b e (with_stage k s h.values h.records) before u
     stage_behind typed is pass = record {
       typed = all_zipped_more (IsTypedAs e) k.types k.columns (stage_column k.types s) new_column behind.typed
-          (record { name = refl; type = typed_expressions b e (context_of k s) s.expr h.values h.records typed is behind.typed pass h.means });
+          (record { name = refl; type = typed_expressions b e (context_of k s) s.expr h.values h.records typed is behind.typed pass h.result });
       known = known_held;
       low = λ slot q below. low_kept slot q below ∙ behind.low slot q below;
-      added = behind.added ++ h.added;
-      steps = added_twice before.steps behind.added h.added start.steps u.steps (g.changes.steps ∙ h.steps) behind.steps;
-      are = IsPermutation-append behind.added k.records.steps h.added h.records.steps behind.are h.are;
-      weights = added_twice before.weights k.records.weights h.records.weights start.weights u.weights (g.changes.weights ∙ h.weights) behind.weights;
-      placed = λ winner. g.changes.placed winner ∙ h.placed winner ∙ behind.placed winner;
+      adds = adds_more k.records h.records before start u behind.adds (record {
+        added = h.adds.added;
+        steps = g.changes.steps ∙ h.adds.steps;
+        are = h.adds.are;
+        weights = g.changes.weights ∙ h.adds.weights;
+        placed = λ winner. g.changes.placed winner ∙ h.adds.placed winner;
+      });
     }
 
 -- ---- a stage
@@ -169,7 +167,7 @@ module _ (code : CountingCode) (b : BookTree) (e : Election) (typed : is_typed b
           achieves_more {R = HasStage b e k s before}
           (columns_are_copied code e (type_of k.types s.expr).shape (passing 0 (type_of k.types s.expr).shape) (stage_slot (length k.columns)) h.values t
           (slots.passing_are 0 (type_of k.types s.expr).shape (omega arith)) slot_there (apart_from (type_of k.types s.expr).shape (length k.columns)) h.column)
-          (λ u g. record { values = h.values; records = h.records; means = h.means; behind = stage_behind b e k s before start t u behind h g typed is pass })
+          (λ u g. record { values = h.values; records = h.records; means = h.result; behind = stage_behind b e k s before start t u behind h g typed is pass })
           (λ x no. absurd no)
 
       -- behind its own pieces the stage is known, or its expression came to a fault

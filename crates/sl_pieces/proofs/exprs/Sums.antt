@@ -29,7 +29,8 @@ use Rattle.sl_pieces.specs.nodes.Nodes.{EndsWith}
 use Rattle.sl_pieces.specs.exprs.Slots.{passing}
 use Rattle.sl_pieces.proofs.exprs.Following.{AllAchieve}
 use Rattle.sl_pieces.proofs.exprs.Places.{first_of, first_before, stages_above, other_level}
-use Rattle.sl_pieces.proofs.exprs.Arguments.{ComesTo, plain_all}
+use Rattle.sl_pieces.proofs.exprs.Arguments.{plain_all}
+use Rattle.sl_pieces.specs.exprs.Meaning.{ComesTo}
 
 -- ---- numbers of columns
 

@@ -1,9 +1,8 @@
 -- The scopes of a split or a growth, one after another: none has too many seats, their seats make the column, or the first fault ends the run.
-use Rattle.std.proofs.Common.{◌≡◌, ◌≢◌, ℕ, ◌+◌, ◌<◌, ◌≤◌, List, length, take, drop, suc, Option, Some, None, slice_get, slice_index, refl, ap, subst, ◌∙◌, arith, le_refl, take_all, [], ◌∷◌, ◌++◌, MatchOption, IsPermutation, sym, append_assoc, append-nil}
+use Rattle.std.proofs.Common.{◌≡◌, ◌≢◌, ℕ, ◌+◌, ◌<◌, ◌≤◌, List, length, take, drop, suc, Option, Some, None, slice_get, slice_index, refl, ap, subst, ◌∙◌, arith, le_refl, take_all, [], ◌∷◌, ◌++◌, MatchOption, sym, append_assoc}
 use Rattle.std.specs.List.{AllByRecursion as Every, AllZip}
 use Rattle.std.specs.Prelude.{zip, flat_map}
 use Rattle.std.proofs.lemmas.List.{flat_map_more, length_push}
-use Rattle.std.proofs.lemmas.List.Sorted.{IsPermutation-refl, IsPermutation-append}
 use Rattle.std.proofs.lemmas.Option.{slice_get_within}
 use Rattle.sl_ratio.specs.declared.limits.TheConstants.{MAX_SEATS}
 use Rattle.sl_stages.specs.declared.fault.FaultKind.TheVariants as fault
@@ -15,7 +14,7 @@ use Rattle.sl_stages.specs.declared.book.Shape.{Shape}
 use Rattle.sl_stages.specs.declared.fault.LegalFault.{LegalFault}
 use Rattle.sl_stages.specs.declared.table.SeatStep.{SeatStep}
 use Rattle.sl_stages.specs.declared.table.Weight.{Weight}
-use Rattle.sl_stages.specs.meaning.Records.{Records}
+use Rattle.sl_stages.specs.meaning.Records.{Records, both_records}
 use Rattle.sl_stages.specs.meaning.Splits.{Award, Seats, Refused, awarded}
 use Rattle.sl_stages.proofs.meaning.DistinctLists.{every_append}
 use Rattle.sl_stages.proofs.meaning.AwardedEntries.{every_at}
@@ -38,11 +37,12 @@ use Rattle.sl_pieces.specs.seats.Slots.{Slots, HasSlots, IsUnchanged}
 use Rattle.sl_pieces.specs.seats.Trees.{most_seats}
 use Rattle.sl_pieces.proofs.seats.Refusing.{not_over_achieves}
 use Rattle.sl_pieces.specs.nodes.Trees.{within_limit, shared}
-use Rattle.sl_pieces.specs.nodes.Scopes.{stand, HoldsMinima, HoldsArguments, HasAward, EndsFaulty, DoesScopes}
+use Rattle.sl_pieces.specs.nodes.Scopes.{stand, HoldsMinima, HoldsArguments, HasAward, EndsFaulty, DoesScopes, AddsRecords}
 use Rattle.sl_pieces.proofs.nodes.JoiningLists.{split_there, one_further, zip_none, zip_push, no_pairs, EachPair, pairs_push, all_paired, completed}
 use Rattle.sl_pieces.proofs.columns.Cells.{still_holds}
 use Rattle.sl_pieces.specs.nodes.Nodes.{HasResult, EndsWith, ScopesAreJoined}
 use Rattle.sl_pieces.proofs.nodes.Columns.{HoldsAwards, no_awards, one_award_more, awards_make}
+use Rattle.sl_pieces.proofs.nodes.Added.{adds_none, adds_more}
 
 module _ (c : CountingCode) (e : Election) (f : Form) (x : Slots) (name amounts : List ℕ) (start : State) (slots : HasSlots c f x name)
     (holds : HoldsColumn e (amounts_of f) (start.columns x.amounts) amounts) where
@@ -113,11 +113,11 @@ module _ (c : CountingCode) (e : Election) (f : Form) (x : Slots) (name amounts 
   abbrev Result : ExprResult → Type 0
   Result = IsShared e (stand f x name) amounts IsAward records (groups_of e f)
 
-  abbrev steps_of : List Award → List SeatStep
-  steps_of awards = flat_map (λ z. (records z.0 (awarded z.1)).steps) (zip (groups_of e f) awards)
-
-  abbrev weights_of : List Award → List Weight
-  weights_of awards = flat_map (λ z. (records z.0 (awarded z.1)).weights) (zip (groups_of e f) awards)
+  abbrev records_of : List Award → Records
+  records_of awards = record {
+    steps = flat_map (λ z. (records z.0 (awarded z.1)).steps) (zip (groups_of e f) awards);
+    weights = flat_map (λ z. (records z.0 (awarded z.1)).weights) (zip (groups_of e f) awards);
+  }
 
   -- a number for each entry
   abbrev Fits : Group → Award → Type 0
@@ -132,11 +132,7 @@ module _ (c : CountingCode) (e : Election) (f : Form) (x : Slots) (name amounts 
     long : EachPair Fits (groups_of e f) awards
     cells : HoldsAwards e f awards (t.columns x.result)
     columns : (slot q : ℕ) → slot ≢ x.result → t.columns slot q ≡ start.columns slot q
-    added : List SeatStep
-    steps : t.steps ≡ start.steps ++ added
-    are : IsPermutation added (steps_of awards)
-    weights : t.weights ≡ start.weights ++ weights_of awards
-    placed : (winner : ℕ) → t.placed winner ≡ start.placed winner
+    adds : AddsRecords (records_of awards) start t
 
   -- the result, where it is known whether a scope is over the limit
   result_is : (r : ExprResult) (o : Option Group) → first_over e (stand f x name) amounts (groups_of e f) ≡ o →
@@ -171,6 +167,10 @@ module _ (c : CountingCode) (e : Election) (f : Form) (x : Slots) (name amounts 
       let pushed : zip (groups_of e f) (inv.awards ++ a ∷ []) ≡ zip (groups_of e f) inv.awards ++ (g, a) ∷ [] = zip_push (groups_of e f) inv.awards g a here in
       let Steps : Group × Award → List SeatStep = λ z. (records z.0 (awarded z.1)).steps in
       let Weights : Group × Award → List Weight = λ z. (records z.0 (awarded z.1)).weights in
+      let more : both_records (records_of inv.awards) (records g h.seats) ≡ records_of (inv.awards ++ a ∷ []) = λ z. record {
+        steps = (flat_map_more Steps [] (zip (groups_of e f) inv.awards) (g, a) ∙ ap (flat_map Steps) (sym pushed)) z;
+        weights = (flat_map_more Weights [] (zip (groups_of e f) inv.awards) (g, a) ∙ ap (flat_map Weights) (sym pushed)) z;
+      } in
       record {
         awards = inv.awards ++ a ∷ [];
         many = length_push inv.awards a ∙ ap (λ n. n + 1) inv.many;
@@ -179,13 +179,7 @@ module _ (c : CountingCode) (e : Election) (f : Form) (x : Slots) (name amounts 
         long = pairs_push Fits (groups_of e f) inv.awards g a here inv.long h.cells.one_each;
         cells = one_award_more e f inv.awards g h.seats (s.columns x.result) (t.columns x.result) here inv.cells h.cells h.elsewhere;
         columns = λ slot q other. h.columns slot q other ∙ inv.columns slot q other;
-        added = inv.added ++ h.added;
-        steps = h.steps ∙ ap (λ l. l ++ h.added) inv.steps ∙ append_assoc start.steps inv.added h.added;
-        are = subst (IsPermutation (inv.added ++ h.added)) (flat_map_more Steps [] (zip (groups_of e f) inv.awards) (g, a) ∙ ap (flat_map Steps) (sym pushed))
-            (IsPermutation-append inv.added (steps_of inv.awards) h.added (records g h.seats).steps inv.are h.are);
-        weights = h.weights ∙ ap (λ l. l ++ (records g h.seats).weights) inv.weights ∙ flat_map_more Weights start.weights (zip (groups_of e f) inv.awards) (g, a)
-            ∙ ap (λ zs. start.weights ++ flat_map Weights zs) (sym pushed);
-        placed = λ winner. h.placed winner ∙ inv.placed winner;
+        adds = subst (λ r. AddsRecords r start (bare t)) more (adds_more (records_of inv.awards) (records g h.seats) start (bare s) (bare t) inv.adds h.adds);
       }
 
   one_scope : first_over e (stand f x name) amounts (groups_of e f) ≡ None → Every (λ g. slice_index amounts g.amount_place ≤ MAX_SEATS) (groups_of e f) →
@@ -201,7 +195,7 @@ module _ (c : CountingCode) (e : Election) (f : Form) (x : Slots) (name amounts 
   all_done : (t : State) → first_over e (stand f x name) amounts (groups_of e f) ≡ None → Done (length (groups_of e f)) (bare t) → HasResult e f x Result start t
   all_done t none h = record {
     values = pair_column e (votes_of f) (flat_map (λ z. zip z.0.entries (awarded z.1)) (zip (groups_of e f) h.awards));
-    records = record { steps = steps_of h.awards; weights = weights_of h.awards };
+    records = records_of h.awards;
     result = result_is _ None none (record {
       awards = h.awards;
       each = all_paired IsAward (groups_of e f) h.awards h.many h.each;
@@ -209,11 +203,7 @@ module _ (c : CountingCode) (e : Election) (f : Form) (x : Slots) (name amounts 
     });
     column = awards_make e f h.awards (t.columns x.result) h.cells h.many (all_paired Fits (groups_of e f) h.awards h.many h.long);
     columns = h.columns;
-    added = h.added;
-    steps = h.steps;
-    are = h.are;
-    weights = h.weights;
-    placed = h.placed;
+    adds = h.adds;
   }
 
   -- before the first scope
@@ -228,11 +218,8 @@ module _ (c : CountingCode) (e : Election) (f : Form) (x : Slots) (name amounts 
         long = no_pairs Fits (groups_of e f);
         cells = subst (HoldsAwards e f []) (sym (column_same s x.result (λ q. 0))) (no_awards e f);
         columns = λ slot q other. ap (λ (g : ℕ → ℕ). g q) (column_other s x.result (λ q. 0) slot other) ∙ h.columns slot q;
-        added = [];
-        steps = h.steps ∙ sym (append-nil start.steps);
-        are = subst (IsPermutation []) (ap (flat_map (λ z. (records z.0 (awarded z.1)).steps)) (sym none)) (IsPermutation-refl []);
-        weights = h.weights ∙ sym (append-nil start.weights) ∙ ap (λ zs. start.weights ++ flat_map (λ z. (records z.0 (awarded z.1)).weights) zs) (sym none);
-        placed = h.placed;
+        adds = subst (λ zs. AddsRecords (record { steps = flat_map (λ z. (records z.0 (awarded z.1)).steps) zs; weights = flat_map (λ z. (records z.0 (awarded z.1)).weights) zs }) start s)
+            (sym none) (adds_none start s h.steps h.weights h.placed);
       }
 
   over_limit : (g : Group) → first_over e (stand f x name) amounts (groups_of e f) ≡ Some g → EndsWith Result (Faulted (fault_at x.stage g.scope fault.Limit))

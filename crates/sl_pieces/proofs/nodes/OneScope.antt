@@ -69,11 +69,13 @@ award_from e x IsAward records g s t u same h = record {
   cells = h.cells;
   elsewhere = λ q out. h.elsewhere q out ∙ same.elsewhere q out;
   columns = λ slot q other. h.columns slot q other ∙ same.columns slot q other;
-  added = h.added;
-  steps = h.steps ∙ ap (λ xs. xs ++ h.added) same.steps;
-  are = h.are;
-  weights = h.weights ∙ ap (λ xs. xs ++ (records g h.seats).weights) same.weights;
-  placed = λ winner. h.placed winner ∙ same.placed winner;
+  adds = record {
+    added = h.adds.added;
+    steps = h.adds.steps ∙ ap (λ xs. xs ++ h.adds.added) same.steps;
+    are = h.adds.are;
+    weights = h.adds.weights ∙ ap (λ xs. xs ++ (records g h.seats).weights) same.weights;
+    placed = λ winner. h.adds.placed winner ∙ same.placed winner;
+  };
 }
 
 -- a state in which nothing else changed
@@ -259,11 +261,13 @@ module _ (c : CountingCode) (e : Election) (f : Form) (x : Slots) (name : List �
         cells = h.seated.cells;
         elsewhere = h.seated.elsewhere;
         columns = h.seated.columns;
-        added = h.seated.steps.added;
-        steps = h.seated.steps.steps;
-        are = subst (λ xs. IsPermutation h.seated.steps.added xs) (sym (means.steps s)) (h.seated.steps.are s top);
-        weights = h.seated.weights ∙ ap (λ xs. state.weights ++ xs) (sym (means.weights s));
-        placed = h.seated.placed;
+        adds = record {
+          added = h.seated.steps.added;
+          steps = h.seated.steps.steps;
+          are = subst (λ xs. IsPermutation h.seated.steps.added xs) (sym (means.steps s)) (h.seated.steps.are s top);
+          weights = h.seated.weights ∙ ap (λ xs. state.weights ++ xs) (sym (means.weights s));
+          placed = h.seated.placed;
+        };
       }
 
     module _ (ready : IsReady c e f x name k g v m seats state) (can : CanAward c e a MAX_SEATS seats x.stage meant)

@@ -1,9 +1,9 @@
 -- What the plans of an expression achieve (docs/compiler.md, section 4).
-use Rattle.std.specs.Prelude.{◌≡◌, ◌⊎◌, ℕ, ◌+◌, ◌<◌, ◌≤◌, true, List, ◌++◌, None, Some, slice_get, IsPermutation}
+use Rattle.std.specs.Prelude.{◌≡◌, ◌⊎◌, ℕ, ◌+◌, ◌<◌, ◌≤◌, true, List, None, Some, slice_get}
 use Rattle.std.specs.List.{AllZip}
+use Rattle.sl_stages.specs.declared.book.Shape.{Shape}
 use Rattle.sl_stages.specs.declared.book.Shape.TheVariants as shape
 use Rattle.sl_stages.specs.declared.fact.Fact.{Fact}
-use Rattle.sl_stages.specs.declared.table.SeatStep.{SeatStep}
 use Rattle.sl_stages.specs.declared.limits.TheConstants.{MAX_STAGES}
 use Rattle.sl_stages.specs.book.Tests.{first_failing}
 use Rattle.sl_stages.specs.book.Trees.{ExprTree, BookTree}
@@ -23,6 +23,7 @@ use Rattle.sl_pieces.specs.columns.Columns.{HoldsColumn}
 use Rattle.sl_pieces.specs.nodes.Nodes.{EndsWith}
 use Rattle.sl_pieces.specs.exprs.Slots.{fact_slots, passing, stage_slot, HasBookSlots, LEVELS, FIRST_STAGE_SLOT}
 use Rattle.sl_pieces.specs.exprs.Pieces.{pieces}
+use Rattle.sl_pieces.specs.nodes.Scopes.{AddsRecords}
 
 -- the columns of facts, and those of the stages before, are in their slots
 pub record HoldsKnown (b : BookTree) (e : Election) (types : List Column) (columns : List NamedColumn) (s : State) : Type 0 where
@@ -38,19 +39,19 @@ pub record StandsIn (c : CountingCode) (x : Context) : Type 0 where
   pub staged : slice_get c.stages x.stage ≡ Some stage
   pub named : stage.name ≡ x.name
 
--- the expression comes to a column: it is in the passing column of that level, its records are added, and no other slot is changed but those of
--- the same level and later ones
-pub record HasExpr (b : BookTree) (e : Election) (c : Context) (x : ExprTree) (level : ℕ) (before after : State) : Type 0 where
+-- a result comes to a column: it is in that slot, its records are added, and no slot below the first one and no stage's is changed
+pub record ComesTo (e : Election) (IsResult : results.ExprResult → Type 0) (of : Shape) (slot first : ℕ) (before after : State) : Type 0 where
   pub values : List ℕ
   pub records : Records
-  pub means : ExprMeans b e c x (results.Column values records)
-  pub column : HoldsColumn e (type_of c.types x).shape (after.columns (passing level (type_of c.types x).shape)) values
-  pub columns : (k q : ℕ) → (k < passing level shape.One) ⊎ (FIRST_STAGE_SLOT ≤ k) → after.columns k q ≡ before.columns k q
-  pub added : List SeatStep
-  pub steps : after.steps ≡ before.steps ++ added
-  pub are : IsPermutation added records.steps
-  pub weights : after.weights ≡ before.weights ++ records.weights
-  pub placed : (winner : ℕ) → after.placed winner ≡ before.placed winner
+  pub result : IsResult (results.Column values records)
+  pub column : HoldsColumn e of (after.columns slot) values
+  pub columns : (k q : ℕ) → (k < first) ⊎ (FIRST_STAGE_SLOT ≤ k) → after.columns k q ≡ before.columns k q
+  pub adds : AddsRecords records before after
+
+-- an expression comes to a column in the passing column of its level; it may change those of this level and of later ones
+abbrev pub HasExpr : BookTree → Election → Context → ExprTree → ℕ → State → State → Type 0
+HasExpr b e c x level =
+    ComesTo e (ExprMeans b e c x) (type_of c.types x).shape (passing level (type_of c.types x).shape) (passing level shape.One)
 
 -- a typed expression of at most so many levels
 abbrev pub ExprsAchieve : Type 0

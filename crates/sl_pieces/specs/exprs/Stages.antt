@@ -1,9 +1,8 @@
 -- The plans of a rulebook's stages, and what they achieve: behind the stages stand their columns and their records, or the run ended with the
 -- first fault (docs/compiler.md, section 5).
-use Rattle.std.specs.Prelude.{◌≡◌, ℕ, ◌+◌, ◌<◌, ◌≤◌, true, List, [], ◌∷◌, ◌++◌, None, Some, length, slice_get, IsPermutation}
+use Rattle.std.specs.Prelude.{◌≡◌, ℕ, ◌+◌, ◌<◌, ◌≤◌, true, List, [], ◌∷◌, ◌++◌, None, Some, length, slice_get}
 use Rattle.std.specs.List.{AllZip, list_all}
 use Rattle.sl_stages.specs.declared.fault.LegalFault.{LegalFault}
-use Rattle.sl_stages.specs.declared.table.SeatStep.{SeatStep}
 use Rattle.sl_stages.specs.declared.limits.TheConstants.{MAX_STAGES}
 use Rattle.sl_stages.specs.book.Tests.{first_failing}
 use Rattle.sl_stages.specs.book.Trees.{StageTree, BookTree}
@@ -21,6 +20,7 @@ use Rattle.sl_pieces.specs.columns.Trees.{copy_tree}
 use Rattle.sl_pieces.specs.exprs.Slots.{passing, stage_slot, HasBookSlots, FIRST_PASSING_SLOT}
 use Rattle.sl_pieces.specs.exprs.Pieces.{pieces}
 use Rattle.sl_pieces.specs.exprs.Meaning.{HoldsKnown}
+use Rattle.sl_pieces.specs.nodes.Scopes.{AddsRecords}
 
 -- those of the stage of that number: its expression, whose column is copied into the stage's slot
 abbrev pub stage_pieces : List Column → ℕ → StageTree → List Tree
@@ -43,11 +43,7 @@ pub record IsBehind (b : BookTree) (e : Election) (k : Known) (before s : State)
   pub typed : AllZip (IsTypedAs e) k.types k.columns
   pub known : HoldsKnown b e k.types k.columns s
   pub low : (slot q : ℕ) → slot < FIRST_PASSING_SLOT → s.columns slot q ≡ before.columns slot q
-  pub added : List SeatStep
-  pub steps : s.steps ≡ before.steps ++ added
-  pub are : IsPermutation added k.records.steps
-  pub weights : s.weights ≡ before.weights ++ k.records.weights
-  pub placed : (winner : ℕ) → s.placed winner ≡ before.placed winner
+  pub adds : AddsRecords k.records before s
 
 -- the stages come to their columns
 pub record HasColumns (b : BookTree) (e : Election) (k : Known) (ss : List StageTree) (before s : State) : Type 0 where

@@ -1,5 +1,5 @@
 -- What the plan of a split or of a growth achieves: the column and the records that it means, or the fault that it means (docs/blocks.md, section 4).
-use Rattle.std.specs.Prelude.{◌≡◌, ◌≢◌, ℕ, ◌≤◌, List, Option, Some, ◌++◌, IsPermutation}
+use Rattle.std.specs.Prelude.{◌≡◌, ◌≢◌, ℕ, ◌≤◌, List, Option, Some}
 use Rattle.sl_ratio.specs.declared.limits.TheConstants.{MAX_SEATS}
 use Rattle.sl_ratio.specs.declared.method.Divisor.{Divisor}
 use Rattle.sl_ratio.specs.declared.method.Method.{Method}
@@ -7,7 +7,6 @@ use Rattle.sl_ratio.specs.declared.method.Method.TheVariants as by
 use Rattle.sl_stages.specs.declared.book.Majority.{Majority}
 use Rattle.sl_stages.specs.declared.book.Shape.TheVariants as shape
 use Rattle.sl_stages.specs.declared.fault.LegalFault.{LegalFault}
-use Rattle.sl_stages.specs.declared.table.SeatStep.{SeatStep}
 use Rattle.sl_stages.specs.returns.Election.{Election, IsElection}
 use Rattle.sl_stages.specs.meaning.Scopes.{Group}
 use Rattle.sl_stages.specs.meaning.Records.{Records}
@@ -23,7 +22,7 @@ use Rattle.sl_pieces.specs.scopes.Forms.{Form, amounts_of, votes_of, groups_of}
 use Rattle.sl_pieces.specs.columns.Columns.{HoldsColumn}
 use Rattle.sl_pieces.specs.seats.Slots.{Slots, HasSlots}
 use Rattle.sl_pieces.specs.nodes.Trees.{shared, split_tree, grow_tree}
-use Rattle.sl_pieces.specs.nodes.Scopes.{HoldsArguments, DoesScopes, stand}
+use Rattle.sl_pieces.specs.nodes.Scopes.{AddsRecords, HoldsArguments, DoesScopes, stand}
 
 -- the node comes to a column: it is in the slot of the result, its records are added, and all else is as it was
 pub record HasResult (e : Election) (f : Form) (x : Slots) (IsResult : ExprResult → Type 0) (before after : State) : Type 0 where
@@ -32,11 +31,7 @@ pub record HasResult (e : Election) (f : Form) (x : Slots) (IsResult : ExprResul
   pub result : IsResult (Column values records)
   pub column : HoldsColumn e (votes_of f) (after.columns x.result) values
   pub columns : (slot q : ℕ) → slot ≢ x.result → after.columns slot q ≡ before.columns slot q
-  pub added : List SeatStep
-  pub steps : after.steps ≡ before.steps ++ added
-  pub are : IsPermutation added records.steps
-  pub weights : after.weights ≡ before.weights ++ records.weights
-  pub placed : (winner : ℕ) → after.placed winner ≡ before.placed winner
+  pub adds : AddsRecords records before after
 
 -- the node comes to a fault, and the run ends with it
 pub record EndsWith (IsResult : ExprResult → Type 0) (end : End) : Type 0 where

@@ -34,6 +34,16 @@ pub record HoldsArguments (e : Election) (f : Form) (x : Slots) (amounts votes :
 
 -- ---- a scope
 
+-- these records were added, those of seats in whatever order, and nobody was placed
+abbrev pub AddsRecords : Records → State → State → Type 0
+AddsRecords records before after = record {
+  added : List SeatStep;
+  steps : after.steps ≡ before.steps ++ added;
+  are : IsPermutation added records.steps;
+  weights : after.weights ≡ before.weights ++ records.weights;
+  placed : (winner : ℕ) → after.placed winner ≡ before.placed winner;
+}
+
 -- the scope comes to seats: they are in the cells of its entries, their records are added, and all else is as it was
 pub record HasAward (e : Election) (x : Slots) (IsAward : Group → Award → Type 0) (records : Group → List ℕ → Records) (g : Group) (before after : State) :
     Type 0 where
@@ -43,11 +53,7 @@ pub record HasAward (e : Election) (x : Slots) (IsAward : Group → Award → Ty
   pub cells : HasCells e g.entries (after.columns x.result) seats
   pub elsewhere : (q : ℕ) → ((j : ℕ) (i : Item) → slice_get g.entries j ≡ Some i → place e i ≢ q) → after.columns x.result q ≡ before.columns x.result q
   pub columns : (slot q : ℕ) → slot ≢ x.result → after.columns slot q ≡ before.columns slot q
-  pub added : List SeatStep
-  pub steps : after.steps ≡ before.steps ++ added
-  pub are : IsPermutation added (records g seats).steps
-  pub weights : after.weights ≡ before.weights ++ (records g seats).weights
-  pub placed : (winner : ℕ) → after.placed winner ≡ before.placed winner
+  pub adds : AddsRecords (records g seats) before after
 
 -- the scope comes to a fault, and the run ends with it
 pub record EndsFaulty (x : Slots) (IsAward : Group → Award → Type 0) (g : Group) (end : End) : Type 0 where
