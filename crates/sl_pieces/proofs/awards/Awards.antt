@@ -48,7 +48,7 @@ module _ (c : CountingCode) (e : Election) (a : Arena) (most seats n : ℕ) (mea
       let base : List ℕ = a.ladders.base in
       let first : State = with_register reg.ALL_LEFT (state.registers reg.LEFT) state in
       let left : state.registers reg.LEFT + sum base ≡ seats = omega (arith, all, can.enough) in
-      record { held = (fits.blind reg.TURNS refl).blind base _ first ((fits.blind reg.ALL_LEFT refl).blind base _ state held); left = left; all_left = left }
+      record { held = fits.blind reg.TURNS refl base _ first (fits.blind reg.ALL_LEFT refl base _ state held); left = left; all_left = left }
 
   all_awarded : (state : State) → HasWaiting a a.ladders.base state → Held a.ladders.base state → state.registers reg.LEFT ≡ seats - sum a.ladders.base
       → Achieves c e (awards n bound tie on) state (AreAwarded a seats meant Held) E

@@ -65,7 +65,7 @@ module _ (c : CountingCode) (e : Election) (a : Arena) (most seats r : ℕ) (beg
       record {
         t = h.t;
         waits = h.waits;
-        held = fits.own.blind h.t w one ((fits.blind ones refl).blind h.t 1 state h.held);
+        held = fits.own h.t w one (fits.blind ones refl h.t 1 state h.held);
         turn = rw (batch, step) h.turn;
       }
 
@@ -146,7 +146,7 @@ module _ (c : CountingCode) (e : Election) (a : Arena) (most seats r : ℕ) (beg
       let first : Before (none.registers r) none = record {
         t = t;
         waits = waits;
-        held = (fits.blind reg.IN_BATCH refl).blind t 0 state held;
+        held = fits.blind reg.IN_BATCH refl t 0 state held;
         turn = BetweenBatches settled refl (omega (arith, same, many));
       } in
       goes_as (all_turns bound none (omega (arith, same, few)) first) refl

@@ -95,7 +95,7 @@ module _ (c : CountingCode) (e : Election) (a : Arena) (most seats n : ℕ) (mea
     held_counted : (t : List ℕ) (w n : ℕ) (state : State) → Held t state → Held t (with_register reg.PEERS n (with_register reg.LEFT w (with_register ones 1 state)))
     held_counted t w n state h =
         let one : State = with_register ones 1 state in
-        (fits.blind reg.PEERS refl).blind t n (with_register reg.LEFT w one) ((fits.blind reg.LEFT refl).blind t w one ((fits.blind ones refl).blind t 1 state h))
+        fits.blind reg.PEERS refl t n (with_register reg.LEFT w one) (fits.blind reg.LEFT refl t w one (fits.blind ones refl t 1 state h))
 
     module _ (w : ℕ) (state : State) (drawing : IsDrawing a seats meant Held s tied (suc w) state) (seat : DrawnSeat e a meant can.name s tied drawing.t drawing.k) (number : ℕ) where
       -- the state of the machine before the seat is taken, and where the plan for it begins

@@ -83,7 +83,7 @@ module _ (c : CountingCode) (e : Election) (a : Arena) (Held : List ℕ → Stat
       let less : state.registers reg.IN_BATCH - 1 ≡ n = omega (arith, h.left) in
       ends_in refl (record {
         waits = h.waits;
-        held = (fits.blind reg.IN_BATCH refl).blind u (one.registers reg.IN_BATCH - one.registers ones) one ((fits.blind ones refl).blind u 1 state h.held);
+        held = fits.blind reg.IN_BATCH refl u (one.registers reg.IN_BATCH - one.registers ones) one (fits.blind ones refl u 1 state h.held);
         left = less;
         step = h.step;
       })
@@ -149,5 +149,5 @@ module _ (c : CountingCode) (e : Election) (a : Arena) (Held : List ℕ → Stat
         (λ none. let some = turn.some in absurd (omega (arith, some, none)))
         (λ m is.
         let counted : State = with_register reg.PEERS (suc m) state in
-        achieves_so (takes_seat s peers given t u entry n counted gets few few_after turn.first begun waits ((fits.blind reg.PEERS refl).blind t (suc m) state held) left)
+        achieves_so (takes_seat s peers given t u entry n counted gets few few_after turn.first begun waits (fits.blind reg.PEERS refl t (suc m) state held) left)
         (λ v h. record { u = u; entry = entry; mid = goes.0; total = total; after = h }))

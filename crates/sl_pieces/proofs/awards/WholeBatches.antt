@@ -107,12 +107,10 @@ module _ (c : CountingCode) (e : Election) (a : Arena) (most seats : ℕ) (on : 
   keeps = free_of (may_write_register on) award_registers fits.keeps
 
   pub counts_blind : (r : ℕ) → (reg.LEFT == r) ≡ false → (reg.ALL_LEFT == r) ≡ false → list_any (nat_eq r) (ones ∷ reg.PEERS ∷ award_registers) ≡ true → IsBlind (Counts a seats Held) r
-  counts_blind r not_left not_all of = record {
-    blind = λ t value state h. record {
-      held = (fits.blind r of).blind t value state h.held;
-      left = ap (λ (b : Bool). (if b then value else state.registers reg.LEFT) + sum t) not_left ∙ h.left;
-      all_left = ap (λ (b : Bool). (if b then value else state.registers reg.ALL_LEFT) + sum a.ladders.base) not_all ∙ h.all_left;
-    };
+  counts_blind r not_left not_all of t value state h = record {
+    held = fits.blind r of t value state h.held;
+    left = ap (λ (b : Bool). (if b then value else state.registers reg.LEFT) + sum t) not_left ∙ h.left;
+    all_left = ap (λ (b : Bool). (if b then value else state.registers reg.ALL_LEFT) + sum a.ladders.base) not_all ∙ h.all_left;
   }
 
   -- ---- a seat
@@ -120,7 +118,7 @@ module _ (c : CountingCode) (e : Election) (a : Arena) (most seats : ℕ) (on : 
   held_less : (t : List ℕ) (state : State) → Held t state → Held t (lessened state)
   held_less t state h =
       let s : State = with_register ones 1 state in
-      (fits.blind reg.LEFT refl).blind t (state.registers reg.LEFT - 1) s ((fits.blind ones refl).blind t 1 state h)
+      fits.blind reg.LEFT refl t (state.registers reg.LEFT - 1) s (fits.blind ones refl t 1 state h)
 
   module _ (arena : IsArena most a) (gives : GivesSeats c e a most (IsCounted a seats) Held on) (s tied given t u : List ℕ) (entry : ℕ) (state : State)
       (gets : Gets a s tied given t u entry) where
@@ -179,17 +177,17 @@ module _ (c : CountingCode) (e : Election) (a : Arena) (most seats : ℕ) (on : 
 
   -- what holds does not depend on the registers of a batch,
   pub counts_peers : (t : List ℕ) (n : ℕ) (state : State) → Counts a seats Held t state → Counts a seats Held t (with_register reg.PEERS n state)
-  counts_peers t n state h = (counts_blind reg.PEERS refl refl refl).blind t n state h
+  counts_peers t n state h = counts_blind reg.PEERS refl refl refl t n state h
 
   counts_batch : (t : List ℕ) (n : ℕ) (state : State) → Counts a seats Held t state → Counts a seats Held t (with_register reg.IN_BATCH n state)
-  counts_batch t n state h = (counts_blind reg.IN_BATCH refl refl refl).blind t n state h
+  counts_batch t n state h = counts_blind reg.IN_BATCH refl refl refl t n state h
 
   held_stepping : (t : List ℕ) (state : State) → Held t state → Held t (stepping state)
   held_stepping t state h =
       let first : State = with_register reg.STEP (state.registers reg.ALL_LEFT) state in
       let second : State = with_register reg.STEP (state.registers reg.ALL_LEFT - state.registers reg.LEFT) first in
       let step : IsBlind Held reg.STEP = fits.blind reg.STEP refl in
-      step.blind t _ (with_register ones 1 second) ((fits.blind ones refl).blind t 1 second (step.blind t _ first (step.blind t _ state h)))
+      step t _ (with_register ones 1 second) (fits.blind ones refl t 1 second (step t _ first (step t _ state h)))
 
   pub counts_stepping : (t : List ℕ) (state : State) → Counts a seats Held t state → Counts a seats Held t (stepping state)
   counts_stepping t state h = record { held = held_stepping t state h.held; left = h.left; all_left = h.all_left }

@@ -150,5 +150,5 @@ module _ (eligible : ℕ → Bool) (e : Election) (base : List ℕ) (l : ℕ × 
     pub seats_fit : FitsAwards Seated (Line (Seat ∷ []))
     seats_fit = record {
       keeps = refl;
-      blind = λ r of. record { blind = λ t value s h. record { placed = h.placed } };
+      blind = λ r of t value s h. record { placed = h.placed };
     }

@@ -241,8 +241,8 @@ module _ {c : CountingCode} {e : Election} {f : Form} {x : Slots} {name : List �
   fits_loop : FitsLoop Held reg.LEFT search_batch (search_seat (with_minima x slot) d)
   fits_loop = record {
     apart = refl;
-    own = record { blind = λ t value s h. h };
-    blind = each_of (IsBlind Held) (ones ∷ reg.PEERS ∷ reg.IN_BATCH ∷ []) (record { blind = λ t value s h. h }, (record { blind = λ t value s h. h }, (record { blind = λ t value s h. h }, tt)));
+    own = λ t value s h. h;
+    blind = each_of (IsBlind Held) (ones ∷ reg.PEERS ∷ reg.IN_BATCH ∷ []) (λ t value s h. h, (λ t value s h. h, (λ t value s h. h, tt)));
     begin_keeps = refl;
     on_keeps = refl;
     keeps = refl;

@@ -1,9 +1,8 @@
 -- The entry of a seat gets it: its cell is one more, the record is told, its next seat waits again; and what stands in the scope still stands.
-use Rattle.std.proofs.Common.{◌≡◌, ◌≢◌, ℕ, ◌+◌, ◌≤◌, min, List, [], ◌∷◌, ◌++◌, Some, slice_get, refl, sym, ap, subst, ◌∙◌, arith, false, inl, inr, true}
-use Rattle.std.specs.Prelude.{slice_index, nat_eq}
-use Rattle.std.proofs.lemmas.Bool.{cases_eq, or_parts, false≢true}
+use Rattle.std.proofs.Common.{◌≡◌, ◌≢◌, ℕ, ◌+◌, ◌≤◌, min, List, [], ◌∷◌, ◌++◌, Some, slice_get, refl, sym, ap, subst, ◌∙◌, arith, false, inl, inr}
+use Rattle.std.specs.Prelude.{slice_index}
+use Rattle.std.proofs.lemmas.Bool.{cases_eq, or_parts}
 use Rattle.std.proofs.lemmas.Option.{same_Some}
-use Rattle.std.specs.List.{list_any}
 use Rattle.sl_ratio.specs.declared.entry.Entry.{Entry}
 use Rattle.sl_ratio.specs.declared.limits.TheConstants.{MAX_SEATS}
 use Rattle.sl_stages.specs.declared.fault.Item.{Item}
@@ -21,12 +20,12 @@ use Rattle.sl_machine.specs.Places.{index_at, item_of, at_entry}
 use Rattle.sl_machine.specs.Effects.{most, with_step}
 use Rattle.sl_machine.proofs.effects.Registers.{get_does, store_does}
 use Rattle.sl_machine.proofs.effects.Records.{emit_does}
-use Rattle.sl_machine.proofs.effects.Storing.{cell_same, cell_other_place, cell_other_slot, register_other}
+use Rattle.sl_machine.proofs.effects.Storing.{cell_same, cell_other_place, cell_other_slot}
 use Rattle.sl_plans.specs.Trees.{Line, ones, Tree}
 use Rattle.sl_plans.specs.Achieves.{Achieves, Never}
 use Rattle.sl_plans.proofs.Rules.{line_ends, line_goes, then_achieves}
 use Rattle.sl_plans.specs.Frames.{may_write_register, may_record_weight, KeepsRest}
-use Rattle.sl_plans.proofs.KeepingRules.{achieves_keeping}
+use Rattle.sl_plans.proofs.KeepingRules.{achieves_keeping, each_of}
 use Rattle.sl_pieces.specs.scopes.Forms.{Form, votes_of, table_of, kind_of, OnItem}
 use Rattle.sl_pieces.specs.scopes.Scopes.{IsEntry}
 use Rattle.sl_pieces.specs.arenas.Arenas.{Arena, table_of as table_with, seat_taken, HasWaiting}
@@ -170,17 +169,6 @@ module _ (c : CountingCode) (e : Election) (f : Form) (x : Slots) (name : List �
       seated_unchanged e x g a v seats told before u s t seated (unchanged again s t (record { columns = leaves.columns; steps = leaves.steps; weights = re.weights; placed = leaves.placed }) kept)
       (scope_stays g.scope s t (kept.party leaves.party) (kept.land leaves.land) seated.on) (register_kept leaves kept reg.AMOUNT refl) (register_kept leaves kept reg.TOTAL refl)
 
-  -- the registers of the awards are no part of it
-  seated_blind : (r : ℕ) → list_any (nat_eq r) (ones ∷ reg.PEERS ∷ award_registers) ≡ true → IsBlind (IsSeated e x g a v seats told before) r
-  seated_blind r of =
-      let apart : (q : ℕ) → list_any (nat_eq q) (ones ∷ reg.PEERS ∷ award_registers) ≡ false → q ≢ r = (λ q none same. false≢true (sym none ∙ ap (λ (k : ℕ). list_any (nat_eq k) (ones ∷ reg.PEERS ∷ award_registers)) same ∙ of)) in
-      record {
-        blind = λ t value s seated.
-            let u : State = with_register r value s in
-            seated_unchanged e x g a v seats told before t s u seated (record { columns = λ slot q. refl; steps = refl; weights = refl; placed = λ winner. refl })
-            seated.on (register_other s r value reg.AMOUNT (apart reg.AMOUNT refl)) (register_other s r value reg.TOTAL (apart reg.TOTAL refl));
-      }
-
   -- ---- a seat more
 
   module _ (s peers given t u : List ℕ) (j : ℕ) (i : Item) (gets : Gets a s peers given t u j) (at : slice_get g.entries j ≡ Some i) (tab : PriorityTable) (m : Mark) (r : SeatStep)
@@ -207,7 +195,7 @@ module _ (c : CountingCode) (e : Election) (f : Form) (x : Slots) (name : List �
       cells = record { one_each = gets.raised.same_length ∙ seated.cells.one_each; at = cell_next };
       elsewhere = λ q none. got.elsewhere q (λ same. none j i at (sym same)) ∙ ap (λ (y : ℕ → ℕ → ℕ). y x.result q) taken.columns ∙ seated.elsewhere q none;
       columns = λ slot q other. got.columns slot q other ∙ ap (λ (y : ℕ → ℕ → ℕ). y slot q) taken.columns ∙ seated.columns slot q other;
-      steps = steps_grow gets of.arena.falling begun x g i before state next at seated.steps
+      steps = steps_grow gets of.arena.falling begun x g i before.steps state.steps next.steps at seated.steps
           (got.steps ∙ (λ z. taken.steps z ++ is z ∷ []));
       weights = got.weights ∙ taken.weights ∙ seated.weights;
       placed = λ w. ap (λ y. y w) (got.placed ∙ taken.placed) ∙ seated.placed w;
@@ -248,5 +236,6 @@ module _ (c : CountingCode) (e : Election) (f : Form) (x : Slots) (name : List �
     pub seats_fit : FitsAwards (IsSeated e x g a v seats told before) (seat f x again)
     seats_fit = record {
       keeps = (or_parts (may_write_register again reg.TOTAL) _ (or_parts (may_write_register again reg.AMOUNT) _ re.leaves.registers).1).1;
-      blind = seated_blind;
+      blind = each_of (IsBlind (IsSeated e x g a v seats told before)) (ones ∷ reg.PEERS ∷ award_registers)
+          (λ t n s h. h, (λ t n s h. h, (λ t n s h. h, (λ t n s h. h, (λ t n s h. h, (λ t n s h. h, (λ t n s h. h, tt)))))));
     }

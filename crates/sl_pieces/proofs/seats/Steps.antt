@@ -18,7 +18,6 @@ use Rattle.sl_stages.specs.laws.Awards.{BatchLaws}
 use Rattle.sl_stages.proofs.meaning.ChangedPieces.{ChangesPiece, changes_piece}
 use Rattle.sl_stages.proofs.methods.LadderProofs.{batches}
 use Rattle.sl_stages.proofs.methods.RaisedSeats.{Contains-head}
-use Rattle.sl_machine.specs.State.{State}
 use Rattle.sl_pieces.specs.arenas.Arenas.{Arena}
 use Rattle.sl_pieces.specs.inner.awards.Batches.{Gets}
 use Rattle.sl_pieces.specs.inner.awards.Awards.{IsCounted}
@@ -93,14 +92,14 @@ module _ {a : Arena} {s peers given t u : List ℕ} {j : ℕ} (gets : Gets a s p
         ∙ ap made (step_is w top)
 
     -- once it was added, the records are those of the seats that the entries hold then
-    pub steps_grow : (before now next : State) → slice_get g.entries j ≡ Some i → HasSteps x g a seats before t now →
-        next.steps ≡ now.steps ++ awarded_step x.stage g.scope i (slice_index t j) step (a.won j (slice_index t j)) ∷ [] → HasSteps x g a seats before u next
+    pub steps_grow : (before now next : List SeatStep) → slice_get g.entries j ≡ Some i → HasSteps x g a seats before t now →
+        next ≡ now ++ awarded_step x.stage g.scope i (slice_index t j) step (a.won j (slice_index t j)) ∷ [] → HasSteps x g a seats before u next
     steps_grow before now next at has told =
         let mine : SeatStep = awarded_step x.stage g.scope i (slice_index t j) step (a.won j (slice_index t j)) in
         let r : List SeatStep = mine ∷ [] in
         record {
           added = has.added ++ r;
-          steps = told ∙ ap (λ l. l ++ r) has.steps ∙ append_assoc before.steps has.added r;
+          steps = told ∙ ap (λ l. l ++ r) has.steps ∙ append_assoc before has.added r;
           are = λ w top.
               let made : ℕ → Item → ℕ → SeatStep = seat_step x.stage g.scope g.entries a.ladders a.won w in
               let old : List SeatStep = steps_upto x.stage g a.ladders a.won w t in

@@ -37,8 +37,8 @@ pub record GivesSeats (c : CountingCode) (e : Election) (a : Arena) (most : ℕ)
       Achieves c e on (seat_taken e a entry (slice_index t entry) gets.taken.others state) (λ after. HasWaiting a u after × Held u after) Never
 
 -- what holds of a state does not depend on the register
-pub record IsBlind (Held : List ℕ → State → Type 0) (r : ℕ) : Type 0 where
-  pub blind : (t : List ℕ) (value : ℕ) (state : State) → Held t state → Held t (with_register r value state)
+abbrev pub IsBlind : (List ℕ → State → Type 0) → ℕ → Type 0
+IsBlind Held r = (t : List ℕ) (value : ℕ) (state : State) → Held t state → Held t (with_register r value state)
 
 -- ---- batches
 

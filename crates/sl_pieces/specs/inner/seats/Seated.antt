@@ -22,20 +22,21 @@ steps_upto stage g l won w t =
     flat_map (λ x. map (seat_step stage g.scope g.entries l won w x.0 x.1) (range_with_len 0 (slice_index t x.0))) (enumerate_from 0 g.entries)
 
 -- these records were added, in whatever order; and they are those of the seats that the entries hold, whatever is chosen in the end
-pub record HasSteps (x : Slots) (g : Group) (a : Arena) (seats : ℕ) (before : State) (t : List ℕ) (s : State) : Type 0 where
+pub record HasSteps (x : Slots) (g : Group) (a : Arena) (seats : ℕ) (before : List SeatStep) (t : List ℕ) (now : List SeatStep) : Type 0 where
   pub added : List SeatStep
-  pub steps : s.steps ≡ before.steps ++ added
+  pub steps : now ≡ before ++ added
   pub are : (w : List ℕ) → IsTop a.ladders seats w → IsPermutation added (steps_upto x.stage g a.ladders a.won w t)
 
 -- from the state before on, the entries of the scope have got t, out of so many seats, and these weights were told
-pub record IsSeated (e : Election) (x : Slots) (g : Group) (a : Arena) (v : List ℕ) (seats : ℕ) (told : List Weight) (before : State) (t : List ℕ) (s : State) :
-    Type 0 where
-  pub on : OnScope g.scope s
-  pub amount : s.registers reg.AMOUNT ≡ seats
-  pub total : s.registers reg.TOTAL ≡ sum v
-  pub cells : HasCells e g.entries (s.columns x.result) t
-  pub elsewhere : (q : ℕ) → ((j : ℕ) (i : Item) → slice_get g.entries j ≡ Some i → place e i ≢ q) → s.columns x.result q ≡ before.columns x.result q
-  pub columns : (slot q : ℕ) → slot ≢ x.result → s.columns slot q ≡ before.columns slot q
-  pub steps : HasSteps x g a seats before t s
-  pub weights : s.weights ≡ before.weights ++ told
-  pub placed : (winner : ℕ) → s.placed winner ≡ before.placed winner
+abbrev pub IsSeated : Election → Slots → Group → Arena → List ℕ → ℕ → List Weight → State → List ℕ → State → Type 0
+IsSeated e x g a v seats told before t s = record {
+  on : OnScope g.scope s;
+  amount : s.registers reg.AMOUNT ≡ seats;
+  total : s.registers reg.TOTAL ≡ sum v;
+  cells : HasCells e g.entries (s.columns x.result) t;
+  elsewhere : (q : ℕ) → ((j : ℕ) (i : Item) → slice_get g.entries j ≡ Some i → place e i ≢ q) → s.columns x.result q ≡ before.columns x.result q;
+  columns : (slot q : ℕ) → slot ≢ x.result → s.columns slot q ≡ before.columns slot q;
+  steps : HasSteps x g a seats before.steps t s.steps;
+  weights : s.weights ≡ before.weights ++ told;
+  placed : (winner : ℕ) → s.placed winner ≡ before.placed winner;
+}
