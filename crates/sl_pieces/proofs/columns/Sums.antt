@@ -31,7 +31,7 @@ use Rattle.sl_pieces.specs.columns.Trees.{total, cell, cells_plan, add_cells, su
 use Rattle.sl_pieces.specs.columns.Columns.{HoldsColumn, GetsColumn}
 use Rattle.sl_pieces.specs.columns.Laws.{SumsAreTaken}
 use Rattle.sl_pieces.proofs.columns.Cells.{Suits, SuitsShape, suits_shape, cell_kept, each_cell}
-use Rattle.sl_pieces.proofs.columns.Writing.{Written, written_with, written_suits, one_more_written, as_before, column_written}
+use Rattle.sl_pieces.proofs.columns.Writing.{Written, written_suits, one_more_written, as_before, column_written}
 
 -- the sum of the first ones and the next one, within the sum of all
 next_sum : (xs : List ℕ) (i : ℕ) → i < length xs → sum xs ≤ most → min (sum (take i xs) + slice_index xs i) most ≡ sum (take (i + 1) xs)
@@ -44,23 +44,21 @@ add_cell from = Line (Get cell from ∷ (Add total cell ∷ []))
 -- with a register for the sum of the first ones of the numbers that make cell p
 module _ (c : CountingCode) (e : Election) (s : Shape) (from to : ℕ) (result : ℕ → ℕ) (before : State) (p : ℕ) (summands : List ℕ) (known_from : slice_get c.slots from ≡ Some s)
     (fits : sum summands ≤ most) where
-  record Summed (n : ℕ) (t : State) : Type 0 where
-    total_is : t.registers total ≡ sum (take n summands)
-    written : Written to result before p t
+  abbrev Summed : ℕ → State → Type 0
+  Summed n t = record { total_is : t.registers total ≡ sum (take n summands); written : Written to result before p t }
 
   one_added : (i q : ℕ) (t : State) → i < length summands → cell_at e s t ≡ Some q → t.columns from q ≡ slice_index summands i → Summed i t → Achieves c e (add_cell from) t (Summed (i + 1)) Never
   one_added i q t less at read h =
       let x : ℕ = t.columns from q in
-      let v : State = with_register total (min (t.registers total + x) most) (with_register cell x t) in
       let so_far : t.registers total ≡ sum (take i summands) = h.total_is in
       let is : min (t.registers total + x) most ≡ sum (take (i + 1) summands) = omega (arith, so_far, read, next_sum summands i less fits) in
       line_goes (get_does c e t from s known_from cell q at)
-      (ends_in refl (record { total_is = is; written = written_with to result before p v.registers t h.written }))
+      (ends_in refl (record { total_is = is; written = h.written }))
 
   summed_suits : (over : Cursor) → may_move (add_cell from) over ≡ false → Suits over (add_cell from) Summed
-  summed_suits cursor.Party still = record { still = still; moved = λ n o t h. record { total_is = h.total_is; written = (written_suits to result before cursor.Party (add_cell from) still).moved p o t h.written } }
-  summed_suits cursor.Land still = record { still = still; moved = λ n o t h. record { total_is = h.total_is; written = (written_suits to result before cursor.Land (add_cell from) still).moved p o t h.written } }
-  summed_suits cursor.Win still = record { still = still; moved = λ n o t h. record { total_is = h.total_is; written = (written_suits to result before cursor.Win (add_cell from) still).moved p o t h.written } }
+  summed_suits cursor.Party still = record { still = still; moved = λ n o t h. h }
+  summed_suits cursor.Land still = record { still = still; moved = λ n o t h. h }
+  summed_suits cursor.Win still = record { still = still; moved = λ n o t h. h }
 
   -- a loop adds the cells of a Land, or of a party: On says that the other cursor stands there
   row_added : (over : Cursor) (On : State → Type 0) (place : ℕ → ℕ) → length summands ≡ count_of e over → may_move (add_cell from) over ≡ false
@@ -84,10 +82,9 @@ module _ (c : CountingCode) (e : Election) (s : Shape) (from to : ℕ) (result :
       → ((u : State) → cell_at e made u ≡ Some p → Summed 0 u → Achieves c e (over (add_cell from)) u (λ v. Summed (length summands) v × (cell_at e made v ≡ Some p)) Never)
       → cell_at e made t ≡ Some p → Written to result before p t → Achieves c e (add_cells over from to) t (Written to result before (p + 1)) Never
   one_sum over made t known_to is walk at h =
-      let u : State = with_register total 0 t in
       let all : sum (take (length summands) summands) ≡ sum summands = ap sum (take_all (length summands) summands (omega arith)) in
       then_achieves {Q = λ u. Summed 0 u × (cell_at e made u ≡ Some p)}
-      (ends_in refl (record { total_is = refl; written = written_with to result before p u.registers t h }, cell_kept e made u.registers t (Some p) at))
+      (ends_in refl (record { total_is = refl; written = h }, cell_kept e made (with_register total 0 t).registers t (Some p) at))
       (λ v k.
       then_achieves (walk v k.1 k.0)
       (λ w m. line_goes (store_does c e w to made known_to total p m.1) (line_ends (one_more_written to result before p (w.registers total) w (m.0.total_is ∙ all ∙ is) m.0.written))))

@@ -1,5 +1,5 @@
 -- Columns that are written cell by cell: copies and pairs.
-use Rattle.std.proofs.Common.{◌≡◌, ℕ, ◌+◌, ◌<◌, ◌≤◌, false, List, [], ◌∷◌, length, map, zip, slice_get, slice_index, Option, Some, refl, sym, ap, ap₂, ◌∙◌, inl, inr, arith}
+use Rattle.std.proofs.Common.{◌≡◌, ℕ, ◌+◌, ◌<◌, ◌≤◌, false, List, [], ◌∷◌, length, map, zip, slice_get, slice_index, Some, refl, sym, ap, ap₂, ◌∙◌, inl, inr, arith}
 use Rattle.std.proofs.lemmas.Bool.{cases_eq}
 use Rattle.std.proofs.lemmas.List.{length-map, get_or-map}
 use Rattle.std.proofs.lemmas.Slice.Zip.{length-zip, get_or-zip}
@@ -28,10 +28,12 @@ use Rattle.sl_pieces.specs.columns.Laws.{ColumnsAreCopied, PairsAreTaken}
 use Rattle.sl_pieces.proofs.columns.Cells.{Suits, SuitsShape, suits_shape, cell_kept, each_cell}
 
 -- so many cells of a column are written, its others are as they were, and nothing else is changed
-pub record Written (slot : ℕ) (result : ℕ → ℕ) (before : State) (n : ℕ) (t : State) : Type 0 where
-  pub done : (q : ℕ) → q < n → t.columns slot q ≡ result q
-  pub rest : (q : ℕ) → n ≤ q → t.columns slot q ≡ before.columns slot q
-  pub changes : ChangesColumn slot before t
+abbrev pub Written : ℕ → (ℕ → ℕ) → State → ℕ → State → Type 0
+Written slot result before n t = record {
+  done : (q : ℕ) → q < n → t.columns slot q ≡ result q;
+  rest : (q : ℕ) → n ≤ q → t.columns slot q ≡ before.columns slot q;
+  changes : ChangesColumn slot before t;
+}
 
 module _ (slot : ℕ) (result : ℕ → ℕ) (before : State) where
   pub none_written : Written slot result before 0 before
@@ -42,21 +44,10 @@ module _ (slot : ℕ) (result : ℕ → ℕ) (before : State) where
   }
 
   -- registers and cursors are no columns
-  pub written_besides : (n : ℕ) (registers : ℕ → ℕ) (party land win : Option ℕ) (t : State) → Written slot result before n t
-      → Written slot result before n (record t { registers = registers; party = party; land = land; win = win })
-  written_besides n registers party land win t h = record {
-    done = h.done;
-    rest = h.rest;
-    changes = record { columns = h.changes.columns; steps = h.changes.steps; weights = h.changes.weights; placed = h.changes.placed };
-  }
-
   pub written_suits : (over : Cursor) (body : Tree) → may_move body over ≡ false → Suits over body (Written slot result before)
-  written_suits cursor.Party body still = record { still = still; moved = λ n o t h. written_besides n t.registers o t.land t.win t h }
-  written_suits cursor.Land body still = record { still = still; moved = λ n o t h. written_besides n t.registers t.party o t.win t h }
-  written_suits cursor.Win body still = record { still = still; moved = λ n o t h. written_besides n t.registers t.party t.land o t h }
-
-  pub written_with : (n : ℕ) (registers : ℕ → ℕ) (t : State) → Written slot result before n t → Written slot result before n (record t { registers = registers })
-  written_with n registers t h = written_besides n registers t.party t.land t.win t h
+  written_suits cursor.Party body still = record { still = still; moved = λ n o t h. h }
+  written_suits cursor.Land body still = record { still = still; moved = λ n o t h. h }
+  written_suits cursor.Win body still = record { still = still; moved = λ n o t h. h }
 
   pub one_more_written : (n v : ℕ) (t : State) → v ≡ result n → Written slot result before n t → Written slot result before (n + 1) (with_cell slot n v t)
   one_more_written n v t is h = record {
@@ -108,7 +99,7 @@ columns_are_copied c e s from to values state known_from known_to apart holds =
     let is : x ≡ slice_index values q = as_before to (slice_index values) state from q q t (omega arith) h ∙ holds.at q within in
     line_goes (get_does c e t from s known_from cell q at)
     (line_goes (store_does c e u to s known_to cell q (cell_kept e s u.registers t (Some q) at))
-    (line_ends (one_more_written to (slice_index values) state q x u is (written_with to (slice_index values) state q u.registers t h)))))
+    (line_ends (one_more_written to (slice_index values) state q x u is h))))
 
 -- ---- two columns, cell by cell
 
@@ -133,7 +124,7 @@ module _ (c : CountingCode) (e : Election) (s : Shape) (left right to : ℕ) (va
       (line_goes (get_does c e u right s known_right other q (cell_kept e s u.registers t (Some q) at))
       (line_goes (does_op v)
       (line_goes (store_does c e w to s known_to cell q (cell_kept e s w.registers t (Some q) at))
-      (line_ends (one_more_written to (slice_index values) state q (f x y) w is (written_with to (slice_index values) state q w.registers t h))))))
+      (line_ends (one_more_written to (slice_index values) state q (f x y) w is h)))))
 
 -- pairs of cells
 module _ (f : ℕ → ℕ → ℕ) (xs ys : List ℕ) (n : ℕ) (long : length xs ≡ n) (same : length ys ≡ n) where

@@ -42,13 +42,15 @@ abbrev pub table_with : List (ℕ × Win) → PriorityTable
 table_with winners = record { entries = entries.Win; ranking = ranking.Quotients; contents = ranked (map entry_of winners) }
 
 -- of the first j winners these are the list's: they wait, and are counted, and there are so many seats
-pub record AreEntered (e : Election) (x : CoverSlots) (eligible : ℕ → Bool) (base : List ℕ) (l : ℕ × ℕ) (j : ℕ) (winners : List (ℕ × Win)) (t : State) : Type 0 where
-  pub read : AreRead e x eligible base t.columns
-  pub amount : t.registers reg.AMOUNT ≡ number_of e eligible base (l.0 * parties_of e + l.1)
-  pub table : t.table ≡ Some (table_with winners)
-  pub total : t.registers reg.TOTAL ≡ length winners
-  pub few : length winners ≤ j
-  pub left : 0 < length winners → t.registers reg.LEFT ≡ list_cell e base l.0 l.1
+abbrev pub AreEntered : Election → CoverSlots → (ℕ → Bool) → List ℕ → ℕ × ℕ → ℕ → List (ℕ × Win) → State → Type 0
+AreEntered e x eligible base l j winners t = record {
+  read : AreRead e x eligible base t.columns;
+  amount : t.registers reg.AMOUNT ≡ number_of e eligible base (l.0 * parties_of e + l.1);
+  table : t.table ≡ Some (table_with winners);
+  total : t.registers reg.TOTAL ≡ length winners;
+  few : length winners ≤ j;
+  left : 0 < length winners → t.registers reg.LEFT ≡ list_cell e base l.0 l.1;
+}
 
 module _ (c : CountingCode) (e : Election) (x : CoverSlots) (eligible : ℕ → Bool) (base : List ℕ) (l : ℕ × ℕ) where
   abbrev says : ℕ × Win → Bool

@@ -1,5 +1,5 @@
 -- The winners of each list are counted; then the contested pairs of a Land and a party have their numbers, and all others have 0.
-use Rattle.std.proofs.Common.{◌≡◌, ◌≢◌, ℕ, ◌+◌, ◌*◌, ◌<◌, ◌≤◌, Bool, true, false, cond, min, [], ◌∷◌, ◌++◌, length, Some, slice_get, refl, sym, ap, ◌∙◌, inl, inr, arith, ◌-◌, List, ne_eqb}
+use Rattle.std.proofs.Common.{◌≡◌, ◌≢◌, ℕ, ◌+◌, ◌*◌, ◌<◌, ◌≤◌, Bool, true, false, cond, min, [], ◌∷◌, ◌++◌, length, Some, slice_get, refl, sym, ap, subst, ◌∙◌, inl, inr, arith, ◌-◌, List, ne_eqb}
 use Rattle.std.proofs.lemmas.Bool.{cases_eq}
 use Rattle.std.proofs.lemmas.Option.{slice_get_within}
 use Rattle.std.proofs.lemmas.List.{append-nil, length-append}
@@ -109,11 +109,13 @@ pairs_countable e is =
     omega (arith, few, is.parties)
 
 -- the first n pairs have their numbers, the others still the number of their winners; and so many are contested
-pub record AreNumbered (e : Election) (x : CoverSlots) (eligible : ℕ → Bool) (base : List ℕ) (n : ℕ) (t : State) : Type 0 where
-  pub numbers : (q : ℕ) → q < n → t.columns x.numbers q ≡ number_of e eligible base q
-  pub counts : (q : ℕ) → n ≤ q → q < lands_of e * parties_of e → t.columns x.numbers q ≡ many_at e eligible q
-  pub seats : (q : ℕ) → q < lands_of e * parties_of e → t.columns x.base q ≡ slice_index base q
-  pub count : t.registers reg.NEEDED ≡ contested_before e eligible base n
+abbrev pub AreNumbered : Election → CoverSlots → (ℕ → Bool) → List ℕ → ℕ → State → Type 0
+AreNumbered e x eligible base n t = record {
+  numbers : (q : ℕ) → q < n → t.columns x.numbers q ≡ number_of e eligible base q;
+  counts : (q : ℕ) → n ≤ q → q < lands_of e * parties_of e → t.columns x.numbers q ≡ many_at e eligible q;
+  seats : (q : ℕ) → q < lands_of e * parties_of e → t.columns x.base q ≡ slice_index base q;
+  count : t.registers reg.NEEDED ≡ contested_before e eligible base n;
+}
 
 -- the number of pair n is in its register, and the pair is counted if it is contested
 record HasNumber (e : Election) (eligible : ℕ → Bool) (base : List ℕ) (l p n : ℕ) (t u : State) : Type 0 where
@@ -132,12 +134,7 @@ module _ (c : CountingCode) (e : Election) (x : CoverSlots) (eligible : ℕ → 
 
   -- the same for so many pairs under another name
   numbered_at : (m n : ℕ) (t : State) → m ≡ n → Numbered m t → Numbered n t
-  numbered_at m n t same h = record {
-    numbers = λ q less. h.numbers q (omega (arith, less, same));
-    counts = λ q high low. h.counts q (omega (arith, high, same)) low;
-    seats = h.seats;
-    count = h.count ∙ ap (contested_before e eligible base) same;
-  }
+  numbered_at m n t same h = subst (λ (k : ℕ). Numbered k t) same h
 
   module _ (l p : ℕ) (t : State) (in_land : l < lands_of e) (in_party : p < parties_of e) (h : Numbered (l * parties_of e + p) t) (land : t.land ≡ Some l) where
     abbrev n : ℕ
@@ -218,15 +215,9 @@ module _ (c : CountingCode) (e : Election) (x : CoverSlots) (eligible : ℕ → 
   numbers_land : (l : ℕ) (t : State) → l < lands_of e → Numbered (l * parties_of e) t →
       Achieves c e (Each cursor.Party (number_list x)) (with_land (Some l) t) (Numbered ((l + 1) * parties_of e)) Never
   numbers_land l t hl h =
-      each_keeping (InLand l) refl (
-        let begun = numbered_at (l * parties_of e) (l * parties_of e + 0) t (omega arith) h in
-            record { numbers = begun.numbers; counts = begun.counts; seats = begun.seats; count = begun.count },
-        refl,
-      )
+      each_keeping (InLand l) refl (numbered_at (l * parties_of e) (l * parties_of e + 0) t (omega arith) h, refl)
       (λ p u hp inv. takes_number l p u hl hp inv.0 inv.1)
-      (λ u inv.
-      let done = numbered_at (l * parties_of e + parties_of e) ((l + 1) * parties_of e) u (omega arith) inv.0 in
-      record { numbers = done.numbers; counts = done.counts; seats = done.seats; count = done.count })
+      (λ u inv. numbered_at (l * parties_of e + parties_of e) ((l + 1) * parties_of e) u (omega arith) inv.0)
 
   -- from the winners of each list on
   pub contested_numbered : (s : State) → ((q : ℕ) → q < lands_of e * parties_of e → s.columns x.numbers q ≡ many_at e eligible q) →
@@ -239,8 +230,7 @@ module _ (c : CountingCode) (e : Election) (x : CoverSlots) (eligible : ℕ → 
         seats = seats;
         count = sym (before_none e eligible base) ∙ (let none : 0 ≡ 0 * parties_of e = omega arith in ap (contested_before e eligible base) none);
       }))
-      (λ t h. each_keeping (λ l. Numbered (l * parties_of e)) refl h (λ l u hl inv. numbers_land l u hl inv)
-      (λ u inv. record { numbers = inv.numbers; counts = inv.counts; seats = inv.seats; count = inv.count }))
+      (λ t h. each_keeping (λ l. Numbered (l * parties_of e)) refl h (λ l u hl inv. numbers_land l u hl inv) (λ u inv. inv))
 
 -- the slot of the numbers is all that is written
 pub counts_alone : (x : CoverSlots) (slot : ℕ) → slot ≢ x.numbers → may_write_slot (count_winners x) slot ≡ false

@@ -60,14 +60,14 @@ module _ (c : CountingCode) (e : Election) (x : CoverSlots) (eligible : ℕ → 
       table ∙ ap (λ ys. Some (record { entries = entries.Win; ranking = ranking.Quotients; contents = ranked ys })) (all_wait (won eligible e l)) in
       let nobody : earlier ++ seated_on eligible e (l, Decided a.ladders.base) ≡ earlier =
       ap (λ ks. earlier ++ ks) (none_chosen (won eligible e l) a.ladders.base (nothing_held (won eligible e l))) ∙ append-nil earlier in
-      let first : AreSeated eligible e l earlier a.ladders.base t = record { placed = λ n w at. before n w at ∙ (λ z. cover_place (sym nobody z) (n, w)) } in
+      let first : AreSeated eligible e l earlier a.ladders.base t = (λ n w at. before n w at ∙ (λ z. cover_place (sym nobody z) (n, w))) in
       let none = no_seats_yet eligible e base l is in
       achieves_so
       (awards_achieve c e a (seats + 1) seats LAST_CLAUSE (meant eligible e l) bound.Wins tied_winners (Line (Seat ∷ []))
       (AreSeated eligible e l earlier) (EndsInListTie c eligible e base l) t
       (can_award eligible e base l is c few) (seats_are_given eligible e base l is earlier c) (ties_end eligible e base l is c earlier) (seats_fit eligible e base l is earlier) waits first
       (omega (arith, left, none)) (omega (arith, left, few)))
-      (λ u h. record { s = h.s; choice = ((tops eligible e base l is).choice seats (meant eligible e l) (Decided h.s)).0 h.choice; placed = h.held.placed })
+      (λ u h. record { s = h.s; choice = ((tops eligible e base l is).choice seats (meant eligible e l) (Decided h.s)).0 h.choice; placed = h.held })
 
   -- from the table with all winners on
   entered_awarded : (t : State) → AreEntered e x eligible base l (wins_of e) (won eligible e l) t →

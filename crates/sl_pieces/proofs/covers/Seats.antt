@@ -40,8 +40,8 @@ use Rattle.sl_pieces.proofs.covers.Winners.{IsWinnerOf, each_winner, won, arena,
 use Rattle.sl_pieces.proofs.covers.Chosen.{one_chosen, place_more}
 
 -- who is placed where, when the winners of the list hold these seats
-pub record AreSeated (eligible : ℕ → Bool) (e : Election) (l : ℕ × ℕ) (earlier : List ℕ) (s : List ℕ) (t : State) : Type 0 where
-  pub placed : (n : ℕ) (w : Win) → slice_get e.wins n ≡ Some w → t.placed n ≡ cover_place (earlier ++ seated_on eligible e (l, Decided s)) (n, w)
+abbrev pub AreSeated : (ℕ → Bool) → Election → ℕ × ℕ → List ℕ → List ℕ → State → Type 0
+AreSeated eligible e l earlier s t = (n : ℕ) (w : Win) → slice_get e.wins n ≡ Some w → t.placed n ≡ cover_place (earlier ++ seated_on eligible e (l, Decided s)) (n, w)
 
 -- the winners of a list as entries of the table
 abbrev pub listed : (ℕ → Bool) → Election → ℕ × ℕ → Arena
@@ -120,11 +120,9 @@ module _ (eligible : ℕ → Bool) (e : Election) (base : List ℕ) (l : ℕ × 
           let within : i < length t = (let short = is_arena.falling.within i (slice_index t i) gets.has in omega (arith, short, long)) in
           let others : (j : ℕ) → j ≢ i → slice_index u j ≡ slice_index t j =
           (λ j other. gets.raised.others j (λ c. elim (Contains-cases i [] j c) [ inl same ↦ other (sym same) | inr nothing ↦ Contains-none j nothing ])) in
-          record {
-            placed = λ n w there.
-                place_more earlier (seated_on eligible e (l, Decided u)) (seated_on eligible e (l, Decided t)) y.0 n w (before.placed n)
-                (one_chosen (won eligible e l) t u i y at within gets.raised.same_length none raised others n) (h.placed n w there);
-          }
+          λ n w there.
+          place_more earlier (seated_on eligible e (l, Decided u)) (seated_on eligible e (l, Decided t)) y.0 n w (before.placed n)
+          (one_chosen (won eligible e l) t u i y at within gets.raised.same_length none raised others n) (h n w there)
 
       -- and has no other
       waits_again : (after : State) → after.table ≡ Some (table_of a gets.taken.others) → HasWaiting a u after
@@ -143,12 +141,12 @@ module _ (eligible : ℕ → Bool) (e : Election) (base : List ℕ) (l : ℕ × 
           line_goes (seat_does c e now y.0 (ap Some number) y.1 winner.there l.1 winner.party on_list)
           (line_ends (
             waits_again s peers given t u i gets y next.1 next.2 (with_place y.0 placed.OnList now) refl,
-            seated_next s peers given t u i gets y next.1 next.2 now (record { placed = h.placed }),
+            seated_next s peers given t u i gets y next.1 next.2 now h,
           ));
     }
 
     pub seats_fit : FitsAwards Seated (Line (Seat ∷ []))
     seats_fit = record {
       keeps = refl;
-      blind = λ r of t value s h. record { placed = h.placed };
+      blind = λ r of t value s h. h;
     }

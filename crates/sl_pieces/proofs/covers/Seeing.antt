@@ -120,6 +120,4 @@ module _ (c : CountingCode) (e : Election) (x : CoverSlots) (eligible : ℕ → 
       wins_keeping Seen refl
       (subst (λ ys. AreEntered e x eligible base l 0 ys t) (sym (front_none eligible e l)) first)
       (λ j w u at h. sees j w at u h)
-      (λ u h.
-      let all : AreEntered e x eligible base l (wins_of e) (won eligible e l) u = subst (λ ys. AreEntered e x eligible base l (wins_of e) ys u) (front_all eligible e l) h in
-      record { read = all.read; amount = all.amount; table = all.table; total = all.total; few = all.few; left = all.left })
+      (λ u h. subst (λ ys. AreEntered e x eligible base l (wins_of e) ys u) (front_all eligible e l) h)

@@ -79,9 +79,11 @@ module _ (c : CountingCode) (e : Election) (x : FactSlots) (slots : HasFactSlots
     one_list = Then (Line (Get number x.eligible ∷ [])) (If (test.Zero number) (Line (Set cell 0 ∷ (Store (x.of facts.Counted) cell ∷ []))) nothing)
 
     -- the first n cells are without the votes of parties that are not eligible
-    record Cleared (n : ℕ) (t : State) : Type 0 where
-      column : Changed old_cell new_cell (lands_of e * parties_of e) n (t.columns (x.of facts.Counted))
-      flags : Flagged e x (is_eligible conditions e) t
+    abbrev Cleared : ℕ → State → Type 0
+    Cleared n t = record {
+      column : Changed old_cell new_cell (lands_of e * parties_of e) n (t.columns (x.of facts.Counted));
+      flags : Flagged e x (is_eligible conditions e) t;
+    }
 
     new_there : (l p : ℕ) → p < parties_of e → new_cell (l * parties_of e + p) ≡ (if is_eligible conditions e p then old_cell (l * parties_of e + p) else 0)
     new_there l p less = ap (λ n. if is_eligible conditions e n then old_cell (l * parties_of e + p) else 0) (party_again e l p less)
@@ -134,9 +136,9 @@ module _ (c : CountingCode) (e : Election) (x : FactSlots) (slots : HasFactSlots
         let first : l * parties_of e ≡ l * parties_of e + 0 = omega arith in
         let last : l * parties_of e + parties_of e ≡ (l + 1) * parties_of e = omega arith in
         each_keeping (λ p v. Cleared (l * parties_of e + p) v × (v.land ≡ Some l)) refl
-        (subst (λ n. Cleared n (with_land (Some l) u)) first (record { column = inv.column; flags = inv.flags }), refl)
+        (subst (λ n. Cleared n (with_land (Some l) u)) first inv, refl)
         (λ p v less h. next_cleared l p v in_lands less h.0 h.1)
-        (λ v h. subst (λ n. Cleared n (with_party None v)) last (record { column = h.0.column; flags = h.0.flags })))
+        (λ v h. subst (λ n. Cleared n (with_party None v)) last h.0))
         (λ u inv.
         holds_lists e (u.columns (x.of facts.Counted)) (λ land party. if is_eligible conditions e party then counted_in (list_at e land party) else 0) (λ land party in_lands less.
         inv.column.done (land * parties_of e + party) (place_within e land party less in_lands)

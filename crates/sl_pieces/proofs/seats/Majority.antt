@@ -112,11 +112,8 @@ module _ (c : CountingCode) (e : Election) (f : Form) (x : Slots) (name : List �
     (slots : HasSlots c f x name) (scope : IsScope e f g) (weights : HasCells e g.entries (state.columns x.votes) v) (seated : HasCells e g.entries (state.columns x.result) s)
     (small : All (λ weight. weight ≤ MAX_WEIGHT) v) (all : sum s ≡ seats) (few : seats ≤ MAX_SEATS) (is : is_refuse m ≡ true) (some : 1 ≤ seats) where
   -- none of the first j entries is deprived
-  record Allowed (j : ℕ) (t : State) : Type 0 where
-    columns : t.columns ≡ state.columns
-    amount : t.registers reg.AMOUNT ≡ seats
-    total : t.registers reg.TOTAL ≡ sum v
-    none : first_deprived v seats s j ≡ false
+  abbrev Allowed : ℕ → State → Type 0
+  Allowed j t = (first_deprived v seats s j ≡ false) × record { columns : t.columns ≡ state.columns; amount : t.registers reg.AMOUNT ≡ seats; total : t.registers reg.TOTAL ≡ sum v }
 
   lengths : length s ≡ length v
   lengths = seated.one_each ∙ sym weights.one_each
@@ -130,20 +127,18 @@ module _ (c : CountingCode) (e : Election) (f : Form) (x : Slots) (name : List �
       let w : State = with_register reg.HELD (min (k + k) most) (with_register reg.HELD k t) in
       let long : length v ≡ length g.entries = weights.one_each in
       let less : j < length v = omega (arith, long, slice_get_within g.entries j i at) in
-      let held : k ≡ slice_index s j = ap (λ (r : ℕ → ℕ → ℕ). r x.result q) h.columns ∙ seated.at j i at in
+      let held : k ≡ slice_index s j = ap (λ (r : ℕ → ℕ → ℕ). r x.result q) h.1.columns ∙ seated.at j i at in
       let part : slice_index s j ≤ sum s = get_or-le-sum_by (λ y. y) s j 0 (omega (arith, less, lengths)) in
-      let amount : t.registers reg.AMOUNT ≡ seats = h.amount in
+      let amount : t.registers reg.AMOUNT ≡ seats = h.1.amount in
       let big : 2 * MAX_SEATS < most = omega arith in
       let more : nat_lt (sum v) (2 * slice_index v j) ≡ true = lt-ltb (sum v) (2 * slice_index v j) major in
       line_first (get_does c e t x.result _ slots.result reg.HELD q ((scope.entry j i at).cell t on))
       (line_first refl (line_over (if_less
-      (λ enough. line_ends (record {
-        columns = h.columns;
-        amount = h.amount;
-        total = h.total;
-        none = next_allowed v seats s lengths j less h.none
-            (and_right (nat_lt (sum v) (2 * slice_index v j)) (nat_le (2 * slice_index s j) seats) (lt-leb (2 * slice_index s j) seats (omega (arith, enough, amount, held, big, few))));
-      }))
+      (λ enough. line_ends (
+        next_allowed v seats s lengths j less h.0
+        (and_right (nat_lt (sum v) (2 * slice_index v j)) (nat_le (2 * slice_index s j) seats) (lt-leb (2 * slice_index s j) seats (omega (arith, enough, amount, held, big, few)))),
+        h.1,
+      ))
       (λ short. faulty_ends slots scope w end.Majority ((scope.entry j i at).scope t on)
       (record {
         refused = refused_deprived m v seats s is some (one_deprived v seats s lengths j less
@@ -159,21 +154,19 @@ module _ (c : CountingCode) (e : Election) (f : Form) (x : Slots) (name : List �
       let w : State = with_register reg.WEIGHT (min (n + n) most) (with_register reg.WEIGHT n t) in
       let long : length v ≡ length g.entries = weights.one_each in
       let less : j < length v = omega (arith, long, slice_get_within g.entries j i at) in
-      let weight : n ≡ slice_index v j = ap (λ (r : ℕ → ℕ → ℕ). r x.votes q) h.columns ∙ weights.at j i at in
+      let weight : n ≡ slice_index v j = ap (λ (r : ℕ → ℕ → ℕ). r x.votes q) h.1.columns ∙ weights.at j i at in
       let light : slice_index v j ≤ MAX_WEIGHT = All-get_or (λ y. y ≤ MAX_WEIGHT) v j 0 less small in
-      let total : t.registers reg.TOTAL ≡ sum v = h.total in
+      let total : t.registers reg.TOTAL ≡ sum v = h.1.total in
       let big : 2 * MAX_WEIGHT ≤ most = omega arith in
       line_first (get_does c e t x.votes _ slots.votes reg.WEIGHT q ((scope.entry j i at).cell t on))
       (line_first refl (line_over (if_less
-      (λ major. one_major j i w at on (record { columns = h.columns; amount = h.amount; total = h.total; none = h.none })
+      (λ major. one_major j i w at on h
       (omega (arith, major, total, weight, light, big)))
-      (λ minor. line_ends (record {
-        columns = h.columns;
-        amount = h.amount;
-        total = h.total;
-        none = next_allowed v seats s lengths j less h.none
-            (and_left (nat_lt (sum v) (2 * slice_index v j)) (nat_le (2 * slice_index s j) seats) (le-ltb (sum v) (2 * slice_index v j) (omega (arith, minor, total, weight, light, big))));
-      })))))
+      (λ minor. line_ends (
+        next_allowed v seats s lengths j less h.0
+        (and_left (nat_lt (sum v) (2 * slice_index v j)) (nat_le (2 * slice_index s j) seats) (le-ltb (sum v) (2 * slice_index v j) (omega (arith, minor, total, weight, light, big)))),
+        h.1,
+      )))))
 
   visits : Visits c e (refuse_entry f x) g.entries OnItem Allowed (EndsDeprived x g v seats m s)
   visits = entries_visited (record { party = refl; land = refl; win = refl }) one_entry
@@ -221,10 +214,10 @@ majority_is_kept c e f x name k g a v seats told majority before s state at slot
         let Inv : ℕ → State → Type 0 = Allowed c e f x name g v seats majority s state slots scope weights h.cells small all few is some in
         let run : Achieves c e loop state (λ t. OnScope g.scope t × Inv (length g.entries) (bare t)) E =
         each_entry c e f k g (refuse_entry f x) Inv E state at (visits c e f x name g v seats majority s state slots scope weights h.cells small all few is some) h.on
-        (record { columns = refl; amount = h.amount; total = h.total; none = begins_allowed v seats s }) in
+        (begins_allowed v seats s, record { columns = refl; amount = h.amount; total = h.total }) in
         achieves_keeping run
         (λ t r kept. record {
-          seated = seated_unchanged e x g a v seats told before s state t h (unchanged loop state t (refuse_leaves f x) kept) r.0 (r.1.amount ∙ sym h.amount) (r.1.total ∙ sym h.total);
+          seated = seated_unchanged e x g a v seats told before s state t h (unchanged loop state t (refuse_leaves f x) kept) r.0 (r.1.1.amount ∙ sym h.amount) (r.1.1.total ∙ sym h.total);
           allowed = allowed_none majority v seats s
-              (all_allowed v seats s (lengths c e f x name g v seats majority s state slots scope weights h.cells small all few is some) (length g.entries) weights.one_each r.1.none);
+              (all_allowed v seats s (lengths c e f x name g v seats majority s state slots scope weights h.cells small all few is some) (length g.entries) weights.one_each r.1.0);
         })

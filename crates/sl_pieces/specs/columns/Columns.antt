@@ -11,11 +11,13 @@ pub record HoldsColumn (e : Election) (shape : Shape) (column : ℕ → ℕ) (va
   pub at : (q : ℕ) → q < cells_of e shape → column q ≡ slice_index values q
 
 -- no other column is changed, nothing is recorded, and nobody is placed
-pub record ChangesColumn (slot : ℕ) (before after : State) : Type 0 where
-  pub columns : (k q : ℕ) → k ≢ slot → after.columns k q ≡ before.columns k q
-  pub steps : after.steps ≡ before.steps
-  pub weights : after.weights ≡ before.weights
-  pub placed : (winner : ℕ) → after.placed winner ≡ before.placed winner
+abbrev pub ChangesColumn : ℕ → State → State → Type 0
+ChangesColumn slot before after = record {
+  columns : (k q : ℕ) → k ≢ slot → after.columns k q ≡ before.columns k q;
+  steps : after.steps ≡ before.steps;
+  weights : after.weights ≡ before.weights;
+  placed : (winner : ℕ) → after.placed winner ≡ before.placed winner;
+}
 
 -- the column holds those values after, and no other one is changed
 pub record GetsColumn (e : Election) (shape : Shape) (slot : ℕ) (values : List ℕ) (before after : State) : Type 0 where
