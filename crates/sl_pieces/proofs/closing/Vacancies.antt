@@ -21,6 +21,7 @@ use Rattle.sl_pieces.proofs.exprs.Following.{AllAchieve, all_one}
 use Rattle.sl_pieces.specs.closing.Trees.{final_seats, vacant_pieces}
 use Rattle.sl_pieces.proofs.closing.Rules.{all_first, goes_on}
 use Rattle.sl_pieces.proofs.closing.Cells.{IsMade, pair_made}
+use Rattle.sl_pieces.specs.columns.Columns.{ChangesColumn}
 
 -- where the book asks for them, the vacant seats are in their slot: those left by the winners and by the names; nothing else is changed but the names
 pub record HasVacant (e : Election) (vacate : Option ℕ) (before after : State) : Type 0 where
@@ -34,10 +35,7 @@ pub record HasVacant (e : Election) (vacate : Option ℕ) (before after : State)
 -- the names left are in their slot, and nothing else is changed
 record IsNamed (e : Election) (before after : State) : Type 0 where
   names : (q : ℕ) → after.columns names_left q ≡ from_lists e names_or_most q
-  columns : (slot q : ℕ) → slot ≢ names_left → after.columns slot q ≡ before.columns slot q
-  placed : (winner : ℕ) → after.placed winner ≡ before.placed winner
-  steps : after.steps ≡ before.steps
-  weights : after.weights ≡ before.weights
+  changes : ChangesColumn names_left before after
 
 module _ (c : CountingCode) (e : Election) (types : List Column) (slots : HasBookSlots c types) (s : State) where
   names_told : Achieves c e (Line (Input names_left input.Names ∷ [])) s (IsNamed e s) Never
@@ -45,10 +43,7 @@ module _ (c : CountingCode) (e : Election) (types : List Column) (slots : HasBoo
       line_goes (input_does c e s names_left shape.List slots.names_left_are input.Names)
       (line_ends (record {
         names = λ q. cell_written s names_left (input_of e input.Names) q;
-        columns = λ slot q other. cell_not_written s names_left (input_of e input.Names) slot q other;
-        placed = λ winner. refl;
-        steps = refl;
-        weights = refl;
+        changes = record { columns = λ slot q other. cell_not_written s names_left (input_of e input.Names) slot q other; steps = refl; weights = refl; placed = λ winner. refl };
       }))
 
   -- behind the names, in state t, what the winners leave, in state u, and what the names leave of that, in state v
@@ -58,12 +53,12 @@ module _ (c : CountingCode) (e : Election) (types : List Column) (slots : HasBoo
     vacant = λ n is q less.
         second.cells q less
         ∙ ap₂ (λ (m k : ℕ). m - k)
-        (first.cells q less ∙ ap₂ (λ (m k : ℕ). m - k) (named.columns final_seats q (λ same. omega (arith, same))) (named.columns winners_slot q (λ same. omega (arith, same))))
+        (first.cells q less ∙ ap₂ (λ (m k : ℕ). m - k) (named.changes.columns final_seats q (λ same. omega (arith, same))) (named.changes.columns winners_slot q (λ same. omega (arith, same))))
         (first.changes.columns names_left q (λ same. omega (arith, same)) ∙ named.names q);
-    columns = λ slot q not_names not_vacant. second.changes.columns slot q not_vacant ∙ first.changes.columns slot q not_vacant ∙ named.columns slot q not_names;
-    placed = λ winner. second.changes.placed winner ∙ first.changes.placed winner ∙ named.placed winner;
-    steps = second.changes.steps ∙ first.changes.steps ∙ named.steps;
-    weights = second.changes.weights ∙ first.changes.weights ∙ named.weights;
+    columns = λ slot q not_names not_vacant. second.changes.columns slot q not_vacant ∙ first.changes.columns slot q not_vacant ∙ named.changes.columns slot q not_names;
+    placed = λ winner. second.changes.placed winner ∙ first.changes.placed winner ∙ named.changes.placed winner;
+    steps = second.changes.steps ∙ first.changes.steps ∙ named.changes.steps;
+    weights = second.changes.weights ∙ first.changes.weights ∙ named.changes.weights;
   }
 
   pub vacated : {E : End → Type 0} (vacate : Option ℕ) → AllAchieve c e (vacant_pieces vacate) s (HasVacant e vacate s) E

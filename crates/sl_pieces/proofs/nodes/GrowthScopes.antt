@@ -112,47 +112,44 @@ module _ (c : CountingCode) (e : Election) (f : Form) (x : Slots) (name : List �
 
 module _ (c : CountingCode) (e : Election) (f : Form) (x : Slots) (name : List ℕ) (amounts votes minima : List ℕ) (d : Divisor) (majority : Majority) (cap : ℕ)
     (election : IsElection e) (slots : HasSlots c f x name) (cap_few : cap ≤ MAX_SEATS) where
-  IsAward : Group → Award → Type 0
+  abbrev IsAward : Group → Award → Type 0
   IsAward = IsGrowthIn e (stand f x name) amounts votes d majority minima cap
 
-  records : Group → List ℕ → Records
+  abbrev records : Group → List ℕ → Records
   records = growth_records e (stand f x name) amounts votes d minima
 
   module _ (k : ℕ) (g : Group) (s : State) (at : slice_get (groups_of e f) k ≡ Some g) (on : OnScope g.scope s) (arguments : HoldsArguments e f x amounts votes (Some minima) s)
       (few : slice_index amounts g.amount_place ≤ MAX_SEATS) where
-    v : List ℕ
+    abbrev v : List ℕ
     v = cells e g.entries votes
 
-    m : List ℕ
+    abbrev m : List ℕ
     m = cells e g.entries minima
 
-    seats : ℕ
+    abbrev seats : ℕ
     seats = slice_index amounts g.amount_place
 
     long : length m ≡ length v
-    unfolding v m
     long = minima_long e g votes (Some minima)
 
-    award_rest : Tree
+    abbrev award_rest : Tree
     award_rest = Then (fill f x (ranking_of (by.Divisor d)) (outside_base x.minima) (enter_quotient f x d))
         (Then (awards x.stage (bound.AtMost most_seats) (tied f x) (seat f x (again_of x (by.Divisor d)))) (refuse f x majority))
 
-    house_rest : Tree
+    abbrev house_rest : Tree
     house_rest = Then (find_house f x d cap) award_rest
 
-    Q : State → Type 0
+    abbrev Q : State → Type 0
     Q = HasAward e x IsAward records g s
 
-    E : End → Type 0
+    abbrev E : End → Type 0
     E = EndsFaulty x IsAward g
 
     above_ends : (y : End) → EndsAboveCap x g d v m seats cap y → E y
-    unfolding v m seats IsAward E
     above_ends y h = record { kind = fault.Cap; refused = cap_refused e f g d majority (stage_lot e name (votes_of f) g.entries) v m seats cap h.above; is = h.is }
 
     -- in the house that was found
     house_awards : (t u : State) → IsReady c e f x name k g v m seats t → 0 < sum v → HasHouse e x g d v m seats cap t u → Achieves c e award_rest u (HasAward e x IsAward records g u) E
-    unfolding v m seats award_rest IsAward records E
     house_awards t u ready some h =
         let field : (i : ℕ) × InField v i = some_less [] v some in
         let meant : List ℕ = stage_lot e name (votes_of f) g.entries in
@@ -173,7 +170,6 @@ module _ (c : CountingCode) (e : Election) (f : Form) (x : Slots) (name : List �
 
     -- where an entry has weight, and the minima sum to no more than the cap
     house_achieves : (t : State) → IsUnchanged s t → IsReady c e f x name k g v m seats t → 0 < sum v → sum m ≤ cap → Achieves c e house_rest t Q E
-    unfolding v m seats house_rest Q
     house_achieves t same ready some within =
         let slot = minima_slot e (votes_of f) s x.minima minima arguments.minima_are in
         then_achieves {Q = HasHouse e x g d v m seats cap t}
@@ -190,7 +186,6 @@ module _ (c : CountingCode) (e : Election) (f : Form) (x : Slots) (name : List �
 
     -- the minima may sum to more than the cap
     cap_achieves : (t : State) → IsBegun c e f x name k g v m seats s t → 0 < sum v → Achieves c e (Then (not_over f x reg.NEEDED cap end.Cap) house_rest) t Q E
-    unfolding v m seats IsAward E
     cap_achieves t begun some =
         let u : State = with_register reg.FIRST_PASSING cap t in
         let field : (i : ℕ) × InField v i = some_less [] v some in
@@ -208,7 +203,6 @@ module _ (c : CountingCode) (e : Election) (f : Form) (x : Slots) (name : List �
         (λ w h. achieves_from h.0 (house_achieves u begun.unchanged begun.ready some h.1))
 
     growth_achieves : Achieves c e (grow_scope f x d majority cap) s Q E
-    unfolding v m seats award_rest house_rest IsAward E
     growth_achieves =
         let can = arguments_begin c e f x name k g amounts votes (Some minima) s election slots at on arguments few in
         scope_begins c e f x name k g v m seats s can (Then (If (test.Zero reg.TOTAL) (faulty f x end.NoList) nothing) (Then (not_over f x reg.NEEDED cap end.Cap) house_rest)) Q E
@@ -227,7 +221,6 @@ pub growth_scopes_achieve : (c : CountingCode) (e : Election) (f : Form) (x : Sl
     IsElection e → HasSlots c f x name → cap ≤ MAX_SEATS →
     DoesScopes c e f x amounts votes (Some minima) (IsGrowthIn e (stand f x name) amounts votes d majority minima cap)
     (growth_records e (stand f x name) amounts votes d minima) (grow_scope f x d majority cap)
-unfolding IsAward records Q E
 growth_scopes_achieve c e f x name amounts votes minima d majority cap election slots few = record {
   does = growth_achieves c e f x name amounts votes minima d majority cap election slots few;
 }

@@ -105,30 +105,29 @@ module _ (e : Election) (f : Form) (x : Slots) (name : List ℕ) (amounts votes 
 
 module _ (c : CountingCode) (e : Election) (f : Form) (x : Slots) (name : List ℕ) (amounts votes : List ℕ) (minima : Option (List ℕ)) (method : Method) (majority : Majority)
     (election : IsElection e) (slots : HasSlots c f x name) (fits : FitsMethod method minima) where
-  IsAward : Group → Award → Type 0
+  abbrev IsAward : Group → Award → Type 0
   IsAward = IsSplitIn e (stand f x name) amounts votes method majority minima
 
-  records : Group → List ℕ → Records
+  abbrev records : Group → List ℕ → Records
   records = split_records e (stand f x name) amounts votes method majority minima
 
   module _ (k : ℕ) (g : Group) (s : State) (at : slice_get (groups_of e f) k ≡ Some g) (on : OnScope g.scope s) (arguments : HoldsArguments e f x amounts votes minima s)
       (few : slice_index amounts g.amount_place ≤ MAX_SEATS) where
-    v : List ℕ
+    abbrev v : List ℕ
     v = cells e g.entries votes
 
-    m : List ℕ
+    abbrev m : List ℕ
     m = minima_at e g votes minima
 
-    seats : ℕ
+    abbrev seats : ℕ
     seats = slice_index amounts g.amount_place
 
-    rest : Tree
+    abbrev rest : Tree
     rest = Then (fill f x (ranking_of method) (base_of method x) (enter_of f x method majority))
         (Then (awards x.stage (bound.AtMost most_seats) (tied f x) (seat f x (again_of x method))) (refuse f x majority))
 
     -- when nothing refuses the seats
     rest_awards : (t : State) → IsReady c e f x name k g v m seats t → refusal v m seats ≡ None → Achieves c e rest t (HasAward e x IsAward records g t) (EndsFaulty x IsAward g)
-    unfolding v m seats rest IsAward records
     rest_awards t ready none =
         let long : length m ≡ length v = minima_long e g votes minima in
         let meant : List ℕ = stage_lot e name (votes_of f) g.entries in
@@ -144,7 +143,6 @@ module _ (c : CountingCode) (e : Election) (f : Form) (x : Slots) (name : List �
         (fill f x (ranking_of method) (base_of method x) (enter_of f x method majority)) (splits_are_filled c e f x name k g method majority v m seats t election ready is.enough)
 
     refused_ends : (y : End) → EndsRefused x g v m seats y → EndsFaulty x IsAward g y
-    unfolding v m seats IsAward
     refused_ends y h = record {
       kind = h.kind;
       refused = split_refused e f g method majority v m seats (stage_lot e name (votes_of f) g.entries) h.kind h.refused;
@@ -152,7 +150,6 @@ module _ (c : CountingCode) (e : Election) (f : Form) (x : Slots) (name : List �
     }
 
     scope_achieves : Achieves c e (split_scope f x method majority) s (HasAward e x IsAward records g s) (EndsFaulty x IsAward g)
-    unfolding v m seats rest
     scope_achieves =
         let can = arguments_begin c e f x name k g amounts votes minima s election slots at on arguments few in
         scope_begins c e f x name k g v m seats s can (Then (refuses_seats f x) rest) (HasAward e x IsAward records g s) (EndsFaulty x IsAward g)
@@ -166,7 +163,6 @@ pub split_scopes_achieve : (c : CountingCode) (e : Election) (f : Form) (x : Slo
     (majority : Majority) → IsElection e → HasSlots c f x name → FitsMethod method minima →
     DoesScopes c e f x amounts votes minima (IsSplitIn e (stand f x name) amounts votes method majority minima)
     (split_records e (stand f x name) amounts votes method majority minima) (split_scope f x method majority)
-unfolding IsAward records
 split_scopes_achieve c e f x name amounts votes minima method majority election slots fits = record {
   does = scope_achieves c e f x name amounts votes minima method majority election slots fits;
 }

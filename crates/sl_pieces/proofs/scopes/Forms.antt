@@ -17,8 +17,8 @@ use Rattle.sl_plans.specs.Achieves.{Achieves}
 use Rattle.sl_plans.proofs.Rules.{achieves_so}
 use Rattle.sl_pieces.specs.scopes.Forms.{Form, AllParties, AllLands, AllLists, ListsOfParty, ListsInLand, votes_of, groups_of, on_list, scopes_plan, entries_plan, OnScope, OnItem}
 use Rattle.sl_pieces.specs.inner.scopes.Walks.{bare, Visits, EachEntry, EachScope}
-use Rattle.sl_pieces.proofs.scopes.Pieces.{stands_itself, one_each, passing_each}
-use Rattle.sl_pieces.proofs.scopes.Walking.{Walks, walk_one, walk_as, walk_each, walk_list}
+use Rattle.sl_pieces.proofs.scopes.Pieces.{stands_itself, passing_each}
+use Rattle.sl_pieces.proofs.scopes.Walking.{Walks, walk_one, walk_as, walk_each, walk_list, walk_singles}
 
 -- ---- a scope is the only one, or that of a party or a Land
 
@@ -49,20 +49,10 @@ module _ (c : CountingCode) (e : Election) (body : Tree) (Inv : ℕ → State �
   Takes f g = Visits c e body g.entries OnItem Inv E → Walks c e g.entries Inv E (entries_plan f body) (OnScope g.scope) g.entries
 
   all_parties : Takes AllParties (all_group e AllParties)
-  all_parties h =
-      let all : List Item = entries_of e shape.Party in
-      walk_as c e all Inv E (entries_plan AllParties body) (OnScope scope.All) (flat_map (λ p. item.Party p ∷ []) (parties e)) all (sym (one_each item.Party (parties e)))
-      (walk_each c e all Inv E cursor.Party (OnScope scope.All) (λ p. OnItem (item.Party p)) (λ p. item.Party p ∷ []) body
-      (record { hidden = λ o s. refl; begins = λ p s on. refl; stays = λ p s at. at; leaves = λ p s at. tt; ends = λ s on. tt })
-      (λ p less. walk_one c e all Inv E body OnItem (item.Party p) h))
+  all_parties h = walk_singles c e (entries_of e shape.Party) Inv E cursor.Party item.Party OnItem body (λ o s. refl) (λ p s. refl) (λ p s at. at) h
 
   all_lands : Takes AllLands (all_group e AllLands)
-  all_lands h =
-      let all : List Item = entries_of e shape.Land in
-      walk_as c e all Inv E (entries_plan AllLands body) (OnScope scope.All) (flat_map (λ l. item.Land l ∷ []) (lands e)) all (sym (one_each item.Land (lands e)))
-      (walk_each c e all Inv E cursor.Land (OnScope scope.All) (λ l. OnItem (item.Land l)) (λ l. item.Land l ∷ []) body
-      (record { hidden = λ o s. refl; begins = λ l s on. refl; stays = λ l s at. at; leaves = λ l s at. tt; ends = λ s on. tt })
-      (λ l less. walk_one c e all Inv E body OnItem (item.Land l) h))
+  all_lands h = walk_singles c e (entries_of e shape.Land) Inv E cursor.Land item.Land OnItem body (λ o s. refl) (λ l s. refl) (λ l s at. at) h
 
   -- the lists in a Land, where the Land's cursor stands at it
   in_land : (all : List Item) (l : ℕ) → Visits c e body all OnItem Inv E → Walks c e all Inv E (entries_plan ListsInLand body) (OnScope (scope.Land l)) (lists_in_land e l)
@@ -118,18 +108,8 @@ module _ (c : CountingCode) (e : Election) (body : Tree) (Inv : ℕ → State �
   takes_all AllParties h = walk_one c e (groups_of e AllParties) Inv E body OnGroup (all_group e AllParties) h
   takes_all AllLands h = walk_one c e (groups_of e AllLands) Inv E body OnGroup (all_group e AllLands) h
   takes_all AllLists h = walk_one c e (groups_of e AllLists) Inv E body OnGroup (all_group e AllLists) h
-  takes_all ListsOfParty h =
-      let all : List Group = groups_of e ListsOfParty in
-      walk_as c e all Inv E (scopes_plan ListsOfParty body) (OnScope scope.All) (flat_map (λ p. party_group e p ∷ []) (parties e)) all (sym (one_each (party_group e) (parties e)))
-      (walk_each c e all Inv E cursor.Party (OnScope scope.All) (λ p. OnScope (scope.Party p)) (λ p. party_group e p ∷ []) body
-      (record { hidden = λ o s. refl; begins = λ p s on. refl; stays = λ p s at. at; leaves = λ p s at. tt; ends = λ s on. tt })
-      (λ p less. walk_one c e all Inv E body OnGroup (party_group e p) h))
-  takes_all ListsInLand h =
-      let all : List Group = groups_of e ListsInLand in
-      walk_as c e all Inv E (scopes_plan ListsInLand body) (OnScope scope.All) (flat_map (λ l. land_group e l ∷ []) (lands e)) all (sym (one_each (land_group e) (lands e)))
-      (walk_each c e all Inv E cursor.Land (OnScope scope.All) (λ l. OnScope (scope.Land l)) (λ l. land_group e l ∷ []) body
-      (record { hidden = λ o s. refl; begins = λ l s on. refl; stays = λ l s at. at; leaves = λ l s at. tt; ends = λ s on. tt })
-      (λ l less. walk_one c e all Inv E body OnGroup (land_group e l) h))
+  takes_all ListsOfParty h = walk_singles c e (groups_of e ListsOfParty) Inv E cursor.Party (party_group e) OnGroup body (λ o s. refl) (λ p s. refl) (λ p s at. at) h
+  takes_all ListsInLand h = walk_singles c e (groups_of e ListsInLand) Inv E cursor.Land (land_group e) OnGroup body (λ o s. refl) (λ l s. refl) (λ l s at. at) h
 
 pub each_scope : EachScope
 each_scope c e f body Inv E s h inv =

@@ -1,5 +1,5 @@
 -- Scopes and entries of each form: their places and their cursors.
-use Rattle.std.proofs.Common.{◌≡◌, ℕ, zero, suc, ◌+◌, ◌*◌, ◌/◌, ◌%◌, ◌<◌, ◌≤◌, [], ◌∷◌, filter, Some, refl, sym, ap, subst, ◌∙◌, arith}
+use Rattle.std.proofs.Common.{map, ◌≡◌, ◌≢◌, ℕ, zero, suc, ◌+◌, ◌*◌, ◌/◌, ◌%◌, ◌<◌, ◌≤◌, [], ◌∷◌, filter, Some, refl, sym, ap, subst, ◌∙◌, arith}
 use Rattle.std.specs.Prelude.{flat_map, slice_get}
 use Rattle.std.specs.List.{AllByRecursion as Every, range_with_len}
 use Rattle.std.specs.Option.{option_map}
@@ -18,7 +18,7 @@ use Rattle.sl_code.specs.declared.operand.Entries.TheVariants as entries
 use Rattle.sl_machine.specs.State.{State}
 use Rattle.sl_machine.specs.Places.{both}
 use Rattle.sl_stages.proofs.meaning.DistinctLists.{every_map, every_filter, every_pieces, every_weaker}
-use Rattle.sl_pieces.specs.scopes.Forms.{AllParties, AllLands, AllLists, ListsOfParty, ListsInLand, groups_of, OnScope, OnItem}
+use Rattle.sl_pieces.specs.scopes.Forms.{AllParties, AllLands, AllLists, ListsOfParty, ListsInLand, OnScope, OnItem}
 use Rattle.sl_pieces.specs.scopes.Scopes.{IsEntry, IsScope, ScopesHold, ScopesApart}
 use Rattle.sl_pieces.proofs.scopes.Rising.{Rises, between, rises_range, rises_filter, rises_map, rises_append, increasing}
 use Rattle.sl_pieces.proofs.scopes.Forms.{only_one, made_of, all_group, party_group, land_group}
@@ -172,30 +172,23 @@ module _ (e : Election) where
         entry = λ j i at. every_at P (lists_in_land e l) j i (in_land_each e P l (λ p in_parties. list_entry e (scope.Land l) l p in_lands in_parties (λ s on. on.0))) at;
       }
 
-  -- the scopes of parties, and of Länder, by their numbers
-  party_scope_at : (m : ℕ) (g : Group) → slice_get (groups_of e ListsOfParty) m ≡ Some g → (g ≡ party_group e m) × (m < parties_of e)
-  party_scope_at m g at =
-      let made : (p : ℕ) × (slice_get (parties e) m ≡ Some p) × (g ≡ party_group e p) = made_of (party_group e) (parties e) m g at in
-      let there : (made.0 ≡ 0 + m) × (m < parties_of e) = range_at 0 (parties_of e) m made.0 made.1 in
-      let number : 0 + m ≡ m = omega arith in
-      (made.2 ∙ ap (party_group e) (there.0 ∙ number), there.1)
-
-  land_scope_at : (m : ℕ) (g : Group) → slice_get (groups_of e ListsInLand) m ≡ Some g → (g ≡ land_group e m) × (m < lands_of e)
-  land_scope_at m g at =
-      let made : (l : ℕ) × (slice_get (lands e) m ≡ Some l) × (g ≡ land_group e l) = made_of (land_group e) (lands e) m g at in
-      let there : (made.0 ≡ 0 + m) × (m < lands_of e) = range_at 0 (lands_of e) m made.0 made.1 in
-      let number : 0 + m ≡ m = omega arith in
-      (made.2 ∙ ap (land_group e) (there.0 ∙ number), there.1)
+-- the scopes of parties, and of Länder, by their numbers
+group_at : (of : ℕ → Group) (n m : ℕ) (g : Group) → slice_get (map of (range_with_len 0 n)) m ≡ Some g → (g ≡ of m) × (m < n)
+group_at of n m g at =
+    let made : (k : ℕ) × (slice_get (range_with_len 0 n) m ≡ Some k) × (g ≡ of k) = made_of of (range_with_len 0 n) m g at in
+    let there : (made.0 ≡ 0 + m) × (m < n) = range_at 0 n m made.0 made.1 in
+    let number : 0 + m ≡ m = omega arith in
+    (made.2 ∙ ap of (there.0 ∙ number), there.1)
 
 pub scopes_hold : ScopesHold
 scopes_hold e AllParties m g at = subst (IsScope e AllParties) (sym (only_one (all_group e AllParties) g m at)) (all_parties_scope e)
 scopes_hold e AllLands m g at = subst (IsScope e AllLands) (sym (only_one (all_group e AllLands) g m at)) (all_lands_scope e)
 scopes_hold e AllLists m g at = subst (IsScope e AllLists) (sym (only_one (all_group e AllLists) g m at)) (all_lists_scope e)
 scopes_hold e ListsOfParty m g at =
-    let there : (g ≡ party_group e m) × (m < parties_of e) = party_scope_at e m g at in
+    let there : (g ≡ party_group e m) × (m < parties_of e) = group_at (party_group e) (parties_of e) m g at in
     subst (IsScope e ListsOfParty) (sym there.0) (party_scope e m there.1)
 scopes_hold e ListsInLand m g at =
-    let there : (g ≡ land_group e m) × (m < lands_of e) = land_scope_at e m g at in
+    let there : (g ≡ land_group e m) × (m < lands_of e) = group_at (land_group e) (lands_of e) m g at in
     subst (IsScope e ListsInLand) (sym there.0) (land_scope e m there.1)
 
 -- ---- scopes apart
@@ -204,21 +197,24 @@ only_zero : {X : Type 0} (x y : X) (m : ℕ) → slice_get (x ∷ []) m ≡ Some
 only_zero x y zero at = refl
 only_zero x y (suc m) at = absurd (none-some y at)
 
+-- the place of each entry of a scope tells the scope's number
+apart_by : (e : Election) (of : ℕ → Group) (count : ℕ) (number : ℕ → ℕ) → ((k : ℕ) → k < count → Every (λ y. number (place e y) ≡ k) (of k).entries) → (m n : ℕ) (g h : Group) →
+    slice_get (map of (range_with_len 0 count)) m ≡ Some g → slice_get (map of (range_with_len 0 count)) n ≡ Some h → m ≢ n → (j k : ℕ) (i x : Item) →
+    slice_get g.entries j ≡ Some i → slice_get h.entries k ≡ Some x → place e i ≢ place e x
+apart_by e of count number each m n g h at there differ j k i x first second same =
+    let one : (g ≡ of m) × (m < count) = group_at of count m g at in
+    let other : (h ≡ of n) × (n < count) = group_at of count n h there in
+    let is : number (place e i) ≡ m = every_at (λ y. number (place e y) ≡ m) (of m).entries j i (each m one.1) (subst (λ (y : Group). slice_get y.entries j ≡ Some i) one.0 first) in
+    let are : number (place e x) ≡ n = every_at (λ y. number (place e y) ≡ n) (of n).entries k x (each n other.1) (subst (λ (y : Group). slice_get y.entries k ≡ Some x) other.0 second) in
+    differ (sym is ∙ ap number same ∙ are)
+
 pub scopes_apart : ScopesApart
 scopes_apart e AllParties m n g h at there differ j k i x first second same = differ (only_zero (all_group e AllParties) g m at ∙ sym (only_zero (all_group e AllParties) h n there))
 scopes_apart e AllLands m n g h at there differ j k i x first second same = differ (only_zero (all_group e AllLands) g m at ∙ sym (only_zero (all_group e AllLands) h n there))
 scopes_apart e AllLists m n g h at there differ j k i x first second same = differ (only_zero (all_group e AllLists) g m at ∙ sym (only_zero (all_group e AllLists) h n there))
 scopes_apart e ListsOfParty m n g h at there differ j k i x first second same =
-    let one : (g ≡ party_group e m) × (m < parties_of e) = party_scope_at e m g at in
-    let other : (h ≡ party_group e n) × (n < parties_of e) = party_scope_at e n h there in
-    let P : ℕ → Item → Type 0 = λ p y. place e y % parties_of e ≡ p in
-    let is : P m i = every_at (P m) (lists_of_party e m) j i (of_party_each e (P m) m (λ l less. party_again e l m one.1)) (subst (λ (y : Group). slice_get y.entries j ≡ Some i) one.0 first) in
-    let are : P n x = every_at (P n) (lists_of_party e n) k x (of_party_each e (P n) n (λ l less. party_again e l n other.1)) (subst (λ (y : Group). slice_get y.entries k ≡ Some x) other.0 second) in
-    differ (sym is ∙ ap (λ q. q % parties_of e) same ∙ are)
+    apart_by e (party_group e) (parties_of e) (λ q. q % parties_of e) (λ p less. of_party_each e (λ y. place e y % parties_of e ≡ p) p (λ l in_lands. party_again e l p less))
+    m n g h at there differ j k i x first second same
 scopes_apart e ListsInLand m n g h at there differ j k i x first second same =
-    let one : (g ≡ land_group e m) × (m < lands_of e) = land_scope_at e m g at in
-    let other : (h ≡ land_group e n) × (n < lands_of e) = land_scope_at e n h there in
-    let P : ℕ → Item → Type 0 = λ l y. place e y / parties_of e ≡ l in
-    let is : P m i = every_at (P m) (lists_in_land e m) j i (in_land_each e (P m) m (λ p less. land_again e m p less)) (subst (λ (y : Group). slice_get y.entries j ≡ Some i) one.0 first) in
-    let are : P n x = every_at (P n) (lists_in_land e n) k x (in_land_each e (P n) n (λ p less. land_again e n p less)) (subst (λ (y : Group). slice_get y.entries k ≡ Some x) other.0 second) in
-    differ (sym is ∙ ap (λ q. q / parties_of e) same ∙ are)
+    apart_by e (land_group e) (lands_of e) (λ q. q / parties_of e) (λ l in_lands. in_land_each e (λ y. place e y / parties_of e ≡ l) l (λ p less. land_again e l p less))
+    m n g h at there differ j k i x first second same

@@ -1,5 +1,5 @@
 -- Plans that take the elements of a list in turn: how loops make them of plans that take a piece.
-use Rattle.std.proofs.Common.{◌≡◌, ℕ, ◌+◌, ◌<◌, List, [], ◌∷◌, length, if◌then◌else◌, Option, None, Some, refl, sym, ap, subst, ◌∙◌, arith}
+use Rattle.std.proofs.Common.{◌≡◌, ℕ, ◌+◌, ◌<◌, List, [], ◌∷◌, length, map, if◌then◌else◌, Option, None, Some, refl, sym, ap, subst, ◌∙◌, arith}
 use Rattle.std.specs.Prelude.{flat_map, slice_get}
 use Rattle.std.specs.List.{range_with_len}
 use Rattle.std.proofs.lemmas.Bool.{cond-true, cond-false}
@@ -15,7 +15,7 @@ use Rattle.sl_plans.specs.Achieves.{Achieves}
 use Rattle.sl_plans.proofs.Rules.{line_ends, if_no_list, each_achieves, achieves_so}
 use Rattle.sl_pieces.specs.scopes.Forms.{on_list, OnItem}
 use Rattle.sl_pieces.specs.inner.scopes.Walks.{bare, Visits}
-use Rattle.sl_pieces.proofs.scopes.Pieces.{Stands, stands_piece, length_next}
+use Rattle.sl_pieces.proofs.scopes.Pieces.{one_each, Stands, stands_piece, length_next}
 
 module _ {X : Type 0} (c : CountingCode) (e : Election) (all : List X) (Inv : ℕ → State → Type 0) (E : End → Type 0) where
   -- a plan takes a piece of the list, with cursors as they were
@@ -62,6 +62,16 @@ module _ {X : Type 0} (c : CountingCode) (e : Election) (all : List X) (Inv : �
           (λ u r. let next : before (k + 1) ≡ before k + length (f k) = length_next f 0 k ∙ ap (λ (m : ℕ). before k + length (f m)) (from_zero k) in
           (turns.stays k u r.0, (turns.leaves k u r.0, subst (λ (m : ℕ). Inv m (bare u)) (omega (arith, next)) r.1))))
           (λ t h. (turns.ends t h.0, subst (λ (u : State). Inv (j + before n) u) (sym (turns.hidden None t)) h.1))
+
+  -- a loop over all of one cursor takes the elements of their numbers
+  pub walk_singles : (over : Cursor) (make : ℕ → X) (On : X → State → Type 0) (body : Tree) → ((o : Option ℕ) (s : State) → bare (set_cursor over o s) ≡ bare s)
+      → ((k : ℕ) (s : State) → On (make k) (set_cursor over (Some k) s)) → ((k : ℕ) (s : State) → On (make k) s → cursor_of over s ≡ Some k)
+      → Visits c e body all On Inv E → Walks (Each over body) (λ s. Unit {0}) (map make (range_with_len 0 (count_of e over)))
+  walk_singles over make On body hidden begins stays h =
+      walk_as (Each over body) (λ s. Unit {0}) _ _ (sym (one_each make (range_with_len 0 (count_of e over))))
+      (walk_each over (λ s. Unit {0}) (λ k. On (make k)) (λ k. make k ∷ []) body
+      (record { hidden = hidden; begins = λ k s on. begins k s; stays = stays; leaves = λ k s at. tt; ends = λ s on. tt })
+      (λ k less. walk_one body On (make k) h))
 
 -- where a Land and a party have a list, the body takes it; else nothing is done, and there is nothing to take
 pub walk_list : (c : CountingCode) (e : Election) (all : List Item) (Inv : ℕ → State → Type 0) (E : End → Type 0) (body : Tree) (land party : ℕ) → Visits c e body all OnItem Inv E
