@@ -63,22 +63,6 @@ module _ {X : Type 0} (term : ℕ → X → ℕ) (xs : List X) (n : ℕ) where
   sums_all i column all so_far =
       fill_by_all (λ k. sum_by (term k) xs) column n 0 so_far.size (λ k h. so_far.sum k h ∙ ap (sum_by (term k)) (take_all i xs all))
 
--- what is added to one place keeps all below
-pub below_one : (most n i : ℕ) (column : List ℕ) (place n' m : ℕ) (after : List ℕ) → length column ≡ n → AreBelow most n i column → place < n → m ≤ most
-    → n' ≡ get_or column place n' → after ≡ set column place (n' + m) → AreBelow most n (i + 1) after
-below_one most n i column place n' m after size below in_column small read written k h =
-    let here : n' ≡ get_or column place 0 = get_or_read column place n' (omega (arith, size)) read 0 in
-    let was = below place in_column in
-    elim (cases_eq k place) [
-      | inl same ↦
-          let at_place : get_or (set column place (n' + m)) place 0 ≡ n' + m = get_or-set_same column place _ 0 (omega (arith, size)) in
-          rw (same, written) (omega (arith, at_place, here, was, small))
-      | inr other ↦
-          let unchanged = get_or-set_other column place k (n' + m) 0 other in
-          let old = below k h in
-          rw written (omega (arith, unchanged, old))
-    ]
-
 module _ {X : Type 0} (test : ℕ → X → Bool) (xs : List X) (n i : ℕ) (column : List ℕ) (so_far : Counts test xs n i column) where
   -- a count is not above the number of elements
   pub count_le : (k n' : ℕ) → k < n → i ≤ length xs → n' ≡ get_or column k n' → n' ≤ i
