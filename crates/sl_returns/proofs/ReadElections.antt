@@ -5,13 +5,13 @@ use Rattle.std.proofs.lemmas.Bool.{and_parts, not-true, leb-true, le-ltb, ltb-tr
 use Rattle.std.proofs.lemmas.List.{append-nil}
 use Rattle.std.proofs.lemmas.List.Elements.{All-nil}
 use Rattle.std.proofs.lemmas.Option.{none-some, same_Some}
-use Rattle.std.specs.List.{All, list_all}
+use Rattle.std.specs.List.{list_all}
 use Rattle.sl_ratio.specs.declared.names.TheConstants.{MAX_NAME_BYTES}
 use Rattle.sl_ratio.specs.Names.{IsNameList, is_name, is_name_byte, spelling_fault}
 use Rattle.sl_ratio.specs.declared.limits.TheConstants.{MAX_SEATS, MAX_LANDS, MAX_PARTIES, MAX_VOTES}
 use Rattle.sl_stages.specs.declared.limits.TheConstants.{MAX_WINS, MAX_LOTS, MAX_SLATE}
 use Rattle.sl_stages.specs.book.Tests.{first_failing}
-use Rattle.sl_stages.specs.returns.Election.{Election, IsElection, IsWin, IsLot, IsCell, EndsBefore, has_list, wins_of}
+use Rattle.sl_stages.specs.returns.Election.{Election, IsElection, has_list, wins_of}
 use Rattle.sl_stages.proofs.Elections.{is_with_house, is_with_land, is_with_party, is_with_list, is_with_win, is_with_lot}
 use Rattle.sl_returns.specs.declared.cells.TheConstants.{COLUMNS, KIND, LAND, PARTY, A, B, C}
 use Rattle.sl_returns.specs.declared.fault.FaultKind.TheVariants as fault
@@ -195,26 +195,7 @@ no_names : (limit : ℕ) → IsNameList (record { limit = limit; names = [] })
 no_names limit = record { within = omega arith; spelled = All-nil (λ name. IsTrue (is_name name)); once = λ name i j a b. absurd (none-some name a) }
 
 nothing_is : IsElection (election_of_records [])
-nothing_is = record {
-  house = λ h same. absurd (none-some h same);
-  lands = omega arith;
-  parties = omega arith;
-  winners = omega arith;
-  land_names = no_names MAX_LANDS;
-  party_names = no_names MAX_PARTIES;
-  win_names = no_names MAX_WINS;
-  populations = refl;
-  rows = refl;
-  minorities = refl;
-  wins = refl;
-  people = All-nil (λ n. n ≤ MAX_VOTES);
-  widths = All-nil (λ row. length row ≡ MAX_PARTIES);
-  votes = All-nil (All IsCell);
-  ends = All-nil (EndsBefore 0);
-  places = All-nil (IsWin 0 0);
-  drawn = omega arith;
-  lots = All-nil (IsLot 0 0 0);
-}
+nothing_is = search (arith, no_names, All-nil, none-some)
 
 election_behind : (v : Version) (before rest : List Record) → IsGood before → IsElection (election_of_records before) → first_fault v before rest ≡ None
     → IsElection (election_of_records (before ++ rest))
