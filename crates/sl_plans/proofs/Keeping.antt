@@ -135,34 +135,31 @@ plans_keep_the_rest c e tree s t is =
     let part = same_after c e in
     record {
       registers = λ q. part (λ i. writes_register i q) (λ u v. v.registers q ≡ u.registers q) (λ u. refl) (λ u v w h k. k ∙ h) (λ i u v free h. h.registers q free)
-          (λ over o u free. kept_registers over o u q) tree s t is;
+          (λ over o u free z. (cursors_only over o u z).registers q) tree s t is;
       columns = λ slot. part (λ i. writes_slot i slot) (λ u v. (place : ℕ) → v.columns slot place ≡ u.columns slot place) (λ u place. refl) (λ u v w h k place. k place ∙ h place)
-          (λ i u v free h place. h.columns slot place (slot_cell c e i u slot place free)) (λ over o u free place. kept_columns over o u slot place) tree s t is;
+          (λ i u v free h place. h.columns slot place (slot_cell c e i u slot place free)) (λ over o u free place z. (cursors_only over o u z).columns slot place) tree s t is;
       party = part moves_party (λ u v. v.party ≡ u.party) (λ u. refl) (λ u v w h k. k ∙ h) (λ i u v free h. h.party free) kept_party tree s t is;
       land = part moves_land (λ u v. v.land ≡ u.land) (λ u. refl) (λ u v w h k. k ∙ h) (λ i u v free h. h.land free) kept_land tree s t is;
       win = part moves_win (λ u v. v.win ≡ u.win) (λ u. refl) (λ u v w h k. k ∙ h) (λ i u v free h. h.win free) kept_win tree s t is;
-      table = part writes_table (λ u v. v.table ≡ u.table) (λ u. refl) (λ u v w h k. k ∙ h) (λ i u v free h. h.table free) (λ over o u free. kept_table over o u) tree s t is;
-      mark = part writes_mark (λ u v. v.mark ≡ u.mark) (λ u. refl) (λ u v w h k. k ∙ h) (λ i u v free h. h.mark free) (λ over o u free. kept_mark over o u) tree s t is;
+      table = part writes_table (λ u v. v.table ≡ u.table) (λ u. refl) (λ u v w h k. k ∙ h) (λ i u v free h. h.table free) (λ over o u free z. (cursors_only over o u z).table) tree s t is;
+      mark = part writes_mark (λ u v. v.mark ≡ u.mark) (λ u. refl) (λ u v w h k. k ∙ h) (λ i u v free h. h.mark free) (λ over o u free z. (cursors_only over o u z).mark) tree s t is;
       placed = part seats_winner (λ u v. (w : ℕ) → v.placed w ≡ u.placed w) (λ u w. refl) (λ u v x h k w. k w ∙ h w) (λ i u v free h w. h.placed w (seat_place i u w free))
-          (λ over o u free w. kept_placed over o u w) tree s t is;
+          (λ over o u free w z. (cursors_only over o u z).placed w) tree s t is;
       steps = part (λ i. false) (λ u v. (more : List SeatStep) × (v.steps ≡ u.steps ++ more)) (λ u. ([], sym (append-nil u.steps)))
           (λ u v w h k. (h.0 ++ k.0, k.1 ∙ ap (λ xs. xs ++ k.0) h.1 ∙ append_assoc u.steps h.0 k.0)) (λ i u v free h. h.steps)
-          (λ over o u free. ([], kept_steps over o u ∙ sym (append-nil u.steps))) tree s t is (has_none tree);
+          (λ over o u free. ([], (λ z. (cursors_only over o u z).steps) ∙ sym (append-nil u.steps))) tree s t is (has_none tree);
       weights = part (λ i. false) (λ u v. (more : List Weight) × (v.weights ≡ u.weights ++ more)) (λ u. ([], sym (append-nil u.weights)))
           (λ u v w h k. (h.0 ++ k.0, k.1 ∙ ap (λ xs. xs ++ k.0) h.1 ∙ append_assoc u.weights h.0 k.0)) (λ i u v free h. h.weights)
-          (λ over o u free. ([], kept_weights over o u ∙ sym (append-nil u.weights))) tree s t is (has_none tree);
-      steps_kept = part records_step (λ u v. v.steps ≡ u.steps) (λ u. refl) (λ u v w h k. k ∙ h) (λ i u v free h. h.steps_kept free) (λ over o u free. kept_steps over o u) tree s t is;
-      weights_kept = part records_weight (λ u v. v.weights ≡ u.weights) (λ u. refl) (λ u v w h k. k ∙ h) (λ i u v free h. h.weights_kept free) (λ over o u free. kept_weights over o u) tree s t is;
+          (λ over o u free. ([], (λ z. (cursors_only over o u z).weights) ∙ sym (append-nil u.weights))) tree s t is (has_none tree);
+      steps_kept = part records_step (λ u v. v.steps ≡ u.steps) (λ u. refl) (λ u v w h k. k ∙ h) (λ i u v free h. h.steps_kept free) (λ over o u free z. (cursors_only over o u z).steps) tree s t is;
+      weights_kept = part records_weight (λ u v. v.weights ≡ u.weights) (λ u. refl) (λ u v w h k. k ∙ h) (λ i u v free h. h.weights_kept free) (λ over o u free z. (cursors_only over o u z).weights) tree s t is;
     }
   where
     -- a cursor is set, and all else is as it was
-    kept_registers : (over : Cursor) (o : Option ℕ) (u : State) (q : ℕ) → (set_cursor over o u).registers q ≡ u.registers q
-    kept_registers cursor.Party o u q = refl
-    kept_registers _ o u q = refl
-
-    kept_columns : (over : Cursor) (o : Option ℕ) (u : State) (slot place : ℕ) → (set_cursor over o u).columns slot place ≡ u.columns slot place
-    kept_columns cursor.Party o u slot place = refl
-    kept_columns _ o u slot place = refl
+    cursors_only : (over : Cursor) (o : Option ℕ) (u : State)
+        → set_cursor over o u ≡ record u { party = (set_cursor over o u).party; land = (set_cursor over o u).land; win = (set_cursor over o u).win }
+    cursors_only cursor.Party o u = refl
+    cursors_only _ o u = refl
 
     kept_party : (over : Cursor) (o : Option ℕ) (u : State) → moves_party (to_first over 0) ≡ false → (set_cursor over o u).party ≡ u.party
     kept_party cursor.Party o u free = cc
@@ -177,23 +174,3 @@ plans_keep_the_rest c e tree s t is =
     kept_win cursor.Party o u free = refl
     kept_win cursor.Land o u free = refl
     kept_win cursor.Win o u free = cc
-
-    kept_table : (over : Cursor) (o : Option ℕ) (u : State) → (set_cursor over o u).table ≡ u.table
-    kept_table cursor.Party o u = refl
-    kept_table _ o u = refl
-
-    kept_mark : (over : Cursor) (o : Option ℕ) (u : State) → (set_cursor over o u).mark ≡ u.mark
-    kept_mark cursor.Party o u = refl
-    kept_mark _ o u = refl
-
-    kept_placed : (over : Cursor) (o : Option ℕ) (u : State) (w : ℕ) → (set_cursor over o u).placed w ≡ u.placed w
-    kept_placed cursor.Party o u w = refl
-    kept_placed _ o u w = refl
-
-    kept_steps : (over : Cursor) (o : Option ℕ) (u : State) → (set_cursor over o u).steps ≡ u.steps
-    kept_steps cursor.Party o u = refl
-    kept_steps _ o u = refl
-
-    kept_weights : (over : Cursor) (o : Option ℕ) (u : State) → (set_cursor over o u).weights ≡ u.weights
-    kept_weights cursor.Party o u = refl
-    kept_weights _ o u = refl

@@ -25,7 +25,6 @@ use Rattle.sl_plans.specs.declared.plan.Cursor.TheVariants as cursor
 use Rattle.sl_plans.specs.Trees.{Tree, Line, Stop, Then, If, Each, Times, size_of, flat, jump_of, to_first, to_next, ones, at_join, known_after_all, kinds_after, known_in_arm, known_in_other, known_in_turn, known_after_loop}
 use Rattle.sl_plans.specs.Fine.{bare, kinds_next, kinds_in_turn, kinds_along_all, kinds_along, is_plain, is_fine_line, is_fine, ArePassed, FinePlansPass}
 use Rattle.sl_plans.proofs.Places.{first_plan, second_plan, if_stands, each_stands, times_stands}
-use Rattle.sl_plans.proofs.Pieces.{jump_target}
 
 -- ---- tests
 
@@ -73,29 +72,9 @@ module _ (x : Context) where
   }
 
 -- ---- jumps of tests and loops
-module _ (to : ℕ) where
-  jump_goes_on : (t : Test) → ends (jump_of t to) ≡ false
-  jump_goes_on (test.Zero r) = refl
-  jump_goes_on _ = refl
 
-  jump_declares : (t : Test) → declared_by (jump_of t to) ≡ None
-  jump_declares (test.Zero r) = refl
-  jump_declares _ = refl
-
-  jump_needs : (x : Context) (k : Kinds) (t : Test) → has_needs x k (jump_of t to) ≡ has_needs x k (jump_of t 0)
-  jump_needs x k (test.Zero r) = refl
-  jump_needs x k _ = refl
-
-  jump_carries : (k : Kinds) (t : Test) → carried k (jump_of t to) ≡ carried k (jump_of t 0)
-  jump_carries k (test.Zero r) = refl
-  jump_carries k _ = refl
-
-  jump_next : (k : Kinds) (t : Test) → kinds_next k (jump_of t to) ≡ kinds_next k (jump_of t 0)
-  jump_next k (test.Zero r) = refl
-  jump_next k _ = refl
-
--- what a loop's two jumps have in common
-record LoopJump (i j : Instr) (to : ℕ) : Type 0 where
+-- what a jump to that place has in common with one to another
+record SameJump (i j : Instr) (to : ℕ) : Type 0 where
   goes_on : ends i ≡ false
   declares_none : declared_by i ≡ None
   target : target_of i ≡ Some to
@@ -103,11 +82,15 @@ record LoopJump (i j : Instr) (to : ℕ) : Type 0 where
   carries : (k : Kinds) → carried k i ≡ carried k j
   next : (k : Kinds) → kinds_next k i ≡ kinds_next k j
 
-first_jump : (over : Cursor) (to : ℕ) → LoopJump (to_first over to) (to_first over 0) to
+test_jump : (t : Test) (to : ℕ) → SameJump (jump_of t to) (jump_of t 0) to
+test_jump (test.Zero r) to = record { goes_on = refl; declares_none = refl; target = refl; needs = λ x k. refl; carries = λ k. refl; next = λ k. refl }
+test_jump _ to = record { goes_on = refl; declares_none = refl; target = refl; needs = λ x k. refl; carries = λ k. refl; next = λ k. refl }
+
+first_jump : (over : Cursor) (to : ℕ) → SameJump (to_first over to) (to_first over 0) to
 first_jump cursor.Party to = record { goes_on = refl; declares_none = refl; target = refl; needs = λ x k. refl; carries = λ k. refl; next = λ k. refl }
 first_jump _ to = record { goes_on = refl; declares_none = refl; target = refl; needs = λ x k. refl; carries = λ k. refl; next = λ k. refl }
 
-next_jump : (over : Cursor) (to : ℕ) → LoopJump (to_next over to) (to_next over 0) to
+next_jump : (over : Cursor) (to : ℕ) → SameJump (to_next over to) (to_next over 0) to
 next_jump cursor.Party to = record { goes_on = refl; declares_none = refl; target = refl; needs = λ x k. refl; carries = λ k. refl; next = λ k. refl }
 next_jump _ to = record { goes_on = refl; declares_none = refl; target = refl; needs = λ x k. refl; carries = λ k. refl; next = λ k. refl }
 
@@ -198,10 +181,11 @@ module _ (code : CountingCode) (slots : ℕ → Option Shape) (stages : ℕ) whe
       ends_there all after_b (Jmp end) refl f4.0 (leads_to (carried after_b (Jmp end)) d (Some end) end refl parts.joined f5.0) (Some d) (At in_arm ∷ (fa ++ (At d ∷ []))) refl from_arm in
       let from_other : ArePassed all (Some in_other) (fb ++ (Jmp end ∷ (At in_arm ∷ (fa ++ (At d ∷ []))))) (Some d) =
       in_row all (Some in_other) (Some after_b) (Some d) fb (Jmp end ∷ (At in_arm ∷ (fa ++ (At d ∷ [])))) (pass_as b pass_b in_other (known_in_other (bare k) t) (p + 1) (bare_other k t) parts.other f3.0) from_leave in
-      let implied : implies (carried k (jump_of t arm)) in_arm ≡ true = ap (λ m. implies m in_arm) (jump_carries arm k t) ∙ f2.0 in
-      goes_on all k (jump_of t arm) (jump_declares arm t) (jump_needs arm all k t ∙ f1.0) (leads_to (carried k (jump_of t arm)) in_arm (target_of (jump_of t arm)) arm (jump_target t arm) parts.declared implied)
-      (Some d) (fb ++ (Jmp end ∷ (At in_arm ∷ (fa ++ (At d ∷ []))))) (jump_goes_on arm t)
-      (subst (λ m. ArePassed all (Some m) (fb ++ (Jmp end ∷ (At in_arm ∷ (fa ++ (At d ∷ []))))) (Some d)) (sym (jump_next arm k t)) from_other)
+      let jump = test_jump t arm in
+      let implied : implies (carried k (jump_of t arm)) in_arm ≡ true = ap (λ m. implies m in_arm) (jump.carries k) ∙ f2.0 in
+      goes_on all k (jump_of t arm) jump.declares_none (jump.needs all k ∙ f1.0) (leads_to (carried k (jump_of t arm)) in_arm (target_of (jump_of t arm)) arm jump.target parts.declared implied)
+      (Some d) (fb ++ (Jmp end ∷ (At in_arm ∷ (fa ++ (At d ∷ []))))) jump.goes_on
+      (subst (λ m. ArePassed all (Some m) (fb ++ (Jmp end ∷ (At in_arm ∷ (fa ++ (At d ∷ []))))) (Some d)) (sym (jump.next k)) from_other)
 
   each_passes : (over : Cursor) (a : Tree) → Pass a → Pass (Each over a)
   each_passes over a pass_a k p has fine =

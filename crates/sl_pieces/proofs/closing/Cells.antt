@@ -1,10 +1,8 @@
 -- Columns of lists, cell by cell: those that plans write, and the lists that stand for them in the end.
-use Rattle.std.proofs.Common.{◌≡◌, ◌≢◌, ℕ, ◌+◌, ◌*◌, ◌<◌, List, length, map, zip, Some, slice_get, slice_index, sym, ap, subst, ◌∙◌, arith}
+use Rattle.std.proofs.Common.{◌≡◌, ◌≢◌, ℕ, ◌+◌, ◌*◌, ◌<◌, List, map, zip, Some, slice_get, slice_index, sym, ap, subst, ◌∙◌, arith}
 use Rattle.std.specs.List.{range_with_len}
-use Rattle.std.proofs.lemmas.List.{get_or-map}
 use Rattle.std.proofs.lemmas.List.FromFn.{length-map-range_with_len, get_or-map-range_with_len}
 use Rattle.std.proofs.lemmas.Option.{get_or_from_slice_get}
-use Rattle.std.proofs.lemmas.Slice.Zip.{length-zip, get_or-zip}
 use Rattle.sl_stages.specs.declared.book.Pairing.{Pairing}
 use Rattle.sl_stages.specs.declared.book.Shape.{Shape}
 use Rattle.sl_stages.specs.declared.book.Shape.TheVariants as shape
@@ -20,7 +18,7 @@ use Rattle.sl_plans.specs.Achieves.{Achieves, Never}
 use Rattle.sl_plans.proofs.Rules.{achieves_so}
 use Rattle.sl_pieces.specs.columns.Columns.{HoldsColumn, ChangesColumn}
 use Rattle.sl_pieces.specs.columns.Trees.{pair_tree}
-use Rattle.sl_pieces.proofs.columns.Writing.{pairs_are_taken}
+use Rattle.sl_pieces.proofs.columns.Writing.{pairs_are_taken, pair_at}
 use Rattle.sl_pieces.proofs.facts.Holding.{place_within}
 
 -- ---- two columns that are joined cell by cell
@@ -31,13 +29,6 @@ holds_itself e s column = record {
   long = length-map-range_with_len column 0 (cells_of e s);
   at = λ q less. sym (get_or-map-range_with_len column 0 (cells_of e s) q q 0 less (omega arith));
 }
-
--- the number that a function makes of two numbers at the same place
-made_at : (f : ℕ → ℕ → ℕ) (xs ys : List ℕ) (n q : ℕ) → length xs ≡ n → length ys ≡ n → q < n →
-    slice_index (map (λ x. f x.0 x.1) (zip xs ys)) q ≡ f (slice_index xs q) (slice_index ys q)
-made_at f xs ys n q long same less =
-    get_or-map (λ x. f x.0 x.1) (zip xs ys) q (0, 0) 0 (omega (arith, length-zip xs ys, long, same))
-    ∙ ap (λ (x : ℕ × ℕ). f x.0 x.1) (get_or-zip xs ys q (0, 0) (omega (arith, long, less)) (omega (arith, same, less)))
 
 -- each cell of the column was made of the cells of two columns, and nothing else is changed
 pub record IsMade (e : Election) (f : ℕ → ℕ → ℕ) (left right to : ℕ) (before after : State) : Type 0 where
@@ -62,7 +53,7 @@ module _ (c : CountingCode) (e : Election) (left right to : ℕ) (s : State) (kn
       let of_right : HoldsColumn e shape.List (s.columns right) rights = holds_itself e shape.List (s.columns right) in
       record {
         cells = λ q less.
-            holds.at q less ∙ made_at f lefts rights pairs q of_left.long of_right.long less
+            holds.at q less ∙ pair_at f lefts rights pairs of_left.long of_right.long q less
             ∙ ap (λ (m : ℕ). f m (slice_index rights q)) (sym (of_left.at q less)) ∙ ap (f (s.columns left q)) (sym (of_right.at q less));
         changes = changes;
       }

@@ -41,6 +41,7 @@ use Rattle.sl_pieces.specs.closing.Closing.{BeginsClosing, EndsInOutcome}
 use Rattle.sl_pieces.proofs.closing.Rules.{all_first, goes_on}
 use Rattle.sl_pieces.proofs.closing.Bases.{HasBase}
 use Rattle.sl_pieces.proofs.closing.Seated.{HasSeated, places_are}
+use Rattle.sl_pieces.proofs.columns.Cells.{still_holds}
 
 module _ (c : CountingCode) (b : BookTree) (e : Election) (k : Known) (before s : State) (is : IsElection e) (slots : HasBookSlots c k.types)
     (stages : length c.stages ≡ length b.stages) (begins : BeginsClosing b e k before s) (h : HasBase c b e k b.last s) (covers : b.last.seating ≡ seating.Cover) where

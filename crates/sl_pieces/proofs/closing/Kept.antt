@@ -45,6 +45,7 @@ use Rattle.sl_pieces.proofs.closing.Rules.{all_first, goes_on}
 use Rattle.sl_pieces.proofs.closing.Cells.{IsMade, pair_made}
 use Rattle.sl_pieces.proofs.closing.Bases.{HasBase, seats_small}
 use Rattle.sl_pieces.proofs.closing.Seated.{HasSeated, places_are}
+use Rattle.sl_pieces.proofs.columns.Cells.{still_holds}
 
 -- all winners have their places, and nothing else is changed but registers and cursors
 pub record ArePlaced (b : BookTree) (e : Election) (before after : State) : Type 0 where

@@ -128,10 +128,10 @@ module _ (c : CountingCode) (e : Election) (s : Shape) (left right to : ℕ) (va
 
 -- pairs of cells
 module _ (f : ℕ → ℕ → ℕ) (xs ys : List ℕ) (n : ℕ) (long : length xs ≡ n) (same : length ys ≡ n) where
-  pairs_long : length (map (λ x. f x.0 x.1) (zip xs ys)) ≡ n
+  pub pairs_long : length (map (λ x. f x.0 x.1) (zip xs ys)) ≡ n
   pairs_long = length-map (zip xs ys) (λ x. f x.0 x.1) ∙ omega (arith, length-zip xs ys, long, same)
 
-  pair_at : (q : ℕ) → q < n → slice_index (map (λ x. f x.0 x.1) (zip xs ys)) q ≡ f (slice_index xs q) (slice_index ys q)
+  pub pair_at : (q : ℕ) → q < n → slice_index (map (λ x. f x.0 x.1) (zip xs ys)) q ≡ f (slice_index xs q) (slice_index ys q)
   pair_at q less =
       get_or-map (λ x. f x.0 x.1) (zip xs ys) q (0, 0) 0 (omega (arith, length-zip xs ys, long, same))
       ∙ ap (λ (x : ℕ × ℕ). f x.0 x.1) (get_or-zip xs ys q (0, 0) (omega (arith, long)) (omega (arith, same)))

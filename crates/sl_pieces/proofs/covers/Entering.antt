@@ -26,10 +26,10 @@ use Rattle.sl_plans.proofs.Rules.{line_ends, line_goes}
 use Rattle.sl_pieces.specs.declared.registers.TheConstants as reg
 use Rattle.sl_pieces.specs.covers.Trees.{CoverSlots, enter_winner}
 use Rattle.sl_pieces.specs.covers.Covering.{HasCoverSlots}
-use Rattle.sl_pieces.proofs.covers.Pairs.{cell_within}
 use Rattle.sl_pieces.proofs.covers.Winners.{of_list, front, front_more, entry_of}
 use Rattle.sl_pieces.proofs.covers.Seatable.{HasFlags}
 use Rattle.sl_pieces.proofs.covers.Contested.{number_of}
+use Rattle.sl_pieces.proofs.facts.Holding.{place_within}
 
 -- what the columns hold that are read: the numbers of the pairs, the lists' seats, and which parties are eligible
 pub record AreRead (e : Election) (x : CoverSlots) (eligible : ℕ → Bool) (base : List ℕ) (columns : ℕ → ℕ → ℕ) : Type 0 where
@@ -111,5 +111,5 @@ module _ (c : CountingCode) (e : Election) (x : CoverSlots) (eligible : ℕ → 
             table = ap (λ ys. Some (record { entries = entries.Win; ranking = ranking.Quotients; contents = ys })) entered_too;
             total = (let so_far = h.total in omega (arith, total, so_far, few, below, winners, longer));
             few = omega (arith, few, longer);
-            left = λ some. ap (λ (f : ℕ → ℕ → ℕ). f x.base cell) columns ∙ h.read.seats cell (cell_within e l.0 l.1 in_land in_party);
+            left = λ some. ap (λ (f : ℕ → ℕ → ℕ). f x.base cell) columns ∙ h.read.seats cell (place_within e l.0 l.1 in_party in_land);
           }))))))

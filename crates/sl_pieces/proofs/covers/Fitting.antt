@@ -24,12 +24,13 @@ use Rattle.sl_plans.proofs.KeepingRules.{wins_keeping}
 use Rattle.sl_pieces.specs.declared.registers.TheConstants as reg
 use Rattle.sl_pieces.specs.covers.Trees.{CoverSlots, if_seatable, seat_fitting, seat_uncontested}
 use Rattle.sl_pieces.specs.covers.Covering.{HasCoverSlots}
-use Rattle.sl_pieces.proofs.covers.Pairs.{pair_at, cell_within}
+use Rattle.sl_pieces.proofs.covers.Pairs.{pair_at}
 use Rattle.sl_pieces.proofs.covers.Winners.{IsWinnerOf, of_list, says_winner, each_winner, won}
 use Rattle.sl_pieces.proofs.covers.Singles.{ArePlaced, place_next, placed_next}
 use Rattle.sl_pieces.proofs.covers.Seatable.{IsSeatable, OnlyLooked, IsAtList, says_here, says_elsewhere, if_seatable_achieves}
 use Rattle.sl_pieces.proofs.covers.Contested.{is_contested, number_of, number_contested_is, number_other_is, at_once, nobody_contested, nobody_without_seats, everybody_fits}
 use Rattle.sl_pieces.proofs.covers.Entering.{AreRead}
+use Rattle.sl_pieces.proofs.facts.Holding.{place_within}
 
 -- ---- who is among the winners of a list
 
@@ -154,7 +155,7 @@ module _ (c : CountingCode) (e : Election) (x : CoverSlots) (eligible : ℕ → 
       q = w.land * parties_of e + p
 
       within : q < lands_of e * parties_of e
-      within = cell_within e w.land p seatable.in_land seatable.in_party
+      within = place_within e w.land p seatable.in_party seatable.in_land
 
       abbrev numbered : State
       numbered = with_register reg.WEIGHT (u.columns x.numbers q) u

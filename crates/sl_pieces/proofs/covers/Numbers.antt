@@ -25,10 +25,11 @@ use Rattle.sl_plans.specs.Frames.{may_write_slot}
 use Rattle.sl_pieces.specs.declared.registers.TheConstants as reg
 use Rattle.sl_pieces.specs.covers.Trees.{CoverSlots, if_seatable, count_winner, count_winners, number_list, number_contested}
 use Rattle.sl_pieces.specs.covers.Covering.{HasCoverSlots}
-use Rattle.sl_pieces.proofs.covers.Pairs.{pair_at, cell_within}
+use Rattle.sl_pieces.proofs.covers.Pairs.{pair_at}
 use Rattle.sl_pieces.proofs.covers.Winners.{of_list, front, front_none, front_all, front_more, front_few}
 use Rattle.sl_pieces.proofs.covers.Seatable.{IsSeatable, OnlyLooked, IsAtList, HasFlags, says_here, says_elsewhere, if_seatable_achieves}
 use Rattle.sl_pieces.proofs.covers.Contested.{many_at, is_contested, contested_before, number_of, contested_by, no_seats_uncontested, all_fit_uncontested, before_none, before_contested, before_other, before_few, number_contested_is, number_other_is}
+use Rattle.sl_pieces.proofs.facts.Holding.{place_within}
 
 -- of the first j winners so many are each list's, and the flags stand
 pub record AreCounted (e : Election) (x : CoverSlots) (eligible : ℕ → Bool) (j : ℕ) (t : State) : Type 0 where
@@ -58,7 +59,7 @@ module _ (c : CountingCode) (e : Election) (x : CoverSlots) (eligible : ℕ → 
 
         counts_one : Achieves c e (count_winner x) u (AreCounted e x eligible (j + 1)) Never
         counts_one =
-            let within : place < lands_of e * parties_of e = cell_within e w.land p seatable.in_land seatable.in_party in
+            let within : place < lands_of e * parties_of e = place_within e w.land p seatable.in_party seatable.in_land in
             let old : u.columns x.numbers place ≡ length (front eligible e (pair_at e place) j) = ap (λ (f : ℕ → ℕ → ℕ). f x.numbers place) here.looked.columns ∙ h.counts place within in
             let cell = both_are u.land u.party (λ land party. land * parties_of e + party) w.land p here.land here.party in
             let more : ℕ = min (u.columns x.numbers place + 1) most in
@@ -141,7 +142,7 @@ module _ (c : CountingCode) (e : Election) (x : CoverSlots) (eligible : ℕ → 
     n = l * parties_of e + p
 
     within : n < lands_of e * parties_of e
-    within = cell_within e l p in_land in_party
+    within = place_within e l p in_party in_land
 
     abbrev here : State
     here = with_party (Some p) t

@@ -26,7 +26,6 @@ use Rattle.sl_pieces.specs.awards.Trees.{awards}
 use Rattle.sl_pieces.proofs.awards.Awards.{awards_achieve}
 use Rattle.sl_pieces.specs.covers.Trees.{CoverSlots, see_winner, seats_to_give, tied_winners, cover_pair}
 use Rattle.sl_pieces.specs.covers.Covering.{HasCoverSlots}
-use Rattle.sl_pieces.proofs.covers.Pairs.{cell_within}
 use Rattle.sl_pieces.proofs.covers.Contested.{is_contested, contested_before, before_few, number_contested_is}
 use Rattle.sl_pieces.proofs.covers.Numbers.{pairs_countable}
 use Rattle.sl_pieces.proofs.covers.Winners.{won, nothing_held, all_wait}
@@ -35,6 +34,7 @@ use Rattle.sl_pieces.proofs.covers.Seeing.{winners_enter}
 use Rattle.sl_pieces.proofs.covers.Chosen.{none_chosen}
 use Rattle.sl_pieces.proofs.covers.Seats.{AreSeated, listed, meant, to_give, tops, no_seats_yet, can_award, seats_are_given, seats_fit}
 use Rattle.sl_pieces.proofs.covers.Ties.{EndsInListTie, ties_end}
+use Rattle.sl_pieces.proofs.facts.Holding.{place_within}
 
 -- the winners of the list are seated as chosen
 pub record IsListSeated (eligible : ℕ → Bool) (e : Election) (base : List ℕ) (l : ℕ × ℕ) (earlier : List ℕ) (t : State) : Type 0 where
@@ -91,7 +91,7 @@ module _ (c : CountingCode) (e : Election) (x : CoverSlots) (eligible : ℕ → 
       let counted_one : State = with_register reg.LEFT 0 (with_register reg.TOTAL 0 (with_register reg.AMOUNT more (with_register ones 1 t))) in
       let begun : State = with_table (record { entries = entries.Win; ranking = ranking.Quotients; contents = [] }) counted_one in
       let counted : more ≡ contested_before e eligible base place + 1 =
-      (let within = cell_within e l.0 l.1 in_land in_party in
+      (let within = place_within e l.0 l.1 in_party in_land in
       let few = pairs_countable e is in
       let below = before_few e eligible base place in
       omega (arith, amount, within, few, below)) in

@@ -6,7 +6,7 @@ use Rattle.std.proofs.lemmas.Bool.{cases_Bool}
 use Rattle.std.proofs.lemmas.List.{map-append}
 use Rattle.std.proofs.lemmas.List.Elements.{filter-append}
 use Rattle.std.proofs.lemmas.List.FromFn.{filter_of_map_range_with_len_more}
-use Rattle.std.proofs.lemmas.Nat.{div-mul-add, mod-mul-add, row_fits}
+use Rattle.std.proofs.lemmas.Nat.{div-mul-add, mod-mul-add}
 use Rattle.sl_stages.specs.returns.Election.{Election, lands_of, parties_of, has_list}
 use Rattle.sl_stages.specs.returns.Facts.{lists_of}
 
@@ -39,10 +39,6 @@ range_both a (suc m) n =
 -- ---- the pairs
 
 module _ (e : Election) where
-  -- the place of a pair in a column
-  pub cell_within : (land party : ℕ) → land < lands_of e → party < parties_of e → land * parties_of e + party < lands_of e * parties_of e
-  cell_within land party in_land in_party = let row = row_fits land (parties_of e) (lands_of e) (parties_of e) in_land (omega arith) in omega (arith, row, in_party)
-
   -- the pair of that number
   abbrev pub pair_at : ℕ → ℕ × ℕ
   pair_at q = (q / parties_of e, q % parties_of e)

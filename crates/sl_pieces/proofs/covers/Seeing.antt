@@ -20,11 +20,12 @@ use Rattle.sl_plans.proofs.KeepingRules.{wins_keeping}
 use Rattle.sl_pieces.specs.declared.registers.TheConstants as reg
 use Rattle.sl_pieces.specs.covers.Trees.{CoverSlots, see_winner, of_pair, enter_winner}
 use Rattle.sl_pieces.specs.covers.Covering.{HasCoverSlots}
-use Rattle.sl_pieces.proofs.covers.Pairs.{cell_within, pair_is}
+use Rattle.sl_pieces.proofs.covers.Pairs.{pair_is}
 use Rattle.sl_pieces.proofs.covers.Winners.{of_list, of_list_by, IsWinnerOf, is_winner, each_winner, says_winner, won, front_none, front_all}
 use Rattle.sl_pieces.proofs.covers.Seatable.{is_win}
 use Rattle.sl_pieces.proofs.covers.Contested.{many_at, is_contested, contested_parts, number_of, number_alone}
 use Rattle.sl_pieces.proofs.covers.Entering.{AreRead, AreEntered, Entered, table_with, not_entered, enters}
+use Rattle.sl_pieces.proofs.facts.Holding.{place_within}
 
 module _ (c : CountingCode) (e : Election) (x : CoverSlots) (eligible : ℕ → Bool) (base : List ℕ) (l : ℕ × ℕ) (is : IsElection e) (slots : HasCoverSlots c x) (in_land : l.0 < lands_of e)
     (in_party : l.1 < parties_of e) (contested : is_contested e eligible base (l.0 * parties_of e + l.1) ≡ true) where
@@ -73,7 +74,7 @@ module _ (c : CountingCode) (e : Election) (x : CoverSlots) (eligible : ℕ → 
       looked = with_register reg.WEIGHT number at_cell
 
       numbered : number ≡ number_of e eligible base cell
-      numbered = h.read.numbers cell (cell_within e w.land p (is_win c e x eligible is slots j w at).land within)
+      numbered = h.read.numbers cell (place_within e w.land p within (is_win c e x eligible is slots j w at).land)
 
       -- of the list
       same_pair : number ≡ t.registers reg.AMOUNT → Achieves c e (enter_winner x) looked (Seen (j + 1)) Never

@@ -1,5 +1,5 @@
 -- Columns that come one behind another: the arguments of an expression, from left to right, and then its own.
-use Rattle.std.proofs.Common.{◌≡◌, ℕ, ◌+◌, ◌<◌, ◌≤◌, List, [], ◌∷◌, ◌++◌, refl, ◌∙◌, inl, arith}
+use Rattle.std.proofs.Common.{ℕ, ◌+◌, ◌<◌, ◌≤◌, List, [], ◌∷◌, ◌++◌, refl, ◌∙◌, inl, arith}
 use Rattle.sl_stages.specs.declared.book.Shape.{Shape}
 use Rattle.sl_stages.specs.returns.Election.{Election}
 use Rattle.sl_stages.specs.meaning.Records.{Records, no_records, both_records}
@@ -17,6 +17,7 @@ use Rattle.sl_pieces.proofs.exprs.Following.{AllAchieve, all_more, all_then, all
 use Rattle.sl_pieces.proofs.exprs.Places.{first_of, first_same, first_next, level_below, outside, wider}
 use Rattle.sl_pieces.proofs.nodes.Added.{adds_none, adds_more}
 use Rattle.sl_pieces.specs.exprs.Meaning.{ComesTo}
+use Rattle.sl_pieces.proofs.columns.Cells.{still_holds}
 
 -- ---- columns that come, and those that stay
 

@@ -1,6 +1,5 @@
 -- What columns hold: by party, by Land, by list; and plans that change one column alone.
-use Rattle.std.proofs.Common.{◌≡◌, ◌≢◌, ℕ, ◌+◌, ◌*◌, ◌/◌, ◌%◌, ◌<◌, ◌≤◌, false, List, [], ◌∷◌, Option, get_or, if◌then◌else◌, refl, sym, ap, ◌∙◌, arith}
-use Rattle.std.proofs.Math.Nat.{mul-le-mul_right}
+use Rattle.std.proofs.Common.{◌≡◌, ◌≢◌, ℕ, ◌+◌, ◌*◌, ◌/◌, ◌%◌, ◌<◌, false, List, [], ◌∷◌, Option, get_or, if◌then◌else◌, refl, sym, ap, ◌∙◌, arith}
 use Rattle.std.proofs.lemmas.Bool.{lt-ltb}
 use Rattle.std.proofs.lemmas.Nat.{div-add-mod'}
 use Rattle.std.proofs.lemmas.List.FromFn.{length-map-range_with_len, get_or-map-range_with_len}
@@ -14,6 +13,7 @@ use Rattle.sl_code.specs.Codes.{CountingCode}
 use Rattle.sl_machine.specs.State.{State}
 use Rattle.sl_machine.specs.Effects.{from_lists}
 use Rattle.sl_machine.proofs.soundness.KeptTables.{list_parts}
+use Rattle.sl_machine.proofs.soundness.KeptEntries.{list_below}
 use Rattle.sl_plans.specs.Trees.{Tree}
 use Rattle.sl_plans.specs.Achieves.{Achieves, Never}
 use Rattle.sl_plans.specs.Frames.{may_write_slot, may_seat, may_record_step, may_record_weight}
@@ -25,9 +25,7 @@ use Rattle.sl_pieces.specs.columns.Columns.{HoldsColumn, GetsColumn}
 
 module _ (e : Election) (land party : ℕ) (less : party < parties_of e) where
   pub place_within : land < lands_of e → land * parties_of e + party < lands_of e * parties_of e
-  place_within in_lands =
-      let high : (land + 1) * parties_of e ≤ lands_of e * parties_of e = mul-le-mul_right (parties_of e) (omega arith) in
-      omega (arith, high, less)
+  place_within in_lands = list_below land party (lands_of e) (parties_of e) in_lands less
 
   -- what the returns say of a list, in a column of them
   pub list_told : (f : Option ListVotes → ℕ) → land < lands_of e → from_lists e f (land * parties_of e + party) ≡ f (list_at e land party)
