@@ -1,5 +1,5 @@
 -- The entry that is taken, and the others, which stay as they were ranked.
-use Rattle.std.proofs.Common.{◌≡◌, ℕ, ◌∷◌, List, Option, Some, IsSome, IsPermutation, slice_get, sym, ap, subst, ◌∙◌}
+use Rattle.std.proofs.Common.{◌≡◌, ◌∷◌, Option, Some, IsSome, IsPermutation, slice_get, sym, ap, subst, ◌∙◌}
 use Rattle.std.specs.Option.{IfSome, option_and_then, option_map}
 use Rattle.sl_ratio.specs.declared.entry.Entry.{Entry}
 use Rattle.sl_ratio.specs.Quotient.{FitsRatio}
@@ -7,7 +7,6 @@ use Rattle.sl_prio.specs.declared.prio.Drawn.{Drawn}
 use Rattle.sl_prio.specs.Prio.{peers, top}
 use Rattle.sl_prio.specs.Lot.{drawn}
 use Rattle.sl_prio.specs.inner.Marks.{IsPassed}
-use Rattle.sl_machine.specs.State.{PriorityTable}
 use Rattle.sl_machine.specs.Effects.{takes}
 use Rattle.sl_machine.specs.inner.Lots.{LotTable, lot_in}
 use Rattle.sl_machine.specs.inner.Tables.{FitsMark}
