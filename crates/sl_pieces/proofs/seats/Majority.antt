@@ -136,7 +136,7 @@ module _ (c : CountingCode) (e : Election) (f : Form) (x : Slots) (name : List â
       (line_first refl (line_over (if_less
       (Î» enough. line_ends (
         next_allowed v seats s lengths j less h.0
-        (and_right (nat_lt (sum v) (2 * slice_index v j)) (nat_le (2 * slice_index s j) seats) (lt-leb (2 * slice_index s j) seats (omega (arith, enough, amount, held, big, few)))),
+            (and_right (nat_lt (sum v) (2 * slice_index v j)) (nat_le (2 * slice_index s j) seats) (lt-leb (2 * slice_index s j) seats (omega (arith, enough, amount, held, big, few)))),
         h.1,
       ))
       (Î» short. faulty_ends slots scope w end.Majority ((scope.entry j i at).scope t on)
@@ -164,7 +164,7 @@ module _ (c : CountingCode) (e : Election) (f : Form) (x : Slots) (name : List â
       (omega (arith, major, total, weight, light, big)))
       (Î» minor. line_ends (
         next_allowed v seats s lengths j less h.0
-        (and_left (nat_lt (sum v) (2 * slice_index v j)) (nat_le (2 * slice_index s j) seats) (le-ltb (sum v) (2 * slice_index v j) (omega (arith, minor, total, weight, light, big)))),
+            (and_left (nat_lt (sum v) (2 * slice_index v j)) (nat_le (2 * slice_index s j) seats) (le-ltb (sum v) (2 * slice_index v j) (omega (arith, minor, total, weight, light, big)))),
         h.1,
       )))))
 
