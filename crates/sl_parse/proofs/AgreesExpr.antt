@@ -19,19 +19,13 @@ use Rattle.sl_parse.proofs.TokenTests.{form-taken, tests_axis, tests_method, tes
 use Rattle.sl_parse.proofs.Agrees.{Agrees, then_agrees, agreed, Any, one_agrees, taken_agrees}
 
 pub depth-pos : (e : ExprTree) → 1 ≤ depth_of e
-depth-pos (sum at e axis) = omega arith
-depth-pos (pair at pairing l r) = omega arith
 depth-pos (split at s v m without j) = omega arith
 depth-pos (split at s v m (atleast e) j) = omega arith
-depth-pos (grow at s v m e c j) = omega arith
 depth-pos _ = omega arith
 
 pub parts-pos : (e : ExprTree) → 1 ≤ parts_of e
-parts-pos (sum at e axis) = omega arith
-parts-pos (pair at pairing l r) = omega arith
 parts-pos (split at s v m without j) = omega arith
 parts-pos (split at s v m (atleast e) j) = omega arith
-parts-pos (grow at s v m e c j) = omega arith
 parts-pos _ = omega arith
 
 -- an expression has room

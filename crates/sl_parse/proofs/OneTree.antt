@@ -1,7 +1,7 @@
 -- Each book is within some limits, so that reading finds it.
-use Rattle.std.proofs.Common.{◌≡◌, ℕ, zero, suc, ◌+◌, ◌≤◌, Bool, true, false, List, [], ◌∷◌, length, Ok, Err, refl, sym, ap, ◌∙◌, arith}
-use Rattle.std.proofs.lemmas.Bool.{le-leb, leb-true}
-use Rattle.std.specs.Prelude.{◌&&◌, nat_le, IsTrue}
+use Rattle.std.proofs.Common.{◌≡◌, ℕ, zero, suc, ◌+◌, ◌≤◌, true, List, [], ◌∷◌, length, Ok, Err, refl, sym, ap, ◌∙◌, arith}
+use Rattle.std.proofs.lemmas.Bool.{and_from, and_parts, le-leb, leb-true}
+use Rattle.std.specs.Prelude.{nat_le, IsTrue}
 use Rattle.std.specs.List.{list_all}
 use Rattle.sl_lex.specs.declared.token.Token.{Token}
 use Rattle.sl_stages.specs.declared.limits.TheConstants.{MAX_STAGES, MAX_DEPTH, MAX_PARTS}
@@ -55,33 +55,26 @@ not_stopped text l c rest b ts e h fits = let k = finds_book text l b ts h fits 
 
 -- ---- the limits of books as a test
 
-both : (a b : Bool) → (a && b) ≡ true → (a ≡ true) × (b ≡ true)
-both true b h = (refl, h)
-both false b h = absurd cc
-
-and_true : (a b : Bool) → a ≡ true → b ≡ true → (a && b) ≡ true
-and_true a b h k = rw (h, k) refl
-
 each : (n : ℕ) (ss : List StageTree) → length ss ≤ n → list_all is_within_stage ss ≡ true → AreWithin limits n ss
 each n [] h k = tt
 each zero (s ∷ ss) h k = absurd (omega arith)
 each (suc n) (s ∷ ss) h k =
-    let here = both (is_within_stage s) (list_all is_within_stage ss) k in
-    let room = both (nat_le (depth_of s.expr) MAX_DEPTH) (nat_le (parts_of s.expr) MAX_PARTS) here.0 in
+    let here = and_parts (is_within_stage s) (list_all is_within_stage ss) k in
+    let room = and_parts (nat_le (depth_of s.expr) MAX_DEPTH) (nat_le (parts_of s.expr) MAX_PARTS) here.0 in
     (leb-true _ _ room.0, leb-true _ _ room.1, each n ss (omega arith) here.1)
 
 pub within : (ss : List StageTree) → IsTrue (is_within_limits ss) → AreWithin limits MAX_STAGES ss
-within ss h = let k = both (nat_le (length ss) MAX_STAGES) (list_all is_within_stage ss) h in each MAX_STAGES ss (leb-true _ _ k.0) k.1
+within ss h = let k = and_parts (nat_le (length ss) MAX_STAGES) (list_all is_within_stage ss) h in each MAX_STAGES ss (leb-true _ _ k.0) k.1
 
 all_pass : (n : ℕ) (ss : List StageTree) → AreWithin limits n ss → (length ss ≤ n) × (list_all is_within_stage ss ≡ true)
 all_pass n [] h = (omega arith, refl)
 all_pass zero (s ∷ ss) h = absurd h
 all_pass (suc n) (s ∷ ss) h =
     let k = all_pass n ss h.2 in
-    (omega (arith, k.0), and_true _ _ (and_true _ _ (le-leb _ _ h.0) (le-leb _ _ h.1)) k.1)
+    (omega (arith, k.0), and_from _ _ (and_from _ _ (le-leb _ _ h.0) (le-leb _ _ h.1)) k.1)
 
 pub is_within : (ss : List StageTree) → AreWithin limits MAX_STAGES ss → IsTrue (is_within_limits ss)
-is_within ss h = let k = all_pass MAX_STAGES ss h in and_true _ _ (le-leb _ _ k.0) k.1
+is_within ss h = let k = all_pass MAX_STAGES ss h in and_from _ _ (le-leb _ _ k.0) k.1
 
 -- stages that are read are within the limits
 pub read_within : (text : List ℕ) (ts rest : List Token) (ss : List StageTree) → read_stages text limits MAX_STAGES ts ≡ Ok (ss, rest) → IsTrue (is_within_limits ss)

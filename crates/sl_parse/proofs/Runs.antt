@@ -31,16 +31,11 @@ wider l = record { depth = suc l.depth; parts = suc l.parts; stages = suc l.stag
 
 -- a part under wider limits
 abbrev pub raise : Sym → Sym
-raise (one_of test k e) = one_of test k e
 raise (expr d) = expr (suc d)
-raise condition = condition
-raise or_more = or_more
 raise (after_method d) = after_method (suc d)
 raise (clause d) = clause (suc d)
-raise majority = majority
-raise refusal = refusal
-raise vacate = vacate
 raise (stages n) = stages (suc n)
+raise s = s
 
 abbrev pub MovesOn : Move → Type 0
 MovesOn m = (ss : List Sym) × (p : ℕ) × (m ≡ goes ss p)
@@ -87,12 +82,10 @@ shut (one_of test t e) = t ∷ []
 shut (expr d) = made (kinds.Keyword keywords.House) ∷ []
 shut condition = made (kinds.Keyword keywords.All) ∷ []
 shut or_more = made (kinds.Mark marks.Semicolon) ∷ []
-shut (after_method d) = made (kinds.Mark marks.Close) ∷ []
 shut (clause d) = made (kinds.Keyword keywords.Majority) ∷ made (kinds.Keyword keywords.Refuse) ∷ made (kinds.Mark marks.Close) ∷ []
-shut majority = made (kinds.Mark marks.Close) ∷ []
-shut refusal = made (kinds.Mark marks.Close) ∷ []
 shut vacate = made (kinds.Mark marks.Semicolon) ∷ []
 shut (stages n) = made (kinds.Keyword keywords.Seats) ∷ []
+shut s = made (kinds.Mark marks.Close) ∷ []
 
 abbrev shut_all : List Sym → List Token
 shut_all [] = []
@@ -125,14 +118,8 @@ module _ (text : List ℕ) (l : Limits) where
   shuts n (one_of test k e) p h m = record { left = p; enough = omega arith; ends = λ ss ts. rw e refl }
   shuts n (expr d) zero h m = absurd (omega arith)
   shuts n (expr d) (suc p) h m = record { left = p; enough = omega arith; ends = λ ss ts. refl }
-  shuts n condition p h m = record { left = p; enough = omega arith; ends = λ ss ts. refl }
-  shuts n or_more p h m = record { left = p; enough = omega arith; ends = λ ss ts. refl }
-  shuts n (after_method d) p h m = record { left = p; enough = omega arith; ends = λ ss ts. refl }
-  shuts n (clause d) p h m = record { left = p; enough = omega arith; ends = λ ss ts. refl }
-  shuts n majority p h m = record { left = p; enough = omega arith; ends = λ ss ts. refl }
-  shuts n refusal p h m = record { left = p; enough = omega arith; ends = λ ss ts. refl }
-  shuts n vacate p h m = record { left = p; enough = omega arith; ends = λ ss ts. refl }
   shuts n (stages k) p h m = record { left = l.parts; enough = m; ends = λ ss ts. refl }
+  shuts n s p h m = record { left = p; enough = omega arith; ends = λ ss ts. refl }
 
   -- ---- where the machine stops
 
@@ -169,17 +156,26 @@ module _ (text : List ℕ) (l : Limits) where
       go again (over d) is h =
           rw (← (rest_is d c (t ∷ ts) rest h)) (record { front = []; left = s ∷ ss; room = p; parts = refl; runs = refl; stops = inr (is ∙ ap (λ (x : Cause). over x) (cause_is d c (t ∷ ts) rest h)) })
 
+  -- the step that a run over tokens begins with
+  record Moved (s : Sym) (ss : List Sym) (p : ℕ) (t : Token) (rest : List Token) (x : Pending) : Type 0 where
+    parts : List Sym
+    room : ℕ
+    is : next text l s p t ≡ goes parts room
+    runs : run text l (parts ++ ss) room rest ≡ Some x
+
+  moved : (s : Sym) (ss : List Sym) (p : ℕ) (t : Token) (rest : List Token) (x : Pending) → run text l (s ∷ ss) p (t ∷ rest) ≡ Some x → Moved s ss p t rest x
+  unfolding run
+  moved s ss p t rest x e = go (next text l s p t) refl e
+    where
+      go : (m : Move) → next text l s p t ≡ m → run_move m (λ parts q. run text l (parts ++ ss) q rest) ≡ Some x → Moved s ss p t rest x
+      go (goes parts q) is h = record { parts = parts; room = q; is = is; runs = h }
+      go _ is h = absurd cc
+
   pub scan-run : (ss : List Sym) (p : ℕ) (x : Pending) (front rest : List Token) → run text l ss p front ≡ Some x → scan text l ss p (front ++ rest) ≡ scan text l x.0 x.1 rest
   unfolding scan run
   scan-run ss p x [] rest e = ap (λ (o : Option (Pending)). elim o [ None ↦ scan text l x.0 x.1 rest | Some y ↦ scan text l y.0 y.1 rest ]) e
   scan-run [] p x (t ∷ front) rest e = absurd cc
-  scan-run (s ∷ ss) p x (t ∷ front) rest e = go (λ parts q. scan-run (parts ++ ss) q x front rest) (next text l s p t) e
-    where
-      go : ((parts : List Sym) (q : ℕ) → run text l (parts ++ ss) q front ≡ Some x → scan text l (parts ++ ss) q (front ++ rest) ≡ scan text l x.0 x.1 rest) → (m : Move)
-          → run_move m (λ parts q. run text l (parts ++ ss) q front) ≡ Some x → scan_move m (λ parts q. scan text l (parts ++ ss) q (front ++ rest)) (t ∷ (front ++ rest)) ≡ scan text l x.0 x.1 rest
-      go again (goes parts q) h = again parts q h
-      go again refused h = absurd cc
-      go again (over c) h = absurd cc
+  scan-run (s ∷ ss) p x (t ∷ front) rest e = let m = moved s ss p t front x e in rw m.is (scan-run (m.parts ++ ss) m.room x front rest m.runs)
 
   -- what the machine reads to its end it runs over
   pub run-whole : (ss : List Sym) (p : ℕ) (ts : List Token) → scan text l ss p ts ≡ Ok tt → (q : ℕ) × (run text l ss p ts ≡ Some ([], q))
@@ -205,25 +201,16 @@ module _ (text : List ℕ) (l : Limits) where
   unfolding run
   halves ss p x [] b e = record { between = (ss, p); first = refl; second = e }
   halves [] p x (t ∷ a) b e = absurd cc
-  halves (s ∷ ss) p x (t ∷ a) b e = go (λ parts q. halves (parts ++ ss) q x a b) (next text l s p t) refl e
-    where
-      go : ((parts : List Sym) (q : ℕ) → run text l (parts ++ ss) q (a ++ b) ≡ Some x → Halves (parts ++ ss) q x a b) → (m : Move) → next text l s p t ≡ m
-          → run_move m (λ parts q. run text l (parts ++ ss) q (a ++ b)) ≡ Some x → Halves (s ∷ ss) p x (t ∷ a) b
-      go again (goes parts q) is h = let r = again parts q h in record { between = r.between; first = rw is r.first; second = r.second }
-      go again refused is h = absurd cc
-      go again (over c) is h = absurd cc
+  halves (s ∷ ss) p x (t ∷ a) b e =
+      let m = moved s ss p t (a ++ b) x e in
+      let r = halves (m.parts ++ ss) m.room x a b m.runs in
+      record { between = r.between; first = rw m.is r.first; second = r.second }
 
   pub run-append : (ss : List Sym) (p : ℕ) (x y : Pending) (a b : List Token) → run text l ss p a ≡ Some x → run text l x.0 x.1 b ≡ Some y → run text l ss p (a ++ b) ≡ Some y
   unfolding run
   run-append ss p x y [] b e h = ap (λ (o : Option (Pending)). elim o [ None ↦ None | Some z ↦ run text l z.0 z.1 b ]) e ∙ h
   run-append [] p x y (t ∷ a) b e h = absurd cc
-  run-append (s ∷ ss) p x y (t ∷ a) b e h = go (λ parts q e'. run-append (parts ++ ss) q x y a b e' h) (next text l s p t) e
-    where
-      go : ((parts : List Sym) (q : ℕ) → run text l (parts ++ ss) q a ≡ Some x → run text l (parts ++ ss) q (a ++ b) ≡ Some y) → (m : Move)
-          → run_move m (λ parts q. run text l (parts ++ ss) q a) ≡ Some x → run_move m (λ parts q. run text l (parts ++ ss) q (a ++ b)) ≡ Some y
-      go again (goes parts q) h' = again parts q h'
-      go again refused h' = absurd cc
-      go again (over c) h' = absurd cc
+  run-append (s ∷ ss) p x y (t ∷ a) b e h = let m = moved s ss p t a x e in rw m.is (run-append (m.parts ++ ss) m.room x y a b m.runs h)
 
   pub run_one : (s : Sym) (ss : List Sym) (p : ℕ) (t : Token) (parts : List Sym) (q : ℕ) → next text l s p t ≡ goes parts q → run text l (s ∷ ss) p (t ∷ []) ≡ Some (parts ++ ss, q)
   unfolding run
@@ -239,14 +226,10 @@ module _ (text : List ℕ) (l : Limits) where
   unfolding run
   run-raise ss p x [] e = ap raised_pending e
   run-raise [] p x (t ∷ front) e = absurd cc
-  run-raise (s ∷ ss) p x (t ∷ front) e = go (λ parts q. run-raise (parts ++ ss) q x front) (next text l s p t) (raised s p t) e
-    where
-      go : ((parts : List Sym) (q : ℕ) → run text l (parts ++ ss) q front ≡ Some x → run text (wider l) (map raise (parts ++ ss)) (suc q) front ≡ Some (map raise x.0, suc x.1)) → (m : Move)
-          → Raised m (next text (wider l) (raise s) (suc p) t) → run_move m (λ parts q. run text l (parts ++ ss) q front) ≡ Some x
-          → run_move (next text (wider l) (raise s) (suc p) t) (λ parts q. run text (wider l) (parts ++ map raise ss) q front) ≡ Some (map raise x.0, suc x.1)
-      go again (goes parts q) up h = rw up (ap (λ (z : List Sym). run text (wider l) z (suc q) front) (sym (map-append raise parts ss)) ∙ again parts q h)
-      go again refused up h = absurd cc
-      go again (over c) up h = absurd cc
+  run-raise (s ∷ ss) p x (t ∷ front) e =
+      let m = moved s ss p t front x e in
+      let up : Raised (goes m.parts m.room) (next text (wider l) (raise s) (suc p) t) = rw m.is at (raised s p t) in
+      rw up (ap (λ (z : List Sym). run text (wider l) z (suc m.room) front) (sym (map-append raise m.parts ss)) ∙ run-raise (m.parts ++ ss) m.room x front m.runs)
 
   finish : (ss : List Sym) (p : ℕ) → length ss ≤ p → length ss ≤ l.parts → (q : ℕ) × (run text (wider l) (map raise ss) (suc p) (shut_all ss) ≡ Some ([], q))
   unfolding run

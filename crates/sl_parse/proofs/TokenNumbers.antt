@@ -1,10 +1,10 @@
 -- The numbers of a tree are those of its tokens.
-use Rattle.std.proofs.Common.{◌≡◌, ℕ, Bool, true, false, List, [], ◌∷◌, ◌++◌, Ok, refl}
+use Rattle.std.proofs.Common.{◌≡◌, ℕ, Bool, true, List, [], ◌∷◌, ◌++◌, Ok, refl}
 use Rattle.std.proofs.Math.Bool.{Bool-set}
 use Rattle.std.proofs.Math.Logic.{∥∥₁_elim}
-use Rattle.std.proofs.lemmas.Bool.{le-leb}
+use Rattle.std.proofs.lemmas.Bool.{and_from, and_parts, le-leb}
 use Rattle.std.proofs.lemmas.List.Folds.{list_all-append}
-use Rattle.std.specs.Prelude.{IsTrue, ◌&&◌, nat_le, flat_map}
+use Rattle.std.specs.Prelude.{IsTrue, nat_le, flat_map}
 use Rattle.std.specs.List.{list_all}
 use Rattle.sl_lex.specs.declared.token.Kind.{Kind}
 use Rattle.sl_lex.specs.declared.token.Kind.TheVariants as kinds
@@ -25,13 +25,6 @@ use Rattle.sl_parse.specs.Parsing.{limits}
 use Rattle.sl_parse.specs.inner.Reading.{book_from, read_head, read_stages}
 use Rattle.sl_parse.proofs.ReadsBook.{StagesRead, reads_head, reads_stages}
 
-and_true : (a b : Bool) → a ≡ true → b ≡ true → (a && b) ≡ true
-and_true a b h k = rw (h, k) refl
-
-both : (a b : Bool) → (a && b) ≡ true → (a ≡ true) × (b ≡ true)
-both true b h = (refl, h)
-both false b h = absurd cc
-
 -- whether a test takes the number of a token of that kind, if it has one
 abbrev takes : (ℕ → Bool) → Kind → Bool
 takes test (kinds.Number n) = test n
@@ -46,7 +39,7 @@ module _ (test : ℕ → Bool) where
     told : (here after : List Token) → part here after → takes_all test here ≡ true → (list_all test numbers ≡ true) × (takes_all test after ≡ true)
 
   first : (here after : List Token) (t : Token) → here ≡ t ∷ after → takes_all test here ≡ true → (takes test t.kind ≡ true) × (takes_all test after ≡ true)
-  first here after t is all = both (takes test t.kind) (takes_all test after) (rw is at all)
+  first here after t is all = and_parts (takes test t.kind) (takes_all test after) (rw is at all)
 
   -- one token, whatever it is
   one : {P : Token → Type 0} → Takes [] (one_token P)
@@ -61,7 +54,7 @@ module _ (test : ℕ → Bool) where
     told = λ here after h all.
         let k = first here after h.0 h.1 all in
         let taken : test n ≡ true = rw h.2 at k.0 in
-        (and_true (test n) true taken refl, k.1);
+        (and_from (test n) true taken refl, k.1);
   }
 
   number_at : (n : Number) → Takes (n.value ∷ []) (number n)
@@ -69,7 +62,7 @@ module _ (test : ℕ → Bool) where
     told = λ here after h all.
         let k = first here after h.0 h.1 all in
         let taken : test n.value ≡ true = rw h.2.0 at k.0 in
-        (and_true (test n.value) true taken refl, k.1);
+        (and_from (test n.value) true taken refl, k.1);
   }
 
   -- ---- one part behind another
@@ -80,7 +73,7 @@ module _ (test : ℕ → Bool) where
     told = λ here after parts all.
         let x = h.told here parts.0 parts.1 all in
         let y = k.told parts.0 after parts.2 x.1 in
-        (rw (list_all-append test ns ms) (and_true _ _ x.0 y.0), y.1);
+        (rw (list_all-append test ns ms) (and_from _ _ x.0 y.0), y.1);
   }
 
   -- a part without numbers, and then another
@@ -150,7 +143,7 @@ small n = nat_le n MAX_NUMBER
 
 small_tokens : (text : List ℕ) (tokens : List Token) → AreSpans text tokens → takes_all small tokens ≡ true
 small_tokens text [] spans = refl
-small_tokens text (t ∷ tokens) spans = and_true (takes small t.kind) (takes_all small tokens) (of_kind t.kind (bytes_of text t) spans.0.fits) (small_tokens text tokens spans.1)
+small_tokens text (t ∷ tokens) spans = and_from (takes small t.kind) (takes_all small tokens) (of_kind t.kind (bytes_of text t) spans.0.fits) (small_tokens text tokens spans.1)
   where
     of_kind : (k : Kind) (bytes : List ℕ) → FitsKind k bytes → takes small k ≡ true
     of_kind (kinds.Number n) bytes h = le-leb n MAX_NUMBER h

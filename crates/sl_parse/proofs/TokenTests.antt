@@ -2,6 +2,7 @@
 use Rattle.std.proofs.Common.{◌≡◌, ℕ, Bool, true, false, cond, List, Option, Some, None, refl, ap}
 use Rattle.std.specs.Prelude.{codes, ◌&&◌, slice_range, ◌+◌, ◌-◌}
 use Rattle.std.specs.Str.{bytes_eq}
+use Rattle.std.proofs.lemmas.Bool.{and_parts}
 use Rattle.std.proofs.lemmas.Slice.Eq.{bytes_eq-Decides}
 use Rattle.sl_ratio.specs.declared.method.Divisor.TheVariants as divisors
 use Rattle.sl_ratio.specs.declared.method.Method.{Method}
@@ -141,15 +142,11 @@ base-taken text t (bases.Stage name, at) h = rw (h.0, h.1, h.2) refl
 pub tests_base : (text : List ℕ) → Tests (base_in text) (IsBaseToken text)
 tests_base text = record { is = λ t x e. base-is text t t.kind x refl e; takes = λ t x e. base-taken text t x e }
 
-both : (a b : Bool) → (a && b) ≡ true → (a ≡ true) × (b ≡ true)
-both true b h = (refl, h)
-both false b h = absurd cc
-
 pub tests_vacate : (text : List ℕ) → Tests (vacate_in text) (λ at t. (t.kind ≡ kinds.Name) × (bytes_of text t ≡ codes "vacate") × (t.start ≡ at))
 tests_vacate text = record {
   is = λ t at e.
       let h = if-some (same_kind t.kind kinds.Name && bytes_eq (bytes_of text t) (codes "vacate")) t.start at e in
-      let k = both (same_kind t.kind kinds.Name) (bytes_eq (bytes_of text t) (codes "vacate")) h.0 in
+      let k = and_parts (same_kind t.kind kinds.Name) (bytes_eq (bytes_of text t) (codes "vacate")) h.0 in
       (same-kind t.kind kinds.Name k.0, (bytes_eq-Decides (bytes_of text t) (codes "vacate")).0 k.1, h.1);
   takes = λ t at e. rw (e.0, (bytes_eq-Decides (bytes_of text t) (codes "vacate")).1 e.1, e.2) refl;
 }
