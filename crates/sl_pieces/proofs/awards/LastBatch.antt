@@ -39,6 +39,8 @@ use Rattle.sl_pieces.specs.inner.awards.Awards.{CanAward, IsCounted, FitsAwards,
 use Rattle.sl_pieces.proofs.awards.Turns.{raised_once, holds_at_most, same_registers}
 use Rattle.sl_pieces.proofs.awards.WholeBatches.{stepping, step_counted, base_within, Counts, IsLast, counts_peers, counts_stepping, counted_step}
 
+-- ---- seats that are drawn
+
 -- what holds of a state while so many of the last seats, from the settled vector s on, are still to be drawn, and k of them have been
 pub record IsDrawing (a : Arena) (seats : ℕ) (meant : List ℕ) (Held : List ℕ → State → Type 0) (s tied : List ℕ) (w : ℕ) (state : State) : Type 0 where
   pub t : List ℕ
@@ -154,6 +156,8 @@ module _ (c : CountingCode) (e : Election) (a : Arena) (most seats n : ℕ) (mea
         → Achieves c e (drawn_seats n bound on) state (IsDrawing a seats meant Held s tied 0) Never
     seats_drawn bound state within first =
         times_keeping (IsDrawing a seats meant Held s tied) refl (free_of (may_write_register on) award_registers fits.keeps reg.LEFT refl) within first (λ w t is drawing. draw_turn w t drawing) (λ t is last. last)
+
+-- ---- the last batch
 
 module _ (c : CountingCode) (e : Election) (a : Arena) (most seats n : ℕ) (meant : List ℕ) (can : CanAward c e a most seats n meant) (tie on : Tree) (Held : List ℕ → State → Type 0)
     (E : End → Type 0) (fits : FitsAwards Held on) (gives : GivesSeats c e a most (IsCounted a seats) Held on) (ends : EndsTied c e a seats meant Held E tie) (s : List ℕ)

@@ -87,6 +87,8 @@ turn_sums l law s peers given t u entry mid one_of left raised =
     let fits : suc (length given) ≤ length peers = fits_in (entry ∷ given) peers next.distinct (increasing_distinct peers mid.listed.in_order) next.some in
     record { before = now; after = omega (arith, now, later); within = omega (arith, fits) }
 
+-- ---- whole batches
+
 -- what holds of a state while whole batches are awarded: the registers count the seats still to give
 pub record Counts (a : Arena) (seats : ℕ) (Held : List ℕ → State → Type 0) (t : List ℕ) (state : State) : Type 0 where
   pub held : Held t state

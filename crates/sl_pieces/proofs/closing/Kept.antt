@@ -47,6 +47,8 @@ use Rattle.sl_pieces.proofs.closing.Bases.{HasBase, seats_small}
 use Rattle.sl_pieces.proofs.closing.Seated.{HasSeated, places_are}
 use Rattle.sl_pieces.proofs.columns.Cells.{still_holds}
 
+-- ---- the winners
+
 -- all winners have their places, and nothing else is changed but registers and cursors
 pub record ArePlaced (b : BookTree) (e : Election) (before after : State) : Type 0 where
   pub places : (n : ℕ) (w : Win) → slice_get e.wins n ≡ Some w → after.placed n ≡ kept_place b e w
@@ -92,6 +94,8 @@ module _ (c : CountingCode) (b : BookTree) (e : Election) (is : IsElection e) (s
   winners_placed s flagged =
       achieves_keeping (every_one s flagged)
       (λ t h kept. record { places = h; columns = λ slot q. kept.columns slot refl q; steps = kept.steps_kept refl; weights = kept.weights_kept refl })
+
+-- ---- the table
 
 module _ (c : CountingCode) (b : BookTree) (e : Election) (k : Known) (before s : State) (is : IsElection e) (slots : HasBookSlots c k.types)
     (begins : BeginsClosing b e k before s) (h : HasBase c b e k b.last s) (keeps : b.last.seating ≡ seating.Keep) where

@@ -140,17 +140,10 @@ module _ (pairing : Pairing) (left right to : ℕ) where
   abbrev pair_line : List Instr
   pair_line = Get cell left ∷ (Get other right ∷ (pair_instr pairing ∷ (Store to cell ∷ [])))
 
-  keeps_party : may_move (Line pair_line) cursor.Party ≡ false
-  keeps_party = of pairing where
-    of : (p : Pairing) → may_move (Line (Get cell left ∷ (Get other right ∷ (pair_instr p ∷ (Store to cell ∷ []))))) cursor.Party ≡ false
-    of pairings.Larger = refl
-    of pairings.Less = refl
-
-  keeps_land : may_move (Line pair_line) cursor.Land ≡ false
-  keeps_land = of pairing where
-    of : (p : Pairing) → may_move (Line (Get cell left ∷ (Get other right ∷ (pair_instr p ∷ (Store to cell ∷ []))))) cursor.Land ≡ false
-    of pairings.Larger = refl
-    of pairings.Less = refl
+-- it moves no cursor of a column
+pair_stays : (pairing : Pairing) (left right to : ℕ) → (may_move (Line (pair_line pairing left right to)) cursor.Party ≡ false) × (may_move (Line (pair_line pairing left right to)) cursor.Land ≡ false)
+pair_stays pairings.Larger left right to = (refl, refl)
+pair_stays pairings.Less left right to = (refl, refl)
 
 pair_does : (c : CountingCode) (e : Election) (pairing : Pairing) (t : State) → effect c e (pair_instr pairing) t ≡ Goes (with_register cell (paired pairing (t.registers cell) (t.registers other)) t)
 pair_does c e pairings.Larger t = max_does c e t cell other
@@ -160,6 +153,6 @@ pub pairs_are_taken : PairsAreTaken
 pairs_are_taken c e pairing s left right to xs ys state known_left known_right known_to apart holds_left holds_right =
     let n : ℕ = cells_of e s in
     line_written c e s to (pair_of pairing xs ys) (pair_line pairing left right to) state
-    (pairs_long (paired pairing) xs ys n holds_left.long holds_right.long) (keeps_party pairing left right to) (keeps_land pairing left right to)
+    (pairs_long (paired pairing) xs ys n holds_left.long holds_right.long) (pair_stays pairing left right to).0 (pair_stays pairing left right to).1
     (one_taken c e s left right to (pair_of pairing xs ys) xs ys state (paired pairing) (pair_instr pairing) known_left known_right known_to holds_left holds_right
     (pair_at (paired pairing) xs ys n holds_left.long holds_right.long) (pair_does c e pairing))

@@ -31,6 +31,8 @@ use Rattle.sl_pieces.proofs.covers.Seatable.{IsSeatable, OnlyLooked, IsAtList, H
 use Rattle.sl_pieces.proofs.covers.Contested.{many_at, is_contested, contested_before, number_of, contested_by, no_seats_uncontested, all_fit_uncontested, before_none, before_contested, before_other, before_few, number_contested_is, number_other_is}
 use Rattle.sl_pieces.proofs.facts.Holding.{place_within}
 
+-- ---- the winners of each list
+
 -- of the first j winners so many are each list's, and the flags stand
 pub record AreCounted (e : Election) (x : CoverSlots) (eligible : ℕ → Bool) (j : ℕ) (t : State) : Type 0 where
   pub counts : (q : ℕ) → q < lands_of e * parties_of e → t.columns x.numbers q ≡ length (front eligible e (pair_at e q) j)
@@ -102,6 +104,8 @@ module _ (c : CountingCode) (e : Election) (x : CoverSlots) (eligible : ℕ → 
       (λ t first.
       wins_keeping (AreCounted e x eligible) refl first (λ j w u at h. counts_next j w at u h)
       (λ u h q within. h.counts q within ∙ ap length (front_all eligible e (pair_at e q))))
+
+-- ---- the numbers of the contested pairs
 
 -- pairs can be counted in a register
 pub pairs_countable : (e : Election) → IsElection e → lands_of e * parties_of e ≤ most

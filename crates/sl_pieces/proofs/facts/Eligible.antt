@@ -1,16 +1,14 @@
 -- The column of the eligible parties: those that meet one of the conditions.
 use Rattle.std.proofs.Common.{◌≡◌, ℕ, Bool, true, false, ◌||◌, [], ◌∷◌, Some, None, nat_le, count_by, refl, sym, ◌∙◌, arith, ◌≢◌, List, All, slice_get, ap}
 use Rattle.std.specs.Prelude.{slice_index_or}
-use Rattle.std.proofs.lemmas.Bool.{eq-eqb, ne_eqb, le-leb, lt-leb, or_from, false≢true}
+use Rattle.std.proofs.lemmas.Bool.{eq-eqb, ne_eqb, le-leb, lt-leb, or_from}
 use Rattle.std.specs.List.{list_any}
-use Rattle.std.proofs.lemmas.Option.{same_Some}
 use Rattle.std.proofs.lemmas.List.Elements.{All-head, All-tail}
 use Rattle.sl_stages.specs.declared.book.Cond.TheVariants as condition
 use Rattle.sl_stages.specs.declared.book.Shape.TheVariants as shape
 use Rattle.sl_stages.specs.returns.Election.{Election, IsElection}
 use Rattle.sl_stages.specs.returns.Facts.{is_of, meets, is_eligible}
 use Rattle.sl_stages.specs.declared.book.Cond.{Cond}
-use Rattle.sl_stages.specs.declared.book.Shape.{Shape}
 use Rattle.sl_code.specs.declared.instr.Instr.TheVariants.{Get}
 use Rattle.sl_code.specs.declared.operand.Input.TheVariants as input
 use Rattle.sl_code.specs.Codes.{CountingCode}
@@ -32,6 +30,8 @@ use Rattle.sl_pieces.proofs.facts.Loops.{Flagged, parties_let_in, winners_counte
 use Rattle.sl_pieces.proofs.facts.Winners.{flag_down, flag_up, party_is}
 use Rattle.sl_pieces.proofs.facts.Holding.{IsSilent, holds_parties}
 use Rattle.sl_pieces.proofs.facts.Votes.{valid_met}
+
+-- ---- single conditions
 
 module _ (c : CountingCode) (e : Election) (x : FactSlots) (slots : HasFactSlots c x) (so : ℕ → Bool) (s : State) (flagged : Flagged e x so s) where
   pub all_met : Achieves c e (condition_tree x condition.All) s (Flagged e x (λ p. so p || true)) Never
@@ -104,13 +104,7 @@ module _ (c : CountingCode) (e : Election) (x : FactSlots) (slots : HasFactSlots
         (parties_let_in c e x so has_winners body u1 refl (λ k other. rw (ne_eqb k x.eligible other) refl) (still_flagged u1 same)
         (λ p w less rest. party_judged p (with_party (Some p) w) (rest.columns x.numbers p slots.apart ∙ h.0 p) (rest.registers number refl) refl))))))
 
--- a list column is no party column
-list_not_party : shape.List ≢ shape.Party
-list_not_party same = absurd (false≢true (sym (ap is_list same)))
-  where
-    is_list : Shape → Bool
-    is_list shape.List = true
-    is_list _ = false
+-- ---- all conditions
 
 -- the parties let in by the conditions behind those that were met before
 either_one : (so now rest : Bool) → (so || now) || rest ≡ so || (now || rest)
@@ -146,7 +140,7 @@ module _ (x : FactSlots) where
 
 module _ (c : CountingCode) (e : Election) (x : FactSlots) (slots : HasFactSlots c x) (is : IsElection e) where
   votes_apart : x.votes ≢ x.eligible
-  votes_apart same = list_not_party (same_Some shape.List shape.Party (sym slots.votes ∙ ap (slice_get c.slots) same ∙ slots.eligible))
+  votes_apart same = let both : Some shape.List ≡ Some shape.Party = sym slots.votes ∙ ap (slice_get c.slots) same ∙ slots.eligible in cc both
 
   condition_met : (so : ℕ → Bool) (one : Cond) (s : State) → IsShare one → Flagged e x so s → Achieves c e (condition_tree x one) s (Flagged e x (λ p. so p || meets e p one)) Never
   condition_met so (condition.Valid share per) s few flagged = valid_met c e x slots is share per few so s votes_apart flagged

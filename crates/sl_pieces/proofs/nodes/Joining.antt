@@ -44,6 +44,8 @@ use Rattle.sl_pieces.specs.nodes.Nodes.{HasResult, EndsWith, ScopesAreJoined}
 use Rattle.sl_pieces.proofs.nodes.Columns.{HoldsAwards, no_awards, one_award_more, awards_make}
 use Rattle.sl_pieces.proofs.nodes.Added.{adds_none, adds_more}
 
+-- ---- no scope has more seats to give out than the limit
+
 module _ (c : CountingCode) (e : Election) (f : Form) (x : Slots) (name amounts : List ℕ) (start : State) (slots : HasSlots c f x name)
     (holds : HoldsColumn e (amounts_of f) (start.columns x.amounts) amounts) where
   -- the first scope with too many seats

@@ -60,6 +60,8 @@ use Rattle.sl_pieces.proofs.awards.Batches.{batches_achieve}
 use Rattle.sl_pieces.proofs.nodes.Found.{IsShort, IsFound, is_short, peers_there, least_at_first}
 use Rattle.sl_pieces.proofs.nodes.SearchSeats.{IsSearched, BatchBegun, search_gives}
 
+-- ---- the entries are read
+
 -- the first k entries of the search hold no seats and wait
 abbrev pub FirstHeld : Election → Form → Slots → Group → Divisor → List ℕ → ℕ → State → ℕ → State → Type 0
 FirstHeld e f x g d v seats before k s = record {
@@ -200,7 +202,7 @@ module _ {c : CountingCode} {e : Election} {f : Form} {x : Slots} {name : List �
   pub entries_searched : Visits c e (search_entry f (with_minima x slot) d) g.entries OnItem (λ n s. FirstSearched e f x g d v m seats before n n s) Never
   entries_searched = entries_visited (record { party = refl; land = refl; win = refl }) (λ j i s at on h. searches_entry j i at s on h)
 
-  -- ---- the batches and the whole search
+  -- ---- batches
 
   abbrev Held : List ℕ → State → Type 0
   Held = IsSearched e x g d v m seats before
@@ -211,8 +213,6 @@ module _ {c : CountingCode} {e : Election} {f : Form} {x : Slots} {name : List �
 
   laws : LadderLaws (free_ladders d v)
   laws = ladders.batches (free_ladders d v) (arena_of can).arena.falling
-
-  -- ---- batches
 
   begins_batches : BeginsBatches c e (search_arena e f g d v) cap (BatchBegun v m) (IsFound d v m) Held search_batch
   begins_batches = record {

@@ -148,6 +148,8 @@ filled_as {e = e} {x = x} p q t h same table steps weights = record {
   weights = weights;
 }
 
+-- ---- an entry
+
 -- what is given of a scope that is filled, from the state before on
 pub record Fills (c : CountingCode) (e : Election) (f : Form) (x : Slots) (name : List ℕ) (g : Group) (a : Arena) (by : Ranking) (v m : List ℕ) (seats : ℕ) (Rest : ℕ → ℕ → Type 0)
     (told : ℕ → Item → List Weight) (base enter : Tree) (before : State) : Type 0 where

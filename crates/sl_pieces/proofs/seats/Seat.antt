@@ -149,6 +149,8 @@ module _ (c : CountingCode) (e : Election) (f : Form) (x : Slots) (name : List â
           (line_goes (store_does c e counted x.result (votes_of f) slots.result reg.HELD p (entry.cell counted on))
           (emits t kind stored on table next given_here))))
 
+-- ---- the entry's next seat, and the scope
+
 -- what is asked of the plan by which an entry's next seat waits again: it writes nothing that stands while seats are given out, and no register
 -- of the awards
 pub record ReEnters (c : CountingCode) (e : Election) (x : Slots) (g : Group) (a : Arena) (v : List â„•) (again : Tree) : Type 0 where
