@@ -79,16 +79,15 @@ const COUNT_WINNERS: &Plan<'static> = &Plan::Then(
     &Plan::Each(Cursor::Win, if_seatable!(COUNT_WINNER)),
 );
 
-/// The winners of the list for whom it has no seat, its seats, and the number 0.
+/// The seats of the list, the winners for whom it has none, and the number 0.
 const WINNERS_LEFT: &Plan<'static> = &Plan::Line(&[
-    GET_NUMBER,
     GET_SEATS,
     Fixed(Instr::Sub(WEIGHT, LEFT)),
     Fixed(Instr::Set(SECOND_PASSING, 0)),
 ]);
 
 /// A list is contested if it has seats, but fewer than winners. It is counted, and that is its number.
-const TAKE_NUMBER: &Plan<'static> = &Plan::If(
+const COUNT_CONTESTED: &Plan<'static> = &Plan::If(
     Test::Zero(WEIGHT),
     NOTHING,
     &Plan::If(
@@ -102,9 +101,15 @@ const TAKE_NUMBER: &Plan<'static> = &Plan::If(
     ),
 );
 
-const NUMBER_LIST: &Plan<'static> = &Plan::Then(
+const TAKE_NUMBER: &Plan<'static> = &Plan::Then(
     WINNERS_LEFT,
-    &Plan::Then(TAKE_NUMBER, &Plan::Line(&[STORE_NUMBER])),
+    &Plan::Then(COUNT_CONTESTED, &Plan::Line(&[STORE_NUMBER])),
+);
+
+/// A list without winners has the number 0 already.
+const NUMBER_LIST: &Plan<'static> = &Plan::Then(
+    &Plan::Line(&[GET_NUMBER]),
+    &Plan::If(Test::Zero(WEIGHT), NOTHING, TAKE_NUMBER),
 );
 
 /// Numbers the contested lists from 1 on, in list order, and counts them. All other lists have the number 0.

@@ -69,21 +69,26 @@ const ENTER_PREFERRED: &Plan<'static> = &Plan::Then(
     ),
 );
 
-const START_BASE: &Plan<'static> = &Plan::Line(&[
-    STORE_BASE,
-    Fixed(Instr::Sub(LEFT, BASE)),
-    Fixed(Instr::Set(NUMBER, 0)),
-    Fixed(Instr::Mov(TURNS, BASE)),
-]);
-
-const GIVE_BASE: &Plan<'static> = &Plan::Times(
-    TURNS,
-    Bound::AtMost(MAX_SEATS),
-    &Plan::Line(&[
-        Fixed(Instr::Set(ONES, 1)),
-        Fixed(Instr::Add(NUMBER, ONES)),
-        GIVE,
-    ]),
+/// The first seats of an entry, one after the other, where it has any.
+const GIVE_BASE: &Plan<'static> = &Plan::If(
+    Test::Zero(BASE),
+    NOTHING,
+    &Plan::Then(
+        &Plan::Line(&[
+            Fixed(Instr::Sub(LEFT, BASE)),
+            Fixed(Instr::Set(NUMBER, 0)),
+            Fixed(Instr::Mov(TURNS, BASE)),
+        ]),
+        &Plan::Times(
+            TURNS,
+            Bound::AtMost(MAX_SEATS),
+            &Plan::Line(&[
+                Fixed(Instr::Set(ONES, 1)),
+                Fixed(Instr::Add(NUMBER, ONES)),
+                GIVE,
+            ]),
+        ),
+    ),
 );
 
 /// An entry gets its first seats, and the table its next one.
@@ -94,7 +99,7 @@ macro_rules! fill_entry {
             &Plan::Then(
                 $take,
                 &Plan::Then(
-                    START_BASE,
+                    &Plan::Line(&[STORE_BASE]),
                     &Plan::Then(GIVE_BASE, &Plan::If(Test::Zero(WEIGHT), NOTHING, $enter)),
                 ),
             ),

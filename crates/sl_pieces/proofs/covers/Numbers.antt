@@ -23,7 +23,7 @@ use Rattle.sl_plans.proofs.KeepingRules.{wins_keeping, each_keeping}
 use Rattle.sl_plans.specs.declared.plan.Cursor.TheVariants as cursor
 use Rattle.sl_plans.specs.Frames.{may_write_slot}
 use Rattle.sl_pieces.specs.declared.registers.TheConstants as reg
-use Rattle.sl_pieces.specs.covers.Trees.{CoverSlots, if_seatable, count_winner, count_winners, number_list, number_contested}
+use Rattle.sl_pieces.specs.covers.Trees.{CoverSlots, if_seatable, count_winner, count_winners, take_number, number_list, number_contested}
 use Rattle.sl_pieces.specs.covers.Covering.{HasCoverSlots}
 use Rattle.sl_pieces.proofs.covers.Pairs.{pair_at}
 use Rattle.sl_pieces.proofs.covers.Winners.{of_list, front, front_none, front_all, front_more, front_few}
@@ -176,11 +176,28 @@ module _ (c : CountingCode) (e : Election) (x : CoverSlots) (eligible : ℕ → 
       count = h.count ∙ sym (before_other e eligible base n not);
     }
 
-    takes_number : Achieves c e (number_list x) here (InLand l (p + 1)) Never
-    takes_number =
+    -- a list without winners has the number 0 already
+    keeps_number : t.columns x.numbers n ≡ 0 → InLand l (p + 1) counted
+    keeps_number none =
+        let not : is_contested e eligible base n ≡ false = all_fit_uncontested e eligible base n (omega (arith, none, many)) in
+        (
+          numbered_at (n + 1) (l * parties_of e + (p + 1)) counted (omega arith) (record {
+            numbers = λ q less. elim (cases_eq q n) [
+              | inl same ↦ ap (t.columns x.numbers) same ∙ none ∙ sym (number_other_is e eligible base n not) ∙ ap (number_of e eligible base) (sym same)
+              | inr other ↦ h.numbers q (omega (arith, less, other))
+            ];
+            counts = λ q high low. h.counts q (omega (arith, high)) low;
+            seats = h.seats;
+            count = h.count ∙ sym (before_other e eligible base n not);
+          }),
+          land,
+        )
+
+    -- one with winners is numbered
+    numbers_winners : Achieves c e (take_number x) counted (InLand l (p + 1)) Never
+    numbers_winners =
         let cell = both_are here.land here.party (λ land party. land * parties_of e + party) l p land refl in
-        line_first (get_does c e here x.numbers shape.List slots.numbers reg.WEIGHT n cell)
-        (line_first (get_does c e counted x.base shape.List slots.base reg.LEFT n cell)
+        line_first (get_does c e counted x.base shape.List slots.base reg.LEFT n cell)
         (line_first refl (line_first refl (line_over
         (then_achieves {Q = HasNumber e eligible base l p n t}
         (if_zero {r = reg.WEIGHT}
@@ -215,7 +232,12 @@ module _ (c : CountingCode) (e : Election) (x : CoverSlots) (eligible : ℕ → 
             count = g.count;
           }),
           g.land,
-        ))))))))
+        )))))))
+
+    takes_number : Achieves c e (number_list x) here (InLand l (p + 1)) Never
+    takes_number =
+        line_first (get_does c e here x.numbers shape.List slots.numbers reg.WEIGHT n (both_are here.land here.party (λ land party. land * parties_of e + party) l p land refl))
+        (line_over (if_zero {r = reg.WEIGHT} (λ none. line_ends (keeps_number none)) (λ k some. numbers_winners)))
 
   numbers_land : (l : ℕ) (t : State) → l < lands_of e → Numbered (l * parties_of e) t →
       Achieves c e (Each cursor.Party (number_list x)) (with_land (Some l) t) (Numbered ((l + 1) * parties_of e)) Never

@@ -26,7 +26,7 @@ use Rattle.sl_machine.proofs.effects.Storing.{cell_same, cell_other_place, cell_
 use Rattle.sl_plans.specs.Frames.{KeepsRest}
 use Rattle.sl_plans.specs.Trees.{Tree, Line}
 use Rattle.sl_plans.specs.Achieves.{Achieves, Never}
-use Rattle.sl_plans.proofs.Rules.{line_ends, line_goes, then_achieves, if_zero, achieves_so}
+use Rattle.sl_plans.proofs.Rules.{line_ends, line_goes, then_achieves, then_at, if_zero, achieves_so}
 use Rattle.sl_plans.proofs.KeepingRules.{achieves_keeping}
 use Rattle.sl_pieces.specs.scopes.Forms.{Form, votes_of, table_of, kind_of, OnItem}
 use Rattle.sl_pieces.specs.arenas.Arenas as arenas
@@ -40,7 +40,7 @@ use Rattle.sl_pieces.proofs.seats.Unchanged.{register_kept}
 use Rattle.sl_pieces.specs.scopes.Scopes.{IsEntry, IsScope}
 use Rattle.sl_pieces.specs.inner.scopes.Walks.{bare}
 use Rattle.sl_pieces.proofs.scopes.Staying.{item_stays}
-use Rattle.sl_pieces.specs.seats.Trees.{fill_entry, most_seats}
+use Rattle.sl_pieces.specs.seats.Trees.{give_seats, fill_entry, most_seats}
 use Rattle.sl_pieces.proofs.seats.Minima.{minima_kept}
 
 -- ---- of the first entries: their next seats, the records of their first ones, and their weights that are told
@@ -240,41 +240,61 @@ module _ {c : CountingCode} {e : Election} {f : Form} {x : Slots} {name : List �
             ap (λ z. u.columns x.result (place e z)) same ∙ cell_same s x.result (place e i) (s.registers reg.BASE) ∙ is ∙ ap (slice_index a.ladders.base) (sym now)
       ]
 
-  stored : (s : State) → Stands j j j s
-      → Achieves c e (Line (Store x.result reg.BASE ∷ (Sub reg.LEFT reg.BASE ∷ (Set reg.NUMBER 0 ∷ (Mov reg.TURNS reg.BASE ∷ []))))) s
-      (λ t. Stands (j + 1) j j t × (t.registers reg.NUMBER ≡ 0) × (t.registers reg.TURNS ≡ slice_index a.ladders.base j)) Never
-  stored s h =
+  abbrev with_base : State → State
+  with_base s = with_cell x.result (place e i) (s.registers reg.BASE) s
+
+  written : (s : State) → Stands j j j s → Achieves c e (Line (Store x.result reg.BASE ∷ [])) s (λ t. t ≡ with_base s) Never
+  written s h = line_goes (store_does c e s x.result (votes_of f) given.slots.result reg.BASE (place e i) (entry.cell s h.at_entry.on_item)) (line_ends refl)
+
+  -- and are no longer among those that are left
+  less_left : (s : State) → Stands j j j s → s.registers reg.LEFT - s.registers reg.BASE ≡ seats - sum (take (j + 1) a.ladders.base)
+  less_left s h =
+      let is : s.registers reg.BASE ≡ slice_index a.ladders.base j = h.base_is in
+      let so_far : s.registers reg.LEFT ≡ seats - sum (take j a.ladders.base) = h.filled.left in
+      let next : sum (take (j + 1) a.ladders.base) ≡ sum (take j a.ladders.base) + slice_index a.ladders.base j = (sum_so_far a.ladders.base j base_within).0 in
+      omega (arith, is, so_far, next)
+
+  -- so the entry stands, with so many that are recorded
+  taken : (s : State) (registers : ℕ → ℕ) (k : ℕ) → Stands j j j s → registers reg.AMOUNT ≡ s.registers reg.AMOUNT → registers reg.TOTAL ≡ s.registers reg.TOTAL
+      → registers reg.WEIGHT ≡ s.registers reg.WEIGHT → registers reg.BASE ≡ s.registers reg.BASE → registers reg.STEP ≡ s.registers reg.STEP
+      → registers reg.LEFT ≡ s.registers reg.LEFT - s.registers reg.BASE → s.steps ≡ before.steps ++ first_given x.stage g a k → Stands (j + 1) k j (record (with_base s) { registers = registers })
+  taken s registers k h amount total weight base step left steps =
       let p : ℕ = place e i in
       let b : ℕ = s.registers reg.BASE in
-      let first : State = with_cell x.result p b s in
-      let last : State = with_register reg.TURNS b (with_register reg.NUMBER 0 (with_register reg.LEFT (s.registers reg.LEFT - b) first)) in
-      let is : b ≡ slice_index a.ladders.base j = h.base_is in
-      let so_far : s.registers reg.LEFT ≡ seats - sum (take j a.ladders.base) = h.filled.left in
-      let sums = sum_so_far a.ladders.base j base_within in
-      let next : sum (take (j + 1) a.ladders.base) ≡ sum (take j a.ladders.base) + slice_index a.ladders.base j = sums.0 in
-      line_goes (store_does c e s x.result (votes_of f) given.slots.result reg.BASE p (entry.cell s h.at_entry.on_item))
-      (line_goes refl (line_goes refl (line_goes refl
-      (line_ends (
-        record {
-          at_entry = at_entry_as s last h.at_entry h.at_entry.on_item refl refl refl;
-          filled = record {
-            amount = h.filled.amount;
-            total = h.filled.total;
-            left = omega (arith, is, so_far, next);
-            cells = stored_cells s h.filled.cells is;
-            elsewhere = λ q none. cell_other_place s x.result p b q (λ same. none j i at (sym same)) ∙ h.filled.elsewhere q none;
-            columns = λ slot q other. cell_other_slot s x.result p b slot q other ∙ h.filled.columns slot q other;
-            placed = h.filled.placed;
-            table = h.filled.table;
-            steps = h.filled.steps;
-            weights = h.filled.weights;
-          };
-          base_is = is;
-          rest = h.rest;
-        },
-        refl,
-        is,
-      )))))
+      let t : State = record (with_base s) { registers = registers } in
+      record {
+        at_entry = at_entry_as s t h.at_entry h.at_entry.on_item amount total weight;
+        filled = record {
+          amount = amount ∙ h.filled.amount;
+          total = total ∙ h.filled.total;
+          left = left ∙ less_left s h;
+          cells = stored_cells s h.filled.cells h.base_is;
+          elsewhere = λ q none. cell_other_place s x.result p b q (λ same. none j i at (sym same)) ∙ h.filled.elsewhere q none;
+          columns = λ slot q other. cell_other_slot s x.result p b slot q other ∙ h.filled.columns slot q other;
+          placed = h.filled.placed;
+          table = h.filled.table;
+          steps = steps;
+          weights = h.filled.weights;
+        };
+        base_is = base ∙ h.base_is;
+        rest = subst (Rest j) (sym step) h.rest;
+      }
+
+  -- an entry without any has none that are recorded
+  none_given : (s : State) → Stands j j j s → s.registers reg.BASE ≡ 0 → Stands (j + 1) (j + 1) j (with_base s)
+  none_given s h none =
+      let same : first_given x.stage g a (j + 1) ≡ first_given x.stage g a j =
+      given_more g j i at x.stage a ∙ ap (λ n. first_given x.stage g a j ++ map (given_seat x.stage g.scope i) (range_with_len 0 n)) (sym h.base_is ∙ none)
+      ∙ append-nil (first_given x.stage g a j) in
+      taken s s.registers (j + 1) h refl refl refl refl refl (omega (arith, none)) (h.filled.steps ∙ ap (λ rows. before.steps ++ rows) (sym same))
+
+  counted : (s : State) → Stands j j j s
+      → Achieves c e (Line (Sub reg.LEFT reg.BASE ∷ (Set reg.NUMBER 0 ∷ (Mov reg.TURNS reg.BASE ∷ [])))) (with_base s)
+      (λ t. Stands (j + 1) j j t × (t.registers reg.NUMBER ≡ 0) × (t.registers reg.TURNS ≡ slice_index a.ladders.base j)) Never
+  counted s h =
+      let b : ℕ = s.registers reg.BASE in
+      let last : State = with_register reg.TURNS b (with_register reg.NUMBER 0 (with_register reg.LEFT (s.registers reg.LEFT - b) (with_base s))) in
+      line_goes refl (line_goes refl (line_goes refl (line_ends (taken s last.registers j h refl refl refl refl refl refl h.filled.steps, refl, h.base_is))))
 
   -- each of them is recorded
   listed : (s : State) → Stands (j + 1) j j s → s.registers reg.NUMBER ≡ 0 → s.registers reg.TURNS ≡ slice_index a.ladders.base j
@@ -305,6 +325,12 @@ module _ {c : CountingCode} {e : Election} {f : Form} {x : Slots} {name : List �
         rest = subst (Rest j) (sym (kept.registers reg.STEP refl)) h.rest;
       })
 
+  -- all of them are given
+  all_given : (s : State) → Stands j j j s → Achieves c e (give_seats f x) (with_base s) (Stands (j + 1) (j + 1) j) Never
+  all_given s h =
+      if_zero {r = reg.BASE} (λ none. line_ends (none_given s h none))
+      (λ n some. then_achieves (counted s h) (λ t z. listed t z.0 z.1 z.2))
+
   -- its next one enters the table
   entered : (s : State) → Stands (j + 1) (j + 1) j s → 0 < slice_index v j → Achieves c e enter s (λ t. FirstFilled e x g a v seats told before (j + 1) (j + 1) (j + 1) (bare t)) Never
   entered s h some =
@@ -329,8 +355,8 @@ module _ {c : CountingCode} {e : Election} {f : Form} {x : Slots} {name : List �
   entry_filled s on h =
       then_achieves (weighed s on h) (λ t w.
       then_achieves (based t w.0 w.1) (λ u b.
-      then_achieves (stored u b) (λ y z.
-      then_achieves (listed y z.0 z.1 z.2) (λ last r.
+      then_at (written u b)
+      (then_achieves (all_given u b) (λ last r.
       let weight : last.registers reg.WEIGHT ≡ slice_index v j = r.at_entry.weight in
       if_zero
       (λ zero_is. line_ends (skipped last r (sym weight ∙ zero_is)))

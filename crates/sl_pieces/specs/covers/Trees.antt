@@ -38,12 +38,16 @@ count_winner x = Line (Get reg.WEIGHT x.numbers ∷ (count_up reg.WEIGHT ++ Stor
 abbrev pub count_winners : CoverSlots → Tree
 count_winners x = Then (Line (Zero x.numbers ∷ [])) (Each cursor.Win (if_seatable x (count_winner x)))
 
--- a list is contested if it has seats, but fewer than winners: then it is counted, and has that as its number in place of the winners'; any other has 0
-abbrev pub number_list : CoverSlots → Tree
-number_list x =
-    Then (Line (Get reg.WEIGHT x.numbers ∷ (Get reg.LEFT x.base ∷ (Sub reg.WEIGHT reg.LEFT ∷ (Set reg.SECOND_PASSING 0 ∷ [])))))
+-- a list is contested if it has seats, but fewer than winners: then it is counted, and has that as its number in place of the winners'; any other has 0.
+-- A list without winners has that already
+abbrev pub take_number : CoverSlots → Tree
+take_number x =
+    Then (Line (Get reg.LEFT x.base ∷ (Sub reg.WEIGHT reg.LEFT ∷ (Set reg.SECOND_PASSING 0 ∷ []))))
     (Then (If (test.Zero reg.WEIGHT) nothing (If (test.Zero reg.LEFT) nothing (Line (count_up reg.NEEDED ++ Mov reg.SECOND_PASSING reg.NEEDED ∷ []))))
     (Line (Store x.numbers reg.SECOND_PASSING ∷ [])))
+
+abbrev pub number_list : CoverSlots → Tree
+number_list x = Then (Line (Get reg.WEIGHT x.numbers ∷ [])) (If (test.Zero reg.WEIGHT) nothing (take_number x))
 
 -- so the contested lists are numbered from 1 on, in list order
 abbrev pub number_contested : CoverSlots → Tree

@@ -108,14 +108,20 @@ abbrev pub ranking_of : Method → Ranking
 ranking_of (by.Divisor d) = ranking.Quotients
 ranking_of by.Hamilton = ranking.Remainders
 
+-- the first seats of an entry are given, one after the other, where it has any
+abbrev pub give_seats : Form → Slots → Tree
+give_seats f x =
+    If (test.Zero reg.BASE) nothing
+    (Then (Line (Sub reg.LEFT reg.BASE ∷ (Set reg.NUMBER 0 ∷ (Mov reg.TURNS reg.BASE ∷ []))))
+    (Times reg.TURNS (bound.AtMost most_seats) (Line (count_up reg.NUMBER ++ Given x.stage (kind_of f) reg.NUMBER ∷ []))))
+
 -- each entry of the scope gets its first seats, and the table its next one
 abbrev pub fill_entry : Form → Slots → Tree → Tree → Tree
 fill_entry f x base enter =
     Then (Line (Get reg.WEIGHT x.votes ∷ []))
     (Then base
-    (Then (Line (Store x.result reg.BASE ∷ (Sub reg.LEFT reg.BASE ∷ (Set reg.NUMBER 0 ∷ (Mov reg.TURNS reg.BASE ∷ [])))))
-    (Then (Times reg.TURNS (bound.AtMost most_seats) (Line (count_up reg.NUMBER ++ Given x.stage (kind_of f) reg.NUMBER ∷ [])))
-    (If (test.Zero reg.WEIGHT) nothing enter))))
+    (Then (Line (Store x.result reg.BASE ∷ []))
+    (Then (give_seats f x) (If (test.Zero reg.WEIGHT) nothing enter))))
 
 abbrev pub fill : Form → Slots → Ranking → Tree → Tree → Tree
 fill f x by base enter = Then (Line (Table (table_of f) by ∷ (Mov reg.LEFT reg.AMOUNT ∷ []))) (entries_plan f (fill_entry f x base enter))
