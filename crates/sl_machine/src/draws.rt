@@ -41,17 +41,16 @@ impl Draws {
         if stage == self.stage { self.passed } else { 0 }
     }
 
-    /// The draws with one entry more, which go on where that is behind the peers.
-    pub(crate) fn with_entry(self, prio: &Prio, entry: &Entry) -> Draws
+    /// Lets an entry in, beside those of the table: the draws go on where it is behind the peers, and else begin anew.
+    pub(crate) fn enter(&mut self, prio: &Prio, entry: &Entry)
         requires { All (λ x. FitsRatio x.ratio) (entry.now ∷ prio.now) }
-        ensures stage { result.stage ≡ self.stage }
-        ensures no_farther { result.passed ≤ self.passed }
-        ensures passed { (lot : List ℕ) → IsPassed lot self.passed (peers prio.now) → IsPassed lot result.passed (peers (entry.now ∷ prio.now)) }
+        ensures stage { self.new.stage ≡ self.old.stage }
+        ensures no_farther { self.new.passed ≤ self.old.passed }
+        ensures passed { (lot : List ℕ) → IsPassed lot self.old.passed (peers prio.now) → IsPassed lot self.new.passed (peers (entry.now ∷ prio.now)) }
     {
-        let stays = self.passed > 0 && is_behind_top(prio, entry);
-        Draws {
-            stage: self.stage,
-            passed: if stays { self.passed } else { 0 },
+        if self.passed == 0 || is_behind_top(prio, entry) {
+            return;
         }
+        self.passed = 0;
     }
 }

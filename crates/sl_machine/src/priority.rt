@@ -144,7 +144,7 @@ impl PriorityTable {
     {
         // no ratio has numerator 0, so the peers stand first in a ranking
         prove!(entry.ratio.num() > 0);
-        self.draws = self.draws.with_entry(&self.prio, &entry);
+        self.draws.enter(&self.prio, &entry);
         self.prio.put(entry)
     }
 

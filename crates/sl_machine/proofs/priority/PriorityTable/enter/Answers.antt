@@ -15,18 +15,18 @@ invariant_of-self c =
     let marks = λ (kind : TableKind) (is : c.self.inside.kind ≡ Some kind).
     let fits = c.requires (table_with kind c.self.inside.prio) (sym (ap (λ (t : LotTable). t.on) c.self.view_is) ∙ ap (option_map (λ k. table_with k c.self.inside.prio)) is) in
     put_fits (λ x. FitsMark kind.ranking x.ratio) c.self.inside.prio c.put.new.self c.args.entry c.put.result c.put.ensures.added c.put.ensures.unchanged fits (c.self.invariant.0 kind is) in
-    let more = c.with_entry-self-inside.ensures in
-    let passed = λ (kind : TableKind) (is : c.self.inside.kind ≡ Some kind) (lot : List ℕ) (at : option_map (lot_in kind.entries) (slice_get c.self.inside.lots c.with_entry-self-inside.result.stage) ≡ Some lot).
+    let more = c.enter.ensures in
+    let passed = λ (kind : TableKind) (is : c.self.inside.kind ≡ Some kind) (lot : List ℕ) (at : option_map (lot_in kind.entries) (slice_get c.self.inside.lots c.enter.new.self.stage) ≡ Some lot).
     let before = c.self.invariant.2 kind is lot (subst (λ n. option_map (lot_in kind.entries) (slice_get c.self.inside.lots n) ≡ Some lot) more.stage at) in
-    put_passed c.self.inside.prio c.put.new.self c.args.entry c.put.result c.put.ensures.added c.put.ensures.unchanged lot c.with_entry-self-inside.result.passed c.self.inside.draws.passed
+    put_passed c.self.inside.prio c.put.new.self c.args.entry c.put.result c.put.ensures.added c.put.ensures.unchanged lot c.enter.new.self.passed c.self.inside.draws.passed
     more.no_farther (more.passed lot) before in (
       marks,
       put_fits (λ x. FitsRatio x.ratio) c.self.inside.prio c.put.new.self c.args.entry c.put.result c.put.ensures.added c.put.ensures.unchanged c.num.ensures.fits c.self.invariant.1,
       passed,
     )
 
-pub with_entry-self-inside-requires : goal.with_entry-self-inside-requires
-with_entry-self-inside-requires c = All-cons (λ x. FitsRatio x.ratio) c.args.entry c.self.inside.prio c.num.ensures.fits c.self.invariant.1
+pub enter-requires : goal.enter-requires
+enter-requires c = All-cons (λ x. FitsRatio x.ratio) c.args.entry c.self.inside.prio c.num.ensures.fits c.self.invariant.1
 
 pub returns-clause-entered : goal.returns-clause-entered
 returns-clause-entered c = put_enters c.self.inside.kind c.self.inside.prio c.put.new.self c.args.entry c.args.self.now.on c.put.result c.put.ensures.added (ap (λ (t : LotTable). t.on) c.self.view_is)
