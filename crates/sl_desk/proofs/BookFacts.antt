@@ -20,10 +20,7 @@ pub has_tree : (text : List ℕ) (tokens : List Token) (b c : Book) → length t
 has_tree text tokens b c fits lexed parsed same =
     rw same (record { tokens = tokens; lexed = record { fits = fits; lexed = lexed }; parsed = parsed; within = b.within_limits })
 
--- a book has as many stages as its tree, and not too many
-pub stages_as : (b : Book) → length b.stages.items ≡ length (book_of b).stages
-stages_as b = sym (length-map b.stages.items stage_of)
-
+-- a book has not too many stages
 pub few_stages : (b : Book) → length b.stages.items ≤ MAX_STAGES
 few_stages b =
     let trees = map stage_of b.stages.items in

@@ -170,14 +170,6 @@ module _ (name : List ℕ) (tree : BookTree) where
   reads_after_stage remaining known n old new count count' r good is limited counted =
       reads_after remaining old new count count' r Book known (IsNoBookWith name) (λ e. cc) (good_stage known n good is) limited counted
 
--- the line that refuses a book, whatever the returns are
-pub refusal_stages : (name : List ℕ) (book : Option BookInput) (returns : Option (List ℕ)) (why : BookRefusal) (ends : Status) (output : List ℕ)
-    → IfSome book (λ input. IsBookVerdict input (Refused why)) → ends ≡ status.Refused → output ≡ book_line why
-    → ForKnown book returns (λ input bytes. IsStageOutput name input bytes ends output)
-refusal_stages name None returns why ends output bad refused same = tt
-refusal_stages name (Some input) None why ends output bad refused same = tt
-refusal_stages name (Some input) (Some bytes) why ends output bad refused same = (Refused why, bad, (refused, same))
-
 -- ---- code files
 
 -- the output of good code on good returns
