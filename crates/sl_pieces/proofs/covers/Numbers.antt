@@ -179,8 +179,7 @@ module _ (c : CountingCode) (e : Election) (x : CoverSlots) (eligible : ℕ → 
     -- a list without winners has the number 0 already
     keeps_number : t.columns x.numbers n ≡ 0 → InLand l (p + 1) counted
     keeps_number none =
-        let not : is_contested e eligible base n ≡ false = all_fit_uncontested e eligible base n (omega (arith, none, many)) in
-        (
+        let not : is_contested e eligible base n ≡ false = all_fit_uncontested e eligible base n (omega (arith, none, many)) in (
           numbered_at (n + 1) (l * parties_of e + (p + 1)) counted (omega arith) (record {
             numbers = λ q less. elim (cases_eq q n) [
               | inl same ↦ ap (t.columns x.numbers) same ∙ none ∙ sym (number_other_is e eligible base n not) ∙ ap (number_of e eligible base) (sym same)
