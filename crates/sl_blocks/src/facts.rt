@@ -30,15 +30,18 @@ const INDEPENDENTS: u8 = FIRST_FACT + Fact::Independents as u8;
 
 const POPULATION: u8 = FIRST_FACT + Fact::Population as u8;
 
-/// Not counted, unless the party is eligible.
+/// A party that is not eligible has no votes in any Land.
 const DROP_VOTES: &Plan<'static> = &Plan::Then(
     &Plan::Line(&[Fixed(Instr::Get(OTHER, ELIGIBLE))]),
     &Plan::If(
         Test::Zero(OTHER),
-        &Plan::Line(&[
-            Fixed(Instr::Set(CELL, 0)),
-            Fixed(Instr::Store(COUNTED, CELL)),
-        ]),
+        &Plan::Then(
+            &Plan::Line(&[Fixed(Instr::Set(CELL, 0))]),
+            &Plan::Each(
+                Cursor::Land,
+                &Plan::Line(&[Fixed(Instr::Store(COUNTED, CELL))]),
+            ),
+        ),
         NOTHING,
     ),
 );
@@ -90,7 +93,7 @@ const PLACE_HOUSE: &Plan<'static> = &Plan::Line(&[
 
 const COUNT_VOTES: &Plan<'static> = &Plan::Then(
     &Plan::Line(&[Fixed(Instr::Input(COUNTED, Input::Counted))]),
-    &Plan::Each(Cursor::Land, &Plan::Each(Cursor::Party, DROP_VOTES)),
+    &Plan::Each(Cursor::Party, DROP_VOTES),
 );
 
 const COUNT_WINNERS: &Plan<'static> = winners_of!(

@@ -1,7 +1,8 @@
 -- The columns of the house, votes and people, and all that a rulebook can name beside who is eligible.
-use Rattle.std.proofs.Common.{◌≡◌, ◌≢◌, ℕ, ◌+◌, ◌*◌, ◌%◌, ◌<◌, Bool, true, false, List, [], ◌∷◌, Option, Some, None, if◌then◌else◌, refl, sym, ap, subst, ◌∙◌, arith}
+use Rattle.std.proofs.Common.{inl, inr, ◌≡◌, ◌≢◌, ℕ, ◌+◌, ◌*◌, ◌<◌, ◌≤◌, Bool, true, false, List, [], ◌∷◌, Option, Some, None, if◌then◌else◌, refl, sym, ap, ◌∙◌, arith}
 use Rattle.std.specs.Prelude.{unwrap_or}
-use Rattle.std.proofs.lemmas.Bool.{ne_eqb}
+use Rattle.std.proofs.lemmas.Bool.{ne_eqb, cases_eq}
+use Rattle.std.proofs.lemmas.Nat.{same_from_place}
 use Rattle.sl_stages.specs.declared.book.Cond.{Cond}
 use Rattle.sl_stages.specs.declared.book.Shape.TheVariants as shape
 use Rattle.sl_stages.specs.declared.fact.Fact.{Fact}
@@ -11,26 +12,24 @@ use Rattle.sl_stages.specs.meaning.Columns.{fact_column}
 use Rattle.sl_stages.specs.returns.Votes.{counted_in}
 use Rattle.sl_stages.specs.returns.Election.{Election, IsElection, lands_of, parties_of, list_at}
 use Rattle.sl_stages.specs.returns.Facts.{is_eligible, counted_votes}
-use Rattle.sl_code.specs.declared.instr.Instr.TheVariants.{Set, Get, Store, House}
+use Rattle.sl_code.specs.declared.instr.Instr.TheVariants.{Store, House}
 use Rattle.sl_code.specs.declared.operand.Input.TheVariants as input
 use Rattle.sl_code.specs.Codes.{CountingCode}
 use Rattle.sl_machine.specs.State.{State, with_register, with_cell}
 use Rattle.sl_machine.specs.Effects.{one_if, input_of, with_party, with_land}
 use Rattle.sl_machine.proofs.effects.Registers.{set_does, get_does, store_does, input_does, house_there, house_missing}
 use Rattle.sl_machine.proofs.effects.Cursors.{both_are}
-use Rattle.sl_machine.proofs.effects.Storing.{cell_same}
-use Rattle.sl_plans.specs.declared.plan.Test.TheVariants as test
-use Rattle.sl_plans.specs.Trees.{Tree, Line, Then, If}
+use Rattle.sl_machine.proofs.effects.Storing.{cell_same, cell_other_place, cell_other_slot}
+use Rattle.sl_plans.specs.declared.plan.Cursor.TheVariants as cursor
+use Rattle.sl_plans.specs.Trees.{Line, Each}
 use Rattle.sl_plans.specs.Achieves.{Achieves, Never}
-use Rattle.sl_plans.proofs.Rules.{line_ends, line_goes, if_zero, line_first, line_over}
-use Rattle.sl_plans.proofs.KeepingRules.{each_keeping, achieves_keeping}
-use Rattle.sl_pieces.proofs.scopes.Scopes.{party_again}
+use Rattle.sl_plans.proofs.Rules.{achieves_more, line_ends, line_goes, if_zero, line_first, line_over}
+use Rattle.sl_plans.proofs.KeepingRules.{each_keeping}
 use Rattle.sl_pieces.specs.columns.Columns.{HoldsColumn, GetsColumn}
-use Rattle.sl_pieces.specs.facts.Trees.{FactSlots, cell, number, nothing, house_tree, counted_tree, population_tree, fact_tree}
+use Rattle.sl_pieces.specs.facts.Trees.{FactSlots, cell, number, house_tree, drop_votes, counted_tree, population_tree, fact_tree}
 use Rattle.sl_pieces.specs.facts.Laws.{HasFactSlots, FactsAreTold}
-use Rattle.sl_pieces.proofs.facts.Counts.{Changed, next_changed}
-use Rattle.sl_pieces.proofs.facts.Holding.{place_within, list_told, holds_one, holds_lists, party_held, gets_column}
-use Rattle.sl_pieces.proofs.facts.Cells.{cell_written, cell_not_written, Puts, stored}
+use Rattle.sl_pieces.proofs.facts.Holding.{list_told, holds_one, holds_lists, party_held, gets_column}
+use Rattle.sl_pieces.proofs.facts.Cells.{cell_written, cell_not_written}
 use Rattle.sl_pieces.proofs.facts.Loops.{Flagged}
 use Rattle.sl_pieces.proofs.facts.Winners.{flag_down, flag_up, winners_are_told, outside_are_told, alone_are_told}
 
@@ -69,81 +68,102 @@ module _ (c : CountingCode) (e : Election) (x : FactSlots) (slots : HasFactSlots
   -- ---- counted votes
 
   module _ (conditions : List Cond) (apart : (x.of facts.Counted) ≢ x.eligible) where
-    abbrev old_cell : ℕ → ℕ
-    old_cell = input_of e input.Counted
+    -- the votes of a party in a Land, as they are held, and as they were and will be
+    abbrev votes_at : State → ℕ → ℕ → ℕ
+    votes_at t l p = t.columns (x.of facts.Counted) (l * parties_of e + p)
 
-    abbrev new_cell : ℕ → ℕ
-    new_cell q = if is_eligible conditions e (q % parties_of e) then old_cell q else 0
+    abbrev old_votes : ℕ → ℕ → ℕ
+    old_votes l p = input_of e input.Counted (l * parties_of e + p)
 
-    abbrev one_list : Tree
-    one_list = Then (Line (Get number x.eligible ∷ [])) (If (test.Zero number) (Line (Set cell 0 ∷ (Store (x.of facts.Counted) cell ∷ []))) nothing)
+    abbrev new_votes : ℕ → ℕ → ℕ
+    new_votes l p = if is_eligible conditions e p then old_votes l p else 0
 
-    -- the first n cells are without the votes of parties that are not eligible
-    abbrev Cleared : ℕ → State → Type 0
-    Cleared n t = record {
-      column : Changed old_cell new_cell (lands_of e * parties_of e) n (t.columns (x.of facts.Counted));
-      flags : Flagged e x (is_eligible conditions e) t;
-    }
+    -- the first n parties are without votes if they are not eligible
+    record Cleared (n : ℕ) (t : State) : Type 0 where
+      done : (l p : ℕ) → l < lands_of e → p < n → p < parties_of e → votes_at t l p ≡ new_votes l p
+      rest : (l p : ℕ) → l < lands_of e → n ≤ p → p < parties_of e → votes_at t l p ≡ old_votes l p
+      flags : Flagged e x (is_eligible conditions e) t
 
-    new_there : (l p : ℕ) → p < parties_of e → new_cell (l * parties_of e + p) ≡ (if is_eligible conditions e p then old_cell (l * parties_of e + p) else 0)
-    new_there l p less = ap (λ n. if is_eligible conditions e n then old_cell (l * parties_of e + p) else 0) (party_again e l p less)
+    -- a party is without votes in the first m Länder, and all others have theirs
+    record IsWithout (p m : ℕ) (t u : State) : Type 0 where
+      here : (l : ℕ) → l < m → votes_at u l p ≡ 0
+      others : (l q : ℕ) → q < parties_of e → q ≢ p → votes_at u l q ≡ votes_at t l q
+      party : u.party ≡ Some p
+      zero_is : u.registers cell ≡ 0
+      flags : (q : ℕ) → u.columns x.eligible q ≡ t.columns x.eligible q
 
-    list_cleared : (l p : ℕ) (t : State) → l < lands_of e → p < parties_of e → Cleared (l * parties_of e + p) t → t.land ≡ Some l
-        → Achieves c e one_list (with_party (Some p) t) (λ u. Puts (l * parties_of e + p) (new_cell (l * parties_of e + p)) (t.columns (x.of facts.Counted)) (u.columns (x.of facts.Counted))) Never
-    list_cleared l p t in_lands less h on =
+    lands_cleared : (p : ℕ) (t : State) → p < parties_of e → t.party ≡ Some p → t.registers cell ≡ 0
+        → Achieves c e (Each cursor.Land (Line (Store (x.of facts.Counted) cell ∷ []))) t (IsWithout p (lands_of e) t) Never
+    lands_cleared p t less on none =
+        each_keeping (λ m u. IsWithout p m t u) refl
+        (record { here = λ l low. absurd (omega (arith, low)); others = λ l q below other. refl; party = on; zero_is = none; flags = λ q. refl })
+        (λ l u in_lands inv.
         let place : ℕ = l * parties_of e + p in
+        let v : State = with_land (Some l) u in
+        let w : State = with_cell (x.of facts.Counted) place (v.registers cell) v in
+        line_goes (store_does c e v (x.of facts.Counted) shape.List (slots.facts facts.Counted) cell place (both_are v.land v.party (λ land party. land * parties_of e + party) l p refl inv.party))
+        (line_ends (record {
+          here = λ k low. elim (cases_eq k l) [
+            | inl same ↦ ap (λ n. votes_at w n p) same ∙ cell_same v (x.of facts.Counted) place (v.registers cell) ∙ inv.zero_is
+            | inr other ↦
+                cell_other_place v (x.of facts.Counted) place (v.registers cell) (k * parties_of e + p) (λ same. other (same_from_place k p l p (parties_of e) less less same).0)
+                ∙ inv.here k (omega (arith, low, other))
+          ];
+          others = λ k q below other.
+              cell_other_place v (x.of facts.Counted) place (v.registers cell) (k * parties_of e + q) (λ same. other (same_from_place k q l p (parties_of e) below less same).1)
+              ∙ inv.others k q below other;
+          party = inv.party;
+          zero_is = inv.zero_is;
+          flags = λ q. cell_other_slot v (x.of facts.Counted) place (v.registers cell) x.eligible q (λ same. apart (sym same)) ∙ inv.flags q;
+        })))
+        (λ u inv. record { here = inv.here; others = inv.others; party = inv.party; zero_is = inv.zero_is; flags = inv.flags })
+
+    party_cleared : (p : ℕ) (t : State) → p < parties_of e → Cleared p t → Achieves c e (drop_votes x) (with_party (Some p) t) (Cleared (p + 1)) Never
+    party_cleared p t less inv =
         let u : State = with_party (Some p) t in
-        let flag : t.columns x.eligible p ≡ one_if (is_eligible conditions e p) = h.flags p less in
-        let u1 : State = with_register number (t.columns x.eligible p) u in
-        let u2 : State = with_register cell 0 u1 in
-        let cleared : (b : Bool) → is_eligible conditions e p ≡ b → new_cell place ≡ (if b then old_cell place else 0) = λ b known. new_there l p less ∙ ap (λ b. if b then old_cell place else 0) known in
-        let votes : t.columns (x.of facts.Counted) place ≡ old_cell place = h.column.rest place (omega arith) (place_within e l p less in_lands) in
+        let flag : t.columns x.eligible p ≡ one_if (is_eligible conditions e p) = inv.flags p less in
+        let flagged : State = with_register number (t.columns x.eligible p) u in
+        let known : (b : Bool) → is_eligible conditions e p ≡ b → (l : ℕ) → (if b then old_votes l p else 0) ≡ new_votes l p = λ b is l. ap (λ b. if b then old_votes l p else 0) (sym is) in
         line_first (get_does c e u x.eligible shape.Party slots.eligible number p refl) (line_over
         (if_zero
         (λ zero.
-        let put : Puts place 0 (t.columns (x.of facts.Counted)) ((with_cell (x.of facts.Counted) place 0 u2).columns (x.of facts.Counted)) = stored u2 (x.of facts.Counted) place 0 in
-        line_goes refl
-        (line_goes (store_does c e u2 (x.of facts.Counted) shape.List (slots.facts facts.Counted) cell place (both_are u.land u.party (λ land party. land * parties_of e + party) l p on refl))
-        (line_ends (record { here = put.here ∙ sym (cleared false (flag_down (is_eligible conditions e p) (sym flag ∙ zero))); others = put.others }))))
+        let not : is_eligible conditions e p ≡ false = flag_down (is_eligible conditions e p) (sym flag ∙ zero) in
+        line_first refl (line_over
+        (achieves_more (lands_cleared p (with_register cell 0 flagged) less refl refl)
+        (λ v h. record {
+          done = λ l q in_lands low below. elim (cases_eq q p) [
+            | inl same ↦ ap (votes_at v l) same ∙ h.here l in_lands ∙ known false not l ∙ ap (new_votes l) (sym same)
+            | inr other ↦ h.others l q below other ∙ inv.done l q in_lands (omega (arith, low, other)) below
+          ];
+          rest = λ l q in_lands high below. h.others l q below (λ same. omega (arith, same, high)) ∙ inv.rest l q in_lands (omega (arith, high)) below;
+          flags = λ q below. h.flags q ∙ inv.flags q below;
+        })
+        (λ o h. h))))
         (λ n more.
-        line_ends (record { here = votes ∙ sym (cleared true (flag_up (is_eligible conditions e p) n (sym flag ∙ more))); others = λ q other. refl }))))
-
-    next_cleared : (l p : ℕ) (t : State) → l < lands_of e → p < parties_of e → Cleared (l * parties_of e + p) t → t.land ≡ Some l
-        → Achieves c e one_list (with_party (Some p) t) (λ u. Cleared (l * parties_of e + (p + 1)) u × (u.land ≡ Some l)) Never
-    next_cleared l p t in_lands less h on =
-        let place : ℕ = l * parties_of e + p in
-        let next : place + 1 ≡ l * parties_of e + (p + 1) = omega arith in
-        achieves_keeping (list_cleared l p t in_lands less h on)
-        (λ u k kept. (
-          subst (λ n. Cleared n u) next
-              (record {
-                column = next_changed old_cell new_cell (lands_of e * parties_of e) place (t.columns (x.of facts.Counted)) (u.columns (x.of facts.Counted)) h.column k.others k.here;
-                flags = λ q below. kept.columns x.eligible (rw (ne_eqb x.eligible (x.of facts.Counted) (λ same. apart (sym same))) refl) q ∙ h.flags q below;
-              }),
-          kept.land refl ∙ on,
-        ))
+        let may : is_eligible conditions e p ≡ true = flag_up (is_eligible conditions e p) n (sym flag ∙ more) in
+        line_ends (record {
+          done = λ l q in_lands low below. elim (cases_eq q p) [
+            | inl same ↦ ap (votes_at t l) same ∙ inv.rest l p in_lands (omega arith) less ∙ known true may l ∙ ap (new_votes l) (sym same)
+            | inr other ↦ inv.done l q in_lands (omega (arith, low, other)) below
+          ];
+          rest = λ l q in_lands high below. inv.rest l q in_lands (omega (arith, high)) below;
+          flags = inv.flags;
+        }))))
 
     counted_are_told : Flagged e x (is_eligible conditions e) s → Achieves c e (counted_tree x) s (GetsColumn e shape.List (x.of facts.Counted) (counted_votes conditions e) s) Never
     counted_are_told flagged =
         gets_column shape.List (x.of facts.Counted) (counted_votes conditions e)
         (line_first (input_does c e s (x.of facts.Counted) shape.List (slots.facts facts.Counted) input.Counted) (line_over
-        (each_keeping (λ l. Cleared (l * parties_of e)) refl
+        (each_keeping Cleared refl
         (record {
-          column = record { done = λ q below. absurd (omega arith); rest = λ q high below. cell_written s (x.of facts.Counted) (input_of e input.Counted) q };
+          done = λ l q in_lands low below. absurd (omega (arith, low));
+          rest = λ l q in_lands high below. cell_written s (x.of facts.Counted) (input_of e input.Counted) (l * parties_of e + q);
           flags = λ q below. cell_not_written s (x.of facts.Counted) (input_of e input.Counted) x.eligible q (λ same. apart (sym same)) ∙ flagged q below;
         })
-        (λ l u in_lands inv.
-        let first : l * parties_of e ≡ l * parties_of e + 0 = omega arith in
-        let last : l * parties_of e + parties_of e ≡ (l + 1) * parties_of e = omega arith in
-        each_keeping (λ p v. Cleared (l * parties_of e + p) v × (v.land ≡ Some l)) refl
-        (subst (λ n. Cleared n (with_land (Some l) u)) first inv, refl)
-        (λ p v less h. next_cleared l p v in_lands less h.0 h.1)
-        (λ v h. subst (λ n. Cleared n (with_party None v)) last h.0))
+        (λ p u less inv. party_cleared p u less inv)
         (λ u inv.
         holds_lists e (u.columns (x.of facts.Counted)) (λ land party. if is_eligible conditions e party then counted_in (list_at e land party) else 0) (λ land party in_lands less.
-        inv.column.done (land * parties_of e + party) (place_within e land party less in_lands)
-        ∙ new_there land party less
-        ∙ ap (λ n. if is_eligible conditions e party then n else 0) (list_told e land party less counted_in in_lands))))))
+        inv.done land party in_lands less less ∙ ap (λ n. if is_eligible conditions e party then n else 0) (list_told e land party less counted_in in_lands))))))
         (λ k other. rw (ne_eqb k (x.of facts.Counted) other) refl) (record { steps = refl; weights = refl; seats = refl })
 
 pub facts_are_told : FactsAreTold

@@ -63,10 +63,14 @@ eligible_tree x cs = Then (Line (Zero x.eligible ∷ [])) (conditions_tree x cs)
 abbrev pub house_tree : FactSlots → ℕ → Tree
 house_tree x default = Line (Set cell default ∷ (House cell ∷ (Store (x.of facts.House) cell ∷ [])))
 
+-- a party that is not eligible has no votes in any Land
+abbrev pub drop_votes : FactSlots → Tree
+drop_votes x =
+    Then (Line (Get number x.eligible ∷ []))
+    (If (test.Zero number) (Then (Line (Set cell 0 ∷ [])) (Each cursor.Land (Line (Store (x.of facts.Counted) cell ∷ [])))) nothing)
+
 abbrev pub counted_tree : FactSlots → Tree
-counted_tree x =
-    Then (Line (Input (x.of facts.Counted) input.Counted ∷ []))
-    (Each cursor.Land (Each cursor.Party (Then (Line (Get number x.eligible ∷ [])) (If (test.Zero number) (Line (Set cell 0 ∷ (Store (x.of facts.Counted) cell ∷ []))) nothing))))
+counted_tree x = Then (Line (Input (x.of facts.Counted) input.Counted ∷ [])) (Each cursor.Party (drop_votes x))
 
 -- for the winner at the cursor: one plan where the party is eligible and has a list in the Land, and else the other
 abbrev pub by_winner : FactSlots → (on_list outside : Tree) → Tree
