@@ -70,10 +70,10 @@ def conditions(size):
 
 # what is doubled; its sizes; the book and the returns of a size
 SIZES = [
-    ("entries of one scope, %d seats" % SEATS, [512, 1024, 2048, 4096, 8192], lambda n: (one_scope(SEATS), returns(n // 128, 128, spread))),
+    ("entries of one scope, {:,} seats".format(SEATS), [512, 1024, 2048, 4096, 8192], lambda n: (one_scope(SEATS), returns(n // 128, 128, spread))),
     ("seats, 1,024 entries", [250, 500, 1000, 2000, 4000], lambda n: (one_scope(n), returns(8, 128, spread))),
     ("peers, all with a seat each", [256, 512, 1024, 2048], lambda n: (one_scope(n), returns(n // 128, 128, equal))),
-    ("lots and peers, half of whom get a seat", [256, 512, 1024, 2048, 4096], lambda n: (one_scope(n // 2), returns(n // 128, 128, equal, n))),
+    ("lots and peers, half of whom get a seat", [256, 512, 1024, 2048], lambda n: (one_scope(n // 2), returns(n // 128, 128, equal, n))),
     ("Länder times parties, a scope for each Land", [1024, 2048, 4096, 8192], lambda n: (by_land(SEATS), returns(n // 128, 128, spread))),
     ("bytes of the book", [8192, 16384, 32768, 65536], lambda n: (conditions(n), returns(4, 16, spread))),
 ]
