@@ -1,21 +1,14 @@
 -- Bytes that fail the tests of an instruction's operands.
-use Rattle.std.proofs.Common.{◌≡◌, ℕ, ◌+◌, ◌*◌, Bool, false, List, [], ◌∷◌, ◌++◌, IsTrue, MatchBool, refl, sym, subst}
-use Rattle.sl_ratio.specs.declared.method.Divisor.{Divisor}
-use Rattle.sl_ratio.specs.declared.method.Divisor.TheVariants as divisors
+use Rattle.std.proofs.Common.{◌≡◌, ℕ, Bool, List, [], ◌∷◌, ◌++◌, IsTrue, MatchBool, refl, sym, subst}
 use Rattle.sl_code.specs.declared.fault.Cause.TheVariants as causes
 use Rattle.sl_code.specs.declared.fault.Stop.{Stop}
 use Rattle.sl_code.specs.declared.kinds.Cursors.{Cursors}
-use Rattle.sl_code.specs.declared.operand.Entries.{Entries}
-use Rattle.sl_code.specs.declared.operand.Entries.TheVariants as entries
-use Rattle.sl_code.specs.declared.operand.Rounding.{Rounding}
-use Rattle.sl_code.specs.declared.operand.Rounding.TheVariants as roundings
 use Rattle.sl_code.specs.declared.operand.ScopeKind.{ScopeKind}
-use Rattle.sl_code.specs.declared.operand.ScopeKind.TheVariants as scopes
-use Rattle.sl_ratio.specs.Quotient.{method_number}
-use Rattle.sl_code.specs.Numbers.{scope_number, entries_number, rounding_number, cursors_number, flag}
-use Rattle.sl_code.specs.Operands.{is_any, is_below, is_scope, is_entries, is_method, is_rounding, two_bytes}
+use Rattle.sl_code.specs.Numbers.{scope_number, cursors_number}
+use Rattle.sl_code.specs.Operands.{is_any, is_below, is_scope, two_bytes}
 use Rattle.sl_code.specs.Faults.{FailsFrom, FailsTests, stop_at}
 use Rattle.sl_code.specs.Reading.{Ends, FailsAhead}
+use Rattle.sl_code.proofs.Values.{scope_known, cursors_known}
 
 -- a byte that passes is passed over
 pub pass : (wrong : List ℕ → Stop) (test : ℕ → Bool) (tests : List (ℕ → Bool)) (b : ℕ) (old here : List ℕ) (stop : Stop)
@@ -28,10 +21,6 @@ pass wrong test tests b old here stop old_is passes failing =
 pub ends_tests : (wrong : List ℕ → Stop) (test : ℕ → Bool) (tests : List (ℕ → Bool)) (here : List ℕ) (stop : Stop) → Ends here stop → FailsTests wrong (test ∷ tests) here stop
 ends_tests wrong test tests here stop ends =
     subst (λ (xs : List ℕ). FailsTests wrong (test ∷ tests) xs stop) (sym ends.none) (record { fails = ends.is })
-
-pub ends_ahead : (test : ℕ → Bool) (tests : List (ℕ → Bool)) (here : List ℕ) (stop : Stop) → Ends here stop → FailsAhead (test ∷ tests) here stop
-ends_ahead test tests here stop ends =
-    record { fails = λ more. ends_tests (stop_at causes.Op) test (tests ++ more) here stop ends }
 
 pub later : (test : ℕ → Bool) (tests : List (ℕ → Bool)) (b : ℕ) (old here : List ℕ) (stop : Stop) → old ≡ b ∷ here → FailsAhead tests here stop → IsTrue (test b) → FailsAhead (test ∷ tests) old stop
 later test tests b old here stop old_is failing passes =
@@ -64,28 +53,7 @@ later_two_more test next third fourth tests a b old here stop old_is failing =
 -- ---- numbers that pass
 
 pub scope_passes : (x : ScopeKind) → IsTrue (is_scope (scope_number x))
-scope_passes scopes.All = refl
-scope_passes x = refl
-
-pub entries_passes : (x : Entries) → IsTrue (is_entries (entries_number x))
-entries_passes entries.Party = refl
-entries_passes x = refl
-
-pub method_passes : (x : Divisor) → IsTrue (is_method (method_number x))
-method_passes divisors.Adams = refl
-method_passes x = refl
-
-pub rounding_passes : (x : Rounding) → IsTrue (is_rounding (rounding_number x))
-rounding_passes roundings.Adams = refl
-rounding_passes x = refl
-
-flags_pass : (a b c : Bool) → IsTrue (is_below 8 (flag a + 2 * flag b + 4 * flag c))
-flags_pass false false false = refl
-flags_pass a false false = refl
-flags_pass a b false = refl
-flags_pass a b c = refl
+scope_passes x = (scope_known x).0
 
 pub cursors_passes : (x : Cursors) → IsTrue (is_below 8 (cursors_number x))
-cursors_passes x = flags_pass x.party x.land x.win
-
-pub ruleset failing = (ends_ahead, later, later_two, later_registers, more_one, more_two, scope_passes, entries_passes, method_passes, rounding_passes, cursors_passes)
+cursors_passes x = (cursors_known x).0

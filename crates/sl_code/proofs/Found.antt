@@ -1,6 +1,6 @@
 -- A search for the value of a number among some values.
-use Rattle.std.proofs.Common.{◌≡◌, ℕ, Bool, true, false, cond, List, [], ◌∷◌, Option, None, Some, nat_eq, find, MatchOption, refl, sym, subst}
-use Rattle.std.specs.Prelude.{◌||◌, option_map}
+use Rattle.std.proofs.Common.{◌≡◌, ℕ, Bool, true, false, cond, List, [], ◌∷◌, Option, Some, nat_eq, find, MatchOption, refl}
+use Rattle.std.specs.Prelude.{◌||◌}
 use Rattle.std.proofs.lemmas.Bool.{eqb-true}
 use Rattle.sl_code.specs.Operands.{is_number}
 
@@ -14,10 +14,6 @@ module _ {A : Type 0} (number : A → ℕ) (n : ℕ) where
   first_or_later x xs true same later = eqb-true (number x) n same
   first_or_later x xs false other later = later
 
-  found_in : (xs : List A) → IsFound xs (find (λ x. nat_eq (number x) n) xs)
+  pub found_in : (xs : List A) → IsFound xs (find (λ x. nat_eq (number x) n) xs)
   found_in [] = refl
   found_in (x ∷ xs) = first_or_later x xs (nat_eq (number x) n) refl (found_in xs)
-
-  pub is_found : (xs : List A) (found : Option A) → option_map (λ x. x) found ≡ find (λ x. nat_eq (number x) n) xs → IsFound xs found
-  is_found xs None is = subst (IsFound xs) (sym is) (found_in xs)
-  is_found xs (Some x) is = subst (IsFound xs) (sym is) (found_in xs)

@@ -1,4 +1,5 @@
 -- The lemmas of counting code.
+pub mod CodeOrFault
 pub mod Determined
 pub mod Failing
 pub mod FileFacts
@@ -10,7 +11,10 @@ pub mod Names
 pub mod Numbered
 pub mod OneCode
 pub mod Operations
+pub mod Passing
 pub mod Pieces
+pub mod Spelled
 pub mod StageFacts
 pub mod Standing
+pub mod Taking
 pub mod Values

@@ -9,9 +9,10 @@ use Rattle.sl_stages.specs.book.Words.{is_letter, is_word}
 use Rattle.sl_code.specs.declared.fault.Cause.TheVariants as causes
 use Rattle.sl_code.specs.declared.fault.Stop.{Stop}
 use Rattle.sl_code.specs.Operands.{is_any}
-use Rattle.sl_code.specs.Faults.{FailsTests, FailsStage, behind_length, is_name_length, is_name_byte, name_tests, stop_at}
+use Rattle.sl_code.specs.Faults.{FailsTests, FailsStage, behind_length, IsAny, is_name_length, is_name_byte, name_tests, stop_at}
 use Rattle.sl_code.specs.Reading.{Ends, FailsAhead, IsName}
-use Rattle.sl_code.proofs.Failing.{pass, ends_tests, later}
+use Rattle.sl_code.proofs.Failing.{ends_tests, later}
+use Rattle.sl_code.proofs.Passing.{Passes, all_passes, fails_over}
 
 -- so many bytes of a name have been read
 pub record NameFront (n : ℕ) (here now : List ℕ) : Type 0 where
@@ -72,25 +73,16 @@ pub name_stops : (n : ℕ) (old here : List ℕ) (stop : Stop) → old ≡ n ∷
 name_stops n old here stop old_is ok failing =
     behind_length n here old_is ok (failing.fails (is_any ∷ []))
 
--- behind a name
-over_all : (p : ℕ → Bool) (tests : List (ℕ → Bool)) (read next : List ℕ) (stop : Stop) → IsTrue (list_all p read) → FailsTests (stop_at causes.Op) tests next stop
-    → FailsTests (stop_at causes.Op) (replicate (length read) p ++ tests) (read ++ next) stop
-over_all p tests [] next stop passes failing = failing
-over_all p tests (b ∷ read) next stop passes failing =
-    let both : IsTrue (p b) × IsTrue (list_all p read) = and_parts (p b) (list_all p read) passes in
-    pass (stop_at causes.Op) p (replicate (length read) p ++ tests) b (b ∷ read ++ next) (read ++ next) stop refl both.0 (over_all p tests read next stop both.1 failing)
-
-over_name : (tests : List (ℕ → Bool)) (name next : List ℕ) (stop : Stop) → IsTrue (is_word name) → FailsTests (stop_at causes.Op) tests next stop
-    → FailsTests (stop_at causes.Op) (name_tests (length name) ++ tests) (name ++ next) stop
-over_name tests [] next stop word failing = absurd (false≢true word)
-over_name tests (b ∷ more) next stop word failing =
+pub name_passes : (name : List ℕ) → IsTrue (is_word name) → Passes IsAny (name_tests (length name)) name
+name_passes [] word = absurd (false≢true word)
+name_passes (b ∷ more) word =
     let both : IsTrue (is_letter b && list_all is_name_byte more) × IsTrue _ = and_parts (is_letter b && list_all is_name_byte more) _ word in
     let inner : IsTrue (is_letter b) × IsTrue (list_all is_name_byte more) = and_parts (is_letter b) (list_all is_name_byte more) both.0 in
-    pass (stop_at causes.Op) is_letter (replicate (length more) is_name_byte ++ tests) b (b ∷ more ++ next) (more ++ next) stop refl inner.0 (over_all is_name_byte tests more next stop inner.1 failing)
+    (inner.0, tt, all_passes is_name_byte more inner.1)
 
 pub slot_stops : (n : ℕ) (old here next name : List ℕ) (stop : Stop) → old ≡ n ∷ here → IsTrue (is_name_length n) → IsName n here next name → Ends next stop → FailsStage old stop
 slot_stops n old here next name stop old_is ok is ends =
     let ended : FailsTests (stop_at causes.Op) (is_any ∷ []) next stop = ends_tests (stop_at causes.Op) is_any [] next stop ends in
-    let known : FailsTests (stop_at causes.Op) (name_tests (length name) ++ is_any ∷ []) (name ++ next) stop = over_name (is_any ∷ []) name next stop is.word ended in
+    let known : FailsTests (stop_at causes.Op) (name_tests (length name) ++ is_any ∷ []) (name ++ next) stop = fails_over (stop_at causes.Op) (name_tests (length name)) (is_any ∷ []) name next stop (name_passes name is.word) ended in
     let moved : FailsTests (stop_at causes.Op) (name_tests n ++ is_any ∷ []) (name ++ next) stop = subst (λ (k : ℕ). FailsTests (stop_at causes.Op) (name_tests k ++ is_any ∷ []) (name ++ next) stop) is.long known in
     behind_length n here old_is ok (subst (λ (xs : List ℕ). FailsTests (stop_at causes.Op) (name_tests n ++ is_any ∷ []) xs stop) (sym is.stands) moved)

@@ -25,7 +25,7 @@ use Rattle.sl_code.specs.Proper.{FitsBytes, IsInRange, IsProper}
 use Rattle.sl_code.specs.Reading.{IsReading}
 use Rattle.sl_code.proofs.FileFacts.{in_parts, four_same, spelling_none}
 use Rattle.sl_code.proofs.Fronts.{head, tail, front_same, back_same}
-use Rattle.sl_code.proofs.InstrFacts.{instr_same, same_widths}
+use Rattle.sl_code.proofs.InstrFacts.{instr_same, alike}
 use Rattle.sl_code.proofs.Pieces.{all_any}
 use Rattle.sl_code.proofs.StageFacts.{shape_same, stage_same}
 use Rattle.sl_code.proofs.Values.{same_instr}
@@ -62,7 +62,7 @@ values_same (x ∷ xs) (y ∷ ys) r s fit_x fit_y wide e =
 instr_known : (i j : Instr) (r s : List ℕ) → IsInRange i → IsInRange j → instr_bytes i ++ r ≡ instr_bytes j ++ s → i ≡ j
 instr_known i j r s fit_i fit_j e =
     let op : opcode_of i ≡ opcode_of j = head _ _ _ _ e in
-    same_instr i j op (values_same (operands_of i) (operands_of j) r s fit_i fit_j (same_widths i j op) (tail _ _ _ _ e))
+    same_instr i j op (values_same (operands_of i) (operands_of j) r s fit_i fit_j (alike i j op).2 (tail _ _ _ _ e))
 
 -- ---- stages and slots
 

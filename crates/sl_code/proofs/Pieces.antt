@@ -15,8 +15,8 @@ use Rattle.sl_code.specs.declared.fault.Stop.{Stop}
 use Rattle.sl_code.specs.declared.instr.Instr.{Instr}
 use Rattle.sl_code.specs.Codes.{CountingCode}
 use Rattle.sl_code.specs.Operands.{is_any, four_bytes}
-use Rattle.sl_code.specs.Spelling.{instr_bytes, stage_bytes, opening, stages_part, slots_part, instrs_part, spelling_of}
-use Rattle.sl_code.specs.Faults.{FailsTests, FailsLongCount, cut, above, FailsElement, in_element, FailsStage, FailsStages, FailsShape, FailsSlots, FailsInstr, FailsInstrs, FailsFile, in_stages, in_slots, in_instrs, behind, IsStage, IsAny, shape_bytes, stop_at}
+use Rattle.sl_code.specs.Spelling.{opening, stages_part, slots_part, instrs_part, spelling_of}
+use Rattle.sl_code.specs.Faults.{FailsTests, FailsLongCount, cut, above, FailsElement, FailsList, in_element, FailsStages, FailsSlots, FailsInstrs, FailsFile, in_stages, in_slots, in_instrs, behind, IsStage, IsAny, stop_at}
 use Rattle.sl_code.specs.Reading.{FailsAhead, Refuses}
 
 pub refuses_weaker : {X : Type 0} (r : Result X Refusal) (P Q : Stop → Type 0) → ((stop : Stop) → P stop → Q stop) → IfErr r (Refuses P) → IfErr r (Refuses Q)
@@ -47,7 +47,7 @@ refuse_element f Is Fails n here now xs e stand fewer are =
 
 -- ---- counts
 
-cut_here : (here : List ℕ) (stop : Stop) → FailsTests (stop_at causes.Op) (is_any ∷ is_any ∷ is_any ∷ is_any ∷ []) here stop → (length here < 4) × (stop ≡ stop_at causes.Short [])
+pub cut_here : (here : List ℕ) (stop : Stop) → FailsTests (stop_at causes.Op) (is_any ∷ is_any ∷ is_any ∷ is_any ∷ []) here stop → (length here < 4) × (stop ≡ stop_at causes.Short [])
 cut_here [] stop failing = (omega arith, failing.fails)
 cut_here (a ∷ []) stop failing = (omega arith, failing.fails)
 cut_here (a ∷ b ∷ []) stop failing = (omega arith, failing.fails)
@@ -62,19 +62,13 @@ count_above most n here rest stop here_is greater fits is = above n rest here_is
 
 -- ---- lists
 
-module _ {X : Type 0} (r : Result X Refusal) (n : ℕ) (old here : List ℕ) where
-  pub stages_stop : old ≡ n ∷ here → n ≤ MAX_STAGES → IfErr r (Refuses (FailsElement stage_bytes IsStage FailsStage n here)) → IfErr r (Refuses (FailsStages old))
-  stages_stop old_is few = refuses_weaker r _ _ (λ stop failing. in_element n here old_is few failing)
-
-  pub slots_stop : old ≡ n ∷ here → n ≤ MAX_SLOTS → IfErr r (Refuses (FailsElement shape_bytes IsAny FailsShape n here)) → IfErr r (Refuses (FailsSlots old))
-  slots_stop old_is few = refuses_weaker r _ _ (λ stop failing. in_element n here old_is few failing)
-
-  pub instrs_stop : old ≡ four_bytes n ++ here → n ≤ MAX_INSTRS → IfErr r (Refuses (FailsElement instr_bytes IsAny FailsInstr n here)) → IfErr r (Refuses (FailsInstrs old))
-  instrs_stop old_is few = refuses_weaker r _ _ (λ stop failing. in_element n here old_is few failing)
+pub list_stops : {X Y : Type 0} (count_bytes : ℕ → List ℕ) (FailsCounting : ℕ → List ℕ → Stop → Type 0) (most : ℕ) (f : X → List ℕ) (Is : X → Type 0) (Fails : List ℕ → Stop → Type 0) (r : Result Y Refusal) (n : ℕ) (old here : List ℕ)
+    → old ≡ count_bytes n ++ here → n ≤ most → IfErr r (Refuses (FailsElement f Is Fails n here)) → IfErr r (Refuses (FailsList count_bytes FailsCounting most f Is Fails old))
+list_stops count_bytes FailsCounting most f Is Fails r n old here old_is few = refuses_weaker r _ _ (λ stop failing. in_element n here old_is few failing)
 
 -- ---- files
 
-join : (bytes x y a b : List ℕ) → bytes ≡ x ++ a → a ≡ y ++ b → bytes ≡ (x ++ y) ++ b
+pub join : (bytes x y a b : List ℕ) → bytes ≡ x ++ a → a ≡ y ++ b → bytes ≡ (x ++ y) ++ b
 join bytes x y a b first second = first ∙ ap (λ t. x ++ t) second ∙ sym (append_assoc x y b)
 
 module _ (bytes a b d : List ℕ) (stages : List CodeStage) (slots : List Shape) where

@@ -1,5 +1,5 @@
 -- A stage and a shape stand or fail in one way alone.
-use Rattle.std.proofs.Common.{◌≡◌, ℕ, Bool, ◌&&◌, List, [], ◌∷◌, ◌++◌, length, replicate, IsTrue, nat_lt, nat_le, refl, sym, subst, ◌∙◌, arith, rules, tests, append_assoc, length-append}
+use Rattle.std.proofs.Common.{◌≡◌, ℕ, ◌&&◌, List, [], ◌∷◌, ◌++◌, length, IsTrue, nat_lt, nat_le, refl, sym, subst, ◌∙◌, arith, rules, tests, length-append}
 use Rattle.std.specs.List.{list_all}
 use Rattle.std.proofs.lemmas.Bool.{and_parts, and_from, false≢true}
 use Rattle.sl_ratio.specs.declared.names.TheConstants.{MAX_NAME_BYTES}
@@ -13,8 +13,10 @@ use Rattle.sl_stages.specs.book.Typing.{shape_number}
 use Rattle.sl_code.specs.Operands.{is_any, is_shape}
 use Rattle.sl_code.specs.Spelling.{stage_bytes}
 use Rattle.sl_code.specs.Faults.{FailsTests, FailsStage, in_length, behind_length, FailsShape, IsStage, IsAny, shape_bytes, is_name_length, is_name_byte, name_tests, stop_at}
-use Rattle.sl_code.proofs.Determined.{passed, passed_all, tests_one}
+use Rattle.sl_code.proofs.Determined.{tests_one}
 use Rattle.sl_code.proofs.Fronts.{head, tail, back_same}
+use Rattle.sl_code.proofs.Names.{name_passes}
+use Rattle.sl_code.proofs.Passing.{Passes, joined, none_fails}
 
 abbrev wrong : List ℕ → Stop
 wrong = stop_at causes.Op
@@ -30,7 +32,7 @@ shape_same x y r s e = tail _ _ _ _ e
 
 pub shape_none : (x : Shape) (r : List ℕ) (stop : Stop) → IsAny x → FailsShape (shape_bytes x ++ r) stop → ⊥
 shape_none x r stop any failing =
-    passed_all wrong is_shape (shape_number x) r stop (shape_passes x) failing
+    none_fails wrong (is_shape ∷ []) (shape_number x ∷ []) r stop ((shape_passes x), tt, tt) failing
 
 pub shape_one : (here : List ℕ) (a b : Stop) → FailsShape here a → FailsShape here b → a ≡ b
 shape_one here a b f g = tests_one wrong (is_shape ∷ []) here a b f g
@@ -42,19 +44,6 @@ word_length [] word = absurd (false≢true word)
 word_length (b ∷ more) word =
     and_from (nat_lt 0 (length (b ∷ more))) (nat_le (length (b ∷ more)) MAX_NAME_BYTES) (search (rules, tests)) (and_parts (is_letter b && list_all is_name_byte more) (nat_le (length (b ∷ more)) MAX_NAME_BYTES) word).1
 
-all_over : (p : ℕ → Bool) (more : List (ℕ → Bool)) (read next : List ℕ) (stop : Stop) → IsTrue (list_all p read) → FailsTests wrong (replicate (length read) p ++ more) (read ++ next) stop → FailsTests wrong more next stop
-all_over p more [] next stop passes failing = failing
-all_over p more (b ∷ read) next stop passes failing =
-    let both : IsTrue (p b) × IsTrue (list_all p read) = and_parts (p b) (list_all p read) passes in
-    all_over p more read next stop both.1 (passed wrong p (replicate (length read) p ++ more) b (read ++ next) stop both.0 failing)
-
-name_over : (more : List (ℕ → Bool)) (name next : List ℕ) (stop : Stop) → IsTrue (is_word name) → FailsTests wrong (name_tests (length name) ++ more) (name ++ next) stop → FailsTests wrong more next stop
-name_over more [] next stop word failing = absurd (false≢true word)
-name_over more (b ∷ rest) next stop word failing =
-    let both : IsTrue (is_letter b && list_all is_name_byte rest) × IsTrue _ = and_parts (is_letter b && list_all is_name_byte rest) (nat_le (length (b ∷ rest)) MAX_NAME_BYTES) word in
-    let inner : IsTrue (is_letter b) × IsTrue (list_all is_name_byte rest) = and_parts (is_letter b) (list_all is_name_byte rest) both.0 in
-    all_over is_name_byte more rest next stop inner.1 (passed wrong is_letter (replicate (length rest) is_name_byte ++ more) b (rest ++ next) stop inner.0 failing)
-
 pub stage_same : (x y : CodeStage) (r s : List ℕ) → stage_bytes x ++ r ≡ stage_bytes y ++ s → r ≡ s
 stage_same x y r s e =
     let long : length x.name ≡ length y.name = head _ _ _ _ e in
@@ -62,20 +51,19 @@ stage_same x y r s e =
 
 pub stage_none : (x : CodeStage) (r : List ℕ) (stop : Stop) → IsStage x → FailsStage (stage_bytes x ++ r) stop → ⊥
 stage_none x r stop word (in_length failing) =
-    passed_all wrong is_name_length (length x.name) _ stop (word_length x.name word) failing
+    none_fails wrong (is_name_length ∷ []) (length x.name ∷ []) _ stop ((word_length x.name word), tt, tt) failing
 stage_none x r stop word (behind_length n rest stands ok failing) =
     let long : n ≡ length x.name = sym (head _ _ _ _ stands) in
-    let there : rest ≡ x.name ++ x.slot ∷ r = sym (tail _ _ _ _ stands) ∙ append_assoc x.name (x.slot ∷ []) r in
-    let moved : FailsTests wrong (name_tests (length x.name) ++ is_any ∷ []) rest stop = subst (λ (k : ℕ). FailsTests wrong (name_tests k ++ is_any ∷ []) rest stop) long failing in
-    let here : FailsTests wrong (name_tests (length x.name) ++ is_any ∷ []) (x.name ++ x.slot ∷ r) stop = subst (λ (h : List ℕ). FailsTests wrong (name_tests (length x.name) ++ is_any ∷ []) h stop) there moved in
-    passed_all wrong is_any x.slot r stop refl (name_over (is_any ∷ []) x.name (x.slot ∷ r) stop word here)
+    let here : FailsTests wrong (name_tests (length x.name) ++ is_any ∷ []) rest stop = subst (λ (k : ℕ). FailsTests wrong (name_tests k ++ is_any ∷ []) rest stop) long failing in
+    let passes : Passes IsAny (name_tests (length x.name) ++ is_any ∷ []) (x.name ++ x.slot ∷ []) = joined (name_tests (length x.name)) (is_any ∷ []) x.name (x.slot ∷ []) (name_passes x.name word) (refl, tt, tt) in
+    none_fails wrong _ (x.name ++ x.slot ∷ []) r stop passes (subst (λ (h : List ℕ). FailsTests wrong (name_tests (length x.name) ++ is_any ∷ []) h stop) (sym (tail _ _ _ _ stands)) here)
 
 pub stage_one : (here : List ℕ) (a b : Stop) → FailsStage here a → FailsStage here b → a ≡ b
 stage_one here a b (in_length f) (in_length g) = tests_one wrong (is_name_length ∷ []) here a b f g
 stage_one here a b (in_length f) (behind_length n rest stands ok failing) =
-    absurd (passed_all wrong is_name_length n rest a ok (subst (λ (h : List ℕ). FailsTests wrong (is_name_length ∷ []) h a) stands f))
+    absurd (none_fails wrong (is_name_length ∷ []) (n ∷ []) rest a (ok, tt, tt) (subst (λ (h : List ℕ). FailsTests wrong (is_name_length ∷ []) h a) stands f))
 stage_one here a b (behind_length n rest stands ok failing) (in_length g) =
-    absurd (passed_all wrong is_name_length n rest b ok (subst (λ (h : List ℕ). FailsTests wrong (is_name_length ∷ []) h b) stands g))
+    absurd (none_fails wrong (is_name_length ∷ []) (n ∷ []) rest b (ok, tt, tt) (subst (λ (h : List ℕ). FailsTests wrong (is_name_length ∷ []) h b) stands g))
 stage_one here a b (behind_length n rest stands ok f) (behind_length m rest' stands' ok' g) =
     let both : m ∷ rest' ≡ n ∷ rest = sym stands' ∙ stands in
     let moved : FailsTests wrong (name_tests n ++ is_any ∷ []) rest' b = subst (λ (k : ℕ). FailsTests wrong (name_tests k ++ is_any ∷ []) rest' b) (head _ _ _ _ both) g in

@@ -1,11 +1,10 @@
 -- Instructions that stand in a code: their parts, and one by one.
-use Rattle.std.proofs.Common.{◌≡◌, ℕ, zero, suc, ◌+◌, ◌≤◌, List, [], ◌∷◌, ◌++◌, length, Some, refl, sym, ap, ◌∙◌, arith, append_assoc, length-append}
+use Rattle.std.proofs.Common.{◌≡◌, ℕ, zero, suc, ◌+◌, List, [], ◌∷◌, ◌++◌, length, Some, refl, sym, ap, ◌∙◌, arith, append_assoc, length-append}
 use Rattle.std.specs.Prelude.{slice_get}
 use Rattle.std.proofs.lemmas.List.{append-nil}
 use Rattle.sl_code.specs.declared.instr.Instr.{Instr}
 use Rattle.sl_code.specs.Codes.{CountingCode}
 use Rattle.sl_code.specs.Standing.{HasAt}
-use Rattle.sl_code.proofs.Fronts.{back_same}
 
 -- ---- lists
 
@@ -38,22 +37,6 @@ module _ (c : CountingCode) where
     placed = omega (arith, length-append h.before xs, h.placed);
     whole = h.whole ∙ ap (λ is. h.before ++ is) (append_assoc xs ys h.after) ∙ sym (append_assoc h.before xs (ys ++ h.after));
   }
-
-  -- both together
-  pub both_stand : (at : ℕ) (xs ys : List Instr) → HasAt c at xs → HasAt c (at + length xs) ys → HasAt c at (xs ++ ys)
-  both_stand at xs ys h k =
-      let long : length (h.before ++ xs) ≡ length k.before = omega (arith, length-append h.before xs, h.placed, k.placed) in
-      let same : (h.before ++ xs) ++ h.after ≡ k.before ++ (ys ++ k.after) = append_assoc h.before xs h.after ∙ sym h.whole ∙ k.whole in
-      record {
-        before = h.before;
-        after = k.after;
-        placed = h.placed;
-        whole = h.whole ∙ ap (λ is. h.before ++ (xs ++ is)) (back_same (h.before ++ xs) k.before _ _ long same) ∙ ap (λ is. h.before ++ is) (sym (append_assoc xs ys k.after));
-      }
-
-  -- they end within the code
-  pub stands_within : (at : ℕ) (xs : List Instr) → HasAt c at xs → at + length xs ≤ length c.instrs
-  stands_within at xs h = omega (arith, h.placed, ap length h.whole, length-append h.before (xs ++ h.after), length-append xs h.after)
 
   -- ---- one by one
 

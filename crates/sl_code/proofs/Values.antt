@@ -1,5 +1,5 @@
 -- An instruction is known by its operation and the numbers of its operands.
-use Rattle.std.proofs.Common.{◌≡◌, ℕ, ◌+◌, ◌*◌, Bool, true, false, List, [], ◌∷◌, map, flat_map, find, get_or, unwrap_or, nat_eq, Option, Some, None, refl, sym, ap, ◌∙◌}
+use Rattle.std.proofs.Common.{◌≡◌, ℕ, ◌+◌, ◌*◌, Bool, true, false, List, [], ◌∷◌, map, flat_map, find, get_or, unwrap_or, nat_eq, IsTrue, Option, Some, None, refl, sym, ap, ◌∙◌}
 use Rattle.sl_ratio.specs.declared.method.TheConstants.{DIVISORS}
 use Rattle.sl_ratio.specs.declared.method.Divisor.{Divisor}
 use Rattle.sl_ratio.specs.declared.method.Divisor.TheVariants as divisors
@@ -23,95 +23,98 @@ use Rattle.sl_code.specs.declared.operand.ScopeKind.TheVariants as scopes
 use Rattle.sl_ratio.specs.Quotient.{method_number}
 use Rattle.sl_code.specs.Numbers.{scope_number, entries_number, ranking_number, input_number, rounding_number, fault_number, cursors_number, table_number, flag}
 use Rattle.sl_code.specs.Rows.{opcode_of, operands_of}
-use Rattle.sl_code.specs.Operands.{value_of}
+use Rattle.sl_code.specs.Operands.{value_of, is_below, is_scope, is_entries, is_ranking, is_input, is_method, is_rounding, is_end_fault}
 
--- ---- the value of a number
+-- ---- the value of a number; its own number passes and gives it back
 
-abbrev one_at : {A : Type 0} → (A → ℕ) → List A → A → ℕ → A
+abbrev pub one_at : {A : Type 0} → (A → ℕ) → List A → A → ℕ → A
 one_at number xs other n = unwrap_or (find (λ x. nat_eq (number x) n) xs) other
 
-abbrev scope_at : ℕ → ScopeKind
+abbrev pub scope_at : ℕ → ScopeKind
 scope_at = one_at scope_number SCOPE_KINDS scopes.All
 
-scope_back : (x : ScopeKind) → scope_at (scope_number x) ≡ x
-scope_back scopes.All = refl
-scope_back x = refl
+pub scope_known : (x : ScopeKind) → IsTrue (is_scope (scope_number x)) × (scope_at (scope_number x) ≡ x)
+scope_known scopes.All = (refl, refl)
+scope_known x = (refl, refl)
 
-abbrev entries_at : ℕ → Entries
+abbrev pub entries_at : ℕ → Entries
 entries_at = one_at entries_number ENTRY_KINDS entries.Party
 
-entries_back : (x : Entries) → entries_at (entries_number x) ≡ x
-entries_back entries.Party = refl
-entries_back x = refl
+pub entries_known : (x : Entries) → IsTrue (is_entries (entries_number x)) × (entries_at (entries_number x) ≡ x)
+entries_known entries.Party = (refl, refl)
+entries_known x = (refl, refl)
 
-abbrev ranking_at : ℕ → Ranking
+abbrev pub ranking_at : ℕ → Ranking
 ranking_at = one_at ranking_number RANKINGS rankings.Quotients
 
-ranking_back : (x : Ranking) → ranking_at (ranking_number x) ≡ x
-ranking_back rankings.Quotients = refl
-ranking_back x = refl
+pub ranking_known : (x : Ranking) → IsTrue (is_ranking (ranking_number x)) × (ranking_at (ranking_number x) ≡ x)
+ranking_known rankings.Quotients = (refl, refl)
+ranking_known x = (refl, refl)
 
-abbrev input_at : ℕ → InputColumn
+abbrev pub input_at : ℕ → InputColumn
 input_at = one_at input_number INPUTS inputs.Valid
 
-input_back : (x : InputColumn) → input_at (input_number x) ≡ x
-input_back inputs.Valid = refl
-input_back x = refl
+pub input_known : (x : InputColumn) → IsTrue (is_input (input_number x)) × (input_at (input_number x) ≡ x)
+input_known inputs.Valid = (refl, refl)
+input_known x = (refl, refl)
 
-abbrev method_at : ℕ → Divisor
+abbrev pub method_at : ℕ → Divisor
 method_at = one_at method_number DIVISORS divisors.Adams
 
-method_back : (x : Divisor) → method_at (method_number x) ≡ x
-method_back divisors.Adams = refl
-method_back x = refl
+pub method_known : (x : Divisor) → IsTrue (is_method (method_number x)) × (method_at (method_number x) ≡ x)
+method_known divisors.Adams = (refl, refl)
+method_known x = (refl, refl)
 
-abbrev rounding_at : ℕ → Rounding
+abbrev pub rounding_at : ℕ → Rounding
 rounding_at = one_at rounding_number ROUNDINGS roundings.Adams
 
-rounding_back : (x : Rounding) → rounding_at (rounding_number x) ≡ x
-rounding_back roundings.Adams = refl
-rounding_back x = refl
+pub rounding_known : (x : Rounding) → IsTrue (is_rounding (rounding_number x)) × (rounding_at (rounding_number x) ≡ x)
+rounding_known roundings.Adams = (refl, refl)
+rounding_known x = (refl, refl)
 
-abbrev fault_at : ℕ → EndFault
+abbrev pub fault_at : ℕ → EndFault
 fault_at = one_at fault_number END_FAULTS faults.Limit
 
-fault_back : (x : EndFault) → fault_at (fault_number x) ≡ x
-fault_back faults.Limit = refl
-fault_back x = refl
+pub fault_known : (x : EndFault) → IsTrue (is_end_fault (fault_number x)) × (fault_at (fault_number x) ≡ x)
+fault_known faults.Limit = (refl, refl)
+fault_known x = (refl, refl)
 
-abbrev cursors : Bool → Bool → Bool → Cursors
+abbrev pub cursors : Bool → Bool → Bool → Cursors
 cursors party land win = record { party = party; land = land; win = win }
 
-abbrev cursors_at : ℕ → Cursors
-cursors_at n = get_or (cursors false false false ∷ cursors true false false ∷ cursors false true false ∷ cursors true true false ∷ cursors false false true ∷ cursors true false true ∷ cursors false true true ∷ cursors true true true ∷ []) n (cursors false false false)
+abbrev pub all_cursors : List Cursors
+all_cursors = cursors false false false ∷ cursors true false false ∷ cursors false true false ∷ cursors true true false ∷ cursors false false true ∷ cursors true false true ∷ cursors false true true ∷ cursors true true true ∷ []
 
-flags_back : (a b c : Bool) → cursors_at (flag a + 2 * flag b + 4 * flag c) ≡ cursors a b c
-flags_back false false false = refl
-flags_back a false false = refl
-flags_back a b false = refl
-flags_back a b c = refl
+abbrev pub cursors_at : ℕ → Cursors
+cursors_at n = get_or all_cursors n (cursors false false false)
 
-cursors_back : (x : Cursors) → cursors_at (cursors_number x) ≡ x
-cursors_back x = flags_back x.party x.land x.win
+flags_known : (a b c : Bool) → let n : ℕ = flag a + 2 * flag b + 4 * flag c in IsTrue (is_below 8 n) × (cursors_at n ≡ cursors a b c)
+flags_known false false false = (refl, refl)
+flags_known a false false = (refl, refl)
+flags_known a b false = (refl, refl)
+flags_known a b c = (refl, refl)
+
+pub cursors_known : (x : Cursors) → IsTrue (is_below 8 (cursors_number x)) × (cursors_at (cursors_number x) ≡ x)
+cursors_known x = flags_known x.party x.land x.win
 
 abbrev state : Entries → Ranking → Bool → Option TableState
 state e r ready = Some (record { entries = e; ranking = r; ready = ready })
 
-abbrev tables : List (Option TableState)
+abbrev pub tables : List (Option TableState)
 tables = None ∷ flat_map (λ ready. flat_map (λ r. map (λ e. state e r ready) ENTRY_KINDS) RANKINGS) (false ∷ true ∷ [])
 
-abbrev table_at : ℕ → Option TableState
+abbrev pub table_at : ℕ → Option TableState
 table_at n = get_or tables n None
 
-state_back : (e : Entries) (r : Ranking) (ready : Bool) → table_at (1 + entries_number e + 4 * ranking_number r + 8 * flag ready) ≡ state e r ready
-state_back entries.Party rankings.Quotients false = refl
-state_back e rankings.Quotients false = refl
-state_back e r false = refl
-state_back e r ready = refl
+state_known : (e : Entries) (r : Ranking) (ready : Bool) → let n : ℕ = 1 + entries_number e + 4 * ranking_number r + 8 * flag ready in IsTrue (is_below 17 n) × (table_at n ≡ state e r ready)
+state_known entries.Party rankings.Quotients false = (refl, refl)
+state_known e rankings.Quotients false = (refl, refl)
+state_known e r false = (refl, refl)
+state_known e r ready = (refl, refl)
 
-table_back : (x : Option TableState) → table_at (table_number x) ≡ x
-table_back None = refl
-table_back (Some s) = state_back s.entries s.ranking s.ready
+pub table_known : (x : Option TableState) → IsTrue (is_below 17 (table_number x)) × (table_at (table_number x) ≡ x)
+table_known None = (refl, refl)
+table_known (Some s) = state_known s.entries s.ranking s.ready
 
 -- ---- the instruction of an operation and its operands' numbers
 
@@ -172,16 +175,16 @@ instr_at op = get_or builders op (λ v. Wland)
 
 instr_back : (i : Instr) → instr_at (opcode_of i) (map value_of (operands_of i)) ≡ i
 unfolding builders instr_at
-instr_back (Input a b) = ap (λ (x : InputColumn). Input a x) (input_back b)
-instr_back (Table a b) = ap (λ (x : Entries). Table x (ranking_at (ranking_number b))) (entries_back a) ∙ ap (λ (x : Ranking). Table a x) (ranking_back b)
-instr_back (Prio a b c) = ap (λ (x : Divisor). Prio x b c) (method_back a)
-instr_back (Emit a b c d) = ap (λ (x : ScopeKind). Emit a x c d) (scope_back b)
-instr_back (Given a b c) = ap (λ (x : ScopeKind). Given a x c) (scope_back b)
-instr_back (Fault a b c) = ap (λ (x : ScopeKind). Fault a x (fault_at (fault_number c))) (scope_back b) ∙ ap (λ (x : EndFault). Fault a b x) (fault_back c)
-instr_back (Tie a b c) = ap (λ (x : ScopeKind). Tie a x c) (scope_back b)
+instr_back (Input a b) = ap (λ (x : InputColumn). Input a x) (input_known b).1
+instr_back (Table a b) = ap (λ (x : Entries). Table x (ranking_at (ranking_number b))) (entries_known a).1 ∙ ap (λ (x : Ranking). Table a x) (ranking_known b).1
+instr_back (Prio a b c) = ap (λ (x : Divisor). Prio x b c) (method_known a).1
+instr_back (Emit a b c d) = ap (λ (x : ScopeKind). Emit a x c d) (scope_known b).1
+instr_back (Given a b c) = ap (λ (x : ScopeKind). Given a x c) (scope_known b).1
+instr_back (Fault a b c) = ap (λ (x : ScopeKind). Fault a x (fault_at (fault_number c))) (scope_known b).1 ∙ ap (λ (x : EndFault). Fault a b x) (fault_known c).1
+instr_back (Tie a b c) = ap (λ (x : ScopeKind). Tie a x c) (scope_known b).1
 instr_back (At k) =
-    ap (λ (x : Cursors). At (record { positive = k.positive; cursors = x; table = table_at (table_number k.table) })) (cursors_back k.cursors) ∙ ap (λ (x : Option TableState). At (record { positive = k.positive; cursors = k.cursors; table = x })) (table_back k.table)
-instr_back (Weigh a b c d) = ap (λ (x : ScopeKind). Weigh a x (rounding_at (rounding_number c)) d) (scope_back b) ∙ ap (λ (x : Rounding). Weigh a b x d) (rounding_back c)
+    ap (λ (x : Cursors). At (record { positive = k.positive; cursors = x; table = table_at (table_number k.table) })) (cursors_known k.cursors).1 ∙ ap (λ (x : Option TableState). At (record { positive = k.positive; cursors = k.cursors; table = x })) (table_known k.table).1
+instr_back (Weigh a b c d) = ap (λ (x : ScopeKind). Weigh a x (rounding_at (rounding_number c)) d) (scope_known b).1 ∙ ap (λ (x : Rounding). Weigh a b x d) (rounding_known c).1
 instr_back i = refl
 
 pub same_instr : (i j : Instr) → opcode_of i ≡ opcode_of j → map value_of (operands_of i) ≡ map value_of (operands_of j) → i ≡ j

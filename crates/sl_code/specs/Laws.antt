@@ -1,5 +1,5 @@
 -- What the definitions of code files imply.
-use Rattle.std.specs.Prelude.{◌≡◌, ℕ, List, All, Result, Ok, Err, ◌⊎◌}
+use Rattle.std.specs.Prelude.{◌≡◌, ◌≢◌, ℕ, ◌<◌, List, All, Result, Ok, Err, ◌⊎◌}
 use Rattle.sl_stages.specs.declared.limits.TheConstants.{MAX_STAGES}
 use Rattle.sl_code.specs.declared.code.TheConstants.{MAX_SLOTS, MAX_INSTRS}
 use Rattle.sl_code.specs.declared.fault.CodeFault.{CodeFault}
@@ -21,6 +21,13 @@ OneFault = (bytes : List ℕ) (a b : CodeFault) → IsFault bytes a → IsFault 
 
 abbrev pub SpellingOrFault : Type 0
 SpellingOrFault = (c : CountingCode) (fault : CodeFault) → IsCode c → All IsStage c.stages → IsFault (spelling_of c) fault → ⊥
+
+abbrev pub IsByte : ℕ → Type 0
+IsByte b = b < 256
+
+abbrev pub CodeOrFault : Type 0
+CodeOrFault = (bytes : List ℕ) → All IsByte bytes
+    → ((c : CountingCode) × IsReading bytes (Ok c)) ⊎ ((fault : CodeFault) × IsReading bytes (Err fault) × (fault ≢ faults.NoMemory))
 
 abbrev pub ReadsBack : Type 0
 ReadsBack = (c : CountingCode) (answer : Result CountingCode CodeFault) → IsProper c → IsReading (spelling_of c) answer

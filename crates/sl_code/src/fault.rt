@@ -27,7 +27,7 @@ pub enum CodeFault {
 }
 
 /// What is wrong at a byte.
-#[derive(Clone, Copy, Debug, PartialEq, Eq)]
+#[derive(Clone, Copy)]
 pub(crate) enum Cause {
     Magic,
     Version,
@@ -38,14 +38,14 @@ pub(crate) enum Cause {
 }
 
 /// Why reading stopped, and how many bytes were left from there on.
-#[derive(Clone, Copy, Debug)]
+#[derive(Clone, Copy)]
 pub(crate) struct Stop {
     pub cause: Cause,
     pub left: usize,
 }
 
 /// Why nothing was read.
-#[derive(Clone, Copy, Debug)]
+#[derive(Clone, Copy)]
 pub(crate) enum Refusal {
     Stop(Stop),
     NoMemory,

@@ -8,8 +8,8 @@ ghost use Rattle.sl_code.specs.Operands.{is_scope, is_entries, is_ranking, is_in
 
 use crate::kinds::{Cursors, TableState};
 use crate::operand::{
-    END_FAULTS, ENTRY_KINDS, EndFault, Entries, INPUTS, Input, RANKINGS, ROUNDINGS, Ranking,
-    Rounding, SCOPE_KINDS, ScopeKind,
+    END_FAULTS, ENTRY_KINDS, EndFault, Entries, INPUTS, Input, RANKINGS, Ranking, Rounding,
+    SCOPE_KINDS, ScopeKind,
 };
 use sl_ratio::{DIVISORS, Divisor};
 use sl_stages::{SHAPES, Shape};
@@ -24,7 +24,7 @@ impl ScopeKind {
     pub(crate) fn from_number(number: u8) -> Option<ScopeKind>
         ensures { MatchOption result (is_scope number ≡ false) (λ x. scope_number x ≡ number) }
     {
-        SCOPE_KINDS.iter().copied().find(|x| x.number() == number)
+        SCOPE_KINDS.get(usize::from(number)).copied()
     }
 }
 
@@ -38,7 +38,7 @@ impl Entries {
     pub(crate) fn from_number(number: u8) -> Option<Entries>
         ensures { MatchOption result (is_entries number ≡ false) (λ x. entries_number x ≡ number) }
     {
-        ENTRY_KINDS.iter().copied().find(|x| x.number() == number)
+        ENTRY_KINDS.get(usize::from(number)).copied()
     }
 }
 
@@ -52,7 +52,7 @@ impl Ranking {
     pub(crate) fn from_number(number: u8) -> Option<Ranking>
         ensures { MatchOption result (is_ranking number ≡ false) (λ x. ranking_number x ≡ number) }
     {
-        RANKINGS.iter().copied().find(|x| x.number() == number)
+        RANKINGS.get(usize::from(number)).copied()
     }
 }
 
@@ -66,7 +66,7 @@ impl Input {
     pub(crate) fn from_number(number: u8) -> Option<Input>
         ensures { MatchOption result (is_input number ≡ false) (λ x. input_number x ≡ number) }
     {
-        INPUTS.iter().copied().find(|x| x.number() == number)
+        INPUTS.get(usize::from(number)).copied()
     }
 }
 
@@ -80,7 +80,7 @@ impl Rounding {
     pub(crate) fn from_number(number: u8) -> Option<Rounding>
         ensures { MatchOption result (is_rounding number ≡ false) (λ x. rounding_number x ≡ number) }
     {
-        ROUNDINGS.iter().copied().find(|x| x.number() == number)
+        Rounding::of(method_from_number(number)?)
     }
 }
 
@@ -152,11 +152,11 @@ impl TableState {
 pub(crate) fn method_from_number(number: u8) -> Option<Divisor>
     ensures { MatchOption result (is_method number ≡ false) (λ x. method_number x ≡ number) }
 {
-    DIVISORS.iter().copied().find(|x| x.number() == number)
+    DIVISORS.get(usize::from(number)).copied()
 }
 
 pub(crate) fn shape_from_number(number: u8) -> Option<Shape>
     ensures { MatchOption result (is_shape number ≡ false) (λ x. shape_number x ≡ number) }
 {
-    SHAPES.iter().copied().find(|x| x.number() == number)
+    SHAPES.get(usize::from(number)).copied()
 }

@@ -19,7 +19,7 @@ use sl_stages::Shape;
 use std::marker::Model;
 
 /// The bytes that are still to be read.
-#[derive(Debug, Drop)]
+#[derive(Drop)]
 pub(crate) struct Reader<'a> {
     rest: &'a [u8],
 }

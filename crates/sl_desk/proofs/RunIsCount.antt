@@ -1,5 +1,5 @@
 -- What running the file of a code writes is how the run of the code ends, and of a book's code what counting by the book writes.
-use Rattle.std.proofs.Common.{◌≡◌, ℕ, true, List, length, Option, None, Some, refl, sym, ap, subst, ◌∙◌}
+use Rattle.std.proofs.Common.{◌≡◌, ◌≢◌, ℕ, true, List, length, Option, None, Some, refl, sym, ap, subst, ◌∙◌}
 use Rattle.sl_stages.specs.book.Trees.{BookTree}
 use Rattle.sl_stages.specs.book.Typing.{is_typed}
 use Rattle.sl_stages.specs.returns.Election.{Election, IsElection}
@@ -8,8 +8,9 @@ use Rattle.sl_code.specs.Spelling.{spelling_of}
 use Rattle.sl_machine.specs.declared.machine.Ending.{Ending as Answer}
 use Rattle.sl_machine.specs.declared.machine.Ending.TheVariants as answer
 use Rattle.sl_machine.specs.Answers.{answer_of}
+use Rattle.sl_machine.specs.Laws.{NeverStuck}
 use Rattle.sl_machine.specs.Memories.{Held, held_of}
-use Rattle.sl_machine.specs.Runs.{Ended, budget_of, ending}
+use Rattle.sl_machine.specs.Runs.{Ending, Ended, OutOfBudget, Stuck, budget_of, ending}
 use Rattle.sl_machine.specs.State.{End, Halted, Faulted}
 use Rattle.sl_machine.specs.Tables.{held_table}
 use Rattle.sl_machine.specs.Unrecorded.{unrecorded, without_records}
@@ -21,24 +22,30 @@ use Rattle.sl_desk.specs.declared.refusal.CodeRefusal.{CodeRefusal}
 use Rattle.sl_desk.specs.declared.refusal.ReturnsRefusal.{ReturnsRefusal}
 use Rattle.sl_desk.specs.declared.report.Report.TheVariants.{Seats}
 use Rattle.sl_desk.specs.declared.status.Status.{Status}
+use Rattle.sl_desk.specs.declared.status.Status.TheVariants as status
 use Rattle.sl_desk.specs.declared.verdict.Verdict.{Verdict}
 use Rattle.sl_desk.specs.declared.verdict.Verdict.TheVariants.{Good, Refused}
-use Rattle.sl_desk.specs.Endings.{IsRunOutput}
-use Rattle.sl_desk.specs.Laws.{OneCodeVerdict, HasOneRun, RunsItsCode, RunIsCount}
+use Rattle.sl_desk.specs.Endings.{IsRunOutput, code_names, out_of_budget}
+use Rattle.sl_desk.specs.Laws.{OneCodeVerdict, NoOtherCodeVerdict, OneRun, HasOneRun, RunsItsCode, RunIsCount}
 use Rattle.sl_desk.specs.Counting.{IsTreeOutput, IsCount}
+use Rattle.sl_desk.specs.CodeFiles.{IsCodeVerdict, code_line}
 use Rattle.sl_desk.specs.Running.{IsCodeOutput, IsRun, IsRunCode}
-use Rattle.sl_desk.specs.Returns.{IsReturnsVerdict}
+use Rattle.sl_table.specs.Faults.{fault_text}
+use Rattle.sl_table.specs.Short.{short_text}
+use Rattle.sl_verify.specs.WellKinded.{IsWellKinded}
+use Rattle.sl_desk.specs.Returns.{IsReturnsVerdict, returns_line}
 use Rattle.sl_desk.proofs.CodeLengths.{file_fits}
 use Rattle.sl_desk.proofs.OneMeaning.{same_short}
 use Rattle.sl_desk.proofs.OneOutput.{one_returns_verdict}
+use Rattle.sl_desk.proofs.OneVerdict.{one_returns}
 use Rattle.sl_desk.proofs.Outcomes.{tree_output}
 use Rattle.sl_desk.specs.Counting.{ShowsSeats}
 
-module _ (one_verdict : OneCodeVerdict) where
+module _ (no_other : NoOtherCodeVerdict) where
   pub runs_its_code : RunsItsCode
   runs_its_code c returns ends output proper kinded = (
     (λ h. subst (λ (v : Verdict CountingCode CodeRefusal). IsRun v returns ends output)
-        (one_verdict (spelling_of c) h.0 (Good c) h.1 (file_fits c proper, (refl, proper), kinded)) h.2),
+        (no_other (spelling_of c) h.0 (Good c) h.1 (file_fits c proper, (refl, proper), kinded)) h.2),
     (λ h. (Good c, (file_fits c proper, (refl, proper), kinded), h)),
   )
 
@@ -62,7 +69,45 @@ module _ (one_verdict : OneCodeVerdict) where
 
   pub one_output_of_runs : HasOneRun
   one_output_of_runs file returns a b s t h k =
-      one_run h.0 returns a b s t h.2 (subst (λ (v : Verdict CountingCode CodeRefusal). IsRun v returns b t) (sym (one_verdict file h.0 k.0 h.1 k.1)) k.2)
+      one_run h.0 returns a b s t h.2 (subst (λ (v : Verdict CountingCode CodeRefusal). IsRun v returns b t) (sym (no_other file h.0 k.0 h.1 k.1)) k.2)
+
+-- ---- an output
+
+module _ (one_verdict : OneCodeVerdict) (no_other : NoOtherCodeVerdict) (never_stuck : NeverStuck) where
+  abbrev SomeOutput : (Status → List ℕ → Type 0) → Type 0
+  SomeOutput Is = (o : Status × List ℕ) × Is o.0 o.1
+
+  ended : (c : CountingCode) (e : Election) (end : Ending) → end ≢ Stuck → SomeOutput (IsRunOutput c e (answer_of c e end))
+  ended c e (Ended (Halted base vacant s)) told = ((status.Done, short_text (held_table e (held_of c e base vacant s)) e), (refl, refl))
+  ended c e (Ended (Faulted f)) told = ((status.Legal, fault_text (code_names c) e f), (refl, refl))
+  ended c e OutOfBudget told = ((status.Budget, out_of_budget), (refl, refl))
+  ended c e Stuck told = absurd (told refl)
+
+  code_output : (c : CountingCode) (returns : List ℕ) (v : Verdict Election ReturnsRefusal) → IsWellKinded c → IsReturnsVerdict returns v → SomeOutput (IsCodeOutput c v)
+  code_output c returns (Refused why) kinded judged = ((status.Refused, returns_line why), (refl, refl))
+  code_output c returns (Good e) kinded judged =
+      let budget : ℕ = budget_of (length c.stages) e in
+      ended c e (ending c e budget) (never_stuck c e kinded (read_is (records_in returns) e judged.1) budget)
+
+  run_output : (file returns : List ℕ) (v : Verdict CountingCode CodeRefusal) → IsCodeVerdict file v → SomeOutput (IsRunCode file returns)
+  run_output file returns (Refused why) judged = ((status.Refused, code_line why), (Refused why, judged, (refl, refl)))
+  run_output file returns (Good c) judged =
+      let read = one_returns returns in
+      let out = code_output c returns read.one judged.2 read.is in
+      (out.0, (Good c, judged, (read.one, read.is, out.1)))
+
+  same_output : (o p : Status × List ℕ) → (o.0 ≡ p.0) × (o.1 ≡ p.1) → o ≡ p
+  same_output (a, s) (b, t) same = cc
+
+  pub one_run_of_bytes : OneRun
+  one_run_of_bytes file returns are =
+      let v = one_verdict file are in
+      let out = run_output file returns v.one v.is in
+      record {
+        one = out.0;
+        is = out.1;
+        only = λ o h. same_output o out.0 (one_output_of_runs no_other file returns o.0 out.0.0 o.1 out.0.1 h out.1);
+      }
 
 -- ---- the code of a book
 
@@ -89,7 +134,7 @@ module _ (b : BookTree) (c : CountingCode) (is : IsCompiled b c) (typed : is_typ
   pub run_counts : (returns : List ℕ) (ends : Status) (output : List ℕ) → IsRun (Good c) returns ends output → IsCount ShowsSeats (Good b) returns ends output
   run_counts returns ends output h = (h.0, h.1, code_counts returns h.0 ends output h.1 h.2)
 
-pub run_is_count : OneCodeVerdict → RunIsCount
-run_is_count one_verdict b file text returns ends output typed h run =
+pub run_is_count : NoOtherCodeVerdict → RunIsCount
+run_is_count no_other b file text returns ends output typed h run =
     run_counts b h.code h.compiled typed returns ends output
-    ((runs_its_code one_verdict h.code returns ends output h.proper h.kinded).0 (subst (λ bytes. IsRunCode bytes returns ends output) h.spelled run))
+    ((runs_its_code no_other h.code returns ends output h.proper h.kinded).0 (subst (λ bytes. IsRunCode bytes returns ends output) h.spelled run))

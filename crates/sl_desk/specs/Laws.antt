@@ -1,6 +1,7 @@
 -- The laws of verdicts, and of what is written.
-use Rattle.std.specs.Prelude.{◌≡◌, ◌↔◌, ℕ, true, List}
+use Rattle.std.specs.Prelude.{◌≡◌, ◌↔◌, ℕ, true, List, All}
 use Rattle.sl_code.specs.Codes.{CountingCode}
+use Rattle.sl_code.specs.Laws.{IsByte}
 use Rattle.sl_code.specs.Proper.{IsProper}
 use Rattle.sl_code.specs.Spelling.{spelling_of}
 use Rattle.sl_stages.specs.book.Trees.{BookTree}
@@ -45,9 +46,17 @@ HasOneStage = (name : List ℕ) (input : BookInput) (returns : List ℕ) (a b : 
 abbrev pub HasOneCheck : Type 0
 HasOneCheck = (input : BookInput) (a b : Status) (s t : List ℕ) → IsCheckOutput input a s → IsCheckOutput input b t → (a ≡ b) × (s ≡ t)
 
--- the bytes of a code file come to at most one verdict
+-- the bytes of a code file come to exactly one verdict
 abbrev pub OneCodeVerdict : Type 0
-OneCodeVerdict = (bytes : List ℕ) (v w : Verdict CountingCode CodeRefusal) → IsCodeVerdict bytes v → IsCodeVerdict bytes w → v ≡ w
+OneCodeVerdict = (bytes : List ℕ) → All IsByte bytes → ExactlyOne (IsCodeVerdict bytes)
+
+-- and numbers that are no bytes to at most one
+abbrev pub NoOtherCodeVerdict : Type 0
+NoOtherCodeVerdict = (numbers : List ℕ) (v w : Verdict CountingCode CodeRefusal) → IsCodeVerdict numbers v → IsCodeVerdict numbers w → v ≡ w
+
+-- running the bytes of a code file has exactly one output
+abbrev pub OneRun : Type 0
+OneRun = (file returns : List ℕ) → All IsByte file → ExactlyOne (λ (o : Status × List ℕ). IsRunCode file returns o.0 o.1)
 
 -- two outputs of running the same inputs are one
 abbrev pub HasOneRun : Type 0

@@ -1,7 +1,7 @@
 //! Laws of verdicts, and of what is written.
 
 ghost use Rattle.std.specs.Prelude.{◌≡◌};
-ghost use Rattle.sl_desk.specs.Laws.{OneBookVerdict, OneReturnsVerdict, OneCodeVerdict, HasOneOutput, HasOneStage, HasOneCheck, HasOneRun, RunsItsCode, RunIsCount};
+ghost use Rattle.sl_desk.specs.Laws.{OneBookVerdict, OneReturnsVerdict, OneCodeVerdict, NoOtherCodeVerdict, HasOneOutput, HasOneStage, HasOneCheck, OneRun, HasOneRun, RunsItsCode, RunIsCount};
 
 use crate::limits::{MAX_BOOK_BYTES, MAX_CODE_BYTES, MAX_RETURNS_BYTES};
 
@@ -65,21 +65,25 @@ pub fn books_have_one_check()
     sl_parse::laws::no_fault_of_a_book();
 }
 
-/// The bytes of a code file come to at most one verdict: a good code, or one refusal.
+/// The bytes of a code file come to exactly one verdict: a good code, or one refusal.
 pub fn code_files_have_one_verdict()
-    ensures { OneCodeVerdict }
+    ensures one { OneCodeVerdict }
+    ensures no_other { NoOtherCodeVerdict }
 {
+    sl_code::laws::code_or_fault();
     sl_code::laws::one_code();
     sl_code::laws::one_fault();
     sl_code::laws::spelling_or_fault();
     sl_verify::laws::fault_or_kinds();
 }
 
-/// The bytes of a code file and of returns have at most one output: a status and a text.
+/// The bytes of a code file and of returns have exactly one output: a status and a text.
 pub fn runs_have_one_output()
-    ensures { HasOneRun }
+    ensures one { OneRun }
+    ensures no_other { HasOneRun }
 {
     code_files_have_one_verdict();
+    sl_machine::laws::never_stuck();
 }
 
 /// Running the file of a code writes how the run of that code ends; and of a code that counts as a book means, what counting by the book writes.

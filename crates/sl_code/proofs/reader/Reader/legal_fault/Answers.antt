@@ -1,6 +1,6 @@
 use Rattle.std.proofs.Common.{rules}
-use Rattle.sl_code.proofs.Failing.{failing}
+use Rattle.sl_code.proofs.Failing.{more_two}
 use Rattle.sl_code.proofs.reader.Reader.legal_fault.Goals as goal
 
 pub returns-in_err-stage-clause-err : goal.returns-in_err-stage-clause-err
-returns-in_err-stage-clause-err c = search (rules, failing)
+returns-in_err-stage-clause-err c = search (rules, more_two)

@@ -1,5 +1,5 @@
-use Rattle.sl_code.proofs.Pieces.{slots_stop}
+use Rattle.sl_code.proofs.Pieces.{list_stops}
 use Rattle.sl_code.proofs.reader.Reader.slots.Goals as goal
 
 pub returns-clause-err : goal.returns-clause-err
-returns-clause-err c = slots_stop c.slot_list.result _ _ _ c.in_ok-count.ensures.ok.0 c.in_ok-count.ensures.ok.1 c.slot_list.ensures.err
+returns-clause-err c = list_stops _ _ _ _ _ _ c.slot_list.result _ _ _ c.in_ok-count.ensures.ok.0 c.in_ok-count.ensures.ok.1 c.slot_list.ensures.err
