@@ -1,4 +1,4 @@
--- What each instruction does, in the terms of the definition, where it has what it needs: one lemma for each of its ways.
+-- What instructions do, in the terms of the definition, where they have what they need: one lemma for each way that a proof asks for.
 pub mod Registers
 pub mod Cursors
 pub mod Table

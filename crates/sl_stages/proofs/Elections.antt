@@ -17,13 +17,7 @@ use Rattle.sl_stages.specs.returns.Election.{Election, IsElection, IsWin, IsLot,
 
 -- a winner stays one as Länder and parties join
 win_stays : (lands parties more_lands more_parties : ℕ) → lands ≤ more_lands → parties ≤ more_parties → (w : Win) → IsWin lands parties w → IsWin more_lands more_parties w
-win_stays lands parties more_lands more_parties lands_grow parties_grow w is = record {
-  land = let h = is.land in omega arith;
-  party = λ n e. let h = is.party n e in omega arith;
-  least = is.least;
-  most = is.most;
-  valid = is.valid;
-}
+win_stays lands parties more_lands more_parties lands_grow parties_grow w is = grind (arith, is.party)
 
 wins_stay : (e : Election) (lands parties : ℕ) → IsElection e → length e.land_names ≤ lands → length e.party_names ≤ parties → All (IsWin lands parties) e.wins
 wins_stay e lands parties is lands_grow parties_grow =
@@ -31,12 +25,7 @@ wins_stay e lands parties is lands_grow parties_grow =
 
 -- a lot stays one as Länder, parties and winners join
 lot_stays : (lands parties winners more_lands more_parties more_winners : ℕ) → lands ≤ more_lands → parties ≤ more_parties → winners ≤ more_winners → (l : Lot) → IsLot lands parties winners l → IsLot more_lands more_parties more_winners l
-lot_stays lands parties winners more_lands more_parties more_winners lands_grow parties_grow winners_grow l is = record {
-  stage = is.stage;
-  land = λ n e. let h = is.land n e in omega arith;
-  party = λ n e. let h = is.party n e in omega arith;
-  win = λ n e. let h = is.win n e in omega arith;
-}
+lot_stays lands parties winners more_lands more_parties more_winners lands_grow parties_grow winners_grow l is = grind (arith, is.land, is.party, is.win)
 
 lots_stay : (e : Election) (lands parties winners : ℕ) → IsElection e → length e.land_names ≤ lands → length e.party_names ≤ parties → length e.win_names ≤ winners → All (IsLot lands parties winners) e.lots
 lots_stay e lands parties winners is lands_grow parties_grow winners_grow =

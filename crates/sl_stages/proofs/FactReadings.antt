@@ -1,10 +1,13 @@
 -- What the facts of the returns say: who is eligible, and how the winners of a Land are parted.
-use Rattle.std.proofs.Common.{◌≡◌, ℕ, zero, suc, ◌+◌, ◌*◌, ◌<◌, ◌≤◌, ◌&&◌, Bool, true, false, not, cond, List, [], ◌∷◌, Option, Some, None, is_none, is_some, nat_eq, length, get_or, count_by, arith, refl, sym, ap, subst, ◌∙◌, inl, inr}
-use Rattle.std.specs.Prelude.{if◌then◌else◌, Contains, slice_get, slice_index_or, sum_by}
-use Rattle.std.specs.List.{All, list_any, range_with_len}
-use Rattle.std.proofs.lemmas.Bool.{cases_eq, cases_lt, or_cases, or_left, or_right, and_parts, and_left, and_right, eq-eqb, ne_eqb, leb-true, le-leb, both_ways, false≢true}
+use Rattle.std.proofs.Common.{◌≡◌, ℕ, zero, suc, ◌+◌, ◌*◌, ◌<◌, ◌≤◌, ◌&&◌, Bool, true, false, not, cond, List, [], ◌∷◌, Option, Some, None, is_none, is_some, nat_eq, length, get_or, count_by, arith, refl, sym, ap, ◌∙◌, inl, inr}
+use Rattle.std.specs.Prelude.{if◌then◌else◌, slice_get, slice_index_or, sum_by}
+use Rattle.std.specs.List.{All, range_with_len}
+use Rattle.std.proofs.Math.Bool.{and-true}
+use Rattle.std.proofs.lemmas.Bool.{cases_eq, cases_lt, and_parts, and_left, and_right, eq-eqb, ne_eqb, leb-true, le-leb, both_ways, cond-true, cond-false, cond_both, false≢true}
 use Rattle.std.proofs.lemmas.List.{get_or_past}
-use Rattle.std.proofs.lemmas.List.Sums.{sum_by-cons}
+use Rattle.std.proofs.lemmas.List.Folds.{Any-from_list_any, list_any-from_Any}
+use Rattle.std.proofs.lemmas.List.Sums.{sum_by-cons, sum_by-le, sum_by-le-sum_by}
+use Rattle.std.proofs.lemmas.Option.{get_or_from_slice_get}
 use Rattle.std.proofs.lemmas.List.Elements.{All-head, All-tail, All-get_or}
 use Rattle.std.proofs.lemmas.List.FromFn.{get_or-map-range_with_len}
 use Rattle.sl_stages.specs.declared.book.Cond.{Cond}
@@ -17,6 +20,7 @@ use Rattle.sl_stages.specs.returns.Facts.{parties, list_cell, is_of, is_in, vali
 use Rattle.sl_stages.specs.laws.ReturnsLaws.{ListsAreNamed, MeetsCondition, EligibleParties, FactsOfLists, FactsOfLands}
 use Rattle.sl_stages.proofs.meaning.ListPlaces.{by_list_at}
 use Rattle.sl_stages.proofs.meaning.PlacedWinners.{when_both}
+use Rattle.sl_stages.proofs.meaning.TypedColumns.{nothing_counted}
 
 -- ---- lists
 
@@ -42,11 +46,6 @@ flag_at [] i h = absurd (false≢true h)
 flag_at (x ∷ flags) zero h = ap Some h
 flag_at (x ∷ flags) (suc i) h = flag_at flags i h
 
-at_flag : (flags : List Bool) (i : ℕ) → slice_get flags i ≡ Some true → slice_index_or flags i false ≡ true
-at_flag [] i h = cc
-at_flag (x ∷ flags) zero h = cc
-at_flag (x ∷ flags) (suc i) h = at_flag flags i h
-
 condition_met : (e : Election) (party : ℕ) (c : Cond) → meets e party c ≡ true → MeetsCondition e party c
 condition_met e party (condition.Valid n d) h = leb-true (n.value * all_valid_votes e) (d * valid_votes e party) h
 condition_met e party (condition.Winners least) h = leb-true least (count_by (is_of party) e.wins) h
@@ -56,47 +55,16 @@ condition_met e party condition.All h = tt
 met_condition : (e : Election) (party : ℕ) (c : Cond) → MeetsCondition e party c → meets e party c ≡ true
 met_condition e party (condition.Valid n d) h = le-leb (n.value * all_valid_votes e) (d * valid_votes e party) h
 met_condition e party (condition.Winners least) h = le-leb least (count_by (is_of party) e.wins) h
-met_condition e party condition.Minority h = at_flag e.minorities party h
+met_condition e party condition.Minority h = get_or_from_slice_get e.minorities party true false h
 met_condition e party condition.All h = refl
-
-some_condition : (p : Cond → Bool) (conditions : List Cond) → list_any p conditions ≡ true → (c : Cond) × Contains conditions c × (p c ≡ true)
-some_condition p [] h = absurd (false≢true h)
-some_condition p (c ∷ conditions) h =
-    elim (or_cases (p c) (list_any p conditions) h) [
-      | inl this ↦ (c, (0, omega arith, refl), this)
-      | inr other ↦
-          (let found = some_condition p conditions other in
-          (found.0, (suc found.1.0, (let within : found.1.0 < length conditions = found.1.1 in omega arith), found.1.2), found.2))
-    ]
-
-any_condition : (p : Cond → Bool) (conditions : List Cond) (c : Cond) (i : ℕ) → i < length conditions → get_or conditions i c ≡ c → p c ≡ true → list_any p conditions ≡ true
-any_condition p [] c i within is h = absurd (omega arith)
-any_condition p (d ∷ conditions) c zero within is h = or_left (p d) (list_any p conditions) (ap p is ∙ h)
-any_condition p (d ∷ conditions) c (suc i) within is h = or_right (p d) (list_any p conditions) (any_condition p conditions c i (omega arith) is h)
 
 pub eligible_parties : EligibleParties
 eligible_parties conditions e party = (
-  λ h. let found = some_condition (meets e party) conditions h in (found.0, found.1, condition_met e party found.0 found.2),
-  λ h. any_condition (meets e party) conditions h.0 h.1.0 h.1.1 h.1.2 (met_condition e party h.0 h.2),
+  λ h. let found = Any-from_list_any (meets e party) conditions h in (found.1, (found.0, found.2, found.3), condition_met e party found.1 found.4),
+  λ h. list_any-from_Any (meets e party) conditions (h.1.0, h.0, h.1.1, h.1.2, met_condition e party h.0 h.2),
 )
 
 -- ---- of a pair of Land and party
-
-when : (t : Bool) (n : ℕ) → t ≡ true → (if t then n else 0) ≡ n
-when true n h = refl
-when false n h = absurd (false≢true h)
-
-unless : (t : Bool) (n : ℕ) → t ≡ false → (if t then n else 0) ≡ 0
-unless false n h = refl
-unless true n h = absurd (false≢true (sym h))
-
-either_zero : (t : Bool) → (if t then 0 else 0) ≡ zero
-either_zero true = refl
-either_zero false = refl
-
-no_votes : (o : Option ListVotes) → is_some o ≡ false → counted_in o ≡ 0
-no_votes None h = refl
-no_votes (Some v) h = absurd (false≢true (sym h))
 
 pub facts_of_lists : FactsOfLists
 facts_of_lists conditions e land party in_lands in_parties =
@@ -107,17 +75,16 @@ facts_of_lists conditions e land party in_lands in_parties =
     by_list_at e (λ land party. if is_eligible conditions e party then counted_in (list_at e land party) else 0) land party in_lands in_parties in
     let winners : list_cell e (list_winners conditions e) land party ≡ (if takes_part conditions e land party then won else 0) =
     by_list_at e (λ land party. if takes_part conditions e land party then count_by (λ w. is_in land w && is_of party w) e.wins else 0) land party in_lands in_parties in
-    let none = no_votes (list_at e land party) in
     record {
-      counted = λ part. counted ∙ when eligible votes (and_parts eligible (has_list e land party) part).0;
-      winners = λ part. winners ∙ when (takes_part conditions e land party) won part;
+      counted = λ part. counted ∙ cond-true eligible votes 0 (and_parts eligible (has_list e land party) part).0;
+      winners = λ part. winners ∙ cond-true (takes_part conditions e land party) won 0 part;
       no_list = λ no. (
-        counted ∙ ap (λ n. if eligible then n else 0) (none no) ∙ either_zero eligible,
-        winners ∙ unless (takes_part conditions e land party) won (and_right eligible (has_list e land party) no),
+        counted ∙ nothing_counted eligible (list_at e land party) no,
+        winners ∙ cond-false (takes_part conditions e land party) won 0 (and_right eligible (has_list e land party) no),
       );
       not_eligible = λ no. (
-        counted ∙ unless eligible votes no,
-        winners ∙ unless (takes_part conditions e land party) won (and_left eligible (has_list e land party) no),
+        counted ∙ cond-false eligible votes 0 no,
+        winners ∙ cond-false (takes_part conditions e land party) won 0 (and_left eligible (has_list e land party) no),
       );
     }
 
@@ -139,16 +106,14 @@ one_term f q a (suc n) none from within =
     ]
 
 sum_each : (f g : ℕ → ℕ) → ((p : ℕ) → f p ≡ g p) → (ps : List ℕ) → sum_by f ps ≡ sum_by g ps
-sum_each f g same [] = refl
-sum_each f g same (p ∷ ps) = sum_by-cons f p ps ∙ omega (arith, same p, sum_each f g same ps, sum_by-cons g p ps)
+sum_each f g same ps = omega (arith, sum_by-le-sum_by f g ps (λ p. omega (arith, same p)), sum_by-le-sum_by g f ps (λ p. omega (arith, same p)))
 
 sum_both : (f g : ℕ → ℕ) (ps : List ℕ) → sum_by (λ p. f p + g p) ps ≡ sum_by f ps + sum_by g ps
 sum_both f g [] = refl
 sum_both f g (p ∷ ps) = sum_by-cons (λ p. f p + g p) p ps ∙ omega (arith, sum_both f g ps, sum_by-cons f p ps, sum_by-cons g p ps)
 
 sum_zeros_by : (ps : List ℕ) → sum_by (λ p. 0) ps ≡ 0
-sum_zeros_by [] = refl
-sum_zeros_by (p ∷ ps) = sum_by-cons (λ p. 0) p ps ∙ omega (arith, sum_zeros_by ps)
+sum_zeros_by ps = omega (arith, sum_by-le (λ p. 0) 0 ps (λ k d within. omega arith))
 
 count_more : (q : Win → Bool) (w : Win) (wins : List Win) → count_by q (w ∷ wins) ≡ cond (q w) 1 0 + count_by q wins
 count_more q w wins = sum_by-cons (λ w. cond (q w) 1 0) w wins
@@ -162,17 +127,12 @@ count_parted p q (w ∷ wins) =
       parted : (x y : Bool) → cond {A = ℕ} (x && y) 1 0 + cond (x && not y) 1 0 ≡ cond x 1 0
       parted true true = refl
       parted true false = refl
-      parted false true = refl
-      parted false false = refl
+      parted false y = refl
 
 count_within : (p q : Win → Bool) → ((w : Win) → p w ≡ true → q w ≡ true) → (wins : List Win) → count_by p wins ≤ count_by q wins
-count_within p q implies [] = omega arith
-count_within p q implies (w ∷ wins) =
-    let this : cond {A = ℕ} (p w) 1 0 ≤ cond (q w) 1 0 = no_more (p w) (q w) (implies w) in
-    omega (arith, count_within p q implies wins, this, count_more p w wins, count_more q w wins) where
-      no_more : (x y : Bool) → (x ≡ true → y ≡ true) → cond {A = ℕ} x 1 0 ≤ cond y 1 0
-      no_more false y h = omega arith
-      no_more true y h = subst (λ z. 1 ≤ cond z 1 0) (sym (h refl)) (omega arith)
+count_within p q implies wins =
+    sum_by-le-sum_by (λ w. cond (p w) 1 0) (λ w. cond (q w) 1 0) wins (λ w.
+    cond_both (p w) 1 0 (λ n. n ≤ cond (q w) 1 0) (λ h. omega (arith, cond-true {A = ℕ} (q w) 1 0 (implies w h))) (λ h. omega arith))
 
 module _ (conditions : List Cond) (e : Election) (land : ℕ) where
   -- the winner is of a list of that party in the Land
@@ -192,10 +152,7 @@ module _ (conditions : List Cond) (e : Election) (land : ℕ) where
       one_term f q 0 (parties_of e)
       (λ p other. ap (λ t. cond {A = ℕ} t 1 0) (and_right (takes_part conditions e land p) (nat_eq w.land land && nat_eq q p) (and_right (nat_eq w.land land) (nat_eq q p) (ne_eqb q p other))))
       (omega arith) (let h = within q refl in omega (arith, h))
-      ∙ ap (λ t. cond {A = ℕ} t 1 0) (sym (when_both (is_eligible conditions e) e land q w q) ∙ ap (λ t. (nat_eq w.land land && t) && takes_part conditions e w.land q) (eq-eqb q q refl) ∙ dropped (nat_eq w.land land) (takes_part conditions e w.land q)) where
-        dropped : (x y : Bool) → (x && true) && y ≡ x && y
-        dropped true y = refl
-        dropped false y = refl
+      ∙ ap (λ t. cond {A = ℕ} t 1 0) (sym (when_both (is_eligible conditions e) e land q w q) ∙ ap (λ t. (nat_eq w.land land && t) && takes_part conditions e w.land q) (eq-eqb q q refl) ∙ ap (λ t. t && takes_part conditions e w.land q) (and-true (nat_eq w.land land)))
 
   more_on : (p : ℕ) (w : Win) (wins : List Win) →
       (if takes_part conditions e land p then count_by (λ w. is_in land w && is_of p w) (w ∷ wins) else 0)
@@ -210,7 +167,7 @@ module _ (conditions : List Cond) (e : Election) (land : ℕ) where
       sum_by (λ p. if takes_part conditions e land p then count_by (λ w. is_in land w && is_of p w) wins else 0) (parties e)
       ≡ count_by (λ w. is_in land w && is_on_list conditions e w) wins
   on_lists [] each =
-      sum_each (λ p. if takes_part conditions e land p then 0 else 0) (λ p. 0) (λ p. either_zero (takes_part conditions e land p)) (parties e) ∙ sum_zeros_by (parties e)
+      sum_each (λ p. if takes_part conditions e land p then 0 else 0) (λ p. 0) (λ p. cond_both (takes_part conditions e land p) 0 0 (λ n. n ≡ 0) (λ h. refl) (λ h. refl)) (parties e) ∙ sum_zeros_by (parties e)
   on_lists (w ∷ wins) each =
       let here : ℕ → ℕ = λ p. cond (of_list w p) 1 0 in
       let rest : ℕ → ℕ = λ p. if takes_part conditions e land p then count_by (λ w. is_in land w && is_of p w) wins else 0 in

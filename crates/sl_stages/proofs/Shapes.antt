@@ -15,14 +15,12 @@ same_shape_is _ _ h = cc
 
 pub same_shape_self : (a : Shape) → same_shape a a ≡ true
 same_shape_self shape.One = refl
-same_shape_self shape.Party = refl
-same_shape_self shape.Land = refl
-same_shape_self shape.List = refl
+same_shape_self _ = refl
 
 pub same_unit_is : (a b : Units) → same_unit a b ≡ true → a ≡ b
-same_unit_is unit.Seats unit.Seats h = refl
-same_unit_is unit.Votes unit.Votes h = refl
-same_unit_is _ _ h = cc
+same_unit_is unit.Seats unit.Votes h = cc
+same_unit_is unit.Votes unit.Seats h = cc
+same_unit_is _ _ h = refl
 
 pub same_unit_self : (a : Units) → same_unit a a ≡ true
 same_unit_self unit.Seats = refl

@@ -1,5 +1,5 @@
 -- What is said of the table that is on, where there is a top.
-use Rattle.std.proofs.Common.{◌≡◌, ◌≢◌, ℕ, zero, suc, List, Option, Some, None, IsSome, option_map, refl, ap, ◌∙◌}
+use Rattle.std.proofs.Common.{◌≡◌, ◌≢◌, ℕ, suc, List, Option, Some, None, IsSome, option_map, refl, ap, ◌∙◌}
 use Rattle.std.specs.Option.{option_and_then}
 use Rattle.std.proofs.lemmas.Option.{same_Some}
 use Rattle.sl_ratio.specs.declared.entry.Entry.{Entry}
@@ -35,8 +35,5 @@ item_there (Some i) item go h = refl
 pub entry_there : (n : ℕ) (stage : Option ℕ) (scope : Option Scope) (table : Option PriorityTable) (index : PriorityTable → Option ℕ) (item : PriorityTable → ℕ → Item)
     (go : ℕ → Scope → PriorityTable → ℕ → Effect) → where_positive n (given stage (λ a. given scope (λ b. given table (λ t. given (index t) (λ i. go a b t i))))) ≢ NoCase
     → IsSome (option_and_then (λ t. option_map (item t) (index t)) table)
-entry_there zero stage scope table index item go h = absurd (h refl)
-entry_there (suc n) None scope table index item go h = absurd (h refl)
-entry_there (suc n) (Some a) None table index item go h = absurd (h refl)
-entry_there (suc n) (Some a) (Some b) None index item go h = absurd (h refl)
 entry_there (suc n) (Some a) (Some b) (Some t) index item go h = item_there (index t) (item t) (go a b t) h
+entry_there n stage scope table index item go h = absurd (h refl)

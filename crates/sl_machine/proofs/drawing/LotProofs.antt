@@ -1,5 +1,5 @@
 -- The machine's lot of a stage and the meaning's are one, and cover and draw alike.
-use Rattle.std.proofs.Common.{◌≡◌, ℕ, ◌+◌, ◌<◌, Bool, true, false, not, cond, List, [], ◌∷◌, length, map, filter_map, All, Option, Some, None, option_map, if◌then◌else◌, refl, sym, ap, subst, ◌∙◌, inl, inr, eq-eqb, eqb-true}
+use Rattle.std.proofs.Common.{rules, ◌≡◌, ℕ, ◌+◌, ◌<◌, Bool, true, false, not, cond, List, [], ◌∷◌, length, map, filter_map, All, Option, Some, None, option_map, if◌then◌else◌, refl, sym, ap, subst, ◌∙◌, inl, inr, eq-eqb, eqb-true}
 use Rattle.std.specs.Prelude.{nat_eq, position, slice_get}
 use Rattle.std.specs.List.{prefix_len, cons_option}
 use Rattle.std.specs.Option.{ForSome}
@@ -39,10 +39,8 @@ same_item_is (item.Win v) (item.Win w) h = ap item.Win (eqb-true v w h)
 same_item_is x y h = cc
 
 same_item_itself : (x : Item) → same_item x x ≡ true
-same_item_itself (item.Party p) = eq-eqb p p refl
-same_item_itself (item.Land l) = eq-eqb l l refl
 same_item_itself (item.List l p) = rw (eq-eqb l l refl, eq-eqb p p refl) refl
-same_item_itself (item.Win w) = eq-eqb w w refl
+same_item_itself x = search (rules, eq-eqb)
 
 module _ (e : Election) (k : Entries) where
   -- items that stand at their places are the same if their places are
@@ -89,15 +87,11 @@ module _ (e : Election) where
 
   party_given : (l : Lot) (land party : Option ℕ) → ForSome (given_entry shape.Party (record l { land = land; party = party })) (λ x. item_of e entries.Party (place e x) ≡ x)
   party_given l None (Some p) y h = given_some entries.Party (item.Party p) y refl h
-  party_given l None None y h = cc
-  party_given l (Some n) None y h = cc
-  party_given l (Some n) (Some p) y h = cc
+  party_given l land party y h = cc
 
   land_given : (l : Lot) (land party : Option ℕ) → ForSome (given_entry shape.Land (record l { land = land; party = party })) (λ x. item_of e entries.Land (place e x) ≡ x)
   land_given l (Some n) None y h = given_some entries.Land (item.Land n) y refl h
-  land_given l None None y h = cc
-  land_given l None (Some p) y h = cc
-  land_given l (Some n) (Some p) y h = cc
+  land_given l land party y h = cc
 
   list_is : (n p : ℕ) → p < parties_of e → item_of e entries.List (place e (item.List n p)) ≡ item.List n p
   list_is n p below =
@@ -108,9 +102,7 @@ module _ (e : Election) where
   list_given : (l : Lot) (land party : Option ℕ) → ForSome party (λ p. p < parties_of e)
       → ForSome (given_entry shape.List (record l { land = land; party = party })) (λ x. item_of e entries.List (place e x) ≡ x)
   list_given l (Some n) (Some p) below y h = given_some entries.List (item.List n p) y (list_is n p (below p refl)) h
-  list_given l (Some n) None below y h = cc
-  list_given l None None below y h = cc
-  list_given l None (Some p) below y h = cc
+  list_given l land party below y h = cc
 
   chosen_win : (b : Bool) (w : ℕ) (y : Item) → (if b then Some (item.Win w) else None) ≡ Some y → item_of e entries.Win (place e y) ≡ y
   chosen_win true w y h = given_some entries.Win (item.Win w) y refl h
@@ -118,9 +110,7 @@ module _ (e : Election) where
 
   win_given : (l : Lot) (land party win : Option ℕ) → ForSome (given_winner e (record l { land = land; party = party; win = win })) (λ x. item_of e entries.Win (place e x) ≡ x)
   win_given l (Some n) (Some p) (Some w) y h = chosen_win (is_winner_of n p (slice_get e.wins w)) w y h
-  win_given l (Some n) (Some p) None y h = cc
-  win_given l (Some n) None win y h = cc
-  win_given l None party win y h = cc
+  win_given l land party win y h = cc
 
   lot_given : (k : Entries) (l : Lot) → ForSome l.party (λ p. p < parties_of e) → ForSome (given_in e k l) (λ x. item_of e k (place e x) ≡ x)
   lot_given entries.Party l below = party_given l l.land l.party

@@ -4,7 +4,7 @@ use Rattle.std.specs.Prelude.{◌==◌, if◌then◌else◌}
 use Rattle.std.specs.Option.{option_map, option_map_or, ForSome}
 use Rattle.std.specs.Ordering.{is_lt}
 use Rattle.std.specs.declared.cmp.Ordering.{Ordering}
-use Rattle.std.specs.declared.cmp.Ordering.TheVariants.{Less, Equal, Greater}
+use Rattle.std.specs.declared.cmp.Ordering.TheVariants.{Less}
 use Rattle.std.proofs.lemmas.Bool.{cases_Bool, cases_eq}
 use Rattle.std.proofs.lemmas.Option.{same_Some}
 use Rattle.sl_ratio.specs.declared.entry.Entry.{Entry}
@@ -29,9 +29,6 @@ use Rattle.sl_machine.proofs.Priorities.{table_with}
 -- ---- the names that are passed over
 
 -- before the first draw there are none
-pub none_passed : (lot : List ℕ) (xs : List Entry) → IsPassed lot 0 xs
-none_passed lot xs = λ k d l. omega arith
-
 pub no_draws : (lot : List ℕ) (xs : List Entry) (n : ℕ) → n ≡ 0 → IsPassed lot n xs
 no_draws lot xs n e = λ k d l. omega (arith, e)
 
@@ -53,8 +50,7 @@ passed_still kind k is pick lot at n xs held = λ other is_too another at_too.
 
 less : (o : Ordering) → is_lt o ≡ true → o ≡ Less
 less Less h = refl
-less Equal h = cc
-less Greater h = cc
+less o h = cc
 
 behind : (o : Option Entry) (entry : Entry) → option_map_or (λ first. is_lt (compare entry.ratio first.ratio)) o false ≡ true
     → (first : Entry) × (o ≡ Some first) × (compare entry.ratio first.ratio ≡ Less)
@@ -115,9 +111,7 @@ stage_lot c e n k is =
 
 lot_of_stage : (e : Election) (k : Entries) (name : List ℕ) → lot_in k (stage_lots e name) ≡ lot_of e k name
 lot_of_stage e entries.Party name = refl
-lot_of_stage e entries.Land name = refl
-lot_of_stage e entries.List name = refl
-lot_of_stage e entries.Win name = refl
+lot_of_stage e k name = refl
 
 -- what the stage's lot does in a table, by the stage's name
 pub by_name : (e : Election) (table : Option PriorityTable) (lots : List StageLots) (k : ℕ) (name : Option (List ℕ)) (go : PriorityTable → List ℕ → Effect)

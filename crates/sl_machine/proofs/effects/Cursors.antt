@@ -1,14 +1,13 @@
 -- The instructions on cursors.
-use Rattle.std.proofs.Common.{◌≡◌, ℕ, zero, suc, ◌+◌, ◌<◌, ◌≤◌, Bool, true, false, nat_lt, Option, Some, None, slice_get, if◌then◌else◌, refl, ap, ◌∙◌, arith}
+use Rattle.std.proofs.Common.{◌≡◌, ℕ, zero, suc, ◌+◌, ◌<◌, Bool, true, false, nat_lt, Option, Some, None, slice_get, if◌then◌else◌, refl, ap, ◌∙◌, arith}
 use Rattle.std.specs.Option.{option_and_then}
-use Rattle.std.proofs.lemmas.Bool.{lt-ltb, le-ltb}
 use Rattle.sl_stages.specs.declared.returns.Win.{Win}
-use Rattle.sl_stages.specs.returns.Election.{Election, lands_of, parties_of, wins_of, has_list}
+use Rattle.sl_stages.specs.returns.Election.{Election, has_list}
 use Rattle.sl_code.specs.declared.instr.Instr.TheVariants as instr
 use Rattle.sl_code.specs.Codes.{CountingCode}
 use Rattle.sl_machine.specs.State.{State}
 use Rattle.sl_machine.specs.Places.{both}
-use Rattle.sl_machine.specs.Effects.{Goes, Jumps, winner_at, to_party, first_of, next_of, with_party, with_land, with_win, effect}
+use Rattle.sl_machine.specs.Effects.{Goes, Jumps, winner_at, to_party, first_of, next_of, with_party, with_land, effect}
 use Rattle.sl_machine.proofs.effects.Registers.{given_is}
 
 pub both_are : {A : Type 0} (a b : Option ℕ) (f : ℕ → ℕ → A) (x y : ℕ) → a ≡ Some x → b ≡ Some y → both a b f ≡ Some (f x y)
@@ -56,41 +55,3 @@ module _ (c : CountingCode) (e : Election) (s : State) where
 
     pub wland_does : effect c e instr.Wland s ≡ Goes (with_land (Some w.land) s)
     wland_does = given_is (winner_at e s) w (λ x. Goes (with_land (Some x.land) s)) winner
-
-  -- ---- the first one, and none
-  pub fparty_falls : (t : ℕ) → 0 < parties_of e → effect c e (instr.Fparty t) s ≡ Goes (with_party (Some 0) s)
-  fparty_falls t h = first_some s (parties_of e) with_party h
-
-  pub fparty_jumps : (t : ℕ) → parties_of e ≡ 0 → effect c e (instr.Fparty t) s ≡ Jumps (with_party None s)
-  fparty_jumps t h = first_none s (parties_of e) with_party h
-
-  pub fland_falls : (t : ℕ) → 0 < lands_of e → effect c e (instr.Fland t) s ≡ Goes (with_land (Some 0) s)
-  fland_falls t h = first_some s (lands_of e) with_land h
-
-  pub fland_jumps : (t : ℕ) → lands_of e ≡ 0 → effect c e (instr.Fland t) s ≡ Jumps (with_land None s)
-  fland_jumps t h = first_none s (lands_of e) with_land h
-
-  pub fwin_falls : (t : ℕ) → 0 < wins_of e → effect c e (instr.Fwin t) s ≡ Goes (with_win (Some 0) s)
-  fwin_falls t h = first_some s (wins_of e) with_win h
-
-  pub fwin_jumps : (t : ℕ) → wins_of e ≡ 0 → effect c e (instr.Fwin t) s ≡ Jumps (with_win None s)
-  fwin_jumps t h = first_none s (wins_of e) with_win h
-
-  -- ---- the next one, and the last
-  pub nparty_jumps : (t p : ℕ) → s.party ≡ Some p → p + 1 < parties_of e → effect c e (instr.Nparty t) s ≡ Jumps (with_party (Some (p + 1)) s)
-  nparty_jumps t p is h = next_is s (parties_of e) with_party s.party p true is (lt-ltb (p + 1) (parties_of e) h)
-
-  pub nparty_falls : (t p : ℕ) → s.party ≡ Some p → parties_of e ≤ p + 1 → effect c e (instr.Nparty t) s ≡ Goes (with_party None s)
-  nparty_falls t p is h = next_is s (parties_of e) with_party s.party p false is (le-ltb (p + 1) (parties_of e) h)
-
-  pub nland_jumps : (t l : ℕ) → s.land ≡ Some l → l + 1 < lands_of e → effect c e (instr.Nland t) s ≡ Jumps (with_land (Some (l + 1)) s)
-  nland_jumps t l is h = next_is s (lands_of e) with_land s.land l true is (lt-ltb (l + 1) (lands_of e) h)
-
-  pub nland_falls : (t l : ℕ) → s.land ≡ Some l → lands_of e ≤ l + 1 → effect c e (instr.Nland t) s ≡ Goes (with_land None s)
-  nland_falls t l is h = next_is s (lands_of e) with_land s.land l false is (le-ltb (l + 1) (lands_of e) h)
-
-  pub nwin_jumps : (t w : ℕ) → s.win ≡ Some w → w + 1 < wins_of e → effect c e (instr.Nwin t) s ≡ Jumps (with_win (Some (w + 1)) s)
-  nwin_jumps t w is h = next_is s (wins_of e) with_win s.win w true is (lt-ltb (w + 1) (wins_of e) h)
-
-  pub nwin_falls : (t w : ℕ) → s.win ≡ Some w → wins_of e ≤ w + 1 → effect c e (instr.Nwin t) s ≡ Goes (with_win None s)
-  nwin_falls t w is h = next_is s (wins_of e) with_win s.win w false is (le-ltb (w + 1) (wins_of e) h)

@@ -1,8 +1,7 @@
 -- The instructions that record seats and weights, that seat winners, and that end a run.
-use Rattle.std.proofs.Common.{◌≡◌, ℕ, suc, min, Bool, true, false, map, Option, Some, None, slice_get, if◌then◌else◌, ap, ◌∙◌}
+use Rattle.std.proofs.Common.{◌≡◌, ℕ, suc, min, Bool, true, map, Option, Some, slice_get, if◌then◌else◌, refl, ap, ◌∙◌}
 use Rattle.sl_ratio.specs.declared.entry.Entry.{Entry}
 use Rattle.sl_ratio.specs.declared.limits.TheConstants.{MAX_WEIGHT}
-use Rattle.sl_stages.specs.declared.book.Shape.{Shape}
 use Rattle.sl_stages.specs.declared.fault.FaultKind.{FaultKind}
 use Rattle.sl_stages.specs.declared.fault.FaultKind.TheVariants as fault
 use Rattle.sl_stages.specs.declared.fault.Scope.{Scope}
@@ -19,7 +18,7 @@ use Rattle.sl_code.specs.declared.operand.Rounding.{Rounding}
 use Rattle.sl_code.specs.declared.operand.ScopeKind.{ScopeKind}
 use Rattle.sl_code.specs.Codes.{CountingCode}
 use Rattle.sl_prio.specs.Prio.{top, peers}
-use Rattle.sl_machine.specs.State.{State, PriorityTable, Halted, Faulted, with_place}
+use Rattle.sl_machine.specs.State.{State, PriorityTable, Faulted, with_place}
 use Rattle.sl_machine.specs.Places.{index_at, item_of, scope_at}
 use Rattle.sl_code.specs.Numbers.{divisor_of}
 use Rattle.sl_machine.specs.Effects.{Effect, Goes, Ends, given, at_scope, records, weighs, faults, seat_winner, stage_of, kind_of, with_step, with_weight, effect}
@@ -44,9 +43,7 @@ module _ (c : CountingCode) (e : Election) (s : State) where
       weight_of by w = record { stage = stage; scope = x; entry = item_of e t.entries index; divisor = divisor_of by; weight = min w MAX_WEIGHT }
 
       records_is : (number step : ℕ) (m : Mark) → records c e n k number step m s ≡ Goes (with_step (seat_of number step m) s)
-      records_is number step m =
-          let put : ℕ → Scope → PriorityTable → ℕ → Effect = λ j y u i. Goes (with_step (record { stage = j; scope = y; entry = item_of e u.entries i; n = number; step = step; mark = m }) s) in
-          at_scope_is (λ j y. given s.table (λ u. given (index_at e u.entries s) (λ i. put j y u i))) ∙ entry_is (put stage x)
+      records_is number step m = at_scope_is _ ∙ entry_is (λ u i. Goes (with_step (record { stage = stage; scope = x; entry = item_of e u.entries i; n = number; step = step; mark = m }) s))
 
       pub emit_does : (number step : ℕ) → effect c e (instr.Emit n k number step) s ≡ Goes (with_step (seat_of (s.registers number) (s.registers step) s.mark) s)
       emit_does number step = records_is (s.registers number) (s.registers step) s.mark
@@ -56,9 +53,8 @@ module _ (c : CountingCode) (e : Election) (s : State) where
 
       pub weigh_does : (by : Rounding) (r w : ℕ) → s.registers r ≡ suc w → effect c e (instr.Weigh n k by r) s ≡ Goes (with_weight (weight_of by (s.registers r)) s)
       weigh_does by r w positive =
-          let put : ℕ → Scope → PriorityTable → ℕ → Effect = λ j y u i. Goes (with_weight (record { stage = j; scope = y; entry = item_of e u.entries i; divisor = divisor_of by; weight = min (s.registers r) MAX_WEIGHT }) s) in
-          positive_is (s.registers r) w (weighs c e n k by (s.registers r) s) positive
-          ∙ at_scope_is (λ j y. given s.table (λ u. given (index_at e u.entries s) (λ i. put j y u i))) ∙ entry_is (put stage x)
+          positive_is (s.registers r) w (weighs c e n k by (s.registers r) s) positive ∙ at_scope_is _
+          ∙ entry_is (λ u i. Goes (with_weight (record { stage = stage; scope = x; entry = item_of e u.entries i; divisor = divisor_of by; weight = min (s.registers r) MAX_WEIGHT }) s))
 
     -- ---- legal faults
     faults_is : (why : FaultKind) → faults c e n k why s ≡ Ends (Faulted (record { stage = stage; scope = x; kind = why }))
@@ -70,9 +66,7 @@ module _ (c : CountingCode) (e : Election) (s : State) where
     pub tie_ends : (r : ℕ) (t : PriorityTable) (first : Entry) → s.table ≡ Some t → top t.contents ≡ Some first
         → effect c e (instr.Tie n k r) s ≡ Ends (Faulted (record { stage = stage; scope = x; kind = fault.Tie (s.registers r) (map (λ y. item_of e t.entries y.index) (peers t.contents)) }))
     tie_ends r t first table some =
-        let tied : PriorityTable → Effect = λ u. faults c e n k (fault.Tie (s.registers r) (map (λ y. item_of e u.entries y.index) (peers u.contents))) s in
-        given_is s.table t (λ u. given (top u.contents) (λ y. tied u)) table
-        ∙ given_is (top t.contents) first (λ y. tied t) some
+        given_is s.table t _ table ∙ given_is (top t.contents) first _ some
         ∙ faults_is (fault.Tie (s.registers r) (map (λ y. item_of e t.entries y.index) (peers t.contents)))
 
   -- ---- winners
@@ -82,26 +76,8 @@ module _ (c : CountingCode) (e : Election) (s : State) where
 
     module _ (winner : Win) (is : slice_get e.wins w ≡ Some winner) where
       seats_is : (party : Option ℕ) → winner.party ≡ party → effect c e instr.Seat s ≡ seat_winner w party (has_list e winner.land) s
-      seats_is party of =
-          given_is s.win w (λ v. given (slice_get e.wins v) (λ y. seat_winner v y.party (has_list e y.land) s)) win
-          ∙ given_is (slice_get e.wins w) winner (λ y. seat_winner w y.party (has_list e y.land) s) is
-          ∙ ap (λ (o : Option ℕ). seat_winner w o (has_list e winner.land) s) of
+      seats_is party of = rw (win, is, of) refl
 
       -- on the list of a party that has one there
       pub seat_does : (p : ℕ) → winner.party ≡ Some p → has_list e winner.land p ≡ true → effect c e instr.Seat s ≡ Goes (with_place w placed.OnList s)
       seat_does p of listed = seats_is (Some p) of ∙ ap (λ (b : Bool). if b then Goes (with_place w placed.OnList s) else Goes s) listed
-
-      pub seat_unlisted : (p : ℕ) → winner.party ≡ Some p → has_list e winner.land p ≡ false → effect c e instr.Seat s ≡ Goes s
-      seat_unlisted p of listed = seats_is (Some p) of ∙ ap (λ (b : Bool). if b then Goes (with_place w placed.OnList s) else Goes s) listed
-
-      pub seat_independent : winner.party ≡ None → effect c e instr.Seat s ≡ Goes s
-      seat_independent of = seats_is None of
-
-  -- ---- halts
-  pub halt_ends : (k : ℕ) (x : Shape) → slice_get c.slots k ≡ Some x → effect c e (instr.Halt k) s ≡ Ends (Halted k None s)
-  halt_ends k x slot = given_is (slice_get c.slots k) x (λ y. Ends (Halted k None s)) slot
-
-  pub haltv_ends : (k v : ℕ) (x y : Shape) → slice_get c.slots k ≡ Some x → slice_get c.slots v ≡ Some y → effect c e (instr.Haltv k v) s ≡ Ends (Halted k (Some v) s)
-  haltv_ends k v x y slot vacant =
-      given_is (slice_get c.slots k) x (λ z. given (slice_get c.slots v) (λ u. Ends (Halted k (Some v) s))) slot
-      ∙ given_is (slice_get c.slots v) y (λ u. Ends (Halted k (Some v) s)) vacant

@@ -1,10 +1,9 @@
 -- The instructions on registers and columns, and the jumps that compare registers.
-use Rattle.std.proofs.Common.{◌≡◌, ◌≢◌, ◌⊎◌, ℕ, zero, suc, ◌+◌, ◌-◌, ◌*◌, ◌/◌, ◌%◌, ◌<◌, ◌≤◌, min, max, ◌==◌, Option, Some, None, slice_get, if◌then◌else◌, refl, ap, ◌∙◌, inl, inr, arith, ne_eqb}
-use Rattle.std.proofs.lemmas.Bool.{cases_lt, lt-ltb, le-ltb}
+use Rattle.std.proofs.Common.{◌≡◌, ◌≢◌, ℕ, suc, ◌+◌, ◌-◌, ◌/◌, ◌%◌, ◌<◌, ◌≤◌, min, max, ◌==◌, Option, Some, None, slice_get, if◌then◌else◌, refl, ap, arith, ne_eqb}
+use Rattle.std.proofs.lemmas.Bool.{lt-ltb, le-ltb}
 use Rattle.sl_stages.specs.declared.book.Shape.{Shape}
 use Rattle.sl_stages.specs.returns.Election.{Election}
 use Rattle.sl_code.specs.declared.instr.Instr.TheVariants as instr
-use Rattle.sl_code.specs.declared.kinds.Kinds.{Kinds}
 use Rattle.sl_code.specs.declared.operand.Input.{Input}
 use Rattle.sl_code.specs.Codes.{CountingCode}
 use Rattle.sl_machine.specs.State.{State, with_register, with_column, with_cell}
@@ -23,17 +22,11 @@ module _ (c : CountingCode) (e : Election) (s : State) where
   pub set_does : (r x : ℕ) → effect c e (instr.Set r x) s ≡ Goes (with_register r x s)
   set_does r x = refl
 
-  pub mov_does : (r q : ℕ) → effect c e (instr.Mov r q) s ≡ Goes (with_register r (s.registers q) s)
-  mov_does r q = refl
-
   pub add_does : (r q : ℕ) → effect c e (instr.Add r q) s ≡ Goes (with_register r (min (s.registers r + s.registers q) most) s)
   add_does r q = refl
 
   pub sub_does : (r q : ℕ) → effect c e (instr.Sub r q) s ≡ Goes (with_register r (s.registers r - s.registers q) s)
   sub_does r q = refl
-
-  pub mul_does : (r q : ℕ) → effect c e (instr.Mul r q) s ≡ Goes (with_register r (min (s.registers r * s.registers q) most) s)
-  mul_does r q = refl
 
   pub max_does : (r q : ℕ) → effect c e (instr.Max r q) s ≡ Goes (with_register r (max (s.registers r) (s.registers q)) s)
   max_does r q = refl
@@ -51,12 +44,6 @@ module _ (c : CountingCode) (e : Election) (s : State) where
   house_missing r is = ap (λ (o : Option ℕ). sets_house r o s) is
 
   -- ---- jumps
-  pub at_does : (k : Kinds) → effect c e (instr.At k) s ≡ Goes s
-  at_does k = refl
-
-  pub jmp_jumps : (t : ℕ) → effect c e (instr.Jmp t) s ≡ Jumps s
-  jmp_jumps t = refl
-
   pub jz_jumps : (r t : ℕ) → s.registers r ≡ 0 → effect c e (instr.Jz r t) s ≡ Jumps s
   jz_jumps r t h = ap (λ (n : ℕ). if n == 0 then Jumps s else Goes s) h
 
@@ -65,38 +52,19 @@ module _ (c : CountingCode) (e : Election) (s : State) where
       let other : s.registers r ≢ 0 = λ z. omega arith in
       ap (λ b. if b then Jumps s else Goes s) (ne_eqb (s.registers r) 0 other)
 
-  -- it jumps at 0, and falls through with a positive number
-  pub jz_ways : (r t : ℕ) → ((s.registers r ≡ 0) × (effect c e (instr.Jz r t) s ≡ Jumps s)) ⊎ ((w : ℕ) × (s.registers r ≡ suc w) × (effect c e (instr.Jz r t) s ≡ Goes s))
-  jz_ways r t = of (s.registers r) refl
-    where
-      of : (n : ℕ) → s.registers r ≡ n → ((s.registers r ≡ 0) × (effect c e (instr.Jz r t) s ≡ Jumps s)) ⊎ ((w : ℕ) × (s.registers r ≡ suc w) × (effect c e (instr.Jz r t) s ≡ Goes s))
-      of zero h = inl (h, jz_jumps r t h)
-      of (suc w) h = inr (w, h, jz_falls r t w h)
-
   pub jlt_jumps : (l r t : ℕ) → s.registers l < s.registers r → effect c e (instr.Jlt l r t) s ≡ Jumps s
   jlt_jumps l r t h = ap (λ b. if b then Jumps s else Goes s) (lt-ltb (s.registers l) (s.registers r) h)
 
   pub jlt_falls : (l r t : ℕ) → s.registers r ≤ s.registers l → effect c e (instr.Jlt l r t) s ≡ Goes s
   jlt_falls l r t h = ap (λ b. if b then Jumps s else Goes s) (le-ltb (s.registers l) (s.registers r) h)
 
-  pub jlt_ways : (l r t : ℕ) → ((s.registers l < s.registers r) × (effect c e (instr.Jlt l r t) s ≡ Jumps s)) ⊎ ((s.registers r ≤ s.registers l) × (effect c e (instr.Jlt l r t) s ≡ Goes s))
-  jlt_ways l r t =
-      elim (cases_lt (s.registers l) (s.registers r)) [
-        | inl below ↦ inl (below, jlt_jumps l r t below)
-        | inr high ↦ inr (high, jlt_falls l r t high)
-      ]
-
   -- ---- columns
   module _ (k : ℕ) (shape : Shape) (slot : slice_get c.slots k ≡ Some shape) where
     pub get_does : (r p : ℕ) → cell_at e shape s ≡ Some p → effect c e (instr.Get r k) s ≡ Goes (with_register r (s.columns k p) s)
-    get_does r p cell =
-        given_is (slice_get c.slots k) shape (λ x. given (cell_at e x s) (λ place. sets r (s.columns k place) s)) slot
-        ∙ given_is (cell_at e shape s) p (λ place. sets r (s.columns k place) s) cell
+    get_does r p cell = rw (slot, cell) refl
 
     pub store_does : (r p : ℕ) → cell_at e shape s ≡ Some p → effect c e (instr.Store k r) s ≡ Goes (with_cell k p (s.registers r) s)
-    store_does r p cell =
-        given_is (slice_get c.slots k) shape (λ x. given (cell_at e x s) (λ place. Goes (with_cell k place (s.registers r) s))) slot
-        ∙ given_is (cell_at e shape s) p (λ place. Goes (with_cell k place (s.registers r) s)) cell
+    store_does r p cell = rw (slot, cell) refl
 
     pub zero_does : effect c e (instr.Zero k) s ≡ Goes (with_column k (λ p. 0) s)
     zero_does = given_is (slice_get c.slots k) shape (λ x. Goes (with_column k (λ p. 0) s)) slot

@@ -1,9 +1,5 @@
 -- Registers, cells and columns that were written, as they are read again.
-use Rattle.std.proofs.Common.{◌≡◌, ◌≢◌, ℕ, ◌<◌, Bool, List, length, map, get_or, set, if◌then◌else◌, refl, sym, ap, ◌∙◌, inl, inr, arith, eq-eqb, ne_eqb}
-use Rattle.std.specs.List.{range_with_len}
-use Rattle.std.proofs.lemmas.Bool.{cases_eq}
-use Rattle.std.proofs.lemmas.Grind.{get_or-set_at}
-use Rattle.std.proofs.lemmas.List.{length-set, get_or-set_other}
+use Rattle.std.proofs.Common.{◌≡◌, ◌≢◌, ℕ, ◌<◌, Bool, List, length, get_or, if◌then◌else◌, refl, ap, arith, eq-eqb, ne_eqb}
 use Rattle.std.proofs.lemmas.List.FromFn.{fill_by_all, length-map-range_with_len, get_or-map-range_with_len}
 use Rattle.sl_stages.specs.declared.book.Shape.TheVariants as shape
 use Rattle.sl_stages.specs.returns.Election.{Election}
@@ -52,29 +48,3 @@ module _ (c : CountingCode) (e : Election) where
     -- the list of a column is any list of that length with those cells
     pub column_by_cells : (xs : List ℕ) → length xs ≡ width_of k → ((p : ℕ) → p < width_of k → get_or xs p 0 ≡ s.columns k p) → xs ≡ column_of c e s k
     column_by_cells xs long cells = fill_by_all (s.columns k) xs (width_of k) 0 long cells
-
-  -- a slot whose cells stay
-  pub column_kept : (s t : State) (k : ℕ) → ((p : ℕ) → t.columns k p ≡ s.columns k p) → column_of c e t k ≡ column_of c e s k
-  column_kept s t k same = column_by_cells s k (column_of c e t k) (column_long t k) (λ p within. column_at t k p within ∙ same p)
-
-  module _ (s : State) (k : ℕ) where
-    -- after a cell is stored
-    pub column_stored : (p v : ℕ) → p < width_of k → column_of c e (with_cell k p v s) k ≡ set (column_of c e s k) p v
-    column_stored p v within =
-        let xs = column_of c e s k in
-        let there : p < length xs = omega (arith, column_long s k) in
-        sym (column_by_cells (with_cell k p v s) k (set xs p v) (length-set xs p v ∙ column_long s k) (λ q low.
-        elim (cases_eq q p) [
-          | inl here ↦ get_or-set_at xs p q v 0 here there ∙ sym (cell_same s k p v) ∙ ap (λ (r : ℕ). (with_cell k p v s).columns k r) (sym here)
-          | inr other ↦ get_or-set_other xs p q v 0 other ∙ column_at s k q low ∙ sym (cell_other_place s k p v q other)
-        ]))
-
-    pub column_stored_other : (p v j : ℕ) → j ≢ k → column_of c e (with_cell k p v s) j ≡ column_of c e s j
-    column_stored_other p v j other = column_kept s (with_cell k p v s) j (λ q. cell_other_slot s k p v j q other)
-
-    -- after a whole column is written
-    pub column_written : (f : ℕ → ℕ) → column_of c e (with_column k f s) k ≡ map f (range_with_len 0 (width_of k))
-    column_written f = ap (λ (g : ℕ → ℕ). map g (range_with_len 0 (width_of k))) (column_same s k f)
-
-    pub column_written_other : (f : ℕ → ℕ) (j : ℕ) → j ≢ k → column_of c e (with_column k f s) j ≡ column_of c e s j
-    column_written_other f j other = ap (λ (g : ℕ → ℕ). map g (range_with_len 0 (width_of j))) (column_other s k f j other)

@@ -1,12 +1,12 @@
 -- Pieces of runs: a step, one piece after another, and more steps than are needed.
-use Rattle.std.proofs.Common.{◌≡◌, ℕ, zero, suc, ◌+◌, ◌-◌, ◌≤◌, Some, slice_get, ap, subst, ◌∙◌, arith}
+use Rattle.std.proofs.Common.{◌≡◌, ℕ, suc, ◌+◌, ◌-◌, ◌≤◌, Some, slice_get, ap, subst, ◌∙◌, arith}
 use Rattle.sl_stages.specs.returns.Election.{Election}
 use Rattle.sl_code.specs.Codes.{CountingCode}
 use Rattle.sl_code.specs.declared.instr.Instr.{Instr}
 use Rattle.sl_code.specs.Rows.{target_of}
 use Rattle.sl_machine.specs.State.{State, End}
 use Rattle.sl_machine.specs.Effects.{Goes, Jumps, Ends, effect}
-use Rattle.sl_machine.specs.Runs.{Step, To, Over, Nowhere, Ending, Ended, step, after_step, run}
+use Rattle.sl_machine.specs.Runs.{Ended, run}
 use Rattle.sl_machine.specs.Comes.{Comes, Finishes}
 use Rattle.sl_machine.proofs.runs.Stepping.{step_goes, step_jumps, step_ends, run_on, run_over}
 
@@ -62,15 +62,3 @@ module _ (c : CountingCode) (e : Election) where
   ended a n p s x piece h =
       let rest : n ≡ piece.steps + (n - piece.steps) = omega (arith, piece.within) in
       ap (λ (k : ℕ). run c e k p s) rest ∙ piece.ends (n - piece.steps)
-
-  ended_after : (y : Step) (f g : ℕ → State → Ending) (x : End) → ((q : ℕ) (t : State) → f q t ≡ Ended x → g q t ≡ Ended x) → after_step y f ≡ Ended x → after_step y g ≡ Ended x
-  ended_after (To q t) f g x more h = more q t h
-  ended_after (Over y) f g x more h = h
-  ended_after Nowhere f g x more h = h
-
-  -- a run that ended ends alike with more steps
-  pub stays_ended : (n more p : ℕ) (s : State) (x : End) → run c e n p s ≡ Ended x → run c e (n + more) p s ≡ Ended x
-  stays_ended zero more p s x h = cc
-  stays_ended (suc n) more p s x h =
-      let one : suc n + more ≡ suc (n + more) = omega arith in
-      ap (λ (k : ℕ). run c e k p s) one ∙ ended_after (step c e p s) (run c e n) (run c e (n + more)) x (λ q t. stays_ended n more q t x) h

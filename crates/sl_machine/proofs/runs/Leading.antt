@@ -1,6 +1,5 @@
 -- What a step from a safe place comes to, by a run that keeps what it records or drops it.
 use Rattle.std.proofs.Common.{◌≡◌, ℕ, suc, ◌+◌, Option, Some, IsSome, IsTrue, is_some, slice_get, refl, sym, ap, subst, ◌∙◌}
-use Rattle.std.proofs.lemmas.Bool.{true≢false}
 use Rattle.std.proofs.lemmas.Option.{same_Some}
 use Rattle.sl_stages.specs.returns.Election.{Election}
 use Rattle.sl_code.specs.Codes.{CountingCode}
@@ -29,10 +28,7 @@ use Rattle.sl_machine.proofs.runs.Unrecorded.{still_safe, still_fits, left_is, g
 -- what ends a run records nothing
 no_record : (k : Records) (i : Instr) (x : Effect) → IsTrue (ends_run i) → left_by k i x ≡ x
 no_record k (op.Fault n scope f) x ends = refl
-no_record k (op.Tie n scope r) x ends = refl
-no_record k (op.Halt slot) x ends = refl
-no_record k (op.Haltv slot vacant) x ends = refl
-no_record k _ x ends = absurd (true≢false (sym ends))
+no_record k i x ends = cc
 
 module _ {c : CountingCode} {e : Election} {p : ℕ} {s : State} (safe : IsSafe c e p s) {i : Instr} (at : slice_get c.instrs p ≡ Some i) where
   next : StepsSafely c e p s

@@ -1,13 +1,10 @@
 -- The instructions that enter entries in the table keep what is known.
-use Rattle.std.proofs.Common.{◌≡◌, ℕ, suc, ◌+◌, ◌*◌, ◌<◌, Bool, not, IsTrue, Option, Some, None, IsSome, IsSomeAnd, refl, sym, subst, ◌∙◌, arith, mul-le-mul_right, suc-mul, min, ◌≤◌, if◌then◌else◌}
+use Rattle.std.proofs.Common.{◌≡◌, ℕ, suc, ◌+◌, ◌*◌, ◌<◌, Bool, not, IsTrue, Option, Some, None, IsSome, IsSomeAnd, refl, sym, subst, ◌∙◌, arith, mul-le-mul_right, suc-mul, ◌≤◌, if◌then◌else◌}
 use Rattle.std.specs.Option.{ForSome}
-use Rattle.std.proofs.lemmas.Bool.{and_parts, both_ways, true≢false}
-use Rattle.std.proofs.lemmas.List.Elements.{All-nil}
+use Rattle.std.proofs.lemmas.Bool.{and_parts, both_ways}
 use Rattle.sl_ratio.specs.declared.entry.Entry.{Entry}
-use Rattle.sl_ratio.specs.declared.method.Divisor.{Divisor}
-use Rattle.sl_ratio.specs.declared.limits.TheConstants.{MAX_WEIGHT, MAX_SEATS}
-use Rattle.sl_ratio.specs.Quotient.{Quotient, quotient}
-use Rattle.sl_stages.specs.returns.Election.{Election, IsElection, IsWin, lands_of, parties_of, wins_of}
+use Rattle.sl_ratio.specs.Quotient.{Quotient}
+use Rattle.sl_stages.specs.returns.Election.{Election, IsElection, lands_of, parties_of, wins_of}
 use Rattle.sl_code.specs.Codes.{CountingCode}
 use Rattle.sl_code.specs.declared.instr.Instr.{Instr}
 use Rattle.sl_code.specs.declared.instr.Instr.TheVariants as op
@@ -26,8 +23,8 @@ use Rattle.sl_machine.specs.Safe.{IsInRange, entries_in}
 use Rattle.sl_machine.specs.Agrees.{AreSet, IsTable, HasTable}
 use Rattle.sl_machine.proofs.soundness.Sets.{set_covered}
 use Rattle.sl_machine.proofs.soundness.TableLemmas.{inserted_all, inserted_some}
-use Rattle.sl_machine.proofs.soundness.Keeping.{Keeps, Follows, keeps_table, follows_given, follows_either, follows_positive, same_entries-is, same_ranking-is, same_ranking-itself, IsSound}
-use Rattle.sl_machine.proofs.soundness.KeptCursors.{winner_there}
+use Rattle.sl_machine.proofs.soundness.Keeping.{Keeps, Follows, keeps_table, follows_given, follows_either, same_entries-is, same_ranking-is, same_ranking-itself, IsSound}
+use Rattle.sl_machine.proofs.soundness.KeptCursors.{winner_here}
 
 -- a table that is known to be on and to pass a test
 pub record IsKnown (p : TableState → Bool) (known : Option TableState) (t : PriorityTable) : Type 0 where
@@ -61,9 +58,8 @@ cursor_there (Some x) n h below = below x refl
 
 list_there : (land party : Option ℕ) (lands parties : ℕ) → IsSome land → IsSome party → ForSome land (λ l. l < lands) → ForSome party (λ p. p < parties)
     → IsSomeAnd (both land party (λ l p. l * parties + p)) (λ x. x < lands * parties)
-list_there None party lands parties h g below_land below_party = cc
-list_there (Some l) None lands parties h g below_land below_party = cc
 list_there (Some l) (Some p) lands parties h g below_land below_party = list_below l p lands parties (below_land l refl) (below_party p refl)
+list_there land party lands parties h g below_land below_party = cc
 
 -- the entry at the cursors is in range
 pub index_there : (e : Election) (kind : Entries) (s : State) → AreSet (entry_cursors kind) s.party s.land s.win → IsInRange e s
@@ -74,10 +70,6 @@ index_there e entries.List s set range = list_there s.land s.party (lands_of e) 
 index_there e entries.Win s set range = cursor_there s.win (wins_of e) (set.win refl) range.win
 
 module _ (c : CountingCode) (e : Election) (k : Kinds) (s : State) (h : Keeps e k s) where
-  pub table_follows : (kind : Entries) (by : Ranking) → IsSound c e k s (op.Table kind by)
-  table_follows kind by n =
-      keeps_table e k s h _ _ (record { entries = refl; ranking = refl; ready = λ t. absurd (true≢false (sym t)) }) (All-nil (λ x. x.index < entries_in e kind))
-
   module _ (p : TableState → Bool) (t : PriorityTable) (now_is : s.table ≡ Some t) (known : IsKnown p k.table t) (q : Quotient) where
     abbrev with_index : ℕ → PriorityTable
     with_index index = with_entry (record { ratio = q; index = index }) t
@@ -103,7 +95,7 @@ module _ (c : CountingCode) (e : Election) (k : Kinds) (s : State) (h : Keeps e 
       if same_ranking by t.ranking then Goes (with_table (with_entry (record { ratio = q; index = index }) t) s) else NoCase))
 
   -- an entry of a party, a Land or a list
-  entry_follows : (i : Instr) (by : Ranking) (q : Quotient) → IsTrue (is_table (takes_entry by) k.table) → IsTrue (covers k.cursors (table_cursors k.table))
+  pub entry_follows : (i : Instr) (by : Ranking) (q : Quotient) → IsTrue (is_table (takes_entry by) k.table) → IsTrue (covers k.cursors (table_cursors k.table))
       → ((u : State) → Keeps e k u → Follows e k i (Goes u)) → Follows e k i (entry_of by q)
   entry_follows i by q table cursors goes =
       follows_given e k i (IsKnown (takes_entry by) k.table) s.table _ (table_there (takes_entry by) k.table s.table table h.agrees.table) (λ t now_is known.
@@ -112,22 +104,10 @@ module _ (c : CountingCode) (e : Election) (k : Kinds) (s : State) (h : Keeps e 
       let set = known_cursors (takes_entry by) k.table t known (set_covered k.cursors (table_cursors k.table) cursors h.agrees.cursors) in
       entering (takes_entry by) t now_is known q i by so set goes)
 
-  pub prio_follows : (m : Divisor) (r held : ℕ) → IsSound c e k s (op.Prio m r held)
-  prio_follows m r held n =
-      let i = op.Prio m r held in
-      follows_positive e k i (s.registers r) _ (h.agrees.positive r n.positive)
-      (entry_follows i ranking.Quotients (quotient m (min (s.registers r) MAX_WEIGHT) (min (s.registers held) MAX_SEATS)) n.table n.cursors (λ u a. a))
-
-  pub rest_follows : (r : ℕ) → IsSound c e k s (op.Rest r)
-  rest_follows r n = entry_follows (op.Rest r) ranking.Remainders (record { num = s.registers r + 1; den = 1 }) n.table n.cursors (λ u a. a)
-
-  pub lead_follows : IsSound c e k s op.Lead
-  lead_follows n = entry_follows op.Lead ranking.Remainders (record { num = 1; den = 0 }) n.table n.cursors (λ u a. a)
-
   pub share_follows : IsElection e → IsSound c e k s op.Share
   share_follows election n =
       let cursors = set_covered k.cursors win_cursor n.cursors h.agrees.cursors in
-      follows_given e k op.Share (IsWin (lands_of e) (parties_of e)) (winner_at e s) _ (winner_there e s election h.range.win (cursors.win refl)) (λ w is win.
+      follows_given e k op.Share _ (winner_at e s) _ (winner_here e k s h election n.cursors) (λ w is win.
       follows_given e k op.Share (IsKnown takes_share k.table) s.table _ (table_there takes_share k.table s.table n.table h.agrees.table) (λ t now_is known.
       let test = and_parts (same_entries known.state.entries entries.Win) (same_ranking known.state.ranking ranking.Quotients) known.passes in
       let wins : t.entries ≡ entries.Win = known.is.entries ∙ same_entries-is known.state.entries entries.Win test.0 in

@@ -1,20 +1,17 @@
 -- The instructions that record seats and weights, that seat winners and that end the run keep what is known.
-use Rattle.std.proofs.Common.{ℕ, ◌<◌, Bool, not, IsTrue, Option, Some, None, IsSomeAnd, slice_get, refl, sym, subst}
+use Rattle.std.proofs.Common.{ℕ, ◌<◌, Bool, not, IsTrue, Option, Some, None, IsSomeAnd, refl, sym, subst}
 use Rattle.std.specs.Bool.{⊤}
 use Rattle.std.proofs.lemmas.Bool.{and_parts}
 use Rattle.sl_stages.specs.declared.fault.Scope.{Scope}
 use Rattle.sl_stages.specs.declared.table.Mark.{Mark}
-use Rattle.sl_stages.specs.declared.table.Mark.TheVariants as mark
 use Rattle.sl_stages.specs.declared.table.Placed.{Placed}
 use Rattle.sl_stages.specs.declared.table.Placed.TheVariants as placed
-use Rattle.sl_stages.specs.returns.Election.{Election, wins_of, has_list}
+use Rattle.sl_stages.specs.returns.Election.{Election, wins_of}
 use Rattle.sl_code.specs.Codes.{CountingCode}
 use Rattle.sl_code.specs.declared.instr.Instr.{Instr}
 use Rattle.sl_code.specs.declared.instr.Instr.TheVariants as op
 use Rattle.sl_code.specs.declared.kinds.Kinds.{Kinds}
-use Rattle.sl_code.specs.declared.operand.EndFault.{EndFault}
 use Rattle.sl_code.specs.declared.operand.Entries.TheVariants as entries
-use Rattle.sl_code.specs.declared.operand.Rounding.{Rounding}
 use Rattle.sl_code.specs.declared.operand.ScopeKind.{ScopeKind}
 use Rattle.sl_code.specs.declared.operand.ScopeKind.TheVariants as kind
 use Rattle.sl_verify.specs.Kinds.{covers, same_entries, win_cursor}
@@ -25,13 +22,11 @@ use Rattle.sl_machine.specs.Places.{index_at, scope_at}
 use Rattle.sl_machine.specs.Effects.{Effect, Goes, given, at_scope, records, seat_winner, stage_of}
 use Rattle.sl_machine.specs.Safe.{entries_in}
 use Rattle.sl_machine.specs.Agrees.{AreSet}
-use Rattle.sl_prio.specs.Prio.{top}
 use Rattle.sl_machine.proofs.soundness.Sets.{set_covered}
-use Rattle.sl_machine.proofs.soundness.TableLemmas.{top_all}
-use Rattle.sl_machine.proofs.soundness.Keeping.{Keeps, Follows, keeps_records, follows_given, follows_either, follows_positive, get_some, IsSound}
+use Rattle.sl_machine.proofs.soundness.Keeping.{Keeps, Follows, keeps_records, follows_given, follows_either}
 use Rattle.sl_machine.proofs.soundness.KeptColumns.{set_some, both_set}
 use Rattle.sl_machine.proofs.soundness.KeptEntries.{IsKnown, table_there, cursor_there, index_there}
-use Rattle.sl_machine.proofs.soundness.KeptTables.{mapped_there, stage_there, is_ready}
+use Rattle.sl_machine.proofs.soundness.KeptTables.{mapped_there, chosen_there}
 
 scope_there : (scope : ScopeKind) (s : State) → AreSet (scope_cursors scope) s.party s.land s.win → IsSomeAnd (scope_at scope s) (λ x. ⊤)
 scope_there kind.All s set = tt
@@ -41,13 +36,13 @@ scope_there kind.List s set = both_set s.land s.party _ (set.land refl) (set.par
 
 module _ (c : CountingCode) (e : Election) (k : Kinds) (s : State) (h : Keeps e k s) where
   -- ---- a stage's scope, and an entry at the cursors
-  scope_follows : (i : Instr) (n : ℕ) (scope : ScopeKind) (go : ℕ → Scope → Effect) → IsTrue (has_stage (context_of c) n) → IsTrue (covers k.cursors (scope_cursors scope))
+  pub scope_follows : (i : Instr) (n : ℕ) (scope : ScopeKind) (go : ℕ → Scope → Effect) → IsTrue (has_stage (context_of c) n) → IsTrue (covers k.cursors (scope_cursors scope))
       → ((stage : ℕ) (x : Scope) → Follows e k i (go stage x)) → Follows e k i (at_scope c e n scope s go)
   scope_follows i n scope go stage cursors f =
-      follows_given e k i (λ x. ⊤) (stage_of c.stages n) _ (stage_there c n stage) (λ at is any.
+      follows_given e k i (λ x. ⊤) (stage_of c.stages n) _ (chosen_there c n _ _ stage) (λ at is any.
       follows_given e k i (λ x. ⊤) (scope_at scope s) _ (scope_there scope s (set_covered k.cursors (scope_cursors scope) cursors h.agrees.cursors)) (λ x found any_too. f at x))
 
-  entry_follows : (i : Instr) (go : PriorityTable → ℕ → Effect) → IsTrue (is_table (points_at k.cursors) k.table) → ((t : PriorityTable) (index : ℕ) → Follows e k i (go t index))
+  pub entry_follows : (i : Instr) (go : PriorityTable → ℕ → Effect) → IsTrue (is_table (points_at k.cursors) k.table) → ((t : PriorityTable) (index : ℕ) → Follows e k i (go t index))
       → Follows e k i (given s.table (λ t. given (index_at e t.entries s) (λ index. go t index)))
   entry_follows i go table f =
       follows_given e k i (IsKnown (points_at k.cursors) k.table) s.table _ (table_there (points_at k.cursors) k.table s.table table h.agrees.table) (λ t now_is known.
@@ -57,51 +52,18 @@ module _ (c : CountingCode) (e : Election) (k : Kinds) (s : State) (h : Keeps e 
       follows_given e k i (λ index. index < entries_in e t.entries) (index_at e t.entries s) _ (index_there e t.entries s here h.range) (λ index at below. f t index))
 
   -- ---- what is recorded
-  records_follows : (i : Instr) (n : ℕ) (scope : ScopeKind) (number step : ℕ) (m : Mark) → IsTrue (has_stage (context_of c) n) → IsTrue (covers k.cursors (scope_cursors scope))
+  pub records_follows : (i : Instr) (n : ℕ) (scope : ScopeKind) (number step : ℕ) (m : Mark) → IsTrue (has_stage (context_of c) n) → IsTrue (covers k.cursors (scope_cursors scope))
       → IsTrue (is_table (points_at k.cursors) k.table) → ((u : State) → Keeps e k u → Follows e k i (Goes u)) → Follows e k i (records c e n scope number step m s)
   records_follows i n scope number step m stage cursors table goes =
       scope_follows i n scope _ stage cursors (λ at x. entry_follows i _ table (λ t index. goes _ (keeps_records e k s h s.columns s.mark _ s.weights s.placed)))
 
-  pub emit_follows : (n : ℕ) (scope : ScopeKind) (number step : ℕ) → IsSound c e k s (op.Emit n scope number step)
-  emit_follows n scope number step needs =
-      records_follows (op.Emit n scope number step) n scope (s.registers number) (s.registers step) s.mark needs.columns needs.cursors needs.table (λ u a. a)
-
-  pub given_follows : (n : ℕ) (scope : ScopeKind) (number : ℕ) → IsSound c e k s (op.Given n scope number)
-  given_follows n scope number needs = records_follows (op.Given n scope number) n scope (s.registers number) 0 mark.Given needs.columns needs.cursors needs.table (λ u a. a)
-
-  pub weigh_follows : (n : ℕ) (scope : ScopeKind) (by : Rounding) (r : ℕ) → IsSound c e k s (op.Weigh n scope by r)
-  weigh_follows n scope by r needs =
-      let i = op.Weigh n scope by r in
-      follows_positive e k i (s.registers r) _ (h.agrees.positive r needs.positive)
-      (scope_follows i n scope _ needs.columns needs.cursors (λ at x. entry_follows i _ needs.table (λ t index. keeps_records e k s h s.columns s.mark s.steps _ s.placed)))
-
-  -- ---- ends
-  pub fault_follows : (n : ℕ) (scope : ScopeKind) (f : EndFault) → IsSound c e k s (op.Fault n scope f)
-  fault_follows n scope f needs = scope_follows (op.Fault n scope f) n scope _ needs.columns needs.cursors (λ at x. tt)
-
-  pub tie_follows : (n : ℕ) (scope : ScopeKind) (r : ℕ) → IsSound c e k s (op.Tie n scope r)
-  tie_follows n scope r needs =
-      let i = op.Tie n scope r in
-      follows_given e k i (IsKnown is_ready k.table) s.table _ (table_there is_ready k.table s.table needs.table h.agrees.table) (λ t now_is known.
-      follows_given e k i (λ x. x.index < entries_in e t.entries) (top t.contents) _ (top_all _ t.contents (known.is.ready known.passes) (h.range.table t now_is)) (λ first is below.
-      scope_follows i n scope _ needs.columns needs.cursors (λ at x. tt)))
-
   -- ---- winners
-  placed_there : (w : ℕ) (p : Placed) → Keeps e k (with_place w p s)
+  pub win_there : IsTrue (covers k.cursors win_cursor) → IsSomeAnd s.win (λ w. w < wins_of e)
+  win_there set = cursor_there s.win (wins_of e) ((set_covered k.cursors win_cursor set h.agrees.cursors).win refl) h.range.win
+
+  pub placed_there : (w : ℕ) (p : Placed) → Keeps e k (with_place w p s)
   placed_there w p = keeps_records e k s h s.columns s.mark s.steps s.weights _
 
-  pub single_follows : IsSound c e k s op.Single
-  single_follows n =
-      let cursors = set_covered k.cursors win_cursor n.cursors h.agrees.cursors in
-      follows_given e k op.Single (λ w. w < wins_of e) s.win _ (cursor_there s.win (wins_of e) (cursors.win refl) h.range.win) (λ w is below. placed_there w placed.Single)
-
-  seats_follow : (w : ℕ) (listed : ℕ → Bool) (party : Option ℕ) → Follows e k op.Seat (seat_winner w party listed s)
+  pub seats_follow : (w : ℕ) (listed : ℕ → Bool) (party : Option ℕ) → Follows e k op.Seat (seat_winner w party listed s)
   seats_follow w listed None = h
   seats_follow w listed (Some p) = follows_either e k op.Seat (listed p) (Goes (with_place w placed.OnList s)) (Goes s) (λ yes. placed_there w placed.OnList) (λ no. h)
-
-  pub seat_follows : IsSound c e k s op.Seat
-  seat_follows n =
-      let cursors = set_covered k.cursors win_cursor n.cursors h.agrees.cursors in
-      follows_given e k op.Seat (λ w. w < wins_of e) s.win _ (cursor_there s.win (wins_of e) (cursors.win refl) h.range.win) (λ w is below.
-      follows_given e k op.Seat (λ x. ⊤) (slice_get e.wins w) _ (get_some e.wins w below) (λ winner at any.
-      seats_follow w (has_list e winner.land) winner.party))

@@ -1,12 +1,13 @@
 -- The instructions that ask for the table's peers and take entries out keep what is known.
-use Rattle.std.proofs.Common.{◌≡◌, ◌≢◌, ℕ, zero, suc, ◌*◌, ◌/◌, ◌%◌, ◌<◌, Bool, true, false, ◌||◌, IsTrue, List, [], length, Option, Some, None, IsSomeAnd, All, ◌==◌, nat_lt, refl, sym, ap, subst, ◌∙◌, arith, mod-lt, div-lt_iff_lt-mul, slice_get, codes, option_map, if◌then◌else◌, ltb-true, eq-zero-or-pos, mul-zero, inl, inr}
+use Rattle.std.proofs.Common.{rules, ◌≡◌, ◌≢◌, ℕ, zero, suc, ◌*◌, ◌/◌, ◌%◌, ◌<◌, Bool, true, false, ◌||◌, IsTrue, List, [], length, Option, Some, None, IsSomeAnd, All, ◌==◌, nat_lt, refl, sym, ap, subst, ◌∙◌, arith, mod-lt, div-lt_iff_lt-mul, slice_get, option_map, if◌then◌else◌, ltb-true, eq-zero-or-pos, mul-zero, inl, inr}
 use Rattle.std.specs.Bool.{⊤}
 use Rattle.std.specs.Option.{ForSome}
 use Rattle.std.proofs.lemmas.Bool.{true≢false}
 use Rattle.std.proofs.lemmas.Option.{same_Some}
 use Rattle.sl_ratio.specs.declared.entry.Entry.{Entry}
-use Rattle.sl_stages.specs.returns.Election.{Election, lands_of, parties_of, wins_of}
+use Rattle.sl_stages.specs.returns.Election.{Election, lands_of, parties_of}
 use Rattle.sl_code.specs.Codes.{CountingCode}
+use Rattle.sl_code.specs.declared.code.CodeStage.{CodeStage}
 use Rattle.sl_code.specs.declared.instr.Instr.{Instr}
 use Rattle.sl_code.specs.declared.instr.Instr.TheVariants as op
 use Rattle.sl_code.specs.declared.kinds.Kinds.{Kinds}
@@ -22,14 +23,14 @@ use Rattle.sl_machine.specs.State.{State, PriorityTable}
 use Rattle.sl_machine.specs.Places.{at_entry}
 use Rattle.sl_prio.specs.Ranking.{without}
 use Rattle.sl_machine.specs.Drawn.{lot_of}
-use Rattle.sl_machine.specs.Effects.{Effect, Goes, Jumps, counts_peers, takes, mark_of, name_of, stage_of, with_lot}
+use Rattle.sl_machine.specs.Effects.{Effect, Goes, counts_peers, takes, mark_of, name_of, with_lot}
 use Rattle.sl_machine.specs.Safe.{entries_in}
 use Rattle.sl_machine.specs.Agrees.{IsTable, HasTable}
-use Rattle.sl_prio.specs.Prio.{top, peers, is_covered}
+use Rattle.sl_prio.specs.Prio.{top, peers}
 use Rattle.sl_prio.specs.Lot.{drawn}
 use Rattle.sl_machine.proofs.soundness.Sets.{positive_written}
 use Rattle.sl_machine.proofs.soundness.TableLemmas.{top_all, drawn_all, peers_some, without_all}
-use Rattle.sl_machine.proofs.soundness.Keeping.{Keeps, Follows, keeps_registers, keeps_records, keeps_cursors, keeps_known, keeps_table, follows_given, follows_either, get_some, IsSound}
+use Rattle.sl_machine.proofs.soundness.Keeping.{Keeps, Follows, keeps_registers, keeps_records, keeps_cursors, keeps_known, keeps_table, follows_given, get_some, IsSound}
 use Rattle.sl_machine.proofs.soundness.KeptCursors.{some_for}
 use Rattle.sl_machine.proofs.soundness.KeptEntries.{IsKnown, table_there}
 
@@ -50,44 +51,29 @@ list_parts index lands parties below =
 -- the cursors come to an entry in range
 pub pointed : (e : Election) (k : Kinds) (s : State) (kind : Entries) (index : ℕ) → index < entries_in e kind → Keeps e k s
     → Keeps e (record k { cursors = join k.cursors (entry_cursors kind) }) (at_entry e kind index s)
-pointed e k s entries.Party index below h =
-    keeps_cursors e k s h (join k.cursors (entry_cursors entries.Party)) (Some index) s.land s.win
-    (record { party = λ t. refl; land = λ t. h.agrees.cursors.land (either_none k.cursors.land t); win = λ t. h.agrees.cursors.win (either_none k.cursors.win t) })
-    (some_for (λ x. x < parties_of e) index below) h.range.land h.range.win
-pointed e k s entries.Land index below h =
-    keeps_cursors e k s h (join k.cursors (entry_cursors entries.Land)) s.party (Some index) s.win
-    (record { party = λ t. h.agrees.cursors.party (either_none k.cursors.party t); land = λ t. refl; win = λ t. h.agrees.cursors.win (either_none k.cursors.win t) })
-    h.range.party (some_for (λ x. x < lands_of e) index below) h.range.win
 pointed e k s entries.List index below h =
     let parts = list_parts index (lands_of e) (parties_of e) below in
-    keeps_cursors e k s h (join k.cursors (entry_cursors entries.List)) (Some (index % parties_of e)) (Some (index / parties_of e)) s.win
-    (record { party = λ t. refl; land = λ t. refl; win = λ t. h.agrees.cursors.win (either_none k.cursors.win t) })
-    (some_for (λ x. x < parties_of e) (index % parties_of e) parts.1) (some_for (λ x. x < lands_of e) (index / parties_of e) parts.0) h.range.win
-pointed e k s entries.Win index below h =
-    keeps_cursors e k s h (join k.cursors (entry_cursors entries.Win)) s.party s.land (Some index)
-    (record { party = λ t. h.agrees.cursors.party (either_none k.cursors.party t); land = λ t. h.agrees.cursors.land (either_none k.cursors.land t); win = λ t. refl })
-    h.range.party h.range.land (some_for (λ x. x < wins_of e) index below)
+    let win = h.agrees.cursors.win in
+    search (rules, keeps_cursors, some_for, either_none)
+pointed e k s kind index below h =
+    let party = h.agrees.cursors.party in
+    let land = h.agrees.cursors.land in
+    let win = h.agrees.cursors.win in
+    search (rules, keeps_cursors, some_for, either_none)
 
 -- ---- stages
-chosen_there : {A : Type 0} (last listed : Bool) (x : A) (other : Option A) → IsTrue (last || listed) → (IsTrue listed → IsSomeAnd other (λ y. ⊤))
-    → IsSomeAnd (if last then Some x else other) (λ y. ⊤)
-chosen_there true listed x other h f = tt
-chosen_there false listed x other h f = f h
-
 pub mapped_there : {A B : Type 0} (f : A → B) (o : Option A) → IsSomeAnd o (λ y. ⊤) → IsSomeAnd (option_map f o) (λ y. ⊤)
 mapped_there f None h = h
 mapped_there f (Some x) h = tt
 
-module _ (c : CountingCode) (n : ℕ) (h : IsTrue (has_stage (context_of c) n)) where
-  pub stage_there : IsSomeAnd (stage_of c.stages n) (λ y. ⊤)
-  stage_there =
-      chosen_there (n == LAST_CLAUSE) (nat_lt n (length c.stages)) (length c.stages) _ h (λ t.
-      mapped_there (λ stage. n) (slice_get c.stages n) (get_some c.stages n (ltb-true n (length c.stages) t)))
-
-  name_there : IsSomeAnd (name_of c.stages n) (λ y. ⊤)
-  name_there =
-      chosen_there (n == LAST_CLAUSE) (nat_lt n (length c.stages)) (codes "seats") _ h (λ t.
-      mapped_there (λ stage. stage.name) (slice_get c.stages n) (get_some c.stages n (ltb-true n (length c.stages) t)))
+-- what is told of a stage that there is, or of the last clause
+pub chosen_there : {A : Type 0} (c : CountingCode) (n : ℕ) (x : A) (f : CodeStage → A) → IsTrue (has_stage (context_of c) n)
+    → IsSomeAnd (if n == LAST_CLAUSE then Some x else option_map f (slice_get c.stages n)) (λ y. ⊤)
+chosen_there {A} c n x f h = of (n == LAST_CLAUSE) h
+  where
+    of : (last : Bool) → IsTrue (last || nat_lt n (length c.stages)) → IsSomeAnd {T = A} (if last then Some x else option_map f (slice_get c.stages n)) (λ y. ⊤)
+    of true t = tt
+    of false t = mapped_there f (slice_get c.stages n) (get_some c.stages n (ltb-true n (length c.stages) t))
 
 -- a table that is known to be ready
 abbrev pub is_ready : TableState → Bool
@@ -143,36 +129,21 @@ module _ (c : CountingCode) (e : Election) (k : Kinds) (s : State) (h : Keeps e 
         let set = subst (λ (y : Entries). Keeps e (record { positive = k.positive; cursors = join k.cursors (entry_cursors y); table = Some state }) end) known.is.entries at in
         subst (λ (o : Option TableState). Keeps e (taken_kinds o) end) (sym known.known_is) set
 
-    top_there : IsSomeAnd (top t.contents) below
+    pub top_there : IsSomeAnd (top t.contents) below
     top_there = top_all below t.contents filled all_below
 
-    drawn_there : (lot : List ℕ) → IsSomeAnd (drawn lot t.contents) below
+    pub drawn_there : (lot : List ℕ) → IsSomeAnd (drawn lot t.contents) below
     drawn_there = drawn_all below t.contents filled all_below
 
     -- an entry that is found in the table is taken
-    takes_follows : (i : Instr) (entry : Option Entry) → IsSomeAnd entry below → ((u : State) → Keeps e (taken_kinds k.table) u → Follows e k i (Goes u))
+    pub takes_follows : (i : Instr) (entry : Option Entry) → IsSomeAnd entry below → ((u : State) → Keeps e (taken_kinds k.table) u → Follows e k i (Goes u))
         → Follows e k i (takes e t entry s)
     takes_follows i entry there goes = follows_given e k i below entry _ there (λ x is under. goes _ (taken x under))
 
-  pub take_follows : IsSound c e k s op.Take
-  take_follows n =
-      follows_given e k op.Take (IsKnown is_ready k.table) s.table _ (table_there is_ready k.table s.table n.table h.agrees.table) (λ t now_is known.
-      takes_follows t now_is known op.Take (top t.contents) (top_there t now_is known) (λ u a. a))
-
   -- the table, and the stage's lot in it
-  lot_follows : (i : Instr) (n : ℕ) (go : PriorityTable → List ℕ → Effect) → IsTrue (has_stage (context_of c) n) → IsTrue (is_table is_ready k.table)
+  pub lot_follows : (i : Instr) (n : ℕ) (go : PriorityTable → List ℕ → Effect) → IsTrue (has_stage (context_of c) n) → IsTrue (is_table is_ready k.table)
       → ((t : PriorityTable) → s.table ≡ Some t → IsKnown is_ready k.table t → (lot : List ℕ) → Follows e k i (go t lot)) → Follows e k i (with_lot c e n s go)
   lot_follows i n go stage table f =
       follows_given e k i (IsKnown is_ready k.table) s.table _ (table_there is_ready k.table s.table table h.agrees.table) (λ t now_is known.
       follows_given e k i (below t now_is known) (top t.contents) _ (top_there t now_is known) (λ first is under.
-      follows_given e k i (λ y. ⊤) (name_of c.stages n) _ (name_there c n stage) (λ name named any. f t now_is known (lot_of e t.entries name))))
-
-  pub lot_tested : (n t : ℕ) → IsSound c e k s (op.Lot n t)
-  lot_tested n t needs =
-      lot_follows (op.Lot n t) n _ needs.columns needs.table (λ table now_is known lot.
-      follows_either e k (op.Lot n t) (is_covered lot table.contents) (Goes s) (Jumps s) (λ yes. h) (λ no. (refl, h)))
-
-  pub takelot_follows : (n : ℕ) → IsSound c e k s (op.Takelot n)
-  takelot_follows n needs =
-      lot_follows (op.Takelot n) n _ needs.columns needs.table (λ t now_is known lot.
-      takes_follows t now_is known (op.Takelot n) (drawn lot t.contents) (drawn_there t now_is known lot) (λ u a. a))
+      follows_given e k i (λ y. ⊤) (name_of c.stages n) _ (chosen_there c n _ _ stage) (λ name named any. f t now_is known (lot_of e t.entries name))))

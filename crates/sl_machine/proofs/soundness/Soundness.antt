@@ -1,83 +1,82 @@
 -- No accepted code is ever stuck.
-use Rattle.std.proofs.Common.{◌≡◌, ◌≢◌, false, ℕ, zero, suc, ◌+◌, ◌≤◌, IsTrue, IsSome, length, Option, Some, None, IsSomeAnd, slice_get, option_and_then, refl, sym, ap, subst, ◌∙◌, inl, inr, arith, add-one}
+use Rattle.std.proofs.Common.{◌≡◌, ◌≢◌, false, ℕ, zero, suc, ◌+◌, ◌≤◌, IsTrue, IsSome, length, Option, Some, None, IsSomeAnd, slice_get, option_and_then, refl, sym, ap, subst, ◌∙◌, inl, inr, arith, add-one, rules}
 use Rattle.std.specs.Bool.{⊤}
 use Rattle.std.specs.Option.{option_map_or}
 use Rattle.std.proofs.lemmas.Bool.{cases_lt}
 use Rattle.std.proofs.lemmas.List.Elements.{All-nil}
 use Rattle.std.proofs.lemmas.Option.{slice_get_within, none-some}
-use Rattle.sl_stages.specs.returns.Election.{Election, IsElection}
+use Rattle.sl_stages.specs.returns.Election.{Election, IsElection, lands_of, parties_of, wins_of, has_list}
 use Rattle.sl_code.specs.Codes.{CountingCode}
 use Rattle.sl_code.specs.declared.instr.Instr.{Instr}
 use Rattle.sl_code.specs.declared.instr.Instr.TheVariants as op
 use Rattle.sl_code.specs.declared.kinds.Kinds.{Kinds}
-use Rattle.sl_verify.specs.Kinds.{start_kinds, implies}
+use Rattle.sl_code.specs.declared.operand.Ranking.TheVariants as ranking
+use Rattle.sl_stages.specs.declared.table.Placed.TheVariants as placed
+use Rattle.sl_prio.specs.Prio.{top, is_covered}
+use Rattle.sl_prio.specs.Lot.{drawn}
+use Rattle.sl_verify.specs.Kinds.{start_kinds, implies, party_cursor, land_cursor, win_cursor}
 use Rattle.sl_code.specs.Rows.{target_of}
 use Rattle.sl_verify.specs.Leaves.{behind, carried}
 use Rattle.sl_verify.specs.WellKinded.{IsWellKinded, Stands, coming, declared_by, leads_well, context_of}
 use Rattle.sl_machine.specs.State.{State, start}
-use Rattle.sl_machine.specs.Effects.{Effect, Goes, Jumps, Ends, NoCase, effect}
+use Rattle.sl_machine.specs.Effects.{Effect, Goes, Jumps, Ends, NoCase, effect, winner_at, with_party, with_land, with_win}
 use Rattle.sl_machine.specs.Fits.{FitsRecords, FitsStep, FitsWeight}
 use Rattle.sl_machine.specs.Runs.{Ending, Stuck, To, Over, Nowhere, Step, run, step, after_step}
 use Rattle.sl_machine.specs.Agrees.{Agrees, IsSafe}
 use Rattle.sl_machine.specs.Laws.{StartsAreSafe, LandsSafely, StepsSafely, SafeSteps, NeverStuck}
-use Rattle.sl_machine.proofs.soundness.Sets.{none_positive, none_set}
-use Rattle.sl_machine.proofs.soundness.Keeping.{get_some, Keeps, Follows, agrees_implied, IsSound, need_parts}
-use Rattle.sl_machine.proofs.soundness.KeptRegisters.{set_follows, mov_follows, add_follows, sub_follows, mul_follows, div_follows, rem_follows, max_follows, house_follows}
-use Rattle.sl_machine.proofs.soundness.KeptColumns.{jmp_follows, jz_follows, jlt_follows, jnl_follows, at_follows, get_follows, store_follows, zero_follows, input_follows, halt_follows, haltv_follows}
-use Rattle.sl_machine.proofs.soundness.KeptCursors.{none_for, fparty_follows, fland_follows, fwin_follows, nparty_follows, nland_follows, nwin_follows, wparty_follows, wland_follows}
-use Rattle.sl_machine.proofs.soundness.KeptEntries.{table_follows, prio_follows, rest_follows, lead_follows, share_follows}
-use Rattle.sl_machine.proofs.soundness.KeptTables.{peers_follows, take_follows, lot_tested, takelot_follows}
+use Rattle.sl_machine.proofs.soundness.Sets.{none_positive, none_set, set_covered}
+use Rattle.sl_machine.proofs.soundness.Keeping.{get_some, Keeps, keeps_table, keeps_records, Follows, follows_given, follows_positive, follows_either, agrees_implied, IsSound, need_parts}
+use Rattle.sl_machine.proofs.soundness.KeptRegisters.{registers_kept}
+use Rattle.sl_machine.proofs.soundness.KeptColumns.{cell_follows, columns_kept}
+use Rattle.sl_machine.proofs.soundness.KeptCursors.{none_for, next_follows, winner_here, party_follows, cursors_kept}
+use Rattle.sl_machine.proofs.soundness.KeptEntries.{table_there, share_follows}
+use Rattle.sl_machine.proofs.soundness.KeptEntries.{entry_follows as enters_follows}
+use Rattle.sl_machine.proofs.soundness.KeptTables.{is_ready, peers_follows, top_there, drawn_there, takes_follows, lot_follows}
 use Rattle.sl_machine.proofs.soundness.Fitting.{FitsEffect, fits_effect}
 use Rattle.sl_machine.proofs.runs.Stepping.{step_goes, step_jumps, step_ends}
-use Rattle.sl_machine.proofs.soundness.KeptRecords.{emit_follows, given_follows, weigh_follows, fault_follows, tie_follows, seat_follows, single_follows}
+use Rattle.sl_machine.proofs.soundness.KeptRecords.{scope_follows, entry_follows, records_follows, win_there, placed_there, seats_follow}
 
 -- ---- one instruction
 module _ (c : CountingCode) (e : Election) (k : Kinds) (s : State) (h : Keeps e k s) (election : IsElection e) where
+  ruleset following = (rules, registers_kept, columns_kept, cursors_kept, follows_positive, follows_given, follows_either, share_follows, peers_follows, keeps_table, All-nil)
+
   follows : (i : Instr) → IsSound c e k s i
-  follows (op.Set r x) n = set_follows c e k s h r x n
-  follows (op.Mov r q) n = mov_follows c e k s h r q n
-  follows (op.Add r q) n = add_follows c e k s h r q n
-  follows (op.Sub r q) n = sub_follows c e k s h r q n
-  follows (op.Mul r q) n = mul_follows c e k s h r q n
-  follows (op.Div r q) n = div_follows c e k s h r q n
-  follows (op.Rem r q) n = rem_follows c e k s h r q n
-  follows (op.Max r q) n = max_follows c e k s h r q n
-  follows (op.Jmp t) n = jmp_follows c e k s h t n
-  follows (op.Jz r t) n = jz_follows c e k s h r t n
-  follows (op.Jlt l r t) n = jlt_follows c e k s h l r t n
-  follows (op.Jnl t) n = jnl_follows c e k s h t n
-  follows (op.Get r slot) n = get_follows c e k s h r slot n
-  follows (op.Store slot r) n = store_follows c e k s h slot r n
-  follows (op.Zero slot) n = zero_follows c e k s h slot n
-  follows (op.Input slot column) n = input_follows c e k s h slot column n
-  follows (op.House r) n = house_follows c e k s h r election n
-  follows (op.Wparty t) n = wparty_follows c e k s h election t n
-  follows op.Wland n = wland_follows c e k s h election n
-  follows (op.Fparty t) n = fparty_follows c e k s h t n
-  follows (op.Nparty t) n = nparty_follows c e k s h t n
-  follows (op.Fland t) n = fland_follows c e k s h t n
-  follows (op.Nland t) n = nland_follows c e k s h t n
-  follows (op.Fwin t) n = fwin_follows c e k s h t n
-  follows (op.Nwin t) n = nwin_follows c e k s h t n
-  follows (op.Table kind by) n = table_follows c e k s h kind by n
-  follows (op.Prio m r held) n = prio_follows c e k s h m r held n
-  follows (op.Rest r) n = rest_follows c e k s h r n
-  follows op.Lead n = lead_follows c e k s h n
-  follows op.Share n = share_follows c e k s h election n
-  follows (op.Peers r t) n = peers_follows c e k s h r t n
-  follows op.Take n = take_follows c e k s h n
-  follows (op.Lot stage t) n = lot_tested c e k s h stage t n
-  follows (op.Takelot stage) n = takelot_follows c e k s h stage n
-  follows (op.Emit stage scope number at) n = emit_follows c e k s h stage scope number at n
-  follows (op.Given stage scope number) n = given_follows c e k s h stage scope number n
-  follows (op.Fault stage scope f) n = fault_follows c e k s h stage scope f n
-  follows (op.Tie stage scope r) n = tie_follows c e k s h stage scope r n
-  follows op.Seat n = seat_follows c e k s h n
-  follows op.Single n = single_follows c e k s h n
-  follows (op.Halt slot) n = halt_follows c e k s h slot n
-  follows (op.At d) n = at_follows c e k s h d n
-  follows (op.Haltv slot vacant) n = haltv_follows c e k s h slot vacant n
-  follows (op.Weigh stage scope by r) n = weigh_follows c e k s h stage scope by r n
+  follows (op.Get r slot) n = cell_follows c e k s h (op.Get r slot) slot _ n.columns n.cursors (λ p. search following)
+  follows (op.Store slot r) n = cell_follows c e k s h (op.Store slot r) slot _ n.columns n.cursors (λ p. search following)
+  follows (op.Nparty t) n = next_follows e k s h (op.Nparty t) (parties_of e) s.party with_party ((set_covered k.cursors party_cursor n.cursors h.agrees.cursors).party refl) (λ j below. search following) (search following)
+  follows (op.Nland t) n = next_follows e k s h (op.Nland t) (lands_of e) s.land with_land ((set_covered k.cursors land_cursor n.cursors h.agrees.cursors).land refl) (λ j below. search following) (search following)
+  follows (op.Nwin t) n = next_follows e k s h (op.Nwin t) (wins_of e) s.win with_win ((set_covered k.cursors win_cursor n.cursors h.agrees.cursors).win refl) (λ j below. search following) (search following)
+  follows (op.Wparty t) n = follows_given e k (op.Wparty t) _ (winner_at e s) _ (winner_here e k s h election n.cursors) (λ w is win. party_follows e k s h t w.party win.party)
+  follows op.Wland n = follows_given e k op.Wland _ (winner_at e s) _ (winner_here e k s h election n.cursors) (λ w is win. search following)
+  follows (op.Prio m r held) n =
+      follows_positive e k (op.Prio m r held) (s.registers r) _ (h.agrees.positive r n.positive) (enters_follows c e k s h (op.Prio m r held) ranking.Quotients _ n.table n.cursors (λ u a. a))
+  follows (op.Rest r) n = enters_follows c e k s h (op.Rest r) ranking.Remainders _ n.table n.cursors (λ u a. a)
+  follows op.Lead n = enters_follows c e k s h op.Lead ranking.Remainders _ n.table n.cursors (λ u a. a)
+  follows op.Take n =
+      follows_given e k op.Take _ s.table _ (table_there is_ready k.table s.table n.table h.agrees.table) (λ t now_is known.
+      takes_follows c e k s h t now_is known op.Take (top t.contents) (top_there c e k s h t now_is known) (λ u a. a))
+  follows (op.Lot stage t) n =
+      lot_follows c e k s h (op.Lot stage t) stage _ n.columns n.table (λ table now_is known lot.
+      follows_either e k (op.Lot stage t) (is_covered lot table.contents) (Goes s) (Jumps s) (λ all. h) (λ some. (refl, h)))
+  follows (op.Takelot stage) n =
+      lot_follows c e k s h (op.Takelot stage) stage _ n.columns n.table (λ t now_is known lot.
+      takes_follows c e k s h t now_is known (op.Takelot stage) (drawn lot t.contents) (drawn_there c e k s h t now_is known lot) (λ u a. a))
+  follows (op.Emit stage scope number at) n = records_follows c e k s h (op.Emit stage scope number at) stage scope _ _ _ n.columns n.cursors n.table (λ u a. a)
+  follows (op.Given stage scope number) n = records_follows c e k s h (op.Given stage scope number) stage scope _ _ _ n.columns n.cursors n.table (λ u a. a)
+  follows (op.Weigh stage scope by r) n =
+      follows_positive e k (op.Weigh stage scope by r) (s.registers r) _ (h.agrees.positive r n.positive)
+      (scope_follows c e k s h (op.Weigh stage scope by r) stage scope _ n.columns n.cursors (λ at x.
+      entry_follows c e k s h (op.Weigh stage scope by r) _ n.table (λ t index. keeps_records e k s h s.columns s.mark s.steps _ s.placed)))
+  follows (op.Fault stage scope f) n = scope_follows c e k s h (op.Fault stage scope f) stage scope _ n.columns n.cursors (λ at x. tt)
+  follows (op.Tie stage scope r) n =
+      follows_given e k (op.Tie stage scope r) _ s.table _ (table_there is_ready k.table s.table n.table h.agrees.table) (λ t now_is known.
+      follows_given e k (op.Tie stage scope r) _ (top t.contents) _ (top_there c e k s h t now_is known) (λ first is below.
+      scope_follows c e k s h (op.Tie stage scope r) stage scope _ n.columns n.cursors (λ at x. tt)))
+  follows op.Single n = follows_given e k op.Single _ s.win _ (win_there c e k s h n.cursors) (λ w is below. placed_there c e k s h w placed.Single)
+  follows op.Seat n =
+      follows_given e k op.Seat _ s.win _ (win_there c e k s h n.cursors) (λ w is below.
+      follows_given e k op.Seat _ (slice_get e.wins w) _ (get_some e.wins w below) (λ winner at any. seats_follow c e k s h w (has_list e winner.land) winner.party))
+  follows i n = search following
 
 -- ---- from place to place
 there_is : {A : Type 0} (o : Option A) → IsSomeAnd o (λ x. ⊤) → (x : A) × (o ≡ Some x)

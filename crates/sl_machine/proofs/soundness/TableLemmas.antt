@@ -1,16 +1,18 @@
 -- What is known of a priority table's entries: those that are put in and taken out, and that a table with entries has a top and a peer that
 -- a lot draws.
-use Rattle.std.proofs.Common.{◌≡◌, ◌≢◌, ℕ, ◌<◌, Bool, List, [], ◌∷◌, length, Option, Some, None, IsSomeAnd, All, Contains, MatchOption, inl, inr, arith}
+use Rattle.std.proofs.Common.{◌≡◌, ◌≢◌, ℕ, ◌<◌, List, [], ◌∷◌, length, Option, Some, None, IsSomeAnd, All, Contains, MatchOption, inl, inr, arith}
 use Rattle.std.specs.List.{filter}
 use Rattle.std.specs.Option.{option_map_or}
 use Rattle.std.specs.Ordering.{is_gt}
 use Rattle.std.proofs.lemmas.Bool.{cases_Bool}
-use Rattle.std.proofs.lemmas.List.Elements.{All-cons, All-nil, All-head, All-tail, All-contains}
+use Rattle.std.proofs.lemmas.List.Elements.{All-cons, All-nil, All-head, All-tail, All-contains, All-filter}
+use Rattle.std.proofs.lemmas.List.Sorted.{All-permutation}
 use Rattle.sl_ratio.specs.declared.entry.Entry.{Entry}
 use Rattle.sl_ratio.specs.Entry.{entry_cmp}
 use Rattle.sl_prio.specs.Ranking.{insert_ranked, ranked}
 use Rattle.sl_prio.specs.Prio.{top, peers, has_quotient_of}
 use Rattle.sl_prio.specs.Lot.{drawn}
+use Rattle.sl_prio.proofs.Rankings.{ranked-permutation}
 use Rattle.sl_prio.proofs.LawProofs.{tops, draws}
 use Rattle.sl_prio.specs.Ranking.{same_entry, without}
 
@@ -24,10 +26,6 @@ module _ (P : Entry → Type 0) where
         | inr f ↦ rw f (All-cons P x (y ∷ ys) h all)
       ]
 
-  ranked_all : (xs : List Entry) → All P xs → All P (ranked xs)
-  ranked_all [] all = all
-  ranked_all (x ∷ xs) all = inserted_all x (ranked xs) (All-head P x xs all) (ranked_all xs (All-tail P x xs all))
-
   pub without_all : (x : Entry) (xs : List Entry) → All P xs → All P (without x xs)
   without_all x [] all = all
   without_all x (y ∷ ys) all =
@@ -36,20 +34,12 @@ module _ (P : Entry → Type 0) where
         | inr f ↦ rw f (All-cons P y (without x ys) (All-head P y ys all) (without_all x ys (All-tail P y ys all)))
       ]
 
-  filtered_all : (p : Entry → Bool) (xs : List Entry) → All P xs → All P (filter p xs)
-  filtered_all p [] all = all
-  filtered_all p (x ∷ xs) all =
-      elim (cases_Bool (p x)) [
-        | inl t ↦ rw t (All-cons P x (filter p xs) (All-head P x xs all) (filtered_all p xs (All-tail P x xs all)))
-        | inr f ↦ rw f (filtered_all p xs (All-tail P x xs all))
-      ]
-
   pub peers_all : (xs : List Entry) → All P xs → All P (peers xs)
   peers_all xs all = at (top xs)
     where
       at : (first : Option Entry) → All P (option_map_or (λ x. ranked (filter (has_quotient_of x) xs)) first [])
       at None = All-nil P
-      at (Some x) = ranked_all (filter (has_quotient_of x) xs) (filtered_all (has_quotient_of x) xs all)
+      at (Some x) = All-permutation P (filter (has_quotient_of x) xs) _ (ranked-permutation (filter (has_quotient_of x) xs)) (All-filter (has_quotient_of x) P xs all)
 
   found_all : (o : Option Entry) (xs ys : List Entry) (Q : Entry → Type 0) → ys ≢ [] → All P xs → MatchOption o (ys ≡ []) (λ x. Contains xs x × Q x) → IsSomeAnd o P
   found_all None xs ys Q some all h = absurd (some h)

@@ -8,9 +8,7 @@ use Rattle.sl_code.specs.declared.operand.Entries.TheVariants as entries
 use Rattle.sl_machine.specs.Safe.{entries_in}
 
 pub entries_fit : (e : Election) → IsElection e → (k : Entries) (i : ℕ) → i < entries_in e k → i < 2 ^ 32
-entries_fit e kept entries.Party i h = omega (arith, kept.parties)
-entries_fit e kept entries.Land i h = omega (arith, kept.lands)
 entries_fit e kept entries.List i h =
     let most = mul-le (lands_of e) (parties_of e) MAX_LANDS MAX_PARTIES kept.lands kept.parties in
     omega (arith, most)
-entries_fit e kept entries.Win i h = omega (arith, kept.winners, kept.wins)
+entries_fit e kept k i h = omega (arith, kept.parties, kept.lands, kept.winners, kept.wins)

@@ -1,10 +1,10 @@
 -- The column of the awards of a split or a growth: at an entry's place stand its seats.
-use Rattle.std.proofs.Common.{◌≡◌, ℕ, zero, suc, ◌<◌, ◌&&◌, Bool, true, false, List, [], ◌∷◌, ◌++◌, Option, Some, length, get_or, nat_eq, map, arith, refl, sym, ap, subst, ◌∙◌}
+use Rattle.std.proofs.Common.{◌≡◌, ℕ, zero, suc, ◌<◌, Bool, true, false, List, [], ◌∷◌, ◌++◌, Option, Some, length, get_or, nat_eq, arith, refl, sym, ap, subst, ◌∙◌}
 use Rattle.std.specs.Prelude.{zip, flat_map, find, filter, slice_get, option_map, unwrap_or}
-use Rattle.std.specs.Cmp.{nat_eq_equiv}
 use Rattle.std.specs.List.{AllByRecursion as Every, AllZip, IsDistinct}
 use Rattle.std.proofs.lemmas.Bool.{cond-true, cond-false, eq-eqb, and_from, and_right}
 use Rattle.std.proofs.lemmas.List.{append-nil}
+use Rattle.std.proofs.lemmas.List.Folds.{flat_map-map}
 use Rattle.std.proofs.lemmas.List.FromFn.{get_or-map-range_with_len}
 use Rattle.std.proofs.lemmas.Option.{none-some, same_Some}
 use Rattle.sl_stages.specs.declared.book.Shape.{Shape}
@@ -16,35 +16,17 @@ use Rattle.sl_stages.specs.returns.Election.{Election, lands_of, parties_of, has
 use Rattle.sl_stages.specs.returns.Facts.{lands, parties}
 use Rattle.sl_stages.specs.meaning.Scopes.{same_item, Group, scopes, entries_of, lists_in_land, lists_of_party, place, told_of, pair_column}
 use Rattle.sl_stages.specs.meaning.Splits.{Award, awarded}
-use Rattle.sl_stages.proofs.meaning.DistinctLists.{always, every_weaker, every_map, Apart, distinct_nil, distinct_pieces, distinct_range}
+use Rattle.sl_stages.proofs.meaning.DistinctLists.{always, every_weaker, Apart, maps_apart, distinct_nil, distinct_pieces, distinct_range}
 use Rattle.sl_stages.proofs.meaning.ListPlaces.{by_list_at}
-use Rattle.sl_stages.proofs.meaning.ScopeRecords.{entries_differ, lists_in_land_differ, lists_of_party_differ, lands_apart}
+use Rattle.sl_stages.proofs.meaning.ScopeRecords.{item_flips, entries_differ, lists_in_land_differ, lists_of_party_differ, lands_apart}
 
 -- ---- the same item
 
-pub item_itself : (i : Item) → same_item i i ≡ true
+item_itself : (i : Item) → same_item i i ≡ true
 item_itself (item.Party p) = eq-eqb p p refl
 item_itself (item.Land l) = eq-eqb l l refl
 item_itself (item.List l p) = and_from (nat_eq l l) (nat_eq p p) (eq-eqb l l refl) (eq-eqb p p refl)
 item_itself (item.Win w) = eq-eqb w w refl
-
-pub item_flips : (i k : Item) → same_item i k ≡ same_item k i
-item_flips (item.Party p) (item.Party q) = nat_eq_equiv.symm p q
-item_flips (item.Land l) (item.Land k) = nat_eq_equiv.symm l k
-item_flips (item.List l p) (item.List k q) = ap (λ t. t && nat_eq p q) (nat_eq_equiv.symm l k) ∙ ap (λ t. nat_eq k l && t) (nat_eq_equiv.symm p q)
-item_flips (item.Win v) (item.Win w) = nat_eq_equiv.symm v w
-item_flips (item.Party p) (item.Land k) = refl
-item_flips (item.Party p) (item.List k q) = refl
-item_flips (item.Party p) (item.Win w) = refl
-item_flips (item.Land l) (item.Party q) = refl
-item_flips (item.Land l) (item.List k q) = refl
-item_flips (item.Land l) (item.Win w) = refl
-item_flips (item.List l p) (item.Party q) = refl
-item_flips (item.List l p) (item.Land k) = refl
-item_flips (item.List l p) (item.Win w) = refl
-item_flips (item.Win v) (item.Party q) = refl
-item_flips (item.Win v) (item.Land k) = refl
-item_flips (item.Win v) (item.List k q) = refl
 
 -- ---- what pairs say of an item
 
@@ -62,13 +44,9 @@ every_at P (y ∷ ys) zero x all at = subst P (same_Some y x at) all.0
 every_at P (y ∷ ys) (suc i) x all at = every_at P ys i x all.1 at
 
 -- what holds of a list in two parts holds of each
-every_first : {X : Type 0} (P : X → Type 0) (xs ys : List X) → Every P (xs ++ ys) → Every P xs
-every_first P [] ys all = tt
-every_first P (x ∷ xs) ys all = (all.0, every_first P xs ys all.1)
-
-every_later : {X : Type 0} (P : X → Type 0) (xs ys : List X) → Every P (xs ++ ys) → Every P ys
-every_later P [] ys all = all
-every_later P (x ∷ xs) ys all = every_later P xs ys all.1
+every_parts : {X : Type 0} (P : X → Type 0) (xs ys : List X) → Every P (xs ++ ys) → Every P xs × Every P ys
+every_parts P [] ys all = (tt, all)
+every_parts P (x ∷ xs) ys all = let rest = every_parts P xs ys all.1 in ((all.0, rest.0), rest.1)
 
 -- other entries than the item say nothing of it
 told_past : (entries : List Item) (s : List ℕ) (more : List (Item × ℕ)) (i : Item) → Every (λ k. same_item i k ≡ false) entries → told_of (zip entries s ++ more) i ≡ told_of more i
@@ -90,29 +68,21 @@ told_in_scope (k ∷ entries) (n ∷ s) more (suc j) i differ long at =
 
 -- ---- a list in two parts without an element that comes twice
 
-module _ {X : Type 0} (same : X → X → Bool) where
-  distinct_first : (xs ys : List X) → IsDistinct same (xs ++ ys) → IsDistinct same xs
-  unfolding IsDistinct
-  distinct_first [] ys d = tt
-  distinct_first (x ∷ xs) ys d = (every_first (λ y. same x y ≡ false) xs ys d.0, distinct_first xs ys d.1)
-
-  distinct_second : (xs ys : List X) → IsDistinct same (xs ++ ys) → IsDistinct same ys
-  unfolding IsDistinct
-  distinct_second [] ys d = d
-  distinct_second (x ∷ xs) ys d = distinct_second xs ys d.1
-
-  distinct_apart : (xs ys : List X) → IsDistinct same (xs ++ ys) → Apart same xs ys
-  unfolding IsDistinct
-  distinct_apart [] ys d = tt
-  distinct_apart (x ∷ xs) ys d = (every_later (λ y. same x y ≡ false) xs ys d.0, distinct_apart xs ys d.1)
+distinct_parts : {X : Type 0} (same : X → X → Bool) (xs ys : List X) → IsDistinct same (xs ++ ys) → IsDistinct same xs × IsDistinct same ys × Apart same xs ys
+unfolding IsDistinct
+distinct_parts same [] ys d = (tt, d, tt)
+distinct_parts same (x ∷ xs) ys d =
+    let first = every_parts (λ y. same x y ≡ false) xs ys d.0 in
+    let rest = distinct_parts same xs ys d.1 in
+    ((first.0, rest.0), rest.1, (first.1, rest.2))
 
 -- ---- the entries of all scopes
 
 -- what holds of each element of each piece holds of those of the piece at a place
 piece_at : {X Y : Type 0} (P : Y → Type 0) (f : X → List Y) (xs : List X) (m : ℕ) (x : X) → Every P (flat_map f xs) → slice_get xs m ≡ Some x → Every P (f x)
 piece_at P f [] m x all at = absurd (none-some x at)
-piece_at P f (y ∷ ys) zero x all at = subst (λ z. Every P (f z)) (same_Some y x at) (every_first P (f y) (flat_map f ys) all)
-piece_at P f (y ∷ ys) (suc m) x all at = piece_at P f ys m x (every_later P (f y) (flat_map f ys) all) at
+piece_at P f (y ∷ ys) zero x all at = subst (λ z. Every P (f z)) (same_Some y x at) (every_parts P (f y) (flat_map f ys) all).0
+piece_at P f (y ∷ ys) (suc m) x all at = piece_at P f ys m x (every_parts P (f y) (flat_map f ys) all).1 at
 
 -- entry j of scope m has number j of the scope's award, where no entry of the scopes comes twice
 pub told_entry : (groups : List Group) (awards : List Award) → IsDistinct same_item (flat_map (λ g. g.entries) groups) → AllZip (λ g a. length (awarded a) ≡ length g.entries) groups awards →
@@ -122,37 +92,30 @@ told_entry [] awards differ long m j g a i at_group at_award at = absurd (none-s
 told_entry (h ∷ groups) [] differ long m j g a i at_group at_award at = absurd (none-some a at_award)
 told_entry (h ∷ groups) (b ∷ awards) differ long zero j g a i at_group at_award at =
     told_in_scope h.entries (awarded b) (flat_map (λ x. zip x.0.entries (awarded x.1)) (zip groups awards)) j i
-    (distinct_first same_item h.entries (flat_map (λ g. g.entries) groups) differ) long.0
+    (distinct_parts same_item h.entries (flat_map (λ g. g.entries) groups) differ).0 long.0
     (subst (λ (g : Group). slice_get g.entries j ≡ Some i) (sym (same_Some h g at_group)) at)
     ∙ ap (λ a. get_or (awarded a) j 0) (same_Some b a at_award)
 told_entry (h ∷ groups) (b ∷ awards) differ long (suc m) j g a i at_group at_award at =
     let others : Every (λ k. same_item i k ≡ false) h.entries =
     every_weaker (λ k. Every (λ y. same_item k y ≡ false) (flat_map (λ g. g.entries) groups)) (λ k. same_item i k ≡ false)
     (λ k all. item_flips i k ∙ every_at (λ y. same_item k y ≡ false) g.entries j i (piece_at (λ y. same_item k y ≡ false) (λ g. g.entries) groups m g all at_group) at)
-    h.entries (distinct_apart same_item h.entries (flat_map (λ g. g.entries) groups) differ) in
+    h.entries (distinct_parts same_item h.entries (flat_map (λ g. g.entries) groups) differ).2 in
     told_past h.entries (awarded b) (flat_map (λ x. zip x.0.entries (awarded x.1)) (zip groups awards)) i others
-    ∙ told_entry groups awards (distinct_second same_item h.entries (flat_map (λ g. g.entries) groups) differ) long.1 m j g a i at_group at_award at
-
-pieces_of_made : {X Y Z : Type 0} (f : Y → List Z) (g : X → Y) (xs : List X) → flat_map f (map g xs) ≡ flat_map (λ x. f (g x)) xs
-pieces_of_made f g [] = refl
-pieces_of_made f g (x ∷ xs) = ap (λ zs. f (g x) ++ zs) (pieces_of_made f g xs)
+    ∙ told_entry groups awards (distinct_parts same_item h.entries (flat_map (λ g. g.entries) groups) differ).1 long.1 m j g a i at_group at_award at
 
 parties_apart : (e : Election) (p q : ℕ) → nat_eq p q ≡ false → Apart same_item (lists_of_party e p) (lists_of_party e q)
 parties_apart e p q differ =
-    every_map (λ x. Every (λ y. same_item x y ≡ false) (lists_of_party e q)) (λ land. item.List land p) (filter (λ land. has_list e land p) (lands e))
-    (always (λ l. Every (λ y. same_item (item.List l p) y ≡ false) (lists_of_party e q))
-    (λ l. every_map (λ y. same_item (item.List l p) y ≡ false) (λ land. item.List land q) (filter (λ land. has_list e land q) (lands e))
-    (always (λ k. nat_eq l k && nat_eq p q ≡ false) (λ k. and_right (nat_eq l k) (nat_eq p q) differ) (filter (λ land. has_list e land q) (lands e))))
-    (filter (λ land. has_list e land p) (lands e)))
+    maps_apart same_item (λ land. item.List land p) (λ land. item.List land q) (λ l k. and_right (nat_eq l k) (nat_eq p q) differ)
+    (filter (λ land. has_list e land p) (lands e)) (filter (λ land. has_list e land q) (lands e))
 
 -- no entry is in two scopes, nor twice in one
 pub scope_entries_differ : (e : Election) (over votes : Shape) → IsDistinct same_item (flat_map (λ g. g.entries) (scopes e over votes))
 scope_entries_differ e shape.One votes = subst (IsDistinct same_item) (sym (append-nil (entries_of e votes))) (entries_differ e votes)
 scope_entries_differ e shape.Party votes =
-    subst (IsDistinct same_item) (sym (pieces_of_made (λ (g : Group). g.entries) (λ party. record { scope = scope.Party party; amount_place = party; entries = lists_of_party e party }) (parties e)))
+    subst (IsDistinct same_item) (sym (flat_map-map (λ (g : Group). g.entries) (λ party. record { scope = scope.Party party; amount_place = party; entries = lists_of_party e party }) (parties e)))
     (distinct_pieces same_item nat_eq (lists_of_party e) (parties_apart e) (parties e) (always (λ p. IsDistinct same_item (lists_of_party e p)) (lists_of_party_differ e) (parties e)) (distinct_range 0 (parties_of e)))
 scope_entries_differ e shape.Land votes =
-    subst (IsDistinct same_item) (sym (pieces_of_made (λ (g : Group). g.entries) (λ land. record { scope = scope.Land land; amount_place = land; entries = lists_in_land e land }) (lands e)))
+    subst (IsDistinct same_item) (sym (flat_map-map (λ (g : Group). g.entries) (λ land. record { scope = scope.Land land; amount_place = land; entries = lists_in_land e land }) (lands e)))
     (distinct_pieces same_item nat_eq (lists_in_land e) (lands_apart e) (lands e) (always (λ l. IsDistinct same_item (lists_in_land e l)) (lists_in_land_differ e) (lands e)) (distinct_range 0 (lands_of e)))
 scope_entries_differ e shape.List votes = distinct_nil same_item
 

@@ -1,18 +1,15 @@
 -- A concatenation of which one piece changes: what stays, and the piece before and after.
-use Rattle.std.proofs.Common.{◌≡◌, ℕ, zero, suc, List, [], ◌∷◌, ◌++◌, Some, append_assoc, arith, refl, sym, ap, subst, ◌∙◌}
+use Rattle.std.proofs.Common.{◌≡◌, ℕ, zero, suc, List, [], ◌∷◌, ◌++◌, Some, get_or, append_assoc, arith, refl, sym, subst}
 use Rattle.std.specs.Prelude.{flat_map, slice_get, IsPermutation}
-use Rattle.std.proofs.lemmas.Option.{none-some, same_Some}
+use Rattle.std.proofs.lemmas.Option.{none-some, same_Some, slice_get-get_or}
 use Rattle.std.proofs.lemmas.List.Sorted.{IsPermutation-refl, IsPermutation-trans, IsPermutation-append_comm, IsPermutation-append_left, IsPermutation-append_right}
+use Rattle.sl_stages.proofs.meaning.EachList.{pieces_agree}
 
 -- the pieces that f and g make of the elements are the same, up to order, but for those of x
 pub record ChangesPiece {X Y : Type 0} (f g : X → List Y) (xs : List X) (x : X) : Type 0 where
   pub rest : List Y
   pub before : IsPermutation (flat_map f xs) (f x ++ rest)
   pub after : IsPermutation (flat_map g xs) (g x ++ rest)
-
-same_pieces : {X Y : Type 0} (f g : X → List Y) (xs : List X) → ((j : ℕ) (y : X) → slice_get xs j ≡ Some y → f y ≡ g y) → flat_map f xs ≡ flat_map g xs
-same_pieces f g [] same = refl
-same_pieces f g (x ∷ xs) same = ap (λ ys. ys ++ flat_map f xs) (same 0 x refl) ∙ ap (λ zs. g x ++ zs) (same_pieces f g xs (λ j y at. same (suc j) y at))
 
 exchanged : {Y : Type 0} (xs ys zs : List Y) → IsPermutation (xs ++ (ys ++ zs)) (ys ++ (xs ++ zs))
 exchanged xs ys zs =
@@ -30,7 +27,7 @@ pub changes_piece : {X Y : Type 0} (f g : X → List Y) (xs : List X) (i : ℕ) 
 changes_piece f g [] i x at same = absurd (none-some x at)
 changes_piece f g (y ∷ ys) zero x at same =
     let is = same_Some y x at in
-    let others = same_pieces f g ys (λ j z there. same (suc j) z there (λ h. omega (arith, h))) in
+    let others = pieces_agree f g ys (λ j d less. same (suc j) (get_or ys j d) (slice_get-get_or ys j d less) (λ h. omega (arith, h))) in
     record {
       rest = flat_map f ys;
       before = subst (λ z. IsPermutation (f y ++ flat_map f ys) (f z ++ flat_map f ys)) is (IsPermutation-refl (f y ++ flat_map f ys));

@@ -3,11 +3,13 @@ use Rattle.std.proofs.Common.{◌≡◌, ℕ, suc, ◌+◌, ◌<◌, ◌≤◌, 
 use Rattle.std.specs.Prelude.{if◌then◌else◌, filter_map, slice_get, option_map, unwrap_or}
 use Rattle.std.specs.Cmp.{nat_eq_equiv}
 use Rattle.std.specs.List.{AllByRecursion as Every, IsDistinct, flat_map, zip, enumerate_from}
-use Rattle.std.proofs.lemmas.Bool.{cases_Bool, cases_eq, and_parts, and_from, and_right, eq-eqb, ne_eqb, eqb-true, cond-true, cond-false, false≢true}
+use Rattle.std.proofs.Math.Bool.{and_comm}
+use Rattle.std.proofs.lemmas.Bool.{cases_eq, and_parts, and_from, and_right, eq-eqb, ne_eqb, eqb-true, cond-true, cond-false, false≢true}
 use Rattle.std.proofs.lemmas.List.{length-map, get_or_default}
 use Rattle.std.proofs.lemmas.List.Elements.{recursion_from_All}
 use Rattle.std.proofs.lemmas.List.FromFn.{length-enumerate_from, get_or-enumerate_from}
 use Rattle.std.proofs.lemmas.List.Sums.{sum_by-cons, length-filter}
+use Rattle.std.proofs.lemmas.Map.Keys.{IsDistinct-from_apart}
 use Rattle.sl_stages.specs.declared.returns.Win.{Win}
 use Rattle.sl_stages.specs.declared.table.Placed.{Placed}
 use Rattle.sl_stages.specs.declared.table.Placed.TheVariants as placed
@@ -23,7 +25,7 @@ use Rattle.sl_stages.proofs.methods.SeatSums.{sum-cons}
 use Rattle.sl_stages.proofs.meaning.DistinctLists.{every_weaker, every_passes, every_map, every_filter, every_zipped, distinct_filter}
 use Rattle.sl_stages.proofs.meaning.ExactlyOne.{same_ones}
 use Rattle.sl_stages.proofs.meaning.ListPlaces.{by_list_at}
-use Rattle.sl_stages.proofs.meaning.PlacedWinners.{count_each, count_agree, count_if, rearranged, when_both}
+use Rattle.sl_stages.proofs.meaning.PlacedWinners.{count_each, count_agree, count_if, when_both}
 use Rattle.sl_stages.proofs.meaning.OneOutcome.{one_seating}
 use Rattle.sl_stages.proofs.meaning.Members.{In, in_map, in_filter, in_pieces, in_range, in_zip, zip_each, none_mapped, among, not_among, among_piece, some_piece, among_numbers}
 
@@ -35,24 +37,10 @@ chosen_numbers won s = map (λ y. y.0.0) (filter (λ y. nat_eq y.1 1) (zip won s
 
 count_filter : {X : Type 0} (p q : X → Bool) (xs : List X) → count_by (λ x. p x && q x) xs ≡ count_by q (filter p xs)
 count_filter p q [] = refl
-count_filter p q (x ∷ xs) =
-    let rest = count_filter p q xs in
-    elim (cases_Bool (p x)) [
-      | inl yes' ↦
-          (let this : cond {A = ℕ} (p x && q x) 1 0 ≡ cond (q x) 1 0 = ap (λ t. cond (t && q x) 1 0) yes' in
-          sum_by-cons (λ x. cond (p x && q x) 1 0) x xs ∙ omega (arith, rest, this, sum_by-cons (λ x. cond (q x) 1 0) x (filter p xs))
-          ∙ ap (count_by q) (sym (cond-true (p x) (x ∷ filter p xs) (filter p xs) yes')))
-      | inr no' ↦
-          (let this : cond {A = ℕ} (p x && q x) 1 0 ≡ 0 = ap (λ t. cond (t && q x) 1 0) no' in
-          sum_by-cons (λ x. cond (p x && q x) 1 0) x xs ∙ omega (arith, rest, this)
-          ∙ ap (count_by q) (sym (cond-false (p x) (x ∷ filter p xs) (filter p xs) no')))
-    ]
-
-chosen_first : (y : ℕ × Win) (won : List (ℕ × Win)) (n : ℕ) (s : List ℕ) → n ≡ 1 → chosen_numbers (y ∷ won) (n ∷ s) ≡ y.0 ∷ chosen_numbers won s
-chosen_first y won n s one = ap (map (λ y. y.0.0)) (cond-true (nat_eq n 1) ((y, n) ∷ filter (λ y. nat_eq y.1 1) (zip won s)) (filter (λ y. nat_eq y.1 1) (zip won s)) (eq-eqb n 1 one))
-
-chosen_rest : (y : ℕ × Win) (won : List (ℕ × Win)) (n : ℕ) (s : List ℕ) → (n ≡ 1 → ⊥) → chosen_numbers (y ∷ won) (n ∷ s) ≡ chosen_numbers won s
-chosen_rest y won n s other = ap (map (λ y. y.0.0)) (cond-false (nat_eq n 1) ((y, n) ∷ filter (λ y. nat_eq y.1 1) (zip won s)) (filter (λ y. nat_eq y.1 1) (zip won s)) (ne_eqb n 1 other))
+count_filter p q (x ∷ xs) = sum_by-cons (λ x. cond (p x && q x) 1 0) x xs ∙ by_test (p x) (count_filter p q xs) where
+  by_test : (t : Bool) → count_by (λ x. p x && q x) xs ≡ count_by q (filter p xs) → cond {A = ℕ} (t && q x) 1 0 + count_by (λ x. p x && q x) xs ≡ count_by q (cond t (x ∷ filter p xs) (filter p xs))
+  by_test true rest = omega (arith, rest, sum_by-cons (λ x. cond (q x) 1 0) x (filter p xs))
+  by_test false rest = omega (arith, rest)
 
 not_chosen : (k : ℕ) (won : List (ℕ × Win)) (s : List ℕ) → Every (λ y. nat_eq k y.0 ≡ false) won → among (chosen_numbers won s) k ≡ false
 not_chosen k won s all =
@@ -69,9 +57,10 @@ all_chosen (y ∷ won) [] long ones differ = absurd (omega (arith, long))
 all_chosen (y ∷ won) (n ∷ s) long ones differ =
     let rest = all_chosen won s (omega (arith, long)) (λ i. ones (suc i)) differ.1 in
     let now = chosen_numbers (y ∷ won) (n ∷ s) in
+    let kept = filter (λ y. nat_eq y.1 1) (zip won s) in
     elim (cases_eq n 1) [
       | inl one ↦
-          (let is = chosen_first y won n s one in
+          (let is : now ≡ y.0 ∷ chosen_numbers won s = ap (map (λ y. y.0.0)) (cond-true (nat_eq n 1) ((y, n) ∷ kept) kept (eq-eqb n 1 one)) in
           let this : cond {A = ℕ} (among now y.0) 1 0 ≡ 1 = ap (λ ks. cond (among ks y.0) 1 0) is ∙ ap (λ t. cond (t || among (chosen_numbers won s) y.0) 1 0) (eq-eqb y.0 y.0 refl) in
           let others : count_by (λ z. among now z.0) won ≡ count_by (λ z. among (chosen_numbers won s) z.0) won =
           count_each (λ z. among now z.0) (λ z. among (chosen_numbers won s) z.0) won
@@ -79,7 +68,7 @@ all_chosen (y ∷ won) (n ∷ s) long ones differ =
           (λ z other. ap (λ ks. among ks z.0) is ∙ ap (λ t. t || among (chosen_numbers won s) z.0) (nat_eq_equiv.symm z.0 y.0 ∙ other)) won differ.0) in
           sum_by-cons (λ z. cond (among now z.0) 1 0) y won ∙ omega (arith, this, others, rest, one, sum-cons n s))
       | inr other ↦
-          (let is = chosen_rest y won n s other in
+          (let is : now ≡ chosen_numbers won s = ap (map (λ y. y.0.0)) (cond-false (nat_eq n 1) ((y, n) ∷ kept) kept (ne_eqb n 1 other)) in
           let this : cond {A = ℕ} (among now y.0) 1 0 ≡ 0 = ap (λ ks. cond (among ks y.0) 1 0) is ∙ ap (λ t. cond t 1 0) (not_chosen y.0 won s differ.0) in
           let others : count_by (λ z. among now z.0) won ≡ count_by (λ z. among (chosen_numbers won s) z.0) won = ap (λ ks. count_by (λ z. among ks z.0) won) is in
           let none : n ≡ 0 = omega (arith, other, ones 0) in
@@ -101,14 +90,11 @@ are_numbered wins =
     let place : 0 + i ≡ i = omega arith in
     subst (λ y. get_or wins y.0 d ≡ y.1) (sym at) (ap (λ k. get_or wins k d) place ∙ get_or_default wins i d x.1 within))
 
-numbers_above : (k n : ℕ) (wins : List Win) → k < n → Every (λ y. nat_eq k y.0 ≡ false) (enumerate_from n wins)
-numbers_above k n [] less = tt
-numbers_above k n (w ∷ wins) less = (ne_eqb k n (omega arith), numbers_above k (n + 1) wins (omega arith))
-
 numbers_differ : (n : ℕ) (wins : List Win) → IsDistinct (λ x y. nat_eq x.0 y.0) (enumerate_from n wins)
-unfolding IsDistinct
-numbers_differ n [] = tt
-numbers_differ n (w ∷ wins) = (numbers_above n (n + 1) wins (omega arith), numbers_differ (n + 1) wins)
+numbers_differ n wins =
+    IsDistinct-from_apart (λ x y. nat_eq x.0 y.0) (enumerate_from n wins) (λ i j d less within.
+    let inside : j < length wins = omega (arith, length-enumerate_from n wins) in
+    rw (get_or-enumerate_from n wins i d (omega arith), get_or-enumerate_from n wins j d inside) (ne_eqb (n + i) (n + j) (λ same. omega (arith, same))))
 
 -- ---- a list and its choice
 
@@ -122,8 +108,7 @@ is_on_when false true = refl
 is_on_when false false = refl
 
 both_sides : (x y : Bool) → (x ≡ true → y ≡ true) → (y ≡ true → x ≡ true) → x ≡ y
-both_sides true true f g = refl
-both_sides true false f g = sym (f refl)
+both_sides true y f g = sym (f refl)
 both_sides false true f g = g refl
 both_sides false false f g = refl
 
@@ -150,7 +135,7 @@ module _ (eligible : ℕ → Bool) (e : Election) where
       of_list (land, party) (record w { party = o }) ≡ is_eligible_list eligible e land party && (is_in land (record w { party = o }) && is_of party (record w { party = o }))
   unfolding of_list
   of_land_and_party land party w None = sym (and_right (is_eligible_list eligible e land party) (nat_eq w.land land && false) (and_right (nat_eq w.land land) false refl))
-  of_land_and_party land party w (Some p) = sym (rearranged (nat_eq w.land land) (nat_eq p party) (is_eligible_list eligible e w.land p)) ∙ when_both eligible e land party w p
+  of_land_and_party land party w (Some p) = and_comm (is_eligible_list eligible e w.land p) (nat_eq w.land land && nat_eq p party) ∙ when_both eligible e land party w p
 
   count_numbered : (test : Win → Bool) (n : ℕ) (wins : List Win) → count_by (λ y. test y.1) (enumerate_from n wins) ≡ count_by test wins
   count_numbered test n [] = refl

@@ -1,8 +1,11 @@
 -- Lists without an element that comes twice: as maps, filters and pieces of others.
-use Rattle.std.proofs.Common.{◌≡◌, ℕ, zero, suc, ◌+◌, ◌<◌, Bool, true, false, List, [], ◌∷◌, ◌++◌, map, filter, nat_eq, arith, subst, sym, inl, inr}
+use Rattle.std.proofs.Common.{◌≡◌, ℕ, ◌+◌, ◌<◌, Bool, true, false, List, [], ◌∷◌, ◌++◌, map, filter, nat_eq, arith}
 use Rattle.std.specs.Prelude.{zip, flat_map}
 use Rattle.std.specs.List.{AllByRecursion as Every, IsDistinct, range_with_len, enumerate_from}
-use Rattle.std.proofs.lemmas.Bool.{cases_Bool, cond-true, cond-false, ne_eqb}
+use Rattle.std.proofs.lemmas.Bool.{cond_both, ne_eqb}
+use Rattle.std.proofs.lemmas.List.Elements.{All-filter, All-from_recursion, filter_passes, recursion_from_All}
+use Rattle.std.proofs.lemmas.List.FromFn.{length-range_with_len, get_or-range_with_len}
+use Rattle.std.proofs.lemmas.Map.Keys.{IsDistinct-from_apart}
 
 -- ---- what holds of every element
 
@@ -19,21 +22,11 @@ every_map P f [] all = tt
 every_map P f (x ∷ xs) all = (all.0, every_map P f xs all.1)
 
 pub every_filter : {X : Type 0} (P : X → Type 0) (p : X → Bool) (xs : List X) → Every P xs → Every P (filter p xs)
-every_filter P p [] all = tt
-every_filter P p (x ∷ xs) all =
-    elim (cases_Bool (p x)) [
-      | inl yes' ↦ subst (Every P) (sym (cond-true (p x) (x ∷ filter p xs) (filter p xs) yes')) (all.0, every_filter P p xs all.1)
-      | inr no' ↦ subst (Every P) (sym (cond-false (p x) (x ∷ filter p xs) (filter p xs) no')) (every_filter P p xs all.1)
-    ]
+every_filter P p xs all = recursion_from_All P (filter p xs) (All-filter p P xs (All-from_recursion P xs all))
 
 pub every_passes : {X : Type 0} (P : X → Type 0) (p : X → Bool) (xs : List X) → Every P xs → Every (λ x. P x × (p x ≡ true)) (filter p xs)
-every_passes P p [] all = tt
-every_passes P p (x ∷ xs) all =
-    let Q : List _ → Type 0 = Every (λ x. P x × (p x ≡ true)) in
-    elim (cases_Bool (p x)) [
-      | inl yes' ↦ subst Q (sym (cond-true (p x) (x ∷ filter p xs) (filter p xs) yes')) ((all.0, yes'), every_passes P p xs all.1)
-      | inr no' ↦ subst Q (sym (cond-false (p x) (x ∷ filter p xs) (filter p xs) no')) (every_passes P p xs all.1)
-    ]
+every_passes P p xs all =
+    recursion_from_All (λ x. P x × (p x ≡ true)) (filter p xs) (λ k d less. (All-filter p P xs (All-from_recursion P xs all) k d less, filter_passes p xs k d less))
 
 pub every_append : {X : Type 0} (P : X → Type 0) (xs ys : List X) → Every P xs → Every P ys → Every P (xs ++ ys)
 every_append P [] ys all more = more
@@ -58,6 +51,11 @@ every_second P (x ∷ xs) (y ∷ ys) all = (all.0, every_second P xs ys all.1)
 abbrev pub Apart : {X : Type 0} → (X → X → Bool) → List X → List X → Type 0
 Apart same xs ys = Every (λ x. Every (λ y. same x y ≡ false) ys) xs
 
+pub maps_apart : {X Y Z : Type 0} (same : Z → Z → Bool) (f : X → Z) (g : Y → Z) → ((x : X) (y : Y) → same (f x) (g y) ≡ false) → (xs : List X) (ys : List Y) → Apart same (map f xs) (map g ys)
+maps_apart same f g differ xs ys =
+    every_map (λ u. Every (λ v. same u v ≡ false) (map g ys)) f xs
+    (always (λ x. Every (λ v. same (f x) v ≡ false) (map g ys)) (λ x. every_map (λ v. same (f x) v ≡ false) g ys (always (λ y. same (f x) (g y) ≡ false) (differ x) ys)) xs)
+
 module _ {X : Type 0} (same : X → X → Bool) where
   pub distinct_nil : IsDistinct same []
   unfolding IsDistinct
@@ -76,10 +74,8 @@ module _ {X : Type 0} (same : X → X → Bool) where
   unfolding IsDistinct
   distinct_filter p [] d = tt
   distinct_filter p (x ∷ xs) d =
-      elim (cases_Bool (p x)) [
-        | inl yes' ↦ subst (IsDistinct same) (sym (cond-true (p x) (x ∷ filter p xs) (filter p xs) yes')) (every_filter (λ y. same x y ≡ false) p xs d.0, distinct_filter p xs d.1)
-        | inr no' ↦ subst (IsDistinct same) (sym (cond-false (p x) (x ∷ filter p xs) (filter p xs) no')) (distinct_filter p xs d.1)
-      ]
+      cond_both (p x) (x ∷ filter p xs) (filter p xs) (IsDistinct same)
+      (λ passes. (every_filter (λ y. same x y ≡ false) p xs d.0, distinct_filter p xs d.1)) (λ fails. distinct_filter p xs d.1)
 
   -- a list from pieces, of which those of different elements are apart
   module _ {Y : Type 0} (differ : Y → Y → Bool) (f : Y → List X) (apart : (x y : Y) → differ x y ≡ false → Apart same (f x) (f y)) where
@@ -103,14 +99,11 @@ distinct_map same differ f keeps (x ∷ xs) d =
 
 -- ---- numbered, zipped and counted lists
 
-above : (a n k : ℕ) → k < a → Every (λ y. nat_eq k y ≡ false) (range_with_len a n)
-above a zero k less = tt
-above a (suc n) k less = (ne_eqb k a (omega arith), above (a + 1) n k (omega arith))
-
 pub distinct_range : (a n : ℕ) → IsDistinct nat_eq (range_with_len a n)
-unfolding IsDistinct
-distinct_range a zero = tt
-distinct_range a (suc n) = (above (a + 1) n a (omega arith), distinct_range (a + 1) n)
+distinct_range a n =
+    IsDistinct-from_apart nat_eq (range_with_len a n) (λ i j d less within.
+    let inside : j < n = omega (arith, length-range_with_len a n) in
+    ne_eqb _ _ (λ same. omega (arith, same, get_or-range_with_len a n i d (omega arith), get_or-range_with_len a n j d inside)))
 
 module _ {X : Type 0} where
   every_numbered : (P : X → Type 0) (n : ℕ) (xs : List X) → Every P xs → Every (λ x. P x.1) (enumerate_from n xs)

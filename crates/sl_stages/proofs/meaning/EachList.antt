@@ -12,7 +12,7 @@ map_agree : {X Y : Type 0} (f g : X → Y) (xs : List X) → All (λ x. f x ≡ 
 map_agree f g [] all = refl
 map_agree f g (x ∷ xs) all = cc (All-head (λ x. f x ≡ g x) x xs all, map_agree f g xs (All-tail (λ x. f x ≡ g x) x xs all))
 
-pieces_agree : {X Y : Type 0} (f g : X → List Y) (xs : List X) → All (λ x. f x ≡ g x) xs → flat_map f xs ≡ flat_map g xs
+pub pieces_agree : {X Y : Type 0} (f g : X → List Y) (xs : List X) → All (λ x. f x ≡ g x) xs → flat_map f xs ≡ flat_map g xs
 pieces_agree f g [] all = refl
 pieces_agree f g (x ∷ xs) all = cc (All-head (λ x. f x ≡ g x) x xs all, pieces_agree f g xs (All-tail (λ x. f x ≡ g x) x xs all))
 

@@ -1,5 +1,5 @@
 -- What the scopes of a split or a growth make, scope by scope: the first amount over the limit, the first fault, or the column.
-use Rattle.std.proofs.Common.{◌≡◌, ℕ, ◌<◌, ◌≤◌, List, [], ◌∷◌, ◌++◌, Option, Some, None, length, nat_lt, refl, ap, ◌∙◌}
+use Rattle.std.proofs.Common.{◌≡◌, ℕ, ◌<◌, ◌≤◌, List, [], ◌∷◌, ◌++◌, Some, None, length, nat_lt, refl, ap, ◌∙◌}
 use Rattle.std.specs.Prelude.{zip, flat_map, filter_map, slice_get, option_map, unwrap_or}
 use Rattle.std.specs.List.{AllByRecursion as Every}
 use Rattle.std.proofs.lemmas.Bool.{cond-true, cond-false, lt-ltb, le-ltb}
@@ -53,17 +53,12 @@ module _ (e : Election) (at : Stand) (amounts : List ℕ) (records : Group → L
     weights = flat_map (λ x. (records x.0 (awarded x.1)).weights) (zip groups awards);
   })
 
-  of_first : (awards : List Award) (faults : List LegalFault) (o : Option LegalFault) → slice_get faults 0 ≡ o →
-      unwrap_or (option_map (λ f. Fault f) (slice_get faults 0)) (joined_column awards) ≡ unwrap_or (option_map (λ f. Fault f) o) (joined_column awards)
-  of_first awards faults o is = ap (λ o. unwrap_or (option_map (λ f. Fault f) o) (joined_column awards)) is
-
   -- the first award without seats is the fault
   pub joined_fault : (before rest : List Award) (kind : FaultKind) (g : Group) → Every IsSeats before → slice_get groups (length before) ≡ Some g →
       joined e at amounts records groups (before ++ Refused kind ∷ rest) ≡ Fault (fault_at at.stage g.scope kind)
   joined_fault before rest kind g all there =
-      of_first (before ++ Refused kind ∷ rest) (filter_map (fault_of at.stage) (zip groups (before ++ Refused kind ∷ rest))) (Some (fault_at at.stage g.scope kind))
-      (first_fault at.stage groups before rest kind g all there)
+      ap (λ o. unwrap_or (option_map (λ f. Fault f) o) (joined_column (before ++ Refused kind ∷ rest))) (first_fault at.stage groups before rest kind g all there)
 
   -- without one, the seats are the column
   pub joined_seats : (awards : List Award) → Every IsSeats awards → joined e at amounts records groups awards ≡ joined_column awards
-  joined_seats awards all = of_first awards (filter_map (fault_of at.stage) (zip groups awards)) None (ap (λ (faults : List LegalFault). slice_get faults 0) (no_faults at.stage groups awards all))
+  joined_seats awards all = ap (λ (faults : List LegalFault). unwrap_or (option_map (λ f. Fault f) (slice_get faults 0)) (joined_column awards)) (no_faults at.stage groups awards all)

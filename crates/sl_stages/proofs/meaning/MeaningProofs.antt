@@ -1,5 +1,5 @@
 -- Outcomes up to the order of a table's records: each typed book means exactly one.
-use Rattle.std.proofs.Common.{refl, sym, ◌∙◌, subst}
+use Rattle.std.proofs.Common.{refl, rules, sym, ◌∙◌, subst}
 use Rattle.std.proofs.lemmas.List.Sorted.{IsPermutation-refl, IsPermutation-sym, IsPermutation-trans}
 use Rattle.sl_stages.specs.declared.table.Outcome.{Outcome}
 use Rattle.sl_stages.specs.declared.table.Outcome.TheVariants as outcome
@@ -15,20 +15,10 @@ table-refl : (t : SeatTable) → SameTable t t
 table-refl t = record { lists = refl; placed = refl; steps = IsPermutation-refl t.steps; weights = IsPermutation-refl t.weights }
 
 pub table-sym : (t u : SeatTable) → SameTable t u → SameTable u t
-table-sym t u h = record {
-  lists = sym h.lists;
-  placed = sym h.placed;
-  steps = IsPermutation-sym t.steps u.steps h.steps;
-  weights = IsPermutation-sym t.weights u.weights h.weights;
-}
+table-sym t u h = search (rules, IsPermutation-sym)
 
 table-trans : (t u v : SeatTable) → SameTable t u → SameTable u v → SameTable t v
-table-trans t u v h k = record {
-  lists = h.lists ∙ k.lists;
-  placed = h.placed ∙ k.placed;
-  steps = IsPermutation-trans t.steps u.steps v.steps h.steps k.steps;
-  weights = IsPermutation-trans t.weights u.weights v.weights h.weights k.weights;
-}
+table-trans t u v h k = search (rules, IsPermutation-trans)
 
 pub same_itself : (o : Outcome) → SameOutcome o o
 same_itself (outcome.Table t) = table-refl t
@@ -36,13 +26,10 @@ same_itself (outcome.Fault f) = refl
 
 same_through : (o p q : Outcome) → SameOutcome o q → SameOutcome p q → SameOutcome o p
 same_through (outcome.Table t) (outcome.Table u) (outcome.Table v) h k = table-trans t v u h (table-sym u v k)
-same_through (outcome.Table t) (outcome.Table u) (outcome.Fault f) h k = absurd h
-same_through (outcome.Table t) (outcome.Fault f) (outcome.Table v) h k = absurd k
-same_through (outcome.Table t) (outcome.Fault f) (outcome.Fault g) h k = absurd h
-same_through (outcome.Fault f) (outcome.Table u) (outcome.Table v) h k = absurd h
-same_through (outcome.Fault f) (outcome.Table u) (outcome.Fault g) h k = absurd k
-same_through (outcome.Fault f) (outcome.Fault g) (outcome.Table v) h k = absurd h
 same_through (outcome.Fault f) (outcome.Fault g) (outcome.Fault i) h k = h ∙ sym k
+same_through (outcome.Table t) _ (outcome.Fault f) h k = absurd h
+same_through (outcome.Fault f) _ (outcome.Table v) h k = absurd h
+same_through _ _ _ h k = absurd k
 
 reordered : (t u : SeatTable) (o : Outcome) → SameTable u t → SameOutcome (outcome.Table t) o → SameOutcome (outcome.Table u) o
 reordered t u (outcome.Table v) h k = table-trans u t v h k

@@ -2,8 +2,9 @@
 use Rattle.std.proofs.Common.{◌≡◌, ℕ, zero, suc, ◌+◌, ◌<◌, ◌⊎◌, Bool, true, false, List, [], ◌∷◌, ◌++◌, Option, Some, None, map, filter, nat_eq, arith, refl, sym, ap, subst, ◌∙◌, inl, inr}
 use Rattle.std.specs.Prelude.{zip, flat_map, filter_map}
 use Rattle.std.specs.List.{AllByRecursion as Every, AllZip, cons_option, list_any, range_with_len}
-use Rattle.std.proofs.lemmas.Bool.{cases_Bool, cond-true, cond-false, or_cases, or_from, or_left, or_right, eqb-true, false≢true}
-use Rattle.std.proofs.lemmas.List.Folds.{list_any-append}
+use Rattle.std.proofs.lemmas.Bool.{cond-true, cond_both, or_cases, or_left, or_right, eqb-true, false≢true}
+use Rattle.std.proofs.lemmas.List.Folds.{list_any-append, list_any_none}
+use Rattle.std.proofs.lemmas.List.Elements.{All-from_recursion}
 
 abbrev pub In : {X : Type 0} → X → List X → Type 0
 In x [] = ⊥
@@ -27,10 +28,7 @@ pub in_filter : {X : Type 0} (p : X → Bool) (x : X) (xs : List X) → p x ≡ 
 in_filter p x [] pass h = absurd h
 in_filter p x (z ∷ xs) pass (inl e) = subst (In x) (sym (cond-true (p z) (z ∷ filter p xs) (filter p xs) (ap p e ∙ pass))) (inl e)
 in_filter p x (z ∷ xs) pass (inr h) =
-    elim (cases_Bool (p z)) [
-      | inl yes' ↦ subst (In x) (sym (cond-true (p z) (z ∷ filter p xs) (filter p xs) yes')) (inr (in_filter p x xs pass h))
-      | inr no' ↦ subst (In x) (sym (cond-false (p z) (z ∷ filter p xs) (filter p xs) no')) (in_filter p x xs pass h)
-    ]
+    cond_both (p z) (z ∷ filter p xs) (filter p xs) (In x) (λ passes. inr (in_filter p x xs pass h)) (λ fails. in_filter p x xs pass h)
 
 pub in_pieces : {X Y : Type 0} (f : X → List Y) (y : Y) (x : X) (xs : List X) → In x xs → In y (f x) → In y (flat_map f xs)
 in_pieces f y x [] h k = absurd h
@@ -57,6 +55,13 @@ zip_each R [] ys all = tt
 zip_each R (x ∷ xs) [] all = tt
 zip_each R (x ∷ xs) (y ∷ ys) all = (all.0, zip_each R xs ys all.1)
 
+-- one pair more
+pub all_and_one : {X Y : Type 0} (R : X → Y → Type 0) (xs : List X) (ys : List Y) (x : X) (y : Y) → R x y → AllZip R xs ys → AllZip R (xs ++ x ∷ []) (ys ++ y ∷ [])
+all_and_one R [] [] x y this all = (this, tt)
+all_and_one R [] (d ∷ ys) x y this all = absurd all
+all_and_one R (c ∷ xs) [] x y this all = absurd all
+all_and_one R (c ∷ xs) (d ∷ ys) x y this all = (all.0, all_and_one R xs ys x y this all.1)
+
 kept_none : {Y : Type 0} (o : Option Y) (ys : List Y) → cons_option o ys ≡ [] → (o ≡ None) × (ys ≡ [])
 kept_none None ys h = (refl, h)
 kept_none (Some y) ys h = cc
@@ -73,8 +78,7 @@ abbrev pub among : List ℕ → ℕ → Bool
 among ks k = list_any (nat_eq k) ks
 
 pub not_among : (ks : List ℕ) (k : ℕ) → Every (λ m. nat_eq k m ≡ false) ks → among ks k ≡ false
-not_among [] k all = refl
-not_among (m ∷ ks) k all = or_from (nat_eq k m) (among ks k) all.0 (not_among ks k all.1)
+not_among ks k all = list_any_none (nat_eq k) ks (All-from_recursion (λ m. nat_eq k m ≡ false) ks all)
 
 pub among_piece : {X : Type 0} (f : X → List ℕ) (k : ℕ) (x : X) (xs : List X) → In x xs → among (f x) k ≡ true → among (flat_map f xs) k ≡ true
 among_piece f k x [] h is = absurd h

@@ -15,7 +15,7 @@ use Rattle.sl_stages.specs.methods.LeastHouse.{Growth, GrownTo, EmptyField, Abov
 use Rattle.sl_stages.specs.meaning.Lots.{first_mentions}
 use Rattle.sl_stages.specs.meaning.Splits.{Refused, refusal, award_of, IsChosen, IsAllocation, IsSplitAward, IsHouseAward, IsGrowthAward}
 use Rattle.sl_stages.specs.laws.OneLaws.{ExactlyOne}
-use Rattle.sl_stages.proofs.methods.DrawnLots.{filter_only, filter_distinct}
+use Rattle.sl_stages.proofs.methods.ListedEntries.{filter_only, filter_distinct}
 use Rattle.sl_stages.proofs.methods.DivisorProofs.{empty_fields, divisor_allocations}
 use Rattle.sl_stages.proofs.methods.HamiltonProofs.{hamilton_allocations}
 use Rattle.sl_stages.proofs.methods.HouseProofs.{growths, growing}

@@ -1,9 +1,10 @@
 -- A typed book comes to exactly one outcome on an election.
-use Rattle.std.proofs.Common.{◌≡◌, ℕ, ◌+◌, ◌≤◌, Bool, true, List, [], ◌∷◌, ◌++◌, None, length, map, min, arith, refl, sym, ap, subst, ◌∙◌}
+use Rattle.std.proofs.Common.{◌≡◌, ℕ, ◌<◌, ◌≤◌, Bool, true, List, [], ◌∷◌, ◌++◌, None, length, map, min, arith, refl, sym, ap, subst, ◌∙◌}
 use Rattle.std.specs.Prelude.{slice_get, filter_map, unwrap_or, option_map}
 use Rattle.std.specs.List.{All, zip, enumerate_from}
 use Rattle.std.proofs.lemmas.List.{length-map}
-use Rattle.std.proofs.lemmas.List.Elements.{All-nil, All-cons, All-head, All-tail, All-filter, All-get_or, All-map}
+use Rattle.std.proofs.lemmas.List.Elements.{All-filter, All-get_or, All-map}
+use Rattle.std.proofs.lemmas.List.FromFn.{length-enumerate_from, get_or-enumerate_from}
 use Rattle.sl_stages.specs.declared.book.Base.{Base}
 use Rattle.sl_stages.specs.declared.book.Base.TheVariants as base
 use Rattle.sl_stages.specs.declared.book.LastClause.{LastClause}
@@ -32,15 +33,15 @@ use Rattle.sl_stages.proofs.methods.CoveringProofs.{coverings}
 use Rattle.sl_stages.proofs.meaning.ExactlyOne.{one_equal, one_zip}
 use Rattle.sl_stages.proofs.meaning.OneAward.{mentions_distinct}
 use Rattle.sl_stages.proofs.Tests.{no_fault, head_holds, pass_parts}
-use Rattle.sl_stages.proofs.meaning.OneResult.{SameNames, more_names, one_column, one_run}
+use Rattle.sl_stages.proofs.meaning.OneResult.{SameNames, one_column, one_run}
+use Rattle.sl_stages.proofs.meaning.Members.{all_and_one}
 
 -- ---- covering
 
 votes_numbered : (n lands parties : ℕ) (wins : List Win) → All (IsWin lands parties) wins → All (λ x. 1 ≤ x.1.first) (enumerate_from n wins)
-votes_numbered n lands parties [] each = All-nil (λ x. 1 ≤ x.1.first)
-votes_numbered n lands parties (w ∷ wins) each =
-    All-cons (λ x. 1 ≤ x.1.first) (n, w) (enumerate_from (n + 1) wins) (All-head (IsWin lands parties) w wins each).least
-    (votes_numbered (n + 1) lands parties wins (All-tail (IsWin lands parties) w wins each))
+votes_numbered n lands parties wins each k d less =
+    let within : k < length wins = omega (arith, less, length-enumerate_from n wins) in
+    rw (get_or-enumerate_from n wins k d within) (each k d.1 within).least
 
 module _ (eligible : ℕ → Bool) (e : Election) (is : IsElection e) (base : List ℕ) (l : ℕ × ℕ) where
   have_votes : AllHaveVotes (map (λ x. x.1.first) (winners_of eligible e l.0 l.1))
@@ -49,18 +50,22 @@ module _ (eligible : ℕ → Bool) (e : Election) (is : IsElection e) (base : Li
       (All-map (λ n. 1 ≤ n) (λ x. x.1.first) (winners_of eligible e l.0 l.1)
       (All-filter _ (λ x. 1 ≤ x.1.first) (enumerate_from 0 e.wins) (votes_numbered 0 (length e.land_names) (length e.party_names) e.wins is.places)))
 
-  few : (n : ℕ) → min n (length (winners_of eligible e l.0 l.1)) ≤ length (map {B = ℕ} (λ x. x.1.first) (winners_of eligible e l.0 l.1))
-  few n = let long : length (map {B = ℕ} (λ x. x.1.first) (winners_of eligible e l.0 l.1)) ≡ length (winners_of eligible e l.0 l.1) = length-map (winners_of eligible e l.0 l.1) (λ x. x.1.first) in omega (arith, long)
-
   one_chosen : ExactlyOne (IsSeating eligible e base l)
   one_chosen =
       let won = winners_of eligible e l.0 l.1 in
-      let defined = (coverings (map (λ x. x.1.first) won) (map (λ x. x.1.valid) won) (min (list_cell e base l.0 l.1) (length won)) have_votes).1 (few (list_cell e base l.0 l.1)) in
+      let long : length (map {B = ℕ} (λ x. x.1.first) won) ≡ length won = length-map won (λ x. x.1.first) in
+      let defined = (coverings (map (λ x. x.1.first) won) (map (λ x. x.1.valid) won) (min (list_cell e base l.0 l.1) (length won)) have_votes).1 (omega (arith, long)) in
       let chosen = defined.one_choice (seats_lot e (winner_items eligible e l.0 l.1)) (mentions_distinct _) in
       record { one = chosen.0; is = chosen.1; only = chosen.2 }
 
 pub one_seating : OneSeating
 one_seating = one_chosen
+
+-- what goes on to an end does so from a column
+pub goes_through : (p : ExprResult) (Next : List ℕ → Records → Type 0) (end : Known) → GoesOn p Next (Through end) →
+    (values : List ℕ) × (records : Records) × (p ≡ Column values records) × Next values records
+goes_through (Fault f) Next end h = cc
+goes_through (Column values records) Next end h = (values, records, refl, h)
 
 -- ---- the last clause
 
@@ -98,19 +103,11 @@ module _ (b : BookTree) (e : Election) where
 
   -- ---- what is known behind the stages
 
-  goes : (k : Known) (s : StageTree) (ss : List StageTree) (end : Known) (p : ExprResult) →
-      ((values : List ℕ) (records : Records) → StagesMean b e (with_stage k s values records) ss (Through end) → SameNames end.types end.columns × (end.types ≡ columns_of k.types (s ∷ ss))) →
-      GoesOn p (λ values records. StagesMean b e (with_stage k s values records) ss (Through end)) (Through end) →
-      SameNames end.types end.columns × (end.types ≡ columns_of k.types (s ∷ ss))
-  goes k s ss end (Fault f) on stops = cc
-  goes k s ss end (Column values records) on run = on values records run
-
   through : (k : Known) (ss : List StageTree) (end : Known) → SameNames k.types k.columns → StagesMean b e k ss (Through end) → SameNames end.types end.columns × (end.types ≡ columns_of k.types ss)
   through k [] end names run = let same : end ≡ k = cc in (subst (λ j. SameNames j.types j.columns) (sym same) names, ap (λ j. j.types) same)
   through k (s ∷ ss) end names run =
-      goes k s ss end run.0
-      (λ values records. through (with_stage k s values records) ss end (more_names k.types k.columns (stage_column k.types s) (record { name = s.name; values = values }) refl names))
-      run.2
+      let on = goes_through run.0 (λ values records. StagesMean b e (with_stage k s values records) ss (Through end)) end run.2 in
+      through (with_stage k s on.0 on.1) ss end (all_and_one (λ t c. t.name ≡ c.name) k.types k.columns (stage_column k.types s) (record { name = s.name; values = on.0 }) refl names) on.3
 
   one_ending : IsElection e → first_failing (base_tests (columns_of [] b.stages) b.last.at b.last.base) ≡ None → (r : StagesResult) → StagesMean b e nothing_known b.stages r → ExactlyOne (EndsAs b e r)
   one_ending is pass (Stopped f) run = one_equal (outcome.Fault f)

@@ -1,9 +1,9 @@
 -- An expression of a typed book comes to exactly one result, and its stages to exactly one run.
-use Rattle.std.proofs.Common.{◌≡◌, ℕ, ◌&&◌, ◌||◌, Bool, true, false, not, List, [], ◌∷◌, ◌++◌, Option, Some, None, length, refl, sym, ap, subst, ◌∙◌, inl, inr}
+use Rattle.std.proofs.Common.{◌≡◌, ℕ, ◌&&◌, ◌||◌, true, false, not, List, [], ◌∷◌, Option, Some, None, length, refl, sym, ap, subst, ◌∙◌}
 use Rattle.std.specs.Prelude.{find, slice_index, option_map}
 use Rattle.std.specs.List.{AllZip, list_any}
 use Rattle.std.specs.Str.{bytes_eq}
-use Rattle.std.proofs.lemmas.Bool.{cases_Bool, cond-true, cond-false, false≢true, both_ways, or_cases, not-true, and_parts}
+use Rattle.std.proofs.lemmas.Bool.{cond_both, false≢true, not-true, and_parts}
 use Rattle.std.proofs.lemmas.List.{length-map}
 use Rattle.std.proofs.lemmas.Option.{same_Some}
 use Rattle.sl_ratio.specs.declared.method.Divisor.{Divisor}
@@ -22,12 +22,13 @@ use Rattle.sl_stages.specs.meaning.Columns.{NamedColumn, is_column_of, sum_over,
 use Rattle.sl_stages.specs.meaning.Scopes.{Group, cells, place, scopes}
 use Rattle.sl_stages.specs.meaning.Records.{Records}
 use Rattle.sl_stages.specs.meaning.Splits.{Award}
-use Rattle.sl_stages.specs.meaning.Results.{ExprResult, Column, Fault, plain, Then, Stand, amount_of, first_over, fault_at, joined, AreJoined, IsShared}
+use Rattle.sl_stages.specs.meaning.Results.{ExprResult, Column, Fault, plain, Stand, amount_of, first_over, fault_at, joined, AreJoined, IsShared}
 use Rattle.sl_stages.specs.meaning.Expressions.{minima_at, IsSplitIn, split_records, IsGrowthIn, growth_records, IsSplit, IsGrown, Context, ExprMeans, stand, shape_in}
 use Rattle.sl_stages.specs.meaning.Means.{Known, StagesResult, Through, Stopped, context_of, with_stage, GoesOn, StagesMean}
 use Rattle.sl_stages.specs.laws.OneLaws.{ExactlyOne, FitsMethod, OneSplitAward, OneGrowthAward}
 use Rattle.sl_stages.proofs.methods.SeatSums.{length_zeros, sum_zeros}
 use Rattle.sl_stages.proofs.meaning.ExactlyOne.{one_equal, one_image, one_matched, one_zip, one_then}
+use Rattle.sl_stages.proofs.meaning.Members.{all_and_one}
 use Rattle.sl_stages.proofs.meaning.OneAward.{mentions_distinct, TakesMinima, one_split, one_growth}
 
 -- ---- scopes
@@ -95,26 +96,13 @@ one_growth_award e at amounts votes d majority minima cap g = one_growth_in_scop
 abbrev pub SameNames : List TypedColumn → List NamedColumn → Type 0
 SameNames types columns = AllZip (λ t c. t.name ≡ c.name) types columns
 
-pub more_names : (types : List TypedColumn) (columns : List NamedColumn) (t : TypedColumn) (c : NamedColumn) → t.name ≡ c.name → SameNames types columns → SameNames (types ++ t ∷ []) (columns ++ c ∷ [])
-more_names [] [] t c same names = (same, tt)
-more_names [] (d ∷ columns) t c same names = absurd names
-more_names (u ∷ types) [] t c same names = absurd names
-more_names (u ∷ types) (d ∷ columns) t c same names = (names.0, more_names types columns t c same names.1)
-
-or_rest : (x y : Bool) → x ≡ false → (x || y) ≡ true → y ≡ true
-or_rest x y none some = elim (or_cases x y some) [ inl h ↦ absurd (both_ways x none h) | inr h ↦ h ]
-
 pub found : (n : List ℕ) (types : List TypedColumn) (columns : List NamedColumn) → SameNames types columns → list_any (is_named n) types ≡ true → (c : NamedColumn) × (find (is_column_of n) columns ≡ Some c)
 found n [] [] names some = absurd (false≢true some)
 found n [] (d ∷ columns) names some = absurd names
 found n (u ∷ types) [] names some = absurd names
 found n (u ∷ types) (d ∷ columns) names some =
-    elim (cases_Bool (bytes_eq n d.name)) [
-      | inl this ↦ (d, cond-true (bytes_eq n d.name) (Some d) (find (is_column_of n) columns) this)
-      | inr other ↦
-          (let rest = found n types columns names.1 (or_rest (bytes_eq n u.name) (list_any (is_named n) types) (ap (bytes_eq n) names.0 ∙ other) some) in
-          (rest.0, cond-false (bytes_eq n d.name) (Some d) (find (is_column_of n) columns) other ∙ rest.1))
-    ]
+    cond_both (bytes_eq n d.name) (Some d) (find (is_column_of n) columns) (λ o. (c : NamedColumn) × (o ≡ Some c)) (λ this. (d, refl))
+    (λ other. found n types columns names.1 (subst (λ t. t || list_any (is_named n) types ≡ true) (ap (bytes_eq n) names.0 ∙ other) some))
 
 -- ---- methods
 
@@ -142,39 +130,29 @@ module _ (b : BookTree) (e : Election) (c : Context) (names : SameNames c.types 
   pub one_means : (x : ExprTree) → first_failing (expr_tests c.types x) ≡ None → ExactlyOne (ExprMeans b e c x)
   one_means (fact at told) pass = one_leaf _
   one_means (name at n) pass = one_image (λ values. option_map (λ s. s.values) (find (is_column_of n) c.columns) ≡ Some values) plain (one_column c.types c.columns names n (head_holds _ _ _ pass).0)
-  one_means (sum_tree at x over) pass =
-      one_then (ExprMeans b e c x) (λ xs r. r ≡ plain (sum_over e over xs)) (one_means x (pass_parts (expr_tests c.types x) _ pass).0) (λ xs. one_equal (plain (sum_over e over xs)))
+  one_means (sum_tree at x over) pass = one_then _ _ (one_means x (pass_parts (expr_tests c.types x) _ pass).0) (λ xs. one_equal (plain (sum_over e over xs)))
   one_means (pair at pairing x y) pass =
       let px = pass_parts (expr_tests c.types x) _ pass in
       let py = pass_parts (expr_tests c.types y) _ px.1 in
-      one_then (ExprMeans b e c x) (λ xs. Then (ExprMeans b e c y) (λ ys r. r ≡ plain (pair_of pairing xs ys))) (one_means x px.0)
-      (λ xs. one_then (ExprMeans b e c y) (λ ys r. r ≡ plain (pair_of pairing xs ys)) (one_means y py.0) (λ ys. one_equal (plain (pair_of pairing xs ys))))
+      one_then _ _ (one_means x px.0) (λ xs. one_then _ _ (one_means y py.0) (λ ys. one_equal (plain (pair_of pairing xs ys))))
   one_means (split at s v method without majority) pass =
       let ps = pass_parts (expr_tests c.types s) _ pass in
       let pv = pass_parts (expr_tests c.types v) _ ps.1 in
-      let Split : List ℕ → List ℕ → ExprResult → Type 0 = λ amounts votes. IsSplit e (stand c v) amounts votes (shape_in c s) method majority None in
-      one_then (ExprMeans b e c s) (λ amounts. Then (ExprMeans b e c v) (Split amounts)) (one_means s ps.0)
-      (λ amounts. one_then (ExprMeans b e c v) (Split amounts) (one_means v pv.0)
+      one_then _ _ (one_means s ps.0) (λ amounts. one_then _ _ (one_means v pv.0)
       (λ votes. one_split_result e (stand c v) amounts votes (shape_in c s) method majority None tt))
   one_means (split at s v method (atleast m) majority) pass =
       let ps = pass_parts (expr_tests c.types s) _ pass in
       let pv = pass_parts (expr_tests c.types v) _ ps.1 in
       let pm = pass_parts (expr_tests c.types m) _ pv.1 in
       let divisor = no_hamilton majority method (head_holds _ _ _ pm.1).0 in
-      let Split : List ℕ → List ℕ → List ℕ → ExprResult → Type 0 = λ amounts votes minima. IsSplit e (stand c v) amounts votes (shape_in c s) method majority (Some minima) in
-      one_then (ExprMeans b e c s) (λ amounts. Then (ExprMeans b e c v) (λ votes. Then (ExprMeans b e c m) (Split amounts votes))) (one_means s ps.0)
-      (λ amounts. one_then (ExprMeans b e c v) (λ votes. Then (ExprMeans b e c m) (Split amounts votes)) (one_means v pv.0)
-      (λ votes. one_then (ExprMeans b e c m) (Split amounts votes) (one_means m pm.0)
+      one_then _ _ (one_means s ps.0) (λ amounts. one_then _ _ (one_means v pv.0) (λ votes. one_then _ _ (one_means m pm.0)
       (λ minima. one_split_result e (stand c v) amounts votes (shape_in c s) method majority (Some minima) (fits_divisor method minima divisor))))
   one_means (grow at s v method m limit majority) pass =
       let ps = pass_parts (expr_tests c.types s) _ pass in
       let pv = pass_parts (expr_tests c.types v) _ ps.1 in
       let pm = pass_parts (expr_tests c.types m) _ pv.1 in
       let divisor = no_hamilton majority method (head_holds _ _ _ pm.1).0 in
-      let Grown : List ℕ → List ℕ → List ℕ → ExprResult → Type 0 = λ amounts votes minima. IsGrown e (stand c v) amounts votes method majority minima limit.value in
-      one_then (ExprMeans b e c s) (λ amounts. Then (ExprMeans b e c v) (λ votes. Then (ExprMeans b e c m) (Grown amounts votes))) (one_means s ps.0)
-      (λ amounts. one_then (ExprMeans b e c v) (λ votes. Then (ExprMeans b e c m) (Grown amounts votes)) (one_means v pv.0)
-      (λ votes. one_then (ExprMeans b e c m) (Grown amounts votes) (one_means m pm.0)
+      one_then _ _ (one_means s ps.0) (λ amounts. one_then _ _ (one_means v pv.0) (λ votes. one_then _ _ (one_means m pm.0)
       (λ minima. one_grown e (stand c v) amounts votes method majority minima limit.value divisor)))
 
 -- ---- stages
@@ -193,7 +171,7 @@ module _ (b : BookTree) (e : Election) where
       let first = one_means b e (context_of k s) names s.expr parts.0 in
       let Next : List ℕ → Records → StagesResult → Type 0 = λ values records. StagesMean b e (with_stage k s values records) ss in
       let after = goes_once first.one Next
-      (λ values records. one_run (with_stage k s values records) ss (more_names k.types k.columns (stage_column k.types s) (record { name = s.name; values = values }) refl names) parts.1) in
+      (λ values records. one_run (with_stage k s values records) ss (all_and_one (λ t c. t.name ≡ c.name) k.types k.columns (stage_column k.types s) (record { name = s.name; values = values }) refl names) parts.1) in
       record {
         one = after.one;
         is = (first.one, first.is, after.is);

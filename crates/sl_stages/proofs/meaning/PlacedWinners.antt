@@ -2,6 +2,7 @@
 use Rattle.std.proofs.Common.{◌≡◌, ℕ, ◌<◌, ◌&&◌, Bool, true, false, cond, List, [], ◌∷◌, Option, Some, None, nat_eq, map, count_by, arith, refl, sym, ap, ◌∙◌, inl, inr}
 use Rattle.std.specs.Prelude.{if◌then◌else◌}
 use Rattle.std.specs.List.{AllByRecursion as Every, zip}
+use Rattle.std.proofs.Math.Bool.{and_comm}
 use Rattle.std.proofs.lemmas.Bool.{cases_Bool, and_parts, and_right, eqb-true}
 use Rattle.std.proofs.lemmas.List.Sums.{sum_by-cons}
 use Rattle.sl_stages.specs.declared.returns.Win.{Win}
@@ -42,16 +43,6 @@ on_if : (t : Bool) → is_on (if t then placed.OnList else placed.Single) ≡ t
 on_if true = refl
 on_if false = refl
 
-pub rearranged : (x y t : Bool) → (x && y) && t ≡ t && (x && y)
-rearranged true true true = refl
-rearranged true true false = refl
-rearranged true false true = refl
-rearranged true false false = refl
-rearranged false true true = refl
-rearranged false true false = refl
-rearranged false false true = refl
-rearranged false false false = refl
-
 module _ (eligible : ℕ → Bool) (e : Election) (land party : ℕ) where
   -- a winner of that Land and party, of whom a test says what it says of the list
   pub when_both : (w : Win) (p : ℕ) → (nat_eq w.land land && nat_eq p party) && is_eligible_list eligible e w.land p ≡ is_eligible_list eligible e land party && (nat_eq w.land land && nat_eq p party)
@@ -60,7 +51,7 @@ module _ (eligible : ℕ → Bool) (e : Election) (land party : ℕ) where
         | inl both ↦
             (let parts = and_parts (nat_eq w.land land) (nat_eq p party) both in
             ap (λ t. (nat_eq w.land land && nat_eq p party) && t) (ap (λ l. is_eligible_list eligible e l p) (eqb-true w.land land parts.0) ∙ ap (is_eligible_list eligible e land) (eqb-true p party parts.1))
-            ∙ rearranged (nat_eq w.land land) (nat_eq p party) (is_eligible_list eligible e land party))
+            ∙ and_comm (nat_eq w.land land && nat_eq p party) (is_eligible_list eligible e land party))
         | inr not ↦ ap (λ t. t && is_eligible_list eligible e w.land p) not ∙ sym (and_right (is_eligible_list eligible e land party) (nat_eq w.land land && nat_eq p party) not)
       ]
 

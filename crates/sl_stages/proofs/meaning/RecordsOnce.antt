@@ -1,5 +1,5 @@
 -- No record of a table comes twice.
-use Rattle.std.proofs.Common.{◌≡◌, ℕ, ◌+◌, ◌<◌, ◌≤◌, ◌&&◌, false, List, [], ◌∷◌, Option, Some, None, length, nat_eq, arith, refl, sym, ap, subst, ◌∙◌, inl, inr}
+use Rattle.std.proofs.Common.{◌≡◌, ℕ, ◌+◌, ◌<◌, ◌≤◌, ◌&&◌, Bool, false, List, [], ◌∷◌, Option, Some, None, length, nat_eq, arith, refl, sym, ap, subst, ◌∙◌, inl, inr}
 use Rattle.std.specs.Prelude.{zip, filter_map, slice_get, option_map, unwrap_or, MatchOption}
 use Rattle.std.specs.Cmp.{nat_eq_equiv}
 use Rattle.std.specs.List.{AllByRecursion as Every, IsDistinct}
@@ -18,8 +18,6 @@ use Rattle.sl_stages.specs.declared.fault.FaultKind.TheVariants as fault
 use Rattle.sl_stages.specs.declared.fault.LegalFault.{LegalFault}
 use Rattle.sl_stages.specs.declared.fault.Scope.{Scope}
 use Rattle.sl_stages.specs.declared.fault.Scope.TheVariants as scope
-use Rattle.sl_stages.specs.declared.fault.Item.{Item}
-use Rattle.sl_stages.specs.declared.fault.Item.TheVariants as item
 use Rattle.sl_stages.specs.declared.table.SeatStep.{SeatStep}
 use Rattle.sl_stages.specs.declared.table.Weight.{Weight}
 use Rattle.sl_stages.specs.declared.table.Outcome.{Outcome}
@@ -27,23 +25,23 @@ use Rattle.sl_stages.specs.declared.table.Outcome.TheVariants as outcome
 use Rattle.sl_stages.specs.meaning.Tables.{SeatTable}
 use Rattle.sl_stages.specs.book.Trees.{ExprTree, fact, name, sum, pair, split, without, atleast, grow, StageTree, BookTree}
 use Rattle.sl_stages.specs.returns.Election.{Election}
-use Rattle.sl_stages.specs.returns.Facts.{lists_of, is_eligible}
+use Rattle.sl_stages.specs.returns.Facts.{lists_of}
 use Rattle.sl_stages.specs.book.Tests.{first_failing}
 use Rattle.sl_stages.specs.book.Typing.{splits_in, tests_of, stages_tests, expr_tests}
-use Rattle.sl_stages.specs.meaning.Columns.{sum_over, pair_of}
-use Rattle.sl_stages.specs.meaning.Scopes.{same_item, Group, scopes}
+use Rattle.sl_stages.specs.meaning.Scopes.{Group, scopes}
 use Rattle.sl_stages.specs.meaning.Records.{Records, no_records, both_records}
 use Rattle.sl_stages.specs.meaning.Splits.{Award}
 use Rattle.sl_stages.specs.meaning.Results.{ExprResult, Column, Fault, plain, behind, Continues, Then, Stand, fault_at, fault_of, first_over, AreJoined, IsShared}
 use Rattle.sl_stages.specs.meaning.Expressions.{IsSplitIn, split_records, IsGrowthIn, growth_records, IsSplit, IsGrown, Context, ExprMeans, IsLeafResult, stand, shape_in}
-use Rattle.sl_stages.specs.meaning.Seating.{keep_table, cover_table, tie_of}
-use Rattle.sl_stages.specs.meaning.Means.{Known, nothing_known, StagesResult, Through, Stopped, context_of, with_stage, GoesOn, StagesMean, IsSeated, EndsAs, IsOutcome, SameOutcome}
+use Rattle.sl_stages.specs.meaning.Seating.{keep_table, cover_table}
+use Rattle.sl_stages.specs.meaning.Means.{Known, nothing_known, StagesResult, Through, Stopped, context_of, with_stage, StagesMean, IsSeated, EndsAs, IsOutcome, SameOutcome}
 use Rattle.sl_stages.specs.laws.MeaningLaws.{same_scope, same_seat, same_entry, RecordsComeOnce, RecordsOnce}
+use Rattle.sl_stages.proofs.meaning.CoveredWinners.{table_without_faults}
 use Rattle.sl_stages.proofs.meaning.DistinctLists.{every_weaker, every_append, distinct_nil, distinct_append}
-use Rattle.sl_stages.proofs.meaning.ScopeRecords.{scopes_differ, entries_once, AtScope, Once}
-use Rattle.sl_stages.proofs.meaning.StageRecords.{split_at, split_once, growth_at, growth_once, OfStage, of_stage, all_apart}
+use Rattle.sl_stages.proofs.meaning.ScopeRecords.{item_flips, scopes_differ, entries_once, AtScope, Once}
+use Rattle.sl_stages.proofs.meaning.StageRecords.{split_at, growth_at, OfStage, of_stage, all_apart}
 use Rattle.sl_stages.proofs.Tests.{no_fault, head_holds, pass_parts}
-use Rattle.sl_stages.proofs.meaning.OneOutcome.{typed_parts}
+use Rattle.sl_stages.proofs.meaning.OneOutcome.{goes_through, typed_parts}
 
 -- ---- results whose records come from so many splits and growths of a stage
 
@@ -56,9 +54,6 @@ nothing_of stage = record { steps_at = tt; weights_at = tt; once = record { step
 
 plain_has : (stage n : ℕ) (values : List ℕ) (r : ExprResult) → r ≡ plain values → HasFew stage n r
 plain_has stage n values r is = subst (HasFew stage n) (sym is) (λ h. refl, λ h. nothing_of stage)
-
-few_same : (stage n m : ℕ) (r : ExprResult) → n ≡ m → HasFew stage n r → HasFew stage m r
-few_same stage n m r same = subst (λ k. HasFew stage k r) same
 
 nothing_behind : (a : Records) → both_records a no_records ≡ a
 nothing_behind a = λ i. record { steps = append-nil a.steps i; weights = append-nil a.weights i }
@@ -79,13 +74,13 @@ module _ (stage n m : ℕ) where
   goes_few Next (Column xs a) r h next goes = subst (HasFew stage (n + m)) (sym goes.2) (both_few xs a goes.0 h (next xs goes.0 goes.1))
 
   then_few : (First : ExprResult → Type 0) (Next : List ℕ → ExprResult → Type 0) → ((p : ExprResult) → First p → HasFew stage n p) → ((xs : List ℕ) (q : ExprResult) → Next xs q → HasFew stage m q) →
-      (r : ExprResult) → Then First Next r → HasFew stage (n + m) r
-  then_few First Next first next r h = goes_few Next h.first r (first h.first h.comes) next h.goes_on
+      (k : ℕ) → n + m ≡ k → (r : ExprResult) → Then First Next r → HasFew stage k r
+  then_few First Next first next k all r h = subst (λ k. HasFew stage k r) all (goes_few Next h.first r (first h.first h.comes) next h.goes_on)
 
 -- ---- splits and growths
 
 module _ (e : Election) (at : Stand) (amounts : List ℕ) (over : Shape) (records : Group → List ℕ → Records)
-    (each : (g : Group) (s : List ℕ) → AtScope at.stage g.scope (records g s)) (once : (g : Group) (s : List ℕ) → IsDistinct same_item g.entries → Once (records g s)) where
+    (each : (g : Group) (s : List ℕ) → AtScope at.stage g (records g s)) where
   unwrapped : (f : Option LegalFault) (c : List ℕ) (a : Records) (r : ExprResult) → OfStage at.stage a → r ≡ unwrap_or (option_map (λ f. Fault f) f) (Column c a) → HasFew at.stage 1 r
   unwrapped (Some f) c a r of is = subst (HasFew at.stage 1) (sym is) tt
   unwrapped None c a r of is = subst (HasFew at.stage 1) (sym is) (λ z. absurd (omega arith), λ z. of)
@@ -96,17 +91,17 @@ module _ (e : Election) (at : Stand) (amounts : List ℕ) (over : Shape) (record
     of (Some g) is = subst (HasFew at.stage 1) (sym is) tt
     of None j =
         unwrapped (slice_get (filter_map (fault_of at.stage) (zip (scopes e over at.shape) j.awards)) 0) _ _ r
-        (of_stage at.stage records each once (scopes e over at.shape) j.awards (scopes_differ e over at.shape) (entries_once e over at.shape)) j.is
+        (of_stage at.stage records each (scopes e over at.shape) j.awards (scopes_differ e over at.shape) (entries_once e over at.shape)) j.is
 
 module _ (e : Election) (at : Stand) (amounts votes : List ℕ) where
   split_few : (over : Shape) (method : Method) (majority : Majority) (minima : Option (List ℕ)) (r : ExprResult) → IsSplit e at amounts votes over method majority minima r → HasFew at.stage 1 r
   split_few over method majority minima r h =
-      shared_few e at amounts over (split_records e at amounts votes method majority minima) (split_at e at amounts votes method majority minima) (split_once e at amounts votes method majority minima)
+      shared_few e at amounts over (split_records e at amounts votes method majority minima) (split_at e at amounts votes method majority minima)
       (IsSplitIn e at amounts votes method majority minima) r h
 
   grown_few : (method : Method) (majority : Majority) (minima : List ℕ) (limit : ℕ) (r : ExprResult) → IsGrown e at amounts votes method majority minima limit r → HasFew at.stage 1 r
   grown_few (by.Divisor d) majority minima limit r h =
-      shared_few e at amounts shape.One (growth_records e at amounts votes d minima) (growth_at e at amounts votes d minima) (growth_once e at amounts votes d minima)
+      shared_few e at amounts shape.One (growth_records e at amounts votes d minima) (growth_at e at amounts votes d minima)
       (IsGrowthIn e at amounts votes d majority minima limit) r h
   grown_few by.Hamilton majority minima limit r h = absurd h
 
@@ -119,33 +114,24 @@ module _ (b : BookTree) (e : Election) (c : Context) where
   few_records : (x : ExprTree) (r : ExprResult) → ExprMeans b e c x r → HasFew c.stage (splits_in x) r
   few_records (fact at told) r h = leaf_few (fact at told) 0 r h
   few_records (name at n) r h = leaf_few (name at n) 0 r h
-  few_records (sum at x over) r h =
-      few_same c.stage (splits_in x + 0) (splits_in x) r (omega arith)
-      (then_few c.stage (splits_in x) 0 (ExprMeans b e c x) (λ xs r. r ≡ plain (sum_over e over xs)) (few_records x) (λ xs q is. plain_has c.stage 0 _ q is) r h)
+  few_records (sum at x over) r h = then_few c.stage (splits_in x) 0 _ _ (few_records x) (λ xs q is. plain_has c.stage 0 _ q is) _ (omega arith) r h
   few_records (pair at pairing x y) r h =
-      few_same c.stage (splits_in x + (splits_in y + 0)) (splits_in x + splits_in y) r (omega arith)
-      (then_few c.stage (splits_in x) (splits_in y + 0) (ExprMeans b e c x) (λ xs. Then (ExprMeans b e c y) (λ ys r. r ≡ plain (pair_of pairing xs ys))) (few_records x)
-      (λ xs. then_few c.stage (splits_in y) 0 (ExprMeans b e c y) (λ ys r. r ≡ plain (pair_of pairing xs ys)) (few_records y) (λ ys q is. plain_has c.stage 0 _ q is)) r h)
+      then_few c.stage (splits_in x) (splits_in y) _ _ (few_records x)
+      (λ xs. then_few c.stage (splits_in y) 0 _ _ (few_records y) (λ ys q is. plain_has c.stage 0 _ q is) _ (omega arith)) _ (omega arith) r h
   few_records (split at s v method without majority) r h =
-      let Split : List ℕ → List ℕ → ExprResult → Type 0 = λ amounts votes. IsSplit e (stand c v) amounts votes (shape_in c s) method majority None in
-      few_same c.stage (splits_in s + (splits_in v + 1)) (1 + splits_in s + splits_in v) r (omega arith)
-      (then_few c.stage (splits_in s) (splits_in v + 1) (ExprMeans b e c s) (λ amounts. Then (ExprMeans b e c v) (Split amounts)) (few_records s)
-      (λ amounts. then_few c.stage (splits_in v) 1 (ExprMeans b e c v) (Split amounts) (few_records v)
-      (λ votes q. split_few e (stand c v) amounts votes (shape_in c s) method majority None q)) r h)
+      then_few c.stage (splits_in s) (splits_in v + 1) _ _ (few_records s)
+      (λ amounts. then_few c.stage (splits_in v) 1 _ _ (few_records v)
+      (λ votes. split_few e (stand c v) amounts votes (shape_in c s) method majority None) _ (omega arith)) _ (omega arith) r h
   few_records (split at s v method (atleast m) majority) r h =
-      let Split : List ℕ → List ℕ → List ℕ → ExprResult → Type 0 = λ amounts votes minima. IsSplit e (stand c v) amounts votes (shape_in c s) method majority (Some minima) in
-      few_same c.stage (splits_in s + (splits_in v + (splits_in m + 1))) (1 + splits_in s + splits_in v + splits_in m) r (omega arith)
-      (then_few c.stage (splits_in s) (splits_in v + (splits_in m + 1)) (ExprMeans b e c s) (λ amounts. Then (ExprMeans b e c v) (λ votes. Then (ExprMeans b e c m) (Split amounts votes))) (few_records s)
-      (λ amounts. then_few c.stage (splits_in v) (splits_in m + 1) (ExprMeans b e c v) (λ votes. Then (ExprMeans b e c m) (Split amounts votes)) (few_records v)
-      (λ votes. then_few c.stage (splits_in m) 1 (ExprMeans b e c m) (Split amounts votes) (few_records m)
-      (λ minima q. split_few e (stand c v) amounts votes (shape_in c s) method majority (Some minima) q))) r h)
+      then_few c.stage (splits_in s) (splits_in v + (splits_in m + 1)) _ _ (few_records s)
+      (λ amounts. then_few c.stage (splits_in v) (splits_in m + 1) _ _ (few_records v)
+      (λ votes. then_few c.stage (splits_in m) 1 _ _ (few_records m)
+      (λ minima. split_few e (stand c v) amounts votes (shape_in c s) method majority (Some minima)) _ (omega arith)) _ (omega arith)) _ (omega arith) r h
   few_records (grow at s v method m limit majority) r h =
-      let Grown : List ℕ → List ℕ → List ℕ → ExprResult → Type 0 = λ amounts votes minima. IsGrown e (stand c v) amounts votes method majority minima limit.value in
-      few_same c.stage (splits_in s + (splits_in v + (splits_in m + 1))) (1 + splits_in s + splits_in v + splits_in m) r (omega arith)
-      (then_few c.stage (splits_in s) (splits_in v + (splits_in m + 1)) (ExprMeans b e c s) (λ amounts. Then (ExprMeans b e c v) (λ votes. Then (ExprMeans b e c m) (Grown amounts votes))) (few_records s)
-      (λ amounts. then_few c.stage (splits_in v) (splits_in m + 1) (ExprMeans b e c v) (λ votes. Then (ExprMeans b e c m) (Grown amounts votes)) (few_records v)
-      (λ votes. then_few c.stage (splits_in m) 1 (ExprMeans b e c m) (Grown amounts votes) (few_records m)
-      (λ minima q. grown_few e (stand c v) amounts votes method majority minima limit.value q))) r h)
+      then_few c.stage (splits_in s) (splits_in v + (splits_in m + 1)) _ _ (few_records s)
+      (λ amounts. then_few c.stage (splits_in v) (splits_in m + 1) _ _ (few_records v)
+      (λ votes. then_few c.stage (splits_in m) 1 _ _ (few_records m)
+      (λ minima. grown_few e (stand c v) amounts votes method majority minima limit.value) _ (omega arith)) _ (omega arith)) _ (omega arith) r h
 
 -- ---- stages
 
@@ -155,11 +141,8 @@ record BeforeStage (stage : ℕ) (r : Records) : Type 0 where
   weights_below : Every (λ w. w.stage < stage) r.weights
   once : Once r
 
-other_stage : (stage : ℕ) (x y : SeatStep) → x.stage < stage → y.stage ≡ stage → same_seat x y ≡ false
-other_stage stage x y lower same = and_left (nat_eq x.stage y.stage && same_scope x.scope y.scope) _ (and_left (nat_eq x.stage y.stage) _ (ne_eqb x.stage y.stage (λ h. omega arith)))
-
-weight_of_other_stage : (stage : ℕ) (x y : Weight) → x.stage < stage → y.stage ≡ stage → same_entry x y ≡ false
-weight_of_other_stage stage x y lower same = and_left (nat_eq x.stage y.stage && same_scope x.scope y.scope) _ (and_left (nat_eq x.stage y.stage) _ (ne_eqb x.stage y.stage (λ h. omega arith)))
+other_stage : (stage m n : ℕ) (scope rest : Bool) → m < stage → n ≡ stage → (nat_eq m n && scope) && rest ≡ false
+other_stage stage m n scope rest lower same = and_left (nat_eq m n && scope) rest (and_left (nat_eq m n) scope (ne_eqb m n (λ h. omega arith)))
 
 with_stage_of : (stage : ℕ) (a c : Records) → BeforeStage stage a → OfStage stage c → BeforeStage (stage + 1) (both_records a c)
 with_stage_of stage a c before this = record {
@@ -169,65 +152,41 @@ with_stage_of stage a c before this = record {
       (every_weaker (λ s. s.stage < stage) (λ s. s.stage < stage + 1) (λ s h. omega arith) a.weights before.weights_below) (every_weaker (λ s. s.stage ≡ stage) (λ s. s.stage < stage + 1) (λ s h. omega arith) c.weights this.weights_at);
   once = record {
     steps = distinct_append same_seat a.steps c.steps before.once.steps this.once.steps
-        (all_apart same_seat (λ s. s.stage < stage) (λ s. s.stage ≡ stage) (other_stage stage) a.steps c.steps before.steps_below this.steps_at);
+        (all_apart same_seat (λ s. s.stage < stage) (λ s. s.stage ≡ stage) (λ x y. other_stage stage x.stage y.stage _ _) a.steps c.steps before.steps_below this.steps_at);
     weights = distinct_append same_entry a.weights c.weights before.once.weights this.once.weights
-        (all_apart same_entry (λ s. s.stage < stage) (λ s. s.stage ≡ stage) (weight_of_other_stage stage) a.weights c.weights before.weights_below this.weights_at);
+        (all_apart same_entry (λ s. s.stage < stage) (λ s. s.stage ≡ stage) (λ x y. other_stage stage x.stage y.stage _ _) a.weights c.weights before.weights_below this.weights_at);
   };
 }
 
 module _ (b : BookTree) (e : Election) where
-  goes_before : (k : Known) (s : StageTree) (ss : List StageTree) (end : Known) (p : ExprResult) → splits_in s.expr ≤ 1 → BeforeStage (length k.columns) k.records →
-      HasFew (length k.columns) (splits_in s.expr) p →
-      ((values : List ℕ) (records : Records) → BeforeStage (length k.columns + 1) (both_records k.records records) → StagesMean b e (with_stage k s values records) ss (Through end) → Once end.records) →
-      GoesOn p (λ values records. StagesMean b e (with_stage k s values records) ss (Through end)) (Through end) → Once end.records
-  goes_before k s ss end (Fault f) single before few rest goes = cc
-  goes_before k s ss end (Column values records) single before few rest goes = rest values records (with_stage_of (length k.columns) k.records records before (few.1 single)) goes
-
   run_before : (k : Known) (ss : List StageTree) (end : Known) → first_failing (stages_tests k.types ss) ≡ None → BeforeStage (length k.columns) k.records → StagesMean b e k ss (Through end) → Once end.records
   run_before k [] end pass before run = let same : end ≡ k = cc in subst (λ j. Once j.records) (sym same) before.once
   run_before k (s ∷ ss) end pass before run =
       let once = head_holds _ _ _ pass in
       let single = head_holds _ _ _ once.1 in
       let parts = pass_parts (expr_tests k.types s.expr) _ single.1 in
-      goes_before k s ss end run.0 (leb-true (splits_in s.expr) 1 single.0) before (few_records b e (context_of k s) s.expr run.0 run.1)
-      (λ values records more. run_before (with_stage k s values records) ss end parts.1
-      (subst (λ n. BeforeStage n (both_records k.records records)) (sym (length-append k.columns (record { name = s.name; values = values } ∷ []))) more))
-      run.2
+      let on = goes_through run.0 (λ values records. StagesMean b e (with_stage k s values records) ss (Through end)) end run.2 in
+      let few = subst (HasFew (length k.columns) (splits_in s.expr)) on.2 (few_records b e (context_of k s) s.expr run.0 run.1) in
+      let more = with_stage_of (length k.columns) k.records on.1 before (few.1 (leb-true (splits_in s.expr) 1 single.0)) in
+      run_before (with_stage k s on.0 on.1) ss end parts.1
+      (subst (λ n. BeforeStage n (both_records k.records on.1)) (sym (length-append k.columns (record { name = s.name; values = on.0 } ∷ []))) more) on.3
 
   -- ---- the table
 
   -- a table has the records of its stages
-  pub record HasRecords (r : Records) (t : SeatTable) : Type 0 where
-    pub steps : t.steps ≡ r.steps
-    pub weights : t.weights ≡ r.weights
-
-  of_table : (t u : SeatTable) (r : Records) → outcome.Table t ≡ outcome.Table u → u.steps ≡ r.steps → u.weights ≡ r.weights → HasRecords r t
-  of_table t u r same steps weights = let is : t ≡ u = cc in record { steps = ap (λ x. x.steps) is ∙ steps; weights = ap (λ x. x.weights) is ∙ weights }
-
-  unwrapped_table : (f : Option LegalFault) (t u : SeatTable) (r : Records) → u.steps ≡ r.steps → u.weights ≡ r.weights → outcome.Table t ≡ unwrap_or (option_map (λ f. outcome.Fault f) f) (outcome.Table u) → HasRecords r t
-  unwrapped_table (Some f) t u r steps weights is = cc
-  unwrapped_table None t u r steps weights is = of_table t u r is steps weights
-
-  seated_has : (s : Seating) (base : List ℕ) (r : Records) (t : SeatTable) → IsSeated b e s base r (outcome.Table t) → HasRecords r t
-  seated_has seating.Keep base r t is = of_table t (keep_table b e base r) r is refl refl
+  seated_has : (s : Seating) (base : List ℕ) (r : Records) (t : SeatTable) → IsSeated b e s base r (outcome.Table t) → (t.steps ≡ r.steps) × (t.weights ≡ r.weights)
+  seated_has seating.Keep base r t is = let same : t ≡ keep_table b e base r = cc in (ap (λ t. t.steps) same, ap (λ t. t.weights) same)
   seated_has seating.Cover base r t is =
-      unwrapped_table (slice_get (filter_map (tie_of (is_eligible b.eligible e) e (length b.stages)) (zip (lists_of e) is.choices)) 0) t (cover_table b e base r (zip (lists_of e) is.choices)) r refl refl is.is
+      let same = (table_without_faults _ t (cover_table b e base r (zip (lists_of e) is.choices)) is.is).1 in (ap (λ t. t.steps) same, ap (λ t. t.weights) same)
 
   comes_once : (run : StagesResult) (t : SeatTable) → first_failing (stages_tests [] b.stages) ≡ None → StagesMean b e nothing_known b.stages run → EndsAs b e run (outcome.Table t) → RecordsComeOnce t
   comes_once (Stopped f) t pass stages ends = cc
   comes_once (Through k) t pass stages ends =
       let once = run_before nothing_known b.stages k pass (record { steps_below = tt; weights_below = tt; once = record { steps = distinct_nil same_seat; weights = distinct_nil same_entry } }) stages in
       let has = seated_has b.last.seating ends.base k.records t ends.seated in
-      record { steps = subst (IsDistinct same_seat) (sym has.steps) once.steps; weights = subst (IsDistinct same_entry) (sym has.weights) once.weights }
+      record { steps = subst (IsDistinct same_seat) (sym has.0) once.steps; weights = subst (IsDistinct same_entry) (sym has.1) once.weights }
 
 -- ---- in any order
-
-item_flips : (x y : Item) → same_item x y ≡ same_item y x
-item_flips (item.Party p) (item.Party q) = nat_eq_equiv.symm p q
-item_flips (item.Land l) (item.Land k) = nat_eq_equiv.symm l k
-item_flips (item.List l p) (item.List k q) = cc (nat_eq_equiv.symm l k, nat_eq_equiv.symm p q)
-item_flips (item.Win v) (item.Win w) = nat_eq_equiv.symm v w
-item_flips _ _ = refl
 
 scope_flips : (x y : Scope) → same_scope x y ≡ same_scope y x
 scope_flips scope.All scope.All = refl

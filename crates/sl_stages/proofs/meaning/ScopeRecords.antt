@@ -1,8 +1,9 @@
 -- The records of a stage: each of one scope and one entry, and none twice.
-use Rattle.std.proofs.Common.{◌≡◌, ℕ, ◌+◌, ◌&&◌, Bool, true, false, List, map, filter, get_or, nat_eq, nat_lt, arith, refl, ap, ◌∙◌}
-use Rattle.std.specs.Prelude.{if◌then◌else◌, zip}
+use Rattle.std.proofs.Common.{◌≡◌, ℕ, ◌+◌, ◌&&◌, Bool, false, List, map, filter, get_or, nat_eq, nat_lt, arith, refl, ap, ◌∙◌}
+use Rattle.std.specs.Prelude.{zip}
+use Rattle.std.specs.Cmp.{nat_eq_equiv}
 use Rattle.std.specs.List.{AllByRecursion as Every, IsDistinct, range_with_len, enumerate_from}
-use Rattle.std.proofs.lemmas.Bool.{and_left, and_right, eqb-false, ne_eqb}
+use Rattle.std.proofs.lemmas.Bool.{and_left, and_right, cond_both, eqb-false, ne_eqb}
 use Rattle.sl_ratio.specs.declared.method.Divisor.{Divisor}
 use Rattle.sl_stages.specs.declared.book.Shape.{Shape}
 use Rattle.sl_stages.specs.declared.book.Shape.TheVariants as shape
@@ -18,9 +19,16 @@ use Rattle.sl_stages.specs.laws.Ladders.{Ladders}
 use Rattle.sl_stages.specs.meaning.Scopes.{same_item, lists_in_land, lists_of_party, entries_of, Group, scopes}
 use Rattle.sl_stages.specs.meaning.Records.{Records, seat_step, seat_steps, field_weights}
 use Rattle.sl_stages.specs.laws.MeaningLaws.{same_scope, same_seat, same_entry}
-use Rattle.sl_stages.proofs.meaning.DistinctLists.{always, every_map, every_pieces, Apart, distinct_nil, distinct_one, distinct_filter, distinct_map, distinct_pieces, distinct_range, distinct_numbered, distinct_zipped}
+use Rattle.sl_stages.proofs.meaning.DistinctLists.{always, every_map, every_pieces, Apart, maps_apart, distinct_nil, distinct_one, distinct_filter, distinct_map, distinct_pieces, distinct_range, distinct_numbered, distinct_zipped}
 
 -- ---- entries and scopes
+
+pub item_flips : (x y : Item) → same_item x y ≡ same_item y x
+item_flips (item.Party p) (item.Party q) = nat_eq_equiv.symm p q
+item_flips (item.Land l) (item.Land k) = nat_eq_equiv.symm l k
+item_flips (item.List l p) (item.List k q) = cc (nat_eq_equiv.symm l k, nat_eq_equiv.symm p q)
+item_flips (item.Win v) (item.Win w) = nat_eq_equiv.symm v w
+item_flips _ _ = refl
 
 pub lists_in_land_differ : (e : Election) (land : ℕ) → IsDistinct same_item (lists_in_land e land)
 lists_in_land_differ e land =
@@ -34,11 +42,8 @@ lists_of_party_differ e party =
 
 pub lands_apart : (e : Election) (l k : ℕ) → nat_eq l k ≡ false → Apart same_item (lists_in_land e l) (lists_in_land e k)
 lands_apart e l k differ =
-    every_map (λ x. Every (λ y. same_item x y ≡ false) (lists_in_land e k)) (λ party. item.List l party) (filter (has_list e l) (parties e))
-    (always (λ p. Every (λ y. same_item (item.List l p) y ≡ false) (lists_in_land e k))
-    (λ p. every_map (λ y. same_item (item.List l p) y ≡ false) (λ party. item.List k party) (filter (has_list e k) (parties e))
-    (always (λ q. nat_eq l k && nat_eq p q ≡ false) (λ q. and_left (nat_eq l k) (nat_eq p q) differ) (filter (has_list e k) (parties e))))
-    (filter (has_list e l) (parties e)))
+    maps_apart same_item (λ party. item.List l party) (λ party. item.List k party) (λ p q. and_left (nat_eq l k) (nat_eq p q) differ)
+    (filter (has_list e l) (parties e)) (filter (has_list e k) (parties e))
 
 pub entries_differ : (e : Election) (s : Shape) → IsDistinct same_item (entries_of e s)
 entries_differ e shape.One = distinct_nil same_item
@@ -74,24 +79,22 @@ pub record WeightAt (stage : ℕ) (scope : Scope) (w : Weight) : Type 0 where
   pub stage_is : w.stage ≡ stage
   pub scope_is : w.scope ≡ scope
 
--- the records of a scope are all of that stage and scope; and none comes twice
-pub record AtScope (stage : ℕ) (scope : Scope) (r : Records) : Type 0 where
-  pub steps : Every (StepAt stage scope) r.steps
-  pub weights : Every (WeightAt stage scope) r.weights
-
+-- no record comes twice
 pub record Once (r : Records) : Type 0 where
   pub steps : IsDistinct same_seat r.steps
   pub weights : IsDistinct same_entry r.weights
+
+-- the records of a scope are all of that stage and scope; and none comes twice, if no entry does
+pub record AtScope (stage : ℕ) (g : Group) (r : Records) : Type 0 where
+  pub steps : Every (StepAt stage g.scope) r.steps
+  pub weights : Every (WeightAt stage g.scope) r.weights
+  pub once : IsDistinct same_item g.entries → Once r
 
 -- what a step tells of the seat
 record Tells (stage : ℕ) (scope : Scope) (entry : Item) (n : ℕ) (s : SeatStep) : Type 0 where
   at : StepAt stage scope s
   entry_is : s.entry ≡ entry
   n_is : s.n ≡ n
-
-either_tells : (stage : ℕ) (scope : Scope) (entry : Item) (n : ℕ) (t : Bool) (x y : SeatStep) → Tells stage scope entry n x → Tells stage scope entry n y → Tells stage scope entry n (if t then x else y)
-either_tells stage scope entry n true x y first second = first
-either_tells stage scope entry n false x y first second = second
 
 -- seats of different entries, or of different numbers, differ
 other_entry : (x y : SeatStep) → same_item x.entry y.entry ≡ false → same_seat x y ≡ false
@@ -110,9 +113,9 @@ module _ (stage : ℕ) (scope : Scope) (entries : List Item) where
     tells : (i : ℕ) (entry : Item) (a : ℕ) → Tells stage scope entry (a + 1) (step i entry a)
     unfolding step
     tells i entry a =
-        either_tells stage scope entry (a + 1) (nat_lt a (get_or l.base i 0)) _ _
-        (record { at = record { stage_is = refl; scope_is = refl }; entry_is = refl; n_is = refl })
-        (record { at = record { stage_is = refl; scope_is = refl }; entry_is = refl; n_is = refl })
+        cond_both (nat_lt a (get_or l.base i 0)) _ _ (Tells stage scope entry (a + 1))
+        (λ base. record { at = record { stage_is = refl; scope_is = refl }; entry_is = refl; n_is = refl })
+        (λ awarded. record { at = record { stage_is = refl; scope_is = refl }; entry_is = refl; n_is = refl })
 
     numbers : ℕ → List ℕ
     numbers i = range_with_len 0 (get_or s i 0)
@@ -135,12 +138,8 @@ module _ (stage : ℕ) (scope : Scope) (entries : List Item) where
     pieces_apart : (x y : ℕ × Item) → same_item x.1 y.1 ≡ false → Apart same_seat (piece x) (piece y)
     unfolding piece
     pieces_apart x y differ =
-        every_map (λ u. Every (λ v. same_seat u v ≡ false) (map (step y.0 y.1) (numbers y.0))) (step x.0 x.1) (numbers x.0)
-        (always (λ a. Every (λ v. same_seat (step x.0 x.1 a) v ≡ false) (map (step y.0 y.1) (numbers y.0)))
-        (λ a. every_map (λ v. same_seat (step x.0 x.1 a) v ≡ false) (step y.0 y.1) (numbers y.0)
-        (always (λ c. same_seat (step x.0 x.1 a) (step y.0 y.1 c) ≡ false)
-        (λ c. other_entry (step x.0 x.1 a) (step y.0 y.1 c) (ap (λ z. same_item z (step y.0 y.1 c).entry) (tells x.0 x.1 a).entry_is ∙ ap (same_item x.1) (tells y.0 y.1 c).entry_is ∙ differ)) (numbers y.0)))
-        (numbers x.0))
+        maps_apart same_seat (step x.0 x.1) (step y.0 y.1) (λ a c.
+        other_entry (step x.0 x.1 a) (step y.0 y.1 c) (ap (λ z. same_item z (step y.0 y.1 c).entry) (tells x.0 x.1 a).entry_is ∙ ap (same_item x.1) (tells y.0 y.1 c).entry_is ∙ differ)) (numbers x.0) (numbers y.0)
 
     pub seats_at : Every (StepAt stage scope) (seat_steps stage scope entries l won_by s)
     unfolding piece numbers step

@@ -1,12 +1,12 @@
 -- Columns of their types: the facts of the returns, and what sums, the greater and the difference make.
-use Rattle.std.proofs.Common.{◌≡◌, ℕ, zero, suc, ◌+◌, ◌*◌, ◌≤◌, ◌&&◌, Bool, true, false, cond, not, List, [], ◌∷◌, Option, Some, None, is_none, is_some, map, length, get_or, sum, sum_by, count_by, refl, sym, ap, subst, ◌∙◌, inl, inr, arith}
+use Rattle.std.proofs.Common.{◌≡◌, ℕ, zero, suc, ◌+◌, ◌*◌, ◌≤◌, ◌&&◌, Bool, true, false, cond, not, List, [], ◌∷◌, Option, Some, None, is_none, is_some, map, length, get_or, sum, count_by, refl, sym, ap, subst, ◌∙◌, inl, inr, arith}
 use Rattle.std.specs.List.{All, flat_map, zip}
 use Rattle.std.specs.Option.{ForSome}
 use Rattle.std.specs.Prelude.{unwrap_or}
-use Rattle.std.proofs.lemmas.Bool.{cases_lt, false≢true, and_right}
+use Rattle.std.proofs.lemmas.Bool.{cases_lt, cond_both, false≢true, and_right}
 use Rattle.std.proofs.lemmas.List.{get_or_past}
 use Rattle.std.proofs.lemmas.List.Elements.{All-nil, All-cons, All-head, All-tail, All-get_or, All-map, All-weaker, All-append}
-use Rattle.std.proofs.lemmas.List.Sums.{count_by-le-length, sum_by-cons}
+use Rattle.std.proofs.lemmas.List.Sums.{count_by-le-length, sum_by-le}
 use Rattle.std.proofs.lemmas.List.FromFn.{length-range_with_len, length-map-range_with_len}
 use Rattle.std.proofs.Math.Nat.{mul-le-mul, le_refl}
 use Rattle.sl_ratio.specs.declared.limits.TheConstants.{MAX_SEATS, MAX_LANDS, MAX_PARTIES, MAX_VOTES}
@@ -33,7 +33,6 @@ use Rattle.sl_stages.specs.book.Typing.{can_sum, shape_over, column, fact_type}
 use Rattle.sl_stages.specs.meaning.Columns.{sum_over, paired, pair_of, fact_column}
 use Rattle.sl_stages.specs.laws.ColumnLaws.{most_of_list, most_of, FitsType}
 use Rattle.sl_stages.proofs.meaning.ListPlaces.{by_list_at, length_by_list}
-use Rattle.sl_stages.proofs.methods.SeatSums.{sum-cons}
 
 -- ---- columns made by a function
 
@@ -79,26 +78,11 @@ cell_within : (cell : Option ListVotes) → IsCell cell → counted_in cell ≤ 
 cell_within None is = omega arith
 cell_within (Some v) is = let votes = is v refl in omega (arith, votes.counted, votes.valid)
 
-no_cell : IsCell None
-no_cell x h = cc
+-- what holds of each element and of the default holds of what is read
+read_within : {X : Type 0} (P : X → Type 0) (xs : List X) (i : ℕ) (d : X) → All P xs → P d → P (get_or xs i d)
+read_within P xs i d all default = elim (cases_lt i (length xs)) [ inl within ↦ All-get_or P xs i d within all | inr past ↦ subst P (sym (get_or_past xs i d past)) default ]
 
-some_cell : (row : List (Option ListVotes)) (party : ℕ) → All IsCell row → IsCell (get_or row party None)
-some_cell row party all = elim (cases_lt party (length row)) [
-  | inl within ↦ All-get_or IsCell row party None within all
-  | inr past ↦ subst IsCell (sym (get_or_past row party None past)) no_cell
-]
-
-some_row : (cells : List (List (Option ListVotes))) (land : ℕ) → All (All IsCell) cells → All IsCell (get_or cells land [])
-some_row cells land all = elim (cases_lt land (length cells)) [
-  | inl within ↦ All-get_or (All IsCell) cells land [] within all
-  | inr past ↦ subst (All IsCell) (sym (get_or_past cells land [] past)) (λ k d h. absurd (omega arith))
-]
-
-either_within : (b : Bool) (x m : ℕ) → x ≤ m → cond b x 0 ≤ m
-either_within true x m h = h
-either_within false x m h = omega arith
-
-nothing_counted : (t : Bool) (cell : Option ListVotes) → is_some cell ≡ false → cond t (counted_in cell) 0 ≡ 0
+pub nothing_counted : (t : Bool) (cell : Option ListVotes) → is_some cell ≡ false → cond t (counted_in cell) 0 ≡ 0
 nothing_counted true None none = refl
 nothing_counted false None none = refl
 nothing_counted t (Some v) none = absurd (false≢true (sym none))
@@ -107,14 +91,20 @@ module _ (conditions : List Cond) (e : Election) (is : IsElection e) where
   winners_within : (test : Win → Bool) → count_by test e.wins ≤ MAX_WINS
   winners_within test = omega (arith, count_by-le-length test e.wins, is.wins, is.winners)
 
+  votes_within : (land party : ℕ) → counted_in (list_at e land party) ≤ MAX_VOTES
+  votes_within land party =
+      let row = read_within (All IsCell) e.cells land [] is.votes (All-nil IsCell) in
+      cell_within (list_at e land party) (read_within IsCell (get_or e.cells land []) party None row (λ v h. cc))
+
   counted_typed : FitsType e (column shape.List unit.Votes) (counted_votes conditions e)
   counted_typed = made_by_list e unit.Votes (λ land party. cond (is_eligible conditions e party) (counted_in (list_at e land party)) 0)
-      (λ land party. either_within (is_eligible conditions e party) (counted_in (list_at e land party)) MAX_VOTES (cell_within (list_at e land party) (some_cell (get_or e.cells land []) party (some_row e.cells land is.votes))))
+      (λ land party. cond_both (is_eligible conditions e party) (counted_in (list_at e land party)) 0 (λ n. n ≤ MAX_VOTES) (λ h. votes_within land party) (λ h. omega arith))
       (λ land party none. nothing_counted (is_eligible conditions e party) (list_at e land party) none)
 
   pub winners_typed : FitsType e (column shape.List unit.Seats) (list_winners conditions e)
   winners_typed = made_by_list e unit.Seats (λ land party. cond (takes_part conditions e land party) (count_by (λ w. is_in land w && is_of party w) e.wins) 0)
-      (λ land party. either_within (takes_part conditions e land party) (count_by (λ w. is_in land w && is_of party w) e.wins) MAX_SEATS (let few = winners_within (λ w. is_in land w && is_of party w) in omega (arith, few)))
+      (λ land party. cond_both (takes_part conditions e land party) (count_by (λ w. is_in land w && is_of party w) e.wins) 0 (λ n. n ≤ MAX_SEATS)
+      (λ h. omega (arith, winners_within (λ w. is_in land w && is_of party w))) (λ h. omega arith))
       (λ land party none. ap (λ t. cond t (count_by (λ w. is_in land w && is_of party w) e.wins) 0) (and_right (is_eligible conditions e party) (has_list e land party) none))
 
   outside_typed : FitsType e (column shape.Land unit.Seats) (outside_winners conditions e)
@@ -146,47 +136,32 @@ fact_typed b e is few facts.Population = population_typed b.eligible e is
 
 -- ---- sums
 
-sum_by_most : {X : Type 0} (f : X → ℕ) (m : ℕ) → ((x : X) → f x ≤ m) → (xs : List X) → sum_by f xs ≤ length xs * m
-sum_by_most f m each [] = omega arith
-sum_by_most f m each (x ∷ xs) = let rest = sum_by_most f m each xs in omega (arith, rest, each x, sum_by-cons f x xs)
-
-sum_most : (m : ℕ) (xs : List ℕ) → All (λ n. n ≤ m) xs → sum xs ≤ length xs * m
-sum_most m [] all = omega arith
-sum_most m (x ∷ xs) all = let rest = sum_most m xs (All-tail (λ n. n ≤ m) x xs all) in omega (arith, rest, All-head (λ n. n ≤ m) x xs all, sum-cons x xs)
-
-number_most : (m : ℕ) (xs : List ℕ) → All (λ n. n ≤ m) xs → (k : ℕ) → get_or xs k 0 ≤ m
-number_most m xs all k = elim (cases_lt k (length xs)) [ inl within ↦ All-get_or (λ n. n ≤ m) xs k 0 within all | inr past ↦ omega (arith, get_or_past xs k 0 past) ]
-
 at_most_times : (n most m k : ℕ) → n ≤ most → k ≤ n * m → k ≤ most * m
 at_most_times n most m k few h = let wide : n * m ≤ most * m = mul-le-mul few (le_refl m) in omega (arith, wide)
 
 module _ (e : Election) (is : IsElection e) (u : Units) where
   pub sum_typed : (s : Shape) (over : Axis) (xs : List ℕ) → can_sum s over ≡ true → FitsType e (column s u) xs → FitsType e (column (shape_over over) u) (sum_over e over xs)
-  sum_typed shape.One over xs can t = absurd (false≢true can)
   sum_typed shape.List axis.Party xs can t =
       made_by_party e u _ (λ party.
-      let sums = sum_by_most (λ land. list_cell e xs land party) (1 * most_of_list u) (λ land. number_most (1 * most_of_list u) xs t.most (land * parties_of e + party)) (lands e) in
+      let sums = sum_by-le (λ land. list_cell e xs land party) (1 * most_of_list u) (lands e) (λ k d less. read_within (λ n. n ≤ 1 * most_of_list u) xs _ 0 t.most (omega arith)) in
       let few = at_most_times (length (lands e)) MAX_LANDS (1 * most_of_list u) _ (omega (arith, length-range_with_len 0 (lands_of e), is.lands)) sums in
       omega (arith, few))
   sum_typed shape.List axis.Land xs can t =
       made_by_land e u _ (λ land.
-      let sums = sum_by_most (λ party. list_cell e xs land party) (1 * most_of_list u) (λ party. number_most (1 * most_of_list u) xs t.most (land * parties_of e + party)) (parties e) in
+      let sums = sum_by-le (λ party. list_cell e xs land party) (1 * most_of_list u) (parties e) (λ k d less. read_within (λ n. n ≤ 1 * most_of_list u) xs _ 0 t.most (omega arith)) in
       let few = at_most_times (length (parties e)) MAX_PARTIES (1 * most_of_list u) _ (omega (arith, length-range_with_len 0 (parties_of e), is.parties)) sums in
       omega (arith, few))
   sum_typed shape.List axis.All xs can t =
       let places : lands_of e * parties_of e ≤ MAX_LANDS * MAX_PARTIES = mul-le-mul is.lands is.parties in
-      let few = at_most_times (length xs) (MAX_LANDS * MAX_PARTIES) (1 * most_of_list u) (sum xs) (omega (arith, t.size, places)) (sum_most (1 * most_of_list u) xs t.most) in
+      let few = at_most_times (length xs) (MAX_LANDS * MAX_PARTIES) (1 * most_of_list u) (sum xs) (omega (arith, t.size, places)) (sum_by-le (λ n. n) (1 * most_of_list u) xs t.most) in
       made_one e u (sum xs) (omega (arith, few))
   sum_typed shape.Party axis.All xs can t =
-      let few = at_most_times (length xs) MAX_PARTIES (MAX_LANDS * most_of_list u) (sum xs) (omega (arith, t.size, is.parties)) (sum_most (MAX_LANDS * most_of_list u) xs t.most) in
+      let few = at_most_times (length xs) MAX_PARTIES (MAX_LANDS * most_of_list u) (sum xs) (omega (arith, t.size, is.parties)) (sum_by-le (λ n. n) (MAX_LANDS * most_of_list u) xs t.most) in
       made_one e u (sum xs) (omega (arith, few))
-  sum_typed shape.Party axis.Party xs can t = absurd (false≢true can)
-  sum_typed shape.Party axis.Land xs can t = absurd (false≢true can)
   sum_typed shape.Land axis.All xs can t =
-      let few = at_most_times (length xs) MAX_LANDS (MAX_PARTIES * most_of_list u) (sum xs) (omega (arith, t.size, is.lands)) (sum_most (MAX_PARTIES * most_of_list u) xs t.most) in
+      let few = at_most_times (length xs) MAX_LANDS (MAX_PARTIES * most_of_list u) (sum xs) (omega (arith, t.size, is.lands)) (sum_by-le (λ n. n) (MAX_PARTIES * most_of_list u) xs t.most) in
       made_one e u (sum xs) (omega (arith, few))
-  sum_typed shape.Land axis.Party xs can t = absurd (false≢true can)
-  sum_typed shape.Land axis.Land xs can t = absurd (false≢true can)
+  sum_typed _ _ xs can t = absurd (false≢true can)
 
 -- ---- number by number
 

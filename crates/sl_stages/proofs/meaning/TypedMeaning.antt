@@ -1,9 +1,9 @@
 -- A well-formed expression is a column of its type, and so are the stages of a well-formed book.
-use Rattle.std.proofs.Common.{◌≡◌, ℕ, ◌≤◌, ◌&&◌, true, false, List, [], ◌∷◌, ◌++◌, Option, Some, None, refl, sym, ap, subst, ◌∙◌, inl, inr, arith}
+use Rattle.std.proofs.Common.{◌≡◌, ℕ, ◌≤◌, ◌&&◌, Bool, true, false, cond, List, [], ◌∷◌, Option, Some, None, refl, sym, ap, subst, ◌∙◌, arith}
 use Rattle.std.specs.Prelude.{find, option_map, nat_le}
 use Rattle.std.specs.List.{AllZip}
 use Rattle.std.specs.Str.{bytes_eq}
-use Rattle.std.proofs.lemmas.Bool.{cases_Bool, cond-true, cond-false, and_parts, not-true, leb-true, false≢true}
+use Rattle.std.proofs.lemmas.Bool.{and_parts, not-true, leb-true}
 use Rattle.std.proofs.lemmas.Option.{same_Some}
 use Rattle.sl_ratio.specs.declared.method.Method.{Method}
 use Rattle.sl_ratio.specs.declared.method.Method.TheVariants as by
@@ -23,11 +23,12 @@ use Rattle.sl_stages.specs.meaning.Lots.{stage_lot}
 use Rattle.sl_stages.specs.meaning.Records.{Records}
 use Rattle.sl_stages.specs.meaning.Results.{ExprResult, Column, Fault, plain, behind, Continues, Then, Stand, amount_of}
 use Rattle.sl_stages.specs.meaning.Expressions.{minima_at, IsSplitIn, split_records, IsGrowthIn, growth_records, IsSplit, IsGrown, Context, ExprMeans, stand, shape_in}
-use Rattle.sl_stages.specs.meaning.Means.{Known, nothing_known, Through, context_of, with_stage, GoesOn, StagesMean}
+use Rattle.sl_stages.specs.meaning.Means.{Known, nothing_known, Through, context_of, with_stage, StagesMean}
 use Rattle.sl_stages.specs.laws.ColumnLaws.{FitsType, IsTypedAs, TypedExpressions, TypedStages}
 use Rattle.sl_stages.proofs.Shapes.{same_shape_is, same_unit_is}
 use Rattle.sl_stages.proofs.Tests.{no_fault, head_holds, pass_parts}
-use Rattle.sl_stages.proofs.meaning.OneOutcome.{typed_parts}
+use Rattle.sl_stages.proofs.meaning.OneOutcome.{goes_through, typed_parts}
+use Rattle.sl_stages.proofs.meaning.Members.{all_and_one}
 use Rattle.sl_stages.proofs.meaning.TypedColumns.{fact_typed, sum_typed, pair_typed}
 use Rattle.sl_stages.proofs.meaning.TypedSplits.{split_sum, growth_sum, shared_typed}
 
@@ -51,15 +52,10 @@ one_type t u shapes units = λ i. record { shape = sym (same_shape_is t.shape u.
 
 no_one : (s v : Shape) → can_split s v ≡ true → same_shape v shape.One ≡ false
 no_one shape.One v can = not-true (same_shape v shape.One) can
-no_one shape.Party shape.List can = refl
-no_one shape.Land shape.List can = refl
-no_one shape.Party shape.One can = absurd (false≢true can)
-no_one shape.Party shape.Party can = refl
-no_one shape.Party shape.Land can = refl
-no_one shape.Land shape.One can = absurd (false≢true can)
-no_one shape.Land shape.Party can = refl
-no_one shape.Land shape.Land can = refl
-no_one shape.List v can = absurd (false≢true can)
+no_one shape.Party shape.One can = cc
+no_one shape.Land shape.One can = cc
+no_one shape.List shape.One can = cc
+no_one _ _ can = refl
 
 -- ---- names
 
@@ -69,16 +65,12 @@ named_typed e n [] [] all values is = cc
 named_typed e n [] (d ∷ columns) all values is = absurd all
 named_typed e n (t ∷ types) [] all values is = absurd all
 named_typed e n (t ∷ types) (d ∷ columns) all values is =
-    elim (cases_Bool (bytes_eq n d.name)) [
-      | inl this ↦
-          (let same : d.values ≡ values = same_Some d.values values (sym (ap (option_map (λ (s : NamedColumn). s.values)) (cond-true (bytes_eq n d.name) (Some d) (find (is_column_of n) columns) this)) ∙ is) in
-          let type = cond-true (bytes_eq n t.name) (Some t) (find (is_named n) types) (ap (bytes_eq n) all.0.name ∙ this) in
-          subst (λ o. FitsType e (type_or_one o) values) (sym type) (subst (FitsType e t.type) same all.0.type))
-      | inr other ↦
-          (let rest = named_typed e n types columns all.1 values (sym (ap (option_map (λ (s : NamedColumn). s.values)) (cond-false (bytes_eq n d.name) (Some d) (find (is_column_of n) columns) other)) ∙ is) in
-          let type = cond-false (bytes_eq n t.name) (Some t) (find (is_named n) types) (ap (bytes_eq n) all.0.name ∙ other) in
-          subst (λ o. FitsType e (type_or_one o) values) (sym type) rest)
-    ]
+    subst (λ x. FitsType e (type_or_one (cond x (Some t) (find (is_named n) types))) values) (sym (ap (bytes_eq n) all.0.name))
+    (by_test (bytes_eq n d.name) (named_typed e n types columns all.1 values) is) where
+      by_test : (x : Bool) → (option_map (λ s. s.values) (find (is_column_of n) columns) ≡ Some values → FitsType e (type_or_one (find (is_named n) types)) values) →
+          option_map (λ s. s.values) (cond x (Some d) (find (is_column_of n) columns)) ≡ Some values → FitsType e (type_or_one (cond x (Some t) (find (is_named n) types))) values
+      by_test true rest is = subst (FitsType e t.type) (same_Some d.values values is) all.0.type
+      by_test false rest is = rest is
 
 -- ---- splits and growths
 
@@ -106,7 +98,7 @@ module _ (b : BookTree) (e : Election) (is : IsElection e) (few : b.house.value 
       subst (FitsType e (type_of c.types (name at n))) (sym (named_values h.0 values r h.2)) (named_typed e n c.types c.columns known h.0 h.1)
   typed_means (sum at x over) pass values r h =
       let parts = pass_parts (expr_tests c.types x) _ pass in
-      let on = then_column (ExprMeans b e c x) (λ xs r. r ≡ plain (sum_over e over xs)) values r h in
+      let on = then_column _ _ values r h in
       let can = (head_holds _ _ _ parts.1).0 in
       subst (FitsType e (type_of c.types (sum at x over))) (sym (named_values (sum_over e over on.0) values on.3 on.4))
       (sum_typed e is (type_of c.types x).unit (type_of c.types x).shape over on.0 can (typed_means x parts.0 on.0 on.1 on.2))
@@ -115,8 +107,8 @@ module _ (b : BookTree) (e : Election) (is : IsElection e) (few : b.house.value 
       let py = pass_parts (expr_tests c.types y) _ px.1 in
       let shapes = head_holds _ _ _ py.1 in
       let units = head_holds _ _ _ shapes.1 in
-      let one = then_column (ExprMeans b e c x) (λ xs. Then (ExprMeans b e c y) (λ ys r. r ≡ plain (pair_of pairing xs ys))) values r h in
-      let two = then_column (ExprMeans b e c y) (λ ys r. r ≡ plain (pair_of pairing one.0 ys)) values one.3 one.4 in
+      let one = then_column _ _ values r h in
+      let two = then_column _ _ values one.3 one.4 in
       let same = one_type (type_of c.types x) (type_of c.types y) shapes.0 units.0 in
       subst (FitsType e (type_of c.types x)) (sym (named_values (pair_of pairing one.0 two.0) values two.3 two.4))
       (pair_typed e (type_of c.types x) pairing one.0 two.0 (typed_means x px.0 one.0 one.1 one.2) (subst (λ t. FitsType e t two.0) same (typed_means y py.0 two.0 two.1 two.2)))
@@ -124,9 +116,8 @@ module _ (b : BookTree) (e : Election) (is : IsElection e) (few : b.house.value 
       let ps = pass_parts (expr_tests c.types s) _ pass in
       let pv = pass_parts (expr_tests c.types v) _ ps.1 in
       let shapes = head_holds _ _ _ (head_holds _ _ _ pv.1).1 in
-      let Split : List ℕ → List ℕ → ExprResult → Type 0 = λ amounts votes. IsSplit e (stand c v) amounts votes (shape_in c s) method majority None in
-      let one = then_column (ExprMeans b e c s) (λ amounts. Then (ExprMeans b e c v) (Split amounts)) values r h in
-      let two = then_column (ExprMeans b e c v) (Split one.0) values one.3 one.4 in
+      let one = then_column _ _ values r h in
+      let two = then_column _ _ values one.3 one.4 in
       split_typed e (stand c v) one.0 two.0 (no_one (shape_in c s) (shape_in c v) shapes.0) values two.3 (shape_in c s) method majority None two.4
   typed_means (split at s v method (atleast m) majority) pass values r h =
       let ps = pass_parts (expr_tests c.types s) _ pass in
@@ -134,10 +125,9 @@ module _ (b : BookTree) (e : Election) (is : IsElection e) (few : b.house.value 
       let pm = pass_parts (expr_tests c.types m) _ pv.1 in
       let shapes = head_holds _ _ _ (head_holds _ _ _ pm.1).1 in
       let can = and_parts (can_split (shape_in c s) (shape_in c v)) (same_shape (shape_in c m) (shape_in c v)) shapes.0 in
-      let Split : List ℕ → List ℕ → List ℕ → ExprResult → Type 0 = λ amounts votes minima. IsSplit e (stand c v) amounts votes (shape_in c s) method majority (Some minima) in
-      let one = then_column (ExprMeans b e c s) (λ amounts. Then (ExprMeans b e c v) (λ votes. Then (ExprMeans b e c m) (Split amounts votes))) values r h in
-      let two = then_column (ExprMeans b e c v) (λ votes. Then (ExprMeans b e c m) (Split one.0 votes)) values one.3 one.4 in
-      let three = then_column (ExprMeans b e c m) (Split one.0 two.0) values two.3 two.4 in
+      let one = then_column _ _ values r h in
+      let two = then_column _ _ values one.3 one.4 in
+      let three = then_column _ _ values two.3 two.4 in
       split_typed e (stand c v) one.0 two.0 (no_one (shape_in c s) (shape_in c v) can.0) values three.3 (shape_in c s) method majority (Some three.0) three.4
   typed_means (grow at s v method m limit majority) pass values r h =
       let ps = pass_parts (expr_tests c.types s) _ pass in
@@ -148,19 +138,12 @@ module _ (b : BookTree) (e : Election) (is : IsElection e) (few : b.house.value 
       let both = and_parts (same_shape (shape_in c s) shape.One && can_split (shape_in c s) (shape_in c v)) (same_shape (shape_in c m) (shape_in c v)) shapes.0 in
       let can = and_parts (same_shape (shape_in c s) shape.One) (can_split (shape_in c s) (shape_in c v)) both.0 in
       let within = leb-true limit.value MAX_SEATS (and_parts (nat_le 1 limit.value) (nat_le limit.value MAX_SEATS) caps.0).1 in
-      let Grown : List ℕ → List ℕ → List ℕ → ExprResult → Type 0 = λ amounts votes minima. IsGrown e (stand c v) amounts votes method majority minima limit.value in
-      let one = then_column (ExprMeans b e c s) (λ amounts. Then (ExprMeans b e c v) (λ votes. Then (ExprMeans b e c m) (Grown amounts votes))) values r h in
-      let two = then_column (ExprMeans b e c v) (λ votes. Then (ExprMeans b e c m) (Grown one.0 votes)) values one.3 one.4 in
-      let three = then_column (ExprMeans b e c m) (Grown one.0 two.0) values two.3 two.4 in
+      let one = then_column _ _ values r h in
+      let two = then_column _ _ values one.3 one.4 in
+      let three = then_column _ _ values two.3 two.4 in
       grown_typed e (stand c v) one.0 two.0 (no_one (shape_in c s) (shape_in c v) can.1) values three.3 method majority three.0 limit.value within three.4
 
 -- ---- stages
-
-all_and_one : {X Y : Type 0} (R : X → Y → Type 0) (xs : List X) (ys : List Y) (x : X) (y : Y) → R x y → AllZip R xs ys → AllZip R (xs ++ x ∷ []) (ys ++ y ∷ [])
-all_and_one R [] [] x y this all = (this, tt)
-all_and_one R [] (d ∷ ys) x y this all = absurd all
-all_and_one R (c ∷ xs) [] x y this all = absurd all
-all_and_one R (c ∷ xs) (d ∷ ys) x y this all = (all.0, all_and_one R xs ys x y this all.1)
 
 house_within : (b : BookTree) → first_failing (tests_of b) ≡ None → b.house.value ≤ MAX_SEATS
 house_within b h =
@@ -168,24 +151,16 @@ house_within b h =
     leb-true b.house.value MAX_SEATS (and_parts (nat_le 1 b.house.value) (nat_le b.house.value MAX_SEATS) (head_holds _ _ _ house).0).1
 
 module _ (b : BookTree) (e : Election) (is : IsElection e) (few : b.house.value ≤ MAX_SEATS) where
-  goes_typed : (k : Known) (s : StageTree) (ss : List StageTree) (end : Known) (p : ExprResult) →
-      ((values : List ℕ) (records : Records) → p ≡ Column values records → StagesMean b e (with_stage k s values records) ss (Through end) → AllZip (IsTypedAs e) end.types end.columns) →
-      GoesOn p (λ values records. StagesMean b e (with_stage k s values records) ss (Through end)) (Through end) → AllZip (IsTypedAs e) end.types end.columns
-  goes_typed k s ss end (Fault f) on run = cc
-  goes_typed k s ss end (Column values records) on run = on values records refl run
-
   run_typed : (k : Known) (ss : List StageTree) (end : Known) → first_failing (stages_tests k.types ss) ≡ None → AllZip (IsTypedAs e) k.types k.columns → StagesMean b e k ss (Through end) → AllZip (IsTypedAs e) end.types end.columns
   run_typed k [] end pass known run = let same : end ≡ k = cc in subst (λ j. AllZip (IsTypedAs e) j.types j.columns) (sym same) known
   run_typed k (s ∷ ss) end pass known run =
       let once = head_holds _ _ _ pass in
       let single = head_holds _ _ _ once.1 in
       let parts = pass_parts (expr_tests k.types s.expr) _ single.1 in
-      goes_typed k s ss end run.0
-      (λ values records same on.
-      let type = typed_means b e is few (context_of k s) known s.expr parts.0 values records (subst (ExprMeans b e (context_of k s) s.expr) same run.1) in
-      run_typed (with_stage k s values records) ss end parts.1
-      (all_and_one (IsTypedAs e) k.types k.columns (stage_column k.types s) (record { name = s.name; values = values }) (record { name = refl; type = type }) known) on)
-      run.2
+      let on = goes_through run.0 (λ values records. StagesMean b e (with_stage k s values records) ss (Through end)) end run.2 in
+      let type = typed_means b e is few (context_of k s) known s.expr parts.0 on.0 on.1 (subst (ExprMeans b e (context_of k s) s.expr) on.2 run.1) in
+      run_typed (with_stage k s on.0 on.1) ss end parts.1
+      (all_and_one (IsTypedAs e) k.types k.columns (stage_column k.types s) (record { name = s.name; values = on.0 }) (record { name = refl; type = type }) known) on.3
 
 pub typed_expressions : TypedExpressions
 typed_expressions b e c x values records typed is known pass means = typed_means b e is (house_within b (no_fault (tests_of b) typed)) c known x pass values records means

@@ -1,8 +1,8 @@
 -- The columns of splits and growths are of their types.
-use Rattle.std.proofs.Common.{◌≡◌, ℕ, ◌≤◌, ◌&&◌, Bool, true, false, List, [], ◌∷◌, Option, Some, None, filter, nat_eq, sum, refl, sym, ap, subst, ◌∙◌, inl, inr, arith}
-use Rattle.std.specs.Prelude.{if◌then◌else◌, zip, flat_map, find, filter_map, slice_get, option_map, unwrap_or, MatchOption, nat_lt}
+use Rattle.std.proofs.Common.{◌≡◌, ℕ, ◌≤◌, ◌&&◌, true, false, List, [], ◌∷◌, Option, Some, None, filter, nat_eq, sum, refl, sym, ap, subst, ◌∙◌, arith}
+use Rattle.std.specs.Prelude.{zip, flat_map, find, filter_map, slice_get, option_map, unwrap_or, MatchOption, nat_lt}
 use Rattle.std.specs.List.{AllByRecursion as Every}
-use Rattle.std.proofs.lemmas.Bool.{cases_Bool, cond-true, cond-false, and_parts, eqb-true, ltb-false, false_from_ne_true, false≢true, both_ways}
+use Rattle.std.proofs.lemmas.Bool.{cond-false, cond_both, and_parts, eqb-true, ltb-false, false_from_ne_true, false≢true, both_ways}
 use Rattle.sl_ratio.specs.declared.method.Divisor.{Divisor}
 use Rattle.sl_ratio.specs.declared.method.Method.{Method}
 use Rattle.sl_ratio.specs.declared.method.Method.TheVariants as by
@@ -33,14 +33,10 @@ use Rattle.sl_stages.proofs.meaning.TypedColumns.{made_by_list, made_by_land, ma
 
 -- ---- the seats of an award
 
-either_sum : (t : Bool) (kind : FaultKind) (s : List ℕ) (n : ℕ) → sum s ≤ n → sum (awarded (if t then Refused kind else Seats s)) ≤ n
-either_sum true kind s n h = omega arith
-either_sum false kind s n h = h
-
 chosen_sum : (X : List ℕ → Type 0) (lot : List ℕ) (entries : List Item) (m : Majority) (v : List ℕ) (seats n : ℕ) → ((s : List ℕ) → X s → sum s ≤ n) → (a : Award) → IsChosen X lot entries m v seats a → sum (awarded a) ≤ n
 chosen_sum X lot entries m v seats n each a h = subst (λ a. sum (awarded a) ≤ n) (sym h.is) (of h.choice h.chosen) where
   of : (c : Choice) → IsChoice X lot c → sum (awarded (award_of entries m v seats c)) ≤ n
-  of (Decided s) is = either_sum (is_refused m v seats s) fault.Majority s n (each s is.4)
+  of (Decided s) is = cond_both (is_refused m v seats s) (Refused fault.Majority) (Seats s) (λ a. sum (awarded a) ≤ n) (λ refused. omega arith) (λ stands. each s is.4)
   of (Tied k tied) is = omega arith
 
 allocation_sum : (method : Method) (m : Majority) (v min : List ℕ) (seats : ℕ) (s : List ℕ) → IsAllocation method m v min seats s → sum s ≤ seats
@@ -69,10 +65,7 @@ every_no_more m (n ∷ s) h = (omega (arith, h, sum-cons n s), every_no_more m s
 told_most : (m : ℕ) (pairs : List (Item × ℕ)) (i : Item) → Every (λ p. p.1 ≤ m) pairs → told_of pairs i ≤ m
 told_most m [] i all = omega arith
 told_most m (p ∷ pairs) i all =
-    elim (cases_Bool (same_item i p.0)) [
-      | inl this ↦ subst (λ o. unwrap_or (option_map (λ x. x.1) o) 0 ≤ m) (sym (cond-true (same_item i p.0) (Some p) (find (λ x. same_item i x.0) pairs) this)) all.0
-      | inr other ↦ subst (λ o. unwrap_or (option_map (λ x. x.1) o) 0 ≤ m) (sym (cond-false (same_item i p.0) (Some p) (find (λ x. same_item i x.0) pairs) other)) (told_most m pairs i all.1)
-    ]
+    cond_both (same_item i p.0) (Some p) (find (λ x. same_item i x.0) pairs) (λ o. unwrap_or (option_map (λ x. x.1) o) 0 ≤ m) (λ this. all.0) (λ other. told_most m pairs i all.1)
 
 pub told_none : (pairs : List (Item × ℕ)) (i : Item) → Every (λ p. same_item i p.0 ≡ false) pairs → told_of pairs i ≡ 0
 told_none [] i all = refl
@@ -109,13 +102,9 @@ module _ (e : Election) (land party : ℕ) (none : has_list e land party ≡ fal
 each_under : (e : Election) (at : Stand) (amounts : List ℕ) (groups : List Group) → first_over e at amounts groups ≡ None → Every (λ g. amount_of e at amounts g ≤ MAX_SEATS) groups
 each_under e at amounts [] none = tt
 each_under e at amounts (g ∷ groups) none =
-    elim (cases_Bool (nat_lt MAX_SEATS (amount_of e at amounts g))) [
-      | inl over ↦ (let some : Some g ≡ None = sym (cond-true (nat_lt MAX_SEATS (amount_of e at amounts g)) (Some g) (first_over e at amounts groups) over) ∙ none in cc)
-      | inr under ↦ (
-        ltb-false MAX_SEATS (amount_of e at amounts g) under,
-        each_under e at amounts groups (sym (cond-false (nat_lt MAX_SEATS (amount_of e at amounts g)) (Some g) (first_over e at amounts groups) under) ∙ none),
-      )
-    ]
+    cond_both (nat_lt MAX_SEATS (amount_of e at amounts g)) (Some g) (first_over e at amounts groups)
+    (λ o. o ≡ None → (amount_of e at amounts g ≤ MAX_SEATS) × Every (λ g. amount_of e at amounts g ≤ MAX_SEATS) groups)
+    (λ over none. cc) (λ under none. (ltb-false MAX_SEATS (amount_of e at amounts g) under, each_under e at amounts groups none)) none
 
 column_values : (f : Option LegalFault) (values c : List ℕ) (records r : Records) → Column values records ≡ unwrap_or (option_map (λ f. Fault f) f) (Column c r) → values ≡ c
 column_values None values c records r is = cc

@@ -1,6 +1,7 @@
 -- The bounds of an allocation are equal where there is another one.
-use Rattle.std.proofs.Common.{◌≡◌, ◌≢◌, ℕ, zero, suc, ◌-◌, ◌<◌, ◌≤◌, ◌⊎◌, List, [], ◌∷◌, length, get_or, sum, inl, inr, arith, refl, sym, ap, ◌∙◌, subst}
+use Rattle.std.proofs.Common.{◌≡◌, ◌≢◌, ℕ, ◌-◌, ◌<◌, ◌≤◌, ◌⊎◌, List, length, get_or, sum, inl, inr, arith, sym, ap, ◌∙◌, subst}
 use Rattle.std.proofs.lemmas.Bool.{cases_lt, cases_eq}
+use Rattle.std.proofs.lemmas.List.{ext_get_or}
 use Rattle.std.proofs.lemmas.List.Elements.{Contains-get_or}
 use Rattle.sl_ratio.specs.declared.method.Divisor.{Divisor}
 use Rattle.sl_ratio.specs.Quotient.{AtMost, SameQuotient}
@@ -9,15 +10,14 @@ use Rattle.sl_ratio.proofs.Order.{AtMost-trans}
 use Rattle.sl_stages.specs.methods.Field.{no_minima}
 use Rattle.sl_stages.specs.methods.Allocations.{IsDivisorAllocation}
 use Rattle.sl_stages.specs.laws.Ladders.{IsTop, IsSettled, divisor_ladders}
-use Rattle.sl_stages.specs.laws.Awards.{DivisorTops}
 use Rattle.sl_stages.specs.laws.EqualBounds.{EqualBounds}
-use Rattle.sl_stages.proofs.methods.SeatSums.{some_greater, none_needed, length_zeros, sum_zeros}
+use Rattle.sl_stages.proofs.methods.SeatSums.{some_greater, none_needed, sum_zeros}
 use Rattle.sl_stages.proofs.methods.RaisedSeats.{increasing_distinct}
 use Rattle.sl_stages.proofs.methods.ListedEntries.{cases_all}
 use Rattle.sl_stages.proofs.methods.OneBatch.{falls_to_weak, has_next, peers_within}
 use Rattle.sl_stages.proofs.methods.ManyBatches.{last_batch, tops_only, tops_each}
-use Rattle.sl_stages.proofs.methods.TieLaw.{equal_lists, none_raised, tied_some}
-use Rattle.sl_stages.proofs.methods.DivisorProofs.{divisor_tops, has_of, field_of}
+use Rattle.sl_stages.proofs.methods.TieLaw.{none_raised, tied_some}
+use Rattle.sl_stages.proofs.methods.DivisorProofs.{free_tops, has_of, field_of}
 
 -- two lists that differ do so at an entry
 differ_at : (s t : List ℕ) → length s ≡ length t → (t ≢ s) → (i : ℕ) × (get_or s i 0 ≢ get_or t i 0)
@@ -26,15 +26,8 @@ differ_at s t e ne =
     let dec : (i : ℕ) → P i ⊎ (P i → ⊥) = λ i. cases_eq (get_or s i 0) (get_or t i 0) in
     elim (cases_all P dec (length s)) [
       | inr some ↦ (some.0, some.1)
-      | inl all ↦ absurd (ne (sym (equal_lists s t e (λ i. elim (cases_lt i (length s)) [
-        | inl l ↦ all i l
-        | inr g ↦ past s i g ∙ sym (past t i (omega arith))
-      ]))))
-    ] where
-      past : (xs : List ℕ) (k : ℕ) → length xs ≤ k → get_or xs k 0 ≡ 0
-      past [] k l = refl
-      past (x ∷ xs) zero l = absurd (omega arith)
-      past (x ∷ xs) (suc k) l = past xs k (omega arith)
+      | inl all ↦ absurd (ne (sym (ext_get_or 0 s t e all)))
+    ]
 
 -- of two members that differ, one is another than s
 other_member : (X : List ℕ → Type 0) (s a b : List ℕ) (p : ℕ) → X a → X b → get_or b p 0 < get_or a p 0 → (t : List ℕ) × X t × (t ≢ s)
@@ -45,14 +38,12 @@ other_member X s a b p ha hb less =
     ]
 
 module _ (method : Divisor) (v : List ℕ) (seats : ℕ) (s : List ℕ) (hs : IsDivisorAllocation method v (no_minima v) seats s) where
-  tops_law : DivisorTops method v (no_minima v)
-  tops_law = divisor_tops method v (no_minima v) (length_zeros (length v))
-
   module _ (i j : ℕ) (last : IsLast method v s i) (next : IsNext method v s j) where
     -- an allocation has a greater entry than another, and a smaller one: the last seat is worth no more than the next one
     worth : (t : List ℕ) → IsDivisorAllocation method v (no_minima v) seats t → (a : ℕ) → get_or s a 0 < get_or t a 0 →
         AtMost (last_quotient method v s i) (next_quotient method v s j)
     worth t ht a more =
+        let tops_law = free_tops method v in
         let law = tops_law.falling in
         let S = (tops_law.tops seats s).0 hs in
         let T = (tops_law.tops seats t).0 ht in
@@ -103,6 +94,7 @@ module _ (method : Divisor) (v : List ℕ) (seats : ℕ) (s : List ℕ) (hs : Is
     meets_to : SameQuotient (last_quotient method v s i) (next_quotient method v s j) →
         (t : List ℕ) × IsDivisorAllocation method v (no_minima v) seats t × (t ≢ s)
     meets_to same =
+        let tops_law = free_tops method v in
         let law = tops_law.falling in
         let l = divisor_ladders method v (no_minima v) in
         let f = last.weight in

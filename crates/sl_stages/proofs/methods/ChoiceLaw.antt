@@ -1,13 +1,13 @@
 -- A set with the law of ties has one choice for each lot.
-use Rattle.std.proofs.Common.{◌≡◌, ℕ, suc, ◌+◌, ◌<◌, ◌≤◌, List, [], ◌∷◌, length, get_or, inl, inr, arith, refl, sym, ap, ◌∙◌, subst}
+use Rattle.std.proofs.Common.{◌≡◌, ℕ, suc, ◌<◌, ◌≤◌, List, [], length, get_or, sum, inl, inr, arith, refl, sym, ap, ◌∙◌, subst}
 use Rattle.std.specs.Prelude.{Contains, ◌↔◌}
-use Rattle.std.proofs.lemmas.Bool.{cases_lt}
+use Rattle.std.proofs.lemmas.List.Sums.{get_or-le-sum_by}
 use Rattle.sl_stages.specs.laws.Ladders.{Raises, RaisesEach}
 use Rattle.sl_stages.specs.methods.Ties.{Distinct, Lists, IsRaised, IsTied, AreTied, Choice, Decided, Tied, NamesAll, drawn, IsChoice, IsWellDefined}
 use Rattle.sl_stages.proofs.methods.ListedEntries.{find_all}
-use Rattle.sl_stages.proofs.methods.RaisedSeats.{increasing_distinct, cases_Contains, Contains-cases, Contains-none}
-use Rattle.sl_stages.proofs.methods.TieLaw.{HasTies, equal_lists, raised_is, below_length, raise_chosen, raised_more, more_raised}
-use Rattle.sl_stages.proofs.methods.DrawnLots.{fits_in, same_entries, drawn_only, drawn_distinct, drawn_length, cases_NamesAll}
+use Rattle.sl_stages.proofs.methods.RaisedSeats.{all_or_one, increasing_distinct, cases_Contains, Contains-none}
+use Rattle.sl_stages.proofs.methods.TieLaw.{HasTies, none_tied, no_raise, equal_lists, raised_is, below_length, raise_chosen, raised_more, more_raised}
+use Rattle.sl_stages.proofs.methods.DrawnLots.{fits_in, same_entries, drawn_only, drawn_distinct, drawn_length}
 
 module _ (X : List ℕ → Type 0) (tied : List ℕ) (k : ℕ) (law : HasTies X tied k) where
   -- no member raises more than the tied entries
@@ -23,13 +23,9 @@ module _ (X : List ℕ → Type 0) (tied : List ℕ) (k : ℕ) (law : HasTies X 
   pub same_member : (s t : List ℕ) → X s → X t → ((i : ℕ) → IsRaised X s i → IsRaised X t i) → ((i : ℕ) → IsRaised X t i → IsRaised X s i) → s ≡ t
   same_member s t hs ht to from =
       equal_lists s t (law.one_length s t hs ht) (λ i.
-      elim (cases_lt (get_or s i 0) (get_or t i 0)) [
-        | inl l ↦ absurd (let r = from i (s, hs, l) in let a = law.one_apart t r.0 ht r.1 i in let b = r.2 in omega (arith, a, b, l))
-        | inr g ↦ elim (cases_lt (get_or t i 0) (get_or s i 0)) [
-          | inl l ↦ absurd (let r = to i (t, ht, l) in let a = law.one_apart s r.0 hs r.1 i in let b = r.2 in omega (arith, a, b, l))
-          | inr g' ↦ omega arith
-        ]
-      ])
+      let up : get_or s i 0 < get_or t i 0 → ⊥ = λ l. let r = from i (s, hs, l) in omega (arith, law.one_apart t r.0 ht r.1 i, r.2, l) in
+      let down : get_or t i 0 < get_or s i 0 → ⊥ = λ l. let r = to i (t, ht, l) in omega (arith, law.one_apart s r.0 hs r.1 i, r.2, l) in
+      omega (arith, up, down))
 
   same_tied : (tied' : List ℕ) (k' : ℕ) → AreTied X tied' k' → (tied' ≡ tied) × (k' ≡ k)
   same_tied tied' k' h =
@@ -43,28 +39,21 @@ module _ (X : List ℕ → Type 0) (tied : List ℕ) (k : ℕ) (law : HasTies X 
   pub any_choice : (chosen : List ℕ) → Distinct chosen → ((i : ℕ) → Contains chosen i → Contains tied i) → length chosen ≡ k →
       (s : List ℕ) × X s × ((i : ℕ) → IsRaised X s i ↔ Contains chosen i)
   any_choice chosen d sub e =
-      let sorted = find_all (λ i. Contains chosen i) (cases_Contains chosen) (suc (most chosen)) (λ i c. up chosen i c) in
+      let sorted = find_all (λ i. Contains chosen i) (cases_Contains chosen) (suc (sum chosen)) (λ i c. omega (arith, get_or-le-sum_by (λ x. x) chosen c.0 i c.1, c.2)) in
       let inc = sorted.1.in_order in
       let a = fits_in sorted.0 chosen (increasing_distinct sorted.0 inc) d (λ i c. sorted.1.has_only i c) in
       let b = fits_in chosen sorted.0 d (increasing_distinct sorted.0 inc) (λ i c. sorted.1.has i c) in
       let found = law.every_choice sorted.0 inc (λ i c. sub i (sorted.1.has_only i c)) (omega (arith, a, b, e)) in
-      (found.0, found.1, λ i. (λ r. sorted.1.has_only i (found.2.has i r), λ c. found.2.has_only i (sorted.1.has i c))) where
-        most : List ℕ → ℕ
-        most [] = 0
-        most (x ∷ xs) = x + most xs
-
-        up : (xs : List ℕ) (i : ℕ) → Contains xs i → i < suc (most xs)
-        up [] i c = absurd (Contains-none i c)
-        up (x ∷ xs) i c = elim (Contains-cases x xs i c) [ inl same ↦ omega arith | inr h ↦ (let l = up xs i h in omega (arith, l)) ]
+      (found.0, found.1, λ i. (λ r. sorted.1.has_only i (found.2.has i r), λ c. found.2.has_only i (sorted.1.has i c)))
 
   pub one_choice : (lot : List ℕ) → Distinct lot → (c : Choice) × IsChoice X lot c × ((d : Choice) → IsChoice X lot d → d ≡ c)
   one_choice lot d =
-      elim (cases_NamesAll lot tied) [
+      elim (all_or_one tied lot) [
         | inl names ↦
             (let e = increasing_distinct tied law.are_tied.entries.in_order in
             let found = any_choice (drawn lot k tied) (drawn_distinct lot k tied d) (drawn_only lot k tied) (drawn_length lot k tied d e names few) in
             (Decided found.0, (tied, k, law.are_tied, names, found.1, found.2), others_none_seats names found.0 found.1 found.2))
-        | inr none ↦ (Tied k tied, (law.are_tied, none), λ c h. tie_only none c h)
+        | inr out ↦ let none : NamesAll lot tied → ⊥ = λ names. out.2 (names out.0 out.1) in (Tied k tied, (law.are_tied, none), λ c h. tie_only none c h)
       ] where
         others_none_seats : NamesAll lot tied → (s : List ℕ) → X s → ((i : ℕ) → IsRaised X s i ↔ Contains (drawn lot k tied) i) → (c : Choice) → IsChoice X lot c → c ≡ Decided s
         others_none_seats names s hs just (Decided t) h =
@@ -95,23 +84,8 @@ well_defined X h = record {
 pub one_member : (X : List ℕ → Type 0) (s : List ℕ) → ((t : List ℕ) → X t ↔ (t ≡ s)) → (lot : List ℕ) → IsChoice X lot (Decided s)
 one_member X s h lot =
     let here : X s = (h s).1 refl in
-    let none : (t : List ℕ) → X t → (i : ℕ) → IsRaised X t i → ⊥ = λ t ht i r.
-    let et : t ≡ s = (h t).0 ht in
-    let er : r.0 ≡ s = (h r.0).0 r.1 in
-    let e : get_or r.0 i 0 ≡ get_or t i 0 = ap (λ y. get_or y i 0) (er ∙ sym et) in
-    let l = r.2 in omega (arith, l, e) in
-    let no_list : (t : List ℕ) → X t → Lists (IsRaised X t) [] =
-    λ t ht. record { in_order = λ j l. absurd (omega arith); has = λ i r. absurd (none t ht i r); has_only = λ i c. absurd (Contains-none i c) } in (
-      [],
-      0,
-      record {
-        entries = record { in_order = λ j l. absurd (omega arith); has = λ i r. absurd (none r.0 r.1 i r.2); has_only = λ i c. absurd (Contains-none i c) };
-        number = λ t ht. ([], no_list t ht, refl);
-      },
-      λ i c. absurd (Contains-none i c),
-      here,
-      λ i. (λ r. absurd (none s here i r), λ c. absurd (Contains-none i c)),
-    )
+    let alone : (t : List ℕ) → X t → t ≡ s = λ t ht. (h t).0 ht in
+    ([], 0, none_tied X s alone, λ i c. absurd (Contains-none i c), here, λ i. (λ r. absurd (no_raise X s alone s here i r), λ c. absurd (Contains-none i c)))
 
 -- a lot that names all the tied entries decides
 pub drawn_choice : (X : List ℕ → Type 0) (base tied : List ℕ) (k : ℕ) → AreTied X tied k → k < length tied → ((t : List ℕ) → X t ↔ Raises tied k base t) →

@@ -37,9 +37,7 @@ module _ (first valid : List ℕ) where
         | inl all ↦ absurd (let many = full s all in omega (arith, many, less, le, on.same_length, length_zeros (length first)))
         | inr some ↦
             (let i = some.0 in
-            let l = some.2 in
-            let z : get_or s i 0 ≡ 0 = elim (cases_lt 0 (get_or s i 0)) [ inl more ↦ absurd (some.1 more) | inr g ↦ omega arith ] in
-            (i, has_of i (get_or s i 0) (omega (arith, l, on.same_length, length_zeros (length first))) z))
+            (i, has_of i (get_or s i 0) (omega (arith, some.2, on.same_length, length_zeros (length first))) (omega (arith, some.1))))
       ]
 
   to_top : (seats : ℕ) (s : List ℕ) → IsCovering first valid seats s → IsTop (covering_ladders first valid) seats s
@@ -88,9 +86,6 @@ coverings first valid seats votes = (
   few : (s : List ℕ) → IsCovering first valid seats s → seats ≤ length first
   few s h = let le = at_most_length s h.one_place in omega (arith, le, h.total, h.same_length)
 
-one_at : (n i : ℕ) → i < n → get_or {A = ℕ} (replicate n 1) i 0 ≡ 1
-one_at n i l = get_or-replicate n i 1 0 l
-
 pub full_coverings : FullCoverings
 full_coverings first valid s h i l =
     elim (cases_lt (get_or s i 0) 1) [
@@ -99,10 +94,10 @@ full_coverings first valid s h i l =
           (let n = length first in
           let ones : (j : ℕ) → get_or s j 0 ≤ get_or {A = ℕ} (replicate n 1) j 0 =
           λ j. elim (cases_lt j n) [
-            | inl lj ↦ omega (arith, h.one_place j, one_at n j lj)
+            | inl lj ↦ omega (arith, h.one_place j, get_or-replicate {A = ℕ} n j 1 0 lj)
             | inr g ↦ omega (arith, get_or_past s j 0 (omega (arith, h.same_length, g)))
           ] in
-          let fewer = sum_mono_strict s (replicate n 1) i ones (omega (arith, less, one_at n i l)) in
+          let fewer = sum_mono_strict s (replicate n 1) i ones (omega (arith, less, get_or-replicate {A = ℕ} n i 1 0 l)) in
           let total : sum (replicate n 1) ≡ n * 1 = sum_by-replicate (λ x. x) n 1 in
           absurd (omega (arith, fewer, total, h.total)))
     ]

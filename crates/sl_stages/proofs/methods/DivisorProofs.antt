@@ -1,23 +1,22 @@
 -- The divisor allocations are the tops of their ladders.
-use Rattle.std.proofs.Common.{◌≡◌, ℕ, zero, suc, ◌+◌, ◌-◌, ◌<◌, ◌≤◌, ◌⊎◌, List, [], ◌∷◌, length, get_or, sum, inl, inr, arith, sym, ◌∙◌}
+use Rattle.std.proofs.Common.{◌≡◌, ℕ, ◌+◌, ◌-◌, ◌<◌, ◌≤◌, ◌⊎◌, List, [], length, get_or, sum, inl, inr, arith, sym, ◌∙◌}
 use Rattle.std.proofs.lemmas.Bool.{cases_lt, lt-ltb, ltb-true}
 use Rattle.sl_ratio.specs.declared.method.Divisor.{Divisor}
-use Rattle.sl_stages.specs.methods.Field.{InField, IsEmptyField}
+use Rattle.sl_stages.specs.methods.Field.{InField, IsEmptyField, no_minima}
 use Rattle.sl_stages.specs.methods.Allocations.{IsDivisorAllocation}
 use Rattle.sl_stages.specs.methods.Ties.{IsWellDefined}
 use Rattle.sl_stages.specs.laws.Ladders.{Has, AreFalling, IsTop, HasRoom, divisor_ladders}
 use Rattle.sl_stages.specs.laws.MethodLaws.{EmptyFields, DivisorAllocations}
 use Rattle.sl_stages.specs.laws.Awards.{DivisorTops, DivisorLadders}
 use Rattle.sl_ratio.specs.inner.QuotientLaws.{quotient_positive, quotient_falls}
-use Rattle.sl_stages.proofs.methods.SeatSums.{sum_mono, entry_le_sum}
+use Rattle.sl_stages.proofs.methods.SeatSums.{sum_mono, entry_le_sum, length_zeros}
 use Rattle.sl_stages.proofs.methods.ListedEntries.{cases_all}
 use Rattle.sl_stages.proofs.methods.ManyBatches.{tops_well_defined}
+use Rattle.sl_stages.proofs.methods.TieLaw.{below_length}
 use Rattle.sl_stages.proofs.methods.ChoiceLaw.{same_choices, well_defined_too}
 
 pub in_range : (v : List ℕ) (i : ℕ) → InField v i → i < length v
-in_range [] i h = absurd (omega arith)
-in_range (x ∷ xs) zero h = omega arith
-in_range (x ∷ xs) (suc i) h = let l = in_range xs i h in omega (arith, l)
+in_range v i h = below_length v i 0 h
 
 -- the field is empty, or has an entry
 pub cases_field : (v : List ℕ) → IsEmptyField v ⊎ ((i : ℕ) × InField v i)
@@ -29,7 +28,7 @@ cases_field v =
 
 pub empty_fields : EmptyFields
 empty_fields v = (
-  λ empty. let all = sum_mono v [] (λ i. let f = empty i in elim (cases_lt 0 (get_or v i 0)) [ inl l ↦ absurd (f l) | inr g ↦ g ]) in omega (arith, all),
+  λ empty. let all = sum_mono v [] (λ i. let f = empty i in omega (arith, f)) in omega (arith, all),
   λ z i f. let le = entry_le_sum v i in omega (arith, le, z, f),
 )
 
@@ -113,6 +112,10 @@ divisor_allocations method v m seats e = (
         let down = sum_mono s m (λ i. let same = h.outside i (let f = empty i in elim (cases_lt 0 (get_or v i 0)) [ inl l ↦ absurd (f l) | inr g ↦ omega arith ]) in omega (arith, same)) in
         omega (arith, up, down, h.total),
   )
+
+-- without minima
+pub free_tops : (method : Divisor) (v : List ℕ) → DivisorTops method v (no_minima v)
+free_tops method v = divisor_tops method v (no_minima v) (length_zeros (length v))
 
 pub divisor_ladders_law : DivisorLadders
 divisor_ladders_law method v m e = divisor_tops method v m e

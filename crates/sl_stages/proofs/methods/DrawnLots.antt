@@ -1,16 +1,18 @@
 -- What a lot draws from some entries.
-use Rattle.std.proofs.Common.{◌≡◌, ℕ, zero, suc, ◌+◌, ◌<◌, ◌≤◌, ◌⊎◌, Bool, true, false, List, [], ◌∷◌, ◌++◌, length, get_or, take, inl, inr, arith, refl, sym, subst}
+use Rattle.std.proofs.Common.{◌≡◌, ℕ, zero, suc, ◌+◌, ◌<◌, ◌≤◌, Bool, true, false, List, [], ◌∷◌, ◌++◌, length, get_or, take, drop, inl, inr, arith, refl, sym, subst}
 use Rattle.std.specs.Prelude.{Contains, filter, nat_eq}
 use Rattle.std.specs.List.{list_any}
 use Rattle.std.specs.List.Sorted.{IsStrictlyIncreasing}
-use Rattle.std.proofs.lemmas.Bool.{cases_eq, eq-eqb, eqb-true, or_cases, or_left, or_right}
-use Rattle.std.proofs.lemmas.Bool.{cases_Bool, cond-true, cond-false, both_ways}
+use Rattle.std.proofs.lemmas.Bool.{cases_eq, eq-eqb, eqb-true}
+use Rattle.std.proofs.lemmas.Bool.{cond_both, both_ways}
 use Rattle.sl_stages.specs.methods.Ties.{Distinct, Lists, NamesAll, drawn}
-use Rattle.std.proofs.lemmas.List.{take_more}
-use Rattle.std.proofs.lemmas.List.Elements.{Contains-get_or}
+use Rattle.std.proofs.lemmas.List.{length-take-le, take-append-drop, take_more}
+use Rattle.std.proofs.lemmas.List.Folds.{Any-from_list_any, list_any_at}
+use Rattle.std.proofs.lemmas.List.Elements.{Contains-append_left, Contains-get_or, Contains-push}
 use Rattle.sl_stages.specs.laws.Awards.{Draws}
 use Rattle.sl_stages.proofs.methods.RaisedSeats.{increasing-head, increasing-tail, cases_Contains, Contains-head, Contains-tail, Contains-cases, Contains-none}
 use Rattle.sl_stages.proofs.methods.TieLaw.{others}
+use Rattle.sl_stages.proofs.methods.ListedEntries.{filter_only, filter_has, filter_distinct}
 
 -- a list without repeats is no longer than one that has all its entries
 pub fits_in : (xs ys : List ℕ) → Distinct xs → Distinct ys → ((i : ℕ) → Contains xs i → Contains ys i) → length xs ≤ length ys
@@ -48,67 +50,18 @@ same_entries P Q xs ys to from hx hy = same xs ys hx.in_order hy.in_order (λ i 
       cc
 
 pub is_in : (xs : List ℕ) (i : ℕ) → Contains xs i → list_any (λ j. nat_eq j i) xs ≡ true
-is_in [] i c = absurd (Contains-none i c)
-is_in (x ∷ xs) i c = elim (Contains-cases x xs i c) [
-  | inl e ↦ or_left (nat_eq x i) (list_any (λ j. nat_eq j i) xs) (eq-eqb x i e)
-  | inr h ↦ or_right (nat_eq x i) (list_any (λ j. nat_eq j i) xs) (is_in xs i h)
-]
+is_in xs i c = list_any_at (λ j. nat_eq j i) xs c.0 i c.1 (eq-eqb (get_or xs c.0 i) i c.2)
 
 pub stands_in : (xs : List ℕ) (i : ℕ) → list_any (λ j. nat_eq j i) xs ≡ true → Contains xs i
-stands_in [] i e = cc
-stands_in (x ∷ xs) i e = elim (or_cases (nat_eq x i) (list_any (λ j. nat_eq j i) xs) e) [
-  | inl h ↦ subst (λ z. Contains (x ∷ xs) z) (eqb-true x i h) (Contains-head x xs)
-  | inr h ↦ Contains-tail x xs i (stands_in xs i h)
-]
-
-module _ (p : ℕ → Bool) where
-  pub filter_only : (xs : List ℕ) (i : ℕ) → Contains (filter p xs) i → Contains xs i × (p i ≡ true)
-  filter_only [] i c = absurd (Contains-none i c)
-  filter_only (x ∷ xs) i c =
-      elim (cases_Bool (p x)) [
-        | inl yes' ↦
-            (let c' = subst (λ l. Contains l i) (cond-true (p x) (x ∷ filter p xs) (filter p xs) yes') c in
-            elim (Contains-cases x (filter p xs) i c') [
-              | inl e ↦ (subst (λ z. Contains (x ∷ xs) z) e (Contains-head x xs), subst (λ z. p z ≡ true) e yes')
-              | inr h ↦ (let rest = filter_only xs i h in (Contains-tail x xs i rest.0, rest.1))
-            ])
-        | inr no' ↦
-            (let c' = subst (λ l. Contains l i) (cond-false (p x) (x ∷ filter p xs) (filter p xs) no') c in
-            let rest = filter_only xs i c' in (Contains-tail x xs i rest.0, rest.1))
-      ]
-
-  filter_has : (xs : List ℕ) (i : ℕ) → Contains xs i → p i ≡ true → Contains (filter p xs) i
-  filter_has [] i c e = absurd (Contains-none i c)
-  filter_has (x ∷ xs) i c e =
-      elim (cases_Bool (p x)) [
-        | inl yes' ↦ subst (λ l. Contains l i) (sym (cond-true (p x) (x ∷ filter p xs) (filter p xs) yes'))
-            (elim (Contains-cases x xs i c) [ inl s ↦ subst (λ z. Contains (x ∷ filter p xs) z) s (Contains-head x (filter p xs)) | inr h ↦ Contains-tail x (filter p xs) i (filter_has xs i h e) ])
-        | inr no' ↦ subst (λ l. Contains l i) (sym (cond-false (p x) (x ∷ filter p xs) (filter p xs) no'))
-            (elim (Contains-cases x xs i c) [ inl s ↦ absurd (both_ways (p x) no' (subst (λ z. p z ≡ true) (sym s) e)) | inr h ↦ filter_has xs i h e ])
-      ]
-
-  pub filter_distinct : (xs : List ℕ) → Distinct xs → Distinct (filter p xs)
-  filter_distinct [] d = tt
-  filter_distinct (x ∷ xs) d =
-      elim (cases_Bool (p x)) [
-        | inl yes' ↦ subst Distinct (sym (cond-true (p x) (x ∷ filter p xs) (filter p xs) yes')) (λ c. d.0 (filter_only xs x c).0, filter_distinct xs d.1)
-        | inr no' ↦ subst Distinct (sym (cond-false (p x) (x ∷ filter p xs) (filter p xs) no')) (filter_distinct xs d.1)
-      ]
+stands_in xs i e = let found = Any-from_list_any (λ j. nat_eq j i) xs e in subst (Contains xs) (eqb-true found.1 i found.4) (found.0, found.2, found.3)
 
 take_only : (k : ℕ) (xs : List ℕ) (i : ℕ) → Contains (take k xs) i → Contains xs i
-take_only zero xs i c = absurd (Contains-none i c)
-take_only (suc k) [] i c = absurd (Contains-none i c)
-take_only (suc k) (x ∷ xs) i c = elim (Contains-cases x (take k xs) i c) [ inl e ↦ subst (λ z. Contains (x ∷ xs) z) e (Contains-head x xs) | inr h ↦ Contains-tail x xs i (take_only k xs i h) ]
+take_only k xs i c = subst (λ l. Contains l i) (take-append-drop k xs) (Contains-append_left (take k xs) (drop k xs) i c)
 
 take_distinct : (k : ℕ) (xs : List ℕ) → Distinct xs → Distinct (take k xs)
 take_distinct zero xs d = tt
 take_distinct (suc k) [] d = tt
 take_distinct (suc k) (x ∷ xs) d = (λ c. d.0 (take_only k xs x c), take_distinct k xs d.1)
-
-take_length : (k : ℕ) (xs : List ℕ) → k ≤ length xs → length (take k xs) ≡ k
-take_length zero xs l = refl
-take_length (suc k) [] l = absurd (omega arith)
-take_length (suc k) (x ∷ xs) l = let rest = take_length k xs (omega arith) in omega (arith, rest)
 
 -- what a lot draws: k of the entries, each once
 pub drawn_only : (lot : List ℕ) (k : ℕ) (entries : List ℕ) (i : ℕ) → Contains (drawn lot k entries) i → Contains entries i
@@ -125,18 +78,7 @@ pub drawn_length : (lot : List ℕ) (k : ℕ) (entries : List ℕ) → Distinct 
 drawn_length lot k entries d e names le =
     let p = λ (j : ℕ). list_any (λ n. nat_eq n j) entries in
     let fits = fits_in entries (filter p lot) e (filter_distinct p lot d) (λ i c. filter_has p lot i (names i c) (is_in entries i c)) in
-    take_length k (filter p lot) (omega (arith, fits))
-
-pub cases_NamesAll : (lot entries : List ℕ) → NamesAll lot entries ⊎ (NamesAll lot entries → ⊥)
-cases_NamesAll lot [] = inl (λ i c. absurd (Contains-none i c))
-cases_NamesAll lot (x ∷ xs) =
-    elim (cases_Contains lot x) [
-      | inr out ↦ inr (λ all. out (all x (Contains-head x xs)))
-      | inl here ↦ elim (cases_NamesAll lot xs) [
-        | inl rest ↦ inl (λ i c. elim (Contains-cases x xs i c) [ inl e ↦ subst (λ z. Contains lot z) e here | inr h ↦ rest i h ])
-        | inr some ↦ inr (λ all. some (λ i c. all i (Contains-tail x xs i c)))
-      ]
-    ]
+    length-take-le k (filter p lot) (omega (arith, fits))
 
 -- the place in xs of the k-th of those that pass a test, which are ys
 record NthPlace (p : ℕ → Bool) (xs ys : List ℕ) (k : ℕ) : Type 0 where
@@ -148,14 +90,8 @@ record NthPlace (p : ℕ → Bool) (xs ys : List ℕ) (k : ℕ) : Type 0 where
 nth_place : (p : ℕ → Bool) (xs : List ℕ) (k : ℕ) → k < length (filter p xs) → NthPlace p xs (filter p xs) k
 nth_place p [] k l = absurd (omega arith)
 nth_place p (x ∷ xs) k l =
-    elim (cases_Bool (p x)) [
-      | inl yes' ↦
-          (let e : filter p (x ∷ xs) ≡ x ∷ filter p xs = cond-true (p x) (x ∷ filter p xs) (filter p xs) yes' in
-          subst (λ ys. NthPlace p (x ∷ xs) ys k) (sym e) (passes k (subst (λ ys. k < length ys) e l) (λ j less. nth_place p xs j less)))
-      | inr no' ↦
-          (let e : filter p (x ∷ xs) ≡ filter p xs = cond-false (p x) (x ∷ filter p xs) (filter p xs) no' in
-          subst (λ ys. NthPlace p (x ∷ xs) ys k) (sym e) (fails (filter p xs) no' (nth_place p xs k (subst (λ ys. k < length ys) e l))))
-    ] where
+    cond_both (p x) (x ∷ filter p xs) (filter p xs) (λ ys. k < length ys → NthPlace p (x ∷ xs) ys k)
+    (λ yes' less. passes k less (λ j within. nth_place p xs j within)) (λ no' less. fails (filter p xs) no' (nth_place p xs k less)) l where
       passes : (j : ℕ) → j < length (x ∷ filter p xs) → ((i : ℕ) → i < length (filter p xs) → NthPlace p xs (filter p xs) i) →
           NthPlace p (x ∷ xs) (x ∷ filter p xs) j
       passes zero less rest = record { place = 0; within = omega arith; is = refl; earlier = λ q none pass. absurd (omega arith) }
@@ -180,12 +116,9 @@ last_once : (ys : List ℕ) (x : ℕ) → Distinct (ys ++ x ∷ []) → Contains
 last_once [] x d c = Contains-none x c
 last_once (y ∷ ys) x d c =
     elim (Contains-cases y ys x c) [
-      | inl e ↦ d.0 (subst (λ z. Contains (ys ++ x ∷ []) z) (sym e) (at_end ys x))
+      | inl e ↦ d.0 (subst (λ z. Contains (ys ++ x ∷ []) z) (sym e) (Contains-push ys x))
       | inr h ↦ last_once ys x d.1 h
-    ] where
-      at_end : (zs : List ℕ) (z : ℕ) → Contains (zs ++ z ∷ []) z
-      at_end [] z = Contains-head z []
-      at_end (w ∷ zs) z = Contains-tail w (zs ++ z ∷ []) z (at_end zs z)
+    ]
 
 pub draws : Draws
 draws lot entries k d e names less =

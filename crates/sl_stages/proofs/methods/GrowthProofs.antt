@@ -1,20 +1,19 @@
 -- From how many seats on every allocation meets the minima.
-use Rattle.std.proofs.Common.{◌≡◌, ℕ, ◌+◌, ◌-◌, ◌<◌, ◌≤◌, ◌⊎◌, List, length, get_or, sum, inl, inr, arith, refl, subst}
+use Rattle.std.proofs.Common.{◌≡◌, ℕ, ◌+◌, ◌-◌, ◌<◌, ◌≤◌, ◌⊎◌, List, length, get_or, sum, inl, inr, arith, subst}
 use Rattle.std.specs.Prelude.{Contains}
 use Rattle.std.proofs.lemmas.Bool.{cases_lt}
 use Rattle.sl_ratio.specs.declared.method.Divisor.{Divisor}
 use Rattle.sl_stages.specs.methods.Field.{InField, no_minima}
 use Rattle.sl_stages.specs.methods.LeastHouse.{Meets, AllMeet}
 use Rattle.sl_stages.specs.methods.Ties.{Distinct, Lists}
-use Rattle.sl_stages.specs.laws.Ladders.{Ladders, AreFalling, IsTop, IsSettled, IsPeer, HasRoom, Raises, divisor_ladders}
-use Rattle.sl_stages.specs.laws.Awards.{DivisorTops}
-use Rattle.sl_stages.proofs.methods.SeatSums.{some_less, length_zeros, sum_zeros}
+use Rattle.sl_stages.specs.laws.Ladders.{Ladders, AreFalling, IsTop, IsSettled, IsPeer, HasRoom, divisor_ladders}
+use Rattle.sl_stages.proofs.methods.SeatSums.{some_less, sum_zeros}
 use Rattle.sl_stages.proofs.methods.RaisedSeats.{raise, raise_other, increasing_distinct, cases_Contains}
 use Rattle.sl_stages.proofs.methods.ListedEntries.{cases_all}
 use Rattle.sl_stages.proofs.methods.OneBatch.{has_next, settled_below, settled_above, batch_each, peers_within}
 use Rattle.sl_stages.proofs.methods.ManyBatches.{last_batch, tops_each}
-use Rattle.sl_stages.proofs.methods.TieLaw.{others, some_of, Some, raise_chosen}
-use Rattle.sl_stages.proofs.methods.DivisorProofs.{in_range, divisor_tops}
+use Rattle.sl_stages.proofs.methods.TieLaw.{others, some_of, Some, unraised, raise_chosen}
+use Rattle.sl_stages.proofs.methods.DivisorProofs.{in_range, free_tops}
 
 -- r of the peers, but not i
 without : (peers : List ℕ) (i r : ℕ) → Distinct peers → r < length peers → (chosen : List ℕ) × Some peers r chosen × (Contains chosen i → ⊥)
@@ -82,8 +81,7 @@ module _ (l : Ladders) (law : AreFalling l) (v m : List ℕ) where
             elim b.few [
               | inl z ↦
                   (let e : sum b.start + 0 ≡ seats = omega (arith, b.total, z) in
-                  let unchanged : Raises b.peers 0 b.start b.start = record { same_length = refl; each = λ j. inl refl; total = omega arith } in
-                  low b.start (subst (λ n. IsTop l n b.start) e (batch_each l law b.start b.peers b.settled b.listed b.start 0 unchanged)))
+                  low b.start (subst (λ n. IsTop l n b.start) e (batch_each l law b.start b.peers b.settled b.listed b.start 0 (unraised b.peers b.start))))
               | inr less ↦
                   (let found = short_top b.start b.settled b.peers b.listed i seats enough (omega (arith, b.total, less)) in
                   let le = low found.0 found.1 in
@@ -92,35 +90,29 @@ module _ (l : Ladders) (law : AreFalling l) (v m : List ℕ) where
       ]
 
 module _ (method : Divisor) (v m : List ℕ) where
-  tops_law : DivisorTops method v (no_minima v)
-  tops_law = divisor_tops method v (no_minima v) (length_zeros (length v))
-
   to_tops : (seats : ℕ) → AllMeet method v m seats → (t : List ℕ) → IsTop (divisor_ladders method v (no_minima v)) seats t → Meets v m t
-  to_tops seats all t ht = all t ((tops_law.tops seats t).1 ht)
+  to_tops seats all t ht = all t (((free_tops method v).tops seats t).1 ht)
 
   from_tops : (seats : ℕ) → ((t : List ℕ) → IsTop (divisor_ladders method v (no_minima v)) seats t → Meets v m t) → AllMeet method v m seats
-  from_tops seats all t ht = all t ((tops_law.tops seats t).0 ht)
+  from_tops seats all t ht = all t (((free_tops method v).tops seats t).0 ht)
 
   enough : (seats : ℕ) → sum (no_minima v) ≤ seats
   enough seats = omega (arith, sum_zeros (length v))
 
   pub met : (s : List ℕ) → IsSettled (divisor_ladders method v (no_minima v)) s → Meets v m s → (seats : ℕ) → sum s ≤ seats → AllMeet method v m seats
-  met s settled meets seats le = from_tops seats (tops_meet (divisor_ladders method v (no_minima v)) tops_law.falling v m s settled meets seats le)
+  met s settled meets seats le = from_tops seats (tops_meet (divisor_ladders method v (no_minima v)) (free_tops method v).falling v m s settled meets seats le)
 
   pub unmet : (s peers : List ℕ) → IsSettled (divisor_ladders method v (no_minima v)) s → Lists (IsPeer (divisor_ladders method v (no_minima v)) s) peers →
       (i : ℕ) → InField v i → get_or s i 0 < get_or m i 0 → (seats : ℕ) → AllMeet method v m seats → sum s + length peers ≤ seats
   unmet s peers settled listed i f short seats all =
-      elim (cases_lt seats (sum s + length peers)) [
-        | inr g ↦ g
-        | inl less ↦
-            (let found = short_top (divisor_ladders method v (no_minima v)) tops_law.falling v m s settled peers listed i seats (enough seats) less in
-            let le = to_tops seats all found.0 found.1 i f in
-            let up = found.2 in absurd (omega (arith, le, up, short)))
-      ]
+      let short_of : seats < sum s + length peers → ⊥ = λ less.
+      let found = short_top (divisor_ladders method v (no_minima v)) (free_tops method v).falling v m s settled peers listed i seats (enough seats) less in
+      omega (arith, to_tops seats all found.0 found.1 i f, found.2, short) in
+      omega (arith, short_of)
 
   pub decide_AllMeet : (seats i : ℕ) → InField v i → AllMeet method v m seats ⊎ (AllMeet method v m seats → ⊥)
   decide_AllMeet seats i f =
-      elim (decide_tops (divisor_ladders method v (no_minima v)) tops_law.falling v m seats (enough seats) (tops_law.room seats i f)) [
+      elim (decide_tops (divisor_ladders method v (no_minima v)) (free_tops method v).falling v m seats (enough seats) ((free_tops method v).room seats i f)) [
         | inl all ↦ inl (from_tops seats all)
         | inr none ↦ inr (λ all. none (to_tops seats all))
       ]

@@ -45,9 +45,6 @@ whole_high n d t pos h =
     let up : (n / d + 1) * d ≤ t * d = mul-le-mul_right d (omega arith) in
     omega (arith, parts, low, up)
 
-cancel : (a b c : ℕ) → 0 < c → c * a ≤ c * b → a ≤ b
-cancel a b c pos h = le_of_mul-le-mul_right {k = c} (omega arith) pos
-
 module _ (prefer : Bool) (v : List ℕ) (seats : ℕ) where
   pub at_wholes : (i : ℕ) → get_or (hamilton_ladders prefer v seats).base i 0 ≡ whole v seats i
   at_wholes i = at_map (λ x. seats * x / sum v) (no_votes seats (sum v)) v i
@@ -88,7 +85,7 @@ module _ (prefer : Bool) (v : List ℕ) (seats : ℕ) where
             let total = sum_mono L R weak in
             let eL = sum_times (sum v) W in
             let eR = sum_times seats v in
-            cancel (sum W) seats (sum v) pos (omega (arith, total, eL, eR)))
+            le_of_mul-le-mul_right {m = sum W} {n = seats} {k = sum v} (omega (arith, total, eL, eR)) pos)
         | inr g ↦
             (let none : (j : ℕ) → get_or (map (λ x. seats * x / sum v) v) j 0 ≤ get_or [] j 0 =
             λ j. no_share (get_or v j 0) (get_or (map (λ x. seats * x / sum v) v) j 0) (let l = entry_le_sum v j in omega (arith, l)) (at_wholes j) in

@@ -1,7 +1,7 @@
 -- The least house: there is one or none, and the settled vectors without minima find it.
 use Rattle.std.proofs.Common.{◌≡◌, ℕ, zero, suc, ◌+◌, ◌-◌, ◌<◌, ◌≤◌, ◌⊎◌, max, Bool, true, false, List, [], ◌∷◌, length, get_or, sum, inl, inr, arith, refl, sym, ap, ◌∙◌, subst, cond}
 use Rattle.std.specs.Prelude.{nat_eq}
-use Rattle.std.proofs.lemmas.Bool.{cases_lt, cases_eq, eq-eqb, ne_eqb}
+use Rattle.std.proofs.lemmas.Bool.{cases_lt, eq-eqb, ne_eqb}
 use Rattle.sl_ratio.specs.declared.method.Divisor.{Divisor}
 use Rattle.sl_ratio.specs.Quotient.{AtMost, quotient}
 use Rattle.sl_stages.specs.methods.Field.{InField, IsEmptyField, no_minima}
@@ -9,8 +9,9 @@ use Rattle.sl_stages.specs.methods.Allocations.{IsDivisorAllocation}
 use Rattle.sl_stages.specs.methods.LeastHouse.{outside_minima, outside_sum, AllMeet, Serves, Growth, GrownTo, EmptyField, AboveCap, IsGrowth, IsGrownAllocation}
 use Rattle.sl_stages.specs.laws.MethodLaws.{Growths}
 use Rattle.sl_stages.specs.laws.Awards.{free_ladders, GrowthLaws, GrowthBatches}
-use Rattle.sl_stages.proofs.methods.SeatSums.{sum-cons, sum_mono, none_needed, length_zeros}
-use Rattle.sl_stages.proofs.methods.DivisorProofs.{cases_field, divisor_well_defined, divisor_tops}
+use Rattle.sl_stages.proofs.methods.SeatSums.{sum-cons, sum_mono, none_needed}
+use Rattle.sl_stages.proofs.methods.ListedEntries.{below_next}
+use Rattle.sl_stages.proofs.methods.DivisorProofs.{cases_field, divisor_well_defined, free_tops}
 use Rattle.sl_stages.proofs.methods.LadderProofs.{batches}
 use Rattle.sl_stages.proofs.methods.GrowthProofs.{met, unmet, decide_AllMeet}
 
@@ -22,7 +23,7 @@ least_of P dec (suc n) =
     elim (least_of P dec n) [
       | inr some ↦ inr some
       | inl none ↦ elim (dec n) [
-        | inr out ↦ inl (λ i l p. elim (cases_eq n i) [ inl e ↦ out (subst P (sym e) p) | inr ne ↦ none i (omega arith) p ])
+        | inr out ↦ inl (below_next (λ i. P i → ⊥) n none out)
         | inl p ↦ inr (n, p, λ j pj. elim (cases_lt j n) [ inl l ↦ absurd (none j l pj) | inr g ↦ g ])
       ]
     ]
@@ -30,16 +31,13 @@ least_of P dec (suc n) =
 module _ (method : Divisor) (v m : List ℕ) (seats cap : ℕ) where
   decide_Serves : (house i : ℕ) → InField v i → Serves method v m seats cap house ⊎ (Serves method v m seats cap house → ⊥)
   decide_Serves house i f =
-      elim (cases_lt house seats) [
-        | inl l ↦ inr (λ h. let le = h.from in omega (arith, le, l))
-        | inr from ↦ elim (cases_lt cap house) [
-          | inl l ↦ inr (λ h. let le = h.up_to in omega (arith, le, l))
-          | inr up_to ↦ elim (cases_lt house (outside_sum v m)) [
-            | inl l ↦ inr (λ h. let le = h.outside in omega (arith, le, l))
-            | inr outside ↦ elim (decide_AllMeet method v m (house - outside_sum v m) i f) [
-              | inl all ↦ inl (record { from = from; up_to = up_to; outside = outside; met = all })
-              | inr none ↦ inr (λ h. none h.met)
-            ]
+      elim (cases_lt house (max seats (outside_sum v m))) [
+        | inl low ↦ inr (λ h. omega (arith, low, h.from, h.outside))
+        | inr enough ↦ elim (cases_lt cap house) [
+          | inl high ↦ inr (λ h. omega (arith, high, h.up_to))
+          | inr up_to ↦ elim (decide_AllMeet method v m (house - outside_sum v m) i f) [
+            | inl all ↦ inl (record { from = omega arith; up_to = up_to; outside = omega arith; met = all })
+            | inr none ↦ inr (λ h. none h.met)
           ]
         ]
       ]
@@ -121,11 +119,7 @@ sum_parts [] (y ∷ s) e = absurd (omega arith)
 sum_parts (x ∷ v) [] e = absurd (omega arith)
 sum_parts (x ∷ v) (y ∷ s) e =
     let rest = sum_parts v s (omega arith) in
-    let here = parts (nat_eq x 0) y in
-    let a = sum-cons y s in
-    let b = sum-cons (cond (nat_eq x 0) 0 y) (inside v s) in
-    let c = sum-cons (cond (nat_eq x 0) y 0) (outside_minima v s) in
-    omega (arith, rest, here, a, b, c)
+    omega (arith, rest, parts (nat_eq x 0) y, sum-cons y s, sum-cons (cond (nat_eq x 0) 0 y) (inside v s), sum-cons (cond (nat_eq x 0) y 0) (outside_minima v s))
 
 module _ (method : Divisor) (v m : List ℕ) (e : length m ≡ length v) where
   module _ (house : ℕ) (s : List ℕ) (h : IsGrownAllocation method v m house s) where
@@ -169,7 +163,7 @@ module _ (method : Divisor) (v m : List ℕ) (e : length m ≡ length v) where
     met = met method v m;
     unmet = unmet method v m;
     first = λ s peers settled listed i f short t h meets seats.
-        let made = ((batches (free_ladders method v) (divisor_tops method v (no_minima v) (length_zeros (length v))).falling).batch s peers settled listed).all t h in (
+        let made = ((batches (free_ladders method v) (free_tops method v).falling).batch s peers settled listed).all t h in (
           λ all. let le = unmet method v m s peers settled listed i f short seats all in let total = made.1 in omega (arith, le, total),
           met method v m t made.0 meets seats,
         );

@@ -1,5 +1,5 @@
 -- The laws of ladders.
-use Rattle.std.proofs.Common.{◌≡◌, ℕ, ◌+◌, ◌<◌, ◌≤◌, List, length, sum, arith, refl, sym, ap, ◌∙◌, subst, inl, inr, get_or}
+use Rattle.std.proofs.Common.{◌≡◌, ◌↔◌, ℕ, ◌+◌, ◌<◌, ◌≤◌, List, length, sum, arith, refl, sym, ap, ◌∙◌, subst, inl, inr, get_or}
 use Rattle.std.specs.Prelude.{Contains}
 use Rattle.sl_ratio.specs.Quotient.{AtMost}
 use Rattle.sl_stages.specs.methods.Ties.{Distinct, Lists}
@@ -9,7 +9,7 @@ use Rattle.sl_ratio.proofs.Order.{AtMost-trans, Below-AtMost}
 use Rattle.sl_stages.proofs.methods.RaisedSeats.{raise, length-raise, sum-raise, raise_other, raise_at, increasing_distinct, cases_Contains}
 use Rattle.sl_stages.proofs.methods.OneBatch.{has_below, falls_to, falls_to_weak, settled_below, settled_above, batch_only, batch_each, batch_all, peers_within}
 use Rattle.sl_stages.proofs.methods.ManyBatches.{list_peers, some_peer, begin, tops_well_defined}
-use Rattle.sl_stages.proofs.methods.TieLaw.{HasTies, tied_some, none_raised, raised_is}
+use Rattle.sl_stages.proofs.methods.TieLaw.{HasTies, tied_some, unraised, none_raised, raised_is}
 use Rattle.sl_stages.proofs.methods.ChoiceLaw.{one_member, drawn_choice}
 use Rattle.sl_stages.proofs.methods.StepLaw.{step_is}
 
@@ -98,31 +98,27 @@ module _ (l : Ladders) (law : AreFalling l) (s : List ℕ) (settled : IsSettled 
       step = λ seats t i ht less c. step_is l law s peers settled listed t seats i ht less c;
     }
 
-    unchanged : Raises peers 0 s s
-    unchanged = record { same_length = refl; each = λ i. inl refl; total = omega arith }
+  alone_only : (t : List ℕ) → IsTop l (sum s) t → t ≡ s
+  alone_only t ht =
+      let listed = list_peers l law s in
+      let none : sum s + 0 ≡ sum s = omega arith in
+      none_raised s listed.0 0 (distinct listed.0 listed.1) (within listed.0 listed.1) t refl (only listed.0 listed.1 0 (omega arith) t (subst (λ n. IsTop l n t) (sym none) ht))
 
-    no_more : sum s + 0 ≡ sum s
-    no_more = omega arith
-
-    alone_with : (t : List ℕ) → IsTop l (sum s) t → t ≡ s
-    alone_with t ht = none_raised s peers 0 distinct within t refl (only 0 (omega arith) t (subst (λ n. IsTop l n t) (sym no_more) ht))
-
-    member_with : IsTop l (sum s) s
-    member_with = subst (λ n. IsTop l n s) no_more (each 0 s unchanged)
-
-  pub alone_only : (t : List ℕ) → IsTop l (sum s) t → t ≡ s
-  alone_only t ht = let listed = list_peers l law s in alone_with listed.0 listed.1 t ht
-
-  pub alone_member : IsTop l (sum s) s
-  alone_member = let listed = list_peers l law s in member_with listed.0 listed.1
+  alone_member : IsTop l (sum s) s
+  alone_member =
+      let listed = list_peers l law s in
+      let none : sum s + 0 ≡ sum s = omega arith in
+      subst (λ n. IsTop l n s) none (each listed.0 listed.1 0 s (unraised listed.0 s))
 
   pub known : SettledLaws l s
-  known = record {
-    alone = λ t. (alone_only t, λ same. subst (λ y. IsTop l (sum s) y) (sym same) alone_member);
-    choice = λ lot. one_member (IsTop l (sum s)) s (λ t. (alone_only t, λ same. subst (λ y. IsTop l (sum s) y) (sym same) alone_member)) lot;
-    below = λ seats t ht le. settled_below l law s t seats settled ht le;
-    above = λ seats t ht le. settled_above l law s t seats settled ht le;
-  }
+  known =
+      let only_one : (t : List ℕ) → IsTop l (sum s) t ↔ (t ≡ s) = λ t. (alone_only t, λ same. subst (λ y. IsTop l (sum s) y) (sym same) alone_member) in
+      record {
+        alone = only_one;
+        choice = one_member (IsTop l (sum s)) s only_one;
+        below = λ seats t ht le. settled_below l law s t seats settled ht le;
+        above = λ seats t ht le. settled_above l law s t seats settled ht le;
+      }
 
 pub batches : Batches
 batches l law = record {

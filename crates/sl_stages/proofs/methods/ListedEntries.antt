@@ -1,67 +1,65 @@
--- The numbers below a bound of which a decidable fact holds.
-use Rattle.std.proofs.Common.{ℕ, zero, suc, ◌+◌, ◌<◌, ◌≤◌, ◌⊎◌, List, [], ◌∷◌, inl, inr, arith, subst, sym}
-use Rattle.std.specs.Prelude.{Contains}
-use Rattle.std.specs.List.Sorted.{IsStrictlyIncreasing}
-use Rattle.std.proofs.lemmas.Bool.{cases_eq}
-use Rattle.sl_stages.specs.methods.Ties.{Lists}
-use Rattle.sl_stages.proofs.methods.RaisedSeats.{Contains-head, Contains-tail, Contains-cases, Contains-none, increasing-cons}
+-- What a filter keeps of a list of numbers, and the numbers below a bound of which a decidable fact holds.
+use Rattle.std.proofs.Common.{◌≡◌, ℕ, zero, suc, ◌+◌, ◌<◌, ◌⊎◌, Bool, true, false, List, [], ◌∷◌, inl, inr, arith, refl, subst, sym}
+use Rattle.std.specs.Prelude.{Contains, filter}
+use Rattle.std.specs.List.{range_with_len}
+use Rattle.std.proofs.lemmas.Bool.{cases_eq, cond_both, both_ways}
+use Rattle.std.proofs.lemmas.List.Elements.{All-contains, All-contains_itself, All-filter, filter_passes}
+use Rattle.std.proofs.lemmas.List.FromFn.{length-range_with_len, get_or-range_with_len}
+use Rattle.std.proofs.lemmas.List.Kept.{IsStrictlyIncreasing-filter}
+use Rattle.sl_stages.specs.methods.Ties.{Distinct, Lists}
+use Rattle.sl_stages.proofs.methods.RaisedSeats.{Contains-head, Contains-tail, Contains-cases, Contains-none}
 
-record Found (P : ℕ → Type 0) (k n : ℕ) (xs : List ℕ) : Type 0 where
-  in_order : IsStrictlyIncreasing xs
-  has : (i : ℕ) → k ≤ i → i < k + n → P i → Contains xs i
-  has_only : (i : ℕ) → Contains xs i → (k ≤ i) × (i < k + n) × P i
+module _ (p : ℕ → Bool) where
+  pub filter_only : (xs : List ℕ) (i : ℕ) → Contains (filter p xs) i → Contains xs i × (p i ≡ true)
+  filter_only xs i c = (
+    All-contains (Contains xs) (filter p xs) i (All-filter p (Contains xs) xs (All-contains_itself xs)) c,
+    All-contains (λ x. p x ≡ true) (filter p xs) i (filter_passes p xs) c,
+  )
 
-find_from : (P : ℕ → Type 0) → ((i : ℕ) → P i ⊎ (P i → ⊥)) → (k n : ℕ) → (xs : List ℕ) × Found P k n xs
-find_from P dec k zero = (
-  [],
-  record {
-    in_order = λ j l. absurd (omega arith);
-    has = λ i l h p. absurd (omega arith);
-    has_only = λ i c. absurd (Contains-none i c);
-  },
-)
-find_from P dec k (suc n) =
-    let rest = find_from P dec (suc k) n in
-    let found = rest.1 in
-    elim (dec k) [
-      | inl p ↦ (
-        k ∷ rest.0,
-        record {
-          in_order = increasing-cons k rest.0 (λ y c. let h = found.has_only y c in omega (arith, h.0)) found.in_order;
-          has = λ i l h pi. elim (cases_eq k i) [
-            | inl e ↦ subst (λ z. Contains (k ∷ rest.0) z) e (Contains-head k rest.0)
-            | inr ne ↦ Contains-tail k rest.0 i (found.has i (omega arith) (omega arith) pi)
-          ];
-          has_only = λ i c. elim (Contains-cases k rest.0 i c) [
-            | inl e ↦ (omega arith, omega arith, subst P e p)
-            | inr c' ↦ (let h = found.has_only i c' in (omega (arith, h.0), omega (arith, h.1), h.2))
-          ];
-        },
-      )
-      | inr out ↦ (
-        rest.0,
-        record {
-          in_order = found.in_order;
-          has = λ i l h pi. elim (cases_eq k i) [
-            | inl e ↦ absurd (out (subst P (sym e) pi))
-            | inr ne ↦ found.has i (omega arith) (omega arith) pi
-          ];
-          has_only = λ i c. let h = found.has_only i c in (omega (arith, h.0), omega (arith, h.1), h.2);
-        },
-      )
-    ]
+  pub filter_has : (xs : List ℕ) (i : ℕ) → Contains xs i → p i ≡ true → Contains (filter p xs) i
+  filter_has [] i c e = absurd (Contains-none i c)
+  filter_has (x ∷ xs) i c e =
+      cond_both (p x) (x ∷ filter p xs) (filter p xs) (λ l. Contains l i)
+      (λ passes. elim (Contains-cases x xs i c) [ inl s ↦ subst (λ z. Contains (x ∷ filter p xs) z) s (Contains-head x (filter p xs)) | inr h ↦ Contains-tail x (filter p xs) i (filter_has xs i h e) ])
+      (λ fails. elim (Contains-cases x xs i c) [ inl s ↦ absurd (both_ways (p x) fails (subst (λ z. p z ≡ true) (sym s) e)) | inr h ↦ filter_has xs i h e ])
+
+  pub filter_distinct : (xs : List ℕ) → Distinct xs → Distinct (filter p xs)
+  filter_distinct [] d = tt
+  filter_distinct (x ∷ xs) d =
+      cond_both (p x) (x ∷ filter p xs) (filter p xs) Distinct (λ passes. (λ c. d.0 (filter_only xs x c).0, filter_distinct xs d.1)) (λ fails. filter_distinct xs d.1)
+
+-- the test of a fact that is decided
+is_so : {P : Type 0} → P ⊎ (P → ⊥) → Bool
+is_so (inl h) = true
+is_so (inr out) = false
+
+so : {P : Type 0} (d : P ⊎ (P → ⊥)) → is_so d ≡ true → P
+unfolding is_so
+so (inl h) is = h
+so (inr out) is = cc
+
+its_test : {P : Type 0} (d : P ⊎ (P → ⊥)) → P → is_so d ≡ true
+unfolding is_so
+its_test (inl h) p = refl
+its_test (inr out) p = absurd (out p)
 
 -- if only numbers below n have the property, there is a list of those that have it
 pub find_all : (P : ℕ → Type 0) → ((i : ℕ) → P i ⊎ (P i → ⊥)) → (n : ℕ) → ((i : ℕ) → P i → i < n) → (xs : List ℕ) × Lists P xs
 find_all P dec n bound =
-    let found = find_from P dec 0 n in (
-      found.0,
+    let p : ℕ → Bool = λ i. is_so (dec i) in
+    let all = range_with_len 0 n in
+    let long = length-range_with_len 0 n in (
+      filter p all,
       record {
-        in_order = found.1.in_order;
-        has = λ i p. let l = bound i p in found.1.has i (omega arith) (omega (arith, l)) p;
-        has_only = λ i c. (found.1.has_only i c).2;
+        in_order = IsStrictlyIncreasing-filter p all (λ k less. omega (arith, long, get_or-range_with_len 0 n k 0 (omega arith), get_or-range_with_len 0 n (k + 1) 0 (omega arith)));
+        has = λ i h. filter_has p all i (i, omega (arith, long, bound i h), omega (arith, get_or-range_with_len 0 n i i (bound i h))) (its_test (dec i) h);
+        has_only = λ i c. so (dec i) (filter_only p all i c).1;
       },
     )
+
+-- what holds below a number and at it holds below the next one
+pub below_next : (P : ℕ → Type 0) (n : ℕ) → ((i : ℕ) → i < n → P i) → P n → (i : ℕ) → i < suc n → P i
+below_next P n before here i less = elim (cases_eq n i) [ inl e ↦ subst P e here | inr ne ↦ before i (omega arith) ]
 
 -- a fact that can be decided holds of each number below a bound, or fails at one
 pub cases_all : (P : ℕ → Type 0) → ((i : ℕ) → P i ⊎ (P i → ⊥)) → (n : ℕ) → ((i : ℕ) → i < n → P i) ⊎ ((i : ℕ) × (P i → ⊥) × (i < n))
@@ -69,7 +67,7 @@ cases_all P dec zero = inl (λ i l. absurd (omega arith))
 cases_all P dec (suc n) =
     elim (cases_all P dec n) [
       | inl all ↦ elim (dec n) [
-        | inl p ↦ inl (λ i l. elim (cases_eq n i) [ inl e ↦ subst P e p | inr ne ↦ all i (omega arith) ])
+        | inl p ↦ inl (below_next P n all p)
         | inr out ↦ inr (n, out, omega arith)
       ]
       | inr some ↦ inr (some.0, some.1, let l = some.2 in omega (arith, l))

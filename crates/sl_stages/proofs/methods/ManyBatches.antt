@@ -1,12 +1,12 @@
 -- Batch after batch: each number of seats has a settled vector below it, and a last batch that is not given to all its peers.
 use Rattle.std.proofs.Common.{◌≡◌, ℕ, zero, suc, ◌+◌, ◌-◌, ◌<◌, ◌≤◌, ◌⊎◌, List, length, get_or, sum, inl, inr, arith, refl, sym, subst}
-use Rattle.std.proofs.lemmas.Bool.{cases_lt, cases_eq, cases_Bool, both_ways}
-use Rattle.sl_ratio.specs.Quotient.{AtMost}
+use Rattle.std.proofs.lemmas.Bool.{cases_lt, cases_Bool, both_ways}
+use Rattle.sl_ratio.specs.Quotient.{Quotient, AtMost}
 use Rattle.sl_stages.specs.methods.Ties.{Lists, IsWellDefined}
 use Rattle.sl_stages.specs.laws.Ladders.{Ladders, Has, AreFalling, IsTop, IsSettled, IsPeer, HasRoom, Raises}
 use Rattle.sl_ratio.proofs.Order.{AtMost-trans, decide_AtMost, not-AtMost}
 use Rattle.sl_stages.proofs.methods.RaisedSeats.{raise, sum-raise, increasing_distinct}
-use Rattle.sl_stages.proofs.methods.ListedEntries.{find_all, cases_all}
+use Rattle.sl_stages.proofs.methods.ListedEntries.{below_next, find_all, cases_all}
 use Rattle.sl_stages.proofs.methods.OneBatch.{batch_only, batch_each, batch_all, peers_within}
 use Rattle.sl_stages.proofs.methods.TieLaw.{ties}
 use Rattle.sl_stages.proofs.methods.ChoiceLaw.{well_defined}
@@ -42,36 +42,23 @@ module _ (l : Ladders) (law : AreFalling l) where
       ⊎ ((i : ℕ) × Has l i (get_or s i 0) × ((j : ℕ) → j < n → Has l j (get_or s j 0) → AtMost (l.rank j (get_or s j 0)) (l.rank i (get_or s i 0))))
   best_of s zero = inl (λ i less h. absurd (omega arith))
   best_of s (suc n) =
-      elim (decide_Has l n (get_or s n 0)) [
-        | inr none ↦ elim (best_of s n) [
-          | inl empty ↦ inl (λ i less h. elim (cases_eq n i) [ inl e ↦ none (subst (λ z. Has l z (get_or s z 0)) (sym e) h) | inr ne ↦ empty i (omega arith) h ])
-          | inr some ↦ inr (
-            some.0,
-            some.1,
-            λ j less h. elim (cases_eq n j) [ inl e ↦ absurd (none (subst (λ z. Has l z (get_or s z 0)) (sym e) h)) | inr ne ↦ some.2 j (omega arith) h ],
-          )
+      let r : ℕ → Quotient = λ j. l.rank j (get_or s j 0) in
+      let None : ℕ → Type 0 = λ j. Has l j (get_or s j 0) → ⊥ in
+      let Under : ℕ → ℕ → Type 0 = λ i j. Has l j (get_or s j 0) → AtMost (r j) (r i) in
+      elim (best_of s n) [
+        | inl empty ↦ elim (decide_Has l n (get_or s n 0)) [
+          | inr none ↦ inl (below_next None n empty none)
+          | inl here ↦ inr (n, here, below_next (Under n) n (λ j less h. absurd (empty j less h)) (λ h. omega arith))
         ]
-        | inl here ↦ elim (best_of s n) [
-          | inl empty ↦ inr (
-            n,
-            here,
-            λ j less h. elim (cases_eq n j) [ inl e ↦ subst (λ z. AtMost (l.rank z (get_or s z 0)) (l.rank n (get_or s n 0))) e (omega arith) | inr ne ↦ absurd (empty j (omega arith) h) ],
-          )
-          | inr some ↦ elim (decide_AtMost (l.rank n (get_or s n 0)) (l.rank some.0 (get_or s some.0 0))) [
-            | inl le ↦ inr (
-              some.0,
-              some.1,
-              λ j less h. elim (cases_eq n j) [ inl e ↦ subst (λ z. AtMost (l.rank z (get_or s z 0)) (l.rank some.0 (get_or s some.0 0))) e le | inr ne ↦ some.2 j (omega arith) h ],
-            )
+        | inr some ↦ elim (decide_Has l n (get_or s n 0)) [
+          | inr none ↦ inr (some.0, some.1, below_next (Under some.0) n some.2 (λ h. absurd (none h)))
+          | inl here ↦ elim (decide_AtMost (r n) (r some.0)) [
+            | inl le ↦ inr (some.0, some.1, below_next (Under some.0) n some.2 (λ h. le))
             | inr more ↦ inr (
               n,
               here,
-              λ j less h. elim (cases_eq n j) [
-                | inl e ↦ subst (λ z. AtMost (l.rank z (get_or s z 0)) (l.rank n (get_or s n 0))) e (omega arith)
-                | inr ne ↦ AtMost-trans (l.rank j (get_or s j 0)) (l.rank some.0 (get_or s some.0 0)) (l.rank n (get_or s n 0))
-                    (law.positive some.0 (get_or s some.0 0) some.1) (some.2 j (omega arith) h)
-                    (not-AtMost (l.rank n (get_or s n 0)) (l.rank some.0 (get_or s some.0 0)) more)
-              ],
+              below_next (Under n) n
+                  (λ j less h. AtMost-trans (r j) (r some.0) (r n) (law.positive some.0 (get_or s some.0 0) some.1) (some.2 j less h) (not-AtMost (r n) (r some.0) more)) (λ h. omega arith),
             )
           ]
         ]

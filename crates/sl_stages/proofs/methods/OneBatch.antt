@@ -79,18 +79,14 @@ module _ (l : Ladders) (law : AreFalling l) where
   -- so it is below each top of at least as many seats
   pub settled_below : (s t : List ℕ) (n : ℕ) → IsSettled l s → IsTop l n t → sum s ≤ n → (i : ℕ) → get_or s i 0 ≤ get_or t i 0
   settled_below s t n hs ht le i =
-      elim (cases_lt (get_or t i 0) (get_or s i 0)) [
-        | inr g ↦ g
-        | inl less ↦ (let found = some_greater s t i (omega (arith, ht.total)) less in absurd (not_crossed s t n i found.0 hs ht less found.1))
-      ]
+      let crossed : get_or t i 0 < get_or s i 0 → ⊥ = λ less. let found = some_greater s t i (omega (arith, ht.total)) less in not_crossed s t n i found.0 hs ht less found.1 in
+      omega (arith, crossed)
 
   -- and above each top of at most as many
   pub settled_above : (s t : List ℕ) (n : ℕ) → IsSettled l s → IsTop l n t → n ≤ sum s → (i : ℕ) → get_or t i 0 ≤ get_or s i 0
   settled_above s t n hs ht le i =
-      elim (cases_lt (get_or s i 0) (get_or t i 0)) [
-        | inr g ↦ g
-        | inl less ↦ (let found = some_greater t s i (omega (arith, ht.total)) less in absurd (not_crossed s t n found.0 i hs ht found.1 less))
-      ]
+      let crossed : get_or s i 0 < get_or t i 0 → ⊥ = λ less. let found = some_greater t s i (omega (arith, ht.total)) less in not_crossed s t n found.0 i hs ht found.1 less in
+      omega (arith, crossed)
 
   -- a vector with a seat more on each peer, and still more at one place, has too many seats
   too_many : (s t peers : List ℕ) (i : ℕ) → Distinct peers → ((p : ℕ) → Contains peers p → p < length s) →

@@ -1,9 +1,13 @@
 -- One more seat on each of some entries.
-use Rattle.std.proofs.Common.{◌≡◌, ℕ, zero, suc, ◌+◌, ◌<◌, ◌≢◌, ◌⊎◌, List, [], ◌∷◌, length, get_or, set, sum, inl, inr, arith, refl, sym, ap, ◌∙◌, subst}
+use Rattle.std.proofs.Common.{◌≡◌, ℕ, zero, suc, ◌+◌, ◌<◌, ◌≢◌, ◌⊎◌, List, [], ◌∷◌, length, get_or, nat_eq, set, sum, inl, inr, arith, refl, sym, ap, ◌∙◌, subst}
 use Rattle.std.specs.Prelude.{Contains}
 use Rattle.std.specs.List.Sorted.{IsStrictlyIncreasing}
 use Rattle.std.proofs.Math.ListN.{length-set}
-use Rattle.std.proofs.lemmas.Bool.{cases_eq}
+use Rattle.std.specs.Cmp.{nat_eq_equiv}
+use Rattle.std.specs.List.{list_any}
+use Rattle.std.proofs.lemmas.Bool.{cases_Bool, eqb-true, both_ways}
+use Rattle.std.proofs.lemmas.List.Kept.{AllPairs-from_increasing}
+use Rattle.std.proofs.lemmas.Map.Views.{Contains-from_any, list_any-from_Contains}
 use Rattle.std.proofs.lemmas.List.{get_or-set_same, get_or-set_other}
 use Rattle.std.proofs.lemmas.List.Sums.{sum_by-set}
 use Rattle.sl_stages.specs.methods.Ties.{Distinct}
@@ -24,31 +28,31 @@ pub Contains-none : (y : ℕ) → Contains [] y → ⊥
 Contains-none y h = let l : h.0 < length {A = ℕ} [] = h.1 in omega arith
 
 pub cases_Contains : (xs : List ℕ) (y : ℕ) → Contains xs y ⊎ (Contains xs y → ⊥)
-cases_Contains [] y = inr (Contains-none y)
-cases_Contains (x ∷ xs) y =
-    elim (cases_eq x y) [
-      | inl e ↦ inl (subst (λ z. Contains (x ∷ xs) z) e (Contains-head x xs))
-      | inr ne ↦ elim (cases_Contains xs y) [
-        | inl c ↦ inl (Contains-tail x xs y c)
-        | inr out ↦ inr (λ c. elim (Contains-cases x xs y c) [ inl e ↦ ne e | inr d ↦ out d ])
+cases_Contains xs y =
+    elim (cases_Bool (list_any (nat_eq y) xs)) [
+      | inl some ↦ inl (Contains-from_any eqb-true y xs some)
+      | inr none ↦ inr (λ c. both_ways (list_any (nat_eq y) xs) none (list_any-from_Contains nat_eq_equiv y xs c))
+    ]
+
+-- each of these is among those, or one is not
+pub all_or_one : (xs ys : List ℕ) → ((i : ℕ) → Contains xs i → Contains ys i) ⊎ ((i : ℕ) × Contains xs i × ¬ Contains ys i)
+all_or_one [] ys = inl (λ i c. absurd (Contains-none i c))
+all_or_one (x ∷ xs) ys =
+    elim (cases_Contains ys x) [
+      | inr out ↦ inr (x, Contains-head x xs, out)
+      | inl here ↦ elim (all_or_one xs ys) [
+        | inl rest ↦ inl (λ i c. elim (Contains-cases x xs i c) [ inl e ↦ subst (λ z. Contains ys z) e here | inr h ↦ rest i h ])
+        | inr one ↦ inr (one.0, Contains-tail x xs one.0 one.1, one.2)
       ]
     ]
 
 pub increasing-tail : (x : ℕ) (xs : List ℕ) → IsStrictlyIncreasing (x ∷ xs) → IsStrictlyIncreasing xs
-increasing-tail x xs inc k l =
-    let l' : suc k + 1 < length (x ∷ xs) = omega arith in
-    let e : suc k + 1 ≡ suc (k + 1) = omega arith in
-    let h = inc (suc k) l' in
-    subst (λ n. get_or (x ∷ xs) (suc k) 0 < get_or (x ∷ xs) n 0) e h
+increasing-tail x xs inc k l = AllPairs-from_increasing (x ∷ xs) inc (suc k) (suc (k + 1)) 0 (omega arith) (omega arith)
 
 pub increasing-head : (x : ℕ) (xs : List ℕ) (y : ℕ) → IsStrictlyIncreasing (x ∷ xs) → Contains xs y → x < y
-increasing-head x [] y inc h = absurd (Contains-none y h)
-increasing-head x (z ∷ zs) y inc h =
-    let first : x < z = inc 0 (omega arith) in
-    elim (Contains-cases z zs y h) [
-      | inl e ↦ omega arith
-      | inr c ↦ let rest = increasing-head z zs y (increasing-tail x (z ∷ zs) inc) c in omega (arith, rest)
-    ]
+increasing-head x xs y inc h =
+    let less : x < get_or xs h.0 y = AllPairs-from_increasing (x ∷ xs) inc 0 (suc h.0) y (omega arith) (let l : h.0 < length xs = h.1 in omega arith) in
+    omega (arith, less, h.2)
 
 pub increasing-cons : (x : ℕ) (xs : List ℕ) → ((y : ℕ) → Contains xs y → x < y) → IsStrictlyIncreasing xs → IsStrictlyIncreasing (x ∷ xs)
 increasing-cons x [] h inc k l = absurd (omega arith)
@@ -91,15 +95,12 @@ pub raise_at : (s is : List ℕ) (j : ℕ) → Distinct is → Contains is j →
 raise_at s [] j d c l = absurd (Contains-none j c)
 raise_at s (i ∷ is) j d c l =
     let more = set s i (get_or s i 0 + 1) in
-    elim (cases_eq i j) [
+    elim (Contains-cases i is j c) [
       | inl e ↦
           (let gone : Contains is j → ⊥ = λ c'. d.0 (subst (λ z. Contains is z) (sym e) c') in
           raise_other more is j gone
           ∙ subst (λ z. get_or more z 0 ≡ get_or s z 0 + 1) e (get_or-set_same s i (get_or s i 0 + 1) 0 (subst (λ z. z < length s) (sym e) l)))
-      | inr ne ↦ elim (Contains-cases i is j c) [
-        | inl e ↦ absurd (ne e)
-        | inr c' ↦
-            (let l' : j < length more = omega (arith, length-set s i (get_or s i 0 + 1)) in
-            raise_at more is j d.1 c' l' ∙ ap (λ n. n + 1) (get_or-set_other s i j (get_or s i 0 + 1) 0 (λ e. ne (sym e))))
-      ]
+      | inr c' ↦
+          (let l' : j < length more = omega (arith, length-set s i (get_or s i 0 + 1)) in
+          raise_at more is j d.1 c' l' ∙ ap (λ n. n + 1) (get_or-set_other s i j (get_or s i 0 + 1) 0 (λ e. d.0 (subst (λ z. Contains is z) e c'))))
     ]

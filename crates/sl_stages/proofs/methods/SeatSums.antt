@@ -1,58 +1,45 @@
 -- Sums of lists, entry by entry. A list has 0 past its end, so no lemma asks for equal lengths.
-use Rattle.std.proofs.Common.{◌≡◌, ℕ, zero, suc, ◌+◌, ◌<◌, ◌≤◌, List, [], ◌∷◌, length, get_or, sum, replicate, inl, inr, arith, refl, ◌∙◌}
+use Rattle.std.proofs.Common.{◌≡◌, ℕ, zero, suc, ◌+◌, ◌<◌, ◌≤◌, ◌⊎◌, List, [], ◌∷◌, length, get_or, sum, replicate, inl, inr, arith, refl, ◌∙◌}
 use Rattle.std.proofs.lemmas.Bool.{cases_lt}
-use Rattle.std.proofs.lemmas.List.{length-replicate}
+use Rattle.std.proofs.lemmas.List.{get_or_past, length-replicate}
 use Rattle.std.proofs.lemmas.List.Sums.{sum_by-cons}
+use Rattle.sl_stages.proofs.methods.ListedEntries.{cases_all}
 
 pub sum-cons : (x : ℕ) (xs : List ℕ) → sum (x ∷ xs) ≡ x + sum xs
 sum-cons x xs = sum_by-cons (λ n. n) x xs
-
--- of two lists the one with the greater sum is greater somewhere
-pub some_less : (s t : List ℕ) → sum s < sum t → (i : ℕ) × (get_or s i 0 < get_or t i 0)
-some_less s [] h = absurd (omega arith)
-some_less [] (y ∷ ys) h =
-    elim (cases_lt 0 y) [
-      | inl l ↦ (0, l)
-      | inr g ↦ let below : sum [] < sum ys = omega (arith, sum-cons y ys) in
-          let rest = some_less [] ys below in (suc rest.0, rest.1)
-    ]
-some_less (x ∷ xs) (y ∷ ys) h =
-    elim (cases_lt x y) [
-      | inl l ↦ (0, l)
-      | inr g ↦ let below : sum xs < sum ys = omega (arith, sum-cons x xs, sum-cons y ys) in
-          let rest = some_less xs ys below in (suc rest.0, rest.1)
-    ]
-
--- if t has no smaller sum and is smaller at one place, it is greater at another
-pub some_greater : (s t : List ℕ) (i : ℕ) → sum s ≤ sum t → get_or t i 0 < get_or s i 0 → (j : ℕ) × (get_or s j 0 < get_or t j 0)
-some_greater [] t i h l = absurd (omega arith)
-some_greater (x ∷ xs) [] zero h l = absurd (omega (arith, sum-cons x xs))
-some_greater (x ∷ xs) [] (suc i) h l =
-    let below : sum xs ≤ sum [] = omega (arith, sum-cons x xs) in
-    let rest = some_greater xs [] i below l in absurd (omega (arith, rest.1))
-some_greater (x ∷ xs) (y ∷ ys) zero h l =
-    let below : sum xs < sum ys = omega (arith, sum-cons x xs, sum-cons y ys) in
-    let rest = some_less xs ys below in (suc rest.0, rest.1)
-some_greater (x ∷ xs) (y ∷ ys) (suc i) h l =
-    elim (cases_lt x y) [
-      | inl less ↦ (0, less)
-      | inr g ↦ let below : sum xs ≤ sum ys = omega (arith, sum-cons x xs, sum-cons y ys) in
-          let rest = some_greater xs ys i below l in (suc rest.0, rest.1)
-    ]
-
--- entry by entry at most, so the sum is too
-pub sum_mono : (s t : List ℕ) → ((i : ℕ) → get_or s i 0 ≤ get_or t i 0) → sum s ≤ sum t
-sum_mono s t h =
-    elim (cases_lt (sum t) (sum s)) [ inl l ↦ (let found = some_less t s l in absurd (omega (arith, found.1, h found.0))) | inr g ↦ g ]
-
-pub sum_mono_strict : (s t : List ℕ) (i : ℕ) → ((j : ℕ) → get_or s j 0 ≤ get_or t j 0) → get_or s i 0 < get_or t i 0 → sum s < sum t
-sum_mono_strict s t i h l =
-    elim (cases_lt (sum s) (sum t)) [ inl less ↦ less | inr g ↦ (let found = some_greater t s i g l in absurd (omega (arith, found.1, h found.0))) ]
 
 pub entry_le_sum : (s : List ℕ) (i : ℕ) → get_or s i 0 ≤ sum s
 entry_le_sum [] i = omega arith
 entry_le_sum (x ∷ xs) zero = omega (arith, sum-cons x xs)
 entry_le_sum (x ∷ xs) (suc i) = let rest = entry_le_sum xs i in omega (arith, rest, sum-cons x xs)
+
+-- entry by entry at most, so the sum is too
+pub sum_mono : (s t : List ℕ) → ((i : ℕ) → get_or s i 0 ≤ get_or t i 0) → sum s ≤ sum t
+sum_mono [] t h = omega arith
+sum_mono (x ∷ xs) [] h = omega (arith, h 0, sum_mono xs [] (λ i. h (suc i)), sum-cons x xs)
+sum_mono (x ∷ xs) (y ∷ ys) h = omega (arith, h 0, sum_mono xs ys (λ i. h (suc i)), sum-cons x xs, sum-cons y ys)
+
+pub sum_mono_strict : (s t : List ℕ) (i : ℕ) → ((j : ℕ) → get_or s j 0 ≤ get_or t j 0) → get_or s i 0 < get_or t i 0 → sum s < sum t
+sum_mono_strict [] t i h l = omega (arith, l, entry_le_sum t i)
+sum_mono_strict (x ∷ xs) [] i h l = absurd (omega (arith, l))
+sum_mono_strict (x ∷ xs) (y ∷ ys) zero h l = omega (arith, l, sum_mono xs ys (λ j. h (suc j)), sum-cons x xs, sum-cons y ys)
+sum_mono_strict (x ∷ xs) (y ∷ ys) (suc i) h l = omega (arith, h 0, sum_mono_strict xs ys i (λ j. h (suc j)) l, sum-cons x xs, sum-cons y ys)
+
+-- a list is greater than another somewhere, or nowhere
+greater_or_none : (s t : List ℕ) → ((i : ℕ) → get_or t i 0 ≤ get_or s i 0) ⊎ ((i : ℕ) × (get_or s i 0 < get_or t i 0))
+greater_or_none s t =
+    elim (cases_all (λ i. get_or t i 0 ≤ get_or s i 0) (λ i. elim (cases_lt (get_or s i 0) (get_or t i 0)) [ inl l ↦ inr (λ le. omega arith) | inr g ↦ inl g ]) (length t)) [
+      | inl all ↦ inl (λ i. elim (cases_lt i (length t)) [ inl l ↦ all i l | inr past ↦ omega (arith, get_or_past t i 0 past) ])
+      | inr some ↦ inr (some.0, omega (arith, some.1))
+    ]
+
+-- of two lists the one with the greater sum is greater somewhere
+pub some_less : (s t : List ℕ) → sum s < sum t → (i : ℕ) × (get_or s i 0 < get_or t i 0)
+some_less s t h = elim (greater_or_none s t) [ inl none ↦ absurd (omega (arith, sum_mono t s none)) | inr some ↦ some ]
+
+-- if t has no smaller sum and is smaller at one place, it is greater at another
+pub some_greater : (s t : List ℕ) (i : ℕ) → sum s ≤ sum t → get_or t i 0 < get_or s i 0 → (j : ℕ) × (get_or s j 0 < get_or t j 0)
+some_greater s t i h l = elim (greater_or_none s t) [ inl none ↦ absurd (omega (arith, sum_mono_strict t s i none l)) | inr some ↦ some ]
 
 -- without minima each entry has 0
 pub none_needed : (n i : ℕ) → get_or {A = ℕ} (replicate n 0) i 0 ≡ 0

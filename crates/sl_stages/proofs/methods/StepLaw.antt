@@ -5,18 +5,11 @@ use Rattle.std.specs.List.{sum_by, count_by, range_with_len}
 use Rattle.std.proofs.lemmas.Bool.{cases_lt, lt-ltb, le-ltb}
 use Rattle.std.proofs.lemmas.List.{drop_all}
 use Rattle.std.proofs.lemmas.List.Sums.{sum_by-cons, sum_by-drop_more}
-use Rattle.sl_ratio.specs.Quotient.{Quotient, AtMost, Below}
 use Rattle.sl_stages.specs.methods.Ties.{Lists}
 use Rattle.sl_stages.specs.methods.Steps.{is_below, awarded_seats, step_of}
 use Rattle.sl_stages.specs.laws.Ladders.{Ladders, AreFalling, IsTop, IsSettled, IsPeer}
 use Rattle.sl_ratio.proofs.Order.{AtMost-trans, Below-AtMost}
 use Rattle.sl_stages.proofs.methods.OneBatch.{has_below, falls_to_weak, settled_below}
-
-below_holds : (x y : Quotient) → Below x y → is_below x y ≡ true
-below_holds x y h = lt-ltb (x.num * y.den) (y.num * x.den) h
-
-below_fails : (x y : Quotient) → AtMost y x → is_below x y ≡ false
-below_fails x y h = le-ltb (x.num * y.den) (y.num * x.den) h
 
 -- of n numbers from low on, those below mid pass
 count_run : (p : ℕ → Bool) (n low mid : ℕ) → low ≤ mid → mid ≤ low + n → ((a : ℕ) → low ≤ a → a < mid → p a ≡ true) →
@@ -61,14 +54,14 @@ module _ (l : Ladders) (law : AreFalling l) (s peers : List ℕ) (settled : IsSe
         (λ a lo hi.
         let last = settled.on.there j (omega arith) in
         let here = has_below l law j a (get_or s j 0 - 1) lo (omega arith) last in
-        below_holds x (l.rank j a)
+        lt-ltb (x.num * (l.rank j a).den) ((l.rank j a).num * x.den)
         (Below-AtMost x (l.rank j (get_or s j 0 - 1)) (l.rank j a) (law.positive j a here) (settled.apart j i (omega arith) peer.next)
         (falls_to_weak l law j a (get_or s j 0 - 1) lo (omega arith) last)))
         (λ a lo hi.
         let last = ht.on.there j (omega arith) in
         let here = has_below l law j a (get_or t j 0 - 1) (omega arith) (omega arith) last in
         let next = has_below l law j (get_or s j 0) a low lo here in
-        below_fails x (l.rank j a)
+        le-ltb (x.num * (l.rank j a).den) ((l.rank j a).num * x.den)
         (AtMost-trans (l.rank j a) (l.rank j (get_or s j 0)) x (law.positive j (get_or s j 0) next) (falls_to_weak l law j (get_or s j 0) a low lo here) (peer.greatest j next))) in
         omega (arith, same)
 

@@ -2,7 +2,7 @@
 use Rattle.std.proofs.Common.{◌≡◌, ℕ, zero, suc, ◌+◌, ◌-◌, ◌<◌, ◌≤◌, ◌⊎◌, List, [], ◌∷◌, length, get_or, sum, inl, inr, arith, refl, sym, ap, ◌∙◌, subst}
 use Rattle.std.specs.Prelude.{Contains}
 use Rattle.std.specs.List.Sorted.{IsStrictlyIncreasing}
-use Rattle.std.proofs.lemmas.Bool.{cases_lt, cases_eq}
+use Rattle.std.proofs.lemmas.Bool.{cases_lt}
 use Rattle.std.proofs.lemmas.List.{ext_get_or}
 use Rattle.sl_stages.specs.laws.Ladders.{Raises, RaisesEach}
 use Rattle.sl_stages.specs.methods.Ties.{Distinct, Lists, IsRaised, IsTied, AreTied}
@@ -48,22 +48,19 @@ pub record Others (xs : List ℕ) (x : ℕ) (ys : List ℕ) : Type 0 where
 pub others : (xs : List ℕ) (x : ℕ) → Distinct xs → Contains xs x → (ys : List ℕ) × Others xs x ys
 others [] x d c = absurd (Contains-none x c)
 others (y ∷ ys) x d c =
-    elim (cases_eq y x) [
+    elim (Contains-cases y ys x c) [
       | inl e ↦ (ys, record { one_less = omega arith; distinct = d.1; still = λ i h. Contains-tail y ys i h; gone = λ h. d.0 (subst (λ z. Contains ys z) (sym e) h); kept = λ i h ne. elim (Contains-cases y ys i h) [ inl s ↦ absurd (ne (sym s ∙ e)) | inr h' ↦ h' ] })
-      | inr ne ↦ elim (Contains-cases y ys x c) [
-        | inl e ↦ absurd (ne e)
-        | inr c' ↦
-            (let rest = others ys x d.1 c' in (
-              y ∷ rest.0,
-              record {
-                one_less = omega (arith, rest.1.one_less);
-                distinct = (λ h. d.0 (rest.1.still y h), rest.1.distinct);
-                still = λ i h. elim (Contains-cases y rest.0 i h) [ inl e ↦ subst (λ z. Contains (y ∷ ys) z) e (Contains-head y ys) | inr h' ↦ Contains-tail y ys i (rest.1.still i h') ];
-                gone = λ h. elim (Contains-cases y rest.0 x h) [ inl e ↦ ne e | inr h' ↦ rest.1.gone h' ];
-                kept = λ i h out. elim (Contains-cases y ys i h) [ inl s ↦ subst (λ z. Contains (y ∷ rest.0) z) s (Contains-head y rest.0) | inr h' ↦ Contains-tail y rest.0 i (rest.1.kept i h' out) ];
-              },
-            ))
-      ]
+      | inr c' ↦
+          (let rest = others ys x d.1 c' in (
+            y ∷ rest.0,
+            record {
+              one_less = omega (arith, rest.1.one_less);
+              distinct = (λ h. d.0 (rest.1.still y h), rest.1.distinct);
+              still = λ i h. elim (Contains-cases y rest.0 i h) [ inl e ↦ subst (λ z. Contains (y ∷ ys) z) e (Contains-head y ys) | inr h' ↦ Contains-tail y ys i (rest.1.still i h') ];
+              gone = λ h. elim (Contains-cases y rest.0 x h) [ inl e ↦ d.0 (subst (λ z. Contains ys z) (sym e) c') | inr h' ↦ rest.1.gone h' ];
+              kept = λ i h out. elim (Contains-cases y ys i h) [ inl s ↦ subst (λ z. Contains (y ∷ rest.0) z) s (Contains-head y rest.0) | inr h' ↦ Contains-tail y rest.0 i (rest.1.kept i h' out) ];
+            },
+          ))
     ]
 
 pub record Some (xs : List ℕ) (k : ℕ) (ys : List ℕ) : Type 0 where
@@ -83,6 +80,23 @@ some_of (x ∷ xs) (suc k) d le =
         still = λ i h. elim (Contains-cases x rest.0 i h) [ inl e ↦ subst (λ z. Contains (x ∷ xs) z) e (Contains-head x xs) | inr h' ↦ Contains-tail x xs i (rest.1.still i h') ];
       },
     )
+
+pub unraised : (peers s : List ℕ) → Raises peers 0 s s
+unraised peers s = record { same_length = refl; each = λ i. inl refl; total = omega arith }
+
+-- a set of one member has no ties
+module _ (X : List ℕ → Type 0) (s : List ℕ) (alone : (t : List ℕ) → X t → t ≡ s) where
+  pub no_raise : (t : List ℕ) → X t → (i : ℕ) → IsRaised X t i → ⊥
+  no_raise t ht i r = let e : get_or r.0 i 0 ≡ get_or t i 0 = ap (λ y. get_or y i 0) (alone r.0 r.1 ∙ sym (alone t ht)) in let l = r.2 in omega (arith, l, e)
+
+  none_listed : (P : ℕ → Type 0) → ((i : ℕ) → P i → ⊥) → Lists P []
+  none_listed P none = record { in_order = λ j l. absurd (omega arith); has = λ i p. absurd (none i p); has_only = λ i c. absurd (Contains-none i c) }
+
+  pub no_list : (t : List ℕ) → X t → Lists (IsRaised X t) []
+  no_list t ht = none_listed (IsRaised X t) (no_raise t ht)
+
+  pub none_tied : AreTied X [] 0
+  none_tied = record { entries = none_listed (IsTied X) (λ i h. no_raise h.0 h.1 i h.2); number = λ t ht. ([], no_list t ht, refl) }
 
 module _ (base peers : List ℕ) (k : ℕ) (distinct : Distinct peers) (within : (p : ℕ) → Contains peers p → p < length base) where
   -- a choice of k of the peers
@@ -194,33 +208,17 @@ module _ (base peers : List ℕ) (k : ℕ) (distinct : Distinct peers) (within :
         }
 
     -- with no seat to give there are no ties
-    base_same : Raises peers 0 base base
-    base_same = record { same_length = refl; each = λ i. inl refl; total = omega arith }
-
-    no_increase : IsStrictlyIncreasing []
-    no_increase j l = absurd (omega arith)
-
     tied_none : k ≡ 0 → HasTies X [] 0
     tied_none z =
-        let none : (s : List ℕ) → X s → (i : ℕ) → IsRaised X s i → ⊥ =
-        λ s hs i r.
-        let es = none_raised s z (only s hs) in
-        let et = none_raised r.0 z (only r.0 r.1) in
-        let e : get_or r.0 i 0 ≡ get_or s i 0 = ap (λ y. get_or y i 0) (et ∙ sym es) in
-        let l = r.2 in omega (arith, l, e) in
-        let no_list : (s : List ℕ) → X s → Lists (IsRaised X s) [] =
-        λ s hs. record { in_order = no_increase; has = λ i r. absurd (none s hs i r); has_only = λ i c. absurd (Contains-none i c) } in
-        let here : X base = each base (subst (λ n. Raises peers n base base) (sym z) base_same) in
+        let alone : (t : List ℕ) → X t → t ≡ base = λ t ht. none_raised t z (only t ht) in
+        let here : X base = each base (subst (λ n. Raises peers n base base) (sym z) (unraised peers base)) in
         record {
           some = (base, here);
           one_length = one_length;
           one_apart = one_apart;
-          are_tied = record {
-            entries = record { in_order = no_increase; has = λ i h. absurd (none h.0 h.1 i h.2); has_only = λ i c. absurd (Contains-none i c) };
-            number = λ s hs. ([], no_list s hs, refl);
-          };
+          are_tied = none_tied X base alone;
           every_choice = λ chosen inc' sub e. elim chosen as (λ c. length c ≡ 0 → (s : List ℕ) × X s × Lists (IsRaised X s) c) [
-            | [] ↦ λ _. (base, here, no_list base here)
+            | [] ↦ λ _. (base, here, no_list X base alone base here)
             | ◌∷◌ x xs ↦ λ e'. absurd (omega arith)
           ] e;
         }

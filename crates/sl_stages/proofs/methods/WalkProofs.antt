@@ -1,25 +1,13 @@
 -- Within a batch the peers get their seats one by one.
-use Rattle.std.proofs.Common.{◌≡◌, ◌↔◌, ℕ, ◌+◌, ◌<◌, ◌⊎◌, List, [], ◌∷◌, length, get_or, sum, arith, refl, sym, ap, subst, ◌∙◌, inl, inr}
+use Rattle.std.proofs.Common.{◌≡◌, ◌↔◌, ℕ, ◌+◌, ◌<◌, List, [], ◌∷◌, length, get_or, sum, arith, refl, sym, ap, subst, ◌∙◌, inl, inr}
 use Rattle.std.specs.Prelude.{Contains}
 use Rattle.sl_stages.specs.methods.Ties.{Distinct}
 use Rattle.sl_stages.specs.laws.Ladders.{Ladders, AreFalling, IsSettled, IsPeer, RaisesEach}
 use Rattle.sl_stages.specs.laws.Walks.{MidBatch, Walks}
-use Rattle.sl_stages.proofs.methods.RaisedSeats.{Contains-head, Contains-tail, Contains-cases, Contains-none, cases_Contains, increasing_distinct, sum-raise}
+use Rattle.sl_stages.proofs.methods.RaisedSeats.{Contains-head, Contains-tail, Contains-cases, Contains-none, all_or_one, increasing_distinct, sum-raise}
 use Rattle.sl_stages.proofs.methods.DrawnLots.{fits_in}
 use Rattle.sl_stages.proofs.methods.LadderProofs.{batches}
 use Rattle.sl_stages.proofs.methods.TieLaw.{raised_is}
-
--- all of these entries are among those, or one is not
-all_or_one : (xs ys : List ℕ) → ((i : ℕ) → Contains xs i → Contains ys i) ⊎ ((i : ℕ) × Contains xs i × ¬ Contains ys i)
-all_or_one [] ys = inl (λ i c. absurd (Contains-none i c))
-all_or_one (x ∷ xs) ys =
-    elim (cases_Contains ys x) [
-      | inr out ↦ inr (x, Contains-head x xs, out)
-      | inl here ↦ elim (all_or_one xs ys) [
-        | inl rest ↦ inl (λ i c. elim (Contains-cases x xs i c) [ inl e ↦ subst (λ z. Contains ys z) e here | inr h ↦ rest i h ])
-        | inr one ↦ inr (one.0, Contains-tail x xs one.0 one.1, one.2)
-      ]
-    ]
 
 -- entries without the first of them that differ from it
 not_alone : (i j : ℕ) → ¬ (i ≡ j) → ¬ Contains (i ∷ []) j

@@ -1,7 +1,7 @@
 -- The tests of a node hold exactly where its type fits the types of its arguments.
-use Rattle.std.proofs.Common.{◌≡◌, ◌≢◌, ℕ, ◌≤◌, None, Bool, true, not, ◌&&◌, refl, ◌∙◌, sym, ap, subst}
+use Rattle.std.proofs.Common.{◌≡◌, ◌≢◌, ℕ, ◌≤◌, None, true, not, ◌&&◌, refl, ◌∙◌, sym, ap, subst}
 use Rattle.std.specs.Cmp.{first_so, second_so}
-use Rattle.std.proofs.lemmas.Bool.{leb-true, le-leb}
+use Rattle.std.proofs.lemmas.Bool.{and_from, leb-true, le-leb}
 use Rattle.sl_ratio.specs.declared.method.Divisor.{Divisor as DivisorMethod}
 use Rattle.sl_ratio.specs.declared.method.Method.{Method}
 use Rattle.sl_ratio.specs.declared.method.Method.TheVariants.{Divisor, Hamilton}
@@ -24,9 +24,6 @@ use Rattle.sl_stages.proofs.typing.TestLists.{all_hold, hold_all, can_sum_is, su
 -- two columns of one shape and one unit are of one type
 pub column_is : (a b : ColumnType) → a.shape ≡ b.shape → a.unit ≡ b.unit → a ≡ b
 column_is a b p q = λ i. record { shape = p i; unit = q i }
-
-both_so : (a b : Bool) → a ≡ true → b ≡ true → (a && b) ≡ true
-both_so a b p q = rw (p, q) refl
 
 -- ---- sums
 
@@ -148,8 +145,8 @@ grow_typed at s v f t method most m h low high =
     let tests = hold_all (share_from_tests at s v f) shared.0 in
     let one : same_shape s.shape shape.One ≡ true = rw h.seats refl in
     let shapes : (same_shape s.shape shape.One && can_split s.shape v.shape && same_shape f.shape v.shape) ≡ true =
-    both_so _ _ (both_so _ _ one (first_so _ _ tests.0)) (second_so _ _ tests.0) in
-    let seats : is_seat_number most.value ≡ true = both_so _ _ (le-leb 1 most.value low) (le-leb most.value MAX_SEATS high) in
+    and_from _ _ (and_from _ _ one (first_so _ _ tests.0)) (second_so _ _ tests.0) in
+    let seats : is_seat_number most.value ≡ true = and_from _ _ (le-leb 1 most.value low) (le-leb most.value MAX_SEATS high) in
     (all_hold (grow_tests at s v f method most m) (option, (seats, (shapes, (tests.1.0, tt)))), shared.1)
 
 pub grow_has : (at : ℕ) (s v f t : ColumnType) (method : Method) (most : Number) (m : Majority)
@@ -161,7 +158,7 @@ grow_has at s v f t method most m pass is =
     let b = can_split s.shape v.shape in
     let d = same_shape f.shape v.shape in
     let first : (a && b) ≡ true = first_so (a && b) d h.1.1.0 in
-    let shapes : (b && d) ≡ true = both_so b d (second_so a b first) (second_so (a && b) d h.1.1.0) in (
+    let shapes : (b && d) ≡ true = and_from b d (second_so a b first) (second_so (a && b) d h.1.1.0) in (
       shares_has at s v f t shape.One method m h.0 (all_hold (share_from_tests at s v f) (shapes, (h.1.1.1.0, tt))) (same_shape_is s.shape shape.One (first_so a b first)) is,
       leb-true 1 most.value (first_so _ _ h.1.0),
       leb-true most.value MAX_SEATS (second_so _ _ h.1.0),

@@ -88,22 +88,17 @@ splits_can _ _ h = absurd h
 -- ---- options
 
 pub preferred_is : (m : Majority) (method : Method) → (not (is_prefer m) || is_hamilton method) ≡ true → m ≡ majority.Prefer → method ≡ Hamilton
-preferred_is m Hamilton h p = refl
 preferred_is majority.Prefer (Divisor d) h p = cc
-preferred_is majority.Free (Divisor d) h p = cc
-preferred_is majority.Refuse (Divisor d) h p = cc
+preferred_is _ _ h p = cc
 
 pub preferred_can : (m : Majority) (method : Method) → (m ≡ majority.Prefer → method ≡ Hamilton) → (not (is_prefer m) || is_hamilton method) ≡ true
 preferred_can majority.Prefer method h = rw (h refl) refl
-preferred_can majority.Free method h = refl
-preferred_can majority.Refuse method h = refl
+preferred_can _ method h = refl
 
 pub not_preferred_is : (m : Majority) → not (is_prefer m) ≡ true → m ≢ majority.Prefer
 not_preferred_is majority.Prefer h p = cc
-not_preferred_is majority.Free h p = cc
-not_preferred_is majority.Refuse h p = cc
+not_preferred_is _ h p = cc
 
 pub not_preferred_can : (m : Majority) → m ≢ majority.Prefer → not (is_prefer m) ≡ true
 not_preferred_can majority.Prefer h = absurd (h refl)
-not_preferred_can majority.Free h = refl
-not_preferred_can majority.Refuse h = refl
+not_preferred_can _ h = refl

@@ -1,10 +1,10 @@
 -- All tests of an expression hold exactly where it has a type.
 use Rattle.std.proofs.Common.{◌≡◌, ℕ, ◌||◌, List, [], ◌∷◌, Bool, cond, false, Option, Some, None, true, find, is_some, option_map, refl, ◌∙◌, sym}
+use Rattle.std.proofs.Common.{rules}
 use Rattle.std.specs.List.{list_any}
 use Rattle.sl_stages.specs.declared.book.Shape.TheVariants as shape
 use Rattle.sl_stages.specs.declared.book.Unit.TheVariants as unit
 use Rattle.sl_stages.specs.declared.book.ColumnType.{ColumnType}
-use Rattle.sl_stages.specs.declared.book.Pairing.{Pairing}
 use Rattle.sl_stages.specs.book.Trees.{ExprTree, fact, name, sum, pair, split, without, atleast, grow}
 use Rattle.sl_stages.specs.book.Tests.{first_failing}
 use Rattle.sl_stages.specs.book.Typing.{Column, column, type_or_one, is_named, expr_tests, type_of}
@@ -27,33 +27,23 @@ is_found p (c ∷ cs) =
 abbrev pub Passes : List Column → ExprTree → ColumnType → Type 0
 Passes cs e t = (first_failing (expr_tests cs e) ≡ None) × (type_of cs e ≡ t)
 
-name_typed : (cs : List Column) (at : ℕ) (n : List ℕ) (t : ColumnType) → IsStageType cs n t → Passes cs (name at n) t
-name_typed cs at n t h =
-    (all_hold (name_tests cs at n) (is_found (is_named n) cs ∙ rw h.found refl, tt), rw h.found (sym h.same))
-
 named : (cs : List Column) (found : Option Column) (n : List ℕ) (t : ColumnType) → find (is_named n) cs ≡ found → is_some (option_map (λ c. c.type) found) ≡ true → type_or_one found ≡ t → IsStageType cs n t
 named cs None n t is some same = cc
 named cs (Some c) n t is some same = record { of = c; found = is; same = sym same }
-
-pair_passes : (cs : List Column) (at : ℕ) (pairing : Pairing) (l r : ExprTree) (t : ColumnType) → Passes cs l t → Passes cs r t → Passes cs (pair at pairing l r) t
-pair_passes cs at pairing l r t p q =
-    (pass_join3 (expr_tests cs l) (expr_tests cs r) (pair_tests at (type_of cs l) (type_of cs r)) p.0 q.0 (pair_typed at (type_of cs l) (type_of cs r) t p.1 q.1), p.1)
-
-pair_parts : (cs : List Column) (at : ℕ) (pairing : Pairing) (l r : ExprTree) (t : ColumnType) → Passes cs (pair at pairing l r) t → Passes cs l t × Passes cs r t
-pair_parts cs at pairing l r t h =
-    let p = pass_parts3 (expr_tests cs l) (expr_tests cs r) (pair_tests at (type_of cs l) (type_of cs r)) h.0 in
-    ((p.0, h.1), (p.1, pair_has at (type_of cs l) (type_of cs r) p.2 ∙ h.1))
 
 -- ---- an expression with a type passes
 
 pub typed : (cs : List Column) (e : ExprTree) (t : ColumnType) → HasType cs e t → Passes cs e t
 typed cs (fact at told) t h = (refl, sym h)
-typed cs (name at n) t h = name_typed cs at n t h
+typed cs (name at n) t h = (all_hold (name_tests cs at n) (is_found (is_named n) cs ∙ rw h.found refl, tt), rw h.found (sym h.same))
 typed cs (sum at e over) t h =
     let p = typed cs e (column h.from t.unit) h.of in
     let q = sum_typed at over (type_of cs e) t h.from p.1 h.sums in
     (pass_join (expr_tests cs e) (sum_tests at (type_of cs e) over) p.0 q.0, q.1)
-typed cs (pair at pairing l r) t h = pair_passes cs at pairing l r t (typed cs l t h.0) (typed cs r t h.1)
+typed cs (pair at pairing l r) t h =
+    let p = typed cs l t h.0 in
+    let q = typed cs r t h.1 in
+    (pass_join3 (expr_tests cs l) (expr_tests cs r) (pair_tests at (type_of cs l) (type_of cs r)) p.0 q.0 (pair_typed at (type_of cs l) (type_of cs r) t p.1 q.1), p.1)
 typed cs (split at s v method without m) t h =
     let p = typed cs s (column h.from unit.Seats) h.seats in
     let q = typed cs v (column t.shape unit.Votes) h.votes in
@@ -84,51 +74,31 @@ has cs (sum at e over) t h =
     let p = pass_parts (expr_tests cs e) (sum_tests at (type_of cs e) over) h.0 in
     let n = sum_has at over (type_of cs e) t p.1 h.1 in
     record { from = (type_of cs e).shape; sums = n.0; of = has cs e (column (type_of cs e).shape t.unit) (p.0, n.1) }
-has cs (pair at pairing l r) t h = let p = pair_parts cs at pairing l r t h in (has cs l t p.0, has cs r t p.1)
+has cs (pair at pairing l r) t h =
+    let p = pass_parts3 (expr_tests cs l) (expr_tests cs r) (pair_tests at (type_of cs l) (type_of cs r)) h.0 in
+    (has cs l t (p.0, h.1), has cs r t (p.1, pair_has at (type_of cs l) (type_of cs r) p.2 ∙ h.1))
 has cs (split at s v method without m) t h =
     let p = pass_parts3 (expr_tests cs s) (expr_tests cs v) (split_tests at (type_of cs s) (type_of cs v) method m) h.0 in
     let n = split_has at (type_of cs s) (type_of cs v) t method m p.2 h.1 in
-    record {
-      from = n.from;
-      splits = n.splits;
-      gives = n.gives;
-      preferred = n.preferred;
-      seats = has cs s (column n.from unit.Seats) (p.0, n.seats);
-      votes = has cs v (column t.shape unit.Votes) (p.1, n.votes);
-    }
+    let seats = has cs s (column n.from unit.Seats) (p.0, n.seats) in
+    let votes = has cs v (column t.shape unit.Votes) (p.1, n.votes) in
+    search rules
 has cs (split at s v method (atleast f) m) t h =
     let p = pass_parts4 (expr_tests cs s) (expr_tests cs v) (expr_tests cs f) (split_from_tests at (type_of cs s) (type_of cs v) (type_of cs f) method m) h.0 in
     let from = (type_of cs s).shape in
-    let n = split_from_has at (type_of cs s) (type_of cs v) (type_of cs f) t method m p.3 h.1 in (
-      from,
-      record {
-        splits = n.splits;
-        gives = n.gives;
-        divisor = n.divisor;
-        by = n.by;
-        not_preferred = n.not_preferred;
-        seats = has cs s (column from unit.Seats) (p.0, n.seats);
-        votes = has cs v (column t.shape unit.Votes) (p.1, n.votes);
-        minima = has cs f (column t.shape unit.Seats) (p.2, n.minima);
-      },
-    )
+    let n = split_from_has at (type_of cs s) (type_of cs v) (type_of cs f) t method m p.3 h.1 in
+    let seats = has cs s (column from unit.Seats) (p.0, n.seats) in
+    let votes = has cs v (column t.shape unit.Votes) (p.1, n.votes) in
+    let minima = has cs f (column t.shape unit.Seats) (p.2, n.minima) in
+    (from, search rules)
 has cs (grow at s v method f most m) t h =
     let p = pass_parts4 (expr_tests cs s) (expr_tests cs v) (expr_tests cs f) (grow_tests at (type_of cs s) (type_of cs v) (type_of cs f) method most m) h.0 in
     let g = grow_has at (type_of cs s) (type_of cs v) (type_of cs f) t method most m p.3 h.1 in
-    let n = g.0 in (
-      record {
-        splits = n.splits;
-        gives = n.gives;
-        divisor = n.divisor;
-        by = n.by;
-        not_preferred = n.not_preferred;
-        seats = has cs s (column shape.One unit.Seats) (p.0, n.seats);
-        votes = has cs v (column t.shape unit.Votes) (p.1, n.votes);
-        minima = has cs f (column t.shape unit.Seats) (p.2, n.minima);
-      },
-      g.1,
-      g.2,
-    )
+    let n = g.0 in
+    let seats = has cs s (column shape.One unit.Seats) (p.0, n.seats) in
+    let votes = has cs v (column t.shape unit.Votes) (p.1, n.votes) in
+    let minima = has cs f (column t.shape unit.Seats) (p.2, n.minima) in
+    (search rules, g.1, g.2)
 
 pub typed_expressions : TypesByTests
 typed_expressions cs e t = (typed cs e t, has cs e t)

@@ -1,6 +1,6 @@
 -- The entry that is taken, and the others, which stay as they were ranked.
-use Rattle.std.proofs.Common.{◌∷◌, Option, IsSome, IsPermutation, sym, ap, subst, ◌∙◌}
-use Rattle.std.specs.Option.{IfSome, option_and_then}
+use Rattle.std.proofs.Common.{refl, Option, IsSome, sym, ap, subst, ◌∙◌}
+use Rattle.std.specs.Option.{option_and_then}
 use Rattle.sl_ratio.specs.declared.entry.Entry.{Entry}
 use Rattle.sl_ratio.specs.Quotient.{FitsRatio}
 use Rattle.sl_prio.specs.Prio.{peers, top}
@@ -8,7 +8,7 @@ use Rattle.sl_machine.specs.State.{PriorityTable}
 use Rattle.sl_machine.specs.inner.Tables.{FitsMark}
 use Rattle.sl_machine.specs.inner.Lots.{LotTable}
 use Rattle.sl_machine.proofs.Priorities.{alike, top_there, taken_fits, taken_is, taken_within}
-use Rattle.sl_machine.proofs.drawing.Passing.{none_passed}
+use Rattle.sl_machine.proofs.drawing.Passing.{no_draws}
 use Rattle.sl_machine.proofs.priority.PriorityTable.take.Goals as goal
 
 pub unwrap-entry-requires : goal.unwrap-entry-requires
@@ -18,30 +18,26 @@ unwrap-entry-requires c =
 
 pub taken-requires : goal.taken-requires
 taken-requires c =
-    let rest : IsPermutation c.self.inside.prio (c.unwrap-entry.result ∷ c.take.new.self) =
-    subst (λ (o : Option Entry). IfSome o (λ entry. IsPermutation c.self.inside.prio (entry ∷ c.take.new.self))) c.unwrap-entry.ensures c.take.ensures.rest in
+    let rest = rw c.unwrap-entry.ensures at c.take.ensures.rest in
     (taken_fits (λ x. FitsMark c.unwrap-kind.result.ranking x.ratio) _ _ _ rest (c.self.invariant.0 c.unwrap-kind.result c.unwrap-kind.ensures)).0
 
 pub invariant_of-self : goal.invariant_of-self
 invariant_of-self c =
-    let rest : IsPermutation c.self.inside.prio (c.unwrap-entry.result ∷ c.take.new.self) =
-    subst (λ (o : Option Entry). IfSome o (λ entry. IsPermutation c.self.inside.prio (entry ∷ c.take.new.self))) c.unwrap-entry.ensures c.take.ensures.rest in (
+    let rest = rw c.unwrap-entry.ensures at c.take.ensures.rest in (
       (λ kind is. (taken_fits (λ x. FitsMark kind.ranking x.ratio) _ _ _ rest (c.self.invariant.0 kind is)).1),
       (taken_fits (λ x. FitsRatio x.ratio) _ _ _ rest c.self.invariant.1).1,
-      (λ kind is lot at. none_passed lot (peers c.take.new.self)),
+      (λ kind is lot at. no_draws lot (peers c.take.new.self) 0 refl),
     )
 
 pub returns-clause-taken : goal.returns-clause-taken
 returns-clause-taken c =
-    let rest : IsPermutation c.self.inside.prio (c.unwrap-entry.result ∷ c.take.new.self) =
-    subst (λ (o : Option Entry). IfSome o (λ entry. IsPermutation c.self.inside.prio (entry ∷ c.take.new.self))) c.unwrap-entry.ensures c.take.ensures.rest in
+    let rest = rw c.unwrap-entry.ensures at c.take.ensures.rest in
     let first = sym (alike c.self.inside.prio).same_top ∙ sym c.take.ensures.top ∙ c.unwrap-entry.ensures in
     taken_is c.self.inside.kind c.unwrap-kind.result c.self.inside.prio c.take.new.self c.unwrap-entry.result c.taken.result c.args.self.now.on top
     c.unwrap-kind.ensures (ap (λ (t : LotTable). t.on) c.self.view_is) c.taken.ensures first rest
 
 pub returns-clause-within : goal.returns-clause-within
 returns-clause-within c = λ e all.
-    let rest : IsPermutation c.self.inside.prio (c.unwrap-entry.result ∷ c.take.new.self) =
-    subst (λ (o : Option Entry). IfSome o (λ entry. IsPermutation c.self.inside.prio (entry ∷ c.take.new.self))) c.unwrap-entry.ensures c.take.ensures.rest in
+    let rest = rw c.unwrap-entry.ensures at c.take.ensures.rest in
     taken_within e c.self.inside.kind c.unwrap-kind.result c.self.inside.prio c.take.new.self c.unwrap-entry.result c.taken.result c.args.self.now.on
     c.unwrap-kind.ensures (ap (λ (t : LotTable). t.on) c.self.view_is) c.taken.ensures rest all

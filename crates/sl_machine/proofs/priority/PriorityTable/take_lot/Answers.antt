@@ -1,12 +1,11 @@
 -- The entry that is taken, and the others, which stay as they were ranked.
-use Rattle.std.proofs.Common.{◌≡◌, ◌∷◌, Option, Some, IsSome, IsPermutation, slice_get, sym, ap, subst, ◌∙◌}
-use Rattle.std.specs.Option.{IfSome, option_and_then, option_map}
+use Rattle.std.proofs.Common.{◌≡◌, Option, Some, IsSome, slice_get, sym, ap, subst, ◌∙◌}
+use Rattle.std.specs.Option.{option_and_then, option_map}
 use Rattle.sl_ratio.specs.declared.entry.Entry.{Entry}
 use Rattle.sl_ratio.specs.Quotient.{FitsRatio}
 use Rattle.sl_prio.specs.declared.prio.Drawn.{Drawn}
 use Rattle.sl_prio.specs.Prio.{peers, top}
 use Rattle.sl_prio.specs.Lot.{drawn}
-use Rattle.sl_prio.specs.inner.Marks.{IsPassed}
 use Rattle.sl_machine.specs.Effects.{takes}
 use Rattle.sl_machine.specs.inner.Lots.{LotTable, lot_in}
 use Rattle.sl_machine.specs.inner.Tables.{FitsMark}
@@ -30,8 +29,7 @@ unwrap-drawn-requires c =
 pub taken-requires : goal.taken-requires
 taken-requires c =
     let x = c.unwrap-drawn.result.entry in
-    let rest : IsPermutation c.self.inside.prio (x ∷ c.take_lot_from.new.self) =
-    subst (λ (o : Option Drawn). IfSome o (λ taken. IsPermutation c.self.inside.prio (taken.entry ∷ c.take_lot_from.new.self))) c.unwrap-drawn.ensures c.take_lot_from.ensures.rest in
+    let rest = rw c.unwrap-drawn.ensures at c.take_lot_from.ensures.rest in
     (taken_fits (λ x. FitsMark c.unwrap-kind.result.ranking x.ratio) _ _ _ rest (c.self.invariant.0 c.unwrap-kind.result c.unwrap-kind.ensures)).0
 
 pub invariant_of-self : goal.invariant_of-self
@@ -40,10 +38,8 @@ invariant_of-self c =
     let lot = c.lot-lot.result.now in
     let left = c.take_lot_from.new.self in
     let x = c.unwrap-drawn.result.entry in
-    let rest : IsPermutation c.self.inside.prio (x ∷ left) =
-    subst (λ (o : Option Drawn). IfSome o (λ taken. IsPermutation c.self.inside.prio (taken.entry ∷ left))) c.unwrap-drawn.ensures c.take_lot_from.ensures.rest in
-    let passed : IsPassed lot c.unwrap-drawn.result.passed (peers left) =
-    subst (λ (o : Option Drawn). IfSome o (λ taken. IsPassed lot taken.passed (peers left))) c.unwrap-drawn.ensures c.take_lot_from.ensures.passed in (
+    let rest = rw c.unwrap-drawn.ensures at c.take_lot_from.ensures.rest in
+    let passed = rw c.unwrap-drawn.ensures at c.take_lot_from.ensures.passed in (
       (λ kind is. (taken_fits (λ x. FitsMark kind.ranking x.ratio) _ _ _ rest (c.self.invariant.0 kind is)).1),
       (taken_fits (λ x. FitsRatio x.ratio) _ _ _ rest c.self.invariant.1).1,
       passed_still c.self.inside.kind k c.unwrap-kind.ensures (λ kind. option_map (lot_in kind.entries) (slice_get c.self.inside.lots c.args.stage)) lot c.lot-lot.ensures
@@ -55,8 +51,7 @@ returns-clause-taken c = λ e s.
     let k = c.unwrap-kind.result in
     let lot = c.lot-lot.result.now in
     let x = c.unwrap-drawn.result.entry in
-    let rest : IsPermutation c.self.inside.prio (x ∷ c.take_lot_from.new.self) =
-    subst (λ (o : Option Drawn). IfSome o (λ taken. IsPermutation c.self.inside.prio (taken.entry ∷ c.take_lot_from.new.self))) c.unwrap-drawn.ensures c.take_lot_from.ensures.rest in
+    let rest = rw c.unwrap-drawn.ensures at c.take_lot_from.ensures.rest in
     let first = sym ((alike c.self.inside.prio).same_drawn lot) ∙ sym c.take_lot_from.ensures.drawn ∙ ap (option_map (λ (y : Drawn). y.entry)) c.unwrap-drawn.ensures in
     its_lot c.self.inside.kind k c.self.inside.prio c.self.inside.lots c.args.stage c.args.self.now lot (λ t l. takes e t (drawn l t.contents) s) c.unwrap-kind.ensures c.self.view_is c.lot-lot.ensures
     ∙ taken_is c.self.inside.kind k c.self.inside.prio c.take_lot_from.new.self x c.taken.result c.args.self.now.on (drawn lot)
@@ -65,7 +60,6 @@ returns-clause-taken c = λ e s.
 pub returns-clause-within : goal.returns-clause-within
 returns-clause-within c = λ e all.
     let x = c.unwrap-drawn.result.entry in
-    let rest : IsPermutation c.self.inside.prio (x ∷ c.take_lot_from.new.self) =
-    subst (λ (o : Option Drawn). IfSome o (λ taken. IsPermutation c.self.inside.prio (taken.entry ∷ c.take_lot_from.new.self))) c.unwrap-drawn.ensures c.take_lot_from.ensures.rest in
+    let rest = rw c.unwrap-drawn.ensures at c.take_lot_from.ensures.rest in
     taken_within e c.self.inside.kind c.unwrap-kind.result c.self.inside.prio c.take_lot_from.new.self x c.taken.result c.args.self.now.on
     c.unwrap-kind.ensures (ap (λ (t : LotTable). t.on) c.self.view_is) c.taken.ensures rest all

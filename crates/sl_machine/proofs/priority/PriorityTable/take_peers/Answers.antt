@@ -1,6 +1,5 @@
 -- Each peer is the top of what is left of the table.
-use Rattle.std.proofs.Common.{◌≡◌, ◌<◌, ◌∷◌, ◌++◌, [], length, Option, Some, All, IsPermutation, IsSome, refl, sym, ap, subst, ◌∙◌, arith}
-use Rattle.std.specs.Option.{IfSome}
+use Rattle.std.proofs.Common.{◌≡◌, ◌<◌, ◌∷◌, ◌++◌, [], length, Option, Some, All, IsSome, refl, sym, ap, subst, ◌∙◌, arith}
 use Rattle.std.proofs.lemmas.Option.{same_Some}
 use Rattle.sl_ratio.specs.declared.entry.Entry.{Entry}
 use Rattle.sl_ratio.specs.Quotient.{FitsRatio}
@@ -36,14 +35,12 @@ unwrap-peer-requires c =
 
 pub item_of-requires : goal.item_of-requires
 item_of-requires c =
-    let rest : IsPermutation c.loop.self-inside.prio (c.unwrap-peer.result ∷ c.take.new.self) =
-    subst (λ (o : Option Entry). IfSome o (λ peer. IsPermutation c.loop.self-inside.prio (peer ∷ c.take.new.self))) c.unwrap-peer.ensures c.take.ensures.rest in
+    let rest = rw c.unwrap-peer.ensures at c.take.ensures.rest in
     (taken_fits (λ x. x.index < entries_in c.args.returns.now c.unwrap-kind.result.entries) _ _ _ rest c.loop.invariant.range).0
 
 pub invariant_of-self-in_err-append : goal.invariant_of-self-in_err-append
 invariant_of-self-in_err-append c =
-    let rest : IsPermutation c.loop.self-inside.prio (c.unwrap-peer.result ∷ c.take.new.self) =
-    subst (λ (o : Option Entry). IfSome o (λ peer. IsPermutation c.loop.self-inside.prio (peer ∷ c.take.new.self))) c.unwrap-peer.ensures c.take.ensures.rest in
+    let rest = rw c.unwrap-peer.ensures at c.take.ensures.rest in
     let marks = (taken_fits (λ x. FitsMark c.unwrap-kind.result.ranking x.ratio) _ _ _ rest c.loop.invariant.marks).1 in
     let same = λ (k : TableKind) (is : c.loop.self-inside.kind ≡ Some k). same_Some c.unwrap-kind.result k (sym c.loop.invariant.kind ∙ is) in (
       (λ k is. subst (λ (k : TableKind). All (λ x. FitsMark k.ranking x.ratio) c.take.new.self) (same k is) marks),
@@ -53,8 +50,7 @@ invariant_of-self-in_err-append c =
 
 pub loop-preserved : goal.loop-preserved
 loop-preserved c =
-    let rest : IsPermutation c.loop.self-inside.prio (c.unwrap-peer.result ∷ c.take.new.self) =
-    subst (λ (o : Option Entry). IfSome o (λ peer. IsPermutation c.loop.self-inside.prio (peer ∷ c.take.new.self))) c.unwrap-peer.ensures c.take.ensures.rest in
+    let rest = rw c.unwrap-peer.ensures at c.take.ensures.rest in
     let e = c.args.returns.now in
     let k = c.unwrap-kind.result in
     let first = sym c.take.ensures.top ∙ c.unwrap-peer.ensures in

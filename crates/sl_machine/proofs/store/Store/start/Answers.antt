@@ -6,7 +6,7 @@ use Rattle.sl_stages.specs.declared.table.Placed.{Placed}
 use Rattle.sl_stages.specs.declared.table.Placed.TheVariants as placed
 use Rattle.sl_verify.specs.declared.known.TheConstants.{REGISTERS}
 use Rattle.sl_machine.specs.inner.Lots.{LotTable}
-use Rattle.sl_machine.proofs.stores.Starting.{zero_at, unseated_at, blank, blank_at, blank_widths, started}
+use Rattle.sl_machine.proofs.stores.Starting.{same_at, blank, blank_at, blank_widths, started}
 use Rattle.sl_machine.proofs.store.Store.start.Goals as goal
 
 pub returns-clause-state : goal.returns-clause-state
@@ -17,10 +17,10 @@ returns-clause-state c =
     let blanks : columns ≡ map (blank e) slots = c.in_ok-columns.ensures ∙ ap (map (blank e)) c.slots.ensures.slots in
     let nobody : c.in_ok-placed.placed.items ≡ replicate c.wins.result placed.Unseated = c.in_ok-placed.ensures in
     started (replicate {A = ℕ} REGISTERS 0) columns c.off.result.on (mark.Quotient c.new.result) c.new-2.result.items c.new-3.result.items c.in_ok-placed.placed.items
-    (zero_at REGISTERS)
+    (same_at REGISTERS 0)
     (λ k p. ap (λ (css : List (List ℕ)). get_or (get_or css k []) p 0) blanks ∙ blank_at e slots k p)
     (ap (λ (t : LotTable). t.on) c.off.ensures) (ap mark.Quotient c.new.ensures.value) c.new-2.ensures.items c.new-3.ensures.items
-    (λ w. ap (λ (ps : List Placed). get_or ps w placed.Unseated) nobody ∙ unseated_at c.wins.result w)
+    (λ w. ap (λ (ps : List Placed). get_or ps w placed.Unseated) nobody ∙ same_at c.wins.result placed.Unseated w)
 
 pub returns-clause-fits : goal.returns-clause-fits
 returns-clause-fits c =

@@ -1,15 +1,12 @@
 -- The column is one of zeros, as long as before.
-use Rattle.std.proofs.Common.{◌≡◌, ◌<◌, ℕ, List, length, get_or, replicate, ap, ◌∙◌, arith}
-use Rattle.std.proofs.lemmas.Grind.{common_steps}
+use Rattle.std.proofs.Common.{◌<◌, ℕ, List, length, ap, ◌∙◌, arith}
 use Rattle.std.proofs.lemmas.List.{length-map, length-replicate}
 use Rattle.sl_machine.specs.State.{with_column}
 use Rattle.sl_machine.specs.Effects.{Goes}
 use Rattle.sl_machine.specs.inner.Stores.{state_of, columns_of}
 use Rattle.sl_machine.proofs.stores.Cells.{same_columns, widths_kept, column_written}
+use Rattle.sl_machine.proofs.stores.Starting.{same_at}
 use Rattle.sl_machine.proofs.store.Store.zero_column.Goals as goal
-
-zeros_at : (xs : List ℕ) (n : ℕ) → xs ≡ replicate n 0 → (p : ℕ) → get_or xs p 0 ≡ 0
-zeros_at xs n h p = rw h (grind (arith, common_steps))
 
 pub returns-clause-kept : goal.returns-clause-kept
 returns-clause-kept c =
@@ -26,5 +23,5 @@ returns-clause-follows c =
     let s = state_of c.args.self.now in
     let there : c.from.result < length rows = omega (arith, c.requires, length-map (columns_of c.args.self.now) length, length-map rows (λ row. row.items)) in
     let row = c.index_mut-column.result.now in
-    let cells = column_written (λ row. row.items) rows c.from.result row there c.index_mut-column.ensures.value c.clear.new.column (λ p. 0) (zeros_at _ _ c.clear.ensures) in
+    let cells = column_written (λ row. row.items) rows c.from.result row there c.index_mut-column.ensures.value c.clear.new.column (λ p. 0) (λ p. rw c.clear.ensures (same_at (length row.items) 0 p)) in
     ap Goes (same_columns s _ _ cells) ∙ ap (λ (k : ℕ). Goes (with_column k (λ p. 0) s)) c.from.ensures

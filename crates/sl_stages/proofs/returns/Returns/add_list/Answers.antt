@@ -34,11 +34,7 @@ invariant_of-self c =
     let land : c.args.land < length (election_of c.self.inside).land_names = subst (λ (e : Election). c.args.land < length e.land_names) (sym c.self.view_is) c.requires.land in
     let party : c.args.party < length (election_of c.self.inside).party_names = subst (λ (e : Election). c.args.party < length e.party_names) (sym c.self.view_is) c.requires.party in (
       record { lands = limits.lands; parties = limits.parties; winners = limits.winners },
-      subst IsElection (sym (joined c)) (is_with_list (election_of c.self.inside) c.args.land c.args.party (votes c) c.self.invariant.1 land party (record {
-        counted = c.requires.counted;
-        valid = c.requires.valid;
-        slate = λ n e. absurd (none-some n e);
-      })),
+      subst IsElection (sym (joined c)) (is_with_list (election_of c.self.inside) c.args.land c.args.party (votes c) c.self.invariant.1 land party (record { counted = c.requires.counted; valid = c.requires.valid; slate = λ n e. absurd (none-some n e) })),
     )
 
 pub returns-clause-added : goal.returns-clause-added

@@ -1,5 +1,5 @@
 -- The returns with a lot more.
-use Rattle.std.proofs.Common.{◌≡◌, ◌<◌, ◌++◌, ◌∷◌, [], None, length, ap, sym, subst, ◌∙◌}
+use Rattle.std.proofs.Common.{◌≡◌, ◌<◌, ◌++◌, ◌∷◌, [], None, length, rules, ap, sym, subst, ◌∙◌}
 use Rattle.sl_ratio.specs.Names.{spelling_fault}
 use Rattle.sl_stages.specs.declared.limits.TheConstants.{MAX_LOTS}
 use Rattle.sl_stages.specs.declared.returns.Lot.{Lot}
@@ -22,13 +22,9 @@ joined c = rw (lots c)
 named : (c : After-put) → IsLot (length (election_of c.self.inside).land_names) (length (election_of c.self.inside).party_names) (length (election_of c.self.inside).win_names) (lot c)
 named c =
     let wins = c.self.invariant.1.wins in
+    let stage = subst (λ stage. spelling_fault stage ≡ None) (sym c.in_ok-stage.ensures) c.requires.stage in
     let e = election_of c.self.inside in
-    let kept = subst (λ (e : Election). IsLot (length e.land_names) (length e.party_names) (length e.wins) (lot c)) (sym c.self.view_is) (record {
-      stage = subst (λ stage. spelling_fault stage ≡ None) (sym c.in_ok-stage.ensures) c.requires.stage;
-      land = c.requires.land;
-      party = c.requires.party;
-      win = c.requires.win;
-    }) in
+    let kept = subst (λ (e : Election). IsLot (length e.land_names) (length e.party_names) (length e.wins) (lot c)) (sym c.self.view_is) (search rules) in
     subst (λ n. IsLot (length e.land_names) (length e.party_names) n (lot c)) (sym wins) kept
 
 pub invariant_of-self-2 : goal.invariant_of-self-2

@@ -28,13 +28,7 @@ joined c = rw (named c, wins c)
 
 -- the winner names a Land and a party of the election
 placed : (c : After-put) → IsWin (length (election_of c.self.inside).land_names) (length (election_of c.self.inside).party_names) (win c)
-placed c = subst (λ (e : Election). IsWin (length e.land_names) (length e.party_names) (win c)) (sym c.self.view_is) (record {
-  land = c.requires.land;
-  party = c.requires.party;
-  least = c.requires.least;
-  most = c.requires.most;
-  valid = c.requires.valid;
-})
+placed c = subst (λ (e : Election). IsWin (length e.land_names) (length e.party_names) (win c)) (sym c.self.view_is) (search rules)
 
 pub invariant_of-self-2 : goal.invariant_of-self-2
 invariant_of-self-2 c =
