@@ -61,7 +61,7 @@ module _ (shapes : List Shape) (f : Form) (j : Job) (code : CountingCode) (job :
     holds_minima None there = tt
     holds_minima (Some slot) there = holds_column slot (votes_of f) (there slot refl)
 
-    pub holds_arguments : HasWeights j code e state
+    pub holds_arguments : HasWeights f j code e state
         → HoldsArguments e f (slots_of j) (column_of code e state j.amount) (column_of code e state j.weights) (option_map (column_of code e state) j.minima) state
     holds_arguments h = record {
       amounts_are = holds_column j.amount (amounts_of f) job.amounts;

@@ -60,7 +60,7 @@ module _ (shapes : List Shape) (f : Form) (j : Job) (job : IsJob shapes f j) whe
 
   -- and of what they mean
   split_makes : (method : Method) → TakesMinima method j.minima
-      → MakesBlock share_of MAX_BLOCK_INSTRS (HasJob shapes j) (HasWeights j) (λ code e state. HasResult e f (slots_of j) (SplitMeans f j method code e state) state)
+      → MakesBlock share_of MAX_BLOCK_INSTRS (HasJob shapes j) (HasWeights f j) (λ code e state. HasResult e f (slots_of j) (SplitMeans f j method code e state) state)
       (λ code e state. EndsWith (SplitMeans f j method code e state)) (split_tree f (slots_of j) method j.majority)
   split_makes method takes = record {
     short = let less = size_at_most 500000 0 350 _ (split_modest f (slots_of j) method j.majority) in omega (arith, less);
@@ -71,7 +71,7 @@ module _ (shapes : List Shape) (f : Form) (j : Job) (job : IsJob shapes f j) whe
   }
 
   growth_makes : (d : Divisor) (slot cap : ℕ) → j.minima ≡ Some slot → amounts_of f ≡ shape.One → cap ≤ MAX_SEATS
-      → MakesBlock share_of MAX_BLOCK_INSTRS (HasJob shapes j) (HasWeights j) (λ code e state. HasResult e f (slots_of j) (GrowthMeans f j slot d cap code e state) state)
+      → MakesBlock share_of MAX_BLOCK_INSTRS (HasJob shapes j) (HasWeights f j) (λ code e state. HasResult e f (slots_of j) (GrowthMeans f j slot d cap code e state) state)
       (λ code e state. EndsWith (GrowthMeans f j slot d cap code e state)) (grow_tree f (slots_of j) d j.majority cap)
   growth_makes d slot cap there one few = record {
     short = let less = size_at_most 500000 0 350 _ (growth_modest f (slots_of j) d j.majority cap slot there) in omega (arith, less);

@@ -43,7 +43,7 @@ module _ (P R : ExprResult → Type 0) (turn : (r : ExprResult) → P r → R r)
 -- ---- splits and growths
 
 module _ (shapes : List Shape) (f : Form) (j : Job) (code : CountingCode) (job : IsJob shapes f j) (has : HasJob shapes j code) (e : Election) (is : IsElection e) (state : State)
-    (weights : HasWeights j code e state) where
+    (weights : HasWeights f j code e state) where
   name_there : name_in code j has.stage.name
   name_there = ap (option_map (λ (s : CodeStage). s.name)) has.staged
 

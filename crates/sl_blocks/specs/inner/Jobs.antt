@@ -1,6 +1,6 @@
 -- Splits and growths as blocks: the caller's conditions, and what the blocks do (docs/blocks.md, section 5).
-use Rattle.std.specs.Prelude.{◌≡◌, ◌≢◌, ℕ, ◌<◌, ◌≤◌, List, [], ◌∷◌, Option, None, Some, All, slice_get, option_map}
-use Rattle.sl_ratio.specs.declared.limits.TheConstants.{MAX_WEIGHT, MAX_SEATS}
+use Rattle.std.specs.Prelude.{◌≡◌, ◌≢◌, ℕ, ◌<◌, ◌≤◌, List, [], ◌∷◌, Option, None, Some, slice_get, option_map}
+use Rattle.sl_ratio.specs.declared.limits.TheConstants.{MAX_SEATS}
 use Rattle.sl_ratio.specs.declared.method.Divisor.{Divisor}
 use Rattle.sl_ratio.specs.declared.method.Method.{Method}
 use Rattle.sl_ratio.specs.declared.method.Method.TheVariants as by
@@ -18,7 +18,7 @@ use Rattle.sl_machine.specs.Memories.{column_of}
 use Rattle.sl_pieces.specs.declared.form.Form.{Form}
 use Rattle.sl_pieces.specs.scopes.Forms.{amounts_of, votes_of}
 use Rattle.sl_pieces.specs.seats.Slots.{Slots}
-use Rattle.sl_pieces.specs.nodes.Scopes.{stand}
+use Rattle.sl_pieces.specs.nodes.Scopes.{AreWeights, stand}
 use Rattle.sl_pieces.specs.nodes.Nodes.{HasResult, EndsWith}
 use Rattle.sl_pieces.specs.nodes.Trees.{split_tree, grow_tree}
 use Rattle.sl_blocks.specs.PlanBlocks.{AreBlocks}
@@ -70,9 +70,9 @@ pub record HasJob (shapes : List Shape) (j : Job) (code : CountingCode) : Type 0
   pub stage : CodeStage
   pub staged : slice_get code.stages j.stage ≡ Some stage
 
--- where the block begins, no weight is above the limit
-pub record HasWeights (j : Job) (code : CountingCode) (e : Election) (state : State) : Type 0 where
-  pub weights : All (λ weight. weight ≤ MAX_WEIGHT) (column_of code e state j.weights)
+-- where the block begins, no entry of a scope has a weight above the limit
+pub record HasWeights (f : Form) (j : Job) (code : CountingCode) (e : Election) (state : State) : Type 0 where
+  pub weights : AreWeights e f (column_of code e state j.weights)
 
 -- the name of the job's stage
 abbrev pub name_in : CountingCode → Job → List ℕ → Type 0
@@ -95,7 +95,7 @@ pub record GrowthMeans (f : Form) (j : Job) (slot : ℕ) (d : Divisor) (cap : �
 -- a block does as the result says: its column and its records, or its fault
 abbrev pub IsResultBlock : (shapes : List Shape) (f : Form) (j : Job) → (CountingCode → Election → State → ExprResult → Type 0) → List Instr → List Instr → Type 0
 IsResultBlock shapes f j Means before after =
-    IsShareBlock (HasJob shapes j) (HasWeights j) (λ code e state. HasResult e f (slots_of j) (Means code e state) state) (λ code e state. EndsWith (Means code e state)) before after
+    IsShareBlock (HasJob shapes j) (HasWeights f j) (λ code e state. HasResult e f (slots_of j) (Means code e state) state) (λ code e state. EndsWith (Means code e state)) before after
 
 -- the code after is the code before with the block of that split, or of that growth
 abbrev pub IsSplitBlock : (shapes : List Shape) (j : Job) (method : Method) → List Instr → List Instr → Type 0

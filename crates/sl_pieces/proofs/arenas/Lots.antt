@@ -108,8 +108,7 @@ module _ (most : ℕ) (a : Arena) (s tied t lot meant : List ℕ) (k : ℕ) (are
   unfolding Left
   drawn_peer x at c =
       let p = peer_of most a t left arena few left_listed x c in
-      let is_left = (are_left p.0).0 (left_listed.has_only p.0 p.1) in
-      let here = at_left.within p.0 is_left in
+      let here = at_left.within p.0 ((are_left p.0).0 (left_listed.has_only p.0 p.1)) in
       let there = at_left.within next.entry (next.one_of, next.left) in
       let one : p.0 ≡ next.entry = one_place a.places p.0 next.entry arena.increasing here there (sym (ap (λ (y : Entry). y.index) p.2) ∙ at) in
       p.2 ∙ ap (next_of a t) one

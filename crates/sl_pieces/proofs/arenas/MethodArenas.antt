@@ -1,9 +1,9 @@
 -- The arenas of divisor methods, of largest remainders and of covering.
-use Rattle.std.proofs.Common.{◌≡◌, ℕ, ◌+◌, ◌-◌, ◌*◌, ◌/◌, ◌%◌, ◌<◌, ◌≤◌, ◌&&◌, Bool, true, false, List, [], ◌∷◌, length, map, All, get_or, sum, refl, sym, ap, ◌∙◌, arith}
+use Rattle.std.proofs.Common.{◌≡◌, ℕ, ◌+◌, ◌-◌, ◌*◌, ◌/◌, ◌<◌, ◌≤◌, ◌&&◌, Bool, true, false, List, [], ◌∷◌, length, map, All, get_or, sum, refl, sym, ap, ◌∙◌, arith}
 use Rattle.std.specs.Prelude.{if◌then◌else◌, nat_lt, nat_le}
 use Rattle.std.specs.List.{enumerate_from, AllPairs}
 use Rattle.std.specs.List.Sorted.{IsStrictlyIncreasing}
-use Rattle.std.proofs.Math.Nat.{div-add-mod', mul-le-mul_right}
+use Rattle.std.proofs.Math.Nat.{mul-le-mul_right}
 use Rattle.std.proofs.lemmas.Bool.{ltb-true, and_parts}
 use Rattle.std.proofs.lemmas.List.{length-map, get_or-map}
 use Rattle.std.proofs.lemmas.List.Elements.{All-cons, All-nil, All-head, All-tail, All-weaker, All-map, All-filter, All-get_or}
@@ -56,9 +56,6 @@ divisor_arenas method v entries places are = record {
 
 -- ---- largest remainders
 
-remainder_low : (n d : ℕ) → n % d ≤ n
-remainder_low n d = let parts = div-add-mod' n d in omega (arith, parts)
-
 -- each remainder fits, and the infinite rank
 rank_fits : (b : Bool) (r : ℕ) → r ≤ MAX_SEATS * MAX_WEIGHT → FitsRatio (if b then record { num = 1; den = 0 } else record { num = r + 1; den = 1 })
 rank_fits true r h = record { positive = omega arith; num = omega arith; den = omega arith }
@@ -71,10 +68,7 @@ rank_mark false r = let same : r + 1 - 1 ≡ r = omega arith in ap mark.Rest sam
 module _ (prefer : Bool) (v : List ℕ) (seats : ℕ) (places : List ℕ) (are : AreWeighed v places) (few : seats ≤ MAX_SEATS) where
   remainder_within : (i : ℕ) → InField v i → remainder v seats i ≤ MAX_SEATS * MAX_WEIGHT
   remainder_within i f =
-      let low = remainder_low (seats * get_or v i 0) (sum v) in
-      let weight = weight_within v places are i f in
-      let high : seats * get_or v i 0 ≤ MAX_SEATS * get_or v i 0 = mul-le-mul_right (get_or v i 0) few in
-      omega (arith, low, weight, high)
+      omega (arith, weight_within v places are i f, mul-le-mul_right (get_or v i 0) few)
 
 pub hamilton_arenas : HamiltonArenas
 hamilton_arenas prefer v seats entries places are few most = record {
@@ -108,8 +102,7 @@ numbers_increase (x ∷ xs) rise k l =
     let long = length-map (x ∷ xs) (λ (y : ℕ × Win). y.0) in
     let here = get_or-map (λ (y : ℕ × Win). y.0) (x ∷ xs) k x 0 (omega (arith, long, l)) in
     let next = get_or-map (λ (y : ℕ × Win). y.0) (x ∷ xs) (k + 1) x 0 (omega (arith, long, l)) in
-    let less = rise k (k + 1) x (omega arith) (omega (arith, long, l)) in
-    omega (arith, here, next, less)
+    omega (arith, here, next, rise k (k + 1) x (omega arith) (omega (arith, long, l)))
 
 module _ (lands parties : ℕ) (won : List (ℕ × Win)) (each : All (λ x. IsWin lands parties x.1) won) where
   firsts : List ℕ
@@ -137,19 +130,16 @@ module _ (lands parties : ℕ) (won : List (ℕ × Win)) (each : All (λ x. IsWi
       let fall = (covering_ladders_law firsts valids (λ i l. (first_within i l).0)).falling in
       let long_firsts = length-map won (λ x. x.1.first) in
       let long_valids = length-map won (λ x. x.1.valid) in
-      let long_places = length-map won (λ x. x.0) in
       let zeros = length_zeros (length firsts) in
       record {
         falling = fall;
-        long = omega (arith, long_firsts, long_places, zeros);
+        long = omega (arith, long_firsts, length-map won (λ x. x.0), zeros);
         increasing = numbers_increase won rise;
         fits = λ i held has low.
             let l = fall.within i held has in
             let first = first_within i (omega (arith, l, zeros)) in
             let valid = valid_within i (omega (arith, l, zeros, long_firsts, long_valids)) in
-            let least = first.0 in
-            let high = first.1 in
-            record { positive = least; num = omega (arith, high); den = omega (arith, valid) };
+            record { positive = first.0; num = omega arith; den = omega (arith, valid) };
         marks = λ i held has. refl;
       }
 

@@ -4,11 +4,12 @@ use Rattle.std.specs.Prelude.{slice_index}
 use Rattle.std.specs.Cmp.{ranks, nat_cmp_is}
 use Rattle.std.specs.List.{filter, range_with_len}
 use Rattle.std.specs.List.Sorted.{IsSorted}
-use Rattle.std.specs.Option.{option_map}
 use Rattle.std.specs.declared.cmp.Ordering.{Ordering}
-use Rattle.std.specs.declared.cmp.Ordering.TheVariants.{Less, Equal, Greater}
+use Rattle.std.specs.declared.cmp.Ordering.TheVariants.{Equal, Greater}
 use Rattle.std.specs.Ordering.{MatchOrdering, nat_cmp, is_le, is_eq, is_lt, flip_args, ordering_then}
 use Rattle.std.proofs.lemmas.Bool.{and_parts, and_from}
+use Rattle.std.proofs.lemmas.Map.Keys.{le_from_is_le}
+use Rattle.std.proofs.lemmas.Option.{slice_get-map}
 use Rattle.std.proofs.lemmas.List.{length-map, get_or-map}
 use Rattle.std.proofs.lemmas.List.Elements.{Contains-get_or}
 use Rattle.std.proofs.lemmas.List.Kept.{AllPairs-from_increasing, IsStrictlyIncreasing-filter}
@@ -35,21 +36,13 @@ use Rattle.sl_pieces.proofs.arenas.Waiting.{has_next, next_of, within, seat_wait
 
 -- ---- quotients and entries
 
-le_says : (a b : ℕ) (r : Ordering) → MatchOrdering r (a < b) (a ≡ b) (b < a) → is_le r ≡ true → a ≤ b
-le_says a b Less h t = omega arith
-le_says a b Equal h t = omega arith
-le_says a b Greater h t = cc
-
-eq_says : (a b : ℕ) (r : Ordering) → MatchOrdering r (a < b) (a ≡ b) (b < a) → is_eq r ≡ true → a ≡ b
-eq_says a b Less h t = cc
-eq_says a b Equal h t = h
-eq_says a b Greater h t = cc
-
-at_most : (x y : Quotient) → is_le (compare x y) ≡ true → AtMost x y
-at_most x y h = le_says (x.num * y.den) (y.num * x.den) (compare x y) (ranks (x.num * y.den) (y.num * x.den)) h
-
 equal : (x y : Quotient) → is_eq (compare x y) ≡ true → SameQuotient x y
-equal x y h = eq_says (x.num * y.den) (y.num * x.den) (compare x y) (ranks (x.num * y.den) (y.num * x.den)) h
+equal x y = by_order (compare x y) (ranks (x.num * y.den) (y.num * x.den))
+  where
+    by_order : (r : Ordering) → MatchOrdering r (x.num * y.den < y.num * x.den) (x.num * y.den ≡ y.num * x.den) (y.num * x.den < x.num * y.den)
+        → is_eq r ≡ true → SameQuotient x y
+    by_order Equal h t = h
+    by_order _ h t = cc
 
 both : (x y : Quotient) → AtMost x y → AtMost y x → compare x y ≡ Equal
 both x y h k = let same : x.num * y.den ≡ y.num * x.den = omega arith in sym (nat_cmp_is (x.num * y.den) (y.num * x.den) Equal same)
@@ -57,7 +50,8 @@ both x y h k = let same : x.num * y.den ≡ y.num * x.den = omega arith in sym (
 -- what does not exceed an entry has no greater quotient
 no_greater : (x y : Entry) → HasRatio x → HasRatio y → is_le (entry_cmp x y) ≡ true → AtMost x.ratio y.ratio
 no_greater x y fits_x fits_y h =
-    at_most x.ratio y.ratio (ap is_le (sym (quotient_cmp-positive x.ratio y.ratio fits_x.positive fits_y.positive)) ∙ quotient_at_most x y h)
+    le_from_is_le (x.ratio.num * y.ratio.den) (y.ratio.num * x.ratio.den)
+    (ap is_le (sym (quotient_cmp-positive x.ratio y.ratio fits_x.positive fits_y.positive)) ∙ quotient_at_most x y h)
 
 -- of entries with one quotient, that with the smaller index is the greater
 by_index : (x y : Entry) → HasRatio x → HasRatio y → compare x.ratio y.ratio ≡ Equal → x.index < y.index → is_lt (entry_cmp x y) ≡ false
@@ -77,9 +71,8 @@ module _ (most : ℕ) (a : Arena) (t tied : List ℕ) (arena : IsArena most a) (
 
   rises : (k : ℕ) → k + 1 < length tied → get_or a.places (get_or tied k 0) 0 < get_or a.places (get_or tied (k + 1) 0) 0
   rises k l =
-      let less = listed.in_order k l in
       let last = within a t most arena (get_or tied (k + 1) 0) (peer_at (k + 1) l).next in
-      AllPairs-from_increasing a.places arena.increasing (get_or tied k 0) (get_or tied (k + 1) 0) 0 less last
+      AllPairs-from_increasing a.places arena.increasing (get_or tied k 0) (get_or tied (k + 1) 0) 0 (listed.in_order k l) last
 
   seats_fall : IsSorted (flip_args entry_cmp) seats
   unfolding seats
@@ -90,9 +83,8 @@ module _ (most : ℕ) (a : Arena) (t tied : List ℕ) (arena : IsArena most a) (
       let p = peer_at k (omega (arith, l, long)) in
       let q = peer_at (k + 1) (omega (arith, l, long)) in
       let here : get_or seats k d ≡ next_of a t i = get_or-map (next_of a t) tied k 0 d (omega (arith, l, long)) in
-      let next : get_or seats (k + 1) d ≡ next_of a t j = get_or-map (next_of a t) tied (k + 1) 0 d (omega (arith, l, long)) in
       let same = both (next_of a t i).ratio (next_of a t j).ratio (q.greatest i p.next) (p.greatest j q.next) in
-      (λ z. is_lt (entry_cmp (here z) (next z)))
+      (λ z. is_lt (entry_cmp (here z) (get_or-map (next_of a t) tied (k + 1) 0 d (omega (arith, l, long)) z)))
       ∙ by_index (next_of a t i) (next_of a t j) (seat_fits a t most arena few i p.next) (seat_fits a t most arena few j q.next) same (rises k (omega (arith, l, long)))
 
   module _ (first : Entry) (is_top : top (waiting a t) ≡ Some first) (there : Contains (waiting a t) first) (greatest : All (λ entry. IsTrue (is_le (entry_cmp entry first))) (waiting a t)) where
@@ -173,7 +165,7 @@ waiting_peers most a t tied arena few listed =
       seats = are;
       number = ap length are ∙ length-map tied (next_of a t);
       places = ap (λ xs. map (λ seat. seat.index) xs) are ∙ indexes tied;
-      first = sym (first_peers (ranked (waiting a t))) ∙ ap (λ xs. slice_get xs 0) are ∙ first_of tied;
+      first = sym (first_peers (ranked (waiting a t))) ∙ ap (λ xs. slice_get xs 0) are ∙ slice_get-map (next_of a t) tied 0;
       none = (
         λ empty. no_more tied (sym are ∙ ap peers empty),
         λ alone. no_seats (ranked (waiting a t)) (first_peers (ranked (waiting a t))) (are ∙ ap (map (next_of a t)) alone),
@@ -183,10 +175,6 @@ waiting_peers most a t tied arena few listed =
     indexes : (is : List ℕ) → map (λ (seat : Entry). seat.index) (map (next_of a t) is) ≡ map (slice_index a.places) is
     indexes [] = refl
     indexes (i ∷ is) = ap (λ ns. slice_index a.places i ∷ ns) (indexes is)
-
-    first_of : (is : List ℕ) → slice_get (map (next_of a t) is) 0 ≡ option_map (next_of a t) (slice_get is 0)
-    first_of [] = refl
-    first_of (i ∷ is) = refl
 
     no_more : (is : List ℕ) → map (next_of a t) is ≡ [] → is ≡ []
     no_more [] e = refl

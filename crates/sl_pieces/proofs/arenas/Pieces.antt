@@ -1,9 +1,10 @@
--- Lists of what is made for some of the numbers below a bound.
-use Rattle.std.proofs.Common.{◌≡◌, ℕ, ◌+◌, ◌<◌, ◌&&◌, Bool, true, List, [], ◌∷◌, map, Contains, refl, sym, ap, subst, ◌∙◌, inl, inr, arith}
+-- Lists of what is made for some of the numbers below a bound, those numbers, and a list of one.
+use Rattle.std.proofs.Common.{◌≡◌, ℕ, ◌+◌, ◌<◌, ◌&&◌, Bool, true, List, [], ◌∷◌, map, Some, slice_get, Contains, refl, sym, ap, subst, ◌∙◌, inl, inr, arith}
 use Rattle.std.specs.Prelude.{flat_map, if◌then◌else◌}
 use Rattle.std.specs.List.{filter, range_with_len}
 use Rattle.std.specs.List.Sorted.{IsStrictlyIncreasing}
 use Rattle.std.proofs.lemmas.Bool.{cases_Bool}
+use Rattle.std.proofs.lemmas.Option.{slice_get_within, get_or_from_slice_get}
 use Rattle.std.proofs.lemmas.List.FromFn.{length-range_with_len, get_or-range_with_len}
 use Rattle.sl_prio.proofs.Finding.{Contains-none, Contains-cases, Contains-head, Contains-tail}
 
@@ -56,6 +57,17 @@ below_there n i l = (i, (let long = length-range_with_len 0 n in omega (arith, l
 pub range_increasing : (n : ℕ) → IsStrictlyIncreasing (range_with_len 0 n)
 range_increasing n k l =
     let long = length-range_with_len 0 n in
-    let low = get_or-range_with_len 0 n k 0 (omega (arith, long)) in
-    let high = get_or-range_with_len 0 n (k + 1) 0 (omega (arith, long)) in
-    omega (arith, low, high)
+    omega (arith, get_or-range_with_len 0 n k 0 (omega (arith, long)), get_or-range_with_len 0 n (k + 1) 0 (omega (arith, long)))
+
+-- a number of the first ones stands at its own place
+pub number_is : (n j y : ℕ) → slice_get (range_with_len 0 n) j ≡ Some y → (y ≡ j) × (j < n)
+number_is n j y at =
+    let within : j < n = omega (arith, slice_get_within (range_with_len 0 n) j y at, length-range_with_len 0 n) in
+    (omega (arith, get_or_from_slice_get (range_with_len 0 n) j y y at, get_or-range_with_len 0 n j y within), within)
+
+-- a list of one has no other number
+pub only_it : (i j : ℕ) → Contains (i ∷ []) j → i ≡ j
+only_it i j c = elim (Contains-cases i [] j c) [ inl same ↦ same | inr none ↦ absurd (Contains-none j none) ]
+
+pub not_it : (i j : ℕ) → ¬ (j ≡ i) → ¬ Contains (i ∷ []) j
+not_it i j other c = other (sym (only_it i j c))

@@ -32,6 +32,5 @@ module _ (a : Arena) (t : List ℕ) where
 
       pub all_fit : All HasRatio (waiting a t)
       all_fit k d l =
-          let x = get_or (waiting a t) k d in
-          let p = seat_waiting x (Contains-get_or (waiting a t) k d l) in
+          let p = seat_waiting (get_or (waiting a t) k d) (Contains-get_or (waiting a t) k d l) in
           subst HasRatio (sym p.2) (seat_fits p.0 p.1)

@@ -29,8 +29,7 @@ module _ (c : CountingCode) (e : Election) (a : Arena) (most seats n : ℕ) (mea
   still_left : (s tied given t : List ℕ) (rest : ℕ) → MidBatch a.ladders s tied given t → length given + rest ≡ length tied → 0 < rest → sum s + length tied ≤ seats
       → sum t ≡ seats → ⊥
   still_left s tied given t rest mid long some enough all =
-      let total : sum t ≡ sum s + length given = ((walks a.ladders can.arena.falling).within s tied given t mid).total in
-      omega (arith, total, long, some, enough, all)
+      omega (arith, ((walks a.ladders can.arena.falling).within s tied given t mid).total, long, some, enough, all)
 
   end_awarded : (t : List ℕ) (state : State) → HasWaiting a t state → Counts a seats Held t state → EndOfBatches a seats (IsWhole a seats) (IsLast a seats) t state
       → Achieves c e (last_batch n bound tie on) state (AreAwarded a seats meant Held) E

@@ -61,12 +61,11 @@ module _ (c : CountingCode) (e : Election) (a : Arena) (most seats r : ℕ) (beg
   counted w state h =
       let one : State = with_register ones 1 state in
       let batch : (with_register r w one).registers reg.IN_BATCH ≡ state.registers reg.IN_BATCH = register_other one r w reg.IN_BATCH (apart reg.IN_BATCH refl) in
-      let step : (with_register r w one).registers reg.STEP ≡ state.registers reg.STEP = register_other one r w reg.STEP (apart reg.STEP refl) in
       record {
         t = h.t;
         waits = h.waits;
         held = fits.own h.t w one (fits.blind ones refl h.t 1 state h.held);
-        turn = rw (batch, step) h.turn;
+        turn = rw (batch, register_other one r w reg.STEP (apart reg.STEP refl)) h.turn;
       }
 
   -- after a seat of a batch of which n are left, the batch goes on or is over

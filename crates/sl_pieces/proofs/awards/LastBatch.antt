@@ -113,12 +113,11 @@ module _ (c : CountingCode) (e : Election) (a : Arena) (most seats n : ℕ) (mea
 
       next_drawn : (after : State) → HasWaiting a seat.u after → Held seat.u after → KeepsRest on at_drawn after → IsDrawing a seats meant Held s tied w after
       next_drawn after waits held kept =
-          let all : sum s + drawing.k + suc w ≡ seats = drawing.number in
           let same : after.registers reg.STEP ≡ state.registers reg.STEP = kept.registers reg.STEP (free_of (may_write_register on) award_registers fits.keeps reg.STEP refl) ∙ same_step in
           record {
             t = seat.u;
             k = drawing.k + 1;
-            number = omega (arith, all);
+            number = omega arith;
             mid = seat.later;
             waits = waits;
             held = held;
@@ -129,9 +128,8 @@ module _ (c : CountingCode) (e : Election) (a : Arena) (most seats n : ℕ) (mea
       unfolding at_drawn before_seat
       take_drawn =
           let t : List ℕ = drawing.t in
-          let all : sum s + drawing.k + suc w ≡ seats = drawing.number in
-          let few : (i : ℕ) → slice_index t i ≤ most = drawn_few drawing.k t (omega (arith, all)) drawing.mid in
-          let few_then : (i : ℕ) → slice_index seat.u i ≤ most = drawn_few (drawing.k + 1) seat.u (omega (arith, all)) seat.later in
+          let few : (i : ℕ) → slice_index t i ≤ most = drawn_few drawing.k t (omega arith) drawing.mid in
+          let few_then : (i : ℕ) → slice_index seat.u i ≤ most = drawn_few (drawing.k + 1) seat.u (omega arith) seat.later in
           let effects : TableEffects c e a t before_seat = waiting_effects c e most a t before_seat can.arena few drawing.waits in
           let first : Entry = seat_of a seat.turn.entry (slice_index t seat.turn.entry) in
           let one : IsWaiting a t seat.entry seat.gets.taken.others = record { has = seat.gets.has; seats = seat.gets.taken.before } in
@@ -145,8 +143,7 @@ module _ (c : CountingCode) (e : Election) (a : Arena) (most seats n : ℕ) (mea
         (IsDrawing a seats meant Held s tied w) Never
     unfolding before_seat
     draw_turn w state drawing =
-        let all : sum s + drawing.k + suc w ≡ seats = drawing.number in
-        let seat : DrawnSeat e a meant can.name s tied drawing.t drawing.k = drawn_seat drawing.t drawing.k (omega (arith, all)) drawing.mid in
+        let seat : DrawnSeat e a meant can.name s tied drawing.t drawing.k = drawn_seat drawing.t drawing.k (omega arith) drawing.mid in
         if_empty drawing.waits
         (λ none. line_ends (absurd (let some : 0 < length (peers (ranked (waiting a drawing.t))) = seat.turn.some in omega (arith, some, none))))
         (λ many is. take_drawn w state drawing seat (suc many))
@@ -164,11 +161,8 @@ module _ (c : CountingCode) (e : Election) (a : Arena) (most seats n : ℕ) (mea
     (settled : IsSettled a.ladders s) where
   -- no seat is left
   all_given : (state : State) → sum s ≡ seats → Held s state → AreAwarded a seats meant Held state
-  all_given state all held = record {
-    s = s;
-    choice = subst (λ (k : ℕ). IsChoice (IsTop a.ladders k) meant (Decided s)) all (((batches a.ladders can.arena.falling).settled s settled).choice meant);
-    held = held;
-  }
+  all_given state all held = search
+      (subst (λ (k : ℕ). IsChoice (IsTop a.ladders k) meant (Decided s)) all (((batches a.ladders can.arena.falling).settled s settled).choice meant))
 
   module _ (tied : List ℕ) (listed : Lists (IsPeer a.ladders s) tied) (less : sum s < seats) (scarce : seats < sum s + length tied) where
     laws : BatchLaws a.ladders s tied
@@ -187,8 +181,7 @@ module _ (c : CountingCode) (e : Election) (a : Arena) (most seats n : ℕ) (mea
 
     are_drawn : NamesAll meant tied → (state : State) → IsDrawing a seats meant Held s tied 0 state → AreAwarded a seats meant Held state
     are_drawn names state last =
-        let all : sum s + last.k + 0 ≡ seats = last.number in
-        let same : sum s + last.k ≡ seats = omega (arith, all) in
+        let same : sum s + last.k ≡ seats = omega arith in
         record {
           s = last.t;
           choice = subst (λ (k : ℕ). IsChoice (IsTop a.ladders k) meant (Decided last.t)) same
@@ -197,15 +190,11 @@ module _ (c : CountingCode) (e : Election) (a : Arena) (most seats n : ℕ) (mea
         }
 
     draw_first : NamesAll meant tied → (state : State) → HasWaiting a s state → Counts a seats Held s state → IsDrawing a seats meant Held s tied (state.registers reg.LEFT) (stepping state)
-    draw_first names state waits counts = record {
-      t = s;
-      k = 0;
-      number = omega (arith, counts.left);
-      mid = begun;
-      waits = waits;
-      held = (counts_stepping c e a most seats on Held fits s state counts).held;
-      counted = counted_step c e a most seats on Held fits s state settled less can.countable counts;
-    }
+    draw_first names state waits counts = search (
+      arith,
+      (counts_stepping c e a most seats on Held fits s state counts).held,
+      counted_step c e a most seats on Held fits s state settled less can.countable counts,
+    )
 
     draw_all : (bound : Bound) (state : State) → NamesAll meant tied → HasWaiting a s state → Counts a seats Held s state → state.registers reg.LEFT ≤ turns_in e bound
         → Achieves c e (Then (Line count_step) (drawn_seats n bound on)) state (AreAwarded a seats meant Held) E

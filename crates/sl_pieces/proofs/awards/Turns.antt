@@ -81,22 +81,16 @@ module _ (c : CountingCode) (e : Election) (a : Arena) (Held : List ℕ → Stat
   counts_seat u n number state h =
       let one : State = with_register ones 1 state in
       let less : state.registers reg.IN_BATCH - 1 ≡ n = omega (arith, h.left) in
-      ends_in refl (record {
-        waits = h.waits;
-        held = fits.blind reg.IN_BATCH refl u (one.registers reg.IN_BATCH - one.registers ones) one (fits.blind ones refl u 1 state h.held);
-        left = less;
-        step = h.step;
-      })
+      ends_in refl (assumption
+      (fits.blind reg.IN_BATCH refl u (one.registers reg.IN_BATCH - one.registers ones) one (fits.blind ones refl u 1 state h.held)))
 
   -- what is done with a seat leaves the registers of the batch
   keeps_batch : (u : List ℕ) (n number : ℕ) (state after : State) → state.registers reg.IN_BATCH ≡ n → state.registers reg.STEP ≡ number
       → HasWaiting a u after → Held u after → KeepsRest on state after → AfterSeat a Held u n number after
-  keeps_batch u n number state after left step waits held kept = record {
-    waits = waits;
-    held = held;
-    left = kept.registers reg.IN_BATCH (free_of (may_write_register on) (reg.IN_BATCH ∷ reg.STEP ∷ []) fits.keeps reg.IN_BATCH refl) ∙ left;
-    step = kept.registers reg.STEP (free_of (may_write_register on) (reg.IN_BATCH ∷ reg.STEP ∷ []) fits.keeps reg.STEP refl) ∙ step;
-  }
+  keeps_batch u n number state after left step waits held kept = assumption (
+    kept.registers reg.IN_BATCH (free_of (may_write_register on) (reg.IN_BATCH ∷ reg.STEP ∷ []) fits.keeps reg.IN_BATCH refl) ∙ left,
+    kept.registers reg.STEP (free_of (may_write_register on) (reg.IN_BATCH ∷ reg.STEP ∷ []) fits.keeps reg.STEP refl) ∙ step,
+  )
 
   module _ (most : ℕ) (Begun : List ℕ → ℕ → Type 0) (arena : IsArena most a) (gives : GivesSeats c e a most Begun Held on) where
     -- the seat on top of the table is taken and given
@@ -132,19 +126,10 @@ module _ (c : CountingCode) (e : Election) (a : Arena) (Held : List ℕ → Stat
         let raised : RaisesEach (entry ∷ []) t u = raised_once t entry there in
         let goes : MidBatch l s peers (entry ∷ given) u × SeatTaken a entry t u = turn.goes u raised in
         let walk : WalkLaws l = walks l arena.falling in
-        let before : sum t ≡ sum s + length given = (walk.within s peers given t mid).total in
         let after : sum u ≡ sum s + suc (length given) = (walk.within s peers (entry ∷ given) u goes.0).total in
-        let total : sum u ≡ sum t + 1 = omega (arith, before, after) in
+        let total : sum u ≡ sum t + 1 = omega (arith, (walk.within s peers given t mid).total, after) in
         let few_after : (i : ℕ) → slice_index u i ≤ most = holds_at_most most seats u (omega (arith, total, room)) within in
-        let gets : Gets a s peers given t u entry = record {
-          batch = mid;
-          one_of = turn.one_of;
-          left = turn.left;
-          has = turn.has;
-          held = turn.held;
-          raised = raised;
-          taken = goes.1;
-        } in
+        let gets : Gets a s peers given t u entry = assumption in
         if_empty {t = table_of a (waiting a t)} waits
         (λ none. let some = turn.some in absurd (omega (arith, some, none)))
         (λ m is.

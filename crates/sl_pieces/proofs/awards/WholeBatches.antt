@@ -119,8 +119,7 @@ module _ (c : CountingCode) (e : Election) (a : Arena) (most seats : ℕ) (on : 
 
   held_less : (t : List ℕ) (state : State) → Held t state → Held t (lessened state)
   held_less t state h =
-      let s : State = with_register ones 1 state in
-      fits.blind reg.LEFT refl t (state.registers reg.LEFT - 1) s (fits.blind ones refl t 1 state h)
+      fits.blind reg.LEFT refl t (state.registers reg.LEFT - 1) (with_register ones 1 state) (fits.blind ones refl t 1 state h)
 
   module _ (arena : IsArena most a) (gives : GivesSeats c e a most (IsCounted a seats) Held on) (s tied given t u : List ℕ) (entry : ℕ) (state : State)
       (gets : Gets a s tied given t u entry) where
@@ -141,12 +140,7 @@ module _ (c : CountingCode) (e : Election) (a : Arena) (most seats : ℕ) (on : 
         let sums : TurnSums s tied given t u = turn_sums a.ladders arena.falling s tied given t u entry gets.batch gets.one_of gets.left gets.raised in
         let left : after.registers reg.LEFT ≡ state.registers reg.LEFT - 1 = kept.registers reg.LEFT (keeps reg.LEFT refl) ∙ at_seat_registers reg.LEFT in
         let all : after.registers reg.ALL_LEFT ≡ state.registers reg.ALL_LEFT = kept.registers reg.ALL_LEFT (keeps reg.ALL_LEFT refl) ∙ at_seat_registers reg.ALL_LEFT in
-        let enough : sum s + length tied ≤ seats = begun.enough tied gets.batch.listed in
-        record {
-          held = held;
-          left = omega (arith, left, counts.left, enough, sums.before, sums.after, sums.within);
-          all_left = omega (arith, all, counts.all_left);
-        }
+        search arith
 
     seat_counted : ((i : ℕ) → slice_index u i ≤ most) → IsWhole a seats s (state.registers reg.STEP) → HasWaiting a t state → Counts a seats Held t state
         → Achieves c e (counted_seat on) (seat_taken e a entry (slice_index t entry) gets.taken.others state) (λ after. HasWaiting a u after × Counts a seats Held u after) Never
@@ -180,9 +174,6 @@ module _ (c : CountingCode) (e : Election) (a : Arena) (most seats : ℕ) (on : 
   -- what holds does not depend on the registers of a batch,
   pub counts_peers : (t : List ℕ) (n : ℕ) (state : State) → Counts a seats Held t state → Counts a seats Held t (with_register reg.PEERS n state)
   counts_peers t n state h = counts_blind reg.PEERS refl refl refl t n state h
-
-  counts_batch : (t : List ℕ) (n : ℕ) (state : State) → Counts a seats Held t state → Counts a seats Held t (with_register reg.IN_BATCH n state)
-  counts_batch t n state h = counts_blind reg.IN_BATCH refl refl refl t n state h
 
   held_stepping : (t : List ℕ) (state : State) → Held t state → Held t (stepping state)
   held_stepping t state h =
@@ -234,7 +225,7 @@ module _ (c : CountingCode) (e : Election) (a : Arena) (most seats : ℕ) (on : 
         ))
         (λ n is enough.
         let begun : State = with_register reg.IN_BATCH (suc n) (with_register reg.PEERS (suc n) state) in
-        let now : Counts a seats Held t begun = counts_batch t (suc n) (with_register reg.PEERS (suc n) state) (counts_peers t (suc n) state counts) in (
+        let now : Counts a seats Held t begun = counts_blind reg.IN_BATCH refl refl refl t (suc n) (with_register reg.PEERS (suc n) state) (counts_peers t (suc n) state counts) in (
           waits,
           counts_stepping t begun now,
           OneBegan tied listed some (sym is) (record {

@@ -71,7 +71,7 @@ module _ (c : CountingCode) (b : BookTree) (e : Election) (k : Known) (before s 
       }
 
   -- the one of the winners, or that of a stage
-  base_is : (o : Base) → first_failing (base_tests k.types b.last.at o) ≡ None → HasBase c b e k (record b.last { base = o }) s
+  pub base_is : (o : Base) → first_failing (base_tests k.types b.last.at o) ≡ None → HasBase c b e k (record b.last { base = o }) s
   base_is base.Winners pass = record {
     values = list_winners b.eligible e;
     leaf = refl;
@@ -86,6 +86,3 @@ module _ (c : CountingCode) (b : BookTree) (e : Election) (k : Known) (before s 
       let parts = pass_parts (name_tests k.types b.last.at n) (test seats (fault.SeatsShape b.last.at) ∷ []) pass in
       let both = and_parts (same_shape t.shape shape.List) (same_unit t.unit unit.Seats) (head_holds seats None (fault.SeatsShape b.last.at) parts.1).0 in
       stage_base n parts.0 (column_is t (column shape.List unit.Seats) (same_shape_is t.shape shape.List both.0) (same_unit_is t.unit unit.Seats both.1))
-
-  pub has_base : first_failing (base_tests k.types b.last.at b.last.base) ≡ None → HasBase c b e k b.last s
-  has_base pass = base_is b.last.base pass

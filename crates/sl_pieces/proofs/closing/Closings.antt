@@ -11,7 +11,7 @@ use Rattle.sl_pieces.specs.exprs.Slots.{HasBookSlots}
 use Rattle.sl_pieces.proofs.exprs.Following.{AllAchieve, all_more, all_then}
 use Rattle.sl_pieces.specs.closing.Trees.{base_slot, seating_pieces}
 use Rattle.sl_pieces.specs.closing.Closing.{BeginsClosing, EndsInOutcome, ClosingsAchieve}
-use Rattle.sl_pieces.proofs.closing.Bases.{HasBase, has_base}
+use Rattle.sl_pieces.proofs.closing.Bases.{HasBase, base_is}
 use Rattle.sl_pieces.proofs.closing.Seated.{HasSeated}
 use Rattle.sl_pieces.proofs.closing.Kept.{kept_all}
 use Rattle.sl_pieces.proofs.closing.Covered.{covered_all}
@@ -27,6 +27,6 @@ module _ (c : CountingCode) (b : BookTree) (e : Election) (k : Known) (before s 
 
 pub closings_achieve : ClosingsAchieve
 closings_achieve c b e k before s typed is slots stages pass begins =
-    let h : HasBase c b e k b.last s = has_base c b e k before s typed is slots begins.behind pass in
+    let h : HasBase c b e k b.last s = base_is c b e k before s typed is slots begins.behind b.last.base pass in
     (all_then (seated c b e k before s is slots stages begins h b.last.seating refl)
     (λ t g. all_more (vacated c e k.types slots t b.last.vacate) (λ u v. closed c b e k k.types slots s t u g v) (λ x end. end))).all

@@ -41,7 +41,6 @@ use Rattle.sl_pieces.specs.closing.Closing.{BeginsClosing, EndsInOutcome}
 use Rattle.sl_pieces.proofs.closing.Rules.{all_first, goes_on}
 use Rattle.sl_pieces.proofs.closing.Bases.{HasBase}
 use Rattle.sl_pieces.proofs.closing.Seated.{HasSeated, places_are}
-use Rattle.sl_pieces.proofs.columns.Cells.{still_holds}
 
 module _ (c : CountingCode) (b : BookTree) (e : Election) (k : Known) (before s : State) (is : IsElection e) (slots : HasBookSlots c k.types)
     (stages : length c.stages ≡ length b.stages) (begins : BeginsClosing b e k before s) (h : HasBase c b e k b.last s) (covers : b.last.seating ≡ seating.Cover) where
@@ -68,29 +67,17 @@ module _ (c : CountingCode) (b : BookTree) (e : Election) (k : Known) (before s 
     covered_table : filter_map (tie_of eligible e (length c.stages)) (zip (lists_of e) choices) ≡ [] → IsCovered b e h.values k.records table
     covered_table none =
         let no_fault : faults_of choices ≡ [] = subst (λ (n : ℕ). filter_map (tie_of eligible e n) (zip (lists_of e) choices) ≡ []) stages none in
-        record {
-          choices = choices;
-          each = chosen.each;
-          is = sym (ap (λ (fs : List LegalFault). unwrap_or (option_map (λ f. outcome.Fault f) (slice_get fs 0)) table) no_fault);
-        }
+        search (sym (ap (λ (fs : List LegalFault). unwrap_or (option_map (λ f. outcome.Fault f) (slice_get fs 0)) table) no_fault))
 
     -- else it is the first tie
     covered_fault : (fault : LegalFault) → slice_get (filter_map (tie_of eligible e (length c.stages)) (zip (lists_of e) choices)) 0 ≡ Some fault →
         IsCovered b e h.values k.records (outcome.Fault fault)
     covered_fault fault first =
         let some : slice_get (faults_of choices) 0 ≡ Some fault = subst (λ (n : ℕ). slice_get (filter_map (tie_of eligible e n) (zip (lists_of e) choices)) 0 ≡ Some fault) stages first in
-        record {
-          choices = choices;
-          each = chosen.each;
-          is = sym (ap (λ (o : Option LegalFault). unwrap_or (option_map (λ f. outcome.Fault f) o) table) some);
-        }
+        search (sym (ap (λ (o : Option LegalFault). unwrap_or (option_map (λ f. outcome.Fault f) o) table) some))
 
   ends_in_tie : (x : End) → EndsInTie c e eligible h.values x → EndsInOutcome b e k x
-  ends_in_tie x tie = record {
-    fault = tie.fault;
-    means = ends_covered (outcome.Fault tie.fault) (covered_fault tie.choices tie.chosen tie.fault tie.first);
-    is = tie.is;
-  }
+  ends_in_tie x tie = search (ends_covered (outcome.Fault tie.fault) (covered_fault tie.choices tie.chosen tie.fault tie.first))
 
   -- ---- what the plans do: behind the copy, in state t, and the covering, in state u
 
@@ -116,11 +103,10 @@ module _ (c : CountingCode) (b : BookTree) (e : Election) (k : Known) (before s 
   place_of : (seated : List ℕ) (n : ℕ) (w : Win) → slice_get e.wins n ≡ Some w → n < length e.wins →
       get_or (map (cover_place seated) (enumerate_from 0 e.wins)) n placed.Unseated ≡ cover_place seated (n, w)
   place_of seated n w at less =
-      let there : get_or e.wins n w ≡ w = get_or_from_slice_get e.wins n w w at in
       let same : 0 + n ≡ n = omega arith in
       get_or-map (cover_place seated) (enumerate_from 0 e.wins) n (0, w) placed.Unseated (omega (arith, less, length-enumerate_from 0 e.wins))
       ∙ ap (cover_place seated) (get_or-enumerate_from 0 e.wins n (0, w) less)
-      ∙ (λ z. cover_place seated (same z, there z))
+      ∙ (λ z. cover_place seated (same z, get_or_from_slice_get e.wins n w w at z))
 
   covered_seated : (t u : State) → GetsColumn e shape.List final_seats h.values s t → AreCovered c e cover_slots eligible h.values t u → HasSeated b e k s u
   covered_seated t u g a =

@@ -45,7 +45,6 @@ use Rattle.sl_pieces.proofs.closing.Rules.{all_first, goes_on}
 use Rattle.sl_pieces.proofs.closing.Cells.{IsMade, pair_made}
 use Rattle.sl_pieces.proofs.closing.Bases.{HasBase, seats_small}
 use Rattle.sl_pieces.proofs.closing.Seated.{HasSeated, places_are}
-use Rattle.sl_pieces.proofs.columns.Cells.{still_holds}
 
 -- ---- the winners
 
@@ -104,11 +103,8 @@ module _ (c : CountingCode) (b : BookTree) (e : Election) (k : Known) (before s 
 
   -- the book means the table of those who are kept
   kept_end : IsEnd b e k (outcome.Table (keep_table b e h.values k.records))
-  kept_end = record {
-    base = h.values;
-    is_base = h.leaf;
-    seated = subst (λ (x : Seating). IsSeated b e x h.values k.records (outcome.Table (keep_table b e h.values k.records))) (sym keeps) refl;
-  }
+  kept_end = search
+      (subst (λ (x : Seating). IsSeated b e x h.values k.records (outcome.Table (keep_table b e h.values k.records))) (sym keeps) refl)
 
   -- behind the larger column, in state t, and the winners, in state u
   kept_seated : (t u : State) → IsMade e max from winners_slot final_seats s t → ArePlaced b e t u → HasSeated b e k s u
@@ -128,9 +124,8 @@ module _ (c : CountingCode) (b : BookTree) (e : Election) (k : Known) (before s 
         few = λ land party in_lands in_parties.
             let place : ℕ = land * parties_of e + party in
             let within : place < lands_of e * parties_of e = place_within e land party in_parties in_lands in
-            let base_few : slice_index h.values place ≤ MAX_SEATS = h.small place within in
             let won_few : slice_index (list_winners b.eligible e) place ≤ MAX_SEATS = seats_small e (list_winners b.eligible e) (winners_typed b.eligible e is) place within in
-            omega (arith, base_few, won_few);
+            omega (arith, won_few);
         winners = still_holds e shape.List (s.columns winners_slot) (u.columns winners_slot) (list_winners b.eligible e)
             (λ q. p.columns winners_slot q ∙ g.changes.columns winners_slot q (λ same. omega (arith, same))) winners;
         steps = p.steps ∙ g.changes.steps;

@@ -50,15 +50,13 @@ module _ (c : CountingCode) (e : Election) (s : Shape) (from to : ℕ) (result :
   one_added : (i q : ℕ) (t : State) → i < length summands → cell_at e s t ≡ Some q → t.columns from q ≡ slice_index summands i → Summed i t → Achieves c e (add_cell from) t (Summed (i + 1)) Never
   one_added i q t less at read h =
       let x : ℕ = t.columns from q in
-      let so_far : t.registers total ≡ sum (take i summands) = h.total_is in
-      let is : min (t.registers total + x) most ≡ sum (take (i + 1) summands) = omega (arith, so_far, read, next_sum summands i less fits) in
+      let is : min (t.registers total + x) most ≡ sum (take (i + 1) summands) = omega (arith, read, next_sum summands i less fits) in
       line_goes (get_does c e t from s known_from cell q at)
       (ends_in refl (record { total_is = is; written = h.written }))
 
   summed_suits : (over : Cursor) → may_move (add_cell from) over ≡ false → Suits over (add_cell from) Summed
   summed_suits cursor.Party still = record { still = still; moved = λ n o t h. h }
-  summed_suits cursor.Land still = record { still = still; moved = λ n o t h. h }
-  summed_suits cursor.Win still = record { still = still; moved = λ n o t h. h }
+  summed_suits _ still = record { still = still; moved = λ n o t h. h }
 
   -- a loop adds the cells of a Land, or of a party: On says that the other cursor stands there
   row_added : (over : Cursor) (On : State → Type 0) (place : ℕ → ℕ) → length summands ≡ count_of e over → may_move (add_cell from) over ≡ false
@@ -96,14 +94,8 @@ module _ (f : ℕ → ℕ) (n : ℕ) where
   abbrev values : List ℕ
   values = map f (range_with_len 0 n)
 
-  values_long : length values ≡ n
-  values_long = length-map-range_with_len f 0 n
-
   value_at : (i : ℕ) → i < n → slice_index values i ≡ f i
   value_at i less = get_or-map-range_with_len f 0 n i i 0 less (omega arith)
-
-  sum_of_values : sum values ≡ sum_by f (range_with_len 0 n)
-  sum_of_values = fold-map (λ a x. a + x) f 0 (range_with_len 0 n)
 
 -- slots of other shapes are others
 slots_apart : (c : CountingCode) (from to : ℕ) (made : Shape) → slice_get c.slots from ≡ Some shape.List → slice_get c.slots to ≡ Some made → shape.List ≢ made → from ≢ to
@@ -126,11 +118,11 @@ module _ (c : CountingCode) (e : Election) (from to : ℕ) (state : State) (made
       let n : ℕ = cells_of e made in
       let g : ℕ → ℕ = λ l. sum_by (f l) (range_with_len 0 m) in
       let result : ℕ → ℕ = slice_index (map g (range_with_len 0 n)) in
-      let is : sum (values (f k) m) ≡ result k = sum_of_values (f k) m ∙ sym (value_at g n k less) in
+      let is : sum (values (f k) m) ≡ result k = fold-map (λ a x. a + x) (f k) 0 (range_with_len 0 m) ∙ sym (value_at g n k less) in
       let row_fits : result k ≤ most = small k 0 (omega (arith, length-map-range_with_len g 0 n, less)) in
       let fits : sum (values (f k) m) ≤ most = omega (arith, is, row_fits) in
       one_sum c e shape.List from to result state k (values (f k) m) known_from fits (Each inner) made t known_to is
-      (row_added c e shape.List from to result state k (values (f k) m) known_from fits inner (λ u. cell_at e made u ≡ Some k) (place k) (values_long (f k) m) still (turn k) (end k) (kept k)
+      (row_added c e shape.List from to result state k (values (f k) m) known_from fits inner (λ u. cell_at e made u ≡ Some k) (place k) (length-map-range_with_len (f k) 0 m) still (turn k) (end k) (kept k)
       (λ i u low written. written.changes.columns from (place k i) apart ∙ read k i less low ∙ sym (value_at (f k) m i low)))
       at h
 

@@ -46,8 +46,7 @@ module _ (slot : ℕ) (result : ℕ → ℕ) (before : State) where
   -- registers and cursors are no columns
   pub written_suits : (over : Cursor) (body : Tree) → may_move body over ≡ false → Suits over body (Written slot result before)
   written_suits cursor.Party body still = record { still = still; moved = λ n o t h. h }
-  written_suits cursor.Land body still = record { still = still; moved = λ n o t h. h }
-  written_suits cursor.Win body still = record { still = still; moved = λ n o t h. h }
+  written_suits _ body still = record { still = still; moved = λ n o t h. h }
 
   pub one_more_written : (n v : ℕ) (t : State) → v ≡ result n → Written slot result before n t → Written slot result before (n + 1) (with_cell slot n v t)
   one_more_written n v t is h = record {

@@ -18,17 +18,14 @@ chosen winners s = map (λ y. y.0.0) (filter (λ y. nat_eq y.1 1) (zip winners s
 
 swapped : (a b r : Bool) → a || (b || r) ≡ b || (a || r)
 swapped true true r = refl
-swapped true false r = refl
-swapped false true r = refl
-swapped false false r = refl
+swapped _ true r = refl
+swapped _ _ r = refl
 
 pub none_chosen : (winners : List (ℕ × Win)) (s : List ℕ) → ((i : ℕ) → slice_index s i ≡ 0) → chosen winners s ≡ []
 none_chosen [] s none = refl
 none_chosen (y ∷ winners) [] none = refl
 none_chosen (y ∷ winners) (m ∷ s) none =
-    let first : m ≡ 0 = none 0 in
-    let not : nat_eq m 1 ≡ false = ne_eqb m 1 (λ one. omega (arith, one, first)) in
-    rw not (none_chosen winners s (λ i. none (suc i)))
+    rw (ne_eqb m 1 (λ one. omega (arith, one, none 0))) (none_chosen winners s (λ i. none (suc i)))
 
 -- one winner more is chosen
 pub one_chosen : (winners : List (ℕ × Win)) (t u : List ℕ) (i : ℕ) (y : ℕ × Win) → slice_get winners i ≡ Some y → i < length t → length u ≡ length t → slice_index t i ≡ 0 →
@@ -39,9 +36,8 @@ one_chosen (v ∷ winners) (m ∷ t) [] i y at within long none one others n = a
 one_chosen (v ∷ winners) (m ∷ t) (k ∷ u) zero y at within long none one others n =
     let is : v ≡ y = same_Some v y at in
     let now : nat_eq k 1 ≡ true = eq-eqb k 1 one in
-    let before : nat_eq m 1 ≡ false = ne_eqb m 1 (λ same. omega (arith, same, none)) in
     let rest : u ≡ t = ext_get_or 0 u t (omega (arith, long)) (λ j less. others (suc j) (λ same. omega (arith, same))) in
-    rw now (rw before (λ z. nat_eq n (is z).0 || among (chosen winners (rest z)) n))
+    rw now (rw (ne_eqb m 1 (λ same. omega (arith, same, none))) (λ z. nat_eq n (is z).0 || among (chosen winners (rest z)) n))
 one_chosen (v ∷ winners) (m ∷ t) (k ∷ u) (suc i) y at within long none one others n =
     let same : k ≡ m = others 0 (λ z. omega (arith, z)) in
     let rest : among (chosen winners u) n ≡ nat_eq n y.0 || among (chosen winners t) n =
@@ -51,8 +47,7 @@ one_chosen (v ∷ winners) (m ∷ t) (k ∷ u) (suc i) y at within long none one
           let now : nat_eq k 1 ≡ true = ap (λ (h : ℕ). nat_eq h 1) same ∙ seated in
           rw now (rw seated (ap (λ b. nat_eq n v.0 || b) rest ∙ swapped (nat_eq n v.0) (nat_eq n y.0) (among (chosen winners t) n)))
       | inr left ↦
-          let now : nat_eq k 1 ≡ false = ap (λ (h : ℕ). nat_eq h 1) same ∙ left in
-          rw now (rw left rest)
+          rw (ap (λ (h : ℕ). nat_eq h 1) same ∙ left) (rw left rest)
     ]
 
 -- ---- places

@@ -82,10 +82,7 @@ module _ (e : Election) (eligible : ℕ → Bool) (base : List ℕ) where
   before_rises q zero = let same : q ≡ q + 0 = omega arith in let is = ap contested_before same in omega (arith, is)
   before_rises q (suc more) =
       let same : q + more + 1 ≡ q + suc more = omega arith in
-      let is = ap contested_before same in
-      let rest = before_rises q more in
-      let step = (before_step (q + more)).0 in
-      omega (arith, is, rest, step)
+      omega (arith, ap contested_before same, before_rises q more, (before_step (q + more)).0)
 
   pub before_up_to : (q k : ℕ) → q ≤ k → contested_before q ≤ contested_before k
   before_up_to q k low = let same : q + (k - q) ≡ k = omega (arith, low) in let is = ap contested_before same in let rest = before_rises q (k - q) in omega (arith, is, rest)
@@ -94,10 +91,7 @@ module _ (e : Election) (eligible : ℕ → Bool) (base : List ℕ) where
   before_few zero = let none = before_none in omega (arith, none)
   before_few (suc q) =
       let next : q + 1 ≡ suc q = omega arith in
-      let is = ap contested_before next in
-      let rest = before_few q in
-      let step = (before_step q).1 in
-      omega (arith, is, rest, step)
+      omega (arith, ap contested_before next, before_few q, (before_step q).1)
 
   -- ---- numbers
 

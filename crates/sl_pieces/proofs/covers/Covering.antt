@@ -1,5 +1,5 @@
 -- The plan of a covering: list by list the winners come to a choice, up to the first tie.
-use Rattle.std.proofs.Common.{◌≡◌, ◌≢◌, ◌⊎◌, ℕ, zero, suc, ◌+◌, ◌-◌, ◌*◌, ◌<◌, ◌≤◌, Bool, true, false, List, [], ◌∷◌, ◌++◌, Some, slice_get, is_none, nat_eq, refl, sym, ap, subst, append_assoc, ◌∙◌, inl, inr, arith}
+use Rattle.std.proofs.Common.{ne_eqb, ◌≡◌, ◌≢◌, ◌⊎◌, ℕ, zero, suc, ◌+◌, ◌-◌, ◌*◌, ◌<◌, ◌≤◌, Bool, true, false, List, [], ◌∷◌, ◌++◌, Some, slice_get, is_none, nat_eq, refl, sym, ap, subst, append_assoc, ◌∙◌, inl, inr, arith}
 use Rattle.std.specs.Prelude.{if◌then◌else◌}
 use Rattle.std.proofs.Math.Bool.{or_comm}
 use Rattle.std.proofs.lemmas.Bool.{cases_Bool}
@@ -28,7 +28,7 @@ use Rattle.sl_pieces.specs.covers.Covering.{HasCoverSlots, BeginsCovering, AreCo
 use Rattle.sl_pieces.proofs.covers.Pairs.{pair_at, lists_among, all_lists, no_lists, listed_more, unlisted_more, lists_behind}
 use Rattle.sl_pieces.proofs.covers.Singles.{singles_placed}
 use Rattle.sl_pieces.proofs.covers.Contested.{is_contested, contested_before, before_none, before_contested, before_other, before_up_to, before_few, nobody_contested}
-use Rattle.sl_pieces.proofs.covers.Numbers.{winners_counted, contested_numbered, counts_alone, numbers_alone}
+use Rattle.sl_pieces.proofs.covers.Numbers.{winners_counted, contested_numbered}
 use Rattle.sl_pieces.proofs.covers.Uncontested.{uncontested_choice}
 use Rattle.sl_pieces.proofs.covers.Fitting.{fitting_from, fitting_more, fitting_none, uncontested_seated}
 use Rattle.sl_pieces.proofs.covers.Entering.{AreRead}
@@ -195,24 +195,19 @@ module _ (c : CountingCode) (e : Election) (x : CoverSlots) (eligible : ℕ → 
         | inr found ↦
             achieves_so (covers_next found.0 found.1 t found.4 found.2 (with_register reg.NEEDED w (with_register ones 1 t)) refl refl refl refl refl)
             (λ v g.
-            let low = found.1 in
-            let same = found.3 in
             let next = before_contested e eligible base found.0 found.2 in
-            record { done = found.0 + 1; within = omega (arith, low); all = omega (arith, all, same, next); covered = g })
+            record { done = found.0 + 1; within = omega arith; all = omega (arith, all, next); covered = g })
       ]
 
   covers_last : (t : State) → Inv 0 t → AreCovered c e x eligible base before t
   unfolding Reached
   covers_last t h =
-      let all = h.all in
       elim (reached 0 t h) [
         | inl last ↦ whole last.0
         | inr found ↦
             absurd (let low = found.1 in
-            let same = found.3 in
             let next = before_contested e eligible base found.0 found.2 in
-            let rest = before_up_to e eligible base (found.0 + 1) pairs (omega (arith, low)) in
-            omega (arith, all, same, next, rest))
+            omega (arith, next, before_up_to e eligible base (found.0 + 1) pairs (omega (arith, low))))
       ]
     where
       whole : AreCoveredUpTo pairs t → AreCovered c e x eligible base before t
@@ -251,12 +246,12 @@ module _ (c : CountingCode) (e : Election) (x : CoverSlots) (eligible : ℕ → 
       then_achieves (achieves_never (achieves_kept (winners_counted c e x eligible is slots flags_apart t flags)))
       (λ u counts.
       let counted : (slot q : ℕ) → slot ≢ x.numbers → u.columns slot q ≡ before.columns slot q =
-      (λ slot q other. counts.1.columns slot (counts_alone x slot other) q ∙ singles.1.columns slot refl q) in
+      (λ slot q other. counts.1.columns slot (rw (ne_eqb slot x.numbers other) refl) q ∙ singles.1.columns slot refl q) in
       then_achieves
       (achieves_never (achieves_kept (contested_numbered c e x eligible base is slots u counts.0 (λ q less. counted x.base q slots.apart ∙ begins.seats q less))))
       (λ v numbers.
       let kept : (slot q : ℕ) → slot ≢ x.numbers → v.columns slot q ≡ before.columns slot q =
-      (λ slot q other. numbers.1.columns slot (numbers_alone x slot other) q ∙ counted slot q other) in
+      (λ slot q other. numbers.1.columns slot (rw (ne_eqb slot x.numbers other) refl) q ∙ counted slot q other) in
       let read : AreRead e x eligible base v.columns = record {
         numbers = numbers.0.numbers;
         seats = λ q less. kept x.base q slots.apart ∙ begins.seats q less;

@@ -6,9 +6,8 @@ use Rattle.std.proofs.lemmas.List.{append-nil, length-append, map-append}
 use Rattle.std.proofs.lemmas.List.Sorted.{IsPermutation-sym, IsPermutation-to_front}
 use Rattle.sl_ratio.specs.declared.entry.Entry.{Entry}
 use Rattle.sl_stages.specs.declared.book.Shape.TheVariants as shape
-use Rattle.sl_stages.specs.declared.limits.TheConstants.{MAX_WINS}
 use Rattle.sl_stages.specs.declared.returns.Win.{Win}
-use Rattle.sl_stages.specs.returns.Election.{Election, IsElection, lands_of, parties_of, wins_of}
+use Rattle.sl_stages.specs.returns.Election.{Election, IsElection, lands_of, parties_of}
 use Rattle.sl_stages.specs.returns.Facts.{list_cell}
 use Rattle.sl_code.specs.Codes.{CountingCode}
 use Rattle.sl_code.specs.declared.operand.Entries.TheVariants as entries
@@ -96,8 +95,6 @@ module _ (c : CountingCode) (e : Election) (x : CoverSlots) (eligible : ℕ → 
           let three : State = with_register reg.TOTAL (min (v.registers reg.TOTAL + 1) most) (with_register ones 1 one) in
           let four : State = with_register reg.LEFT (v.columns x.base cell) three in
           let few : length (front eligible e l j) ≤ j = h.few in
-          let below : j < wins_of e = slice_get_within e.wins j w at in
-          let winners : wins_of e ≤ MAX_WINS = (let many = is.winners in let same = is.wins in omega (arith, many, same)) in
           let longer : length (front eligible e l j ++ (j, w) ∷ []) ≡ length (front eligible e l j) + 1 = length-append (front eligible e l j) ((j, w) ∷ []) in
           let at_cell = both_are v.land v.party (λ land party. land * parties_of e + party) l.0 l.1 land party in
           line_goes (share_does c e v tab (table ∙ h.table) j win w (winner_is e v j w win at) refl)
@@ -109,7 +106,7 @@ module _ (c : CountingCode) (e : Election) (x : CoverSlots) (eligible : ℕ → 
             read = subst (AreRead e x eligible base) (sym columns) h.read;
             amount = amount ∙ h.amount;
             table = ap (λ ys. Some (record { entries = entries.Win; ranking = ranking.Quotients; contents = ys })) entered_too;
-            total = (let so_far = h.total in omega (arith, total, so_far, few, below, winners, longer));
+            total = (let so_far = h.total in omega (arith, total, so_far, few, slice_get_within e.wins j w at, longer));
             few = omega (arith, few, longer);
             left = λ some. ap (λ (f : ℕ → ℕ → ℕ). f x.base cell) columns ∙ h.read.seats cell (place_within e l.0 l.1 in_party in_land);
           }))))))

@@ -1,13 +1,11 @@
 -- The winners of each list are counted; then the contested pairs of a Land and a party have their numbers, and all others have 0.
-use Rattle.std.proofs.Common.{◌≡◌, ◌≢◌, ℕ, ◌+◌, ◌*◌, ◌<◌, ◌≤◌, Bool, true, false, cond, min, [], ◌∷◌, ◌++◌, length, Some, slice_get, refl, sym, ap, subst, ◌∙◌, inl, inr, arith, ◌-◌, List, ne_eqb}
+use Rattle.std.proofs.Common.{◌≡◌, ◌≢◌, ℕ, ◌+◌, ◌*◌, ◌<◌, ◌≤◌, Bool, true, false, cond, min, [], ◌∷◌, ◌++◌, length, Some, slice_get, refl, sym, ap, subst, ◌∙◌, inl, inr, arith, ◌-◌, List}
 use Rattle.std.proofs.lemmas.Bool.{cases_eq}
 use Rattle.std.proofs.lemmas.Option.{slice_get_within}
 use Rattle.std.proofs.lemmas.List.{append-nil, length-append}
 use Rattle.std.specs.Prelude.{slice_index}
 use Rattle.std.proofs.Math.Nat.{mul-le-mul_left}
-use Rattle.sl_ratio.specs.declared.limits.TheConstants.{MAX_LANDS}
 use Rattle.sl_stages.specs.declared.book.Shape.TheVariants as shape
-use Rattle.sl_stages.specs.declared.limits.TheConstants.{MAX_WINS}
 use Rattle.sl_stages.specs.declared.returns.Win.{Win}
 use Rattle.sl_stages.specs.returns.Election.{Election, IsElection, lands_of, parties_of, wins_of}
 use Rattle.sl_code.specs.Codes.{CountingCode}
@@ -21,7 +19,6 @@ use Rattle.sl_plans.specs.Achieves.{Achieves, Never}
 use Rattle.sl_plans.proofs.Rules.{line_ends, line_goes, then_achieves, if_zero, ends_in, line_first, line_over}
 use Rattle.sl_plans.proofs.KeepingRules.{wins_keeping, each_keeping}
 use Rattle.sl_plans.specs.declared.plan.Cursor.TheVariants as cursor
-use Rattle.sl_plans.specs.Frames.{may_write_slot}
 use Rattle.sl_pieces.specs.declared.registers.TheConstants as reg
 use Rattle.sl_pieces.specs.covers.Trees.{CoverSlots, if_seatable, count_winner, count_winners, take_number, number_list, number_contested}
 use Rattle.sl_pieces.specs.covers.Covering.{HasCoverSlots}
@@ -69,9 +66,7 @@ module _ (c : CountingCode) (e : Election) (x : CoverSlots) (eligible : ℕ → 
             let now : more ≡ length (front eligible e (pair_at e place) (j + 1)) =
             (let below : j < wins_of e = slice_get_within e.wins j w at in
             let few = front_few eligible e (pair_at e place) j in
-            let winners : wins_of e ≤ MAX_WINS = (let many = is.winners in let same = is.wins in omega (arith, many, same)) in
-            let next = one_more (pair_at e place) (says_here eligible e j w p seatable) in
-            omega (arith, old, below, few, winners, next)) in
+            omega (arith, old, below, few, one_more (pair_at e place) (says_here eligible e j w p seatable))) in
             line_goes (get_does c e u x.numbers shape.List slots.numbers reg.WEIGHT place cell)
             (line_goes refl (line_goes refl
             (line_goes (store_does c e counted x.numbers shape.List slots.numbers reg.WEIGHT place cell)
@@ -110,8 +105,7 @@ module _ (c : CountingCode) (e : Election) (x : CoverSlots) (eligible : ℕ → 
 -- pairs can be counted in a register
 pub pairs_countable : (e : Election) → IsElection e → lands_of e * parties_of e ≤ most
 pairs_countable e is =
-    let few : parties_of e * lands_of e ≤ parties_of e * MAX_LANDS = mul-le-mul_left (parties_of e) is.lands in
-    omega (arith, few, is.parties)
+    omega (arith, mul-le-mul_left (parties_of e) is.lands, is.parties)
 
 -- the first n pairs have their numbers, the others still the number of their winners; and so many are contested
 abbrev pub AreNumbered : Election → CoverSlots → (ℕ → Bool) → List ℕ → ℕ → State → Type 0
@@ -168,13 +162,7 @@ module _ (c : CountingCode) (e : Election) (x : CoverSlots) (eligible : ℕ → 
     seats = h.seats n within
 
     other_number : is_contested e eligible base n ≡ false → HasNumber e eligible base l p n t begun
-    other_number not = record {
-      columns = refl;
-      land = land;
-      party = refl;
-      number = sym (number_other_is e eligible base n not);
-      count = h.count ∙ sym (before_other e eligible base n not);
-    }
+    other_number not = assumption (sym (number_other_is e eligible base n not), h.count ∙ sym (before_other e eligible base n not))
 
     -- a list without winners has the number 0 already
     keeps_number : t.columns x.numbers n ≡ 0 → InLand l (p + 1) counted
@@ -208,13 +196,8 @@ module _ (c : CountingCode) (e : Election) (x : CoverSlots) (eligible : ℕ → 
         let contested = contested_by e eligible base n (omega (arith, some, seats)) (omega (arith, more, many, seats)) in
         let next : min (t.registers reg.NEEDED + 1) most ≡ contested_before e eligible base n + 1 =
         (let few = before_few e eligible base n in let all = pairs_countable e is in let so_far = h.count in omega (arith, few, all, so_far, within)) in
-        ends_in refl (record {
-          columns = refl;
-          land = land;
-          party = refl;
-          number = next ∙ sym (number_contested_is e eligible base n contested);
-          count = next ∙ sym (before_contested e eligible base n contested);
-        }))))
+        ends_in refl (assumption
+        (next ∙ sym (number_contested_is e eligible base n contested), next ∙ sym (before_contested e eligible base n contested))))))
         (λ u g.
         let value : ℕ = u.registers reg.SECOND_PASSING in
         let stored : State = with_cell x.numbers n value u in
@@ -257,10 +240,3 @@ module _ (c : CountingCode) (e : Election) (x : CoverSlots) (eligible : ℕ → 
         count = sym (before_none e eligible base) ∙ (let none : 0 ≡ 0 * parties_of e = omega arith in ap (contested_before e eligible base) none);
       }))
       (λ t h. each_keeping (λ l. Numbered (l * parties_of e)) refl h (λ l u hl inv. numbers_land l u hl inv) (λ u inv. inv))
-
--- the slot of the numbers is all that is written
-pub counts_alone : (x : CoverSlots) (slot : ℕ) → slot ≢ x.numbers → may_write_slot (count_winners x) slot ≡ false
-counts_alone x slot other = rw (ne_eqb slot x.numbers other) refl
-
-pub numbers_alone : (x : CoverSlots) (slot : ℕ) → slot ≢ x.numbers → may_write_slot (number_contested x) slot ≡ false
-numbers_alone x slot other = rw (ne_eqb slot x.numbers other) refl

@@ -61,12 +61,11 @@ module _ (c : CountingCode) (e : Election) (x : CoverSlots) (eligible : ℕ → 
       let nobody : earlier ++ seated_on eligible e (l, Decided a.ladders.base) ≡ earlier =
       ap (λ ks. earlier ++ ks) (none_chosen (won eligible e l) a.ladders.base (nothing_held (won eligible e l))) ∙ append-nil earlier in
       let first : AreSeated eligible e l earlier a.ladders.base t = (λ n w at. before n w at ∙ (λ z. cover_place (sym nobody z) (n, w))) in
-      let none = no_seats_yet eligible e base l is in
       achieves_so
       (awards_achieve c e a (seats + 1) seats LAST_CLAUSE (meant eligible e l) bound.Wins tied_winners (Line (Seat ∷ []))
       (AreSeated eligible e l earlier) (EndsInListTie c eligible e base l) t
       (can_award eligible e base l is c few) (seats_are_given eligible e base l is earlier c) (ties_end eligible e base l is c earlier) (seats_fit eligible e base l is earlier) waits first
-      (omega (arith, left, none)) (omega (arith, left, few)))
+      (omega (arith, left, no_seats_yet eligible e base l is)) (omega (arith, left, few)))
       (λ u h. record { s = h.s; choice = ((tops eligible e base l is).choice seats (meant eligible e l) (Decided h.s)).0 h.choice; placed = h.held })
 
   -- from the table with all winners on
@@ -92,9 +91,7 @@ module _ (c : CountingCode) (e : Election) (x : CoverSlots) (eligible : ℕ → 
       let begun : State = with_table (record { entries = entries.Win; ranking = ranking.Quotients; contents = [] }) counted_one in
       let counted : more ≡ contested_before e eligible base place + 1 =
       (let within = place_within e l.0 l.1 in_party in_land in
-      let few = pairs_countable e is in
-      let below = before_few e eligible base place in
-      omega (arith, amount, within, few, below)) in
+      omega (arith, amount, within, pairs_countable e is, before_few e eligible base place)) in
       let after : Achieves c e (Then (Each cursor.Win (see_winner x)) (Then seats_to_give (awards LAST_CLAUSE bound.Wins tied_winners (Line (Seat ∷ []))))) begun
       (IsListSeated eligible e base l earlier) (EndsInListTie c eligible e base l) =
       then_achieves

@@ -15,15 +15,13 @@ use Rattle.sl_stages.specs.returns.Facts.{lists_of}
 module _ {X Y : Type 0} (R : X → Y → Type 0) where
   pub all_zip_both : (xs us : List X) (ys vs : List Y) → AllZip R xs ys → AllZip R us vs → AllZip R (xs ++ us) (ys ++ vs)
   all_zip_both [] us [] vs first second = second
-  all_zip_both [] us (y ∷ ys) vs first second = absurd first
-  all_zip_both (x ∷ xs) us [] vs first second = absurd first
   all_zip_both (x ∷ xs) us (y ∷ ys) vs first second = (first.0, all_zip_both xs us ys vs first.1 second)
+  all_zip_both _ us _ vs first second = absurd first
 
   pub zip_both : (xs us : List X) (ys vs : List Y) → AllZip R xs ys → zip (xs ++ us) (ys ++ vs) ≡ zip xs ys ++ zip us vs
   zip_both [] us [] vs first = refl
-  zip_both [] us (y ∷ ys) vs first = absurd first
-  zip_both (x ∷ xs) us [] vs first = absurd first
   zip_both (x ∷ xs) us (y ∷ ys) vs first = ap (λ zs. (x, y) ∷ zs) (zip_both xs us ys vs first.1)
+  zip_both _ us _ vs first = absurd first
 
 range_both : (a m n : ℕ) → range_with_len a (m + n) ≡ range_with_len a m ++ range_with_len (a + m) n
 range_both a zero n =

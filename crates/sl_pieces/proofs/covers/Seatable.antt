@@ -47,9 +47,8 @@ module _ (eligible : ℕ → Bool) (e : Election) (j : ℕ) (w : Win) where
   says_elsewhere at p seatable q other =
       false_from_ne_true (of_list eligible e (pair_at e q) (j, w)) (λ says.
       let winner = is_winner eligible e (pair_at e q) (j, w) at says in
-      let land : w.land ≡ (pair_at e q).0 = winner.land in
       let party : p ≡ (pair_at e q).1 = same_Some p (pair_at e q).1 (sym seatable.party ∙ winner.party) in
-      other (sym (div-add-mod' q (parties_of e)) ∙ (λ z. sym land z * parties_of e + sym party z)))
+      other (sym (div-add-mod' q (parties_of e)) ∙ (λ z. sym winner.land z * parties_of e + sym party z)))
 
 -- all else than cursors and the register of the flag is as it was
 pub record OnlyLooked (t u : State) : Type 0 where

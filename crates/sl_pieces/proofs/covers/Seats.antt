@@ -5,7 +5,6 @@ use Rattle.std.specs.List.Sorted.{IsStrictlyIncreasing}
 use Rattle.std.proofs.lemmas.List.{length-map}
 use Rattle.std.proofs.lemmas.List.Elements.{All-map}
 use Rattle.sl_stages.specs.declared.fault.Item.TheVariants as item
-use Rattle.sl_stages.specs.declared.limits.TheConstants.{MAX_WINS}
 use Rattle.sl_stages.specs.declared.returns.Win.{Win}
 use Rattle.sl_stages.specs.declared.table.Placed.TheVariants as placed
 use Rattle.sl_stages.specs.returns.Election.{Election, IsElection, wins_of, has_list}
@@ -91,11 +90,10 @@ module _ (eligible : ℕ → Bool) (e : Election) (base : List ℕ) (l : ℕ × 
   pub can_award : (c : CountingCode) → length (won eligible e l) ≤ wins_of e → CanAward c e a (seats + 1) seats LAST_CLAUSE (meant eligible e l)
   can_award c few =
       let long : length (map {B = ℕ} (λ x. x.1.first) (won eligible e l)) ≡ length (won eligible e l) = length-map (won eligible e l) (λ x. x.1.first) in
-      let winners : wins_of e ≤ MAX_WINS = (let many = is.winners in let same = is.wins in omega (arith, many, same)) in
       record {
         arena = is_arena;
         few = omega arith;
-        countable = omega (arith, few, winners);
+        countable = omega (arith, few);
         enough = (let none = no_seats_yet in omega (arith, none));
         room = tops.room seats (omega (arith, long));
         name = codes "seats";
@@ -116,8 +114,7 @@ module _ (eligible : ℕ → Bool) (e : Election) (base : List ℕ) (l : ℕ × 
       -- the winner of that number gets the seat
       seated_next : (before : State) → Seated t before → Seated u (with_place y.0 placed.OnList before)
       seated_next before h =
-          let long : length t ≡ length a.ladders.base = gets.batch.raised.same_length ∙ gets.batch.settled.on.same_length in
-          let within : i < length t = (let short = is_arena.falling.within i (slice_index t i) gets.has in omega (arith, short, long)) in
+          let within : i < length t = (let short = is_arena.falling.within i (slice_index t i) gets.has in omega (arith, short)) in
           let others : (j : ℕ) → j ≢ i → slice_index u j ≡ slice_index t j =
           (λ j other. gets.raised.others j (λ c. elim (Contains-cases i [] j c) [ inl same ↦ other (sym same) | inr nothing ↦ Contains-none j nothing ])) in
           λ n w there.

@@ -23,7 +23,7 @@ use Rattle.sl_pieces.specs.covers.Covering.{HasCoverSlots}
 use Rattle.sl_pieces.proofs.covers.Pairs.{pair_is}
 use Rattle.sl_pieces.proofs.covers.Winners.{of_list, of_list_by, IsWinnerOf, is_winner, each_winner, says_winner, won, front_none, front_all}
 use Rattle.sl_pieces.proofs.covers.Seatable.{is_win}
-use Rattle.sl_pieces.proofs.covers.Contested.{many_at, is_contested, contested_parts, number_of, number_alone}
+use Rattle.sl_pieces.proofs.covers.Contested.{is_contested, contested_parts, number_of, number_alone}
 use Rattle.sl_pieces.proofs.covers.Entering.{AreRead, AreEntered, Entered, table_with, not_entered, enters}
 use Rattle.sl_pieces.proofs.facts.Holding.{place_within}
 
@@ -46,8 +46,7 @@ module _ (c : CountingCode) (e : Election) (x : CoverSlots) (eligible : ℕ → 
         | inr past ↦
             absurd (let none = past.0 in
             let fewer = (contested_parts e eligible base place contested).1 in
-            let many : many_at e eligible place ≡ length (won eligible e l) = ap (λ pair. length (won eligible e pair)) (pair_is e l.0 l.1 in_party) in
-            omega (arith, none, fewer, many))
+            omega (arith, none, fewer, ap (λ pair. length (won eligible e pair)) (pair_is e l.0 l.1 in_party)))
       ]
 
   module _ (j : ℕ) (w : Win) (at : slice_get e.wins j ≡ Some w) (t : State) (h : Seen j t) where

@@ -62,10 +62,8 @@ module _ (eligible : ℕ → Bool) (e : Election) (base : List ℕ) (l : ℕ × 
       below : (held : ℕ) → slice_index s i ≡ held → slice_index s i ≤ to_give eligible e base l + 1
       below zero same = omega (arith, same)
       below (suc held) same =
-          let none = nothing_held (won eligible e l) i in
-          let has = settled.on.there i (omega (arith, none, same)) in
-          let last = (next_winner (won eligible e l) i (slice_index s i - 1) has).2 in
-          omega (arith, same, last)
+          let has = settled.on.there i (omega (arith, nothing_held (won eligible e l) i, same)) in
+          omega (arith, same, (next_winner (won eligible e l) i (slice_index s i - 1) has).2)
 
   -- the items of the peers are those of the winners
   items_are : (s js : List ℕ) → ((j : ℕ) → Contains js j → IsPeer (listed eligible e l).ladders s j) →
@@ -74,10 +72,9 @@ module _ (eligible : ℕ → Bool) (e : Election) (base : List ℕ) (l : ℕ × 
   items_are s (j ∷ js) each =
       let found = next_winner (won eligible e l) j (slice_index s j) (each j (Contains-head j js)).next in
       let rest = items_are s js (λ k there. each k (Contains-tail j js k there)) in
-      let number : slice_index (listed eligible e l).places j ≡ found.0.0 = mapped_at (λ x. x.0) (won eligible e l) j found.0 found.1 in
       let there : slice_get (winner_items eligible e l.0 l.1) j ≡ Some (item.Win found.0.0) =
       slice_get-map (λ x. item.Win x.0) (won eligible e l) j ∙ ap (option_map (λ x. item.Win x.0)) found.1 in
-      rw there ((λ z. item.Win (number z) ∷ rest z))
+      rw there ((λ z. item.Win (mapped_at (λ x. x.0) (won eligible e l) j found.0 found.1 z) ∷ rest z))
 
   module _ (c : CountingCode) (s tied : List ℕ) (settled : IsSettled (listed eligible e l).ladders s) (lists : Lists (IsPeer (listed eligible e l).ladders s) tied)
       (choice : IsChoice (IsTop (listed eligible e l).ladders (to_give eligible e base l)) (meant eligible e l) (Tied (to_give eligible e base l - sum s) tied)) where
@@ -125,9 +122,8 @@ module _ (eligible : ℕ → Bool) (e : Election) (base : List ℕ) (l : ℕ × 
 
       raised : RaisesEach (i ∷ []) s (raise s (i ∷ []))
       raised =
-          let same = settled.on.same_length in
           let short = (is_arena eligible e base l is).falling.within i (slice_index s i) peer.next in
-          raised_once s i (omega (arith, same, short))
+          raised_once s i (omega (arith, short))
 
       taken : SeatTaken a i s (raise s (i ∷ []))
       taken = waiting_taken (seats + 1) a i s (raise s (i ∷ [])) (is_arena eligible e base l is) peer.next raised

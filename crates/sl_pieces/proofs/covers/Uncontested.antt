@@ -24,9 +24,7 @@ alone_chosen X lot same (Decided s) is = (s, refl, is.4)
 alone_chosen X lot same (Tied k tied) is =
     absurd (is.1 (λ i there.
     let apart : IsTied X i = is.0.entries.has_only i there in
-    let less = apart.2.2 in
-    let equal = same apart.0 apart.2.0 apart.1 apart.2.1 i in
-    absurd (omega (arith, less, equal))))
+    absurd (omega (arith, same apart.0 apart.2.0 apart.1 apart.2.1 i))))
 
 all_chosen : (winners : List (ℕ × Win)) (s : List ℕ) → length s ≡ length winners → ((i : ℕ) → i < length winners → slice_index s i ≡ 1) → chosen winners s ≡ map (λ y. y.0) winners
 all_chosen [] s long ones = refl

@@ -47,13 +47,7 @@ module _ (eligible : ℕ → Bool) (e : Election) (l : ℕ × ℕ) where
           let both = and_parts (nat_eq y.1.land l.0) (nat_eq p l.1) parts.1 in
           let land : y.1.land ≡ l.0 = eqb-true y.1.land l.0 both.0 in
           let party : p ≡ l.1 = eqb-true p l.1 both.1 in
-          record {
-            there = there;
-            party = is ∙ ap Some party;
-            land = land;
-            is_eligible = ap eligible (sym party) ∙ lists.0;
-            listed = (λ z. has_list e (sym land z) (sym party z)) ∙ lists.1;
-          }
+          assumption (is ∙ ap Some party, ap eligible (sym party) ∙ lists.0, (λ z. has_list e (sym land z) (sym party z)) ∙ lists.1)
 
   pub says_winner : (n : ℕ) (w : Win) (p : ℕ) → w.party ≡ Some p → p ≡ l.1 → w.land ≡ l.0 → eligible p ≡ true → has_list e w.land p ≡ true → of_list (n, w) ≡ true
   says_winner n w p is party land may listed =
@@ -90,16 +84,14 @@ module _ (eligible : ℕ → Bool) (e : Election) (l : ℕ × ℕ) where
   pub front_all : front (wins_of e) ≡ won
   unfolding front
   front_all =
-      let long : length (enumerate_from 0 e.wins) ≡ length e.wins = length-enumerate_from 0 e.wins in
-      ap (filter of_list) (take_all (wins_of e) (enumerate_from 0 e.wins) (omega (arith, long)))
+      ap (filter of_list) (take_all (wins_of e) (enumerate_from 0 e.wins) (omega (arith, length-enumerate_from 0 e.wins)))
 
   pub front_more : (j : ℕ) (w : Win) → slice_get e.wins j ≡ Some w → front (j + 1) ≡ front j ++ cond (of_list (j, w)) ((j, w) ∷ []) []
   unfolding front
   front_more j w at =
       let within : j < length e.wins = slice_get_within e.wins j w at in
       let here : 0 + j ≡ j = omega arith in
-      let long : length (enumerate_from 0 e.wins) ≡ length e.wins = length-enumerate_from 0 e.wins in
-      let step = filter_more of_list (enumerate_from 0 e.wins) j (j, w) (omega (arith, within, long)) in
+      let step = filter_more of_list (enumerate_from 0 e.wins) j (j, w) (omega (arith, within, length-enumerate_from 0 e.wins)) in
       let winner = get_or-enumerate_from 0 e.wins j (j, w) within in
       let same = get_or_from_slice_get e.wins j w w at in
       step ∙ (λ z. front j ++ cond (of_list (winner z)) (winner z ∷ []) []) ∙ (λ z. front j ++ cond (of_list (here z, same z)) ((here z, same z) ∷ []) [])
@@ -109,9 +101,7 @@ module _ (eligible : ℕ → Bool) (e : Election) (l : ℕ × ℕ) where
   unfolding front
   front_few j =
       let some = count_by-le-length of_list (take j (enumerate_from 0 e.wins)) in
-      let same = length-filter of_list (take j (enumerate_from 0 e.wins)) in
-      let long = length-take j (enumerate_from 0 e.wins) in
-      omega (arith, some, same, long)
+      omega (arith, some, length-filter of_list (take j (enumerate_from 0 e.wins)), length-take j (enumerate_from 0 e.wins))
 
 -- ---- the seats that wait
 
@@ -131,8 +121,7 @@ module _ (winners : List (ℕ × Win)) where
   seat_is i held y at =
       let first = mapped_at (λ x. x.1.first) winners i y at in
       let valid = mapped_at (λ x. x.1.valid) winners i y at in
-      let number = mapped_at (λ x. x.0) winners i y at in
-      λ z. record { ratio = record { num = first z; den = valid z }; index = number z }
+      λ z. record { ratio = record { num = first z; den = valid z }; index = mapped_at (λ x. x.0) winners i y at z }
 
   -- nobody has a seat at first
   pub nothing_held : (i : ℕ) → slice_index arena.ladders.base i ≡ 0

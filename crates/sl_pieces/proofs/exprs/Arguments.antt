@@ -17,7 +17,6 @@ use Rattle.sl_pieces.proofs.exprs.Following.{AllAchieve, all_more, all_then, all
 use Rattle.sl_pieces.proofs.exprs.Places.{first_of, first_same, first_next, level_below, outside, wider}
 use Rattle.sl_pieces.proofs.nodes.Added.{adds_none, adds_more}
 use Rattle.sl_pieces.specs.exprs.Meaning.{ComesTo}
-use Rattle.sl_pieces.proofs.columns.Cells.{still_holds}
 
 -- ---- columns that come, and those that stay
 
@@ -33,11 +32,8 @@ module _ {e : Election} {IsResult : ExprResult → Type 0} {shape : Shape} {slot
 
   pub argument_kept : {Other : ExprResult → Type 0} {other : Shape} {to first : ℕ} {s t : State} {values : List ℕ} → slot < first
       → HasArgument e IsResult shape slot s values → ComesTo e Other other to first s t → HasArgument e IsResult shape slot t values
-  argument_kept {s = s} {t = t} {values = values} below h later = record {
-    records = h.records;
-    result = h.result;
-    column = still_holds e shape (s.columns slot) (t.columns slot) values (λ q. later.columns slot q (inl below)) h.column;
-  }
+  argument_kept {s = s} {t = t} {values = values} below h later = search
+      (still_holds e shape (s.columns slot) (t.columns slot) values (λ q. later.columns slot q (inl below)) h.column)
 
 -- ---- one behind the other
 

@@ -30,7 +30,7 @@ use Rattle.sl_pieces.specs.exprs.Slots.{fact_slots, passing, stage_slot, LEVELS}
 use Rattle.sl_pieces.specs.exprs.Pieces.{pieces}
 use Rattle.sl_pieces.specs.exprs.Meaning.{HoldsKnown, StandsIn, ExprsAchieve, ComesTo}
 use Rattle.sl_pieces.proofs.exprs.Following.{AllAchieve}
-use Rattle.sl_pieces.proofs.exprs.Places.{first_of, fact_low, facts_below, first_same}
+use Rattle.sl_pieces.proofs.exprs.Places.{first_of, fact_low}
 use Rattle.sl_pieces.proofs.exprs.Arguments.{then_all, two_arguments, three_arguments}
 use Rattle.sl_pieces.proofs.exprs.Leaves.{known_kept, leaf_all, HasNamed, has_named}
 use Rattle.sl_pieces.proofs.exprs.Sums.{typed_weights, typed_numbers, sum_all, pair_all}
@@ -96,10 +96,8 @@ module _ (code : CountingCode) (b : BookTree) (e : Election) (c : Context) (type
       → Goes x level s
   goes (fact at told) level s pass within holds =
       let low = low_level (fact at told) level within in
-      let facts = facts_below level in
-      let before = fact_low told in
       leaf_all level low (fact_type told).shape (fact_slots.of told) (fact_column b e told) s (stands.slots.facts.facts told) (stands.slots.passing_are level (fact_type told).shape low)
-      (inl (omega (arith, facts, before))) (holds.facts told) (fact_column b e told, refl, refl)
+      (inl (omega (arith, fact_low told))) (holds.facts told) (fact_column b e told, refl, refl)
   goes (name at n) level s pass within holds =
       let low = low_level (name at n) level within in
       let h : HasNamed code e n c.types c.columns s = has_named code b e n c.types c.columns s stands.slots known (head_holds _ _ _ pass).0 holds in
@@ -108,7 +106,7 @@ module _ (code : CountingCode) (b : BookTree) (e : Election) (c : Context) (type
   goes (sum at x over) level s pass within holds =
       let low = low_level (sum at x over) level within in
       let parts = pass_parts (expr_tests c.types x) _ pass in
-      then_all e (ExprMeans b e c x) (λ xs r. r ≡ plain (sum_over e over xs)) (first_same level) (first_same level)
+      then_all e (ExprMeans b e c x) (λ xs r. r ≡ plain (sum_over e over xs)) (omega arith) (omega arith)
       (goes x level s parts.0 (one_level level (depth_of x) (splits_in x) within) holds)
       (λ t h. sum_all level (λ k. stands.slots.passing_are level k low) low (shape_in c x) over h.values t (head_holds _ _ _ parts.1).0 h.column
       (sum_small at x over h.values h.records pass h.result))

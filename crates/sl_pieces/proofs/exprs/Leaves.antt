@@ -1,5 +1,5 @@
 -- Leaves: the facts and the columns of the stages before are copied.
-use Rattle.std.proofs.Common.{◌≡◌, ◌⊎◌, ℕ, suc, ◌+◌, ◌<◌, ◌≤◌, ◌||◌, Bool, true, cond, not, List, [], ◌∷◌, length, Option, None, Some, slice_get, refl, sym, ap, subst, ◌∙◌, inl, inr, arith}
+use Rattle.std.proofs.Common.{one-add, ◌≡◌, ◌⊎◌, ℕ, suc, ◌+◌, ◌<◌, ◌≤◌, ◌||◌, Bool, true, cond, not, List, [], ◌∷◌, length, Option, None, Some, slice_get, sym, ap, subst, ◌∙◌, inl, inr, arith}
 use Rattle.std.specs.Prelude.{find, position, unwrap_or, option_map}
 use Rattle.std.specs.List.{AllZip, list_any, position_or_len, prefix_len}
 use Rattle.std.specs.Str.{bytes_eq}
@@ -21,7 +21,7 @@ use Rattle.sl_pieces.specs.nodes.Nodes.{EndsWith}
 use Rattle.sl_pieces.specs.exprs.Slots.{fact_slots, passing, stage_slot, HasBookSlots, FIRST_PASSING_SLOT, FIRST_STAGE_SLOT}
 use Rattle.sl_pieces.specs.exprs.Meaning.{HoldsKnown, ComesTo}
 use Rattle.sl_pieces.proofs.exprs.Following.{AllAchieve}
-use Rattle.sl_pieces.proofs.exprs.Places.{first_of, fact_low, facts_below, first_before, stages_above, outside}
+use Rattle.sl_pieces.proofs.exprs.Places.{first_of, fact_low, stages_above, outside}
 use Rattle.sl_pieces.proofs.exprs.Arguments.{plain_all}
 use Rattle.sl_pieces.proofs.columns.Cells.{still_holds}
 
@@ -43,7 +43,7 @@ module _ {b : BookTree} {e : Election} {types : List Column} {columns : List Nam
   known_kept level {s = s} {t = t} came h = known_when_kept s t (λ k q apart. came.columns k q (below level k apart)) h
     where
       below : (level k : ℕ) → (k < FIRST_PASSING_SLOT) ⊎ (FIRST_STAGE_SLOT ≤ k) → (k < first_of level) ⊎ (FIRST_STAGE_SLOT ≤ k)
-      below level k (inl low) = let facts = facts_below level in inl (omega (arith, low, facts))
+      below level k (inl low) = inl (omega (arith, low))
       below level k (inr high) = inr high
 
 -- ---- copies
@@ -53,8 +53,8 @@ module _ {c : CountingCode} {e : Election} {IsResult : ExprResult → Type 0} (l
       → (from < first_of level) ⊎ (FIRST_STAGE_SLOT ≤ from) → HoldsColumn e s (state.columns from) values → IsResult (plain values)
       → AllAchieve c e (copy_tree s from (passing level s) ∷ []) state (ComesTo e IsResult s (passing level s) (first_of level) state) (EndsWith IsResult)
   leaf_all s from values state known_from known_to apart holds result =
-      plain_all (first_before level s) (stages_above level s low) result
-      (columns_are_copied c e s from (passing level s) values state known_from known_to (outside from (first_of level) (passing level s) apart (first_before level s) (stages_above level s low)) holds)
+      plain_all (omega arith) (stages_above level s low) result
+      (columns_are_copied c e s from (passing level s) values state known_from known_to (outside from (first_of level) (passing level s) apart (omega arith) (stages_above level s low)) holds)
 
 -- ---- names
 
@@ -70,9 +70,6 @@ pub record IsPlaced (n : List ℕ) (types : List Column) (columns : List NamedCo
   pub found_type : find (is_named n) types ≡ Some type
   pub found : find (is_column_of n) columns ≡ Some column
 
-next : (k : ℕ) → 1 + k ≡ suc k
-next k = omega arith
-
 pub named_place : (e : Election) (n : List ℕ) (types : List Column) (columns : List NamedColumn) → AllZip (IsTypedAs e) types columns → list_any (is_named n) types ≡ true
     → IsPlaced n types columns
 named_place e n [] [] all some = absurd (false≢true some)
@@ -81,24 +78,19 @@ named_place e n (t ∷ types) [] all some = absurd all
 named_place e n (t ∷ types) (d ∷ columns) all some =
     let same : bytes_eq n d.name ≡ bytes_eq n t.name = ap (bytes_eq n) (sym all.0.name) in
     elim (cases_Bool (bytes_eq n t.name)) [
-      | inl this ↦ record {
-        place = 0;
-        type = t;
-        column = d;
-        first = ap (λ (b : Bool). cond (not b) (1 + prefix_len (λ (x : Column). not (is_named n x)) types) 0) this;
-        within = omega arith;
-        typed = refl;
-        valued = refl;
-        found_type = cond-true (bytes_eq n t.name) (Some t) (find (is_named n) types) this;
-        found = cond-true (bytes_eq n d.name) (Some d) (find (is_column_of n) columns) (same ∙ this);
-      }
+      | inl this ↦ search (
+        arith,
+        ap (λ (b : Bool). cond (not b) (1 + prefix_len (λ (x : Column). not (is_named n x)) types) 0) this,
+        cond-true (bytes_eq n t.name) (Some t) (find (is_named n) types) this,
+        cond-true (bytes_eq n d.name) (Some d) (find (is_column_of n) columns) (same ∙ this),
+      )
       | inr other ↦
           let rest : IsPlaced n types columns = named_place e n types columns all.1 (ap (λ (b : Bool). b || list_any (is_named n) types) (sym other) ∙ some) in
           record {
             place = suc rest.place;
             type = rest.type;
             column = rest.column;
-            first = ap (λ (b : Bool). cond (not b) (1 + prefix_len (λ (x : Column). not (is_named n x)) types) 0) other ∙ ap (λ (k : ℕ). 1 + k) rest.first ∙ next rest.place;
+            first = ap (λ (b : Bool). cond (not b) (1 + prefix_len (λ (x : Column). not (is_named n x)) types) 0) other ∙ ap (λ (k : ℕ). 1 + k) rest.first ∙ one-add rest.place;
             within = let less = rest.within in omega (arith, less);
             typed = rest.typed;
             valued = rest.valued;

@@ -1,5 +1,5 @@
 -- Splits and growths, whose arguments are in passing columns.
-use Rattle.std.proofs.Common.{◌≡◌, ℕ, ◌+◌, ◌<◌, ◌≤◌, Bool, true, false, ◌==◌, if◌then◌else◌, List, [], ◌∷◌, All, length, Option, None, Some, slice_get, sym, ap, ◌∙◌, arith}
+use Rattle.std.proofs.Common.{◌≡◌, ℕ, get_or, ◌+◌, ◌<◌, ◌≤◌, Bool, true, false, ◌==◌, if◌then◌else◌, List, [], ◌∷◌, All, length, Option, None, Some, slice_get, sym, ap, ◌∙◌, arith}
 use Rattle.std.specs.Prelude.{option_map}
 use Rattle.std.proofs.lemmas.Bool.{false≢true, ne_eqb}
 use Rattle.std.proofs.lemmas.Option.{same_Some}
@@ -25,16 +25,17 @@ use Rattle.sl_plans.specs.Trees.{Tree}
 use Rattle.sl_plans.specs.Achieves.{Achieves}
 use Rattle.sl_plans.proofs.Rules.{achieves_so}
 use Rattle.sl_pieces.specs.columns.Columns.{HoldsColumn}
-use Rattle.sl_pieces.specs.scopes.Forms.{Form, AllParties, AllLands, AllLists, ListsOfParty, ListsInLand, amounts_of, votes_of}
+use Rattle.sl_pieces.specs.scopes.Forms.{Form, AllParties, AllLands, AllLists, ListsOfParty, ListsInLand, amounts_of, votes_of, groups_of}
 use Rattle.sl_pieces.specs.seats.Slots.{Slots, HasSlots}
 use Rattle.sl_pieces.specs.nodes.Scopes as node
 use Rattle.sl_pieces.specs.nodes.Nodes.{HasResult, EndsWith}
 use Rattle.sl_pieces.specs.nodes.Trees.{split_tree, grow_tree}
+use Rattle.sl_pieces.proofs.nodes.Arguments.{cells_within}
 use Rattle.sl_pieces.proofs.nodes.Nodes.{splits_achieve, growths_achieve}
 use Rattle.sl_pieces.specs.exprs.Slots.{passing, FIRST_STAGE_SLOT}
 use Rattle.sl_pieces.specs.exprs.Pieces.{form_by, node_slots}
 use Rattle.sl_pieces.proofs.exprs.Following.{AllAchieve, all_one}
-use Rattle.sl_pieces.proofs.exprs.Places.{first_of, first_before, stages_above, other_level, outside, amounts_apart}
+use Rattle.sl_pieces.proofs.exprs.Places.{first_of, stages_above, other_level, outside, amounts_apart}
 use Rattle.sl_pieces.specs.exprs.Meaning.{ComesTo}
 
 -- ---- the columns of arguments and of results
@@ -103,7 +104,7 @@ module _ (c : CountingCode) (types : List Column) (stage : ℕ) (name : List ℕ
       amounts_are = h.0;
       votes_are = h.1;
       minima_are = h.2;
-      weights = weights;
+      weights = λ k g within. cells_within MAX_WEIGHT e (get_or (groups_of e f) k g).entries votes weights;
     }
 
     node_all : (f : Form) (slot : Option ℕ) (tree : Tree) (IsResult : ExprResult → Type 0)
@@ -111,7 +112,7 @@ module _ (c : CountingCode) (types : List Column) (stage : ℕ) (name : List ℕ
         → AllAchieve c e (tree ∷ []) u (ComesTo e IsResult (votes_of f) (passing level (votes_of f)) (first_of level) u) (EndsWith IsResult)
     node_all f slot tree IsResult h =
         all_one (achieves_so h
-        (λ t k. comes_node e f (node_slots types stage level (amounts_of f) (votes_of f) slot) IsResult (first_of level) u t (first_before level (votes_of f))
+        (λ t k. comes_node e f (node_slots types stage level (amounts_of f) (votes_of f) slot) IsResult (first_of level) u t (omega arith)
         (stages_above level (votes_of f) (omega (arith, low))) k))
 
     abbrev at_votes : Shape → Stand

@@ -21,12 +21,6 @@ pub fact_low : (told : Fact) → fact_slots.of told < FIRST_PASSING_SLOT
 fact_low facts.House = omega arith
 fact_low told = omega arith
 
-pub facts_below : (level : ℕ) → FIRST_PASSING_SLOT ≤ first_of level
-facts_below level = omega arith
-
-pub first_before : (level : ℕ) (s : Shape) → first_of level ≤ passing level s
-first_before level s = omega arith
-
 pub first_same : (level : ℕ) → first_of level ≤ first_of level
 first_same level = omega arith
 

@@ -31,9 +31,8 @@ all_then c e Q E ys (x ∷ xs) s h = achieves_so h (all_then c e Q E ys xs)
 module _ {X : Type 0} where
   pub last_there : (xs : List X) (x : X) (n : ℕ) → n ≡ length xs → slice_get (xs ++ x ∷ []) n ≡ Some x
   last_there [] x zero is = refl
-  last_there [] x (suc n) is = absurd (omega (arith, is))
-  last_there (y ∷ xs) x zero is = absurd (omega (arith, is))
   last_there (y ∷ xs) x (suc n) is = last_there xs x n (omega (arith, is))
+  last_there _ x _ is = absurd (omega (arith, is))
 
 -- ---- columns
 

@@ -189,8 +189,7 @@ module _ (code : CountingCode) (b : BookTree) (e : Election) (typed : is_typed b
       AchievesAll code e (stages_pieces k.types (length k.columns) ss) start (HasColumns b e k ss before) (EndsStopped b e k ss)
   stages_follow exprs before k [] start pass within slots staged behind = record { known = k; means = refl; behind = behind }
   stages_follow exprs before k (s ∷ ss) start pass within slots staged behind =
-      let once = head_holds _ _ _ pass in
-      let single = head_holds _ _ _ once.1 in
+      let single = head_holds _ _ _ (head_holds _ _ _ pass).1 in
       let parts = pass_parts (expr_tests k.types s.expr) _ single.1 in
       let few : splits_in s.expr ≤ 1 = leb-true (splits_in s.expr) 1 single.0 in
       let kept = and_parts (is_within_stage s) (list_all is_within_stage ss) within in

@@ -28,7 +28,7 @@ use Rattle.sl_pieces.proofs.columns.Sums.{sums_are_taken}
 use Rattle.sl_pieces.specs.nodes.Nodes.{EndsWith}
 use Rattle.sl_pieces.specs.exprs.Slots.{passing}
 use Rattle.sl_pieces.proofs.exprs.Following.{AllAchieve}
-use Rattle.sl_pieces.proofs.exprs.Places.{first_of, first_before, stages_above, other_level}
+use Rattle.sl_pieces.proofs.exprs.Places.{first_of, stages_above, other_level}
 use Rattle.sl_pieces.proofs.exprs.Arguments.{plain_all}
 use Rattle.sl_pieces.specs.exprs.Meaning.{ComesTo}
 
@@ -36,7 +36,6 @@ use Rattle.sl_pieces.specs.exprs.Meaning.{ComesTo}
 
 unit_few : (s : Shape) (u : Units) → most_of (column s u) ≤ MAX_WEIGHT
 unit_few shape.One unit.Seats = omega arith
-unit_few shape.One _ = omega arith
 unit_few _ unit.Seats = omega arith
 unit_few _ _ = omega arith
 
@@ -69,12 +68,12 @@ module _ {c : CountingCode} {e : Election} (level : ℕ) (there : (s : Shape) �
       let Is : ExprResult → Type 0 = λ r. r ≡ plain (sum_over e over xs) in
       subst (λ made. AllAchieve c e (sum_tree over s (passing level s) (passing level (summed over)) ∷ []) state (ComesTo e Is made (passing level made) (first_of level) state) (EndsWith Is))
       (summed_is over)
-      (plain_all (first_before level (summed over)) (stages_above level (summed over) low) refl
+      (plain_all (omega arith) (stages_above level (summed over) low) refl
       (sums_are_taken c e over s (passing level s) (passing level (summed over)) xs state (fits_axis s over can) (there s) (there (summed over)) holds small))
 
   module _ (next : slice_get c.slots (passing (level + 1) s) ≡ Some s) (xs ys : List ℕ) (state : State) (left : HoldsColumn e s (state.columns (passing level s)) xs)
       (right : HoldsColumn e s (state.columns (passing (level + 1) s)) ys) where
     pub pair_all : (pairing : Pairing) → AllAchieve c e (pair_tree pairing s (passing level s) (passing (level + 1) s) (passing level s) ∷ []) state
         (ComesTo e (λ r. r ≡ plain (pair_of pairing xs ys)) s (passing level s) (first_of level) state) (EndsWith (λ r. r ≡ plain (pair_of pairing xs ys)))
-    pair_all pairing = plain_all (first_before level s) (stages_above level s low) refl
+    pair_all pairing = plain_all (omega arith) (stages_above level s low) refl
         (pairs_are_taken c e pairing s (passing level s) (passing (level + 1) s) (passing level s) xs ys state (there s) next (there s) (other_level level (level + 1) s s (omega arith)) left right)

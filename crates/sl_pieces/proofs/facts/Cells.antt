@@ -97,5 +97,4 @@ module _ (c : CountingCode) (e : Election) where
 
     pub stays_out : test ≡ false → Achieves c e nothing s (LetIn x p s test) Never
     stays_out fails =
-        let value : (if test then 1 else s.columns x.eligible p) ≡ s.columns x.eligible p = ap (λ b. if b then 1 else s.columns x.eligible p) fails in
-        line_ends (record { here = sym value; others = λ q other. refl })
+        line_ends (record { here = sym (ap (λ b. if b then 1 else s.columns x.eligible p) fails); others = λ q other. refl })

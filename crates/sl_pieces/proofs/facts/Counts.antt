@@ -21,8 +21,7 @@ pub range_within : (f : ℕ → ℕ) (m n : ℕ) → ((i : ℕ) → f i ≤ m) �
 range_within f m zero each = omega arith
 range_within f m (suc n) each =
     let same : suc n ≡ n + 1 = omega arith in
-    let more : (n + 1) * m ≡ n * m + m = omega arith in
-    subst (λ k. sum_by f (range_with_len 0 k) ≤ k * m) (sym same) (omega (arith, more, range_more f n, range_within f m n each, each n))
+    subst (λ k. sum_by f (range_with_len 0 k) ≤ k * m) (sym same) (omega (arith, range_more f n, range_within f m n each, each n))
 
 sum_zeros : (ys : List ℕ) → sum_by (λ y. 0) ys ≡ 0
 sum_zeros [] = refl

@@ -13,7 +13,7 @@ use Rattle.sl_code.specs.declared.instr.Instr.TheVariants.{Get}
 use Rattle.sl_code.specs.declared.operand.Input.TheVariants as input
 use Rattle.sl_code.specs.Codes.{CountingCode}
 use Rattle.sl_machine.specs.State.{State, with_register, with_column}
-use Rattle.sl_machine.specs.Effects.{one_if, input_of, winner_at, with_party, with_win}
+use Rattle.sl_machine.specs.Effects.{one_if, input_of, with_party, with_win}
 use Rattle.sl_machine.proofs.effects.Registers.{get_does, zero_does, input_does}
 use Rattle.sl_machine.proofs.effects.Cursors.{winner_is}
 use Rattle.sl_plans.specs.declared.plan.Cursor.TheVariants as cursor
@@ -84,8 +84,7 @@ module _ (c : CountingCode) (e : Election) (x : FactSlots) (slots : HasFactSlots
         winners_counted c e is x.numbers is_of (If test.NoParty nothing (Line (count_one x.numbers))) t refl (λ k other. rw (ne_eqb k x.numbers other) refl) zeros
         (λ j w u there kept small.
         let u0 : State = with_win (Some j) u in
-        let winner : winner_at e u0 ≡ Some w = winner_is e u0 j w refl there in
-        if_no_party {w = w} winner
+        if_no_party {w = w} (winner_is e u0 j w refl there)
         (λ none. counts_nowhere c e x.numbers (λ q. is_of q w) u (with_party None u0) refl (λ q. party_is w None q none))
         (λ p of.
         counts_at c e x.numbers (λ q. is_of q w) u (with_party (Some p) u0) refl shape.Party p slots.numbers refl (small p) (party_is w (Some p) p of ∙ eq-eqb p p refl)

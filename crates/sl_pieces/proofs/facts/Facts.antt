@@ -122,14 +122,13 @@ module _ (c : CountingCode) (e : Election) (x : FactSlots) (slots : HasFactSlots
     party_cleared p t less inv =
         let u : State = with_party (Some p) t in
         let flag : t.columns x.eligible p ≡ one_if (is_eligible conditions e p) = inv.flags p less in
-        let flagged : State = with_register number (t.columns x.eligible p) u in
         let known : (b : Bool) → is_eligible conditions e p ≡ b → (l : ℕ) → (if b then old_votes l p else 0) ≡ new_votes l p = λ b is l. ap (λ b. if b then old_votes l p else 0) (sym is) in
         line_first (get_does c e u x.eligible shape.Party slots.eligible number p refl) (line_over
         (if_zero
         (λ zero.
         let not : is_eligible conditions e p ≡ false = flag_down (is_eligible conditions e p) (sym flag ∙ zero) in
         line_first refl (line_over
-        (achieves_more (lands_cleared p (with_register cell 0 flagged) less refl refl)
+        (achieves_more (lands_cleared p (with_register cell 0 (with_register number (t.columns x.eligible p) u)) less refl refl)
         (λ v h. record {
           done = λ l q in_lands low below. elim (cases_eq q p) [
             | inl same ↦ ap (votes_at v l) same ∙ h.here l in_lands ∙ known false not l ∙ ap (new_votes l) (sym same)

@@ -29,9 +29,8 @@ pub record Rest (x : FactSlots) (body : Tree) (s t : State) : Type 0 where
 
 either : (a b : Bool) → (if b then 1 else one_if a) ≡ one_if (a || b)
 either true true = refl
-either true false = refl
-either false true = refl
-either false false = refl
+either _ true = refl
+either _ _ = refl
 
 module _ (c : CountingCode) (e : Election) (x : FactSlots) (so test : ℕ → Bool) (body : Tree) (s : State) where
   abbrev InTurn : ℕ → State → Type 0

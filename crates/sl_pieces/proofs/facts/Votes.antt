@@ -78,10 +78,8 @@ module _ (c : CountingCode) (e : Election) (x : FactSlots) (slots : HasFactSlots
       let place : ℕ = l * parties_of e + p in
       let v : ℕ = s.columns x.votes place in
       let u : State = with_register cell v s in
-      let read : v ≡ votes_in e l p = held l p in_lands less in
-      let got : u.registers cell ≡ v = register_same s cell v in
       let kept : u.registers r ≡ s.registers r = register_other s cell v r other in
-      let sum : min (u.registers r + u.registers cell) most ≡ min (a + votes_in e l p) most = omega (arith, read, got, kept, total) in
+      let sum : min (u.registers r + u.registers cell) most ≡ min (a + votes_in e l p) most = omega (arith, kept, total) in
       line_goes (get_does c e s x.votes shape.List slots.votes cell place (both_are s.land s.party (λ l p. l * parties_of e + p) l p land party))
       (line_goes refl (line_ends (register_same u r (min (u.registers r + u.registers cell) most) ∙ sum)))
 
@@ -141,20 +139,16 @@ module _ (c : CountingCode) (e : Election) (x : FactSlots) (slots : HasFactSlots
     party_judged : (p : ℕ) (s : State) → s.party ≡ Some p → s.registers all_votes ≡ all_valid_votes e * share.value → s.registers own_votes ≡ min (valid_votes e p) most
         → Achieves c e (Then own_times (If (test.Less own_votes all_votes) nothing (let_in x))) s (LetIn x p s (has_share p)) Never
     party_judged p s on all own =
-        let s1 : State = with_register number per s in
-        let product : ℕ = min (s.registers own_votes * per) most in
-        let s2 : State = with_register own_votes product s1 in
+        let s2 : State = with_register own_votes (min (s.registers own_votes * per) most) (with_register number per s) in
         let summed : s.registers own_votes ≡ valid_votes e p = omega (arith, own, own_small e is p) in
         let least : ℕ = share.value * all_valid_votes e in
         let has : ℕ = per * valid_votes e p in
         let within : has ≤ MAX_PER * (MAX_LANDS * MAX_VOTES) = mul-le per (valid_votes e p) MAX_PER (MAX_LANDS * MAX_VOTES) few.1 (own_small e is p) in
         let times : s.registers own_votes * per ≡ has = ap (λ n. n * per) summed ∙ mul_comm (valid_votes e p) per in
-        let mine : product ≡ has = omega (arith, times, within) in
-        let theirs : s.registers all_votes ≡ least = all ∙ mul_comm (all_valid_votes e) share.value in
         line_first refl (line_first refl (line_over
         (if_less
-        (λ less. stays_out c e x slots.eligible p s2 on (has_share p) (lt-leb least has (omega (arith, less, mine, theirs))))
-        (λ other. lets_in c e x slots.eligible p s2 on (has_share p) (le-leb least has (omega (arith, other, mine, theirs)))))))
+        (λ less. stays_out c e x slots.eligible p s2 on (has_share p) (lt-leb least has (omega (arith, less))))
+        (λ other. lets_in c e x slots.eligible p s2 on (has_share p) (le-leb least has (omega (arith, other)))))))
 
     abbrev one_party : Tree
     one_party = Then (Line (Set own_votes 0 ∷ [])) (Then (Each cursor.Land (Line (add_votes own_votes))) (Then own_times (If (test.Less own_votes all_votes) nothing (let_in x))))
@@ -162,9 +156,8 @@ module _ (c : CountingCode) (e : Election) (x : FactSlots) (slots : HasFactSlots
     party_counted : (p : ℕ) (s : State) → p < parties_of e → HoldsVotes s → s.party ≡ Some p → s.registers all_votes ≡ all_valid_votes e * share.value
         → Achieves c e one_party s (LetIn x p s (has_share p)) Never
     party_counted p s less held on all =
-        let s0 : State = with_register own_votes 0 s in
         line_first refl (line_over
-        (then_achieves (achieves_kept (own_summed p s0 less held on refl)) (λ u h.
+        (then_achieves (achieves_kept (own_summed p (with_register own_votes 0 s) less held on refl)) (λ u h.
         achieves_so (party_judged p u (h.1.party refl ∙ on) (h.1.registers all_votes refl ∙ all) h.0)
         (λ z put.
         let same : (q : ℕ) → u.columns x.eligible q ≡ s.columns x.eligible q = λ q. h.1.columns x.eligible refl q in
@@ -174,18 +167,15 @@ module _ (c : CountingCode) (e : Election) (x : FactSlots) (slots : HasFactSlots
         → Achieves c e (condition_tree x (condition.Valid share per)) s (Flagged e x (λ p. so p || has_share p)) Never
     valid_met so s apart flagged =
         let cells : ℕ → ℕ = input_of e input.Valid in
-        let s1 : State = with_column x.votes cells s in
-        let s2 : State = with_register all_votes 0 s1 in
+        let s2 : State = with_register all_votes 0 (with_column x.votes cells s) in
         let held : HoldsVotes s2 = λ l p in_lands less. cell_written s x.votes cells (l * parties_of e + p) ∙ list_told e l p less valid_in in_lands in
         let still : Flagged e x so s2 = λ p less. cell_not_written s x.votes cells x.eligible p (λ same. apart (sym same)) ∙ flagged p less in
         line_first (input_does c e s x.votes shape.List slots.votes input.Valid) (line_first refl (line_over
         (then_achieves (achieves_kept (all_summed s2 held refl)) (λ u h.
-        let u1 : State = with_register number share.value u in
         let product : ℕ = min (u.registers all_votes * share.value) most in
-        let u2 : State = with_register all_votes product u1 in
-        let times : u.registers all_votes * share.value ≡ all_valid_votes e * share.value = ap (λ n. n * share.value) h.0 in
+        let u2 : State = with_register all_votes product (with_register number share.value u) in
         let within : all_valid_votes e * share.value ≤ MAX_WEIGHT * MAX_PER = mul-le (all_valid_votes e) share.value MAX_WEIGHT MAX_PER (all_small e is) few.0 in
-        let all : product ≡ all_valid_votes e * share.value = omega (arith, times, within) in
+        let all : product ≡ all_valid_votes e * share.value = omega (arith, ap (λ n. n * share.value) h.0, within) in
         line_first refl (line_first refl (line_over
         (parties_let_in c e x so has_share one_party u2 refl (λ k other. rw (ne_eqb k x.eligible other) refl)
         (λ p less. h.1.columns x.eligible refl p ∙ still p less)

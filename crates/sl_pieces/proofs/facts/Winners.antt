@@ -90,9 +90,8 @@ module _ (conditions : List Cond) (e : Election) where
       listed_there : counts_in_list (w.land * parties_of e + p) w ≡ true
       listed_there =
           let land : (w.land * parties_of e + p) / parties_of e ≡ w.land = land_again e w.land p less in
-          let party : (w.land * parties_of e + p) % parties_of e ≡ p = party_again e w.land p less in
           ap (λ l. takes_part conditions e l ((w.land * parties_of e + p) % parties_of e) && (is_in l w && is_of ((w.land * parties_of e + p) % parties_of e) w)) land
-          ∙ ap (λ n. takes_part conditions e w.land n && (is_in w.land w && is_of n w)) party
+          ∙ ap (λ n. takes_part conditions e w.land n && (is_in w.land w && is_of n w)) (party_again e w.land p less)
           ∙ and_from (takes_part conditions e w.land p) (is_in w.land w && is_of p w) part (in_land w (is_of p w) (party_is w (Some p) p of ∙ eq-eqb p p refl))
 
       listed_nowhere_else : (q : ℕ) → q ≢ w.land * parties_of e + p → counts_in_list q w ≡ false
@@ -160,9 +159,8 @@ module _ (c : CountingCode) (e : Election) (x : FactSlots) (slots : HasFactSlots
       → Achieves c e body (with_win (Some j) t) (CountsWhere slot (λ q. test q w) t) Never)
       → Achieves c e (Then (Line (Zero slot ∷ [])) (Each cursor.Win body)) s (λ t. (q : ℕ) → t.columns slot q ≡ count_by (test q) e.wins) Never
   counted_winners slot at test body s known free only turn =
-      let s0 : State = with_column slot (λ q. 0) s in
       line_first (zero_does c e s slot at known) (line_over
-      (winners_counted c e is slot test body s0 free only (λ q. cell_written s slot (λ q. 0) q)
+      (winners_counted c e is slot test body (with_column slot (λ q. 0) s) free only (λ q. cell_written s slot (λ q. 0) q)
       (λ j w u there kept small. turn j w u there (λ k q other. kept k q other ∙ cell_not_written s slot (λ q. 0) k q other) small)))
 
   module _ (s : State) where

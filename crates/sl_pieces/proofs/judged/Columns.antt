@@ -42,7 +42,6 @@ copy_as _ from to = record { fine = refl; same = refl }
 
 pair_as : (pairing : Pairing) (s : Shape) (left right to : ℕ) → IsFineAs s s left right to (pair_tree pairing s 0 1 2) (pair_tree pairing s left right to)
 pair_as pairings.Larger shape.One left right to = record { fine = refl; same = refl }
-pair_as pairings.Larger _ left right to = record { fine = refl; same = refl }
 pair_as _ shape.One left right to = record { fine = refl; same = refl }
 pair_as _ _ left right to = record { fine = refl; same = refl }
 

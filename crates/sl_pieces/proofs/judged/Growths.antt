@@ -50,13 +50,9 @@ module _ (x : Slots) where
   -- each form and each majority clause is a case of its own: first one of them, then the others
   growth_as : (slot cap : ℕ) (f : Form) (d : Divisor) (m : Majority) → IsFineGrowth slot cap f d m
   growth_as slot zero AllParties d majority.Free = record { fine = refl; ranged = refl; same = refl; modest = refl }
-  growth_as slot zero AllParties d _ = record { fine = refl; ranged = refl; same = refl; modest = refl }
-  growth_as slot zero _ d majority.Free = record { fine = refl; ranged = refl; same = refl; modest = refl }
-  growth_as slot zero _ d _ = record { fine = refl; ranged = refl; same = refl; modest = refl }
-  growth_as slot (suc n) AllParties d majority.Free = record { fine = refl; ranged = refl; same = refl; modest = refl }
-  growth_as slot (suc n) AllParties d _ = record { fine = refl; ranged = refl; same = refl; modest = refl }
-  growth_as slot (suc n) _ d majority.Free = record { fine = refl; ranged = refl; same = refl; modest = refl }
-  growth_as slot (suc n) _ d _ = record { fine = refl; ranged = refl; same = refl; modest = refl }
+  growth_as slot _ AllParties d majority.Free = record { fine = refl; ranged = refl; same = refl; modest = refl }
+  growth_as slot _ _ d majority.Free = record { fine = refl; ranged = refl; same = refl; modest = refl }
+  growth_as slot _ _ d _ = record { fine = refl; ranged = refl; same = refl; modest = refl }
 
   -- with the slots' own minima
   with_own : (slot cap : ℕ) (f : Form) (d : Divisor) (m : Majority) → x.minima ≡ Some slot

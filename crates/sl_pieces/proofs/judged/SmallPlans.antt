@@ -49,13 +49,11 @@ copy_judged _ from to = record { modest = refl; ranged = refl }
 
 pub pair_judged : (pairing : Pairing) (s : Shape) (left right to : ℕ) → IsColumnPlan (pair_tree pairing s left right to)
 pair_judged pairings.Larger shape.One left right to = record { modest = refl; ranged = refl }
-pair_judged pairings.Larger _ left right to = record { modest = refl; ranged = refl }
 pair_judged _ shape.One left right to = record { modest = refl; ranged = refl }
 pair_judged _ _ left right to = record { modest = refl; ranged = refl }
 
 pub sum_judged : (over : Axis) (s : Shape) (from to : ℕ) → IsColumnPlan (sum_tree over s from to)
 sum_judged axis.All shape.One from to = record { modest = refl; ranged = refl }
-sum_judged axis.All _ from to = record { modest = refl; ranged = refl }
 sum_judged _ s from to = record { modest = refl; ranged = refl }
 
 -- ---- facts, and the last clause

@@ -1,6 +1,5 @@
 -- What the verifier finds in the plan of a split, which numbers it sets registers to, and what it costs.
-use Rattle.std.proofs.Common.{◌≡◌, ℕ, true, Option, None, Some, refl}
-use Rattle.sl_ratio.specs.declared.method.Divisor.{Divisor}
+use Rattle.std.proofs.Common.{◌≡◌, ℕ, true, Option, None, refl}
 use Rattle.sl_ratio.specs.declared.method.Divisor.TheVariants as divisor
 use Rattle.sl_ratio.specs.declared.method.Method.{Method}
 use Rattle.sl_ratio.specs.declared.method.Method.TheVariants as by
@@ -21,41 +20,15 @@ module _ (x : Slots) where
   abbrev IsFineSplit : Option ℕ → Form → Method → Majority → Type 0
   IsFineSplit minima f method m = IsFineAs f (names_of x minima (λ n. n)) (split_tree f (roles minima) method m) (split_tree f (record x { minima = minima }) method m)
 
-  -- each form and each majority clause is a case of its own: first one of them, then the others
-  by_hamilton : (f : Form) (m : Majority) → IsFineSplit None f by.Hamilton m
-  by_hamilton AllParties majority.Free = record { fine = refl; ranged = refl; same = refl; modest = refl }
-  by_hamilton AllParties _ = record { fine = refl; ranged = refl; same = refl; modest = refl }
-  by_hamilton _ majority.Free = record { fine = refl; ranged = refl; same = refl; modest = refl }
-  by_hamilton _ _ = record { fine = refl; ranged = refl; same = refl; modest = refl }
-
-  by_hamilton_from : (slot : ℕ) (f : Form) (m : Majority) → IsFineSplit (Some slot) f by.Hamilton m
-  by_hamilton_from slot AllParties majority.Free = record { fine = refl; ranged = refl; same = refl; modest = refl }
-  by_hamilton_from slot AllParties _ = record { fine = refl; ranged = refl; same = refl; modest = refl }
-  by_hamilton_from slot _ majority.Free = record { fine = refl; ranged = refl; same = refl; modest = refl }
-  by_hamilton_from slot _ _ = record { fine = refl; ranged = refl; same = refl; modest = refl }
-
-  by_divisor_from : (slot : ℕ) (d : Divisor) (f : Form) (m : Majority) → IsFineSplit (Some slot) f (by.Divisor d) m
-  by_divisor_from slot d AllParties majority.Free = record { fine = refl; ranged = refl; same = refl; modest = refl }
-  by_divisor_from slot d AllParties _ = record { fine = refl; ranged = refl; same = refl; modest = refl }
-  by_divisor_from slot d _ majority.Free = record { fine = refl; ranged = refl; same = refl; modest = refl }
-  by_divisor_from slot d _ _ = record { fine = refl; ranged = refl; same = refl; modest = refl }
-
-  -- without minima weights are told, by some divisors
-  by_divisor : (d : Divisor) (f : Form) (m : Majority) → IsFineSplit None f (by.Divisor d) m
-  by_divisor divisor.Adams AllParties majority.Free = record { fine = refl; ranged = refl; same = refl; modest = refl }
-  by_divisor divisor.Adams AllParties _ = record { fine = refl; ranged = refl; same = refl; modest = refl }
-  by_divisor divisor.Adams _ majority.Free = record { fine = refl; ranged = refl; same = refl; modest = refl }
-  by_divisor divisor.Adams _ _ = record { fine = refl; ranged = refl; same = refl; modest = refl }
-  by_divisor _ AllParties majority.Free = record { fine = refl; ranged = refl; same = refl; modest = refl }
-  by_divisor _ AllParties _ = record { fine = refl; ranged = refl; same = refl; modest = refl }
-  by_divisor _ _ majority.Free = record { fine = refl; ranged = refl; same = refl; modest = refl }
-  by_divisor _ _ _ = record { fine = refl; ranged = refl; same = refl; modest = refl }
-
+  -- each form and each majority clause is a case of its own, and each divisor where there are no minima: without minima weights are told, by some divisors
   split_as : (minima : Option ℕ) (f : Form) (method : Method) (m : Majority) → IsFineSplit minima f method m
-  split_as None f (by.Divisor d) m = by_divisor d f m
-  split_as None f by.Hamilton m = by_hamilton f m
-  split_as (Some slot) f (by.Divisor d) m = by_divisor_from slot d f m
-  split_as (Some slot) f by.Hamilton m = by_hamilton_from slot f m
+  split_as None AllParties (by.Divisor divisor.Adams) majority.Free = record { fine = refl; ranged = refl; same = refl; modest = refl }
+  split_as _ AllParties (by.Divisor d) majority.Free = record { fine = refl; ranged = refl; same = refl; modest = refl }
+  split_as _ AllParties _ majority.Free = record { fine = refl; ranged = refl; same = refl; modest = refl }
+  split_as None _ (by.Divisor divisor.Adams) majority.Free = record { fine = refl; ranged = refl; same = refl; modest = refl }
+  split_as _ _ (by.Divisor d) majority.Free = record { fine = refl; ranged = refl; same = refl; modest = refl }
+  split_as _ _ _ majority.Free = record { fine = refl; ranged = refl; same = refl; modest = refl }
+  split_as _ _ _ _ = record { fine = refl; ranged = refl; same = refl; modest = refl }
 
 -- where the slots have their shapes and there is the stage, its instructions have what they need
 pub split_fine : (slots : ℕ → Option Shape) (stages : ℕ) (f : Form) (x : Slots) (method : Method) (m : Majority)

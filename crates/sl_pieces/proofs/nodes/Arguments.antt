@@ -43,9 +43,8 @@ cells_within most e entries values all =
 pub minima_cells : (e : Election) (f : Form) (k : ℕ) (g : Group) (votes : List ℕ) (s : State) → slice_get (groups_of e f) k ≡ Some g → (slot : Option ℕ) (minima : Option (List ℕ))
     → HoldsMinima e (votes_of f) slot s minima → HasMinima e g.entries (cells e g.entries votes) slot s (minima_at e g votes minima)
 minima_cells e f k g votes s at None None h = refl
-minima_cells e f k g votes s at None (Some m) h = absurd h
-minima_cells e f k g votes s at (Some slot) None h = absurd h
 minima_cells e f k g votes s at (Some slot) (Some m) h = column_cells e f k g (s.columns slot) m at h
+minima_cells e f k g votes s at _ _ h = absurd h
 
 pub minima_long : (e : Election) (g : Group) (votes : List ℕ) (minima : Option (List ℕ)) → length (minima_at e g votes minima) ≡ length (cells e g.entries votes)
 minima_long e g votes None = length_zeros (length (cells e g.entries votes))
@@ -59,9 +58,8 @@ minima_taken e g votes by.Hamilton (Some m) fits = absurd fits
 -- there is a slot of minima exactly where there are minima
 pub same_minima : (e : Election) (shape : Shape) (s : State) (slot : Option ℕ) (minima : Option (List ℕ)) → HoldsMinima e shape slot s minima → is_none slot ≡ is_none minima
 same_minima e shape s None None h = refl
-same_minima e shape s None (Some m) h = absurd h
-same_minima e shape s (Some slot) None h = absurd h
 same_minima e shape s (Some slot) (Some m) h = refl
+same_minima e shape s _ _ h = absurd h
 
 pub minima_slot : (e : Election) (shape : Shape) (s : State) (slot : Option ℕ) (m : List ℕ) → HoldsMinima e shape slot s (Some m) → (k : ℕ) × (slot ≡ Some k)
 minima_slot e shape s None m h = absurd h

@@ -30,13 +30,11 @@ use Rattle.sl_pieces.proofs.nodes.JoiningLists.{Somewhere, somewhere_or_not, eve
 
 module _ (e : Election) where
   same_number : (k : Entries) (q r : ℕ) → same_item (item_of e k q) (item_of e k r) ≡ true → q ≡ r
-  same_number entries.Party q r same = eqb-true q r same
-  same_number entries.Land q r same = eqb-true q r same
   same_number entries.List q r same =
       let n : ℕ = parties_of e in
       let parts = and_parts (nat_eq (q / n) (r / n)) (nat_eq (q % n) (r % n)) same in
       sym (div-add-mod' q n) ∙ ap (λ l. l * n + q % n) (eqb-true (q / n) (r / n) parts.0) ∙ ap (λ p. r / n * n + p) (eqb-true (q % n) (r % n) parts.1) ∙ div-add-mod' r n
-  same_number entries.Win q r same = eqb-true q r same
+  same_number _ q r same = eqb-true q r same
 
   -- an item that stands elsewhere is another
   other_item : (k : Entries) (q : ℕ) (i : Item) → item_of e k (place e i) ≡ i → place e i ≢ q → same_item (item_of e k q) i ≡ false

@@ -96,9 +96,8 @@ module _ (d : Divisor) (v m : List ℕ) (one_each : length m ≡ length v) where
     pub above_within : (s peers given t : List ℕ) → MidBatch (free_ladders d v) s peers given t → IsShort v m s → length given < length peers → sum t ≡ cap
         → IsGrowth d v m seats cap AboveCap
     above_within s peers given t mid short fewer all_given =
-        let total : sum t ≡ sum s + length given = ((walks (free_ladders d v) falling).within s peers given t mid).total in
         laws.above_cap (sum s + length peers) (λ h all. laws.unmet s peers mid.settled mid.listed short.entry short.in_field short.less h all) i f seats cap
-        (omega (arith, total, fewer, all_given))
+        (omega (arith, ((walks (free_ladders d v) falling).within s peers given t mid).total, fewer, all_given))
 
     -- with all seats given between two batches, a minimum is not met
     pub above_between : (t : List ℕ) → IsSettled (free_ladders d v) t → 0 < missing v m t → sum t ≡ cap → IsGrowth d v m seats cap AboveCap

@@ -1,5 +1,5 @@
 -- The plan of a growth in one scope: an empty field, no house up to the cap, or the seats of the house that the search finds.
-use Rattle.std.proofs.Common.{◌≡◌, ℕ, ◌<◌, ◌≤◌, List, [], length, min, Some, refl, sym, ◌∙◌, arith}
+use Rattle.std.proofs.Common.{◌≡◌, ℕ, ◌<◌, ◌≤◌, List, [], length, Some, refl, sym, ◌∙◌, arith}
 use Rattle.std.specs.Prelude.{sum, slice_get, slice_index}
 use Rattle.sl_ratio.specs.declared.limits.TheConstants.{MAX_SEATS}
 use Rattle.sl_ratio.specs.declared.method.Divisor.{Divisor}
@@ -21,7 +21,6 @@ use Rattle.sl_stages.proofs.methods.SeatSums.{some_less}
 use Rattle.sl_code.specs.declared.operand.EndFault.TheVariants as end
 use Rattle.sl_code.specs.Codes.{CountingCode}
 use Rattle.sl_machine.specs.State.{State, End, with_register}
-use Rattle.sl_machine.specs.Effects.{most}
 use Rattle.sl_plans.specs.declared.plan.Test.TheVariants as test
 use Rattle.sl_plans.specs.declared.plan.Bound.TheVariants as bound
 use Rattle.sl_plans.specs.Trees.{Tree, Then, If}
@@ -62,9 +61,7 @@ module _ (e : Election) (f : Form) (g : Group) (d : Divisor) (majority : Majorit
     minima_above i field over = (
       λ empty. empty i field,
       λ h serves.
-          let fit : sum m ≤ h = (growth_batches d v m long).minima_fit seats cap h serves i field in
-          let low : h ≤ cap = serves.up_to in
-          omega (arith, over, fit, low),
+          omega (arith, over, (growth_batches d v m long).minima_fit seats cap h serves i field),
     )
 
     -- what is chosen among the tops of the arena is chosen among the house's allocations
@@ -82,13 +79,10 @@ house_arena : (c : CountingCode) (e : Election) (f : Form) (x : Slots) (name : L
     → IsReady c e f x name k g v m house state → length m ≡ length v → sum (outside_minima v m) ≤ house → (i : ℕ) → InField v i → IsScopeArena e f g house (grown_arena e f g d v m)
 house_arena c e f x name k g d v m house state ready long enough i field =
     let weighed = scope_weighed e f g (state.columns x.votes) v (scopes_hold e f k g ready.group) ready.votes ready.weights in
-    record {
-      arena = (divisor_arenas d v (table_of f) _ weighed).grown m long;
-      enough = enough;
-      room = (divisor_ladders_law d v (outside_minima v m) (growth_batches d v m long).one_each).room house i field;
-      entries = refl;
-      places = refl;
-    }
+    assumption (
+      (divisor_arenas d v (table_of f) _ weighed).grown m long,
+      (divisor_ladders_law d v (outside_minima v m) (growth_batches d v m long).one_each).room house i field,
+    )
 
 -- ---- the plan
 
@@ -97,18 +91,11 @@ module _ (c : CountingCode) (e : Election) (f : Form) (x : Slots) (name : List �
   ready_house : (d : Divisor) (cap : ℕ) (t u : State) → cap ≤ MAX_SEATS → IsReady c e f x name k g v m seats t → (h : HasHouse e x g d v m seats cap t u)
       → IsReady c e f x name k g v m h.house u
   ready_house d cap t u cap_few ready h =
-      let low : h.house ≤ cap = h.grown.1.up_to in
-      record {
-        group = ready.group;
-        slots = ready.slots;
-        few = omega (arith, low, cap_few);
-        weights = ready.weights;
-        on = h.on;
-        amount = h.amount;
-        total = h.total;
-        votes = cells_kept e g.entries (t.columns x.votes) (u.columns x.votes) v (λ q. h.kept.columns x.votes q ready.slots.not_votes) ready.votes;
-        minima = minima_kept e g.entries v m t u x.minima (λ slot is q. h.kept.columns slot q (ready.slots.not_minima slot is)) ready.minima;
-      }
+      search (
+        arith,
+        cells_kept e g.entries (t.columns x.votes) (u.columns x.votes) v (λ q. h.kept.columns x.votes q ready.slots.not_votes) ready.votes,
+        minima_kept e g.entries v m t u x.minima (λ slot is q. h.kept.columns slot q (ready.slots.not_minima slot is)) ready.minima,
+      )
 
 module _ (c : CountingCode) (e : Election) (f : Form) (x : Slots) (name : List ℕ) (amounts votes minima : List ℕ) (d : Divisor) (majority : Majority) (cap : ℕ)
     (election : IsElection e) (slots : HasSlots c f x name) (cap_few : cap ≤ MAX_SEATS) where
@@ -158,11 +145,7 @@ module _ (c : CountingCode) (e : Election) (f : Form) (x : Slots) (name : List �
         let is : IsScopeArena e f g h.house (grown_arena e f g d v m) = house_arena c e f x name k g d v m h.house u now long enough field.0 field.1 in
         let slot = minima_slot e (votes_of f) s x.minima minima arguments.minima_are in
         scope_awarded c e f x name k g v m h.house (grown_arena e f g d v m) [] meant majority (by.Divisor d) IsAward records u
-        (record {
-          award = house_chosen e f g d majority meant v m seats cap long h.house h.grown;
-          steps = λ t. refl;
-          weights = λ t. refl;
-        })
+        (assumption (house_chosen e f g d majority meant v m seats cap long h.house h.grown))
         now (scope_awards c e f x name k g v m h.house (grown_arena e f g d v m) u now is election)
         (growths_award_seats c e f x name k g d v m h.house [] meant u now)
         (fill f x (ranking_of (by.Divisor d)) (outside_base x.minima) (enter_quotient f x d))
@@ -189,17 +172,15 @@ module _ (c : CountingCode) (e : Election) (f : Form) (x : Slots) (name : List �
     cap_achieves t begun some =
         let u : State = with_register reg.FIRST_PASSING cap t in
         let field : (i : ℕ) × InField v i = some_less [] v some in
-        let needed : t.registers reg.NEEDED ≡ min (sum m) most = begun.needed in
-        let big : MAX_SEATS < most = omega arith in
         then_achieves {Q = λ w. (w ≡ u) × (sum m ≤ cap)}
         (not_over_achieves slots (scopes_hold e f k g at) t reg.NEEDED cap end.Cap (λ z. omega (arith, z)) begun.ready.on
         (λ less. record {
           kind = fault.Cap;
           refused = cap_refused e f g d majority (stage_lot e name (votes_of f) g.entries) v m seats cap
-              (minima_above e f g d majority (stage_lot e name (votes_of f) g.entries) v m seats cap long field.0 field.1 (omega (arith, less, needed, big, cap_few)));
+              (minima_above e f g d majority (stage_lot e name (votes_of f) g.entries) v m seats cap long field.0 field.1 (omega (arith, less, cap_few)));
           is = refl;
         })
-        (λ other. (refl, omega (arith, other, needed, big, cap_few))))
+        (λ other. (refl, omega (arith, other, cap_few))))
         (λ w h. achieves_from h.0 (house_achieves u begun.unchanged begun.ready some h.1))
 
     growth_achieves : Achieves c e (grow_scope f x d majority cap) s Q E
@@ -209,11 +190,7 @@ module _ (c : CountingCode) (e : Election) (f : Form) (x : Slots) (name : List �
         (λ t begun. then_achieves {Q = λ u. (u ≡ t) × (0 < sum v)}
         (if_zero
         (λ none. faulty_ends slots (scopes_hold e f k g at) t end.NoList begun.ready.on
-        (record {
-          kind = fault.NoList;
-          refused = empty_refused e f g d majority (stage_lot e name (votes_of f) g.entries) v m seats cap (sym begun.ready.total ∙ none);
-          is = refl;
-        }))
+        (search (empty_refused e f g d majority (stage_lot e name (votes_of f) g.entries) v m seats cap (sym begun.ready.total ∙ none))))
         (λ w some. let total : t.registers reg.TOTAL ≡ sum v = begun.ready.total in line_ends (refl, omega (arith, some, total))))
         (λ u h. achieves_from h.0 (cap_achieves t begun h.1)))
 

@@ -58,23 +58,14 @@ module _ {c : CountingCode} {e : Election} {f : Form} {x : Slots} {name : List �
       let all : ℕ = min (s.registers reg.ALL_LEFT + s.registers reg.NUMBER) most in
       let house : ℕ = max (s.registers reg.AMOUNT) all in
       let two : State = with_register reg.AMOUNT house (with_register reg.ALL_LEFT all s) in
-      let few : cap ≤ MAX_SEATS = can.few in
       goes_as {t = two}
       (not_over_achieves can.ready.slots (scope_is can) two reg.AMOUNT cap end.Cap (λ z. omega (arith, z)) h.on
       (λ over.
       let above : cap < max seats (outside_sum v m + sum t) = omega (arith, over, h.amount, h.all_left, h.number) in
       record { above = above_least d v m (minimum_each can) field.0 field.1 seats cap t least above; is = refl })
       (λ under.
-      let within : house ≤ cap = omega (arith, under) in
-      let is_house : house ≡ max seats (outside_sum v m + sum t) = omega (arith, within, few, h.amount, h.all_left, h.number) in
-      record {
-        house = house;
-        grown = grows_to d v m (minimum_each can) field.0 field.1 seats cap t house least is_house within;
-        amount = refl;
-        total = h.total;
-        on = h.on;
-        kept = h.kept;
-      }))
+      let is_house : house ≡ max seats (outside_sum v m + sum t) = omega (arith, h.amount, h.all_left, h.number) in
+      search (grows_to d v m (minimum_each can) field.0 field.1 seats cap t house least is_house)))
       refl
 
   takes_house : (s : State) → HasEnded can s → Achieves c e (take_house f (with_minima x slot) cap) s (HasHouse e x g d v m seats cap before) (EndsAboveCap x g d v m seats cap)
@@ -96,9 +87,6 @@ pub houses_are_found : (c : CountingCode) (e : Election) (f : Form) (x : Slots) 
     Achieves c e (find_house f x d cap) state (HasHouse e x g d v m seats cap state) (EndsAboveCap x g d v m seats cap)
 houses_are_found c e f x name slot k g d v m seats cap state election ready minima some enough few =
     let same : x ≡ with_minima x slot = λ z. record x { minima = minima z } in
-    let can : CanSearch c e f x name slot k g d v m seats cap state = record {
-      ready = subst (λ (y : Slots). IsReady c e f y name k g v m seats state) same ready;
-      enough = enough;
-      few = few;
-    } in
+    let can : CanSearch c e f x name slot k g d v m seats cap state = assumption
+    (subst (λ (y : Slots). IsReady c e f y name k g v m seats state) same ready) in
     subst (λ (y : Slots). Achieves c e (find_house f y d cap) state (HasHouse e x g d v m seats cap state) (EndsAboveCap x g d v m seats cap)) (sym same) (finds_house can (some_less [] v some))

@@ -22,7 +22,7 @@ use Rattle.sl_code.specs.declared.operand.EndFault.TheVariants as end
 use Rattle.sl_code.specs.Codes.{CountingCode}
 use Rattle.sl_machine.specs.State.{State, End, Faulted, with_register, with_column}
 use Rattle.sl_machine.proofs.effects.Registers.{get_does, zero_does}
-use Rattle.sl_machine.proofs.effects.Storing.{register_same, column_same, column_other}
+use Rattle.sl_machine.proofs.effects.Storing.{column_same, column_other}
 use Rattle.sl_plans.specs.Achieves.{Achieves}
 use Rattle.sl_plans.proofs.Rules.{line_first, line_over, achieves_so, achieves_more, line_ends, line_goes, then_achieves}
 use Rattle.sl_plans.specs.Trees.{Tree}
@@ -71,15 +71,11 @@ module _ (c : CountingCode) (e : Election) (f : Form) (x : Slots) (name amounts 
     scope_tested j g s at on inv =
         let is : IsScope e f g = scopes_hold e f j g at in
         let n : ℕ = s.columns x.amounts g.amount_place in
-        let u : State = with_register reg.AMOUNT n s in
-        let v : State = with_register reg.FIRST_PASSING most_seats u in
         let other : reg.AMOUNT ≢ reg.FIRST_PASSING = λ h. omega (arith, h) in
-        let read : n ≡ slice_index amounts g.amount_place = inv.still.columns x.amounts g.amount_place ∙ holds.at g.amount_place is.within in
-        let got : u.registers reg.AMOUNT ≡ n = register_same s reg.AMOUNT n in
         line_first (get_does c e s x.amounts (amounts_of f) slots.amounts reg.AMOUNT g.amount_place (is.amount s on))
-        (line_over (not_over_achieves slots is u reg.AMOUNT most_seats end.Limit other on
-        (λ more. ends g (over_here j g at inv.few (omega (arith, more, read, got))))
-        (λ few. (on, record { still = inv.still; few = one_further IsFew (groups_of e f) j g at inv.few (omega (arith, few, read, got)) }))))
+        (line_over (not_over_achieves slots is (with_register reg.AMOUNT n s) reg.AMOUNT most_seats end.Limit other on
+        (λ more. ends g (over_here j g at inv.few (omega (arith, more))))
+        (λ few. (on, record { still = inv.still; few = one_further IsFew (groups_of e f) j g at inv.few (omega (arith, few)) }))))
 
     pub limit_tested : Achieves c e (scopes_plan f (within_limit f x)) start (λ t. IsUnchanged start t × (FirstOver None × Every IsFew (groups_of e f))) E
     limit_tested =
@@ -94,18 +90,16 @@ module _ (c : CountingCode) (e : Election) (f : Form) (x : Slots) (name amounts 
 minima_again : (e : Election) (over : Shape) (slot : Option ℕ) (minima : Option (List ℕ)) (s t : State) → ((k : ℕ) → slot ≡ Some k → (q : ℕ) → t.columns k q ≡ s.columns k q) →
     HoldsMinima e over slot s minima → HoldsMinima e over slot t minima
 minima_again e over None None s t same h = h
-minima_again e over None (Some m) s t same h = h
-minima_again e over (Some k) None s t same h = h
 minima_again e over (Some k) (Some m) s t same h = still_holds e over (s.columns k) (t.columns k) m (same k refl) h
+minima_again e over _ _ s t same h = h
 
 arguments_again : (c : CountingCode) (e : Election) (f : Form) (x : Slots) (name amounts votes : List ℕ) (minima : Option (List ℕ)) (s t : State) → HasSlots c f x name →
     ((slot q : ℕ) → slot ≢ x.result → t.columns slot q ≡ s.columns slot q) → HoldsArguments e f x amounts votes minima s → HoldsArguments e f x amounts votes minima t
-arguments_again c e f x name amounts votes minima s t slots same h = record {
-  amounts_are = still_holds e (amounts_of f) (s.columns x.amounts) (t.columns x.amounts) amounts (λ q. same x.amounts q slots.not_amounts) h.amounts_are;
-  votes_are = still_holds e (votes_of f) (s.columns x.votes) (t.columns x.votes) votes (λ q. same x.votes q slots.not_votes) h.votes_are;
-  minima_are = minima_again e (votes_of f) x.minima minima s t (λ k is q. same k q (slots.not_minima k is)) h.minima_are;
-  weights = h.weights;
-}
+arguments_again c e f x name amounts votes minima s t slots same h = assumption (
+  still_holds e (amounts_of f) (s.columns x.amounts) (t.columns x.amounts) amounts (λ q. same x.amounts q slots.not_amounts) h.amounts_are,
+  still_holds e (votes_of f) (s.columns x.votes) (t.columns x.votes) votes (λ q. same x.votes q slots.not_votes) h.votes_are,
+  minima_again e (votes_of f) x.minima minima s t (λ k is q. same k q (slots.not_minima k is)) h.minima_are,
+)
 
 -- ---- the scopes one after another
 
@@ -150,12 +144,11 @@ module _ (c : CountingCode) (e : Election) (f : Form) (x : Slots) (name amounts 
       let few : length (inv.awards ++ Refused h.kind ∷ []) ≤ length (groups_of e f) =
       omega (arith, length_push inv.awards (Refused h.kind), slice_get_within (groups_of e f) (length inv.awards) g here) in
       let all = completed IsAward choose (groups_of e f) (inv.awards ++ Refused h.kind ∷ []) few (pairs_push IsAward (groups_of e f) inv.awards g (Refused h.kind) here inv.each h.refused) in
-      let order : (inv.awards ++ Refused h.kind ∷ []) ++ all.0 ≡ inv.awards ++ Refused h.kind ∷ all.0 = append_assoc inv.awards (Refused h.kind ∷ []) all.0 in
       record {
         fault = fault_at x.stage g.scope h.kind;
         result = result_is (Fault (fault_at x.stage g.scope h.kind)) None none (record {
           awards = inv.awards ++ Refused h.kind ∷ all.0;
-          each = subst (AllZip IsAward (groups_of e f)) order all.1;
+          each = subst (AllZip IsAward (groups_of e f)) (append_assoc inv.awards (Refused h.kind ∷ []) all.0) all.1;
           is = sym (joined_fault e (stand f x name) amounts records (groups_of e f) inv.awards all.0 h.kind g inv.seats here);
         });
         is = h.is;
@@ -198,11 +191,10 @@ module _ (c : CountingCode) (e : Election) (f : Form) (x : Slots) (name amounts 
   all_done t none h = record {
     values = pair_column e (votes_of f) (flat_map (λ z. zip z.0.entries (awarded z.1)) (zip (groups_of e f) h.awards));
     records = records_of h.awards;
-    result = result_is _ None none (record {
-      awards = h.awards;
-      each = all_paired IsAward (groups_of e f) h.awards h.many h.each;
-      is = sym (joined_seats e (stand f x name) amounts records (groups_of e f) h.awards h.seats);
-    });
+    result = result_is _ None none (search (
+      all_paired IsAward (groups_of e f) h.awards h.many h.each,
+      sym (joined_seats e (stand f x name) amounts records (groups_of e f) h.awards h.seats),
+    ));
     column = awards_make e f h.awards (t.columns x.result) h.cells h.many (all_paired Fits (groups_of e f) h.awards h.many h.long);
     columns = h.columns;
     adds = h.adds;
@@ -211,7 +203,6 @@ module _ (c : CountingCode) (e : Election) (f : Form) (x : Slots) (name amounts 
   -- before the first scope
   none_done : (s : State) → IsUnchanged start s → Done 0 (bare (with_column x.result (λ q. 0) s))
   none_done s h =
-      let none : zip (groups_of e f) [] ≡ [] = zip_none (groups_of e f) in
       record {
         awards = [];
         many = refl;
@@ -221,7 +212,7 @@ module _ (c : CountingCode) (e : Election) (f : Form) (x : Slots) (name amounts 
         cells = subst (HoldsAwards e f []) (sym (column_same s x.result (λ q. 0))) (no_awards e f);
         columns = λ slot q other. ap (λ (g : ℕ → ℕ). g q) (column_other s x.result (λ q. 0) slot other) ∙ h.columns slot q;
         adds = subst (λ zs. AddsRecords (record { steps = flat_map (λ z. (records z.0 (awarded z.1)).steps) zs; weights = flat_map (λ z. (records z.0 (awarded z.1)).weights) zs }) start s)
-            (sym none) (adds_none start s h.steps h.weights h.placed);
+            (sym (zip_none (groups_of e f))) (adds_none start s h.steps h.weights h.placed);
       }
 
   over_limit : (g : Group) → first_over e (stand f x name) amounts (groups_of e f) ≡ Some g → EndsWith Result (Faulted (fault_at x.stage g.scope fault.Limit))

@@ -83,9 +83,8 @@ module _ {X Y : Type 0} where
     -- where there are as many, each has one beside it
     pub all_paired : (xs : List X) (ys : List Y) → length ys ≡ length xs → EachPair xs ys → AllZip R xs ys
     all_paired [] [] long all = tt
-    all_paired [] (y ∷ ys) long all = absurd (omega (arith, long))
-    all_paired (x ∷ xs) [] long all = absurd (omega (arith, long))
     all_paired (x ∷ xs) (y ∷ ys) long all = (all.0, all_paired xs ys (omega (arith, long)) all.1)
+    all_paired _ _ long all = absurd (omega (arith, long))
 
     -- where each can have one, those that have none get one
     pub completed : ((x : X) → (y : Y) × R x y) → (xs : List X) (ys : List Y) → length ys ≤ length xs → EachPair xs ys → (rest : List Y) × AllZip R xs (ys ++ rest)

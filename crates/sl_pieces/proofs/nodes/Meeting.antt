@@ -10,7 +10,8 @@ use Rattle.sl_stages.proofs.methods.RaisedSeats.{Contains-none, Contains-head, s
 use Rattle.sl_stages.proofs.methods.TieLaw.{raised_is}
 use Rattle.sl_stages.proofs.methods.HouseProofs.{outside_at, outside_in}
 use Rattle.sl_stages.proofs.methods.DivisorProofs.{in_range}
-use Rattle.sl_pieces.proofs.seats.Lists.{sum_of_all, only_it, not_it}
+use Rattle.sl_pieces.proofs.arenas.Pieces.{only_it, not_it}
+use Rattle.sl_pieces.proofs.seats.Lists.{sum_of_all}
 
 -- ---- lists of numbers
 
@@ -36,46 +37,35 @@ lacking vs ms ts = []
 pub length-lacking : (v m t : List ℕ) → length m ≡ length v → length t ≡ length v → length (lacking v m t) ≡ length v
 unfolding lacking
 length-lacking [] m t e h = refl
-length-lacking (x ∷ v) [] t e h = absurd (omega arith)
-length-lacking (x ∷ v) (y ∷ m) [] e h = absurd (omega arith)
 length-lacking (x ∷ v) (y ∷ m) (z ∷ t) e h = ap (λ n. suc n) (length-lacking v m t (omega arith) (omega arith))
+length-lacking _ _ _ e h = absurd (omega arith)
 
 pub lacking_at : (v m t : List ℕ) (i : ℕ) → slice_index v i ≡ 0 → slice_index (lacking v m t) i ≡ 0
 unfolding lacking
-lacking_at [] m t i z = refl
-lacking_at (x ∷ v) [] t i z = refl
-lacking_at (x ∷ v) (y ∷ m) [] i z = refl
 lacking_at (x ∷ v) (y ∷ m) (w ∷ t) zero z = ap (λ (b : Bool). if b then 0 else y - w) (eq-eqb x 0 z)
 lacking_at (x ∷ v) (y ∷ m) (w ∷ t) (suc i) z = lacking_at v m t i z
+lacking_at _ _ _ i z = refl
 
 pub lacking_in : (v m t : List ℕ) (i : ℕ) → length m ≡ length v → length t ≡ length v → InField v i → slice_index (lacking v m t) i ≡ slice_index m i - slice_index t i
 unfolding lacking
-lacking_in [] m t i e h f = absurd (omega arith)
-lacking_in (x ∷ v) [] t i e h f = absurd (omega arith)
-lacking_in (x ∷ v) (y ∷ m) [] i e h f = absurd (omega arith)
 lacking_in (x ∷ v) (y ∷ m) (w ∷ t) zero e h f = ap (λ (b : Bool). if b then 0 else y - w) (ne_eqb x 0 (λ z. omega (arith, f, z)))
 lacking_in (x ∷ v) (y ∷ m) (w ∷ t) (suc i) e h f = lacking_in v m t i (omega arith) (omega arith) f
+lacking_in _ _ _ i e h f = absurd (omega arith)
 
 -- it is no more than the minimum, and so are the minima outside the field
-lacking_low : (v m t : List ℕ) → length m ≡ length v → length t ≡ length v → (i : ℕ) → slice_index (lacking v m t) i ≤ slice_index m i
+pub lacking_low : (v m t : List ℕ) → length m ≡ length v → length t ≡ length v → (i : ℕ) → slice_index (lacking v m t) i ≤ slice_index m i
 lacking_low v m t e h i =
     elim (cases_lt 0 (slice_index v i)) [
       | inl f ↦ omega (arith, lacking_in v m t i e h f)
       | inr g ↦ let none : slice_index v i ≡ 0 = omega (arith, g) in omega (arith, lacking_at v m t i none)
     ]
 
-outside_low : (v m : List ℕ) → length m ≡ length v → (i : ℕ) → slice_index (outside_minima v m) i ≤ slice_index m i
+pub outside_low : (v m : List ℕ) → length m ≡ length v → (i : ℕ) → slice_index (outside_minima v m) i ≤ slice_index m i
 outside_low v m e i =
     elim (cases_lt 0 (slice_index v i)) [
       | inl f ↦ omega (arith, outside_in v m i f)
       | inr g ↦ let none : slice_index v i ≡ 0 = omega (arith, g) in omega (arith, outside_at v m i e none)
     ]
-
-pub outside_within : (v m : List ℕ) → length m ≡ length v → sum (outside_minima v m) ≤ sum m
-outside_within v m e = sum_mono (outside_minima v m) m (outside_low v m e)
-
-pub lacking_within : (v m : List ℕ) → length m ≡ length v → (t : List ℕ) → length t ≡ length v → sum (lacking v m t) ≤ sum m
-lacking_within v m e t h = sum_mono (lacking v m t) m (lacking_low v m t e h)
 
 -- ---- what is missing in all
 

@@ -3,7 +3,7 @@ use Rattle.std.proofs.Common.{◌≡◌, ℕ, ◌≤◌, List, [], ◌∷◌, �
 use Rattle.std.specs.Prelude.{sum, slice_get, slice_index, ◌-◌, IsPermutation}
 use Rattle.std.proofs.lemmas.Bool.{cond-true, cond-false}
 use Rattle.std.proofs.lemmas.List.Elements.{All-from_get_or}
-use Rattle.std.proofs.lemmas.Option.{slice_get-get_or}
+use Rattle.std.proofs.lemmas.Option.{slice_get-get_or, slice_get_within, get_or_from_slice_get}
 use Rattle.sl_ratio.specs.declared.limits.TheConstants.{MAX_WEIGHT, MAX_SEATS}
 use Rattle.sl_ratio.specs.declared.method.Method.{Method}
 use Rattle.sl_stages.specs.returns.Election.{Election, IsElection}
@@ -47,7 +47,7 @@ use Rattle.sl_pieces.proofs.seats.Fitting.{weights_fit}
 use Rattle.sl_pieces.proofs.seats.Minima.{cells_kept, minima_kept}
 use Rattle.sl_pieces.proofs.seats.Summing.{sums_achieve}
 use Rattle.sl_pieces.specs.nodes.Scopes.{HoldsArguments, HasAward, EndsFaulty}
-use Rattle.sl_pieces.proofs.nodes.Arguments.{column_cells, cells_within, minima_cells}
+use Rattle.sl_pieces.proofs.nodes.Arguments.{column_cells, minima_cells}
 use Rattle.sl_pieces.specs.inner.nodes.Houses.{KeepsOthers}
 use Rattle.sl_pieces.specs.scopes.Scopes.{IsScope}
 use Rattle.sl_pieces.specs.arenas.Arenas.{Arena, IsArena}
@@ -121,7 +121,8 @@ arguments_begin c e f x name k g amounts votes minima s election slots at on arg
   on = on;
   amount = arguments.amounts_are.at g.amount_place (scopes_hold e f k g at).within;
   few = few;
-  weights = cells_within MAX_WEIGHT e g.entries votes arguments.weights;
+  weights = subst (λ (x : Group). All (λ weight. weight ≤ MAX_WEIGHT) (cells e x.entries votes)) (get_or_from_slice_get (groups_of e f) k g g at)
+      (arguments.weights k g (slice_get_within (groups_of e f) k g at));
   votes = column_cells e f k g (s.columns x.votes) votes at arguments.votes_are;
   minima = minima_cells e f k g votes s at x.minima minima arguments.minima_are;
 }
@@ -131,20 +132,14 @@ module _ (c : CountingCode) (e : Election) (f : Form) (x : Slots) (name : List �
   summed_begun : (t u : State) → IsUnchanged s t → t.registers reg.AMOUNT ≡ seats → AreSummed g v m t u → IsBegun c e f x name k g v m seats s u
   summed_begun t u same amount h =
       let total : sum v ≤ most = weights_fit e f k g (s.columns x.votes) v can.election can.group can.votes can.weights in
-      let sums : u.registers reg.TOTAL ≡ min (sum v) most = h.total in
       let columns : (slot q : ℕ) → u.columns slot q ≡ s.columns slot q = λ slot q. h.unchanged.columns slot q ∙ same.columns slot q in
       record {
-        ready = record {
-          group = can.group;
-          slots = can.slots;
-          few = can.few;
-          weights = can.weights;
-          on = h.on;
-          amount = h.amount ∙ amount;
-          total = omega (arith, total, sums);
-          votes = cells_kept e g.entries (s.columns x.votes) (u.columns x.votes) v (columns x.votes) can.votes;
-          minima = minima_kept e g.entries v m s u x.minima (λ slot is. columns slot) can.minima;
-        };
+        ready = search (
+          arith,
+          h.amount ∙ amount,
+          cells_kept e g.entries (s.columns x.votes) (u.columns x.votes) v (columns x.votes) can.votes,
+          minima_kept e g.entries v m s u x.minima (λ slot is. columns slot) can.minima,
+        );
         needed = h.needed;
         unchanged = record {
           columns = columns;
@@ -158,8 +153,7 @@ module _ (c : CountingCode) (e : Election) (f : Form) (x : Slots) (name : List �
   pub scope_begins : (rest : Tree) (R : State → Type 0) (E : End → Type 0) → ((t : State) → IsBegun c e f x name k g v m seats s t → Achieves c e rest t R E)
       → Achieves c e (Then (Line (op.Get reg.AMOUNT x.amounts ∷ [])) (Then (sums f x) rest)) s R E
   scope_begins rest R E goes =
-      let n : ℕ = s.columns x.amounts g.amount_place in
-      let t : State = with_register reg.AMOUNT n s in
+      let t : State = with_register reg.AMOUNT (s.columns x.amounts g.amount_place) s in
       let cell = (scopes_hold e f k g can.group).amount s can.on in
       let same : IsUnchanged s t = record { columns = λ slot q. refl; steps = refl; weights = refl; placed = λ winner. refl } in
       line_first (get_does c e s x.amounts (amounts_of f) can.slots.amounts reg.AMOUNT g.amount_place cell)
@@ -205,11 +199,10 @@ module _ (c : CountingCode) (e : Election) (f : Form) (x : Slots) (name : List �
   scope_awards election =
       let meant : List ℕ = stage_lot e name (votes_of f) g.entries in
       let few : seats ≤ MAX_SEATS = ready.few in
-      let big : MAX_SEATS ≤ most = omega arith in
       record {
         arena = is.arena;
         few = few;
-        countable = omega (arith, few, big);
+        countable = omega (arith, few);
         enough = is.enough;
         room = is.room;
         name = name;
@@ -234,11 +227,8 @@ module _ (c : CountingCode) (e : Election) (f : Form) (x : Slots) (name : List �
 
   module _ (means : MeansAward x g a v seats told meant majority IsAward records) where
     tie_ends : (y : End) → EndsInTie x g a seats meant y → EndsFaulty x IsAward g y
-    tie_ends y h = record {
-      kind = fault.Tie h.number (entries_at g.entries h.among);
-      refused = means.award (Refused (fault.Tie h.number (entries_at g.entries h.among))) (record { choice = Tied h.number h.among; chosen = h.choice; is = refl });
-      is = h.is;
-    }
+    tie_ends y h = search
+        (means.award (Refused (fault.Tie h.number (entries_at g.entries h.among))) (record { choice = Tied h.number h.among; chosen = h.choice; is = refl }))
 
     module _ (s : List ℕ) (choice : IsChoice (IsTop a.ladders seats) meant (Decided s)) where
       top : IsTop a.ladders seats s
@@ -261,13 +251,10 @@ module _ (c : CountingCode) (e : Election) (f : Form) (x : Slots) (name : List �
         cells = h.seated.cells;
         elsewhere = h.seated.elsewhere;
         columns = h.seated.columns;
-        adds = record {
-          added = h.seated.steps.added;
-          steps = h.seated.steps.steps;
-          are = subst (λ xs. IsPermutation h.seated.steps.added xs) (sym (means.steps s)) (h.seated.steps.are s top);
-          weights = h.seated.weights ∙ ap (λ xs. state.weights ++ xs) (sym (means.weights s));
-          placed = h.seated.placed;
-        };
+        adds = search (
+          subst (λ xs. IsPermutation h.seated.steps.added xs) (sym (means.steps s)) (h.seated.steps.are s top),
+          h.seated.weights ∙ ap (λ xs. state.weights ++ xs) (sym (means.weights s)),
+        );
       }
 
     module _ (ready : IsReady c e f x name k g v m seats state) (can : CanAward c e a MAX_SEATS seats x.stage meant)
@@ -277,10 +264,9 @@ module _ (c : CountingCode) (e : Election) (f : Form) (x : Slots) (name : List �
           → Achieves c e (awards x.stage (bound.AtMost most_seats) (tied f x) (seat f x (again_of x method))) t (AreAwarded a seats meant Held) (EndsInTie x g a seats meant)
       unfolding Held
       filled_awards t h =
-          let few : seats ≤ MAX_SEATS = ready.few in
           let left : t.registers reg.LEFT ≡ seats - sum a.ladders.base = h.left in
           awards_achieve c e a MAX_SEATS seats x.stage meant (bound.AtMost most_seats) (tied f x) (seat f x (again_of x method)) Held (EndsInTie x g a seats meant) t can gives.gives gives.ends
-          gives.fits h.waiting h.seated left (omega (arith, left, few))
+          gives.fits h.waiting h.seated left (omega (arith, left))
 
       chosen_stands : (t : State) → AreAwarded a seats meant Held t → Achieves c e (refuse f x majority) t (HasAward e x IsAward records g state) (EndsFaulty x IsAward g)
       unfolding Held

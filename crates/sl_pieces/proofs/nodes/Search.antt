@@ -15,16 +15,15 @@ use Rattle.sl_stages.specs.methods.Field.{InField, no_minima}
 use Rattle.sl_stages.specs.methods.LeastHouse.{outside_minima}
 use Rattle.sl_stages.specs.meaning.Scopes.{Group, place}
 use Rattle.sl_stages.proofs.methods.HouseProofs.{length-outside, outside_at, outside_in}
-use Rattle.sl_stages.proofs.methods.SeatSums.{none_needed, length_zeros, sum_zeros}
+use Rattle.sl_stages.proofs.methods.SeatSums.{sum_mono, none_needed, length_zeros, sum_zeros}
 use Rattle.sl_stages.specs.methods.Ties.{Lists}
 use Rattle.sl_stages.specs.laws.Awards.{LadderLaws, free_ladders}
 use Rattle.sl_stages.specs.laws.Ladders.{IsPeer}
 use Rattle.sl_stages.proofs.methods.LadderProofs as ladders
 use Rattle.sl_code.specs.declared.instr.Instr.TheVariants.{Set, Add, Store, Prio}
 use Rattle.sl_code.specs.Codes.{CountingCode}
-use Rattle.sl_code.specs.declared.operand.Ranking.TheVariants as ranking
 use Rattle.sl_machine.specs.State.{State, PriorityTable, with_register, with_cell}
-use Rattle.sl_machine.specs.Effects.{most, with_table}
+use Rattle.sl_machine.specs.Effects.{most}
 use Rattle.sl_machine.proofs.effects.Registers.{get_does, store_does}
 use Rattle.sl_machine.proofs.effects.Storing.{cell_same, cell_other_place, cell_other_slot}
 use Rattle.sl_plans.specs.declared.plan.Test.TheVariants as test
@@ -35,7 +34,7 @@ use Rattle.sl_plans.specs.declared.plan.Bound.TheVariants as bound
 use Rattle.sl_plans.proofs.KeepingRules.{each_of}
 use Rattle.sl_pieces.specs.scopes.Forms.{Form, votes_of, table_of, OnItem, OnScope}
 use Rattle.sl_pieces.specs.scopes.Scopes.{IsEntry}
-use Rattle.sl_pieces.specs.inner.scopes.Walks.{bare, Visits}
+use Rattle.sl_pieces.specs.inner.scopes.Walks.{bare}
 use Rattle.sl_pieces.proofs.scopes.Staying.{entries_visited}
 use Rattle.sl_pieces.specs.arenas.Arenas as arenas
 use Rattle.sl_pieces.specs.arenas.Arenas.{Arena, seat_of, next_seat, waiting}
@@ -47,7 +46,7 @@ use Rattle.sl_pieces.proofs.seats.Lists.{sum_so_far, sum_of_all, pieces_all}
 use Rattle.sl_pieces.proofs.seats.Quotients.{seat_enters}
 use Rattle.sl_pieces.proofs.seats.SeatingArenas.{places_differ}
 use Rattle.sl_pieces.specs.nodes.Trees.{search_entry, search_batch, search_seat, search}
-use Rattle.sl_pieces.proofs.nodes.Meeting.{lacking, lacking_at, lacking_in, length-lacking, lacking_within, outside_within, first_missing}
+use Rattle.sl_pieces.proofs.nodes.Meeting.{lacking, lacking_at, lacking_in, length-lacking, lacking_low, outside_low, first_missing}
 use Rattle.sl_pieces.proofs.nodes.SearchScope.{with_minima, search_arena, CanSearch, scope_is, weight_each, minimum_each, entries_wait, arena_of}
 use Rattle.sl_pieces.specs.inner.nodes.Houses.{KeepsOthers}
 use Rattle.sl_pieces.proofs.scopes.Forms.{each_entry}
@@ -98,8 +97,8 @@ one_more v m cap j long enough few less =
     let second : (sum (take (j + 1) lack) ≡ sum (take j lack) + slice_index lack j) × (sum (take (j + 1) lack) ≤ sum lack) =
     sum_so_far lack j (omega (arith, less, length-lacking v m none long zeros)) in
     record {
-      number = omega (arith, first.1, outside_within v m long, enough, few);
-      turns = omega (arith, second.1, lacking_within v m long none zeros, enough, few);
+      number = omega (arith, first.1, sum_mono (outside_minima v m) m (outside_low v m long), enough, few);
+      turns = omega (arith, second.1, sum_mono (lacking v m none) m (lacking_low v m none long zeros), enough, few);
       outside = λ z. (omega (arith, first.0, outside_at v m j long z), omega (arith, second.0, lacking_at v m none j z));
       inside = λ f. (omega (arith, first.0, outside_in v m j f), omega (arith, second.0, lacking_in v m none j long zeros f, none_needed (length v) j));
     }
@@ -166,11 +165,8 @@ module _ {c : CountingCode} {e : Election} {f : Form} {x : Slots} {name : List �
         line_goes
         (seat_enters c e f g (scope_is can) d v none can.ready.weights j (slice_index none j) i here others reg.HELD at on weight field
         (sym (none_needed (length v) j)) (omega (arith, none_needed (length v) j)) h.held.table)
-        (line_ends (record {
-          number = h.number;
-          turns = h.turns;
-          held = stored (bare s) here.registers (Some (arenas.table_of arena (seat ∷ others))) h.held refl refl (ap Some (waiting_more g j i at (entries_wait can) field));
-        }))))))
+        (line_ends (assumption
+        (stored (bare s) here.registers (Some (arenas.table_of arena (seat ∷ others))) h.held refl refl (ap Some (waiting_more g j i at (entries_wait can) field)))))))))
 
     -- the sums
     sums : (s : State) → OnItem i s → s.registers reg.WEIGHT ≡ slice_index v j → s.registers reg.BASE ≡ slice_index m j → Searched j j (bare s)
@@ -198,9 +194,6 @@ module _ {c : CountingCode} {e : Election} {f : Form} {x : Slots} {name : List �
         (line_first (get_does c e one slot (votes_of f) (can.ready.slots.minima slot refl) reg.BASE (place e i) (entry.cell one on)) (line_over
         (then_achieves {Q = λ w. OnItem i w × (w.registers reg.WEIGHT ≡ slice_index v j) × Searched (j + 1) j (bare w)}
         (sums two on weight minimum (record { number = h.number; turns = h.turns; held = h.held })) (λ w r. enters w r.0 r.1 r.2)))))
-
-  pub entries_searched : Visits c e (search_entry f (with_minima x slot) d) g.entries OnItem (λ n s. FirstSearched e f x g d v m seats before n n s) Never
-  entries_searched = entries_visited (record { party = refl; land = refl; win = refl }) (λ j i s at on h. searches_entry j i at s on h)
 
   -- ---- batches
 
@@ -284,8 +277,6 @@ module _ {c : CountingCode} {e : Election} {f : Form} {x : Slots} {name : List �
   pub search_achieves : Achieves c e (search f (with_minima x slot) d cap) before HasEnded Never
   search_achieves =
       let Inv : ℕ → State → Type 0 = λ n s. FirstSearched e f x g d v m seats before n n s in
-      let n : ℕ = length g.entries in
-      let empty : State = with_table (record { entries = table_of f; ranking = ranking.Quotients; contents = [] }) (with_register reg.TURNS 0 (with_register reg.NUMBER 0 before)) in
       then_achieves {Q = λ s. OnScope g.scope s × Inv 0 (bare s)}
       (ends_in refl (
         can.ready.on,
@@ -303,7 +294,8 @@ module _ {c : CountingCode} {e : Election} {f : Form} {x : Slots} {name : List �
       ))
       (λ s h.
       then_achieves {Q = λ t. OnScope g.scope t × Inv (length g.entries) (bare t)}
-      (each_entry c e f k g (search_entry f (with_minima x slot) d) Inv Never s can.ready.group entries_searched h.0 h.1)
+      (each_entry c e f k g (search_entry f (with_minima x slot) d) Inv Never s can.ready.group
+      (entries_visited (record { party = refl; land = refl; win = refl }) (λ j i s at on h. searches_entry j i at s on h)) h.0 h.1)
       (λ t r.
       let last : State = with_register reg.LEFT cap (with_register reg.ALL_LEFT 0 t) in
       goes_as (batches_from last r.0 (record { number = r.1.number; turns = r.1.turns; held = r.1.held }) refl refl) refl))

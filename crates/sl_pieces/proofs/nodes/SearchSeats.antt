@@ -1,5 +1,5 @@
 -- A seat of the search: its entry holds one more, what is missing is counted, and the entry waits for its next seat.
-use Rattle.std.proofs.Common.{◌≡◌, ◌≢◌, ℕ, ◌+◌, ◌-◌, ◌≤◌, min, false, List, [], ◌∷◌, length, sum, Some, slice_get, refl, sym, ap, ◌∙◌, inl, inr, arith, ne_eqb}
+use Rattle.std.proofs.Common.{◌≡◌, ◌≢◌, ℕ, ◌+◌, ◌≤◌, min, false, List, [], ◌∷◌, length, sum, Some, slice_get, refl, sym, ap, ◌∙◌, inl, inr, arith, ne_eqb}
 use Rattle.std.specs.Prelude.{slice_index}
 use Rattle.std.proofs.lemmas.Bool.{cases_eq}
 use Rattle.std.proofs.lemmas.Option.{same_Some}
@@ -44,7 +44,7 @@ use Rattle.sl_pieces.specs.seats.Trees.{nothing, enter_again}
 use Rattle.sl_pieces.proofs.seats.Again.{quotients_again}
 use Rattle.sl_pieces.proofs.seats.Seat.{ReEnters, IsTaken, seat_is_taken}
 use Rattle.sl_pieces.proofs.seats.SeatingArenas.{places_differ, entry_there}
-use Rattle.sl_pieces.proofs.seats.Lists.{not_it}
+use Rattle.sl_pieces.proofs.arenas.Pieces.{not_it}
 use Rattle.sl_pieces.specs.nodes.Trees.{search_seat}
 use Rattle.sl_pieces.proofs.nodes.Meeting.{missing, sum_one_more, one_less_missing, as_much_missing}
 use Rattle.sl_pieces.proofs.nodes.Found.{IsShort, IsLeast, least_after}
@@ -119,7 +119,6 @@ module _ {c : CountingCode} {e : Election} {f : Form} {x : Slots} {name : List �
     counts s w on held base turns all_left columns table =
         if_less
         (λ less.
-        let y : State = with_register reg.TURNS (w.registers reg.TURNS - 1) (with_register ones 1 w) in
         let fewer : missing v m t ≡ missing v m u + 1 = one_less_missing v m (minimum_each can) t u j long raised field (omega (arith, less, held, base)) in
         ends_in refl (record { on_item = on; held = held; turns = omega (arith, turns, fewer); all_left = all_left; columns = columns; table = table }))
         (λ met.

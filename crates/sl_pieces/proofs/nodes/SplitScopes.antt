@@ -1,6 +1,6 @@
 -- The plan of a split in one scope: what refuses the seats, or the seats that its method gives.
 use Rattle.std.proofs.Common.{◌≡◌, ℕ, ◌≤◌, ◌&&◌, List, [], length, Option, Some, None, refl, sym, ap, subst, arith}
-use Rattle.std.specs.Prelude.{MatchOption, sum, slice_get, slice_index, is_none, if◌then◌else◌}
+use Rattle.std.specs.Prelude.{MatchOption, slice_get, slice_index, is_none, if◌then◌else◌}
 use Rattle.sl_ratio.specs.declared.limits.TheConstants.{MAX_SEATS}
 use Rattle.sl_ratio.specs.declared.method.Method.{Method}
 use Rattle.sl_ratio.specs.declared.method.Method.TheVariants as by
@@ -18,8 +18,7 @@ use Rattle.sl_stages.specs.laws.Ladders.{IsTop}
 use Rattle.sl_stages.specs.laws.OneLaws.{FitsMethod}
 use Rattle.sl_stages.proofs.methods.DivisorProofs.{divisor_ladders_law}
 use Rattle.sl_stages.proofs.methods.HamiltonProofs.{hamilton_ladders_law}
-use Rattle.sl_stages.proofs.meaning.OneAward.{TakesMinima}
-use Rattle.sl_stages.proofs.meaning.OneAward.{HasNone, none_refused}
+use Rattle.sl_stages.proofs.meaning.OneAward.{TakesMinima, HasNone, none_refused}
 use Rattle.sl_code.specs.Codes.{CountingCode}
 use Rattle.sl_machine.specs.State.{State, End}
 use Rattle.sl_plans.specs.Trees.{Tree, Then}
@@ -52,24 +51,17 @@ module _ (c : CountingCode) (e : Election) (f : Form) (x : Slots) (name : List �
   split_in_arena (by.Divisor d) takes =
       let weighed = scope_weighed e f g (state.columns x.votes) v (scopes_hold e f k g ready.group) ready.votes ready.weights in
       let tops = divisor_ladders_law d v m long in
-      record {
-        arena = (divisor_arenas d v (table_of f) _ weighed).with_minima m long;
-        enough = leaves.room;
-        room = room_of _ v seats (tops.room seats) (λ empty. let all = leaves.empty empty in omega (arith, all));
-        entries = refl;
-        places = refl;
-      }
+      assumption (
+        (divisor_arenas d v (table_of f) _ weighed).with_minima m long,
+        room_of _ v seats (tops.room seats) (λ empty. let all = leaves.empty empty in omega (arith, all)),
+      )
   split_in_arena by.Hamilton takes =
       let weighed = scope_weighed e f g (state.columns x.votes) v (scopes_hold e f k g ready.group) ready.votes ready.weights in
       let tops = hamilton_ladders_law (is_prefer majority) v seats in
-      let none : sum m ≡ 0 = takes in
-      record {
-        arena = hamilton_arenas (is_prefer majority) v seats (table_of f) _ weighed ready.few MAX_SEATS;
-        enough = tops.within;
-        room = room_of _ v seats tops.room (λ empty. let all = leaves.empty empty in omega (arith, all, none));
-        entries = refl;
-        places = refl;
-      }
+      assumption (
+        hamilton_arenas (is_prefer majority) v seats (table_of f) _ weighed ready.few MAX_SEATS,
+        room_of _ v seats tops.room (λ empty. let all = leaves.empty empty in omega (arith, all)),
+      )
 
 -- what is chosen among the tops of the arena is chosen among the method's allocations
 split_choice : (e : Election) (f : Form) (g : Group) (method : Method) (majority : Majority) (v m : List ℕ) (seats : ℕ) → length m ≡ length v → (lot : List ℕ) (choice : Choice)
@@ -143,11 +135,7 @@ module _ (c : CountingCode) (e : Election) (f : Form) (x : Slots) (name : List �
         (fill f x (ranking_of method) (base_of method x) (enter_of f x method majority)) (splits_are_filled c e f x name k g method majority v m seats t election ready is.enough)
 
     refused_ends : (y : End) → EndsRefused x g v m seats y → EndsFaulty x IsAward g y
-    refused_ends y h = record {
-      kind = h.kind;
-      refused = split_refused e f g method majority v m seats (stage_lot e name (votes_of f) g.entries) h.kind h.refused;
-      is = h.is;
-    }
+    refused_ends y h = search (split_refused e f g method majority v m seats (stage_lot e name (votes_of f) g.entries) h.kind h.refused)
 
     scope_achieves : Achieves c e (split_scope f x method majority) s (HasAward e x IsAward records g s) (EndsFaulty x IsAward g)
     scope_achieves =

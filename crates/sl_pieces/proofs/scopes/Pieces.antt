@@ -1,8 +1,8 @@
 -- The elements of a list at their places; and lists in pieces, one for each number below another: where the pieces stand.
-use Rattle.std.proofs.Common.{◌≡◌, ℕ, zero, suc, ◌+◌, ◌<◌, Bool, List, [], ◌∷◌, ◌++◌, length, map, filter, if◌then◌else◌, Some, refl, sym, ap, subst, ◌∙◌, inl, inr, arith}
+use Rattle.std.proofs.Common.{◌≡◌, ℕ, zero, suc, ◌+◌, ◌<◌, Bool, List, [], ◌∷◌, ◌++◌, length, map, filter, if◌then◌else◌, Some, refl, ap, subst, ◌∙◌, inl, inr, arith}
 use Rattle.std.specs.Prelude.{flat_map, slice_get}
 use Rattle.std.specs.List.{range_with_len}
-use Rattle.std.proofs.lemmas.Bool.{cases_Bool, cond-true, cond-false}
+use Rattle.std.proofs.lemmas.Bool.{cases_Bool}
 use Rattle.std.proofs.lemmas.List.{length-append, append-nil}
 use Rattle.std.proofs.lemmas.Option.{none-some}
 
@@ -45,8 +45,7 @@ module _ {X : Type 0} where
         subst (λ (m : ℕ). Stands all m (f (a + 0))) place (subst (λ (m : ℕ). Stands all j (f m)) same (stands_first all j (f a) (flat_map f (range_with_len (a + 1) n)) h))
     stands_piece all a (suc n) j (suc k) less h =
         let rest : List X = flat_map f (range_with_len (a + 1) k) in
-        let long : length (f a ++ rest) ≡ length (f a) + length rest = length-append (f a) rest in
-        let place : j + length (f a) + length rest ≡ j + length (f a ++ rest) = omega (arith, long) in
+        let place : j + length (f a) + length rest ≡ j + length (f a ++ rest) = omega (arith, length-append (f a) rest) in
         let same : a + 1 + k ≡ a + suc k = omega arith in
         subst (λ (m : ℕ). Stands all m (f (a + suc k))) place (subst (λ (m : ℕ). Stands all (j + length (f a) + length rest) (f m)) same
         (stands_piece all (a + 1) n (j + length (f a)) k (omega arith) (stands_second all j (f a) (flat_map f (range_with_len (a + 1) n)) h)))
@@ -54,11 +53,7 @@ module _ {X : Type 0} where
     pub length_next : (a k : ℕ) → length (flat_map f (range_with_len a (k + 1))) ≡ length (flat_map f (range_with_len a k)) + length (f (a + k))
     length_next a zero =
         let same : a ≡ a + 0 = omega arith in
-        let first : 0 + 1 ≡ 1 = omega arith in
-        let here : length (f a) ≡ length (f (a + 0)) = ap (λ (m : ℕ). length (f m)) same in
-        let alone : length (f a ++ []) ≡ length (f a) = ap (λ (xs : List X). length xs) (append-nil (f a)) in
-        let one : length (flat_map f (range_with_len a (0 + 1))) ≡ length (f a ++ []) = ap (λ (m : ℕ). length (flat_map f (range_with_len a m))) first in
-        omega (arith, here, alone, one)
+        omega (arith, ap (λ (m : ℕ). length (f m)) same, ap (λ (xs : List X). length xs) (append-nil (f a)))
     length_next a (suc k) =
         let front : List X = flat_map f (range_with_len (a + 1) k) in
         let more : List X = flat_map f (range_with_len (a + 1) (k + 1)) in
@@ -67,23 +62,12 @@ module _ {X : Type 0} where
         let all : length (f a ++ more) ≡ length (f a) + length more = length-append (f a) more in
         let some : length (f a ++ front) ≡ length (f a) + length front = length-append (f a) front in
         let order : suc k + 1 ≡ suc (k + 1) = omega arith in
-        let long : length (flat_map f (range_with_len a (suc k + 1))) ≡ length (f a ++ more) = ap (λ (m : ℕ). length (flat_map f (range_with_len a m))) order in
-        omega (arith, next, all, some, long)
+        omega (arith, next, all, some, ap (λ (m : ℕ). length (flat_map f (range_with_len a m))) order)
 
--- ---- elements, and elements that pass a test, as pieces
+-- ---- elements that pass a test, as pieces
 
 module _ {X Y : Type 0} (f : X → Y) where
-  pub one_each : (xs : List X) → map f xs ≡ flat_map (λ x. f x ∷ []) xs
-  one_each [] = refl
-  one_each (x ∷ xs) = ap (λ ys. f x ∷ ys) (one_each xs)
-
   module _ (p : X → Bool) where
     pub passing_each : (xs : List X) → map f (filter p xs) ≡ flat_map (λ x. if p x then f x ∷ [] else []) xs
     passing_each [] = refl
-    passing_each (x ∷ xs) =
-        let rest : List Y = flat_map (λ x. if p x then f x ∷ [] else []) xs in
-        elim (cases_Bool (p x)) [
-          | inl is ↦ ap (map f) (cond-true (p x) (x ∷ filter p xs) (filter p xs) is) ∙ ap (λ ys. f x ∷ ys) (passing_each xs)
-              ∙ sym (ap (λ ys. ys ++ rest) (cond-true (p x) (f x ∷ []) [] is))
-          | inr is ↦ ap (map f) (cond-false (p x) (x ∷ filter p xs) (filter p xs) is) ∙ passing_each xs ∙ sym (ap (λ ys. ys ++ rest) (cond-false (p x) (f x ∷ []) [] is))
-        ]
+    passing_each (x ∷ xs) = elim (cases_Bool (p x)) [ inl is ↦ rw is (ap (λ ys. f x ∷ ys) (passing_each xs)) | inr is ↦ rw is (passing_each xs) ]

@@ -1,9 +1,9 @@
 -- Lists along which a number of each element rises.
-use Rattle.std.proofs.Common.{ℕ, zero, suc, ◌+◌, ◌<◌, ◌≤◌, Bool, List, [], ◌∷◌, ◌++◌, length, map, filter, sym, subst, inl, inr, arith}
+use Rattle.std.proofs.Common.{ℕ, zero, suc, ◌+◌, ◌<◌, ◌≤◌, Bool, List, [], ◌∷◌, ◌++◌, length, map, filter, inl, inr, arith}
 use Rattle.std.specs.Prelude.{slice_index}
 use Rattle.std.specs.List.{AllByRecursion as Every, range_with_len}
 use Rattle.std.specs.List.Sorted.{IsStrictlyIncreasing}
-use Rattle.std.proofs.lemmas.Bool.{cases_Bool, cond-true, cond-false}
+use Rattle.std.proofs.lemmas.Bool.{cases_Bool}
 use Rattle.sl_stages.proofs.meaning.DistinctLists.{every_map, every_filter, every_append, every_weaker}
 
 -- it is less than that of each later element
@@ -26,10 +26,7 @@ module _ {X : Type 0} (f : X → ℕ) where
   pub rises_filter : (p : X → Bool) (xs : List X) → Rises f xs → Rises f (filter p xs)
   rises_filter p [] h = tt
   rises_filter p (x ∷ xs) h =
-      elim (cases_Bool (p x)) [
-        | inl is ↦ subst (Rises f) (sym (cond-true (p x) (x ∷ filter p xs) (filter p xs) is)) (every_filter (λ y. f x < f y) p xs h.0, rises_filter p xs h.1)
-        | inr is ↦ subst (Rises f) (sym (cond-false (p x) (x ∷ filter p xs) (filter p xs) is)) (rises_filter p xs h.1)
-      ]
+      elim (cases_Bool (p x)) [ inl is ↦ rw is (every_filter (λ y. f x < f y) p xs h.0, rises_filter p xs h.1) | inr is ↦ rw is (rises_filter p xs h.1) ]
 
   pub rises_map : {Y : Type 0} (g : Y → ℕ) (make : X → Y) → ((x y : X) → f x < f y → g (make x) < g (make y)) → (xs : List X) → Rises f xs → Rises g (map make xs)
   rises_map g make keeps [] h = tt

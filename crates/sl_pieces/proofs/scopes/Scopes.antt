@@ -1,11 +1,11 @@
 -- Scopes and entries of each form: their places and their cursors.
-use Rattle.std.proofs.Common.{map, ◌≡◌, ◌≢◌, ℕ, zero, suc, ◌+◌, ◌*◌, ◌/◌, ◌%◌, ◌<◌, ◌≤◌, [], ◌∷◌, filter, Some, refl, sym, ap, subst, ◌∙◌, arith}
+use Rattle.std.proofs.Common.{map, ◌≡◌, ◌≢◌, ℕ, zero, suc, ◌+◌, ◌*◌, ◌/◌, ◌%◌, ◌<◌, ◌≤◌, filter, Some, refl, sym, ap, subst, ◌∙◌, arith}
 use Rattle.std.specs.Prelude.{flat_map, slice_get}
 use Rattle.std.specs.List.{AllByRecursion as Every, range_with_len}
 use Rattle.std.specs.Option.{option_map}
 use Rattle.std.proofs.lemmas.Nat.{div-mul-add}
 use Rattle.std.proofs.Math.Nat.{add-mul-mod_self_right, mod-eq_of_lt, mul-le-mul_right}
-use Rattle.std.proofs.lemmas.Option.{none-some, same_Some}
+use Rattle.std.proofs.lemmas.Option.{slice_get_within}
 use Rattle.sl_stages.specs.declared.book.Shape.TheVariants as shape
 use Rattle.sl_stages.specs.declared.fault.Scope.{Scope}
 use Rattle.sl_stages.specs.declared.fault.Scope.TheVariants as scope
@@ -18,11 +18,12 @@ use Rattle.sl_code.specs.declared.operand.Entries.TheVariants as entries
 use Rattle.sl_machine.specs.State.{State}
 use Rattle.sl_machine.specs.Places.{both}
 use Rattle.sl_stages.proofs.meaning.DistinctLists.{every_map, every_filter, every_pieces, every_weaker}
-use Rattle.sl_pieces.specs.scopes.Forms.{AllParties, AllLands, AllLists, ListsOfParty, ListsInLand, OnScope, OnItem}
+use Rattle.sl_pieces.specs.scopes.Forms.{AllParties, AllLands, AllLists, ListsOfParty, ListsInLand, groups_of, OnScope, OnItem}
 use Rattle.sl_pieces.specs.scopes.Scopes.{IsEntry, IsScope, ScopesHold, ScopesApart}
 use Rattle.sl_pieces.proofs.scopes.Rising.{Rises, between, rises_range, rises_filter, rises_map, rises_append, increasing}
 use Rattle.sl_pieces.proofs.scopes.Forms.{only_one, made_of, all_group, party_group, land_group}
 use Rattle.sl_stages.proofs.meaning.AwardedEntries.{every_at}
+use Rattle.sl_pieces.proofs.arenas.Pieces.{number_is}
 
 -- ---- the place of a pair
 
@@ -37,8 +38,7 @@ module _ (e : Election) (land party : ℕ) (less : party < parties_of e) where
 
   pub above_land : (k : ℕ) → land + 1 ≤ k → land * parties_of e + party < k * parties_of e
   above_land k next =
-      let high : (land + 1) * parties_of e ≤ k * parties_of e = mul-le-mul_right (parties_of e) next in
-      omega (arith, high, less)
+      omega (arith, mul-le-mul_right (parties_of e) next, less)
 
 -- ---- entries
 
@@ -103,17 +103,6 @@ module _ (e : Election) where
       (in_land_each (λ i. place e i < (a + 1) * parties_of e) a (λ p less. above_land e a p less (a + 1) (omega arith)))
       (lists_above (a + 1) n) (in_land_rises a) (lists_rise (a + 1) n)
 
--- ---- the number at a place of a range
-
-range_at : (a n m y : ℕ) → slice_get (range_with_len a n) m ≡ Some y → (y ≡ a + m) × (m < n)
-range_at a zero m y at = absurd (none-some y at)
-range_at a (suc n) zero y at = let same : a ≡ y = same_Some a y at in (omega (arith, same), omega arith)
-range_at a (suc n) (suc m) y at =
-    let rest : (y ≡ a + 1 + m) × (m < n) = range_at (a + 1) n m y at in
-    let is : y ≡ a + 1 + m = rest.0 in
-    let less : m < n = rest.1 in
-    (omega (arith, is), omega (arith, less))
-
 -- ---- scopes
 
 module _ (e : Election) where
@@ -176,9 +165,8 @@ module _ (e : Election) where
 group_at : (of : ℕ → Group) (n m : ℕ) (g : Group) → slice_get (map of (range_with_len 0 n)) m ≡ Some g → (g ≡ of m) × (m < n)
 group_at of n m g at =
     let made : (k : ℕ) × (slice_get (range_with_len 0 n) m ≡ Some k) × (g ≡ of k) = made_of of (range_with_len 0 n) m g at in
-    let there : (made.0 ≡ 0 + m) × (m < n) = range_at 0 n m made.0 made.1 in
-    let number : 0 + m ≡ m = omega arith in
-    (made.2 ∙ ap of (there.0 ∙ number), there.1)
+    let there : (made.0 ≡ m) × (m < n) = number_is n m made.0 made.1 in
+    (made.2 ∙ ap of there.0, there.1)
 
 pub scopes_hold : ScopesHold
 scopes_hold e AllParties m g at = subst (IsScope e AllParties) (sym (only_one (all_group e AllParties) g m at)) (all_parties_scope e)
@@ -193,10 +181,6 @@ scopes_hold e ListsInLand m g at =
 
 -- ---- scopes apart
 
-only_zero : {X : Type 0} (x y : X) (m : ℕ) → slice_get (x ∷ []) m ≡ Some y → m ≡ 0
-only_zero x y zero at = refl
-only_zero x y (suc m) at = absurd (none-some y at)
-
 -- the place of each entry of a scope tells the scope's number
 apart_by : (e : Election) (of : ℕ → Group) (count : ℕ) (number : ℕ → ℕ) → ((k : ℕ) → k < count → Every (λ y. number (place e y) ≡ k) (of k).entries) → (m n : ℕ) (g h : Group) →
     slice_get (map of (range_with_len 0 count)) m ≡ Some g → slice_get (map of (range_with_len 0 count)) n ≡ Some h → m ≢ n → (j k : ℕ) (i x : Item) →
@@ -209,12 +193,11 @@ apart_by e of count number each m n g h at there differ j k i x first second sam
     differ (sym is ∙ ap number same ∙ are)
 
 pub scopes_apart : ScopesApart
-scopes_apart e AllParties m n g h at there differ j k i x first second same = differ (only_zero (all_group e AllParties) g m at ∙ sym (only_zero (all_group e AllParties) h n there))
-scopes_apart e AllLands m n g h at there differ j k i x first second same = differ (only_zero (all_group e AllLands) g m at ∙ sym (only_zero (all_group e AllLands) h n there))
-scopes_apart e AllLists m n g h at there differ j k i x first second same = differ (only_zero (all_group e AllLists) g m at ∙ sym (only_zero (all_group e AllLists) h n there))
 scopes_apart e ListsOfParty m n g h at there differ j k i x first second same =
     apart_by e (party_group e) (parties_of e) (λ q. q % parties_of e) (λ p less. of_party_each e (λ y. place e y % parties_of e ≡ p) p (λ l in_lands. party_again e l p less))
     m n g h at there differ j k i x first second same
 scopes_apart e ListsInLand m n g h at there differ j k i x first second same =
     apart_by e (land_group e) (lands_of e) (λ q. q / parties_of e) (λ l in_lands. in_land_each e (λ y. place e y / parties_of e ≡ l) l (λ p less. land_again e l p less))
     m n g h at there differ j k i x first second same
+scopes_apart e f m n g h at there differ j k i x first second same =
+    differ (omega (arith, slice_get_within (groups_of e f) m g at, slice_get_within (groups_of e f) n h there))

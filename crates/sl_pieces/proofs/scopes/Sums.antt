@@ -44,9 +44,8 @@ module _ (c : CountingCode) (e : Election) (f : Form) (g : Group) (total cell sl
       let read : x ≡ column q = ap (λ (f : ℕ → ℕ). f q) h.column_is in
       let got : u.registers cell ≡ x = register_same s cell x in
       let kept : u.registers total ≡ s.registers total = register_other s cell x total other in
-      let so_far : s.registers total ≡ min (first_sum j) most = h.total_is in
       let next : first_sum (j + 1) ≡ first_sum j + column q = next_sum j i at in
-      let sum : min (u.registers total + u.registers cell) most ≡ min (first_sum (j + 1)) most = omega (arith, read, got, kept, so_far, next) in
+      let sum : min (u.registers total + u.registers cell) most ≡ min (first_sum (j + 1)) most = omega (arith, read, got, kept, next) in
       line_goes (get_does c e s slot (votes_of f) known cell q ((entry j i at).cell s on))
       (line_goes refl
       (line_ends (record { column_is = h.column_is; total_is = register_same u total (min (u.registers total + u.registers cell) most) ∙ sum })))

@@ -3,6 +3,7 @@ use Rattle.std.proofs.Common.{◌≡◌, ℕ, ◌+◌, ◌<◌, List, [], ◌∷
 use Rattle.std.specs.Prelude.{flat_map, slice_get}
 use Rattle.std.specs.List.{range_with_len}
 use Rattle.std.proofs.lemmas.Bool.{cond-true, cond-false}
+use Rattle.std.proofs.lemmas.List.Concat.{flat_map_single}
 use Rattle.sl_stages.specs.declared.fault.Item.{Item}
 use Rattle.sl_stages.specs.declared.fault.Item.TheVariants as item
 use Rattle.sl_stages.specs.returns.Election.{Election, has_list}
@@ -15,7 +16,7 @@ use Rattle.sl_plans.specs.Achieves.{Achieves}
 use Rattle.sl_plans.proofs.Rules.{line_ends, if_no_list, each_achieves, achieves_so}
 use Rattle.sl_pieces.specs.scopes.Forms.{on_list, OnItem}
 use Rattle.sl_pieces.specs.inner.scopes.Walks.{bare, Visits}
-use Rattle.sl_pieces.proofs.scopes.Pieces.{one_each, Stands, stands_piece, length_next}
+use Rattle.sl_pieces.proofs.scopes.Pieces.{Stands, stands_piece, length_next}
 
 module _ {X : Type 0} (c : CountingCode) (e : Election) (all : List X) (Inv : ℕ → State → Type 0) (E : End → Type 0) where
   -- a plan takes a piece of the list, with cursors as they were
@@ -68,7 +69,7 @@ module _ {X : Type 0} (c : CountingCode) (e : Election) (all : List X) (Inv : �
       → ((k : ℕ) (s : State) → On (make k) (set_cursor over (Some k) s)) → ((k : ℕ) (s : State) → On (make k) s → cursor_of over s ≡ Some k)
       → Visits c e body all On Inv E → Walks (Each over body) (λ s. Unit {0}) (map make (range_with_len 0 (count_of e over)))
   walk_singles over make On body hidden begins stays h =
-      walk_as (Each over body) (λ s. Unit {0}) _ _ (sym (one_each make (range_with_len 0 (count_of e over))))
+      walk_as (Each over body) (λ s. Unit {0}) _ _ (flat_map_single make (range_with_len 0 (count_of e over)))
       (walk_each over (λ s. Unit {0}) (λ k. On (make k)) (λ k. make k ∷ []) body
       (record { hidden = hidden; begins = λ k s on. begins k s; stays = stays; leaves = λ k s at. tt; ends = λ s on. tt })
       (λ k less. walk_one body On (make k) h))
@@ -79,8 +80,7 @@ pub walk_list : (c : CountingCode) (e : Election) (all : List Item) (Inv : ℕ �
 walk_list c e all Inv E body land party h = record {
   walk = λ j s stands on inv.
       let i : Item = item.List land party in
-      let On : State → Type 0 = OnItem i in
-      let Q : List Item → State → Type 0 = λ xs t. On t × Inv (j + length xs) (bare t) in
+      let Q : List Item → State → Type 0 = λ xs t. (OnItem i) t × Inv (j + length xs) (bare t) in
       if_no_list on.0 on.1
       (λ none. line_ends (on, subst (λ (xs : List Item). Inv (j + length xs) (bare s)) (sym (cond-false (has_list e land party) (i ∷ []) [] none)) (subst (λ (m : ℕ). Inv m (bare s)) (omega arith) inv)))
       (λ some.

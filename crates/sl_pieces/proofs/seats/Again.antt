@@ -16,7 +16,6 @@ use Rattle.sl_machine.proofs.effects.Registers.{get_does}
 use Rattle.sl_plans.specs.Achieves.{Achieves, Never}
 use Rattle.sl_plans.proofs.Rules.{line_ends, line_goes, if_zero, line_first, line_over}
 use Rattle.sl_pieces.specs.scopes.Forms.{Form, votes_of, table_of, OnItem}
-use Rattle.sl_pieces.specs.scopes.Scopes.{IsEntry}
 use Rattle.sl_pieces.specs.arenas.Arenas.{Arena, HasWaiting, divisor_arena, hamilton_arena, table_of as table_with}
 use Rattle.sl_pieces.specs.arenas.Laws.{SeatTaken}
 use Rattle.sl_pieces.proofs.arenas.TableEffects.{waiting_again}
@@ -45,8 +44,7 @@ module _ (c : CountingCode) (e : Election) (f : Form) (x : Slots) (name : List �
 
     enters_quotient : Achieves c e (enter_again x d) s (HasWaiting divided u) Never
     enters_quotient =
-        let entry : IsEntry e (table_of f) (votes_of f) g.scope i = of.scope.entry j i at in
-        line_first (get_does c e s x.votes (votes_of f) slots.votes reg.WEIGHT (place e i) (entry.cell s on))
+        line_first (get_does c e s x.votes (votes_of f) slots.votes reg.WEIGHT (place e i) ((of.scope.entry j i at).cell s on))
         (line_over (if_zero (λ none. absurd (omega (arith, some_weight, votes, none))) (λ w some.
         line_goes
         (seat_enters c e f g of.scope d v m light j (slice_index u j) i weighed taken.others reg.HELD at on votes some_weight held high table)

@@ -89,14 +89,12 @@ module _ (c : CountingCode) (e : Election) (x : Slots) (g : Group) (v m : List �
       line_first refl (line_first refl (line_first refl
       (line_over (if_zero {r = reg.TOTAL}
       (λ none.
-      let low : slice_index v j ≤ sum v = entry_le_sum v j in
-      let without : slice_index v j ≡ 0 = omega (arith, low, none, total) in
+      let without : slice_index v j ≡ 0 = omega (arith, entry_le_sum v j, none, total) in
       line_ends (no_whole n (slice_index v j) exact without, λ field. absurd (omega (arith, field, without))))
       (λ d some.
       let all : w.registers reg.TOTAL ≡ sum v = total in
-      let q : State = with_register reg.BASE (n / w.registers reg.TOTAL) w in
       line_goes (div_does c e w reg.BASE reg.TOTAL d some)
-      (line_goes (rem_does c e q reg.STEP reg.TOTAL d some)
+      (line_goes (rem_does c e (with_register reg.BASE (n / w.registers reg.TOTAL) w) reg.STEP reg.TOTAL d some)
       (line_ends (
         ap (λ k. k / w.registers reg.TOTAL) exact ∙ ap (λ k. seats * slice_index v j / k) all,
         λ field. ap (λ k. k % w.registers reg.TOTAL) exact ∙ ap (λ k. seats * slice_index v j % k) all,

@@ -101,9 +101,8 @@ module _ (c : CountingCode) (e : Election) (f : Form) (g : Group) (scope : IsSco
             let is : Weight = weight_of (divisor_of by) j i in
             let tells = weigh_does c e s x.stage (kind_of f) x.stage g.scope stage (scope.kind s here.on_scope) (arenas.table_of (arena_of (divisor_of by)) others) (place e i) table
             ((scope.entry j i at).index s here.on_item) by reg.WEIGHT (s.registers reg.WEIGHT - 1) one_less in
-            let t : State = with_weight is s in
             line_goes (tells ∙ told_as (divisor_of by) (min (s.registers reg.WEIGHT) MAX_WEIGHT) j i (item_of e (table_of f) (place e i)) s (scope.entry j i at).item all)
-            (prio_enters (divisor_of by) j i t others at here.on_item here.weight positive base within table);
+            (prio_enters (divisor_of by) j i (with_weight is s) others at here.on_item here.weight positive base within table);
         leaves = record { registers = refl; columns = λ slot. refl; party = refl; land = refl; win = refl; placed = refl; steps = refl };
       }
 
@@ -169,8 +168,7 @@ module _ (c : CountingCode) (e : Election) (f : Form) (g : Group) (scope : IsSco
       let seats_held : ℕ = min (s.registers reg.BASE + s.registers reg.BASE) most in
       let u : State = with_register reg.FIRST_PASSING weight (with_register reg.FIRST_PASSING (s.registers reg.WEIGHT) s) in
       let last : State = with_register reg.SECOND_PASSING seats_held (with_register reg.SECOND_PASSING (s.registers reg.BASE) u) in
-      let low : slice_index v j ≤ MAX_WEIGHT = number_within MAX_WEIGHT v j weights in
-      let twice_weight : weight ≡ 2 * slice_index v j = omega (arith, here.weight, low) in
+      let twice_weight : weight ≡ 2 * slice_index v j = omega (arith, here.weight, number_within MAX_WEIGHT v j weights) in
       let twice_whole : seats_held ≡ 2 * whole v seats j = omega (arith, base, part, within, few) in
       goes_as {t = last}
       (if_less {r = reg.TOTAL} {q = reg.FIRST_PASSING}

@@ -40,7 +40,7 @@ use Rattle.sl_pieces.proofs.seats.Unchanged.{register_kept}
 use Rattle.sl_pieces.specs.scopes.Scopes.{IsEntry, IsScope}
 use Rattle.sl_pieces.specs.inner.scopes.Walks.{bare}
 use Rattle.sl_pieces.proofs.scopes.Staying.{item_stays}
-use Rattle.sl_pieces.specs.seats.Trees.{give_seats, fill_entry, most_seats}
+use Rattle.sl_pieces.specs.seats.Trees.{give_seats, fill_entry}
 use Rattle.sl_pieces.proofs.seats.Minima.{minima_kept}
 
 -- ---- of the first entries: their next seats, the records of their first ones, and their weights that are told
@@ -188,13 +188,7 @@ module _ {c : CountingCode} {e : Election} {f : Form} {x : Slots} {name : List �
 
   at_entry_as : (s t : State) → AtEntry g v seats j i s → OnItem i t → t.registers reg.AMOUNT ≡ s.registers reg.AMOUNT → t.registers reg.TOTAL ≡ s.registers reg.TOTAL
       → t.registers reg.WEIGHT ≡ s.registers reg.WEIGHT → AtEntry g v seats j i t
-  at_entry_as s t h on amount total weight = record {
-    on_item = on;
-    on_scope = entry.scope t on;
-    amount = amount ∙ h.amount;
-    total = total ∙ h.total;
-    weight = weight ∙ h.weight;
-  }
+  at_entry_as s t h on amount total weight = assumption (entry.scope t on, amount ∙ h.amount, total ∙ h.total, weight ∙ h.weight)
 
   -- its votes
   weighed : (s : State) → OnItem i s → FirstFilled e x g a v seats told before j j j (bare s)
@@ -217,12 +211,10 @@ module _ {c : CountingCode} {e : Election} {f : Form} {x : Slots} {name : List �
       (λ t r kept.
       let same : SameSeats s t = same_seats finds.leaves kept in
       let on : OnItem i t = item_stays i s t (kept.party finds.leaves.party) (kept.land finds.leaves.land) (kept.win finds.leaves.win) here.on_item in
-      record {
-        at_entry = at_entry_as s t here on same.amount same.total (register_kept finds.leaves kept reg.WEIGHT refl);
-        filled = filled_as j j t h same (kept.table finds.table ∙ h.table) (kept.steps_kept finds.leaves.steps ∙ h.steps) (kept.weights_kept finds.weights ∙ h.weights);
-        base_is = r.0;
-        rest = r.1;
-      })
+      assumption (
+        at_entry_as s t here on same.amount same.total (register_kept finds.leaves kept reg.WEIGHT refl),
+        filled_as j j t h same (kept.table finds.table ∙ h.table) (kept.steps_kept finds.leaves.steps ∙ h.steps) (kept.weights_kept finds.weights ∙ h.weights),
+      ))
 
   -- they are written down
   stored_cells : (s : State) → ((q : ℕ) (y : Item) → q < j → slice_get g.entries q ≡ Some y → s.columns x.result (place e y) ≡ slice_index a.ladders.base q)
@@ -249,10 +241,7 @@ module _ {c : CountingCode} {e : Election} {f : Form} {x : Slots} {name : List �
   -- and are no longer among those that are left
   less_left : (s : State) → Stands j j j s → s.registers reg.LEFT - s.registers reg.BASE ≡ seats - sum (take (j + 1) a.ladders.base)
   less_left s h =
-      let is : s.registers reg.BASE ≡ slice_index a.ladders.base j = h.base_is in
-      let so_far : s.registers reg.LEFT ≡ seats - sum (take j a.ladders.base) = h.filled.left in
-      let next : sum (take (j + 1) a.ladders.base) ≡ sum (take j a.ladders.base) + slice_index a.ladders.base j = (sum_so_far a.ladders.base j base_within).0 in
-      omega (arith, is, so_far, next)
+      omega (arith, (sum_so_far a.ladders.base j base_within).0)
 
   -- so the entry stands, with so many that are recorded
   taken : (s : State) (registers : ℕ → ℕ) (k : ℕ) → Stands j j j s → registers reg.AMOUNT ≡ s.registers reg.AMOUNT → registers reg.TOTAL ≡ s.registers reg.TOTAL
@@ -301,15 +290,13 @@ module _ {c : CountingCode} {e : Election} {f : Form} {x : Slots} {name : List �
       → Achieves c e (records_all x.stage (kind_of f)) s (Stands (j + 1) (j + 1) j) Never
   listed s h number turns =
       let n : ℕ = slice_index a.ladders.base j in
-      let few : seats ≤ MAX_SEATS = given.few in
-      let most : MAX_SEATS ≡ most_seats = refl in
       let tree : Tree = records_all x.stage (kind_of f) in
       achieves_so
       (seats_recorded c e x.stage (kind_of f) g.scope i (arenas.table_of a (first_waiting a j)) (place e i) given.slots.stage
       (λ u on. given.scope.kind u (entry.scope u on))
       (λ u on. ap (λ k. index_at e k u) given.arena.entries ∙ entry.index u on)
       (ap (λ k. item_of e k (place e i)) given.arena.entries ∙ entry.item)
-      n s (omega (arith, seats_within, few, most)) turns number h.filled.table h.at_entry.on_item)
+      n s (omega (arith, seats_within)) turns number h.filled.table h.at_entry.on_item)
       (λ t r.
       let kept : KeepsRest tree s t = r.1 in
       let amount : t.registers reg.AMOUNT ≡ s.registers reg.AMOUNT = kept.registers reg.AMOUNT refl in

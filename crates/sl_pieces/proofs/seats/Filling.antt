@@ -30,8 +30,7 @@ use Rattle.sl_code.specs.declared.instr.Instr.TheVariants.{Mov, Table}
 use Rattle.sl_code.specs.declared.operand.Ranking.{Ranking}
 use Rattle.sl_code.specs.Codes.{CountingCode}
 use Rattle.sl_code.specs.declared.operand.Ranking.TheVariants as ranking
-use Rattle.sl_machine.specs.State.{State, PriorityTable, with_register}
-use Rattle.sl_machine.specs.Effects.{with_table}
+use Rattle.sl_machine.specs.State.{State, PriorityTable}
 use Rattle.sl_plans.specs.Trees.{Tree, Line}
 use Rattle.sl_plans.specs.Achieves.{Achieves, Never}
 use Rattle.sl_plans.proofs.Rules.{then_achieves, ends_in, achieves_so}
@@ -93,7 +92,6 @@ module _ {c : CountingCode} {e : Election} {f : Form} {x : Slots} {name : List �
       → Achieves c e (Line (Table (table_of f) by ∷ (Mov reg.LEFT reg.AMOUNT ∷ []))) before (λ t. OnScope g.scope t × FirstFilled e x g a v seats told before 0 0 0 (bare t)) Never
   begins on amount total =
       let empty : PriorityTable = record { entries = table_of f; ranking = by; contents = [] } in
-      let last : State = with_register reg.LEFT (before.registers reg.AMOUNT) (with_table empty before) in
       let all : seats ≡ seats - sum [] = omega arith in
       let same : empty ≡ arenas.table_of a (first_waiting a 0) = ap₂ (λ k r. record { entries = k; ranking = r; contents = [] }) (sym given.arena.entries) (sym given.arena.ranking) in
       ends_in refl (
@@ -141,17 +139,7 @@ module _ {c : CountingCode} {e : Election} {f : Form} {x : Slots} {name : List �
 
 pub fills_achieve : FillsAchieve
 fills_achieve c e f x name k g a by v m seats Rest told base enter state at slots arena finds enters fits few on amount total votes minima =
-    let given : Fills c e f x name g a by v m seats Rest told base enter state = record {
-      scope = scopes_hold e f k g at;
-      slots = slots;
-      arena = arena;
-      finds = finds;
-      enters = enters;
-      fits = fits;
-      few = few;
-      votes = votes;
-      minima = minima;
-    } in
+    let given : Fills c e f x name g a by v m seats Rest told base enter state = assumption (scopes_hold e f k g at) in
     then_achieves (begins given on amount total) (λ t h.
     achieves_so (each_entry c e f k g (fill_entry f x base enter) (λ j. FirstFilled e x g a v seats told state j j j) Never t at (visits given) h.0 h.1)
     (λ u r. ends given u r.0 r.1))

@@ -22,9 +22,8 @@ least_at : (xs : List ℕ) (k : ℕ) → IsStrictlyIncreasing xs → k < length 
 least_at xs zero rise less = omega arith
 least_at xs (suc k) rise less =
     let next : k + 1 ≡ suc k = omega arith in
-    let least : k ≤ slice_index xs k = least_at xs k rise (omega (arith, less)) in
     let higher : slice_index xs k < slice_index xs (suc k) = subst (λ (n : ℕ). slice_index xs k < slice_index xs n) next (rise k (omega (arith, less))) in
-    omega (arith, least, higher)
+    omega (arith, least_at xs k rise (omega (arith, less)), higher)
 
 -- there are no more of them than numbers below their bound
 rising_few : (xs : List ℕ) (n : ℕ) → IsStrictlyIncreasing xs → ((k : ℕ) → k < length xs → slice_index xs k < n) → length xs ≤ n
@@ -33,25 +32,20 @@ rising_few xs n rise below = of (length xs) refl
     of : (m : ℕ) → length xs ≡ m → length xs ≤ n
     of zero is = omega (arith, is)
     of (suc k) is =
-        let less : k < length xs = omega (arith, is) in
-        let least : k ≤ slice_index xs k = least_at xs k rise less in
-        let high : slice_index xs k < n = below k less in
-        omega (arith, is, least, high)
+        omega (arith, is, least_at xs k rise)
 
 -- ---- entries
 
 module _ (e : Election) (f : Form) (g : Group) (h : IsScope e f g) where
   place_below : (k : ℕ) → k < length (map (place e) g.entries) → slice_index (map (place e) g.entries) k < cells_of e (votes_of f)
   place_below k less =
-      let long : length (map (place e) g.entries) ≡ length g.entries = length-map g.entries (place e) in
-      let there = element_there g.entries k (omega (arith, less, long)) in
+      let there = element_there g.entries k (omega (arith, less, length-map g.entries (place e))) in
       subst (λ (n : ℕ). n < cells_of e (votes_of f)) (sym (mapped_at (place e) g.entries k there.0 there.1)) (h.entry k there.0 there.1).within
 
   few_entries : length g.entries ≤ cells_of e (votes_of f)
   few_entries =
-      let long : length (map (place e) g.entries) ≡ length g.entries = length-map g.entries (place e) in
       let all : length (map (place e) g.entries) ≤ cells_of e (votes_of f) = rising_few (map (place e) g.entries) (cells_of e (votes_of f)) h.increasing place_below in
-      omega (arith, long, all)
+      omega (arith, length-map g.entries (place e), all)
 
 few_cells : (e : Election) (f : Form) → IsElection e → cells_of e (votes_of f) ≤ MAX_LANDS * MAX_PARTIES
 few_cells e f is = of f
@@ -64,8 +58,7 @@ few_cells e f is = of f
 
     lists : lands_of e * parties_of e ≤ MAX_LANDS * MAX_PARTIES
     lists =
-        let rows : lands_of e * parties_of e ≤ MAX_LANDS * parties_of e = mul-le-mul_right (parties_of e) l in
-        omega (arith, rows, p)
+        omega (arith, mul-le-mul_right (parties_of e) l, p)
 
     of : (f : Form) → cells_of e (votes_of f) ≤ MAX_LANDS * MAX_PARTIES
     of AllParties = omega (arith, p)
@@ -78,9 +71,4 @@ pub weights_fit : (e : Election) (f : Form) (m : ℕ) (g : Group) (column : ℕ 
 weights_fit e f m g column v is at cells small =
     let entries : length g.entries ≤ cells_of e (votes_of f) = few_entries e f g (scopes_hold e f m g at) in
     let all : cells_of e (votes_of f) ≤ MAX_LANDS * MAX_PARTIES = few_cells e f is in
-    let one_each : length v ≡ length g.entries = cells.one_each in
-    let short : length v ≤ MAX_LANDS * MAX_PARTIES = omega (arith, entries, all, one_each) in
-    let each : sum v ≤ length v * MAX_WEIGHT = sum_by-le (λ x. x) MAX_WEIGHT v small in
-    let wide : length v * MAX_WEIGHT ≤ MAX_LANDS * MAX_PARTIES * MAX_WEIGHT = mul-le-mul_right MAX_WEIGHT short in
-    let fits : MAX_LANDS * MAX_PARTIES * MAX_WEIGHT ≤ most = omega arith in
-    omega (arith, each, wide, fits)
+    omega (arith, sum_by-le (λ x. x) MAX_WEIGHT v small)

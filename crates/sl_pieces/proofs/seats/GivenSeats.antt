@@ -64,31 +64,23 @@ module _ (c : CountingCode) (e : Election) (stage : ℕ) (k : ScopeKind) (on : S
       let third : State = with_register reg.NUMBER x (with_register ones 1 (with_register reg.TURNS w (with_register ones 1 s))) in
       let last : State = with_step (record { stage = stage; scope = on; entry = item_of e t.entries p; n = x; step = 0; mark = mark.Given }) third in
       let within : suc w ≤ n = h.within in
-      let number : s.registers reg.NUMBER ≡ n - suc w = h.number in
       let next : n - suc w + 1 ≡ n - w = omega (arith, within) in
-      let is : x ≡ n - suc w + 1 = omega (arith, number, within, few) in
+      let is : x ≡ n - suc w + 1 = omega (arith, within, few) in
       line_goes refl (line_goes refl
       (line_goes (given_does c e third stage k stage on numbered (scope third h.on_item) t p h.table (index third h.on_item) reg.NUMBER)
-      (line_ends (record {
-        within = omega (arith, within);
-        number = is ∙ next;
-        steps_are = one_more steps s.steps (n - suc w) x (item_of e t.entries p) item is h.steps_are ∙ ap (λ m. steps ++ map (given_seat stage on i) (range_with_len 0 m)) next;
-        table = h.table;
-        on_item = h.on_item;
-      }))))
+      (line_ends (search (
+        arith,
+        is ∙ next,
+        one_more steps s.steps (n - suc w) x (item_of e t.entries p) item is h.steps_are ∙ ap (λ m. steps ++ map (given_seat stage on i) (range_with_len 0 m)) next,
+      )))))
 
   pub seats_recorded : (n : ℕ) (s : State) → n ≤ most_seats → s.registers reg.TURNS ≡ n → s.registers reg.NUMBER ≡ 0 → s.table ≡ Some t → OnItem i s
       → Achieves c e (records_all stage k) s (λ u. (u.steps ≡ s.steps ++ map (given_seat stage on i) (range_with_len 0 n)) × KeepsRest (records_all stage k) s u) Never
   seats_recorded n s few turns number table here =
       let none : n - n ≡ 0 = omega arith in
       let all : n - 0 ≡ n = omega arith in
-      let begins : Recorded s.steps n n s = record {
-        within = omega arith;
-        number = number ∙ sym none;
-        steps_are = sym (append-nil s.steps) ∙ ap (λ m. s.steps ++ map (given_seat stage on i) (range_with_len 0 m)) (sym none);
-        table = table;
-        on_item = here;
-      } in
+      let begins : Recorded s.steps n n s = search
+      (arith, number ∙ sym none, sym (append-nil s.steps) ∙ ap (λ m. s.steps ++ map (given_seat stage on i) (range_with_len 0 m)) (sym none)) in
       achieves_kept (times_keeping (Recorded s.steps n) refl refl (omega (arith, turns, few)) (subst (λ m. Recorded s.steps n m s) (sym turns) begins)
       (λ w u is h. one_recorded s.steps n w u few h)
       (λ u is h. h.steps_are ∙ ap (λ m. s.steps ++ map (given_seat stage on i) (range_with_len 0 m)) all))

@@ -1,6 +1,6 @@
 -- The elements of lists that are made of others, lists in pieces, one for each of their first elements, sums of first numbers, and numbers that stand apart.
 use Rattle.std.proofs.Common.{◌≡◌, ℕ, zero, suc, ◌+◌, ◌<◌, ◌≤◌, List, [], ◌∷◌, ◌++◌, length, map, take, slice_get, Some, option_map, sum, All, refl, sym, ap, ap₂, append_assoc, ◌∙◌, inl, inr, arith}
-use Rattle.std.specs.Prelude.{flat_map, slice_index, Contains}
+use Rattle.std.specs.Prelude.{flat_map, slice_index}
 use Rattle.std.specs.List.{range_with_len, enumerate_from}
 use Rattle.std.specs.List.Sorted.{IsStrictlyIncreasing}
 use Rattle.std.proofs.lemmas.Option.{slice_get_within, slice_get-get_or, get_or_from_slice_get, slice_get-map}
@@ -10,7 +10,6 @@ use Rattle.std.proofs.lemmas.List.Elements.{All-get_or}
 use Rattle.std.proofs.lemmas.List.FromFn.{length-range_with_len, get_or-range_with_len, length-enumerate_from, get_or-enumerate_from}
 use Rattle.std.proofs.lemmas.List.Kept.{AllPairs-from_increasing}
 use Rattle.std.proofs.lemmas.List.Sums.{sum_by_more, sum_by-take-le}
-use Rattle.sl_stages.proofs.methods.RaisedSeats.{Contains-cases, Contains-none}
 
 -- ---- elements
 
@@ -42,13 +41,6 @@ number_within limit values j all =
       | inl less ↦ All-get_or (λ n. n ≤ limit) values j 0 less all
       | inr past ↦ let none : slice_index values j ≡ 0 = get_or_past values j 0 past in omega (arith, none)
     ]
-
--- a list of one has no other number
-pub only_it : (i j : ℕ) → Contains (i ∷ []) j → i ≡ j
-only_it i j c = elim (Contains-cases i [] j c) [ inl same ↦ same | inr none ↦ absurd (Contains-none j none) ]
-
-pub not_it : (i j : ℕ) → ¬ (j ≡ i) → ¬ Contains (i ∷ []) j
-not_it i j other c = other (sym (only_it i j c))
 
 -- ---- pieces
 

@@ -4,9 +4,7 @@ use Rattle.std.specs.Prelude.{sum, slice_get, slice_index, nat_lt, nat_le}
 use Rattle.std.specs.List.{zip, list_any}
 use Rattle.std.proofs.lemmas.Bool.{cases_Bool, cond-true, cond-false, lt-ltb, le-ltb, le-leb, lt-leb, and_from, and_left, and_right, or_from}
 use Rattle.std.proofs.lemmas.List.{take_all}
-use Rattle.std.proofs.lemmas.List.Elements.{All-get_or}
 use Rattle.std.proofs.lemmas.List.Folds.{list_any_more, list_any_at}
-use Rattle.std.proofs.lemmas.List.Sums.{get_or-le-sum_by}
 use Rattle.std.proofs.lemmas.Option.{slice_get_within}
 use Rattle.std.proofs.lemmas.Slice.Zip.{length-zip, get_or-zip}
 use Rattle.sl_ratio.specs.declared.limits.TheConstants.{MAX_WEIGHT, MAX_SEATS}
@@ -79,25 +77,12 @@ module _ (v : List ℕ) (seats : ℕ) (s : List ℕ) where
 
 -- ---- the clause
 
-never_third : (b d : Bool) → (b && d && false) ≡ false
-never_third true true = refl
-never_third true false = refl
-never_third false true = refl
-never_third false false = refl
-
 module _ (m : Majority) (v : List ℕ) (seats : ℕ) (s : List ℕ) where
   allowed_none : is_deprived v seats s ≡ false → is_refused m v seats s ≡ false
-  allowed_none none = ap (λ b. is_refuse m && nat_le 1 seats && b) none ∙ never_third (is_refuse m) (nat_le 1 seats)
+  allowed_none none = and_right (is_refuse m && nat_le 1 seats) (is_deprived v seats s) none
 
   allowed_empty : seats ≡ 0 → is_refused m v seats s ≡ false
-  allowed_empty zero = rw (lt-leb 1 seats (omega (arith, zero))) (no_second (is_refuse m))
-    where
-      no_second : (b : Bool) → (b && false && is_deprived v seats s) ≡ false
-      no_second true = refl
-      no_second false = refl
-
-  allowed_other : is_refuse m ≡ false → is_refused m v seats s ≡ false
-  allowed_other other = rw other refl
+  allowed_empty zero = and_left (is_refuse m && nat_le 1 seats) (is_deprived v seats s) (and_right (is_refuse m) (nat_le 1 seats) (lt-leb 1 seats (omega (arith, zero))))
 
   refused_deprived : is_refuse m ≡ true → 1 ≤ seats → is_deprived v seats s ≡ true → is_refused m v seats s ≡ true
   refused_deprived is some one = rw (is, le-leb 1 seats some, one) refl
@@ -125,24 +110,20 @@ module _ (c : CountingCode) (e : Election) (f : Form) (x : Slots) (name : List �
       let q : ℕ = place e i in
       let k : ℕ = t.columns x.result q in
       let w : State = with_register reg.HELD (min (k + k) most) (with_register reg.HELD k t) in
-      let long : length v ≡ length g.entries = weights.one_each in
-      let less : j < length v = omega (arith, long, slice_get_within g.entries j i at) in
+      let less : j < length v = omega (arith, slice_get_within g.entries j i at) in
       let held : k ≡ slice_index s j = ap (λ (r : ℕ → ℕ → ℕ). r x.result q) h.1.columns ∙ seated.at j i at in
-      let part : slice_index s j ≤ sum s = get_or-le-sum_by (λ y. y) s j 0 (omega (arith, less, lengths)) in
-      let amount : t.registers reg.AMOUNT ≡ seats = h.1.amount in
-      let big : 2 * MAX_SEATS < most = omega arith in
       let more : nat_lt (sum v) (2 * slice_index v j) ≡ true = lt-ltb (sum v) (2 * slice_index v j) major in
       line_first (get_does c e t x.result _ slots.result reg.HELD q ((scope.entry j i at).cell t on))
       (line_first refl (line_over (if_less
       (λ enough. line_ends (
         next_allowed v seats s lengths j less h.0
-            (and_right (nat_lt (sum v) (2 * slice_index v j)) (nat_le (2 * slice_index s j) seats) (lt-leb (2 * slice_index s j) seats (omega (arith, enough, amount, held, big, few)))),
+            (and_right (nat_lt (sum v) (2 * slice_index v j)) (nat_le (2 * slice_index s j) seats) (lt-leb (2 * slice_index s j) seats (omega (arith, enough, held, few)))),
         h.1,
       ))
       (λ short. faulty_ends slots scope w end.Majority ((scope.entry j i at).scope t on)
       (record {
         refused = refused_deprived m v seats s is some (one_deprived v seats s lengths j less
-            (and_from (nat_lt (sum v) (2 * slice_index v j)) (nat_le (2 * slice_index s j) seats) more (le-leb (2 * slice_index s j) seats (omega (arith, short, amount, held, big, few, part, all)))));
+            (and_from (nat_lt (sum v) (2 * slice_index v j)) (nat_le (2 * slice_index s j) seats) more (le-leb (2 * slice_index s j) seats (omega (arith, short, held, few, all)))));
         is = refl;
       })))))
 
@@ -152,19 +133,15 @@ module _ (c : CountingCode) (e : Election) (f : Form) (x : Slots) (name : List �
       let q : ℕ = place e i in
       let n : ℕ = t.columns x.votes q in
       let w : State = with_register reg.WEIGHT (min (n + n) most) (with_register reg.WEIGHT n t) in
-      let long : length v ≡ length g.entries = weights.one_each in
-      let less : j < length v = omega (arith, long, slice_get_within g.entries j i at) in
+      let less : j < length v = omega (arith, slice_get_within g.entries j i at) in
       let weight : n ≡ slice_index v j = ap (λ (r : ℕ → ℕ → ℕ). r x.votes q) h.1.columns ∙ weights.at j i at in
-      let light : slice_index v j ≤ MAX_WEIGHT = All-get_or (λ y. y ≤ MAX_WEIGHT) v j 0 less small in
-      let total : t.registers reg.TOTAL ≡ sum v = h.1.total in
-      let big : 2 * MAX_WEIGHT ≤ most = omega arith in
       line_first (get_does c e t x.votes _ slots.votes reg.WEIGHT q ((scope.entry j i at).cell t on))
       (line_first refl (line_over (if_less
       (λ major. one_major j i w at on h
-      (omega (arith, major, total, weight, light, big)))
+      (omega (arith, major, weight)))
       (λ minor. line_ends (
         next_allowed v seats s lengths j less h.0
-            (and_left (nat_lt (sum v) (2 * slice_index v j)) (nat_le (2 * slice_index s j) seats) (le-ltb (sum v) (2 * slice_index v j) (omega (arith, minor, total, weight, light, big)))),
+            (and_left (nat_lt (sum v) (2 * slice_index v j)) (nat_le (2 * slice_index s j) seats) (le-ltb (sum v) (2 * slice_index v j) (omega (arith, minor, weight)))),
         h.1,
       )))))
 
@@ -188,7 +165,7 @@ majority_is_kept c e f x name k g a v seats told majority before s state at slot
           (λ w some. let amount : state.registers reg.AMOUNT ≡ seats = h.amount in course is (omega (arith, some, amount))))
       | inr other ↦
           subst (λ (tree : Tree). Achieves c e tree state Q E) (sym (cond-false (is_refuse majority) checked nothing other))
-          (line_ends (record { seated = h; allowed = allowed_other majority v seats s other }))
+          (line_ends (record { seated = h; allowed = rw other refl }))
     ]
   where
     Q : State → Type 0

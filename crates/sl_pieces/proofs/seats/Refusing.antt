@@ -15,7 +15,7 @@ use Rattle.sl_machine.specs.State.{State, End, Faulted, with_register}
 use Rattle.sl_machine.specs.Effects as effects
 use Rattle.sl_machine.specs.Effects.{most}
 use Rattle.sl_machine.proofs.effects.Records.{fault_ends}
-use Rattle.sl_machine.proofs.effects.Storing.{register_same, register_other}
+use Rattle.sl_machine.proofs.effects.Storing.{register_other}
 use Rattle.sl_plans.specs.declared.plan.Test.TheVariants as test
 use Rattle.sl_plans.specs.Trees.{Tree, If}
 use Rattle.sl_plans.specs.Achieves.{Achieves}
@@ -43,11 +43,10 @@ module _ {c : CountingCode} {e : Election} {f : Form} {x : Slots} {name : List �
   not_over_achieves s r n why other on over within =
       let t : State = with_register reg.FIRST_PASSING n s in
       let same : t.registers r ≡ s.registers r = register_other s reg.FIRST_PASSING n r other in
-      let limit : t.registers reg.FIRST_PASSING ≡ n = register_same s reg.FIRST_PASSING n in
       line_first refl
       (line_over (if_less
-      (λ more. faulty_ends t why on (over (omega (arith, more, same, limit))))
-      (λ few. line_ends (within (omega (arith, few, same, limit))))))
+      (λ more. faulty_ends t why on (over (omega (arith, more, same))))
+      (λ few. line_ends (within (omega (arith, few, same))))))
 
 -- ---- refusals
 
@@ -77,20 +76,18 @@ pub seats_are_refused : (c : CountingCode) (e : Election) (f : Form) (x : Slots)
     state.registers reg.TOTAL ≡ sum v → state.registers reg.NEEDED ≡ min (sum m) most →
     Achieves c e (refuses_seats f x) state (GoesOn g v m seats state) (EndsRefused x g v m seats)
 seats_are_refused c e f x name k g v m seats state at slots on small amount total needed =
-    let big : MAX_SEATS < most = omega arith in
     let Q : State → Type 0 = GoesOn g v m seats state in
-    let E = EndsRefused x g v m seats in
     let scope : IsScope e f g = scopes_hold e f k g at in
     let rest : Tree = If (test.Zero reg.TOTAL) (If (test.Less reg.NEEDED reg.AMOUNT) (faulty f x end.NoList) nothing) nothing in
     then_achieves {Q = λ t. (state ≡ t) × (sum m ≤ seats)}
     (if_less
     (λ less. faulty_ends slots scope state end.Short on
-    (record { kind = fault.Short; refused = refused_short v m seats (omega (arith, less, amount, needed, small, big)); is = refl }))
-    (λ other. line_ends (refl, omega (arith, other, amount, needed, small, big))))
-    (λ t h. subst (λ (u : State). Achieves c e rest u Q E) h.0
+    (record { kind = fault.Short; refused = refused_short v m seats (omega (arith, less, amount, needed, small)); is = refl }))
+    (λ other. line_ends (refl, omega (arith, other, amount, needed, small))))
+    (λ t h. subst (λ (u : State). Achieves c e rest u Q (EndsRefused x g v m seats)) h.0
     (if_zero
     (λ none. if_less
     (λ less. faulty_ends slots scope state end.NoList on
-    (record { kind = fault.NoList; refused = refused_empty v m seats h.1 (omega (arith, none, total)) (omega (arith, less, amount, needed, small, big)); is = refl }))
+    (record { kind = fault.NoList; refused = refused_empty v m seats h.1 (omega (arith, none, total)) (omega (arith, less, amount, needed, small)); is = refl }))
     (λ other. line_ends (record { same = refl; no_refusal = not_refused_met v m seats h.1 (omega (arith, other, amount, needed)) })))
     (λ w some. line_ends (record { same = refl; no_refusal = not_refused_field v m seats h.1 w (omega (arith, some, total)) }))))

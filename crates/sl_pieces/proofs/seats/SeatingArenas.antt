@@ -46,6 +46,4 @@ module _ (e : Election) (f : Form) (g : Group) (a : Arena) (of : OfScope e f g a
   pub entry_there : (j held : ℕ) → Has a.ladders j held → (i : Item) × (slice_get g.entries j ≡ Some i)
   entry_there j held has =
       let low : j < length a.ladders.base = of.arena.falling.within j held has in
-      let long : length a.places ≡ length g.entries = ap (λ ps. length ps) of.places ∙ length-map g.entries (place e) in
-      let same = of.arena.long in
-      element_there g.entries j (omega (arith, low, long, same))
+      element_there g.entries j (omega (arith, low, ap (λ ps. length ps) of.places ∙ length-map g.entries (place e)))

@@ -23,7 +23,8 @@ use Rattle.sl_pieces.specs.inner.awards.Batches.{Gets}
 use Rattle.sl_pieces.specs.inner.awards.Awards.{IsCounted}
 use Rattle.sl_pieces.specs.seats.Slots.{Slots}
 use Rattle.sl_pieces.specs.inner.seats.Seated.{HasSteps, steps_upto}
-use Rattle.sl_pieces.proofs.seats.Lists.{numbered_at, number_there, not_it}
+use Rattle.sl_pieces.proofs.arenas.Pieces.{not_it}
+use Rattle.sl_pieces.proofs.seats.Lists.{numbered_at, number_there}
 
 -- ---- the records of the seats of a list of entries
 
@@ -50,11 +51,10 @@ module _ (made : ℕ → Item → ℕ → SeatStep) where
       let is : y.0 ≡ k = number_there entries k y there in
       ap (λ n. map (made y.0 y.1) (range_with_len 0 n)) (sym (others y.0 (λ same. other (sym is ∙ same))))) in
       let rest : List SeatStep = change.rest in
-      let first : IsPermutation (old ++ r) ((mine ++ rest) ++ r) = IsPermutation-append_left r old (mine ++ rest) change.before in
       let second : IsPermutation ((mine ++ rest) ++ r) (mine ++ (r ++ rest)) =
       subst (λ l. IsPermutation l (mine ++ (r ++ rest))) (sym (append_assoc mine rest r)) (IsPermutation-append_right mine (rest ++ r) (r ++ rest) (IsPermutation-append_comm rest r)) in
       let third : mine ++ (r ++ rest) ≡ piece u (j, i) ++ rest = sym (append_assoc mine r rest) ∙ ap (λ l. l ++ rest) (sym (piece_more t u j i more)) in
-      IsPermutation-trans (old ++ r) ((mine ++ rest) ++ r) new first
+      IsPermutation-trans (old ++ r) ((mine ++ rest) ++ r) new (IsPermutation-append_left r old (mine ++ rest) change.before)
       (IsPermutation-trans ((mine ++ rest) ++ r) (mine ++ (r ++ rest)) new second
       (subst (λ l. IsPermutation l new) (sym third) (IsPermutation-sym new (piece u (j, i) ++ rest) change.after)))
 

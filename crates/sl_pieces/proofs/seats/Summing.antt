@@ -1,5 +1,5 @@
 -- The sums of the votes and of the minima of a scope's entries.
-use Rattle.std.proofs.Common.{◌≡◌, ℕ, ◌+◌, ◌*◌, ◌<◌, ◌≤◌, false, List, ◌∷◌, length, take, min, Option, Some, None, refl, sym, ap, ◌∙◌, arith}
+use Rattle.std.proofs.Common.{◌≡◌, ℕ, ◌+◌, ◌<◌, false, List, ◌∷◌, length, take, min, Option, Some, None, refl, sym, ap, ◌∙◌, arith}
 use Rattle.std.specs.Prelude.{sum, slice_get, slice_index}
 use Rattle.std.proofs.lemmas.List.Folds.{sum_by-replicate}
 use Rattle.std.proofs.lemmas.List.Sums.{sum_by-take-le}
@@ -18,6 +18,7 @@ use Rattle.sl_plans.specs.Achieves.{Achieves, Never}
 use Rattle.sl_plans.specs.Frames.{may_write_register}
 use Rattle.sl_plans.proofs.Rules.{line_ends, line_goes, then_achieves, ends_in}
 use Rattle.sl_plans.proofs.KeepingRules.{achieves_keeping}
+use Rattle.sl_machine.specs.Frames.{writes_register}
 use Rattle.sl_pieces.specs.scopes.Forms.{Form, votes_of, table_of, entries_plan, OnScope, OnItem, groups_of}
 use Rattle.sl_pieces.specs.inner.scopes.Walks.{bare, Visits}
 use Rattle.sl_pieces.specs.scopes.Scopes.{IsEntry}
@@ -30,7 +31,7 @@ use Rattle.sl_pieces.specs.seats.Trees.{add_minimum, sums}
 use Rattle.sl_pieces.specs.inner.seats.Summing.{AreSummed}
 use Rattle.sl_pieces.proofs.seats.Lists.{sum_of_all, sum_so_far}
 use Rattle.sl_pieces.proofs.seats.Minima.{minima_long}
-use Rattle.sl_pieces.proofs.seats.Unchanged.{LeavesAll, entries_leave, register_free, unchanged}
+use Rattle.sl_pieces.proofs.seats.Unchanged.{LeavesAll, entries_leave, entries_free, unchanged}
 
 -- ---- sums of the first numbers
 
@@ -52,15 +53,12 @@ first_all v n long = sum_of_all v n long
 first_zero : (v : List ℕ) (j : ℕ) → first_sum (no_minima v) j ≡ 0
 unfolding first_sum
 first_zero v j =
-    let part : sum (take j (no_minima v)) ≤ sum (no_minima v) = sum_by-take-le (λ x. x) (no_minima v) j in
-    let all : sum (no_minima v) ≡ length v * 0 = sum_by-replicate (λ x. x) (length v) 0 in
-    omega (arith, part, all)
+    omega (arith, sum_by-take-le (λ x. x) (no_minima v) j, sum_by-replicate (λ x. x) (length v) 0)
 
 -- a register that holds the sum of the first numbers holds the next one's, too
 next_held : (v : List ℕ) (j a x : ℕ) → j < length v → a ≡ min (first_sum v j) most → x ≡ slice_index v j → min (a + x) most ≡ min (first_sum v (j + 1)) most
 next_held v j a x less so_far cell =
-    let more : first_sum v (j + 1) ≡ first_sum v j + slice_index v j = first_more v j less in
-    omega (arith, so_far, cell, more)
+    omega (arith, so_far, cell, first_more v j less)
 
 -- ---- the plan
 
@@ -89,8 +87,7 @@ module _ (c : CountingCode) (e : Election) (f : Form) (g : Group) (votes : ℕ) 
       let q : ℕ = place e i in
       let x : ℕ = u.columns slot q in
       let read : x ≡ slice_index m j = ap (λ (k : ℕ → ℕ → ℕ). k slot q) columns ∙ minima.at j i at in
-      let long : length m ≡ length g.entries = minima.one_each in
-      let less : j < length m = omega (arith, long, slice_get_within g.entries j i at) in
+      let less : j < length m = omega (arith, slice_get_within g.entries j i at) in
       line_goes (get_does c e u slot (votes_of f) (there slot refl) reg.BASE q ((entry j i at).cell u on))
       (ends_in refl (record { columns = columns; total = total; needed = next_held m j (u.registers reg.NEEDED) x less needed read }))
 
@@ -102,8 +99,7 @@ module _ (c : CountingCode) (e : Election) (f : Form) (g : Group) (votes : ℕ) 
       let u : State = with_register reg.WEIGHT x s in
       let w : State = with_register reg.TOTAL (min (u.registers reg.TOTAL + u.registers reg.WEIGHT) most) u in
       let read : x ≡ slice_index v j = ap (λ (k : ℕ → ℕ → ℕ). k votes q) h.columns ∙ weights.at j i at in
-      let long : length v ≡ length g.entries = weights.one_each in
-      let less : j < length v = omega (arith, long, slice_get_within g.entries j i at) in
+      let less : j < length v = omega (arith, slice_get_within g.entries j i at) in
       line_goes (get_does c e s votes (votes_of f) known reg.WEIGHT q ((entry j i at).cell s on))
       (line_goes refl
       (one_minimum o there minima j i w at on h.columns (next_held v j (s.registers reg.TOTAL) x less h.total read) h.needed))
@@ -133,17 +129,15 @@ pub sums_achieve : (c : CountingCode) (e : Election) (f : Form) (x : Slots) (nam
 sums_achieve c e f x name k g v m state at slots on weights minima =
     let entry : (j : ℕ) (i : Item) → slice_get g.entries j ≡ Some i → IsEntry e (table_of f) (votes_of f) g.scope i = (scopes_hold e f k g at).entry in
     let Inv : ℕ → State → Type 0 = Summed c e f g x.votes v m state slots.votes entry weights in
-    let begun : State = with_register reg.NEEDED 0 (with_register reg.TOTAL 0 state) in
     let long : length m ≡ length g.entries = minima_long e g.entries v m x.minima state weights.one_each minima ∙ weights.one_each in
     let course : Achieves c e (sums f x) state (λ t. OnScope g.scope t × Inv (length g.entries) (bare t)) Never =
     then_achieves {Q = λ t. OnScope g.scope t × Inv 0 (bare t)}
     (ends_in refl (on, record { columns = refl; total = first_none v; needed = first_none m }))
     (λ t h. each_entry c e f k g (body_of x.votes x.minima) Inv Never t at (visits c e f g x.votes v m state slots.votes entry weights x.minima slots.minima minima) h.0 h.1) in
     achieves_keeping course
-    (λ t h kept. record {
-      on = h.0;
-      amount = kept.registers reg.AMOUNT (register_free f (body_of x.votes x.minima) reg.AMOUNT (body_keeps_amount x.votes x.minima));
-      total = h.1.total ∙ ap (λ n. min n most) (first_all v (length g.entries) weights.one_each);
-      needed = h.1.needed ∙ ap (λ n. min n most) (first_all m (length g.entries) long);
-      unchanged = unchanged (sums f x) state t (sums_leave f x) kept;
-    })
+    (λ t h kept. assumption (
+      kept.registers reg.AMOUNT (entries_free (λ i. writes_register i reg.AMOUNT) f (body_of x.votes x.minima) refl refl refl (body_keeps_amount x.votes x.minima)),
+      h.1.total ∙ ap (λ n. min n most) (first_all v (length g.entries) weights.one_each),
+      h.1.needed ∙ ap (λ n. min n most) (first_all m (length g.entries) long),
+      unchanged (sums f x) state t (sums_leave f x) kept,
+    ))

@@ -26,10 +26,9 @@ module _ (v : List ℕ) where
     told_from n (i ∷ entries) [] long same = absurd (omega (arith, long))
     told_from n (i ∷ entries) (w ∷ vs) long same =
         let first : n + 0 ≡ n = omega arith in
-        let here : slice_index v n ≡ w = ap (slice_index v) (sym first) ∙ same 0 in
         let later : (k : ℕ) → slice_index v (n + 1 + k) ≡ slice_index vs k = λ k. let next : n + 1 + k ≡ n + suc k = omega arith in ap (slice_index v) next ∙ same (suc k) in
         let rest = told_from (n + 1) entries vs (omega (arith, long)) later in
-        rw here
+        rw (ap (slice_index v) (sym first) ∙ same 0)
         (elim (cases_Bool (nat_lt 0 w)) [
           | inl there ↦ rw there (ap (λ ws. weight_of i w ∷ ws) rest)
           | inr none ↦ rw none rest

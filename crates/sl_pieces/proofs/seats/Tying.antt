@@ -49,8 +49,7 @@ some_seat : (X : List ℕ → Type 0) (among : List ℕ) (k i : ℕ) → AreTied
 some_seat X among k i are there =
     let tie = are.entries.has_only i there in
     let raised = are.number tie.0 tie.1 in
-    let some = some_there raised.0 i (raised.1.has i tie.2) in
-    omega (arith, some, raised.2)
+    omega (arith, some_there raised.0 i (raised.1.has i tie.2), raised.2)
 
 -- ---- the entries that are tied
 
@@ -62,9 +61,8 @@ module _ (e : Election) (f : Form) (g : Group) (a : Arena) (of : OfScope e f g a
   items_are (j ∷ js) each =
       let found : (i : Item) × (slice_get g.entries j ≡ Some i) = entry_there e f g a of j (slice_index s j) (each j (Contains-head j js)).next in
       let i : Item = found.0 in
-      let rest = items_are js (λ k c. each k (Contains-tail j js k c)) in
       let here : item_of e a.entries (slice_index a.places j) ≡ i = (λ z. item_of e (of.entries z) (place_is e f g a of j i found.1 z)) ∙ (of.scope.entry j i found.1).item in
-      rw found.1 ((λ z. here z ∷ rest z))
+      rw found.1 ((λ z. here z ∷ items_are js (λ k c. each k (Contains-tail j js k c)) z))
 
 module _ (c : CountingCode) (e : Election) (f : Form) (x : Slots) (name : List ℕ) (g : Group) (a : Arena) (v : List ℕ) (seats : ℕ) (told : List Weight) (meant : List ℕ) (before : State)
     (slots : HasSlots c f x name) (of : OfScope e f g a) (few : seats ≤ MAX_SEATS) where

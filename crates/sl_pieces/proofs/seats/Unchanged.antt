@@ -8,7 +8,7 @@ use Rattle.sl_stages.specs.meaning.Scopes.{Group, place}
 use Rattle.sl_code.specs.declared.instr.Instr.{Instr}
 use Rattle.sl_code.specs.declared.instr.Instr.TheVariants as op
 use Rattle.sl_machine.specs.State.{State}
-use Rattle.sl_machine.specs.Frames.{writes_register, writes_slot, records_step, records_weight}
+use Rattle.sl_machine.specs.Frames.{writes_slot, records_step, records_weight}
 use Rattle.sl_plans.specs.Trees.{Tree}
 use Rattle.sl_plans.specs.Frames.{has_instr, may_write_register, may_write_slot, seats_winner, may_seat, may_record_step, may_record_weight, KeepsRest}
 use Rattle.sl_plans.proofs.KeepingRules.{free_of}
@@ -22,16 +22,13 @@ use Rattle.sl_pieces.specs.inner.seats.Filling.{Leaves}
 -- ---- loops over entries
 
 -- the loops over entries are made of these three instructions and of their body
-entries_free : (is_so : Instr → Bool) (f : Form) (body : Tree) → is_so (op.Fparty 0) ≡ false → is_so (op.Fland 0) ≡ false → is_so (op.Jnl 0) ≡ false → has_instr is_so body ≡ false
+pub entries_free : (is_so : Instr → Bool) (f : Form) (body : Tree) → is_so (op.Fparty 0) ≡ false → is_so (op.Fland 0) ≡ false → is_so (op.Jnl 0) ≡ false → has_instr is_so body ≡ false
     → has_instr is_so (entries_plan f body) ≡ false
 entries_free is_so AllParties body p l n b = rw (p, b) refl
 entries_free is_so AllLands body p l n b = rw (l, b) refl
 entries_free is_so AllLists body p l n b = rw (p, l, n, b) refl
 entries_free is_so ListsOfParty body p l n b = rw (l, n, b) refl
 entries_free is_so ListsInLand body p l n b = rw (p, n, b) refl
-
-pub register_free : (f : Form) (body : Tree) (q : ℕ) → may_write_register body q ≡ false → may_write_register (entries_plan f body) q ≡ false
-register_free f body q free = entries_free (λ i. writes_register i q) f body refl refl refl free
 
 -- ---- what stays
 

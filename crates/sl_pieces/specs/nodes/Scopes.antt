@@ -6,7 +6,7 @@ use Rattle.sl_stages.specs.declared.fault.Item.{Item}
 use Rattle.sl_stages.specs.declared.fault.FaultKind.{FaultKind}
 use Rattle.sl_stages.specs.declared.table.SeatStep.{SeatStep}
 use Rattle.sl_stages.specs.returns.Election.{Election}
-use Rattle.sl_stages.specs.meaning.Scopes.{Group, place}
+use Rattle.sl_stages.specs.meaning.Scopes.{Group, place, cells}
 use Rattle.sl_stages.specs.meaning.Records.{Records}
 use Rattle.sl_stages.specs.meaning.Splits.{Award, Seats, Refused}
 use Rattle.sl_stages.specs.meaning.Results.{Stand, fault_at}
@@ -26,11 +26,15 @@ HoldsMinima e shape None s None = Unit {0}
 HoldsMinima e shape (Some slot) s (Some minima) = HoldsColumn e shape (s.columns slot) minima
 HoldsMinima e shape _ s _ = ⊥
 
+-- no entry of a scope has a weight above the limit
+abbrev pub AreWeights : Election → Form → (votes : List ℕ) → Type 0
+AreWeights e f votes = All (λ g. All (λ weight. weight ≤ MAX_WEIGHT) (cells e g.entries votes)) (groups_of e f)
+
 pub record HoldsArguments (e : Election) (f : Form) (x : Slots) (amounts votes : List ℕ) (minima : Option (List ℕ)) (s : State) : Type 0 where
   pub amounts_are : HoldsColumn e (amounts_of f) (s.columns x.amounts) amounts
   pub votes_are : HoldsColumn e (votes_of f) (s.columns x.votes) votes
   pub minima_are : HoldsMinima e (votes_of f) x.minima s minima
-  pub weights : All (λ weight. weight ≤ MAX_WEIGHT) votes
+  pub weights : AreWeights e f votes
 
 -- ---- a scope
 
