@@ -141,6 +141,28 @@ fn shown(
     }
 }
 
+// What a command on a good book writes on good returns.
+fn one_count(
+    alloc: Global,
+    show: Show,
+    case: Case<'_>,
+    book: &CheckedBook,
+    returns: &Returns,
+    names: Option<&[u8]>,
+    shape: Shape,
+) -> Result<Answer, NoMemory> {
+    match names_of(alloc, names)? {
+        Ok(full) => {
+            let naming = Naming {
+                returns,
+                full: &full,
+            };
+            shown(alloc, show, case, book, &naming, shape)
+        }
+        Err(refused) => Ok(refused),
+    }
+}
+
 // What a command on one book writes.
 fn one_book(
     alloc: Global,
@@ -149,20 +171,13 @@ fn one_book(
     names: Option<&[u8]>,
     shape: Shape,
 ) -> Result<Answer, NoMemory> {
-    let book = read_book(alloc, case.book)?;
-    let returns = read_election(alloc, case.returns)?;
-    let (Some(book), Some(returns)) = (book, returns) else {
+    let Some(book) = read_book(alloc, case.book)? else {
         return case.counted(alloc);
     };
-    let full = match names_of(alloc, names)? {
-        Ok(full) => full,
-        Err(refused) => return Ok(refused),
-    };
-    let naming = Naming {
-        returns: &returns,
-        full: &full,
-    };
-    shown(alloc, show, case, &book, &naming, shape)
+    match read_election(alloc, case.returns)? {
+        Some(returns) => one_count(alloc, show, case, &book, &returns, names, shape),
+        None => case.counted(alloc),
+    }
 }
 
 /// What a book comes to on returns, in full. Inputs that `count` refuses are refused by the same line, and a legal fault has its line first.
@@ -212,6 +227,20 @@ fn totals_of(
     Answer::of(alloc, "totals", None, sheets.as_slice(), shape)
 }
 
+// The same with the names of a text.
+fn named_totals(
+    alloc: Global,
+    book: Option<&Book>,
+    returns: &Returns,
+    names: Option<&[u8]>,
+    shape: Shape,
+) -> Result<Answer, NoMemory> {
+    match names_of(alloc, names)? {
+        Ok(full) => totals_of(alloc, book, returns, &full, shape),
+        Err(refused) => Ok(refused),
+    }
+}
+
 /// The totals of returns, and with a book who takes part by it. Inputs that `count` refuses are refused by the same line; nothing is counted, so
 /// there is no legal fault.
 ///
@@ -229,20 +258,17 @@ pub fn totals(
         book: book.unwrap_or(BookText::Library("2023")),
         returns,
     };
-    let checked = read_book(alloc, case.book)?;
-    let returns = read_election(alloc, returns)?;
-    let (Some(checked), Some(returns)) = (checked, returns) else {
+    let Some(checked) = read_book(alloc, case.book)? else {
         return case.counted(alloc);
-    };
-    let full = match names_of(alloc, names)? {
-        Ok(full) => full,
-        Err(refused) => return Ok(refused),
     };
     let given = match book {
         Some(_) => Some(&checked.book),
         None => None,
     };
-    totals_of(alloc, given, &returns, &full, shape)
+    match read_election(alloc, returns)? {
+        Some(returns) => named_totals(alloc, given, &returns, names, shape),
+        None => case.counted(alloc),
+    }
 }
 
 // A book with what it comes to.
@@ -265,6 +291,63 @@ fn judged(
     })
 }
 
+// Several books with what they come to on returns, or the answer that refuses one of them.
+fn judged_all(
+    alloc: Global,
+    books: &[Named<'_>],
+    returns: &[u8],
+    election: &Returns,
+) -> Result<Result<Vec<Judged>, Answer>, NoMemory> {
+    let mut all: Vec<Judged> = Vec::new(alloc);
+    for named in books {
+        let Some(book) = read_book(alloc, named.book)? else {
+            let case = Case {
+                book: named.book,
+                returns,
+            };
+            return Ok(Err(case.counted(alloc)?));
+        };
+        all.push(judged(alloc, named.word, book, election)?)?;
+    }
+    Ok(Ok(all))
+}
+
+// What several books come to, side by side.
+fn compared(
+    alloc: Global,
+    books: &[Judged],
+    returns: &Returns,
+    names: Option<&[u8]>,
+    shape: Shape,
+) -> Result<Answer, NoMemory> {
+    match names_of(alloc, names)? {
+        Ok(full) => {
+            let naming = Naming {
+                returns,
+                full: &full,
+            };
+            let sheets = compare_sheets(alloc, &naming, books)?;
+            Answer::of(alloc, "compare", None, sheets.as_slice(), shape)
+        }
+        Err(refused) => Ok(refused),
+    }
+}
+
+// Several books on good returns, side by side.
+fn compare_on(
+    alloc: Global,
+    books: &[Named<'_>],
+    returns: &[u8],
+    election: &Returns,
+    names: Option<&[u8]>,
+    shape: Shape,
+) -> Result<Answer, NoMemory> {
+    match judged_all(alloc, books, returns, election)? {
+        Ok(all) => compared(alloc, all.as_slice(), election, names, shape),
+        Err(refused) => Ok(refused),
+    }
+}
+
 /// Several books on the same returns, side by side. Inputs that `count` refuses are refused by the same line; a legal fault stands in its column.
 /// Without a book the table has no column, and no returns are refused.
 ///
@@ -278,35 +361,14 @@ pub fn compare(
     names: Option<&[u8]>,
     shape: Shape,
 ) -> Result<Answer, NoMemory> {
-    let election = read_election(alloc, returns)?;
-    let mut all: Vec<Judged> = Vec::new(alloc);
-    for named in books {
-        match (read_book(alloc, named.book)?, &election) {
-            (Some(book), Some(election)) => {
-                all.push(judged(alloc, named.word, book, election)?)?;
-            }
-            _ => return Case {
-                book: named.book,
-                returns,
-            }
-            .counted(alloc),
+    match read_election(alloc, returns)? {
+        Some(election) => compare_on(alloc, books, returns, &election, names, shape),
+        None => {
+            let book = match books.first() {
+                Some(named) => named.book,
+                None => BookText::Library("2023"),
+            };
+            Case { book, returns }.counted(alloc)
         }
     }
-    let Some(election) = election else {
-        return Case {
-            book: BookText::Library("2023"),
-            returns,
-        }
-        .counted(alloc);
-    };
-    let full = match names_of(alloc, names)? {
-        Ok(full) => full,
-        Err(refused) => return Ok(refused),
-    };
-    let naming = Naming {
-        returns: &election,
-        full: &full,
-    };
-    let sheets = compare_sheets(alloc, &naming, all.as_slice())?;
-    Answer::of(alloc, "compare", None, sheets.as_slice(), shape)
 }
