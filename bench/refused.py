@@ -19,7 +19,7 @@ import tempfile
 
 from measure import HOME, PROGRAM
 
-CRATES = ("sl_refused_inputs", "sl_refused_code", "sl_refused_desk", "sl_block_runs")
+CRATES = ("sl_refused_inputs", "sl_refused_code", "sl_refused_runs", "sl_refused_tables", "sl_refused_desk", "sl_block_runs")
 LIMIT = 60
 
 BOOK = 'rulebook 1; law "t"; house 8; eligible all; stage s = split(house, counted, webster); seats s keep;'

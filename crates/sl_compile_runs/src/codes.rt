@@ -2,15 +2,11 @@
 //! greatest length has a code.
 
 use sl_blocks::{Job, split_block};
-use sl_check::check;
 use sl_code::Instr;
-use sl_compile::compile;
-use sl_lex::lex;
-use sl_parse::parse;
+use sl_memory::codes::compiled;
 use sl_ratio::{Divisor, Method};
 use sl_stages::Shape::{Land, List, One, Party};
 use sl_stages::{Majority, Shape};
-use sl_verify::Verified;
 use std::alloc::Global;
 use std::test::*;
 
@@ -40,20 +36,6 @@ const JOB: Job = Job {
     majority: Majority::Free,
     scratch: [[0; 8]; 4],
 };
-
-// The code of the book of a text.
-fn compiled(alloc: Global, text: &[u8]) -> Result<Verified, Fail> {
-    let Ok(tokens) = lex(alloc, text) else {
-        return Err("no tokens")?;
-    };
-    let Ok(book) = parse(alloc, text, tokens.as_slice()) else {
-        return Err("no book")?;
-    };
-    let Ok(book) = check(book) else {
-        return Err("no checked book")?;
-    };
-    Ok(compile(alloc, &book)?)
-}
 
 // Whether the code begins with what stands before a place of its own and the block of the job behind that.
 fn holds_block_at(alloc: Global, code: &[Instr], place: usize) -> Result<bool, Fail> {

@@ -1,9 +1,9 @@
 //! Counting code: read from its bytes, spelled in bytes, and listed.
 
-use crate::rulebooks::compiled;
 use sl_code::{Code, CodeFault, from_bytes, listing, to_bytes};
 use sl_marks::rows::{FIRST_BOOK, HALT};
 use sl_marks::{begin, end};
+use sl_memory::codes::compiled;
 use std::alloc::Global;
 use std::test::Fail;
 

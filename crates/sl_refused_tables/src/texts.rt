@@ -4,8 +4,6 @@ ghost use Rattle.std.specs.Prelude.{IfOk, length};
 ghost use Rattle.sl_machine.specs.Fits.{FitsFault, FitsMemory, FitsRecords};
 ghost use Rattle.sl_table.specs.inner.Fits.{Fits, FitsHeld};
 
-use crate::rulebooks::compiled;
-use crate::runs::ending;
 use sl_code::Code;
 use sl_machine::{Ending, Memory};
 use sl_marks::rows::{
@@ -14,6 +12,7 @@ use sl_marks::rows::{
 };
 use sl_marks::{begin, end};
 use sl_memory::calls::{Pace, told};
+use sl_memory::codes::{compiled, ending};
 use sl_returns::read_returns;
 use sl_stages::{LegalFault, ListSeats, Returns, Table};
 use sl_table::{fault_text, short_text, stage_text, steps_text, table_of};
