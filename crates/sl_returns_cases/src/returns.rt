@@ -1,11 +1,14 @@
 //! Returns that are read, with ample memory.
 
+ghost use Rattle.std.specs.Prelude.{◌<◌};
+ghost use Rattle.sl_stages.specs.returns.Election.{lands_of};
+
 mod refusals;
 
 use csv::ByteRecord;
 use sl_returns::{FaultKind, ReturnsBuilder, ReturnsFault, read_returns};
-use sl_stages::{Lot, Returns};
-use std::alloc::Global;
+use sl_stages::{Lot, MAX_LANDS, MAX_PARTIES, Returns};
+use std::alloc::{AllocError, Global};
 use std::test::*;
 
 // The returns of a text.
@@ -96,6 +99,54 @@ fn lots_are_read_in_their_order(rt: HostRuntime) -> Result<(), Fail> {
         "kind,land,party,a,b,c\nland,X,,1,,\nparty,,A,0,,\nparty,,B,0,,\nwin,X,A,w1,1,1\nwin,X,B,w2,1,1\nlot,,B,s,,\nlot,X,,2-s,,\nlot,X,B,s,,\nlot,X,B,seats,w2,\n";
     let returns = returns_in(rt.alloc(), text)?;
     assert!(rt; are_drawn(returns.lots()));
+    Ok(())
+}
+
+// How many lists in a Land have one counted vote.
+fn lists_in(returns: &Returns, land: usize) -> u64
+    requires { land < lands_of returns.now }
+{
+    let mut lists = 0u64;
+    for party in 0..returns.parties() {
+        if returns.counted(land, party) == 1 {
+            lists = lists.saturating_add(1);
+        }
+    }
+    lists
+}
+
+// Adds a list in each Land for each party.
+fn add_lists(text: &mut String) -> Result<(), AllocError> {
+    for land in 1..=MAX_LANDS {
+        for party in 1..=MAX_PARTIES {
+            write!(text, "list,L{land},P{party},2,1,\n")?;
+        }
+    }
+    Ok(())
+}
+
+// Returns with as many Länder, parties and lists as there may be.
+fn longest(alloc: Global) -> Result<String, AllocError> {
+    let mut text = String::from_str(alloc, "kind,land,party,a,b,c\n")?;
+    for land in 1..=MAX_LANDS {
+        write!(text, "land,L{land},,1000,,\n")?;
+    }
+    for party in 1..=MAX_PARTIES {
+        write!(text, "party,,P{party},0,,\n")?;
+    }
+    add_lists(&mut text)?;
+    Ok(text)
+}
+
+#[test]
+fn all_lists_are_read(rt: HostRuntime) -> Result<(), Fail> {
+    let text = longest(rt.alloc())?;
+    let returns = returns_in(rt.alloc(), text.as_str())?;
+    let mut lists = 0u64;
+    for land in 0..returns.lands() {
+        lists = lists.saturating_add(lists_in(&returns, land));
+    }
+    assert_eq!(rt; lists, 16_384);
     Ok(())
 }
 
