@@ -45,15 +45,50 @@ fn held(ending: Ending) -> Result<Memory, Fail> {
     }
 }
 
+// What a run of a book's code holds.
+fn recorded_memory(alloc: Global, book: &[u8], returns: &Returns) -> Result<Memory, Fail> {
+    let code = compiled(alloc, book)?;
+    held(refused_ending(alloc, &code, returns)?)
+}
+
+// Asserts that it holds the seats of three lists and a step for each.
+fn assert_recorded(
+    rt: &impl Abort,
+    alloc: Global,
+    book: &[u8],
+    returns: &Returns,
+) -> Result<(), Fail> {
+    let memory = recorded_memory(alloc, book, returns)?;
+    assert_eq!(rt; memory.base(), [4, 3, 1].as_slice());
+    assert_eq!(rt; memory.steps().len(), 8);
+    Ok(())
+}
+
 #[test]
 fn recorded(rt: HostRuntime) -> Result<(), Fail> {
     let returns = read_returns(rt.alloc(), THREE_LISTS.as_bytes())?;
     for (book, _) in THREE_METHODS {
-        let code = compiled(rt.alloc(), book.as_bytes())?;
-        let memory = held(refused_ending(rt.alloc(), &code, &returns)?)?;
-        assert_eq!(rt; memory.base(), [4, 3, 1].as_slice());
-        assert_eq!(rt; memory.steps().len(), 8);
+        assert_recorded(&rt, rt.alloc(), book.as_bytes(), &returns)?;
     }
+    Ok(())
+}
+
+// What a run of a book's code without records holds.
+fn unrecorded_memory(alloc: Global, book: &[u8], returns: &Returns) -> Result<Memory, Fail> {
+    let code = compiled(alloc, book)?;
+    held(unrecorded_ending(alloc, &code, returns)?)
+}
+
+// Asserts that it holds the seats of three lists, and no steps.
+fn assert_unrecorded(
+    rt: &impl Abort,
+    alloc: Global,
+    book: &[u8],
+    returns: &Returns,
+) -> Result<(), Fail> {
+    let memory = unrecorded_memory(alloc, book, returns)?;
+    assert_eq!(rt; memory.base(), [4, 3, 1].as_slice());
+    assert!(rt; memory.steps().is_empty());
     Ok(())
 }
 
@@ -61,10 +96,7 @@ fn recorded(rt: HostRuntime) -> Result<(), Fail> {
 fn unrecorded(rt: HostRuntime) -> Result<(), Fail> {
     let returns = read_returns(rt.alloc(), THREE_LISTS.as_bytes())?;
     for (book, _) in THREE_METHODS {
-        let code = compiled(rt.alloc(), book.as_bytes())?;
-        let memory = held(unrecorded_ending(rt.alloc(), &code, &returns)?)?;
-        assert_eq!(rt; memory.base(), [4, 3, 1].as_slice());
-        assert!(rt; memory.steps().is_empty());
+        assert_unrecorded(&rt, rt.alloc(), book.as_bytes(), &returns)?;
     }
     Ok(())
 }
@@ -80,19 +112,35 @@ fn coded(alloc: Global, book: &CheckedBook) -> Result<Verified, NoMemory> {
     }
 }
 
-// Asserts that the code of a text gives three lists their seats.
-fn assert_code(rt: &impl Abort, alloc: Global, text: &[u8]) -> Result<(), Fail> {
-    let code = coded(alloc, &checked(alloc, text)?)?;
-    let returns = read_returns(alloc, THREE_LISTS.as_bytes())?;
-    let memory = held(ending(alloc, &code, &returns)?)?;
+// The code of the book of a text.
+fn coded_text(alloc: Global, text: &[u8]) -> Result<Verified, Fail> {
+    let book = checked(alloc, text)?;
+    Ok(coded(alloc, &book)?)
+}
+
+// What a run of it holds.
+fn coded_memory(alloc: Global, text: &[u8], returns: &Returns) -> Result<Memory, Fail> {
+    let code = coded_text(alloc, text)?;
+    held(ending(alloc, &code, returns)?)
+}
+
+// Asserts that it holds the seats of three lists.
+fn assert_coded(
+    rt: &impl Abort,
+    alloc: Global,
+    text: &[u8],
+    returns: &Returns,
+) -> Result<(), Fail> {
+    let memory = coded_memory(alloc, text, returns)?;
     assert_eq!(rt; memory.base(), [4, 3, 1].as_slice());
     Ok(())
 }
 
 #[test]
-fn code(rt: HostRuntime) -> Result<(), Fail> {
+fn coded_books(rt: HostRuntime) -> Result<(), Fail> {
+    let returns = read_returns(rt.alloc(), THREE_LISTS.as_bytes())?;
     for (book, _) in THREE_METHODS {
-        assert_code(&rt, rt.alloc(), book.as_bytes())?;
+        assert_coded(&rt, rt.alloc(), book.as_bytes(), &returns)?;
     }
     Ok(())
 }
