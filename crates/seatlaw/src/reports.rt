@@ -73,98 +73,102 @@ fn load<'a>(
     }
 }
 
-// The names of a file, if one is given.
-fn load_names<'a>(rt: &HostRuntime, path: Option<&str>) -> Result<Option<Vec<u8>>, Stop<'a>> {
-    let Some(path) = path else {
-        return Ok(None);
-    };
-    let failed = ReportError::ReadNames;
-    match File::open(rt, path) {
-        Ok(file) => Ok(Some(bytes_of(
+// A rulebook: of the library if the word begins with `@`, else of the file at that path.
+fn load_book<'a>(rt: &HostRuntime, word: &'a str) -> Result<Loaded<'a>, Stop<'a>> {
+    if word.starts_with('@') {
+        return Ok(Loaded { word, text: None });
+    }
+    let text = load(rt, word, Input::Book, MAX_BOOK_BYTES)?;
+    Ok(Loaded {
+        word,
+        text: Some(text),
+    })
+}
+
+impl<'a> Loads<'a> {
+    fn read_returns(&mut self, rt: &HostRuntime) -> Result<(), Stop<'a>> {
+        self.returns = load(rt, self.path, Input::Returns, MAX_RETURNS_BYTES)?;
+        Ok(())
+    }
+
+    fn read_book(&mut self, rt: &HostRuntime, word: &'a str) -> Result<(), Stop<'a>> {
+        let book = load_book(rt, word)?;
+        match self.books.push(book) {
+            Ok(()) => Ok(()),
+            Err(_) => Err(Stop::Report(ReportError::NoMemory)),
+        }
+    }
+
+    fn read_books(&mut self, rt: &HostRuntime, words: &[&'a str]) -> Result<(), Stop<'a>> {
+        for word in words {
+            self.read_book(rt, *word)?;
+        }
+        Ok(())
+    }
+
+    // The names of a file.
+    fn read_names(&mut self, rt: &HostRuntime, path: &str) -> Result<(), ReportError> {
+        let failed = ReportError::ReadNames;
+        let Ok(file) = File::open(rt, path) else {
+            return Err(failed);
+        };
+        let names = bytes_of(
             rt.alloc(),
             &mut FromRead::new(file),
             failed,
             MAX_NAMES_BYTES,
-        )?)),
-        Err(_) => Err(Stop::Report(failed)),
+        )?;
+        self.names = Some(names);
+        Ok(())
     }
-}
 
-// A rulebook: of the library if the word begins with `@`, else of the file at that path.
-fn load_book<'a>(rt: &HostRuntime, word: &'a str) -> Result<Loaded<'a>, Stop<'a>> {
-    let text = if word.starts_with('@') {
-        None
-    } else {
-        Some(load(rt, word, Input::Book, MAX_BOOK_BYTES)?)
-    };
-    Ok(Loaded { word, text })
-}
-
-// The rulebooks of these words.
-fn load_books<'a>(rt: &HostRuntime, words: &[&'a str]) -> Result<Vec<Loaded<'a>>, Stop<'a>> {
-    let mut books = Vec::new(rt.alloc());
-    for word in words {
-        let book = load_book(rt, *word)?;
-        if books.push(book).is_err() {
-            return Err(Stop::Report(ReportError::NoMemory));
+    // The rulebooks and the returns of a report, opened in the order of the command's words.
+    fn read(&mut self, rt: &HostRuntime, what: &Report<'a>) -> Result<(), Stop<'a>> {
+        match what {
+            Report::Count { book, .. } | Report::Stages { book, .. } => {
+                self.read_book(rt, *book)?;
+                self.read_returns(rt)
+            }
+            Report::Totals { book, .. } => {
+                self.read_returns(rt)?;
+                self.read_books(rt, book.as_slice())
+            }
+            Report::Compare { books, .. } => {
+                self.read_returns(rt)?;
+                self.read_books(rt, books.as_slice())
+            }
         }
     }
-    Ok(books)
 }
 
-// The inputs of a report on a count: the rulebook is opened before the returns.
-fn count_loads<'a>(
-    rt: &HostRuntime,
-    book: &'a str,
-    path: &'a str,
-    names: Option<&str>,
-) -> Result<Loads<'a>, Stop<'a>> {
-    let books = load_books(rt, &[book])?;
-    let returns = load(rt, path, Input::Returns, MAX_RETURNS_BYTES)?;
-    let names = load_names(rt, names)?;
-    Ok(Loads {
-        path,
-        returns,
-        books,
-        names,
-    })
+// The path of the returns.
+fn path_of<'a>(what: &Report<'a>) -> &'a str {
+    match what {
+        Report::Count { returns, .. }
+        | Report::Stages { returns, .. }
+        | Report::Totals { returns, .. }
+        | Report::Compare { returns, .. } => *returns,
+    }
 }
 
-// The inputs of a report on returns, which are opened before the rulebooks.
-fn returns_loads<'a>(
-    rt: &HostRuntime,
-    path: &'a str,
-    words: &[&'a str],
-    names: Option<&str>,
-) -> Result<Loads<'a>, Stop<'a>> {
-    let returns = load(rt, path, Input::Returns, MAX_RETURNS_BYTES)?;
-    let books = load_books(rt, words)?;
-    let names = load_names(rt, names)?;
-    Ok(Loads {
-        path,
-        returns,
-        books,
-        names,
-    })
-}
-
-// The inputs of a report.
+// The inputs of a report, the names last.
 fn loads_of<'a>(
     rt: &HostRuntime,
     what: &Report<'a>,
     names: Option<&str>,
 ) -> Result<Loads<'a>, Stop<'a>> {
-    match what {
-        Report::Count { book, returns } => count_loads(rt, *book, *returns, names),
-        Report::Stages { book, returns } => count_loads(rt, *book, *returns, names),
-        Report::Totals { returns, book } => match book {
-            Some(book) => returns_loads(rt, *returns, &[*book], names),
-            None => returns_loads(rt, *returns, &[], names),
-        },
-        Report::Compare { returns, books } => {
-            returns_loads(rt, *returns, books.as_slice(), names)
-        }
+    let alloc = rt.alloc();
+    let mut loads = Loads {
+        path: path_of(what),
+        returns: Vec::new(alloc),
+        books: Vec::new(alloc),
+        names: None,
+    };
+    loads.read(rt, what)?;
+    if let Some(path) = names {
+        loads.read_names(rt, path)?;
     }
+    Ok(loads)
 }
 
 // The names that were loaded, as bytes.
@@ -276,24 +280,33 @@ fn shape_of(form: ReportForm) -> Shape {
     }
 }
 
-// Writes a report, and explains what stopped it.
-fn delivered<'a>(
+// Writes a report of what was read, and explains what stopped it.
+fn delivered(
+    desk: Desk<'_>,
+    what: &Report<'_>,
+    loads: &Loads<'_>,
+    shape: Shape,
+) -> Result<u8, ReportError> {
+    let answer = answer_of(desk.rt, what, loads, shape)?;
+    let status = deliver(&answer, &mut ToWrite::new(desk.rt.stdout()))?;
+    tell_answer(desk, &answer, loads);
+    Ok(status)
+}
+
+// Reads what a report needs, and writes it.
+fn reported<'a>(
     desk: Desk<'_>,
     what: &Report<'a>,
     shape: Shape,
     names: Option<&str>,
 ) -> Result<u8, Stop<'a>> {
     let loads = loads_of(desk.rt, what, names)?;
-    let answer = answer_of(desk.rt, what, &loads, shape)?;
-    let mut out = ToWrite::new(desk.rt.stdout());
-    let status = deliver(&answer, &mut out)?;
-    tell_answer(desk, &answer, &loads);
-    Ok(status)
+    Ok(delivered(desk, what, &loads, shape)?)
 }
 
 /// Writes a report to standard output, and answers the exit status: 5 after an error, also where its line cannot be printed.
 pub fn exit_status(desk: Desk<'_>, what: Report<'_>, form: ReportForm, names: Option<&str>) -> u8 {
-    match delivered(desk, &what, shape_of(form), names) {
+    match reported(desk, &what, shape_of(form), names) {
         Ok(status) => status,
         Err(Stop::Report(error)) => {
             let _ = eprintln!(desk.rt; "{error}");

@@ -3,7 +3,7 @@
 use crate::files::{Failure, KeptFile, create, open, open_book, text_of};
 use crate::reports;
 use crate::telling::{Desk, language_of, tell_failure, tell_fault};
-use sl_desk::{BookSource, BookText, Input, Status, ToWrite};
+use sl_desk::{BookSource, BookText, DeskError, Input, Status, ToWrite};
 use sl_hints::{explain_check, explain_count, explain_run, explain_stage};
 use sl_words::{Asked, Request, Show};
 
@@ -28,6 +28,22 @@ fn tell_count(
     tell_fault(desk, (book.0, text.bytes()), (returns.0, bytes), explained);
 }
 
+// Writes what is to be shown of a count.
+fn show_count(
+    desk: Desk<'_>,
+    show: Show<'_>,
+    book: &mut BookSource<'_, KeptFile>,
+    returns: &mut KeptFile,
+) -> Result<Status, DeskError> {
+    let alloc = desk.rt.alloc();
+    let mut out = ToWrite::new(desk.rt.stdout());
+    match show {
+        Show::Seats => sl_desk::count(alloc, book, returns, &mut out),
+        Show::Steps => sl_desk::steps(alloc, book, returns, &mut out),
+        Show::Stage(name) => sl_desk::stage(alloc, book, returns, name, &mut out),
+    }
+}
+
 fn count<'a>(
     desk: Desk<'_>,
     show: Show<'_>,
@@ -36,13 +52,7 @@ fn count<'a>(
 ) -> Result<Status, Failure<'a>> {
     let mut source = open_book(desk.rt, book)?;
     let mut file = open(desk.rt, returns, Input::Returns)?;
-    let mut out = ToWrite::new(desk.rt.stdout());
-    let alloc = desk.rt.alloc();
-    let status = match show {
-        Show::Seats => sl_desk::count(alloc, &mut source, &mut file, &mut out)?,
-        Show::Steps => sl_desk::steps(alloc, &mut source, &mut file, &mut out)?,
-        Show::Stage(name) => sl_desk::stage(alloc, &mut source, &mut file, name, &mut out)?,
-    };
+    let status = show_count(desk, show, &mut source, &mut file)?;
     if status != Status::Done {
         tell_count(desk, show, (book, &source), (returns, &file));
     }

@@ -104,7 +104,7 @@ const END: Message = Message {
 };
 
 // What to write where a spelling may stand. The first row that fits is said.
-const CONTEXTS: [(&str, Message); 29] = [
+static CONTEXTS: [(&str, Message); 29] = [
     ("rulebook", BEGINNING),
     ("\"a\"", LAW_TEXT),
     ("or", JOINED),
@@ -137,11 +137,11 @@ const CONTEXTS: [(&str, Message); 29] = [
 ];
 
 /// What to write where these tokens may stand.
-pub fn remedy(candidates: &[Candidate]) -> Message {
-    for (spelling, remedy) in CONTEXTS {
+pub fn remedy(candidates: &[Candidate]) -> &'static Message {
+    for (spelling, remedy) in &CONTEXTS {
         if has(candidates, spelling) {
             return remedy;
         }
     }
-    END
+    &END
 }

@@ -22,7 +22,7 @@ const NAME: Message = Message {
 };
 
 /// What kind of token a spelling is.
-#[derive(Clone, Copy, PartialEq, Eq)]
+#[derive(Clone, Copy)]
 pub enum Sort {
     Mark,
     Number,
@@ -38,134 +38,137 @@ pub struct Candidate {
     pub spelling: &'static str,
 }
 
-const MARKS: [&str; 5] = [";", "=", ",", "(", ")"];
-
-// The words of the language, in the order in which a book has them.
-const WORDS: [&str; 38] = [
-    "rulebook",
-    "law",
-    "house",
-    "eligible",
-    "valid",
-    "at",
-    "least",
-    "per",
-    "or",
-    "stage",
-    "seats",
-    "counted",
-    "winners",
-    "outside",
-    "independents",
-    "population",
-    "minority",
-    "sum",
-    "larger",
-    "less",
-    "split",
-    "grow",
-    "atleast",
-    "majority",
-    "prefer",
-    "refuse",
-    "party",
-    "land",
-    "all",
-    "adams",
-    "dean",
-    "hill",
-    "webster",
-    "jefferson",
-    "hamilton",
-    "keep",
-    "cover",
-    "vacate",
+// Every token, each with an example of it: marks, a number, a text and a name, and the words in the order in which a book has them.
+static TOKENS: [(Sort, &str); 46] = [
+    (Sort::Mark, ";"),
+    (Sort::Mark, "="),
+    (Sort::Mark, ","),
+    (Sort::Mark, "("),
+    (Sort::Mark, ")"),
+    (Sort::Number, "1"),
+    (Sort::Text, "\"a\""),
+    (Sort::Name, "a"),
+    (Sort::Keyword, "rulebook"),
+    (Sort::Keyword, "law"),
+    (Sort::Keyword, "house"),
+    (Sort::Keyword, "eligible"),
+    (Sort::Keyword, "valid"),
+    (Sort::Keyword, "at"),
+    (Sort::Keyword, "least"),
+    (Sort::Keyword, "per"),
+    (Sort::Keyword, "or"),
+    (Sort::Keyword, "stage"),
+    (Sort::Keyword, "seats"),
+    (Sort::Keyword, "counted"),
+    (Sort::Keyword, "winners"),
+    (Sort::Keyword, "outside"),
+    (Sort::Keyword, "independents"),
+    (Sort::Keyword, "population"),
+    (Sort::Keyword, "minority"),
+    (Sort::Keyword, "sum"),
+    (Sort::Keyword, "larger"),
+    (Sort::Keyword, "less"),
+    (Sort::Keyword, "split"),
+    (Sort::Keyword, "grow"),
+    (Sort::Keyword, "atleast"),
+    (Sort::Keyword, "majority"),
+    (Sort::Keyword, "prefer"),
+    (Sort::Keyword, "refuse"),
+    (Sort::Keyword, "party"),
+    (Sort::Keyword, "land"),
+    (Sort::Keyword, "all"),
+    (Sort::Keyword, "adams"),
+    (Sort::Keyword, "dean"),
+    (Sort::Keyword, "hill"),
+    (Sort::Keyword, "webster"),
+    (Sort::Keyword, "jefferson"),
+    (Sort::Keyword, "hamilton"),
+    (Sort::Keyword, "keep"),
+    (Sort::Keyword, "cover"),
+    (Sort::Keyword, "vacate"),
 ];
 
-// Whether a book may go on like this, behind the text before: nothing is wrong up to the end of both.
-fn goes_on(alloc: Global, before: &[u8], spelling: &str) -> Result<bool, NoMemory> {
-    let mut text = Vec::from_slice(alloc, before)?;
-    text.push(b'\n')?;
-    text.extend_from_slice(spelling.as_bytes())?;
-    match read(alloc, text.as_slice())? {
-        Reading::Book(_) => Ok(true),
-        Reading::Grammar(fault) => Ok(fault == ParseFault::Expected(text.len())),
-        Reading::Tokens(_) => Ok(false),
+// Whether nothing is wrong up to the end of a text of that length.
+fn is_beginning(reading: &Reading, length: usize) -> bool {
+    match reading {
+        Reading::Book(_) => true,
+        Reading::Grammar(fault) => *fault == ParseFault::Expected(length),
+        Reading::Tokens(_) => false,
     }
 }
 
-// Adds a candidate if a book may go on with it.
+fn may_begin(alloc: Global, text: &[u8]) -> Result<bool, NoMemory> {
+    let reading = read(alloc, text)?;
+    Ok(is_beginning(&reading, text.len()))
+}
+
+// Whether a book may go on with a token behind a text, which is left as it was.
+fn goes_on(alloc: Global, text: &mut Vec<u8>, spelling: &str) -> Result<bool, NoMemory> {
+    let length = text.len();
+    text.extend_from_slice(spelling.as_bytes())?;
+    let goes_on = may_begin(alloc, text.as_slice());
+    text.truncate(length);
+    goes_on
+}
+
+// Adds a token if a book may go on with it behind a text, but not `vacate` where any name may stand.
 fn add(
     alloc: Global,
-    before: &[u8],
+    text: &mut Vec<u8>,
     candidate: Candidate,
     found: &mut Vec<Candidate>,
 ) -> Result<(), NoMemory> {
-    if goes_on(alloc, before, candidate.spelling)? {
+    if candidate.spelling == "vacate" && has(found.as_slice(), "a") {
+        return Ok(());
+    }
+    if goes_on(alloc, text, candidate.spelling)? {
         found.push(candidate)?;
     }
     Ok(())
 }
 
-/// The tokens with which a book may go on behind a text: marks, a number, a text and a name first, then words.
-pub fn expected(alloc: Global, before: &[u8]) -> Result<Vec<Candidate>, NoMemory> {
+fn found_behind(alloc: Global, text: &mut Vec<u8>) -> Result<Vec<Candidate>, NoMemory> {
     let mut found = Vec::new(alloc);
-    for spelling in MARKS {
-        let sort = Sort::Mark;
-        add(alloc, before, Candidate { sort, spelling }, &mut found)?;
+    for (sort, spelling) in &TOKENS {
+        let candidate = Candidate {
+            sort: *sort,
+            spelling,
+        };
+        add(alloc, text, candidate, &mut found)?;
     }
-    add_example(alloc, before, Sort::Number, "1", &mut found)?;
-    add_example(alloc, before, Sort::Text, "\"a\"", &mut found)?;
-    add_example(alloc, before, Sort::Name, "a", &mut found)?;
-    add_words(alloc, before, &mut found)?;
     Ok(found)
 }
 
-fn add_example(
-    alloc: Global,
-    before: &[u8],
-    sort: Sort,
-    spelling: &'static str,
-    found: &mut Vec<Candidate>,
-) -> Result<(), NoMemory> {
-    add(alloc, before, Candidate { sort, spelling }, found)
+/// The tokens with which a book may go on behind a text: marks, a number, a text and a name first, then words.
+pub fn expected(alloc: Global, before: &[u8]) -> Result<Vec<Candidate>, NoMemory> {
+    let mut text = Vec::from_slice(alloc, before)?;
+    text.push(b'\n')?;
+    found_behind(alloc, &mut text)
 }
 
-// The words, but not `vacate` where any name may stand.
-fn add_words(alloc: Global, before: &[u8], found: &mut Vec<Candidate>) -> Result<(), NoMemory> {
-    let any_name = has_sort(found.as_slice(), Sort::Name);
-    for spelling in WORDS {
-        if !any_name || spelling != "vacate" {
-            let sort = Sort::Keyword;
-            add(alloc, before, Candidate { sort, spelling }, found)?;
-        }
-    }
-    Ok(())
-}
-
-/// Whether a token of that sort is among them.
-pub fn has_sort(candidates: &[Candidate], sort: Sort) -> bool {
-    candidates.iter().any(|candidate| candidate.sort == sort)
-}
-
-/// Whether this word or mark is among them.
+/// Whether this word, this mark or this example is among them.
 pub fn has(candidates: &[Candidate], spelling: &str) -> bool {
     candidates
         .iter()
         .any(|candidate| candidate.spelling == spelling)
 }
 
+// A token as a sentence speaks of it.
+fn said(speaker: Speaker, candidate: Candidate) -> Result<Vec<u8>, NoMemory> {
+    let kind = match candidate.sort {
+        Sort::Number => &NUMBER,
+        Sort::Text => &TEXT,
+        Sort::Name => &NAME,
+        Sort::Mark | Sort::Keyword => return speaker.quoted(candidate.spelling.as_bytes()),
+    };
+    speaker.text(kind, &[])
+}
+
 /// They in a row, with an `or` before the last.
 pub fn listed(speaker: Speaker, candidates: &[Candidate]) -> Result<Vec<u8>, NoMemory> {
     let mut words = Vec::new(speaker.alloc);
     for candidate in candidates {
-        let word = match candidate.sort {
-            Sort::Number => Vec::from_slice(speaker.alloc, speaker.word(&NUMBER))?,
-            Sort::Text => Vec::from_slice(speaker.alloc, speaker.word(&TEXT))?,
-            Sort::Name => Vec::from_slice(speaker.alloc, speaker.word(&NAME))?,
-            Sort::Mark | Sort::Keyword => speaker.quoted(candidate.spelling.as_bytes())?,
-        };
-        words.push(word)?;
+        words.push(said(speaker, *candidate)?)?;
     }
     speaker.one_of(words.as_slice())
 }
@@ -174,7 +177,7 @@ pub fn listed(speaker: Speaker, candidates: &[Candidate]) -> Result<Vec<u8>, NoM
 pub fn words(speaker: Speaker, candidates: &[Candidate]) -> Result<Vec<&'static [u8]>, NoMemory> {
     let mut words = Vec::new(speaker.alloc);
     for candidate in candidates {
-        if candidate.sort == Sort::Keyword {
+        if matches!(candidate.sort, Sort::Keyword) {
             words.push(candidate.spelling.as_bytes())?;
         }
     }

@@ -1,10 +1,10 @@
 //! Why tokens are no rulebook, explained.
 
 use crate::contexts::remedy;
-use crate::going_on::{Candidate, Sort, expected, has, has_sort, listed, words};
+use crate::going_on::{Candidate, expected, has, listed, words};
 use crate::limits::{explain_depth, explain_no_room, explain_stages};
-use sl_explain::{Explanation, Language, Message, Speaker};
-use sl_hint_pieces::{line_number, piece, span_within, token_span};
+use sl_explain::{Explanation, Language, Message, Span, Speaker};
+use sl_hint_pieces::{help_nearest_or, line_number, piece, span_within, token_span};
 use sl_lex::{Keyword, Kind, LexFault, Mark, Token, lex};
 use sl_parse::ParseFault;
 use sl_ratio::NoMemory;
@@ -114,6 +114,11 @@ fn token_from(tokens: &[Token], at: usize) -> Option<Token> {
     tokens.iter().copied().find(|token| token.start == at)
 }
 
+// Whether a name may stand there, and nothing else.
+fn is_name_alone(candidates: &[Candidate]) -> bool {
+    candidates.len() == 1 && has(candidates, "a")
+}
+
 // A place at which the book does not go on.
 #[derive(Clone, Copy)]
 struct Place<'a> {
@@ -124,24 +129,24 @@ struct Place<'a> {
 
 impl<'a> Place<'a> {
     // The text ends too early.
-    fn explain_end(self, before: Option<Token>) -> Result<Explanation, NoMemory> {
-        let mut explanation = match before {
-            Some(token) => {
-                let span = span_within(self.text, token.end, token.end);
-                let list = listed(self.speaker, self.candidates)?;
-                self.speaker.says_at(&ENDED, &[list.as_slice()], span)?
-            }
-            None => self
+    fn explain_end(&self, before: Option<Token>) -> Result<Explanation, NoMemory> {
+        let remedy = remedy(self.candidates);
+        let Some(before) = before else {
+            return self
                 .speaker
-                .says_at(&NO_CLAUSE, &[], span_within(self.text, 0, 0))?,
+                .explains_at(&NO_CLAUSE, &[], span_within(self.text, 0, 0), &[remedy]);
         };
+        if has(self.candidates, ";") {
+            return self.explain_semicolon(before);
+        }
+        let list = listed(self.speaker, self.candidates)?;
+        let span = span_within(self.text, before.end, before.end);
         self.speaker
-            .helps(&mut explanation, &remedy(self.candidates), &[])?;
-        Ok(explanation)
+            .explains_at(&ENDED, &[list.as_slice()], span, &[remedy])
     }
 
     // Whether a `;` is missing before a word: a new clause begins, or a new line.
-    fn misses_semicolon(self, before: Token, token: Token) -> bool {
+    fn misses_semicolon(&self, before: Token, token: Token) -> bool {
         if !has(self.candidates, ";") {
             return false;
         }
@@ -156,83 +161,94 @@ impl<'a> Place<'a> {
         }
     }
 
-    fn explain_semicolon(self, before: Token) -> Result<Explanation, NoMemory> {
+    fn explain_semicolon(&self, before: Token) -> Result<Explanation, NoMemory> {
         let word = piece(self.text, span_within(self.text, before.start, before.end));
         let word = self.speaker.shown(word)?;
         let span = span_within(self.text, before.end, before.end);
-        let mut explanation = self
-            .speaker
-            .says_at(&NO_SEMICOLON, &[word.as_slice()], span)?;
-        self.speaker.helps(&mut explanation, &SEMICOLON, &[])?;
-        Ok(explanation)
+        self.speaker
+            .explains_at(&NO_SEMICOLON, &[word.as_slice()], span, &[&SEMICOLON])
     }
 
     // Whether a name stands before a `(` as if it were a form.
-    fn is_form(self, before: Token, token: Token) -> bool {
+    fn is_form(&self, before: Token, token: Token) -> bool {
         token.kind == Kind::Mark(Mark::Open)
             && before.kind == Kind::Name
             && (has(self.candidates, ";") || has(self.candidates, ",") || has(self.candidates, ")"))
     }
 
-    fn explain_form(self, before: Token) -> Result<Explanation, NoMemory> {
+    fn explain_form(&self, before: Token) -> Result<Explanation, NoMemory> {
         let span = span_within(self.text, before.start, before.end);
         let word = piece(self.text, span);
         let mut explanation = self.speaker.says_at(&NO_FORM, &[word], span)?;
-        if !self
-            .speaker
-            .helps_nearest(&mut explanation, word, &FORM_WORDS)?
-        {
-            self.speaker.helps(&mut explanation, &FORMS, &[])?;
-        }
+        help_nearest_or(self.speaker, &mut explanation, word, &FORM_WORDS, &FORMS)?;
         Ok(explanation)
     }
 
     // What to write in place of a token.
-    fn found_remedy(self, before: Option<Token>, token: Token) -> Message {
+    fn found_remedy(&self, before: Option<Token>, kind: Kind) -> &'static Message {
         let is_behind_end = match before {
             Some(before) => before.kind == Kind::Mark(Mark::Semicolon),
             None => false,
         };
-        if token.kind == Kind::Mark(Mark::Close) && has(self.candidates, ";") {
-            SURPLUS
-        } else if token.kind == Kind::Mark(Mark::Semicolon) && is_behind_end {
-            DOUBLE
-        } else {
-            remedy(self.candidates)
+        match kind {
+            Kind::Mark(Mark::Close) if has(self.candidates, ";") => &SURPLUS,
+            Kind::Mark(Mark::Semicolon) if is_behind_end => &DOUBLE,
+            _ => remedy(self.candidates),
+        }
+    }
+
+    // What stands there, and what is expected.
+    fn say_found(&self, word: &[u8], span: Span) -> Result<Explanation, NoMemory> {
+        let found = self.speaker.shown(word)?;
+        let list = listed(self.speaker, self.candidates)?;
+        let values = [found.as_slice(), list.as_slice()];
+        self.speaker.says_at(&FOUND, &values, span)
+    }
+
+    // Says what to do about a word: write one that is near to a name, another name for a keyword, or else what may stand there.
+    fn help_found(
+        &self,
+        explanation: &mut Explanation,
+        word: &[u8],
+        kind: Kind,
+        remedy: &Message,
+    ) -> Result<(), NoMemory> {
+        match kind {
+            Kind::Name => {
+                let keywords = words(self.speaker, self.candidates)?;
+                let names = keywords.as_slice();
+                help_nearest_or(self.speaker, explanation, word, names, remedy)
+            }
+            Kind::Keyword(_) if is_name_alone(self.candidates) => {
+                self.speaker.helps(explanation, &RESERVED, &[word])
+            }
+            _ => self.speaker.helps(explanation, remedy, &[]),
         }
     }
 
     // A token stands where others are expected.
-    fn explain_found(self, before: Option<Token>, token: Token) -> Result<Explanation, NoMemory> {
+    fn explain_found(&self, before: Option<Token>, token: Token) -> Result<Explanation, NoMemory> {
         let span = token_span(self.text, token.start);
         let word = piece(self.text, span);
-        let found = self.speaker.shown(word)?;
-        let list = listed(self.speaker, self.candidates)?;
-        let values = [found.as_slice(), list.as_slice()];
-        let mut explanation = self.speaker.says_at(&FOUND, &values, span)?;
-        let keywords = words(self.speaker, self.candidates)?;
-        let is_near = token.kind == Kind::Name
-            && self
-                .speaker
-                .helps_nearest(&mut explanation, word, keywords.as_slice())?;
-        let is_name_alone = self.candidates.len() == 1 && has_sort(self.candidates, Sort::Name);
-        if is_name_alone && matches!(token.kind, Kind::Keyword(_)) {
-            self.speaker.helps(&mut explanation, &RESERVED, &[word])?;
-        } else if !is_near {
-            let remedy = self.found_remedy(before, token);
-            self.speaker.helps(&mut explanation, &remedy, &[])?;
-        }
+        let remedy = self.found_remedy(before, token.kind);
+        let mut explanation = self.say_found(word, span)?;
+        self.help_found(&mut explanation, word, token.kind, remedy)?;
         Ok(explanation)
     }
 
-    // What stands at the place, behind a token.
-    fn explain(self, before: Token, token: Token) -> Result<Explanation, NoMemory> {
-        if self.is_form(before, token) {
-            self.explain_form(before)
-        } else if self.misses_semicolon(before, token) {
-            self.explain_semicolon(before)
-        } else {
-            self.explain_found(Some(before), token)
+    // What stands at the place, or that nothing stands there.
+    fn explain(&self, tokens: &[Token], at: usize) -> Result<Explanation, NoMemory> {
+        if self.candidates.is_empty() {
+            return explain_no_room(self.speaker, self.text, at);
+        }
+        let before = token_before(tokens, at);
+        let Some(token) = token_from(tokens, at) else {
+            return self.explain_end(before);
+        };
+        match before {
+            Some(before) if self.is_form(before, token) => self.explain_form(before),
+            Some(before) if self.misses_semicolon(before, token) => self.explain_semicolon(before),
+            _ => self.explain_found(before, token),
         }
     }
 }
@@ -245,19 +261,23 @@ fn explain_expected(
     at: usize,
 ) -> Result<Explanation, NoMemory> {
     let candidates = expected(speaker.alloc, text.get(..at).unwrap_or(text))?;
-    if candidates.is_empty() {
-        return explain_no_room(speaker, text, at);
-    }
     let place = Place {
         speaker,
         text,
         candidates: candidates.as_slice(),
     };
-    match (token_before(tokens, at), token_from(tokens, at)) {
-        (Some(before), None) if has(place.candidates, ";") => place.explain_semicolon(before),
-        (before, None) => place.explain_end(before),
-        (None, Some(token)) => place.explain_found(None, token),
-        (Some(before), Some(token)) => place.explain(before, token),
+    place.explain(tokens, at)
+}
+
+// What to do with what stands behind the last clause, by its first token.
+fn after_remedy(token: Option<Token>) -> &'static Message {
+    let Some(token) = token else {
+        return &AFTER_OTHER;
+    };
+    match token.kind {
+        Kind::Keyword(Keyword::Stage) => &AFTER_STAGE,
+        Kind::Keyword(Keyword::Rulebook) => &AFTER_BOOK,
+        _ => &AFTER_OTHER,
     }
 }
 
@@ -270,14 +290,23 @@ fn explain_after(
 ) -> Result<Explanation, NoMemory> {
     let span = token_span(text, at);
     let word = speaker.shown(piece(text, span))?;
-    let mut explanation = speaker.says_at(&AFTER, &[word.as_slice()], span)?;
-    let remedy = match token_from(tokens, at) {
-        Some(token) if token.kind == Kind::Keyword(Keyword::Stage) => AFTER_STAGE,
-        Some(token) if token.kind == Kind::Keyword(Keyword::Rulebook) => AFTER_BOOK,
-        _ => AFTER_OTHER,
-    };
-    speaker.helps(&mut explanation, &remedy, &[])?;
-    Ok(explanation)
+    let remedy = after_remedy(token_from(tokens, at));
+    speaker.explains_at(&AFTER, &[word.as_slice()], span, &[remedy])
+}
+
+fn explain_fault(
+    speaker: Speaker,
+    text: &[u8],
+    tokens: &[Token],
+    fault: ParseFault,
+) -> Result<Explanation, NoMemory> {
+    match fault {
+        ParseFault::Expected(at) => explain_expected(speaker, text, tokens, at),
+        ParseFault::TooDeep(at) => explain_depth(speaker, text, tokens, at),
+        ParseFault::TooManyStages(at) => explain_stages(speaker, text, at),
+        ParseFault::After(at) => explain_after(speaker, text, tokens, at),
+        ParseFault::NoMemory => speaker.says(&NO_MEMORY, &[]),
+    }
 }
 
 /// Explains why the tokens of a text are no rulebook.
@@ -296,11 +325,5 @@ pub fn explain_grammar(
         return Ok(explanation);
     }
     let tokens = tokens_of(alloc, text)?;
-    match fault {
-        ParseFault::Expected(at) => explain_expected(speaker, text, tokens.as_slice(), at),
-        ParseFault::TooDeep(at) => explain_depth(speaker, text, tokens.as_slice(), at),
-        ParseFault::TooManyStages(at) => explain_stages(speaker, text, at),
-        ParseFault::After(at) => explain_after(speaker, text, tokens.as_slice(), at),
-        ParseFault::NoMemory => Ok(Explanation::new(alloc, speaker.text(&NO_MEMORY, &[])?)),
-    }
+    explain_fault(speaker, text, tokens.as_slice(), fault)
 }

@@ -1,6 +1,6 @@
 //! Books that are too long, and expressions and stages that are too many.
 
-use sl_explain::{Explanation, Language, Message, Speaker};
+use sl_explain::{Explanation, Language, Message, Span, Speaker};
 use sl_hint_pieces::token_span;
 use sl_lex::{Keyword, Kind, Mark, Token};
 use sl_ratio::NoMemory;
@@ -54,23 +54,56 @@ const STAGES_REMEDY: Message = Message {
 /// Want of memory.
 pub fn explain_long_book(alloc: Global, language: Language) -> Result<Explanation, NoMemory> {
     let speaker = Speaker { alloc, language };
-    let mut explanation = Explanation::new(alloc, speaker.text(&LONG_BOOK, &[])?);
+    let mut explanation = speaker.says(&LONG_BOOK, &[])?;
     speaker.helps(&mut explanation, &LONG_BOOK_REMEDY, &[])?;
     Ok(explanation)
+}
+
+// The level behind a token, by that before it: a stage begins at level 1.
+fn level_behind(kind: Kind, level: u64) -> u64 {
+    match kind {
+        Kind::Keyword(Keyword::Stage) => 1,
+        Kind::Mark(Mark::Open) => level.saturating_add(1),
+        Kind::Mark(Mark::Close) => level.saturating_sub(1),
+        _ => level,
+    }
 }
 
 // The level of an expression at an offset: one more than there are parentheses open in its stage.
 fn level_at(tokens: &[Token], at: usize) -> u64 {
     let mut level = 1u64;
-    for token in tokens.iter().take_while(|token| token.start < at) {
-        level = match token.kind {
-            Kind::Keyword(Keyword::Stage) => 1,
-            Kind::Mark(Mark::Open) => level.saturating_add(1),
-            Kind::Mark(Mark::Close) => level.saturating_sub(1),
-            _ => level,
-        };
+    for token in tokens {
+        if token.start >= at {
+            return level;
+        }
+        level = level_behind(token.kind, level);
     }
     level
+}
+
+// More of something than there may be: the sentence names the most of it.
+fn explain_most(
+    speaker: Speaker,
+    sentence: &Message,
+    most: usize,
+    span: Span,
+    remedy: &Message,
+) -> Result<Explanation, NoMemory> {
+    let most = most.to_string(speaker.alloc)?;
+    speaker.explains_at(sentence, &[most.as_bytes()], span, &[remedy])
+}
+
+// Too many levels or expressions: the sentence has two numbers of them.
+fn explain_parts(
+    speaker: Speaker,
+    sentence: &Message,
+    numbers: (u64, u32),
+    span: Span,
+) -> Result<Explanation, NoMemory> {
+    let first = numbers.0.to_string(speaker.alloc)?;
+    let second = numbers.1.to_string(speaker.alloc)?;
+    let values = [first.as_bytes(), second.as_bytes()];
+    speaker.explains_at(sentence, &values, span, &[&PARTS_REMEDY])
 }
 
 /// An expression too many levels down, or one too many in its stage.
@@ -82,33 +115,27 @@ pub fn explain_depth(
 ) -> Result<Explanation, NoMemory> {
     let level = level_at(tokens, at);
     let span = token_span(text, at);
-    let mut explanation = if level > u64::from(MAX_DEPTH) {
-        let level = level.to_string(speaker.alloc)?;
-        let most = MAX_DEPTH.to_string(speaker.alloc)?;
-        speaker.says_at(&TOO_DEEP, &[level.as_bytes(), most.as_bytes()], span)?
+    if level > u64::from(MAX_DEPTH) {
+        explain_parts(speaker, &TOO_DEEP, (level, MAX_DEPTH), span)
     } else {
-        let most = MAX_PARTS.to_string(speaker.alloc)?;
-        speaker.says_at(&TOO_MANY_PARTS, &[most.as_bytes()], span)?
-    };
-    speaker.helps(&mut explanation, &PARTS_REMEDY, &[])?;
-    Ok(explanation)
+        explain_most(
+            speaker,
+            &TOO_MANY_PARTS,
+            MAX_PARTS as usize,
+            span,
+            &PARTS_REMEDY,
+        )
+    }
 }
 
 /// An expression that is missing where there is no room for it.
 pub fn explain_no_room(speaker: Speaker, text: &[u8], at: usize) -> Result<Explanation, NoMemory> {
-    let levels = MAX_DEPTH.to_string(speaker.alloc)?;
-    let parts = MAX_PARTS.to_string(speaker.alloc)?;
-    let values = [levels.as_bytes(), parts.as_bytes()];
-    let mut explanation = speaker.says_at(&NO_ROOM, &values, token_span(text, at))?;
-    speaker.helps(&mut explanation, &PARTS_REMEDY, &[])?;
-    Ok(explanation)
+    let numbers = (u64::from(MAX_DEPTH), MAX_PARTS);
+    explain_parts(speaker, &NO_ROOM, numbers, token_span(text, at))
 }
 
 /// A stage too many.
 pub fn explain_stages(speaker: Speaker, text: &[u8], at: usize) -> Result<Explanation, NoMemory> {
-    let most = MAX_STAGES.to_string(speaker.alloc)?;
     let span = token_span(text, at);
-    let mut explanation = speaker.says_at(&TOO_MANY_STAGES, &[most.as_bytes()], span)?;
-    speaker.helps(&mut explanation, &STAGES_REMEDY, &[])?;
-    Ok(explanation)
+    explain_most(speaker, &TOO_MANY_STAGES, MAX_STAGES, span, &STAGES_REMEDY)
 }

@@ -1,7 +1,7 @@
 //! Names that the command line gives, and that nothing has: of a book of the library, of a stage.
 
 use sl_explain::{Explanation, Language, Message, Speaker};
-use sl_hint_pieces::{Reading, read};
+use sl_hint_pieces::{COLUMNS, Reading, help_nearest_stage, help_stages, read};
 use sl_laws::law;
 use sl_ratio::NoMemory;
 use sl_stages::Stage;
@@ -63,10 +63,10 @@ const COLUMN: Message = Message {
 };
 
 // The names of the library's books.
-const NAMES: [&[u8]; 6] = [b"1956", b"1985", b"2008", b"2013", b"2023", b"2023-order"];
+static NAMES: [&[u8]; 6] = [b"1956", b"1985", b"2008", b"2013", b"2023", b"2023-order"];
 
 // Elections, each with the book of its statute, if the library has it. That of 2013 has the name of its book.
-const ELECTIONS: [(&str, Option<&str>); 20] = [
+static ELECTIONS: [(&str, Option<&str>); 20] = [
     ("1949", None),
     ("1953", None),
     ("1957", Some("1956")),
@@ -89,24 +89,30 @@ const ELECTIONS: [(&str, Option<&str>); 20] = [
     ("2025", Some("2023-order")),
 ];
 
-// What to say of a name that is a year.
-fn advise_year(
+// What to say of an election, by the book of its statute.
+fn help_election(
+    speaker: Speaker,
+    explanation: &mut Explanation,
+    year: &str,
+    book: Option<&str>,
+) -> Result<(), NoMemory> {
+    match book {
+        Some(book) => speaker.helps(explanation, &ELECTION, &[year.as_bytes(), book.as_bytes()]),
+        None => speaker.helps(explanation, &NO_ELECTION, &[year.as_bytes()]),
+    }
+}
+
+// What to say of a name that is a year, if it is that of an election.
+fn help_year(
     speaker: Speaker,
     explanation: &mut Explanation,
     name: &str,
+    elections: &[(&'static str, Option<&'static str>)],
 ) -> Result<(), NoMemory> {
-    for (year, book) in ELECTIONS {
-        if year == name {
-            return match book {
-                Some(book) => {
-                    speaker.helps(explanation, &ELECTION, &[name.as_bytes(), book.as_bytes()])
-                }
-                None => speaker.helps(explanation, &NO_ELECTION, &[name.as_bytes()]),
-            };
+    for (year, book) in elections {
+        if *year == name {
+            return help_election(speaker, explanation, year, *book);
         }
-    }
-    if name == "2020" {
-        return speaker.helps(explanation, &NO_STATUTE, &[]);
     }
     Ok(())
 }
@@ -115,6 +121,28 @@ fn advise_year(
 fn bare(name: &str) -> &str {
     let name = name.strip_prefix("@").unwrap_or(name);
     name.strip_suffix(".law").unwrap_or(name)
+}
+
+// What to say of a bare name: that it is one of the library, or a year, or near to one of the library.
+fn help_law(speaker: Speaker, explanation: &mut Explanation, name: &str) -> Result<(), NoMemory> {
+    let word = name.as_bytes();
+    if law(name).is_some() {
+        return speaker.helps(explanation, &NAME_ALONE, &[word]);
+    }
+    if name == "2020" {
+        return speaker.helps(explanation, &NO_STATUTE, &[]);
+    }
+    if word.iter().all(u8::is_ascii_digit) {
+        return help_year(speaker, explanation, name, &ELECTIONS);
+    }
+    speaker.helps_nearest(explanation, word, &NAMES)?;
+    Ok(())
+}
+
+// That nothing has the name.
+fn say_unknown(speaker: Speaker, message: &Message, name: &str) -> Result<Explanation, NoMemory> {
+    let shown = speaker.shown(name.as_bytes())?;
+    speaker.says(message, &[shown.as_slice()])
 }
 
 /// Explains a name of no rulebook of the library, as it stands behind `@` or `law`.
@@ -128,53 +156,52 @@ pub fn explain_unknown_law(
     name: &str,
 ) -> Result<Explanation, NoMemory> {
     let speaker = Speaker { alloc, language };
-    let shown = speaker.shown(name.as_bytes())?;
-    let mut explanation = Explanation::new(alloc, speaker.text(&NO_LAW, &[shown.as_slice()])?);
-    let bare = bare(name);
-    if law(bare).is_some() {
-        speaker.helps(&mut explanation, &NAME_ALONE, &[bare.as_bytes()])?;
-    } else if bare.bytes().all(|byte| byte.is_ascii_digit()) {
-        advise_year(speaker, &mut explanation, bare)?;
-    } else {
-        speaker.helps_nearest(&mut explanation, bare.as_bytes(), &NAMES)?;
-    }
+    let mut explanation = say_unknown(speaker, &NO_LAW, name)?;
+    help_law(speaker, &mut explanation, bare(name))?;
     speaker.helps(&mut explanation, &LIBRARY, &[])?;
     Ok(explanation)
 }
 
-// Whether a word is a column of the returns.
-fn is_column(name: &str) -> bool {
-    matches!(
-        name.as_bytes(),
-        b"house" | b"counted" | b"winners" | b"outside" | b"independents" | b"population"
-    )
-}
-
 // What to say of a name that no stage of the book has.
-fn advise_stages(
+fn help_stage(
     speaker: Speaker,
     explanation: &mut Explanation,
     stages: &[Stage],
     name: &str,
 ) -> Result<(), NoMemory> {
-    let mut names: Vec<&[u8]> = Vec::new(speaker.alloc);
-    let mut quoted = Vec::new(speaker.alloc);
-    for stage in stages {
-        names.push(stage.name.as_bytes())?;
-        quoted.push(speaker.quoted(stage.name.as_bytes())?)?;
-    }
+    let word = name.as_bytes();
     if name == "seats" {
-        speaker.helps(explanation, &SEATS, &[])?;
-    } else if is_column(name) {
-        speaker.helps(explanation, &COLUMN, &[name.as_bytes(), name.as_bytes()])?;
+        speaker.helps(explanation, &SEATS, &[])
+    } else if COLUMNS.contains(&word) {
+        speaker.helps(explanation, &COLUMN, &[word, word])
     } else {
-        speaker.helps_nearest(explanation, name.as_bytes(), names.as_slice())?;
+        help_nearest_stage(speaker, explanation, word, stages, &[])
     }
-    if quoted.is_empty() {
-        return speaker.helps(explanation, &NO_STAGES, &[]);
+}
+
+// The same, and which stages there are.
+fn help_book(
+    speaker: Speaker,
+    explanation: &mut Explanation,
+    stages: &[Stage],
+    name: &str,
+) -> Result<(), NoMemory> {
+    help_stage(speaker, explanation, stages, name)?;
+    help_stages(speaker, explanation, stages, &STAGES, &NO_STAGES)
+}
+
+// What to say of a name that no stage of the rulebook of a text has, if the text is one.
+fn help_text(
+    speaker: Speaker,
+    explanation: &mut Explanation,
+    text: &[u8],
+    name: &str,
+) -> Result<(), NoMemory> {
+    let reading = read(speaker.alloc, text)?;
+    match &reading {
+        Reading::Book(book) => help_book(speaker, explanation, book.stages.as_slice(), name),
+        Reading::Tokens(_) | Reading::Grammar(_) => Ok(()),
     }
-    let list = speaker.all_of(quoted.as_slice())?;
-    speaker.helps(explanation, &STAGES, &[list.as_slice()])
 }
 
 /// Explains a name of no stage of the rulebook of a text.
@@ -189,10 +216,7 @@ pub fn explain_unknown_stage(
     name: &str,
 ) -> Result<Explanation, NoMemory> {
     let speaker = Speaker { alloc, language };
-    let shown = speaker.shown(name.as_bytes())?;
-    let mut explanation = Explanation::new(alloc, speaker.text(&NO_STAGE, &[shown.as_slice()])?);
-    if let Reading::Book(book) = read(alloc, text)? {
-        advise_stages(speaker, &mut explanation, book.stages.as_slice(), name)?;
-    }
+    let mut explanation = say_unknown(speaker, &NO_STAGE, name)?;
+    help_text(speaker, &mut explanation, text, name)?;
     Ok(explanation)
 }

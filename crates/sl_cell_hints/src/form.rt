@@ -5,7 +5,7 @@ use sl_returns_cells::{are_digits, is_number};
 use std::alloc::Global;
 
 /// What a wrong number looks like.
-#[derive(Clone, Copy, PartialEq, Eq)]
+#[derive(Clone, Copy)]
 pub enum Form {
     Empty,
     Long,
@@ -122,14 +122,25 @@ fn form_by_groups(cell: &[u8]) -> Form {
     }
 }
 
+// Whether a byte may stand in a number with an exponent, beside its E.
+fn is_numeral(byte: u8) -> bool {
+    byte.is_ascii_digit() || b".,+-".contains(&byte)
+}
+
 // Whether a cell is digits with an exponent, as 3E5 or 3.1e+05.
 fn is_exponent(cell: &[u8]) -> bool {
-    let begins = cell.first().is_some_and(|byte| byte.is_ascii_digit());
-    let has = cell.iter().any(|byte| *byte == b'E' || *byte == b'e');
-    let are_parts = cell
-        .iter()
-        .all(|byte| byte.is_ascii_digit() || b"eE.,+-".contains(byte));
-    begins && has && are_parts
+    let mut has_exponent = false;
+    for byte in cell {
+        if *byte == b'E' || *byte == b'e' {
+            has_exponent = true;
+        } else if !is_numeral(*byte) {
+            return false;
+        }
+    }
+    match cell.first() {
+        Some(first) => has_exponent && first.is_ascii_digit(),
+        None => false,
+    }
 }
 
 /// A cell without the blanks at its ends.
@@ -137,17 +148,27 @@ pub fn trimmed(cell: &[u8]) -> &[u8] {
     cell.trim_ascii()
 }
 
-// The cell behind a minus, as a keyboard, a typesetter or a spreadsheet writes it.
-fn behind_minus(cell: &[u8]) -> Option<&[u8]> {
-    if let Some(rest) = cell.strip_prefix(b"-".as_slice()) {
-        return Some(rest);
+// Whether a cell is digits behind a sign.
+fn are_signed(cell: &[u8], sign: &[u8]) -> bool {
+    match cell.strip_prefix(sign) {
+        Some(rest) => are_digits(rest),
+        None => false,
     }
-    cell.strip_prefix(b"\xE2\x88\x92".as_slice())
+}
+
+// Whether a cell is digits behind a minus, as a keyboard, a typesetter or a spreadsheet writes it.
+fn is_negative(cell: &[u8]) -> bool {
+    are_signed(cell, b"-") || are_signed(cell, b"\xE2\x88\x92")
 }
 
 // Whether a cell stands for a missing value.
 fn is_missing(cell: &[u8]) -> bool {
-    MISSING.iter().any(|word| cell.eq_ignore_ascii_case(word))
+    for word in MISSING {
+        if cell.eq_ignore_ascii_case(word) {
+            return true;
+        }
+    }
+    false
 }
 
 /// What a cell looks like that is no number.
@@ -161,9 +182,9 @@ pub fn form_of(cell: &[u8]) -> Form {
         Form::Edged
     } else if is_missing(inner) {
         Form::Missing
-    } else if behind_minus(inner).is_some_and(are_digits) {
+    } else if is_negative(inner) {
         Form::Negative
-    } else if inner.strip_prefix(b"+".as_slice()).is_some_and(are_digits) {
+    } else if are_signed(inner, b"+") {
         Form::Positive
     } else if is_exponent(inner) {
         Form::Exponent
@@ -183,15 +204,31 @@ fn digits_of(alloc: Global, cell: &[u8]) -> Result<Vec<u8>, NoMemory> {
     Ok(digits)
 }
 
-// A cell up to its last mark, where only zeros stand behind that.
-fn whole_part(cell: &[u8]) -> Option<&[u8]> {
+// Whether each byte is the digit 0.
+fn are_zeros(cell: &[u8]) -> bool {
+    for byte in cell {
+        if *byte != b'0' {
+            return false;
+        }
+    }
+    true
+}
+
+// A cell up to its last mark, where only zeros stand behind that; else nothing.
+fn whole_part(cell: &[u8]) -> &[u8] {
     let behind = groups_of(cell).last;
-    let front = cell.get(..cell.len().saturating_sub(behind))?;
-    let zeros = cell.get(front.len()..)?;
-    if zeros.iter().all(|byte| *byte == b'0') {
-        Some(front)
-    } else {
-        None
+    match cell.split_at_checked(cell.len().saturating_sub(behind)) {
+        Some((front, zeros)) if are_zeros(zeros) => front,
+        _ => &[],
+    }
+}
+
+// The part of a cell that has the digits for which it was likely meant, or nothing where that is not plain.
+fn meant_part(cell: &[u8]) -> &[u8] {
+    match form_of(cell) {
+        Form::Edged | Form::Positive | Form::Separated => cell,
+        Form::Decimal => whole_part(trimmed(cell)),
+        _ => &[],
     }
 }
 
@@ -201,15 +238,7 @@ fn whole_part(cell: &[u8]) -> Option<&[u8]> {
 ///
 /// Want of memory.
 pub fn meant(alloc: Global, cell: &[u8]) -> Result<Option<Vec<u8>>, NoMemory> {
-    let source = match form_of(cell) {
-        Form::Edged | Form::Positive | Form::Separated => Some(cell),
-        Form::Decimal => whole_part(trimmed(cell)),
-        _ => None,
-    };
-    let Some(source) = source else {
-        return Ok(None);
-    };
-    let digits = digits_of(alloc, source)?;
+    let digits = digits_of(alloc, meant_part(cell))?;
     if is_number(digits.as_slice()) {
         Ok(Some(digits))
     } else {

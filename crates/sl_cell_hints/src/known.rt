@@ -1,6 +1,6 @@
 //! Names that no record before declares.
 
-use sl_explain::{Explanation, Message, line_at, nearest};
+use sl_explain::{Explanation, Message, Span, Speaker, line_at, nearest};
 use sl_ratio::NoMemory;
 use sl_returns_cells::{Asked, Case, Name, Space, declared_behind};
 use std::alloc::Global;
@@ -65,12 +65,21 @@ const DECLARE_WIN: Message = Message {
 // What rows of sums are called, in small letters.
 const SUMS: [&[u8]; 6] = [b"total", b"sum", b"summe", b"gesamt", b"insgesamt", b"bund"];
 
-// What is said of a name of a space, and how it is declared.
-fn messages(space: Space) -> (&'static Message, &'static Message) {
+// What is said of a name of a space.
+fn unknown(space: Space) -> &'static Message {
     match space {
-        Space::Land => (&NO_LAND, &DECLARE_LAND),
-        Space::Party => (&NO_PARTY, &DECLARE_PARTY),
-        Space::Win => (&NO_WIN, &DECLARE_WIN),
+        Space::Land => &NO_LAND,
+        Space::Party => &NO_PARTY,
+        Space::Win => &NO_WIN,
+    }
+}
+
+// How a name of a space is declared.
+fn declaration(space: Space) -> &'static Message {
+    match space {
+        Space::Land => &DECLARE_LAND,
+        Space::Party => &DECLARE_PARTY,
+        Space::Win => &DECLARE_WIN,
     }
 }
 
@@ -104,25 +113,20 @@ fn exchanged(case: &Case<'_>, space: Space, name: &[u8]) -> Option<&'static Mess
     }
 }
 
-// Adds the line in which the name is declared too late, or that another column has it, and answers whether one of these is so.
-fn add_moved(
-    case: &Case<'_>,
-    space: Space,
-    name: &[u8],
-    explanation: &mut Explanation,
-) -> Result<bool, NoMemory> {
-    let speaker = case.speaker;
-    let from = case.record.span.end;
-    if let Some(at) = declared_behind(speaker.alloc, case.bytes, from, space, name)? {
-        let line = speaker.number(line_at(case.bytes, at).number)?;
-        speaker.helps(explanation, &LATER, &[line.as_slice()])?;
-        return Ok(true);
+// Adds the line in which the name is declared too late.
+fn add_line(case: &Case<'_>, at: usize, explanation: &mut Explanation) -> Result<(), NoMemory> {
+    let line = case.speaker.number(line_at(case.bytes, at).number)?;
+    case.speaker.helps(explanation, &LATER, &[line.as_slice()])
+}
+
+// Whether a row of sums is called so.
+fn is_sum(name: &[u8]) -> bool {
+    for word in SUMS {
+        if name.eq_ignore_ascii_case(word) {
+            return true;
+        }
     }
-    if let Some(message) = exchanged(case, space, name) {
-        speaker.helps(explanation, message, &[name])?;
-        return Ok(true);
-    }
-    Ok(false)
+    false
 }
 
 // Adds a name that is near, or that a row of sums is deleted.
@@ -133,13 +137,56 @@ fn add_nearest(
     explanation: &mut Explanation,
 ) -> Result<(), NoMemory> {
     let speaker = case.speaker;
-    if SUMS.iter().any(|word| name.eq_ignore_ascii_case(word)) {
+    if is_sum(name) {
         return speaker.helps(explanation, &NO_SUMS, &[]);
     }
-    match nearest_of(speaker.alloc, name, case.told.names(space))? {
-        Some(near) => speaker.helps(explanation, &NEAREST, &[near]),
-        None => Ok(()),
+    match nearest_of(speaker.alloc, name, case.told.names(space)) {
+        Ok(Some(near)) => speaker.helps(explanation, &NEAREST, &[near]),
+        Ok(None) => Ok(()),
+        Err(refusal) => Err(refusal),
     }
+}
+
+// Adds what is near, and how the name is declared.
+fn add_declaration(
+    case: &Case<'_>,
+    space: Space,
+    name: &[u8],
+    explanation: &mut Explanation,
+) -> Result<(), NoMemory> {
+    add_nearest(case, space, name, explanation)?;
+    let shown = case.speaker.shown(name)?;
+    let values = [shown.as_slice()];
+    case.speaker.helps(explanation, declaration(space), &values)
+}
+
+// Adds what to do: where the name is declared too late, or in another column, or how it is declared.
+fn add_remedies(
+    case: &Case<'_>,
+    space: Space,
+    name: &[u8],
+    explanation: &mut Explanation,
+) -> Result<(), NoMemory> {
+    let speaker = case.speaker;
+    let from = case.record.span.end;
+    if let Some(at) = declared_behind(speaker.alloc, case.bytes, from, space, name)? {
+        return add_line(case, at, explanation);
+    }
+    match exchanged(case, space, name) {
+        Some(message) => speaker.helps(explanation, message, &[name]),
+        None => add_declaration(case, space, name, explanation),
+    }
+}
+
+// That a name of a space is not declared.
+fn says_unknown(
+    speaker: Speaker,
+    space: Space,
+    name: &[u8],
+    span: Span,
+) -> Result<Explanation, NoMemory> {
+    let shown = speaker.shown(name)?;
+    speaker.says_at(unknown(space), &[shown.as_slice()], span)
 }
 
 /// The explanation of a name in a column that no record before declares.
@@ -148,15 +195,10 @@ fn add_nearest(
 ///
 /// Want of memory.
 pub fn explain_unknown(case: &Case<'_>, column: usize) -> Result<Explanation, NoMemory> {
-    let speaker = case.speaker;
-    let name = case.record.text(column);
+    let record = case.record;
+    let name = record.text(column);
     let space = space_of(case, column);
-    let (sentence, declare) = messages(space);
-    let shown = speaker.shown(name)?;
-    let mut explanation = speaker.says_at(sentence, &[shown.as_slice()], case.record.at(column))?;
-    if !add_moved(case, space, name, &mut explanation)? {
-        add_nearest(case, space, name, &mut explanation)?;
-        speaker.helps(&mut explanation, declare, &[shown.as_slice()])?;
-    }
+    let mut explanation = says_unknown(case.speaker, space, name, record.at(column))?;
+    add_remedies(case, space, name, &mut explanation)?;
     Ok(explanation)
 }

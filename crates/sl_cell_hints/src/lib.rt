@@ -1,6 +1,7 @@
 //! Explanations of cells that hold a wrong name or number.
 #![tactic(auto)]
 
+mod cells;
 mod form;
 mod known;
 mod names;

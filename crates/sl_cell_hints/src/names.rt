@@ -1,5 +1,6 @@
 //! Cells that are no names.
 
+use crate::cells::says_cell;
 use sl_explain::{Explanation, Message};
 use sl_ratio::{MAX_NAME_BYTES, NoMemory};
 use sl_returns_cells::{Asked, Case, Space, column_name, name_for, wrong_character};
@@ -72,51 +73,88 @@ const STAGE: Message = Message {
     german: "das Wort hinter `stage` im Regelwerk schreiben, oder `seats` für seine letzte Klausel",
 };
 
+// What is named in a space.
+fn space_message(space: Space) -> &'static Message {
+    match space {
+        Space::Land => &OF_LAND,
+        Space::Party => &OF_PARTY,
+        Space::Win => &OF_WIN,
+    }
+}
+
 // What the name of a column names, in words.
 fn naming_words(case: &Case<'_>, column: usize) -> &'static [u8] {
     let message = match case.asked(column) {
-        Asked::New(Space::Land) | Asked::Known(Space::Land) | Asked::KnownOrNone(Space::Land) => {
-            &OF_LAND
-        }
-        Asked::New(Space::Win) | Asked::Known(Space::Win) | Asked::KnownOrNone(Space::Win) => {
-            &OF_WIN
-        }
+        Asked::New(space) | Asked::Known(space) | Asked::KnownOrNone(space) => space_message(space),
         Asked::Stage => &OF_STAGE,
         _ => &OF_PARTY,
     };
-    message.in_language(case.speaker.language).as_bytes()
+    case.speaker.word(message)
+}
+
+// What is wrong with the cell of a column, with a last value.
+fn says_name(
+    case: &Case<'_>,
+    column: usize,
+    message: &Message,
+    last: &[u8],
+) -> Result<Explanation, NoMemory> {
+    says_cell(case, column, message, naming_words(case, column), last)
+}
+
+// A name that is too long.
+fn says_length(case: &Case<'_>, column: usize, length: usize) -> Result<Explanation, NoMemory> {
+    let number = case.speaker.number(length)?;
+    says_name(case, column, &LONG, number.as_slice())
+}
+
+// A name with a character that it may not have.
+fn says_character(case: &Case<'_>, column: usize, wrong: &[u8]) -> Result<Explanation, NoMemory> {
+    if wrong == b" ".as_slice() {
+        return says_name(case, column, &BLANK, b"");
+    }
+    let character = case.speaker.shown(wrong)?;
+    says_name(case, column, &CHARACTER, character.as_slice())
+}
+
+// The first character of a cell that a name may not have, or nothing.
+fn wrong_of(cell: &[u8]) -> &[u8] {
+    match wrong_character(cell) {
+        Some((start, length)) => cell.get(start..start.saturating_add(length)).unwrap_or(&[]),
+        None => &[],
+    }
 }
 
 // What is wrong with the cell of a column that is not empty.
-fn explain_spelling(
-    case: &Case<'_>,
-    column: usize,
-    start: usize,
-    length: usize,
-) -> Result<Explanation, NoMemory> {
-    let speaker = case.speaker;
+fn says_spelling(case: &Case<'_>, column: usize) -> Result<Explanation, NoMemory> {
     let cell = case.record.text(column);
-    let span = case.record.at(column);
-    let shown = speaker.shown(cell)?;
-    let wrong = cell.get(start..start.saturating_add(length)).unwrap_or(&[]);
-    let number = speaker.number(cell.len())?;
-    let character = speaker.shown(wrong)?;
-    let (message, last) = if cell.len() > MAX_NAME_BYTES {
-        (&LONG, number.as_slice())
+    if cell.len() > MAX_NAME_BYTES {
+        says_length(case, column, cell.len())
     } else if std::str::from_utf8(cell).is_err() {
-        (&LATIN, b"".as_slice())
-    } else if wrong == b" ".as_slice() {
-        (&BLANK, character.as_slice())
+        says_name(case, column, &LATIN, b"")
     } else {
-        (&CHARACTER, character.as_slice())
-    };
-    let values = [
-        column_name(column),
-        naming_words(case, column),
-        shown.as_slice(),
-        last,
-    ];
-    speaker.says_at(message, &values, span)
+        says_character(case, column, wrong_of(cell))
+    }
+}
+
+// Adds a name that may be meant by that of a column, or what a stage's is.
+fn add_name(case: &Case<'_>, column: usize, explanation: &mut Explanation) -> Result<(), NoMemory> {
+    let speaker = case.speaker;
+    if let Asked::Stage = case.asked(column) {
+        return speaker.helps(explanation, &STAGE, &[]);
+    }
+    match name_for(speaker.alloc, case.record.text(column))? {
+        Some(name) => speaker.helps(explanation, &RENAME, &[name.as_slice()]),
+        None => Ok(()),
+    }
+}
+
+// A cell that is not empty and no name.
+fn explain_spelling(case: &Case<'_>, column: usize) -> Result<Explanation, NoMemory> {
+    let mut explanation = says_spelling(case, column)?;
+    add_name(case, column, &mut explanation)?;
+    case.speaker.helps(&mut explanation, &SPELL, &[])?;
+    Ok(explanation)
 }
 
 /// The explanation of a cell of a column that is no name.
@@ -125,21 +163,10 @@ fn explain_spelling(
 ///
 /// Want of memory.
 pub fn explain_name(case: &Case<'_>, column: usize) -> Result<Explanation, NoMemory> {
-    let speaker = case.speaker;
-    let cell = case.record.text(column);
-    if cell.is_empty() {
-        let values = [column_name(column), naming_words(case, column)];
-        let mut explanation = speaker.says_at(&EMPTY, &values, case.record.at(column))?;
-        speaker.helps(&mut explanation, &FILL, &[])?;
-        return Ok(explanation);
+    if !case.record.text(column).is_empty() {
+        return explain_spelling(case, column);
     }
-    let (start, length) = wrong_character(cell).unwrap_or((0, 0));
-    let mut explanation = explain_spelling(case, column, start, length)?;
-    if case.asked(column) == Asked::Stage {
-        speaker.helps(&mut explanation, &STAGE, &[])?;
-    } else if let Some(name) = name_for(speaker.alloc, cell)? {
-        speaker.helps(&mut explanation, &RENAME, &[name.as_slice()])?;
-    }
-    speaker.helps(&mut explanation, &SPELL, &[])?;
-    Ok(explanation)
+    let values = [column_name(column), naming_words(case, column)];
+    let span = case.record.at(column);
+    case.speaker.explains_at(&EMPTY, &values, span, &[&FILL])
 }

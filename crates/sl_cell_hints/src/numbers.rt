@@ -1,7 +1,8 @@
 //! Cells that hold no number, or one out of its range.
 
+use crate::cells::says_cell;
 use crate::form::{Form, form_of, meant};
-use sl_explain::{Explanation, Message, Span};
+use sl_explain::{Explanation, Message, Span, Speaker};
 use sl_ratio::NoMemory;
 use sl_returns_cells::{Asked, B, C, Case, Meaning, column_name};
 
@@ -214,10 +215,21 @@ fn meaning_of(case: &Case<'_>, column: usize) -> Option<Meaning> {
 // What the number of a column tells, in words.
 fn meaning_words(case: &Case<'_>, column: usize) -> &'static [u8] {
     match meaning_of(case, column) {
-        Some(meaning) => meaning_message(meaning)
-            .in_language(case.speaker.language)
-            .as_bytes(),
+        Some(meaning) => case.speaker.word(meaning_message(meaning)),
         None => b"?",
+    }
+}
+
+// Adds the digits that are meant, or what to do where that is not plain.
+fn add_digits(
+    speaker: Speaker,
+    cell: &[u8],
+    remedy: &Message,
+    explanation: &mut Explanation,
+) -> Result<(), NoMemory> {
+    match meant(speaker.alloc, cell)? {
+        Some(digits) => speaker.helps(explanation, &WRITE, &[digits.as_slice()]),
+        None => speaker.helps(explanation, remedy, &[]),
     }
 }
 
@@ -227,23 +239,14 @@ fn meaning_words(case: &Case<'_>, column: usize) -> &'static [u8] {
 ///
 /// Want of memory.
 pub fn explain_number(case: &Case<'_>, column: usize) -> Result<Explanation, NoMemory> {
-    let speaker = case.speaker;
     let cell = case.record.text(column);
     let form = form_of(cell);
     let (sentence, remedy) = form_messages(form);
-    let shown = speaker.shown(cell)?;
-    let values = [
-        column_name(column),
-        meaning_words(case, column),
-        shown.as_slice(),
-    ];
-    let mut explanation = speaker.says_at(sentence, &values, case.record.at(column))?;
-    match meant(speaker.alloc, cell)? {
-        Some(digits) => speaker.helps(&mut explanation, &WRITE, &[digits.as_slice()])?,
-        None => speaker.helps(&mut explanation, remedy, &[])?,
-    }
+    let words = meaning_words(case, column);
+    let mut explanation = says_cell(case, column, sentence, words, b"")?;
+    add_digits(case.speaker, cell, remedy, &mut explanation)?;
     if is_format(form) {
-        speaker.helps(&mut explanation, &FORMAT, &[])?;
+        case.speaker.helps(&mut explanation, &FORMAT, &[])?;
     }
     Ok(explanation)
 }
@@ -257,12 +260,20 @@ fn range_remedy(meaning: Option<Meaning>, cell: &[u8]) -> &'static Message {
     }
 }
 
+// The least and the greatest that a number may be.
+fn bounds_of(meaning: Option<Meaning>) -> (u64, u64) {
+    match meaning {
+        Some(meaning) => meaning.bounds(),
+        None => (0, 0),
+    }
+}
+
 // A number out of the range of its column.
 fn explain_bounds(case: &Case<'_>, column: usize) -> Result<Explanation, NoMemory> {
     let speaker = case.speaker;
     let cell = case.record.text(column);
     let meaning = meaning_of(case, column);
-    let (least, greatest) = meaning.map_or((0, 0), |meaning| meaning.bounds());
+    let (least, greatest) = bounds_of(meaning);
     let shown = speaker.shown(cell)?;
     let least = speaker.number(least as usize)?;
     let greatest = speaker.number(greatest as usize)?;
@@ -273,9 +284,8 @@ fn explain_bounds(case: &Case<'_>, column: usize) -> Result<Explanation, NoMemor
         least.as_slice(),
         greatest.as_slice(),
     ];
-    let mut explanation = speaker.says_at(&RANGE, &values, case.record.at(column))?;
-    speaker.helps(&mut explanation, range_remedy(meaning, cell), &[])?;
-    Ok(explanation)
+    let remedies = [range_remedy(meaning, cell)];
+    speaker.explains_at(&RANGE, &values, case.record.at(column), &remedies)
 }
 
 // A winner with more first votes than there are.
@@ -285,9 +295,8 @@ fn explain_first(case: &Case<'_>) -> Result<Explanation, NoMemory> {
         end: case.record.at(C).end,
     };
     let values = [case.record.text(B), case.record.text(C)];
-    let mut explanation = case.speaker.says_at(&MORE_FIRST, &values, span)?;
-    case.speaker.helps(&mut explanation, &EXCHANGE, &[])?;
-    Ok(explanation)
+    case.speaker
+        .explains_at(&MORE_FIRST, &values, span, &[&EXCHANGE])
 }
 
 /// The explanation of a number that is out of its range: that of its column, or that of another number of the record.

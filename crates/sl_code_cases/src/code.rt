@@ -1,8 +1,8 @@
 //! Code files from outside, read, written and listed, and bytes that are none.
 
-use sl_code::{CodeFault, Instr, from_bytes, listing, to_bytes};
+use sl_code::{Code, CodeFault, Instr, from_bytes, listing, to_bytes};
 use sl_stages::Shape;
-use std::alloc::Global;
+use std::alloc::{AllocError, Global};
 use std::test::*;
 
 // One List slot, and `halt 0`.
@@ -12,14 +12,40 @@ const HALT: [u8; 13] = *b"SLC\x01\x00\x01\x03\x01\x00\x00\x00\x29\x00";
 const MIXED: [u8; 45] =
     *b"SLC\x01\x01\x02up\x00\x04\x00\x01\x02\x03\x05\x00\x00\x00\x01\x01\x02\x01\x00\x00\x00\x00\x00\x00\x09\x07\x00\x00\x00\x2a\x05\x00\x03\x07\x23\xff\x02\x03\x04\x29\x00";
 
+// The bytes of the code of a file.
+fn written(alloc: Global, file: &[u8]) -> Result<Vec<u8>, Fail> {
+    let code = from_bytes(alloc, file)?;
+    Ok(to_bytes(alloc, &code)?)
+}
+
+// Its listing.
+fn listed(alloc: Global, file: &[u8]) -> Result<Vec<u8>, Fail> {
+    let code = from_bytes(alloc, file)?;
+    Ok(listing(alloc, &code)?)
+}
+
+// Files, and their listings.
+const FILES: [(&[u8], &[u8]); 2] = [
+    (&HALT, b"0 halt 0\n"),
+    (
+        &MIXED,
+        b"0 set 1 258\n1 jmp 7\n2 at 5 3 7\n3 emit 255 2 3 4\n4 halt 0\n",
+    ),
+];
+
 #[test]
-fn the_smallest_file_written(rt: HostRuntime) -> Result<(), Fail> {
-    let code = from_bytes(rt.alloc(), &HALT)?;
-    assert_eq!(rt; to_bytes(rt.alloc(), &code)?.as_slice(), HALT.as_slice());
-    assert_eq!(rt;
-        listing(rt.alloc(), &code)?.as_slice(),
-        b"0 halt 0\n".as_slice()
-    );
+fn files_are_written(rt: HostRuntime) -> Result<(), Fail> {
+    for (file, _) in &FILES {
+        assert_eq!(rt; written(rt.alloc(), file)?.as_slice(), *file);
+    }
+    Ok(())
+}
+
+#[test]
+fn files_are_listed(rt: HostRuntime) -> Result<(), Fail> {
+    for (file, text) in &FILES {
+        assert_eq!(rt; listed(rt.alloc(), file)?.as_slice(), *text);
+    }
     Ok(())
 }
 
@@ -32,15 +58,18 @@ fn the_smallest_file_read(rt: HostRuntime) -> Result<(), Fail> {
     Ok(())
 }
 
+// Whether the only stage of a code is `up`.
+fn has_one_stage(code: &Code) -> bool {
+    match code.stages() {
+        [stage] => stage.name.as_bytes() == b"up".as_slice(),
+        _ => false,
+    }
+}
+
 #[test]
-fn operands_of_every_width(rt: HostRuntime) -> Result<(), Fail> {
-    let alloc = rt.alloc();
-    let code = from_bytes(alloc, &MIXED)?;
-    assert_eq!(rt; to_bytes(alloc, &code)?.as_slice(), MIXED.as_slice());
-    let text = b"0 set 1 258\n1 jmp 7\n2 at 5 3 7\n3 emit 255 2 3 4\n4 halt 0\n";
-    assert_eq!(rt; listing(alloc, &code)?.as_slice(), text.as_slice());
-    assert_eq!(rt; code.stages().len(), 1);
-    assert_eq!(rt; code.stages()[0].name.as_bytes(), b"up".as_slice());
+fn a_stage_is_read(rt: HostRuntime) -> Result<(), Fail> {
+    let code = from_bytes(rt.alloc(), &MIXED)?;
+    assert!(rt; has_one_stage(&code));
     Ok(())
 }
 
@@ -122,19 +151,17 @@ const FAULTS: [(&[u8], CodeFault); 30] = [
 
 #[test]
 fn the_first_fault(rt: HostRuntime) {
-    for (bytes, fault) in FAULTS {
-        let found = from_bytes(rt.alloc(), bytes);
-        assert!(rt; matches!(found, Err(e) if e == fault), "{fault:?}");
+    for (bytes, fault) in &FAULTS {
+        assert_eq!(rt; from_bytes(rt.alloc(), bytes).err(), Some(*fault));
     }
 }
 
 #[test]
 fn a_file_that_is_cut(rt: HostRuntime) {
     for n in 0..MIXED.len() {
-        let found = from_bytes(rt.alloc(), &MIXED[..n]);
-        assert!(rt;
-            matches!(found, Err(CodeFault::Short(at)) if at == n),
-            "{n} bytes"
+        assert_eq!(rt;
+            from_bytes(rt.alloc(), &MIXED[..n]).err(),
+            Some(CodeFault::Short(n))
         );
     }
 }
@@ -147,26 +174,40 @@ const GREATEST: [(&[u8], &[u8], usize, &[u8]); 3] = [
     (b"SLC\x01\x00\x00\x40\x0d\x03\x00", b"\x20", 200_000, b""),
 ];
 
-// How many stages, slots and instructions the code of a file has in all.
+/// A file in which a part stands so many times.
+pub fn repeating(
+    alloc: Global,
+    before: &[u8],
+    part: &[u8],
+    count: usize,
+    after: &[u8],
+) -> Result<Vec<u8>, AllocError> {
+    let mut file = Vec::from_slice(alloc, before)?;
+    for _ in 0..count {
+        file.extend_from_slice(part)?;
+    }
+    file.extend_from_slice(after)?;
+    Ok(file)
+}
+
+// How many stages, slots and instructions a code has in all.
+fn parts_of(code: &Code) -> usize {
+    code.stages()
+        .len()
+        .saturating_add(code.slots().len())
+        .saturating_add(code.instrs().len())
+}
+
+// How many that of a file has.
 fn parts_in(alloc: Global, file: &[u8]) -> Result<usize, Fail> {
-    let code = from_bytes(alloc, file)?;
-    Ok(
-        code.stages()
-            .len()
-            .saturating_add(code.slots().len())
-            .saturating_add(code.instrs().len()),
-    )
+    Ok(parts_of(&from_bytes(alloc, file)?))
 }
 
 #[test]
 fn the_greatest_files(rt: HostRuntime) -> Result<(), Fail> {
-    for (before, part, count, after) in GREATEST {
-        let mut file = Vec::from_slice(rt.alloc(), before)?;
-        for _ in 0..count {
-            file.extend_from_slice(part)?;
-        }
-        file.extend_from_slice(after)?;
-        assert_eq!(rt; parts_in(rt.alloc(), file.as_slice())?, count);
+    for (before, part, count, after) in &GREATEST {
+        let file = repeating(rt.alloc(), before, part, *count, after)?;
+        assert_eq!(rt; parts_in(rt.alloc(), file.as_slice())?, *count);
     }
     Ok(())
 }

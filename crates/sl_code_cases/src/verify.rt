@@ -1,25 +1,43 @@
 //! Codes of small files, and the first fault of each.
 
+use crate::code::repeating;
 use sl_code::{Code, from_bytes};
 use sl_stages::Shape;
-use sl_verify::{VerifyFault, verify};
-use std::alloc::Global;
+use sl_verify::{Verified, VerifyFault, verify};
+use std::alloc::{AllocError, Global};
 use std::test::*;
 
-// The code of these slots and instructions, without stages.
-fn code(alloc: Global, slots: &[u8], instrs: &[&[u8]]) -> Result<Code, Fail> {
-    let mut file = Vec::from_slice(alloc, b"SLC\x01\x00")?;
+// Adds slots and instructions to a file.
+fn add_slots_and_instrs(
+    file: &mut Vec<u8>,
+    slots: &[u8],
+    instrs: &[&[u8]],
+) -> Result<(), AllocError> {
     file.push(u8::try_from(slots.len()).unwrap_or(u8::MAX))?;
     file.extend_from_slice(slots)?;
     let count = u32::try_from(instrs.len()).unwrap_or(u32::MAX);
     file.extend_from_slice(&count.to_le_bytes())?;
-    file.extend_from_slice(instrs.concat(alloc)?.as_slice())?;
+    for instr in instrs {
+        file.extend_from_slice(instr)?;
+    }
+    Ok(())
+}
+
+// The code of these slots and instructions, without stages.
+fn code(alloc: Global, slots: &[u8], instrs: &[&[u8]]) -> Result<Code, Fail> {
+    let mut file = Vec::from_slice(alloc, b"SLC\x01\x00")?;
+    add_slots_and_instrs(&mut file, slots, instrs)?;
     Ok(from_bytes(alloc, file.as_slice())?)
 }
 
 // The fault of a code.
 fn fault_of(code: Code) -> Option<VerifyFault> {
     verify(code).err().map(|refused| refused.1)
+}
+
+// That of these slots and instructions.
+fn fault_in(alloc: Global, slots: &[u8], instrs: &[&[u8]]) -> Result<Option<VerifyFault>, Fail> {
+    Ok(fault_of(code(alloc, slots, instrs)?))
 }
 
 // The shapes of the slots, the instructions, and the fault.
@@ -95,21 +113,22 @@ const CODES: [(&[u8], &[&[u8]], Option<VerifyFault>); 14] = [
 
 #[test]
 fn small_codes(rt: HostRuntime) -> Result<(), Fail> {
-    for (slots, instrs, fault) in CODES {
-        let code = code(rt.alloc(), slots, instrs)?;
-        assert_eq!(rt; fault_of(code), fault);
+    for (slots, instrs, fault) in &CODES {
+        assert_eq!(rt; fault_in(rt.alloc(), slots, instrs)?, *fault);
     }
     Ok(())
+}
+
+// Whether a code of one slot and one instruction is given back.
+fn is_given_back(verified: Verified) -> bool {
+    verified.code().instrs().len() == 1 && verified.into_code().slots() == [Shape::List].as_slice()
 }
 
 #[test]
 fn an_accepted_code(rt: HostRuntime) -> Result<(), Fail> {
     let code = code(rt.alloc(), &[3], &[b"\x29\x00"])?;
     match verify(code) {
-        Ok(verified) => {
-            assert_eq!(rt; verified.code().instrs().len(), 1);
-            assert_eq!(rt; verified.into_code().slots(), [Shape::List].as_slice());
-        }
+        Ok(verified) => assert!(rt; is_given_back(verified)),
         Err(_) => panic!(rt; "refused"),
     }
     Ok(())
@@ -163,17 +182,28 @@ const OTHERS: [(usize, &[u8], VerifyFault); 21] = [
     (18, b"\x2b\x00\x01", VerifyFault::Slot(18)), // haltv 0 1
 ];
 
+// The fault with an instruction in the place of one of these.
+fn fault_with(
+    alloc: Global,
+    place: usize,
+    instr: &'static [u8],
+) -> Result<Option<VerifyFault>, Fail> {
+    let mut instrs = SEAT_OF_THE_GREATEST;
+    if let Some(old) = instrs.get_mut(place) {
+        *old = instr;
+    }
+    fault_in(alloc, &[3], &instrs)
+}
+
 #[test]
 fn needs(rt: HostRuntime) -> Result<(), Fail> {
-    let whole = code(rt.alloc(), &[3], &SEAT_OF_THE_GREATEST)?;
-    assert_eq!(rt; fault_of(whole), None);
-    for (place, instr, fault) in OTHERS {
-        let mut instrs = SEAT_OF_THE_GREATEST;
-        if let Some(old) = instrs.get_mut(place) {
-            *old = instr;
-        }
-        let code = code(rt.alloc(), &[3], &instrs)?;
-        assert_eq!(rt; fault_of(code), Some(fault), "at {place}");
+    assert_eq!(rt; fault_in(rt.alloc(), &[3], &SEAT_OF_THE_GREATEST)?, None);
+    for (place, instr, fault) in &OTHERS {
+        assert_eq!(rt;
+            fault_with(rt.alloc(), *place, instr)?,
+            Some(*fault),
+            "at {place}"
+        );
     }
     Ok(())
 }
@@ -189,10 +219,13 @@ fn a_stage_without_its_slot(rt: HostRuntime) -> Result<(), Fail> {
 
 #[test]
 fn many_instructions(rt: HostRuntime) -> Result<(), Fail> {
-    let mut file = Vec::from_slice(rt.alloc(), b"SLC\x01\x00\x00\x40\x0d\x03\x00")?;
-    for _ in 0..200_000 {
-        file.extend_from_slice(b"\x2a\x00\x00\x00\x00")?;
-    }
+    let file = repeating(
+        rt.alloc(),
+        b"SLC\x01\x00\x00\x40\x0d\x03\x00",
+        b"\x2a\x00\x00\x00\x00",
+        200_000,
+        b"",
+    )?;
     let code = from_bytes(rt.alloc(), file.as_slice())?;
     assert_eq!(rt; fault_of(code), Some(VerifyFault::RunsOff(199_999)));
     Ok(())

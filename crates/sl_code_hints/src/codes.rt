@@ -1,7 +1,7 @@
 //! Explanations of code files that are refused, and of runs that take too long.
 
 use sl_code::CodeFault;
-use sl_explain::{Explanation, Language, Message, Speaker};
+use sl_explain::{Explanation, Language, Message, Span, Speaker, first_line};
 use sl_ratio::NoMemory;
 use sl_verify::VerifyFault;
 use std::alloc::Global;
@@ -144,46 +144,23 @@ fn magic_messages(bytes: &[u8]) -> (&'static Message, &'static Message) {
     }
 }
 
-// The length of the first line.
-fn line_length(bytes: &[u8]) -> usize {
-    match bytes
-        .iter()
-        .position(|byte| *byte == b'\n' || *byte == b'\r')
-    {
-        Some(length) => length,
-        None => bytes.len(),
-    }
-}
-
 // A file that does not begin as a code file.
 fn explain_magic(speaker: Speaker, bytes: &[u8]) -> Result<Explanation, NoMemory> {
     let (sentence, remedy) = magic_messages(bytes);
-    let mut explanation = speaker.says(sentence, &[])?;
-    if std::str::from_utf8(bytes).is_ok() && !bytes.is_empty() {
-        explanation = explanation.at(0, line_length(bytes));
+    if bytes.is_empty() || std::str::from_utf8(bytes).is_err() {
+        return speaker.explains(sentence, &[], &[remedy]);
     }
-    speaker.helps(&mut explanation, remedy, &[])?;
-    Ok(explanation)
+    let span = Span {
+        start: 0,
+        end: first_line(bytes).len(),
+    };
+    speaker.explains_at(sentence, &[], span, &[remedy])
 }
 
 // A fault at an offset, or at an instruction.
 fn explain_at(speaker: Speaker, message: &Message, at: usize) -> Result<Explanation, NoMemory> {
     let number = speaker.number(at)?;
-    let mut explanation = speaker.says(message, &[number.as_slice()])?;
-    speaker.helps(&mut explanation, &ANEW, &[])?;
-    speaker.helps(&mut explanation, &CHANGED, &[])?;
-    Ok(explanation)
-}
-
-// A sentence without a place, with one remedy.
-fn explain_plainly(
-    speaker: Speaker,
-    message: &Message,
-    remedy: &Message,
-) -> Result<Explanation, NoMemory> {
-    let mut explanation = speaker.says(message, &[])?;
-    speaker.helps(&mut explanation, remedy, &[])?;
-    Ok(explanation)
+    speaker.explains(message, &[number.as_slice()], &[&ANEW, &CHANGED])
 }
 
 /// The explanation of the fault that bytes have as a code file.
@@ -206,7 +183,7 @@ pub fn explain_code_bytes(
         CodeFault::Short(at) => explain_at(speaker, &SHORT, at),
         CodeFault::Trailing(at) => explain_at(speaker, &TRAILING, at),
         CodeFault::Limit(at) => explain_at(speaker, &LIMIT, at),
-        CodeFault::NoMemory => explain_plainly(speaker, &OUT_OF_MEMORY, &END_OTHERS),
+        CodeFault::NoMemory => speaker.explains(&OUT_OF_MEMORY, &[], &[&END_OTHERS]),
     }
 }
 
@@ -221,15 +198,16 @@ pub fn explain_code_kinds(
     fault: VerifyFault,
 ) -> Result<Explanation, NoMemory> {
     let speaker = Speaker { alloc, language };
-    match fault {
-        VerifyFault::Jump(at) => explain_at(speaker, &JUMP, at),
-        VerifyFault::Register(at) => explain_at(speaker, &REGISTER, at),
-        VerifyFault::Kind(at) => explain_at(speaker, &KIND, at),
-        VerifyFault::Slot(at) => explain_at(speaker, &SLOT, at),
-        VerifyFault::TableKind(at) => explain_at(speaker, &TABLE, at),
-        VerifyFault::Meet(at) => explain_at(speaker, &MEET, at),
-        VerifyFault::RunsOff(at) => explain_at(speaker, &RUNS_OFF, at),
-    }
+    let (message, at) = match fault {
+        VerifyFault::Jump(at) => (&JUMP, at),
+        VerifyFault::Register(at) => (&REGISTER, at),
+        VerifyFault::Kind(at) => (&KIND, at),
+        VerifyFault::Slot(at) => (&SLOT, at),
+        VerifyFault::TableKind(at) => (&TABLE, at),
+        VerifyFault::Meet(at) => (&MEET, at),
+        VerifyFault::RunsOff(at) => (&RUNS_OFF, at),
+    };
+    explain_at(speaker, message, at)
 }
 
 /// The explanation of a code file that is longer than it may be.
@@ -238,7 +216,8 @@ pub fn explain_code_kinds(
 ///
 /// Want of memory.
 pub fn explain_long_code(alloc: Global, language: Language) -> Result<Explanation, NoMemory> {
-    explain_plainly(Speaker { alloc, language }, &LONG, &ANEW)
+    let speaker = Speaker { alloc, language };
+    speaker.explains(&LONG, &[], &[&ANEW])
 }
 
 /// The explanation of a run that takes more steps than it may.
@@ -247,5 +226,6 @@ pub fn explain_long_code(alloc: Global, language: Language) -> Result<Explanatio
 ///
 /// Want of memory.
 pub fn explain_budget(alloc: Global, language: Language) -> Result<Explanation, NoMemory> {
-    explain_plainly(Speaker { alloc, language }, &BUDGET, &ANEW)
+    let speaker = Speaker { alloc, language };
+    speaker.explains(&BUDGET, &[], &[&ANEW])
 }

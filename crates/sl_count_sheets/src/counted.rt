@@ -1,13 +1,16 @@
 //! The sheets of one count.
 
 use crate::covering::covering_sheet;
-use crate::parties::{lists_sheet, open_sheet, parties_sheet, singles_sheet};
+use crate::parties::{
+    UNKNOWN_SEATS, lists_sheet, open_sheet, parties_sheet, seat_parts, singles_sheet,
+};
 use crate::scopes::{entries_sheet, scopes_sheet};
-use sl_naming::{Naming, law_name};
+use sl_naming::{Naming, Part, law_name, one_row_sheet, push_sheet};
 use sl_ratio::NoMemory;
-use sl_results::{Counted, Setting, distribution_of, seats_in_all};
+use sl_results::{Counted, Distribution, Setting, distribution_of, seats_in_all};
 use sl_scopes::{Scoped, scopes_of};
-use sl_sheets::{Form, Look, Row, Sheet};
+use sl_sheets::{Form, Look, Sheet};
+use sl_stages::{Book, Expr, Returns};
 use std::alloc::Global;
 
 const LAW: [Form; 5] = [
@@ -22,78 +25,103 @@ const LAW: [Form; 5] = [
 fn law_sheet(
     alloc: Global,
     setting: &Setting<'_>,
+    naming: &Naming<'_>,
     counted: Option<&Counted>,
 ) -> Result<Sheet, NoMemory> {
-    let title = String::from_str(alloc, "Law")?;
-    let mut sheet = Sheet::new(alloc, "law", title, &LAW)?;
-    let mut row = Row::new(alloc);
-    row.text(law_name(setting.book))?;
-    row.number(setting.house())?;
-    match counted {
-        Some(counted) => {
-            let all = seats_in_all(&counted.table);
-            row.number(all.seats)?;
-            row.number(all.direct)?;
-            row.number(all.vacant)?;
-        }
-        None => {
-            row.empty()?;
-            row.empty()?;
-            row.empty()?;
-        }
-    }
-    sheet.push(row)?;
-    Ok(sheet)
+    let law = Part::Text(law_name(setting.book));
+    let house = Part::Number(setting.house());
+    let [seats, direct, vacant] = match counted {
+        Some(counted) => seat_parts(seats_in_all(&counted.table)),
+        None => UNKNOWN_SEATS,
+    };
+    let parts = [law, house, seats, direct, vacant];
+    one_row_sheet(alloc, naming, "law", "Law", &LAW, &parts)
 }
 
-// Adds the scopes of a stage.
+// Adds the scopes of what a stage distributes.
+fn push_distributed(
+    alloc: Global,
+    scopes: &mut Vec<Scoped>,
+    returns: &Returns,
+    counted: &Counted,
+    stage: usize,
+    what: &Distribution,
+) -> Result<(), NoMemory> {
+    let mut found = scopes_of(alloc, returns, stage, what, counted.table.steps())?;
+    scopes.append(&mut found)?;
+    Ok(())
+}
+
+// Adds the scopes of the stage of that number, which has this expression.
 fn push_scopes(
     alloc: Global,
     scopes: &mut Vec<Scoped>,
     setting: &Setting<'_>,
     counted: &Counted,
     stage: usize,
+    expr: &Expr,
 ) -> Result<(), NoMemory> {
-    let Some(of) = setting.book.stages.get(stage) else {
-        return Ok(());
-    };
-    let columns = counted.columns.as_slice();
-    let Some(what) = distribution_of(alloc, setting, columns, &of.expr)? else {
-        return Ok(());
-    };
-    for scoped in scopes_of(alloc, setting.returns, stage, &what, counted.table.steps())? {
-        scopes.push(scoped)?;
+    match distribution_of(alloc, setting, counted.columns.as_slice(), expr)? {
+        Some(what) => push_distributed(alloc, scopes, setting.returns, counted, stage, &what),
+        None => Ok(()),
+    }
+}
+
+// Adds the scopes of all stages.
+fn push_all_scopes(
+    alloc: Global,
+    scopes: &mut Vec<Scoped>,
+    setting: &Setting<'_>,
+    counted: &Counted,
+) -> Result<(), NoMemory> {
+    for (number, stage) in setting.book.stages.iter().enumerate() {
+        push_scopes(alloc, scopes, setting, counted, number, &stage.expr)?;
     }
     Ok(())
 }
 
-// The scopes of all stages.
-fn all_scopes(
+// Adds the sheets of these scopes.
+fn push_scope_sheets(
     alloc: Global,
-    setting: &Setting<'_>,
-    counted: &Counted,
-) -> Result<Vec<Scoped>, NoMemory> {
-    let mut scopes = Vec::new(alloc);
-    for stage in 0..setting.book.stages.len() {
-        push_scopes(alloc, &mut scopes, setting, counted, stage)?;
+    sheets: &mut Vec<Sheet>,
+    book: &Book,
+    naming: &Naming<'_>,
+    scopes: &[Scoped],
+) -> Result<(), NoMemory> {
+    push_sheet(sheets, scopes_sheet(alloc, book, naming, scopes))?;
+    for scoped in scopes {
+        push_sheet(sheets, entries_sheet(alloc, book, naming, scoped))?;
     }
-    Ok(scopes)
+    Ok(())
 }
 
-// Adds the sheets of the scopes.
-fn push_scope_sheets(
+// Adds the sheets of all scopes of a count.
+fn push_all_scope_sheets(
     alloc: Global,
     sheets: &mut Vec<Sheet>,
     setting: &Setting<'_>,
     naming: &Naming<'_>,
     counted: &Counted,
 ) -> Result<(), NoMemory> {
-    let scopes = all_scopes(alloc, setting, counted)?;
-    sheets.push(scopes_sheet(alloc, setting.book, naming, scopes.as_slice())?)?;
-    for scoped in &scopes {
-        sheets.push(entries_sheet(alloc, setting.book, naming, scoped)?)?;
-    }
-    Ok(())
+    let mut scopes: Vec<Scoped> = Vec::new(alloc);
+    push_all_scopes(alloc, &mut scopes, setting, counted)?;
+    push_scope_sheets(alloc, sheets, setting.book, naming, scopes.as_slice())
+}
+
+// Adds the sheets that only a count with a table has.
+fn push_counted(
+    alloc: Global,
+    sheets: &mut Vec<Sheet>,
+    setting: &Setting<'_>,
+    naming: &Naming<'_>,
+    counted: &Counted,
+) -> Result<(), NoMemory> {
+    let table = &counted.table;
+    push_sheet(sheets, lists_sheet(alloc, naming, table))?;
+    push_all_scope_sheets(alloc, sheets, setting, naming, counted)?;
+    push_sheet(sheets, covering_sheet(alloc, setting, naming, table))?;
+    push_sheet(sheets, singles_sheet(alloc, naming, table))?;
+    push_sheet(sheets, open_sheet(alloc, naming, table))
 }
 
 /// The sheets of one count: the law; the parties, and who takes part; the lists; the scopes and their entries; contested lists; winners who sit by
@@ -109,18 +137,10 @@ pub fn report_sheets(
     counted: Option<&Counted>,
 ) -> Result<Vec<Sheet>, NoMemory> {
     let mut sheets: Vec<Sheet> = Vec::new(alloc);
-    sheets.push(law_sheet(alloc, setting, counted)?)?;
-    match counted {
-        None => sheets.push(parties_sheet(alloc, setting, naming, None)?)?,
-        Some(counted) => {
-            let table = &counted.table;
-            sheets.push(parties_sheet(alloc, setting, naming, Some(table))?)?;
-            sheets.push(lists_sheet(alloc, naming, table)?)?;
-            push_scope_sheets(alloc, &mut sheets, setting, naming, counted)?;
-            sheets.push(covering_sheet(alloc, setting, naming, table)?)?;
-            sheets.push(singles_sheet(alloc, naming, table)?)?;
-            sheets.push(open_sheet(alloc, naming, table)?)?;
-        }
+    push_sheet(&mut sheets, law_sheet(alloc, setting, naming, counted))?;
+    push_sheet(&mut sheets, parties_sheet(alloc, setting, naming, counted))?;
+    if let Some(counted) = counted {
+        push_counted(alloc, &mut sheets, setting, naming, counted)?;
     }
     Ok(sheets)
 }

@@ -1,9 +1,9 @@
 //! The sheet of contested lists: their winners by rank.
 
-use sl_naming::{Naming, put_land, put_party, put_percent};
+use sl_naming::{Naming, Part, push_row, titled};
 use sl_ratio::NoMemory;
 use sl_results::{Ranked, Setting, contested};
-use sl_sheets::{Form, Look, Row, Sheet};
+use sl_sheets::{Form, Look, Sheet};
 use sl_stages::{Seating, Table};
 use std::alloc::Global;
 
@@ -22,21 +22,48 @@ const COVERING: [Form; 12] = [
     ("seated", "seated", Look::Text(6)),
 ];
 
-// The row of a winner.
-fn ranked_row(alloc: Global, naming: &Naming<'_>, winner: Ranked) -> Result<Row, NoMemory> {
-    let mut row = Row::new(alloc);
-    put_land(alloc, &mut row, naming, winner.land)?;
-    put_party(alloc, &mut row, naming, winner.party)?;
-    row.own(naming.win(alloc, winner.win)?)?;
-    row.own(naming.long_win(alloc, winner.win)?)?;
+// Adds the row of a winner.
+fn push_winner(
+    alloc: Global,
+    sheet: &mut Sheet,
+    naming: &Naming<'_>,
+    winner: Ranked,
+) -> Result<(), NoMemory> {
     let first = u64::from(winner.first);
     let valid = u64::from(winner.valid);
-    row.number(first)?;
-    row.number(valid)?;
-    put_percent(alloc, &mut row, first, valid)?;
-    row.number(winner.rank)?;
-    row.flag(winner.seated)?;
-    Ok(row)
+    let parts = [
+        Part::Land(winner.land),
+        Part::Party(winner.party),
+        Part::Win(winner.win),
+        Part::Number(first),
+        Part::Number(valid),
+        Part::Percent(first, valid),
+        Part::Number(winner.rank),
+        Part::Flag(winner.seated),
+    ];
+    push_row(alloc, sheet, naming, &parts)
+}
+
+// The winners of the lists that have more winners than seats, where the book covers them.
+fn covered(alloc: Global, setting: &Setting<'_>, table: &Table) -> Result<Vec<Ranked>, NoMemory> {
+    match setting.book.last.seating {
+        Seating::Cover => contested(alloc, setting, table),
+        Seating::Keep => Ok(Vec::new(alloc)),
+    }
+}
+
+// Adds the rows of the winners.
+fn push_winners(
+    alloc: Global,
+    sheet: &mut Sheet,
+    setting: &Setting<'_>,
+    naming: &Naming<'_>,
+    table: &Table,
+) -> Result<(), NoMemory> {
+    for winner in &covered(alloc, setting, table)? {
+        push_winner(alloc, sheet, naming, *winner)?;
+    }
+    Ok(())
 }
 
 /// The winners of the lists that have more winners than seats, where the book covers them.
@@ -46,12 +73,8 @@ pub(crate) fn covering_sheet(
     naming: &Naming<'_>,
     table: &Table,
 ) -> Result<Sheet, NoMemory> {
-    let title = String::from_str(alloc, "Winners of lists with fewer seats, by share")?;
-    let mut sheet = Sheet::new(alloc, "covering", title, &COVERING)?;
-    if let Seating::Cover = setting.book.last.seating {
-        for winner in &contested(alloc, setting, table)? {
-            sheet.push(ranked_row(alloc, naming, *winner)?)?;
-        }
-    }
+    let title = "Winners of lists with fewer seats, by share";
+    let mut sheet = titled(alloc, "covering", title, &COVERING)?;
+    push_winners(alloc, &mut sheet, setting, naming, table)?;
     Ok(sheet)
 }

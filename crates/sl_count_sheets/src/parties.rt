@@ -1,9 +1,9 @@
 //! The sheets of parties and of lists, and of the winners who sit by themselves or not at all.
 
-use sl_naming::{Naming, met_text, put_land, put_party, put_percent};
+use sl_naming::{Naming, Part, push_row, titled};
 use sl_ratio::NoMemory;
-use sl_results::{PartyPart, Seats, Setting, seats_of};
-use sl_sheets::{Form, Look, Row, Sheet};
+use sl_results::{Counted, PartyPart, Seats, Setting, seats_of};
+use sl_sheets::{Form, Look, Sheet};
 use sl_stages::{ListSeats, Placed, Table};
 use std::alloc::Global;
 
@@ -41,41 +41,16 @@ const WINNERS: [Form; 6] = [
     ("party_name", "party", Look::Text(26)),
 ];
 
-// Adds seats, or empty cells where no table is known.
-fn put_seats(row: &mut Row, seats: Option<Seats>) -> Result<(), NoMemory> {
-    match seats {
-        Some(seats) => {
-            row.number(seats.seats)?;
-            row.number(seats.direct)?;
-            row.number(seats.vacant)
-        }
-        None => {
-            row.empty()?;
-            row.empty()?;
-            row.empty()
-        }
-    }
-}
+/// The cells of seats where no table is known.
+pub(crate) const UNKNOWN_SEATS: [Part<'static>; 3] = [Part::Empty, Part::Empty, Part::Empty];
 
-// The row of a party that has these votes and seats, where so many votes are valid in all.
-fn party_row(
-    alloc: Global,
-    setting: &Setting<'_>,
-    naming: &Naming<'_>,
-    party: usize,
-    part: PartyPart,
-    valid: u64,
-    seats: Option<Seats>,
-) -> Result<Row, NoMemory> {
-    let mut row = Row::new(alloc);
-    put_party(alloc, &mut row, naming, party)?;
-    row.number(part.votes.valid)?;
-    put_percent(alloc, &mut row, part.votes.valid, valid)?;
-    row.number(part.votes.counted)?;
-    let met = met_text(alloc, setting.book.eligible.as_slice(), part.met)?;
-    row.maybe_text(met)?;
-    put_seats(&mut row, seats)?;
-    Ok(row)
+/// The cells of seats.
+pub(crate) fn seat_parts(seats: Seats) -> [Part<'static>; 3] {
+    [
+        Part::Number(seats.seats),
+        Part::Number(seats.direct),
+        Part::Number(seats.vacant),
+    ]
 }
 
 // All valid votes.
@@ -87,43 +62,72 @@ fn valid_votes(parts: &[PartyPart]) -> u64 {
     valid
 }
 
+// Adds the rows of the parties.
+fn push_parties(
+    alloc: Global,
+    sheet: &mut Sheet,
+    setting: &Setting<'_>,
+    naming: &Naming<'_>,
+    counted: Option<&Counted>,
+) -> Result<(), NoMemory> {
+    let valid = valid_votes(setting.parts.as_slice());
+    for (party, part) in setting.parts.iter().enumerate() {
+        let [seats, direct, vacant] = match counted {
+            Some(counted) => seat_parts(seats_of(&counted.table, setting.returns, party)),
+            None => UNKNOWN_SEATS,
+        };
+        let parts = [
+            Part::Party(party),
+            Part::Number(part.votes.valid),
+            Part::Percent(part.votes.valid, valid),
+            Part::Number(part.votes.counted),
+            Part::Met(setting.book.eligible.as_slice(), part.met),
+            seats,
+            direct,
+            vacant,
+        ];
+        push_row(alloc, sheet, naming, &parts)?;
+    }
+    Ok(())
+}
+
 /// Who takes part and by which condition, with the seats where a table is known.
 pub(crate) fn parties_sheet(
     alloc: Global,
     setting: &Setting<'_>,
     naming: &Naming<'_>,
-    table: Option<&Table>,
+    counted: Option<&Counted>,
 ) -> Result<Sheet, NoMemory> {
-    let title = String::from_str(alloc, "Parties")?;
-    let mut sheet = Sheet::new(alloc, "parties", title, &PARTIES)?;
-    let valid = valid_votes(setting.parts.as_slice());
-    for (party, part) in setting.parts.iter().enumerate() {
-        let seats = match table {
-            Some(table) => Some(seats_of(table, setting.returns, party)),
-            None => None,
-        };
-        sheet.push(party_row(alloc, setting, naming, party, *part, valid, seats)?)?;
-    }
+    let mut sheet = titled(alloc, "parties", "Parties", &PARTIES)?;
+    push_parties(alloc, &mut sheet, setting, naming, counted)?;
     Ok(sheet)
 }
 
-// The row of a list.
-fn list_row(
+// Adds the row of a list, if it has votes or seats.
+fn push_list(
     alloc: Global,
+    sheet: &mut Sheet,
     naming: &Naming<'_>,
     list: ListSeats,
-    valid: u64,
-    counted: u64,
-) -> Result<Row, NoMemory> {
-    let mut row = Row::new(alloc);
-    put_land(alloc, &mut row, naming, list.land)?;
-    put_party(alloc, &mut row, naming, list.party)?;
-    row.number(valid)?;
-    row.number(counted)?;
-    row.number(list.seats)?;
-    row.number(list.direct)?;
-    row.number(list.vacant)?;
-    Ok(row)
+) -> Result<(), NoMemory> {
+    let returns = naming.returns;
+    if list.land >= returns.lands() || list.party >= returns.parties() {
+        return Ok(());
+    }
+    let valid = returns.valid(list.land, list.party);
+    if valid == 0 && list.seats == 0 {
+        return Ok(());
+    }
+    let parts = [
+        Part::Land(list.land),
+        Part::Party(list.party),
+        Part::Number(u64::from(valid)),
+        Part::Number(u64::from(returns.counted(list.land, list.party))),
+        Part::Number(list.seats),
+        Part::Number(list.direct),
+        Part::Number(list.vacant),
+    ];
+    push_row(alloc, sheet, naming, &parts)
 }
 
 /// The lists that have votes or seats.
@@ -132,38 +136,30 @@ pub(crate) fn lists_sheet(
     naming: &Naming<'_>,
     table: &Table,
 ) -> Result<Sheet, NoMemory> {
-    let title = String::from_str(alloc, "Lists")?;
-    let mut sheet = Sheet::new(alloc, "lists", title, &LISTS)?;
-    let returns = naming.returns;
+    let mut sheet = titled(alloc, "lists", "Lists", &LISTS)?;
     for list in table.lists() {
-        if list.land < returns.lands() && list.party < returns.parties() {
-            let valid = u64::from(returns.valid(list.land, list.party));
-            let counted = u64::from(returns.counted(list.land, list.party));
-            if valid > 0 || list.seats > 0 {
-                sheet.push(list_row(alloc, naming, *list, valid, counted)?)?;
-            }
-        }
+        push_list(alloc, &mut sheet, naming, *list)?;
     }
     Ok(sheet)
 }
 
-// The row of a winner.
-fn winner_row(alloc: Global, naming: &Naming<'_>, number: usize) -> Result<Row, NoMemory> {
-    let mut row = Row::new(alloc);
-    row.own(naming.win(alloc, number)?)?;
-    row.own(naming.long_win(alloc, number)?)?;
-    if number < naming.returns.wins() {
-        let win = naming.returns.win(number);
-        put_land(alloc, &mut row, naming, win.land)?;
-        match win.party {
-            Some(party) => put_party(alloc, &mut row, naming, party)?,
-            None => {
-                row.empty()?;
-                row.text("-")?;
-            }
-        }
+// Adds the row of a winner.
+fn push_winner(
+    alloc: Global,
+    sheet: &mut Sheet,
+    naming: &Naming<'_>,
+    number: usize,
+) -> Result<(), NoMemory> {
+    if number >= naming.returns.wins() {
+        return push_row(alloc, sheet, naming, &[Part::Win(number)]);
     }
-    Ok(row)
+    let win = naming.returns.win(number);
+    let party = match win.party {
+        Some(party) => Part::Party(party),
+        None => Part::Word("-"),
+    };
+    let parts = [Part::Win(number), Part::Land(win.land), party];
+    push_row(alloc, sheet, naming, &parts)
 }
 
 // The winners who sit there, under a key and a title.
@@ -175,11 +171,10 @@ fn placed_sheet(
     title: &str,
     wanted: Placed,
 ) -> Result<Sheet, NoMemory> {
-    let title = String::from_str(alloc, title)?;
-    let mut sheet = Sheet::new(alloc, key, title, &WINNERS)?;
+    let mut sheet = titled(alloc, key, title, &WINNERS)?;
     for (number, place) in table.placed().iter().enumerate() {
         if *place == wanted {
-            sheet.push(winner_row(alloc, naming, number)?)?;
+            push_winner(alloc, &mut sheet, naming, number)?;
         }
     }
     Ok(sheet)

@@ -1,10 +1,10 @@
 //! The sheets of scopes: a line for each, and the entries of each.
 
-use sl_naming::{Naming, method_word, stage_name};
+use sl_naming::{Naming, Part, method_word, push_name, push_row, put_parts, stage_name, titled};
 use sl_ratio::NoMemory;
-use sl_scopes::{Entry, Fraction, Scoped};
+use sl_scopes::{Entry, Scoped};
 use sl_sheets::{Form, Look, Row, Sheet};
-use sl_stages::Book;
+use sl_stages::{Book, Scope};
 use std::alloc::Global;
 
 const SCOPES: [Form; 13] = [
@@ -36,52 +36,37 @@ const ENTRIES: [Form; 10] = [
     ("missing", "votes missing", Look::Number),
 ];
 
-// Decimal places of quotients, and of a quota.
-const PLACES: u32 = 4;
-
-// A fraction in decimals, cut.
-fn cut_text(alloc: Global, fraction: Fraction) -> Result<Option<String>, NoMemory> {
-    match fraction.decimal(PLACES) {
-        Some(cut) => Ok(Some(cut.text(alloc)?)),
-        None => Ok(None),
-    }
-}
-
-// Adds a fraction, if there is one: in decimals, and exact.
-fn put_fraction(alloc: Global, row: &mut Row, fraction: Option<Fraction>) -> Result<(), NoMemory> {
-    match fraction {
-        Some(fraction) => {
-            row.maybe_text(cut_text(alloc, fraction)?)?;
-            row.own(fraction.text(alloc)?)
-        }
-        None => {
-            row.empty()?;
-            row.empty()
-        }
-    }
-}
-
-// The names of the entries of these numbers, parted by commas.
-fn names_of(
+// Adds the names of the entries of these numbers to a text, parted by commas.
+fn push_names(
     alloc: Global,
+    text: &mut String,
     naming: &Naming<'_>,
     scoped: &Scoped,
     numbers: &[usize],
-) -> Result<Option<String>, NoMemory> {
-    let mut text = String::new(alloc);
+) -> Result<(), NoMemory> {
     for number in numbers {
         if let Some(entry) = scoped.entries.get(*number) {
-            if !text.is_empty() {
-                text.push_str(", ")?;
-            }
             let name = naming.long_entry(alloc, scoped.scope, entry.item)?;
-            text.push_str(name.as_str())?;
+            push_name(text, ", ", name.as_str())?;
         }
     }
+    Ok(())
+}
+
+// Adds a cell with the names of the entries of these numbers, an empty one for none.
+fn put_names(
+    alloc: Global,
+    row: &mut Row,
+    naming: &Naming<'_>,
+    scoped: &Scoped,
+    numbers: &[usize],
+) -> Result<(), NoMemory> {
+    let mut text = String::new(alloc);
+    push_names(alloc, &mut text, naming, scoped, numbers)?;
     if text.is_empty() {
-        return Ok(None);
+        return row.empty();
     }
-    Ok(Some(text))
+    row.own(text)
 }
 
 // Adds the divisor of a scope, if there is one.
@@ -92,27 +77,41 @@ fn put_divisor(alloc: Global, row: &mut Row, scoped: &Scoped) -> Result<(), NoMe
     }
 }
 
-// The row of a scope.
-fn scope_row(
+// Adds the divisor or the quota of a scope, and who won the last seat and has the next claim.
+fn put_margins(
     alloc: Global,
+    row: &mut Row,
+    naming: &Naming<'_>,
+    scoped: &Scoped,
+) -> Result<(), NoMemory> {
+    put_divisor(alloc, row, scoped)?;
+    put_parts(alloc, row, naming, &[Part::Fraction(scoped.quota)])?;
+    put_names(alloc, row, naming, scoped, scoped.last.as_slice())?;
+    put_names(alloc, row, naming, scoped, scoped.next.as_slice())
+}
+
+// Adds the row of a scope.
+fn push_scope(
+    alloc: Global,
+    sheet: &mut Sheet,
     book: &Book,
     naming: &Naming<'_>,
     scoped: &Scoped,
-) -> Result<Row, NoMemory> {
+) -> Result<(), NoMemory> {
+    let parts = [
+        Part::Text(stage_name(book, scoped.stage)),
+        Part::Scope(scoped.scope),
+        Part::LongScope(scoped.scope),
+        Part::Text(method_word(scoped.method)),
+        Part::Flag(scoped.grows),
+        Part::Flag(scoped.has_minima),
+        Part::Number(scoped.weight),
+        Part::Number(scoped.seats),
+    ];
     let mut row = Row::new(alloc);
-    row.text(stage_name(book, scoped.stage))?;
-    row.own(naming.scope(alloc, scoped.scope)?)?;
-    row.own(naming.long_scope(alloc, scoped.scope)?)?;
-    row.text(method_word(scoped.method))?;
-    row.flag(scoped.grows)?;
-    row.flag(scoped.has_minima)?;
-    row.number(scoped.weight)?;
-    row.number(scoped.seats)?;
-    put_divisor(alloc, &mut row, scoped)?;
-    put_fraction(alloc, &mut row, scoped.quota)?;
-    row.maybe_text(names_of(alloc, naming, scoped, scoped.last.as_slice())?)?;
-    row.maybe_text(names_of(alloc, naming, scoped, scoped.next.as_slice())?)?;
-    Ok(row)
+    put_parts(alloc, &mut row, naming, &parts)?;
+    put_margins(alloc, &mut row, naming, scoped)?;
+    sheet.push(row)
 }
 
 /// A line for each scope.
@@ -122,52 +121,49 @@ pub(crate) fn scopes_sheet(
     naming: &Naming<'_>,
     scopes: &[Scoped],
 ) -> Result<Sheet, NoMemory> {
-    let title = String::from_str(alloc, "Distributions")?;
-    let mut sheet = Sheet::new(alloc, "scopes", title, &SCOPES)?;
+    let mut sheet = titled(alloc, "scopes", "Distributions", &SCOPES)?;
     for scoped in scopes {
-        sheet.push(scope_row(alloc, book, naming, scoped)?)?;
+        push_scope(alloc, &mut sheet, book, naming, scoped)?;
     }
     Ok(sheet)
 }
 
-// The row of an entry.
-fn entry_row(
+// Adds the row of an entry of a scope.
+fn push_entry(
     alloc: Global,
-    book: &Book,
+    sheet: &mut Sheet,
+    stage: &str,
     naming: &Naming<'_>,
     scoped: &Scoped,
     entry: Entry,
-) -> Result<Row, NoMemory> {
-    let mut row = Row::new(alloc);
-    row.text(stage_name(book, scoped.stage))?;
-    row.own(naming.scope(alloc, scoped.scope)?)?;
-    row.own(naming.entry(alloc, entry.item)?)?;
-    row.own(naming.long_entry(alloc, scoped.scope, entry.item)?)?;
-    row.number(entry.weight)?;
-    put_fraction(alloc, &mut row, entry.quotient)?;
-    row.number(entry.seats)?;
-    if scoped.has_minima {
-        row.number(entry.minimum)?;
+) -> Result<(), NoMemory> {
+    let minimum = if scoped.has_minima {
+        Part::Number(entry.minimum)
     } else {
-        row.empty()?;
-    }
-    row.maybe_number(entry.missing)?;
-    Ok(row)
+        Part::Empty
+    };
+    let parts = [
+        Part::Text(stage),
+        Part::Scope(scoped.scope),
+        Part::Entry(entry.item, scoped.scope),
+        Part::Number(entry.weight),
+        Part::Fraction(entry.quotient),
+        Part::Number(entry.seats),
+        minimum,
+        Part::Known(entry.missing),
+    ];
+    push_row(alloc, sheet, naming, &parts)
 }
 
 // The title of a scope's entries.
 fn entries_title(
     alloc: Global,
-    book: &Book,
+    stage: &str,
     naming: &Naming<'_>,
-    scoped: &Scoped,
+    scope: Scope,
 ) -> Result<String, NoMemory> {
-    let mut title = String::from_str(alloc, "Stage ")?;
-    title.push_str(stage_name(book, scoped.stage))?;
-    title.push_str(", ")?;
-    let scope = naming.long_scope(alloc, scoped.scope)?;
-    title.push_str(scope.as_str())?;
-    Ok(title)
+    let scope = naming.long_scope(alloc, scope)?;
+    Ok(format!(in alloc; "Stage {stage}, {scope}")?)
 }
 
 /// The entries of a scope.
@@ -177,10 +173,11 @@ pub(crate) fn entries_sheet(
     naming: &Naming<'_>,
     scoped: &Scoped,
 ) -> Result<Sheet, NoMemory> {
-    let title = entries_title(alloc, book, naming, scoped)?;
+    let stage = stage_name(book, scoped.stage);
+    let title = entries_title(alloc, stage, naming, scoped.scope)?;
     let mut sheet = Sheet::new(alloc, "entries", title, &ENTRIES)?;
     for entry in &scoped.entries {
-        sheet.push(entry_row(alloc, book, naming, scoped, *entry)?)?;
+        push_entry(alloc, &mut sheet, stage, naming, scoped, *entry)?;
     }
     Ok(sheet)
 }

@@ -4,7 +4,7 @@ use sl_ratio::NoMemory;
 use std::alloc::Global;
 
 /// Bytes of an input, by the offset of the first and that behind the last, both from 0.
-#[derive(Clone, Copy, Debug, PartialEq, Eq)]
+#[derive(Clone, Copy)]
 pub struct Span {
     pub start: usize,
     pub end: usize,

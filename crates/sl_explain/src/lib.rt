@@ -6,6 +6,7 @@ mod language;
 mod line;
 mod names;
 mod page;
+mod parts;
 mod speaker;
 
 pub use explanation::{Explanation, Span};
@@ -13,4 +14,5 @@ pub use language::{Language, Message};
 pub use line::{Line, line_at};
 pub use names::nearest;
 pub use page::written;
+pub use parts::{append, first_line};
 pub use speaker::Speaker;

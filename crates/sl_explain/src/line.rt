@@ -1,5 +1,7 @@
 //! Lines and columns of a text, as an editor counts them.
 
+use crate::parts::{characters, first_line, from, until};
+
 /// A line of a text, without its end, and a place in it.
 #[derive(Clone, Copy)]
 pub struct Line<'a> {
@@ -12,56 +14,31 @@ pub struct Line<'a> {
     pub text: &'a [u8],
 }
 
-// Whether a line ends at this byte: at LF, and at a CR that no LF follows.
-fn ends_line(byte: u8, next: Option<&u8>) -> bool {
-    byte == b'\n' || byte == b'\r' && next != Some(&b'\n')
-}
-
-/// Whether a byte begins a character of UTF-8.
-pub(crate) fn begins_character(byte: u8) -> bool {
-    byte & 0xC0 != 0x80
-}
-
-/// A byte as it is shown: no control character, and none above ASCII in a text that is not UTF-8.
-pub(crate) fn shown_byte(byte: u8, is_utf8: bool) -> u8 {
-    if byte < 0x20 || byte == 0x7F {
-        b' '
-    } else if byte >= 0x80 && !is_utf8 {
-        b'?'
-    } else {
-        byte
-    }
-}
-
-// The bytes of a line, up to its end.
-fn until_end(rest: &[u8]) -> &[u8] {
-    match rest
-        .iter()
-        .position(|byte| *byte == b'\n' || *byte == b'\r')
-    {
-        Some(length) => rest.get(..length).unwrap_or(rest),
-        None => rest,
+// Whether a line ends at this offset: at LF, and at a CR that no LF follows.
+fn ends_line(text: &[u8], at: usize) -> bool {
+    match text.get(at) {
+        Some(b'\n') => true,
+        Some(b'\r') => !from(text, at.saturating_add(1)).starts_with(b"\n"),
+        _ => false,
     }
 }
 
 /// The line in which the byte at that offset stands. An offset behind the text stands at its end.
 pub fn line_at(text: &[u8], at: usize) -> Line<'_> {
     let mut number = 1usize;
-    let mut column = 1usize;
-    let mut start = 0;
-    for (place, byte) in text.iter().enumerate().take(at) {
-        if ends_line(*byte, text.get(place + 1)) {
+    let mut start = 0usize;
+    for place in 0..at.min(text.len()) {
+        if ends_line(text, place) {
             number = number.saturating_add(1);
-            column = 1;
-            start = place + 1;
-        } else if begins_character(*byte) {
-            column = column.saturating_add(1);
+            start = place.saturating_add(1);
         }
     }
+    let rest = from(text, start);
+    let before = until(rest, at.saturating_sub(start));
     Line {
         number,
-        column,
+        column: characters(before).saturating_add(1),
         start,
-        text: until_end(text.get(start..).unwrap_or(&[])),
+        text: first_line(rest),
     }
 }

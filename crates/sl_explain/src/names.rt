@@ -13,13 +13,10 @@ fn most_edits(length: usize) -> usize {
     }
 }
 
-// The word in small letters of ASCII.
-fn folded(alloc: Global, word: &[u8]) -> Result<Vec<u8>, NoMemory> {
-    let mut small = Vec::new(alloc);
-    for byte in word {
-        small.push(byte.to_ascii_lowercase())?;
-    }
-    Ok(small)
+// How many edits part a name from a word in small letters.
+fn edits_between(alloc: Global, small: &[u8], name: &[u8]) -> Result<usize, NoMemory> {
+    let other = name.to_ascii_lowercase(alloc)?;
+    Ok(generic_levenshtein(alloc, small, other.as_slice())?)
 }
 
 /// Of some names the first that the fewest edits part from a word, if they are few: one letter in a short word, two in a longer one. Letters
@@ -33,12 +30,11 @@ pub fn nearest<'a>(
     word: &[u8],
     names: &[&'a [u8]],
 ) -> Result<Option<&'a [u8]>, NoMemory> {
-    let small = folded(alloc, word)?;
+    let small = word.to_ascii_lowercase(alloc)?;
     let mut found = None;
     let mut least = most_edits(word.len()).saturating_add(1);
     for name in names {
-        let other = folded(alloc, name)?;
-        let edits = generic_levenshtein(alloc, small.as_slice(), other.as_slice())?;
+        let edits = edits_between(alloc, small.as_slice(), name)?;
         if edits < least {
             least = edits;
             found = Some(*name);

@@ -2,7 +2,8 @@
 
 use crate::explanation::{Explanation, Span};
 use crate::language::{Language, Message};
-use crate::line::{Line, begins_character, line_at, shown_byte};
+use crate::line::line_at;
+use crate::parts::{append, begins_character, characters, from, shown_byte, until};
 use sl_ratio::NoMemory;
 use std::alloc::Global;
 
@@ -12,8 +13,8 @@ const ERROR: Message = Message {
 };
 
 const HELP: Message = Message {
-    english: "help: ",
-    german: "Hilfe: ",
+    english: "  = help: ",
+    german: "  = Hilfe: ",
 };
 
 // The most bytes of a line that are shown before the mark, and the most characters in all.
@@ -31,10 +32,12 @@ fn repeat(text: &mut Vec<u8>, byte: u8, times: usize) -> Result<(), NoMemory> {
 
 // Some bytes from the first that begins a character on.
 fn from_character(bytes: &[u8]) -> &[u8] {
-    match bytes.iter().position(|byte| begins_character(*byte)) {
-        Some(first) => bytes.get(first..).unwrap_or(bytes),
-        None => &[],
+    for (place, byte) in bytes.iter().enumerate() {
+        if begins_character(*byte) {
+            return from(bytes, place);
+        }
     }
+    &[]
 }
 
 // As many characters of some bytes as are shown of a line.
@@ -43,7 +46,7 @@ fn until_shown(bytes: &[u8]) -> &[u8] {
     for (place, byte) in bytes.iter().enumerate() {
         if begins_character(*byte) {
             if characters == SHOWN {
-                return bytes.get(..place).unwrap_or(bytes);
+                return until(bytes, place);
             }
             characters = characters.saturating_add(1);
         }
@@ -51,50 +54,69 @@ fn until_shown(bytes: &[u8]) -> &[u8] {
     bytes
 }
 
-// The part of a line that is shown, and the offset in it of the place.
-fn window(line: Line<'_>, at: usize) -> (&[u8], usize) {
-    let place = at.saturating_sub(line.start).min(line.text.len());
-    let first = place.saturating_sub(BEFORE);
-    let rest = from_character(line.text.get(first..).unwrap_or(&[]));
-    let skipped = line.text.len().saturating_sub(rest.len());
+// The part of a line that is shown for a place in it, and the offset of the place in that part.
+fn window(line: &[u8], at: usize) -> (&[u8], usize) {
+    let place = at.min(line.len());
+    let rest = from_character(from(line, place.saturating_sub(BEFORE)));
+    let skipped = line.len().saturating_sub(rest.len());
     (until_shown(rest), place.saturating_sub(skipped))
 }
 
-// How many characters stand in some bytes.
-fn characters(bytes: &[u8]) -> usize {
-    bytes.iter().filter(|byte| begins_character(**byte)).count()
-}
-
-// The line with its number, and under it a mark below the bytes of the span.
-fn write_line(
-    text: &mut Vec<u8>,
-    alloc: Global,
-    line: Line<'_>,
-    span: Span,
-) -> Result<(), NoMemory> {
-    let number = line.number.to_string(alloc)?;
-    let (part, place) = window(line, span.start);
-    let is_utf8 = std::str::from_utf8(part).is_ok();
-    repeat(text, b' ', number.len())?;
-    text.extend_from_slice(b" |\n")?;
-    text.extend_from_slice(number.as_bytes())?;
-    text.extend_from_slice(b" | ")?;
-    for byte in part {
+// Adds bytes as they are shown.
+fn write_shown(text: &mut Vec<u8>, bytes: &[u8]) -> Result<(), NoMemory> {
+    let is_utf8 = std::str::from_utf8(bytes).is_ok();
+    for byte in bytes {
         text.push(shown_byte(*byte, is_utf8))?;
     }
-    text.push(b'\n')?;
-    repeat(text, b' ', number.len())?;
-    text.extend_from_slice(b" | ")?;
-    repeat(text, b' ', characters(part.get(..place).unwrap_or(part)))?;
-    let marked = part.get(place..).unwrap_or(&[]);
-    let width = span.end.saturating_sub(span.start).min(marked.len());
-    repeat(
-        text,
-        b'^',
-        characters(marked.get(..width).unwrap_or(marked)).max(1),
-    )?;
-    text.push(b'\n')?;
     Ok(())
+}
+
+// As many blanks as a line's number has digits, and what stands behind them.
+fn write_margin(text: &mut Vec<u8>, width: usize, parts: &[&[u8]]) -> Result<(), NoMemory> {
+    repeat(text, b' ', width)?;
+    append(text, parts)
+}
+
+// A mark below some bytes of a part of a line: at least one character, also behind its end.
+fn write_mark(
+    text: &mut Vec<u8>,
+    part: &[u8],
+    place: usize,
+    length: usize,
+) -> Result<(), NoMemory> {
+    let marked = until(from(part, place), length);
+    repeat(text, b' ', characters(until(part, place)))?;
+    repeat(text, b'^', characters(marked).max(1))?;
+    append(text, &[b"\n"])
+}
+
+// A line with the digits of its number, and under it a mark below so many bytes from a place on.
+fn write_line(
+    text: &mut Vec<u8>,
+    digits: &[u8],
+    line: &[u8],
+    at: usize,
+    length: usize,
+) -> Result<(), NoMemory> {
+    let (part, place) = window(line, at);
+    write_margin(text, digits.len(), &[b" |\n", digits, b" | "])?;
+    write_shown(text, part)?;
+    append(text, &[b"\n"])?;
+    write_margin(text, digits.len(), &[b" | "])?;
+    write_mark(text, part, place, length)
+}
+
+// The file, the line and the column.
+fn write_head(
+    text: &mut Vec<u8>,
+    alloc: Global,
+    path: &[u8],
+    digits: &[u8],
+    column: usize,
+) -> Result<(), NoMemory> {
+    let column = column.to_string(alloc)?;
+    let parts = [b"--> ", path, b":", digits, b":", column.as_bytes(), b"\n"];
+    write_margin(text, digits.len(), &parts)
 }
 
 // Where it is: the file, the line and the column, and the line itself.
@@ -106,40 +128,56 @@ fn write_place(
     span: Span,
 ) -> Result<(), NoMemory> {
     let line = line_at(input, span.start);
-    let number = line.number.to_string(alloc)?;
-    let column = line.column.to_string(alloc)?;
-    repeat(text, b' ', number.len())?;
-    text.extend_from_slice(b"--> ")?;
-    text.extend_from_slice(path)?;
-    text.push(b':')?;
-    text.extend_from_slice(number.as_bytes())?;
-    text.push(b':')?;
-    text.extend_from_slice(column.as_bytes())?;
-    text.push(b'\n')?;
-    write_line(text, alloc, line, span)
+    let digits = line.number.to_string(alloc)?;
+    write_head(text, alloc, path, digits.as_bytes(), line.column)?;
+    let at = span.start.saturating_sub(line.start);
+    let length = span.end.saturating_sub(span.start);
+    write_line(text, digits.as_bytes(), line.text, at, length)
 }
 
-// The file alone, where the explanation speaks of no place in it.
-fn write_path(text: &mut Vec<u8>, path: &[u8]) -> Result<(), NoMemory> {
-    text.extend_from_slice(b" --> ")?;
-    text.extend_from_slice(path)?;
-    text.push(b'\n')?;
-    Ok(())
+// A line of its own, behind what it begins with.
+fn write_sentence(text: &mut Vec<u8>, label: &[u8], sentence: &[u8]) -> Result<(), NoMemory> {
+    append(text, &[label, sentence, b"\n"])
 }
 
 // The remedies, a line each.
-fn write_remedies(
-    text: &mut Vec<u8>,
-    language: Language,
-    remedies: &[Vec<u8>],
-) -> Result<(), NoMemory> {
+fn write_remedies(text: &mut Vec<u8>, label: &[u8], remedies: &[Vec<u8>]) -> Result<(), NoMemory> {
     for remedy in remedies {
-        text.extend_from_slice(b"  = ")?;
-        text.extend_from_slice(HELP.in_language(language).as_bytes())?;
-        text.extend_from_slice(remedy.as_slice())?;
-        text.push(b'\n')?;
+        write_sentence(text, label, remedy.as_slice())?;
     }
     Ok(())
+}
+
+// The file, with a place in it if the explanation speaks of one.
+fn write_file(
+    text: &mut Vec<u8>,
+    alloc: Global,
+    path: &[u8],
+    input: &[u8],
+    span: Option<Span>,
+) -> Result<(), NoMemory> {
+    match span {
+        Some(span) => write_place(text, alloc, path, input, span),
+        None => append(text, &[b" --> ", path, b"\n"]),
+    }
+}
+
+// Adds an explanation as it is written.
+fn write_explanation(
+    text: &mut Vec<u8>,
+    alloc: Global,
+    language: Language,
+    path: Option<&[u8]>,
+    input: &[u8],
+    explanation: &Explanation,
+) -> Result<(), NoMemory> {
+    let label = ERROR.in_language(language).as_bytes();
+    write_sentence(text, label, explanation.sentence.as_slice())?;
+    if let Some(path) = path {
+        write_file(text, alloc, path, input, explanation.span)?;
+    }
+    let label = HELP.in_language(language).as_bytes();
+    write_remedies(text, label, explanation.remedies.as_slice())
 }
 
 /// An explanation as it is written: the sentence; the path of the file, and with a place its line and column, and the line with a mark under
@@ -155,14 +193,7 @@ pub fn written(
     input: &[u8],
     explanation: &Explanation,
 ) -> Result<Vec<u8>, NoMemory> {
-    let mut text = Vec::from_slice(alloc, ERROR.in_language(language).as_bytes())?;
-    text.extend_from_slice(explanation.sentence.as_slice())?;
-    text.push(b'\n')?;
-    match (path, explanation.span) {
-        (Some(path), Some(span)) => write_place(&mut text, alloc, path, input, span)?,
-        (Some(path), None) => write_path(&mut text, path)?,
-        (None, _) => {}
-    }
-    write_remedies(&mut text, language, explanation.remedies.as_slice())?;
+    let mut text = Vec::new(alloc);
+    write_explanation(&mut text, alloc, language, path, input, explanation)?;
     Ok(text)
 }

@@ -2,8 +2,8 @@
 
 use crate::explanation::{Explanation, Span};
 use crate::language::{Language, Message};
-use crate::line::{begins_character, shown_byte};
 use crate::names::nearest;
+use crate::parts::{begins_character, shown_byte};
 use sl_ratio::NoMemory;
 use std::alloc::Global;
 
@@ -58,6 +58,40 @@ impl Speaker {
         Ok(explanation.at(span.start, span.end))
     }
 
+    /// An explanation of one sentence and of what to do.
+    ///
+    /// # Errors
+    ///
+    /// Want of memory.
+    pub fn explains(
+        self,
+        message: &Message,
+        values: &[&[u8]],
+        remedies: &[&Message],
+    ) -> Result<Explanation, NoMemory> {
+        let mut explanation = self.says(message, values)?;
+        for remedy in remedies {
+            self.helps(&mut explanation, remedy, &[])?;
+        }
+        Ok(explanation)
+    }
+
+    /// The same, of some bytes.
+    ///
+    /// # Errors
+    ///
+    /// Want of memory.
+    pub fn explains_at(
+        self,
+        message: &Message,
+        values: &[&[u8]],
+        span: Span,
+        remedies: &[&Message],
+    ) -> Result<Explanation, NoMemory> {
+        let explanation = self.explains(message, values, remedies)?;
+        Ok(explanation.at(span.start, span.end))
+    }
+
     /// A text in the language.
     ///
     /// # Errors
@@ -87,8 +121,7 @@ impl Speaker {
     ///
     /// Want of memory.
     pub fn number(self, number: usize) -> Result<Vec<u8>, NoMemory> {
-        let digits = number.to_string(self.alloc)?;
-        Ok(Vec::from_slice(self.alloc, digits.as_bytes())?)
+        Ok(number.to_string(self.alloc)?.into_bytes())
     }
 
     /// Some bytes of an input as a sentence repeats them: the first of them, without control characters.
@@ -125,13 +158,17 @@ impl Speaker {
         word: &[u8],
         names: &[&[u8]],
     ) -> Result<bool, NoMemory> {
-        match nearest(self.alloc, word, names)? {
-            Some(name) => {
-                self.helps(explanation, &MEANT, &[name])?;
-                Ok(true)
-            }
-            None => Ok(false),
+        match nearest(self.alloc, word, names) {
+            Ok(Some(name)) => self.helps_meant(explanation, name),
+            Ok(None) => Ok(false),
+            Err(refusal) => Err(refusal),
         }
+    }
+
+    // Adds the question whether a name is meant.
+    fn helps_meant(self, explanation: &mut Explanation, name: &[u8]) -> Result<bool, NoMemory> {
+        self.helps(explanation, &MEANT, &[name])?;
+        Ok(true)
     }
 
     /// Words in a row, with an `or` before the last.
@@ -152,18 +189,26 @@ impl Speaker {
         self.listed(words, &AND)
     }
 
+    // What stands before a word in a row, behind which so many are left.
+    fn separator(self, is_first: bool, behind: usize, joint: &Message) -> &'static [u8] {
+        if is_first {
+            b""
+        } else if behind == 0 {
+            self.word(joint)
+        } else {
+            b", "
+        }
+    }
+
     // Words in a row, with a word before the last.
     fn listed(self, words: &[Vec<u8>], joint: &Message) -> Result<Vec<u8>, NoMemory> {
         let mut text = Vec::new(self.alloc);
-        let mut left = words.len();
+        let mut behind = words.len();
         for word in words {
-            if left < words.len() && left == 1 {
-                text.extend_from_slice(self.word(joint))?;
-            } else if left < words.len() {
-                text.extend_from_slice(b", ")?;
-            }
+            let is_first = behind == words.len();
+            behind = behind.saturating_sub(1);
+            text.extend_from_slice(self.separator(is_first, behind, joint))?;
             text.extend_from_slice(word.as_slice())?;
-            left = left.saturating_sub(1);
         }
         Ok(text)
     }
@@ -174,10 +219,6 @@ impl Speaker {
     ///
     /// Want of memory.
     pub fn quoted(self, word: &[u8]) -> Result<Vec<u8>, NoMemory> {
-        let mut text = Vec::new(self.alloc);
-        text.push(b'`')?;
-        text.extend_from_slice(word)?;
-        text.push(b'`')?;
-        Ok(text)
+        Ok([b"`".as_slice(), word, b"`"].concat(self.alloc)?)
     }
 }

@@ -1,8 +1,8 @@
 //! Explanations of legal faults.
 
-use crate::counts::{heaviest, majority_party, population, sums_of, winners_in};
-use crate::lots::{add_missing, add_records, add_shapes, add_unknown_stages};
-use crate::words::{item_words, land_name, party_name, scope_words, stage_name};
+use crate::counts::{Burden, Sums, heaviest, majority_party, population, sums_of, winners_in};
+use crate::lots::add_lots;
+use crate::words::{item_words, party_name, scope_words, stage_name};
 use sl_explain::{Explanation, Language, Message, Speaker};
 use sl_ratio::NoMemory;
 use sl_stages::{FaultKind, Item, LegalFault, Returns, Scope};
@@ -86,8 +86,8 @@ const NO_RULE: Message = Message {
 };
 
 const HEAVIEST: Message = Message {
-    english: "the list of `$` in `$` has the most winners for its votes: $ for $ counted votes; correct one of the two, if it is wrong",
-    german: "die Liste von `$` in `$` hat die meisten Wahlkreissieger für ihre Stimmen: $ bei $ gezählten; eines von beiden berichtigen, wenn es falsch ist",
+    english: "the $ has the most winners for its votes: $ for $ counted votes; correct one of the two, if it is wrong",
+    german: "die $ hat die meisten Wahlkreissieger für ihre Stimmen: $ bei $ gezählten; eines von beiden berichtigen, wenn es falsch ist",
 };
 
 const RAISE_CAP: Message = Message {
@@ -106,6 +106,17 @@ fn sentence(kind: &FaultKind) -> &'static Message {
     }
 }
 
+// What is said of lists that win nothing.
+fn votes_message(sums: Sums) -> &'static Message {
+    if sums.lists == 0 {
+        &NO_RECORD
+    } else if sums.counted == 0 {
+        &NO_VOTES
+    } else {
+        &NOBODY
+    }
+}
+
 // Adds what to do where there is nobody with votes.
 fn add_votes(
     speaker: Speaker,
@@ -113,23 +124,29 @@ fn add_votes(
     scope: Scope,
     explanation: &mut Explanation,
 ) -> Result<(), NoMemory> {
-    let sums = sums_of(returns, scope);
-    let lists = speaker.number(sums.lists as usize)?;
-    let counted = speaker.number(sums.counted as usize)?;
     if scope == Scope::All && population(returns) == 0 {
         speaker.helps(explanation, &NO_PEOPLE, &[])?;
     }
-    if sums.lists == 0 {
-        speaker.helps(explanation, &NO_RECORD, &[])
-    } else if sums.counted == 0 {
-        speaker.helps(explanation, &NO_VOTES, &[lists.as_slice()])
-    } else {
-        speaker.helps(
-            explanation,
-            &NOBODY,
-            &[lists.as_slice(), counted.as_slice()],
-        )
-    }
+    let sums = sums_of(returns, scope);
+    let lists = speaker.number(sums.lists as usize)?;
+    let counted = speaker.number(sums.counted as usize)?;
+    let values = [lists.as_slice(), counted.as_slice()];
+    speaker.helps(explanation, votes_message(sums), &values)
+}
+
+// Adds what is said of somebody with two numbers.
+fn add_numbers(
+    speaker: Speaker,
+    message: &Message,
+    name: &[u8],
+    first: u64,
+    second: u64,
+    explanation: &mut Explanation,
+) -> Result<(), NoMemory> {
+    let first = speaker.number(first as usize)?;
+    let second = speaker.number(second as usize)?;
+    let values = [name, first.as_slice(), second.as_slice()];
+    speaker.helps(explanation, message, &values)
 }
 
 // Adds who has more than half of the votes.
@@ -140,13 +157,30 @@ fn add_majority(
     explanation: &mut Explanation,
 ) -> Result<(), NoMemory> {
     if let Some((party, own)) = majority_party(returns, scope) {
-        let own = speaker.number(own as usize)?;
-        let all = speaker.number(sums_of(returns, scope).counted as usize)?;
-        let name = speaker.shown(party_name(returns, party))?;
-        let values = [name.as_slice(), own.as_slice(), all.as_slice()];
-        speaker.helps(explanation, &HALF, &values)?;
+        let all = sums_of(returns, scope).counted;
+        let name = party_name(returns, party);
+        add_numbers(speaker, &HALF, name, own, all, explanation)?;
     }
     speaker.helps(explanation, &NO_RULE, &[])
+}
+
+// Adds what is said of a list with many winners for its votes.
+fn add_burden(
+    speaker: Speaker,
+    returns: &Returns,
+    burden: Burden,
+    explanation: &mut Explanation,
+) -> Result<(), NoMemory> {
+    let scope = Scope::List(burden.land, burden.party);
+    let list = scope_words(speaker, returns, scope)?;
+    add_numbers(
+        speaker,
+        &HEAVIEST,
+        list.as_slice(),
+        burden.winners,
+        burden.counted,
+        explanation,
+    )
 }
 
 // Adds the list with the most winners for its votes.
@@ -156,22 +190,12 @@ fn add_heaviest(
     explanation: &mut Explanation,
 ) -> Result<(), NoMemory> {
     if let Some(burden) = heaviest(returns) {
-        let winners = speaker.number(burden.winners as usize)?;
-        let counted = speaker.number(burden.counted as usize)?;
-        let party = speaker.shown(party_name(returns, burden.party))?;
-        let land = speaker.shown(land_name(returns, burden.land))?;
-        let values = [
-            party.as_slice(),
-            land.as_slice(),
-            winners.as_slice(),
-            counted.as_slice(),
-        ];
-        speaker.helps(explanation, &HEAVIEST, &values)?;
+        add_burden(speaker, returns, burden, explanation)?;
     }
     speaker.helps(explanation, &RAISE_CAP, &[])
 }
 
-// Adds the number of winners of a scope.
+// Adds the number of winners of a scope, and that there may be more seats.
 fn add_winners(
     speaker: Speaker,
     returns: &Returns,
@@ -179,7 +203,37 @@ fn add_winners(
     explanation: &mut Explanation,
 ) -> Result<(), NoMemory> {
     let winners = speaker.number(winners_in(returns, scope) as usize)?;
-    speaker.helps(explanation, &WINNERS, &[winners.as_slice()])
+    speaker.helps(explanation, &WINNERS, &[winners.as_slice()])?;
+    speaker.helps(explanation, &MORE_SEATS, &[])
+}
+
+// Adds what to do about a fault that is no tie.
+fn add_remedies(
+    speaker: Speaker,
+    returns: &Returns,
+    fault: &LegalFault,
+    explanation: &mut Explanation,
+) -> Result<(), NoMemory> {
+    match &fault.kind {
+        FaultKind::Limit => speaker.helps(explanation, &FEWER_SEATS, &[]),
+        FaultKind::Short => add_winners(speaker, returns, fault.scope, explanation),
+        FaultKind::NoList => add_votes(speaker, returns, fault.scope, explanation),
+        FaultKind::Majority => add_majority(speaker, returns, fault.scope, explanation),
+        _ => add_heaviest(speaker, returns, explanation),
+    }
+}
+
+// What happened in a scope of a stage, but for a tie.
+fn says_kind(
+    speaker: Speaker,
+    stage: &[u8],
+    returns: &Returns,
+    fault: &LegalFault,
+) -> Result<Explanation, NoMemory> {
+    let scope = scope_words(speaker, returns, fault.scope)?;
+    let stage = speaker.shown(stage)?;
+    let values = [stage.as_slice(), scope.as_slice()];
+    speaker.says(sentence(&fault.kind), &values)
 }
 
 // A fault that is no tie.
@@ -189,21 +243,52 @@ fn explain_kind(
     returns: &Returns,
     fault: &LegalFault,
 ) -> Result<Explanation, NoMemory> {
-    let scope = scope_words(speaker, returns, fault.scope)?;
-    let stage = speaker.shown(stage)?;
-    let values = [stage.as_slice(), scope.as_slice()];
-    let mut explanation = speaker.says(sentence(&fault.kind), &values)?;
-    match &fault.kind {
-        FaultKind::Limit => speaker.helps(&mut explanation, &FEWER_SEATS, &[])?,
-        FaultKind::Short => {
-            add_winners(speaker, returns, fault.scope, &mut explanation)?;
-            speaker.helps(&mut explanation, &MORE_SEATS, &[])?;
-        }
-        FaultKind::NoList => add_votes(speaker, returns, fault.scope, &mut explanation)?,
-        FaultKind::Majority => add_majority(speaker, returns, fault.scope, &mut explanation)?,
-        _ => add_heaviest(speaker, returns, &mut explanation)?,
-    }
+    let mut explanation = says_kind(speaker, stage, returns, fault)?;
+    add_remedies(speaker, returns, fault, &mut explanation)?;
     Ok(explanation)
+}
+
+// That so many claims are equal, with the scope and the names in words.
+fn says_claims(
+    speaker: Speaker,
+    stage: &[u8],
+    scope: &[u8],
+    seats: u64,
+    number: usize,
+    names: &[u8],
+) -> Result<Explanation, NoMemory> {
+    let stage = speaker.shown(stage)?;
+    let seats = speaker.number(seats as usize)?;
+    let number = speaker.number(number)?;
+    let values = [
+        stage.as_slice(),
+        scope,
+        seats.as_slice(),
+        number.as_slice(),
+        names,
+    ];
+    speaker.says(&TIE, &values)
+}
+
+// That there is a tie of some items.
+fn says_tie(
+    speaker: Speaker,
+    stage: &[u8],
+    returns: &Returns,
+    scope: Scope,
+    seats: u64,
+    items: &[Item],
+) -> Result<Explanation, NoMemory> {
+    let scope = scope_words(speaker, returns, scope)?;
+    let names = item_words(speaker, returns, items)?;
+    says_claims(
+        speaker,
+        stage,
+        scope.as_slice(),
+        seats,
+        items.len(),
+        names.as_slice(),
+    )
 }
 
 // A tie of some items.
@@ -216,23 +301,8 @@ fn explain_tie(
     items: &[Item],
 ) -> Result<Explanation, NoMemory> {
     let stage = stage_name(stages, fault.stage);
-    let scope = scope_words(speaker, returns, fault.scope)?;
-    let names = item_words(speaker, returns, items)?;
-    let name = speaker.shown(stage)?;
-    let seats = speaker.number(seats as usize)?;
-    let number = speaker.number(items.len())?;
-    let values = [
-        name.as_slice(),
-        scope.as_slice(),
-        seats.as_slice(),
-        number.as_slice(),
-        names.as_slice(),
-    ];
-    let mut explanation = speaker.says(&TIE, &values)?;
-    add_records(speaker, returns, stage, items, &mut explanation)?;
-    add_missing(speaker, returns, stage, items, &mut explanation)?;
-    add_shapes(speaker, returns, stage, items, &mut explanation)?;
-    add_unknown_stages(speaker, stages, returns, &mut explanation)?;
+    let mut explanation = says_tie(speaker, stage, returns, fault.scope, seats, items)?;
+    add_lots(speaker, stages, returns, stage, items, &mut explanation)?;
     Ok(explanation)
 }
 

@@ -4,6 +4,7 @@ use crate::words::{item_words, land_name, party_name, stage_words, win_name};
 use sl_explain::{Explanation, Message, Speaker, nearest};
 use sl_ratio::NoMemory;
 use sl_stages::{Item, Lot, Returns};
+use std::alloc::Global;
 
 // What to do.
 const DRAW: Message = Message {
@@ -57,6 +58,14 @@ fn gives_winner(returns: &Returns, lot: &Lot, win: usize) -> bool {
     lot.land == Some(winner.land) && lot.party.is_some() && lot.party == winner.party
 }
 
+// Whether a lot gives the winner whom it names.
+fn gives_own_winner(returns: &Returns, lot: &Lot) -> bool {
+    match lot.win {
+        Some(win) => gives_winner(returns, lot, win),
+        None => false,
+    }
+}
+
 // Whether a lot gives an item.
 fn gives(returns: &Returns, lot: &Lot, item: Item) -> bool {
     match item {
@@ -73,7 +82,7 @@ fn is_of_shape(returns: &Returns, lot: &Lot, item: Item) -> bool {
         Item::Party(_) => lot.land.is_none() && lot.party.is_some(),
         Item::Land(_) => lot.land.is_some() && lot.party.is_none(),
         Item::List(_, _) => lot.land.is_some() && lot.party.is_some(),
-        Item::Win(_) => lot.win.is_some_and(|win| gives_winner(returns, lot, win)),
+        Item::Win(_) => gives_own_winner(returns, lot),
     }
 }
 
@@ -87,48 +96,62 @@ fn is_named(returns: &Returns, stage: &[u8], item: Item) -> bool {
     false
 }
 
-// The numbers of the Land, the party and the winner by which a lot gives an item.
-fn parts(returns: &Returns, item: Item) -> (Option<usize>, Option<usize>, Option<usize>) {
-    match item {
-        Item::Party(party) => (None, Some(party), None),
-        Item::Land(land) => (Some(land), None, None),
-        Item::List(land, party) => (Some(land), Some(party), None),
-        Item::Win(win) if win < returns.wins() => {
-            let winner = returns.win(win);
-            (Some(winner.land), winner.party, Some(win))
-        }
-        Item::Win(_) => (None, None, None),
+// The record of a lot of a stage, by the names in it.
+fn record_of(
+    alloc: Global,
+    stage: &[u8],
+    land: &[u8],
+    party: &[u8],
+    win: &[u8],
+) -> Result<Vec<u8>, NoMemory> {
+    let parts = [
+        b"lot,".as_slice(),
+        land,
+        b",",
+        party,
+        b",",
+        stage,
+        b",",
+        win,
+        b",",
+    ];
+    Ok(parts.concat(alloc)?)
+}
+
+// The record of a lot for a winner.
+fn winner_record(
+    alloc: Global,
+    returns: &Returns,
+    stage: &[u8],
+    win: usize,
+) -> Result<Vec<u8>, NoMemory> {
+    if win >= returns.wins() {
+        return record_of(alloc, stage, b"", b"", b"");
     }
+    let winner = returns.win(win);
+    let land = land_name(returns, winner.land);
+    let party = match winner.party {
+        Some(party) => party_name(returns, party),
+        None => b"",
+    };
+    record_of(alloc, stage, land, party, win_name(returns, win))
 }
 
 // The record of a lot for an item.
-fn record(
-    speaker: Speaker,
-    returns: &Returns,
-    stage: &[u8],
-    item: Item,
-) -> Result<Vec<u8>, NoMemory> {
-    let (land, party, win) = parts(returns, item);
-    let mut text = Vec::from_slice(speaker.alloc, b"lot,")?;
-    if let Some(land) = land {
-        text.extend_from_slice(land_name(returns, land))?;
+fn record(alloc: Global, returns: &Returns, stage: &[u8], item: Item) -> Result<Vec<u8>, NoMemory> {
+    match item {
+        Item::Party(party) => record_of(alloc, stage, b"", party_name(returns, party), b""),
+        Item::Land(land) => record_of(alloc, stage, land_name(returns, land), b"", b""),
+        Item::List(land, party) => {
+            let land = land_name(returns, land);
+            record_of(alloc, stage, land, party_name(returns, party), b"")
+        }
+        Item::Win(win) => winner_record(alloc, returns, stage, win),
     }
-    text.push(b',')?;
-    if let Some(party) = party {
-        text.extend_from_slice(party_name(returns, party))?;
-    }
-    text.push(b',')?;
-    text.extend_from_slice(stage)?;
-    text.push(b',')?;
-    if let Some(win) = win {
-        text.extend_from_slice(win_name(returns, win))?;
-    }
-    text.push(b',')?;
-    Ok(text)
 }
 
-/// Adds the records of the lots that decide a tie of these items.
-pub(crate) fn add_records(
+// Adds the records of the lots that decide a tie of these items.
+fn add_records(
     speaker: Speaker,
     returns: &Returns,
     stage: &[u8],
@@ -137,14 +160,19 @@ pub(crate) fn add_records(
 ) -> Result<(), NoMemory> {
     speaker.helps(explanation, &DRAW, &[])?;
     for item in items {
-        explanation.remedy(record(speaker, returns, stage, *item)?)?;
+        explanation.remedy(record(speaker.alloc, returns, stage, *item)?)?;
     }
     Ok(())
 }
 
 // Whether a name is one of the stages, or `seats`.
 fn is_stage(stages: &[&[u8]], name: &[u8]) -> bool {
-    name == b"seats".as_slice() || stages.iter().any(|stage| *stage == name)
+    for stage in stages {
+        if *stage == name {
+            return true;
+        }
+    }
+    name == b"seats".as_slice()
 }
 
 // How many lots name a stage.
@@ -158,6 +186,59 @@ fn lots_of(lots: &[Lot], stage: &[u8]) -> u64 {
     number
 }
 
+// Adds what is said of so many lots of a stage, and of what is meant or may be.
+fn add_idle(
+    speaker: Speaker,
+    message: &Message,
+    number: u64,
+    stage: &[u8],
+    meant: &[u8],
+    explanation: &mut Explanation,
+) -> Result<(), NoMemory> {
+    let digits = speaker.number(number as usize)?;
+    let name = speaker.shown(stage)?;
+    let values = [digits.as_slice(), name.as_slice(), meant];
+    speaker.helps(explanation, message, &values)
+}
+
+// Adds what is said of so many lots of a stage that the book does not have, and is near to one of it.
+fn add_near(
+    speaker: Speaker,
+    number: u64,
+    stage: &[u8],
+    near: &[u8],
+    explanation: &mut Explanation,
+) -> Result<(), NoMemory> {
+    let near = speaker.shown(near)?;
+    add_idle(
+        speaker,
+        &NEAR_STAGE,
+        number,
+        stage,
+        near.as_slice(),
+        explanation,
+    )
+}
+
+// The same of a stage that is near to none.
+fn add_far(
+    speaker: Speaker,
+    stages: &[&[u8]],
+    number: u64,
+    stage: &[u8],
+    explanation: &mut Explanation,
+) -> Result<(), NoMemory> {
+    let words = stage_words(speaker, stages)?;
+    add_idle(
+        speaker,
+        &NO_STAGE,
+        number,
+        stage,
+        words.as_slice(),
+        explanation,
+    )
+}
+
 // Adds what is said of the lots of a stage that the book does not have.
 fn add_unknown(
     speaker: Speaker,
@@ -166,22 +247,16 @@ fn add_unknown(
     stage: &[u8],
     explanation: &mut Explanation,
 ) -> Result<(), NoMemory> {
-    let number = speaker.number(lots_of(lots, stage) as usize)?;
-    let name = speaker.shown(stage)?;
-    let near = match nearest(speaker.alloc, stage, stages)? {
-        Some(near) => Some(speaker.shown(near)?),
-        None => None,
-    };
-    let (message, last) = match near {
-        Some(near) => (&NEAR_STAGE, near),
-        None => (&NO_STAGE, stage_words(speaker, stages)?),
-    };
-    let values = [number.as_slice(), name.as_slice(), last.as_slice()];
-    speaker.helps(explanation, message, &values)
+    let number = lots_of(lots, stage);
+    match nearest(speaker.alloc, stage, stages) {
+        Ok(Some(near)) => add_near(speaker, number, stage, near, explanation),
+        Ok(None) => add_far(speaker, stages, number, stage, explanation),
+        Err(refusal) => Err(refusal),
+    }
 }
 
-/// Adds the lots of stages that the book does not have, each such stage once.
-pub(crate) fn add_unknown_stages(
+// Adds the lots of stages that the book does not have, each such stage once.
+fn add_unknown_stages(
     speaker: Speaker,
     stages: &[&[u8]],
     returns: &Returns,
@@ -219,8 +294,8 @@ fn shape_message(item: Item) -> &'static Message {
     }
 }
 
-/// Adds the lots of the stage of a tie that have another shape than the tied items.
-pub(crate) fn add_shapes(
+// Adds the lots of the stage of a tie that have another shape than the tied items.
+fn add_shapes(
     speaker: Speaker,
     returns: &Returns,
     stage: &[u8],
@@ -238,23 +313,59 @@ pub(crate) fn add_shapes(
     speaker.helps(explanation, shape_message(*item), &[digits.as_slice()])
 }
 
-/// Adds the tied items that the lots lack, where they name others of them.
-pub(crate) fn add_missing(
+// Adds the names of the tied items that the lots lack.
+fn add_lacking(
+    speaker: Speaker,
+    returns: &Returns,
+    lacking: &[Item],
+    explanation: &mut Explanation,
+) -> Result<(), NoMemory> {
+    let names = item_words(speaker, returns, lacking)?;
+    speaker.helps(explanation, &MISSING, &[names.as_slice()])
+}
+
+// The items that no lot of a stage names.
+fn lacking_of(
+    alloc: Global,
+    returns: &Returns,
+    stage: &[u8],
+    items: &[Item],
+) -> Result<Vec<Item>, NoMemory> {
+    let mut lacking = Vec::new(alloc);
+    for item in items {
+        if !is_named(returns, stage, *item) {
+            lacking.push(*item)?;
+        }
+    }
+    Ok(lacking)
+}
+
+// Adds the tied items that the lots lack, where they name others of them.
+fn add_missing(
     speaker: Speaker,
     returns: &Returns,
     stage: &[u8],
     items: &[Item],
     explanation: &mut Explanation,
 ) -> Result<(), NoMemory> {
-    let mut lacking = Vec::new(speaker.alloc);
-    for item in items {
-        if !is_named(returns, stage, *item) {
-            lacking.push(*item)?;
-        }
-    }
+    let lacking = lacking_of(speaker.alloc, returns, stage, items)?;
     if lacking.is_empty() || lacking.len() == items.len() {
         return Ok(());
     }
-    let names = item_words(speaker, returns, lacking.as_slice())?;
-    speaker.helps(explanation, &MISSING, &[names.as_slice()])
+    add_lacking(speaker, returns, lacking.as_slice(), explanation)
+}
+
+/// Adds the lots that decide a tie of these items, and those of the returns that have no effect on it.
+pub(crate) fn add_lots(
+    speaker: Speaker,
+    stages: &[&[u8]],
+    returns: &Returns,
+    stage: &[u8],
+    items: &[Item],
+    explanation: &mut Explanation,
+) -> Result<(), NoMemory> {
+    add_records(speaker, returns, stage, items, explanation)?;
+    add_missing(speaker, returns, stage, items, explanation)?;
+    add_shapes(speaker, returns, stage, items, explanation)?;
+    add_unknown_stages(speaker, stages, returns, explanation)
 }

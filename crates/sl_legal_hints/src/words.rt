@@ -1,6 +1,6 @@
 //! The names of what a legal fault speaks of.
 
-use sl_explain::{Message, Speaker};
+use sl_explain::{Message, Speaker, append};
 use sl_ratio::NoMemory;
 use sl_stages::{Item, Returns, Scope};
 
@@ -77,14 +77,28 @@ pub(crate) fn scope_words(
 // Adds the name of an item, that of a list with its Land first.
 fn push_item(text: &mut Vec<u8>, returns: &Returns, item: Item) -> Result<(), NoMemory> {
     match item {
-        Item::Party(party) => text.extend_from_slice(party_name(returns, party))?,
-        Item::Land(land) => text.extend_from_slice(land_name(returns, land))?,
-        Item::Win(win) => text.extend_from_slice(win_name(returns, win))?,
+        Item::Party(party) => append(text, &[party_name(returns, party)]),
+        Item::Land(land) => append(text, &[land_name(returns, land)]),
+        Item::Win(win) => append(text, &[win_name(returns, win)]),
         Item::List(land, party) => {
-            text.extend_from_slice(land_name(returns, land))?;
-            text.push(b'/')?;
-            text.extend_from_slice(party_name(returns, party))?;
+            append(text, &[land_name(returns, land), b"/"])?;
+            append(text, &[party_name(returns, party)])
         }
+    }
+}
+
+// Adds the names of some items.
+fn push_items(text: &mut Vec<u8>, returns: &Returns, items: &[Item]) -> Result<(), NoMemory> {
+    let mut left = NAMED;
+    for item in items {
+        if left == 0 {
+            return append(text, &[b", .."]);
+        }
+        if left < NAMED {
+            append(text, &[b", "])?;
+        }
+        push_item(text, returns, *item)?;
+        left = left.saturating_sub(1);
     }
     Ok(())
 }
@@ -96,16 +110,7 @@ pub(crate) fn item_words(
     items: &[Item],
 ) -> Result<Vec<u8>, NoMemory> {
     let mut text = Vec::new(speaker.alloc);
-    for (place, item) in items.iter().enumerate() {
-        if place > 0 {
-            text.extend_from_slice(b", ")?;
-        }
-        if place >= NAMED {
-            text.extend_from_slice(b"..")?;
-            return Ok(text);
-        }
-        push_item(&mut text, returns, *item)?;
-    }
+    push_items(&mut text, returns, items)?;
     Ok(text)
 }
 
@@ -113,11 +118,9 @@ pub(crate) fn item_words(
 pub(crate) fn stage_words(speaker: Speaker, stages: &[&[u8]]) -> Result<Vec<u8>, NoMemory> {
     let mut text = Vec::new(speaker.alloc);
     for stage in stages {
-        text.push(b'`')?;
-        text.extend_from_slice(stage)?;
-        text.extend_from_slice(b"`, ")?;
+        append(&mut text, &[b"`", stage, b"`, "])?;
     }
-    text.extend_from_slice(b"`seats`")?;
+    append(&mut text, &[b"`seats`"])?;
     Ok(text)
 }
 

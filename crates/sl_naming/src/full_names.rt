@@ -1,6 +1,6 @@
 //! Full names of Länder, parties and constituencies, by their short ones.
 
-use csv::{ByteRecord, ErrorKind, ReaderBuilder};
+use csv::{ByteRecord, ErrorKind, Reader, ReaderBuilder};
 use sl_ratio::NoMemory;
 use std::alloc::Global;
 use std::collections::HashMap;
@@ -19,6 +19,24 @@ fn cell(record: &ByteRecord, place: usize) -> Option<&str> {
     }
 }
 
+// The short name and the full one of a record that has just these.
+fn pair_of(record: &ByteRecord) -> Option<(&str, &str)> {
+    if record.len() != 2 {
+        return None;
+    }
+    match (cell(record, 0), cell(record, 1)) {
+        (Some(short), Some(full)) => Some((short, full)),
+        _ => None,
+    }
+}
+
+// What reading a record comes to.
+enum Step {
+    Added,
+    Refused,
+    End,
+}
+
 impl FullNames {
     /// No full names. Takes no memory.
     pub fn none(alloc: Global) -> FullNames {
@@ -27,20 +45,57 @@ impl FullNames {
         }
     }
 
-    // Adds the two names of a record, and answers whether it has just these.
-    fn add(&mut self, alloc: Global, record: &ByteRecord) -> Result<bool, NoMemory> {
-        if record.len() != 2 {
-            return Ok(false);
-        }
-        match (cell(record, 0), cell(record, 1)) {
-            (Some(short), Some(full)) => {
-                let short = String::from_str(alloc, short)?;
-                let full = String::from_str(alloc, full)?;
-                drop(self.names.insert(short, full)?);
-                Ok(true)
+    // Adds a pair of names.
+    fn insert(&mut self, alloc: Global, short: &str, full: &str) -> Result<(), NoMemory> {
+        let short = String::from_str(alloc, short)?;
+        drop(self.names.insert(short, String::from_str(alloc, full)?)?);
+        Ok(())
+    }
+
+    // Adds the pair of names of a record.
+    fn add(&mut self, alloc: Global, record: &ByteRecord) -> Result<Step, NoMemory> {
+        match pair_of(record) {
+            Some((short, full)) => {
+                self.insert(alloc, short, full)?;
+                Ok(Step::Added)
             }
-            _ => Ok(false),
+            None => Ok(Step::Refused),
         }
+    }
+
+    // Reads a record, and adds its pair of names.
+    fn add_next(
+        &mut self,
+        alloc: Global,
+        reader: &mut Reader<&[u8]>,
+        record: &mut ByteRecord,
+    ) -> Result<Step, NoMemory> {
+        match reader.read_byte_record(record) {
+            Ok(true) => self.add(alloc, record),
+            Ok(false) => Ok(Step::End),
+            Err(error) => match error.into_kind() {
+                ErrorKind::OutOfMemory => Err(NoMemory),
+                _ => Ok(Step::Refused),
+            },
+        }
+    }
+
+    // Adds the pairs of names of all records, and answers with the number of the first one that is none.
+    fn add_all(&mut self, alloc: Global, bytes: &[u8]) -> Result<Option<u64>, NoMemory> {
+        let mut reader = ReaderBuilder::new()
+            .has_headers(false)
+            .flexible(true)
+            .from_reader(alloc, bytes);
+        let mut record = ByteRecord::new(alloc);
+        // no text in memory has so many records
+        for row in 1..u64::MAX {
+            match self.add_next(alloc, &mut reader, &mut record)? {
+                Step::Added => {}
+                Step::Refused => return Ok(Some(row)),
+                Step::End => break,
+            }
+        }
+        Ok(None)
     }
 
     /// The names of a text of comma-separated values: in each record a short name and a full one, which is UTF-8. `Err` has the number of the first
@@ -51,27 +106,10 @@ impl FullNames {
     /// Want of memory.
     pub fn read(alloc: Global, bytes: &[u8]) -> Result<Result<FullNames, u64>, NoMemory> {
         let mut names = FullNames::none(alloc);
-        let mut reader = ReaderBuilder::new()
-            .has_headers(false)
-            .flexible(true)
-            .from_reader(alloc, bytes);
-        let mut record = ByteRecord::new(alloc);
-        // no text in memory has so many records
-        for row in 1..u64::MAX {
-            match reader.read_byte_record(&mut record) {
-                Ok(true) => {
-                    if !names.add(alloc, &record)? {
-                        return Ok(Err(row));
-                    }
-                }
-                Ok(false) => return Ok(Ok(names)),
-                Err(error) => match error.into_kind() {
-                    ErrorKind::OutOfMemory => return Err(NoMemory),
-                    _ => return Ok(Err(row)),
-                },
-            }
+        match names.add_all(alloc, bytes)? {
+            Some(row) => Ok(Err(row)),
+            None => Ok(Ok(names)),
         }
-        Ok(Ok(names))
     }
 
     /// The full name of a short one, if there is one.

@@ -10,5 +10,5 @@ mod words;
 pub use faults::{explanation_sheet, fault_sheet, kind_word};
 pub use full_names::FullNames;
 pub use naming::{Naming, law_name, stage_name};
-pub use rows::{put_land, put_party, put_percent};
-pub use words::{met_text, method_word, shape_word, unit_word};
+pub use rows::{Part, one_row_sheet, push_name, push_row, push_sheet, put_parts, titled};
+pub use words::{method_word, shape_word, unit_word};

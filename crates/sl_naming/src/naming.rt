@@ -21,7 +21,7 @@ fn text_of(name: &[u8]) -> &str {
 }
 
 // The short name of a Land, and no text where there is no such Land.
-fn land_name(returns: &Returns, land: usize) -> &str {
+pub(crate) fn land_name(returns: &Returns, land: usize) -> &str {
     if land < returns.lands() {
         text_of(returns.land_name(land))
     } else {
@@ -29,7 +29,7 @@ fn land_name(returns: &Returns, land: usize) -> &str {
     }
 }
 
-fn party_name(returns: &Returns, party: usize) -> &str {
+pub(crate) fn party_name(returns: &Returns, party: usize) -> &str {
     if party < returns.parties() {
         text_of(returns.party_name(party))
     } else {
@@ -37,7 +37,7 @@ fn party_name(returns: &Returns, party: usize) -> &str {
     }
 }
 
-fn win_name(returns: &Returns, win: usize) -> &str {
+pub(crate) fn win_name(returns: &Returns, win: usize) -> &str {
     if win < returns.wins() {
         text_of(returns.win_name(win))
     } else {
@@ -45,34 +45,27 @@ fn win_name(returns: &Returns, win: usize) -> &str {
     }
 }
 
-// Two names, parted by a slash.
-fn pair(alloc: Global, first: &str, second: &str) -> Result<String, NoMemory> {
-    let mut text = String::from_str(alloc, first)?;
-    text.push('/')?;
-    text.push_str(second)?;
-    Ok(text)
+fn owned(alloc: Global, text: &str) -> Result<String, NoMemory> {
+    Ok(String::from_str(alloc, text)?)
 }
 
-// A word and a name.
-fn named(alloc: Global, word: &str, name: &str) -> Result<String, NoMemory> {
-    let mut text = String::from_str(alloc, word)?;
-    text.push(' ')?;
-    text.push_str(name)?;
+// Two texts, parted by a mark.
+fn joined(alloc: Global, first: &str, mark: char, second: &str) -> Result<String, NoMemory> {
+    let mut text = String::from_str(alloc, first)?;
+    text.push(mark)?;
+    text.push_str(second)?;
     Ok(text)
 }
 
 impl<'a> Naming<'a> {
     // The full name of a short one, or else that one itself.
-    fn long(&self, alloc: Global, short: &str) -> Result<String, NoMemory> {
-        match self.full.full(short) {
-            Some(full) => Ok(String::from_str(alloc, full)?),
-            None => Ok(String::from_str(alloc, short)?),
-        }
+    pub(crate) fn long(&self, alloc: Global, short: &str) -> Result<String, NoMemory> {
+        owned(alloc, self.full.full(short).unwrap_or(short))
     }
 
     /// The short name of a Land.
     pub fn land(&self, alloc: Global, land: usize) -> Result<String, NoMemory> {
-        Ok(String::from_str(alloc, land_name(self.returns, land))?)
+        owned(alloc, land_name(self.returns, land))
     }
 
     /// The name of a Land that a reader sees.
@@ -82,7 +75,7 @@ impl<'a> Naming<'a> {
 
     /// The short name of a party.
     pub fn party(&self, alloc: Global, party: usize) -> Result<String, NoMemory> {
-        Ok(String::from_str(alloc, party_name(self.returns, party))?)
+        owned(alloc, party_name(self.returns, party))
     }
 
     /// The name of a party that a reader sees.
@@ -92,7 +85,7 @@ impl<'a> Naming<'a> {
 
     /// The short name of a winner's constituency.
     pub fn win(&self, alloc: Global, win: usize) -> Result<String, NoMemory> {
-        Ok(String::from_str(alloc, win_name(self.returns, win))?)
+        owned(alloc, win_name(self.returns, win))
     }
 
     /// The name of a winner's constituency that a reader sees.
@@ -105,9 +98,10 @@ impl<'a> Naming<'a> {
         match entry {
             Item::Party(party) => self.party(alloc, party),
             Item::Land(land) => self.land(alloc, land),
-            Item::List(land, party) => pair(
+            Item::List(land, party) => joined(
                 alloc,
                 land_name(self.returns, land),
+                '/',
                 party_name(self.returns, party),
             ),
             Item::Win(win) => self.win(alloc, win),
@@ -118,7 +112,7 @@ impl<'a> Naming<'a> {
     fn long_list(&self, alloc: Global, land: usize, party: usize) -> Result<String, NoMemory> {
         let land = self.long_land(alloc, land)?;
         let party = self.long_party(alloc, party)?;
-        pair(alloc, land.as_str(), party.as_str())
+        joined(alloc, land.as_str(), '/', party.as_str())
     }
 
     /// An entry by the name that a reader sees in its scope: a list by its Land within a party, by its party within a Land.
@@ -133,23 +127,26 @@ impl<'a> Naming<'a> {
         }
     }
 
+    // The scope of a list by its short names.
+    fn list_scope(&self, alloc: Global, land: usize, party: usize) -> Result<String, NoMemory> {
+        let list = joined(alloc, "list", ' ', land_name(self.returns, land))?;
+        joined(alloc, list.as_str(), ' ', party_name(self.returns, party))
+    }
+
     /// A scope by its short names, as the line of a seat has it.
     pub fn scope(&self, alloc: Global, scope: Scope) -> Result<String, NoMemory> {
         match scope {
-            Scope::All => Ok(String::from_str(alloc, "all")?),
-            Scope::Land(land) => named(alloc, "land", land_name(self.returns, land)),
-            Scope::Party(party) => named(alloc, "party", party_name(self.returns, party)),
-            Scope::List(land, party) => {
-                let list = named(alloc, "list", land_name(self.returns, land))?;
-                named(alloc, list.as_str(), party_name(self.returns, party))
-            }
+            Scope::All => owned(alloc, "all"),
+            Scope::Land(land) => joined(alloc, "land", ' ', land_name(self.returns, land)),
+            Scope::Party(party) => joined(alloc, "party", ' ', party_name(self.returns, party)),
+            Scope::List(land, party) => self.list_scope(alloc, land, party),
         }
     }
 
     /// A scope by the name that a reader sees.
     pub fn long_scope(&self, alloc: Global, scope: Scope) -> Result<String, NoMemory> {
         match scope {
-            Scope::All => Ok(String::from_str(alloc, "all")?),
+            Scope::All => owned(alloc, "all"),
             Scope::Land(land) => self.long_land(alloc, land),
             Scope::Party(party) => self.long_party(alloc, party),
             Scope::List(land, party) => self.long_list(alloc, land, party),

@@ -1,56 +1,243 @@
-//! Cells that several sheets have: names, and percentages.
+//! Rows by what they show, and sheets under a title.
 
-use crate::naming::Naming;
+use crate::naming::{Naming, land_name, party_name, win_name};
+use crate::words::met_text;
 use sl_ratio::NoMemory;
 use sl_scopes::Fraction;
-use sl_sheets::Row;
+use sl_sheets::{Form, Row, Sheet};
+use sl_stages::{Cond, Item, Scope};
 use std::alloc::Global;
 
-/// Adds so many of so many in percent: cut in three places, and exact.
-///
-/// # Errors
-///
-/// Want of memory.
-pub fn put_percent(alloc: Global, row: &mut Row, part: u64, whole: u64) -> Result<(), NoMemory> {
+/// What a row shows next. A name is two cells: the short one, and the one that a reader sees. So is a fraction: in decimals, and exact.
+#[derive(Clone, Copy)]
+pub enum Part<'a> {
+    /// An empty cell.
+    Empty,
+    /// A text.
+    Text(&'a str),
+    /// A word in the place of a name: no short one, and this one for a reader.
+    Word(&'a str),
+    /// A number.
+    Number(u64),
+    /// A number, or an empty cell.
+    Known(Option<u64>),
+    /// A flag.
+    Flag(bool),
+    /// The names of a Land.
+    Land(usize),
+    /// The names of a party.
+    Party(usize),
+    /// The names of a winner's constituency.
+    Win(usize),
+    /// The names of an entry, the second one as in this scope.
+    Entry(Item, Scope),
+    /// The short names of entries in one cell, parted by blanks.
+    Entries(&'a [Item]),
+    /// The short name of a scope alone.
+    Scope(Scope),
+    /// The name of a scope that a reader sees alone.
+    LongScope(Scope),
+    /// The condition of that number among these, or an empty cell.
+    Met(&'a [Cond], Option<usize>),
+    /// So many of so many in percent, in three places.
+    Percent(u64, u64),
+    /// A fraction in four places, or empty cells.
+    Fraction(Option<Fraction>),
+}
+
+// Decimal places of fractions that are no percentages.
+const PLACES: u32 = 4;
+
+// Adds a text, if there was memory for it.
+fn put_own(row: &mut Row, text: Result<String, NoMemory>) -> Result<(), NoMemory> {
+    row.own(text?)
+}
+
+fn put_empty_pair(row: &mut Row) -> Result<(), NoMemory> {
+    row.empty()?;
+    row.empty()
+}
+
+// Adds so many of so many in percent: cut in three places, and exact.
+fn put_percent(alloc: Global, row: &mut Row, part: u64, whole: u64) -> Result<(), NoMemory> {
     let percent = Fraction::percent(part, whole);
     match percent.decimal(3) {
         Some(cut) => {
-            row.own(cut.text(alloc)?)?;
-            row.own(percent.text(alloc)?)
+            put_own(row, cut.text(alloc))?;
+            put_own(row, percent.text(alloc))
         }
-        None => {
-            row.empty()?;
-            row.empty()
-        }
+        None => put_empty_pair(row),
     }
 }
 
-/// Adds the short name of a party and the one that a reader sees.
-///
-/// # Errors
-///
-/// Want of memory.
-pub fn put_party(
-    alloc: Global,
-    row: &mut Row,
-    naming: &Naming<'_>,
-    party: usize,
-) -> Result<(), NoMemory> {
-    row.own(naming.party(alloc, party)?)?;
-    row.own(naming.long_party(alloc, party)?)
+// Adds a fraction: in decimals, where there are any, and exact.
+fn put_fraction(alloc: Global, row: &mut Row, fraction: Fraction) -> Result<(), NoMemory> {
+    match fraction.decimal(PLACES) {
+        Some(cut) => put_own(row, cut.text(alloc))?,
+        None => row.empty()?,
+    }
+    put_own(row, fraction.text(alloc))
 }
 
-/// Adds the short name of a Land and the one that a reader sees.
+fn put_word(row: &mut Row, word: &str) -> Result<(), NoMemory> {
+    row.empty()?;
+    row.text(word)
+}
+
+fn put_met(
+    alloc: Global,
+    row: &mut Row,
+    conditions: &[Cond],
+    met: Option<usize>,
+) -> Result<(), NoMemory> {
+    row.maybe_text(met_text(alloc, conditions, met)?)
+}
+
+// Adds a short name and the one that a reader sees.
+fn put_name(
+    alloc: Global,
+    row: &mut Row,
+    naming: &Naming<'_>,
+    short: &str,
+) -> Result<(), NoMemory> {
+    row.text(short)?;
+    put_own(row, naming.long(alloc, short))
+}
+
+fn put_entry(
+    alloc: Global,
+    row: &mut Row,
+    naming: &Naming<'_>,
+    entry: Item,
+    scope: Scope,
+) -> Result<(), NoMemory> {
+    put_own(row, naming.entry(alloc, entry))?;
+    put_own(row, naming.long_entry(alloc, scope, entry))
+}
+
+// Adds the short names of entries in one cell.
+fn put_entries(
+    alloc: Global,
+    row: &mut Row,
+    naming: &Naming<'_>,
+    entries: &[Item],
+) -> Result<(), NoMemory> {
+    let mut text = String::new(alloc);
+    for entry in entries {
+        let name = naming.entry(alloc, *entry)?;
+        push_name(&mut text, " ", name.as_str())?;
+    }
+    row.own(text)
+}
+
+/// Adds a name to a text, behind a mark if it is not the first one.
 ///
 /// # Errors
 ///
 /// Want of memory.
-pub fn put_land(
+pub fn push_name(text: &mut String, mark: &str, name: &str) -> Result<(), NoMemory> {
+    if !text.is_empty() {
+        text.push_str(mark)?;
+    }
+    text.push_str(name)?;
+    Ok(())
+}
+
+// Adds the cells of a part.
+fn put(alloc: Global, row: &mut Row, naming: &Naming<'_>, part: Part<'_>) -> Result<(), NoMemory> {
+    match part {
+        Part::Empty => row.empty(),
+        Part::Text(text) => row.text(text),
+        Part::Word(word) => put_word(row, word),
+        Part::Number(number) => row.number(number),
+        Part::Known(number) => row.maybe_number(number),
+        Part::Flag(flag) => row.flag(flag),
+        Part::Land(land) => put_name(alloc, row, naming, land_name(naming.returns, land)),
+        Part::Party(party) => put_name(alloc, row, naming, party_name(naming.returns, party)),
+        Part::Win(win) => put_name(alloc, row, naming, win_name(naming.returns, win)),
+        Part::Entry(entry, scope) => put_entry(alloc, row, naming, entry, scope),
+        Part::Entries(entries) => put_entries(alloc, row, naming, entries),
+        Part::Scope(scope) => put_own(row, naming.scope(alloc, scope)),
+        Part::LongScope(scope) => put_own(row, naming.long_scope(alloc, scope)),
+        Part::Met(conditions, met) => put_met(alloc, row, conditions, met),
+        Part::Percent(part, whole) => put_percent(alloc, row, part, whole),
+        Part::Fraction(Some(fraction)) => put_fraction(alloc, row, fraction),
+        Part::Fraction(None) => put_empty_pair(row),
+    }
+}
+
+/// Adds the cells of these parts to a row.
+///
+/// # Errors
+///
+/// Want of memory.
+pub fn put_parts(
     alloc: Global,
     row: &mut Row,
     naming: &Naming<'_>,
-    land: usize,
+    parts: &[Part<'_>],
 ) -> Result<(), NoMemory> {
-    row.own(naming.land(alloc, land)?)?;
-    row.own(naming.long_land(alloc, land)?)
+    for part in parts {
+        put(alloc, row, naming, *part)?;
+    }
+    Ok(())
+}
+
+/// Adds a row of these parts to a sheet.
+///
+/// # Errors
+///
+/// Want of memory.
+pub fn push_row(
+    alloc: Global,
+    sheet: &mut Sheet,
+    naming: &Naming<'_>,
+    parts: &[Part<'_>],
+) -> Result<(), NoMemory> {
+    let mut row = Row::new(alloc);
+    put_parts(alloc, &mut row, naming, parts)?;
+    sheet.push(row)
+}
+
+/// A sheet without rows, under a title.
+///
+/// # Errors
+///
+/// Want of memory.
+pub fn titled(
+    alloc: Global,
+    key: &'static str,
+    title: &str,
+    forms: &[Form],
+) -> Result<Sheet, NoMemory> {
+    let title = String::from_str(alloc, title)?;
+    Sheet::new(alloc, key, title, forms)
+}
+
+/// A sheet of one row of these parts, under a title.
+///
+/// # Errors
+///
+/// Want of memory.
+pub fn one_row_sheet(
+    alloc: Global,
+    naming: &Naming<'_>,
+    key: &'static str,
+    title: &str,
+    forms: &[Form],
+    parts: &[Part<'_>],
+) -> Result<Sheet, NoMemory> {
+    let mut sheet = titled(alloc, key, title, forms)?;
+    push_row(alloc, &mut sheet, naming, parts)?;
+    Ok(sheet)
+}
+
+/// Adds a sheet to others, if there was memory for it.
+///
+/// # Errors
+///
+/// Want of memory.
+pub fn push_sheet(sheets: &mut Vec<Sheet>, sheet: Result<Sheet, NoMemory>) -> Result<(), NoMemory> {
+    sheets.push(sheet?)?;
+    Ok(())
 }

@@ -52,7 +52,7 @@ fn condition_text(alloc: Global, cond: Cond) -> Result<String, NoMemory> {
 /// # Errors
 ///
 /// Want of memory.
-pub fn met_text(
+pub(crate) fn met_text(
     alloc: Global,
     conditions: &[Cond],
     met: Option<usize>,

@@ -1,5 +1,7 @@
 //! Quotients, shares, bounds, entries and lists of names.
 
+ghost use Rattle.std.specs.Prelude.{◌≡◌, ◌≤◌, ◌^◌};
+
 use sl_ratio::{
     Divisor, Entry, MAX_NUMERATOR, NameFault, Names, Ratio, bounds, hare, spelling_fault,
 };
@@ -71,34 +73,35 @@ fn hash_of(entry: &Entry) -> u64 {
     state.finish()
 }
 
+/// An entry with the quotient `num`/`den`.
+pub fn entry(num: u128, den: u128, index: u32) -> Entry
+    requires least { 1 ≤ num }
+    requires most { num ≤ 10 ^ 25 }
+    requires den { den ≤ 10 ^ 12 }
+{
+    Entry {
+        ratio: Ratio::new(num, den),
+        index,
+    }
+}
+
 #[test]
 fn entries_of_equal_quotients(rt: HostRuntime) {
-    let first = Entry {
-        ratio: Ratio::new(60, 3),
-        index: 0,
-    };
-    let second = Entry {
-        ratio: Ratio::new(20, 1),
-        index: 1,
-    };
+    let first = entry(60, 3, 0);
+    let second = entry(20, 1, 1);
+    let reduced = entry(20, 1, 0);
     assert_eq!(rt; first.ratio.cmp(&second.ratio), Ordering::Equal);
     assert!(rt; first > second && first != second);
-    let reduced = Entry {
-        ratio: second.ratio,
-        index: 0,
-    };
     assert!(rt; first > reduced && reduced > second);
-    let greater = Entry {
-        ratio: Ratio::new(61, 3),
-        index: 9,
-    };
-    assert!(rt; greater > first);
-    let again = Entry {
-        ratio: Ratio::new(60, 3),
-        index: 0,
-    };
-    assert!(rt; first == again && hash_of(&first) == hash_of(&again));
-    assert!(rt; hash_of(&first) != hash_of(&second) && hash_of(&first) != hash_of(&reduced));
+    assert!(rt; entry(61, 3, 9) > first);
+}
+
+#[test]
+fn hashes_of_equal_entries(rt: HostRuntime) {
+    let hash = hash_of(&entry(60, 3, 0));
+    let again = hash_of(&entry(60, 3, 0));
+    assert!(rt; entry(60, 3, 0) == entry(60, 3, 0) && hash == again);
+    assert!(rt; hash != hash_of(&entry(20, 1, 1)) && hash != hash_of(&entry(20, 1, 0)));
 }
 
 // Names put one after the other into a list for two, each with its number or the fault.

@@ -202,16 +202,15 @@ fn explain_count(case: &Case<'_>) -> Result<Explanation, NoMemory> {
     let speaker = case.speaker;
     let (sentence, remedy, span) = count_messages(case);
     let count = speaker.number(case.record.count)?;
-    let mut explanation = speaker.says_at(sentence, &[count.as_slice()], span)?;
-    speaker.helps(&mut explanation, remedy, &[])?;
-    Ok(explanation)
+    speaker.explains_at(sentence, &[count.as_slice()], span, &[remedy])
 }
 
 // The first column that must be empty and is not.
 fn filled_column(case: &Case<'_>) -> Option<usize> {
     for column in LAND..COLUMNS {
-        if case.asked(column) == Asked::Blank && !case.record.text(column).is_empty() {
-            return Some(column);
+        match case.asked(column) {
+            Asked::Blank if !case.record.text(column).is_empty() => return Some(column),
+            _ => {}
         }
     }
     None
@@ -221,16 +220,14 @@ fn filled_column(case: &Case<'_>) -> Option<usize> {
 fn explain_filled(
     case: &Case<'_>,
     sentence: &Message,
-    remedy: &Message,
+    remedy: &'static Message,
     column: usize,
 ) -> Result<Explanation, NoMemory> {
     let speaker = case.speaker;
     let word = speaker.shown(case.record.text(KIND))?;
     let values = [column_name(column), word.as_slice()];
-    let mut explanation = speaker.says_at(sentence, &values, case.record.at(column))?;
-    speaker.helps(&mut explanation, remedy, &[])?;
-    speaker.helps(&mut explanation, form_of(case.kind()), &[])?;
-    Ok(explanation)
+    let remedies = [remedy, form_of(case.kind())];
+    speaker.explains_at(sentence, &values, case.record.at(column), &remedies)
 }
 
 // A lot that names nothing, or a constituency against its stage.
@@ -244,9 +241,7 @@ fn explain_lot(case: &Case<'_>) -> Result<Explanation, NoMemory> {
     } else {
         (&NO_SEATS, record.at(B))
     };
-    let mut explanation = case.speaker.says_at(sentence, &[], span)?;
-    case.speaker.helps(&mut explanation, &LOT_FORMS, &[])?;
-    Ok(explanation)
+    case.speaker.explains_at(sentence, &[], span, &[&LOT_FORMS])
 }
 
 /// The explanation of a record with the wrong number of cells, or a cell that is filled or empty against its kind.

@@ -63,7 +63,12 @@ const ADD_LAND: Message = Message {
 
 // Whether all cells of the record are empty.
 fn is_empty_row(case: &Case<'_>) -> bool {
-    (0..COLUMNS).all(|column| case.record.text(column).is_empty())
+    for column in 0..COLUMNS {
+        if !case.record.text(column).is_empty() {
+            return false;
+        }
+    }
+    true
 }
 
 // What is said of the first cell.
@@ -92,27 +97,35 @@ fn add_kinds(case: &Case<'_>, explanation: &mut Explanation) -> Result<(), NoMem
     }
 }
 
+// Adds what to do with the record.
+fn add_remedy(case: &Case<'_>, explanation: &mut Explanation) -> Result<(), NoMemory> {
+    let speaker = case.speaker;
+    let cell = case.record.text(KIND);
+    if is_empty_row(case) {
+        speaker.helps(explanation, &DELETE_ROWS, &[])
+    } else if cell.starts_with(b"kind") || cell.starts_with(b"#") {
+        speaker.helps(explanation, &DELETE, &[])
+    } else {
+        add_kinds(case, explanation)
+    }
+}
+
+// That the first cell is no kind.
+fn says_kind(case: &Case<'_>) -> Result<Explanation, NoMemory> {
+    let speaker = case.speaker;
+    let shown = speaker.shown(case.record.text(KIND))?;
+    let values = [shown.as_slice()];
+    speaker.says_at(sentence(case), &values, case.record.at(KIND))
+}
+
 /// The explanation of a record whose first cell is no kind.
 ///
 /// # Errors
 ///
 /// Want of memory.
 pub fn explain_kind(case: &Case<'_>) -> Result<Explanation, NoMemory> {
-    let speaker = case.speaker;
-    let cell = case.record.text(KIND);
-    let shown = speaker.shown(cell)?;
-    let mut explanation = speaker.says_at(
-        sentence(case),
-        &[shown.as_slice()],
-        case.record.at(KIND),
-    )?;
-    if is_empty_row(case) {
-        speaker.helps(&mut explanation, &DELETE_ROWS, &[])?;
-    } else if cell.starts_with(b"kind") || cell.starts_with(b"#") {
-        speaker.helps(&mut explanation, &DELETE, &[])?;
-    } else {
-        add_kinds(case, &mut explanation)?;
-    }
+    let mut explanation = says_kind(case)?;
+    add_remedy(case, &mut explanation)?;
     Ok(explanation)
 }
 
@@ -122,7 +135,6 @@ pub fn explain_kind(case: &Case<'_>) -> Result<Explanation, NoMemory> {
 ///
 /// Want of memory.
 pub fn explain_no_land(case: &Case<'_>) -> Result<Explanation, NoMemory> {
-    let mut explanation = case.speaker.says_at(&NO_LAND, &[], case.record.span)?;
-    case.speaker.helps(&mut explanation, &ADD_LAND, &[])?;
-    Ok(explanation)
+    case.speaker
+        .explains_at(&NO_LAND, &[], case.record.span, &[&ADD_LAND])
 }

@@ -35,7 +35,6 @@ pub fn explain_quote(speaker: Speaker, record: &Record) -> Result<Option<Explana
     let Some(span) = open_quote(record) else {
         return Ok(None);
     };
-    let mut explanation = speaker.says_at(&OPEN, &[], span)?;
-    speaker.helps(&mut explanation, &CLOSE, &[])?;
+    let explanation = speaker.explains_at(&OPEN, &[], span, &[&CLOSE])?;
     Ok(Some(explanation))
 }

@@ -89,16 +89,12 @@ const FEWER_LOTS: Message = Message {
     german: "Lose von Stufen mit Gleichstand behalten, die anderen löschen",
 };
 
-// Where a name of the cell of a column was declared before, with what is said of it.
-fn name_before(case: &Case<'_>, column: usize) -> Option<(&'static Message, usize)> {
-    let Asked::New(space) = case.asked(column) else {
-        return None;
-    };
-    let at = case.told.find(space, case.record.text(column))?;
+// What is said of a name of a space.
+fn name_message(space: Space) -> &'static Message {
     match space {
-        Space::Land => Some((&LAND_TWICE, at)),
-        Space::Party => Some((&PARTY_TWICE, at)),
-        Space::Win => Some((&WIN_TWICE, at)),
+        Space::Land => &LAND_TWICE,
+        Space::Party => &PARTY_TWICE,
+        Space::Win => &WIN_TWICE,
     }
 }
 
@@ -126,23 +122,50 @@ fn columns(kind: Option<Kind>) -> &'static [usize] {
     }
 }
 
+// What is said of a record of a kind; the values are the party and the Land.
+fn record_message(kind: Option<Kind>) -> &'static Message {
+    match kind {
+        Some(Kind::List) => &LIST_TWICE,
+        Some(Kind::Lot) => &LOT_TWICE,
+        _ => &HOUSE_TWICE,
+    }
+}
+
+// Adds where the first record like this one stands, and what to do.
+fn add_alike(case: &Case<'_>, explanation: &mut Explanation) -> Result<(), NoMemory> {
+    let kind = case.kind();
+    let alloc = case.speaker.alloc;
+    let start = begin(case.bytes);
+    let at = alike_behind(alloc, case.bytes, start, case.record, columns(kind))?;
+    add_first(case, at, explanation)?;
+    if kind == Some(Kind::List) {
+        return case.speaker.helps(explanation, &NO_SUMS, &[]);
+    }
+    Ok(())
+}
+
 // A house, a list or a lot that is given a second time.
 fn explain_record_twice(case: &Case<'_>) -> Result<Explanation, NoMemory> {
-    let speaker = case.speaker;
     let record = case.record;
-    let start = begin(case.bytes);
-    let columns = columns(case.kind());
-    let at = alike_behind(speaker.alloc, case.bytes, start, record, columns)?;
     let names = [record.text(PARTY), record.text(LAND)];
-    let mut explanation = match case.kind() {
-        Some(Kind::List) => speaker.says_at(&LIST_TWICE, &names, record.span)?,
-        Some(Kind::Lot) => speaker.says_at(&LOT_TWICE, &[], record.span)?,
-        _ => speaker.says_at(&HOUSE_TWICE, &[], record.span)?,
-    };
-    add_first(case, at, &mut explanation)?;
-    if case.kind() == Some(Kind::List) {
-        speaker.helps(&mut explanation, &NO_SUMS, &[])?;
-    }
+    let message = record_message(case.kind());
+    let mut explanation = case.speaker.says_at(message, &names, record.span)?;
+    add_alike(case, &mut explanation)?;
+    Ok(explanation)
+}
+
+// A name of a space that is declared a second time, and first at an offset.
+fn explain_name_twice(
+    case: &Case<'_>,
+    column: usize,
+    space: Space,
+    at: usize,
+) -> Result<Explanation, NoMemory> {
+    let record = case.record;
+    let values = [record.text(column)];
+    let message = name_message(space);
+    let mut explanation = case.speaker.says_at(message, &values, record.at(column))?;
+    add_first(case, Some(at), &mut explanation)?;
     Ok(explanation)
 }
 
@@ -155,14 +178,13 @@ pub fn explain_twice(case: &Case<'_>, column: Option<usize>) -> Result<Explanati
     let Some(column) = column else {
         return explain_record_twice(case);
     };
-    let Some((message, at)) = name_before(case, column) else {
+    let Asked::New(space) = case.asked(column) else {
         return explain_record_twice(case);
     };
-    let values = [case.record.text(column)];
-    let span = case.record.at(column);
-    let mut explanation = case.speaker.says_at(message, &values, span)?;
-    add_first(case, Some(at), &mut explanation)?;
-    Ok(explanation)
+    match case.told.find(space, case.record.text(column)) {
+        Some(at) => explain_name_twice(case, column, space, at),
+        None => explain_record_twice(case),
+    }
 }
 
 /// The explanation of more counted votes than valid ones.
@@ -176,9 +198,8 @@ pub fn explain_counted(case: &Case<'_>) -> Result<Explanation, NoMemory> {
         end: case.record.at(B).end,
     };
     let values = [case.record.text(B), case.record.text(A)];
-    let mut explanation = case.speaker.says_at(&COUNTED, &values, span)?;
-    case.speaker.helps(&mut explanation, &EXCHANGE, &[])?;
-    Ok(explanation)
+    case.speaker
+        .explains_at(&COUNTED, &values, span, &[&EXCHANGE])
 }
 
 /// The explanation of more records of a kind than there may be.
@@ -197,12 +218,11 @@ pub fn explain_too_many(case: &Case<'_>) -> Result<Explanation, NoMemory> {
     let number = case.speaker.number(before.saturating_add(1))?;
     let greatest = case.speaker.number(greatest)?;
     let values = [number.as_slice(), greatest.as_slice()];
-    let mut explanation = case.speaker.says_at(message, &values, case.record.span)?;
     let remedy = if case.kind() == Some(Kind::Lot) {
         &FEWER_LOTS
     } else {
         &FEWER
     };
-    case.speaker.helps(&mut explanation, remedy, &[])?;
-    Ok(explanation)
+    case.speaker
+        .explains_at(message, &values, case.record.span, &[remedy])
 }

@@ -1,5 +1,6 @@
 //! Returns from their records: where memory is refused a builder has failed for good, and else it is the returns of the row.
 
+use crate::returns::are_three;
 use csv::{ByteRecord, ReaderBuilder};
 use sl_marks::rows::{DRAWN_WINNERS, THREE_LISTS};
 use sl_marks::{begin, end};
@@ -14,53 +15,55 @@ const NO_MEMORY: ReturnsFault = ReturnsFault {
     kind: FaultKind::NoMemory,
 };
 
-// Whether these are three lists with their votes.
-fn are_three(returns: &Returns) -> bool {
-    if returns.lands() != 1 || returns.parties() != 3 || returns.wins() != 0 {
-        return false;
-    }
+// Whether these are three lists, and nothing else.
+fn are_only_three(returns: &Returns) -> bool {
     returns.house().is_none()
-        && returns.land_name(0) == b"X".as_slice()
-        && returns.party_name(0) == b"A".as_slice()
-        && returns.party_name(1) == b"B".as_slice()
-        && returns.party_name(2) == b"C".as_slice()
-        && (returns.valid(0, 0), returns.counted(0, 0)) == (100, 100)
-        && (returns.valid(0, 1), returns.counted(0, 1)) == (80, 80)
-        && (returns.valid(0, 2), returns.counted(0, 2)) == (30, 30)
+        && returns.wins() == 0
         && returns.lots().is_empty()
+        && are_three(returns)
 }
 
 // The returns of a text.
-fn read(alloc: Global, text: &[u8]) -> Result<Returns, ReturnsFault> {
+fn read(alloc: Global, text: &str) -> Result<Returns, ReturnsFault> {
     begin(alloc);
-    let first = read_returns(alloc, text);
+    let first = read_returns(alloc, text.as_bytes());
     end(alloc);
     match first {
-        Err(fault) if fault == NO_MEMORY => read_returns(alloc, text),
-        answer => answer,
+        Ok(returns) => Ok(returns),
+        Err(NO_MEMORY) => read_returns(alloc, text.as_bytes()),
+        Err(fault) => Err(fault),
+    }
+}
+
+// Whether those of the three lists are read.
+fn are_three_read(alloc: Global) -> Result<bool, ReturnsFault> {
+    match read(alloc, THREE_LISTS) {
+        Ok(returns) => Ok(are_only_three(&returns)),
+        Err(fault) => Err(fault),
     }
 }
 
 #[test]
 fn returns_are_read(rt: HostRuntime) -> Result<(), Fail> {
-    let returns = read(rt.alloc(), THREE_LISTS.as_bytes())?;
-    assert!(rt; are_three(&returns));
+    assert!(rt; are_three_read(rt.alloc())?);
     Ok(())
 }
 
-// The records of a text.
-fn records(alloc: Global, text: &str) -> Result<Vec<ByteRecord>, Fail> {
+// Adds the records of a text.
+fn add_records(alloc: Global, records: &mut Vec<ByteRecord>, text: &str) -> Result<(), Fail> {
     let reader = ReaderBuilder::new()
         .has_headers(false)
         .flexible(true)
         .from_reader(alloc, text.as_bytes());
-    let mut records = Vec::new(alloc);
     for fields in reader.into_byte_records() {
-        match fields {
-            Ok(fields) => records.push(fields)?,
-            Err(_) => return Err("no record")?,
-        }
+        records.push(fields?)?;
     }
+    Ok(())
+}
+
+fn records(alloc: Global, text: &str) -> Result<Vec<ByteRecord>, Fail> {
+    let mut records = Vec::new(alloc);
+    add_records(alloc, &mut records, text)?;
     Ok(records)
 }
 
@@ -70,8 +73,7 @@ fn feed(rt: &impl Abort, alloc: Global, builder: &mut ReturnsBuilder, fields: &B
     let first = builder.feed(fields);
     end(alloc);
     if first.is_err() {
-        assert_eq!(rt; first, Err(NO_MEMORY));
-        assert_eq!(rt; builder.feed(fields), first);
+        assert!(rt; first == Err(NO_MEMORY) && builder.feed(fields) == first);
     }
     first.is_ok()
 }
@@ -109,16 +111,33 @@ fn fed_twice(
     records: &[ByteRecord],
 ) -> Result<Returns, ReturnsFault> {
     match fed(rt, alloc, records) {
-        Err(fault) if fault == NO_MEMORY => fed(rt, alloc, records),
-        answer => answer,
+        Ok(returns) => Ok(returns),
+        Err(NO_MEMORY) => fed(rt, alloc, records),
+        Err(fault) => Err(fault),
     }
+}
+
+// Those of the records of a text.
+fn fed_text(rt: &impl Abort, alloc: Global, text: &str) -> Result<Returns, Fail> {
+    let records = records(alloc, text)?;
+    Ok(fed_twice(rt, alloc, records.as_slice())?)
+}
+
+// Whether they hold what a function asks of them.
+fn are_fed(
+    rt: &impl Abort,
+    alloc: Global,
+    text: &str,
+    holds: fn(&Returns) -> bool,
+) -> Result<bool, Fail>
+    requires { IsAlwaysCallable holds }
+{
+    Ok(holds(&fed_text(rt, alloc, text)?))
 }
 
 #[test]
 fn records_are_fed(rt: HostRuntime) -> Result<(), Fail> {
-    let records = records(rt.alloc(), THREE_LISTS)?;
-    let returns = fed_twice(&rt, rt.alloc(), records.as_slice())?;
-    assert!(rt; are_three(&returns));
+    assert!(rt; are_fed(&rt, rt.alloc(), THREE_LISTS, are_only_three)?);
     Ok(())
 }
 
@@ -132,8 +151,6 @@ fn are_drawn(returns: &Returns) -> bool {
 
 #[test]
 fn winners_and_lots_are_fed(rt: HostRuntime) -> Result<(), Fail> {
-    let records = records(rt.alloc(), DRAWN_WINNERS)?;
-    let returns = fed_twice(&rt, rt.alloc(), records.as_slice())?;
-    assert!(rt; are_drawn(&returns));
+    assert!(rt; are_fed(&rt, rt.alloc(), DRAWN_WINNERS, are_drawn)?);
     Ok(())
 }

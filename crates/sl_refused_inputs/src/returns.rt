@@ -42,8 +42,7 @@ fn add_land(
     let first = returns.add_land(name, population);
     end(alloc);
     if first.is_err() {
-        assert_eq!(rt; numbers(returns), before);
-        assert!(rt; returns.find_land(name).is_none());
+        assert!(rt; numbers(returns) == before && returns.find_land(name).is_none());
         returns.add_land(name, population)?;
     }
     Ok(())
@@ -59,8 +58,7 @@ fn add_party(rt: &impl Abort, alloc: Global, returns: &mut Returns, name: &[u8])
     let first = returns.add_party(name, false);
     end(alloc);
     if first.is_err() {
-        assert_eq!(rt; numbers(returns), before);
-        assert!(rt; returns.find_party(name).is_none());
+        assert!(rt; numbers(returns) == before && returns.find_party(name).is_none());
         returns.add_party(name, false)?;
     }
     Ok(())
@@ -87,8 +85,7 @@ fn add_win(
     let first = returns.add_win(0, Some(0), name, votes.0, votes.1);
     end(alloc);
     if first.is_err() {
-        assert_eq!(rt; numbers(returns), before);
-        assert!(rt; returns.find_win(name).is_none());
+        assert!(rt; numbers(returns) == before && returns.find_win(name).is_none());
         returns.add_win(0, Some(0), name, votes.0, votes.1)?;
     }
     Ok(())
@@ -104,14 +101,14 @@ fn add_lot(rt: &impl Abort, alloc: Global, returns: &mut Returns, win: usize) ->
     let first = returns.add_lot(Some(0), Some(0), b"seats", Some(win));
     end(alloc);
     if first.is_err() {
-        assert_eq!(rt; numbers(returns), before);
+        assert!(rt; numbers(returns) == before);
         returns.add_lot(Some(0), Some(0), b"seats", Some(win))?;
     }
     Ok(())
 }
 
-// Whether these are three lists with their votes.
-fn are_three(returns: &Returns) -> bool {
+/// Whether these are three lists with their votes.
+pub fn are_three(returns: &Returns) -> bool {
     if returns.lands() != 1 || returns.parties() != 3 {
         return false;
     }
@@ -123,17 +120,6 @@ fn are_three(returns: &Returns) -> bool {
         && (returns.valid(0, 0), returns.counted(0, 0)) == (100, 100)
         && (returns.valid(0, 1), returns.counted(0, 1)) == (80, 80)
         && (returns.valid(0, 2), returns.counted(0, 2)) == (30, 30)
-}
-
-// Adds a Land and three parties.
-fn add_names(rt: &impl Abort, alloc: Global, returns: &mut Returns) -> Result<(), Fail>
-    requires { returns.old ≡ no_election }
-{
-    add_land(rt, alloc, returns, b"X", 1000)?;
-    add_party(rt, alloc, returns, b"A")?;
-    add_party(rt, alloc, returns, b"B")?;
-    add_party(rt, alloc, returns, b"C")?;
-    Ok(())
 }
 
 // Adds a list in the first Land, for which no memory is taken.
@@ -148,14 +134,36 @@ fn add_list(alloc: Global, returns: &mut Returns, party: usize, votes: u32) -> R
     Ok(answer?)
 }
 
+// Adds a Land and three parties.
+fn add_names(rt: &impl Abort, alloc: Global, returns: &mut Returns) -> Result<(), Fail>
+    requires { returns.old ≡ no_election }
+{
+    add_land(rt, alloc, returns, b"X", 1000)?;
+    add_party(rt, alloc, returns, b"A")?;
+    add_party(rt, alloc, returns, b"B")?;
+    add_party(rt, alloc, returns, b"C")
+}
+
+// Adds these and their lists; whether they are read back.
+fn add_three(rt: &impl Abort, alloc: Global, returns: &mut Returns) -> Result<bool, Fail>
+    requires { returns.old ≡ no_election }
+{
+    add_names(rt, alloc, returns)?;
+    add_list(alloc, returns, 0, 100)?;
+    add_list(alloc, returns, 1, 80)?;
+    add_list(alloc, returns, 2, 30)?;
+    Ok(are_three(returns))
+}
+
+// Whether new returns keep them.
+fn keep_three(rt: &impl Abort, alloc: Global) -> Result<bool, Fail> {
+    let mut returns = Returns::empty(alloc);
+    add_three(rt, alloc, &mut returns)
+}
+
 #[test]
 fn three_lists(rt: HostRuntime) -> Result<(), Fail> {
-    let mut returns = Returns::empty(rt.alloc());
-    add_names(&rt, rt.alloc(), &mut returns)?;
-    for (party, votes) in [(0, 100), (1, 80), (2, 30)] {
-        add_list(rt.alloc(), &mut returns, party, votes)?;
-    }
-    assert!(rt; are_three(&returns));
+    assert!(rt; keep_three(&rt, rt.alloc())?);
     Ok(())
 }
 
@@ -179,8 +187,8 @@ fn are_drawn(returns: &Returns) -> bool {
     }
 }
 
-// Adds three winners of a party, and lots of the last two.
-fn add_winners(rt: &impl Abort, alloc: Global, returns: &mut Returns) -> Result<(), Fail>
+// Adds three winners of a party, and lots of the last two; whether they are read back.
+fn add_winners(rt: &impl Abort, alloc: Global, returns: &mut Returns) -> Result<bool, Fail>
     requires { returns.old ≡ no_election }
 {
     returns.add_land(b"X", 1000)?;
@@ -190,13 +198,17 @@ fn add_winners(rt: &impl Abort, alloc: Global, returns: &mut Returns) -> Result<
     add_win(rt, alloc, returns, b"w3", (360, 900))?;
     add_lot(rt, alloc, returns, 2)?;
     add_lot(rt, alloc, returns, 1)?;
-    Ok(())
+    Ok(are_drawn(returns))
+}
+
+// Whether new returns keep them.
+fn keep_winners(rt: &impl Abort, alloc: Global) -> Result<bool, Fail> {
+    let mut returns = Returns::empty(alloc);
+    add_winners(rt, alloc, &mut returns)
 }
 
 #[test]
 fn winners_and_lots(rt: HostRuntime) -> Result<(), Fail> {
-    let mut returns = Returns::empty(rt.alloc());
-    add_winners(&rt, rt.alloc(), &mut returns)?;
-    assert!(rt; are_drawn(&returns));
+    assert!(rt; keep_winners(&rt, rt.alloc())?);
     Ok(())
 }

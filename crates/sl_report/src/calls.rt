@@ -109,7 +109,19 @@ fn fault_sheets(
     Ok(sheets)
 }
 
-// What a good book comes to on good returns. A legal fault has the line with which counting ends.
+// The answer to a legal fault, which has the line with which counting ends.
+fn fault_answer(
+    alloc: Global,
+    show: Show,
+    case: Case<'_>,
+    sheets: &[Sheet],
+    shape: Shape,
+) -> Result<Answer, NoMemory> {
+    let written = case.counted(alloc)?;
+    Answer::of(alloc, show.command(), Some(written.line()), sheets, shape)
+}
+
+// What a good book comes to on good returns.
 fn shown(
     alloc: Global,
     show: Show,
@@ -118,24 +130,16 @@ fn shown(
     naming: &Naming<'_>,
     shape: Shape,
 ) -> Result<Answer, NoMemory> {
-    let returns = naming.returns;
-    let parts = parts_of(alloc, book.book.eligible.as_slice(), returns)?;
-    let setting = Setting::new(alloc, &book.book, returns, parts)?;
-    match outcome_of(alloc, book, returns)? {
+    let parts = parts_of(alloc, book.book.eligible.as_slice(), naming.returns)?;
+    let setting = Setting::new(alloc, &book.book, naming.returns, parts)?;
+    match outcome_of(alloc, book, naming.returns)? {
         Outcome::Counted(counted) => {
             let sheets = counted_sheets(alloc, show, &setting, naming, &counted)?;
             Answer::of(alloc, show.command(), None, sheets.as_slice(), shape)
         }
         Outcome::Fault(fault) => {
             let sheets = fault_sheets(alloc, &setting, naming, &fault)?;
-            let written = case.counted(alloc)?;
-            Answer::of(
-                alloc,
-                show.command(),
-                Some(written.line()),
-                sheets.as_slice(),
-                shape,
-            )
+            fault_answer(alloc, show, case, sheets.as_slice(), shape)
         }
         Outcome::OutOfBudget => case.counted(alloc),
     }
@@ -163,6 +167,21 @@ fn one_count(
     }
 }
 
+// What a command on a good book writes.
+fn good_book(
+    alloc: Global,
+    show: Show,
+    case: Case<'_>,
+    book: &CheckedBook,
+    names: Option<&[u8]>,
+    shape: Shape,
+) -> Result<Answer, NoMemory> {
+    match read_election(alloc, case.returns)? {
+        Some(returns) => one_count(alloc, show, case, book, &returns, names, shape),
+        None => case.counted(alloc),
+    }
+}
+
 // What a command on one book writes.
 fn one_book(
     alloc: Global,
@@ -171,11 +190,8 @@ fn one_book(
     names: Option<&[u8]>,
     shape: Shape,
 ) -> Result<Answer, NoMemory> {
-    let Some(book) = read_book(alloc, case.book)? else {
-        return case.counted(alloc);
-    };
-    match read_election(alloc, case.returns)? {
-        Some(returns) => one_count(alloc, show, case, &book, &returns, names, shape),
+    match read_book(alloc, case.book)? {
+        Some(book) => good_book(alloc, show, case, &book, names, shape),
         None => case.counted(alloc),
     }
 }
@@ -241,6 +257,20 @@ fn named_totals(
     }
 }
 
+// The totals of returns, with a good book if one is given.
+fn good_totals(
+    alloc: Global,
+    case: Case<'_>,
+    book: Option<&Book>,
+    names: Option<&[u8]>,
+    shape: Shape,
+) -> Result<Answer, NoMemory> {
+    match read_election(alloc, case.returns)? {
+        Some(returns) => named_totals(alloc, book, &returns, names, shape),
+        None => case.counted(alloc),
+    }
+}
+
 /// The totals of returns, and with a book who takes part by it. Inputs that `count` refuses are refused by the same line; nothing is counted, so
 /// there is no legal fault.
 ///
@@ -254,19 +284,16 @@ pub fn totals(
     names: Option<&[u8]>,
     shape: Shape,
 ) -> Result<Answer, NoMemory> {
+    let Some(text) = book else {
+        let book = BookText::Library("2023");
+        return good_totals(alloc, Case { book, returns }, None, names, shape);
+    };
     let case = Case {
-        book: book.unwrap_or(BookText::Library("2023")),
+        book: text,
         returns,
     };
-    let Some(checked) = read_book(alloc, case.book)? else {
-        return case.counted(alloc);
-    };
-    let given = match book {
-        Some(_) => Some(&checked.book),
-        None => None,
-    };
-    match read_election(alloc, returns)? {
-        Some(returns) => named_totals(alloc, given, &returns, names, shape),
+    match read_book(alloc, text)? {
+        Some(checked) => good_totals(alloc, case, Some(&checked.book), names, shape),
         None => case.counted(alloc),
     }
 }

@@ -11,17 +11,34 @@ use sl_stages::{Lot, MAX_LANDS, MAX_PARTIES, Returns};
 use std::alloc::{AllocError, Global};
 use std::test::*;
 
-// The returns of a text.
-fn returns_in(alloc: Global, text: &str) -> Result<Returns, ReturnsFault> {
-    read_returns(alloc, text.as_bytes())
+// Whether the returns of a text hold what a function asks of them.
+fn are_read(alloc: Global, text: &str, holds: fn(&Returns) -> bool) -> Result<bool, ReturnsFault>
+    requires { IsAlwaysCallable holds }
+{
+    match read_returns(alloc, text.as_bytes()) {
+        Ok(returns) => Ok(holds(&returns)),
+        Err(fault) => Err(fault),
+    }
 }
 
-// Whether these are a Land, a party, its list, and two winners, one of whom has no party.
-fn are_worked(returns: &Returns) -> bool {
-    if returns.lands() != 1 || returns.parties() != 1 || returns.wins() != 2 {
+// Whether there are two winners, one of whom has no party.
+fn have_two_winners(returns: &Returns) -> bool {
+    if returns.wins() != 2 {
         return false;
     }
     let (first, second) = (returns.win(0), returns.win(1));
+    returns.win_name(0) == b"w1".as_slice()
+        && returns.win_name(1) == b"w2".as_slice()
+        && (first.land, first.party) == (0, Some(0))
+        && (first.first, first.valid) == (5, 9)
+        && second.party.is_none()
+}
+
+// Whether these are a Land, a party, its list, and those winners.
+fn are_worked(returns: &Returns) -> bool {
+    if returns.lands() != 1 || returns.parties() != 1 {
+        return false;
+    }
     returns.house().is_none()
         && returns.land_name(0) == b"X".as_slice()
         && returns.population(0) == 1000
@@ -30,19 +47,14 @@ fn are_worked(returns: &Returns) -> bool {
         && returns.valid(0, 0) == 10
         && returns.counted(0, 0) == 10
         && returns.slate(0, 0).is_none()
-        && returns.win_name(0) == b"w1".as_slice()
-        && returns.win_name(1) == b"w2".as_slice()
-        && (first.land, first.party) == (0, Some(0))
-        && (first.first, first.valid) == (5, 9)
-        && second.party.is_none()
+        && have_two_winners(returns)
 }
 
 #[test]
 fn returns_are_read(rt: HostRuntime) -> Result<(), Fail> {
     let text =
         "kind,land,party,a,b,c\nland,X,,1000,,\nparty,,A,0,,\nlist,X,A,10,10,\nwin,X,A,w1,5,9\nwin,X,,w2,5,9\n";
-    let returns = returns_in(rt.alloc(), text)?;
-    assert!(rt; are_worked(&returns));
+    assert!(rt; are_read(rt.alloc(), text, are_worked)?);
     Ok(())
 }
 
@@ -64,8 +76,7 @@ fn have_slates(returns: &Returns) -> bool {
 fn slates_and_the_house_are_read(rt: HostRuntime) -> Result<(), Fail> {
     let text =
         "kind2,land,party,a,b,c\nland,X,,1,,\nparty,,A,0,,\nlist,X,A,10,10,4000\nhouse,,,598,,\nland,Y,,2,,\nparty,,B,1,,\nlist,Y,B,7,6,\nlist,Y,A,3,0,0\n";
-    let returns = returns_in(rt.alloc(), text)?;
-    assert!(rt; have_slates(&returns));
+    assert!(rt; are_read(rt.alloc(), text, have_slates)?);
     Ok(())
 }
 
@@ -80,9 +91,9 @@ fn is_lot(
     lot.land == land && lot.party == party && lot.stage.as_bytes() == stage && lot.win == win
 }
 
-// Whether these are a party's lot, a Land's, a list's and a winner's, in this order.
-fn are_drawn(lots: &[Lot]) -> bool {
-    match lots {
+// Whether there are a party's lot, a Land's, a list's and a winner's, in this order.
+fn are_drawn(returns: &Returns) -> bool {
+    match returns.lots() {
         [party, land, list, winner] => {
             is_lot(party, None, Some(1), b"s", None)
                 && is_lot(land, Some(0), None, b"2-s", None)
@@ -97,8 +108,7 @@ fn are_drawn(lots: &[Lot]) -> bool {
 fn lots_are_read_in_their_order(rt: HostRuntime) -> Result<(), Fail> {
     let text =
         "kind,land,party,a,b,c\nland,X,,1,,\nparty,,A,0,,\nparty,,B,0,,\nwin,X,A,w1,1,1\nwin,X,B,w2,1,1\nlot,,B,s,,\nlot,X,,2-s,,\nlot,X,B,s,,\nlot,X,B,seats,w2,\n";
-    let returns = returns_in(rt.alloc(), text)?;
-    assert!(rt; are_drawn(returns.lots()));
+    assert!(rt; are_read(rt.alloc(), text, are_drawn)?);
     Ok(())
 }
 
@@ -115,6 +125,32 @@ fn lists_in(returns: &Returns, land: usize) -> u64
     lists
 }
 
+// Whether there are as many lists as there may be, each with one counted vote.
+fn have_all_lists(returns: &Returns) -> bool {
+    let mut lists = 0u64;
+    for land in 0..returns.lands() {
+        lists = lists.saturating_add(lists_in(returns, land));
+    }
+    lists == 16_384
+}
+
+// The header, and so many Länder of so many people each.
+fn header_and_lands(alloc: Global, lands: usize, population: u32) -> Result<String, AllocError> {
+    let mut text = String::from_str(alloc, "kind,land,party,a,b,c\n")?;
+    for land in 1..=lands {
+        write!(text, "land,L{land},,{population},,\n")?;
+    }
+    Ok(text)
+}
+
+// Adds as many parties as there may be.
+fn add_parties(text: &mut String) -> Result<(), AllocError> {
+    for party in 1..=MAX_PARTIES {
+        write!(text, "party,,P{party},0,,\n")?;
+    }
+    Ok(())
+}
+
 // Adds a list in each Land for each party.
 fn add_lists(text: &mut String) -> Result<(), AllocError> {
     for land in 1..=MAX_LANDS {
@@ -127,13 +163,8 @@ fn add_lists(text: &mut String) -> Result<(), AllocError> {
 
 // Returns with as many Länder, parties and lists as there may be.
 fn longest(alloc: Global) -> Result<String, AllocError> {
-    let mut text = String::from_str(alloc, "kind,land,party,a,b,c\n")?;
-    for land in 1..=MAX_LANDS {
-        write!(text, "land,L{land},,1000,,\n")?;
-    }
-    for party in 1..=MAX_PARTIES {
-        write!(text, "party,,P{party},0,,\n")?;
-    }
+    let mut text = header_and_lands(alloc, MAX_LANDS, 1000)?;
+    add_parties(&mut text)?;
     add_lists(&mut text)?;
     Ok(text)
 }
@@ -141,12 +172,7 @@ fn longest(alloc: Global) -> Result<String, AllocError> {
 #[test]
 fn all_lists_are_read(rt: HostRuntime) -> Result<(), Fail> {
     let text = longest(rt.alloc())?;
-    let returns = returns_in(rt.alloc(), text.as_str())?;
-    let mut lists = 0u64;
-    for land in 0..returns.lands() {
-        lists = lists.saturating_add(lists_in(&returns, land));
-    }
-    assert_eq!(rt; lists, 16_384);
+    assert!(rt; are_read(rt.alloc(), &text, have_all_lists)?);
     Ok(())
 }
 

@@ -1,21 +1,21 @@
 //! Returns that are built record by record, and read back.
 
 ghost use Rattle.std.specs.Prelude.{◌≡◌, IfOk, []};
+ghost use Rattle.sl_stages.specs.returns.Election.{no_election};
 
 use sl_ratio::NoMemory;
 use sl_stages::Returns;
 use std::alloc::Global;
 use std::test::*;
 
-// A Land and a party.
-fn land_and_party(alloc: Global) -> Result<Returns, NoMemory>
-    ensures no_winner { IfOk result (λ r. r.win_names ≡ []) }
-    ensures no_lot { IfOk result (λ r. r.lots ≡ []) }
+// Adds a Land and a party.
+fn add_land_and_party(returns: &mut Returns) -> Result<(), NoMemory>
+    requires { returns.old ≡ no_election }
+    ensures no_winner { IfOk result (λ _. returns.new.win_names ≡ []) }
+    ensures no_lot { IfOk result (λ _. returns.new.lots ≡ []) }
 {
-    let mut returns = Returns::empty(alloc);
     returns.add_land(b"X", 1000)?;
-    returns.add_party(b"A", true)?;
-    Ok(returns)
+    returns.add_party(b"A", true)
 }
 
 // Whether these are a Land, a party, its list and a winner.
@@ -88,10 +88,22 @@ fn tell_the_rest(returns: &mut Returns) -> Result<bool, NoMemory>
     Ok(are_kept(returns))
 }
 
+// Adds all these records; whether they are read back.
+fn add_all(returns: &mut Returns) -> Result<bool, NoMemory>
+    requires { returns.old ≡ no_election }
+{
+    add_land_and_party(returns)?;
+    Ok(add_winner_and_list(returns)? && tell_the_rest(returns)?)
+}
+
+// Whether new returns keep them.
+fn are_all_kept(alloc: Global) -> Result<bool, NoMemory> {
+    let mut returns = Returns::empty(alloc);
+    add_all(&mut returns)
+}
+
 #[test]
 fn records_are_read_back(rt: HostRuntime) -> Result<(), Fail> {
-    let mut returns = land_and_party(rt.alloc())?;
-    assert!(rt; add_winner_and_list(&mut returns)?);
-    assert!(rt; tell_the_rest(&mut returns)?);
+    assert!(rt; are_all_kept(rt.alloc())?);
     Ok(())
 }

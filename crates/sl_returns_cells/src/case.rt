@@ -2,7 +2,7 @@
 
 use crate::digits::{is_number, number_of};
 use crate::scan::Record;
-use crate::schema::{Asked, COLUMNS, KIND, Kind, LAND, Space, asked_of};
+use crate::schema::{Asked, COLUMNS, KIND, Kind, LAND, asked_of};
 use crate::told::Told;
 use sl_explain::Speaker;
 use sl_ratio::spelling_fault;
@@ -72,22 +72,31 @@ impl Case<'_> {
         }
     }
 
-    // Whether no record before declares a name.
-    fn is_unknown(&self, space: Space, text: &[u8]) -> bool {
-        self.told.find(space, text).is_none()
+    // Whether no record before declares the name of a cell that must be known.
+    fn is_unknown(&self, asked: Asked, text: &[u8]) -> bool {
+        match asked {
+            Asked::Known(space) => self.told.find(space, text).is_none(),
+            Asked::KnownOrNone(space) => !text.is_empty() && self.told.find(space, text).is_none(),
+            _ => false,
+        }
+    }
+
+    // Whether a record before declares the name of a cell that must be new.
+    fn is_known(&self, asked: Asked, text: &[u8]) -> bool {
+        match asked {
+            Asked::New(space) => self.told.find(space, text).is_some(),
+            _ => false,
+        }
     }
 
     // Whether a cell fails the test of a fault.
     fn fails(&self, kind: FaultKind, asked: Asked, text: &[u8]) -> bool {
-        match (kind, asked) {
-            (FaultKind::Name, _) => fails_name(asked, text),
-            (FaultKind::Number, _) => fails_number(asked, text),
-            (FaultKind::Range, _) => fails_range(asked, text),
-            (FaultKind::Unknown, Asked::Known(space)) => self.is_unknown(space, text),
-            (FaultKind::Unknown, Asked::KnownOrNone(space)) => {
-                !text.is_empty() && self.is_unknown(space, text)
-            }
-            (FaultKind::Twice, Asked::New(space)) => !self.is_unknown(space, text),
+        match kind {
+            FaultKind::Name => fails_name(asked, text),
+            FaultKind::Number => fails_number(asked, text),
+            FaultKind::Range => fails_range(asked, text),
+            FaultKind::Unknown => self.is_unknown(asked, text),
+            FaultKind::Twice => self.is_known(asked, text),
             _ => false,
         }
     }

@@ -10,7 +10,12 @@ pub fn is_number(cell: &[u8]) -> bool {
 
 /// Whether each byte is a digit.
 pub fn are_digits(cell: &[u8]) -> bool {
-    cell.iter().all(|byte| byte.is_ascii_digit())
+    for byte in cell {
+        if !byte.is_ascii_digit() {
+            return false;
+        }
+    }
+    true
 }
 
 /// The number that digits spell.

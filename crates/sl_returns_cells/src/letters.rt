@@ -1,5 +1,6 @@
 //! Names in letters that a name may have.
 
+use sl_explain::append;
 use sl_ratio::{MAX_NAME_BYTES, NoMemory, spelling_fault};
 use std::alloc::Global;
 
@@ -28,36 +29,74 @@ fn small_letters(code: u8) -> &'static [u8] {
 
 // Adds the letters for one of Latin-1: the first one great where it is, and all where the name has no small letter.
 fn push_letters(name: &mut Vec<u8>, code: u8, is_great: bool) -> Result<(), NoMemory> {
-    for (place, letter) in small_letters(code).iter().enumerate() {
-        let is_capital = code < 0xDF && place == 0;
-        if is_great || is_capital {
-            name.push(letter.to_ascii_uppercase())?;
+    let mut is_capital = code < 0xDF;
+    for letter in small_letters(code) {
+        let cased = if is_great || is_capital {
+            letter.to_ascii_uppercase()
         } else {
-            name.push(*letter)?;
-        }
+            *letter
+        };
+        name.push(cased)?;
+        is_capital = false;
     }
     Ok(())
 }
 
-// The name in letters that it may have, of any length. In UTF-8 a letter of Latin-1 is 0xC3 and its number less 0x40.
+// Whether there is a small letter of ASCII.
+fn has_small_letter(cell: &[u8]) -> bool {
+    for byte in cell {
+        if byte.is_ascii_lowercase() {
+            return true;
+        }
+    }
+    false
+}
+
+// How the bytes of a cell are read: in UTF-8 or in Latin-1, and as a name of capitals or of any letters.
+#[derive(Clone, Copy)]
+struct Spelling {
+    is_utf8: bool,
+    is_great: bool,
+}
+
+// Adds a byte in letters that a name may have. In UTF-8 a letter of Latin-1 is 0xC3 and its number less 0x40.
+fn push_byte(name: &mut Vec<u8>, spelling: Spelling, before: u8, byte: u8) -> Result<(), NoMemory> {
+    if is_name_byte(byte) {
+        append(name, &[&[byte]])
+    } else if byte == b' ' || byte == b'.' || byte == b'/' {
+        append(name, &[b"-"])
+    } else if !spelling.is_utf8 {
+        push_letters(name, byte, spelling.is_great)
+    } else if before == 0xC3 {
+        push_letters(name, byte.saturating_add(0x40), spelling.is_great)
+    } else {
+        Ok(())
+    }
+}
+
+// The name in letters that it may have, of any length.
 fn in_letters(alloc: Global, cell: &[u8]) -> Result<Vec<u8>, NoMemory> {
-    let is_utf8 = std::str::from_utf8(cell).is_ok();
-    let is_great = !cell.iter().any(|byte| byte.is_ascii_lowercase());
+    let spelling = Spelling {
+        is_utf8: std::str::from_utf8(cell).is_ok(),
+        is_great: !has_small_letter(cell),
+    };
     let mut name = Vec::new(alloc);
     let mut before = 0;
     for byte in cell {
-        if is_name_byte(*byte) {
-            name.push(*byte)?;
-        } else if *byte == b' ' || *byte == b'.' || *byte == b'/' {
-            name.push(b'-')?;
-        } else if is_utf8 && before == 0xC3 {
-            push_letters(&mut name, byte.saturating_add(0x40), is_great)?;
-        } else if !is_utf8 {
-            push_letters(&mut name, *byte, is_great)?;
-        }
+        push_byte(&mut name, spelling, before, *byte)?;
         before = *byte;
     }
     Ok(name)
+}
+
+// Takes hyphens away from the end of a name of so many bytes at most.
+fn trim_hyphens(name: &mut Vec<u8>) {
+    for _ in 0..MAX_NAME_BYTES {
+        if !name.as_slice().ends_with(b"-") {
+            return;
+        }
+        name.pop();
+    }
 }
 
 /// A name for that of a cell: its umlauts in two letters, `-` for a blank, at most twelve bytes.
@@ -68,12 +107,7 @@ fn in_letters(alloc: Global, cell: &[u8]) -> Result<Vec<u8>, NoMemory> {
 pub fn name_for(alloc: Global, cell: &[u8]) -> Result<Option<Vec<u8>>, NoMemory> {
     let mut name = in_letters(alloc, cell.trim_ascii())?;
     name.truncate(MAX_NAME_BYTES);
-    for _ in 0..MAX_NAME_BYTES {
-        if name.last() != Some(&b'-') {
-            break;
-        }
-        name.pop();
-    }
+    trim_hyphens(&mut name);
     if spelling_fault(name.as_slice()).is_none() {
         Ok(Some(name))
     } else {
@@ -81,16 +115,23 @@ pub fn name_for(alloc: Global, cell: &[u8]) -> Result<Option<Vec<u8>>, NoMemory>
     }
 }
 
-/// The bytes of the first character that a name may not have, by its place in the cell.
-pub fn wrong_character(cell: &[u8]) -> Option<(usize, usize)> {
-    let start = cell.iter().position(|byte| !is_name_byte(*byte))?;
-    let rest = cell.get(start..)?;
-    let mut length = 1usize;
-    for byte in rest.iter().skip(1) {
-        if *byte & 0xC0 != 0x80 {
-            break;
+// How many bytes the character at a place has.
+fn character_length(cell: &[u8], start: usize) -> usize {
+    for place in start.saturating_add(1)..cell.len() {
+        match cell.get(place) {
+            Some(byte) if *byte & 0xC0 == 0x80 => {}
+            _ => return place.saturating_sub(start),
         }
-        length = length.saturating_add(1);
     }
-    Some((start, length))
+    cell.len().saturating_sub(start)
+}
+
+/// The place in a cell of the first character that a name may not have, and the number of its bytes.
+pub fn wrong_character(cell: &[u8]) -> Option<(usize, usize)> {
+    for (place, byte) in cell.iter().enumerate() {
+        if !is_name_byte(*byte) {
+            return Some((place, character_length(cell, place)));
+        }
+    }
+    None
 }

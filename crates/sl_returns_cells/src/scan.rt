@@ -117,13 +117,17 @@ impl Record {
 
     /// Whether these records have the same cells in some columns.
     pub fn is_alike(&self, other: &Record, columns: &[usize]) -> bool {
-        columns
-            .iter()
-            .all(|column| self.text(*column) == other.text(*column))
+        for column in columns {
+            if self.text(*column) != other.text(*column) {
+                return false;
+            }
+        }
+        true
     }
 
-    // Adds the next cell.
-    fn add(&mut self, cell: Cell) -> Result<(), NoMemory> {
+    // Adds the cell at an offset.
+    fn add(&mut self, alloc: Global, bytes: &[u8], at: usize) -> Result<(), NoMemory> {
+        let cell = cell_at(alloc, bytes, at)?;
         self.count = self.count.saturating_add(1);
         self.span.end = cell.span.end;
         if self.cells.len() < KEPT {
@@ -131,15 +135,31 @@ impl Record {
         }
         Ok(())
     }
+
+    // Adds the cells from the begin of the record to its end.
+    fn fill(&mut self, alloc: Global, bytes: &[u8]) -> Result<(), NoMemory> {
+        let mut place = self.span.start;
+        // no record has more cells than bytes and one
+        for _ in 0..bytes.len().saturating_add(1) {
+            self.add(alloc, bytes, place)?;
+            if bytes.get(self.span.end) != Some(&b',') {
+                return Ok(());
+            }
+            place = self.span.end.saturating_add(1);
+        }
+        Ok(())
+    }
 }
 
 // Where the next record begins, if there is one: behind line ends.
 fn next_start(bytes: &[u8], at: usize) -> Option<usize> {
-    let rest = bytes.get(at..)?;
-    let skipped = rest
-        .iter()
-        .position(|byte| *byte != b'\n' && *byte != b'\r')?;
-    Some(at.saturating_add(skipped))
+    for place in at..bytes.len() {
+        match bytes.get(place) {
+            Some(b'\n' | b'\r') => {}
+            _ => return Some(place),
+        }
+    }
+    None
 }
 
 /// The first record behind an offset, if there is one.
@@ -156,15 +176,7 @@ pub fn record_at(alloc: Global, bytes: &[u8], at: usize) -> Result<Option<Record
         count: 0,
         span: Span { start, end: start },
     };
-    let mut place = start;
-    // no record has more cells than bytes and one
-    for _ in 0..bytes.len().saturating_add(1) {
-        record.add(cell_at(alloc, bytes, place)?)?;
-        if bytes.get(record.span.end) != Some(&b',') {
-            break;
-        }
-        place = record.span.end.saturating_add(1);
-    }
+    record.fill(alloc, bytes)?;
     Ok(Some(record))
 }
 

@@ -34,18 +34,25 @@ pub enum Kind {
     Lot,
 }
 
+// The kinds, in the order of their words.
+const KINDS: [Kind; 6] = [
+    Kind::House,
+    Kind::Land,
+    Kind::Party,
+    Kind::List,
+    Kind::Win,
+    Kind::Lot,
+];
+
 impl Kind {
     /// The kind that a word names.
     pub fn named(word: &[u8]) -> Option<Kind> {
-        match word {
-            b"house" => Some(Kind::House),
-            b"land" => Some(Kind::Land),
-            b"party" => Some(Kind::Party),
-            b"list" => Some(Kind::List),
-            b"win" => Some(Kind::Win),
-            b"lot" => Some(Kind::Lot),
-            _ => None,
+        for (place, name) in KIND_WORDS.iter().enumerate() {
+            if *name == word {
+                return KINDS.get(place).copied();
+            }
         }
+        None
     }
 }
 
@@ -58,7 +65,7 @@ pub enum Space {
 }
 
 /// What a number tells.
-#[derive(Clone, Copy, PartialEq, Eq)]
+#[derive(Clone, Copy)]
 pub enum Meaning {
     House,
     People,
@@ -84,7 +91,7 @@ impl Meaning {
 }
 
 /// What a cell must hold.
-#[derive(Clone, Copy, PartialEq, Eq)]
+#[derive(Clone, Copy)]
 pub enum Asked {
     Blank,
     New(Space),

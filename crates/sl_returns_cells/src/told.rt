@@ -63,16 +63,6 @@ impl Told {
         None
     }
 
-    // Adds a name.
-    fn push(&mut self, space: Space, name: Name) -> Result<(), NoMemory> {
-        match space {
-            Space::Land => self.lands.push(name)?,
-            Space::Party => self.parties.push(name)?,
-            Space::Win => self.wins.push(name)?,
-        }
-        Ok(())
-    }
-
     // Adds what a record declares.
     fn add(&mut self, alloc: Global, record: &Record) -> Result<(), NoMemory> {
         if record.text(KIND) == b"kind2".as_slice() {
@@ -80,15 +70,54 @@ impl Told {
         } else if record.text(KIND) == b"lot".as_slice() {
             self.lots = self.lots.saturating_add(1);
         }
-        if let Some((space, column)) = declared_by(record) {
-            let name = Name {
-                text: Vec::from_slice(alloc, record.text(column))?,
-                at: record.at(column).start,
-            };
-            self.push(space, name)?;
+        match declared_by(record) {
+            Some((Space::Land, column)) => add_name(alloc, &mut self.lands, record, column),
+            Some((Space::Party, column)) => add_name(alloc, &mut self.parties, record, column),
+            Some((Space::Win, column)) => add_name(alloc, &mut self.wins, record, column),
+            None => Ok(()),
         }
-        Ok(())
     }
+
+    // Adds what the record behind an offset declares, and answers where it ends, if there is one.
+    fn add_next(
+        &mut self,
+        alloc: Global,
+        bytes: &[u8],
+        at: usize,
+    ) -> Result<Option<usize>, NoMemory> {
+        let Some(record) = record_at(alloc, bytes, at)? else {
+            return Ok(None);
+        };
+        self.add(alloc, &record)?;
+        Ok(Some(record.span.end))
+    }
+
+    // Adds what the records before a row declare, and answers where they end.
+    fn add_before(&mut self, alloc: Global, bytes: &[u8], row: u32) -> Result<usize, NoMemory> {
+        let mut at = begin(bytes);
+        for _ in 1..row {
+            match self.add_next(alloc, bytes, at)? {
+                Some(end) => at = end,
+                None => return Ok(at),
+            }
+        }
+        Ok(at)
+    }
+}
+
+// Adds the name in a column of a record.
+fn add_name(
+    alloc: Global,
+    names: &mut Vec<Name>,
+    record: &Record,
+    column: usize,
+) -> Result<(), NoMemory> {
+    let name = Name {
+        text: Vec::from_slice(alloc, record.text(column))?,
+        at: record.at(column).start,
+    };
+    names.push(name)?;
+    Ok(())
 }
 
 /// What the records before a row declare, the first having row 1, and the record of that row, if there is one.
@@ -102,15 +131,9 @@ pub fn told_before(
     row: u32,
 ) -> Result<(Told, Option<Record>), NoMemory> {
     let mut told = Told::new(alloc);
-    let mut at = begin(bytes);
-    for _ in 1..row {
-        let Some(record) = record_at(alloc, bytes, at)? else {
-            return Ok((told, None));
-        };
-        told.add(alloc, &record)?;
-        at = record.span.end;
-    }
-    Ok((told, record_at(alloc, bytes, at)?))
+    let at = told.add_before(alloc, bytes, row)?;
+    let record = record_at(alloc, bytes, at)?;
+    Ok((told, record))
 }
 
 /// The first record of some kind behind the first `from` bytes that is like a record in some columns.
@@ -138,6 +161,16 @@ pub fn alike_behind(
     Ok(None)
 }
 
+// Where a record declares a name of a space.
+fn declared_in(record: &Record, space: Space, text: &[u8]) -> Option<usize> {
+    match declared_by(record) {
+        Some((declared, column)) if declared == space && record.text(column) == text => {
+            Some(record.at(column).start)
+        }
+        _ => None,
+    }
+}
+
 /// Where a record behind the first `from` bytes declares a name of a space.
 ///
 /// # Errors
@@ -155,10 +188,9 @@ pub fn declared_behind(
         let Some(other) = record_at(alloc, bytes, at)? else {
             return Ok(None);
         };
-        if let Some((declared, column)) = declared_by(&other) {
-            if declared == space && other.text(column) == text {
-                return Ok(Some(other.at(column).start));
-            }
+        let found = declared_in(&other, space, text);
+        if found.is_some() {
+            return Ok(found);
         }
         at = other.span.end;
     }

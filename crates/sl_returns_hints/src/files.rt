@@ -1,6 +1,6 @@
 //! Files that are no returns at all.
 
-use sl_explain::{Explanation, Message, Speaker};
+use sl_explain::{Explanation, Message, Span, Speaker, first_line};
 use sl_ratio::NoMemory;
 
 // What is said.
@@ -51,7 +51,7 @@ const RUN: Message = Message {
 };
 
 /// What a file is, by its first bytes.
-#[derive(Clone, Copy, PartialEq, Eq)]
+#[derive(Clone, Copy)]
 pub(crate) enum FileKind {
     Empty,
     Utf16,
@@ -61,21 +61,9 @@ pub(crate) enum FileKind {
     Text,
 }
 
-/// The line that begins at an offset, without its end.
-pub(crate) fn first_line(bytes: &[u8], at: usize) -> &[u8] {
-    let rest = bytes.get(at..).unwrap_or(&[]);
-    match rest
-        .iter()
-        .position(|byte| *byte == b'\n' || *byte == b'\r')
-    {
-        Some(length) => rest.get(..length).unwrap_or(rest),
-        None => rest,
-    }
-}
-
 // The text behind its first line.
 fn behind_line(text: &[u8]) -> &[u8] {
-    let length = first_line(text, 0).len();
+    let length = first_line(text).len();
     text.get(length.saturating_add(1)..).unwrap_or(&[])
 }
 
@@ -94,7 +82,7 @@ fn is_book(bytes: &[u8]) -> bool {
 // Whether bytes are of a text in UTF-16.
 fn is_utf16(bytes: &[u8]) -> bool {
     let has_mark = bytes.starts_with(b"\xFF\xFE") || bytes.starts_with(b"\xFE\xFF");
-    has_mark || bytes.iter().take(64).any(|byte| *byte == 0)
+    has_mark || bytes.get(..64).unwrap_or(bytes).contains(&0)
 }
 
 /// What a file is.
@@ -115,20 +103,29 @@ pub(crate) fn file_kind(bytes: &[u8]) -> FileKind {
 }
 
 impl FileKind {
-    /// What is said of such a file, and what to do.
-    pub(crate) fn explain(self, speaker: Speaker, bytes: &[u8]) -> Result<Explanation, NoMemory> {
-        let (sentence, remedy) = match self {
+    // What is said of such a file, and what to do.
+    fn messages(self) -> (&'static Message, &'static Message) {
+        match self {
             FileKind::Empty | FileKind::Text => (&EMPTY, &NO_PATH),
             FileKind::Utf16 => (&UTF16, &SAVE),
             FileKind::Workbook => (&WORKBOOK, &SAVE),
             FileKind::Code => (&CODE, &RUN),
             FileKind::Book => (&BOOK, &ORDER),
-        };
-        let mut explanation = speaker.says(sentence, &[])?;
-        if self == FileKind::Book {
-            explanation = explanation.at(0, first_line(bytes, 0).len());
         }
-        speaker.helps(&mut explanation, remedy, &[])?;
-        Ok(explanation)
+    }
+
+    /// The explanation of such a file, at the first line of a rulebook.
+    pub(crate) fn explain(self, speaker: Speaker, bytes: &[u8]) -> Result<Explanation, NoMemory> {
+        let (sentence, remedy) = self.messages();
+        match self {
+            FileKind::Book => {
+                let span = Span {
+                    start: 0,
+                    end: first_line(bytes).len(),
+                };
+                speaker.explains_at(sentence, &[], span, &[remedy])
+            }
+            _ => speaker.explains(sentence, &[], &[remedy]),
+        }
     }
 }

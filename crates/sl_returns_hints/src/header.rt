@@ -1,7 +1,7 @@
 //! Returns that do not begin with the header.
 
-use crate::files::{FileKind, file_kind, first_line};
-use sl_explain::{Explanation, Message, Span, Speaker};
+use crate::files::{FileKind, file_kind};
+use sl_explain::{Explanation, Message, Span, Speaker, first_line};
 use sl_ratio::NoMemory;
 use sl_record_hints::explain_quote;
 use sl_returns_cells::{COLUMNS, HEADER_CELLS, KIND, Kind, Record, begin, column_name, record_at};
@@ -93,24 +93,15 @@ const NO_NAMES: Message = Message {
     german: "die Spalte in jeder Zeile löschen; in R: `write.csv(x, file, row.names = FALSE, quote = FALSE, na = \"\")`",
 };
 
-// What a first line is that is no header.
-#[derive(Clone, Copy, PartialEq, Eq)]
-enum Wrong {
-    Sep,
-    Semicolons,
-    Tabs,
-    Record,
-    Comment,
-    Trailing,
-    Numbered,
-    Spelling,
-    Count,
-    Other,
-}
-
 // How often a byte stands in a line.
 fn times(line: &[u8], mark: u8) -> usize {
-    line.iter().filter(|byte| **byte == mark).count()
+    let mut number = 0usize;
+    for byte in line {
+        if *byte == mark {
+            number = number.saturating_add(1);
+        }
+    }
+    number
 }
 
 // Whether a cell is that of the header, but for blanks and capitals.
@@ -120,63 +111,43 @@ fn is_nearly(cell: &[u8], wanted: &[u8]) -> bool {
 
 // Whether a record is a header but for blanks and capitals.
 fn is_misspelt(record: &Record) -> bool {
-    let is_kind = is_nearly(record.text(KIND), b"kind") || is_nearly(record.text(KIND), b"kind2");
-    let are_others = HEADER_CELLS
-        .iter()
-        .enumerate()
-        .skip(1)
-        .all(|(column, wanted)| is_nearly(record.text(column), wanted));
-    record.count == COLUMNS && is_kind && are_others
+    for (column, wanted) in HEADER_CELLS.iter().enumerate() {
+        let cell = record.text(column);
+        if !is_nearly(cell, wanted) && !(column == KIND && is_nearly(cell, b"kind2")) {
+            return false;
+        }
+    }
+    record.count == COLUMNS
 }
 
-// What the first line is.
-fn wrong_of(line: &[u8], record: &Record) -> Wrong {
-    let first = record.text(KIND);
-    let has_seven = record.count == 7;
+// What is said of a first line that is no line of cells with commas between them, and what to do.
+fn foreign_messages(line: &[u8], record: &Record) -> Option<(&'static Message, &'static Message)> {
     if line.starts_with(b"sep=") || line.starts_with(b"SEP=") {
-        Wrong::Sep
-    } else if first.starts_with(b"#") {
-        Wrong::Comment
+        Some((&SEP, &DELETE))
+    } else if record.text(KIND).starts_with(b"#") {
+        Some((&COMMENT, &DELETE))
     } else if times(line, b';') > times(line, b',') {
-        Wrong::Semicolons
+        Some((&SEMICOLONS, &REPLACE_SEMICOLONS))
     } else if times(line, b'\t') > times(line, b',') {
-        Wrong::Tabs
-    } else if Kind::named(first.trim_ascii()).is_some() {
-        Wrong::Record
-    } else if has_seven && record.text(COLUMNS).is_empty() {
-        Wrong::Trailing
-    } else if has_seven && is_nearly(record.text(1), b"kind") {
-        Wrong::Numbered
-    } else if record.count != COLUMNS {
-        Wrong::Count
-    } else if is_misspelt(record) {
-        Wrong::Spelling
+        Some((&TABS, &REPLACE_TABS))
     } else {
-        Wrong::Other
+        None
     }
 }
 
-// What is said of it, and what to do.
-fn messages(wrong: Wrong) -> (&'static Message, &'static Message) {
-    match wrong {
-        Wrong::Sep => (&SEP, &DELETE),
-        Wrong::Semicolons => (&SEMICOLONS, &REPLACE_SEMICOLONS),
-        Wrong::Tabs => (&TABS, &REPLACE_TABS),
-        Wrong::Record => (&NO_HEADER, &ADD),
-        Wrong::Comment => (&COMMENT, &DELETE),
-        Wrong::Trailing => (&TRAILING, &SHORTEN),
-        Wrong::Numbered => (&NUMBERED, &NO_NAMES),
-        Wrong::Spelling => (&SPELLING, &EXPECTED),
-        Wrong::Count => (&COUNT, &EXPECTED),
-        Wrong::Other => (&OTHER, &EXPECTED),
-    }
-}
-
-// Whether the remedy leaves open what the header is.
-fn leaves_header(wrong: Wrong) -> bool {
-    match wrong {
-        Wrong::Sep | Wrong::Comment | Wrong::Semicolons | Wrong::Tabs => true,
-        _ => false,
+// What is said of a first line that is a record, or nearly the header, and what to do.
+fn near_messages(record: &Record) -> Option<(&'static Message, &'static Message)> {
+    let has_seven = record.count == 7;
+    if Kind::named(record.text(KIND).trim_ascii()).is_some() {
+        Some((&NO_HEADER, &ADD))
+    } else if has_seven && record.text(COLUMNS).is_empty() {
+        Some((&TRAILING, &SHORTEN))
+    } else if has_seven && is_nearly(record.text(1), b"kind") {
+        Some((&NUMBERED, &NO_NAMES))
+    } else if is_misspelt(record) {
+        Some((&SPELLING, &EXPECTED))
+    } else {
+        None
     }
 }
 
@@ -196,41 +167,60 @@ fn explain_other(speaker: Speaker, record: &Record) -> Result<Explanation, NoMem
     let column = first_other(record);
     let shown = speaker.shown(record.text(column))?;
     let values = [shown.as_slice(), column_name(column)];
-    speaker.says_at(&OTHER, &values, record.at(column))
+    speaker.explains_at(&OTHER, &values, record.at(column), &[&EXPECTED])
+}
+
+// Another number of cells than six.
+fn explain_count(speaker: Speaker, count: usize, span: Span) -> Result<Explanation, NoMemory> {
+    let count = speaker.number(count)?;
+    speaker.explains_at(&COUNT, &[count.as_slice()], span, &[&EXPECTED])
+}
+
+// A first line of cells that is no header.
+fn explain_cells(speaker: Speaker, record: &Record, span: Span) -> Result<Explanation, NoMemory> {
+    match near_messages(record) {
+        Some((sentence, remedy)) => speaker.explains_at(sentence, &[], span, &[remedy]),
+        None if record.count != COLUMNS => explain_count(speaker, record.count, span),
+        None => explain_other(speaker, record),
+    }
 }
 
 // A first line that is text and no header.
 fn explain_line(speaker: Speaker, bytes: &[u8], record: &Record) -> Result<Explanation, NoMemory> {
-    let line = first_line(bytes, record.span.start);
-    let wrong = wrong_of(line, record);
-    let (sentence, remedy) = messages(wrong);
+    let start = record.span.start;
+    let line = first_line(bytes.get(start..).unwrap_or(&[]));
     let span = Span {
-        start: record.span.start,
-        end: record.span.start.saturating_add(line.len()),
+        start,
+        end: start.saturating_add(line.len()),
+    };
+    let Some((sentence, remedy)) = foreign_messages(line, record) else {
+        return explain_cells(speaker, record, span);
     };
     let shown = speaker.shown(line)?;
-    let count = speaker.number(record.count)?;
-    let mut explanation = match wrong {
-        Wrong::Other => explain_other(speaker, record)?,
-        Wrong::Count => speaker.says_at(sentence, &[count.as_slice()], span)?,
-        _ => speaker.says_at(sentence, &[shown.as_slice()], span)?,
-    };
-    speaker.helps(&mut explanation, remedy, &[])?;
-    if leaves_header(wrong) {
-        speaker.helps(&mut explanation, &EXPECTED, &[])?;
+    let remedies = [remedy, &EXPECTED];
+    speaker.explains_at(sentence, &[shown.as_slice()], span, &remedies)
+}
+
+// A first record that is not the header.
+fn explain_first(speaker: Speaker, bytes: &[u8], record: &Record) -> Result<Explanation, NoMemory> {
+    match explain_quote(speaker, record)? {
+        Some(explanation) => Ok(explanation),
+        None => explain_line(speaker, bytes, record),
     }
-    Ok(explanation)
+}
+
+// A text whose first record is not the header.
+fn explain_text(speaker: Speaker, bytes: &[u8]) -> Result<Explanation, NoMemory> {
+    match record_at(speaker.alloc, bytes, begin(bytes))? {
+        Some(record) => explain_first(speaker, bytes, &record),
+        None => FileKind::Empty.explain(speaker, bytes),
+    }
 }
 
 /// Returns whose first record is not the header.
 pub(crate) fn explain_header(speaker: Speaker, bytes: &[u8]) -> Result<Explanation, NoMemory> {
-    let kind = file_kind(bytes);
-    let record = record_at(speaker.alloc, bytes, begin(bytes))?;
-    match record {
-        Some(record) if kind == FileKind::Text => match explain_quote(speaker, &record)? {
-            Some(explanation) => Ok(explanation),
-            None => explain_line(speaker, bytes, &record),
-        },
-        _ => kind.explain(speaker, bytes),
+    match file_kind(bytes) {
+        FileKind::Text => explain_text(speaker, bytes),
+        kind => kind.explain(speaker, bytes),
     }
 }

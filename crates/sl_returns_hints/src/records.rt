@@ -45,16 +45,7 @@ const RIGHT_FILE: Message = Message {
 // A record of which nothing else can be said.
 fn explain_row(speaker: Speaker, row: u32) -> Result<Explanation, NoMemory> {
     let row = speaker.number(row as usize)?;
-    let mut explanation = speaker.says(&RECORD, &[row.as_slice()])?;
-    speaker.helps(&mut explanation, &TABLE, &[])?;
-    Ok(explanation)
-}
-
-// Want of memory.
-fn explain_memory(speaker: Speaker) -> Result<Explanation, NoMemory> {
-    let mut explanation = speaker.says(&OUT_OF_MEMORY, &[])?;
-    speaker.helps(&mut explanation, &END_OTHERS, &[])?;
-    Ok(explanation)
+    speaker.explains(&RECORD, &[row.as_slice()], &[&TABLE])
 }
 
 // A fault of a cell that must hold a name or a number.
@@ -66,8 +57,8 @@ fn explain_cell(case: &Case<'_>, kind: FaultKind, column: usize) -> Result<Expla
     }
 }
 
-// A fault of a record, whose row is that of the fault.
-fn explain_case(case: &Case<'_>, fault: ReturnsFault) -> Result<Explanation, NoMemory> {
+// A fault of a record whose quotes are closed.
+fn explain_fault(case: &Case<'_>, fault: ReturnsFault) -> Result<Explanation, NoMemory> {
     let column = case.column_of(fault.kind);
     match fault.kind {
         FaultKind::Fields => explain_fields(case),
@@ -84,6 +75,14 @@ fn explain_case(case: &Case<'_>, fault: ReturnsFault) -> Result<Explanation, NoM
     }
 }
 
+// A fault of a record, whose row is that of the fault.
+fn explain_case(case: &Case<'_>, fault: ReturnsFault) -> Result<Explanation, NoMemory> {
+    match explain_quote(case.speaker, case.record)? {
+        Some(explanation) => Ok(explanation),
+        None => explain_fault(case, fault),
+    }
+}
+
 // A fault of a record behind the header.
 fn explain_record(
     speaker: Speaker,
@@ -94,9 +93,6 @@ fn explain_record(
     let Some(record) = record else {
         return explain_row(speaker, fault.row);
     };
-    if let Some(explanation) = explain_quote(speaker, &record)? {
-        return Ok(explanation);
-    }
     let case = Case {
         speaker,
         bytes,
@@ -120,7 +116,7 @@ pub fn explain_returns(
     let speaker = Speaker { alloc, language };
     match fault.kind {
         FaultKind::Header => explain_header(speaker, bytes),
-        FaultKind::NoMemory => explain_memory(speaker),
+        FaultKind::NoMemory => speaker.explains(&OUT_OF_MEMORY, &[], &[&END_OTHERS]),
         _ => explain_record(speaker, bytes, fault),
     }
 }
@@ -132,7 +128,5 @@ pub fn explain_returns(
 /// Want of memory.
 pub fn explain_long_returns(alloc: Global, language: Language) -> Result<Explanation, NoMemory> {
     let speaker = Speaker { alloc, language };
-    let mut explanation = speaker.says(&TOO_LONG, &[])?;
-    speaker.helps(&mut explanation, &RIGHT_FILE, &[])?;
-    Ok(explanation)
+    speaker.explains(&TOO_LONG, &[], &[&RIGHT_FILE])
 }

@@ -47,67 +47,61 @@ const LIST_VOTES: Message = Message {
 
 /// What a column has, in words.
 pub fn column_words(speaker: Speaker, column: ColumnType) -> &'static [u8] {
-    let message = match (column.unit, column.shape) {
-        (Unit::Seats, Shape::One) => ONE_SEATS,
-        (Unit::Seats, Shape::Party) => PARTY_SEATS,
-        (Unit::Seats, Shape::Land) => LAND_SEATS,
-        (Unit::Seats, Shape::List) => LIST_SEATS,
-        (Unit::Votes, Shape::One) => ONE_VOTES,
-        (Unit::Votes, Shape::Party) => PARTY_VOTES,
-        (Unit::Votes, Shape::Land) => LAND_VOTES,
-        (Unit::Votes, Shape::List) => LIST_VOTES,
-    };
-    speaker.word(&message)
+    speaker.word(match (column.unit, column.shape) {
+        (Unit::Seats, Shape::One) => &ONE_SEATS,
+        (Unit::Seats, Shape::Party) => &PARTY_SEATS,
+        (Unit::Seats, Shape::Land) => &LAND_SEATS,
+        (Unit::Seats, Shape::List) => &LIST_SEATS,
+        (Unit::Votes, Shape::One) => &ONE_VOTES,
+        (Unit::Votes, Shape::Party) => &PARTY_VOTES,
+        (Unit::Votes, Shape::Land) => &LAND_VOTES,
+        (Unit::Votes, Shape::List) => &LIST_VOTES,
+    })
 }
 
-/// Some stages, and what the column of each has. A stage that names one that is not there has none.
-#[derive(Drop)]
+/// A stage, and what its column has. A stage that names one that is not there has none.
+#[derive(Clone, Copy)]
 pub struct Known<'a> {
-    pub stages: &'a [Stage],
-    pub types: Vec<Option<ColumnType>>,
+    pub stage: &'a Stage,
+    pub column: Option<ColumnType>,
 }
 
-impl<'a> Known<'a> {
-    /// What the columns of these stages have, each read with those before it.
-    pub fn new(alloc: Global, stages: &'a [Stage]) -> Result<Known<'a>, NoMemory> {
-        let mut known = Known {
-            stages,
-            types: Vec::new(alloc),
-        };
-        for stage in stages {
-            let column = known.column_of(&stage.expr);
-            known.types.push(column)?;
-        }
-        Ok(known)
+/// What the columns of these stages have, each read with those before it.
+pub fn known_columns<'a>(alloc: Global, stages: &'a [Stage]) -> Result<Vec<Known<'a>>, NoMemory> {
+    let mut known = Vec::new(alloc);
+    for stage in stages {
+        let column = column_of(known.as_slice(), &stage.expr);
+        known.push(Known { stage, column })?;
     }
+    Ok(known)
+}
 
-    /// What the column of the stage of that name has.
-    pub fn find(&self, name: &[u8]) -> Option<ColumnType> {
-        for (stage, column) in self.stages.iter().zip(self.types.iter()) {
-            if stage.name.as_bytes() == name {
-                return *column;
-            }
+/// What the column of the stage of that name has.
+pub fn find(known: &[Known<'_>], name: &[u8]) -> Option<ColumnType> {
+    for entry in known {
+        if entry.stage.name.as_bytes() == name {
+            return entry.column;
         }
-        None
     }
+    None
+}
 
-    /// What the column of an expression has, if its arguments fit.
-    pub fn column_of(&self, expr: &Expr) -> Option<ColumnType> {
-        match expr {
-            Expr::Fact { fact, .. } => Some(fact.column_type()),
-            Expr::Name { name, .. } => self.find(name.as_bytes()),
-            Expr::Sum { of, over, .. } => {
-                let of = self.column_of(of)?;
-                Some(ColumnType {
-                    shape: over.shape(),
-                    unit: of.unit,
-                })
-            }
-            Expr::Pair { left, .. } => self.column_of(left),
-            Expr::Split { votes, .. } | Expr::Grow { votes, .. } => {
-                let votes = self.column_of(votes)?;
-                Some(ColumnType::seats(votes.shape))
-            }
+/// What the column of an expression has, if its arguments fit.
+pub fn column_of(known: &[Known<'_>], expr: &Expr) -> Option<ColumnType> {
+    match expr {
+        Expr::Fact { fact, .. } => Some(fact.column_type()),
+        Expr::Name { name, .. } => find(known, name.as_bytes()),
+        Expr::Sum { of, over, .. } => {
+            let of = column_of(known, of)?;
+            Some(ColumnType {
+                shape: over.shape(),
+                unit: of.unit,
+            })
+        }
+        Expr::Pair { left, .. } => column_of(known, left),
+        Expr::Split { votes, .. } | Expr::Grow { votes, .. } => {
+            let votes = column_of(known, votes)?;
+            Some(ColumnType::seats(votes.shape))
         }
     }
 }

@@ -2,7 +2,9 @@
 
 use crate::forms::{explain_option, explain_shape, explain_two_splits};
 use crate::names::{explain_seats, explain_twice, explain_unknown};
-use crate::numbers::{explain_cap, explain_house, explain_share, explain_version};
+use crate::numbers::{
+    CAP, CAP_REMEDY, HOUSE, HOUSE_REMEDY, explain_seat_number, explain_share, explain_version,
+};
 use sl_explain::{Explanation, Language, Message, Speaker};
 use sl_hint_pieces::{Reading, read};
 use sl_ratio::NoMemory;
@@ -22,15 +24,16 @@ fn explain_in(
 ) -> Result<Explanation, NoMemory> {
     match fault {
         CheckFault::Version(at) => explain_version(speaker, text, book, at),
-        CheckFault::HouseRange(at) => explain_house(speaker, text, at),
+        CheckFault::HouseRange(at) => {
+            explain_seat_number(speaker, text, at, &HOUSE, &HOUSE_REMEDY)
+        }
         CheckFault::PerRange(at) => explain_share(speaker, text, book, at),
         CheckFault::StageTwice(at) => explain_twice(speaker, text, book, at),
         CheckFault::StageUnknown(at) => explain_unknown(speaker, text, book, at),
-        CheckFault::Shape(at) => explain_shape(speaker, text, book, at),
-        CheckFault::Unit(at) => explain_shape(speaker, text, book, at),
+        CheckFault::Shape(at) | CheckFault::Unit(at) => explain_shape(speaker, text, book, at),
         CheckFault::TwoSplits(at) => explain_two_splits(speaker, text, at),
         CheckFault::MethodOption(at) => explain_option(speaker, text, book, at),
-        CheckFault::CapRange(at) => explain_cap(speaker, text, at),
+        CheckFault::CapRange(at) => explain_seat_number(speaker, text, at, &CAP, &CAP_REMEDY),
         CheckFault::SeatsShape(at) => explain_seats(speaker, text, book, at),
     }
 }
@@ -47,11 +50,9 @@ pub fn explain_test(
     fault: CheckFault,
 ) -> Result<Explanation, NoMemory> {
     let speaker = Speaker { alloc, language };
-    match read(alloc, text)? {
-        Reading::Book(book) => explain_in(speaker, text, &book, fault),
-        Reading::Tokens(_) | Reading::Grammar(_) => Ok(Explanation::new(
-            alloc,
-            speaker.text(&NO_BOOK, &[])?,
-        )),
+    let reading = read(alloc, text)?;
+    match &reading {
+        Reading::Book(book) => explain_in(speaker, text, book, fault),
+        Reading::Tokens(_) | Reading::Grammar(_) => speaker.says(&NO_BOOK, &[]),
     }
 }

@@ -1,12 +1,12 @@
 //! Forms whose arguments do not fit, or that have an option which they have not.
 
-use crate::columns::{Known, column_words};
+use crate::columns::{column_words, known_columns};
 use crate::names::{above, around, named};
 use crate::node::{Division, Node, method_name, node_at};
 use sl_explain::{Explanation, Message, Span, Speaker};
 use sl_hint_pieces::{line_number, piece, token_span};
 use sl_ratio::{Method, NoMemory};
-use sl_stages::{Axis, Book, ColumnType, Pairing, Shape, Unit};
+use sl_stages::{Axis, Book, ColumnType, Pairing, Shape, Stage, Unit};
 
 const NOT_FITTING: Message = Message {
     english: "the arguments of `$` do not fit",
@@ -170,42 +170,37 @@ pub fn explain_two_splits(
     at: usize,
 ) -> Result<Explanation, NoMemory> {
     let span = token_span(text, at);
-    let mut explanation = speaker.says_at(&TWO_SPLITS, &[piece(text, span)], span)?;
-    speaker.helps(&mut explanation, &TWO_SPLITS_REMEDY, &[])?;
-    Ok(explanation)
+    speaker.explains_at(
+        &TWO_SPLITS,
+        &[piece(text, span)],
+        span,
+        &[&TWO_SPLITS_REMEDY],
+    )
 }
 
 // The form at an offset of a book.
 fn node_in(speaker: Speaker, book: &Book, at: usize) -> Result<Option<Node>, NoMemory> {
     let stages = book.stages.as_slice();
-    let known = Known::new(speaker.alloc, above(stages, at))?;
+    let known = known_columns(speaker.alloc, above(stages, at))?;
     match around(stages, at) {
-        Some(stage) => Ok(node_at(&known, &stage.expr, at)),
+        Some(stage) => Ok(node_at(known.as_slice(), &stage.expr, at)),
         None => Ok(None),
     }
 }
 
-fn axis_name(axis: Axis) -> &'static str {
-    match axis {
-        Axis::Party => "party",
-        Axis::Land => "land",
-        Axis::All => "all",
-    }
-}
-
 // The last argument of a `sum` that leaves a shape.
-fn summed(shape: Shape) -> &'static str {
+fn summed(shape: Shape) -> &'static [u8] {
     match shape {
-        Shape::Party => "party",
-        Shape::Land => "land",
-        Shape::One | Shape::List => "all",
+        Shape::Party => b"party",
+        Shape::Land => b"land",
+        Shape::One | Shape::List => b"all",
     }
 }
 
-fn pairing_name(pairing: Pairing) -> &'static str {
+fn pairing_name(pairing: Pairing) -> &'static [u8] {
     match pairing {
-        Pairing::Larger => "larger",
-        Pairing::Less => "less",
+        Pairing::Larger => b"larger",
+        Pairing::Less => b"less",
     }
 }
 
@@ -226,134 +221,151 @@ fn explain_sum(
 ) -> Result<Explanation, NoMemory> {
     let words = column_words(speaker, of);
     if of.shape == Shape::One {
-        let mut explanation = speaker.says_at(&SUM_ONE, &[words], span)?;
-        speaker.helps(&mut explanation, &SUM_ONE_REMEDY, &[])?;
-        return Ok(explanation);
+        return speaker.explains_at(&SUM_ONE, &[words], span, &[&SUM_ONE_REMEDY]);
     }
-    let values = [axis_name(over).as_bytes(), words];
-    let mut explanation = speaker.says_at(&SUM_AXIS, &values, span)?;
-    speaker.helps(&mut explanation, &SUM_AXIS_REMEDY, &[])?;
+    let values = [summed(over.shape()), words];
+    speaker.explains_at(&SUM_AXIS, &values, span, &[&SUM_AXIS_REMEDY])
+}
+
+// A form with two arguments that do not fit. The remedy may be a `sum` that leaves a shape.
+fn explain_arguments(
+    speaker: Speaker,
+    span: Span,
+    sentence: &Message,
+    form: &'static [u8],
+    arguments: (ColumnType, ColumnType),
+    (remedy, shape): (&Message, Shape),
+) -> Result<Explanation, NoMemory> {
+    let first = column_words(speaker, arguments.0);
+    let second = column_words(speaker, arguments.1);
+    let mut explanation = speaker.says_at(sentence, &[form, first, second], span)?;
+    speaker.helps(&mut explanation, remedy, &[summed(shape)])?;
     Ok(explanation)
 }
 
-fn explain_pair(
-    speaker: Speaker,
-    span: Span,
-    pairing: Pairing,
-    left: ColumnType,
-    right: ColumnType,
-) -> Result<Explanation, NoMemory> {
-    let values = [
-        pairing_name(pairing).as_bytes(),
-        column_words(speaker, left),
-        column_words(speaker, right),
-    ];
-    let mut explanation = speaker.says_at(&PAIR, &values, span)?;
+// What to do about the two columns of a pair, and the shape that the `sum` in it leaves.
+fn pair_remedy(left: ColumnType, right: ColumnType) -> (&'static Message, Shape) {
     if left.unit != right.unit {
-        speaker.helps(&mut explanation, &PAIR_UNIT_REMEDY, &[])?;
+        (&PAIR_UNIT_REMEDY, Shape::One)
     } else if sums_to(left.shape, right.shape) {
-        speaker.helps(
-            &mut explanation,
-            &PAIR_SUM_FIRST,
-            &[summed(right.shape).as_bytes()],
-        )?;
+        (&PAIR_SUM_FIRST, right.shape)
     } else if sums_to(right.shape, left.shape) {
-        speaker.helps(
-            &mut explanation,
-            &PAIR_SUM_SECOND,
-            &[summed(left.shape).as_bytes()],
-        )?;
+        (&PAIR_SUM_SECOND, left.shape)
     } else {
-        speaker.helps(&mut explanation, &PAIR_ALL, &[])?;
+        (&PAIR_ALL, Shape::One)
     }
-    Ok(explanation)
 }
 
-fn division_name(division: Division) -> &'static [u8] {
-    if division.grows { b"grow" } else { b"split" }
+// What to do about minima that do not fit beside the votes.
+fn minima_remedy(votes: ColumnType, minima: ColumnType) -> &'static Message {
+    if minima.unit == Unit::Seats && sums_to(minima.shape, votes.shape) {
+        &MINIMA_SUM
+    } else {
+        &MINIMA_REMEDY
+    }
 }
 
-// Minima that do not fit, beside seats and votes that do.
-fn explain_minima(
-    speaker: Speaker,
-    span: Span,
-    division: Division,
-    minima: ColumnType,
-) -> Result<Explanation, NoMemory> {
-    let values = [
-        division_name(division),
-        column_words(speaker, division.votes),
-        column_words(speaker, minima),
-    ];
-    let mut explanation = speaker.says_at(&MINIMA, &values, span)?;
-    if minima.unit == Unit::Seats && sums_to(minima.shape, division.votes.shape) {
-        let axis = summed(division.votes.shape);
-        speaker.helps(&mut explanation, &MINIMA_SUM, &[axis.as_bytes()])?;
-    } else {
-        speaker.helps(&mut explanation, &MINIMA_REMEDY, &[])?;
-    }
-    Ok(explanation)
+// Whether the votes stand in the place of the seats, and the seats in that of the votes.
+fn is_swapped(division: Division) -> bool {
+    division.seats.unit == Unit::Votes && division.votes.unit == Unit::Seats
 }
 
 // What to do about seats and votes that do not fit; `None` if they fit.
-fn division_remedy(division: Division) -> Option<Message> {
-    if division.seats.unit == Unit::Votes && division.votes.unit == Unit::Seats {
-        Some(SWAPPED_REMEDY)
+fn division_remedy(division: Division) -> Option<&'static Message> {
+    if is_swapped(division) {
+        Some(&SWAPPED_REMEDY)
     } else if division.grows && division.seats.shape != Shape::One {
-        Some(GROW_ONE)
+        Some(&GROW_ONE)
     } else if division.seats.shape == Shape::List {
-        Some(SEATS_OF_LISTS)
+        Some(&SEATS_OF_LISTS)
     } else if division.seats.shape == Shape::One && division.votes.shape == Shape::One {
-        Some(VOTES_OF_SOME)
+        Some(&VOTES_OF_SOME)
     } else if division.seats.shape != Shape::One && division.votes.shape != Shape::List {
-        Some(VOTES_OF_LISTS)
+        Some(&VOTES_OF_LISTS)
     } else if division.seats.unit == Unit::Votes {
-        Some(NEEDS_SEATS)
+        Some(&NEEDS_SEATS)
     } else if division.votes.unit == Unit::Seats {
-        Some(NEEDS_VOTES)
+        Some(&NEEDS_VOTES)
     } else {
         None
     }
 }
 
+// A split or a growth whose seats and votes do not fit, or else its minima.
 fn explain_division(
     speaker: Speaker,
     span: Span,
     division: Division,
 ) -> Result<Explanation, NoMemory> {
-    let remedy = match (division_remedy(division), division.minima) {
-        (Some(remedy), _) => remedy,
-        (None, Some(minima)) => return explain_minima(speaker, span, division, minima),
-        (None, None) => VOTES_OF_SOME,
+    let form: &'static [u8] = if division.grows { b"grow" } else { b"split" };
+    let votes = division.votes;
+    let (sentence, arguments, remedy) = match (division_remedy(division), division.minima) {
+        (None, Some(minima)) => (&MINIMA, (votes, minima), minima_remedy(votes, minima)),
+        (Some(remedy), _) if is_swapped(division) => (&SWAPPED, (division.seats, votes), remedy),
+        (Some(remedy), _) => (&SEATS_BY_VOTES, (division.seats, votes), remedy),
+        (None, None) => (&SEATS_BY_VOTES, (division.seats, votes), &VOTES_OF_SOME),
     };
-    let is_swapped = division.seats.unit == Unit::Votes && division.votes.unit == Unit::Seats;
-    let message = if is_swapped { SWAPPED } else { SEATS_BY_VOTES };
-    let values = [
-        division_name(division),
-        column_words(speaker, division.seats),
-        column_words(speaker, division.votes),
-    ];
-    let mut explanation = speaker.says_at(&message, &values, span)?;
-    speaker.helps(&mut explanation, &remedy, &[])?;
-    Ok(explanation)
+    let remedy = (remedy, votes.shape);
+    explain_arguments(speaker, span, sentence, form, arguments, remedy)
 }
 
-// Says where the stages stand that two arguments name.
-fn advise_made(
+// A form whose arguments have types that do not fit.
+fn explain_node(speaker: Speaker, span: Span, node: Node) -> Result<Explanation, NoMemory> {
+    match node {
+        Node::Sum { of, over } => explain_sum(speaker, span, of, over),
+        Node::Pair {
+            pairing,
+            left,
+            right,
+            ..
+        } => {
+            let form = pairing_name(pairing);
+            let remedy = pair_remedy(left, right);
+            explain_arguments(speaker, span, &PAIR, form, (left, right), remedy)
+        }
+        Node::Division(division) => explain_division(speaker, span, division),
+    }
+}
+
+// Says where the stage stands that an argument names.
+fn help_made(
     speaker: Speaker,
     explanation: &mut Explanation,
     text: &[u8],
-    book: &Book,
-    places: (usize, usize),
+    stages: &[Stage],
+    at: usize,
 ) -> Result<(), NoMemory> {
-    for at in [places.0, places.1] {
-        let name = piece(text, token_span(text, at));
-        if let Some(stage) = named(book.stages.as_slice(), name) {
+    let name = piece(text, token_span(text, at));
+    match named(stages, name) {
+        Some(stage) => {
             let line = line_number(text, stage.at).to_string(speaker.alloc)?;
-            speaker.helps(explanation, &MADE, &[name, line.as_bytes()])?;
+            speaker.helps(explanation, &MADE, &[name, line.as_bytes()])
         }
+        None => Ok(()),
     }
-    Ok(())
+}
+
+// Says where the stages stand that the two arguments of a form name.
+fn help_arguments(
+    speaker: Speaker,
+    explanation: &mut Explanation,
+    text: &[u8],
+    stages: &[Stage],
+    node: Node,
+) -> Result<(), NoMemory> {
+    let (first, second) = match node {
+        Node::Sum { .. } => return Ok(()),
+        Node::Pair { places, .. } => places,
+        Node::Division(division) => division.places,
+    };
+    help_made(speaker, explanation, text, stages, first)?;
+    help_made(speaker, explanation, text, stages, second)
+}
+
+// A form of which no more is known than that its arguments do not fit.
+fn explain_unfit(speaker: Speaker, text: &[u8], at: usize) -> Result<Explanation, NoMemory> {
+    let span = token_span(text, at);
+    speaker.says_at(&NOT_FITTING, &[piece(text, span)], span)
 }
 
 /// A form whose arguments have shapes or units that do not fit.
@@ -363,28 +375,13 @@ pub fn explain_shape(
     book: &Book,
     at: usize,
 ) -> Result<Explanation, NoMemory> {
-    let span = token_span(text, at);
-    match node_in(speaker, book, at)? {
-        Some(Node::Sum { of, over }) => explain_sum(speaker, span, of, over),
-        Some(
-            Node::Pair {
-                pairing,
-                left,
-                right,
-                places,
-            },
-        ) => {
-            let mut explanation = explain_pair(speaker, span, pairing, left, right)?;
-            advise_made(speaker, &mut explanation, text, book, places)?;
-            Ok(explanation)
-        }
-        Some(Node::Division(division)) => {
-            let mut explanation = explain_division(speaker, span, division)?;
-            advise_made(speaker, &mut explanation, text, book, division.places)?;
-            Ok(explanation)
-        }
-        None => speaker.says_at(&NOT_FITTING, &[piece(text, span)], span),
-    }
+    let Some(node) = node_in(speaker, book, at)? else {
+        return explain_unfit(speaker, text, at);
+    };
+    let stages = book.stages.as_slice();
+    let mut explanation = explain_node(speaker, token_span(text, at), node)?;
+    help_arguments(speaker, &mut explanation, text, stages, node)?;
+    Ok(explanation)
 }
 
 /// A split or a growth with an option that its method has not.
@@ -394,19 +391,16 @@ pub fn explain_option(
     book: &Book,
     at: usize,
 ) -> Result<Explanation, NoMemory> {
-    let span = token_span(text, at);
     let Some(Node::Division(division)) = node_in(speaker, book, at)? else {
-        return speaker.says_at(&NOT_FITTING, &[piece(text, span)], span);
+        return explain_unfit(speaker, text, at);
     };
-    let (message, remedy) = if division.grows {
-        (HAMILTON_GROWS, HAMILTON_GROWS_REMEDY)
+    let (sentence, remedy) = if division.grows {
+        (&HAMILTON_GROWS, &HAMILTON_GROWS_REMEDY)
     } else if matches!(division.method, Method::Hamilton) {
-        (HAMILTON_MINIMA, HAMILTON_MINIMA_REMEDY)
+        (&HAMILTON_MINIMA, &HAMILTON_MINIMA_REMEDY)
     } else {
-        (PREFER, PREFER_REMEDY)
+        (&PREFER, &PREFER_REMEDY)
     };
-    let method = method_name(division.method);
-    let mut explanation = speaker.says_at(&message, &[method.as_bytes()], span)?;
-    speaker.helps(&mut explanation, &remedy, &[])?;
-    Ok(explanation)
+    let method = method_name(division.method).as_bytes();
+    speaker.explains_at(sentence, &[method], token_span(text, at), &[remedy])
 }

@@ -1,8 +1,8 @@
 //! Names of stages: one that two have, one that none has, and the one that the last clause asks for.
 
-use crate::columns::{Known, column_words};
+use crate::columns::{Known, column_words, find, known_columns};
 use sl_explain::{Explanation, Message, Span, Speaker};
-use sl_hint_pieces::{line_number, piece, token_span};
+use sl_hint_pieces::{COLUMNS, help_nearest_stage, help_stages, line_number, piece, token_span};
 use sl_ratio::NoMemory;
 use sl_stages::{Book, ColumnType, Shape, Stage, Unit};
 
@@ -81,16 +81,6 @@ const SEATS_VOTES: Message = Message {
     german: "Stimmen sind keine Sitze: Sitze nach Stimmen verteilen, wie in `stage lists = split(house, counted, webster);`, und diese Stufe nennen: `seats lists ..`",
 };
 
-// The columns of the returns, as an expression names them.
-const COLUMNS: [&str; 6] = [
-    "house",
-    "counted",
-    "winners",
-    "outside",
-    "independents",
-    "population",
-];
-
 // How many stages begin before an offset.
 fn stages_before(stages: &[Stage], at: usize) -> usize {
     stages.iter().take_while(|stage| stage.at <= at).count()
@@ -130,68 +120,50 @@ pub fn explain_twice(
         Some(stage) => line_number(text, stage.at),
         None => 0,
     };
-    let line = first.to_string(speaker.alloc)?;
-    let mut explanation = speaker.says_at(&TWICE, &[name, line.as_bytes()], span)?;
-    speaker.helps(&mut explanation, &TWICE_REMEDY, &[])?;
-    Ok(explanation)
+    explain_line(speaker, &TWICE, name, first, span, &TWICE_REMEDY)
 }
 
-// The names of stages, each in backquotes, in a row.
-pub fn listed_stages(speaker: Speaker, stages: &[Stage]) -> Result<Vec<u8>, NoMemory> {
-    let mut names = Vec::new(speaker.alloc);
-    for stage in stages {
-        names.push(speaker.quoted(stage.name.as_bytes())?)?;
-    }
-    speaker.all_of(names.as_slice())
-}
-
-// Asks whether a name that is near is meant: one of the stages, or of the columns of the returns.
-fn advise_near(
+// A sentence on a stage and the line in which it stands, with the remedy.
+fn explain_line(
     speaker: Speaker,
-    explanation: &mut Explanation,
-    word: &[u8],
-    stages: &[Stage],
-    has_columns: bool,
-) -> Result<(), NoMemory> {
-    let mut names: Vec<&[u8]> = Vec::new(speaker.alloc);
-    for stage in stages {
-        names.push(stage.name.as_bytes())?;
-    }
-    if has_columns {
-        for column in COLUMNS {
-            names.push(column.as_bytes())?;
-        }
-    }
-    speaker.helps_nearest(explanation, word, names.as_slice())?;
-    Ok(())
-}
-
-// Says which stages stand above.
-fn advise_stages(
-    speaker: Speaker,
-    explanation: &mut Explanation,
-    stages: &[Stage],
-) -> Result<(), NoMemory> {
-    if stages.is_empty() {
-        return speaker.helps(explanation, &NO_EARLIER, &[]);
-    }
-    let names = listed_stages(speaker, stages)?;
-    speaker.helps(explanation, &EARLIER, &[names.as_slice()])
-}
-
-// The last clause names a stage that there is not.
-fn explain_unknown_base(
-    speaker: Speaker,
-    text: &[u8],
-    stages: &[Stage],
-    at: usize,
+    sentence: &Message,
+    name: &[u8],
+    line: usize,
+    span: Span,
+    remedy: &Message,
 ) -> Result<Explanation, NoMemory> {
-    let span = token_span(text, at);
-    let name = piece(text, span);
-    let mut explanation = speaker.says_at(&UNKNOWN_BASE, &[name], span)?;
-    advise_near(speaker, &mut explanation, name, stages, false)?;
-    advise_stages(speaker, &mut explanation, stages)?;
+    let line = line.to_string(speaker.alloc)?;
+    speaker.explains_at(sentence, &[name, line.as_bytes()], span, &[remedy])
+}
+
+// A name that there is not among these stages and columns.
+fn explain_no_name(
+    speaker: Speaker,
+    sentence: &Message,
+    name: &[u8],
+    span: Span,
+    stages: &[Stage],
+    columns: &[&'static [u8]],
+) -> Result<Explanation, NoMemory> {
+    let mut explanation = speaker.says_at(sentence, &[name], span)?;
+    help_names(speaker, &mut explanation, name, stages, columns)?;
     Ok(explanation)
+}
+
+// Asks whether a name that is near is meant, and says which stages stand above, and which columns there are where they may be named.
+fn help_names(
+    speaker: Speaker,
+    explanation: &mut Explanation,
+    name: &[u8],
+    stages: &[Stage],
+    columns: &[&'static [u8]],
+) -> Result<(), NoMemory> {
+    help_nearest_stage(speaker, explanation, name, stages, columns)?;
+    help_stages(speaker, explanation, stages, &EARLIER, &NO_EARLIER)?;
+    if columns.is_empty() {
+        return Ok(());
+    }
+    speaker.helps(explanation, &FACTS, &[])
 }
 
 // A stage is named that stands further down, or is the one in whose expression it is named.
@@ -202,16 +174,13 @@ fn explain_order(
     at: usize,
 ) -> Result<Explanation, NoMemory> {
     let span = token_span(text, at);
-    let line = line_number(text, stage.at).to_string(speaker.alloc)?;
-    let (message, remedy) = if stage.at < at {
-        (ITSELF, ITSELF_REMEDY)
+    let line = line_number(text, stage.at);
+    let (sentence, remedy) = if stage.at < at {
+        (&ITSELF, &ITSELF_REMEDY)
     } else {
-        (LATER, LATER_REMEDY)
+        (&LATER, &LATER_REMEDY)
     };
-    let values = [stage.name.as_bytes(), line.as_bytes()];
-    let mut explanation = speaker.says_at(&message, &values, span)?;
-    speaker.helps(&mut explanation, &remedy, &[])?;
-    Ok(explanation)
+    explain_line(speaker, sentence, stage.name.as_bytes(), line, span, remedy)
 }
 
 /// A stage is named that there is not, or not yet.
@@ -222,38 +191,49 @@ pub fn explain_unknown(
     at: usize,
 ) -> Result<Explanation, NoMemory> {
     let stages = book.stages.as_slice();
-    if at == book.last.at {
-        return explain_unknown_base(speaker, text, stages, at);
-    }
     let span = token_span(text, at);
     let name = piece(text, span);
-    if let Some(stage) = named(stages, name) {
-        return explain_order(speaker, text, stage, at);
+    if at == book.last.at {
+        return explain_no_name(speaker, &UNKNOWN_BASE, name, span, stages, &[]);
     }
-    let mut explanation = speaker.says_at(&UNKNOWN, &[name], span)?;
-    let stages = above(stages, at);
-    advise_near(speaker, &mut explanation, name, stages, true)?;
-    advise_stages(speaker, &mut explanation, stages)?;
-    speaker.helps(&mut explanation, &FACTS, &[])?;
-    Ok(explanation)
+    match named(stages, name) {
+        Some(stage) => explain_order(speaker, text, stage, at),
+        None => explain_no_name(speaker, &UNKNOWN, name, span, above(stages, at), &COLUMNS),
+    }
 }
 
-// The names of the stages that have seats for each list, each in backquotes, in a row.
-fn fitting(speaker: Speaker, known: &Known<'_>) -> Result<Option<Vec<u8>>, NoMemory> {
+// The names of the stages that have seats for each list, in a row; empty where there is none.
+fn fitting(speaker: Speaker, known: &[Known<'_>]) -> Result<Vec<u8>, NoMemory> {
     let mut names = Vec::new(speaker.alloc);
-    for (stage, column) in known.stages.iter().zip(known.types.iter()) {
-        if *column == Some(ColumnType::seats(Shape::List)) {
-            names.push(speaker.quoted(stage.name.as_bytes())?)?;
+    for entry in known {
+        if entry.column == Some(ColumnType::seats(Shape::List)) {
+            names.push(speaker.quoted(entry.stage.name.as_bytes())?)?;
         }
     }
-    if names.is_empty() {
-        return Ok(None);
+    speaker.all_of(names.as_slice())
+}
+
+// What to do about a stage that has no seats for each list: name one that has, or make one.
+fn help_seats(
+    speaker: Speaker,
+    explanation: &mut Explanation,
+    name: &[u8],
+    unit: Unit,
+    known: &[Known<'_>],
+) -> Result<(), NoMemory> {
+    let names = fitting(speaker, known)?;
+    if !names.is_empty() {
+        return speaker.helps(explanation, &SEATS_FITTING, &[names.as_slice()]);
     }
-    Ok(Some(speaker.all_of(names.as_slice())?))
+    let remedy = match unit {
+        Unit::Seats => &SEATS_SPLIT,
+        Unit::Votes => &SEATS_VOTES,
+    };
+    speaker.helps(explanation, remedy, &[name])
 }
 
 // What the stage that the last clause names has.
-fn explain_kind<'a>(
+fn say_column<'a>(
     speaker: Speaker,
     name: &'a [u8],
     words: &'a [u8],
@@ -271,15 +251,15 @@ pub fn explain_seats(
 ) -> Result<Explanation, NoMemory> {
     let span = token_span(text, at);
     let name = piece(text, span);
-    let known = Known::new(speaker.alloc, book.stages.as_slice())?;
-    let column = known.find(name).unwrap_or(ColumnType::votes(Shape::One));
-    let mut explanation = explain_kind(speaker, name, column_words(speaker, column), span)?;
-    if let Some(names) = fitting(speaker, &known)? {
-        speaker.helps(&mut explanation, &SEATS_FITTING, &[names.as_slice()])?;
-    } else if column.unit == Unit::Seats {
-        speaker.helps(&mut explanation, &SEATS_SPLIT, &[name])?;
-    } else {
-        speaker.helps(&mut explanation, &SEATS_VOTES, &[])?;
-    }
+    let known = known_columns(speaker.alloc, book.stages.as_slice())?;
+    let column = find(known.as_slice(), name).unwrap_or(ColumnType::votes(Shape::One));
+    let mut explanation = say_column(speaker, name, column_words(speaker, column), span)?;
+    help_seats(
+        speaker,
+        &mut explanation,
+        name,
+        column.unit,
+        known.as_slice(),
+    )?;
     Ok(explanation)
 }

@@ -1,6 +1,6 @@
 //! A form in an expression, with what its arguments have.
 
-use crate::columns::Known;
+use crate::columns::{Known, column_of};
 use sl_ratio::{Divisor, Method};
 use sl_stages::{Axis, ColumnType, Expr, Pairing};
 
@@ -45,12 +45,41 @@ pub fn method_name(method: Method) -> &'static str {
     }
 }
 
+// A pair of columns, by its arguments.
+fn typed_pair(known: &[Known<'_>], pairing: Pairing, left: &Expr, right: &Expr) -> Option<Node> {
+    Some(Node::Pair {
+        pairing,
+        left: column_of(known, left)?,
+        right: column_of(known, right)?,
+        places: (offset(left), offset(right)),
+    })
+}
+
+// A split, or with `grows` a growth, by its arguments.
+fn typed_division(
+    known: &[Known<'_>],
+    grows: bool,
+    seats: &Expr,
+    votes: &Expr,
+    method: Method,
+    minima: Option<ColumnType>,
+) -> Option<Node> {
+    Some(Node::Division(Division {
+        grows,
+        seats: column_of(known, seats)?,
+        votes: column_of(known, votes)?,
+        minima,
+        method,
+        places: (offset(seats), offset(votes)),
+    }))
+}
+
 // What the form at the root of an expression is, if it is one and its arguments have types.
-fn root(known: &Known<'_>, expr: &Expr) -> Option<Node> {
+fn root(known: &[Known<'_>], expr: &Expr) -> Option<Node> {
     match expr {
         Expr::Fact { .. } | Expr::Name { .. } => None,
         Expr::Sum { of, over, .. } => Some(Node::Sum {
-            of: known.column_of(of)?,
+            of: column_of(known, of)?,
             over: *over,
         }),
         Expr::Pair {
@@ -58,12 +87,7 @@ fn root(known: &Known<'_>, expr: &Expr) -> Option<Node> {
             left,
             right,
             ..
-        } => Some(Node::Pair {
-            pairing: *pairing,
-            left: known.column_of(left)?,
-            right: known.column_of(right)?,
-            places: (offset(left), offset(right)),
-        }),
+        } => typed_pair(known, *pairing, left, right),
         Expr::Split {
             seats,
             votes,
@@ -73,16 +97,9 @@ fn root(known: &Known<'_>, expr: &Expr) -> Option<Node> {
         } => {
             let minima = match minima {
                 None => None,
-                Some(minima) => Some(known.column_of(minima)?),
+                Some(minima) => Some(column_of(known, minima)?),
             };
-            Some(Node::Division(Division {
-                grows: false,
-                seats: known.column_of(seats)?,
-                votes: known.column_of(votes)?,
-                minima,
-                method: *method,
-                places: (offset(seats), offset(votes)),
-            }))
+            typed_division(known, false, seats, votes, *method, minima)
         }
         Expr::Grow {
             seats,
@@ -90,14 +107,10 @@ fn root(known: &Known<'_>, expr: &Expr) -> Option<Node> {
             method,
             minima,
             ..
-        } => Some(Node::Division(Division {
-            grows: true,
-            seats: known.column_of(seats)?,
-            votes: known.column_of(votes)?,
-            minima: Some(known.column_of(minima)?),
-            method: *method,
-            places: (offset(seats), offset(votes)),
-        })),
+        } => {
+            let minima = column_of(known, minima)?;
+            typed_division(known, true, seats, votes, *method, Some(minima))
+        }
     }
 }
 
@@ -113,7 +126,7 @@ fn offset(expr: &Expr) -> usize {
 }
 
 /// The form that begins at an offset.
-pub fn node_at(known: &Known<'_>, expr: &Expr, at: usize) -> Option<Node> {
+pub fn node_at(known: &[Known<'_>], expr: &Expr, at: usize) -> Option<Node> {
     if offset(expr) == at {
         return root(known, expr);
     }

@@ -1,6 +1,6 @@
 //! Numbers that are out of their range: the version, the house, a threshold, the cap of a growth.
 
-use sl_explain::{Explanation, Message, Speaker};
+use sl_explain::{Explanation, Message, Span, Speaker};
 use sl_hint_pieces::{piece, token_span};
 use sl_ratio::NoMemory;
 use sl_stages::{Book, Cond, MAX_PER, MAX_SEATS};
@@ -25,12 +25,12 @@ const VACATE_REMEDY: Message = Message {
     german: "in der ersten Klausel `rulebook 2;` schreiben, oder `vacate` weglassen",
 };
 
-const HOUSE: Message = Message {
+pub const HOUSE: Message = Message {
     english: "a house has from 1 to $ seats, not $",
     german: "ein Haus hat 1 bis $ Sitze, nicht $",
 };
 
-const HOUSE_REMEDY: Message = Message {
+pub const HOUSE_REMEDY: Message = Message {
     english: "write the number of seats that are given out, such as `house 630;`",
     german: "die Zahl der Sitze schreiben, die zu vergeben sind, etwa `house 630;`",
 };
@@ -65,12 +65,12 @@ const SHARE_PARTS_REMEDY: Message = Message {
     german: "die Schwelle in Zehntelprozent schreiben: `45 per 1000` sind 4,5 Prozent",
 };
 
-const CAP: Message = Message {
+pub const CAP: Message = Message {
     english: "the cap of a growth is from 1 to $ seats, not $",
     german: "die Obergrenze eines Wachstums (`grow`) ist 1 bis $ Sitze, nicht $",
 };
 
-const CAP_REMEDY: Message = Message {
+pub const CAP_REMEDY: Message = Message {
     english: "write the greatest house that may be looked for, such as 4000",
     german: "das größte Haus schreiben, das gesucht werden darf, etwa 4000",
 };
@@ -83,38 +83,27 @@ pub fn explain_version(
     at: usize,
 ) -> Result<Explanation, NoMemory> {
     let span = token_span(text, at);
-    if at == book.version.at {
-        let mut explanation = speaker.says_at(&NO_VERSION, &[piece(text, span)], span)?;
-        speaker.helps(&mut explanation, &VERSIONS, &[])?;
-        return Ok(explanation);
-    }
     let version = piece(text, token_span(text, book.version.at));
-    let mut explanation = speaker.says_at(&VACATE, &[version], span)?;
-    speaker.helps(&mut explanation, &VACATE_REMEDY, &[])?;
-    Ok(explanation)
+    let (sentence, remedy) = if at == book.version.at {
+        (&NO_VERSION, &VERSIONS)
+    } else {
+        (&VACATE, &VACATE_REMEDY)
+    };
+    speaker.explains_at(sentence, &[version], span, &[remedy])
 }
 
-// A number of seats that is none, with the remedy.
-fn explain_seat_number(
+/// A number of seats that is none, with the remedy.
+pub fn explain_seat_number(
     speaker: Speaker,
     text: &[u8],
     at: usize,
-    message: Message,
-    remedy: Message,
+    sentence: &Message,
+    remedy: &Message,
 ) -> Result<Explanation, NoMemory> {
     let span = token_span(text, at);
     let most = MAX_SEATS.to_string(speaker.alloc)?;
-    let mut explanation = speaker.says_at(&message, &[most.as_bytes(), piece(text, span)], span)?;
-    speaker.helps(&mut explanation, &remedy, &[])?;
-    Ok(explanation)
-}
-
-pub fn explain_house(speaker: Speaker, text: &[u8], at: usize) -> Result<Explanation, NoMemory> {
-    explain_seat_number(speaker, text, at, HOUSE, HOUSE_REMEDY)
-}
-
-pub fn explain_cap(speaker: Speaker, text: &[u8], at: usize) -> Result<Explanation, NoMemory> {
-    explain_seat_number(speaker, text, at, CAP, CAP_REMEDY)
+    let values = [most.as_bytes(), piece(text, span)];
+    speaker.explains_at(sentence, &values, span, &[remedy])
 }
 
 // The share at an offset and its parts, or the last one.
@@ -130,6 +119,21 @@ fn share_at(conditions: &[Cond], at: usize) -> (u32, u32) {
     found
 }
 
+// A threshold that is none, with the remedy.
+fn explain_parts(
+    speaker: Speaker,
+    (share, per): (u32, u32),
+    sentence: &Message,
+    span: Span,
+    remedy: &Message,
+) -> Result<Explanation, NoMemory> {
+    let share = share.to_string(speaker.alloc)?;
+    let per = per.to_string(speaker.alloc)?;
+    let most = MAX_PER.to_string(speaker.alloc)?;
+    let values = [share.as_bytes(), per.as_bytes(), most.as_bytes()];
+    speaker.explains_at(sentence, &values, span, &[remedy])
+}
+
 /// A threshold that is none.
 pub fn explain_share(
     speaker: Speaker,
@@ -137,19 +141,14 @@ pub fn explain_share(
     book: &Book,
     at: usize,
 ) -> Result<Explanation, NoMemory> {
+    let span = token_span(text, at);
     let (share, per) = share_at(book.eligible.as_slice(), at);
-    let (message, remedy) = if share == 0 {
-        (SHARE_ZERO, SHARE_ZERO_REMEDY)
+    let (sentence, remedy) = if share == 0 {
+        (&SHARE_ZERO, &SHARE_ZERO_REMEDY)
     } else if share > per {
-        (SHARE_MORE, SHARE_MORE_REMEDY)
+        (&SHARE_MORE, &SHARE_MORE_REMEDY)
     } else {
-        (SHARE_PARTS, SHARE_PARTS_REMEDY)
+        (&SHARE_PARTS, &SHARE_PARTS_REMEDY)
     };
-    let share = share.to_string(speaker.alloc)?;
-    let per = per.to_string(speaker.alloc)?;
-    let most = MAX_PER.to_string(speaker.alloc)?;
-    let values = [share.as_bytes(), per.as_bytes(), most.as_bytes()];
-    let mut explanation = speaker.says_at(&message, &values, token_span(text, at))?;
-    speaker.helps(&mut explanation, &remedy, &[])?;
-    Ok(explanation)
+    explain_parts(speaker, (share, per), sentence, span, remedy)
 }

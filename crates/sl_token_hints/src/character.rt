@@ -109,23 +109,43 @@ const BLANK: Message = Message {
     german: "ihn löschen, und an seiner Stelle ein Leerzeichen oder einen Zeilenwechsel tippen",
 };
 
+const IN_TEXT: Message = Message {
+    english: "the character `$` may not stand in a text in quotes",
+    german: "das Zeichen `$` darf nicht in einem Text in Anführungszeichen stehen",
+};
+
+const BYTE_IN_TEXT: Message = Message {
+    english: "a text in quotes has printable characters of ASCII, and not the byte $",
+    german: "ein Text in Anführungszeichen hat druckbare Zeichen von ASCII, und nicht das Byte $",
+};
+
+const TEXT_LETTER: Message = Message {
+    english: "write letters from A to Z: `fuer` for `für`; other letters may stand in comments, behind `#`",
+    german: "Buchstaben von A bis Z schreiben: `fuer` für `für`; andere Buchstaben dürfen in Kommentaren stehen, hinter `#`",
+};
+
+const TEXT_PLAIN: Message = Message {
+    english: "write a space or letters from A to Z in its place",
+    german: "an seiner Stelle ein Leerzeichen oder Buchstaben von A bis Z schreiben",
+};
+
 // What to do about a character of ASCII.
-fn ascii_remedy(byte: u8, next: u8, at: usize) -> Message {
+fn ascii_remedy(byte: u8, next: u8, at: usize) -> &'static Message {
     match byte {
-        b'<' | b'>' | b'{' | b'[' | b'%' | b'.' if at == 0 => BEGINNING,
-        b'%' => PERCENT,
-        b'.' => POINT,
-        b'/' if next == b'/' || next == b'*' => COMMENT,
-        b'-' if next == b'-' => COMMENT,
-        b'-' => HYPHEN,
-        b'/' | b'*' | b'+' | b'^' => ARITHMETIC,
-        b'\'' | b'`' => QUOTES,
-        b'<' | b'>' => COMPARED,
-        b':' => COLON,
-        b'[' | b']' | b'{' | b'}' => BRACKETS,
-        b'_' => UNDERSCORE,
-        b'@' => AT_SIGN,
-        _ => PLAIN,
+        b'<' | b'>' | b'{' | b'[' | b'%' | b'.' if at == 0 => &BEGINNING,
+        b'%' => &PERCENT,
+        b'.' => &POINT,
+        b'/' if next == b'/' || next == b'*' => &COMMENT,
+        b'-' if next == b'-' => &COMMENT,
+        b'-' => &HYPHEN,
+        b'/' | b'*' | b'+' | b'^' => &ARITHMETIC,
+        b'\'' | b'`' => &QUOTES,
+        b'<' | b'>' => &COMPARED,
+        b':' => &COLON,
+        b'[' | b']' | b'{' | b'}' => &BRACKETS,
+        b'_' => &UNDERSCORE,
+        b'@' => &AT_SIGN,
+        _ => &PLAIN,
     }
 }
 
@@ -159,32 +179,38 @@ fn is_dash(character: &[u8]) -> bool {
 // A character above ASCII.
 fn explain_wide(speaker: Speaker, character: &[u8], span: Span) -> Result<Explanation, NoMemory> {
     if is_special_blank(character) {
-        let mut explanation = speaker.says_at(&INVISIBLE, &[], span)?;
-        speaker.helps(&mut explanation, &BLANK, &[])?;
-        return Ok(explanation);
+        return speaker.explains_at(&INVISIBLE, &[], span, &[&BLANK]);
     }
-    let mut explanation = speaker.says_at(&NO_LETTER, &[character], span)?;
-    if is_curly(character) {
-        speaker.helps(&mut explanation, &QUOTES, &[])?;
+    let remedy = if is_curly(character) {
+        &QUOTES
     } else if is_dash(character) {
-        speaker.helps(&mut explanation, &HYPHEN, &[])?;
+        &HYPHEN
     } else {
-        speaker.helps(&mut explanation, &LETTER, &[])?;
-    }
-    Ok(explanation)
+        &LETTER
+    };
+    speaker.explains_at(&NO_LETTER, &[character], span, &[remedy])
 }
 
 // A byte that is shown by its number.
-fn explain_byte(speaker: Speaker, byte: u8, span: Span) -> Result<Explanation, NoMemory> {
-    let (message, remedy) = if byte < 0x80 {
-        (CONTROL, PLAIN)
-    } else {
-        (NO_CHARACTER, ENCODING)
-    };
+fn explain_byte(
+    speaker: Speaker,
+    sentence: &Message,
+    byte: u8,
+    span: Span,
+    remedy: &Message,
+) -> Result<Explanation, NoMemory> {
     let number = format!(in speaker.alloc; "0x{byte:02x}")?;
-    let mut explanation = speaker.says_at(&message, &[number.as_bytes()], span)?;
-    speaker.helps(&mut explanation, &remedy, &[])?;
-    Ok(explanation)
+    speaker.explains_at(sentence, &[number.as_bytes()], span, &[remedy])
+}
+
+// The character at an offset.
+fn character_span(text: &[u8], at: usize) -> Span {
+    let length = character_len(text.get(at..).unwrap_or(&[]));
+    span_within(text, at, at.saturating_add(length))
+}
+
+fn byte_at(text: &[u8], at: usize) -> u8 {
+    text.get(at).copied().unwrap_or(0)
 }
 
 /// Explains the character at an offset, which no token begins with.
@@ -193,61 +219,35 @@ pub fn explain_character(
     text: &[u8],
     at: usize,
 ) -> Result<Explanation, NoMemory> {
-    let rest = text.get(at..).unwrap_or(&[]);
-    let span = span_within(text, at, at.saturating_add(character_len(rest)));
+    let span = character_span(text, at);
     let character = piece(text, span);
-    let byte = rest.first().copied().unwrap_or(0);
     if character.len() > 1 {
         return explain_wide(speaker, character, span);
     }
-    if byte < 0x20 || byte >= 0x7F {
-        return explain_byte(speaker, byte, span);
+    match byte_at(text, at) {
+        byte @ 0x80.. => explain_byte(speaker, &NO_CHARACTER, byte, span, &ENCODING),
+        byte @ (0..=0x1F | 0x7F) => explain_byte(speaker, &CONTROL, byte, span, &PLAIN),
+        byte => {
+            let next = byte_at(text, at.saturating_add(1));
+            let remedy = ascii_remedy(byte, next, at);
+            speaker.explains_at(&UNEXPECTED, &[character], span, &[remedy])
+        }
     }
-    let next = rest.get(1).copied().unwrap_or(0);
-    let mut explanation = speaker.says_at(&UNEXPECTED, &[character], span)?;
-    speaker.helps(&mut explanation, &ascii_remedy(byte, next, at), &[])?;
-    Ok(explanation)
 }
-
-const IN_TEXT: Message = Message {
-    english: "the character `$` may not stand in a text in quotes",
-    german: "das Zeichen `$` darf nicht in einem Text in Anführungszeichen stehen",
-};
-
-const BYTE_IN_TEXT: Message = Message {
-    english: "a text in quotes has printable characters of ASCII, and not the byte $",
-    german: "ein Text in Anführungszeichen hat druckbare Zeichen von ASCII, und nicht das Byte $",
-};
-
-const TEXT_LETTER: Message = Message {
-    english: "write letters from A to Z: `fuer` for `für`; other letters may stand in comments, behind `#`",
-    german: "Buchstaben von A bis Z schreiben: `fuer` für `für`; andere Buchstaben dürfen in Kommentaren stehen, hinter `#`",
-};
-
-const TEXT_PLAIN: Message = Message {
-    english: "write a space or letters from A to Z in its place",
-    german: "an seiner Stelle ein Leerzeichen oder Buchstaben von A bis Z schreiben",
-};
 
 /// Explains the character at an offset, which a text in quotes may not have.
 pub fn explain_in_text(speaker: Speaker, text: &[u8], at: usize) -> Result<Explanation, NoMemory> {
-    let rest = text.get(at..).unwrap_or(&[]);
-    let span = span_within(text, at, at.saturating_add(character_len(rest)));
+    let span = character_span(text, at);
     let character = piece(text, span);
     if character.len() > 1 {
-        let mut explanation = speaker.says_at(&IN_TEXT, &[character], span)?;
         let remedy = if is_curly(character) {
-            QUOTES
+            &QUOTES
         } else {
-            TEXT_LETTER
+            &TEXT_LETTER
         };
-        speaker.helps(&mut explanation, &remedy, &[])?;
-        return Ok(explanation);
+        return speaker.explains_at(&IN_TEXT, &[character], span, &[remedy]);
     }
-    let byte = rest.first().copied().unwrap_or(0);
-    let number = format!(in speaker.alloc; "0x{byte:02x}")?;
-    let mut explanation = speaker.says_at(&BYTE_IN_TEXT, &[number.as_bytes()], span)?;
-    let remedy = if byte < 0x80 { TEXT_PLAIN } else { ENCODING };
-    speaker.helps(&mut explanation, &remedy, &[])?;
-    Ok(explanation)
+    let byte = byte_at(text, at);
+    let remedy = if byte < 0x80 { &TEXT_PLAIN } else { &ENCODING };
+    explain_byte(speaker, &BYTE_IN_TEXT, byte, span, remedy)
 }

@@ -2,8 +2,8 @@
 
 use crate::character::{explain_character, explain_in_text};
 use crate::whole::explain_whole;
-use sl_explain::{Explanation, Language, Message, Speaker};
-use sl_hint_pieces::{piece, span_within, token_span};
+use sl_explain::{Explanation, Language, Message, Span, Speaker};
+use sl_hint_pieces::{help_nearest_or, piece, span_within, token_span};
 use sl_lex::LexFault;
 use sl_ratio::{MAX_NAME_BYTES, NoMemory};
 use std::alloc::Global;
@@ -60,9 +60,7 @@ fn explain_open(speaker: Speaker, text: &[u8], at: usize) -> Result<Explanation,
     match text.get(stop).copied() {
         None | Some(b'\n' | b'\r') => {
             let span = span_within(text, at, stop);
-            let mut explanation = speaker.says_at(&NOT_CLOSED, &[], span)?;
-            speaker.helps(&mut explanation, &NOT_CLOSED_REMEDY, &[])?;
-            Ok(explanation)
+            speaker.explains_at(&NOT_CLOSED, &[], span, &[&NOT_CLOSED_REMEDY])
         }
         Some(_) => explain_in_text(speaker, text, stop),
     }
@@ -71,23 +69,45 @@ fn explain_open(speaker: Speaker, text: &[u8], at: usize) -> Result<Explanation,
 fn explain_number(speaker: Speaker, text: &[u8], at: usize) -> Result<Explanation, NoMemory> {
     let span = token_span(text, at);
     let number = speaker.shown(piece(text, span))?;
-    let mut explanation = speaker.says_at(&BIG_NUMBER, &[number.as_slice()], span)?;
-    speaker.helps(&mut explanation, &BIG_NUMBER_REMEDY, &[])?;
-    Ok(explanation)
+    speaker.explains_at(
+        &BIG_NUMBER,
+        &[number.as_slice()],
+        span,
+        &[&BIG_NUMBER_REMEDY],
+    )
+}
+
+// That a word is too long, and how long it is.
+fn say_length(speaker: Speaker, word: &[u8], span: Span) -> Result<Explanation, NoMemory> {
+    let name = speaker.shown(word)?;
+    let length = word.len().to_string(speaker.alloc)?;
+    let most = MAX_NAME_BYTES.to_string(speaker.alloc)?;
+    let values = [name.as_slice(), length.as_bytes(), most.as_bytes()];
+    speaker.says_at(&LONG_NAME, &values, span)
 }
 
 fn explain_word(speaker: Speaker, text: &[u8], at: usize) -> Result<Explanation, NoMemory> {
     let span = token_span(text, at);
     let word = piece(text, span);
-    let name = speaker.shown(word)?;
-    let length = word.len().to_string(speaker.alloc)?;
-    let most = MAX_NAME_BYTES.to_string(speaker.alloc)?;
-    let values = [name.as_slice(), length.as_bytes(), most.as_bytes()];
-    let mut explanation = speaker.says_at(&LONG_NAME, &values, span)?;
-    if !speaker.helps_nearest(&mut explanation, word, &LONG_KEYWORDS)? {
-        speaker.helps(&mut explanation, &LONG_NAME_REMEDY, &[])?;
-    }
+    let mut explanation = say_length(speaker, word, span)?;
+    help_nearest_or(
+        speaker,
+        &mut explanation,
+        word,
+        &LONG_KEYWORDS,
+        &LONG_NAME_REMEDY,
+    )?;
     Ok(explanation)
+}
+
+fn explain_fault(speaker: Speaker, text: &[u8], fault: LexFault) -> Result<Explanation, NoMemory> {
+    match fault {
+        LexFault::BadByte(at) => explain_character(speaker, text, at),
+        LexFault::OpenString(at) => explain_open(speaker, text, at),
+        LexFault::BigNumber(at) => explain_number(speaker, text, at),
+        LexFault::LongName(at) => explain_word(speaker, text, at),
+        LexFault::NoMemory => speaker.says(&NO_MEMORY, &[]),
+    }
 }
 
 /// Explains why a text has no tokens.
@@ -102,14 +122,9 @@ pub fn explain_tokens(
     fault: LexFault,
 ) -> Result<Explanation, NoMemory> {
     let speaker = Speaker { alloc, language };
-    if let Some(explanation) = explain_whole(speaker, text)? {
-        return Ok(explanation);
-    }
-    match fault {
-        LexFault::BadByte(at) => explain_character(speaker, text, at),
-        LexFault::OpenString(at) => explain_open(speaker, text, at),
-        LexFault::BigNumber(at) => explain_number(speaker, text, at),
-        LexFault::LongName(at) => explain_word(speaker, text, at),
-        LexFault::NoMemory => Ok(Explanation::new(alloc, speaker.text(&NO_MEMORY, &[])?)),
+    match explain_whole(speaker, text) {
+        Ok(None) => explain_fault(speaker, text, fault),
+        Ok(Some(explanation)) => Ok(explanation),
+        Err(fault) => Err(fault),
     }
 }

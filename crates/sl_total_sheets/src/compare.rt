@@ -1,10 +1,13 @@
 //! The sheets of several rulebooks, side by side.
 
-use sl_naming::{Naming, kind_word, law_name, put_party, stage_name};
+use crate::stages::stage_number;
+use sl_naming::{
+    Naming, Part, kind_word, law_name, push_row, push_sheet, put_parts, stage_name, titled,
+};
 use sl_ratio::NoMemory;
-use sl_results::{Column, Counted, Seats, seats_in_all, seats_of};
+use sl_results::{Column, Counted, seats_in_all, seats_of};
 use sl_sheets::{Form, Head, Look, Row, Sheet};
-use sl_stages::{Book, CheckedBook, LegalFault, Placed, Table};
+use sl_stages::{Book, CheckedBook, LegalFault, Placed, Returns, Table};
 use std::alloc::Global;
 
 /// A rulebook by the word that names it, with what it comes to: a count, or a legal fault.
@@ -43,12 +46,7 @@ fn open_winners(table: &Table) -> u64 {
 
 // The column of a stage of that name.
 fn column_of<'a>(book: &Book, counted: &'a Counted, name: &[u8]) -> Option<&'a Column> {
-    for (number, stage) in book.stages.iter().enumerate() {
-        if stage.name.as_bytes() == name {
-            return counted.columns.get(number);
-        }
-    }
-    None
+    counted.columns.get(stage_number(book, name)?)
 }
 
 // Whether a book has no stage of that name with this column.
@@ -76,90 +74,134 @@ fn first_difference<'a>(left: &'a Judged, right: &Judged) -> Option<&'a str> {
     None
 }
 
-// Adds where a book differs from the one at the left.
-fn put_difference(row: &mut Row, left: Option<&Judged>, judged: &Judged) -> Result<(), NoMemory> {
-    match left {
-        Some(left) => match first_difference(left, judged) {
-            Some(stage) => row.text(stage),
-            None => row.empty(),
-        },
-        None => row.empty(),
+// The kind of the fault to which a book comes.
+fn fault_part(judged: &Judged) -> Part<'static> {
+    match &judged.fault {
+        Some(fault) => Part::Text(kind_word(&fault.kind)),
+        None => Part::Empty,
     }
 }
 
-// The row of a book.
-fn book_row(alloc: Global, left: Option<&Judged>, judged: &Judged) -> Result<Row, NoMemory> {
-    let mut row = Row::new(alloc);
-    row.text(judged.word.as_str())?;
-    row.text(law_name(&judged.book.book))?;
+// Where a book differs from the one at the left.
+fn difference_part<'a>(left: Option<&'a Judged>, judged: &Judged) -> Part<'a> {
+    match left {
+        Some(left) => match first_difference(left, judged) {
+            Some(stage) => Part::Text(stage),
+            None => Part::Empty,
+        },
+        None => Part::Empty,
+    }
+}
+
+// What a book comes to: the seats, the winners who are not seated, and the difference from the book at the left.
+fn count_parts<'a>(left: Option<&'a Judged>, judged: &Judged) -> [Part<'a>; 3] {
     match &judged.counted {
-        Some(counted) => {
-            row.number(seats_in_all(&counted.table).seats)?;
-            row.number(open_winners(&counted.table))?;
-            put_difference(&mut row, left, judged)?;
-        }
-        None => {
-            row.empty()?;
-            row.empty()?;
-            row.empty()?;
-        }
+        Some(counted) => [
+            Part::Number(seats_in_all(&counted.table).seats),
+            Part::Number(open_winners(&counted.table)),
+            difference_part(left, judged),
+        ],
+        None => [Part::Empty, Part::Empty, Part::Empty],
     }
-    match &judged.fault {
-        Some(fault) => row.text(kind_word(&fault.kind))?,
-        None => row.empty()?,
+}
+
+// Adds the row of a book.
+fn push_book<'a>(
+    alloc: Global,
+    sheet: &mut Sheet,
+    naming: &Naming<'_>,
+    left: Option<&'a Judged>,
+    judged: &'a Judged,
+) -> Result<(), NoMemory> {
+    let [seats, open, difference] = count_parts(left, judged);
+    let parts = [
+        Part::Text(judged.word.as_str()),
+        Part::Text(law_name(&judged.book.book)),
+        seats,
+        open,
+        difference,
+        fault_part(judged),
+    ];
+    push_row(alloc, sheet, naming, &parts)
+}
+
+// Adds the rows of the books.
+fn push_books(
+    alloc: Global,
+    sheet: &mut Sheet,
+    naming: &Naming<'_>,
+    books: &[Judged],
+) -> Result<(), NoMemory> {
+    for (number, judged) in books.iter().enumerate() {
+        let left = if number == 0 { None } else { books.first() };
+        push_book(alloc, sheet, naming, left, judged)?;
     }
-    Ok(row)
+    Ok(())
 }
 
 // A line for each book.
-fn books_sheet(alloc: Global, books: &[Judged]) -> Result<Sheet, NoMemory> {
-    let title = String::from_str(alloc, "Rulebooks")?;
-    let mut sheet = Sheet::new(alloc, "books", title, &BOOKS)?;
-    for (number, judged) in books.iter().enumerate() {
-        let left = if number == 0 { None } else { books.first() };
-        sheet.push(book_row(alloc, left, judged)?)?;
-    }
+fn books_sheet(alloc: Global, naming: &Naming<'_>, books: &[Judged]) -> Result<Sheet, NoMemory> {
+    let mut sheet = titled(alloc, "books", "Rulebooks", &BOOKS)?;
+    push_books(alloc, &mut sheet, naming, books)?;
     Ok(sheet)
 }
 
-// Adds the seats that a book gives, or the kind of its fault.
-fn put_seats(row: &mut Row, judged: &Judged, seats: Option<Seats>) -> Result<(), NoMemory> {
-    match (seats, &judged.fault) {
-        (Some(seats), _) => row.number(seats.seats),
-        (None, Some(fault)) => row.text(kind_word(&fault.kind)),
-        (None, None) => row.empty(),
-    }
-}
-
-// The seats of a party by a book, or those of all where no party is given.
-fn seats_by(judged: &Judged, naming: &Naming<'_>, party: Option<usize>) -> Option<Seats> {
+// The seats that a book gives a party, or all where no party is given; else the kind of its fault.
+fn seats_part(judged: &Judged, returns: &Returns, party: Option<usize>) -> Part<'static> {
     match (&judged.counted, party) {
-        (Some(counted), Some(party)) => Some(seats_of(&counted.table, naming.returns, party)),
-        (Some(counted), None) => Some(seats_in_all(&counted.table)),
-        (None, _) => None,
+        (Some(counted), Some(party)) => {
+            Part::Number(seats_of(&counted.table, returns, party).seats)
+        }
+        (Some(counted), None) => Part::Number(seats_in_all(&counted.table).seats),
+        (None, _) => fault_part(judged),
     }
 }
 
-// The row of a party, or of all.
-fn compared_row(
+// Adds the name of a party, or of all, and a cell for each book.
+fn put_compared(
     alloc: Global,
+    row: &mut Row,
     naming: &Naming<'_>,
     books: &[Judged],
     party: Option<usize>,
-) -> Result<Row, NoMemory> {
-    let mut row = Row::new(alloc);
-    match party {
-        Some(party) => put_party(alloc, &mut row, naming, party)?,
-        None => {
-            row.empty()?;
-            row.text("all")?;
-        }
-    }
+) -> Result<(), NoMemory> {
+    let name = match party {
+        Some(party) => Part::Party(party),
+        None => Part::Word("all"),
+    };
+    put_parts(alloc, row, naming, &[name])?;
     for judged in books {
-        let seats = seats_by(judged, naming, party);
-        put_seats(&mut row, judged, seats)?;
+        let seats = seats_part(judged, naming.returns, party);
+        put_parts(alloc, row, naming, &[seats])?;
     }
-    Ok(row)
+    Ok(())
+}
+
+// Adds the row of a party, or of all.
+fn push_compared(
+    alloc: Global,
+    sheet: &mut Sheet,
+    naming: &Naming<'_>,
+    books: &[Judged],
+    party: Option<usize>,
+) -> Result<(), NoMemory> {
+    let mut row = Row::new(alloc);
+    put_compared(alloc, &mut row, naming, books, party)?;
+    sheet.push(row)
+}
+
+// Adds the rows of all together, and of each party.
+fn push_rows(
+    alloc: Global,
+    sheet: &mut Sheet,
+    naming: &Naming<'_>,
+    books: &[Judged],
+) -> Result<(), NoMemory> {
+    push_compared(alloc, sheet, naming, books, None)?;
+    for party in 0..naming.returns.parties() {
+        push_compared(alloc, sheet, naming, books, Some(party))?;
+    }
+    Ok(())
 }
 
 // Adds a column for each book.
@@ -172,6 +214,14 @@ fn push_heads(alloc: Global, sheet: &mut Sheet, books: &[Judged]) -> Result<(), 
     Ok(())
 }
 
+// The parties in rows, with a column for each book.
+fn seats_sheet(alloc: Global, naming: &Naming<'_>, books: &[Judged]) -> Result<Sheet, NoMemory> {
+    let mut sheet = titled(alloc, "compare", "Seats by rulebook", &COMPARE)?;
+    push_heads(alloc, &mut sheet, books)?;
+    push_rows(alloc, &mut sheet, naming, books)?;
+    Ok(sheet)
+}
+
 /// The sheets of several books on the returns: a line for each book, and the parties in rows with a column for each book.
 ///
 /// # Errors
@@ -182,15 +232,8 @@ pub fn compare_sheets(
     naming: &Naming<'_>,
     books: &[Judged],
 ) -> Result<Vec<Sheet>, NoMemory> {
-    let title = String::from_str(alloc, "Seats by rulebook")?;
-    let mut sheet = Sheet::new(alloc, "compare", title, &COMPARE)?;
-    push_heads(alloc, &mut sheet, books)?;
-    sheet.push(compared_row(alloc, naming, books, None)?)?;
-    for party in 0..naming.returns.parties() {
-        sheet.push(compared_row(alloc, naming, books, Some(party))?)?;
-    }
     let mut sheets: Vec<Sheet> = Vec::new(alloc);
-    sheets.push(books_sheet(alloc, books)?)?;
-    sheets.push(sheet)?;
+    push_sheet(&mut sheets, books_sheet(alloc, naming, books))?;
+    push_sheet(&mut sheets, seats_sheet(alloc, naming, books))?;
     Ok(sheets)
 }

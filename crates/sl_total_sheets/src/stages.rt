@@ -1,10 +1,10 @@
 //! The sheets of all stages: a line for each, and its column.
 
-use sl_naming::{Naming, shape_word, stage_name, unit_word};
+use sl_naming::{Naming, Part, push_row, push_sheet, shape_word, stage_name, titled, unit_word};
 use sl_ratio::NoMemory;
 use sl_results::{Column, Counted, Setting};
 use sl_scopes::item_at;
-use sl_sheets::{Form, Look, Row, Sheet};
+use sl_sheets::{Form, Look, Sheet};
 use sl_stages::{Book, Expr, Item, Scope, Shape, Unit, Word};
 use std::alloc::Global;
 
@@ -23,14 +23,26 @@ const CELLS: [Form; 4] = [
     ("value", "value", Look::Number),
 ];
 
-// The unit of an earlier stage.
-fn named_unit(book: &Book, units: &[Unit], name: &Word) -> Unit {
-    for (stage, unit) in book.stages.iter().zip(units) {
-        if stage.name.as_bytes() == name.as_bytes() {
-            return *unit;
+/// The number of the stage of that name, if there is one.
+pub(crate) fn stage_number(book: &Book, name: &[u8]) -> Option<usize> {
+    for (number, stage) in book.stages.iter().enumerate() {
+        if stage.name.as_bytes() == name {
+            return Some(number);
         }
     }
-    Unit::Seats
+    None
+}
+
+// The unit of an earlier stage.
+fn named_unit(book: &Book, units: &[Unit], name: &Word) -> Unit {
+    match stage_number(book, name.as_bytes()) {
+        Some(number) => unit_at(units, number),
+        None => Unit::Seats,
+    }
+}
+
+fn unit_at(units: &[Unit], number: usize) -> Unit {
+    units.get(number).copied().unwrap_or(Unit::Seats)
 }
 
 // The unit of an expression, by those of the stages before.
@@ -62,20 +74,52 @@ fn sum_of(column: &Column) -> u64 {
     sum
 }
 
-// A line for each stage.
-fn stages_sheet(alloc: Global, book: &Book, columns: &[Column]) -> Result<Sheet, NoMemory> {
-    let title = String::from_str(alloc, "Stages")?;
-    let mut sheet = Sheet::new(alloc, "stages", title, &STAGES)?;
-    let units = units(alloc, book)?;
+// Adds the row of a stage.
+fn push_stage(
+    alloc: Global,
+    sheet: &mut Sheet,
+    book: &Book,
+    naming: &Naming<'_>,
+    number: usize,
+    unit: Unit,
+    column: &Column,
+) -> Result<(), NoMemory> {
+    let parts = [
+        Part::Number((number as u64).saturating_add(1)),
+        Part::Text(stage_name(book, number)),
+        Part::Text(shape_word(column.shape)),
+        Part::Text(unit_word(unit)),
+        Part::Number(sum_of(column)),
+    ];
+    push_row(alloc, sheet, naming, &parts)
+}
+
+// Adds the rows of the stages, which have these units.
+fn push_stages(
+    alloc: Global,
+    sheet: &mut Sheet,
+    book: &Book,
+    naming: &Naming<'_>,
+    units: &[Unit],
+    columns: &[Column],
+) -> Result<(), NoMemory> {
     for (number, column) in columns.iter().enumerate() {
-        let mut row = Row::new(alloc);
-        row.number((number as u64).saturating_add(1))?;
-        row.text(stage_name(book, number))?;
-        row.text(shape_word(column.shape))?;
-        row.text(unit_word(units.get(number).copied().unwrap_or(Unit::Seats)))?;
-        row.number(sum_of(column))?;
-        sheet.push(row)?;
+        let unit = unit_at(units, number);
+        push_stage(alloc, sheet, book, naming, number, unit, column)?;
     }
+    Ok(())
+}
+
+// A line for each stage.
+fn stages_sheet(
+    alloc: Global,
+    book: &Book,
+    naming: &Naming<'_>,
+    columns: &[Column],
+) -> Result<Sheet, NoMemory> {
+    let mut sheet = titled(alloc, "stages", "Stages", &STAGES)?;
+    let units = units(alloc, book)?;
+    push_stages(alloc, &mut sheet, book, naming, units.as_slice(), columns)?;
     Ok(sheet)
 }
 
@@ -90,26 +134,42 @@ fn has_line(naming: &Naming<'_>, entry: Item) -> bool {
     }
 }
 
-// The row of an entry.
-fn cell_row(
+// Adds the row of an entry of a column of that shape.
+fn push_cell(
     alloc: Global,
+    sheet: &mut Sheet,
     stage: &str,
     naming: &Naming<'_>,
     shape: Shape,
     entry: Item,
     value: u64,
-) -> Result<Row, NoMemory> {
-    let mut row = Row::new(alloc);
-    row.text(stage)?;
+) -> Result<(), NoMemory> {
+    let stage = Part::Text(stage);
+    let value = Part::Number(value);
     if let Shape::One = shape {
-        row.text("all")?;
-        row.text("all")?;
+        let all = Part::Text("all");
+        push_row(alloc, sheet, naming, &[stage, all, all, value])
     } else {
-        row.own(naming.entry(alloc, entry)?)?;
-        row.own(naming.long_entry(alloc, Scope::All, entry)?)?;
+        let names = Part::Entry(entry, Scope::All);
+        push_row(alloc, sheet, naming, &[stage, names, value])
     }
-    row.number(value)?;
-    Ok(row)
+}
+
+// Adds the rows of a stage's column.
+fn push_cells(
+    alloc: Global,
+    sheet: &mut Sheet,
+    stage: &str,
+    naming: &Naming<'_>,
+    column: &Column,
+) -> Result<(), NoMemory> {
+    for (place, value) in column.cells.iter().enumerate() {
+        let entry = item_at(naming.returns, column.shape, place);
+        if has_line(naming, entry) {
+            push_cell(alloc, sheet, stage, naming, column.shape, entry, *value)?;
+        }
+    }
+    Ok(())
 }
 
 // The column of a stage.
@@ -119,16 +179,9 @@ fn cells_sheet(
     naming: &Naming<'_>,
     column: &Column,
 ) -> Result<Sheet, NoMemory> {
-    let mut title = String::from_str(alloc, "Stage ")?;
-    title.push_str(stage)?;
+    let title = format!(in alloc; "Stage {stage}")?;
     let mut sheet = Sheet::new(alloc, "cells", title, &CELLS)?;
-    for (place, value) in column.cells.iter().enumerate() {
-        let entry = item_at(naming.returns, column.shape, place);
-        if has_line(naming, entry) {
-            let row = cell_row(alloc, stage, naming, column.shape, entry, *value)?;
-            sheet.push(row)?;
-        }
-    }
+    push_cells(alloc, &mut sheet, stage, naming, column)?;
     Ok(sheet)
 }
 
@@ -144,11 +197,12 @@ pub fn stage_sheets(
     counted: &Counted,
 ) -> Result<Vec<Sheet>, NoMemory> {
     let mut sheets: Vec<Sheet> = Vec::new(alloc);
+    let book = setting.book;
     let columns = counted.columns.as_slice();
-    sheets.push(stages_sheet(alloc, setting.book, columns)?)?;
+    push_sheet(&mut sheets, stages_sheet(alloc, book, naming, columns))?;
     for (number, column) in columns.iter().enumerate() {
-        let stage = stage_name(setting.book, number);
-        sheets.push(cells_sheet(alloc, stage, naming, column)?)?;
+        let stage = stage_name(book, number);
+        push_sheet(&mut sheets, cells_sheet(alloc, stage, naming, column))?;
     }
     Ok(sheets)
 }

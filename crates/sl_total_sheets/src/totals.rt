@@ -1,12 +1,12 @@
 //! The sheets of the totals of returns.
 
 use crate::warnings::warnings_sheet;
-use sl_naming::{Naming, met_text, put_land, put_party, put_percent};
+use sl_naming::{Naming, Part, one_row_sheet, push_row, push_sheet, titled};
 use sl_ratio::NoMemory;
 use sl_results::{
     PartyPart, Votes, all_votes, independents_in, land_votes, votes_short, winners_in, winners_of,
 };
-use sl_sheets::{Form, Look, Row, Sheet};
+use sl_sheets::{Form, Look, Sheet};
 use sl_stages::{Book, Cond, Returns};
 use std::alloc::Global;
 
@@ -53,8 +53,8 @@ const WINNERS: [Form; 5] = [
     ("winners", "winners", Look::Number),
 ];
 
-// How many lists a party has.
-fn lists_of(returns: &Returns, party: usize) -> u64 {
+/// How many lists a party has.
+pub(crate) fn lists_of(returns: &Returns, party: usize) -> u64 {
     let mut lists = 0u64;
     if party < returns.parties() {
         for land in 0..returns.lands() {
@@ -84,21 +84,20 @@ fn people(returns: &Returns) -> u64 {
 }
 
 // The sums of all returns.
-fn totals_sheet(alloc: Global, returns: &Returns) -> Result<Sheet, NoMemory> {
-    let title = String::from_str(alloc, "Totals")?;
-    let mut sheet = Sheet::new(alloc, "totals", title, &TOTALS)?;
+fn totals_sheet(alloc: Global, naming: &Naming<'_>) -> Result<Sheet, NoMemory> {
+    let returns = naming.returns;
     let votes = all_votes(returns);
-    let mut row = Row::new(alloc);
-    row.number(votes.valid)?;
-    row.number(votes.counted)?;
-    row.number(people(returns))?;
-    row.number(returns.lands() as u64)?;
-    row.number(returns.parties() as u64)?;
-    row.number(all_lists(returns))?;
-    row.number(returns.wins() as u64)?;
-    row.number(winners_of(returns, None))?;
-    sheet.push(row)?;
-    Ok(sheet)
+    let parts = [
+        Part::Number(votes.valid),
+        Part::Number(votes.counted),
+        Part::Number(people(returns)),
+        Part::Number(returns.lands() as u64),
+        Part::Number(returns.parties() as u64),
+        Part::Number(all_lists(returns)),
+        Part::Number(returns.wins() as u64),
+        Part::Number(winners_of(returns, None)),
+    ];
+    one_row_sheet(alloc, naming, "totals", "Totals", &TOTALS, &parts)
 }
 
 // The lesser of two numbers, where there are two.
@@ -140,26 +139,43 @@ fn lacking_winners(conditions: &[Cond], part: PartyPart) -> Option<u64> {
     lacking
 }
 
-// The row of a party, of so many valid votes in all.
-fn party_row(
+// Adds the row of a party, of so many valid votes in all.
+fn push_party(
     alloc: Global,
+    sheet: &mut Sheet,
     conditions: &[Cond],
     naming: &Naming<'_>,
     party: usize,
     part: PartyPart,
     valid: u64,
-) -> Result<Row, NoMemory> {
-    let mut row = Row::new(alloc);
-    put_party(alloc, &mut row, naming, party)?;
-    row.number(part.votes.valid)?;
-    put_percent(alloc, &mut row, part.votes.valid, valid)?;
-    row.number(part.votes.counted)?;
-    row.number(lists_of(naming.returns, party))?;
-    row.number(part.winners)?;
-    row.maybe_text(met_text(alloc, conditions, part.met)?)?;
-    row.maybe_number(lacking_votes(conditions, part, valid))?;
-    row.maybe_number(lacking_winners(conditions, part))?;
-    Ok(row)
+) -> Result<(), NoMemory> {
+    let parts = [
+        Part::Party(party),
+        Part::Number(part.votes.valid),
+        Part::Percent(part.votes.valid, valid),
+        Part::Number(part.votes.counted),
+        Part::Number(lists_of(naming.returns, party)),
+        Part::Number(part.winners),
+        Part::Met(conditions, part.met),
+        Part::Known(lacking_votes(conditions, part, valid)),
+        Part::Known(lacking_winners(conditions, part)),
+    ];
+    push_row(alloc, sheet, naming, &parts)
+}
+
+// Adds the rows of the parties.
+fn push_parties(
+    alloc: Global,
+    sheet: &mut Sheet,
+    conditions: &[Cond],
+    naming: &Naming<'_>,
+    parts: &[PartyPart],
+) -> Result<(), NoMemory> {
+    let valid = all_votes(naming.returns).valid;
+    for (party, part) in parts.iter().enumerate() {
+        push_party(alloc, sheet, conditions, naming, party, *part, valid)?;
+    }
+    Ok(())
 }
 
 // The votes and winners of the parties.
@@ -169,41 +185,38 @@ fn votes_sheet(
     naming: &Naming<'_>,
     parts: &[PartyPart],
 ) -> Result<Sheet, NoMemory> {
-    let title = String::from_str(alloc, "Parties")?;
-    let mut sheet = Sheet::new(alloc, "votes", title, &VOTES)?;
-    let valid = all_votes(naming.returns).valid;
-    for (party, part) in parts.iter().enumerate() {
-        sheet.push(party_row(alloc, conditions, naming, party, *part, valid)?)?;
-    }
+    let mut sheet = titled(alloc, "votes", "Parties", &VOTES)?;
+    push_parties(alloc, &mut sheet, conditions, naming, parts)?;
     Ok(sheet)
 }
 
-// The row of a Land that has these people and votes.
-fn land_row(
+// Adds the row of a Land that has these people and votes.
+fn push_land(
     alloc: Global,
+    sheet: &mut Sheet,
     naming: &Naming<'_>,
     land: usize,
-    people: u64,
+    people: u32,
     votes: Votes,
-) -> Result<Row, NoMemory> {
-    let mut row = Row::new(alloc);
-    put_land(alloc, &mut row, naming, land)?;
-    row.number(people)?;
-    row.number(votes.valid)?;
-    row.number(votes.counted)?;
-    row.number(winners_in(naming.returns, land))?;
-    row.number(independents_in(naming.returns, land))?;
-    Ok(row)
+) -> Result<(), NoMemory> {
+    let parts = [
+        Part::Land(land),
+        Part::Number(u64::from(people)),
+        Part::Number(votes.valid),
+        Part::Number(votes.counted),
+        Part::Number(winners_in(naming.returns, land)),
+        Part::Number(independents_in(naming.returns, land)),
+    ];
+    push_row(alloc, sheet, naming, &parts)
 }
 
 // The people, the votes and the winners of the Länder.
 fn lands_sheet(alloc: Global, naming: &Naming<'_>) -> Result<Sheet, NoMemory> {
-    let title = String::from_str(alloc, "Länder")?;
-    let mut sheet = Sheet::new(alloc, "lands", title, &LANDS)?;
+    let mut sheet = titled(alloc, "lands", "Länder", &LANDS)?;
     for land in 0..naming.returns.lands() {
-        let people = u64::from(naming.returns.population(land));
+        let people = naming.returns.population(land);
         let votes = land_votes(naming.returns, land);
-        sheet.push(land_row(alloc, naming, land, people, votes)?)?;
+        push_land(alloc, &mut sheet, naming, land, people, votes)?;
     }
     Ok(sheet)
 }
@@ -232,11 +245,8 @@ fn push_winners(
     for party in 0..naming.returns.parties() {
         let winners = winners_at(naming.returns, land, party);
         if winners > 0 {
-            let mut row = Row::new(alloc);
-            put_land(alloc, &mut row, naming, land)?;
-            put_party(alloc, &mut row, naming, party)?;
-            row.number(winners)?;
-            sheet.push(row)?;
+            let parts = [Part::Land(land), Part::Party(party), Part::Number(winners)];
+            push_row(alloc, sheet, naming, &parts)?;
         }
     }
     Ok(())
@@ -244,12 +254,30 @@ fn push_winners(
 
 // The winners by Land and party.
 fn winners_sheet(alloc: Global, naming: &Naming<'_>) -> Result<Sheet, NoMemory> {
-    let title = String::from_str(alloc, "Winners")?;
-    let mut sheet = Sheet::new(alloc, "winners", title, &WINNERS)?;
+    let mut sheet = titled(alloc, "winners", "Winners", &WINNERS)?;
     for land in 0..naming.returns.lands() {
         push_winners(alloc, &mut sheet, naming, land)?;
     }
     Ok(sheet)
+}
+
+// Adds the sheets of the totals.
+fn push_sheets(
+    alloc: Global,
+    sheets: &mut Vec<Sheet>,
+    book: Option<&Book>,
+    naming: &Naming<'_>,
+    parts: &[PartyPart],
+) -> Result<(), NoMemory> {
+    let conditions: &[Cond] = match book {
+        Some(book) => book.eligible.as_slice(),
+        None => &[],
+    };
+    push_sheet(sheets, totals_sheet(alloc, naming))?;
+    push_sheet(sheets, votes_sheet(alloc, conditions, naming, parts))?;
+    push_sheet(sheets, lands_sheet(alloc, naming))?;
+    push_sheet(sheets, winners_sheet(alloc, naming))?;
+    push_sheet(sheets, warnings_sheet(alloc, book, naming, parts))
 }
 
 /// The sheets of the totals: of all returns, by party, by Land, the winners by both, and warnings. With a book, who takes part by it.
@@ -263,15 +291,7 @@ pub fn total_sheets(
     naming: &Naming<'_>,
     parts: &[PartyPart],
 ) -> Result<Vec<Sheet>, NoMemory> {
-    let conditions: &[Cond] = match book {
-        Some(book) => book.eligible.as_slice(),
-        None => &[],
-    };
     let mut sheets: Vec<Sheet> = Vec::new(alloc);
-    sheets.push(totals_sheet(alloc, naming.returns)?)?;
-    sheets.push(votes_sheet(alloc, conditions, naming, parts)?)?;
-    sheets.push(lands_sheet(alloc, naming)?)?;
-    sheets.push(winners_sheet(alloc, naming)?)?;
-    sheets.push(warnings_sheet(alloc, book, naming, parts)?)?;
+    push_sheets(alloc, &mut sheets, book, naming, parts)?;
     Ok(sheets)
 }

@@ -1,11 +1,13 @@
 //! Warnings of what is likely a mistake in returns.
 
-use sl_naming::Naming;
+use crate::stages::stage_number;
+use crate::totals::lists_of;
+use sl_naming::{Naming, titled};
 use sl_ratio::NoMemory;
 use sl_results::{PartyPart, winners_in};
 use sl_sheets::{Form, Look, Row, Sheet};
 use sl_stages::{Book, Cond, Lot, Returns};
-use std::alloc::Global;
+use std::alloc::{AllocError, Global};
 
 const WARNINGS: [Form; 2] = [
     ("warning", "", Look::Hidden),
@@ -15,8 +17,14 @@ const WARNINGS: [Form; 2] = [
 // With fewer parties than these a threshold is likely one of too few votes.
 const FEW_PARTIES: usize = 10;
 
-// Adds a warning.
-fn warn(alloc: Global, sheet: &mut Sheet, warning: &str, text: String) -> Result<(), NoMemory> {
+// Adds a warning, if there was memory for its text.
+fn warn(
+    alloc: Global,
+    sheet: &mut Sheet,
+    warning: &str,
+    text: Result<String, AllocError>,
+) -> Result<(), NoMemory> {
+    let text = text?;
     let mut row = Row::new(alloc);
     row.text(warning)?;
     row.own(text)?;
@@ -38,12 +46,23 @@ fn are_people_equal(returns: &Returns) -> bool {
 }
 
 fn warn_of_people(alloc: Global, sheet: &mut Sheet, returns: &Returns) -> Result<(), NoMemory> {
-    if are_people_equal(returns) {
-        let text = "all Länder have the same people; the statute of 2013 splits the house by them";
-        let text = String::from_str(alloc, text)?;
-        warn(alloc, sheet, "people", text)?;
+    if !are_people_equal(returns) {
+        return Ok(());
     }
-    Ok(())
+    let text = "all Länder have the same people; the statute of 2013 splits the house by them";
+    warn(alloc, sheet, "people", String::from_str(alloc, text))
+}
+
+// Warns of a Land without winners.
+fn warn_of_land(
+    alloc: Global,
+    sheet: &mut Sheet,
+    naming: &Naming<'_>,
+    land: usize,
+) -> Result<(), NoMemory> {
+    let name = naming.land(alloc, land)?;
+    let text = format!(in alloc; "no constituency of {name} has a winner");
+    warn(alloc, sheet, "land_without_winners", text)
 }
 
 // Warns of Länder without winners, where others have some.
@@ -53,25 +72,23 @@ fn warn_of_lands(alloc: Global, sheet: &mut Sheet, naming: &Naming<'_>) -> Resul
     }
     for land in 0..naming.returns.lands() {
         if winners_in(naming.returns, land) == 0 {
-            let name = naming.land(alloc, land)?;
-            let text = format!(in alloc; "no constituency of {name} has a winner")?;
-            warn(alloc, sheet, "land_without_winners", text)?;
+            warn_of_land(alloc, sheet, naming, land)?;
         }
     }
     Ok(())
 }
 
-// Whether a party has a list.
-fn has_lists(returns: &Returns, party: usize) -> bool {
-    if party >= returns.parties() {
-        return false;
-    }
-    for land in 0..returns.lands() {
-        if returns.is_list(land, party) {
-            return true;
-        }
-    }
-    false
+// Warns of a party without lists that has so many winners.
+fn warn_of_party(
+    alloc: Global,
+    sheet: &mut Sheet,
+    naming: &Naming<'_>,
+    party: usize,
+    winners: u64,
+) -> Result<(), NoMemory> {
+    let name = naming.party(alloc, party)?;
+    let text = format!(in alloc; "{name} has {winners} winners and no list");
+    warn(alloc, sheet, "winners_without_list", text)
 }
 
 // Warns of parties with winners and without lists.
@@ -82,11 +99,8 @@ fn warn_of_parties(
     parts: &[PartyPart],
 ) -> Result<(), NoMemory> {
     for (party, part) in parts.iter().enumerate() {
-        if part.winners > 0 && !has_lists(naming.returns, party) {
-            let name = naming.party(alloc, party)?;
-            let winners = part.winners;
-            let text = format!(in alloc; "{name} has {winners} winners and no list")?;
-            warn(alloc, sheet, "winners_without_list", text)?;
+        if part.winners > 0 && lists_of(naming.returns, party) == 0 {
+            warn_of_party(alloc, sheet, naming, party, part.winners)?;
         }
     }
     Ok(())
@@ -94,15 +108,15 @@ fn warn_of_parties(
 
 // Whether a lot counts at a stage of the book, or at its last clause.
 fn is_used(book: &Book, lot: &Lot) -> bool {
-    if lot.stage.as_bytes() == b"seats".as_slice() {
-        return true;
-    }
-    for stage in &book.stages {
-        if stage.name.as_bytes() == lot.stage.as_bytes() {
-            return true;
-        }
-    }
-    false
+    let stage = lot.stage.as_bytes();
+    stage == b"seats".as_slice() || stage_number(book, stage).is_some()
+}
+
+// Warns of a lot that names no stage of the book.
+fn warn_of_lot(alloc: Global, sheet: &mut Sheet, lot: &Lot) -> Result<(), NoMemory> {
+    let stage = std::str::from_utf8(lot.stage.as_bytes()).unwrap_or("");
+    let text = format!(in alloc; "a lot names {stage}, which is no stage of the rulebook");
+    warn(alloc, sheet, "lot_unused", text)
 }
 
 fn warn_of_lots(
@@ -113,12 +127,7 @@ fn warn_of_lots(
 ) -> Result<(), NoMemory> {
     for lot in returns.lots() {
         if !is_used(book, lot) {
-            let stage = match std::str::from_utf8(lot.stage.as_bytes()) {
-                Ok(stage) => stage,
-                Err(_) => "",
-            };
-            let text = format!(in alloc; "a lot names {stage}, which is no stage of the rulebook")?;
-            warn(alloc, sheet, "lot_unused", text)?;
+            warn_of_lot(alloc, sheet, lot)?;
         }
     }
     Ok(())
@@ -130,16 +139,16 @@ fn warn_of_house(
     book: &Book,
     returns: &Returns,
 ) -> Result<(), NoMemory> {
-    if let Some(house) = returns.house() {
-        let own = book.house.value;
-        if house != own {
+    let own = book.house.value;
+    match returns.house() {
+        Some(house) if house != own => {
             let text = format!(in alloc;
                 "the returns have a house of {house}, the rulebook of {own}"
-            )?;
-            warn(alloc, sheet, "house", text)?;
+            );
+            warn(alloc, sheet, "house", text)
         }
+        _ => Ok(()),
     }
-    Ok(())
 }
 
 // Whether a book has a threshold of votes.
@@ -159,13 +168,42 @@ fn warn_of_threshold(
     returns: &Returns,
 ) -> Result<(), NoMemory> {
     let parties = returns.parties();
-    if parties < FEW_PARTIES && has_threshold(book) {
-        let text = format!(in alloc;
-            "{parties} parties alone: a threshold needs the votes of all parties"
-        )?;
-        warn(alloc, sheet, "few_parties", text)?;
+    if parties >= FEW_PARTIES || !has_threshold(book) {
+        return Ok(());
     }
-    Ok(())
+    let text = format!(in alloc;
+        "{parties} parties alone: a threshold needs the votes of all parties"
+    );
+    warn(alloc, sheet, "few_parties", text)
+}
+
+// Warns of what is likely a mistake in the returns and the book together.
+fn warn_of_book(
+    alloc: Global,
+    sheet: &mut Sheet,
+    book: &Book,
+    returns: &Returns,
+) -> Result<(), NoMemory> {
+    warn_of_lots(alloc, sheet, book, returns)?;
+    warn_of_house(alloc, sheet, book, returns)?;
+    warn_of_threshold(alloc, sheet, book, returns)
+}
+
+// Adds all warnings.
+fn push_warnings(
+    alloc: Global,
+    sheet: &mut Sheet,
+    book: Option<&Book>,
+    naming: &Naming<'_>,
+    parts: &[PartyPart],
+) -> Result<(), NoMemory> {
+    warn_of_people(alloc, sheet, naming.returns)?;
+    warn_of_lands(alloc, sheet, naming)?;
+    warn_of_parties(alloc, sheet, naming, parts)?;
+    match book {
+        Some(book) => warn_of_book(alloc, sheet, book, naming.returns),
+        None => Ok(()),
+    }
 }
 
 /// What is likely a mistake in the returns, and with a book, in the two together.
@@ -175,15 +213,7 @@ pub(crate) fn warnings_sheet(
     naming: &Naming<'_>,
     parts: &[PartyPart],
 ) -> Result<Sheet, NoMemory> {
-    let title = String::from_str(alloc, "Warnings")?;
-    let mut sheet = Sheet::new(alloc, "warnings", title, &WARNINGS)?;
-    warn_of_people(alloc, &mut sheet, naming.returns)?;
-    warn_of_lands(alloc, &mut sheet, naming)?;
-    warn_of_parties(alloc, &mut sheet, naming, parts)?;
-    if let Some(book) = book {
-        warn_of_lots(alloc, &mut sheet, book, naming.returns)?;
-        warn_of_house(alloc, &mut sheet, book, naming.returns)?;
-        warn_of_threshold(alloc, &mut sheet, book, naming.returns)?;
-    }
+    let mut sheet = titled(alloc, "warnings", "Warnings", &WARNINGS)?;
+    push_warnings(alloc, &mut sheet, book, naming, parts)?;
     Ok(sheet)
 }

@@ -1,8 +1,8 @@
 //! The words of the command line.
 
-use crate::help::{COMMANDS, Form, PROGRAM, SAME_FILE, VERSION};
-use crate::options::{Options, options_of, with_options};
-use crate::reports::{Report, ReportForm, report_commands, reporting};
+use crate::help::{COMMANDS, Form, Given, PROGRAM, SAME_FILE, VERSION, Word};
+use crate::options::{Options, options_of};
+use crate::reports::{Report, ReportForm, form_of, report_of};
 use clap::error::ErrorKind;
 use clap::{Arg, ArgAction, ArgMatches, Command, Error};
 use std::alloc::{AllocError, Global};
@@ -70,30 +70,64 @@ impl Request<'_> {
     }
 }
 
-// A command with its help and its words, each of which must be given.
-pub(crate) fn command_of<'a>(alloc: Global, form: &Form) -> Result<Command<'a>, AllocError> {
+// A word that is given by its name.
+fn named<'a>(arg: Arg<'a>, word: &Word, action: ArgAction) -> Arg<'a> {
+    arg.long(word.name).action(action)
+}
+
+// A word of a command, with its help.
+fn arg_of<'a>(alloc: Global, word: &Word) -> Result<Arg<'a>, AllocError> {
+    let arg = Arg::new(alloc, word.name).help(word.help);
+    match word.given {
+        Given::Flag(against) => named(arg, word, ArgAction::SetTrue).conflicts_with_all(against),
+        Given::Letter(letter) => Ok(named(arg, word, ArgAction::SetTrue).short(letter)),
+        Given::Value(value) => Ok(named(arg, word, ArgAction::Set).value_name(value)),
+        Given::Choice(value, values) => {
+            let arg = named(arg, word, ArgAction::Set).value_name(value);
+            Ok(arg.value_parser(values))
+        }
+        Given::Repeated => Ok(arg.action(ArgAction::Append).num_args(0..)),
+        Given::Optional => Ok(arg.action(ArgAction::Set)),
+        Given::Needed => Ok(arg.action(ArgAction::Set).required(true)),
+    }
+}
+
+// The command with one more word.
+fn with_word<'a>(
+    alloc: Global,
+    command: Command<'a>,
+    word: &Word,
+) -> Result<Command<'a>, AllocError> {
+    command.arg(arg_of(alloc, word)?)
+}
+
+// A command with its words and its help.
+fn command_of<'a>(alloc: Global, form: &Form) -> Result<Command<'a>, AllocError> {
     let mut command = Command::new(alloc, form.name)
         .about(form.about)
         .after_help(form.more);
-    for (word, help) in form.words {
-        let arg = Arg::new(alloc, word)
-            .required(true)
-            .action(ArgAction::Set)
-            .help(help);
-        command = command.arg(arg)?;
+    for word in form.words.iter().chain(form.options) {
+        command = with_word(alloc, command, word)?;
     }
     Ok(command)
 }
 
+// The program with one more command.
+fn with_command<'a>(
+    alloc: Global,
+    program: Command<'a>,
+    form: &Form,
+) -> Result<Command<'a>, AllocError> {
+    program.subcommand(command_of(alloc, form)?)
+}
+
+// The program with all its commands.
 fn program<'a>(alloc: Global) -> Result<Command<'a>, AllocError> {
-    let mut program = command_of(alloc, &PROGRAM)?
-        .version(VERSION)
-        .subcommand_required(true);
+    let mut program = command_of(alloc, &PROGRAM)?;
     for form in &COMMANDS {
-        let command = with_options(alloc, command_of(alloc, form)?)?;
-        program = program.subcommand(command)?;
+        program = with_command(alloc, program, form)?;
     }
-    report_commands(alloc, program)
+    Ok(program.version(VERSION).subcommand_required(true))
 }
 
 fn counting<'a>(show: Show<'a>, given: &ArgMatches<'a>) -> Option<Request<'a>> {
@@ -118,18 +152,6 @@ fn running<'a>(given: &ArgMatches<'a>) -> Option<Request<'a>> {
     Some(Request::Run { code, returns })
 }
 
-// What a command asks for with the words given to it.
-fn request_by<'a>(
-    alloc: Global,
-    command: &str,
-    given: &ArgMatches<'a>,
-) -> Result<Option<Request<'a>>, AllocError> {
-    if let Some(request) = reporting(alloc, command, given)? {
-        return Ok(Some(request));
-    }
-    Ok(desk_request(command, given))
-}
-
 // What a command of the desk asks for.
 fn desk_request<'a>(command: &str, given: &ArgMatches<'a>) -> Option<Request<'a>> {
     match command {
@@ -148,6 +170,47 @@ fn desk_request<'a>(command: &str, given: &ArgMatches<'a>) -> Option<Request<'a>
     }
 }
 
+// What a command asks for with the words given to it.
+fn request_by<'a>(
+    alloc: Global,
+    command: &str,
+    given: &ArgMatches<'a>,
+) -> Result<Option<Request<'a>>, AllocError> {
+    Ok(match report_of(alloc, command, given)? {
+        Some(what) => Some(Request::Report {
+            what,
+            form: form_of(given),
+            names: given.get_str("names"),
+        }),
+        None => desk_request(command, given),
+    })
+}
+
+// What the words ask for, if a command is among them.
+fn asked_in<'a>(alloc: Global, matches: &ArgMatches<'a>) -> Result<Option<Asked<'a>>, AllocError> {
+    let Some((command, given)) = matches.subcommand() else {
+        return Ok(None);
+    };
+    let request = request_by(alloc, command, given)?;
+    Ok(request.map(|request| Asked {
+        request,
+        options: options_of(given),
+    }))
+}
+
+// The request, unless it would empty the rulebook that it reads.
+fn judged<'a>(
+    program: &mut Command<'_>,
+    asked: Option<Asked<'a>>,
+) -> Result<Option<Asked<'a>>, Error> {
+    match asked {
+        Some(asked) if asked.request.overwrites_its_book() => {
+            Err(program.error(ErrorKind::ArgumentConflict, SAME_FILE)?)
+        }
+        asked => Ok(asked),
+    }
+}
+
 /// What these words ask for, of which the first is the program's name; `None` where no command is among them.
 ///
 /// # Errors
@@ -156,15 +219,6 @@ fn desk_request<'a>(command: &str, given: &ArgMatches<'a>) -> Option<Request<'a>
 pub fn request_of<'a>(alloc: Global, words: &'a [String]) -> Result<Option<Asked<'a>>, Error> {
     let mut program = program(alloc)?;
     let matches = program.try_get_matches_from_mut(words)?;
-    let Some((command, given)) = matches.subcommand() else {
-        return Ok(None);
-    };
-    let Some(request) = request_by(alloc, command, given)? else {
-        return Ok(None);
-    };
-    if request.overwrites_its_book() {
-        return Err(program.error(ErrorKind::ArgumentConflict, SAME_FILE)?);
-    }
-    let options = options_of(given);
-    Ok(Some(Asked { request, options }))
+    let asked = asked_in(alloc, &matches)?;
+    judged(&mut program, asked)
 }

@@ -1,4 +1,4 @@
-//! The texts of the help: of each command its words, what it reads and writes, an example, and the exit statuses.
+//! The commands as a table: of each its words and options, what it reads and writes, an example, and the exit statuses.
 
 /// The program's name and version, as `--version` gives them.
 pub const VERSION: &str = "1.0.0";
@@ -7,11 +7,37 @@ pub const VERSION: &str = "1.0.0";
 pub const SAME_FILE: &str =
     "BOOK and OUT are one file, which would be emptied before it is read: write the code to another";
 
-/// A command: its name, what it does in a line, its words, each with what it stands for, and the end of its help.
+/// How a word is given to a command.
+pub enum Given {
+    /// In its place, and it has to be there.
+    Needed,
+    /// In its place, or left out.
+    Optional,
+    /// In its place, any number of times.
+    Repeated,
+    /// By its name, and not beside these.
+    Flag(&'static [&'static str]),
+    /// By its name or by a letter.
+    Letter(char),
+    /// By its name, with a value that the help calls so.
+    Value(&'static str),
+    /// By its name, with one of these values.
+    Choice(&'static str, &'static [&'static str]),
+}
+
+/// A word of a command: its name, how it is given, and what it stands for.
+pub struct Word {
+    pub name: &'static str,
+    pub given: Given,
+    pub help: &'static str,
+}
+
+/// A command: its name, what it does in a line, its words, its options, and the end of its help.
 pub struct Form {
     pub name: &'static str,
     pub about: &'static str,
-    pub words: &'static [(&'static str, &'static str)],
+    pub words: &'static [Word],
+    pub options: &'static [Word],
     pub more: &'static str,
 }
 
@@ -33,21 +59,94 @@ macro_rules! ending {
     };
 }
 
-const BOOK: (&str, &str) = (
-    "BOOK",
-    "The rulebook: a path, or @NAME for one of the library",
-);
+const BOOK: Word = Word {
+    name: "BOOK",
+    given: Given::Needed,
+    help: "The rulebook: a path, or @NAME for one of the library",
+};
 
-const RETURNS: (&str, &str) = (
-    "RETURNS",
-    "The returns, the numbers of an election: the path of a CSV file",
-);
+const OPTIONAL_BOOK: Word = Word {
+    given: Given::Optional,
+    ..BOOK
+};
+
+const BOOKS: Word = Word {
+    name: "BOOK",
+    given: Given::Repeated,
+    help: "Rulebooks: paths, or @NAME for one of the library",
+};
+
+const RETURNS: Word = Word {
+    name: "RETURNS",
+    given: Given::Needed,
+    help: "The returns, the numbers of an election: the path of a CSV file",
+};
+
+const STAGE_NAME: Word = Word {
+    name: "NAME",
+    given: Given::Needed,
+    help: "The name of a stage of the rulebook: the word after `stage`",
+};
+
+const OUT: Word = Word {
+    name: "OUT",
+    given: Given::Needed,
+    help: "The code file to write: a path, whose file is made or emptied first",
+};
+
+const CODE_FILE: Word = Word {
+    name: "CODE",
+    given: Given::Needed,
+    help: "The code file, as `code` writes it: a path",
+};
+
+const STATUTE: Word = Word {
+    name: "NAME",
+    given: Given::Needed,
+    help: "1956, 1985, 2008, 2013, 2023 or 2023-order",
+};
+
+const JSON: Word = Word {
+    name: "json",
+    given: Given::Flag(&[]),
+    help: "Write JSON (docs/report.md)",
+};
+
+const CSV: Word = Word {
+    name: "csv",
+    given: Given::Flag(&["json"]),
+    help: "Write comma-separated values",
+};
+
+const NAMES: Word = Word {
+    name: "names",
+    given: Given::Value("FILE"),
+    help: "Full names: the path of a CSV file of short and full ones",
+};
+
+const QUIET: Word = Word {
+    name: "quiet",
+    given: Given::Letter('q'),
+    help: "Leaves explanations on standard error away",
+};
+
+const LANGUAGE: Word = Word {
+    name: "lang",
+    given: Given::Choice("LANGUAGE", &["de", "en"]),
+    help: "The language of explanations, else that of the environment",
+};
+
+// The options of every command, and those of a command that reports.
+const OPTIONS: [Word; 2] = [QUIET, LANGUAGE];
+
+const REPORT_OPTIONS: [Word; 5] = [JSON, CSV, NAMES, QUIET, LANGUAGE];
 
 /// The program itself, whose words are the commands.
 pub const PROGRAM: Form = Form {
     name: "seatlaw",
     about: "Seat tables of the Bundestag by a rulebook and returns",
     words: &[],
+    options: &[],
     more: ending!(
         "Each command reads files and writes to standard output; `seatlaw help COMMAND` says more.",
         "count @2023 returns.csv"
@@ -58,6 +157,7 @@ const COUNT: Form = Form {
     name: "count",
     about: "Counts an election and writes its seat table",
     words: &[BOOK, RETURNS],
+    options: &OPTIONS,
     more: ending!(
         "Reads a rulebook and returns. Writes the seats in all, of each party and of each list,\n\
          how many of them constituency winners fill, the seats that stay vacant, and the winners\n\
@@ -70,6 +170,7 @@ const STEPS: Form = Form {
     name: "steps",
     about: "Counts an election and writes the step that won each seat, then its seat table",
     words: &[BOOK, RETURNS],
+    options: &OPTIONS,
     more: ending!(
         "Reads a rulebook and returns. Writes a line for each seat of a distribution, with the\n\
          step in which it was won and the quotient or remainder that won it; then the bounds\n\
@@ -82,14 +183,8 @@ const STEPS: Form = Form {
 const STAGE: Form = Form {
     name: "stage",
     about: "Counts an election and writes the numbers of one stage",
-    words: &[
-        BOOK,
-        RETURNS,
-        (
-            "NAME",
-            "The name of a stage of the rulebook: the word after `stage`",
-        ),
-    ],
+    words: &[BOOK, RETURNS, STAGE_NAME],
+    options: &OPTIONS,
     more: ending!(
         "Reads a rulebook and returns. Writes a line for each party, Land or list with its number\n\
          in the column of that stage, or one line for a stage that is a single number; or else\n\
@@ -102,6 +197,7 @@ const CHECK: Form = Form {
     name: "check",
     about: "Checks a rulebook and writes a line about it",
     words: &[BOOK],
+    options: &OPTIONS,
     more: ending!(
         "Reads a rulebook. Writes its version, its house, the number of its stages and the name\n\
          of its law.",
@@ -112,13 +208,8 @@ const CHECK: Form = Form {
 const CODE: Form = Form {
     name: "code",
     about: "Compiles a rulebook to a code file and writes the listing of the code",
-    words: &[
-        BOOK,
-        (
-            "OUT",
-            "The code file to write: a path, whose file is made or emptied first",
-        ),
-    ],
+    words: &[BOOK, OUT],
+    options: &OPTIONS,
     more: ending!(
         "Reads a rulebook. Writes its counting code to the file OUT, and then a line for each\n\
          instruction. OUT is emptied before BOOK is read, so it must be another file; it stays\n\
@@ -130,10 +221,8 @@ const CODE: Form = Form {
 const RUN: Form = Form {
     name: "run",
     about: "Runs a code file on returns and writes the seat table",
-    words: &[
-        ("CODE", "The code file, as `code` writes it: a path"),
-        RETURNS,
-    ],
+    words: &[CODE_FILE, RETURNS],
+    options: &OPTIONS,
     more: ending!(
         "Reads a code file and returns. Writes what `count` writes for the rulebook behind the\n\
          code: its seat table, or else the line of a legal fault.",
@@ -144,7 +233,8 @@ const RUN: Form = Form {
 const LAW: Form = Form {
     name: "law",
     about: "Writes a rulebook of the library",
-    words: &[("NAME", "1956, 1985, 2008, 2013, 2023 or 2023-order")],
+    words: &[STATUTE],
+    options: &OPTIONS,
     more: ending!(
         "Reads no file. Writes the text of the rulebook, from which one of your own may start.",
         "law 2023"
@@ -155,6 +245,7 @@ const REPORT: Form = Form {
     name: "report",
     about: "Counts an election and writes all of it as tables that people read",
     words: &[BOOK, RETURNS],
+    options: &REPORT_OPTIONS,
     more: ending!(
         "Reads a rulebook and returns. Writes who takes part and why; the seats of parties and\n\
          lists; for each distribution a divisor, the quotients, the last seat, the next claim and\n\
@@ -167,6 +258,7 @@ const STAGES: Form = Form {
     name: "stages",
     about: "Counts an election and writes the numbers of all stages",
     words: &[BOOK, RETURNS],
+    options: &REPORT_OPTIONS,
     more: ending!(
         "Reads a rulebook and returns. Writes a line for each stage with its shape, its unit and\n\
          its sum, and then the column of each.",
@@ -177,7 +269,8 @@ const STAGES: Form = Form {
 const TOTALS: Form = Form {
     name: "totals",
     about: "Writes the sums of returns, and warnings of what is likely a mistake",
-    words: &[RETURNS],
+    words: &[RETURNS, OPTIONAL_BOOK],
+    options: &REPORT_OPTIONS,
     more: ending!(
         "Reads returns, and a rulebook if one is given. Writes the votes and winners in all, by\n\
          party and by Land; with a rulebook who takes part, and what the others lack for it.\n\
@@ -189,7 +282,8 @@ const TOTALS: Form = Form {
 const COMPARE: Form = Form {
     name: "compare",
     about: "Counts an election by several rulebooks and writes the seats side by side",
-    words: &[RETURNS],
+    words: &[RETURNS, BOOKS],
+    options: &REPORT_OPTIONS,
     more: ending!(
         "Reads returns and rulebooks; without one, the six statutes of the library. Writes the\n\
          seats of each party by each of them, and the first stage in which they differ from the\n\
@@ -198,11 +292,7 @@ const COMPARE: Form = Form {
     ),
 };
 
-/// The commands that report on one count.
-pub const COUNT_REPORTS: [Form; 2] = [REPORT, STAGES];
-
-/// The commands that report on returns: with one rulebook or none, and with any number of them.
-pub const RETURNS_REPORTS: [Form; 2] = [TOTALS, COMPARE];
-
 /// The commands, in the order in which the help lists them.
-pub const COMMANDS: [Form; 7] = [COUNT, STEPS, STAGE, CHECK, CODE, RUN, LAW];
+pub const COMMANDS: [Form; 11] = [
+    COUNT, STEPS, STAGE, CHECK, CODE, RUN, LAW, REPORT, STAGES, TOTALS, COMPARE,
+];

@@ -1,9 +1,6 @@
 //! The words of the commands that report.
 
-use crate::command_line::{Request, command_of};
-use crate::help::{COUNT_REPORTS, Form, RETURNS_REPORTS};
-use crate::options::with_options;
-use clap::{Arg, ArgAction, ArgMatches, Command};
+use clap::ArgMatches;
 use std::alloc::{AllocError, Global};
 
 /// What is reported.
@@ -39,58 +36,8 @@ pub enum ReportForm {
     Comma,
 }
 
-// A flag.
-fn flag<'a>(alloc: Global, name: &'a str, help: &'a str) -> Arg<'a> {
-    Arg::new(alloc, name)
-        .long(name)
-        .action(ArgAction::SetTrue)
-        .help(help)
-}
-
-// A command that reports, with its options and those of every command.
-fn report_command<'a>(alloc: Global, form: &Form) -> Result<Command<'a>, AllocError> {
-    let json = flag(alloc, "json", "Write JSON (docs/report.md)");
-    let csv = flag(alloc, "csv", "Write comma-separated values").conflicts_with("json")?;
-    let names = Arg::new(alloc, "names")
-        .long("names")
-        .value_name("FILE")
-        .action(ArgAction::Set)
-        .help("Full names: the path of a CSV file of short and full ones");
-    let command = command_of(alloc, form)?;
-    with_options(alloc, command.arg(json)?.arg(csv)?.arg(names)?)
-}
-
-// The rulebooks that a command may be given behind its returns.
-fn books<'a>(alloc: Global, many: bool) -> Arg<'a> {
-    let book = Arg::new(alloc, "BOOK");
-    if many {
-        book.action(ArgAction::Append)
-            .num_args(0..)
-            .help("Rulebooks: paths, or @NAME for one of the library")
-    } else {
-        book.action(ArgAction::Set)
-            .help("The rulebook: a path, or @NAME for one of the library")
-    }
-}
-
-/// Adds the commands that report.
-pub(crate) fn report_commands<'a>(
-    alloc: Global,
-    program: Command<'a>,
-) -> Result<Command<'a>, AllocError> {
-    let mut program = program;
-    for form in &COUNT_REPORTS {
-        program = program.subcommand(report_command(alloc, form)?)?;
-    }
-    for form in &RETURNS_REPORTS {
-        let command = report_command(alloc, form)?;
-        let many = form.name == "compare";
-        program = program.subcommand(command.arg(books(alloc, many))?)?;
-    }
-    Ok(program)
-}
-
-fn form_of(given: &ArgMatches<'_>) -> ReportForm {
+/// The form that is asked for.
+pub(crate) fn form_of(given: &ArgMatches<'_>) -> ReportForm {
     if given.get_flag("json") {
         ReportForm::Json
     } else if given.get_flag("csv") {
@@ -108,8 +55,8 @@ fn given_books<'a>(alloc: Global, given: &ArgMatches<'a>) -> Result<Vec<&'a str>
     }
 }
 
-// What a command reports with the words given to it.
-fn report_of<'a>(
+/// What a command reports with the words given to it; `None` for one that does not report.
+pub(crate) fn report_of<'a>(
     alloc: Global,
     command: &str,
     given: &ArgMatches<'a>,
@@ -128,33 +75,4 @@ fn report_of<'a>(
         }
         _ => None,
     })
-}
-
-// Whether a command is one that reports.
-fn is_report(command: &str) -> bool {
-    for form in COUNT_REPORTS.iter().chain(RETURNS_REPORTS.iter()) {
-        if form.name == command {
-            return true;
-        }
-    }
-    false
-}
-
-/// What a command that reports asks for with the words given to it; `None` for another command.
-pub(crate) fn reporting<'a>(
-    alloc: Global,
-    command: &str,
-    given: &ArgMatches<'a>,
-) -> Result<Option<Request<'a>>, AllocError> {
-    if !is_report(command) {
-        return Ok(None);
-    }
-    match report_of(alloc, command, given)? {
-        Some(what) => Ok(Some(Request::Report {
-            what,
-            form: form_of(given),
-            names: given.get_str("names"),
-        })),
-        None => Ok(None),
-    }
 }

@@ -1,7 +1,6 @@
 //! Returns that are refused, each with the number of its fault and its row.
 
 use super::*;
-use std::alloc::AllocError;
 use std::process::Abort;
 
 // The number and the row of a fault, 0 where there is none.
@@ -12,14 +11,15 @@ fn number_and_row(fault: Option<ReturnsFault>) -> (u32, u32) {
     }
 }
 
+// Those of the fault of a text's returns.
+fn fault_in(alloc: Global, text: &str) -> (u32, u32) {
+    number_and_row(read_returns(alloc, text.as_bytes()).err())
+}
+
 // Asserts that the returns of each text have this fault.
 fn assert_faults(rt: &impl Abort, alloc: Global, faults: &[(&str, (u32, u32))]) {
     for (text, fault) in faults {
-        assert_eq!(rt;
-            number_and_row(returns_in(alloc, text).err()),
-            *fault,
-            "{text}"
-        );
+        assert_eq!(rt; fault_in(alloc, text), *fault, "{text}");
     }
 }
 
@@ -57,12 +57,10 @@ fn the_first_fault(rt: HostRuntime) {
 const KNOWN: &str =
     ",land,party,a,b,c\nland,X,,1,,\nparty,,A,0,,\nlist,X,A,9,9,\nwin,X,A,w1,5,9\nlot,X,,s,,\n";
 
-// A text with these records after the known ones, the first of which has row 7.
-fn text_after(alloc: Global, header: &str, records: &str) -> Result<String, AllocError> {
-    let mut text = String::from_str(alloc, header)?;
-    text.push_str(KNOWN)?;
-    text.push_str(records)?;
-    Ok(text)
+// The fault of a text with these records after the known ones, the first of which has row 7.
+fn fault_after(alloc: Global, header: &str, records: &str) -> Result<(u32, u32), AllocError> {
+    let text = [header, KNOWN, records].concat(alloc)?;
+    Ok(fault_in(alloc, &text))
 }
 
 // Asserts that the returns of the known records have this fault with each of these records after them.
@@ -73,12 +71,7 @@ fn assert_faults_after(
     faults: &[(&str, (u32, u32))],
 ) -> Result<(), AllocError> {
     for (records, fault) in faults {
-        let text = text_after(alloc, header, records)?;
-        assert_eq!(rt;
-            number_and_row(returns_in(alloc, &text).err()),
-            *fault,
-            "{records}"
-        );
+        assert_eq!(rt; fault_after(alloc, header, records)?, *fault, "{records}");
     }
     Ok(())
 }
@@ -191,33 +184,42 @@ fn a_lot_is_tested_in_order(rt: HostRuntime) -> Result<(), Fail> {
 
 #[test]
 fn no_more_lands_than_the_limit_are_taken(rt: HostRuntime) -> Result<(), Fail> {
-    let mut lands = String::from_str(rt.alloc(), "kind,land,party,a,b,c\n")?;
-    for n in 1..66 {
-        write!(lands, "land,L{n},,1,,\n")?;
-    }
-    assert_eq!(rt;
-        number_and_row(returns_in(rt.alloc(), &lands).err()),
-        (10, 66)
-    );
+    let text = header_and_lands(rt.alloc(), 65, 1)?;
+    assert_eq!(rt; fault_in(rt.alloc(), &text), (10, 66));
     Ok(())
 }
 
-// The number and the row of the fault that a builder answers to a record, 0 where there is none.
-fn fed(builder: &mut ReturnsBuilder, record: &ByteRecord) -> (u32, u32) {
-    number_and_row(builder.feed(record).err())
+const HEADER: [&[u8]; 6] = [b"kind", b"land", b"party", b"a", b"b", b"c"];
+
+const LAND: [&[u8]; 6] = [b"land", b"X", b"", b"1", b"", b""];
+
+// Records, each with the number and the row of the fault that a builder answers to it.
+const FED: [(&[&[u8]], (u32, u32)); 4] = [
+    (&HEADER, (0, 0)),
+    (&LAND, (0, 0)),
+    (&LAND, (8, 3)),
+    (&HEADER, (8, 3)),
+];
+
+// The answer of a builder to a record of these fields.
+fn fed(
+    alloc: Global,
+    builder: &mut ReturnsBuilder,
+    fields: &[&[u8]],
+) -> Result<(u32, u32), AllocError> {
+    let record = ByteRecord::from_fields(alloc, fields)?;
+    Ok(number_and_row(builder.feed(&record).err()))
+}
+
+fn assert_fed(rt: &impl Abort, alloc: Global, builder: &mut ReturnsBuilder) {
+    for (fields, fault) in &FED {
+        assert_eq!(rt; fed(alloc, builder, fields).ok(), Some(*fault));
+    }
 }
 
 #[test]
-fn a_refusal_is_final(rt: HostRuntime) -> Result<(), Fail> {
-    let header: [&[u8]; 6] = [b"kind", b"land", b"party", b"a", b"b", b"c"];
-    let header = ByteRecord::from_fields(rt.alloc(), &header)?;
-    let land: [&[u8]; 6] = [b"land", b"X", b"", b"1", b"", b""];
-    let land = ByteRecord::from_fields(rt.alloc(), &land)?;
+fn a_refusal_is_final(rt: HostRuntime) {
     let mut builder = ReturnsBuilder::new(rt.alloc());
-    assert_eq!(rt; fed(&mut builder, &header), (0, 0));
-    assert_eq!(rt; fed(&mut builder, &land), (0, 0));
-    assert_eq!(rt; fed(&mut builder, &land), (8, 3));
-    assert_eq!(rt; fed(&mut builder, &header), (8, 3));
+    assert_fed(&rt, rt.alloc(), &mut builder);
     assert_eq!(rt; number_and_row(builder.finish().err()), (8, 3));
-    Ok(())
 }

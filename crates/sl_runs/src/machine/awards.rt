@@ -73,8 +73,8 @@ fn won(step: &SeatStep) -> Option<(Item, u64, u64, Ratio)> {
 }
 
 // Whether the first list won the first two seats, and the second list the third one.
-fn are_won(steps: &[SeatStep]) -> bool {
-    match steps {
+fn are_won(memory: &Memory) -> bool {
+    match memory.steps() {
         [first, second, third] => {
             won(first) == Some((Item::List(0, 0), 1, 1, Ratio::new(60, 1)))
                 && won(second) == Some((Item::List(0, 0), 2, 2, Ratio::new(60, 2)))
@@ -87,26 +87,22 @@ fn are_won(steps: &[SeatStep]) -> bool {
 
 #[test]
 fn three_seats(rt: HostRuntime) -> Result<(), Fail> {
-    let halted = held_of(rt.alloc(), &AWARDS, THREE_SEATS)?;
-    assert_eq!(rt; halted.base(), [2, 1].as_slice());
-    assert!(rt; are_won(halted.steps()));
+    assert_seats(&rt, rt.alloc(), &AWARDS, THREE_SEATS, &[2, 1])
+}
+
+#[test]
+fn quotients_of_three_seats(rt: HostRuntime) -> Result<(), Fail> {
+    assert!(rt; holds(rt.alloc(), &AWARDS, THREE_SEATS, are_won)?);
     Ok(())
 }
 
 #[test]
 fn a_lot_that_is_drawn(rt: HostRuntime) -> Result<(), Fail> {
-    let halted = held_of(rt.alloc(), &AWARDS, DRAWN)?;
-    assert_eq!(rt; halted.base(), [0, 1].as_slice());
-    Ok(())
+    assert_seats(&rt, rt.alloc(), &AWARDS, DRAWN, &[0, 1])
 }
 
 #[test]
 fn a_tie(rt: HostRuntime) -> Result<(), Fail> {
-    let (seats, names) = tie_of(rt.alloc(), AWARDS.concat(rt.alloc())?.as_slice(), TIED)?;
-    assert_eq!(rt; seats, 1);
-    assert_eq!(rt;
-        names.as_slice(),
-        [Item::List(0, 0), Item::List(0, 1)].as_slice()
-    );
-    Ok(())
+    let tied = [Item::List(0, 0), Item::List(0, 1)];
+    assert_tie(&rt, rt.alloc(), &AWARDS, TIED, &tied)
 }

@@ -1,6 +1,7 @@
 //! Codes that work out numbers, and take those of the returns.
 
 use super::*;
+use sl_stages::SeatStep;
 
 // A List slot. Registers 0 and 1 are 7 and 3, and each number that is worked out is recorded as that of a given seat of the first party.
 const ARITHMETIC: [&[u8]; 51] = [
@@ -100,29 +101,29 @@ const PEOPLE: [&[u8]; 18] = [
     b"\x2b\x00\x01", // 14 haltv 0 1
 ];
 
-// The numbers of the seats that such a code records.
-fn numbers_of(alloc: Global, code: &[&[u8]], text: &str) -> Result<Vec<u64>, Fail> {
-    let memory = held_of(alloc, code, text)?;
-    let mut numbers = Vec::new(alloc);
-    for step in memory.steps() {
-        numbers.push(step.n)?;
-    }
-    Ok(numbers)
+// Whether the seats that such a code records have these numbers.
+fn have_numbers(steps: &[SeatStep], numbers: &[u64]) -> bool {
+    steps.len() == numbers.len()
+        && steps
+            .iter()
+            .zip(numbers)
+            .all(|(step, number)| step.n == *number)
 }
 
 const HOUSE: &str = "kind,land,party,a,b,c\nhouse,,,598,,\nland,X,,1,,\nparty,,A,0,,\n";
 
 const NO_HOUSE: &str = "kind,land,party,a,b,c\nland,X,,1,,\nparty,,A,0,,\n";
 
+// Whether the numbers that are worked out are these, with this house.
+fn works_out(alloc: Global, text: &str, house: u64) -> Result<bool, Fail> {
+    let numbers = [10, u64::MAX, 4, 0, 21, u64::MAX, 2, 1, 7, 7, house, 1];
+    Ok(have_numbers(held(alloc, &ARITHMETIC, text)?.steps(), &numbers))
+}
+
 #[test]
 fn arithmetic(rt: HostRuntime) -> Result<(), Fail> {
-    for (text, house) in [(HOUSE, 598), (NO_HOUSE, 5)] {
-        let numbers = numbers_of(rt.alloc(), &ARITHMETIC, text)?;
-        assert_eq!(rt;
-            numbers.as_slice(),
-            [10, u64::MAX, 4, 0, 21, u64::MAX, 2, 1, 7, 7, house, 1].as_slice()
-        );
-    }
+    assert!(rt; works_out(rt.alloc(), HOUSE, 598)?);
+    assert!(rt; works_out(rt.alloc(), NO_HOUSE, 5)?);
     Ok(())
 }
 
@@ -132,22 +133,22 @@ const TWO_LISTS: &str =
 
 const NO_NUMBER: u64 = u64::MAX;
 
+// Codes, and what the slots with which they halt hold.
+const COLUMNS: [(&[&[u8]], [u64; 4], [u64; 4]); 3] = [
+    (&VOTES, [10, 0, 0, 5], [4, 0, 0, 3]),
+    (&NAMES, [7, NO_NUMBER, NO_NUMBER, NO_NUMBER], [0, 0, 0, 0]),
+    (&PEOPLE, [100, 100, 200, 200], [0, 1, 0, 1]),
+];
+
+fn are_columns(alloc: Global, code: &[&[u8]], base: &[u64], vacant: &[u64]) -> Result<bool, Fail> {
+    let memory = held(alloc, code, TWO_LISTS)?;
+    Ok(memory.base() == base && memory.vacant() == vacant)
+}
+
 #[test]
 fn columns_of_returns(rt: HostRuntime) -> Result<(), Fail> {
-    let alloc = rt.alloc();
-    let cases = [
-        (VOTES.concat(alloc)?, [10, 0, 0, 5], [4, 0, 0, 3]),
-        (
-            NAMES.concat(alloc)?,
-            [7, NO_NUMBER, NO_NUMBER, NO_NUMBER],
-            [0, 0, 0, 0],
-        ),
-        (PEOPLE.concat(alloc)?, [100, 100, 200, 200], [0, 1, 0, 1]),
-    ];
-    for (file, base, vacant) in cases {
-        let halted = held(alloc, file.as_slice(), TWO_LISTS)?;
-        assert_eq!(rt; halted.base(), base.as_slice());
-        assert_eq!(rt; halted.vacant(), vacant.as_slice());
+    for (code, base, vacant) in &COLUMNS {
+        assert!(rt; are_columns(rt.alloc(), code, base, vacant)?, "{base:?}");
     }
     Ok(())
 }

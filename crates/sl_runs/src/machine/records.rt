@@ -2,7 +2,7 @@
 
 use super::*;
 use sl_ratio::{Divisor, Ratio};
-use sl_stages::{Item, Mark, Scope};
+use sl_stages::{Item, Mark, Scope, SeatStep, Weight};
 
 // The stage `up`, and two List slots. Each list's votes are its remainder, and a list without votes leads. Each gets a seat, in this order.
 const REMAINDERS: [&[u8]; 31] = [
@@ -100,69 +100,87 @@ const WEIGHTS: [&[u8]; 14] = [
 const THREE_LISTS: &str =
     "kind,land,party,a,b,c\nland,X,,1,,\nparty,,A,0,,\nparty,,B,0,,\nparty,,C,0,,\nlist,X,A,20,20,\nlist,X,B,170,170,\nlist,X,C,0,0,\n";
 
-// A remainder, or none for the mark of an entry that leads; 0 and 1 for the other marks.
-fn remainder_of(mark: Mark) -> (u64, Option<u64>) {
-    match mark {
-        Mark::Rest(remainder) => (0, Some(remainder)),
-        Mark::Lead => (0, None),
-        _ => (1, None),
+// Whether a step gives the list of a party its first seat.
+fn gives(step: &SeatStep, party: usize) -> bool {
+    step.scope == Scope::List(0, party) && step.entry == Item::List(0, party) && step.n == 1
+}
+
+// Whether the lists without votes, with the greatest remainder and with the smallest one get a seat each.
+fn are_by_remainders(memory: &Memory) -> bool {
+    match memory.steps() {
+        [lead, greatest, smallest] => {
+            gives(lead, 2)
+                && matches!(lead.mark, Mark::Lead)
+                && gives(greatest, 1)
+                && matches!(greatest.mark, Mark::Rest(170))
+                && gives(smallest, 0)
+                && matches!(smallest.mark, Mark::Rest(20))
+        }
+        _ => false,
     }
 }
 
 #[test]
 fn seats_by_remainders(rt: HostRuntime) -> Result<(), Fail> {
-    let halted = held_of(rt.alloc(), &REMAINDERS, THREE_LISTS)?;
-    let steps = halted.steps();
-    let expected = [(2, (0, None)), (1, (0, Some(170))), (0, (0, Some(20)))];
-    assert_eq!(rt; steps.len(), expected.len());
-    for (step, (party, mark)) in steps.iter().zip(expected) {
-        assert_eq!(rt;
-            (step.scope, step.entry),
-            (Scope::List(0, party), Item::List(0, party))
-        );
-        assert_eq!(rt; (step.n, remainder_of(step.mark)), (1, mark));
-    }
+    assert!(rt; holds(rt.alloc(), &REMAINDERS, THREE_LISTS, are_by_remainders)?);
     Ok(())
+}
+
+// Whether a step gives the first party a seat with this quotient.
+fn is_won(step: &SeatStep, quotient: Ratio) -> bool {
+    step.scope == Scope::Party(0)
+        && step.entry == Item::Party(0)
+        && matches!(step.mark, Mark::Quotient(q) if q == quotient)
+}
+
+// Whether it wins a seat with each of six quotients.
+fn are_by_quotients(memory: &Memory) -> bool {
+    match memory.steps() {
+        [adams, dean, hill, webster, jefferson, last] => {
+            is_won(adams, Ratio::new(30, 2))
+                && is_won(dean, Ratio::new(150, 12))
+                && is_won(hill, Ratio::new(900, 6))
+                && is_won(webster, Ratio::new(60, 5))
+                && is_won(jefferson, Ratio::new(30, 3))
+                && is_won(last, Ratio::new(1_638_400_000_000, 4001))
+        }
+        _ => false,
+    }
 }
 
 #[test]
 fn seats_by_quotients(rt: HostRuntime) -> Result<(), Fail> {
-    let halted = held_of(rt.alloc(), &QUOTIENTS, ONE_LIST)?;
-    let steps = halted.steps();
-    let expected = [
-        Ratio::new(30, 2),
-        Ratio::new(150, 12),
-        Ratio::new(900, 6),
-        Ratio::new(60, 5),
-        Ratio::new(30, 3),
-        Ratio::new(1_638_400_000_000, 4001),
-    ];
-    assert_eq!(rt; steps.len(), expected.len());
-    for (step, quotient) in steps.iter().zip(expected) {
-        assert!(rt; matches!(step.mark, Mark::Quotient(q) if q == quotient));
-        assert_eq!(rt; (step.scope, step.entry), (Scope::Party(0), Item::Party(0)));
-    }
+    assert!(rt; holds(rt.alloc(), &QUOTIENTS, ONE_LIST, are_by_quotients)?);
     Ok(())
+}
+
+// Whether a weight is that of an entry in a scope, for this divisor.
+fn weighs(found: &Weight, scope: Scope, entry: Item, divisor: Divisor, weight: u64) -> bool {
+    (found.scope, found.entry) == (scope, entry)
+        && (found.divisor, found.weight) == (divisor, weight)
+}
+
+// Whether these are the weights of the Land, once in the whole and once in its own scope, and of the list.
+fn are_weights(memory: &Memory) -> bool {
+    let (land, list) = (Item::Land(0), Item::List(0, 0));
+    match memory.weights() {
+        [whole, own, last] => {
+            weighs(whole, Scope::All, land, Divisor::Adams, 30)
+                && weighs(own, Scope::Land(0), land, Divisor::Webster, 30)
+                && weighs(
+                    last,
+                    Scope::List(0, 0),
+                    list,
+                    Divisor::Jefferson,
+                    1_638_400_000_000,
+                )
+        }
+        _ => false,
+    }
 }
 
 #[test]
 fn weights(rt: HostRuntime) -> Result<(), Fail> {
-    let halted = held_of(rt.alloc(), &WEIGHTS, ONE_LIST)?;
-    let weights = halted.weights();
-    let expected = [
-        (Scope::All, Item::Land(0), Divisor::Adams, 30),
-        (Scope::Land(0), Item::Land(0), Divisor::Webster, 30),
-        (
-            Scope::List(0, 0),
-            Item::List(0, 0),
-            Divisor::Jefferson,
-            1_638_400_000_000,
-        ),
-    ];
-    assert_eq!(rt; weights.len(), expected.len());
-    for (found, (scope, entry, divisor, weight)) in weights.iter().zip(expected) {
-        assert_eq!(rt; (found.scope, found.entry), (scope, entry));
-        assert_eq!(rt; (found.divisor, found.weight), (divisor, weight));
-    }
+    assert!(rt; holds(rt.alloc(), &WEIGHTS, ONE_LIST, are_weights)?);
     Ok(())
 }

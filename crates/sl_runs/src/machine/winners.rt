@@ -67,9 +67,7 @@ const FOUR: &str =
 
 #[test]
 fn winners_and_lists(rt: HostRuntime) -> Result<(), Fail> {
-    let halted = held_of(rt.alloc(), &WINNERS, FOUR)?;
-    assert_eq!(rt; halted.base(), [1, 1, 1, 0].as_slice());
-    Ok(())
+    assert_seats(&rt, rt.alloc(), &WINNERS, FOUR, &[1, 1, 1, 0])
 }
 
 // Winners of three lists: with three shares; with two equal ones; and with a lot that names these two.
@@ -84,18 +82,12 @@ const DRAWN_SHARES: &str =
 
 #[test]
 fn greatest_shares(rt: HostRuntime) -> Result<(), Fail> {
-    for text in [THREE_SHARES, DRAWN_SHARES] {
-        let halted = held_of(rt.alloc(), &SHARES, text)?;
-        assert_eq!(rt; halted.base(), [1, 0, 1].as_slice());
-    }
-    Ok(())
+    assert_seats(&rt, rt.alloc(), &SHARES, THREE_SHARES, &[1, 0, 1])?;
+    assert_seats(&rt, rt.alloc(), &SHARES, DRAWN_SHARES, &[1, 0, 1])
 }
 
 #[test]
 fn equal_shares(rt: HostRuntime) -> Result<(), Fail> {
-    let file = SHARES.concat(rt.alloc())?;
-    let (seats, names) = tie_of(rt.alloc(), file.as_slice(), EQUAL_SHARES)?;
-    assert_eq!(rt; seats, 1);
-    assert_eq!(rt; names.as_slice(), [Item::Win(1), Item::Win(2)].as_slice());
-    Ok(())
+    let tied = [Item::Win(1), Item::Win(2)];
+    assert_tie(&rt, rt.alloc(), &SHARES, EQUAL_SHARES, &tied)
 }

@@ -1,0 +1,83 @@
+//! What to say of a name that there is not.
+
+use sl_explain::{Explanation, Message, Speaker};
+use sl_ratio::NoMemory;
+use sl_stages::Stage;
+
+/// The columns of the returns, as an expression names them.
+pub const COLUMNS: [&[u8]; 6] = [
+    b"house",
+    b"counted",
+    b"winners",
+    b"outside",
+    b"independents",
+    b"population",
+];
+
+/// Adds the question whether a name is meant that is near to a word, and where none is near, what else to do.
+///
+/// # Errors
+///
+/// Want of memory.
+pub fn help_nearest_or(
+    speaker: Speaker,
+    explanation: &mut Explanation,
+    word: &[u8],
+    names: &[&[u8]],
+    remedy: &Message,
+) -> Result<(), NoMemory> {
+    match speaker.helps_nearest(explanation, word, names) {
+        Ok(true) => Ok(()),
+        Ok(false) => speaker.helps(explanation, remedy, &[]),
+        Err(fault) => Err(fault),
+    }
+}
+
+/// Adds the question whether a name that is near to a word is meant: that of one of the stages, or one of some others.
+///
+/// # Errors
+///
+/// Want of memory.
+pub fn help_nearest_stage(
+    speaker: Speaker,
+    explanation: &mut Explanation,
+    word: &[u8],
+    stages: &[Stage],
+    others: &[&'static [u8]],
+) -> Result<(), NoMemory> {
+    let mut names: Vec<&[u8]> = Vec::new(speaker.alloc);
+    for stage in stages {
+        names.push(stage.name.as_bytes())?;
+    }
+    names.extend_from_slice(others)?;
+    speaker.helps_nearest(explanation, word, names.as_slice())?;
+    Ok(())
+}
+
+// The names of stages in a row, each in backquotes.
+fn listed_stages(speaker: Speaker, stages: &[Stage]) -> Result<Vec<u8>, NoMemory> {
+    let mut names = Vec::new(speaker.alloc);
+    for stage in stages {
+        names.push(speaker.quoted(stage.name.as_bytes())?)?;
+    }
+    speaker.all_of(names.as_slice())
+}
+
+/// Adds a sentence with the names of stages, or where there are none, another one.
+///
+/// # Errors
+///
+/// Want of memory.
+pub fn help_stages(
+    speaker: Speaker,
+    explanation: &mut Explanation,
+    stages: &[Stage],
+    some: &Message,
+    none: &Message,
+) -> Result<(), NoMemory> {
+    if stages.is_empty() {
+        return speaker.helps(explanation, none, &[]);
+    }
+    let names = listed_stages(speaker, stages)?;
+    speaker.helps(explanation, some, &[names.as_slice()])
+}
