@@ -7,7 +7,6 @@ use sl_code::{Input, Instr, Operand};
 use sl_ratio::{Divisor, Method, NoMemory};
 use sl_stages::{Majority, Shape};
 use std::alloc::{AllocError, Global};
-use std::test::*;
 
 // The slots of the seats, the votes, the result and the minima.
 const AMOUNT: u8 = 0;
@@ -53,25 +52,41 @@ const AT_LEAST: Job = Job {
     ..PLAIN
 };
 
-/// What stands before a block: so many seats, the counted votes, and the names left on the lists as minima.
-pub fn before(alloc: Global, seats: u64) -> Result<Vec<Instr>, AllocError>
-    ensures { IfOk result (λ code. vec_len code ≤ 199000) }
-{
-    Vec::from_slice(
-        alloc,
-        &[
-            Instr::Set(0, seats),
-            Instr::Store(AMOUNT, 0),
-            Instr::Input(VOTES, Input::Counted),
-            Instr::Input(MINIMA, Input::Names),
-        ],
-    )
+/// A block: a split without minima or with them, a growth by Webster's method up to a cap of 4000 seats at most, or a covering.
+#[derive(Clone, Copy)]
+pub enum Block {
+    Split(Method, Majority),
+    AtLeast(Divisor),
+    Growth(u32),
+    Covering,
 }
 
-/// Lays out the block of a split.
-///
-/// Without memory, the code is as it was.
-pub fn lay_split(code: &mut Vec<Instr>, method: Method, majority: Majority) -> Result<(), NoMemory>
+/// What stands before a block: so many seats, the counted votes, and the names left on the lists as minima. Before a covering these
+/// names are the seats of a list, and the parties of minorities take part.
+pub fn before(alloc: Global, seats: u64, block: Block) -> Result<Vec<Instr>, AllocError>
+    ensures { IfOk result (λ code. vec_len code ≤ 199000) }
+{
+    match block {
+        Block::Covering => Vec::from_slice(
+            alloc,
+            &[
+                Instr::Input(RESULT, Input::Names),
+                Instr::Input(ELIGIBLE, Input::Minority),
+            ],
+        ),
+        _ => Vec::from_slice(
+            alloc,
+            &[
+                Instr::Set(0, seats),
+                Instr::Store(AMOUNT, 0),
+                Instr::Input(VOTES, Input::Counted),
+                Instr::Input(MINIMA, Input::Names),
+            ],
+        ),
+    }
+}
+
+fn lay_split(code: &mut Vec<Instr>, method: Method, majority: Majority) -> Result<(), NoMemory>
     requires { vec_len code.old ≤ 199000 }
     ensures { OnErr result (code.new.items ≡ code.old.items) }
 {
@@ -79,31 +94,14 @@ pub fn lay_split(code: &mut Vec<Instr>, method: Method, majority: Majority) -> R
     split_block(code, &SLOTS, &job, method)
 }
 
-// The code of a split of so many seats.
-fn split(
-    alloc: Global,
-    seats: u64,
-    method: Method,
-    majority: Majority,
-) -> Result<Vec<Instr>, Fail> {
-    let mut code = before(alloc, seats)?;
-    lay_split(&mut code, method, majority)?;
-    code.push(HALT)?;
-    Ok(code)
+fn lay_at_least(code: &mut Vec<Instr>, divisor: Divisor) -> Result<(), NoMemory>
+    requires { vec_len code.old ≤ 199000 }
+    ensures { OnErr result (code.new.items ≡ code.old.items) }
+{
+    split_block(code, &SLOTS, &AT_LEAST, Method::Divisor(divisor))
 }
 
-// The same with minima.
-fn split_at_least(alloc: Global, seats: u64, divisor: Divisor) -> Result<Vec<Instr>, Fail> {
-    let mut code = before(alloc, seats)?;
-    split_block(&mut code, &SLOTS, &AT_LEAST, Method::Divisor(divisor))?;
-    code.push(HALT)?;
-    Ok(code)
-}
-
-/// Lays out the block of a growth by Webster's method.
-///
-/// Without memory, the code is as it was.
-pub fn lay_growth(code: &mut Vec<Instr>, cap: u32) -> Result<(), NoMemory>
+fn lay_growth(code: &mut Vec<Instr>, cap: u32) -> Result<(), NoMemory>
     requires cap { cap ≤ 4000 }
     requires room { vec_len code.old ≤ 199000 }
     ensures { OnErr result (code.new.items ≡ code.old.items) }
@@ -111,63 +109,34 @@ pub fn lay_growth(code: &mut Vec<Instr>, cap: u32) -> Result<(), NoMemory>
     grow_block(code, &SLOTS, &AT_LEAST, Divisor::Webster, cap)
 }
 
-// The code of a growth from so many seats.
-fn growth(alloc: Global, seats: u64, cap: u32) -> Result<Vec<Instr>, Fail>
-    requires { cap ≤ 4000 }
-{
-    let mut code = before(alloc, seats)?;
-    lay_growth(&mut code, cap)?;
-    code.push(HALT)?;
-    Ok(code)
-}
-
-/// What stands before the block of a covering: the names left on a list are its seats, and the parties of minorities take part.
-pub fn before_covering(alloc: Global) -> Result<Vec<Instr>, AllocError>
-    ensures { IfOk result (λ code. vec_len code ≤ 199000) }
-{
-    Vec::from_slice(
-        alloc,
-        &[
-            Instr::Input(RESULT, Input::Names),
-            Instr::Input(ELIGIBLE, Input::Minority),
-        ],
-    )
-}
-
-/// Lays out the block of a covering.
-///
-/// Without memory, the code is as it was.
-pub fn lay_covering(code: &mut Vec<Instr>) -> Result<(), NoMemory>
+fn lay_covering(code: &mut Vec<Instr>) -> Result<(), NoMemory>
     requires { vec_len code.old ≤ 199000 }
     ensures { OnErr result (code.new.items ≡ code.old.items) }
 {
     cover_block(code, &SLOTS, RESULT, ELIGIBLE, SCRATCH)
 }
 
-/// The code of a covering.
-pub fn covering(alloc: Global) -> Result<Vec<Instr>, Fail> {
-    let mut code = before_covering(alloc)?;
-    lay_covering(&mut code)?;
-    code.push(HALT)?;
-    Ok(code)
-}
-
-/// A block: a split without minima or with them, or a growth by Webster's method up to a cap.
-#[derive(Clone, Copy, Debug)]
-pub enum Block {
-    Split(Method, Majority),
-    AtLeast(Divisor),
-    Growth(u32),
+/// Lays out a block.
+///
+/// Without memory, the code is as it was.
+pub fn lay(code: &mut Vec<Instr>, block: Block) -> Result<(), NoMemory>
+    requires { vec_len code.old ≤ 199000 }
+    ensures { OnErr result (code.new.items ≡ code.old.items) }
+{
+    match block {
+        Block::Split(method, majority) => lay_split(code, method, majority),
+        Block::AtLeast(divisor) => lay_at_least(code, divisor),
+        Block::Growth(cap) => lay_growth(code, cap.min(4000)),
+        Block::Covering => lay_covering(code),
+    }
 }
 
 /// The code of a block that gives out so many seats.
-pub fn code_of(alloc: Global, seats: u64, block: Block) -> Result<Vec<Instr>, Fail> {
-    match block {
-        Block::Split(method, majority) => split(alloc, seats, method, majority),
-        Block::AtLeast(divisor) => split_at_least(alloc, seats, divisor),
-        Block::Growth(cap) if cap <= 4000 => growth(alloc, seats, cap),
-        Block::Growth(_) => Err("a cap of more than 4000 seats")?,
-    }
+pub fn code_of(alloc: Global, seats: u64, block: Block) -> Result<Vec<Instr>, NoMemory> {
+    let mut code = before(alloc, seats, block)?;
+    lay(&mut code, block)?;
+    code.push(HALT)?;
+    Ok(code)
 }
 
 // The stage `s` with the slot of the result, and the five slots.

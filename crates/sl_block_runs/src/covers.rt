@@ -2,7 +2,8 @@
 
 ghost use Rattle.sl_machine.specs.Fits.{Fits};
 
-use crate::codes::covering;
+use crate::codes::Block::Covering;
+use crate::codes::code_of;
 use crate::runs::accepted;
 use sl_code::Instr;
 use sl_machine::{Ending, budget, run};
@@ -50,26 +51,35 @@ fn run_text(alloc: Global, code: &Verified, returns: &Returns) -> Result<Vec<u8>
     text_of(alloc, code, returns, &ending)
 }
 
-/// That of the code of a covering, on the returns of a text.
-pub fn covered_by(alloc: Global, code: &[Instr], text: &str) -> Result<Vec<u8>, Fail> {
+// That of its run on the returns of a text.
+fn text_on(alloc: Global, code: &Verified, text: &str) -> Result<Vec<u8>, Fail> {
     let returns = read_returns(alloc, text.as_bytes())?;
-    let code = accepted(alloc, code)?;
-    run_text(alloc, &code, &returns)
+    run_text(alloc, code, &returns)
+}
+
+/// That of the code of a covering.
+pub fn covered_by(alloc: Global, code: &[Instr], text: &str) -> Result<Vec<u8>, Fail> {
+    text_on(alloc, &accepted(alloc, code)?, text)
 }
 
 fn covered(alloc: Global, text: &str) -> Result<Vec<u8>, Fail> {
-    covered_by(alloc, covering(alloc)?.as_slice(), text)
+    covered_by(alloc, code_of(alloc, 0, Covering)?.as_slice(), text)
 }
+
+/// The table of two winners who are seated, and the third who is not.
+pub const TWO_SEATED: &[u8] = b"total 2\nparty A 2 2\nlist X A 2 2\nopen w2\n";
+
+// Returns, and the texts of their runs.
+const COVERED: [(&str, &[u8]); 3] = [
+    (THREE_SHARES, TWO_SEATED),
+    (EQUAL_SHARES, b"fault seats list X A tie 1 w2 w3\n"),
+    (WITH_A_LOT, TWO_SEATED),
+];
 
 #[test]
 fn shares_and_a_tie(rt: HostRuntime) -> Result<(), Fail> {
-    let alloc = rt.alloc();
-    let table = b"total 2\nparty A 2 2\nlist X A 2 2\nopen w2\n".as_slice();
-    assert_eq!(rt; covered(alloc, THREE_SHARES)?.as_slice(), table);
-    assert_eq!(rt;
-        covered(alloc, EQUAL_SHARES)?.as_slice(),
-        b"fault seats list X A tie 1 w2 w3\n".as_slice()
-    );
-    assert_eq!(rt; covered(alloc, WITH_A_LOT)?.as_slice(), table);
+    for (returns, text) in &COVERED {
+        assert_eq!(rt; covered(rt.alloc(), returns)?.as_slice(), *text);
+    }
     Ok(())
 }

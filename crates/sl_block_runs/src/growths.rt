@@ -2,7 +2,7 @@
 
 use crate::codes::Block::Growth;
 use crate::runs::Tells::Outcome;
-use crate::runs::{Case, wrong};
+use crate::runs::{Case, assert_told};
 use std::test::*;
 
 /// The second votes of a Bundestag's parties; E has 56 seats at least.
@@ -60,6 +60,5 @@ const GROWTHS: [Case; 5] = [
 
 #[test]
 fn houses_and_faults(rt: HostRuntime) -> Result<(), Fail> {
-    assert_eq!(rt; wrong(rt.alloc(), &GROWTHS)?.as_str(), "");
-    Ok(())
+    assert_told(&rt, rt.alloc(), &GROWTHS)
 }

@@ -1,24 +1,23 @@
 //! Runs of the code of a block, with ample memory, told as text.
 
 use crate::codes::{Block, code_of, file_of};
-use sl_code::{Instr, from_bytes};
+use sl_code::{Code, Instr, from_bytes};
 use sl_machine::{Ending, budget, run};
 use sl_returns::read_returns;
-use sl_stages::{FaultKind, Item, LegalFault, Mark, Scope, SeatStep};
+use sl_stages::{FaultKind, Item, LegalFault, Mark, Returns, Scope, SeatStep};
 use sl_verify::{Verified, verify};
 use std::alloc::{AllocError, Global};
 use std::fmt::Write;
+use std::process::Abort;
 use std::test::*;
 
 /// What is told of a run: how it ends, or its seat steps.
-#[derive(Clone, Copy, Debug)]
 pub enum Tells {
     Outcome,
     Steps,
 }
 
 /// A block that gives out so many seats, the returns, and what is to be told of its run.
-#[derive(Clone, Copy, Debug)]
 pub struct Case {
     pub seats: u64,
     pub block: Block,
@@ -27,15 +26,19 @@ pub struct Case {
     pub told: &'static str,
 }
 
-/// What is told of the first case of which something else is to be told, behind the word `told`; an empty text where there is none.
-pub fn wrong(alloc: Global, cases: &[Case]) -> Result<String, Fail> {
+// Asserts what is told of a case.
+fn assert_case(rt: &impl Abort, alloc: Global, case: &Case) -> Result<(), Fail> {
+    let found = told_of(alloc, case)?;
+    assert_eq!(rt; found.as_str(), case.told);
+    Ok(())
+}
+
+/// Asserts what is told of each case.
+pub fn assert_told(rt: &impl Abort, alloc: Global, cases: &[Case]) -> Result<(), Fail> {
     for case in cases {
-        let found = told_of(alloc, case)?;
-        if found.as_str() != case.told {
-            return Ok(format!(in alloc; "told {found}")?);
-        }
+        assert_case(rt, alloc, case)?;
     }
-    Ok(String::new(alloc))
+    Ok(())
 }
 
 fn told_of(alloc: Global, case: &Case) -> Result<String, Fail> {
@@ -46,20 +49,34 @@ fn told_of(alloc: Global, case: &Case) -> Result<String, Fail> {
     }
 }
 
+// The code of its own file.
+fn read_back(alloc: Global, code: &[Instr]) -> Result<Code, Fail> {
+    let file = file_of(alloc, code)?;
+    Ok(from_bytes(alloc, file.as_slice())?)
+}
+
 /// The code as one that the verifier accepts.
 pub fn accepted(alloc: Global, code: &[Instr]) -> Result<Verified, Fail> {
-    let code = from_bytes(alloc, file_of(alloc, code)?.as_slice())?;
-    match verify(code) {
+    match verify(read_back(alloc, code)?) {
         Ok(verified) => Ok(verified),
         Err(_) => Err("refused")?,
     }
 }
 
-// How the run of a code ends on the returns of a text, with as many steps as its budget.
-fn ending(alloc: Global, code: &[Instr], text: &str) -> Result<Ending, Fail> {
+// How the run of a code ends, with as many steps as its budget.
+fn end_of(alloc: Global, code: &Verified, returns: &Returns) -> Result<Ending, Fail> {
+    Ok(run(alloc, code, returns, budget(1, returns))?)
+}
+
+// The same on the returns of a text.
+fn end_on(alloc: Global, code: &Verified, text: &str) -> Result<Ending, Fail> {
     let returns = read_returns(alloc, text.as_bytes())?;
-    let code = accepted(alloc, code)?;
-    Ok(run(alloc, &code, &returns, budget(1, &returns))?)
+    end_of(alloc, code, &returns)
+}
+
+// The same of a code that the verifier is to accept.
+fn ending(alloc: Global, code: &[Instr], text: &str) -> Result<Ending, Fail> {
+    end_on(alloc, &accepted(alloc, code)?, text)
 }
 
 /// How such a run ends: the seats of the lists, or the fault.
@@ -71,13 +88,18 @@ pub fn outcome(alloc: Global, code: &[Instr], text: &str) -> Result<String, Fail
     }
 }
 
-// The seat steps of such a run, a line for each: the list, the number of its seat, the step, and how the seat was won.
+// The seat steps of such a run.
 fn steps(alloc: Global, code: &[Instr], text: &str) -> Result<String, Fail> {
-    let Ending::Done(memory) = ending(alloc, code, text)? else {
-        return Err("the run is not done")?;
-    };
+    match ending(alloc, code, text)? {
+        Ending::Done(memory) => Ok(steps_text(alloc, memory.steps())?),
+        _ => Err("the run is not done")?,
+    }
+}
+
+// A line for each step: the list, the number of its seat, the step, and how the seat was won.
+fn steps_text(alloc: Global, steps: &[SeatStep]) -> Result<String, AllocError> {
     let mut told = String::new(alloc);
-    for step in memory.steps() {
+    for step in steps {
         tell_step(&mut told, step)?;
     }
     Ok(told)
@@ -98,12 +120,19 @@ fn fault_text(alloc: Global, fault: &LegalFault) -> Result<String, Fail> {
         return Err("another stage or scope")?;
     };
     match &fault.kind {
-        FaultKind::Limit => Ok(String::from_str(alloc, "limit")?),
-        FaultKind::Short => Ok(String::from_str(alloc, "short")?),
-        FaultKind::NoList => Ok(String::from_str(alloc, "nolist")?),
         FaultKind::Tie { seats, names } => Ok(tie_text(alloc, *seats, names.as_slice())?),
-        FaultKind::Majority => Ok(String::from_str(alloc, "majority")?),
-        FaultKind::Cap => Ok(String::from_str(alloc, "cap")?),
+        kind => Ok(String::from_str(alloc, kind_text(kind))?),
+    }
+}
+
+fn kind_text(kind: &FaultKind) -> &'static str {
+    match kind {
+        FaultKind::Limit => "limit",
+        FaultKind::Short => "short",
+        FaultKind::NoList => "nolist",
+        FaultKind::Tie { .. } => "tie",
+        FaultKind::Majority => "majority",
+        FaultKind::Cap => "cap",
     }
 }
 
