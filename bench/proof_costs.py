@@ -6,8 +6,9 @@
     python3 bench/proof_costs.py CRATE MODULE::FUNCTION  these functions alone, and those of the crate that they stand on
 
 It checks from nothing with one job, over libraries that are built, and tells the seconds between the modules that the prover writes
-one after the other. Compare only figures of one machine that does little else: beside four other checks they are two to three times
-as large.
+one after the other. The first function has the start of the crate in its figure. Compare only figures of one machine that does little
+else: beside four other checks they are two to three times as large. Where another checkout on the machine keeps a check of the same
+crate, `rt check` begins with that, and the figures mean nothing: remove its out/incremental first.
 """
 import collections
 import pathlib

@@ -4,7 +4,7 @@ the gate.
 
     python3 bench/refused.py [--seatlaw PROGRAM] [TESTS ..]
 
-TESTS are programs of tests; without any, those of the crates sl_refused_* and sl_block_runs are proved and built first. To a test memory is
+TESTS are programs of tests; without any, those of the crates sl_refused and sl_block_runs are proved and built first. To a test memory is
 refused between its marks (sl_marks), to `seatlaw` from its start, and in each run to one allocation. A line says of a test that has
 marks, or of a command, in how many runs an allocation was refused, and how many runs did not pass; of these the first follows. A command
 passes if it ends as with ample memory, with its explanation or without, or writes nothing and says on standard error that it is out of memory, with status 5, or with
@@ -19,7 +19,7 @@ import tempfile
 
 from measure import HOME, PROGRAM
 
-CRATES = ("sl_refused_inputs", "sl_refused_code", "sl_refused_runs", "sl_refused_tables", "sl_refused_desk", "sl_block_runs")
+CRATES = ("sl_refused", "sl_block_runs")
 LIMIT = 60
 
 BOOK = 'rulebook 1; law "t"; house 8; eligible all; stage s = split(house, counted, webster); seats s keep;'

@@ -9,7 +9,7 @@ import sys
 import typing
 
 TOP = pathlib.Path(__file__).resolve().parent.parent
-EXAMPLES = TOP / "crates" / "sl_rows" / "data"
+EXAMPLES = TOP / "crates" / "sl_example_rows" / "data"
 ROWS = TOP / "crates" / "sl_rows" / "src"
 sys.path.append(str(TOP / "bench"))
 import elections  # noqa: E402
@@ -17,7 +17,7 @@ import elections  # noqa: E402
 LAWS = ("1956", "1985", "2008", "2013", "2023", "2023-order")
 METHODS = ("webster", "jefferson", "adams", "hamilton", "hill", "dean")
 STAGE = re.compile(r"\bstage\s+(\w+)")
-ELECTIONS = TOP / "crates" / "sl_report_rows" / "data" / "elections"
+ELECTIONS = EXAMPLES / "elections"
 LANGUAGES = ("de", "en")
 
 

@@ -7,6 +7,7 @@ use sl_code::{Input, Instr, Operand};
 use sl_ratio::{Divisor, Method, NoMemory};
 use sl_stages::{Majority, Shape};
 use std::alloc::{AllocError, Global};
+use std::test::*;
 
 // The slots of the seats, the votes, the result and the minima.
 const AMOUNT: u8 = 0;
@@ -131,8 +132,11 @@ pub fn lay(code: &mut Vec<Instr>, block: Block) -> Result<(), NoMemory>
     }
 }
 
-/// The code of a block that gives out so many seats.
-pub fn code_of(alloc: Global, seats: u64, block: Block) -> Result<Vec<Instr>, NoMemory> {
+/// The code of a block that gives out so many seats, with a cap of at most 4000.
+pub fn code_of(alloc: Global, seats: u64, block: Block) -> Result<Vec<Instr>, Fail> {
+    if matches!(block, Block::Growth(cap) if cap > 4000) {
+        return Err("a cap of more than 4000 seats")?;
+    }
     let mut code = before(alloc, seats, block)?;
     lay(&mut code, block)?;
     code.push(HALT)?;

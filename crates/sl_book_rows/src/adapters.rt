@@ -10,7 +10,6 @@ use sl_memory::memory::Ending;
 use std::alloc::Global;
 use std::io::{self, Error, ErrorKind, Read, Write};
 use std::process::Abort;
-use std::test::Fail;
 
 // A reader of one byte a call. Its call numbered `fails_at`, from 1, is interrupted.
 #[derive(Drop)]
@@ -126,102 +125,121 @@ fn counted(alloc: Global, stops: Stops) -> Ending {
     }
 }
 
-// Asserts how a count ends, and what was written.
-fn assert_ending(
-    rt: &impl Abort,
-    ending: &Ending,
-    expected: Result<Status, DeskError>,
-    written: &[u8],
-    call: usize,
-) {
-    assert_eq!(rt; ending.result, expected, "call {call}");
-    assert_eq!(rt; ending.written.as_slice(), written, "call {call}");
+// Whether a count ends so, with this text written.
+fn ends(alloc: Global, stops: Stops, expected: Result<Status, DeskError>, written: &[u8]) -> bool {
+    let ending = counted(alloc, stops);
+    ending.result == expected && ending.written.as_slice() == written
+}
+
+// Whether the failure of a call of the book's reader ends a count, and nothing is written.
+fn ends_at_book(alloc: Global, call: u64) -> bool {
+    let stops = Stops { book: call, ..NONE };
+    ends(alloc, stops, Err(DeskError::Read(Input::Book)), b"")
+}
+
+// The same of a call of the returns' reader.
+fn ends_at_returns(alloc: Global, call: u64) -> bool {
+    let stops = Stops {
+        returns: call,
+        ..NONE
+    };
+    ends(alloc, stops, Err(DeskError::Read(Input::Returns)), b"")
+}
+
+// Some calls of a reader of a text: the last two are that of its last byte, and that of its end.
+fn calls_of(text: &str) -> [u64; 5] {
+    let last = text.len() as u64;
+    [1, 2, 60, last, last.saturating_add(1)]
 }
 
 #[test]
-fn readers_of_std(rt: HostRuntime) {
-    let (book, returns) = (FIRST_BOOK.len(), RETURNS.len());
-    for call in [1, 2, 60, book, book + 1] {
-        let ending = counted(
-            rt.alloc(),
-            Stops {
-                book: call as u64,
-                ..NONE
-            },
-        );
-        assert_ending(&rt, &ending, Err(DeskError::Read(Input::Book)), b"", call);
+fn readers_of_books(rt: HostRuntime) {
+    for call in &calls_of(FIRST_BOOK) {
+        assert!(rt; ends_at_book(rt.alloc(), *call), "call {call}");
     }
-    for call in [1, 2, 60, returns, returns + 1] {
-        let ending = counted(
-            rt.alloc(),
-            Stops {
-                returns: call as u64,
-                ..NONE
-            },
-        );
-        assert_ending(
-            &rt,
-            &ending,
-            Err(DeskError::Read(Input::Returns)),
-            b"",
-            call,
-        );
+}
+
+#[test]
+fn readers_of_returns(rt: HostRuntime) {
+    for call in &calls_of(RETURNS) {
+        assert!(rt; ends_at_returns(rt.alloc(), *call), "call {call}");
     }
-    let never = Stops {
-        book: book as u64 + 2,
-        returns: returns as u64 + 2,
+}
+
+// Readers that stop behind the end of what they read.
+const NEVER: Stops = Stops {
+    book: FIRST_BOOK.len() as u64 + 2,
+    returns: RETURNS.len() as u64 + 2,
+    ..NONE
+};
+
+#[test]
+fn readers_that_do_not_stop(rt: HostRuntime) {
+    assert!(rt; ends(rt.alloc(), NEVER, Ok(Status::Done), TABLE.as_bytes()));
+}
+
+// Whether a call of the writer that stops ends a count, and what came before is written.
+fn ends_at_out(alloc: Global, call: usize, stop: Stop) -> bool {
+    let stops = Stops {
+        out: call as u64,
+        stop,
         ..NONE
     };
-    let ending = counted(rt.alloc(), never);
-    assert_ending(&rt, &ending, Ok(Status::Done), TABLE.as_bytes(), 0);
+    match TABLE.as_bytes().get(..call.saturating_sub(1)) {
+        Some(written) => ends(alloc, stops, Err(DeskError::Write), written),
+        None => false,
+    }
+}
+
+// Asserts it of each call.
+fn assert_writers(rt: &impl Abort, alloc: Global, stop: Stop) {
+    for call in 1..=TABLE.len() {
+        assert!(rt; ends_at_out(alloc, call, stop), "call {call}");
+    }
 }
 
 #[test]
 fn writers_of_std(rt: HostRuntime) {
-    for stop in [Stop::Fails, Stop::TakesNothing] {
-        for call in 1..=TABLE.len() {
-            let stops = Stops {
-                out: call as u64,
-                stop,
-                ..NONE
-            };
-            let ending = counted(rt.alloc(), stops);
-            assert_ending(
-                &rt,
-                &ending,
-                Err(DeskError::Write),
-                &TABLE.as_bytes()[..call - 1],
-                call,
-            );
-        }
-    }
+    assert_writers(&rt, rt.alloc(), Stop::Fails);
+    assert_writers(&rt, rt.alloc(), Stop::TakesNothing);
 }
 
-// A failure is counted and not tried again, and the next call goes on with the same byte.
+// Whether a failure is counted and not tried again, and the next call goes on with the same byte.
+fn goes_on_reading(source: &mut impl Source) -> bool {
+    let mut buffer = [0u8; 4];
+    source.fetch(&mut buffer) == Ok(1)
+        && source.fetch(&mut buffer) == Err(Failed)
+        && source.failures() == 1
+        && source.fetch(&mut buffer) == Ok(1)
+        && buffer[0] == b'b'
+        && source.fetch(&mut buffer) == Ok(0)
+        && source.failures() == 1
+}
+
 #[test]
 fn a_fetch(rt: HostRuntime) {
-    let mut source = FromRead::new(Drip::new(b"ab", 2));
-    let mut buffer = [0u8; 4];
-    assert_eq!(rt; source.fetch(&mut buffer), Ok(1));
-    assert_eq!(rt; source.fetch(&mut buffer), Err(Failed));
-    assert_eq!(rt; source.failures(), 1);
-    assert_eq!(rt; source.fetch(&mut buffer), Ok(1));
-    assert_eq!(rt; buffer[0], b'b');
-    assert_eq!(rt; source.fetch(&mut buffer), Ok(0));
-    assert_eq!(rt; source.failures(), 1);
+    assert!(rt; goes_on_reading(&mut FromRead::new(Drip::new(b"ab", 2))));
 }
 
-// Taking nothing of an empty piece is no failure.
+// Whether a failure is counted, the next call goes on, and taking nothing of an empty piece is no failure.
+fn goes_on_writing(sink: &mut impl Sink) -> bool {
+    sink.put(b"ab") == Ok(1)
+        && sink.put(b"") == Ok(0)
+        && sink.failures() == 0
+        && sink.put(b"b") == Err(Failed)
+        && sink.failures() == 1
+        && sink.put(b"b") == Ok(1)
+        && sink.failures() == 1
+}
+
 #[test]
 fn a_put(rt: HostRuntime) {
-    for stop in [Stop::Fails, Stop::TakesNothing] {
-        let mut sink = ToWrite::new(Sip::new(rt.alloc(), 3, stop));
-        assert_eq!(rt; sink.put(b"ab"), Ok(1));
-        assert_eq!(rt; sink.put(b""), Ok(0));
-        assert_eq!(rt; sink.failures(), 0);
-        assert_eq!(rt; sink.put(b"b"), Err(Failed));
-        assert_eq!(rt; sink.failures(), 1);
-        assert_eq!(rt; sink.put(b"b"), Ok(1));
-        assert_eq!(rt; sink.failures(), 1);
-    }
+    let mut failing = ToWrite::new(Sip::new(rt.alloc(), 3, Stop::Fails));
+    assert!(rt; goes_on_writing(&mut failing));
+}
+
+#[test]
+fn a_put_of_which_nothing_is_taken(rt: HostRuntime) {
+    let mut full = ToWrite::new(Sip::new(rt.alloc(), 3, Stop::TakesNothing));
+    assert!(rt; goes_on_writing(&mut full));
 }

@@ -1,11 +1,11 @@
 //! Code files of rulebooks: what `code` writes for a book, and what a run of the written file comes to.
 
+use crate::rows::ends;
 use sl_desk::Status;
 use sl_memory::calls::{Pace, coded, coded_by, ran};
 use sl_memory::inputs::{FIRST_BOOK, RETURNS, TABLE, Text};
 use sl_memory::memory::Ending;
-use std::alloc::Global;
-use std::process::Abort;
+use std::alloc::{AllocError, Global};
 use std::test::Fail;
 
 // Bytes that a source gives, or a sink takes, at once.
@@ -37,25 +37,32 @@ const CODES: [CodeRow; 3] = [
     ),
 ];
 
-// Asserts that a book was compiled: its code file opens as such a file does.
-fn assert_coded(rt: &impl Abort, ending: &Ending, file: &[u8], name: &str) {
-    assert_eq!(rt; ending.result, Ok(Status::Done), "{name}");
-    assert!(rt; file.starts_with(b"SLC\x01"), "{name}");
+// Whether a book was compiled: its code file opens as such a file does.
+fn is_coded(ending: &Ending, file: &[u8]) -> bool {
+    ending.result == Ok(Status::Done) && file.starts_with(b"SLC\x01")
 }
 
-// Asserts that a run of a code file comes to a table.
-fn assert_run(rt: &impl Abort, alloc: Global, file: &[u8], returns: &str, text: &str, name: &str) {
+// Whether a run of a code file comes to a table.
+fn runs_to(alloc: Global, file: &[u8], returns: &str, table: &str) -> bool {
     let ending = ran(alloc, file, returns.as_bytes(), Pace::of(STEP));
-    assert_eq!(rt; ending.result, Ok(Status::Done), "{name}");
-    assert_eq!(rt; ending.written.as_slice(), text.as_bytes(), "{name}");
+    ends(&ending, table.as_bytes(), Status::Done)
+}
+
+// Whether a book was compiled, and a run of its code file does.
+fn comes_to(alloc: Global, coded: &(Ending, Vec<u8>), returns: &str, table: &str) -> bool {
+    let (ending, file) = coded;
+    is_coded(ending, file.as_slice()) && runs_to(alloc, file.as_slice(), returns, table)
+}
+
+fn book_comes_to(alloc: Global, book: &[u8], returns: &str, table: &str) -> bool {
+    comes_to(alloc, &coded(alloc, book, Pace::of(STEP)), returns, table)
 }
 
 #[test]
 fn codes_are_run(rt: HostRuntime) {
-    for (name, book, returns, text) in CODES {
-        let (ending, file) = coded(rt.alloc(), book.as_bytes(), Pace::of(STEP));
-        assert_coded(&rt, &ending, file.as_slice(), name);
-        assert_run(&rt, rt.alloc(), file.as_slice(), returns, text, name);
+    for (name, book, returns, table) in &CODES {
+        let holds = book_comes_to(rt.alloc(), book.as_bytes(), returns, table);
+        assert!(rt; holds, "{name}");
     }
 }
 
@@ -75,12 +82,14 @@ const LAWS: [CodeRow; 2] = [
     ),
 ];
 
+fn law_comes_to(alloc: Global, law: &str, returns: &str, table: &str) -> bool {
+    comes_to(alloc, &coded_by(alloc, law, Pace::of(STEP)), returns, table)
+}
+
 #[test]
 fn codes_of_the_library_are_run(rt: HostRuntime) {
-    for (name, law, returns, text) in LAWS {
-        let (ending, file) = coded_by(rt.alloc(), law, Pace::of(STEP));
-        assert_coded(&rt, &ending, file.as_slice(), name);
-        assert_run(&rt, rt.alloc(), file.as_slice(), returns, text, name);
+    for (name, law, returns, table) in &LAWS {
+        assert!(rt; law_comes_to(rt.alloc(), law, returns, table), "{name}");
     }
 }
 
@@ -94,63 +103,71 @@ const CONDITIONS: Text = Text::Numbered(
 #[test]
 fn many_conditions_are_run(rt: HostRuntime) -> Result<(), Fail> {
     let book = CONDITIONS.bytes(rt.alloc())?;
-    let (ending, file) = coded(rt.alloc(), book.as_slice(), Pace::of(STEP));
-    assert_coded(&rt, &ending, file.as_slice(), "conditions");
     let (returns, table) = (THREE_WINNERS, THREE_WINNERS_TABLE);
-    assert_run(
-        &rt,
-        rt.alloc(),
-        file.as_slice(),
-        returns,
-        table,
-        "conditions",
-    );
+    assert!(rt; book_comes_to(rt.alloc(), book.as_slice(), returns, table));
     Ok(())
+}
+
+// Whether a line begins with a number and a blank.
+fn is_numbered(alloc: Global, line: &[u8], number: usize) -> Result<bool, AllocError> {
+    let prefix = format!(in alloc; "{number} ")?;
+    Ok(line.starts_with(prefix.as_bytes()))
+}
+
+// Whether a line has the name of the last clause's instruction.
+fn has_halt(line: &[u8]) -> bool {
+    line.windows(6).any(|word| word == b" halt ".as_slice())
+}
+
+// Whether each line of a text but for empty ones begins with its number, from 0, and the last one has `halt`.
+fn is_listing(alloc: Global, text: &[u8]) -> Result<bool, AllocError> {
+    let mut halts = false;
+    for (number, line) in text.split(|byte| *byte == b'\n').enumerate() {
+        if !line.is_empty() {
+            halts = has_halt(line);
+            if !is_numbered(alloc, line, number)? {
+                return Ok(false);
+            }
+        }
+    }
+    Ok(halts)
 }
 
 // The listing has a line for each instruction, by its number, and ends with the last clause.
 #[test]
 fn listings(rt: HostRuntime) -> Result<(), Fail> {
     let (ending, _) = coded(rt.alloc(), FIRST_BOOK.as_bytes(), Pace::of(STEP));
-    let lines = ending.written.as_slice().split(|byte| *byte == b'\n');
-    let mut last = Vec::new(rt.alloc());
-    for (number, line) in lines.enumerate() {
-        if !line.is_empty() {
-            let prefix = format!(in rt.alloc(); "{number} ")?;
-            assert!(rt; line.starts_with(prefix.as_bytes()), "{number}");
-            last = Vec::from_slice(rt.alloc(), line)?;
-        }
-    }
-    assert!(rt;
-        last.as_slice()
-            .windows(6)
-            .any(|word| word == b" halt ".as_slice())
-    );
+    assert!(rt; is_listing(rt.alloc(), ending.written.as_slice())?);
     Ok(())
 }
+
+// Whether a book was refused with a line, and the file is empty.
+fn is_refused(coded: &(Ending, Vec<u8>), line: &str) -> bool {
+    let (ending, file) = coded;
+    ends(ending, line.as_bytes(), Status::Refused) && file.is_empty()
+}
+
+// Books that are refused, and their lines.
+const REFUSED: [(&str, &str); 3] = [
+    ("", "refused book parse 1 0\n"),
+    ("rulebook 1; law \"abc", "refused book lex 2 16\n"),
+    (
+        "rulebook 1; law \"t\"; house 0; eligible all; seats winners keep;",
+        "refused book check 2 27\n",
+    ),
+];
 
 // A refused book writes its line, and leaves the file empty.
 #[test]
 fn refused_books(rt: HostRuntime) {
-    for (book, line) in [
-        ("", "refused book parse 1 0\n"),
-        ("rulebook 1; law \"abc", "refused book lex 2 16\n"),
-        (
-            "rulebook 1; law \"t\"; house 0; eligible all; seats winners keep;",
-            "refused book check 2 27\n",
-        ),
-    ] {
-        let (ending, file) = coded(rt.alloc(), book.as_bytes(), Pace::of(STEP));
-        assert_eq!(rt; ending.result, Ok(Status::Refused), "{book}");
-        assert_eq!(rt; ending.written.as_slice(), line.as_bytes(), "{book}");
-        assert!(rt; file.is_empty(), "{book}");
+    for (book, line) in &REFUSED {
+        let coded = coded(rt.alloc(), book.as_bytes(), Pace::of(STEP));
+        assert!(rt; is_refused(&coded, line), "{book}");
     }
 }
 
 #[test]
 fn unknown_names_are_refused(rt: HostRuntime) {
-    let (ending, file) = coded_by(rt.alloc(), "1999", Pace::of(STEP));
-    assert_eq!(rt; ending.result, Ok(Status::Refused));
-    assert_eq!(rt; ending.written.as_slice(), b"refused law 1999\n".as_slice());
-    assert!(rt; file.is_empty());
+    let coded = coded_by(rt.alloc(), "1999", Pace::of(STEP));
+    assert!(rt; is_refused(&coded, "refused law 1999\n"));
 }

@@ -1,7 +1,9 @@
 //! The books of the library: each is accepted, its text can be written, and a name without one is refused.
 
+use crate::rows::ends;
 use sl_desk::Status;
 use sl_memory::calls::{Pace, checked_by, told};
+use std::alloc::Global;
 
 // Bytes that a sink takes at once.
 const STEP: usize = 4096;
@@ -40,26 +42,34 @@ const BOOKS: [(&str, &str, &str); 6] = [
     ),
 ];
 
+// Whether the text of a book of the library is written, and begins so.
+fn is_told(alloc: Global, name: &str, begin: &str) -> bool {
+    let ending = told(alloc, name, Pace::of(STEP));
+    ending.result == Ok(Status::Done) && ending.written.as_slice().starts_with(begin.as_bytes())
+}
+
+// Whether the book is accepted with a line.
+fn is_accepted(alloc: Global, name: &str, line: &str) -> bool {
+    let ending = checked_by(alloc, name, Pace::of(STEP));
+    ends(&ending, line.as_bytes(), Status::Done)
+}
+
 #[test]
 fn books_of_the_library(rt: HostRuntime) {
-    for (name, text, line) in BOOKS {
-        let ending = checked_by(rt.alloc(), name, Pace::of(STEP));
-        assert_eq!(rt; ending.result, Ok(Status::Done), "{name}");
-        assert_eq!(rt; ending.written.as_slice(), line.as_bytes(), "{name}");
-        let ending = told(rt.alloc(), name, Pace::of(STEP));
-        assert_eq!(rt; ending.result, Ok(Status::Done), "{name}");
-        assert!(rt;
-            ending.written.as_slice().starts_with(text.as_bytes()),
-            "{name}"
-        );
+    for (name, begin, line) in &BOOKS {
+        assert!(rt; is_accepted(rt.alloc(), name, line), "{name}");
+        assert!(rt; is_told(rt.alloc(), name, begin), "{name}");
     }
+}
+
+// Whether there is no text, and a line says so.
+fn is_unknown(alloc: Global, name: &str, line: &str) -> bool {
+    let ending = told(alloc, name, Pace::of(STEP));
+    ends(&ending, line.as_bytes(), Status::Refused)
 }
 
 #[test]
 fn names_without_a_book(rt: HostRuntime) {
-    for (name, line) in [("1999", "refused law 1999\n"), ("", "refused law \n")] {
-        let ending = told(rt.alloc(), name, Pace::of(STEP));
-        assert_eq!(rt; ending.result, Ok(Status::Refused), "{name}");
-        assert_eq!(rt; ending.written.as_slice(), line.as_bytes(), "{name}");
-    }
+    assert!(rt; is_unknown(rt.alloc(), "1999", "refused law 1999\n"));
+    assert!(rt; is_unknown(rt.alloc(), "", "refused law \n"));
 }

@@ -1,58 +1,66 @@
 //! What is judged, read and written first, and what is left where that fails.
 
+use crate::rows::ends;
 use sl_desk::{BookSource, DeskError, Input, Status, check_book, count};
 use sl_memory::calls::{Pace, coded, counted, staged};
 use sl_memory::inputs::{FIRST_BOOK, RETURNS};
 use sl_memory::memory::{Ending, Narrow, Slow};
 use std::alloc::Global;
-use std::process::Abort;
 
 const STEP: usize = 7;
 
-// Asserts how a call ends, and what was written.
-fn assert_ending(
-    rt: &impl Abort,
-    ending: &Ending,
-    expected: Result<Status, DeskError>,
-    written: &[u8],
-) {
-    assert_eq!(rt; ending.result, expected);
-    assert_eq!(rt; ending.written.as_slice(), written);
+// The first call of the reader of the returns fails.
+const RETURNS_FAIL: Pace = Pace {
+    step: STEP,
+    book_fails: 0,
+    returns_fail: 1,
+    file_fails: 0,
+    out_fails: 0,
+};
+
+// That of the reader of the book fails too.
+const BOTH_FAIL: Pace = Pace {
+    book_fails: 1,
+    ..RETURNS_FAIL
+};
+
+// Whether a call ended in an error, and nothing was written.
+fn failed(ending: &Ending, error: DeskError) -> bool {
+    ending.result == Err(error) && ending.written.is_empty()
 }
 
-// The book is read first, and the returns of a refused book are not read.
+// The book is read first.
 #[test]
-fn order_of_readers(rt: HostRuntime) {
-    let both = Pace {
-        book_fails: 1,
-        returns_fail: 1,
-        ..Pace::of(STEP)
-    };
-    let (book, text) = (FIRST_BOOK.as_bytes(), RETURNS.as_bytes());
-    let ending = counted(rt.alloc(), book, text, both);
-    assert_ending(&rt, &ending, Err(DeskError::Read(Input::Book)), b"");
-    let returns = Pace {
-        returns_fail: 1,
-        ..Pace::of(STEP)
-    };
-    let ending = counted(rt.alloc(), b"", text, returns);
-    let refusal = b"refused book parse 1 0\n".as_slice();
-    assert_ending(&rt, &ending, Ok(Status::Refused), refusal);
+fn books_before_returns(rt: HostRuntime) {
+    let (book, returns) = (FIRST_BOOK.as_bytes(), RETURNS.as_bytes());
+    let ending = counted(rt.alloc(), book, returns, BOTH_FAIL);
+    assert!(rt; failed(&ending, DeskError::Read(Input::Book)));
+}
+
+// The returns of a refused book are not read.
+#[test]
+fn returns_of_a_refused_book(rt: HostRuntime) {
+    let ending = counted(rt.alloc(), b"", RETURNS.as_bytes(), RETURNS_FAIL);
+    assert!(rt; ends(&ending, b"refused book parse 1 0\n", Status::Refused));
+}
+
+// How showing a stage of the first book ends whose returns fail.
+fn first_staged(alloc: Global, name: &str) -> Ending {
+    let (book, returns) = (FIRST_BOOK.as_bytes(), RETURNS.as_bytes());
+    staged(alloc, book, returns, name, RETURNS_FAIL)
 }
 
 // The name of a stage is judged before the returns are read.
 #[test]
 fn names_before_returns(rt: HostRuntime) {
-    let returns = Pace {
-        returns_fail: 1,
-        ..Pace::of(STEP)
-    };
-    let (book, text) = (FIRST_BOOK.as_bytes(), RETURNS.as_bytes());
-    let ending = staged(rt.alloc(), book, text, "q", returns);
-    let refusal = b"refused stage q\n".as_slice();
-    assert_ending(&rt, &ending, Ok(Status::Refused), refusal);
-    let ending = staged(rt.alloc(), book, text, "pool", returns);
-    assert_ending(&rt, &ending, Err(DeskError::Read(Input::Returns)), b"");
+    let ending = first_staged(rt.alloc(), "q");
+    assert!(rt; ends(&ending, b"refused stage q\n", Status::Refused));
+}
+
+#[test]
+fn returns_of_a_stage(rt: HostRuntime) {
+    let ending = first_staged(rt.alloc(), "pool");
+    assert!(rt; failed(&ending, DeskError::Read(Input::Returns)));
 }
 
 // A book that cannot be read leaves the file and the output empty.
@@ -64,35 +72,34 @@ fn books_before_files(rt: HostRuntime) {
         ..Pace::of(STEP)
     };
     let (ending, file) = coded(rt.alloc(), FIRST_BOOK.as_bytes(), book);
-    assert_ending(&rt, &ending, Err(DeskError::Read(Input::Book)), b"");
-    assert!(rt; file.is_empty());
+    assert!(rt; failed(&ending, DeskError::Read(Input::Book)) && file.is_empty());
 }
 
-// How a count and a check of a book of the library end. The returns fail, if they are read.
-fn of_library(alloc: Global, name: &str) -> (Ending, Ending) {
-    let mut book: BookSource<'_, Slow<'_>> = BookSource::Library(name);
+type Named<'a> = BookSource<'a, Slow<'a>>;
+
+// Whether a count by a book is refused with a line. The returns fail, if they are read.
+fn count_is_refused(alloc: Global, book: &mut Named<'_>, line: &str) -> bool {
     let mut returns = Slow::new(b"", STEP, 1);
     let mut out = Narrow::new(alloc, STEP, 0);
-    let result = count(alloc, &mut book, &mut returns, &mut out);
-    let counted = Ending {
-        result,
-        written: out.taken,
-    };
-    let mut out = Narrow::new(alloc, STEP, 0);
-    let result = check_book(alloc, &mut book, &mut out);
-    let checked = Ending {
-        result,
-        written: out.taken,
-    };
-    (counted, checked)
+    let result = count(alloc, book, &mut returns, &mut out);
+    result == Ok(Status::Refused) && out.taken.as_slice() == line.as_bytes()
 }
 
-// The second call shows that the first leaves the name as it was.
+// Whether a check of a book is refused with a line.
+fn check_is_refused(alloc: Global, book: &mut Named<'_>, line: &str) -> bool {
+    let mut out = Narrow::new(alloc, STEP, 0);
+    let result = check_book(alloc, book, &mut out);
+    result == Ok(Status::Refused) && out.taken.as_slice() == line.as_bytes()
+}
+
+// Whether a name is refused with a line by both. The second call shows that the first leaves the name as it was.
+fn is_refused(alloc: Global, name: &str, line: &str) -> bool {
+    let mut book = BookSource::Library(name);
+    count_is_refused(alloc, &mut book, line) && check_is_refused(alloc, &mut book, line)
+}
+
 #[test]
 fn unknown_names_are_refused(rt: HostRuntime) {
-    for (name, line) in [("1999", "refused law 1999\n"), ("", "refused law \n")] {
-        let (counted, checked) = of_library(rt.alloc(), name);
-        assert_ending(&rt, &counted, Ok(Status::Refused), line.as_bytes());
-        assert_ending(&rt, &checked, Ok(Status::Refused), line.as_bytes());
-    }
+    assert!(rt; is_refused(rt.alloc(), "1999", "refused law 1999\n"));
+    assert!(rt; is_refused(rt.alloc(), "", "refused law \n"));
 }

@@ -52,7 +52,7 @@ impl<'a> Columns<'a> {
 
     /// The types of two expressions.
     #[cycle(expr)]
-    #[tactic(auto, using(sl_stages::proofs::Tests::fails_in_row, crate::proofs::Failing::fails_behind))]
+    #[tactic(auto, using(sl_stages::proofs::Tests::fails_in_row))]
     fn both(&self, left: &Expr, right: &Expr) -> Result<(ColumnType, ColumnType), CheckFault>
         ensures { let known = columns self.now.stages.now self.now.types.now
             in let l = tree_of left.now
@@ -60,6 +60,25 @@ impl<'a> Columns<'a> {
             in Judges result (expr_tests known l ++ expr_tests known r) (type_of known l, type_of known r) }
     {
         Ok((self.expr_type(left)?, self.expr_type(right)?))
+    }
+
+    /// The types of three expressions.
+    #[cycle(expr)]
+    #[tactic(auto, using(crate::proofs::Failing::fails_behind))]
+    fn three(
+        &self,
+        first: &Expr,
+        second: &Expr,
+        third: &Expr,
+    ) -> Result<(ColumnType, ColumnType, ColumnType), CheckFault>
+        ensures { let known = columns self.now.stages.now self.now.types.now
+            in let a = tree_of first.now
+            in let b = tree_of second.now
+            in let c = tree_of third.now
+            in Judges result (expr_tests known a ++ (expr_tests known b ++ expr_tests known c)) (type_of known a, type_of known b, type_of known c) }
+    {
+        let (first, second) = self.both(first, second)?;
+        Ok((first, second, self.expr_type(third)?))
     }
 
     /// The type of an expression.
@@ -89,16 +108,16 @@ impl<'a> Columns<'a> {
                 method,
                 minima,
                 majority,
-            } => {
-                let (of, by) = self.both(seats, votes)?;
-                match minima {
-                    None => split_type(*at, of, by, *method, *majority),
-                    Some(minima) => {
-                        let minima = self.expr_type(minima)?;
-                        split_from_type(*at, of, by, minima, *method, *majority)
-                    }
+            } => match minima {
+                None => {
+                    let (of, by) = self.both(seats, votes)?;
+                    split_type(*at, of, by, *method, *majority)
                 }
-            }
+                Some(minima) => {
+                    let (of, by, minima) = self.three(seats, votes, minima)?;
+                    split_from_type(*at, of, by, minima, *method, *majority)
+                }
+            },
             Expr::Grow {
                 at,
                 seats,
@@ -108,8 +127,7 @@ impl<'a> Columns<'a> {
                 cap,
                 majority,
             } => {
-                let (of, by) = self.both(seats, votes)?;
-                let minima = self.expr_type(minima)?;
+                let (of, by, minima) = self.three(seats, votes, minima)?;
                 grow_type(*at, of, by, minima, *method, *cap, *majority)
             }
         }

@@ -8,10 +8,10 @@ ghost use Rattle.sl_stages.specs.book.Typing.{splits_in};
 use sl_stages::{Expr, MAX_PARTS};
 
 /// The number of splits and growths in an expression.
-#[tactic(auto, using(crate::proofs::Counting::few_splits))]
 pub fn splits_in(expr: &Expr) -> u32
     requires { parts_of (tree_of expr.now) ≤ MAX_PARTS }
-    ensures { result ≡ splits_in (tree_of expr.now) }
+    ensures value { result ≡ splits_in (tree_of expr.now) }
+    ensures few { result ≤ parts_of (tree_of expr.now) }
 {
     match expr {
         Expr::Fact { .. } | Expr::Name { .. } => 0,

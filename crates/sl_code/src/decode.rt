@@ -156,7 +156,7 @@ impl<'a> Reader<'a> {
         ensures err { IfErr result (FailsAhead (is_any ∷ is_input ∷ []) self.old) }
     {
         let slot = self.byte()?;
-        let input = self.input()?;
+        let input = self.numbered()?;
         Ok(Instr::Input(slot, input))
     }
 
@@ -164,8 +164,8 @@ impl<'a> Reader<'a> {
         ensures ok { IfOk result (Reads 0x1a self.old self.new) }
         ensures err { IfErr result (FailsAhead (is_entries ∷ is_ranking ∷ []) self.old) }
     {
-        let entries = self.entries()?;
-        let ranking = self.ranking()?;
+        let entries = self.numbered()?;
+        let ranking = self.numbered()?;
         Ok(Instr::Table(entries, ranking))
     }
 
@@ -173,7 +173,7 @@ impl<'a> Reader<'a> {
         ensures ok { IfOk result (Reads 0x1b self.old self.new) }
         ensures err { IfErr result (FailsAhead (is_method ∷ is_any ∷ is_any ∷ []) self.old) }
     {
-        let method = self.method()?;
+        let method = self.numbered()?;
         let (weight, seats) = self.pair()?;
         Ok(Instr::Prio(method, weight, seats))
     }
@@ -184,7 +184,7 @@ impl<'a> Reader<'a> {
         ensures err { IfErr result (FailsAhead (is_any ∷ is_scope ∷ []) self.old) }
     {
         let stage = self.byte()?;
-        let scope = self.scope()?;
+        let scope = self.numbered()?;
         Ok((stage, scope))
     }
 
@@ -216,7 +216,7 @@ impl<'a> Reader<'a> {
         ensures err { IfErr result (FailsAhead (is_any ∷ is_scope ∷ is_end_fault ∷ []) self.old) }
     {
         let (stage, scope) = self.place()?;
-        let fault = self.end_fault()?;
+        let fault = self.numbered()?;
         Ok(Instr::Fault(stage, scope, fault))
     }
 
@@ -225,8 +225,8 @@ impl<'a> Reader<'a> {
         ensures err { IfErr result (FailsAhead (is_any ∷ is_any ∷ is_below 8 ∷ is_below 17 ∷ []) self.old) }
     {
         let positive = self.registers()?;
-        let cursors = self.cursors()?;
-        let table = self.table()?;
+        let cursors = self.numbered()?;
+        let table = self.numbered()?;
         Ok(Instr::At(Kinds {
             positive,
             cursors,
@@ -239,7 +239,7 @@ impl<'a> Reader<'a> {
         ensures err { IfErr result (FailsAhead (is_any ∷ is_scope ∷ is_rounding ∷ is_any ∷ []) self.old) }
     {
         let (stage, scope) = self.place()?;
-        let rounding = self.rounding()?;
+        let rounding = self.numbered()?;
         let weight = self.byte()?;
         Ok(Instr::Weigh(stage, scope, rounding, weight))
     }

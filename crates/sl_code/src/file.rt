@@ -180,7 +180,7 @@ impl<'a> Reader<'a> {
     {
         let mut slots = Vec::new(alloc);
         for _at in 0..count {
-            let shape = self.shape()?;
+            let shape = self.numbered()?;
             slots.push(shape)?;
         }
         Ok(slots)

@@ -1,10 +1,10 @@
 //! The numbers by which operands of a few values are spelled (docs/code.md, section 2).
 
-ghost use Rattle.std.specs.Prelude.{◌≡◌, false, nat_lt, MatchOption};
+ghost use Rattle.std.specs.Prelude.{◌≡◌, ℕ, Bool, false, MatchOption};
 ghost use Rattle.sl_ratio.specs.Quotient.{method_number};
 ghost use Rattle.sl_stages.specs.book.Typing.{shape_number};
 ghost use Rattle.sl_code.specs.Numbers.{scope_number, entries_number, ranking_number, input_number, rounding_number, fault_number, cursors_number, table_number};
-ghost use Rattle.sl_code.specs.Operands.{is_scope, is_entries, is_ranking, is_input, is_method, is_rounding, is_end_fault, is_shape};
+ghost use Rattle.sl_code.specs.Operands.{is_below, is_scope, is_entries, is_ranking, is_input, is_method, is_rounding, is_end_fault, is_shape};
 
 use crate::kinds::{Cursors, TableState};
 use crate::operand::{
@@ -14,16 +14,33 @@ use crate::operand::{
 use sl_ratio::{DIVISORS, Divisor};
 use sl_stages::{SHAPES, Shape};
 
+/// A value of an operand or a slot that is spelled by its number, in one byte.
+pub(crate) trait FromNumber: Copy {
+    /// The number of a value.
+    ghost number_of: { Self → ℕ };
+
+    /// Which bytes are a number of one.
+    ghost is_number: { ℕ → Bool };
+
+    /// The value of that number, if there is one.
+    fn from_number(number: u8) -> Option<Self>
+        ensures { MatchOption result (is_number number ≡ false) (λ x. number_of x ≡ number) };
+}
+
 impl ScopeKind {
     pub(crate) fn number(self) -> u8
         ensures { result ≡ scope_number self }
     {
         self as u8
     }
+}
 
-    pub(crate) fn from_number(number: u8) -> Option<ScopeKind>
-        ensures { MatchOption result (is_scope number ≡ false) (λ x. scope_number x ≡ number) }
-    {
+impl FromNumber for ScopeKind {
+    ghost number_of = { scope_number };
+
+    ghost is_number = { is_scope };
+
+    fn from_number(number: u8) -> Option<ScopeKind> {
         SCOPE_KINDS.get(usize::from(number)).copied()
     }
 }
@@ -34,10 +51,14 @@ impl Entries {
     {
         self as u8
     }
+}
 
-    pub(crate) fn from_number(number: u8) -> Option<Entries>
-        ensures { MatchOption result (is_entries number ≡ false) (λ x. entries_number x ≡ number) }
-    {
+impl FromNumber for Entries {
+    ghost number_of = { entries_number };
+
+    ghost is_number = { is_entries };
+
+    fn from_number(number: u8) -> Option<Entries> {
         ENTRY_KINDS.get(usize::from(number)).copied()
     }
 }
@@ -48,10 +69,14 @@ impl Ranking {
     {
         self as u8
     }
+}
 
-    pub(crate) fn from_number(number: u8) -> Option<Ranking>
-        ensures { MatchOption result (is_ranking number ≡ false) (λ x. ranking_number x ≡ number) }
-    {
+impl FromNumber for Ranking {
+    ghost number_of = { ranking_number };
+
+    ghost is_number = { is_ranking };
+
+    fn from_number(number: u8) -> Option<Ranking> {
         RANKINGS.get(usize::from(number)).copied()
     }
 }
@@ -62,10 +87,14 @@ impl Input {
     {
         self as u8
     }
+}
 
-    pub(crate) fn from_number(number: u8) -> Option<Input>
-        ensures { MatchOption result (is_input number ≡ false) (λ x. input_number x ≡ number) }
-    {
+impl FromNumber for Input {
+    ghost number_of = { input_number };
+
+    ghost is_number = { is_input };
+
+    fn from_number(number: u8) -> Option<Input> {
         INPUTS.get(usize::from(number)).copied()
     }
 }
@@ -76,11 +105,15 @@ impl Rounding {
     {
         self.divisor().number()
     }
+}
 
-    pub(crate) fn from_number(number: u8) -> Option<Rounding>
-        ensures { MatchOption result (is_rounding number ≡ false) (λ x. rounding_number x ≡ number) }
-    {
-        Rounding::of(method_from_number(number)?)
+impl FromNumber for Rounding {
+    ghost number_of = { rounding_number };
+
+    ghost is_number = { is_rounding };
+
+    fn from_number(number: u8) -> Option<Rounding> {
+        Rounding::of(Divisor::from_number(number)?)
     }
 }
 
@@ -90,10 +123,14 @@ impl EndFault {
     {
         self as u8
     }
+}
 
-    pub(crate) fn from_number(number: u8) -> Option<EndFault>
-        ensures { MatchOption result (is_end_fault number ≡ false) (λ x. fault_number x ≡ number) }
-    {
+impl FromNumber for EndFault {
+    ghost number_of = { fault_number };
+
+    ghost is_number = { is_end_fault };
+
+    fn from_number(number: u8) -> Option<EndFault> {
         END_FAULTS.iter().copied().find(|x| x.number() == number)
     }
 }
@@ -104,10 +141,14 @@ impl Cursors {
     {
         u8::from(self.party) + 2 * u8::from(self.land) + 4 * u8::from(self.win)
     }
+}
 
-    pub(crate) fn from_number(number: u8) -> Option<Cursors>
-        ensures { MatchOption result (nat_lt number 8 ≡ false) (λ x. cursors_number x ≡ number) }
-    {
+impl FromNumber for Cursors {
+    ghost number_of = { cursors_number };
+
+    ghost is_number = { is_below 8 };
+
+    fn from_number(number: u8) -> Option<Cursors> {
         if number >= 8 {
             return None;
         }
@@ -130,10 +171,14 @@ impl TableState {
             }
         }
     }
+}
 
-    pub(crate) fn from_number(number: u8) -> Option<Option<TableState>>
-        ensures { MatchOption result (nat_lt number 17 ≡ false) (λ x. table_number x ≡ number) }
-    {
+impl FromNumber for Option<TableState> {
+    ghost number_of = { table_number };
+
+    ghost is_number = { is_below 17 };
+
+    fn from_number(number: u8) -> Option<Option<TableState>> {
         if number == 0 {
             return Some(None);
         }
@@ -149,14 +194,22 @@ impl TableState {
     }
 }
 
-pub(crate) fn method_from_number(number: u8) -> Option<Divisor>
-    ensures { MatchOption result (is_method number ≡ false) (λ x. method_number x ≡ number) }
-{
-    DIVISORS.get(usize::from(number)).copied()
+impl FromNumber for Divisor {
+    ghost number_of = { method_number };
+
+    ghost is_number = { is_method };
+
+    fn from_number(number: u8) -> Option<Divisor> {
+        DIVISORS.get(usize::from(number)).copied()
+    }
 }
 
-pub(crate) fn shape_from_number(number: u8) -> Option<Shape>
-    ensures { MatchOption result (is_shape number ≡ false) (λ x. shape_number x ≡ number) }
-{
-    SHAPES.get(usize::from(number)).copied()
+impl FromNumber for Shape {
+    ghost number_of = { shape_number };
+
+    ghost is_number = { is_shape };
+
+    fn from_number(number: u8) -> Option<Shape> {
+        SHAPES.get(usize::from(number)).copied()
+    }
 }

@@ -3,19 +3,13 @@
 ghost use Rattle.std.specs.Prelude.{◌≡◌, ◌+◌, ◌<◌, ◌≤◌, ◌^◌, ◌∷◌, ◌++◌, [], length, IsTrue, IfOk, IfErr};
 ghost use Rattle.sl_code.specs.declared.fault.Cause.TheVariants as causes;
 ghost use Rattle.sl_code.specs.declared.parts.Operand.TheVariants as operands;
-ghost use Rattle.sl_ratio.specs.Quotient.{method_number};
-ghost use Rattle.sl_stages.specs.book.Typing.{shape_number};
-ghost use Rattle.sl_code.specs.Numbers.{scope_number, entries_number, ranking_number, input_number, rounding_number, fault_number, cursors_number, table_number};
-ghost use Rattle.sl_code.specs.Operands.{two_bytes, four_bytes, eight_bytes, is_any, is_below, is_scope, is_entries, is_ranking, is_input, is_method, is_rounding, is_end_fault, is_shape, tests_of};
+ghost use Rattle.sl_code.specs.Operands.{two_bytes, four_bytes, eight_bytes, is_any, tests_of};
 ghost use Rattle.sl_code.specs.Faults.{FailsTests, stop_at};
 ghost use Rattle.sl_code.specs.Reading.{Ends, FailsAhead};
 
 use crate::fault::{Cause, Stop};
-use crate::kinds::{Cursors, Registers, TableState};
-use crate::number::{method_from_number, shape_from_number};
-use crate::operand::{EndFault, Entries, Input, Ranking, Rounding, ScopeKind};
-use sl_ratio::Divisor;
-use sl_stages::Shape;
+use crate::kinds::Registers;
+use crate::number::FromNumber;
 use std::marker::Model;
 
 /// The bytes that are still to be read.
@@ -128,84 +122,13 @@ impl<'a> Reader<'a> {
         Ok(eight(*bytes))
     }
 
-    pub fn scope(&mut self) -> Result<ScopeKind, Stop>
-        ensures ok { IfOk result (λ x. self.old ≡ scope_number x ∷ self.new) }
-        ensures err { IfErr result (FailsAhead (is_scope ∷ []) self.old) }
+    /// A byte that is the number of a value.
+    pub fn numbered<T: FromNumber>(&mut self) -> Result<T, Stop>
+        ensures ok { IfOk result (λ x. self.old ≡ T.number_of x ∷ self.new) }
+        ensures err { IfErr result (FailsAhead (T.is_number ∷ []) self.old) }
     {
         let wrong = self.stop(Cause::Op);
-        ScopeKind::from_number(self.byte()?).ok_or(wrong)
-    }
-
-    pub fn entries(&mut self) -> Result<Entries, Stop>
-        ensures ok { IfOk result (λ x. self.old ≡ entries_number x ∷ self.new) }
-        ensures err { IfErr result (FailsAhead (is_entries ∷ []) self.old) }
-    {
-        let wrong = self.stop(Cause::Op);
-        Entries::from_number(self.byte()?).ok_or(wrong)
-    }
-
-    pub fn ranking(&mut self) -> Result<Ranking, Stop>
-        ensures ok { IfOk result (λ x. self.old ≡ ranking_number x ∷ self.new) }
-        ensures err { IfErr result (FailsAhead (is_ranking ∷ []) self.old) }
-    {
-        let wrong = self.stop(Cause::Op);
-        Ranking::from_number(self.byte()?).ok_or(wrong)
-    }
-
-    pub fn input(&mut self) -> Result<Input, Stop>
-        ensures ok { IfOk result (λ x. self.old ≡ input_number x ∷ self.new) }
-        ensures err { IfErr result (FailsAhead (is_input ∷ []) self.old) }
-    {
-        let wrong = self.stop(Cause::Op);
-        Input::from_number(self.byte()?).ok_or(wrong)
-    }
-
-    pub fn method(&mut self) -> Result<Divisor, Stop>
-        ensures ok { IfOk result (λ x. self.old ≡ method_number x ∷ self.new) }
-        ensures err { IfErr result (FailsAhead (is_method ∷ []) self.old) }
-    {
-        let wrong = self.stop(Cause::Op);
-        method_from_number(self.byte()?).ok_or(wrong)
-    }
-
-    pub fn rounding(&mut self) -> Result<Rounding, Stop>
-        ensures ok { IfOk result (λ x. self.old ≡ rounding_number x ∷ self.new) }
-        ensures err { IfErr result (FailsAhead (is_rounding ∷ []) self.old) }
-    {
-        let wrong = self.stop(Cause::Op);
-        Rounding::from_number(self.byte()?).ok_or(wrong)
-    }
-
-    pub fn end_fault(&mut self) -> Result<EndFault, Stop>
-        ensures ok { IfOk result (λ x. self.old ≡ fault_number x ∷ self.new) }
-        ensures err { IfErr result (FailsAhead (is_end_fault ∷ []) self.old) }
-    {
-        let wrong = self.stop(Cause::Op);
-        EndFault::from_number(self.byte()?).ok_or(wrong)
-    }
-
-    pub fn cursors(&mut self) -> Result<Cursors, Stop>
-        ensures ok { IfOk result (λ x. self.old ≡ cursors_number x ∷ self.new) }
-        ensures err { IfErr result (FailsAhead (is_below 8 ∷ []) self.old) }
-    {
-        let wrong = self.stop(Cause::Op);
-        Cursors::from_number(self.byte()?).ok_or(wrong)
-    }
-
-    pub fn table(&mut self) -> Result<Option<TableState>, Stop>
-        ensures ok { IfOk result (λ x. self.old ≡ table_number x ∷ self.new) }
-        ensures err { IfErr result (FailsAhead (is_below 17 ∷ []) self.old) }
-    {
-        let wrong = self.stop(Cause::Op);
-        TableState::from_number(self.byte()?).ok_or(wrong)
-    }
-
-    pub fn shape(&mut self) -> Result<Shape, Stop>
-        ensures ok { IfOk result (λ x. self.old ≡ shape_number x ∷ self.new) }
-        ensures err { IfErr result (FailsAhead (is_shape ∷ []) self.old) }
-    {
-        let wrong = self.stop(Cause::Op);
-        shape_from_number(self.byte()?).ok_or(wrong)
+        T::from_number(self.byte()?).ok_or(wrong)
     }
 }
 

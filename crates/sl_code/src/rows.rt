@@ -7,6 +7,14 @@ use crate::instr::Instr;
 use crate::parts::Operand::{Register, Scope, Slot, Stage, Target, Value};
 use crate::parts::{Operand, Operands, four, none, one, three, two};
 
+/// The names of the operations, in the order of their bytes, from 1 on.
+const NAMES: [&str; 44] = [
+    "set", "mov", "add", "sub", "mul", "div", "rem", "max", "jmp", "jz", "jlt", "jnl", "get",
+    "store", "zero", "input", "house", "wparty", "wland", "fparty", "nparty", "fland", "nland",
+    "fwin", "nwin", "table", "prio", "rest", "lead", "share", "peers", "take", "lot", "takelot",
+    "emit", "given", "fault", "tie", "seat", "single", "halt", "at", "haltv", "weigh",
+];
+
 impl Instr {
     /// The byte of its operation.
     pub fn opcode(self) -> u8
@@ -71,52 +79,7 @@ impl Instr {
     pub(crate) fn word(self) -> &'static str
         ensures { result.now ≡ name_of self }
     {
-        match self {
-            Instr::Set(_, _) => "set",
-            Instr::Mov(_, _) => "mov",
-            Instr::Add(_, _) => "add",
-            Instr::Sub(_, _) => "sub",
-            Instr::Mul(_, _) => "mul",
-            Instr::Div(_, _) => "div",
-            Instr::Rem(_, _) => "rem",
-            Instr::Max(_, _) => "max",
-            Instr::Jmp(_) => "jmp",
-            Instr::Jz(_, _) => "jz",
-            Instr::Jlt(_, _, _) => "jlt",
-            Instr::Jnl(_) => "jnl",
-            Instr::Get(_, _) => "get",
-            Instr::Store(_, _) => "store",
-            Instr::Zero(_) => "zero",
-            Instr::Input(_, _) => "input",
-            Instr::House(_) => "house",
-            Instr::Wparty(_) => "wparty",
-            Instr::Wland => "wland",
-            Instr::Fparty(_) => "fparty",
-            Instr::Nparty(_) => "nparty",
-            Instr::Fland(_) => "fland",
-            Instr::Nland(_) => "nland",
-            Instr::Fwin(_) => "fwin",
-            Instr::Nwin(_) => "nwin",
-            Instr::Table(_, _) => "table",
-            Instr::Prio(_, _, _) => "prio",
-            Instr::Rest(_) => "rest",
-            Instr::Lead => "lead",
-            Instr::Share => "share",
-            Instr::Peers(_, _) => "peers",
-            Instr::Take => "take",
-            Instr::Lot(_, _) => "lot",
-            Instr::Takelot(_) => "takelot",
-            Instr::Emit(_, _, _, _) => "emit",
-            Instr::Given(_, _, _) => "given",
-            Instr::Fault(_, _, _) => "fault",
-            Instr::Tie(_, _, _) => "tie",
-            Instr::Seat => "seat",
-            Instr::Single => "single",
-            Instr::Halt(_) => "halt",
-            Instr::At(_) => "at",
-            Instr::Haltv(_, _) => "haltv",
-            Instr::Weigh(_, _, _, _) => "weigh",
-        }
+        NAMES[usize::from(self.opcode()) - 1]
     }
 
     /// Its operands.

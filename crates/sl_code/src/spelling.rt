@@ -88,21 +88,20 @@ fn instr(bytes: &mut Vec<u8>, instr: Instr) -> Result<(), NoMemory>
 fn operand(bytes: &mut Vec<u8>, operand: Operand) -> Result<(), NoMemory>
     ensures { OnOk result (bytes.new.items ≡ bytes.old.items ++ bytes_of operand) }
 {
-    match operand {
-        Operand::Target(target) => extend_four(bytes, target),
-        Operand::Value(value) => extend_eight(bytes, value),
-        Operand::Positive(registers) => extend_two(bytes, registers.mask),
-        Operand::Register(number) | Operand::Slot(number) | Operand::Stage(number) => {
-            push(bytes, number)
-        }
-        Operand::Scope(scope) => push(bytes, scope.number()),
-        Operand::Entries(entries) => push(bytes, entries.number()),
-        Operand::Ranking(ranking) => push(bytes, ranking.number()),
-        Operand::Input(input) => push(bytes, input.number()),
-        Operand::Method(method) => push(bytes, method.number()),
-        Operand::Rounding(rounding) => push(bytes, rounding.number()),
-        Operand::Fault(fault) => push(bytes, fault.number()),
-        Operand::Cursors(cursors) => push(bytes, cursors.number()),
-        Operand::Table(table) => push(bytes, TableState::number(table)),
-    }
+    let number = match operand {
+        Operand::Target(target) => return extend_four(bytes, target),
+        Operand::Value(value) => return extend_eight(bytes, value),
+        Operand::Positive(registers) => return extend_two(bytes, registers.mask),
+        Operand::Register(number) | Operand::Slot(number) | Operand::Stage(number) => number,
+        Operand::Scope(scope) => scope.number(),
+        Operand::Entries(entries) => entries.number(),
+        Operand::Ranking(ranking) => ranking.number(),
+        Operand::Input(input) => input.number(),
+        Operand::Method(method) => method.number(),
+        Operand::Rounding(rounding) => rounding.number(),
+        Operand::Fault(fault) => fault.number(),
+        Operand::Cursors(cursors) => cursors.number(),
+        Operand::Table(table) => TableState::number(table),
+    };
+    push(bytes, number)
 }

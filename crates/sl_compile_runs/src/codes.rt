@@ -4,11 +4,11 @@
 use sl_blocks::{Job, split_block};
 use sl_code::Instr;
 use sl_memory::codes::compiled;
-use sl_ratio::{Divisor, Method};
+use sl_ratio::{Divisor, Method, NoMemory};
 use sl_stages::Shape::{Land, List, One, Party};
 use sl_stages::{Majority, Shape};
-use std::alloc::Global;
-use std::test::*;
+use std::alloc::{AllocError, Global};
+use std::test::Fail;
 
 const SPLIT: &str =
     "rulebook 1; law \"t\"; house 8; eligible all; stage s = split(house, counted, webster); seats s keep;";
@@ -38,7 +38,7 @@ const JOB: Job = Job {
 };
 
 // Whether the code begins with what stands before a place of its own and the block of the job behind that.
-fn holds_block_at(alloc: Global, code: &[Instr], place: usize) -> Result<bool, Fail> {
+fn holds_block_at(alloc: Global, code: &[Instr], place: usize) -> Result<bool, NoMemory> {
     if place > code.len() || place > 199_000 {
         return Ok(false);
     }
@@ -48,7 +48,7 @@ fn holds_block_at(alloc: Global, code: &[Instr], place: usize) -> Result<bool, F
 }
 
 // Whether it does so for some place.
-fn holds_block(alloc: Global, code: &[Instr]) -> Result<bool, Fail> {
+fn holds_block(alloc: Global, code: &[Instr]) -> Result<bool, NoMemory> {
     for place in 0..code.len() {
         if holds_block_at(alloc, code, place)? {
             return Ok(true);
@@ -57,45 +57,63 @@ fn holds_block(alloc: Global, code: &[Instr]) -> Result<bool, Fail> {
     Ok(false)
 }
 
-fn tables_in(code: &[Instr]) -> usize {
-    code.iter()
-        .filter(|instr| matches!(instr, Instr::Table(..)))
-        .count()
+// Whether the code of a book holds it.
+fn is_split(alloc: Global, book: &str) -> bool {
+    match compiled(alloc, book.as_bytes()) {
+        Ok(code) => matches!(holds_block(alloc, code.code().instrs()), Ok(true)),
+        Err(_) => false,
+    }
+}
+
+#[test]
+fn split_in_its_book(rt: HostRuntime) {
+    assert!(rt; is_split(rt.alloc(), SPLIT));
+}
+
+fn opens_table(code: &[Instr]) -> bool {
+    code.iter().any(|instr| matches!(instr, Instr::Table(..)))
+}
+
+// Whether the code of a book opens no table.
+fn is_without_tables(alloc: Global, book: &str) -> bool {
+    match compiled(alloc, book.as_bytes()) {
+        Ok(code) => !opens_table(code.code().instrs()),
+        Err(_) => false,
+    }
+}
+
+#[test]
+fn no_table_without_a_split(rt: HostRuntime) {
+    assert!(rt; is_without_tables(rt.alloc(), WITHOUT_A_SPLIT));
+}
+
+fn add_conditions(text: &mut Vec<u8>, count: usize) -> Result<(), AllocError> {
+    for _ in 0..count {
+        text.extend_from_slice(b" or winners at least 3")?;
+    }
+    Ok(())
 }
 
 // A book of 65,536 bytes, with 2,971 conditions.
-fn longest(alloc: Global) -> Result<Vec<u8>, Fail> {
+fn longest(alloc: Global) -> Result<Vec<u8>, AllocError> {
     let mut text = Vec::from_slice(alloc, b"rulebook 1; law \"t\"; house 8; eligible all")?;
-    for _ in 0..2970 {
-        text.extend_from_slice(b" or winners at least 3")?;
-    }
+    add_conditions(&mut text, 2970)?;
     text.extend_from_slice(b"; seats winners keep;")?;
     text.resize(65_536, b' ')?;
     Ok(text)
 }
 
-#[test]
-fn split_in_its_book(rt: HostRuntime) -> Result<(), Fail> {
-    let alloc = rt.alloc();
-    let code = compiled(alloc, SPLIT.as_bytes())?;
-    assert!(rt; holds_block(alloc, code.code().instrs())?);
-    Ok(())
-}
-
-#[test]
-fn no_table_without_a_split(rt: HostRuntime) -> Result<(), Fail> {
-    let alloc = rt.alloc();
-    let code = compiled(alloc, WITHOUT_A_SPLIT.as_bytes())?;
-    assert_eq!(rt; tables_in(code.code().instrs()), 0);
-    Ok(())
+// Whether a book of that length has a code of fewer than 1,000 instructions.
+fn has_short_code(alloc: Global, text: &[u8]) -> bool {
+    match compiled(alloc, text) {
+        Ok(code) => text.len() == 65_536 && code.code().instrs().len() < 1_000,
+        Err(_) => false,
+    }
 }
 
 #[test]
 fn longest_book(rt: HostRuntime) -> Result<(), Fail> {
-    let alloc = rt.alloc();
-    let text = longest(alloc)?;
-    assert_eq!(rt; text.len(), 65_536);
-    let code = compiled(alloc, text.as_slice())?;
-    assert!(rt; code.code().instrs().len() < 1_000);
+    let text = longest(rt.alloc())?;
+    assert!(rt; has_short_code(rt.alloc(), text.as_slice()));
     Ok(())
 }

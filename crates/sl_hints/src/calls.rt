@@ -127,6 +127,21 @@ fn explain_outcome<'a>(
     explain_ending(alloc, language, names.as_slice(), returns, ending)
 }
 
+// Refused returns, explained.
+fn refused_returns<'a>(
+    alloc: Global,
+    language: Language,
+    bytes: &[u8],
+    why: ReturnsRefusal,
+) -> Result<Option<Explained<'a>>, NoMemory>
+    ensures { IfOk result (λ told. fault_in told ≡ Some (fault.Returns why)) }
+{
+    Ok(Some(Explained {
+        explanation: about_returns(alloc, language, bytes, why)?,
+        fault: Fault::Returns(why),
+    }))
+}
+
 // What ends a count by a good book, explained.
 fn explain_counted<'a>(
     alloc: Global,
@@ -138,10 +153,7 @@ fn explain_counted<'a>(
 {
     match judge_returns(alloc, bytes)? {
         Verdict::Good(returns) => explain_outcome(alloc, language, book, &returns),
-        Verdict::Refused(why) => Ok(Some(Explained {
-            explanation: about_returns(alloc, language, bytes, why)?,
-            fault: Fault::Returns(why),
-        })),
+        Verdict::Refused(why) => refused_returns(alloc, language, bytes, why),
     }
 }
 
@@ -197,6 +209,21 @@ pub fn explain_count<'a>(
     }
 }
 
+// A stage that the rulebook lacks, explained.
+fn unknown_stage<'a>(
+    alloc: Global,
+    language: Language,
+    book: BookText<'a>,
+    name: &'a str,
+) -> Result<Option<Explained<'a>>, NoMemory>
+    ensures { IfOk result (λ told. fault_in told ≡ Some (fault.Stage name.entry)) }
+{
+    Ok(Some(Explained {
+        explanation: explain_unknown_stage(alloc, language, book.bytes(), name)?,
+        fault: Fault::Stage(name),
+    }))
+}
+
 /// Why showing a stage gives no column, explained, or `None` where it gives one.
 ///
 /// # Errors
@@ -214,10 +241,7 @@ pub fn explain_stage<'a>(
     match judge_book(alloc, book)? {
         Verdict::Good(good) => match stage_number(&good.book, name) {
             Some(_) => explain_counted(alloc, language, &good, returns),
-            None => Ok(Some(Explained {
-                explanation: explain_unknown_stage(alloc, language, book.bytes(), name)?,
-                fault: Fault::Stage(name),
-            })),
+            None => unknown_stage(alloc, language, book, name),
         },
         Verdict::Refused(why) => refused_book(alloc, language, book, why),
     }
@@ -248,11 +272,23 @@ fn explain_run_of<'a>(
 {
     match judge_returns(alloc, bytes)? {
         Verdict::Good(returns) => explain_code_run(alloc, language, code, &returns),
-        Verdict::Refused(why) => Ok(Some(Explained {
-            explanation: about_returns(alloc, language, bytes, why)?,
-            fault: Fault::Returns(why),
-        })),
+        Verdict::Refused(why) => refused_returns(alloc, language, bytes, why),
     }
+}
+
+// A refused code file, explained.
+fn refused_code<'a>(
+    alloc: Global,
+    language: Language,
+    file: &[u8],
+    why: CodeRefusal,
+) -> Result<Option<Explained<'a>>, NoMemory>
+    ensures { IfOk result (λ told. fault_in told ≡ Some (fault.Code why)) }
+{
+    Ok(Some(Explained {
+        explanation: about_code(alloc, language, file, why)?,
+        fault: Fault::Code(why),
+    }))
 }
 
 /// Why the run of a code file on returns gives no table, explained, or `None` where it gives one.
@@ -270,9 +306,6 @@ pub fn explain_run<'a>(
 {
     match judge_code(alloc, file)? {
         Verdict::Good(code) => explain_run_of(alloc, language, &code, returns),
-        Verdict::Refused(why) => Ok(Some(Explained {
-            explanation: about_code(alloc, language, file, why)?,
-            fault: Fault::Code(why),
-        })),
+        Verdict::Refused(why) => refused_code(alloc, language, file, why),
     }
 }

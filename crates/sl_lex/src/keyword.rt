@@ -45,7 +45,8 @@ pub enum Keyword {
     Hamilton,
 }
 
-const KEYWORDS: [Keyword; 37] = [
+// In the order in which they are declared.
+static KEYWORDS: [Keyword; 37] = [
     Keyword::Rulebook,
     Keyword::Law,
     Keyword::House,
@@ -85,50 +86,53 @@ const KEYWORDS: [Keyword; 37] = [
     Keyword::Hamilton,
 ];
 
+// Their spellings, in the same order.
+static SPELLINGS: [&[u8]; 37] = [
+    b"rulebook",
+    b"law",
+    b"house",
+    b"eligible",
+    b"or",
+    b"stage",
+    b"seats",
+    b"winners",
+    b"keep",
+    b"cover",
+    b"valid",
+    b"at",
+    b"least",
+    b"per",
+    b"minority",
+    b"all",
+    b"counted",
+    b"outside",
+    b"independents",
+    b"population",
+    b"sum",
+    b"party",
+    b"land",
+    b"larger",
+    b"less",
+    b"split",
+    b"grow",
+    b"atleast",
+    b"majority",
+    b"prefer",
+    b"refuse",
+    b"adams",
+    b"dean",
+    b"hill",
+    b"webster",
+    b"jefferson",
+    b"hamilton",
+];
+
 impl Keyword {
     /// The word that this keyword is.
     pub fn spelling(self) -> &'static [u8]
         ensures { result.now ≡ spelling self }
     {
-        match self {
-            Keyword::Rulebook => b"rulebook",
-            Keyword::Law => b"law",
-            Keyword::House => b"house",
-            Keyword::Eligible => b"eligible",
-            Keyword::Or => b"or",
-            Keyword::Stage => b"stage",
-            Keyword::Seats => b"seats",
-            Keyword::Winners => b"winners",
-            Keyword::Keep => b"keep",
-            Keyword::Cover => b"cover",
-            Keyword::Valid => b"valid",
-            Keyword::At => b"at",
-            Keyword::Least => b"least",
-            Keyword::Per => b"per",
-            Keyword::Minority => b"minority",
-            Keyword::All => b"all",
-            Keyword::Counted => b"counted",
-            Keyword::Outside => b"outside",
-            Keyword::Independents => b"independents",
-            Keyword::Population => b"population",
-            Keyword::Sum => b"sum",
-            Keyword::Party => b"party",
-            Keyword::Land => b"land",
-            Keyword::Larger => b"larger",
-            Keyword::Less => b"less",
-            Keyword::Split => b"split",
-            Keyword::Grow => b"grow",
-            Keyword::Atleast => b"atleast",
-            Keyword::Majority => b"majority",
-            Keyword::Prefer => b"prefer",
-            Keyword::Refuse => b"refuse",
-            Keyword::Adams => b"adams",
-            Keyword::Dean => b"dean",
-            Keyword::Hill => b"hill",
-            Keyword::Webster => b"webster",
-            Keyword::Jefferson => b"jefferson",
-            Keyword::Hamilton => b"hamilton",
-        }
+        SPELLINGS[self as usize]
     }
 
     /// The keyword that this word is, if it is one.

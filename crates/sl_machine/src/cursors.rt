@@ -11,31 +11,34 @@ ghost use Rattle.sl_machine.specs.Effects.{Goes, Jumps, effect, given, with_part
 ghost use Rattle.sl_machine.specs.Safe.{IsInRange, entries_in};
 ghost use Rattle.sl_machine.specs.inner.Stores.{state_of, sizes_of, effect_of};
 
+use crate::cursor::Cursor;
 use crate::step::Effect;
 use crate::store::Store;
 use sl_code::{Entries, ScopeKind};
 use sl_stages::{Item, Returns, Scope, Shape};
 
 // The cursor on the first of so many, if there is one, and where the run goes on.
-fn first_of(count: usize) -> (Option<usize>, Effect)
+fn first_of(count: usize) -> (Cursor, Effect)
     ensures { (set : Option ℕ → State → State) (s : State) → effect_of result.1 (set result.0 s) ≡ first_of count set s }
 {
+    let first = Cursor::below(count, 0);
     if count == 0 {
-        (None, Effect::Jumps)
+        (first, Effect::Jumps)
     } else {
-        (Some(0), Effect::Goes)
+        (first, Effect::Goes)
     }
 }
 
 // The cursor on the next of so many, if there is one, and where the run goes on.
-fn next_of(count: usize, cursor: usize) -> (Option<usize>, Effect)
+fn next_of(count: usize, cursor: usize) -> (Cursor, Effect)
     requires { cursor < count }
     ensures { (set : Option ℕ → State → State) (s : State) → effect_of result.1 (set result.0 s) ≡ next_of count (Some cursor) set s }
 {
+    let next = Cursor::below(count, cursor + 1);
     if cursor + 1 < count {
-        (Some(cursor + 1), Effect::Jumps)
+        (next, Effect::Jumps)
     } else {
-        (None, Effect::Goes)
+        (next, Effect::Goes)
     }
 }
 
@@ -61,7 +64,7 @@ impl Store {
         ensures value { let s = state_of self.now in both s.land s.party (λ land party. land * parties_of returns.now + party) ≡ Some result }
         ensures within { result < lands_of returns.now * parties_of returns.now }
     {
-        self.cursors.land.unwrap() * returns.parties() + self.cursors.party.unwrap()
+        self.cursors.land.place() * returns.parties() + self.cursors.party.place()
     }
 
     /// The cell of a column of that shape at the cursors, of which those of its shape are set: a read of a cell tests none.
@@ -73,8 +76,8 @@ impl Store {
     {
         match shape {
             Shape::One => 0,
-            Shape::Party => self.cursors.party.unwrap(),
-            Shape::Land => self.cursors.land.unwrap(),
+            Shape::Party => self.cursors.party.place(),
+            Shape::Land => self.cursors.land.place(),
             Shape::List => self.list_index(returns),
         }
     }
@@ -87,10 +90,10 @@ impl Store {
         ensures within { result < entries_in returns.now entries }
     {
         match entries {
-            Entries::Party => self.cursors.party.unwrap(),
-            Entries::Land => self.cursors.land.unwrap(),
+            Entries::Party => self.cursors.party.place(),
+            Entries::Land => self.cursors.land.place(),
             Entries::List => self.list_index(returns),
-            Entries::Win => self.cursors.win.unwrap(),
+            Entries::Win => self.cursors.win.place(),
         }
     }
 
@@ -100,9 +103,12 @@ impl Store {
     {
         match kind {
             ScopeKind::All => Some(Scope::All),
-            ScopeKind::Land => Some(Scope::Land(self.cursors.land?)),
-            ScopeKind::Party => Some(Scope::Party(self.cursors.party?)),
-            ScopeKind::List => Some(Scope::List(self.cursors.land?, self.cursors.party?)),
+            ScopeKind::Land => Some(Scope::Land(self.cursors.land.get()?)),
+            ScopeKind::Party => Some(Scope::Party(self.cursors.party.get()?)),
+            ScopeKind::List => Some(Scope::List(
+                self.cursors.land.get()?,
+                self.cursors.party.get()?,
+            )),
         }
     }
 
@@ -114,13 +120,13 @@ impl Store {
         ensures kept { sizes_of self.new ≡ sizes_of self.old }
     {
         match entries {
-            Entries::Party => self.cursors.party = Some(index),
-            Entries::Land => self.cursors.land = Some(index),
+            Entries::Party => self.cursors.party = Cursor::at(index),
+            Entries::Land => self.cursors.land = Cursor::at(index),
             Entries::List => {
-                self.cursors.land = Some(index / returns.parties());
-                self.cursors.party = Some(index % returns.parties());
+                self.cursors.land = Cursor::at(index / returns.parties());
+                self.cursors.party = Cursor::at(index % returns.parties());
             }
-            Entries::Win => self.cursors.win = Some(index),
+            Entries::Win => self.cursors.win = Cursor::at(index),
         }
     }
 
@@ -132,8 +138,8 @@ impl Store {
         ensures { let s = state_of self.now in
             effect_of result s ≡ given (both s.land s.party (has_list returns.now)) (λ there. if there then Goes s else Jumps s) }
     {
-        let land = self.cursors.land.unwrap();
-        let party = self.cursors.party.unwrap();
+        let land = self.cursors.land.place();
+        let party = self.cursors.party.place();
         if returns.is_list(land, party) {
             Effect::Goes
         } else {
@@ -160,8 +166,8 @@ impl Store {
         ensures follows { let s = state_of self.old in effect_of result (state_of self.new) ≡ given (winner_at returns.now s) (λ w. to_party w.party s) }
         ensures kept { sizes_of self.new ≡ sizes_of self.old }
     {
-        let winner = returns.win(self.cursors.win.unwrap());
-        self.cursors.party = winner.party;
+        let winner = returns.win(self.cursors.win.place());
+        self.cursors.party = Cursor::of(winner.party);
         match winner.party {
             Some(_) => Effect::Goes,
             None => Effect::Jumps,
@@ -175,8 +181,8 @@ impl Store {
         ensures follows { let s = state_of self.old in effect_of result (state_of self.new) ≡ given (winner_at returns.now s) (λ w. Goes (with_land (Some w.land) s)) }
         ensures kept { sizes_of self.new ≡ sizes_of self.old }
     {
-        let winner = returns.win(self.cursors.win.unwrap());
-        self.cursors.land = Some(winner.land);
+        let winner = returns.win(self.cursors.win.place());
+        self.cursors.land = Cursor::at(winner.land);
         Effect::Goes
     }
 
@@ -197,7 +203,7 @@ impl Store {
         ensures follows { let s = state_of self.old in effect_of result (state_of self.new) ≡ next_of (parties_of returns.now) s.party with_party s }
         ensures kept { sizes_of self.new ≡ sizes_of self.old }
     {
-        let (party, next) = next_of(returns.parties(), self.cursors.party.unwrap());
+        let (party, next) = next_of(returns.parties(), self.cursors.party.place());
         self.cursors.party = party;
         next
     }
@@ -219,7 +225,7 @@ impl Store {
         ensures follows { let s = state_of self.old in effect_of result (state_of self.new) ≡ next_of (lands_of returns.now) s.land with_land s }
         ensures kept { sizes_of self.new ≡ sizes_of self.old }
     {
-        let (land, next) = next_of(returns.lands(), self.cursors.land.unwrap());
+        let (land, next) = next_of(returns.lands(), self.cursors.land.place());
         self.cursors.land = land;
         next
     }
@@ -241,7 +247,7 @@ impl Store {
         ensures follows { let s = state_of self.old in effect_of result (state_of self.new) ≡ next_of (wins_of returns.now) s.win with_win s }
         ensures kept { sizes_of self.new ≡ sizes_of self.old }
     {
-        let (win, next) = next_of(returns.wins(), self.cursors.win.unwrap());
+        let (win, next) = next_of(returns.wins(), self.cursors.win.place());
         self.cursors.win = win;
         next
     }

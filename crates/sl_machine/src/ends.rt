@@ -125,7 +125,7 @@ impl Store {
         ensures follows { (c : CountingCode) → effect_of result (state_of self.new) ≡ effect c returns.now instr.Seat (state_of self.old) }
         ensures kept { sizes_of self.new ≡ sizes_of self.old }
     {
-        let win = self.cursors.win.unwrap();
+        let win = self.cursors.win.place();
         let winner = returns.win(win);
         if let Some(party) = winner.party
             && returns.is_list(winner.land, party)
@@ -143,7 +143,7 @@ impl Store {
         ensures follows { (c : CountingCode) → effect_of result (state_of self.new) ≡ effect c returns.now instr.Single (state_of self.old) }
         ensures kept { sizes_of self.new ≡ sizes_of self.old }
     {
-        let win = self.cursors.win.unwrap();
+        let win = self.cursors.win.place();
         self.put_winner(win, Placed::Single);
         Effect::Goes
     }

@@ -3,6 +3,7 @@
 
 mod arithmetic;
 mod columns;
+mod cursor;
 mod cursors;
 mod draws;
 mod ends;

@@ -6,6 +6,7 @@ ghost use Rattle.sl_machine.specs.State.{start};
 ghost use Rattle.sl_machine.specs.Places.{cells_of};
 ghost use Rattle.sl_machine.specs.inner.Stores.{state_of, sizes_of, sizes_for};
 
+use crate::cursor::Cursor;
 use crate::lots::Lots;
 use crate::priority::PriorityTable;
 use sl_code::Code;
@@ -14,12 +15,12 @@ use sl_stages::{Mark, Placed, Returns, SeatStep, Shape, Weight};
 use sl_verify::REGISTERS;
 use std::alloc::Global;
 
-/// The cursors, where they are set.
-#[derive(Clone, Copy, Debug)]
+/// The cursors.
+#[derive(Debug, Drop)]
 pub(crate) struct Cursors {
-    pub party: Option<usize>,
-    pub land: Option<usize>,
-    pub win: Option<usize>,
+    pub party: Cursor,
+    pub land: Cursor,
+    pub win: Cursor,
 }
 
 /// A state of the machine, but for the place in the code.
@@ -111,9 +112,9 @@ impl Store {
             registers: [0; REGISTERS as usize],
             columns,
             cursors: Cursors {
-                party: None,
-                land: None,
-                win: None,
+                party: Cursor::unset(),
+                land: Cursor::unset(),
+                win: Cursor::unset(),
             },
             table: PriorityTable::off(alloc, lots),
             mark: Mark::Quotient(Ratio::new(1, 1)),

@@ -120,7 +120,7 @@ impl Store {
             ≡ given (winner_at returns.now s) (λ w. puts_in returns.now (record { num = w.first; den = w.valid }) s)) }
         ensures kept { sizes_of self.new ≡ sizes_of self.old }
     {
-        let winner = returns.win(self.cursors.win.unwrap());
+        let winner = returns.win(self.cursors.win.place());
         let share = Ratio::new(u128::from(winner.first), u128::from(winner.valid));
         self.enter(returns, share)
     }

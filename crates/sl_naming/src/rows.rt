@@ -3,7 +3,7 @@
 use crate::naming::{Naming, land_name, party_name, win_name};
 use crate::words::met_text;
 use sl_ratio::NoMemory;
-use sl_scopes::Fraction;
+use sl_results::Fraction;
 use sl_sheets::{Form, Row, Sheet};
 use sl_stages::{Cond, Item, Scope};
 use std::alloc::Global;

@@ -1,11 +1,13 @@
-//! Rulebooks and returns, judged by the calls of the desk.
+//! Rulebooks and returns, judged by the calls of the desk, and full names.
 
 ghost use Rattle.std.specs.Prelude.{Some};
 
 use crate::answer::Answer;
+use crate::streams::MAX_NAMES_BYTES;
 use sl_desk::{
     BookSource, BookText, Failed, FromRead, Sink, Verdict, count, judge_book, judge_returns,
 };
+use sl_naming::FullNames;
 use sl_ratio::NoMemory;
 use sl_stages::{CheckedBook, Returns};
 use std::alloc::Global;
@@ -80,5 +82,26 @@ pub(crate) fn read_election(alloc: Global, bytes: &[u8]) -> Result<Option<Return
     match judge_returns(alloc, bytes)? {
         Verdict::Good(returns) => Ok(Some(returns)),
         Verdict::Refused(_) => Ok(None),
+    }
+}
+
+/// The full names of a text, or the answer that refuses them.
+///
+/// # Errors
+///
+/// Want of memory.
+pub(crate) fn names_of(
+    alloc: Global,
+    names: Option<&[u8]>,
+) -> Result<Result<FullNames, Answer>, NoMemory> {
+    let Some(bytes) = names else {
+        return Ok(Ok(FullNames::none(alloc)));
+    };
+    if bytes.len() > MAX_NAMES_BYTES {
+        return Ok(Err(Answer::names_too_long(alloc)?));
+    }
+    match FullNames::read(alloc, bytes)? {
+        Ok(names) => Ok(Ok(names)),
+        Err(row) => Ok(Err(Answer::refused_names(alloc, row)?)),
     }
 }

@@ -2,11 +2,15 @@
 #![tactic(auto)]
 
 mod answer;
-mod calls;
 mod cases;
+mod comparison;
+mod counts;
 mod runs;
 mod streams;
+mod sums;
 
 pub use answer::{Answer, Shape};
-pub use calls::{Named, STATUTES, compare, report, stages, totals};
+pub use comparison::{Named, STATUTES, compare};
+pub use counts::{report, stages};
 pub use streams::{MAX_NAMES_BYTES, ReportError, bytes_of, deliver};
+pub use sums::totals;

@@ -1,7 +1,7 @@
 //! Counts with their records and the columns of their stages.
 
 ghost use Rattle.std.specs.Prelude.{◌≡◌};
-ghost use Rattle.sl_machine.specs.Fits.{FitsMemory};
+ghost use Rattle.sl_machine.specs.Fits.{Fits, FitsMemory};
 
 use sl_code::Code;
 use sl_compile::compile;
@@ -43,6 +43,32 @@ fn columns(
     Ok(columns)
 }
 
+// The table and the columns of what a run holds.
+fn counted(
+    alloc: Global,
+    code: &Code,
+    memory: &Memory,
+    returns: &Returns,
+) -> Result<Counted, NoMemory>
+    requires { FitsMemory code.now returns.now memory.now }
+{
+    Ok(Counted {
+        table: table_of(alloc, memory, returns)?,
+        columns: columns(alloc, code, memory, returns)?,
+    })
+}
+
+// What the end of a run of a code on returns comes to.
+fn ended(alloc: Global, code: &Code, returns: &Returns, ending: Ending) -> Result<Outcome, NoMemory>
+    requires { Fits code.now returns.now ending }
+{
+    match ending {
+        Ending::Done(memory) => Ok(Outcome::Counted(counted(alloc, code, &memory, returns)?)),
+        Ending::Fault(fault) => Ok(Outcome::Fault(fault)),
+        Ending::OutOfBudget => Ok(Outcome::OutOfBudget),
+    }
+}
+
 /// What a rulebook comes to on returns: its code is run with its budget, and keeps its records.
 pub(crate) fn outcome_of(
     alloc: Global,
@@ -51,12 +77,6 @@ pub(crate) fn outcome_of(
 ) -> Result<Outcome, NoMemory> {
     let code = compile(alloc, book)?;
     let steps = budget(book.book.stages.len().min(MAX_STAGES), returns);
-    match run(alloc, &code, returns, steps)? {
-        Ending::Done(memory) => Ok(Outcome::Counted(Counted {
-            table: table_of(alloc, &memory, returns)?,
-            columns: columns(alloc, code.code(), &memory, returns)?,
-        })),
-        Ending::Fault(fault) => Ok(Outcome::Fault(fault)),
-        Ending::OutOfBudget => Ok(Outcome::OutOfBudget),
-    }
+    let ending = run(alloc, &code, returns, steps)?;
+    ended(alloc, code.code(), returns, ending)
 }

@@ -30,7 +30,7 @@ pub struct Counted {
 }
 
 /// The place of a pair of Land and party in a column of lists.
-pub fn place_of(returns: &Returns, land: usize, party: usize) -> usize {
+pub(crate) fn place_of(returns: &Returns, land: usize, party: usize) -> usize {
     land.saturating_mul(returns.parties()).saturating_add(party)
 }
 

@@ -39,7 +39,7 @@ impl Votes {
 }
 
 /// The votes of a party's lists.
-pub fn party_votes(returns: &Returns, party: usize) -> Votes
+pub(crate) fn party_votes(returns: &Returns, party: usize) -> Votes
     requires { party < parties_of returns.now }
 {
     let mut votes = NO_VOTES;

@@ -107,28 +107,26 @@ impl ReturnsBuilder {
         ensures finished { (rs : List Record) → StandsFor self rs → result ≡ returns_of rs }
         ensures failed { IfSome self.fault (λ f. result ≡ Err f) }
     {
-        match self.end_fault() {
-            Some(fault) => Err(fault),
-            None => Ok(self.returns),
-        }
+        let checked = self.check();
+        checked.and(Ok(self.returns))
     }
 
-    // The fault with which the builder has failed; or that there is no header, or no Land.
-    fn end_fault(&self) -> Option<ReturnsFault>
-        ensures finished { (rs : List Record) → StandsFor self.now rs → result ≡ None → returns_of rs ≡ Ok self.now.election }
-        ensures refused { (rs : List Record) → StandsFor self.now rs → IfSome result (λ f. returns_of rs ≡ Err f) }
-        ensures failed { IfSome self.now.fault (λ f. result ≡ Some f) }
+    // Whether the records give returns, or the fault with which the builder has failed; or that there is no header, or no Land.
+    fn check(&self) -> Result<(), ReturnsFault>
+        ensures finished { (rs : List Record) → StandsFor self.now rs → OnOk result (returns_of rs ≡ Ok self.now.election) }
+        ensures refused { (rs : List Record) → StandsFor self.now rs → IfErr result (λ f. returns_of rs ≡ Err f) }
+        ensures failed { IfSome self.now.fault (λ f. result ≡ Err f) }
     {
-        if self.fault.is_some() {
-            return self.fault;
+        if let Some(fault) = self.fault {
+            return Err(fault);
         }
         if self.row == 0 {
-            return Some(ReturnsFault::at(1, FaultKind::Header));
+            return Err(ReturnsFault::at(1, FaultKind::Header));
         }
         if self.returns.lands() == 0 {
-            return Some(ReturnsFault::at(self.row, FaultKind::NoLand));
+            return Err(ReturnsFault::at(self.row, FaultKind::NoLand));
         }
-        None
+        Ok(())
     }
 }
 

@@ -1,7 +1,9 @@
 //! The header, which is the first record.
 
 ghost use Rattle.std.specs.Prelude.{◌≡◌};
+ghost use Rattle.std.specs.Str.{bytes_eq};
 ghost use Rattle.csv.specs.Records.{fields_of};
+ghost use Rattle.sl_returns.specs.Cells.{cell};
 ghost use Rattle.sl_returns.specs.Headers.{is_header, version_of};
 ghost use Rattle.sl_returns.specs.Tests.{may_tell_slate};
 
@@ -9,7 +11,7 @@ use crate::cells::{A, B, C, COLUMNS, KIND, LAND, PARTY, cell};
 use csv::ByteRecord;
 
 // The version of the returns, which the header tells. In the second, a list may tell the names left on it.
-#[derive(Clone, Copy, Debug, PartialEq, Eq)]
+#[derive(Clone, Copy)]
 pub(crate) enum Version {
     First,
     Second,
@@ -33,7 +35,7 @@ impl Version {
     pub(crate) fn may_tell_slate(self) -> bool
         ensures { result ≡ may_tell_slate self }
     {
-        self == Version::Second
+        matches!(self, Version::Second)
     }
 }
 
@@ -42,10 +44,17 @@ fn is_header(fields: &ByteRecord, word: &[u8]) -> bool
     ensures { result ≡ is_header word.now (fields_of fields.now) }
 {
     fields.len() == COLUMNS
-        && cell(fields, KIND) == word
-        && cell(fields, LAND) == b"land".as_slice()
-        && cell(fields, PARTY) == b"party".as_slice()
-        && cell(fields, A) == b"a".as_slice()
-        && cell(fields, B) == b"b".as_slice()
-        && cell(fields, C) == b"c".as_slice()
+        && is_cell(fields, KIND, word)
+        && is_cell(fields, LAND, b"land")
+        && is_cell(fields, PARTY, b"party")
+        && is_cell(fields, A, b"a")
+        && is_cell(fields, B, b"b")
+        && is_cell(fields, C, b"c")
+}
+
+// Whether the cell of a column is this word.
+fn is_cell(fields: &ByteRecord, column: usize, word: &[u8]) -> bool
+    ensures { result ≡ bytes_eq (cell (fields_of fields.now) column) word.now }
+{
+    cell(fields, column) == word
 }

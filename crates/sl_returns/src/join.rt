@@ -28,7 +28,7 @@ fn kept(answer: Result<(), NoMemory>) -> Result<(), FaultKind>
     ensures ok { OnOk result (IsOk answer) }
     ensures err { IfErr result (λ k. k ≡ FaultKind.NoMemory) }
 {
-    answer.map_err(|_| FaultKind::NoMemory)
+    answer.or(Err(FaultKind::NoMemory))
 }
 
 // Joins the house.

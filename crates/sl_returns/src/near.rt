@@ -10,7 +10,7 @@ use crate::fault::FaultKind;
 use sl_stages::Returns;
 
 // Where the next list mostly stands: in the Land of the last one, at the party behind it.
-#[derive(Clone, Copy, Debug)]
+#[derive(Clone, Copy)]
 pub(crate) struct Near {
     land: usize,
     party: usize,

@@ -22,8 +22,9 @@ pub fn read_returns(alloc: Global, bytes: &[u8]) -> Result<Returns, ReturnsFault
     ensures err { IfErr result (λ f. (f ≡ no_memory) ⊎ (returns_of (records_in bytes.now) ≡ Err f)) }
 {
     let mut builder = ReturnsBuilder::new(alloc);
-    feed_all(alloc, bytes, &mut builder)?;
-    builder.finish()
+    let fed = feed_all(alloc, bytes, &mut builder);
+    // where not every record was fed, the builder has nothing to tell
+    fed.and(builder.finish())
 }
 
 // Feeds a builder that has taken no record those of a text, up to one that it refuses.

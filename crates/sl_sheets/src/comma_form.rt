@@ -11,39 +11,57 @@ fn is_quoted(text: &str) -> bool {
         .any(|c| c == ',' || c == '"' || c == '\n' || c == '\r')
 }
 
-// Adds a cell's text, between quotes where it must.
-fn put_cell(out: &mut String, text: &str) -> Result<(), NoMemory> {
-    if !is_quoted(text) {
-        out.push_str(text)?;
-        return Ok(());
+// Adds a character of a text between quotes: a quote is doubled.
+fn put_character(out: &mut String, character: char) -> Result<(), NoMemory> {
+    if character == '"' {
+        out.push('"')?;
     }
+    out.push(character)?;
+    Ok(())
+}
+
+fn put_quoted(out: &mut String, text: &str) -> Result<(), NoMemory> {
     out.push('"')?;
     for character in text.chars() {
-        if character == '"' {
-            out.push('"')?;
-        }
-        out.push(character)?;
+        put_character(out, character)?;
     }
     out.push('"')?;
     Ok(())
+}
+
+// Adds a cell's text, between quotes where it must.
+fn put_cell(out: &mut String, text: &str) -> Result<(), NoMemory> {
+    if is_quoted(text) {
+        return put_quoted(out, text);
+    }
+    out.push_str(text)?;
+    Ok(())
+}
+
+// Adds the text of a cell that is not the first one of its line.
+fn put_next(out: &mut String, text: &str) -> Result<(), NoMemory> {
+    out.push(',')?;
+    put_cell(out, text)
 }
 
 fn put_heads(out: &mut String, key: &str, heads: &[Head]) -> Result<(), NoMemory> {
     put_cell(out, key)?;
     for head in heads {
-        out.push(',')?;
-        put_cell(out, head.key.as_str())?;
+        put_next(out, head.key.as_str())?;
     }
     out.push('\n')?;
     Ok(())
 }
 
+fn put_value(alloc: Global, out: &mut String, cell: &Cell) -> Result<(), NoMemory> {
+    let text = cell.text(alloc)?;
+    put_next(out, text.as_str())
+}
+
 fn put_row(alloc: Global, out: &mut String, key: &str, row: &[Cell]) -> Result<(), NoMemory> {
     put_cell(out, key)?;
     for cell in row {
-        out.push(',')?;
-        let text = cell.text(alloc)?;
-        put_cell(out, text.as_str())?;
+        put_value(alloc, out, cell)?;
     }
     out.push('\n')?;
     Ok(())
@@ -66,6 +84,19 @@ fn is_first(sheets: &[Sheet], number: usize, key: &str) -> bool {
     true
 }
 
+// Adds a sheet, with its heads where it is the first one of its key.
+fn put_sheet(
+    alloc: Global,
+    out: &mut String,
+    sheet: &Sheet,
+    is_first: bool,
+) -> Result<(), NoMemory> {
+    if is_first {
+        put_heads(out, sheet.key, sheet.heads.as_slice())?;
+    }
+    put_rows(alloc, out, sheet)
+}
+
 /// Sheets as comma-separated values.
 ///
 /// # Errors
@@ -74,10 +105,8 @@ fn is_first(sheets: &[Sheet], number: usize, key: &str) -> bool {
 pub fn comma_text(alloc: Global, sheets: &[Sheet]) -> Result<String, NoMemory> {
     let mut out = String::new(alloc);
     for (number, sheet) in sheets.iter().enumerate() {
-        if is_first(sheets, number, sheet.key) {
-            put_heads(&mut out, sheet.key, sheet.heads.as_slice())?;
-        }
-        put_rows(alloc, &mut out, sheet)?;
+        let is_first = is_first(sheets, number, sheet.key);
+        put_sheet(alloc, &mut out, sheet, is_first)?;
     }
     Ok(out)
 }

@@ -62,6 +62,45 @@ fn tables(alloc: Global, sheets: &[Sheet]) -> Result<Value, NoMemory> {
     Ok(Value::Object(tables))
 }
 
+// A text, or null.
+fn maybe_text(alloc: Global, text: Option<&str>) -> Result<Value, NoMemory> {
+    match text {
+        Some(text) => text_value(alloc, text),
+        None => Ok(Value::Null),
+    }
+}
+
+fn put_text(
+    alloc: Global,
+    members: &mut Map<String, Value>,
+    key: &str,
+    text: Option<&str>,
+) -> Result<(), NoMemory> {
+    put(members, alloc, key, maybe_text(alloc, text)?)?;
+    Ok(())
+}
+
+// Adds the command, its status and its fault.
+fn put_ending(
+    alloc: Global,
+    members: &mut Map<String, Value>,
+    command: &str,
+    status: u8,
+    line: Option<&str>,
+) -> Result<(), NoMemory> {
+    put_text(alloc, members, "command", Some(command))?;
+    let status = Value::Number(Number::from(status));
+    put(members, alloc, "status", status)?;
+    put_text(alloc, members, "fault", line)
+}
+
+// The text of a value, as a line.
+fn line_of(alloc: Global, value: &Value) -> Result<String, NoMemory> {
+    let mut text = value.to_string(alloc)?;
+    text.push('\n')?;
+    Ok(text)
+}
+
 /// Sheets as the JSON of a command that ends with a status, and with a line of a legal fault if it has one (docs/report.schema.json).
 ///
 /// # Errors
@@ -74,21 +113,8 @@ pub fn json_text(
     line: Option<&str>,
     sheets: &[Sheet],
 ) -> Result<String, NoMemory> {
-    let line = match line {
-        Some(line) => text_value(alloc, line)?,
-        None => Value::Null,
-    };
     let mut members = Map::new(alloc);
-    put(&mut members, alloc, "command", text_value(alloc, command)?)?;
-    put(
-        &mut members,
-        alloc,
-        "status",
-        Value::Number(Number::from(status)),
-    )?;
-    put(&mut members, alloc, "fault", line)?;
+    put_ending(alloc, &mut members, command, status, line)?;
     put(&mut members, alloc, "tables", tables(alloc, sheets)?)?;
-    let mut text = Value::Object(members).to_string(alloc)?;
-    text.push('\n')?;
-    Ok(text)
+    line_of(alloc, &Value::Object(members))
 }

@@ -20,8 +20,10 @@ abbrev pub AreBelow : ℕ → ℕ → ℕ → List ℕ → Type 0
 AreBelow most n i column = (k : ℕ) → k < n → get_or column k 0 ≤ i * most
 
 module _ {X : Type 0} (term : ℕ → X → ℕ) (xs : List X) (n : ℕ) where
-  pub sums_none : Sums term xs n 0 (replicate n 0)
-  sums_none = record { size = length-replicate n 0; sum = λ k h. get_or-replicate n k 0 0 h }
+  -- a column of that many zeros, before the first element
+  pub sums_none : (column : List ℕ) (m : ℕ) → column ≡ replicate m 0 → m ≡ n → Sums term xs n 0 column
+  sums_none column m blank size =
+      subst (Sums term xs n 0) (sym (blank ∙ ap (λ k. replicate k 0) size)) (record { size = length-replicate n 0; sum = λ k h. get_or-replicate n k 0 0 h })
 
   module _ (i : ℕ) (column : List ℕ) (so_far : Sums term xs n i column) where
     -- a read of a place gives its sum

@@ -1,5 +1,5 @@
 -- Tests that hold, as the facts that they say.
-use Rattle.std.proofs.Common.{◌≡◌, ℕ, Bool, true, false, ◌&&◌, [], ◌∷◌, Option, Some, None, refl}
+use Rattle.std.proofs.Common.{◌≡◌, ℕ, Bool, true, false, ◌&&◌, List, [], ◌∷◌, ◌++◌, Option, Some, None, Result, Ok, Err, refl, ◌∙◌}
 use Rattle.std.specs.Prelude.{IsTrue}
 use Rattle.std.specs.Option.{option_map_or}
 use Rattle.sl_code.specs.Codes.{CountingCode}
@@ -8,7 +8,8 @@ use Rattle.sl_verify.specs.declared.fault.VerifyFault.{VerifyFault}
 use Rattle.sl_verify.specs.Kinds.{implies}
 use Rattle.sl_verify.specs.WellKinded.{declared_at, context_of, leads_well, Stands}
 use Rattle.sl_verify.specs.Pieces.{kinds_here, meets}
-use Rattle.sl_stages.specs.book.Tests.{test, first_failing}
+use Rattle.sl_stages.specs.book.Tests.{Test, test, first_failing, Judges}
+use Rattle.sl_stages.proofs.Tests.{fails_in_row, pass_join}
 use Rattle.sl_verify.specs.Faults.{coming_tests, landing_tests, jump_tests, end_tests}
 
 pub both_hold : (a b : Bool) → IsTrue a → IsTrue b → IsTrue (a && b)
@@ -21,6 +22,11 @@ both_hold false b h k = cc
 pub fails_or_passes : (o : Option VerifyFault) (f : VerifyFault) → o ≡ Some f → o ≡ None → ⊥
 fails_or_passes None f h p = cc
 fails_or_passes (Some g) f h p = cc
+
+-- a list of tests behind one whose tests hold
+pub judges_behind : (a b : List (Test VerifyFault)) (r : Result (Unit {0}) VerifyFault) → first_failing a ≡ None → Judges r b tt → Judges r (a ++ b) tt
+judges_behind a b (Ok x) none judged = (pass_join a b none judged.0, judged.1)
+judges_behind a b (Err f) none judged = fails_in_row a b ∙ rw none judged
 
 pub one_holds : (b : Bool) (f : VerifyFault) → first_failing (test b f ∷ []) ≡ None → IsTrue b
 one_holds true f h = refl

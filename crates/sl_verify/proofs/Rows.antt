@@ -26,16 +26,20 @@ module _ {X Y : Type 0} (f : X → Option Y) (p : Y → Bool) where
       elim (f x) as (λ o. (option_map_or p o true && list_all (λ x. option_map_or p (f x) true) xs) ≡ all_hold (map p (cons_option o (filter_map f xs))))
       [ None ↦ each_holds xs | Some y ↦ ap (λ b. p y && b) (each_holds xs) ∙ sym (first_and_rest (p y) (map p (filter_map f xs))) ]
 
+both_pairs : (a b c d : Bool) → ((a && b) && (c && d)) ≡ ((a && c) && (b && d))
+both_pairs true true c d = refl
+both_pairs true false true d = refl
+both_pairs true false false d = refl
+both_pairs false b c d = refl
+
+both_everywhere : {X : Type 0} (p q : X → Bool) (xs : List X) → list_all (λ x. p x && q x) xs ≡ (list_all p xs && list_all q xs)
+both_everywhere p q [] = refl
+both_everywhere p q (x ∷ xs) = ap (λ b. (p x && q x) && b) (both_everywhere p q xs) ∙ both_pairs (p x) (q x) (list_all p xs) (list_all q xs)
+
 pub each_of_both : {X Y Z : Type 0} (f : X → Option Y) (g : X → Option Z) (p : Y → Bool) (q : Z → Bool) (xs : List X)
-    → (list_all (λ x. option_map_or p (f x) true) xs && list_all (λ x. option_map_or q (g x) true) xs) ≡ all_hold (map p (filter_map f xs) ++ map q (filter_map g xs))
+    → list_all (λ x. option_map_or p (f x) true && option_map_or q (g x) true) xs ≡ all_hold (map p (filter_map f xs) ++ map q (filter_map g xs))
 each_of_both f g p q xs =
-    ap (λ b. b && list_all (λ x. option_map_or q (g x) true) xs) (each_holds f p xs)
+    both_everywhere (λ x. option_map_or p (f x) true) (λ x. option_map_or q (g x) true) xs
+    ∙ ap (λ b. b && list_all (λ x. option_map_or q (g x) true) xs) (each_holds f p xs)
     ∙ ap (λ b. all_hold (map p (filter_map f xs)) && b) (each_holds g q xs)
     ∙ sym (both_lists (map p (filter_map f xs)) (map q (filter_map g xs)))
-
--- two tests, the second made only where the first holds
-pub second_decides : (a b s t h : Bool) → s ≡ a → t ≡ b → (a && b) ≡ h → s ≡ true → t ≡ h
-second_decides a b s t h is_a is_b both holds = is_b ∙ ap (λ x. x && b) (sym holds ∙ is_a) ∙ both
-
-pub first_decides : (a b s h : Bool) → s ≡ a → (a && b) ≡ h → s ≡ false → s ≡ h
-first_decides a b s h is_a both fails = fails ∙ ap (λ x. x && b) (sym fails ∙ is_a) ∙ both

@@ -1,6 +1,6 @@
 //! What an instruction needs.
 
-ghost use Rattle.std.specs.Prelude.{◌≡◌, IsTrue, true};
+ghost use Rattle.std.specs.Prelude.{◌≡◌, ◌&&◌, IsTrue, true};
 ghost use Rattle.std.specs.List.{list_all};
 ghost use Rattle.std.specs.Option.{option_map_or};
 ghost use Rattle.sl_verify.specs.Kinds.{contains, is_register};
@@ -22,10 +22,10 @@ use sl_stages::Shape;
 pub const LAST_CLAUSE: u8 = 255;
 
 /// Whether the machine has the register, if the operand is one.
-fn has_register(operand: Operand) -> bool
-    ensures { result ≡ option_map_or is_register (register_in operand) true }
+fn has_register(operand: &Operand) -> bool
+    ensures { result ≡ option_map_or is_register (register_in operand.now) true }
 {
-    match operand {
+    match *operand {
         Operand::Register(register) => is_register(register),
         _ => true,
     }
@@ -34,7 +34,7 @@ fn has_register(operand: Operand) -> bool
 fn each_register(operands: &[Operand]) -> bool
     ensures { result ≡ list_all (λ operand. option_map_or is_register (register_in operand) true) operands.now }
 {
-    operands.iter().all(|operand| has_register(*operand))
+    operands.iter().all(has_register)
 }
 
 /// Whether the machine has the registers that the instruction names.
@@ -104,48 +104,30 @@ fn suits(code: &Code, shape: Option<Shape>, slot: u8) -> bool
     }
 }
 
-/// Whether the operand is no slot, or one that suits.
-fn has_suited(code: &Code, shape: Option<Shape>, operand: Operand) -> bool
-    ensures { result ≡ option_map_or (suits (context_of code.now) shape) (slot_in operand) true }
+/// Whether the operand is no slot and no stage, or one that does.
+fn has_operand(code: &Code, shape: Option<Shape>, operand: Operand) -> bool
+    ensures { result ≡ (option_map_or (suits (context_of code.now) shape) (slot_in operand) true && option_map_or (has_stage (context_of code.now)) (stage_in operand) true) }
 {
     match operand {
         Operand::Slot(slot) => suits(code, shape, slot),
-        _ => true,
-    }
-}
-
-/// Whether the operand is no stage, or one that is there.
-fn has_staged(code: &Code, operand: Operand) -> bool
-    ensures { result ≡ option_map_or (has_stage (context_of code.now)) (stage_in operand) true }
-{
-    match operand {
         Operand::Stage(stage) => has_stage(code, stage),
         _ => true,
     }
 }
 
-fn each_slot(code: &Code, shape: Option<Shape>, operands: &[Operand]) -> bool
-    ensures { result ≡ list_all (λ operand. option_map_or (suits (context_of code.now) shape) (slot_in operand) true) operands.now }
+fn each_operand(code: &Code, shape: Option<Shape>, operands: &[Operand]) -> bool
+    ensures { result ≡ list_all (λ operand. option_map_or (suits (context_of code.now) shape) (slot_in operand) true && option_map_or (has_stage (context_of code.now)) (stage_in operand) true) operands.now }
 {
     operands
         .iter()
-        .all(|operand| has_suited(code, shape, *operand))
-}
-
-fn each_stage(code: &Code, operands: &[Operand]) -> bool
-    ensures { result ≡ list_all (λ operand. option_map_or (has_stage (context_of code.now)) (stage_in operand) true) operands.now }
-{
-    operands.iter().all(|operand| has_staged(code, *operand))
+        .all(|operand| has_operand(code, shape, *operand))
 }
 
 /// Whether the code has the columns and the stage that the instruction names.
 pub fn has_columns(code: &Code, instr: Instr) -> bool
     ensures { result ≡ has_columns (context_of code.now) instr }
 {
-    let operands = instr.operands();
-    let slots = each_slot(code, needed_shape(instr), operands.as_slice());
-    let stages = each_stage(code, operands.as_slice());
-    slots && stages
+    each_operand(code, needed_shape(instr), instr.operands().as_slice())
 }
 
 /// The register that must be positive.

@@ -67,9 +67,15 @@ fn check_needs(code: &Code, place: usize, kinds: Kinds, instr: Instr) -> Result<
     ensures tests { Judges result (need_tests code.now place kinds instr) tt }
     ensures registers { OnOk result (IsTrue (has_registers instr)) }
 {
-    test(has_registers(instr), VerifyFault::Register(place))?;
-    test(has_columns(code, instr), VerifyFault::Slot(place))?;
-    test(has_kinds(code, kinds, instr), VerifyFault::Kind(place))?;
+    if !has_registers(instr) {
+        return Err(VerifyFault::Register(place));
+    }
+    if !has_columns(code, instr) {
+        return Err(VerifyFault::Slot(place));
+    }
+    if !has_kinds(code, kinds, instr) {
+        return Err(VerifyFault::Kind(place));
+    }
     test(has_table(kinds, instr), VerifyFault::TableKind(place))
 }
 
@@ -98,7 +104,6 @@ fn check_jump(
 }
 
 /// Refuses an instruction that cannot stand at a place with these kinds.
-#[tactic(auto, using(sl_stages::proofs::Tests::fails_in_row))]
 fn check_own(code: &Code, place: usize, kinds: Kinds, instr: Instr) -> Result<(), VerifyFault>
     ensures tests { Judges result (own_tests code.now place kinds instr) tt }
     ensures registers { OnOk result (IsTrue (has_registers instr)) }

@@ -1,8 +1,8 @@
-use Rattle.std.proofs.Common.{◌≤◌, length, map, count_by, sym, ap, ◌∙◌, arith}
+use Rattle.std.proofs.Common.{◌≤◌, cond, length, map, count_by, sym, ap, ◌∙◌, arith}
 use Rattle.std.specs.List.{zip, range_with_len}
 use Rattle.std.proofs.lemmas.Slice.Zip.{length-zip}
 use Rattle.sl_stages.specs.returns.Election.{parties_of}
-use Rattle.sl_table.proofs.Counting.{counts_all}
+use Rattle.sl_table.proofs.Counting.{sums_none, counts_all}
 use Rattle.sl_table.proofs.PartyWinners.{counts_for, party_within, of_counted, count_within, party_more, party_same}
 use Rattle.sl_table.proofs.party_counts.winners.Goals as goal
 use Rattle.sl_table.proofs.party_counts.winners.Goals.{in-Some, in_default-party}
@@ -14,6 +14,11 @@ overflow_add-index_mut c =
     let of = party_within e c.parties.ensures.kept i c.win.result c.win.ensures c.in-Some.party (of_counted c.args.counted c.win.result _ c.in-Some.party (sym c.in-Some.is ∙ c.party.ensures)) in
     let most = count_within c.args.counted e.wins c.placed-place-items.result.now (parties_of e) i c.loop-win.column.items c.loop-win.invariant c.win.result c.win.ensures c.loop-win-test.true c.in-Some.party _ of c.index_mut.ensures.value in
     omega (arith, most)
+
+pub loop-win-init : goal.loop-win-init
+loop-win-init c =
+    let e = c.args.returns.now in
+    sums_none (λ k x. cond (counts_for c.args.counted k x) 1 0) (zip e.wins c.placed-place-items.result.now) _ c.in-Ok.column.items _ (c.in-Ok.ensures.items_if_clones_equal (λ y same. same)) c.parties.ensures.number
 
 pub loop-win-preserved : goal.loop-win-preserved
 loop-win-preserved c =

@@ -1,4 +1,5 @@
 use Rattle.std.proofs.Common.{◌≡◌, ◌≤◌, ◌+◌, ◌*◌, ℕ, List, length, get_or, ap, sym, ◌∙◌, arith}
+use Rattle.std.proofs.lemmas.List.{append-nil}
 use Rattle.std.proofs.lemmas.Nat.{row_fits}
 use Rattle.sl_stages.specs.declared.table.ListSeats.{ListSeats}
 use Rattle.sl_stages.specs.returns.Election.{has_list, lands_of, parties_of}
@@ -16,6 +17,9 @@ bounds-direct-place c =
     let size : length c.args.direct.now ≡ lands_of e * parties_of e = ap length c.requires.direct ∙ length_by_list e (placed_on e c.args.memory.now.placed) in
     let row : c.args.land * p + p ≤ lands_of e * parties_of e = row_fits c.args.land p (lands_of e) (parties_of e) c.requires.land (omega (arith, c.parties-parties.ensures.number)) in
     omega (arith, size, row)
+
+pub loop-party-init : goal.loop-party-init
+loop-party-init c = sym (append-nil c.args.lists.now.items)
 
 pub loop-party-preserved : goal.loop-party-preserved
 loop-party-preserved c =

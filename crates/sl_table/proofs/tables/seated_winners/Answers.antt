@@ -1,4 +1,4 @@
-use Rattle.std.proofs.Common.{◌≤◌, ◌*◌, length, refl, ap, sym, ◌∙◌, eq-eqb, arith}
+use Rattle.std.proofs.Common.{◌≡◌, ◌≤◌, ◌*◌, cond, length, refl, ap, sym, ◌∙◌, eq-eqb, arith}
 use Rattle.std.specs.List.{zip}
 use Rattle.std.proofs.lemmas.Bool.{ne_eqb}
 use Rattle.std.proofs.lemmas.Option.{slice_get_within}
@@ -6,7 +6,7 @@ use Rattle.std.proofs.lemmas.Slice.Zip.{length-zip}
 use Rattle.sl_stages.specs.declared.returns.Win.{Win}
 use Rattle.sl_stages.specs.declared.table.Placed.{Placed}
 use Rattle.sl_stages.specs.returns.Election.{lands_of, parties_of}
-use Rattle.sl_table.proofs.Counting.{counts_one, counts_no, counts_all, count_le}
+use Rattle.sl_table.proofs.Counting.{sums_none, counts_one, counts_no, counts_all, count_le}
 use Rattle.sl_table.proofs.Winners.{in_zip, pair_here}
 use Rattle.sl_table.proofs.SeatedWinners.{is_at, counts_at, seated_winners_as}
 use Rattle.sl_table.proofs.tables.seated_winners.Goals as goal
@@ -46,3 +46,9 @@ returns c =
     let past : length (zip e.wins held) ≤ c.loop-number.number = omega (arith, length-zip e.wins held, c.wins-number-end.ensures.number, c.loop-number-test.false) in
     counts_all (counts_at e) (zip e.wins held) (lands_of e * parties_of e) c.loop-number.number c.loop-number.column.items past c.loop-number.invariant
     ∙ sym (seated_winners_as e c.lands-lands.ensures.kept held)
+
+pub loop-number-init : goal.loop-number-init
+loop-number-init c =
+    let e = c.args.returns.now in
+    let size : c.lands-lands.result * c.parties-parties.result ≡ lands_of e * parties_of e = ap (λ n. n * c.parties-parties.result) c.lands-lands.ensures.number ∙ ap (λ n. lands_of e * n) c.parties-parties.ensures.number in
+    sums_none (λ k x. cond (counts_at e k x) 1 0) (zip e.wins c.args.memory.now.placed) _ c.in-Ok.column.items _ (c.in-Ok.ensures.items_if_clones_equal (λ y same. same)) size

@@ -16,11 +16,12 @@ returns-clause-state c =
     let columns = map (λ column. column.items) c.in_ok-columns.columns.items in
     let blanks : columns ≡ map (blank e) slots = c.in_ok-columns.ensures ∙ ap (map (blank e)) c.slots.ensures.slots in
     let nobody : c.in_ok-placed.placed.items ≡ replicate c.wins.result placed.Unseated = c.in_ok-placed.ensures in
-    started (replicate {A = ℕ} REGISTERS 0) columns c.off.result.on (mark.Quotient c.new.result) c.new-2.result.items c.new-3.result.items c.in_ok-placed.placed.items
+    rw (c.unset.ensures, c.unset-2.ensures, c.unset-3.ensures)
+    (started (replicate {A = ℕ} REGISTERS 0) columns c.off.result.on (mark.Quotient c.new.result) c.new-2.result.items c.new-3.result.items c.in_ok-placed.placed.items
     (same_at REGISTERS 0)
     (λ k p. ap (λ (css : List (List ℕ)). get_or (get_or css k []) p 0) blanks ∙ blank_at e slots k p)
     (ap (λ (t : LotTable). t.on) c.off.ensures) (ap mark.Quotient c.new.ensures.value) c.new-2.ensures.items c.new-3.ensures.items
-    (λ w. ap (λ (ps : List Placed). get_or ps w placed.Unseated) nobody ∙ same_at c.wins.result placed.Unseated w)
+    (λ w. ap (λ (ps : List Placed). get_or ps w placed.Unseated) nobody ∙ same_at c.wins.result placed.Unseated w))
 
 pub returns-clause-fits : goal.returns-clause-fits
 returns-clause-fits c =

@@ -1,0 +1,151 @@
+//! The command that shows several rulebooks side by side: `compare`.
+
+use crate::answer::{Answer, Shape};
+use crate::cases::{Case, names_of, read_book, read_election};
+use crate::runs::{Outcome, outcome_of};
+use sl_desk::BookText;
+use sl_naming::Naming;
+use sl_ratio::NoMemory;
+use sl_report_sheets::{Judged, compare_sheets};
+use sl_stages::{CheckedBook, Returns};
+use std::alloc::Global;
+
+/// A rulebook, and the word by which it is called.
+#[derive(Clone, Copy)]
+pub struct Named<'a> {
+    pub word: &'a str,
+    pub book: BookText<'a>,
+}
+
+/// The six statutes of the library, which are compared where no rulebook is given.
+pub const STATUTES: [Named<'static>; 6] = [
+    Named {
+        word: "@1956",
+        book: BookText::Library("1956"),
+    },
+    Named {
+        word: "@1985",
+        book: BookText::Library("1985"),
+    },
+    Named {
+        word: "@2008",
+        book: BookText::Library("2008"),
+    },
+    Named {
+        word: "@2013",
+        book: BookText::Library("2013"),
+    },
+    Named {
+        word: "@2023",
+        book: BookText::Library("2023"),
+    },
+    Named {
+        word: "@2023-order",
+        book: BookText::Library("2023-order"),
+    },
+];
+
+// A book with what it comes to.
+fn judged(
+    alloc: Global,
+    word: &str,
+    book: CheckedBook,
+    returns: &Returns,
+) -> Result<Judged, NoMemory> {
+    let (counted, fault) = match outcome_of(alloc, &book, returns)? {
+        Outcome::Counted(counted) => (Some(counted), None),
+        Outcome::Fault(fault) => (None, Some(fault)),
+        Outcome::OutOfBudget => (None, None),
+    };
+    Ok(Judged {
+        word: String::from_str(alloc, word)?,
+        book,
+        counted,
+        fault,
+    })
+}
+
+// Several books with what they come to on returns, or the answer that refuses one of them.
+fn judged_all(
+    alloc: Global,
+    books: &[Named<'_>],
+    returns: &[u8],
+    election: &Returns,
+) -> Result<Result<Vec<Judged>, Answer>, NoMemory> {
+    let mut all: Vec<Judged> = Vec::new(alloc);
+    for named in books {
+        let Some(book) = read_book(alloc, named.book)? else {
+            let case = Case {
+                book: named.book,
+                returns,
+            };
+            return Ok(Err(case.counted(alloc)?));
+        };
+        all.push(judged(alloc, named.word, book, election)?)?;
+    }
+    Ok(Ok(all))
+}
+
+// What several books come to, side by side.
+fn compared(
+    alloc: Global,
+    books: &[Judged],
+    returns: &Returns,
+    names: Option<&[u8]>,
+    shape: Shape,
+) -> Result<Answer, NoMemory> {
+    match names_of(alloc, names)? {
+        Ok(full) => {
+            let naming = Naming {
+                returns,
+                full: &full,
+            };
+            let sheets = compare_sheets(alloc, &naming, books)?;
+            Answer::of(alloc, "compare", None, sheets.as_slice(), shape)
+        }
+        Err(refused) => Ok(refused),
+    }
+}
+
+// Several books on good returns, side by side.
+fn compare_on(
+    alloc: Global,
+    books: &[Named<'_>],
+    returns: &[u8],
+    election: &Returns,
+    names: Option<&[u8]>,
+    shape: Shape,
+) -> Result<Answer, NoMemory> {
+    match judged_all(alloc, books, returns, election)? {
+        Ok(all) => compared(alloc, all.as_slice(), election, names, shape),
+        Err(refused) => Ok(refused),
+    }
+}
+
+// The line that refuses returns, as counting by the first of the books writes it.
+fn refused(alloc: Global, books: &[Named<'_>], returns: &[u8]) -> Result<Answer, NoMemory> {
+    let book = match books.first() {
+        Some(named) => named.book,
+        None => BookText::Library("2023"),
+    };
+    Case { book, returns }.counted(alloc)
+}
+
+/// Several books on the same returns, side by side. Inputs that `count` refuses are refused by the same line; a legal fault stands in its column.
+/// Without a book the table has no column, and no returns are refused.
+///
+/// # Errors
+///
+/// Want of memory.
+pub fn compare(
+    alloc: Global,
+    books: &[Named<'_>],
+    returns: &[u8],
+    names: Option<&[u8]>,
+    shape: Shape,
+) -> Result<Answer, NoMemory> {
+    match read_election(alloc, returns)? {
+        Some(election) => compare_on(alloc, books, returns, &election, names, shape),
+        None => refused(alloc, books, returns),
+    }
+}

@@ -1,0 +1,209 @@
+//! The commands that show one count: `report` and `stages`.
+
+use crate::answer::{Answer, Shape};
+use crate::cases::{Case, names_of, read_book, read_election};
+use crate::runs::{Outcome, outcome_of};
+use sl_desk::BookText;
+use sl_naming::{Naming, explanation_sheet, fault_sheet};
+use sl_ratio::NoMemory;
+use sl_report_sheets::{report_sheets, stage_sheets};
+use sl_results::{Counted, Setting, parts_of};
+use sl_sheets::Sheet;
+use sl_stages::{CheckedBook, LegalFault, Returns};
+use std::alloc::Global;
+
+// What a command shows of a count.
+#[derive(Clone, Copy)]
+enum Show {
+    Report,
+    Stages,
+}
+
+impl Show {
+    fn command(self) -> &'static str {
+        match self {
+            Show::Report => "report",
+            Show::Stages => "stages",
+        }
+    }
+}
+
+// The sheets of a count.
+fn counted_sheets(
+    alloc: Global,
+    show: Show,
+    setting: &Setting<'_>,
+    naming: &Naming<'_>,
+    counted: &Counted,
+) -> Result<Vec<Sheet>, NoMemory> {
+    match show {
+        Show::Report => report_sheets(alloc, setting, naming, Some(counted)),
+        Show::Stages => stage_sheets(alloc, setting, naming, counted),
+    }
+}
+
+// The answer that shows a count.
+fn counted_answer(
+    alloc: Global,
+    show: Show,
+    setting: &Setting<'_>,
+    naming: &Naming<'_>,
+    counted: &Counted,
+    shape: Shape,
+) -> Result<Answer, NoMemory> {
+    let sheets = counted_sheets(alloc, show, setting, naming, counted)?;
+    Answer::of(alloc, show.command(), None, sheets.as_slice(), shape)
+}
+
+// The sheets of a legal fault, and who takes part.
+fn fault_sheets(
+    alloc: Global,
+    setting: &Setting<'_>,
+    naming: &Naming<'_>,
+    fault: &LegalFault,
+) -> Result<Vec<Sheet>, NoMemory> {
+    let mut sheets: Vec<Sheet> = Vec::new(alloc);
+    sheets.push(fault_sheet(alloc, setting.book, naming, fault)?)?;
+    sheets.push(explanation_sheet(alloc, setting.book, naming, fault)?)?;
+    sheets.append(&mut report_sheets(alloc, setting, naming, None)?)?;
+    Ok(sheets)
+}
+
+// The answer of these sheets to a legal fault, with the line with which counting ends.
+fn with_line(
+    alloc: Global,
+    show: Show,
+    case: Case<'_>,
+    sheets: &[Sheet],
+    shape: Shape,
+) -> Result<Answer, NoMemory> {
+    let written = case.counted(alloc)?;
+    Answer::of(alloc, show.command(), Some(written.line()), sheets, shape)
+}
+
+// The answer to a legal fault.
+fn fault_answer(
+    alloc: Global,
+    show: Show,
+    case: Case<'_>,
+    setting: &Setting<'_>,
+    naming: &Naming<'_>,
+    fault: &LegalFault,
+    shape: Shape,
+) -> Result<Answer, NoMemory> {
+    let sheets = fault_sheets(alloc, setting, naming, fault)?;
+    with_line(alloc, show, case, sheets.as_slice(), shape)
+}
+
+// The answer that shows what a good book comes to.
+fn outcome_answer(
+    alloc: Global,
+    show: Show,
+    case: Case<'_>,
+    setting: &Setting<'_>,
+    naming: &Naming<'_>,
+    outcome: &Outcome,
+    shape: Shape,
+) -> Result<Answer, NoMemory> {
+    match outcome {
+        Outcome::Counted(counted) => counted_answer(alloc, show, setting, naming, counted, shape),
+        Outcome::Fault(fault) => fault_answer(alloc, show, case, setting, naming, fault, shape),
+        Outcome::OutOfBudget => case.counted(alloc),
+    }
+}
+
+// What a good book comes to on good returns.
+fn shown(
+    alloc: Global,
+    show: Show,
+    case: Case<'_>,
+    book: &CheckedBook,
+    naming: &Naming<'_>,
+    shape: Shape,
+) -> Result<Answer, NoMemory> {
+    let parts = parts_of(alloc, book.book.eligible.as_slice(), naming.returns)?;
+    let setting = Setting::new(alloc, &book.book, naming.returns, parts)?;
+    let outcome = outcome_of(alloc, book, naming.returns)?;
+    outcome_answer(alloc, show, case, &setting, naming, &outcome, shape)
+}
+
+// What a command on a good book writes on good returns.
+fn one_count(
+    alloc: Global,
+    show: Show,
+    case: Case<'_>,
+    book: &CheckedBook,
+    returns: &Returns,
+    names: Option<&[u8]>,
+    shape: Shape,
+) -> Result<Answer, NoMemory> {
+    match names_of(alloc, names)? {
+        Ok(full) => {
+            let naming = Naming {
+                returns,
+                full: &full,
+            };
+            shown(alloc, show, case, book, &naming, shape)
+        }
+        Err(refused) => Ok(refused),
+    }
+}
+
+// What a command on a good book writes.
+fn good_book(
+    alloc: Global,
+    show: Show,
+    case: Case<'_>,
+    book: &CheckedBook,
+    names: Option<&[u8]>,
+    shape: Shape,
+) -> Result<Answer, NoMemory> {
+    match read_election(alloc, case.returns)? {
+        Some(returns) => one_count(alloc, show, case, book, &returns, names, shape),
+        None => case.counted(alloc),
+    }
+}
+
+// What a command on one book writes.
+fn one_book(
+    alloc: Global,
+    show: Show,
+    case: Case<'_>,
+    names: Option<&[u8]>,
+    shape: Shape,
+) -> Result<Answer, NoMemory> {
+    match read_book(alloc, case.book)? {
+        Some(book) => good_book(alloc, show, case, &book, names, shape),
+        None => case.counted(alloc),
+    }
+}
+
+/// What a book comes to on returns, in full. Inputs that `count` refuses are refused by the same line, and a legal fault has its line first.
+///
+/// # Errors
+///
+/// Want of memory.
+pub fn report(
+    alloc: Global,
+    book: BookText<'_>,
+    returns: &[u8],
+    names: Option<&[u8]>,
+    shape: Shape,
+) -> Result<Answer, NoMemory> {
+    one_book(alloc, Show::Report, Case { book, returns }, names, shape)
+}
+
+/// The columns of all stages of a book, as `report` refuses inputs and tells of a legal fault.
+///
+/// # Errors
+///
+/// Want of memory.
+pub fn stages(
+    alloc: Global,
+    book: BookText<'_>,
+    returns: &[u8],
+    names: Option<&[u8]>,
+    shape: Shape,
+) -> Result<Answer, NoMemory> {
+    one_book(alloc, Show::Stages, Case { book, returns }, names, shape)
+}

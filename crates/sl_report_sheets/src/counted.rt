@@ -1,0 +1,147 @@
+//! The sheets of one count.
+
+use crate::covering::covering_sheet;
+use crate::parties::{
+    UNKNOWN_SEATS, lists_sheet, open_sheet, parties_sheet, seat_parts, singles_sheet,
+};
+use crate::scopes::{entries_sheet, scopes_sheet};
+use sl_naming::{Naming, Part, law_name, one_row_sheet, push_sheet};
+use sl_ratio::NoMemory;
+use sl_results::{
+    Counted, Distribution, Scoped, Setting, distribution_of, scopes_of, seats_in_all,
+};
+use sl_sheets::{Form, Look, Sheet};
+use sl_stages::{Book, Expr, Returns};
+use std::alloc::Global;
+
+const LAW: [Form; 5] = [
+    ("law", "law", Look::Text(60)),
+    ("house", "house", Look::Number),
+    ("seats", "seats", Look::Number),
+    ("direct", "direct", Look::Number),
+    ("vacant", "vacant", Look::Number),
+];
+
+// The law, the house from which it starts, and the seats in all.
+fn law_sheet(
+    alloc: Global,
+    setting: &Setting<'_>,
+    naming: &Naming<'_>,
+    counted: Option<&Counted>,
+) -> Result<Sheet, NoMemory> {
+    let law = Part::Text(law_name(setting.book));
+    let house = Part::Number(setting.house());
+    let [seats, direct, vacant] = match counted {
+        Some(counted) => seat_parts(seats_in_all(&counted.table)),
+        None => UNKNOWN_SEATS,
+    };
+    let parts = [law, house, seats, direct, vacant];
+    one_row_sheet(alloc, naming, "law", "Law", &LAW, &parts)
+}
+
+// Adds the scopes of what a stage distributes.
+fn push_distributed(
+    alloc: Global,
+    scopes: &mut Vec<Scoped>,
+    returns: &Returns,
+    counted: &Counted,
+    stage: usize,
+    what: &Distribution,
+) -> Result<(), NoMemory> {
+    let mut found = scopes_of(alloc, returns, stage, what, counted.table.steps())?;
+    scopes.append(&mut found)?;
+    Ok(())
+}
+
+// Adds the scopes of the stage of that number, which has this expression.
+fn push_scopes(
+    alloc: Global,
+    scopes: &mut Vec<Scoped>,
+    setting: &Setting<'_>,
+    counted: &Counted,
+    stage: usize,
+    expr: &Expr,
+) -> Result<(), NoMemory> {
+    match distribution_of(alloc, setting, counted.columns.as_slice(), expr)? {
+        Some(what) => push_distributed(alloc, scopes, setting.returns, counted, stage, &what),
+        None => Ok(()),
+    }
+}
+
+// Adds the scopes of all stages.
+fn push_all_scopes(
+    alloc: Global,
+    scopes: &mut Vec<Scoped>,
+    setting: &Setting<'_>,
+    counted: &Counted,
+) -> Result<(), NoMemory> {
+    for (number, stage) in setting.book.stages.iter().enumerate() {
+        push_scopes(alloc, scopes, setting, counted, number, &stage.expr)?;
+    }
+    Ok(())
+}
+
+// Adds the sheets of these scopes.
+fn push_scope_sheets(
+    alloc: Global,
+    sheets: &mut Vec<Sheet>,
+    book: &Book,
+    naming: &Naming<'_>,
+    scopes: &[Scoped],
+) -> Result<(), NoMemory> {
+    push_sheet(sheets, scopes_sheet(alloc, book, naming, scopes))?;
+    for scoped in scopes {
+        push_sheet(sheets, entries_sheet(alloc, book, naming, scoped))?;
+    }
+    Ok(())
+}
+
+// Adds the sheets of all scopes of a count.
+fn push_all_scope_sheets(
+    alloc: Global,
+    sheets: &mut Vec<Sheet>,
+    setting: &Setting<'_>,
+    naming: &Naming<'_>,
+    counted: &Counted,
+) -> Result<(), NoMemory> {
+    let mut scopes: Vec<Scoped> = Vec::new(alloc);
+    push_all_scopes(alloc, &mut scopes, setting, counted)?;
+    push_scope_sheets(alloc, sheets, setting.book, naming, scopes.as_slice())
+}
+
+// Adds the sheets that only a count with a table has.
+fn push_counted(
+    alloc: Global,
+    sheets: &mut Vec<Sheet>,
+    setting: &Setting<'_>,
+    naming: &Naming<'_>,
+    counted: &Counted,
+) -> Result<(), NoMemory> {
+    let table = &counted.table;
+    push_sheet(sheets, lists_sheet(alloc, naming, table))?;
+    push_all_scope_sheets(alloc, sheets, setting, naming, counted)?;
+    push_sheet(sheets, covering_sheet(alloc, setting, naming, table))?;
+    push_sheet(sheets, singles_sheet(alloc, naming, table))?;
+    push_sheet(sheets, open_sheet(alloc, naming, table))
+}
+
+/// The sheets of one count: the law; the parties, and who takes part; the lists; the scopes and their entries; contested lists; winners who sit by
+/// themselves, and who are not seated. Without a table, the first two alone.
+///
+/// # Errors
+///
+/// Want of memory.
+pub fn report_sheets(
+    alloc: Global,
+    setting: &Setting<'_>,
+    naming: &Naming<'_>,
+    counted: Option<&Counted>,
+) -> Result<Vec<Sheet>, NoMemory> {
+    let mut sheets: Vec<Sheet> = Vec::new(alloc);
+    push_sheet(&mut sheets, law_sheet(alloc, setting, naming, counted))?;
+    push_sheet(&mut sheets, parties_sheet(alloc, setting, naming, counted))?;
+    if let Some(counted) = counted {
+        push_counted(alloc, &mut sheets, setting, naming, counted)?;
+    }
+    Ok(sheets)
+}

@@ -1,0 +1,183 @@
+//! The sheets of scopes: a line for each, and the entries of each.
+
+use sl_naming::{Naming, Part, method_word, push_name, push_row, put_parts, stage_name, titled};
+use sl_ratio::NoMemory;
+use sl_results::{Entry, Scoped};
+use sl_sheets::{Form, Look, Row, Sheet};
+use sl_stages::{Book, Scope};
+use std::alloc::Global;
+
+const SCOPES: [Form; 13] = [
+    ("stage", "stage", Look::Text(10)),
+    ("scope", "", Look::Hidden),
+    ("scope_name", "scope", Look::Text(20)),
+    ("method", "method", Look::Text(9)),
+    ("grows", "", Look::Hidden),
+    ("minima", "", Look::Hidden),
+    ("votes", "", Look::Hidden),
+    ("seats", "seats", Look::Number),
+    ("divisor", "divisor", Look::Number),
+    ("quota", "quota", Look::Number),
+    ("quota_exact", "", Look::Hidden),
+    ("last", "last seat", Look::Text(14)),
+    ("next", "next claim", Look::Text(14)),
+];
+
+const ENTRIES: [Form; 10] = [
+    ("stage", "", Look::Hidden),
+    ("scope", "", Look::Hidden),
+    ("entry", "", Look::Hidden),
+    ("entry_name", "entry", Look::Text(36)),
+    ("votes", "votes", Look::Number),
+    ("quotient", "quotient", Look::Number),
+    ("quotient_exact", "", Look::Hidden),
+    ("seats", "seats", Look::Number),
+    ("minimum", "minimum", Look::Number),
+    ("missing", "votes missing", Look::Number),
+];
+
+// Adds the names of the entries of these numbers to a text, parted by commas.
+fn push_names(
+    alloc: Global,
+    text: &mut String,
+    naming: &Naming<'_>,
+    scoped: &Scoped,
+    numbers: &[usize],
+) -> Result<(), NoMemory> {
+    for number in numbers {
+        if let Some(entry) = scoped.entries.get(*number) {
+            let name = naming.long_entry(alloc, scoped.scope, entry.item)?;
+            push_name(text, ", ", name.as_str())?;
+        }
+    }
+    Ok(())
+}
+
+// Adds a cell with the names of the entries of these numbers, an empty one for none.
+fn put_names(
+    alloc: Global,
+    row: &mut Row,
+    naming: &Naming<'_>,
+    scoped: &Scoped,
+    numbers: &[usize],
+) -> Result<(), NoMemory> {
+    let mut text = String::new(alloc);
+    push_names(alloc, &mut text, naming, scoped, numbers)?;
+    if text.is_empty() {
+        return row.empty();
+    }
+    row.own(text)
+}
+
+// Adds the divisor of a scope, if there is one.
+fn put_divisor(alloc: Global, row: &mut Row, scoped: &Scoped) -> Result<(), NoMemory> {
+    match &scoped.divisor {
+        Some(divisor) => row.own(divisor.text(alloc)?),
+        None => row.empty(),
+    }
+}
+
+// Adds the divisor or the quota of a scope, and who won the last seat and has the next claim.
+fn put_margins(
+    alloc: Global,
+    row: &mut Row,
+    naming: &Naming<'_>,
+    scoped: &Scoped,
+) -> Result<(), NoMemory> {
+    put_divisor(alloc, row, scoped)?;
+    put_parts(alloc, row, naming, &[Part::Fraction(scoped.quota)])?;
+    put_names(alloc, row, naming, scoped, scoped.last.as_slice())?;
+    put_names(alloc, row, naming, scoped, scoped.next.as_slice())
+}
+
+// Adds the row of a scope.
+fn push_scope(
+    alloc: Global,
+    sheet: &mut Sheet,
+    book: &Book,
+    naming: &Naming<'_>,
+    scoped: &Scoped,
+) -> Result<(), NoMemory> {
+    let parts = [
+        Part::Text(stage_name(book, scoped.stage)),
+        Part::Scope(scoped.scope),
+        Part::LongScope(scoped.scope),
+        Part::Text(method_word(scoped.method)),
+        Part::Flag(scoped.grows),
+        Part::Flag(scoped.has_minima),
+        Part::Number(scoped.weight),
+        Part::Number(scoped.seats),
+    ];
+    let mut row = Row::new(alloc);
+    put_parts(alloc, &mut row, naming, &parts)?;
+    put_margins(alloc, &mut row, naming, scoped)?;
+    sheet.push(row)
+}
+
+/// A line for each scope.
+pub(crate) fn scopes_sheet(
+    alloc: Global,
+    book: &Book,
+    naming: &Naming<'_>,
+    scopes: &[Scoped],
+) -> Result<Sheet, NoMemory> {
+    let mut sheet = titled(alloc, "scopes", "Distributions", &SCOPES)?;
+    for scoped in scopes {
+        push_scope(alloc, &mut sheet, book, naming, scoped)?;
+    }
+    Ok(sheet)
+}
+
+// Adds the row of an entry of a scope.
+fn push_entry(
+    alloc: Global,
+    sheet: &mut Sheet,
+    stage: &str,
+    naming: &Naming<'_>,
+    scoped: &Scoped,
+    entry: Entry,
+) -> Result<(), NoMemory> {
+    let minimum = if scoped.has_minima {
+        Part::Number(entry.minimum)
+    } else {
+        Part::Empty
+    };
+    let parts = [
+        Part::Text(stage),
+        Part::Scope(scoped.scope),
+        Part::Entry(entry.item, scoped.scope),
+        Part::Number(entry.weight),
+        Part::Fraction(entry.quotient),
+        Part::Number(entry.seats),
+        minimum,
+        Part::Known(entry.missing),
+    ];
+    push_row(alloc, sheet, naming, &parts)
+}
+
+// The title of a scope's entries.
+fn entries_title(
+    alloc: Global,
+    stage: &str,
+    naming: &Naming<'_>,
+    scope: Scope,
+) -> Result<String, NoMemory> {
+    let scope = naming.long_scope(alloc, scope)?;
+    Ok(format!(in alloc; "Stage {stage}, {scope}")?)
+}
+
+/// The entries of a scope.
+pub(crate) fn entries_sheet(
+    alloc: Global,
+    book: &Book,
+    naming: &Naming<'_>,
+    scoped: &Scoped,
+) -> Result<Sheet, NoMemory> {
+    let stage = stage_name(book, scoped.stage);
+    let title = entries_title(alloc, stage, naming, scoped.scope)?;
+    let mut sheet = Sheet::new(alloc, "entries", title, &ENTRIES)?;
+    for entry in &scoped.entries {
+        push_entry(alloc, &mut sheet, stage, naming, scoped, *entry)?;
+    }
+    Ok(sheet)
+}
