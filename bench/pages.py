@@ -181,7 +181,7 @@ def missing_words():
 
 def fault_rows():
     """For each number of a fault how its row in docs/faults.md begins."""
-    specs = TOP / "crates" / "sl_desk" / "specs"
+    specs = TOP / "crates" / "sl_inputs" / "specs"
     for file, kinds in DESK_FAULTS:
         text = (specs / file).read_text()
         for name, word in kinds:

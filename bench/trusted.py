@@ -20,7 +20,7 @@ CALLS = ["count", "steps", "stage", "check_book", "code", "run_code", "law_text"
 NAMES = re.compile(r"\s*(?:ghost |pub )*use Rattle\.(\w+)\.specs\.([\w.]+)\.\{(.*)\};?$")
 MODULE = re.compile(r"\s*(?:ghost |pub )*use Rattle\.(\w+)\.specs\.([\w.]+)(?: as (\w+))?;?$")
 # Crates whose public functions promise something to whoever uses the program or the page, beside the laws.
-PROMISING = {CRATES / name for name in ("sl_desk", "sl_hints", "sl_margins", "sl_page")}
+PROMISING = {CRATES / name for name in ("sl_inputs", "sl_desk", "sl_hints", "sl_margins", "sl_page")}
 WORD = re.compile(r"[^\W\d]\w*")
 
 
@@ -113,7 +113,7 @@ def reached_by(path, text):
     reach(path, text, seen, types)
     for trait in ("Source", "Sink"):
         if re.search(rf"\b{trait}\b", text):
-            place = CRATES / "sl_desk" / "src" / f"{trait.lower()}.rt"
+            place = CRATES / "sl_inputs" / "src" / f"{trait.lower()}.rt"
             reach(place, blocks(place, trait), seen, types)
     return seen
 

@@ -3,7 +3,7 @@ use Rattle.std.proofs.Common.{◌≡◌, ℕ, Bool, true, false, cond, List, [],
 use Rattle.std.specs.Prelude.{unwrap_or}
 use Rattle.sl_stages.specs.declared.book.Cond.{Cond}
 use Rattle.sl_stages.specs.declared.book.Cond.TheVariants as condition
-use Rattle.sl_code.specs.declared.instr.Instr.TheVariants.{Zero}
+use Rattle.sl_instructions.specs.declared.instr.Instr.TheVariants.{Zero}
 use Rattle.sl_plans.specs.Trees.{Tree, Line, Then}
 use Rattle.sl_pieces.specs.facts.Trees.{nothing, condition_tree, conditions_tree, eligible_tree}
 use Rattle.sl_pieces.specs.exprs.Slots.{fact_slots}

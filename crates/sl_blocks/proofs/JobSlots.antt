@@ -11,13 +11,13 @@ use Rattle.sl_stages.specs.declared.book.Shape.{Shape}
 use Rattle.sl_stages.specs.declared.book.Shape.TheVariants as shape
 use Rattle.sl_stages.specs.returns.Election.{Election}
 use Rattle.sl_stages.specs.laws.OneLaws.{FitsMethod}
-use Rattle.sl_code.specs.declared.code.CodeStage.{CodeStage}
-use Rattle.sl_code.specs.Codes.{CountingCode}
+use Rattle.sl_instructions.specs.declared.code.CodeStage.{CodeStage}
+use Rattle.sl_instructions.specs.Codes.{CountingCode}
 use Rattle.sl_verify.specs.declared.needs.TheConstants.{LAST_CLAUSE}
-use Rattle.sl_machine.specs.State.{State}
-use Rattle.sl_machine.specs.Places.{cells_of}
-use Rattle.sl_machine.specs.Memories.{column_of}
-use Rattle.sl_machine.specs.Effects.{name_of}
+use Rattle.sl_semantics.specs.State.{State}
+use Rattle.sl_semantics.specs.Places.{cells_of}
+use Rattle.sl_semantics.specs.Memories.{column_of}
+use Rattle.sl_semantics.specs.Effects.{name_of}
 use Rattle.sl_pieces.specs.declared.form.Form.{Form}
 use Rattle.sl_pieces.specs.scopes.Forms.{amounts_of, votes_of}
 use Rattle.sl_pieces.specs.columns.Columns.{HoldsColumn}

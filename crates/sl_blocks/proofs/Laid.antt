@@ -1,10 +1,10 @@
 -- Blocks as they are laid out: their plans, put together from those of their parts.
 use Rattle.std.proofs.Common.{◌≡◌, ℕ, List, [], ◌∷◌, length, None, Some, unwrap_or, Result, Ok, Err, IfOk, refl, subst}
 use Rattle.sl_stages.specs.declared.book.Shape.{Shape}
-use Rattle.sl_code.specs.declared.instr.Instr.{Instr}
-use Rattle.sl_code.specs.declared.instr.Instr.TheVariants.{Set, Mov, Get, Zero, Table}
-use Rattle.sl_code.specs.declared.operand.EndFault.TheVariants as end
-use Rattle.sl_code.specs.declared.operand.Ranking.TheVariants as ranking
+use Rattle.sl_instructions.specs.declared.instr.Instr.{Instr}
+use Rattle.sl_instructions.specs.declared.instr.Instr.TheVariants.{Set, Mov, Get, Zero, Table}
+use Rattle.sl_instructions.specs.declared.operand.EndFault.TheVariants as end
+use Rattle.sl_instructions.specs.declared.operand.Ranking.TheVariants as ranking
 use Rattle.sl_plans.specs.declared.plan.Test.TheVariants as test
 use Rattle.sl_plans.specs.Trees.{Tree, Line, Then, If}
 use Rattle.sl_pieces.specs.declared.form.Form.{Form}

@@ -7,12 +7,12 @@ use Rattle.std.proofs.lemmas.List.FromFn.{get_or-map-range_with_len}
 use Rattle.sl_stages.specs.declared.book.Shape.{Shape}
 use Rattle.sl_stages.specs.declared.book.Shape.TheVariants as shape
 use Rattle.sl_stages.specs.returns.Election.{Election, lands_of, parties_of}
-use Rattle.sl_code.specs.declared.instr.Instr.{Instr}
-use Rattle.sl_code.specs.Codes.{CountingCode}
-use Rattle.sl_machine.specs.State.{State}
-use Rattle.sl_machine.specs.Runs.{share_of}
-use Rattle.sl_machine.specs.Places.{cells_of}
-use Rattle.sl_machine.specs.Memories.{column_of}
+use Rattle.sl_instructions.specs.declared.instr.Instr.{Instr}
+use Rattle.sl_instructions.specs.Codes.{CountingCode}
+use Rattle.sl_semantics.specs.State.{State}
+use Rattle.sl_semantics.specs.Runs.{share_of}
+use Rattle.sl_semantics.specs.Places.{cells_of}
+use Rattle.sl_semantics.specs.Memories.{column_of}
 use Rattle.sl_plans.specs.Laid.{laid}
 use Rattle.sl_pieces.specs.covers.Trees.{CoverSlots, cover_tree}
 use Rattle.sl_pieces.specs.covers.Covering.{HasCoverSlots, BeginsCovering, AreCovered, EndsInTie}

@@ -8,10 +8,10 @@ use Rattle.sl_stages.specs.declared.book.Pairing.{Pairing}
 use Rattle.sl_stages.specs.declared.book.Shape.{Shape}
 use Rattle.sl_stages.specs.book.Limits.{condition_numbers}
 use Rattle.sl_stages.specs.book.Typing.{can_sum}
-use Rattle.sl_code.specs.declared.instr.Instr.{Instr}
-use Rattle.sl_code.specs.declared.instr.Instr.TheVariants.{Input}
-use Rattle.sl_code.specs.declared.operand.Input.TheVariants as input
-use Rattle.sl_code.specs.Codes.{CountingCode}
+use Rattle.sl_instructions.specs.declared.instr.Instr.{Instr}
+use Rattle.sl_instructions.specs.declared.instr.Instr.TheVariants.{Input}
+use Rattle.sl_instructions.specs.declared.operand.Input.TheVariants as input
+use Rattle.sl_instructions.specs.Codes.{CountingCode}
 use Rattle.sl_plans.specs.Trees.{Tree, Line}
 use Rattle.sl_pieces.specs.columns.Trees.{copy_tree, pair_tree, sum_tree}
 use Rattle.sl_pieces.specs.facts.Trees.{eligible_tree, fact_tree}

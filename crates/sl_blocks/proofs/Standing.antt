@@ -3,20 +3,20 @@ use Rattle.std.proofs.Common.{◌≡◌, ℕ, zero, suc, ◌+◌, ◌<◌, ◌�
 use Rattle.std.proofs.lemmas.List.Elements.{All-from_recursion}
 use Rattle.std.proofs.lemmas.Option.{none-some, same_Some}
 use Rattle.sl_stages.specs.returns.Election.{Election, IsElection}
-use Rattle.sl_code.specs.declared.code.TheConstants.{MAX_INSTRS}
-use Rattle.sl_code.specs.declared.instr.Instr.{Instr}
-use Rattle.sl_code.specs.declared.instr.Instr.TheVariants.{At}
-use Rattle.sl_code.specs.declared.kinds.Kinds.{Kinds}
-use Rattle.sl_code.specs.Codes.{CountingCode}
-use Rattle.sl_code.specs.Proper.{IsInRange}
-use Rattle.sl_code.specs.Rows.{target_of}
-use Rattle.sl_code.specs.Standing.{HasAt}
+use Rattle.sl_instructions.specs.declared.code.TheConstants.{MAX_INSTRS}
+use Rattle.sl_instructions.specs.declared.instr.Instr.{Instr}
+use Rattle.sl_instructions.specs.declared.instr.Instr.TheVariants.{At}
+use Rattle.sl_instructions.specs.declared.kinds.Kinds.{Kinds}
+use Rattle.sl_instructions.specs.Codes.{CountingCode}
+use Rattle.sl_instructions.specs.Proper.{IsInRange}
+use Rattle.sl_instructions.specs.Rows.{target_of}
+use Rattle.sl_instructions.specs.Standing.{HasAt}
 use Rattle.sl_verify.specs.Kinds.{start_kinds}
 use Rattle.sl_verify.specs.Pieces.{JumpsWithin}
 use Rattle.sl_verify.specs.WellKinded.{context_of}
 use Rattle.sl_verify.proofs.PieceFacts.{nothing_asked}
-use Rattle.sl_machine.specs.State.{State, End}
-use Rattle.sl_machine.proofs.runs.Coming.{wider, ends_wider}
+use Rattle.sl_semantics.specs.State.{State, End}
+use Rattle.sl_semantics.proofs.runs.Coming.{wider, ends_wider}
 use Rattle.sl_plans.specs.Trees.{Tree, size_of, flat}
 use Rattle.sl_plans.specs.Meaning.{Course, Onward, Final, Unsaid, does, cost}
 use Rattle.sl_plans.specs.Achieves.{Meets, Achieves, Reaches}

@@ -3,18 +3,18 @@
 use Rattle.std.specs.Prelude.{◌≡◌, ℕ, ◌≤◌, true, List, ◌∷◌, ◌++◌, All, Option, Some, length, slice_get}
 use Rattle.sl_stages.specs.declared.book.Shape.{Shape}
 use Rattle.sl_stages.specs.returns.Election.{Election, IsElection}
-use Rattle.sl_code.specs.declared.code.TheConstants.{MAX_INSTRS}
-use Rattle.sl_code.specs.declared.instr.Instr.{Instr}
-use Rattle.sl_code.specs.declared.instr.Instr.TheVariants.{At}
-use Rattle.sl_code.specs.declared.kinds.Kinds.{Kinds}
-use Rattle.sl_code.specs.Codes.{CountingCode}
-use Rattle.sl_code.specs.Proper.{IsInRange}
-use Rattle.sl_code.specs.Standing.{HasAt}
+use Rattle.sl_instructions.specs.declared.code.TheConstants.{MAX_INSTRS}
+use Rattle.sl_instructions.specs.declared.instr.Instr.{Instr}
+use Rattle.sl_instructions.specs.declared.instr.Instr.TheVariants.{At}
+use Rattle.sl_instructions.specs.declared.kinds.Kinds.{Kinds}
+use Rattle.sl_instructions.specs.Codes.{CountingCode}
+use Rattle.sl_instructions.specs.Proper.{IsInRange}
+use Rattle.sl_instructions.specs.Standing.{HasAt}
 use Rattle.sl_verify.specs.Kinds.{start_kinds}
 use Rattle.sl_verify.specs.Pieces.{comes_after, are_passed, JumpsWithin}
 use Rattle.sl_verify.specs.WellKinded.{context_of}
-use Rattle.sl_machine.specs.State.{State, End}
-use Rattle.sl_machine.specs.Runs.{share_of}
+use Rattle.sl_semantics.specs.State.{State, End}
+use Rattle.sl_semantics.specs.Runs.{share_of}
 use Rattle.sl_plans.specs.Achieves.{Reaches}
 use Rattle.sl_blocks.specs.declared.blocks.TheConstants.{MAX_BLOCK_INSTRS}
 

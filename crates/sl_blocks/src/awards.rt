@@ -1,7 +1,7 @@
 //! The seats that are awarded.
 
 ghost use Rattle.std.specs.Prelude.{◌≡◌, List};
-ghost use Rattle.sl_code.specs.declared.instr.Instr.{Instr};
+ghost use Rattle.sl_instructions.specs.declared.instr.Instr.{Instr};
 ghost use Rattle.sl_plans.specs.inner.Layout.{tree_of};
 ghost use Rattle.sl_blocks.specs.inner.Given.{given_of};
 ghost use Rattle.sl_blocks.specs.inner.LayoutParts.{count_left, whole_batches, drawn_batch};
@@ -9,7 +9,7 @@ ghost use Rattle.sl_blocks.specs.inner.LayoutParts.{count_left, whole_batches, d
 use crate::batches::batches;
 use crate::blanks::{Block, DRAW, EMIT, ENTER_HELD, GET_HELD, GET_WEIGHT, STORE_HELD, TIE};
 use crate::entries::NOTHING;
-use sl_code::Instr;
+use sl_instructions::Instr;
 use sl_pieces::registers::{ALL_LEFT, HELD, IN_BATCH, LEFT, PEERS, STEP, TURNS, WEIGHT};
 use sl_plans::Part::Fixed;
 use sl_plans::{Bound, ONES, Plan, Test};

@@ -7,7 +7,7 @@ ghost use Rattle.sl_pieces.specs.seats.Trees.{ranking_of};
 
 use crate::form::{kind_of, table_of};
 use crate::job::Job;
-use sl_code::{EndFault, Instr, Ranking, Rounding};
+use sl_instructions::{EndFault, Instr, Ranking, Rounding};
 use sl_pieces::Form;
 use sl_pieces::registers::{AMOUNT, BASE, FIRST_PASSING, HELD, LEFT, NUMBER, STEP, WEIGHT};
 use sl_plans::Part;

@@ -11,7 +11,7 @@ use crate::entries::NOTHING;
 use crate::growths::lay_growth_with;
 use crate::majority::refuse;
 use crate::splits::lay_split_with;
-use sl_code::{Instr, MAX_INSTRS};
+use sl_instructions::{Instr, MAX_INSTRS};
 use sl_pieces::registers::{LEFT, PEERS};
 use sl_plans::{Plan, Test};
 use sl_ratio::NoMemory;

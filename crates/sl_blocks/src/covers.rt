@@ -10,7 +10,7 @@ use crate::awards::{COUNT_LEFT, COUNT_STEP, LESS_LEFT, WHOLE_BATCH, draw_seats};
 use crate::batches::batches;
 use crate::blocks::MAX_BLOCK_INSTRS;
 use crate::entries::NOTHING;
-use sl_code::{Entries, Instr, MAX_INSTRS, Ranking, ScopeKind};
+use sl_instructions::{Entries, Instr, MAX_INSTRS, Ranking, ScopeKind};
 use sl_pieces::registers::{
     AMOUNT, BASE, FIRST_PASSING, IN_BATCH, LEFT, NEEDED, PEERS, SECOND_PASSING, TOTAL, TURNS,
     WEIGHT,

@@ -1,7 +1,7 @@
 //! The block of the eligible parties (docs/compiler.md, section 2).
 
 ghost use Rattle.std.specs.Prelude.{◌≡◌, [], ◌∷◌, Bool, List, IfOk, OnErr, cond};
-ghost use Rattle.sl_code.specs.declared.instr.Instr.{Instr as SpecInstr};
+ghost use Rattle.sl_instructions.specs.declared.instr.Instr.{Instr as SpecInstr};
 ghost use Rattle.sl_plans.specs.inner.Layout.{tree_of};
 ghost use Rattle.sl_plans.specs.Trees.{Then};
 ghost use Rattle.sl_pieces.specs.facts.Trees.{eligible_tree};
@@ -12,7 +12,7 @@ ghost use Rattle.sl_blocks.specs.inner.Few.{AreSmall, few_of, given_of};
 
 use crate::easiest::Easiest;
 use crate::entries::NOTHING;
-use sl_code::{Input, Instr};
+use sl_instructions::{Input, Instr};
 use sl_pieces::registers::{CELL, OTHER, OWN, TOTAL};
 use sl_pieces::slots::{ELIGIBLE, NUMBERS, VOTES};
 use sl_plans::Part::{Fixed, Given};

@@ -1,7 +1,7 @@
 //! Plans for each scope, and for each entry of a scope.
 
 ghost use Rattle.std.specs.Prelude.{◌≡◌, List};
-ghost use Rattle.sl_code.specs.declared.instr.Instr.{Instr};
+ghost use Rattle.sl_instructions.specs.declared.instr.Instr.{Instr};
 ghost use Rattle.sl_plans.specs.inner.Layout.{tree_of};
 ghost use Rattle.sl_plans.specs.declared.plan.Cursor.TheVariants as cursor;
 ghost use Rattle.sl_plans.specs.Trees.{Each};

@@ -7,7 +7,7 @@ ghost use Rattle.sl_blocks.specs.inner.LayoutParts.{fill_entries, fill_outside};
 
 use crate::blanks::{Block, ENTER_BASE, GET_MINIMUM, GET_WEIGHT, GIVE, STORE_BASE, TABLE, WEIGH};
 use crate::entries::{NOTHING, each_entry};
-use sl_code::Instr;
+use sl_instructions::Instr;
 use sl_pieces::registers::{
     AMOUNT, BASE, FIRST_PASSING, LEFT, NUMBER, SECOND_PASSING, STEP, TOTAL, TURNS, WEIGHT,
 };

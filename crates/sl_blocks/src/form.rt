@@ -6,7 +6,7 @@ ghost use Rattle.sl_pieces.specs.scopes.Forms.{table_of, kind_of};
 ghost use Rattle.sl_blocks.specs.inner.Jobs.{IsJob};
 
 use crate::job::Job;
-use sl_code::{Entries, ScopeKind};
+use sl_instructions::{Entries, ScopeKind};
 use sl_pieces::Form;
 use sl_stages::Shape;
 

@@ -17,7 +17,7 @@ use crate::houses::{CLEAR_SEARCH, TAKE_HOUSE, WITHIN_CAP, search_batches, search
 use crate::job::Job;
 use crate::scopes::{START_SCOPE, lay_scopes};
 use crate::sums::{CLEAR_SUMS, some_votes, sum_entries};
-use sl_code::{Instr, MAX_INSTRS};
+use sl_instructions::{Instr, MAX_INSTRS};
 use sl_plans::Plan;
 use sl_ratio::{Divisor, Method, NoMemory};
 use sl_stages::Shape;

@@ -13,7 +13,7 @@ use crate::blanks::{
     SEARCH_TABLE, STORE_HELD,
 };
 use crate::entries::{NOTHING, each_entry};
-use sl_code::Instr;
+use sl_instructions::Instr;
 use sl_pieces::registers::{
     ALL_LEFT, AMOUNT, BASE, FIRST_PASSING, HELD, IN_BATCH, LEFT, NEEDED, NUMBER, PEERS, TURNS,
     WEIGHT,

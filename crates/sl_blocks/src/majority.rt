@@ -7,7 +7,7 @@ ghost use Rattle.sl_blocks.specs.inner.LayoutParts.{refuse_in};
 
 use crate::blanks::{Block, GET_HELD, GET_WEIGHT, NO_MAJORITY};
 use crate::entries::NOTHING;
-use sl_code::Instr;
+use sl_instructions::Instr;
 use sl_pieces::Form;
 use sl_pieces::registers::{AMOUNT, HELD, TOTAL, WEIGHT};
 use sl_plans::Part::Fixed;

@@ -9,7 +9,7 @@ ghost use Rattle.sl_blocks.specs.inner.LayoutParts.{all_with};
 
 use crate::blanks::{Block, GET_AMOUNT, OVER_LIMIT, ZERO_RESULT, given_of};
 use crate::entries::{NOTHING, each_scope};
-use sl_code::{Instr, MAX_INSTRS};
+use sl_instructions::{Instr, MAX_INSTRS};
 use sl_pieces::registers::{AMOUNT, FIRST_PASSING};
 use sl_plans::Part::Fixed;
 use sl_plans::{Plan, Test, lay};

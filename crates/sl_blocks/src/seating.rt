@@ -1,8 +1,8 @@
 //! The blocks of the last clause beside a covering (docs/compiler.md, section 6).
 
 ghost use Rattle.std.specs.Prelude.{◌≡◌, [], ◌∷◌, IfOk, OnErr};
-ghost use Rattle.sl_code.specs.declared.instr.Instr.TheVariants.{Input as Reads};
-ghost use Rattle.sl_code.specs.declared.operand.Input.TheVariants as input;
+ghost use Rattle.sl_instructions.specs.declared.instr.Instr.TheVariants.{Input as Reads};
+ghost use Rattle.sl_instructions.specs.declared.operand.Input.TheVariants as input;
 ghost use Rattle.sl_plans.specs.Trees.{Line};
 ghost use Rattle.sl_pieces.specs.closing.Trees.{place_kept};
 ghost use Rattle.sl_pieces.specs.declared.slots.TheConstants.{NAMES_LEFT as names_left};
@@ -10,7 +10,7 @@ ghost use Rattle.sl_blocks.specs.Facts.{HasFirstSlots};
 ghost use Rattle.sl_blocks.specs.PlanBlocks.{AreBlocks, HasRoom};
 
 use crate::facts::by_winner;
-use sl_code::{Input, Instr};
+use sl_instructions::{Input, Instr};
 use sl_pieces::registers::OTHER;
 use sl_pieces::slots::{ELIGIBLE, NAMES_LEFT};
 use sl_plans::Part::Fixed;

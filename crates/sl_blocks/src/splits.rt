@@ -16,7 +16,7 @@ use crate::form::form_of;
 use crate::job::Job;
 use crate::scopes::{START_SCOPE, lay_scopes};
 use crate::sums::{CLEAR_SUMS, REFUSES_SEATS, sum_entries};
-use sl_code::{Instr, MAX_INSTRS};
+use sl_instructions::{Instr, MAX_INSTRS};
 use sl_plans::Plan;
 use sl_ratio::{Method, NoMemory};
 use sl_stages::Shape;

@@ -8,7 +8,7 @@ ghost use Rattle.sl_blocks.specs.inner.LayoutParts.{sum_entries, some_votes};
 
 use crate::blanks::{Block, GET_MINIMUM, GET_WEIGHT, NO_LIST, SHORT};
 use crate::entries::{NOTHING, each_entry};
-use sl_code::Instr;
+use sl_instructions::Instr;
 use sl_pieces::registers::{AMOUNT, BASE, NEEDED, TOTAL, WEIGHT};
 use sl_plans::Part::Fixed;
 use sl_plans::{Cursor, Plan, Test};

@@ -5,13 +5,13 @@ use Rattle.sl_stages.specs.book.Trees.{BookTree}
 use Rattle.sl_stages.specs.book.Typing.{columns_of}
 use Rattle.sl_stages.specs.returns.Election.{Election, IsElection}
 use Rattle.sl_stages.specs.meaning.Means.{Means}
-use Rattle.sl_machine.specs.State.{End, Halted}
-use Rattle.sl_machine.specs.Runs.{Ending, Ended, budget_of}
+use Rattle.sl_semantics.specs.State.{End, Halted}
+use Rattle.sl_semantics.specs.Runs.{Ending, Ended, budget_of}
 use Rattle.sl_pieces.specs.exprs.Slots.{HasBookSlots}
 use Rattle.sl_pieces.specs.closing.Closing.{ClosingsAchieve}
 use Rattle.sl_pieces.specs.closing.Trees.{final_seats, vacant_slot, halting}
-use Rattle.sl_code.specs.Codes.{CountingCode}
-use Rattle.sl_code.specs.declared.instr.Instr.{Instr}
+use Rattle.sl_instructions.specs.Codes.{CountingCode}
+use Rattle.sl_instructions.specs.declared.instr.Instr.{Instr}
 use Rattle.sl_books.specs.Codes.{book_code, AreBookInstrs}
 use Rattle.sl_books.specs.Compiled.{ComesTo, ending_by, IsCompiled}
 use Rattle.sl_books.specs.Laws.{CanCompile, BooksAreCompiled}

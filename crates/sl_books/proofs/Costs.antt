@@ -5,8 +5,8 @@ use Rattle.sl_stages.specs.declared.book.Cond.{Cond}
 use Rattle.sl_stages.specs.declared.limits.TheConstants.{MAX_PARTS}
 use Rattle.sl_stages.specs.book.Trees.{BookTree}
 use Rattle.sl_stages.specs.returns.Election.{Election, lands_of, parties_of, wins_of}
-use Rattle.sl_machine.specs.declared.machine.TheConstants.{STEPS_EACH}
-use Rattle.sl_machine.specs.Runs.{budget_of}
+use Rattle.sl_semantics.specs.declared.budget.TheConstants.{STEPS_EACH}
+use Rattle.sl_semantics.specs.Runs.{budget_of}
 use Rattle.sl_plans.specs.Trees.{Tree}
 use Rattle.sl_plans.specs.Meaning.{cost}
 use Rattle.sl_plans.specs.Laid.{cost_all}

@@ -23,8 +23,8 @@ use Rattle.sl_stages.specs.book.Trees.{ExprTree, fact as of_returns, name, sum, 
 use Rattle.sl_stages.specs.book.Limits.{depth_of, parts_of, is_within_stage}
 use Rattle.sl_stages.specs.book.Typing.{Column, splits_in, is_seat_number, expr_tests, stage_column, columns_of, stages_tests, version_tests, condition_tests, base_tests, tests_of, is_typed}
 use Rattle.sl_stages.proofs.Tests.{no_fault, pass_parts, head_holds}
-use Rattle.sl_code.specs.declared.instr.Instr.TheVariants.{Zero, Input}
-use Rattle.sl_code.specs.declared.operand.Input.TheVariants as input
+use Rattle.sl_instructions.specs.declared.instr.Instr.TheVariants.{Zero, Input}
+use Rattle.sl_instructions.specs.declared.operand.Input.TheVariants as input
 use Rattle.sl_plans.specs.Trees.{Tree, Line, Then}
 use Rattle.sl_pieces.specs.columns.Trees.{copy_tree}
 use Rattle.sl_pieces.specs.facts.Trees.{FactSlots, condition_tree, conditions_tree, eligible_tree, fact_tree}

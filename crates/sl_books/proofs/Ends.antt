@@ -5,15 +5,15 @@ use Rattle.sl_stages.specs.declared.book.Shape.TheVariants as shape
 use Rattle.sl_stages.specs.book.Trees.{BookTree}
 use Rattle.sl_stages.specs.book.Typing.{Column}
 use Rattle.sl_stages.specs.returns.Election.{Election, IsElection}
-use Rattle.sl_code.specs.declared.instr.Instr.{Instr}
-use Rattle.sl_code.specs.Codes.{CountingCode}
-use Rattle.sl_code.specs.Standing.{HasAt}
-use Rattle.sl_code.proofs.Standing.{all_stand, rest_stands, first_stands}
-use Rattle.sl_machine.specs.State.{State, End, Halted, start}
-use Rattle.sl_machine.specs.Effects.{Ends, given, effect}
-use Rattle.sl_machine.specs.Runs.{Ended, ending}
-use Rattle.sl_machine.specs.Comes.{Finishes}
-use Rattle.sl_machine.proofs.runs.Coming.{ends, ends_after, ends_wider, ended}
+use Rattle.sl_instructions.specs.declared.instr.Instr.{Instr}
+use Rattle.sl_instructions.specs.Codes.{CountingCode}
+use Rattle.sl_instructions.specs.Standing.{HasAt}
+use Rattle.sl_instructions.proofs.Standing.{all_stand, rest_stands, first_stands}
+use Rattle.sl_semantics.specs.State.{State, End, Halted, start}
+use Rattle.sl_semantics.specs.Effects.{Ends, given, effect}
+use Rattle.sl_semantics.specs.Runs.{Ended, ending}
+use Rattle.sl_semantics.specs.Comes.{Finishes}
+use Rattle.sl_semantics.proofs.runs.Coming.{ends, ends_after, ends_wider, ended}
 use Rattle.sl_plans.specs.Trees.{Tree}
 use Rattle.sl_plans.specs.Laid.{cost_all, AchievesAll}
 use Rattle.sl_pieces.specs.declared.slots.TheConstants.{VACANT_SEATS as vacant_seats}

@@ -11,9 +11,9 @@ use Rattle.sl_stages.specs.book.Typing.{fact_number}
 use Rattle.sl_stages.specs.returns.Election.{Election, IsElection}
 use Rattle.sl_stages.specs.returns.Facts.{by_party}
 use Rattle.sl_stages.specs.meaning.Means.{nothing_known}
-use Rattle.sl_code.specs.Codes.{CountingCode}
-use Rattle.sl_machine.specs.State.{State, start}
-use Rattle.sl_machine.specs.Effects.{one_if}
+use Rattle.sl_instructions.specs.Codes.{CountingCode}
+use Rattle.sl_semantics.specs.State.{State, start}
+use Rattle.sl_semantics.specs.Effects.{one_if}
 use Rattle.sl_plans.specs.Achieves.{Never}
 use Rattle.sl_plans.specs.Laid.{AchievesAll}
 use Rattle.sl_plans.proofs.Rules.{achieves_more}

@@ -7,10 +7,10 @@ use Rattle.sl_stages.specs.declared.book.Cond.{Cond}
 use Rattle.sl_stages.specs.declared.book.Shape.TheVariants as shape
 use Rattle.sl_stages.specs.book.Trees.{StageTree, BookTree}
 use Rattle.sl_stages.specs.book.Typing.{Column, type_of, stage_column, columns_of}
-use Rattle.sl_code.specs.declared.instr.Instr.{Instr}
-use Rattle.sl_code.specs.declared.instr.Instr.TheVariants.{Halt, Haltv}
-use Rattle.sl_code.specs.declared.kinds.Kinds.{Kinds}
-use Rattle.sl_code.specs.Codes.{CountingCode}
+use Rattle.sl_instructions.specs.declared.instr.Instr.{Instr}
+use Rattle.sl_instructions.specs.declared.instr.Instr.TheVariants.{Halt, Haltv}
+use Rattle.sl_instructions.specs.declared.kinds.Kinds.{Kinds}
+use Rattle.sl_instructions.specs.Codes.{CountingCode}
 use Rattle.sl_verify.specs.Kinds.{start_kinds, covers, no_cursors}
 use Rattle.sl_verify.specs.Needs.{has_slot, has_needs}
 use Rattle.sl_verify.specs.Pieces.{comes_after, are_passed}

@@ -24,14 +24,14 @@ use Rattle.sl_stages.specs.meaning.Means.{Through, IsSeated, IsOutcome, Means}
 use Rattle.sl_stages.specs.laws.ColumnLaws.{IsTypedAs}
 use Rattle.sl_stages.proofs.meaning.MeaningProofs.{same_itself, at_most_one_outcome, any_order}
 use Rattle.sl_stages.proofs.meaning.RecordsOnce.{records_once}
-use Rattle.sl_code.specs.declared.code.CodeStage.{CodeStage}
-use Rattle.sl_code.specs.Codes.{CountingCode}
-use Rattle.sl_machine.specs.State.{State, End, Halted, Faulted}
-use Rattle.sl_machine.specs.Runs.{Ended}
-use Rattle.sl_machine.specs.Places.{cells_of}
-use Rattle.sl_machine.specs.Memories.{held_of, column_of}
-use Rattle.sl_machine.specs.Tables.{held_table}
-use Rattle.sl_machine.proofs.effects.Storing.{column_by_cells}
+use Rattle.sl_instructions.specs.declared.code.CodeStage.{CodeStage}
+use Rattle.sl_instructions.specs.Codes.{CountingCode}
+use Rattle.sl_semantics.specs.State.{State, End, Halted, Faulted}
+use Rattle.sl_semantics.specs.Runs.{Ended}
+use Rattle.sl_semantics.specs.Places.{cells_of}
+use Rattle.sl_semantics.specs.Memories.{held_of, column_of}
+use Rattle.sl_semantics.specs.Tables.{held_table}
+use Rattle.sl_semantics.proofs.effects.Storing.{column_by_cells}
 use Rattle.sl_pieces.specs.columns.Columns.{HoldsColumn}
 use Rattle.sl_pieces.specs.declared.slots.TheConstants.{FIRST_STAGE_SLOT}
 use Rattle.sl_pieces.specs.exprs.Slots.{stage_slot, HasBookSlots}

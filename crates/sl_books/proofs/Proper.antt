@@ -5,9 +5,9 @@ use Rattle.std.proofs.lemmas.List.Elements.{All-nil, All-cons, All-append}
 use Rattle.sl_stages.specs.declared.book.Cond.{Cond}
 use Rattle.sl_stages.specs.book.Trees.{BookTree}
 use Rattle.sl_stages.specs.book.Typing.{Column, columns_of}
-use Rattle.sl_code.specs.declared.instr.Instr.{Instr}
-use Rattle.sl_code.specs.Faults.{IsStage}
-use Rattle.sl_code.specs.Proper.{IsInRange, IsProper}
+use Rattle.sl_instructions.specs.declared.instr.Instr.{Instr}
+use Rattle.sl_instructions.specs.Proper.{IsStage}
+use Rattle.sl_instructions.specs.Proper.{IsInRange, IsProper}
 use Rattle.sl_pieces.specs.declared.slots.TheConstants.{FIRST_STAGE_SLOT}
 use Rattle.sl_pieces.specs.closing.Trees.{halting}
 use Rattle.sl_books.specs.Codes.{code_stages, book_slots, book_code, AreBookInstrs}

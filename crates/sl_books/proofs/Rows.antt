@@ -2,19 +2,19 @@
 use Rattle.std.proofs.Common.{◌≡◌, ℕ, ◌+◌, ◌≤◌, List, [], ◌∷◌, ◌++◌, All, length, Some, refl, sym, ap, subst, ◌∙◌, inl, inr, arith, append_assoc, append-nil, length-append}
 use Rattle.std.proofs.lemmas.List.Elements.{All-nil, All-append}
 use Rattle.sl_stages.specs.returns.Election.{Election, IsElection}
-use Rattle.sl_code.specs.declared.code.TheConstants.{MAX_INSTRS}
-use Rattle.sl_code.specs.declared.instr.Instr.{Instr}
-use Rattle.sl_code.specs.Codes.{CountingCode}
-use Rattle.sl_code.specs.Proper.{IsInRange}
-use Rattle.sl_code.specs.Standing.{HasAt}
+use Rattle.sl_instructions.specs.declared.code.TheConstants.{MAX_INSTRS}
+use Rattle.sl_instructions.specs.declared.instr.Instr.{Instr}
+use Rattle.sl_instructions.specs.Codes.{CountingCode}
+use Rattle.sl_instructions.specs.Proper.{IsInRange}
+use Rattle.sl_instructions.specs.Standing.{HasAt}
 use Rattle.sl_verify.specs.Kinds.{start_kinds}
 use Rattle.sl_verify.specs.Pieces.{comes_after, are_passed}
 use Rattle.sl_verify.specs.WellKinded.{context_of}
 use Rattle.sl_verify.proofs.Passing.{both_hold}
 use Rattle.sl_verify.proofs.PieceFacts.{comes_in_row, passed_in_row}
-use Rattle.sl_machine.specs.State.{State, End}
-use Rattle.sl_machine.specs.Comes.{Comes}
-use Rattle.sl_machine.proofs.runs.Coming.{stays, after, ends_after, ends_wider}
+use Rattle.sl_semantics.specs.State.{State, End}
+use Rattle.sl_semantics.specs.Comes.{Comes}
+use Rattle.sl_semantics.proofs.runs.Coming.{stays, after, ends_after, ends_wider}
 use Rattle.sl_plans.specs.Trees.{Tree}
 use Rattle.sl_plans.specs.Meaning.{Course, Onward, Final, Unsaid, does, cost}
 use Rattle.sl_plans.specs.Achieves.{Meets, Reaches}

@@ -13,8 +13,8 @@ use Rattle.sl_stages.specs.returns.Election.{Election, IsElection}
 use Rattle.sl_stages.specs.meaning.Means.{Known, Through, Stopped, nothing_known, StagesMean, IsOutcome}
 use Rattle.sl_stages.proofs.Tests.{no_fault}
 use Rattle.sl_stages.proofs.meaning.OneOutcome.{typed_parts}
-use Rattle.sl_code.specs.Codes.{CountingCode}
-use Rattle.sl_machine.specs.State.{State, End, Faulted, start}
+use Rattle.sl_instructions.specs.Codes.{CountingCode}
+use Rattle.sl_semantics.specs.State.{State, End, Faulted, start}
 use Rattle.sl_plans.specs.Trees.{Tree}
 use Rattle.sl_plans.specs.Achieves.{Never}
 use Rattle.sl_plans.specs.Laid.{AchievesAll}

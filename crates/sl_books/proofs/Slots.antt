@@ -12,9 +12,9 @@ use Rattle.sl_stages.specs.declared.limits.TheConstants.{MAX_STAGES, MAX_DEPTH}
 use Rattle.sl_stages.specs.book.Trees.{StageTree, BookTree}
 use Rattle.sl_stages.specs.book.Limits.{is_within_stage, is_within_limits}
 use Rattle.sl_stages.specs.book.Typing.{Column, columns_of, fact_type, shape_number}
-use Rattle.sl_code.specs.declared.code.CodeStage.{CodeStage}
-use Rattle.sl_code.specs.declared.instr.Instr.{Instr}
-use Rattle.sl_code.specs.Codes.{CountingCode}
+use Rattle.sl_instructions.specs.declared.code.CodeStage.{CodeStage}
+use Rattle.sl_instructions.specs.declared.instr.Instr.{Instr}
+use Rattle.sl_instructions.specs.Codes.{CountingCode}
 use Rattle.sl_pieces.specs.declared.slots.TheConstants.{LEVELS, PAIR_NUMBERS as pair_numbers}
 use Rattle.sl_pieces.specs.exprs.Slots.{fact_slots, passing, stage_slot, HasBookSlots}
 use Rattle.sl_pieces.specs.exprs.Stages.{HasStages}

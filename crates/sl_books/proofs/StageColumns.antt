@@ -10,10 +10,10 @@ use Rattle.sl_stages.specs.book.Typing.{Column, columns_of}
 use Rattle.sl_stages.specs.returns.Election.{Election}
 use Rattle.sl_stages.specs.meaning.Columns.{NamedColumn}
 use Rattle.sl_stages.specs.meaning.Means.{Known}
-use Rattle.sl_code.specs.declared.code.CodeStage.{CodeStage}
-use Rattle.sl_code.specs.Codes.{CountingCode}
-use Rattle.sl_machine.specs.State.{State}
-use Rattle.sl_machine.specs.Memories.{column_of, held_of}
+use Rattle.sl_instructions.specs.declared.code.CodeStage.{CodeStage}
+use Rattle.sl_instructions.specs.Codes.{CountingCode}
+use Rattle.sl_semantics.specs.State.{State}
+use Rattle.sl_semantics.specs.Memories.{column_of, held_of}
 use Rattle.sl_pieces.proofs.seats.Lists.{number_at}
 use Rattle.sl_books.specs.Compiled.{HasStageColumns, IsCompiled}
 use Rattle.sl_books.proofs.Known.{columns_long, known_types, known_names, known_long}

@@ -11,7 +11,7 @@ use Rattle.sl_stages.specs.book.Trees.{BookTree}
 use Rattle.sl_stages.specs.book.Typing.{fact_number, fact_type}
 use Rattle.sl_stages.specs.returns.Election.{Election}
 use Rattle.sl_stages.specs.meaning.Columns.{fact_column}
-use Rattle.sl_machine.specs.State.{State}
+use Rattle.sl_semantics.specs.State.{State}
 use Rattle.sl_pieces.specs.columns.Columns.{HoldsColumn, GetsColumn}
 use Rattle.sl_pieces.specs.exprs.Slots.{fact_slots}
 use Rattle.sl_pieces.specs.facts.Laws.{flags}

@@ -3,7 +3,7 @@ use Rattle.std.proofs.Common.{◌+◌, ◌≤◌, List, length}
 use Rattle.sl_stages.specs.declared.book.Cond.{Cond}
 use Rattle.sl_stages.specs.book.Trees.{BookTree}
 use Rattle.sl_stages.specs.returns.Election.{Election}
-use Rattle.sl_machine.specs.Runs.{budget_of}
+use Rattle.sl_semantics.specs.Runs.{budget_of}
 use Rattle.sl_plans.specs.Laid.{cost_all}
 use Rattle.sl_books.specs.Codes.{book_pieces}
 use Rattle.sl_books.specs.Laws.{CanCompile}

@@ -9,12 +9,12 @@ use Rattle.sl_stages.specs.meaning.Columns.{NamedColumn}
 use Rattle.sl_stages.specs.meaning.Tables.{SeatTable}
 use Rattle.sl_stages.specs.meaning.Means.{Known, Through, nothing_known, StagesMean, SameTable, Means}
 use Rattle.sl_stages.specs.laws.MeaningLaws.{RecordsComeOnce}
-use Rattle.sl_code.specs.declared.code.CodeStage.{CodeStage}
-use Rattle.sl_code.specs.Codes.{CountingCode}
-use Rattle.sl_machine.specs.State.{State, End, Halted, Faulted}
-use Rattle.sl_machine.specs.Runs.{Ending, Ended, budget_of, ending}
-use Rattle.sl_machine.specs.Memories.{Held, column_of, held_of}
-use Rattle.sl_machine.specs.Tables.{held_table}
+use Rattle.sl_instructions.specs.declared.code.CodeStage.{CodeStage}
+use Rattle.sl_instructions.specs.Codes.{CountingCode}
+use Rattle.sl_semantics.specs.State.{State, End, Halted, Faulted}
+use Rattle.sl_semantics.specs.Runs.{Ending, Ended, budget_of, ending}
+use Rattle.sl_semantics.specs.Memories.{Held, column_of, held_of}
+use Rattle.sl_semantics.specs.Tables.{held_table}
 
 -- the table stands in what is held, and no record comes twice
 pub record IsHeld (e : Election) (h : Held) (t : SeatTable) : Type 0 where

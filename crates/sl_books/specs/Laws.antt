@@ -1,6 +1,6 @@
 -- The laws of compiled rulebooks: each is the contract of a function of `laws` (docs/compiler.md, section 8).
 use Rattle.std.specs.Prelude.{◌≡◌, ◌≤◌, true, List, length}
-use Rattle.sl_code.specs.declared.instr.Instr.{Instr}
+use Rattle.sl_instructions.specs.declared.instr.Instr.{Instr}
 use Rattle.sl_stages.specs.declared.book.Cond.{Cond}
 use Rattle.sl_stages.specs.book.Trees.{BookTree}
 use Rattle.sl_stages.specs.book.Typing.{is_typed}

@@ -2,9 +2,9 @@
 use Rattle.std.proofs.Common.{◌≡◌, ℕ, Bool, List, [], ◌∷◌, ◌++◌, IsTrue, MatchBool, refl, sym, subst}
 use Rattle.sl_code.specs.declared.fault.Cause.TheVariants as causes
 use Rattle.sl_code.specs.declared.fault.Stop.{Stop}
-use Rattle.sl_code.specs.declared.kinds.Cursors.{Cursors}
-use Rattle.sl_code.specs.declared.operand.ScopeKind.{ScopeKind}
-use Rattle.sl_code.specs.Numbers.{scope_number, cursors_number}
+use Rattle.sl_instructions.specs.declared.kinds.Cursors.{Cursors}
+use Rattle.sl_instructions.specs.declared.operand.ScopeKind.{ScopeKind}
+use Rattle.sl_instructions.specs.Numbers.{scope_number, cursors_number}
 use Rattle.sl_code.specs.Operands.{is_any, is_below, is_scope, two_bytes}
 use Rattle.sl_code.specs.Faults.{FailsFrom, FailsTests, stop_at}
 use Rattle.sl_code.specs.Reading.{Ends, FailsAhead}

@@ -6,17 +6,18 @@ use Rattle.std.proofs.lemmas.Nat.{from_le_bytes-to_le_bytes_4}
 use Rattle.std.proofs.lemmas.List.Concat.{flat_map_single}
 use Rattle.sl_stages.specs.declared.limits.TheConstants.{MAX_STAGES}
 use Rattle.sl_stages.specs.declared.book.Shape.{Shape}
-use Rattle.sl_code.specs.declared.code.TheConstants.{MAX_SLOTS, MAX_INSTRS}
-use Rattle.sl_code.specs.declared.code.CodeStage.{CodeStage}
+use Rattle.sl_instructions.specs.declared.code.TheConstants.{MAX_SLOTS, MAX_INSTRS}
+use Rattle.sl_instructions.specs.declared.code.CodeStage.{CodeStage}
 use Rattle.sl_code.specs.declared.fault.Cause.TheVariants as causes
 use Rattle.sl_code.specs.declared.fault.CodeFault.{CodeFault}
 use Rattle.sl_code.specs.declared.fault.Stop.{Stop}
-use Rattle.sl_code.specs.declared.instr.Instr.{Instr}
-use Rattle.sl_code.specs.Codes.{CountingCode, IsCode}
+use Rattle.sl_instructions.specs.declared.instr.Instr.{Instr}
+use Rattle.sl_instructions.specs.Codes.{CountingCode, IsCode}
 use Rattle.sl_stages.specs.book.Typing.{shape_number}
 use Rattle.sl_code.specs.Operands.{four_bytes}
 use Rattle.sl_code.specs.Spelling.{instr_bytes, stage_bytes, opening, stages_part, slots_part, instrs_part, spelling_of}
-use Rattle.sl_code.specs.Faults.{FailsTests, FailsOpening, FailsCount, FailsLongCount, cut, above, FailsStage, FailsStages, FailsShape, FailsSlots, FailsInstr, FailsInstrs, FailsFile, in_opening, in_stages, in_slots, in_instrs, behind, IsStage, IsAny, IsFault, fault_of, shape_bytes, one_byte, letters, is_byte, is_at_most, stop_at}
+use Rattle.sl_instructions.specs.Proper.{IsStage}
+use Rattle.sl_code.specs.Faults.{FailsTests, FailsOpening, FailsCount, FailsLongCount, cut, above, FailsStage, FailsStages, FailsShape, FailsSlots, FailsInstr, FailsInstrs, FailsFile, in_opening, in_stages, in_slots, in_instrs, behind, IsAny, IsFault, fault_of, shape_bytes, one_byte, letters, is_byte, is_at_most, stop_at}
 use Rattle.sl_code.proofs.Determined.{OneWay, tests_one, StandsList, list_way, Both, Sequence, sequence}
 use Rattle.sl_code.proofs.Fronts.{head, tail, front_same, back_same}
 use Rattle.sl_code.proofs.InstrFacts.{instr_same, instr_none, instr_one}

@@ -1,4 +1,4 @@
--- The lemmas of counting code.
+-- The lemmas of code files.
 pub mod CodeOrFault
 pub mod Determined
 pub mod Failing
@@ -15,6 +15,5 @@ pub mod Passing
 pub mod Pieces
 pub mod Spelled
 pub mod StageFacts
-pub mod Standing
 pub mod Taking
 pub mod Values

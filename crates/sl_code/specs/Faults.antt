@@ -3,18 +3,19 @@ use Rattle.std.specs.Prelude.{◌≡◌, ℕ, zero, suc, ◌-◌, ◌<◌, ◌�
 use Rattle.sl_ratio.specs.declared.names.TheConstants.{MAX_NAME_BYTES}
 use Rattle.sl_stages.specs.declared.limits.TheConstants.{MAX_STAGES}
 use Rattle.sl_stages.specs.declared.book.Shape.{Shape}
-use Rattle.sl_stages.specs.book.Words.{is_letter, is_digit, is_word}
-use Rattle.sl_code.specs.declared.code.TheConstants.{MAX_SLOTS, MAX_INSTRS}
-use Rattle.sl_code.specs.declared.code.CodeStage.{CodeStage}
+use Rattle.sl_stages.specs.book.Words.{is_letter, is_digit}
+use Rattle.sl_instructions.specs.declared.code.TheConstants.{MAX_SLOTS, MAX_INSTRS}
+use Rattle.sl_instructions.specs.declared.code.CodeStage.{CodeStage}
 use Rattle.sl_code.specs.declared.fault.Cause.{Cause}
 use Rattle.sl_code.specs.declared.fault.Cause.TheVariants as causes
 use Rattle.sl_code.specs.declared.fault.Stop.{Stop}
 use Rattle.sl_code.specs.declared.fault.CodeFault.{CodeFault}
 use Rattle.sl_code.specs.declared.fault.CodeFault.TheVariants as faults
-use Rattle.sl_code.specs.declared.instr.Instr.{Instr}
-use Rattle.sl_code.specs.Codes.{CountingCode, IsCode}
+use Rattle.sl_instructions.specs.declared.instr.Instr.{Instr}
+use Rattle.sl_instructions.specs.Codes.{CountingCode, IsCode}
+use Rattle.sl_instructions.specs.Proper.{IsStage}
 use Rattle.sl_stages.specs.book.Typing.{shape_number}
-use Rattle.sl_code.specs.Rows.{opcode_of, operands_of}
+use Rattle.sl_instructions.specs.Rows.{opcode_of, operands_of}
 use Rattle.sl_code.specs.Operands.{tests_of, four_bytes, is_any, is_shape}
 use Rattle.sl_code.specs.Spelling.{instr_bytes, stage_bytes, opening, stages_part, slots_part, spelling_of}
 
@@ -91,9 +92,6 @@ is_name_byte b = is_letter b || is_digit b || nat_eq b 95
 abbrev pub name_tests : ℕ → List (ℕ → Bool)
 name_tests zero = []
 name_tests (suc n) = is_letter ∷ replicate n is_name_byte
-
-abbrev pub IsStage : CodeStage → Type 0
-IsStage s = IsTrue (is_word s.name)
 
 pub data FailsStage (here : List ℕ) (stop : Stop) : Type 0 where
   in_length : FailsTests (stop_at causes.Op) (is_name_length ∷ []) here stop → FailsStage here stop

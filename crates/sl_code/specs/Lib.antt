@@ -1,12 +1,7 @@
--- The definitions of counting code.
-pub mod Codes
-pub mod Numbers
+-- The definitions of code files.
 pub mod Operands
-pub mod Rows
 pub mod Spelling
 pub mod Listing
 pub mod Faults
-pub mod Proper
 pub mod Reading
-pub mod Standing
 pub mod Laws

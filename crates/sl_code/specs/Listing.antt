@@ -2,11 +2,11 @@
 use Rattle.std.specs.Prelude.{ℕ, List, [], ◌∷◌, ◌++◌, flat_map}
 use Rattle.std.specs.List.{enumerate_from}
 use Rattle.std.specs.Fmt.{decimal}
-use Rattle.sl_code.specs.declared.instr.Instr.{Instr}
-use Rattle.sl_code.specs.declared.parts.Operand.{Operand}
-use Rattle.sl_code.specs.Codes.{CountingCode}
-use Rattle.sl_code.specs.Rows.{name_of, operands_of}
-use Rattle.sl_code.specs.Operands.{value_of}
+use Rattle.sl_instructions.specs.declared.instr.Instr.{Instr}
+use Rattle.sl_instructions.specs.declared.parts.Operand.{Operand}
+use Rattle.sl_instructions.specs.Codes.{CountingCode}
+use Rattle.sl_instructions.specs.Rows.{name_of, operands_of}
+use Rattle.sl_instructions.specs.Numbers.{value_of}
 
 -- a blank, and the operand in plain decimal
 abbrev pub operand_word : Operand → List ℕ

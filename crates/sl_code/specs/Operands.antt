@@ -1,33 +1,15 @@
--- The number of an operand, its bytes, and which bytes may stand in it (docs/code.md, section 2).
+-- The bytes of an operand, and which bytes may stand in it (docs/code.md, section 2).
 use Rattle.std.specs.Prelude.{ℕ, Bool, true, List, [], ◌∷◌, nat_eq, nat_lt}
 use Rattle.std.specs.List.{list_any}
 use Rattle.std.specs.Int.{w16, w32, w64, to_le_bytes}
 use Rattle.sl_ratio.specs.declared.method.TheConstants.{DIVISORS}
 use Rattle.sl_stages.specs.declared.book.TheConstants.{SHAPES}
 use Rattle.sl_stages.specs.book.Typing.{shape_number}
-use Rattle.sl_code.specs.declared.operand.TheConstants.{ENTRY_KINDS, RANKINGS, SCOPE_KINDS, INPUTS, END_FAULTS, ROUNDINGS}
-use Rattle.sl_code.specs.declared.parts.Operand.{Operand}
-use Rattle.sl_code.specs.declared.parts.Operand.TheVariants as o
+use Rattle.sl_instructions.specs.declared.operand.TheConstants.{ENTRY_KINDS, RANKINGS, SCOPE_KINDS, INPUTS, END_FAULTS, ROUNDINGS}
+use Rattle.sl_instructions.specs.declared.parts.Operand.{Operand}
+use Rattle.sl_instructions.specs.declared.parts.Operand.TheVariants as o
 use Rattle.sl_ratio.specs.Quotient.{method_number}
-use Rattle.sl_code.specs.Numbers.{scope_number, entries_number, ranking_number, input_number, rounding_number, fault_number, cursors_number, table_number}
-
--- the number of an operand
-abbrev pub value_of : Operand → ℕ
-value_of (o.Register r) = r
-value_of (o.Slot k) = k
-value_of (o.Stage n) = n
-value_of (o.Target t) = t
-value_of (o.Value x) = x
-value_of (o.Scope c) = scope_number c
-value_of (o.Entries e) = entries_number e
-value_of (o.Ranking ranking) = ranking_number ranking
-value_of (o.Input i) = input_number i
-value_of (o.Method m) = method_number m
-value_of (o.Rounding m) = rounding_number m
-value_of (o.Fault f) = fault_number f
-value_of (o.Positive registers) = registers.mask
-value_of (o.Cursors c) = cursors_number c
-value_of (o.Table t) = table_number t
+use Rattle.sl_instructions.specs.Numbers.{value_of, scope_number, entries_number, ranking_number, input_number, rounding_number, fault_number}
 
 -- a number in 2, 4 or 8 bytes, least first
 unfoldable pub two_bytes : ℕ → List ℕ

@@ -6,13 +6,13 @@ use Rattle.sl_code.specs.declared.fault.Stop.{Stop}
 use Rattle.sl_code.specs.declared.fault.CodeFault.{CodeFault}
 use Rattle.sl_code.specs.declared.fault.Refusal.{Refusal}
 use Rattle.sl_code.specs.declared.fault.Refusal.TheVariants as refusals
-use Rattle.sl_code.specs.declared.instr.Instr.{Instr}
-use Rattle.sl_code.specs.Codes.{CountingCode}
-use Rattle.sl_code.specs.Rows.{opcode_of, operands_of}
+use Rattle.sl_instructions.specs.declared.instr.Instr.{Instr}
+use Rattle.sl_instructions.specs.Codes.{CountingCode}
+use Rattle.sl_instructions.specs.Rows.{opcode_of, operands_of}
 use Rattle.sl_code.specs.Operands.{bytes_of}
 use Rattle.sl_code.specs.Spelling.{spelling_of}
 use Rattle.sl_code.specs.Faults.{FailsTests, stop_at, IsRefusal}
-use Rattle.sl_code.specs.Proper.{IsInRange, IsProper}
+use Rattle.sl_instructions.specs.Proper.{IsInRange, IsProper}
 
 -- what reading may answer for these bytes: a proper code that they spell; else their fault, or that memory ran out
 abbrev pub IsReading : List ℕ → Result CountingCode CodeFault → Type 0

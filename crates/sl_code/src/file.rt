@@ -4,19 +4,19 @@ ghost use Rattle.std.specs.Prelude.{◌≡◌, ◌∷◌, ◌++◌, ◌<◌, ◌
 ghost use Rattle.std.specs.List.{list_all};
 ghost use Rattle.sl_stages.specs.declared.limits.TheConstants.{MAX_STAGES as most_stages};
 ghost use Rattle.sl_stages.specs.book.Words.{is_letter};
-ghost use Rattle.sl_code.specs.declared.code.TheConstants.{MAX_SLOTS as most_slots, MAX_INSTRS as most_instrs};
+ghost use Rattle.sl_instructions.specs.declared.code.TheConstants.{MAX_SLOTS as most_slots, MAX_INSTRS as most_instrs};
 ghost use Rattle.sl_code.specs.declared.fault.Cause.TheVariants as causes;
 ghost use Rattle.sl_stages.specs.book.Typing.{shape_number};
 ghost use Rattle.sl_code.specs.Operands.{four_bytes};
 ghost use Rattle.sl_code.specs.Spelling.{opening, instr_bytes, stage_bytes, stages_part, slots_part, instrs_part, spelling_of};
-ghost use Rattle.sl_code.specs.Faults.{FailsTests, FailsOpening, FailsCount, FailsLongCount, FailsElement, FailsStage, FailsStages, FailsShape, FailsSlots, FailsInstr, FailsInstrs, FailsFile, IsStage, IsAny, shape_bytes, is_byte, is_name_length, is_name_byte, name_tests, fault_of, stop_at};
-ghost use Rattle.sl_code.specs.Proper.{IsInRange, IsProper};
+ghost use Rattle.sl_instructions.specs.Proper.{IsStage};
+ghost use Rattle.sl_code.specs.Faults.{FailsTests, FailsOpening, FailsCount, FailsLongCount, FailsElement, FailsStage, FailsStages, FailsShape, FailsSlots, FailsInstr, FailsInstrs, FailsFile, IsAny, shape_bytes, is_byte, is_name_length, is_name_byte, name_tests, fault_of, stop_at};
+ghost use Rattle.sl_instructions.specs.Proper.{IsInRange, IsProper};
 ghost use Rattle.sl_code.specs.Reading.{FailsAhead, IsReading, Refuses, IsName};
 
-use crate::code::{Code, CodeStage, MAX_INSTRS, MAX_SLOTS};
 use crate::fault::{Cause, CodeFault, Refusal, Stop};
-use crate::instr::Instr;
 use crate::reader::Reader;
+use sl_instructions::{Code, CodeStage, Instr, MAX_INSTRS, MAX_SLOTS};
 use sl_ratio::MAX_NAME_BYTES;
 use sl_stages::{MAX_STAGES, Shape, Word};
 use std::alloc::Global;

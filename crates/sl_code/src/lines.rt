@@ -5,9 +5,7 @@ ghost use Rattle.std.specs.Fmt.{decimal};
 ghost use Rattle.sl_code.specs.Listing.{operand_word, line_of, listing_of};
 
 use crate::append::{extend, push};
-use crate::code::Code;
-use crate::instr::Instr;
-use crate::parts::Operand;
+use sl_instructions::{Code, Instr, Operand};
 use sl_ratio::NoMemory;
 use std::alloc::Global;
 

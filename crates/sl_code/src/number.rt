@@ -1,15 +1,14 @@
-//! The numbers by which operands of a few values are spelled (docs/code.md, section 2).
+//! The values of operands and slots by their numbers (docs/code.md, section 2).
 
 ghost use Rattle.std.specs.Prelude.{◌≡◌, ℕ, Bool, false, MatchOption};
 ghost use Rattle.sl_ratio.specs.Quotient.{method_number};
 ghost use Rattle.sl_stages.specs.book.Typing.{shape_number};
-ghost use Rattle.sl_code.specs.Numbers.{scope_number, entries_number, ranking_number, input_number, rounding_number, fault_number, cursors_number, table_number};
+ghost use Rattle.sl_instructions.specs.Numbers.{scope_number, entries_number, ranking_number, input_number, rounding_number, fault_number, cursors_number, table_number};
 ghost use Rattle.sl_code.specs.Operands.{is_below, is_scope, is_entries, is_ranking, is_input, is_method, is_rounding, is_end_fault, is_shape};
 
-use crate::kinds::{Cursors, TableState};
-use crate::operand::{
-    END_FAULTS, ENTRY_KINDS, EndFault, Entries, INPUTS, Input, RANKINGS, Ranking, Rounding,
-    SCOPE_KINDS, ScopeKind,
+use sl_instructions::{
+    Cursors, END_FAULTS, ENTRY_KINDS, EndFault, Entries, INPUTS, Input, RANKINGS, Ranking,
+    Rounding, SCOPE_KINDS, ScopeKind, TableState,
 };
 use sl_ratio::{DIVISORS, Divisor};
 use sl_stages::{SHAPES, Shape};
@@ -27,14 +26,6 @@ pub(crate) trait FromNumber: Copy {
         ensures { MatchOption result (is_number number ≡ false) (λ x. number_of x ≡ number) };
 }
 
-impl ScopeKind {
-    pub(crate) fn number(self) -> u8
-        ensures { result ≡ scope_number self }
-    {
-        self as u8
-    }
-}
-
 impl FromNumber for ScopeKind {
     ghost number_of = { scope_number };
 
@@ -42,14 +33,6 @@ impl FromNumber for ScopeKind {
 
     fn from_number(number: u8) -> Option<ScopeKind> {
         SCOPE_KINDS.get(usize::from(number)).copied()
-    }
-}
-
-impl Entries {
-    pub(crate) fn number(self) -> u8
-        ensures { result ≡ entries_number self }
-    {
-        self as u8
     }
 }
 
@@ -63,14 +46,6 @@ impl FromNumber for Entries {
     }
 }
 
-impl Ranking {
-    pub(crate) fn number(self) -> u8
-        ensures { result ≡ ranking_number self }
-    {
-        self as u8
-    }
-}
-
 impl FromNumber for Ranking {
     ghost number_of = { ranking_number };
 
@@ -78,14 +53,6 @@ impl FromNumber for Ranking {
 
     fn from_number(number: u8) -> Option<Ranking> {
         RANKINGS.get(usize::from(number)).copied()
-    }
-}
-
-impl Input {
-    pub(crate) fn number(self) -> u8
-        ensures { result ≡ input_number self }
-    {
-        self as u8
     }
 }
 
@@ -99,14 +66,6 @@ impl FromNumber for Input {
     }
 }
 
-impl Rounding {
-    pub(crate) fn number(self) -> u8
-        ensures { result ≡ rounding_number self }
-    {
-        self.divisor().number()
-    }
-}
-
 impl FromNumber for Rounding {
     ghost number_of = { rounding_number };
 
@@ -117,14 +76,6 @@ impl FromNumber for Rounding {
     }
 }
 
-impl EndFault {
-    pub(crate) fn number(self) -> u8
-        ensures { result ≡ fault_number self }
-    {
-        self as u8
-    }
-}
-
 impl FromNumber for EndFault {
     ghost number_of = { fault_number };
 
@@ -132,14 +83,6 @@ impl FromNumber for EndFault {
 
     fn from_number(number: u8) -> Option<EndFault> {
         END_FAULTS.iter().copied().find(|x| x.number() == number)
-    }
-}
-
-impl Cursors {
-    pub(crate) fn number(self) -> u8
-        ensures { result ≡ cursors_number self }
-    {
-        u8::from(self.party) + 2 * u8::from(self.land) + 4 * u8::from(self.win)
     }
 }
 
@@ -157,19 +100,6 @@ impl FromNumber for Cursors {
             land: number / 2 % 2 == 1,
             win: number / 4 == 1,
         })
-    }
-}
-
-impl TableState {
-    pub(crate) fn number(table: Option<TableState>) -> u8
-        ensures { result ≡ table_number table }
-    {
-        match table {
-            None => 0,
-            Some(table) => {
-                1 + table.entries.number() + 4 * table.ranking.number() + 8 * u8::from(table.ready)
-            }
-        }
     }
 }
 

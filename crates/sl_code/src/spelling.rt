@@ -6,10 +6,7 @@ ghost use Rattle.sl_code.specs.Operands.{bytes_of};
 ghost use Rattle.sl_code.specs.Spelling.{opening, instr_bytes, stage_bytes, stages_part, slots_part, instrs_part, spelling_of};
 
 use crate::append::{extend, extend_eight, extend_four, extend_two, push};
-use crate::code::{Code, CodeStage};
-use crate::instr::Instr;
-use crate::kinds::TableState;
-use crate::parts::Operand;
+use sl_instructions::{Code, CodeStage, Instr, Operand, TableState};
 use sl_ratio::NoMemory;
 use sl_stages::Shape;
 use std::alloc::Global;

@@ -11,8 +11,8 @@ use Rattle.sl_stages.specs.book.Limits.{depth_of}
 use Rattle.sl_stages.specs.book.Trees.{ExprTree, tree_of, sum, pair}
 use Rattle.sl_stages.specs.book.Typing.{Column, column, shape_over, can_sum, type_of, expr_tests, sum_tests}
 use Rattle.sl_stages.proofs.Tests.{pass_parts, head_holds}
-use Rattle.sl_code.specs.declared.instr.Instr.{Instr}
-use Rattle.sl_code.specs.Codes.{CountingCode}
+use Rattle.sl_instructions.specs.declared.instr.Instr.{Instr}
+use Rattle.sl_instructions.specs.Codes.{CountingCode}
 use Rattle.sl_plans.specs.Trees.{Tree}
 use Rattle.sl_pieces.specs.columns.Trees.{sum_tree, pair_tree, summed}
 use Rattle.sl_pieces.specs.exprs.Slots.{passing}

@@ -12,11 +12,11 @@ use Rattle.sl_stages.specs.book.Books.{book_of}
 use Rattle.sl_stages.specs.book.Limits.{is_within_limits}
 use Rattle.sl_stages.specs.book.Tests.{first_failing}
 use Rattle.sl_stages.specs.book.Typing.{Column, columns_of, base_tests, is_typed}
-use Rattle.sl_code.specs.declared.code.CodeStage.{CodeStage}
-use Rattle.sl_code.specs.declared.instr.Instr.{Instr}
-use Rattle.sl_code.specs.Codes.{CountingCode}
-use Rattle.sl_code.specs.Faults.{IsStage}
-use Rattle.sl_code.specs.Proper.{IsProper}
+use Rattle.sl_instructions.specs.declared.code.CodeStage.{CodeStage}
+use Rattle.sl_instructions.specs.declared.instr.Instr.{Instr}
+use Rattle.sl_instructions.specs.Codes.{CountingCode}
+use Rattle.sl_instructions.specs.Proper.{IsStage}
+use Rattle.sl_instructions.specs.Proper.{IsProper}
 use Rattle.sl_plans.specs.Trees.{Tree}
 use Rattle.sl_pieces.specs.closing.Trees.{last_pieces, halting}
 use Rattle.sl_pieces.specs.exprs.Stages.{stages_pieces}

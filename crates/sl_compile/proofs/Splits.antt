@@ -15,8 +15,8 @@ use Rattle.sl_stages.specs.declared.limits.TheConstants.{MAX_DEPTH}
 use Rattle.sl_stages.specs.book.Limits.{depth_of}
 use Rattle.sl_stages.specs.book.Trees.{ExprTree, tree_of, split, without, atleast, grow}
 use Rattle.sl_stages.specs.book.Typing.{Column, column, type_of, can_split}
-use Rattle.sl_code.specs.declared.instr.Instr.{Instr}
-use Rattle.sl_code.specs.Codes.{CountingCode}
+use Rattle.sl_instructions.specs.declared.instr.Instr.{Instr}
+use Rattle.sl_instructions.specs.Codes.{CountingCode}
 use Rattle.sl_plans.specs.Trees.{Tree}
 use Rattle.sl_pieces.specs.exprs.Pieces.{pieces, split_piece, grow_piece}
 use Rattle.sl_blocks.specs.PlanBlocks.{AreBlocks, HasRoom}

@@ -18,8 +18,8 @@ use Rattle.sl_stages.specs.book.Trees.{ExprTree, name}
 use Rattle.sl_stages.specs.book.Typing.{Column, is_named, type_or_one, type_of, same_shape, shape_over, base_tests}
 use Rattle.sl_stages.proofs.Shapes.{same_shape_is}
 use Rattle.sl_stages.proofs.Tests.{head_holds}
-use Rattle.sl_code.specs.declared.instr.Instr.{Instr}
-use Rattle.sl_code.specs.Codes.{CountingCode}
+use Rattle.sl_instructions.specs.declared.instr.Instr.{Instr}
+use Rattle.sl_instructions.specs.Codes.{CountingCode}
 use Rattle.sl_pieces.specs.columns.Trees.{pair_tree, sum_tree}
 use Rattle.sl_pieces.specs.exprs.Slots.{passing, stage_slot, HasBookSlots}
 use Rattle.sl_pieces.specs.closing.Trees.{base_slot}

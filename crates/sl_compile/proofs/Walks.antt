@@ -18,8 +18,8 @@ use Rattle.sl_stages.specs.book.Tests.{first_failing}
 use Rattle.sl_stages.specs.book.Limits.{is_within_stage, is_within_limits, depth_of}
 use Rattle.sl_stages.specs.book.Typing.{Column, column, is_named, type_or_one, type_of, stage_column, columns_of, stage_tests, stages_tests, splits_in}
 use Rattle.sl_stages.proofs.Tests.{pass_parts, head_holds}
-use Rattle.sl_code.specs.declared.instr.Instr.{Instr}
-use Rattle.sl_code.specs.Codes.{CountingCode}
+use Rattle.sl_instructions.specs.declared.instr.Instr.{Instr}
+use Rattle.sl_instructions.specs.Codes.{CountingCode}
 use Rattle.sl_plans.specs.Trees.{Tree}
 use Rattle.sl_pieces.specs.columns.Trees.{copy_tree}
 use Rattle.sl_pieces.specs.declared.slots.TheConstants.{LEVELS}

@@ -10,8 +10,8 @@ use Rattle.sl_stages.specs.book.Limits.{condition_numbers}
 use Rattle.sl_stages.specs.book.Tests.{first_failing}
 use Rattle.sl_stages.specs.book.Typing.{Column, columns_of, version_tests, condition_tests, stages_tests, base_tests, tests_of, is_typed}
 use Rattle.sl_stages.proofs.Tests.{no_fault, pass_parts, head_holds}
-use Rattle.sl_code.specs.declared.instr.Instr.{Instr}
-use Rattle.sl_code.specs.Codes.{CountingCode}
+use Rattle.sl_instructions.specs.declared.instr.Instr.{Instr}
+use Rattle.sl_instructions.specs.Codes.{CountingCode}
 use Rattle.sl_plans.specs.Trees.{Tree}
 use Rattle.sl_books.specs.Codes.{book_slots, passing_shapes}
 use Rattle.sl_blocks.specs.declared.easiest.Share.{Share}

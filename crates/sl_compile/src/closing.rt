@@ -13,7 +13,7 @@ ghost use Rattle.sl_compile.specs.inner.Earlier.{columns};
 use crate::earlier::Earlier;
 use crate::slots::{FINAL_SEATS, WINNERS};
 use sl_blocks::{copy_block, cover_block, names_block, pair_block, placing_block};
-use sl_code::Instr;
+use sl_instructions::Instr;
 use sl_pieces::slots::{ELIGIBLE, NAMES_LEFT, PAIR_NUMBERS, VACANT_SEATS};
 use sl_ratio::NoMemory;
 use sl_stages::{Base, LastClause, Pairing, Seating, Shape};

@@ -19,7 +19,7 @@ use crate::naming::code_stages;
 use crate::slots::{add_columns, low_slots};
 use crate::stages::lay_stages;
 use sl_blocks::Easiest;
-use sl_code::{Code, Instr};
+use sl_instructions::{Code, Instr};
 use sl_ratio::NoMemory;
 use sl_stages::{Book, CheckedBook, ColumnType, MAX_STAGES, Shape, Stage};
 use sl_verify::{Verified, verify};

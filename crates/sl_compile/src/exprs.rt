@@ -13,7 +13,7 @@ ghost use Rattle.sl_compile.specs.inner.Earlier.{columns, Fits};
 use crate::earlier::Earlier;
 use crate::nodes::{copy, pair, sum};
 use crate::slots::fact_slot;
-use sl_code::Instr;
+use sl_instructions::Instr;
 use sl_ratio::NoMemory;
 use sl_stages::{ColumnType, Expr, Shape};
 

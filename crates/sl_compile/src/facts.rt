@@ -8,7 +8,7 @@ ghost use Rattle.sl_blocks.specs.PlanBlocks.{AreBlocks, HasRoom};
 ghost use Rattle.sl_blocks.specs.inner.Few.{AreSmall, few_of};
 
 use sl_blocks::{Easiest, eligible_block, fact_block};
-use sl_code::Instr;
+use sl_instructions::Instr;
 use sl_ratio::NoMemory;
 use sl_stages::{FACTS, Fact};
 

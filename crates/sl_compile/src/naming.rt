@@ -2,11 +2,11 @@
 
 ghost use Rattle.std.specs.Prelude.{◌≡◌, ◌≤◌, All, length, map, IfOk};
 ghost use Rattle.sl_stages.specs.book.Trees.{stage_of};
-ghost use Rattle.sl_code.specs.Faults.{IsStage};
+ghost use Rattle.sl_instructions.specs.Proper.{IsStage};
 ghost use Rattle.sl_books.specs.Codes.{code_stages};
 
 use crate::slots::stage_slot;
-use sl_code::CodeStage;
+use sl_instructions::CodeStage;
 use sl_ratio::NoMemory;
 use sl_stages::{MAX_STAGES, Stage, Word};
 use std::alloc::Global;

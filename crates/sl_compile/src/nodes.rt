@@ -16,7 +16,7 @@ ghost use Rattle.sl_compile.specs.inner.Nodes.{minima_at, top_of, MayHave};
 use crate::exprs::Site;
 use crate::slots::passing;
 use sl_blocks::{Job, copy_block, grow_block, pair_block, split_block, sum_block};
-use sl_code::Instr;
+use sl_instructions::Instr;
 use sl_ratio::{Method, NoMemory};
 use sl_stages::{Axis, ColumnType, MAX_DEPTH, MAX_SEATS, Majority, Pairing, Shape};
 

@@ -15,7 +15,7 @@ use crate::earlier::Earlier;
 use crate::exprs::Site;
 use crate::slots::{passing, stage_slot};
 use sl_blocks::copy_block;
-use sl_code::Instr;
+use sl_instructions::Instr;
 use sl_ratio::NoMemory;
 use sl_stages::{ColumnType, MAX_STAGES, Shape, Stage};
 

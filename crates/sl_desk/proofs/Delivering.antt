@@ -1,10 +1,10 @@
 -- A text that is delivered, and two texts that are.
 use Rattle.std.proofs.Common.{◌≡◌, Result, Ok, Err, Option, List, ℕ, IfErr, refl, sym, ap, subst, ◌∙◌, inl, inr}
-use Rattle.sl_desk.specs.declared.status.Status.{Status}
-use Rattle.sl_desk.specs.declared.status.DeskError.{DeskError}
-use Rattle.sl_desk.specs.declared.status.DeskError.TheVariants.{Read, Write, NoMemory}
-use Rattle.sl_desk.specs.Failures.{Counts, counts, counts_after, FailsInOne}
-use Rattle.sl_desk.specs.Writing.{Delivers, DeliversBoth}
+use Rattle.sl_inputs.specs.declared.status.Status.{Status}
+use Rattle.sl_inputs.specs.declared.status.DeskError.{DeskError}
+use Rattle.sl_inputs.specs.declared.status.DeskError.TheVariants.{Read, Write, NoMemory}
+use Rattle.sl_inputs.specs.Failures.{Counts, counts, counts_after, FailsInOne}
+use Rattle.sl_inputs.specs.Writing.{Delivers, DeliversBoth}
 
 -- where the one text that was to be written is of the relation
 pub delivers_text : (IsText : Status → List ℕ → Type 0) (s : Status) (t : List ℕ) (old new : Option (List ℕ)) (r : Result Status DeskError)

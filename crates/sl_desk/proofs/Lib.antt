@@ -1,5 +1,3 @@
-pub mod Writing
-pub mod BookFacts
 pub mod Order
 pub mod Delivering
 pub mod OneMeaning

@@ -19,9 +19,9 @@ use Rattle.sl_table.specs.Stages.{stage_text}
 use Rattle.sl_table.specs.Faults.{fault_text}
 use Rattle.sl_desk.specs.declared.report.Report.{Report}
 use Rattle.sl_desk.specs.declared.report.Report.TheVariants.{Seats, Steps, Stage}
-use Rattle.sl_desk.specs.declared.status.Status.{Status}
-use Rattle.sl_desk.specs.declared.verdict.Verdict.TheVariants.{Good}
-use Rattle.sl_desk.specs.Stages.{names_of}
+use Rattle.sl_inputs.specs.declared.status.Status.{Status}
+use Rattle.sl_inputs.specs.declared.verdict.Verdict.TheVariants.{Good}
+use Rattle.sl_inputs.specs.StageNames.{names_of}
 use Rattle.sl_desk.specs.Counting.{IsTableText, IsFaultText, IsTreeOutput}
 use Rattle.sl_desk.specs.Showing.{IsColumnText}
 use Rattle.sl_desk.specs.Reports.{IsReported}

@@ -1,38 +1,34 @@
 -- The book, or the code file, is judged before the returns are read.
-use Rattle.std.proofs.Common.{◌≡◌, ◌≢◌, ℕ, ◌+◌, ◌-◌, ◌^◌, min, List, [], map, Option, Some, None, IfSome, IfOk, IfErr, Result, Ok, Err, refl, sym, ap, subst, ◌∙◌, arith}
-use Rattle.std.proofs.lemmas.Simd.{map-map}
+use Rattle.std.proofs.Common.{◌≡◌, ◌≢◌, ℕ, ◌+◌, ◌-◌, ◌^◌, min, List, [], map, Option, Some, None, IfSome, IfOk, IfErr, Result, Ok, Err, refl, ap, subst, arith}
 use Rattle.std.specs.List.{position}
 use Rattle.std.specs.Result.{IsErrAnd}
-use Rattle.std.specs.Str.{bytes_eq}
-use Rattle.sl_ratio.proofs.NameLists.{position-map}
-use Rattle.sl_stages.specs.declared.book.Stage.{Stage as BookStage}
-use Rattle.sl_code.specs.Codes.{CountingCode}
-use Rattle.sl_stages.specs.book.Trees.{StageTree, BookTree, stage_of}
+use Rattle.sl_instructions.specs.Codes.{CountingCode}
+use Rattle.sl_stages.specs.book.Trees.{BookTree}
 use Rattle.sl_stages.specs.returns.Election.{Election}
-use Rattle.sl_desk.specs.declared.limits.TheConstants.{MAX_RETURNS_BYTES}
+use Rattle.sl_inputs.specs.declared.limits.TheConstants.{MAX_RETURNS_BYTES}
 use Rattle.sl_desk.specs.declared.calls.Answer.{Answer}
-use Rattle.sl_desk.specs.declared.refusal.BookRefusal.{BookRefusal}
-use Rattle.sl_desk.specs.declared.refusal.CodeRefusal.{CodeRefusal}
+use Rattle.sl_inputs.specs.declared.refusal.BookRefusal.{BookRefusal}
+use Rattle.sl_inputs.specs.declared.refusal.CodeRefusal.{CodeRefusal}
 use Rattle.sl_desk.specs.declared.report.Report.{Report}
-use Rattle.sl_desk.specs.declared.status.Status.{Status}
-use Rattle.sl_desk.specs.declared.status.Status.TheVariants as status
-use Rattle.sl_desk.specs.declared.status.DeskError.{DeskError}
-use Rattle.sl_desk.specs.declared.status.DeskError.TheVariants.{Read, NoMemory}
-use Rattle.sl_desk.specs.declared.status.Input.{Input}
-use Rattle.sl_desk.specs.declared.status.Input.TheVariants.{Book, Returns, Code}
-use Rattle.sl_desk.specs.declared.verdict.Verdict.TheVariants.{Good, Refused}
-use Rattle.sl_desk.specs.Failures.{Counts, counts, counts_after}
+use Rattle.sl_inputs.specs.declared.status.Status.{Status}
+use Rattle.sl_inputs.specs.declared.status.Status.TheVariants as status
+use Rattle.sl_inputs.specs.declared.status.DeskError.{DeskError}
+use Rattle.sl_inputs.specs.declared.status.DeskError.TheVariants.{Read, NoMemory}
+use Rattle.sl_inputs.specs.declared.status.Input.{Input}
+use Rattle.sl_inputs.specs.declared.status.Input.TheVariants.{Book, Returns, Code}
+use Rattle.sl_inputs.specs.declared.verdict.Verdict.TheVariants.{Good, Refused}
+use Rattle.sl_inputs.specs.Failures.{Counts, counts, counts_after}
 use Rattle.sl_desk.specs.Counting.{IsTreeOutput, IsCount, IsOutput}
 use Rattle.sl_desk.specs.Running.{IsCodeOutput, IsRun, IsRunCode}
 use Rattle.sl_desk.specs.Showing.{IsNumbered, IsStageOutput}
 use Rattle.sl_desk.specs.Counting.{IsNoGoodBook, ReadsReturns}
-use Rattle.sl_desk.specs.Reading.{TakesAtMost, ReadsBehind, ForKnown}
+use Rattle.sl_inputs.specs.Reading.{TakesAtMost, ReadsBehind, ForKnown}
 use Rattle.sl_desk.specs.Running.{IsNoGoodCode, ReadsBehindCode}
 use Rattle.sl_desk.specs.Showing.{IsNoBookWith, ReadsBehindStage}
-use Rattle.sl_desk.specs.Stages.{stage_number}
-use Rattle.sl_desk.specs.Books.{BookInput, IsBookVerdict, book_line}
-use Rattle.sl_desk.specs.CodeFiles.{IsCodeVerdict, code_line}
-use Rattle.sl_desk.specs.Returns.{IsReturnsVerdict}
+use Rattle.sl_inputs.specs.StageNames.{stage_number}
+use Rattle.sl_inputs.specs.Books.{BookInput, IsBookVerdict, book_line}
+use Rattle.sl_inputs.specs.CodeFiles.{IsCodeVerdict, code_line}
+use Rattle.sl_inputs.specs.Returns.{IsReturnsVerdict}
 use Rattle.sl_desk.specs.Showing.{unknown_stage}
 use Rattle.sl_desk.specs.Showing.{ShowsColumn}
 use Rattle.sl_desk.specs.Reports.{IsReported}
@@ -130,11 +126,6 @@ reads_after_code remaining known c old new n n' r good limited counted =
     reads_after remaining old new n n' r Code known IsNoGoodCode (λ e. cc) (good_code known c good) limited counted
 
 -- ---- a stage by its name
-
--- among the names of a book's stages it has the number that it has among the stages
-pub number_among : (name : List ℕ) (stages : List BookStage) → position (λ s. bytes_eq name s.name) stages ≡ position (bytes_eq name) (map (λ s. s.name) (map stage_of stages))
-number_among name stages =
-    sym (position-map (λ (s : BookStage). s.name) (bytes_eq name) stages) ∙ ap (position (bytes_eq name)) (sym (map-map (λ (s : StageTree). s.name) stage_of stages))
 
 module _ (name : List ℕ) (tree : BookTree) where
   -- the output of a good book that has the stage, or has not

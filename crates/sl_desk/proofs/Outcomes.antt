@@ -9,15 +9,15 @@ use Rattle.sl_stages.specs.book.Typing.{is_typed}
 use Rattle.sl_stages.specs.returns.Election.{Election, IsElection}
 use Rattle.sl_stages.specs.meaning.Means.{Means}
 use Rattle.sl_stages.proofs.meaning.MeaningProofs.{table-sym, some_outcome, any_order}
-use Rattle.sl_code.specs.Codes.{CountingCode}
+use Rattle.sl_instructions.specs.Codes.{CountingCode}
 use Rattle.sl_machine.specs.declared.machine.Ending.{Ending as Answer}
 use Rattle.sl_machine.specs.declared.machine.Ending.TheVariants as answer
 use Rattle.sl_machine.specs.Answers.{answer_of}
-use Rattle.sl_machine.specs.Memories.{Held, held_of}
-use Rattle.sl_machine.specs.Runs.{Ending, Ended, OutOfBudget, Stuck}
-use Rattle.sl_machine.specs.State.{State, End, Halted, Faulted}
-use Rattle.sl_machine.specs.Tables.{held_table}
-use Rattle.sl_machine.specs.Unrecorded.{unrecorded, without_records}
+use Rattle.sl_semantics.specs.Memories.{Held, held_of}
+use Rattle.sl_semantics.specs.Runs.{Ending, Ended, OutOfBudget, Stuck}
+use Rattle.sl_semantics.specs.State.{State, End, Halted, Faulted}
+use Rattle.sl_semantics.specs.Tables.{held_table}
+use Rattle.sl_semantics.specs.Unrecorded.{unrecorded, without_records}
 use Rattle.sl_books.specs.Compiled.{ComesTo, IsCompiled, ending_by}
 use Rattle.sl_table.specs.Faults.{fault_text}
 use Rattle.sl_table.specs.Short.{short_text}
@@ -25,11 +25,11 @@ use Rattle.sl_table.specs.Stages.{held_stage_text}
 use Rattle.sl_table.specs.Steps.{IsStepsText}
 use Rattle.sl_desk.specs.declared.report.Report.{Report}
 use Rattle.sl_desk.specs.declared.report.Report.TheVariants.{Seats, Steps, Stage}
-use Rattle.sl_desk.specs.declared.status.Status.{Status}
-use Rattle.sl_desk.specs.declared.verdict.Verdict.TheVariants.{Good}
+use Rattle.sl_inputs.specs.declared.status.Status.{Status}
+use Rattle.sl_inputs.specs.declared.verdict.Verdict.TheVariants.{Good}
 use Rattle.sl_desk.specs.Endings.{code_names, shown, IsHeldText, IsEndingOutput, IsRunOutput}
 use Rattle.sl_desk.specs.Counting.{IsTableText, IsTreeOutput}
-use Rattle.sl_desk.specs.Stages.{HasStage}
+use Rattle.sl_desk.specs.inner.Stages.{HasStage}
 use Rattle.sl_desk.proofs.OneMeaning.{same_short}
 use Rattle.sl_desk.proofs.StageColumns.{column_text}
 use Rattle.sl_desk.specs.Reports.{IsReported}

@@ -3,37 +3,37 @@ use Rattle.std.proofs.Common.{◌≡◌, ◌≢◌, ℕ, true, List, length, Opt
 use Rattle.sl_stages.specs.book.Trees.{BookTree}
 use Rattle.sl_stages.specs.book.Typing.{is_typed}
 use Rattle.sl_stages.specs.returns.Election.{Election, IsElection}
-use Rattle.sl_code.specs.Codes.{CountingCode}
+use Rattle.sl_instructions.specs.Codes.{CountingCode}
 use Rattle.sl_code.specs.Spelling.{spelling_of}
 use Rattle.sl_machine.specs.declared.machine.Ending.{Ending as Answer}
 use Rattle.sl_machine.specs.declared.machine.Ending.TheVariants as answer
 use Rattle.sl_machine.specs.Answers.{answer_of}
-use Rattle.sl_machine.specs.Laws.{NeverStuck}
-use Rattle.sl_machine.specs.Memories.{Held, held_of}
-use Rattle.sl_machine.specs.Runs.{Ending, Ended, OutOfBudget, Stuck, budget_of, ending}
-use Rattle.sl_machine.specs.State.{End, Halted, Faulted}
-use Rattle.sl_machine.specs.Tables.{held_table}
-use Rattle.sl_machine.specs.Unrecorded.{unrecorded, without_records}
+use Rattle.sl_semantics.specs.Laws.{NeverStuck}
+use Rattle.sl_semantics.specs.Memories.{Held, held_of}
+use Rattle.sl_semantics.specs.Runs.{Ending, Ended, OutOfBudget, Stuck, budget_of, ending}
+use Rattle.sl_semantics.specs.State.{End, Halted, Faulted}
+use Rattle.sl_semantics.specs.Tables.{held_table}
+use Rattle.sl_semantics.specs.Unrecorded.{unrecorded, without_records}
 use Rattle.sl_books.specs.Compiled.{IsCompiled, ending_by}
 use Rattle.sl_books.proofs.StageColumns.{code_stages_long}
 use Rattle.sl_returns.specs.Returns.{records_in}
 use Rattle.sl_returns.proofs.ReadElections.{read_is}
-use Rattle.sl_desk.specs.declared.refusal.CodeRefusal.{CodeRefusal}
-use Rattle.sl_desk.specs.declared.refusal.ReturnsRefusal.{ReturnsRefusal}
+use Rattle.sl_inputs.specs.declared.refusal.CodeRefusal.{CodeRefusal}
+use Rattle.sl_inputs.specs.declared.refusal.ReturnsRefusal.{ReturnsRefusal}
 use Rattle.sl_desk.specs.declared.report.Report.TheVariants.{Seats}
-use Rattle.sl_desk.specs.declared.status.Status.{Status}
-use Rattle.sl_desk.specs.declared.status.Status.TheVariants as status
-use Rattle.sl_desk.specs.declared.verdict.Verdict.{Verdict}
-use Rattle.sl_desk.specs.declared.verdict.Verdict.TheVariants.{Good, Refused}
+use Rattle.sl_inputs.specs.declared.status.Status.{Status}
+use Rattle.sl_inputs.specs.declared.status.Status.TheVariants as status
+use Rattle.sl_inputs.specs.declared.verdict.Verdict.{Verdict}
+use Rattle.sl_inputs.specs.declared.verdict.Verdict.TheVariants.{Good, Refused}
 use Rattle.sl_desk.specs.Endings.{IsRunOutput, code_names, out_of_budget}
 use Rattle.sl_desk.specs.Laws.{OneCodeVerdict, NoOtherCodeVerdict, OneRun, HasOneRun, RunsItsCode, RunIsCount}
 use Rattle.sl_desk.specs.Counting.{IsTreeOutput, IsCount}
-use Rattle.sl_desk.specs.CodeFiles.{IsCodeVerdict, code_line}
+use Rattle.sl_inputs.specs.CodeFiles.{IsCodeVerdict, code_line}
 use Rattle.sl_desk.specs.Running.{IsCodeOutput, IsRun, IsRunCode}
 use Rattle.sl_table.specs.Faults.{fault_text}
 use Rattle.sl_table.specs.Short.{short_text}
 use Rattle.sl_verify.specs.WellKinded.{IsWellKinded}
-use Rattle.sl_desk.specs.Returns.{IsReturnsVerdict, returns_line}
+use Rattle.sl_inputs.specs.Returns.{IsReturnsVerdict, returns_line}
 use Rattle.sl_desk.proofs.CodeLengths.{file_fits}
 use Rattle.sl_desk.proofs.OneMeaning.{same_short}
 use Rattle.sl_desk.proofs.OneOutput.{one_returns_verdict}

@@ -6,19 +6,19 @@ use Rattle.sl_stages.specs.declared.book.Shape.TheVariants as shape
 use Rattle.sl_stages.specs.book.Trees.{BookTree}
 use Rattle.sl_stages.specs.book.Typing.{Column, columns_of}
 use Rattle.sl_stages.specs.returns.Election.{Election, IsElection}
-use Rattle.sl_code.specs.declared.code.CodeStage.{CodeStage}
-use Rattle.sl_code.specs.Codes.{CountingCode}
-use Rattle.sl_machine.specs.Memories.{Held, column_of, held_of}
-use Rattle.sl_machine.specs.Runs.{Ended}
-use Rattle.sl_machine.specs.State.{State, Halted}
-use Rattle.sl_machine.specs.Unrecorded.{unrecorded}
+use Rattle.sl_instructions.specs.declared.code.CodeStage.{CodeStage}
+use Rattle.sl_instructions.specs.Codes.{CountingCode}
+use Rattle.sl_semantics.specs.Memories.{Held, column_of, held_of}
+use Rattle.sl_semantics.specs.Runs.{Ended}
+use Rattle.sl_semantics.specs.State.{State, Halted}
+use Rattle.sl_semantics.specs.Unrecorded.{unrecorded}
 use Rattle.sl_books.specs.Compiled.{HasStageColumns, IsCompiled, ending_by}
 use Rattle.sl_books.proofs.StageColumns.{StageStands, stage_stands, slot_held, code_stages_long}
 use Rattle.sl_table.specs.Stages.{stage_text, stage_slot, held_stage_text}
 use Rattle.sl_desk.specs.declared.report.Report.{Report}
 use Rattle.sl_desk.specs.declared.report.Report.TheVariants.{Seats, Steps, Stage}
 use Rattle.sl_desk.specs.Endings.{HasAsked}
-use Rattle.sl_desk.specs.Stages.{HasStage}
+use Rattle.sl_desk.specs.inner.Stages.{HasStage}
 use Rattle.sl_desk.specs.Showing.{IsColumnText}
 
 nameless : CodeStage

@@ -1,12 +1,12 @@
 -- What checking a rulebook writes (docs/output.md).
 use Rattle.std.specs.Fmt.{decimal}
 use Rattle.std.specs.Prelude.{List, codes, length, ◌∷◌, ◌≡◌, ℕ, []}
-use Rattle.sl_desk.specs.Books.{BookInput, IsBookVerdict, book_line}
-use Rattle.sl_desk.specs.declared.refusal.BookRefusal.{BookRefusal}
-use Rattle.sl_desk.specs.declared.status.Status.TheVariants as status
-use Rattle.sl_desk.specs.declared.status.Status.{Status}
-use Rattle.sl_desk.specs.declared.verdict.Verdict.TheVariants.{Good, Refused}
-use Rattle.sl_desk.specs.declared.verdict.Verdict.{Verdict}
+use Rattle.sl_inputs.specs.Books.{BookInput, IsBookVerdict, book_line}
+use Rattle.sl_inputs.specs.declared.refusal.BookRefusal.{BookRefusal}
+use Rattle.sl_inputs.specs.declared.status.Status.TheVariants as status
+use Rattle.sl_inputs.specs.declared.status.Status.{Status}
+use Rattle.sl_inputs.specs.declared.verdict.Verdict.TheVariants.{Good, Refused}
+use Rattle.sl_inputs.specs.declared.verdict.Verdict.{Verdict}
 use Rattle.sl_stages.specs.book.Trees.{BookTree}
 use Rattle.sl_table.specs.Lines.{line}
 

@@ -1,18 +1,18 @@
 -- What counting an election writes, and what it reads (docs/output.md).
 use Rattle.std.specs.Prelude.{List, Option, Result, ◌≡◌, ◌⊎◌, ℕ}
-use Rattle.sl_desk.specs.Books.{BookInput, IsBookVerdict, book_line}
-use Rattle.sl_desk.specs.Reading.{ReadsBehind}
-use Rattle.sl_desk.specs.Returns.{IsReturnsVerdict, returns_line}
-use Rattle.sl_desk.specs.Stages.{names_of}
-use Rattle.sl_desk.specs.declared.refusal.BookRefusal.{BookRefusal}
-use Rattle.sl_desk.specs.declared.refusal.ReturnsRefusal.{ReturnsRefusal}
-use Rattle.sl_desk.specs.declared.status.DeskError.{DeskError}
-use Rattle.sl_desk.specs.declared.status.Input.TheVariants as input
-use Rattle.sl_desk.specs.declared.status.Status.TheVariants as status
-use Rattle.sl_desk.specs.declared.status.Status.{Status}
-use Rattle.sl_desk.specs.declared.verdict.Verdict.TheVariants as verdict
-use Rattle.sl_desk.specs.declared.verdict.Verdict.TheVariants.{Good, Refused}
-use Rattle.sl_desk.specs.declared.verdict.Verdict.{Verdict}
+use Rattle.sl_inputs.specs.Books.{BookInput, IsBookVerdict, book_line}
+use Rattle.sl_inputs.specs.Reading.{ReadsBehind}
+use Rattle.sl_inputs.specs.Returns.{IsReturnsVerdict, returns_line}
+use Rattle.sl_inputs.specs.StageNames.{names_of}
+use Rattle.sl_inputs.specs.declared.refusal.BookRefusal.{BookRefusal}
+use Rattle.sl_inputs.specs.declared.refusal.ReturnsRefusal.{ReturnsRefusal}
+use Rattle.sl_inputs.specs.declared.status.DeskError.{DeskError}
+use Rattle.sl_inputs.specs.declared.status.Input.TheVariants as input
+use Rattle.sl_inputs.specs.declared.status.Status.TheVariants as status
+use Rattle.sl_inputs.specs.declared.status.Status.{Status}
+use Rattle.sl_inputs.specs.declared.verdict.Verdict.TheVariants as verdict
+use Rattle.sl_inputs.specs.declared.verdict.Verdict.TheVariants.{Good, Refused}
+use Rattle.sl_inputs.specs.declared.verdict.Verdict.{Verdict}
 use Rattle.sl_stages.specs.book.Trees.{BookTree}
 use Rattle.sl_stages.specs.declared.fault.LegalFault.{LegalFault}
 use Rattle.sl_stages.specs.declared.table.Outcome.TheVariants as outcome

@@ -1,13 +1,13 @@
 -- What is reported of the end of a run of a counting code (docs/output.md, sections 1 and 2).
 use Rattle.std.specs.Prelude.{◌≡◌, ◌<◌, ℕ, List, [], ◌∷◌, length, map, codes, Option, Some, None}
 use Rattle.sl_stages.specs.returns.Election.{Election}
-use Rattle.sl_code.specs.Codes.{CountingCode}
+use Rattle.sl_instructions.specs.Codes.{CountingCode}
 use Rattle.sl_machine.specs.declared.machine.Ending.{Ending as Answer}
 use Rattle.sl_machine.specs.declared.machine.Ending.TheVariants as answer
-use Rattle.sl_machine.specs.Memories.{Held}
-use Rattle.sl_machine.specs.Runs.{Ending}
-use Rattle.sl_machine.specs.Tables.{held_table}
-use Rattle.sl_machine.specs.Unrecorded.{without_records}
+use Rattle.sl_semantics.specs.Memories.{Held}
+use Rattle.sl_semantics.specs.Runs.{Ending}
+use Rattle.sl_semantics.specs.Tables.{held_table}
+use Rattle.sl_semantics.specs.Unrecorded.{without_records}
 use Rattle.sl_table.specs.Faults.{fault_text}
 use Rattle.sl_table.specs.Lines.{line}
 use Rattle.sl_table.specs.Short.{short_text}
@@ -15,8 +15,8 @@ use Rattle.sl_table.specs.Stages.{stage_slot, held_stage_text}
 use Rattle.sl_table.specs.Steps.{IsStepsText}
 use Rattle.sl_desk.specs.declared.report.Report.{Report}
 use Rattle.sl_desk.specs.declared.report.Report.TheVariants.{Seats, Steps, Stage}
-use Rattle.sl_desk.specs.declared.status.Status.{Status}
-use Rattle.sl_desk.specs.declared.status.Status.TheVariants as status
+use Rattle.sl_inputs.specs.declared.status.Status.{Status}
+use Rattle.sl_inputs.specs.declared.status.Status.TheVariants as status
 
 -- ---- what a run holds
 

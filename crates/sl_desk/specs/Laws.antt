@@ -1,21 +1,21 @@
 -- The laws of verdicts, and of what is written.
 use Rattle.std.specs.Prelude.{◌≡◌, ◌↔◌, ℕ, true, List, All}
-use Rattle.sl_code.specs.Codes.{CountingCode}
+use Rattle.sl_instructions.specs.Codes.{CountingCode}
 use Rattle.sl_code.specs.Laws.{IsByte}
-use Rattle.sl_code.specs.Proper.{IsProper}
+use Rattle.sl_instructions.specs.Proper.{IsProper}
 use Rattle.sl_code.specs.Spelling.{spelling_of}
 use Rattle.sl_stages.specs.book.Trees.{BookTree}
 use Rattle.sl_stages.specs.book.Typing.{is_typed}
 use Rattle.sl_stages.specs.laws.OneLaws.{ExactlyOne}
 use Rattle.sl_verify.specs.WellKinded.{IsWellKinded}
-use Rattle.sl_desk.specs.declared.refusal.CodeRefusal.{CodeRefusal}
+use Rattle.sl_inputs.specs.declared.refusal.CodeRefusal.{CodeRefusal}
 use Rattle.sl_desk.specs.declared.report.Report.{Report}
-use Rattle.sl_desk.specs.declared.status.Status.{Status}
-use Rattle.sl_desk.specs.declared.verdict.Verdict.{Verdict}
-use Rattle.sl_desk.specs.declared.verdict.Verdict.TheVariants.{Good}
-use Rattle.sl_desk.specs.Books.{BookInput, IsTextVerdict}
-use Rattle.sl_desk.specs.CodeFiles.{IsCodeVerdict}
-use Rattle.sl_desk.specs.Returns.{IsReturnsVerdict}
+use Rattle.sl_inputs.specs.declared.status.Status.{Status}
+use Rattle.sl_inputs.specs.declared.verdict.Verdict.{Verdict}
+use Rattle.sl_inputs.specs.declared.verdict.Verdict.TheVariants.{Good}
+use Rattle.sl_inputs.specs.Books.{BookInput, IsTextVerdict}
+use Rattle.sl_inputs.specs.CodeFiles.{IsCodeVerdict}
+use Rattle.sl_inputs.specs.Returns.{IsReturnsVerdict}
 use Rattle.sl_desk.specs.Checking.{IsCheckOutput}
 use Rattle.sl_desk.specs.Compiling.{IsCodeOf}
 use Rattle.sl_desk.specs.Counting.{IsCount, IsOutput}

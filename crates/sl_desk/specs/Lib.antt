@@ -1,15 +1,4 @@
-pub mod Statuses
-pub mod Failures
-pub mod Writing
-pub mod Refusals
-pub mod Library
-pub mod Books
-pub mod Judging
-pub mod Returns
-pub mod CodeFiles
-pub mod Stages
 pub mod Endings
-pub mod Reading
 pub mod Checking
 pub mod Counting
 pub mod Steps
@@ -17,6 +6,5 @@ pub mod Showing
 pub mod Reports
 pub mod Compiling
 pub mod Running
-pub mod Adapters
 pub mod Laws
 pub mod inner

@@ -1,18 +1,18 @@
 -- What showing the column of a stage writes, and what it reads (docs/output.md).
 use Rattle.std.specs.Prelude.{List, None, Option, Result, Some, codes, slice_get, ◌∷◌, ◌≡◌, ℕ, []}
-use Rattle.sl_desk.specs.Books.{BookInput, IsBookVerdict, book_line}
+use Rattle.sl_inputs.specs.Books.{BookInput, IsBookVerdict, book_line}
 use Rattle.sl_desk.specs.Counting.{IsCount}
-use Rattle.sl_desk.specs.Reading.{ReadsBehind}
-use Rattle.sl_desk.specs.Refusals.{refused}
-use Rattle.sl_desk.specs.Stages.{stage_number}
-use Rattle.sl_desk.specs.declared.refusal.BookRefusal.{BookRefusal}
-use Rattle.sl_desk.specs.declared.status.DeskError.{DeskError}
-use Rattle.sl_desk.specs.declared.status.Input.TheVariants as input
-use Rattle.sl_desk.specs.declared.status.Status.TheVariants as status
-use Rattle.sl_desk.specs.declared.status.Status.{Status}
-use Rattle.sl_desk.specs.declared.verdict.Verdict.TheVariants as verdict
-use Rattle.sl_desk.specs.declared.verdict.Verdict.TheVariants.{Good, Refused}
-use Rattle.sl_desk.specs.declared.verdict.Verdict.{Verdict}
+use Rattle.sl_inputs.specs.Reading.{ReadsBehind}
+use Rattle.sl_inputs.specs.Refusals.{refused}
+use Rattle.sl_inputs.specs.StageNames.{stage_number}
+use Rattle.sl_inputs.specs.declared.refusal.BookRefusal.{BookRefusal}
+use Rattle.sl_inputs.specs.declared.status.DeskError.{DeskError}
+use Rattle.sl_inputs.specs.declared.status.Input.TheVariants as input
+use Rattle.sl_inputs.specs.declared.status.Status.TheVariants as status
+use Rattle.sl_inputs.specs.declared.status.Status.{Status}
+use Rattle.sl_inputs.specs.declared.verdict.Verdict.TheVariants as verdict
+use Rattle.sl_inputs.specs.declared.verdict.Verdict.TheVariants.{Good, Refused}
+use Rattle.sl_inputs.specs.declared.verdict.Verdict.{Verdict}
 use Rattle.sl_stages.specs.book.Trees.{BookTree}
 use Rattle.sl_stages.specs.book.Typing.{Column}
 use Rattle.sl_stages.specs.meaning.Columns.{NamedColumn}

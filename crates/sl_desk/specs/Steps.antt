@@ -4,7 +4,7 @@ use Rattle.sl_stages.specs.book.Trees.{BookTree}
 use Rattle.sl_stages.specs.meaning.Tables.{SeatTable}
 use Rattle.sl_stages.specs.returns.Election.{Election}
 use Rattle.sl_table.specs.Steps.{IsStepsText}
-use Rattle.sl_desk.specs.Stages.{names_of}
+use Rattle.sl_inputs.specs.StageNames.{names_of}
 
 -- the table's text behind the step of each of its seats
 abbrev pub ShowsSteps : BookTree → Election → SeatTable → List ℕ → Type 0

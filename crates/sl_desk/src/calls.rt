@@ -1,8 +1,8 @@
 //! The calls of the desk: what each writes, and how it ends.
 
 ghost use Rattle.std.specs.Prelude.{◌≡◌, IfErr};
-ghost use Rattle.sl_desk.specs.Failures.{counts, counts_after};
-ghost use Rattle.sl_desk.specs.Writing.{Delivers};
+ghost use Rattle.sl_inputs.specs.Failures.{counts, counts_after};
+ghost use Rattle.sl_inputs.specs.Writing.{Delivers};
 
 pub mod check;
 pub mod code;
@@ -12,9 +12,7 @@ pub mod law;
 pub mod run;
 pub mod stage;
 
-use crate::input::write_all;
-use crate::sink::Sink;
-use crate::status::{DeskError, Status};
+use sl_inputs::{DeskError, Sink, Status, write_all};
 
 // A text to be written, and the status that stands for it.
 #[derive(Drop)]

@@ -2,8 +2,9 @@
 
 ghost use Rattle.std.specs.Prelude.{◌≡◌, Some, IfOk};
 ghost use Rattle.sl_machine.specs.Answers.{answer_of};
-ghost use Rattle.sl_machine.specs.Fits.{Fits, FitsMemory};
-ghost use Rattle.sl_machine.specs.Runs.{ending};
+ghost use Rattle.sl_machine.specs.Fits.{Fits};
+ghost use Rattle.sl_semantics.specs.Fits.{FitsMemory};
+ghost use Rattle.sl_semantics.specs.Runs.{ending};
 
 use sl_code::Code;
 use sl_machine::{Ending, Memory, run, run_unrecorded};

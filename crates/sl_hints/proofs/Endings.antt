@@ -2,13 +2,13 @@
 use Rattle.std.proofs.Common.{◌≡◌, ◌∙◌, Err, IfOk, None, Ok, Option, Result, Some, ap, subst, sym, true, ℕ}
 use Rattle.std.proofs.lemmas.Option.{same_Some}
 use Rattle.sl_books.specs.Compiled.{ComesTo, IsCompiled, ending_by}
-use Rattle.sl_code.specs.Codes.{CountingCode}
+use Rattle.sl_instructions.specs.Codes.{CountingCode}
 use Rattle.sl_hints.specs.Faults.{EndsAs}
 use Rattle.sl_machine.specs.Answers.{answer_of}
-use Rattle.sl_machine.specs.Memories.{Held}
-use Rattle.sl_machine.specs.Runs.{Ended}
-use Rattle.sl_machine.specs.State.{End, Faulted, Halted, State}
-use Rattle.sl_machine.specs.Unrecorded.{without_records}
+use Rattle.sl_semantics.specs.Memories.{Held}
+use Rattle.sl_semantics.specs.Runs.{Ended}
+use Rattle.sl_semantics.specs.State.{End, Faulted, Halted, State}
+use Rattle.sl_semantics.specs.Unrecorded.{without_records}
 use Rattle.sl_machine.specs.declared.machine.Ending.{Ending as Answer}
 use Rattle.sl_machine.specs.declared.machine.Ending.TheVariants as answer
 use Rattle.sl_stages.proofs.meaning.MeaningProofs.{some_outcome}

@@ -1,20 +1,20 @@
 -- The fault of the inputs of a command, by the verdicts of the desk on the same bytes.
 use Rattle.std.specs.Prelude.{List, None, Option, Some, length, option_map, ◌≡◌, ◌⊎◌, ℕ}
-use Rattle.sl_code.specs.Codes.{CountingCode}
-use Rattle.sl_desk.specs.Books.{BookInput, IsBookVerdict}
-use Rattle.sl_desk.specs.CodeFiles.{IsCodeVerdict}
-use Rattle.sl_desk.specs.Returns.{IsReturnsVerdict}
-use Rattle.sl_desk.specs.Stages.{stage_number}
-use Rattle.sl_desk.specs.declared.refusal.BookRefusal.{BookRefusal}
-use Rattle.sl_desk.specs.declared.refusal.CodeRefusal.{CodeRefusal}
-use Rattle.sl_desk.specs.declared.refusal.ReturnsRefusal.{ReturnsRefusal}
-use Rattle.sl_desk.specs.declared.verdict.Verdict.TheVariants.{Good, Refused}
+use Rattle.sl_instructions.specs.Codes.{CountingCode}
+use Rattle.sl_inputs.specs.Books.{BookInput, IsBookVerdict}
+use Rattle.sl_inputs.specs.CodeFiles.{IsCodeVerdict}
+use Rattle.sl_inputs.specs.Returns.{IsReturnsVerdict}
+use Rattle.sl_inputs.specs.StageNames.{stage_number}
+use Rattle.sl_inputs.specs.declared.refusal.BookRefusal.{BookRefusal}
+use Rattle.sl_inputs.specs.declared.refusal.CodeRefusal.{CodeRefusal}
+use Rattle.sl_inputs.specs.declared.refusal.ReturnsRefusal.{ReturnsRefusal}
+use Rattle.sl_inputs.specs.declared.verdict.Verdict.TheVariants.{Good, Refused}
 use Rattle.sl_hints.specs.declared.fault.Explained.{Explained}
 use Rattle.sl_hints.specs.declared.fault.Fault.{Fault}
 use Rattle.sl_hints.specs.declared.fault.Fault.TheVariants as fault
 use Rattle.sl_machine.specs.Answers.{answer_of}
-use Rattle.sl_machine.specs.Runs.{budget_of, ending}
-use Rattle.sl_machine.specs.Unrecorded.{without_records}
+use Rattle.sl_semantics.specs.Runs.{budget_of, ending}
+use Rattle.sl_semantics.specs.Unrecorded.{without_records}
 use Rattle.sl_machine.specs.declared.machine.Ending.{Ending as Answer}
 use Rattle.sl_machine.specs.declared.machine.Ending.TheVariants as answer
 use Rattle.sl_stages.specs.book.Trees.{BookTree}

@@ -2,7 +2,7 @@
 
 ghost use Rattle.std.specs.Prelude.{◌≡◌, IfOk, Some};
 ghost use Rattle.sl_stages.specs.book.Books.{book_of};
-ghost use Rattle.sl_desk.specs.Judging.{input_of};
+ghost use Rattle.sl_inputs.specs.Judging.{input_of};
 ghost use Rattle.sl_hints.specs.Faults.{ending_fault, fault_in, IsCheckFault, IsCodeFault, IsCountFault, IsEndingFault, IsOutcomeFault, IsRunFault, IsStageFault, IsTreeFault};
 ghost use Rattle.sl_hints.specs.declared.fault.Fault.TheVariants as fault;
 
@@ -13,12 +13,12 @@ use sl_book_hints::{
     explain_unknown_stage,
 };
 use sl_check::CheckedBook;
-use sl_code::CodeStage;
-use sl_desk::{
+use sl_explain::{Explanation, Language};
+use sl_inputs::{
     BookRefusal, BookText, CodeRefusal, ReturnsRefusal, Verdict, judge_book, judge_code,
     judge_returns, stage_number,
 };
-use sl_explain::{Explanation, Language};
+use sl_instructions::CodeStage;
 use sl_legal_hints::{
     explain_budget, explain_code_bytes, explain_code_kinds, explain_legal, explain_long_code,
 };

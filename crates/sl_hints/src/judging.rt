@@ -3,7 +3,7 @@
 ghost use Rattle.std.specs.Prelude.{◌≡◌, length, IfOk};
 ghost use Rattle.sl_stages.specs.book.Books.{book_of};
 ghost use Rattle.sl_stages.specs.returns.Election.{IsElection};
-ghost use Rattle.sl_machine.specs.Runs.{budget_of};
+ghost use Rattle.sl_semantics.specs.Runs.{budget_of};
 ghost use Rattle.sl_hints.specs.Faults.{EndsAs, RunsInto};
 
 use sl_check::CheckedBook;

@@ -2,9 +2,9 @@
 
 ghost use Rattle.std.specs.Prelude.{◌≡◌, ◌≤◌, ◌++◌, IfOk, IfSome, IsTrue, Some, length, option_map};
 ghost use Rattle.std.specs.Io.KnownBytes.{ReadConsumes};
-ghost use Rattle.sl_desk.specs.Failures.{failures_after};
+ghost use Rattle.sl_inputs.specs.Failures.{failures_after};
 
-use sl_desk::{Failed, Source};
+use sl_inputs::{Failed, Source};
 use std::alloc::Global;
 
 /// A source over another one, which keeps the bytes that it reads as long as there is memory for them.

@@ -1,7 +1,7 @@
 //! Files that cannot be opened.
 
-use sl_desk::Input;
 use sl_explain::{Explanation, Language, Message};
+use sl_inputs::Input;
 use sl_laws::law;
 use sl_ratio::NoMemory;
 use std::alloc::Global;

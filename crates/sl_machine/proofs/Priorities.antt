@@ -20,10 +20,10 @@ use Rattle.sl_prio.proofs.RankedEntries.{ranked_with_one_more, ranked_without_on
 use Rattle.sl_machine.specs.declared.priority.TableKind.{TableKind}
 use Rattle.sl_machine.specs.declared.priority.PriorityTable.TheInside.{Inside}
 use Rattle.sl_machine.specs.declared.priority.Taken.{Taken}
-use Rattle.sl_machine.specs.State.{State, PriorityTable}
-use Rattle.sl_machine.specs.Places.{at_entry}
-use Rattle.sl_machine.specs.Effects.{Goes, given, takes, mark_of, with_entry}
-use Rattle.sl_machine.specs.Safe.{entries_in}
+use Rattle.sl_semantics.specs.State.{State, PriorityTable}
+use Rattle.sl_semantics.specs.Places.{at_entry}
+use Rattle.sl_semantics.specs.Effects.{Goes, given, takes, mark_of, with_entry}
+use Rattle.sl_semantics.specs.Safe.{entries_in}
 use Rattle.sl_machine.specs.inner.Tables.{table_in}
 
 -- ---- a table that is on

@@ -1,6 +1,4 @@
--- Steps and runs: one step, pieces of runs, and what a step of the program leads to.
-pub mod Stepping
-pub mod Coming
+-- What a step of the program leads to, with its records or without them.
 pub mod Dropping
 pub mod Unrecorded
 pub mod Ahead

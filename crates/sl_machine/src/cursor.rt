@@ -30,34 +30,30 @@ impl Cursor {
         }
     }
 
-    /// A cursor at a number.
-    pub(crate) fn at(place: usize) -> Cursor
-        ensures { result ≡ Some place }
+    /// Moves it to a number.
+    pub(crate) fn set(&mut self, place: usize)
+        ensures { self.new ≡ Some place }
     {
-        Cursor {
-            is_set: true,
-            place,
-        }
+        self.is_set = true;
+        self.place = place;
     }
 
-    /// A cursor at a number that is below a count, or one that is not set where the number is not.
-    pub(crate) fn below(count: usize, place: usize) -> Cursor
-        ensures { result ≡ (if nat_lt place count then Some place else None) }
+    /// Moves it to a number that is below a count, or leaves it unset where the number is not: whether it is set.
+    pub(crate) fn set_below(&mut self, count: usize, place: usize) -> bool
+        ensures value { result ≡ nat_lt place count }
+        ensures moved { self.new ≡ (if nat_lt place count then Some place else None) }
     {
-        Cursor {
-            is_set: place < count,
-            place,
-        }
+        self.is_set = place < count;
+        self.place = place;
+        self.is_set
     }
 
-    /// A cursor at a number, if there is one.
-    pub(crate) fn of(place: Option<usize>) -> Cursor
-        ensures { result ≡ place }
+    /// Moves it to a number, if there is one, and leaves it unset else.
+    pub(crate) fn set_to(&mut self, place: Option<usize>)
+        ensures { self.new ≡ place }
     {
-        match place {
-            Some(place) => Cursor::at(place),
-            None => Cursor::unset(),
-        }
+        self.is_set = place.is_some();
+        self.place = place.unwrap_or(0);
     }
 
     /// The number at which it stands, if it is set.

@@ -1,44 +1,44 @@
 //! The cursors: what they stand at, and how they move.
 
 ghost use Rattle.std.specs.Prelude.{◌≡◌, ◌<◌, ◌+◌, ◌*◌, ℕ, Option, Some, IsSome, if◌then◌else◌};
+ghost use Rattle.std.specs.Option.{ForSome};
 ghost use Rattle.sl_verify.specs.declared.known.TheConstants.{REGISTERS};
-ghost use Rattle.sl_code.specs.Codes.{CountingCode};
-ghost use Rattle.sl_code.specs.declared.instr.Instr.TheVariants as instr;
+ghost use Rattle.sl_instructions.specs.Codes.{CountingCode};
+ghost use Rattle.sl_instructions.specs.declared.instr.Instr.TheVariants as instr;
 ghost use Rattle.sl_stages.specs.returns.Election.{lands_of, parties_of, wins_of, has_list};
-ghost use Rattle.sl_machine.specs.State.{State};
-ghost use Rattle.sl_machine.specs.Places.{both, cells_of, cell_at, index_at, scope_at, item_of, at_entry};
-ghost use Rattle.sl_machine.specs.Effects.{Goes, Jumps, effect, given, with_party, with_land, with_win, winner_at, first_of, next_of, to_party};
-ghost use Rattle.sl_machine.specs.Safe.{IsInRange, entries_in};
+ghost use Rattle.sl_semantics.specs.State.{State};
+ghost use Rattle.sl_semantics.specs.Places.{both, cells_of, cell_at, index_at, scope_at, item_of, at_entry};
+ghost use Rattle.sl_semantics.specs.Effects.{Goes, Jumps, effect, given, with_party, with_land, with_win, winner_at, first_of, next_of, to_party};
+ghost use Rattle.sl_semantics.specs.Safe.{IsInRange, entries_in};
 ghost use Rattle.sl_machine.specs.inner.Stores.{state_of, sizes_of, effect_of};
 
 use crate::cursor::Cursor;
 use crate::step::Effect;
 use crate::store::Store;
-use sl_code::{Entries, ScopeKind};
+use sl_instructions::{Entries, ScopeKind};
 use sl_stages::{Item, Returns, Scope, Shape};
 
-// The cursor on the first of so many, if there is one, and where the run goes on.
-fn first_of(count: usize) -> (Cursor, Effect)
-    ensures { (set : Option ℕ → State → State) (s : State) → effect_of result.1 (set result.0 s) ≡ first_of count set s }
+// Moves a cursor to the first of so many, if there is one, and answers where the run goes on.
+fn to_first(cursor: &mut Cursor, count: usize) -> Effect
+    ensures { (set : Option ℕ → State → State) (s : State) → effect_of result (set cursor.new s) ≡ first_of count set s }
 {
-    let first = Cursor::below(count, 0);
-    if count == 0 {
-        (first, Effect::Jumps)
+    if cursor.set_below(count, 0) {
+        Effect::Goes
     } else {
-        (first, Effect::Goes)
+        Effect::Jumps
     }
 }
 
-// The cursor on the next of so many, if there is one, and where the run goes on.
-fn next_of(count: usize, cursor: usize) -> (Cursor, Effect)
-    requires { cursor < count }
-    ensures { (set : Option ℕ → State → State) (s : State) → effect_of result.1 (set result.0 s) ≡ next_of count (Some cursor) set s }
+// Moves a cursor to the next of so many, if there is one, and answers where the run goes on.
+fn to_next(cursor: &mut Cursor, count: usize) -> Effect
+    requires set { IsSome cursor.old }
+    requires within { ForSome cursor.old (λ place. place < count) }
+    ensures { (set : Option ℕ → State → State) (s : State) → effect_of result (set cursor.new s) ≡ next_of count cursor.old set s }
 {
-    let next = Cursor::below(count, cursor + 1);
-    if cursor + 1 < count {
-        (next, Effect::Jumps)
+    if cursor.set_below(count, cursor.place() + 1) {
+        Effect::Jumps
     } else {
-        (next, Effect::Goes)
+        Effect::Goes
     }
 }
 
@@ -120,13 +120,13 @@ impl Store {
         ensures kept { sizes_of self.new ≡ sizes_of self.old }
     {
         match entries {
-            Entries::Party => self.cursors.party = Cursor::at(index),
-            Entries::Land => self.cursors.land = Cursor::at(index),
+            Entries::Party => self.cursors.party.set(index),
+            Entries::Land => self.cursors.land.set(index),
             Entries::List => {
-                self.cursors.land = Cursor::at(index / returns.parties());
-                self.cursors.party = Cursor::at(index % returns.parties());
+                self.cursors.land.set(index / returns.parties());
+                self.cursors.party.set(index % returns.parties());
             }
-            Entries::Win => self.cursors.win = Cursor::at(index),
+            Entries::Win => self.cursors.win.set(index),
         }
     }
 
@@ -167,7 +167,7 @@ impl Store {
         ensures kept { sizes_of self.new ≡ sizes_of self.old }
     {
         let winner = returns.win(self.cursors.win.place());
-        self.cursors.party = Cursor::of(winner.party);
+        self.cursors.party.set_to(winner.party);
         match winner.party {
             Some(_) => Effect::Goes,
             None => Effect::Jumps,
@@ -182,7 +182,7 @@ impl Store {
         ensures kept { sizes_of self.new ≡ sizes_of self.old }
     {
         let winner = returns.win(self.cursors.win.place());
-        self.cursors.land = Cursor::at(winner.land);
+        self.cursors.land.set(winner.land);
         Effect::Goes
     }
 
@@ -191,9 +191,7 @@ impl Store {
         ensures follows { effect_of result (state_of self.new) ≡ first_of (parties_of returns.now) with_party (state_of self.old) }
         ensures kept { sizes_of self.new ≡ sizes_of self.old }
     {
-        let (party, next) = first_of(returns.parties());
-        self.cursors.party = party;
-        next
+        to_first(&mut self.cursors.party, returns.parties())
     }
 
     /// Moves to the next party.
@@ -203,9 +201,7 @@ impl Store {
         ensures follows { let s = state_of self.old in effect_of result (state_of self.new) ≡ next_of (parties_of returns.now) s.party with_party s }
         ensures kept { sizes_of self.new ≡ sizes_of self.old }
     {
-        let (party, next) = next_of(returns.parties(), self.cursors.party.place());
-        self.cursors.party = party;
-        next
+        to_next(&mut self.cursors.party, returns.parties())
     }
 
     /// Moves to the first Land.
@@ -213,9 +209,7 @@ impl Store {
         ensures follows { effect_of result (state_of self.new) ≡ first_of (lands_of returns.now) with_land (state_of self.old) }
         ensures kept { sizes_of self.new ≡ sizes_of self.old }
     {
-        let (land, next) = first_of(returns.lands());
-        self.cursors.land = land;
-        next
+        to_first(&mut self.cursors.land, returns.lands())
     }
 
     /// Moves to the next Land.
@@ -225,9 +219,7 @@ impl Store {
         ensures follows { let s = state_of self.old in effect_of result (state_of self.new) ≡ next_of (lands_of returns.now) s.land with_land s }
         ensures kept { sizes_of self.new ≡ sizes_of self.old }
     {
-        let (land, next) = next_of(returns.lands(), self.cursors.land.place());
-        self.cursors.land = land;
-        next
+        to_next(&mut self.cursors.land, returns.lands())
     }
 
     /// Moves to the first winner.
@@ -235,9 +227,7 @@ impl Store {
         ensures follows { effect_of result (state_of self.new) ≡ first_of (wins_of returns.now) with_win (state_of self.old) }
         ensures kept { sizes_of self.new ≡ sizes_of self.old }
     {
-        let (win, next) = first_of(returns.wins());
-        self.cursors.win = win;
-        next
+        to_first(&mut self.cursors.win, returns.wins())
     }
 
     /// Moves to the next winner.
@@ -247,8 +237,6 @@ impl Store {
         ensures follows { let s = state_of self.old in effect_of result (state_of self.new) ≡ next_of (wins_of returns.now) s.win with_win s }
         ensures kept { sizes_of self.new ≡ sizes_of self.old }
     {
-        let (win, next) = next_of(returns.wins(), self.cursors.win.place());
-        self.cursors.win = win;
-        next
+        to_next(&mut self.cursors.win, returns.wins())
     }
 }

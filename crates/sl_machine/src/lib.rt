@@ -7,7 +7,6 @@ mod cursor;
 mod cursors;
 mod draws;
 mod ends;
-pub mod laws;
 mod lots;
 mod machine;
 mod memory;
@@ -17,5 +16,6 @@ mod step;
 mod store;
 mod table;
 
-pub use machine::{Ending, STEPS_EACH, budget, run, run_unrecorded};
+pub use machine::{Ending, budget, run, run_unrecorded};
 pub use memory::Memory;
+pub use sl_semantics::STEPS_EACH;

@@ -6,11 +6,11 @@ ghost use Rattle.sl_stages.specs.returns.Election.{IsElection, IsLot, lands_of, 
 ghost use Rattle.std.specs.Str.{bytes_eq};
 ghost use Rattle.sl_stages.specs.meaning.Lots.{is_winner_of};
 ghost use Rattle.sl_stages.specs.meaning.Scopes.{place};
-ghost use Rattle.sl_machine.specs.Drawn.{given_in};
+ghost use Rattle.sl_semantics.specs.Drawn.{given_in};
 ghost use Rattle.sl_machine.specs.inner.Lots.{lot_in, with_lot, stage_lots, lots_for};
 
 use crate::store::append;
-use sl_code::{Code, Entries};
+use sl_instructions::{Code, Entries};
 use sl_ratio::NoMemory;
 use sl_stages::{Lot, Returns};
 use std::alloc::Global;

@@ -3,21 +3,22 @@
 ghost use Rattle.std.specs.Prelude.{◌≡◌, ◌<◌, ◌≤◌, Some, drop, length, slice_get, IfOk, IfSome, IfNone, IsSome, ◌+◌, ◌*◌};
 ghost use Rattle.sl_ratio.specs.declared.limits.TheConstants.{MAX_SEATS as most_seats, MAX_LANDS, MAX_PARTIES};
 ghost use Rattle.sl_stages.specs.declared.limits.TheConstants.{MAX_STAGES, MAX_WINS};
-ghost use Rattle.sl_machine.specs.Agrees.{IsSafe};
+ghost use Rattle.sl_semantics.specs.Agrees.{IsSafe};
 ghost use Rattle.sl_machine.specs.Answers.{answer_of};
 ghost use Rattle.sl_machine.specs.Fits.{Fits};
 ghost use Rattle.sl_machine.specs.inner.Ahead.{place_of, AreAhead};
 ghost use Rattle.sl_machine.specs.inner.Leading.{LeadsTo, EndsAt, EndsWith, ending_with, FitsWith};
 ghost use Rattle.sl_machine.specs.inner.Recording.{state_by, ending_by};
-ghost use Rattle.sl_machine.specs.Runs.{run, ending, share_of, budget_of};
-ghost use Rattle.sl_machine.specs.Unrecorded.{without_records};
+ghost use Rattle.sl_semantics.specs.Runs.{run, ending, share_of, budget_of};
+ghost use Rattle.sl_semantics.specs.Unrecorded.{without_records};
 ghost use Rattle.sl_machine.specs.inner.Stores.{state_of, sizes_of, sizes_for};
 
 use crate::memory::Memory;
 use crate::step::{Drops, Effect, End, Keeps, Recording};
 use crate::store::Store;
-use sl_code::{Code, Instr};
+use sl_instructions::{Code, Instr};
 use sl_ratio::NoMemory;
+use sl_semantics::STEPS_EACH;
 use sl_stages::{LegalFault, MAX_SEATS, Returns};
 use sl_verify::Verified;
 use std::alloc::Global;
@@ -32,9 +33,6 @@ pub enum Ending {
     /// It needs more steps than it was given.
     OutOfBudget,
 }
-
-/// The steps that a stage may take for each seat or winner, of each list.
-pub const STEPS_EACH: u64 = 400;
 
 // The steps that a stage may take.
 fn share(returns: &Returns) -> u64

@@ -2,22 +2,22 @@
 
 ghost use Rattle.std.specs.Prelude.{◌≡◌, ◌<◌, All, Some, None, [], List, IsSome, IfOk, OnOk, length, map, drop, slice_get, option_map};
 ghost use Rattle.std.specs.Option.{ForSome, option_and_then};
-ghost use Rattle.sl_code.specs.declared.operand.Ranking.TheVariants as ranking;
+ghost use Rattle.sl_instructions.specs.declared.operand.Ranking.TheVariants as ranking;
 ghost use Rattle.sl_prio.specs.Prio.{top, peers, is_covered};
 ghost use Rattle.sl_prio.specs.Lot.{drawn};
 ghost use Rattle.sl_machine.specs.inner.Lots.{lot_at, lot_in};
 ghost use Rattle.sl_stages.specs.returns.Election.{Election};
-ghost use Rattle.sl_machine.specs.State.{State};
-ghost use Rattle.sl_machine.specs.Places.{at_entry, item_of};
-ghost use Rattle.sl_machine.specs.Effects.{Goes, given, takes, mark_of, with_entry};
-ghost use Rattle.sl_machine.specs.Safe.{entries_in};
+ghost use Rattle.sl_semantics.specs.State.{State};
+ghost use Rattle.sl_semantics.specs.Places.{at_entry, item_of};
+ghost use Rattle.sl_semantics.specs.Effects.{Goes, given, takes, mark_of, with_entry};
+ghost use Rattle.sl_semantics.specs.Safe.{entries_in};
 ghost use Rattle.sl_machine.specs.inner.Tables.{FitsMark};
 
 use crate::cursors::item_of;
 use crate::draws::Draws;
 use crate::lots::Lots;
 use crate::store::append;
-use sl_code::{Entries, Ranking};
+use sl_instructions::{Entries, Ranking};
 use sl_prio::Prio;
 use sl_ratio::{Entry, NoMemory, Ratio};
 use sl_stages::{Item, Mark, Returns};

@@ -3,17 +3,17 @@
 ghost use Rattle.std.specs.Prelude.{◌≡◌, IsTrue, IfOk, IfSome, IfNone};
 ghost use Rattle.sl_verify.specs.Needs.{has_columns};
 ghost use Rattle.sl_verify.specs.WellKinded.{context_of};
-ghost use Rattle.sl_machine.specs.Effects.{Ends, effect};
+ghost use Rattle.sl_semantics.specs.Effects.{Ends, effect};
 ghost use Rattle.sl_stages.specs.returns.Election.{IsElection};
 ghost use Rattle.sl_machine.specs.inner.Recording.{state_by, left_by};
 ghost use Rattle.sl_machine.specs.declared.step.Records.{Records};
-ghost use Rattle.sl_machine.specs.Safe.{MayStep};
+ghost use Rattle.sl_semantics.specs.Safe.{MayStep};
 ghost use Rattle.sl_machine.specs.inner.Leading.{ends_run};
 ghost use Rattle.sl_machine.specs.inner.Stores.{state_of, sizes_of, sizes_for, effect_of, end_with};
 
 use crate::ends::{halt, halt_with_vacant};
 use crate::store::Store;
-use sl_code::{Code, Instr};
+use sl_instructions::{Code, Instr};
 use sl_ratio::NoMemory;
 use sl_stages::{LegalFault, Returns};
 

@@ -2,14 +2,14 @@
 
 ghost use Rattle.std.specs.Prelude.{◌≡◌, ◌++◌, ◌∷◌, [], map, replicate, IfOk, OnOk};
 ghost use Rattle.sl_stages.specs.returns.Election.{IsElection};
-ghost use Rattle.sl_machine.specs.State.{start};
-ghost use Rattle.sl_machine.specs.Places.{cells_of};
+ghost use Rattle.sl_semantics.specs.State.{start};
+ghost use Rattle.sl_semantics.specs.Places.{cells_of};
 ghost use Rattle.sl_machine.specs.inner.Stores.{state_of, sizes_of, sizes_for};
 
 use crate::cursor::Cursor;
 use crate::lots::Lots;
 use crate::priority::PriorityTable;
-use sl_code::Code;
+use sl_instructions::Code;
 use sl_ratio::{NoMemory, Ratio};
 use sl_stages::{Mark, Placed, Returns, SeatStep, Shape, Weight};
 use sl_verify::REGISTERS;

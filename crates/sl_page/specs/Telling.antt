@@ -1,8 +1,8 @@
 -- What an explanation that is handed over speaks of (docs/page.md): the fault of a command's inputs, by the number of its status.
 use Rattle.std.specs.Prelude.{◌≡◌, ◌<◌, ℕ, List, [], Option, None, Some}
-use Rattle.sl_desk.specs.Statuses.{status_number}
-use Rattle.sl_desk.specs.declared.status.Status.TheVariants as status
-use Rattle.sl_desk.specs.declared.status.Status.{Status}
+use Rattle.sl_inputs.specs.Statuses.{status_number}
+use Rattle.sl_inputs.specs.declared.status.Status.TheVariants as status
+use Rattle.sl_inputs.specs.declared.status.Status.{Status}
 use Rattle.sl_hints.specs.declared.fault.Fault.TheVariants as fault
 use Rattle.sl_hints.specs.declared.fault.Fault.{Fault}
 

@@ -2,10 +2,10 @@
 #![tactic(auto)]
 
 ghost use Rattle.std.specs.Prelude.{◌≤◌, length, take};
-ghost use Rattle.sl_desk.specs.Books.{text};
+ghost use Rattle.sl_inputs.specs.Books.{text};
 ghost use Rattle.sl_desk.specs.Checking.{IsCheckOutput};
 ghost use Rattle.sl_desk.specs.Counting.{IsOutput, ShowsSeats};
-ghost use Rattle.sl_desk.specs.Library.{IsLawOutput};
+ghost use Rattle.sl_inputs.specs.Library.{IsLawOutput};
 ghost use Rattle.sl_desk.specs.Showing.{IsStageOutput};
 ghost use Rattle.sl_desk.specs.Steps.{ShowsSteps};
 ghost use Rattle.sl_hints.specs.Faults.{IsCheckFault, IsCountFault};

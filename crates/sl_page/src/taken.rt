@@ -1,7 +1,7 @@
 //! What a call writes, kept in memory, and handed over to the page.
 
 ghost use Rattle.std.specs.Prelude.{◌≡◌, ◌<◌, ◌≤◌, Some, Ok, [], length, take};
-ghost use Rattle.sl_desk.specs.Statuses.{status_number};
+ghost use Rattle.sl_inputs.specs.Statuses.{status_number};
 
 use sl_desk::{DeskError, Failed, Sink, Status};
 use sl_ratio::NoMemory;

@@ -2,17 +2,17 @@
 use Rattle.std.proofs.Common.{◌≡◌, ℕ, ◌+◌, ◌-◌, [], ◌∷◌, Option, Some, None, refl, ◌∙◌, arith, true, false}
 use Rattle.std.proofs.lemmas.Bool.{lt-ltb, le-ltb}
 use Rattle.sl_stages.specs.returns.Election.{Election}
-use Rattle.sl_code.specs.declared.instr.Instr.TheVariants.{Set, Sub, Jz, At}
-use Rattle.sl_code.specs.declared.kinds.Kinds.{Kinds}
-use Rattle.sl_code.specs.Codes.{CountingCode}
-use Rattle.sl_code.specs.Standing.{HasAt}
-use Rattle.sl_code.proofs.Standing.{first_stands}
-use Rattle.sl_machine.specs.State.{State, with_register}
-use Rattle.sl_machine.specs.Comes.{Comes}
-use Rattle.sl_machine.specs.Effects.{effect, first_of, next_of}
-use Rattle.sl_machine.proofs.effects.Cursors.{first_none, first_some, next_is}
-use Rattle.sl_machine.proofs.runs.Coming.{goes, jumps, after, comes_at}
-use Rattle.sl_machine.proofs.effects.Registers.{jz_jumps, jz_falls}
+use Rattle.sl_instructions.specs.declared.instr.Instr.TheVariants.{Set, Sub, Jz, At}
+use Rattle.sl_instructions.specs.declared.kinds.Kinds.{Kinds}
+use Rattle.sl_instructions.specs.Codes.{CountingCode}
+use Rattle.sl_instructions.specs.Standing.{HasAt}
+use Rattle.sl_instructions.proofs.Standing.{first_stands}
+use Rattle.sl_semantics.specs.State.{State, with_register}
+use Rattle.sl_semantics.specs.Comes.{Comes}
+use Rattle.sl_semantics.specs.Effects.{effect, first_of, next_of}
+use Rattle.sl_semantics.proofs.effects.Cursors.{first_none, first_some, next_is}
+use Rattle.sl_semantics.proofs.runs.Coming.{goes, jumps, after, comes_at}
+use Rattle.sl_semantics.proofs.effects.Registers.{jz_jumps, jz_falls}
 use Rattle.sl_plans.specs.declared.plan.Test.{Test}
 use Rattle.sl_plans.specs.declared.plan.Cursor.{Cursor}
 use Rattle.sl_plans.specs.declared.plan.Cursor.TheVariants as cursor

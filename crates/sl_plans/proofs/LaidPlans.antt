@@ -1,14 +1,14 @@
 -- A plan behind a declaration: the machine follows it.
 use Rattle.std.proofs.Common.{◌≡◌, ℕ, suc, ◌+◌, ◌≤◌, refl, subst, inl, inr, arith}
 use Rattle.sl_stages.specs.returns.Election.{Election}
-use Rattle.sl_code.specs.declared.instr.Instr.TheVariants.{At}
-use Rattle.sl_code.specs.Codes.{CountingCode}
-use Rattle.sl_code.specs.Standing.{HasAt}
-use Rattle.sl_code.proofs.Standing.{first_stands, next_stand}
+use Rattle.sl_instructions.specs.declared.instr.Instr.TheVariants.{At}
+use Rattle.sl_instructions.specs.Codes.{CountingCode}
+use Rattle.sl_instructions.specs.Standing.{HasAt}
+use Rattle.sl_instructions.proofs.Standing.{first_stands, next_stand}
 use Rattle.sl_verify.specs.Kinds.{start_kinds}
-use Rattle.sl_machine.specs.State.{State, End}
-use Rattle.sl_machine.specs.Comes.{Comes}
-use Rattle.sl_machine.proofs.runs.Coming.{after, ends_after, wider, ends_wider, comes_at}
+use Rattle.sl_semantics.specs.State.{State, End}
+use Rattle.sl_semantics.specs.Comes.{Comes}
+use Rattle.sl_semantics.proofs.runs.Coming.{after, ends_after, wider, ends_wider, comes_at}
 use Rattle.sl_plans.specs.Trees.{Tree, size_of, flat}
 use Rattle.sl_plans.specs.Meaning.{cost}
 use Rattle.sl_plans.specs.Achieves.{Achieves, Reaches}

@@ -3,10 +3,10 @@ use Rattle.std.proofs.Common.{◌≡◌, ℕ, zero, suc, ◌+◌, ◌*◌, ◌<�
 use Rattle.std.specs.List.{range_with_len}
 use Rattle.std.proofs.lemmas.Bool.{eqb-true}
 use Rattle.sl_stages.specs.returns.Election.{Election}
-use Rattle.sl_code.specs.Codes.{CountingCode}
-use Rattle.sl_machine.specs.State.{State}
-use Rattle.sl_machine.specs.Comes.{Comes}
-use Rattle.sl_machine.proofs.runs.Coming.{after, wider}
+use Rattle.sl_instructions.specs.Codes.{CountingCode}
+use Rattle.sl_semantics.specs.State.{State}
+use Rattle.sl_semantics.specs.Comes.{Comes}
+use Rattle.sl_semantics.proofs.runs.Coming.{after, wider}
 use Rattle.sl_plans.specs.declared.plan.Cursor.{Cursor}
 use Rattle.sl_plans.specs.Meaning.{Course, Onward, Unsaid, then_do, cursor_of, set_cursor, held, turn_at, for_each, each_of, at_zero, turns}
 use Rattle.sl_plans.specs.Following.{Follows}

@@ -5,8 +5,8 @@ use Rattle.std.specs.Prelude.{nat_lt}
 use Rattle.std.proofs.lemmas.Bool.{and_parts, ltb-true}
 use Rattle.sl_ratio.specs.declared.limits.TheConstants.{MAX_SEATS}
 use Rattle.sl_stages.specs.returns.Election.{Election, lands_of, parties_of, wins_of}
-use Rattle.sl_machine.specs.declared.machine.TheConstants.{STEPS_EACH}
-use Rattle.sl_machine.specs.Runs.{share_of}
+use Rattle.sl_semantics.specs.declared.budget.TheConstants.{STEPS_EACH}
+use Rattle.sl_semantics.specs.Runs.{share_of}
 use Rattle.sl_plans.specs.Trees.{Tree, size_of}
 use Rattle.sl_plans.specs.Meaning.{cost}
 use Rattle.sl_plans.specs.Prices.{Rate, rate_at, price_of, has_price, up_to}

@@ -1,17 +1,17 @@
 -- Pieces of runs that follow a plan: one after another, single instructions, lines.
 use Rattle.std.proofs.Common.{◌≡◌, ℕ, suc, ◌+◌, ◌≤◌, List, [], ◌∷◌, length, Some, slice_get, refl, subst, arith}
 use Rattle.sl_stages.specs.returns.Election.{Election}
-use Rattle.sl_code.specs.declared.instr.Instr.{Instr}
-use Rattle.sl_code.specs.declared.instr.Instr.TheVariants.{Jmp, At}
-use Rattle.sl_code.specs.declared.kinds.Kinds.{Kinds}
-use Rattle.sl_code.specs.Codes.{CountingCode}
-use Rattle.sl_code.specs.Standing.{HasAt}
-use Rattle.sl_code.proofs.Standing.{first_stands, next_stand}
-use Rattle.sl_code.specs.Rows.{target_of}
-use Rattle.sl_machine.specs.State.{State}
-use Rattle.sl_machine.specs.Comes.{Comes}
-use Rattle.sl_machine.specs.Effects.{Effect, Goes, Jumps, Ends, NoCase, effect}
-use Rattle.sl_machine.proofs.runs.Coming.{stays, goes, jumps, ends, after, ends_after, wider, ends_wider, comes_at}
+use Rattle.sl_instructions.specs.declared.instr.Instr.{Instr}
+use Rattle.sl_instructions.specs.declared.instr.Instr.TheVariants.{Jmp, At}
+use Rattle.sl_instructions.specs.declared.kinds.Kinds.{Kinds}
+use Rattle.sl_instructions.specs.Codes.{CountingCode}
+use Rattle.sl_instructions.specs.Standing.{HasAt}
+use Rattle.sl_instructions.proofs.Standing.{first_stands, next_stand}
+use Rattle.sl_instructions.specs.Rows.{target_of}
+use Rattle.sl_semantics.specs.State.{State}
+use Rattle.sl_semantics.specs.Comes.{Comes}
+use Rattle.sl_semantics.specs.Effects.{Effect, Goes, Jumps, Ends, NoCase, effect}
+use Rattle.sl_semantics.proofs.runs.Coming.{stays, goes, jumps, ends, after, ends_after, wider, ends_wider, comes_at}
 use Rattle.sl_plans.specs.declared.plan.Cursor.{Cursor}
 use Rattle.sl_plans.specs.declared.plan.Cursor.TheVariants as cursor
 use Rattle.sl_plans.specs.declared.plan.Test.{Test}

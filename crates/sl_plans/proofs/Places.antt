@@ -1,11 +1,11 @@
 -- How many instructions a plan is, and where the parts of each form stand.
 use Rattle.std.proofs.Common.{◌≡◌, ℕ, suc, ◌+◌, List, [], ◌∷◌, ◌++◌, length, Some, slice_get, refl, subst, arith, length-append}
-use Rattle.sl_code.specs.declared.instr.Instr.{Instr}
-use Rattle.sl_code.specs.declared.instr.Instr.TheVariants.{Set, Sub, Jmp, Jz, At}
-use Rattle.sl_code.specs.declared.kinds.Kinds.{Kinds}
-use Rattle.sl_code.specs.Codes.{CountingCode}
-use Rattle.sl_code.specs.Standing.{HasAt}
-use Rattle.sl_code.proofs.Standing.{prefix_stands, rest_stands, first_stands, next_stand}
+use Rattle.sl_instructions.specs.declared.instr.Instr.{Instr}
+use Rattle.sl_instructions.specs.declared.instr.Instr.TheVariants.{Set, Sub, Jmp, Jz, At}
+use Rattle.sl_instructions.specs.declared.kinds.Kinds.{Kinds}
+use Rattle.sl_instructions.specs.Codes.{CountingCode}
+use Rattle.sl_instructions.specs.Standing.{HasAt}
+use Rattle.sl_instructions.proofs.Standing.{prefix_stands, rest_stands, first_stands, next_stand}
 use Rattle.sl_plans.specs.declared.plan.Test.{Test}
 use Rattle.sl_plans.specs.declared.plan.Cursor.{Cursor}
 use Rattle.sl_plans.specs.declared.plan.Bound.{Bound}

@@ -3,13 +3,13 @@ use Rattle.std.proofs.Common.{◌≡◌, ℕ, ◌+◌, ◌<◌, ◌≤◌, ◌^�
 use Rattle.std.specs.Prelude.{nat_lt}
 use Rattle.std.specs.List.{AllByRecursion, list_all}
 use Rattle.std.proofs.lemmas.Bool.{and_parts, and_from, false≢true, lt-ltb, ltb-true}
-use Rattle.sl_code.specs.declared.instr.Instr.{Instr}
-use Rattle.sl_code.specs.declared.instr.Instr.TheVariants as op
-use Rattle.sl_code.specs.declared.kinds.Kinds.{Kinds}
-use Rattle.sl_code.specs.declared.parts.Operand.{Operand}
-use Rattle.sl_code.specs.declared.parts.Operand.TheVariants as o
-use Rattle.sl_code.specs.Rows.{operands_of}
-use Rattle.sl_code.specs.Proper.{FitsBytes, IsInRange}
+use Rattle.sl_instructions.specs.declared.instr.Instr.{Instr}
+use Rattle.sl_instructions.specs.declared.instr.Instr.TheVariants as op
+use Rattle.sl_instructions.specs.declared.kinds.Kinds.{Kinds}
+use Rattle.sl_instructions.specs.declared.parts.Operand.{Operand}
+use Rattle.sl_instructions.specs.declared.parts.Operand.TheVariants as o
+use Rattle.sl_instructions.specs.Rows.{operands_of}
+use Rattle.sl_instructions.specs.Proper.{FitsBytes, IsInRange}
 use Rattle.sl_verify.specs.Kinds.{start_kinds}
 use Rattle.sl_plans.specs.declared.plan.Bound.{Bound}
 use Rattle.sl_plans.specs.declared.plan.Cursor.{Cursor}

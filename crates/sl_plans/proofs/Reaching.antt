@@ -1,10 +1,10 @@
 -- What a plan achieves the machine does, wherever the plan's instructions stand.
 use Rattle.std.proofs.Common.{ℕ, ◌+◌, inl, inr}
 use Rattle.sl_stages.specs.returns.Election.{Election}
-use Rattle.sl_code.specs.declared.kinds.Kinds.{Kinds}
-use Rattle.sl_code.specs.Codes.{CountingCode}
-use Rattle.sl_code.specs.Standing.{HasAt}
-use Rattle.sl_machine.specs.State.{State, End}
+use Rattle.sl_instructions.specs.declared.kinds.Kinds.{Kinds}
+use Rattle.sl_instructions.specs.Codes.{CountingCode}
+use Rattle.sl_instructions.specs.Standing.{HasAt}
+use Rattle.sl_semantics.specs.State.{State, End}
 use Rattle.sl_plans.specs.Trees.{Tree, size_of, flat}
 use Rattle.sl_plans.specs.Meaning.{Course, Onward, Final, Unsaid, does, cost}
 use Rattle.sl_plans.specs.Following.{Follows}

@@ -6,10 +6,10 @@ use Rattle.std.specs.Option.{option_map_or}
 use Rattle.sl_stages.specs.declared.book.Shape.{Shape}
 use Rattle.sl_stages.specs.declared.book.Shape.TheVariants as shape
 use Rattle.sl_stages.specs.book.Typing.{same_shape}
-use Rattle.sl_code.specs.declared.instr.Instr.{Instr}
-use Rattle.sl_code.specs.declared.instr.Instr.TheVariants as op
-use Rattle.sl_code.specs.declared.kinds.Kinds.{Kinds}
-use Rattle.sl_code.specs.declared.kinds.TableState.{TableState}
+use Rattle.sl_instructions.specs.declared.instr.Instr.{Instr}
+use Rattle.sl_instructions.specs.declared.instr.Instr.TheVariants as op
+use Rattle.sl_instructions.specs.declared.kinds.Kinds.{Kinds}
+use Rattle.sl_instructions.specs.declared.kinds.TableState.{TableState}
 use Rattle.sl_verify.specs.Kinds.{no_cursors, contains, with_register, covers, implies}
 use Rattle.sl_verify.specs.Needs.{Context, has_slot, has_column, has_stage, has_registers, has_columns, has_kinds, has_table, has_needs, input_shape, shape_cursors, needed_positive, needed_cursors}
 use Rattle.sl_verify.specs.Leaves.{ends, carried}

@@ -5,15 +5,15 @@ use Rattle.std.proofs.lemmas.Bool.{cases_Bool, cases_lt, eq-eqb}
 use Rattle.sl_ratio.specs.declared.entry.Entry.{Entry}
 use Rattle.sl_stages.specs.declared.returns.Win.{Win}
 use Rattle.sl_stages.specs.returns.Election.{Election, has_list}
-use Rattle.sl_code.specs.declared.instr.Instr.{Instr}
-use Rattle.sl_code.specs.Codes.{CountingCode}
+use Rattle.sl_instructions.specs.declared.instr.Instr.{Instr}
+use Rattle.sl_instructions.specs.Codes.{CountingCode}
 use Rattle.sl_prio.specs.Prio.{top, peers, is_covered}
-use Rattle.sl_machine.specs.State.{State, End, PriorityTable, with_register}
-use Rattle.sl_machine.specs.Drawn.{lot_of}
-use Rattle.sl_machine.specs.Effects.{Effect, Goes, Jumps, Ends, effect, with_party, winner_at, name_of}
-use Rattle.sl_machine.proofs.effects.Registers.{jz_jumps, jz_falls, jlt_jumps, jlt_falls}
-use Rattle.sl_machine.proofs.effects.Cursors.{jnl_jumps, jnl_falls, wparty_jumps, wparty_falls}
-use Rattle.sl_machine.proofs.effects.Table.{peers_jumps, peers_falls, lot_jumps, lot_falls}
+use Rattle.sl_semantics.specs.State.{State, End, PriorityTable, with_register}
+use Rattle.sl_semantics.specs.Drawn.{lot_of}
+use Rattle.sl_semantics.specs.Effects.{Effect, Goes, Jumps, Ends, effect, with_party, winner_at, name_of}
+use Rattle.sl_semantics.proofs.effects.Registers.{jz_jumps, jz_falls, jlt_jumps, jlt_falls}
+use Rattle.sl_semantics.proofs.effects.Cursors.{jnl_jumps, jnl_falls, wparty_jumps, wparty_falls}
+use Rattle.sl_semantics.proofs.effects.Table.{peers_jumps, peers_falls, lot_jumps, lot_falls}
 use Rattle.sl_plans.specs.declared.plan.Test.{Test}
 use Rattle.sl_plans.specs.declared.plan.Test.TheVariants as test
 use Rattle.sl_plans.specs.declared.plan.Cursor.{Cursor}

@@ -5,11 +5,11 @@ use Rattle.std.proofs.lemmas.List.FromFn.{sum_by-map-range_with_len_more}
 use Rattle.sl_stages.specs.declared.book.Shape.{Shape}
 use Rattle.sl_stages.specs.declared.book.Shape.TheVariants as shape
 use Rattle.sl_stages.specs.returns.Election.{Election, lands_of, parties_of}
-use Rattle.sl_code.specs.Codes.{CountingCode}
-use Rattle.sl_machine.specs.State.{State, with_register}
-use Rattle.sl_machine.specs.Effects.{most, with_party, with_land}
-use Rattle.sl_machine.proofs.effects.Registers.{set_does, add_does, get_does}
-use Rattle.sl_machine.proofs.effects.Cursors.{both_are}
+use Rattle.sl_instructions.specs.Codes.{CountingCode}
+use Rattle.sl_semantics.specs.State.{State, with_register}
+use Rattle.sl_semantics.specs.Effects.{most, with_party, with_land}
+use Rattle.sl_semantics.proofs.effects.Registers.{set_does, add_does, get_does}
+use Rattle.sl_semantics.proofs.effects.Cursors.{both_are}
 use Rattle.sl_plans.specs.declared.plan.Cursor.TheVariants as cursor
 use Rattle.sl_plans.specs.Trees.{Each}
 use Rattle.sl_plans.specs.Achieves.{Achieves, Never}

@@ -1,9 +1,9 @@
 -- What is shown of a plan: it goes on in a state of which one thing holds, or ends the run so that another holds (docs/plans.md, section 5).
 use Rattle.std.specs.Prelude.{ℕ, ◌⊎◌}
 use Rattle.sl_stages.specs.returns.Election.{Election}
-use Rattle.sl_code.specs.Codes.{CountingCode}
-use Rattle.sl_machine.specs.State.{State, End}
-use Rattle.sl_machine.specs.Comes.{Comes, Finishes}
+use Rattle.sl_instructions.specs.Codes.{CountingCode}
+use Rattle.sl_semantics.specs.State.{State, End}
+use Rattle.sl_semantics.specs.Comes.{Comes, Finishes}
 use Rattle.sl_plans.specs.Trees.{Tree}
 use Rattle.sl_plans.specs.Meaning.{Course, Onward, Final, Unsaid, does}
 

@@ -1,7 +1,7 @@
 -- What is shown of costs: a plan costs its price, and where no number of that is above a share's, it takes at most a share (docs/plans.md, section 7).
 use Rattle.std.specs.Prelude.{◌≡◌, ◌≤◌, true}
 use Rattle.sl_stages.specs.returns.Election.{Election, lands_of, parties_of, wins_of}
-use Rattle.sl_machine.specs.Runs.{share_of}
+use Rattle.sl_semantics.specs.Runs.{share_of}
 use Rattle.sl_plans.specs.Trees.{Tree}
 use Rattle.sl_plans.specs.Meaning.{cost}
 use Rattle.sl_plans.specs.Prices.{price_at, price_of, has_price, is_in_share}

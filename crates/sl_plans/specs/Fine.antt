@@ -2,12 +2,12 @@
 use Rattle.std.specs.Prelude.{◌≡◌, ◌≤◌, ℕ, Bool, true, not, ◌&&◌, List, [], ◌∷◌, length, Option, Some, None, is_some, slice_get}
 use Rattle.std.specs.List.{list_all}
 use Rattle.sl_stages.specs.declared.book.Shape.{Shape}
-use Rattle.sl_code.specs.declared.instr.Instr.{Instr}
-use Rattle.sl_code.specs.declared.instr.Instr.TheVariants.{Set, Sub, Jmp, Jz, At}
-use Rattle.sl_code.specs.declared.kinds.Kinds.{Kinds}
-use Rattle.sl_code.specs.Codes.{CountingCode}
-use Rattle.sl_code.specs.Rows.{target_of}
-use Rattle.sl_code.specs.Standing.{HasAt}
+use Rattle.sl_instructions.specs.declared.instr.Instr.{Instr}
+use Rattle.sl_instructions.specs.declared.instr.Instr.TheVariants.{Set, Sub, Jmp, Jz, At}
+use Rattle.sl_instructions.specs.declared.kinds.Kinds.{Kinds}
+use Rattle.sl_instructions.specs.Codes.{CountingCode}
+use Rattle.sl_instructions.specs.Rows.{target_of}
+use Rattle.sl_instructions.specs.Standing.{HasAt}
 use Rattle.sl_verify.specs.Kinds.{implies}
 use Rattle.sl_verify.specs.Leaves.{ends, positive_behind, cursors_behind, table_behind, carried}
 use Rattle.sl_verify.specs.Needs.{Context, has_needs}

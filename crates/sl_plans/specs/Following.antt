@@ -1,11 +1,11 @@
 -- What it is for the machine to do what a plan says (docs/plans.md, section 4).
 use Rattle.std.specs.Prelude.{ℕ, ◌+◌}
 use Rattle.sl_stages.specs.returns.Election.{Election}
-use Rattle.sl_code.specs.declared.kinds.Kinds.{Kinds}
-use Rattle.sl_code.specs.Codes.{CountingCode}
-use Rattle.sl_code.specs.Standing.{HasAt}
-use Rattle.sl_machine.specs.State.{State}
-use Rattle.sl_machine.specs.Comes.{Comes, Finishes}
+use Rattle.sl_instructions.specs.declared.kinds.Kinds.{Kinds}
+use Rattle.sl_instructions.specs.Codes.{CountingCode}
+use Rattle.sl_instructions.specs.Standing.{HasAt}
+use Rattle.sl_semantics.specs.State.{State}
+use Rattle.sl_semantics.specs.Comes.{Comes, Finishes}
 use Rattle.sl_plans.specs.Trees.{Tree, size_of, flat}
 use Rattle.sl_plans.specs.Meaning.{Course, Onward, Final, Unsaid, does, cost}
 

@@ -1,11 +1,11 @@
 -- Plans behind a declaration, one after the other: what is laid out, and what they achieve together (docs/plans.md, section 10).
 use Rattle.std.specs.Prelude.{ℕ, ◌+◌, List, [], ◌∷◌}
 use Rattle.sl_stages.specs.returns.Election.{Election}
-use Rattle.sl_code.specs.declared.instr.Instr.{Instr}
-use Rattle.sl_code.specs.declared.instr.Instr.TheVariants.{At}
-use Rattle.sl_code.specs.Codes.{CountingCode}
+use Rattle.sl_instructions.specs.declared.instr.Instr.{Instr}
+use Rattle.sl_instructions.specs.declared.instr.Instr.TheVariants.{At}
+use Rattle.sl_instructions.specs.Codes.{CountingCode}
 use Rattle.sl_verify.specs.Kinds.{start_kinds}
-use Rattle.sl_machine.specs.State.{State, End}
+use Rattle.sl_semantics.specs.State.{State, End}
 use Rattle.sl_plans.specs.Trees.{Tree, size_of, flat}
 use Rattle.sl_plans.specs.Meaning.{cost}
 use Rattle.sl_plans.specs.Achieves.{Achieves}

@@ -2,10 +2,10 @@
 use Rattle.std.specs.Prelude.{ℕ, zero, suc, ◌+◌, ◌*◌, List, [], ◌∷◌, length, Option, Some, None, ◌==◌, if◌then◌else◌}
 use Rattle.std.specs.List.{range_with_len}
 use Rattle.sl_stages.specs.returns.Election.{Election, lands_of, parties_of, wins_of}
-use Rattle.sl_code.specs.declared.instr.Instr.{Instr}
-use Rattle.sl_code.specs.Codes.{CountingCode}
-use Rattle.sl_machine.specs.State.{State, End}
-use Rattle.sl_machine.specs.Effects.{Effect, Goes, Jumps, Ends, NoCase, effect, with_party, with_land, with_win}
+use Rattle.sl_instructions.specs.declared.instr.Instr.{Instr}
+use Rattle.sl_instructions.specs.Codes.{CountingCode}
+use Rattle.sl_semantics.specs.State.{State, End}
+use Rattle.sl_semantics.specs.Effects.{Effect, Goes, Jumps, Ends, NoCase, effect, with_party, with_land, with_win}
 use Rattle.sl_plans.specs.declared.plan.Cursor.{Cursor}
 use Rattle.sl_plans.specs.declared.plan.Cursor.TheVariants as cursor
 use Rattle.sl_plans.specs.declared.plan.Bound.{Bound}

@@ -3,16 +3,16 @@ use Rattle.std.specs.Prelude.{◌≡◌, ℕ, ◌+◌, ◌*◌, ◌≤◌, [], �
 use Rattle.std.specs.List.{sum, range_with_len}
 use Rattle.sl_stages.specs.declared.book.Shape.TheVariants as shape
 use Rattle.sl_stages.specs.returns.Election.{Election, lands_of, parties_of}
-use Rattle.sl_code.specs.declared.instr.Instr.TheVariants.{Set, Get, Add}
-use Rattle.sl_code.specs.declared.kinds.Kinds.{Kinds}
-use Rattle.sl_code.specs.Codes.{CountingCode}
-use Rattle.sl_code.specs.Standing.{HasAt}
+use Rattle.sl_instructions.specs.declared.instr.Instr.TheVariants.{Set, Get, Add}
+use Rattle.sl_instructions.specs.declared.kinds.Kinds.{Kinds}
+use Rattle.sl_instructions.specs.Codes.{CountingCode}
+use Rattle.sl_instructions.specs.Standing.{HasAt}
 use Rattle.sl_verify.specs.Kinds.{start_kinds}
 use Rattle.sl_verify.specs.WellKinded.{context_of}
 use Rattle.sl_verify.specs.Pieces.{JumpsWithin}
-use Rattle.sl_machine.specs.State.{State}
-use Rattle.sl_machine.specs.Comes.{Comes}
-use Rattle.sl_machine.specs.Effects.{most}
+use Rattle.sl_semantics.specs.State.{State}
+use Rattle.sl_semantics.specs.Comes.{Comes}
+use Rattle.sl_semantics.specs.Effects.{most}
 use Rattle.sl_plans.specs.declared.plan.Cursor.TheVariants as cursor
 use Rattle.sl_plans.specs.Trees.{Tree, Line, Then, Each, flat}
 use Rattle.sl_plans.specs.Meaning.{cost}

@@ -1,8 +1,8 @@
 -- Plans of counting code without references and blanks, and the instructions that they stand for (docs/plans.md, sections 1 and 2).
 use Rattle.std.specs.Prelude.{ℕ, ◌+◌, Bool, true, false, List, [], ◌∷◌, ◌++◌, length}
-use Rattle.sl_code.specs.declared.instr.Instr.{Instr}
-use Rattle.sl_code.specs.declared.instr.Instr.TheVariants.{Set, Sub, Jmp, Jz, Jlt, Jnl, Wparty, Fparty, Nparty, Fland, Nland, Fwin, Nwin, Peers, Lot, At}
-use Rattle.sl_code.specs.declared.kinds.Kinds.{Kinds}
+use Rattle.sl_instructions.specs.declared.instr.Instr.{Instr}
+use Rattle.sl_instructions.specs.declared.instr.Instr.TheVariants.{Set, Sub, Jmp, Jz, Jlt, Jnl, Wparty, Fparty, Nparty, Fland, Nland, Fwin, Nwin, Peers, Lot, At}
+use Rattle.sl_instructions.specs.declared.kinds.Kinds.{Kinds}
 use Rattle.sl_verify.specs.Leaves.{cursors_behind, cursors_carried, table_behind, with_party, with_land, with_win, with_ready}
 use Rattle.sl_plans.specs.declared.emitter.TheConstants.{ONES}
 use Rattle.sl_plans.specs.declared.plan.Test.{Test}

@@ -8,7 +8,7 @@ ghost use Rattle.sl_plans.specs.Trees.{size_of, flat, jump_of, to_first, to_next
 
 use crate::known::{at_join, known_after, known_in_arm, with_cursor_known};
 use crate::plan::{Cursor, Part, Plan, Test};
-use sl_code::{Cursors, Instr, Kinds, MAX_INSTRS, Registers};
+use sl_instructions::{Cursors, Instr, Kinds, MAX_INSTRS, Registers};
 use sl_ratio::NoMemory;
 use sl_verify::REGISTERS;
 

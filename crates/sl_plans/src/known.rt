@@ -4,7 +4,7 @@ ghost use Rattle.std.specs.Prelude.{◌≡◌};
 ghost use Rattle.sl_plans.specs.Trees.{at_join, known_after, known_in_arm, with_cursor_known};
 
 use crate::plan::{Cursor, Test};
-use sl_code::{Instr, Kinds};
+use sl_instructions::{Instr, Kinds};
 use sl_verify::{cursors_behind, table_behind, with_ready};
 
 /// What is known where a form ends that began with this known.

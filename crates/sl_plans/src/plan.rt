@@ -1,6 +1,6 @@
 //! Structured plans of counting code, mostly constants.
 
-use sl_code::Instr;
+use sl_instructions::Instr;
 
 /// What a jump asks.
 #[derive(Clone, Copy, Debug, PartialEq, Eq)]

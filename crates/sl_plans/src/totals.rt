@@ -6,7 +6,7 @@ ghost use Rattle.sl_plans.specs.Trees.{flat};
 
 use crate::emitter::emit;
 use crate::plan::{Cursor, Part, Plan};
-use sl_code::{Instr, Kinds, MAX_INSTRS};
+use sl_instructions::{Instr, Kinds, MAX_INSTRS};
 use sl_ratio::NoMemory;
 
 const ADD_CELL: &Plan<'static> = &Plan::Line(&[Part::Given(0), Part::Fixed(Instr::Add(1, 0))]);

@@ -1,7 +1,7 @@
 //! Seat tables of what runs hold, and their texts.
 
 ghost use Rattle.std.specs.Prelude.{length};
-ghost use Rattle.sl_machine.specs.Fits.{FitsFault, FitsMemory, FitsRecords};
+ghost use Rattle.sl_semantics.specs.Fits.{FitsFault, FitsMemory, FitsRecords};
 ghost use Rattle.sl_table.specs.inner.Fits.{Fits, FitsHeld};
 
 use sl_code::Code;

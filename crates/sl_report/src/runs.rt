@@ -1,7 +1,8 @@
 //! Counts with their records and the columns of their stages.
 
 ghost use Rattle.std.specs.Prelude.{◌≡◌};
-ghost use Rattle.sl_machine.specs.Fits.{Fits, FitsMemory};
+ghost use Rattle.sl_machine.specs.Fits.{Fits};
+ghost use Rattle.sl_semantics.specs.Fits.{FitsMemory};
 
 use sl_code::Code;
 use sl_compile::compile;

@@ -1,6 +1,6 @@
 //! The texts of the smallest table, of lines with words of every kind, and of a stage's column, with ample memory.
 
-ghost use Rattle.sl_machine.specs.Fits.{FitsMemory};
+ghost use Rattle.sl_semantics.specs.Fits.{FitsMemory};
 
 use crate::machine::accepted;
 use sl_code::Code;

@@ -5,8 +5,8 @@ use Rattle.std.proofs.lemmas.List.Elements.{All-nil, All-head, All-tail, All-app
 use Rattle.std.proofs.lemmas.List.FromFn.{length-range_with_len, get_or-range_with_len}
 use Rattle.sl_stages.specs.returns.Election.{Election, lands_of, parties_of, has_list}
 use Rattle.sl_stages.specs.returns.Facts.{lands, parties, each_list}
-use Rattle.sl_machine.specs.Memories.{Held}
-use Rattle.sl_machine.specs.Tables.{held_line}
+use Rattle.sl_semantics.specs.Memories.{Held}
+use Rattle.sl_semantics.specs.Tables.{held_line}
 use Rattle.sl_table.specs.inner.Fits.{IsOf}
 
 -- what holds of each element of each piece

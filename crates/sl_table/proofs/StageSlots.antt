@@ -5,7 +5,7 @@ use Rattle.std.proofs.lemmas.Option.{get_or_from_slice_get, slice_get_within}
 use Rattle.sl_stages.specs.declared.book.Shape.{Shape}
 use Rattle.sl_stages.specs.declared.book.Shape.TheVariants as shape
 use Rattle.sl_stages.specs.returns.Election.{Election}
-use Rattle.sl_machine.specs.Places.{cells_of}
+use Rattle.sl_semantics.specs.Places.{cells_of}
 
 pub column_length : (e : Election) (columns : List (List ℕ)) (slots : List Shape) → map length columns ≡ map (cells_of e) slots
     → (slot : ℕ) (column : List ℕ) → slice_get columns slot ≡ Some column → length column ≡ cells_of e (get_or slots slot shape.One)

@@ -5,8 +5,8 @@ use Rattle.sl_stages.specs.declared.book.Shape.{Shape}
 use Rattle.sl_stages.specs.declared.book.Shape.TheVariants as shape
 use Rattle.sl_stages.specs.returns.Election.{Election, has_list}
 use Rattle.sl_stages.specs.returns.Facts.{lands, parties, list_cell}
-use Rattle.sl_code.specs.Codes.{CountingCode}
-use Rattle.sl_machine.specs.Memories.{Held}
+use Rattle.sl_instructions.specs.Codes.{CountingCode}
+use Rattle.sl_semantics.specs.Memories.{Held}
 use Rattle.sl_table.specs.Faults.{list_word}
 use Rattle.sl_table.specs.Lines.{line}
 use Rattle.sl_table.specs.Short.{land_word, party_word}

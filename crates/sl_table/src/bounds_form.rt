@@ -1,7 +1,7 @@
 //! The lines of the bounds of a table's scopes, by the weights and the seats of their entries.
 
 ghost use Rattle.std.specs.Prelude.{◌≡◌, ◌+◌, ◌^◌, ◌<◌, ◌≤◌, false, Some, All, IfOk, OnOk, MatchBool, MatchOption, length, map, option_map, sum, count_by, nat_lt};
-ghost use Rattle.sl_machine.specs.Fits.{FitsWeight};
+ghost use Rattle.sl_semantics.specs.Fits.{FitsWeight};
 ghost use Rattle.sl_table.specs.Bounds.{is_one_scope, groups, is_of_entry, IsBoundsWeight, IsToldPair, lot_words, pair_line, IsBoundsLine, IsBoundsLines};
 ghost use Rattle.sl_table.specs.Lines.{with_lines, with_words};
 ghost use Rattle.sl_table.specs.inner.Counts.{count_of, CountsOne, counted_seats, IsWithin, HasLines};
@@ -9,7 +9,7 @@ ghost use Rattle.sl_table.specs.inner.Counts.{count_of, CountsOne, counted_seats
 use crate::fault_form::{scope_words, stage_word};
 use crate::line::Text;
 use crate::orders::{entry_key, weights_in_order};
-use sl_code::Code;
+use sl_instructions::Code;
 use sl_ratio::{Divisor, MAX_SEATS, MAX_WEIGHT, NoMemory, Ratio, bounds};
 use sl_stages::{Returns, SeatStep, Table, Weight};
 use std::alloc::Global;

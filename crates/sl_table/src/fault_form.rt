@@ -1,12 +1,12 @@
 //! The text of a legal fault: the stage, the scope, and what is wrong there.
 
 ghost use Rattle.std.specs.Prelude.{◌≡◌, All, IfOk, OnOk, length, map};
-ghost use Rattle.sl_machine.specs.Fits.{HasItem, HasScope, FitsKind, FitsFault};
+ghost use Rattle.sl_semantics.specs.Fits.{HasItem, HasScope, FitsKind, FitsFault};
 ghost use Rattle.sl_table.specs.Faults.{stage_word, scope_words, item_word, kind_words, fault_text};
 ghost use Rattle.sl_table.specs.Lines.{with_word, with_words};
 
 use crate::line::Text;
-use sl_code::Code;
+use sl_instructions::Code;
 use sl_ratio::NoMemory;
 use sl_stages::{FaultKind, Item, LegalFault, Returns, Scope};
 use std::alloc::Global;

@@ -3,14 +3,14 @@
 ghost use Rattle.std.specs.Prelude.{◌≡◌, ◌<◌, ◌*◌, false, IfOk, OnOk, length, flat_map};
 ghost use Rattle.sl_stages.specs.returns.Election.{lands_of, parties_of};
 ghost use Rattle.sl_stages.specs.returns.Facts.{lands, parties};
-ghost use Rattle.sl_machine.specs.Fits.{FitsMemory};
-ghost use Rattle.sl_machine.specs.Places.{cells_of};
+ghost use Rattle.sl_semantics.specs.Fits.{FitsMemory};
+ghost use Rattle.sl_semantics.specs.Places.{cells_of};
 ghost use Rattle.sl_table.specs.Faults.{list_word};
 ghost use Rattle.sl_table.specs.Lines.{with_lines};
 ghost use Rattle.sl_table.specs.Stages.{entry_line, party_entry, land_entry, land_lists, stage_text, stage_slot, held_stage_text};
 
 use crate::line::Text;
-use sl_code::Code;
+use sl_instructions::Code;
 use sl_machine::Memory;
 use sl_ratio::NoMemory;
 use sl_stages::{Returns, Shape};

@@ -1,7 +1,7 @@
 //! The steps text of a seat table: a line for each seat step, in order, the bounds of the scopes, and the short text.
 
 ghost use Rattle.std.specs.Prelude.{◌≡◌, false, All, IfOk, OnOk, flat_map, length, map};
-ghost use Rattle.sl_machine.specs.Fits.{FitsRecords, FitsStep};
+ghost use Rattle.sl_semantics.specs.Fits.{FitsRecords, FitsStep};
 ghost use Rattle.sl_table.specs.inner.Fits.{Fits};
 ghost use Rattle.sl_table.specs.Lines.{with_lines, with_words};
 ghost use Rattle.sl_table.specs.Steps.{mark_words, step_line, IsStepsText};
@@ -11,7 +11,7 @@ use crate::fault_form::{item_word, scope_words, stage_word};
 use crate::line::Text;
 use crate::orders::steps_in_order;
 use crate::short_form::short_lines;
-use sl_code::Code;
+use sl_instructions::Code;
 use sl_ratio::NoMemory;
 use sl_stages::{Mark, Returns, SeatStep, Table};
 use std::alloc::Global;

@@ -2,10 +2,10 @@
 use Rattle.std.proofs.Common.{◌≡◌, ◌↔◌, ℕ, zero, suc, List, [], ◌∷◌, ◌++◌, Option, Some, None, length, refl, ◌∙◌, sym, ap, subst}
 use Rattle.std.specs.Prelude.{slice_get, IsTrue}
 use Rattle.std.proofs.lemmas.Bool.{and_parts}
-use Rattle.sl_code.specs.Codes.{CountingCode}
-use Rattle.sl_code.specs.Rows.{target_of}
-use Rattle.sl_code.specs.declared.instr.Instr.{Instr}
-use Rattle.sl_code.specs.declared.kinds.Kinds.{Kinds}
+use Rattle.sl_instructions.specs.Codes.{CountingCode}
+use Rattle.sl_instructions.specs.Rows.{target_of}
+use Rattle.sl_instructions.specs.declared.instr.Instr.{Instr}
+use Rattle.sl_instructions.specs.declared.kinds.Kinds.{Kinds}
 use Rattle.sl_verify.specs.declared.fault.VerifyFault.TheVariants as fault
 use Rattle.sl_verify.specs.Kinds.{start_kinds}
 use Rattle.sl_verify.specs.Needs.{has_registers, has_columns, has_kinds, has_table, has_needs}

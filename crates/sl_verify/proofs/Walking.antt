@@ -3,9 +3,9 @@ use Rattle.std.proofs.Common.{◌≡◌, ℕ, suc, ◌<◌, ◌≤◌, List, [],
 use Rattle.std.proofs.Math.Seq.{drop-cons}
 use Rattle.std.proofs.lemmas.List.{drop_all}
 use Rattle.std.specs.Option.{option_or}
-use Rattle.sl_code.specs.Codes.{CountingCode}
-use Rattle.sl_code.specs.declared.instr.Instr.{Instr}
-use Rattle.sl_code.specs.declared.kinds.Kinds.{Kinds}
+use Rattle.sl_instructions.specs.Codes.{CountingCode}
+use Rattle.sl_instructions.specs.declared.instr.Instr.{Instr}
+use Rattle.sl_instructions.specs.declared.kinds.Kinds.{Kinds}
 use Rattle.sl_verify.specs.declared.fault.VerifyFault.{VerifyFault}
 use Rattle.sl_verify.specs.Kinds.{start_kinds}
 use Rattle.sl_verify.specs.Pieces.{comes_next, comes_after}

@@ -1,11 +1,11 @@
 -- What is known after an instruction, and where it jumps to (docs/verifier.md, section 2).
 use Rattle.std.specs.Prelude.{Bool, true, false, ◌&&◌, ◌||◌, nat_lt, Option, Some, None, if◌then◌else◌}
-use Rattle.sl_code.specs.declared.instr.Instr.{Instr}
-use Rattle.sl_code.specs.declared.instr.Instr.TheVariants as op
-use Rattle.sl_code.specs.declared.kinds.Registers.{Registers}
-use Rattle.sl_code.specs.declared.kinds.Cursors.{Cursors}
-use Rattle.sl_code.specs.declared.kinds.TableState.{TableState}
-use Rattle.sl_code.specs.declared.kinds.Kinds.{Kinds}
+use Rattle.sl_instructions.specs.declared.instr.Instr.{Instr}
+use Rattle.sl_instructions.specs.declared.instr.Instr.TheVariants as op
+use Rattle.sl_instructions.specs.declared.kinds.Registers.{Registers}
+use Rattle.sl_instructions.specs.declared.kinds.Cursors.{Cursors}
+use Rattle.sl_instructions.specs.declared.kinds.TableState.{TableState}
+use Rattle.sl_instructions.specs.declared.kinds.Kinds.{Kinds}
 use Rattle.sl_verify.specs.Kinds.{contains, with_register, join}
 use Rattle.sl_verify.specs.Needs.{table_cursors}
 

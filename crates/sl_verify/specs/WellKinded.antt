@@ -2,11 +2,11 @@
 use Rattle.std.specs.Prelude.{◌≡◌, ℕ, zero, suc, Bool, true, false, List, length, Option, Some, None, slice_get, option_and_then, IsTrue}
 use Rattle.std.specs.List.{list_all}
 use Rattle.std.specs.Option.{option_map_or}
-use Rattle.sl_code.specs.Codes.{CountingCode}
-use Rattle.sl_code.specs.Rows.{target_of}
-use Rattle.sl_code.specs.declared.instr.Instr.{Instr}
-use Rattle.sl_code.specs.declared.instr.Instr.TheVariants as op
-use Rattle.sl_code.specs.declared.kinds.Kinds.{Kinds}
+use Rattle.sl_instructions.specs.Codes.{CountingCode}
+use Rattle.sl_instructions.specs.Rows.{target_of}
+use Rattle.sl_instructions.specs.declared.instr.Instr.{Instr}
+use Rattle.sl_instructions.specs.declared.instr.Instr.TheVariants as op
+use Rattle.sl_instructions.specs.declared.kinds.Kinds.{Kinds}
 use Rattle.sl_verify.specs.Kinds.{start_kinds, implies}
 use Rattle.sl_verify.specs.Needs.{Context, has_slot, has_needs}
 use Rattle.sl_verify.specs.Leaves.{behind, carried}

@@ -6,7 +6,7 @@ ghost use Rattle.sl_verify.specs.Leaves.{ends, positive_behind, cursors_behind, 
 
 use crate::known::{contains, join, with_register};
 use crate::needs::table_cursors;
-use sl_code::{Cursors, Instr, Kinds, Registers, TableState};
+use sl_instructions::{Cursors, Instr, Kinds, Registers, TableState};
 
 /// Whether the run never goes on to the next instruction.
 fn ends(instr: Instr) -> bool

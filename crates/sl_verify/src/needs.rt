@@ -6,14 +6,14 @@ ghost use Rattle.std.specs.Option.{option_map_or};
 ghost use Rattle.sl_verify.specs.Kinds.{contains, is_register};
 ghost use Rattle.sl_verify.specs.WellKinded.{context_of};
 ghost use Rattle.sl_stages.specs.book.Typing.{same_shape};
-ghost use Rattle.sl_code.specs.Rows.{register_in, slot_in, stage_in};
+ghost use Rattle.sl_instructions.specs.Rows.{register_in, slot_in, stage_in};
 ghost use Rattle.sl_verify.specs.Needs.{has_registers, has_slot, has_column, has_stage, input_shape, needed_shape, suits, has_columns, needed_positive, shape_cursors, scope_cursors, entry_cursors, slot_cursors, table_cursors, needed_cursors, has_kinds, takes_entry, takes_share, points_at, has_table};
 
 use crate::known::{
     LAND_CURSOR, LIST_CURSORS, NO_CURSORS, PARTY_CURSOR, WIN_CURSOR, contains, covers, is_register,
     same_entries, same_ranking,
 };
-use sl_code::{
+use sl_instructions::{
     Code, Cursors, Entries, Input, Instr, Kinds, Operand, Ranking, ScopeKind, TableState,
 };
 use sl_stages::Shape;

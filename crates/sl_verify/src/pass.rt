@@ -13,7 +13,7 @@ use crate::fault::VerifyFault;
 use crate::known::{START, implies};
 use crate::leaves::{behind, carried};
 use crate::needs::{has_columns, has_kinds, has_registers, has_slot, has_table};
-use sl_code::{Code, Instr, Kinds};
+use sl_instructions::{Code, Instr, Kinds};
 
 /// Refuses with a fault what fails a test.
 fn test(holds: bool, otherwise: VerifyFault) -> Result<(), VerifyFault>

@@ -4,10 +4,10 @@ use Rattle.sl_stages.specs.declared.book.Shape.{Shape}
 use Rattle.sl_stages.specs.declared.book.Shape.TheVariants as shape
 use Rattle.sl_stages.specs.declared.table.Placed.TheVariants as placed
 use Rattle.sl_stages.specs.returns.Election.{Election, parties_of}
-use Rattle.sl_code.specs.declared.instr.Instr.{Instr}
-use Rattle.sl_machine.specs.State.{State}
-use Rattle.sl_machine.specs.Effects.{one_if}
-use Rattle.sl_machine.specs.Memories.{column_of}
+use Rattle.sl_instructions.specs.declared.instr.Instr.{Instr}
+use Rattle.sl_semantics.specs.State.{State}
+use Rattle.sl_semantics.specs.Effects.{one_if}
+use Rattle.sl_semantics.specs.Memories.{column_of}
 use Rattle.sl_pieces.specs.covers.Trees.{CoverSlots}
 use Rattle.sl_pieces.specs.covers.Covering.{AreCovered, EndsInTie}
 use Rattle.sl_blocks.specs.Blocks.{HasSlotsOf, IsShareBlock}

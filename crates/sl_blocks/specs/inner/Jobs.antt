@@ -10,11 +10,11 @@ use Rattle.sl_stages.specs.declared.limits.TheConstants.{MAX_STAGES}
 use Rattle.sl_stages.specs.returns.Election.{Election}
 use Rattle.sl_stages.specs.meaning.Results.{ExprResult}
 use Rattle.sl_stages.specs.meaning.Expressions.{IsSplit, IsGrown}
-use Rattle.sl_code.specs.declared.instr.Instr.{Instr}
-use Rattle.sl_code.specs.declared.code.CodeStage.{CodeStage}
-use Rattle.sl_code.specs.Codes.{CountingCode}
-use Rattle.sl_machine.specs.State.{State}
-use Rattle.sl_machine.specs.Memories.{column_of}
+use Rattle.sl_instructions.specs.declared.instr.Instr.{Instr}
+use Rattle.sl_instructions.specs.declared.code.CodeStage.{CodeStage}
+use Rattle.sl_instructions.specs.Codes.{CountingCode}
+use Rattle.sl_semantics.specs.State.{State}
+use Rattle.sl_semantics.specs.Memories.{column_of}
 use Rattle.sl_pieces.specs.declared.form.Form.{Form}
 use Rattle.sl_pieces.specs.scopes.Forms.{amounts_of, votes_of}
 use Rattle.sl_pieces.specs.seats.Slots.{Slots}

@@ -1,7 +1,7 @@
 -- The plans of blocks in parts, as the program puts them together: what only bodies and proofs cite.
 use Rattle.std.specs.Prelude.{ℕ, [], ◌∷◌, Option, None, Some}
-use Rattle.sl_code.specs.declared.instr.Instr.TheVariants.{Set, Mov, Add, Get}
-use Rattle.sl_code.specs.declared.operand.EndFault.TheVariants as end
+use Rattle.sl_instructions.specs.declared.instr.Instr.TheVariants.{Set, Mov, Add, Get}
+use Rattle.sl_instructions.specs.declared.operand.EndFault.TheVariants as end
 use Rattle.sl_plans.specs.declared.plan.Test.TheVariants as test
 use Rattle.sl_plans.specs.declared.plan.Bound.TheVariants as bound
 use Rattle.sl_plans.specs.Trees.{Tree, Line, Then, If}

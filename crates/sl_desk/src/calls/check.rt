@@ -2,17 +2,13 @@
 
 ghost use Rattle.std.specs.Prelude.{◌≡◌, IfOk, IfSome};
 ghost use Rattle.sl_stages.specs.book.Books.{book_of};
-ghost use Rattle.sl_desk.specs.Failures.{counts, counts_after};
+ghost use Rattle.sl_inputs.specs.Failures.{counts, counts_after};
 ghost use Rattle.sl_desk.specs.Checking.{IsCheckOutput, check_line};
-ghost use Rattle.sl_desk.specs.Reading.{book_input, book_failures, ReadsBook};
-ghost use Rattle.sl_desk.specs.Writing.{Delivers};
+ghost use Rattle.sl_inputs.specs.Reading.{book_input, book_failures, ReadsBook};
+ghost use Rattle.sl_inputs.specs.Writing.{Delivers};
 
-use crate::book::read_book;
 use crate::calls::Answer;
-use crate::sink::Sink;
-use crate::source::{BookSource, Source};
-use crate::status::{DeskError, Status};
-use crate::verdict::Verdict;
+use sl_inputs::{BookSource, DeskError, Sink, Source, Status, Verdict, read_book};
 use sl_ratio::NoMemory;
 use sl_stages::Book;
 use sl_table::Text;

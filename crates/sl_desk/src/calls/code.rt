@@ -2,21 +2,16 @@
 
 ghost use Rattle.std.specs.Prelude.{◌≡◌, IfOk, IfErr, IfSome};
 ghost use Rattle.sl_stages.specs.book.Books.{book_of};
-ghost use Rattle.sl_desk.specs.Failures.{counts, counts_after, FailsInOne};
+ghost use Rattle.sl_inputs.specs.Failures.{counts, counts_after, FailsInOne};
 ghost use Rattle.sl_desk.specs.Compiling.{IsCodeOf, IsCompilingOutput};
-ghost use Rattle.sl_desk.specs.Reading.{book_input, book_failures, ReadsBook};
-ghost use Rattle.sl_desk.specs.Writing.{DeliversBoth};
+ghost use Rattle.sl_inputs.specs.Reading.{book_input, book_failures, ReadsBook};
+ghost use Rattle.sl_inputs.specs.Writing.{DeliversBoth};
 
-use crate::book::read_book;
 use crate::calls::Answer;
-use crate::input::write_all;
-use crate::sink::Sink;
-use crate::source::{BookSource, Source};
-use crate::status::{DeskError, Status};
-use crate::verdict::Verdict;
 use sl_check::CheckedBook;
 use sl_code::{listing, to_bytes};
 use sl_compile::compile;
+use sl_inputs::{BookSource, DeskError, Sink, Source, Status, Verdict, read_book, write_all};
 use sl_ratio::NoMemory;
 use std::alloc::Global;
 

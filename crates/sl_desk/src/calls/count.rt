@@ -1,33 +1,28 @@
 //! Counting an election: from a rulebook and returns to the text of a table.
 
 ghost use Rattle.std.specs.Prelude.{◌≡◌, ◌+◌, IfOk, IfErr, IfSome, length};
+ghost use Rattle.sl_inputs.specs.declared.limits.TheConstants.{MAX_RETURNS_BYTES};
 ghost use Rattle.sl_stages.specs.book.Books.{book_of};
 ghost use Rattle.sl_stages.specs.book.Trees.{BookTree};
 ghost use Rattle.sl_stages.specs.returns.Election.{IsElection};
-ghost use Rattle.sl_machine.specs.Runs.{budget_of};
-ghost use Rattle.sl_desk.specs.declared.verdict.Verdict.TheVariants as verdict;
-ghost use Rattle.sl_desk.specs.Failures.{counts, counts_after};
+ghost use Rattle.sl_semantics.specs.Runs.{budget_of};
+ghost use Rattle.sl_inputs.specs.declared.verdict.Verdict.TheVariants as verdict;
+ghost use Rattle.sl_inputs.specs.Failures.{counts, counts_after};
 ghost use Rattle.sl_desk.specs.Counting.{IsOutput, IsCount, IsTreeOutput};
 ghost use Rattle.sl_desk.specs.Counting.{ReadsReturns};
-ghost use Rattle.sl_desk.specs.Reading.{book_input, book_failures, ForKnown, ReadsBook, TakesAtMost};
-ghost use Rattle.sl_desk.specs.Stages.{HasStage};
-ghost use Rattle.sl_desk.specs.Writing.{Delivers};
+ghost use Rattle.sl_inputs.specs.Reading.{book_input, book_failures, ForKnown, ReadsBook, TakesAtMost};
+ghost use Rattle.sl_desk.specs.inner.Stages.{HasStage};
+ghost use Rattle.sl_inputs.specs.Writing.{Delivers};
 ghost use Rattle.sl_desk.specs.Reports.{IsReported};
 ghost use Rattle.sl_desk.specs.Counting.{ShowsSeats};
 ghost use Rattle.sl_desk.specs.Steps.{ShowsSteps};
 
-use crate::book::read_book;
 use crate::calls::Answer;
 use crate::calls::ending::ended;
-use crate::limits::MAX_RETURNS_BYTES;
 use crate::report::Report;
-use crate::returns::read_election;
-use crate::sink::Sink;
-use crate::source::{BookSource, Source};
-use crate::status::{DeskError, Status};
-use crate::verdict::Verdict;
 use sl_check::CheckedBook;
 use sl_compile::compile;
+use sl_inputs::{BookSource, DeskError, Sink, Source, Status, Verdict, read_book, read_election};
 use sl_machine::budget;
 use sl_stages::{Book, Returns};
 use std::alloc::Global;

@@ -1,15 +1,12 @@
 //! The text of a rulebook of the library.
 
 ghost use Rattle.std.specs.Prelude.{◌≡◌, IfErr};
-ghost use Rattle.sl_desk.specs.Failures.{counts, counts_after, failures_after};
-ghost use Rattle.sl_desk.specs.Library.{IsLawOutput};
-ghost use Rattle.sl_desk.specs.Library.{unknown_law};
-ghost use Rattle.sl_desk.specs.Writing.{Delivers, Writes};
+ghost use Rattle.sl_inputs.specs.Failures.{counts, counts_after, failures_after};
+ghost use Rattle.sl_inputs.specs.Library.{IsLawOutput};
+ghost use Rattle.sl_inputs.specs.Library.{unknown_law};
+ghost use Rattle.sl_inputs.specs.Writing.{Delivers, Writes};
 
-use crate::input::write_all;
-use crate::sink::Sink;
-use crate::source::Failed;
-use crate::status::{DeskError, Status};
+use sl_inputs::{DeskError, Failed, Sink, Status, write_all};
 use sl_laws::law;
 
 // Writes the line that refuses a name, without memory.

@@ -1,23 +1,18 @@
 //! Running a code file: from its bytes and returns to the text of how the run ends.
 
 ghost use Rattle.std.specs.Prelude.{◌≡◌, ◌+◌, IfOk, IfErr, IfSome};
-ghost use Rattle.sl_desk.specs.declared.verdict.Verdict.TheVariants as verdict;
-ghost use Rattle.sl_desk.specs.Failures.{counts, counts_after};
+ghost use Rattle.sl_inputs.specs.declared.limits.TheConstants.{MAX_CODE_BYTES, MAX_RETURNS_BYTES};
+ghost use Rattle.sl_inputs.specs.declared.verdict.Verdict.TheVariants as verdict;
+ghost use Rattle.sl_inputs.specs.Failures.{counts, counts_after};
 ghost use Rattle.sl_desk.specs.Running.{IsRun, IsRunCode, IsCodeOutput};
-ghost use Rattle.sl_desk.specs.Reading.{ForKnown, TakesAtMost};
+ghost use Rattle.sl_inputs.specs.Reading.{ForKnown, TakesAtMost};
 ghost use Rattle.sl_desk.specs.Running.{ReadsBehindCode};
-ghost use Rattle.sl_desk.specs.Writing.{Delivers};
+ghost use Rattle.sl_inputs.specs.Writing.{Delivers};
 
 use crate::calls::Answer;
 use crate::calls::ending::ended;
-use crate::code_file::read_code;
-use crate::limits::{MAX_CODE_BYTES, MAX_RETURNS_BYTES};
 use crate::report::Report;
-use crate::returns::read_election;
-use crate::sink::Sink;
-use crate::source::Source;
-use crate::status::{DeskError, Status};
-use crate::verdict::Verdict;
+use sl_inputs::{DeskError, Sink, Source, Status, Verdict, read_code, read_election};
 use sl_machine::budget;
 use sl_stages::Returns;
 use sl_verify::Verified;

@@ -1,44 +1,20 @@
 //! The column of a stage: from a rulebook, returns and a name to the text of the column.
 
-ghost use Rattle.std.specs.Prelude.{◌≡◌, IfOk, position};
-ghost use Rattle.std.specs.Str.{bytes_eq};
-ghost use Rattle.sl_stages.specs.book.Books.{book_of};
-ghost use Rattle.sl_desk.specs.Failures.{counts, counts_after};
+ghost use Rattle.std.specs.Prelude.{◌≡◌, IfOk};
+ghost use Rattle.sl_inputs.specs.Failures.{counts, counts_after};
 ghost use Rattle.sl_desk.specs.Showing.{IsStageOutput};
-ghost use Rattle.sl_desk.specs.Reading.{book_input, book_failures, ForKnown, ReadsBook};
+ghost use Rattle.sl_inputs.specs.Reading.{book_input, book_failures, ForKnown, ReadsBook};
 ghost use Rattle.sl_desk.specs.Showing.{ReadsBehindStage};
-ghost use Rattle.sl_desk.specs.Stages.{stage_number};
 ghost use Rattle.sl_desk.specs.Showing.{unknown_stage};
-ghost use Rattle.sl_desk.specs.Writing.{Delivers};
+ghost use Rattle.sl_inputs.specs.Writing.{Delivers};
 
-use crate::book::read_book;
 use crate::calls::Answer;
 use crate::calls::count::counted;
 use crate::report::Report;
-use crate::sink::Sink;
-use crate::source::{BookSource, Source};
-use crate::status::{DeskError, Status};
-use crate::verdict::Verdict;
+use sl_inputs::{BookSource, DeskError, Sink, Source, Status, Verdict, read_book, stage_number};
 use sl_ratio::NoMemory;
-use sl_stages::{Book, Stage};
 use sl_table::Text;
 use std::alloc::Global;
-
-// The number of the stage of that name among a book's stages.
-fn number_among(stages: &[Stage], name: &str) -> Option<usize>
-    ensures { result ≡ position (λ s. bytes_eq name.now s.name) stages.now }
-{
-    stages
-        .iter()
-        .position(|stage| name.as_bytes() == stage.name.as_bytes())
-}
-
-/// The number of the stage of that name, from 0, if the book has one.
-pub fn stage_number(book: &Book, name: &str) -> Option<usize>
-    ensures { result ≡ stage_number name.now (book_of book.now) }
-{
-    number_among(&book.stages, name)
-}
 
 // The line that refuses a name without a stage.
 fn refusal(alloc: Global, name: &str) -> Result<Vec<u8>, NoMemory>

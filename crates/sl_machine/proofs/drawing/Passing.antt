@@ -14,15 +14,15 @@ use Rattle.sl_prio.specs.inner.Marks.{IsPassed}
 use Rattle.sl_prio.proofs.LawProofs.{order_is_free}
 use Rattle.sl_prio.proofs.PeerCounts.{passed}
 use Rattle.sl_stages.specs.returns.Election.{Election}
-use Rattle.sl_code.specs.declared.code.CodeStage.{CodeStage}
-use Rattle.sl_code.specs.declared.operand.Entries.{Entries}
-use Rattle.sl_code.specs.declared.operand.Entries.TheVariants as entries
-use Rattle.sl_code.specs.Codes.{CountingCode}
+use Rattle.sl_instructions.specs.declared.code.CodeStage.{CodeStage}
+use Rattle.sl_instructions.specs.declared.operand.Entries.{Entries}
+use Rattle.sl_instructions.specs.declared.operand.Entries.TheVariants as entries
+use Rattle.sl_instructions.specs.Codes.{CountingCode}
 use Rattle.sl_verify.specs.declared.needs.TheConstants.{LAST_CLAUSE}
 use Rattle.sl_machine.specs.declared.priority.TableKind.{TableKind}
-use Rattle.sl_machine.specs.Drawn.{lot_of}
-use Rattle.sl_machine.specs.Effects.{Effect, given, stage_of, name_of}
-use Rattle.sl_machine.specs.State.{PriorityTable}
+use Rattle.sl_semantics.specs.Drawn.{lot_of}
+use Rattle.sl_semantics.specs.Effects.{Effect, given, stage_of, name_of}
+use Rattle.sl_semantics.specs.State.{PriorityTable}
 use Rattle.sl_machine.specs.inner.Lots.{LotTable, StageLots, lot_in, lots_for, stage_lots}
 use Rattle.sl_machine.proofs.Priorities.{table_with}
 

@@ -5,18 +5,18 @@ use Rattle.sl_stages.specs.declared.book.Shape.TheVariants as shape
 use Rattle.sl_stages.specs.declared.fault.Scope.{Scope}
 use Rattle.sl_stages.specs.declared.table.Weight.{Weight}
 use Rattle.sl_stages.specs.returns.Election.{Election}
-use Rattle.sl_code.specs.declared.instr.Instr.{Instr}
-use Rattle.sl_code.specs.declared.instr.Instr.TheVariants as instr
-use Rattle.sl_code.specs.declared.operand.Entries.{Entries}
-use Rattle.sl_code.specs.declared.operand.Entries.TheVariants as entries
-use Rattle.sl_code.specs.declared.operand.ScopeKind.{ScopeKind}
-use Rattle.sl_code.specs.declared.operand.ScopeKind.TheVariants as kind
-use Rattle.sl_code.specs.Codes.{CountingCode}
+use Rattle.sl_instructions.specs.declared.instr.Instr.{Instr}
+use Rattle.sl_instructions.specs.declared.instr.Instr.TheVariants as instr
+use Rattle.sl_instructions.specs.declared.operand.Entries.{Entries}
+use Rattle.sl_instructions.specs.declared.operand.Entries.TheVariants as entries
+use Rattle.sl_instructions.specs.declared.operand.ScopeKind.{ScopeKind}
+use Rattle.sl_instructions.specs.declared.operand.ScopeKind.TheVariants as kind
+use Rattle.sl_instructions.specs.Codes.{CountingCode}
 use Rattle.sl_machine.specs.declared.step.Records.TheVariants as records
-use Rattle.sl_machine.specs.State.{State, PriorityTable}
-use Rattle.sl_machine.specs.Places.{cell_at, index_at, at_entry, scope_at}
-use Rattle.sl_machine.specs.Effects.{Effect, Goes, Jumps, NoCase, with_weight, effect, given, where_positive, to_party, first_of, seat_winner, sets_house, counts_peers}
-use Rattle.sl_machine.specs.Unrecorded.{unrecorded}
+use Rattle.sl_semantics.specs.State.{State, PriorityTable}
+use Rattle.sl_semantics.specs.Places.{cell_at, index_at, at_entry, scope_at}
+use Rattle.sl_semantics.specs.Effects.{Effect, Goes, Jumps, NoCase, with_weight, effect, given, where_positive, to_party, first_of, seat_winner, sets_house, counts_peers}
+use Rattle.sl_semantics.specs.Unrecorded.{unrecorded}
 use Rattle.sl_machine.specs.inner.Recording.{unrecorded_effect, left_by}
 
 -- ---- the forms of effects

@@ -2,27 +2,27 @@
 use Rattle.std.proofs.Common.{◌≡◌, ℕ, suc, ◌+◌, Option, Some, IsSome, IsTrue, is_some, slice_get, refl, sym, ap, subst, ◌∙◌}
 use Rattle.std.proofs.lemmas.Option.{same_Some}
 use Rattle.sl_stages.specs.returns.Election.{Election}
-use Rattle.sl_code.specs.Codes.{CountingCode}
-use Rattle.sl_code.specs.declared.instr.Instr.{Instr}
-use Rattle.sl_code.specs.declared.instr.Instr.TheVariants as op
+use Rattle.sl_instructions.specs.Codes.{CountingCode}
+use Rattle.sl_instructions.specs.declared.instr.Instr.{Instr}
+use Rattle.sl_instructions.specs.declared.instr.Instr.TheVariants as op
 use Rattle.sl_verify.specs.Needs.{has_columns}
 use Rattle.sl_verify.specs.WellKinded.{context_of}
-use Rattle.sl_code.specs.Rows.{target_of}
+use Rattle.sl_instructions.specs.Rows.{target_of}
 use Rattle.sl_machine.specs.declared.step.End.{End}
 use Rattle.sl_machine.specs.declared.step.Records.{Records}
 use Rattle.sl_machine.specs.declared.step.Records.TheVariants as records
-use Rattle.sl_machine.specs.Agrees.{IsSafe}
-use Rattle.sl_machine.specs.Effects.{Effect, Goes, Jumps, Ends, NoCase, effect}
-use Rattle.sl_machine.specs.Fits.{FitsEnd}
-use Rattle.sl_machine.specs.Laws.{StepsSafely, LandsSafely}
-use Rattle.sl_machine.specs.Runs.{Step, follow, to_target, after_step, run}
+use Rattle.sl_semantics.specs.Agrees.{IsSafe}
+use Rattle.sl_semantics.specs.Effects.{Effect, Goes, Jumps, Ends, NoCase, effect}
+use Rattle.sl_semantics.specs.Fits.{FitsEnd}
+use Rattle.sl_semantics.specs.Laws.{StepsSafely, LandsSafely}
+use Rattle.sl_semantics.specs.Runs.{Step, follow, to_target, after_step, run}
 use Rattle.sl_machine.specs.inner.Leading.{LeadsTo, EndsWith, ends_run}
 use Rattle.sl_machine.specs.inner.Recording.{state_by, effect_by, ending_by, left_by}
-use Rattle.sl_machine.specs.Safe.{MayStep}
-use Rattle.sl_machine.specs.State.{State}
+use Rattle.sl_semantics.specs.Safe.{MayStep}
+use Rattle.sl_semantics.specs.State.{State}
 use Rattle.sl_machine.specs.inner.Stores.{end_with}
-use Rattle.sl_machine.proofs.soundness.Soundness.{safe_steps}
-use Rattle.sl_machine.proofs.runs.Stepping.{step_is}
+use Rattle.sl_semantics.proofs.soundness.Soundness.{safe_steps}
+use Rattle.sl_semantics.proofs.runs.Stepping.{step_is}
 use Rattle.sl_machine.proofs.runs.Unrecorded.{still_safe, still_fits, left_is, goes_by, ends_by}
 
 -- what ends a run records nothing

@@ -4,8 +4,8 @@ use Rattle.std.specs.Option.{option_and_then}
 use Rattle.std.proofs.lemmas.Grind.{common_steps}
 use Rattle.std.proofs.lemmas.List.{get_or-map, length-map, map-set, set-get_or}
 use Rattle.std.proofs.lemmas.Option.{slice_get_within, get_or_from_slice_get}
-use Rattle.sl_machine.specs.State.{State}
-use Rattle.sl_machine.specs.Effects.{Effect, given}
+use Rattle.sl_semantics.specs.State.{State}
+use Rattle.sl_semantics.specs.Effects.{Effect, given}
 
 -- the cell that is told of a place in a slot's column
 abbrev pub cell_in : List (List ℕ) → ℕ → ℕ → ℕ

@@ -9,8 +9,8 @@ use Rattle.sl_stages.specs.declared.table.SeatStep.{SeatStep}
 use Rattle.sl_stages.specs.declared.table.Weight.{Weight}
 use Rattle.sl_stages.specs.declared.table.Placed.TheVariants as placed
 use Rattle.sl_stages.specs.returns.Election.{Election}
-use Rattle.sl_machine.specs.State.{State, PriorityTable, start}
-use Rattle.sl_machine.specs.Places.{cells_of}
+use Rattle.sl_semantics.specs.State.{State, PriorityTable, start}
+use Rattle.sl_semantics.specs.Places.{cells_of}
 
 pub same_at : {A : Type 0} (n : ℕ) (x : A) (p : ℕ) → get_or (replicate n x) p x ≡ x
 same_at n x p = grind (arith, common_steps)

@@ -1,7 +1,7 @@
 -- The instructions ahead of a run.
 use Rattle.std.specs.Prelude.{◌≡◌, ◌-◌, ℕ, List, drop, length}
-use Rattle.sl_code.specs.declared.instr.Instr.{Instr}
-use Rattle.sl_code.specs.Codes.{CountingCode}
+use Rattle.sl_instructions.specs.declared.instr.Instr.{Instr}
+use Rattle.sl_instructions.specs.Codes.{CountingCode}
 
 -- the place of a run that has these instructions ahead
 abbrev pub place_of : CountingCode → List Instr → ℕ

@@ -4,11 +4,11 @@ use Rattle.std.specs.Option.{option_and_then, option_map, option_to_list}
 use Rattle.sl_stages.specs.declared.returns.Lot.{Lot}
 use Rattle.sl_stages.specs.returns.Election.{Election}
 use Rattle.sl_stages.specs.meaning.Scopes.{place}
-use Rattle.sl_code.specs.Codes.{CountingCode}
-use Rattle.sl_code.specs.declared.operand.Entries.{Entries}
-use Rattle.sl_code.specs.declared.operand.Entries.TheVariants as entries
-use Rattle.sl_machine.specs.Drawn.{given_in, lot_of}
-use Rattle.sl_machine.specs.State.{PriorityTable}
+use Rattle.sl_instructions.specs.Codes.{CountingCode}
+use Rattle.sl_instructions.specs.declared.operand.Entries.{Entries}
+use Rattle.sl_instructions.specs.declared.operand.Entries.TheVariants as entries
+use Rattle.sl_semantics.specs.Drawn.{given_in, lot_of}
+use Rattle.sl_semantics.specs.State.{PriorityTable}
 
 -- the lot of a stage, in a table of parties, of Länder, of lists, of winners
 pub record StageLots : Type 0 where

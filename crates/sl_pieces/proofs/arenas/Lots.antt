@@ -23,8 +23,8 @@ use Rattle.sl_prio.specs.Lot.{lot_cmp}
 use Rattle.sl_prio.specs.Lot as machine
 use Rattle.sl_prio.proofs.Finding.{Contains-none, Contains-cases, Contains-head, Contains-tail}
 use Rattle.sl_prio.proofs.LawProofs.{draws}
-use Rattle.sl_machine.specs.SameLots.{SameLot, PeersAre}
-use Rattle.sl_machine.proofs.drawing.LotDraws.{same_covers, same_draws}
+use Rattle.sl_semantics.specs.SameLots.{SameLot, PeersAre}
+use Rattle.sl_semantics.proofs.drawing.LotDraws.{same_covers, same_draws}
 use Rattle.sl_pieces.specs.arenas.Arenas.{Arena, IsArena, waiting}
 use Rattle.sl_pieces.specs.arenas.Laws.{SeatTaken, WaitingCovered, WaitingDrawn}
 use Rattle.sl_pieces.proofs.arenas.Peers.{waiting_peers}

@@ -26,9 +26,9 @@ use Rattle.sl_stages.proofs.methods.DivisorProofs.{divisor_ladders_law, in_range
 use Rattle.sl_stages.proofs.methods.HouseProofs.{growth_batches}
 use Rattle.sl_stages.proofs.methods.HamiltonProofs.{hamilton_ladders_law}
 use Rattle.sl_stages.proofs.methods.SeatSums.{length_zeros}
-use Rattle.sl_code.specs.declared.operand.Entries.{Entries}
-use Rattle.sl_code.specs.declared.operand.Ranking.TheVariants as ranking
-use Rattle.sl_machine.specs.Effects.{mark_of}
+use Rattle.sl_instructions.specs.declared.operand.Entries.{Entries}
+use Rattle.sl_instructions.specs.declared.operand.Ranking.TheVariants as ranking
+use Rattle.sl_semantics.specs.Effects.{mark_of}
 use Rattle.sl_pieces.specs.arenas.Arenas.{IsArena, AreWeighed, divisor_arena, covering_arena}
 use Rattle.sl_pieces.specs.arenas.Laws.{DivisorArenas, HamiltonArenas, CoveringArenas}
 

@@ -3,17 +3,17 @@ use Rattle.std.proofs.Common.{◌≡◌, ℕ, zero, suc, ◌≤◌, List, length
 use Rattle.std.specs.Prelude.{slice_index}
 use Rattle.sl_ratio.specs.declared.entry.Entry.{Entry}
 use Rattle.sl_stages.specs.returns.Election.{Election}
-use Rattle.sl_code.specs.declared.instr.Instr.TheVariants as instr
-use Rattle.sl_code.specs.declared.operand.Entries.{Entries}
-use Rattle.sl_code.specs.declared.operand.Entries.TheVariants as entries
-use Rattle.sl_code.specs.Codes.{CountingCode}
+use Rattle.sl_instructions.specs.declared.instr.Instr.TheVariants as instr
+use Rattle.sl_instructions.specs.declared.operand.Entries.{Entries}
+use Rattle.sl_instructions.specs.declared.operand.Entries.TheVariants as entries
+use Rattle.sl_instructions.specs.Codes.{CountingCode}
 use Rattle.sl_prio.specs.Ranking.{ranked}
 use Rattle.sl_prio.specs.Prio.{peers}
 use Rattle.sl_prio.proofs.RankedEntries.{ranked_without_one}
-use Rattle.sl_machine.specs.State.{State}
-use Rattle.sl_machine.specs.Places.{at_entry}
-use Rattle.sl_machine.specs.Effects.{Goes, counts_peers, effect}
-use Rattle.sl_machine.proofs.effects.Table.{taken, peers_jumps, peers_falls, take_does, takelot_does}
+use Rattle.sl_semantics.specs.State.{State}
+use Rattle.sl_semantics.specs.Places.{at_entry}
+use Rattle.sl_semantics.specs.Effects.{Goes, counts_peers, effect}
+use Rattle.sl_semantics.proofs.effects.Table.{taken, peers_jumps, peers_falls, take_does, takelot_does}
 use Rattle.sl_pieces.specs.arenas.Arenas.{Arena, IsArena, HasWaiting, seat_of, waiting, table_of, seat_taken}
 use Rattle.sl_pieces.specs.arenas.Effects.{IsWaiting, WaitingEffects, WaitingAgain}
 use Rattle.sl_pieces.proofs.arenas.Peers.{waiting_peers}

@@ -5,8 +5,8 @@ use Rattle.sl_stages.specs.laws.Ladders.{IsSettled}
 use Rattle.sl_stages.specs.laws.Walks.{MidBatch}
 use Rattle.sl_stages.proofs.methods.LadderProofs.{batches}
 use Rattle.sl_stages.proofs.methods.WalkProofs.{walks}
-use Rattle.sl_code.specs.Codes.{CountingCode}
-use Rattle.sl_machine.specs.State.{State, End, with_register}
+use Rattle.sl_instructions.specs.Codes.{CountingCode}
+use Rattle.sl_semantics.specs.State.{State, End, with_register}
 use Rattle.sl_plans.specs.declared.plan.Bound.{Bound}
 use Rattle.sl_plans.specs.Trees.{Tree}
 use Rattle.sl_plans.specs.Meaning.{turns_in}

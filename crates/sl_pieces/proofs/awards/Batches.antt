@@ -7,9 +7,9 @@ use Rattle.sl_stages.specs.returns.Election.{Election}
 use Rattle.sl_stages.specs.laws.Ladders.{IsSettled}
 use Rattle.sl_stages.specs.laws.Walks.{MidBatch}
 use Rattle.sl_stages.proofs.methods.WalkProofs.{walks}
-use Rattle.sl_code.specs.Codes.{CountingCode}
-use Rattle.sl_machine.specs.State.{State, with_register}
-use Rattle.sl_machine.proofs.effects.Storing.{register_other}
+use Rattle.sl_instructions.specs.Codes.{CountingCode}
+use Rattle.sl_semantics.specs.State.{State, with_register}
+use Rattle.sl_semantics.proofs.effects.Storing.{register_other}
 use Rattle.sl_plans.specs.declared.plan.Test.TheVariants as test
 use Rattle.sl_plans.specs.declared.plan.Bound.{Bound}
 use Rattle.sl_plans.specs.Trees.{Tree, Line, If, Times, ones}

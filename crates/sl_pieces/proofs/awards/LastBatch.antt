@@ -12,12 +12,12 @@ use Rattle.sl_stages.proofs.methods.DrawnLots.{draws, drawn_length}
 use Rattle.sl_stages.proofs.methods.RaisedSeats.{raise, increasing_distinct}
 use Rattle.sl_stages.proofs.methods.WalkProofs.{walks}
 use Rattle.sl_stages.proofs.methods.LadderProofs.{batches}
-use Rattle.sl_code.specs.Codes.{CountingCode}
-use Rattle.sl_code.specs.declared.instr.Instr.TheVariants.{Takelot}
+use Rattle.sl_instructions.specs.Codes.{CountingCode}
+use Rattle.sl_instructions.specs.declared.instr.Instr.TheVariants.{Takelot}
 use Rattle.sl_prio.specs.Ranking.{ranked}
 use Rattle.sl_prio.specs.Prio.{peers, is_covered}
-use Rattle.sl_machine.specs.State.{State, with_register, End}
-use Rattle.sl_machine.specs.Drawn.{lot_of}
+use Rattle.sl_semantics.specs.State.{State, with_register, End}
+use Rattle.sl_semantics.specs.Drawn.{lot_of}
 use Rattle.sl_plans.specs.declared.plan.Test.TheVariants as test
 use Rattle.sl_plans.specs.declared.plan.Bound.{Bound}
 use Rattle.sl_plans.specs.Trees.{Tree, Line, Then, If, ones}

@@ -9,15 +9,15 @@ use Rattle.sl_stages.proofs.methods.RaisedSeats.{raise, Contains-cases, Contains
 use Rattle.sl_stages.proofs.methods.LadderProofs.{raise_each}
 use Rattle.sl_stages.proofs.methods.SeatSums.{entry_le_sum}
 use Rattle.sl_stages.proofs.methods.WalkProofs.{walks}
-use Rattle.sl_code.specs.declared.instr.Instr.TheVariants.{Take}
-use Rattle.sl_code.specs.declared.operand.Entries.{Entries}
-use Rattle.sl_code.specs.declared.operand.Entries.TheVariants as entries
-use Rattle.sl_code.specs.Codes.{CountingCode}
+use Rattle.sl_instructions.specs.declared.instr.Instr.TheVariants.{Take}
+use Rattle.sl_instructions.specs.declared.operand.Entries.{Entries}
+use Rattle.sl_instructions.specs.declared.operand.Entries.TheVariants as entries
+use Rattle.sl_instructions.specs.Codes.{CountingCode}
 use Rattle.sl_prio.specs.Ranking.{ranked}
 use Rattle.sl_prio.specs.Prio.{top}
-use Rattle.sl_machine.specs.State.{State, with_register}
-use Rattle.sl_machine.specs.Places.{at_entry}
-use Rattle.sl_machine.specs.Effects.{Goes, effect}
+use Rattle.sl_semantics.specs.State.{State, with_register}
+use Rattle.sl_semantics.specs.Places.{at_entry}
+use Rattle.sl_semantics.specs.Effects.{Goes, effect}
 use Rattle.sl_plans.specs.Trees.{Tree, Line, Then, ones, count_down}
 use Rattle.sl_plans.specs.Achieves.{Achieves, Never}
 use Rattle.sl_plans.specs.Frames.{KeepsRest, may_write_register}

@@ -11,14 +11,14 @@ use Rattle.sl_stages.proofs.methods.RaisedSeats.{increasing_distinct}
 use Rattle.sl_stages.proofs.methods.SeatSums.{sum_mono}
 use Rattle.sl_stages.proofs.methods.WalkProofs.{walks}
 use Rattle.sl_stages.proofs.methods.LadderProofs.{batches}
-use Rattle.sl_code.specs.declared.operand.Entries.{Entries}
-use Rattle.sl_code.specs.declared.operand.Entries.TheVariants as entries
-use Rattle.sl_code.specs.Codes.{CountingCode}
+use Rattle.sl_instructions.specs.declared.operand.Entries.{Entries}
+use Rattle.sl_instructions.specs.declared.operand.Entries.TheVariants as entries
+use Rattle.sl_instructions.specs.Codes.{CountingCode}
 use Rattle.sl_prio.specs.Ranking.{ranked}
 use Rattle.sl_prio.specs.Prio.{peers}
-use Rattle.sl_machine.specs.State.{State, End, with_register}
-use Rattle.sl_machine.specs.Places.{at_entry}
-use Rattle.sl_machine.specs.Effects as machine
+use Rattle.sl_semantics.specs.State.{State, End, with_register}
+use Rattle.sl_semantics.specs.Places.{at_entry}
+use Rattle.sl_semantics.specs.Effects as machine
 use Rattle.sl_plans.specs.Trees.{Line, ones, Tree}
 use Rattle.sl_plans.specs.Achieves.{Achieves, Never}
 use Rattle.sl_plans.proofs.Rules.{ends_in, line_ends, line_goes, if_empty, if_less, then_at}

@@ -29,8 +29,8 @@ use Rattle.sl_stages.proofs.Tests.{pass_parts, head_holds}
 use Rattle.sl_stages.proofs.typing.NodeLaws.{column_is}
 use Rattle.sl_stages.proofs.meaning.TypedColumns.{winners_typed}
 use Rattle.sl_stages.proofs.meaning.TypedMeaning.{typed_expressions}
-use Rattle.sl_code.specs.Codes.{CountingCode}
-use Rattle.sl_machine.specs.State.{State}
+use Rattle.sl_instructions.specs.Codes.{CountingCode}
+use Rattle.sl_semantics.specs.State.{State}
 use Rattle.sl_pieces.specs.columns.Columns.{HoldsColumn}
 use Rattle.sl_pieces.specs.exprs.Slots.{stage_slot, HasBookSlots}
 use Rattle.sl_pieces.specs.exprs.Stages.{IsBehind}

@@ -9,11 +9,11 @@ use Rattle.sl_stages.specs.declared.book.Shape.TheVariants as shape
 use Rattle.sl_stages.specs.returns.Election.{Election, lands_of, parties_of}
 use Rattle.sl_stages.specs.returns.Facts.{list_cell}
 use Rattle.sl_stages.specs.meaning.Columns.{paired}
-use Rattle.sl_code.specs.Codes.{CountingCode}
-use Rattle.sl_machine.specs.State.{State}
-use Rattle.sl_machine.specs.Places.{cells_of}
-use Rattle.sl_machine.specs.Memories.{column_of}
-use Rattle.sl_machine.proofs.effects.Storing.{width_of, column_at}
+use Rattle.sl_instructions.specs.Codes.{CountingCode}
+use Rattle.sl_semantics.specs.State.{State}
+use Rattle.sl_semantics.specs.Places.{cells_of}
+use Rattle.sl_semantics.specs.Memories.{column_of}
+use Rattle.sl_semantics.proofs.effects.Storing.{width_of, column_at}
 use Rattle.sl_plans.specs.Achieves.{Achieves, Never}
 use Rattle.sl_plans.proofs.Rules.{achieves_so}
 use Rattle.sl_pieces.specs.columns.Columns.{HoldsColumn, ChangesColumn}

@@ -5,8 +5,8 @@ use Rattle.sl_stages.specs.declared.book.Seating.TheVariants as seating
 use Rattle.sl_stages.specs.book.Trees.{BookTree}
 use Rattle.sl_stages.specs.returns.Election.{Election, IsElection}
 use Rattle.sl_stages.specs.meaning.Means.{Known}
-use Rattle.sl_code.specs.Codes.{CountingCode}
-use Rattle.sl_machine.specs.State.{State}
+use Rattle.sl_instructions.specs.Codes.{CountingCode}
+use Rattle.sl_semantics.specs.State.{State}
 use Rattle.sl_pieces.specs.exprs.Slots.{HasBookSlots}
 use Rattle.sl_pieces.proofs.exprs.Following.{AllAchieve, all_more, all_then}
 use Rattle.sl_pieces.specs.closing.Trees.{base_slot, seating_pieces}

@@ -22,9 +22,9 @@ use Rattle.sl_stages.specs.methods.Ties.{Choice}
 use Rattle.sl_stages.specs.meaning.Means.{Known, IsCovered, IsSeated, IsEnd}
 use Rattle.sl_stages.specs.meaning.Seating.{placed_on, tie_of, seated_on, cover_place, covered_places, cover_table}
 use Rattle.sl_stages.proofs.meaning.CoveredWinners.{covered_winners}
-use Rattle.sl_code.specs.Codes.{CountingCode}
-use Rattle.sl_machine.specs.State.{State, End}
-use Rattle.sl_machine.specs.Effects.{one_if}
+use Rattle.sl_instructions.specs.Codes.{CountingCode}
+use Rattle.sl_semantics.specs.State.{State, End}
+use Rattle.sl_semantics.specs.Effects.{one_if}
 use Rattle.sl_plans.specs.Achieves.{Achieves}
 use Rattle.sl_plans.proofs.Rules.{achieves_more}
 use Rattle.sl_pieces.specs.columns.Columns.{GetsColumn}

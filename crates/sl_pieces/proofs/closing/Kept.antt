@@ -20,12 +20,12 @@ use Rattle.sl_stages.specs.declared.table.Outcome.TheVariants as outcome
 use Rattle.sl_stages.specs.meaning.Means.{Known, IsSeated, IsEnd}
 use Rattle.sl_stages.proofs.meaning.PlacedWinners.{kept_direct}
 use Rattle.sl_stages.proofs.meaning.TypedColumns.{winners_typed}
-use Rattle.sl_code.specs.declared.instr.Instr.TheVariants.{Seat, Single}
-use Rattle.sl_code.specs.Codes.{CountingCode}
-use Rattle.sl_machine.specs.State.{State, with_place, End}
-use Rattle.sl_machine.specs.Effects.{with_win, one_if}
-use Rattle.sl_machine.proofs.effects.Cursors.{winner_is}
-use Rattle.sl_machine.proofs.effects.Records.{seat_does, single_does}
+use Rattle.sl_instructions.specs.declared.instr.Instr.TheVariants.{Seat, Single}
+use Rattle.sl_instructions.specs.Codes.{CountingCode}
+use Rattle.sl_semantics.specs.State.{State, with_place, End}
+use Rattle.sl_semantics.specs.Effects.{with_win, one_if}
+use Rattle.sl_semantics.proofs.effects.Cursors.{winner_is}
+use Rattle.sl_semantics.proofs.effects.Records.{seat_does, single_does}
 use Rattle.sl_plans.specs.Trees.{Line}
 use Rattle.sl_plans.specs.Achieves.{Achieves, Never}
 use Rattle.sl_plans.proofs.Rules.{line_ends, line_goes}

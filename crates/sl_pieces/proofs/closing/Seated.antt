@@ -13,8 +13,8 @@ use Rattle.sl_stages.specs.returns.Facts.{list_cell, list_winners}
 use Rattle.sl_stages.specs.meaning.Seating.{placed_on, table_of}
 use Rattle.sl_stages.specs.meaning.Means.{Known, IsEnd}
 use Rattle.sl_stages.specs.laws.MeaningLaws.{IsListOf}
-use Rattle.sl_machine.specs.State.{State}
-use Rattle.sl_machine.specs.Effects.{most}
+use Rattle.sl_semantics.specs.State.{State}
+use Rattle.sl_semantics.specs.Effects.{most}
 use Rattle.sl_pieces.specs.columns.Columns.{HoldsColumn}
 use Rattle.sl_pieces.specs.exprs.Slots.{winners_slot, FIRST_STAGE_SLOT}
 use Rattle.sl_pieces.specs.closing.Trees.{final_seats}

@@ -15,11 +15,11 @@ use Rattle.sl_stages.specs.meaning.Means.{Known}
 use Rattle.sl_stages.specs.meaning.Seating.{placed_on, vacant_of as vacant_by, table_line, table_of}
 use Rattle.sl_stages.specs.laws.MeaningLaws.{IsListOf}
 use Rattle.sl_stages.proofs.meaning.EachList.{each_list_agree}
-use Rattle.sl_code.specs.Codes.{CountingCode}
-use Rattle.sl_machine.specs.State.{State}
-use Rattle.sl_machine.specs.Effects.{most, from_lists, names_or_most}
-use Rattle.sl_machine.specs.Memories.{column_of, vacant_of, held_of}
-use Rattle.sl_machine.specs.Tables.{held_line}
+use Rattle.sl_instructions.specs.Codes.{CountingCode}
+use Rattle.sl_semantics.specs.State.{State}
+use Rattle.sl_semantics.specs.Effects.{most, from_lists, names_or_most}
+use Rattle.sl_semantics.specs.Memories.{column_of, vacant_of, held_of}
+use Rattle.sl_semantics.specs.Tables.{held_line}
 use Rattle.sl_pieces.proofs.facts.Holding.{place_within, list_told}
 use Rattle.sl_pieces.specs.exprs.Slots.{winners_slot, vacant_seats, HasBookSlots}
 use Rattle.sl_pieces.specs.closing.Trees.{final_seats, vacant_slot}

@@ -6,12 +6,12 @@ use Rattle.sl_stages.specs.declared.fact.Fact.TheVariants as facts
 use Rattle.sl_stages.specs.declared.book.Shape.TheVariants as shape
 use Rattle.sl_stages.specs.returns.Election.{Election, lands_of, parties_of}
 use Rattle.sl_stages.specs.book.Typing.{Column}
-use Rattle.sl_code.specs.Codes.{CountingCode}
-use Rattle.sl_code.specs.declared.instr.Instr.TheVariants.{Input}
-use Rattle.sl_code.specs.declared.operand.Input.TheVariants as input
-use Rattle.sl_machine.specs.State.{State, End}
-use Rattle.sl_machine.specs.Effects.{from_lists, names_or_most, input_of}
-use Rattle.sl_machine.proofs.effects.Registers.{input_does}
+use Rattle.sl_instructions.specs.Codes.{CountingCode}
+use Rattle.sl_instructions.specs.declared.instr.Instr.TheVariants.{Input}
+use Rattle.sl_instructions.specs.declared.operand.Input.TheVariants as input
+use Rattle.sl_semantics.specs.State.{State, End}
+use Rattle.sl_semantics.specs.Effects.{from_lists, names_or_most, input_of}
+use Rattle.sl_semantics.proofs.effects.Registers.{input_does}
 use Rattle.sl_plans.specs.Trees.{Line}
 use Rattle.sl_plans.specs.Achieves.{Achieves, Never}
 use Rattle.sl_plans.proofs.Rules.{line_ends, line_goes}

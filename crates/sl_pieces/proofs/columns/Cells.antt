@@ -3,12 +3,12 @@ use Rattle.std.proofs.Common.{◌≡◌, ℕ, ◌+◌, ◌*◌, ◌<◌, false, 
 use Rattle.sl_stages.specs.declared.book.Shape.{Shape}
 use Rattle.sl_stages.specs.declared.book.Shape.TheVariants as shape
 use Rattle.sl_stages.specs.returns.Election.{Election, lands_of, parties_of}
-use Rattle.sl_code.specs.Codes.{CountingCode}
-use Rattle.sl_machine.specs.State.{State, End}
-use Rattle.sl_machine.specs.Places.{cells_of, cell_at}
-use Rattle.sl_machine.specs.Effects.{with_party, with_land}
-use Rattle.sl_machine.proofs.effects.Cursors.{both_are}
-use Rattle.sl_machine.proofs.soundness.KeptEntries.{list_below}
+use Rattle.sl_instructions.specs.Codes.{CountingCode}
+use Rattle.sl_semantics.specs.State.{State, End}
+use Rattle.sl_semantics.specs.Places.{cells_of, cell_at}
+use Rattle.sl_semantics.specs.Effects.{with_party, with_land}
+use Rattle.sl_semantics.proofs.effects.Cursors.{both_are}
+use Rattle.sl_semantics.proofs.soundness.KeptEntries.{list_below}
 use Rattle.sl_plans.specs.declared.plan.Cursor.{Cursor}
 use Rattle.sl_plans.specs.declared.plan.Cursor.TheVariants as cursor
 use Rattle.sl_plans.specs.Trees.{Tree, Each}

@@ -11,14 +11,14 @@ use Rattle.sl_stages.specs.declared.book.Shape.TheVariants as shape
 use Rattle.sl_stages.specs.returns.Election.{Election, lands_of, parties_of}
 use Rattle.sl_stages.specs.returns.Facts.{list_cell}
 use Rattle.sl_stages.specs.meaning.Columns.{sum_over}
-use Rattle.sl_code.specs.declared.instr.Instr.TheVariants.{Add, Get}
-use Rattle.sl_code.specs.Codes.{CountingCode}
-use Rattle.sl_machine.specs.State.{State, with_register}
-use Rattle.sl_machine.specs.Places.{cells_of, cell_at}
-use Rattle.sl_machine.specs.Effects.{most}
-use Rattle.sl_machine.proofs.effects.Registers.{get_does, store_does}
-use Rattle.sl_machine.proofs.effects.Cursors.{both_are}
-use Rattle.sl_machine.proofs.soundness.KeptEntries.{list_below}
+use Rattle.sl_instructions.specs.declared.instr.Instr.TheVariants.{Add, Get}
+use Rattle.sl_instructions.specs.Codes.{CountingCode}
+use Rattle.sl_semantics.specs.State.{State, with_register}
+use Rattle.sl_semantics.specs.Places.{cells_of, cell_at}
+use Rattle.sl_semantics.specs.Effects.{most}
+use Rattle.sl_semantics.proofs.effects.Registers.{get_does, store_does}
+use Rattle.sl_semantics.proofs.effects.Cursors.{both_are}
+use Rattle.sl_semantics.proofs.soundness.KeptEntries.{list_below}
 use Rattle.sl_plans.specs.declared.plan.Cursor.{Cursor}
 use Rattle.sl_plans.specs.declared.plan.Cursor.TheVariants as cursor
 use Rattle.sl_plans.specs.Trees.{Tree, Line, Each}

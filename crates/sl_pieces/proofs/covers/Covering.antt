@@ -15,9 +15,9 @@ use Rattle.sl_stages.specs.returns.Facts.{lists_of}
 use Rattle.sl_stages.specs.methods.Ties.{Decided}
 use Rattle.sl_stages.specs.meaning.Seating.{IsSeating, seated_on, cover_place}
 use Rattle.sl_stages.proofs.meaning.Members.{among}
-use Rattle.sl_code.specs.Codes.{CountingCode}
-use Rattle.sl_machine.specs.State.{State, End, with_register}
-use Rattle.sl_machine.specs.Effects.{one_if}
+use Rattle.sl_instructions.specs.Codes.{CountingCode}
+use Rattle.sl_semantics.specs.State.{State, End, with_register}
+use Rattle.sl_semantics.specs.Effects.{one_if}
 use Rattle.sl_plans.specs.Trees.{ones}
 use Rattle.sl_plans.specs.Achieves.{Achieves}
 use Rattle.sl_plans.proofs.Rules.{achieves_more, then_achieves, line_first, line_over, achieves_never, achieves_so}

@@ -19,8 +19,8 @@ use Rattle.sl_stages.specs.meaning.Seating.{winner_items, IsSeating, tie_of, sea
 use Rattle.sl_stages.specs.laws.OneLaws.{ExactlyOne}
 use Rattle.sl_stages.proofs.meaning.ExactlyOne.{one_zip}
 use Rattle.sl_stages.proofs.meaning.OneOutcome.{one_seating}
-use Rattle.sl_code.specs.Codes.{CountingCode}
-use Rattle.sl_machine.specs.State.{End}
+use Rattle.sl_instructions.specs.Codes.{CountingCode}
+use Rattle.sl_semantics.specs.State.{End}
 use Rattle.sl_pieces.specs.covers.Covering.{EndsInTie}
 use Rattle.sl_pieces.proofs.covers.Pairs.{all_zip_both, zip_both}
 use Rattle.sl_pieces.proofs.covers.Winners.{won, each_winner}

@@ -9,16 +9,16 @@ use Rattle.sl_stages.specs.declared.book.Shape.TheVariants as shape
 use Rattle.sl_stages.specs.declared.returns.Win.{Win}
 use Rattle.sl_stages.specs.returns.Election.{Election, IsElection, lands_of, parties_of}
 use Rattle.sl_stages.specs.returns.Facts.{list_cell}
-use Rattle.sl_code.specs.Codes.{CountingCode}
-use Rattle.sl_code.specs.declared.operand.Entries.TheVariants as entries
-use Rattle.sl_code.specs.declared.operand.Ranking.TheVariants as ranking
+use Rattle.sl_instructions.specs.Codes.{CountingCode}
+use Rattle.sl_instructions.specs.declared.operand.Entries.TheVariants as entries
+use Rattle.sl_instructions.specs.declared.operand.Ranking.TheVariants as ranking
 use Rattle.sl_prio.specs.Ranking.{ranked}
 use Rattle.sl_prio.proofs.RankedEntries.{ranked_alike}
-use Rattle.sl_machine.specs.State.{State, PriorityTable, with_register}
-use Rattle.sl_machine.specs.Effects.{most}
-use Rattle.sl_machine.proofs.effects.Registers.{get_does}
-use Rattle.sl_machine.proofs.effects.Cursors.{both_are, winner_is}
-use Rattle.sl_machine.proofs.effects.Table.{entered, share_does}
+use Rattle.sl_semantics.specs.State.{State, PriorityTable, with_register}
+use Rattle.sl_semantics.specs.Effects.{most}
+use Rattle.sl_semantics.proofs.effects.Registers.{get_does}
+use Rattle.sl_semantics.proofs.effects.Cursors.{both_are, winner_is}
+use Rattle.sl_semantics.proofs.effects.Table.{entered, share_does}
 use Rattle.sl_plans.specs.Trees.{ones}
 use Rattle.sl_plans.specs.Achieves.{Achieves, Never}
 use Rattle.sl_plans.proofs.Rules.{line_ends, line_goes}

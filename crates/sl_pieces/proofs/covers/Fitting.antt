@@ -12,12 +12,12 @@ use Rattle.sl_stages.specs.declared.table.Placed.TheVariants as placed
 use Rattle.sl_stages.specs.returns.Election.{Election, IsElection, lands_of, parties_of, has_list}
 use Rattle.sl_stages.specs.meaning.Seating.{cover_place}
 use Rattle.sl_stages.proofs.meaning.Members.{In, in_map, in_filter, in_range, among, among_piece}
-use Rattle.sl_code.specs.Codes.{CountingCode}
-use Rattle.sl_machine.specs.State.{State, with_register}
-use Rattle.sl_machine.specs.Effects.{with_win}
-use Rattle.sl_machine.proofs.effects.Registers.{get_does}
-use Rattle.sl_machine.proofs.effects.Cursors.{both_are}
-use Rattle.sl_machine.proofs.effects.Records.{seat_does}
+use Rattle.sl_instructions.specs.Codes.{CountingCode}
+use Rattle.sl_semantics.specs.State.{State, with_register}
+use Rattle.sl_semantics.specs.Effects.{with_win}
+use Rattle.sl_semantics.proofs.effects.Registers.{get_does}
+use Rattle.sl_semantics.proofs.effects.Cursors.{both_are}
+use Rattle.sl_semantics.proofs.effects.Records.{seat_does}
 use Rattle.sl_plans.specs.Achieves.{Achieves, Never}
 use Rattle.sl_plans.proofs.Rules.{line_ends, line_goes, if_zero, line_first, line_over}
 use Rattle.sl_plans.proofs.KeepingRules.{wins_keeping}

@@ -6,14 +6,14 @@ use Rattle.sl_stages.specs.returns.Election.{Election, IsElection, lands_of, par
 use Rattle.sl_stages.specs.returns.Facts.{list_cell}
 use Rattle.sl_stages.specs.methods.Ties.{Decided}
 use Rattle.sl_stages.specs.meaning.Seating.{IsSeating, seated_on, cover_place}
-use Rattle.sl_code.specs.Codes.{CountingCode}
-use Rattle.sl_code.specs.declared.instr.Instr.TheVariants.{Seat}
-use Rattle.sl_code.specs.declared.operand.Entries.TheVariants as entries
-use Rattle.sl_code.specs.declared.operand.Ranking.TheVariants as ranking
+use Rattle.sl_instructions.specs.Codes.{CountingCode}
+use Rattle.sl_instructions.specs.declared.instr.Instr.TheVariants.{Seat}
+use Rattle.sl_instructions.specs.declared.operand.Entries.TheVariants as entries
+use Rattle.sl_instructions.specs.declared.operand.Ranking.TheVariants as ranking
 use Rattle.sl_verify.specs.declared.needs.TheConstants.{LAST_CLAUSE}
 use Rattle.sl_prio.specs.Ranking.{ranked}
-use Rattle.sl_machine.specs.State.{State, with_register}
-use Rattle.sl_machine.specs.Effects.{most, with_table}
+use Rattle.sl_semantics.specs.State.{State, with_register}
+use Rattle.sl_semantics.specs.Effects.{most, with_table}
 use Rattle.sl_plans.specs.declared.plan.Bound.TheVariants as bound
 use Rattle.sl_plans.specs.declared.plan.Cursor.TheVariants as cursor
 use Rattle.sl_plans.specs.Trees.{Line, Then, Each, ones}

@@ -9,12 +9,12 @@ use Rattle.std.proofs.lemmas.List.Elements.{All-get_or}
 use Rattle.sl_stages.specs.declared.book.Shape.TheVariants as shape
 use Rattle.sl_stages.specs.declared.returns.Win.{Win}
 use Rattle.sl_stages.specs.returns.Election.{Election, IsElection, IsWin, lands_of, parties_of, has_list}
-use Rattle.sl_code.specs.Codes.{CountingCode}
-use Rattle.sl_code.specs.declared.instr.Instr.TheVariants.{Get}
-use Rattle.sl_machine.specs.State.{State, End, with_register}
-use Rattle.sl_machine.specs.Effects.{one_if, with_party, with_land, with_win}
-use Rattle.sl_machine.proofs.effects.Registers.{get_does}
-use Rattle.sl_machine.proofs.effects.Cursors.{winner_is, wland_does}
+use Rattle.sl_instructions.specs.Codes.{CountingCode}
+use Rattle.sl_instructions.specs.declared.instr.Instr.TheVariants.{Get}
+use Rattle.sl_semantics.specs.State.{State, End, with_register}
+use Rattle.sl_semantics.specs.Effects.{one_if, with_party, with_land, with_win}
+use Rattle.sl_semantics.proofs.effects.Registers.{get_does}
+use Rattle.sl_semantics.proofs.effects.Cursors.{winner_is, wland_does}
 use Rattle.sl_plans.specs.declared.plan.Test.TheVariants as test
 use Rattle.sl_plans.specs.Trees.{Tree, Line, Then, If}
 use Rattle.sl_plans.specs.Achieves.{Achieves}

@@ -17,16 +17,16 @@ use Rattle.sl_stages.specs.laws.Awards.{CoveringTops}
 use Rattle.sl_stages.proofs.methods.CoveringProofs.{covering_ladders_law}
 use Rattle.sl_stages.proofs.methods.RaisedSeats.{Contains-head, Contains-cases, Contains-none}
 use Rattle.sl_stages.proofs.methods.SeatSums.{sum_zeros}
-use Rattle.sl_code.specs.Codes.{CountingCode}
-use Rattle.sl_code.specs.declared.instr.Instr.TheVariants.{Seat}
-use Rattle.sl_code.specs.declared.operand.Entries.TheVariants as entries
+use Rattle.sl_instructions.specs.Codes.{CountingCode}
+use Rattle.sl_instructions.specs.declared.instr.Instr.TheVariants.{Seat}
+use Rattle.sl_instructions.specs.declared.operand.Entries.TheVariants as entries
 use Rattle.sl_verify.specs.declared.needs.TheConstants.{LAST_CLAUSE}
-use Rattle.sl_machine.specs.State.{State, with_place}
-use Rattle.sl_machine.specs.Places.{item_of}
-use Rattle.sl_machine.specs.Drawn.{lot_of}
-use Rattle.sl_machine.specs.SameLots.{SameLot, AreEntries}
-use Rattle.sl_machine.proofs.drawing.LotProofs.{same_lots}
-use Rattle.sl_machine.proofs.effects.Records.{seat_does}
+use Rattle.sl_semantics.specs.State.{State, with_place}
+use Rattle.sl_semantics.specs.Places.{item_of}
+use Rattle.sl_semantics.specs.Drawn.{lot_of}
+use Rattle.sl_semantics.specs.SameLots.{SameLot, AreEntries}
+use Rattle.sl_semantics.proofs.drawing.LotProofs.{same_lots}
+use Rattle.sl_semantics.proofs.effects.Records.{seat_does}
 use Rattle.sl_plans.specs.Trees.{Line}
 use Rattle.sl_plans.proofs.Rules.{line_ends, line_goes}
 use Rattle.sl_pieces.proofs.seats.Lists.{mapped_at}

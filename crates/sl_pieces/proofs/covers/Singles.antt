@@ -8,12 +8,12 @@ use Rattle.sl_stages.specs.declared.table.Placed.{Placed}
 use Rattle.sl_stages.specs.declared.table.Placed.TheVariants as placed
 use Rattle.sl_stages.specs.returns.Election.{Election}
 use Rattle.sl_stages.specs.meaning.Seating.{cover_place}
-use Rattle.sl_code.specs.Codes.{CountingCode}
-use Rattle.sl_code.specs.declared.instr.Instr.TheVariants.{Single}
-use Rattle.sl_machine.specs.State.{State, with_place}
-use Rattle.sl_machine.specs.Effects.{with_party, with_win}
-use Rattle.sl_machine.proofs.effects.Records.{single_does}
-use Rattle.sl_machine.proofs.effects.Cursors.{winner_is}
+use Rattle.sl_instructions.specs.Codes.{CountingCode}
+use Rattle.sl_instructions.specs.declared.instr.Instr.TheVariants.{Single}
+use Rattle.sl_semantics.specs.State.{State, with_place}
+use Rattle.sl_semantics.specs.Effects.{with_party, with_win}
+use Rattle.sl_semantics.proofs.effects.Records.{single_does}
+use Rattle.sl_semantics.proofs.effects.Cursors.{winner_is}
 use Rattle.sl_plans.specs.declared.plan.Test.TheVariants as test
 use Rattle.sl_plans.specs.Trees.{Line, If}
 use Rattle.sl_plans.specs.Achieves.{Achieves, Never}

@@ -14,20 +14,20 @@ use Rattle.sl_stages.specs.meaning.Results.{fault_at}
 use Rattle.sl_stages.specs.meaning.Seating.{winner_items, IsSeating}
 use Rattle.sl_stages.specs.laws.Ladders.{IsPeer, IsSettled, IsTop, RaisesEach}
 use Rattle.sl_stages.proofs.methods.RaisedSeats.{raise, Contains-head, Contains-tail}
-use Rattle.sl_code.specs.Codes.{CountingCode}
-use Rattle.sl_code.specs.declared.instr.Instr.TheVariants.{Take, Tie}
-use Rattle.sl_code.specs.declared.operand.Entries.TheVariants as entries
-use Rattle.sl_code.specs.declared.operand.ScopeKind.TheVariants as kind
+use Rattle.sl_instructions.specs.Codes.{CountingCode}
+use Rattle.sl_instructions.specs.declared.instr.Instr.TheVariants.{Take, Tie}
+use Rattle.sl_instructions.specs.declared.operand.Entries.TheVariants as entries
+use Rattle.sl_instructions.specs.declared.operand.ScopeKind.TheVariants as kind
 use Rattle.sl_verify.specs.declared.needs.TheConstants.{LAST_CLAUSE}
 use Rattle.sl_prio.specs.Ranking.{ranked}
 use Rattle.sl_prio.specs.Prio.{top, peers}
 use Rattle.sl_prio.proofs.RankedEntries.{ranked_alike}
-use Rattle.sl_machine.specs.State.{State, PriorityTable, End, Faulted, with_register}
-use Rattle.sl_machine.specs.Places.{item_of}
-use Rattle.sl_machine.specs.Effects.{Goes, effect, with_party, with_land}
-use Rattle.sl_machine.proofs.effects.Cursors.{both_are, winner_is, wland_does}
-use Rattle.sl_machine.proofs.effects.Records.{tie_ends}
-use Rattle.sl_machine.proofs.effects.Table.{entered, share_does}
+use Rattle.sl_semantics.specs.State.{State, PriorityTable, End, Faulted, with_register}
+use Rattle.sl_semantics.specs.Places.{item_of}
+use Rattle.sl_semantics.specs.Effects.{Goes, effect, with_party, with_land}
+use Rattle.sl_semantics.proofs.effects.Cursors.{both_are, winner_is, wland_does}
+use Rattle.sl_semantics.proofs.effects.Records.{tie_ends}
+use Rattle.sl_semantics.proofs.effects.Table.{entered, share_does}
 use Rattle.sl_plans.specs.declared.plan.Test.TheVariants as test
 use Rattle.sl_plans.specs.Trees.{If, Stop}
 use Rattle.sl_plans.specs.Achieves.{Achieves}

@@ -20,9 +20,9 @@ use Rattle.sl_stages.specs.laws.ColumnLaws.{IsTypedAs}
 use Rattle.sl_stages.proofs.Tests.{head_holds, pass_parts}
 use Rattle.sl_stages.proofs.typing.TestLists.{pass_parts3, pass_parts4}
 use Rattle.sl_stages.proofs.meaning.TypedMeaning.{typed_expressions}
-use Rattle.sl_code.specs.Codes.{CountingCode}
-use Rattle.sl_machine.specs.State.{State}
-use Rattle.sl_machine.specs.Effects.{most}
+use Rattle.sl_instructions.specs.Codes.{CountingCode}
+use Rattle.sl_semantics.specs.State.{State}
+use Rattle.sl_semantics.specs.Effects.{most}
 use Rattle.sl_pieces.specs.columns.Columns.{HoldsColumn}
 use Rattle.sl_plans.specs.Trees.{Tree}
 use Rattle.sl_pieces.specs.nodes.Nodes.{EndsWith}

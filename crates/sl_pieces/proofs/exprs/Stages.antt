@@ -19,8 +19,8 @@ use Rattle.sl_stages.specs.meaning.Means.{Known, context_of, with_stage}
 use Rattle.sl_stages.specs.laws.ColumnLaws.{IsTypedAs}
 use Rattle.sl_stages.proofs.Tests.{head_holds, pass_parts}
 use Rattle.sl_stages.proofs.meaning.TypedMeaning.{typed_expressions}
-use Rattle.sl_code.specs.Codes.{CountingCode}
-use Rattle.sl_machine.specs.State.{State, End}
+use Rattle.sl_instructions.specs.Codes.{CountingCode}
+use Rattle.sl_semantics.specs.State.{State, End}
 use Rattle.sl_plans.specs.Trees.{Tree}
 use Rattle.sl_plans.specs.Laid.{AchievesAll}
 use Rattle.sl_plans.proofs.Rules.{achieves_more}

@@ -17,9 +17,9 @@ use Rattle.sl_stages.specs.returns.Election.{Election}
 use Rattle.sl_stages.specs.meaning.Columns.{sum_over, pair_of}
 use Rattle.sl_stages.specs.meaning.Results.{ExprResult, plain}
 use Rattle.sl_stages.specs.laws.ColumnLaws.{most_of, FitsType}
-use Rattle.sl_code.specs.Codes.{CountingCode}
-use Rattle.sl_machine.specs.State.{State}
-use Rattle.sl_machine.specs.Effects.{most}
+use Rattle.sl_instructions.specs.Codes.{CountingCode}
+use Rattle.sl_semantics.specs.State.{State}
+use Rattle.sl_semantics.specs.Effects.{most}
 use Rattle.sl_pieces.specs.columns.Columns.{HoldsColumn}
 use Rattle.sl_pieces.specs.columns.Laws.{FitsAxis}
 use Rattle.sl_pieces.specs.columns.Trees.{sum_tree, pair_tree, summed}

@@ -4,12 +4,12 @@ use Rattle.std.proofs.lemmas.Bool.{cases_eq}
 use Rattle.sl_stages.specs.declared.book.Shape.{Shape}
 use Rattle.sl_stages.specs.declared.book.Shape.TheVariants as shape
 use Rattle.sl_stages.specs.returns.Election.{Election}
-use Rattle.sl_code.specs.Codes.{CountingCode}
-use Rattle.sl_machine.specs.State.{State, with_register, with_column, with_cell}
-use Rattle.sl_machine.specs.Places.{cell_at}
-use Rattle.sl_machine.specs.Effects.{most, one_if}
-use Rattle.sl_machine.proofs.effects.Registers.{get_does, store_does}
-use Rattle.sl_machine.proofs.effects.Storing.{cell_same, cell_other_place, column_same, column_other}
+use Rattle.sl_instructions.specs.Codes.{CountingCode}
+use Rattle.sl_semantics.specs.State.{State, with_register, with_column, with_cell}
+use Rattle.sl_semantics.specs.Places.{cell_at}
+use Rattle.sl_semantics.specs.Effects.{most, one_if}
+use Rattle.sl_semantics.proofs.effects.Registers.{get_does, store_does}
+use Rattle.sl_semantics.proofs.effects.Storing.{cell_same, cell_other_place, column_same, column_other}
 use Rattle.sl_plans.specs.Trees.{Line, ones}
 use Rattle.sl_plans.specs.Achieves.{Achieves, Never}
 use Rattle.sl_plans.proofs.Rules.{line_ends, line_goes, achieves_so}

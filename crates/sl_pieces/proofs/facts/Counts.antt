@@ -7,7 +7,7 @@ use Rattle.std.proofs.lemmas.List.Elements.{All-get_or}
 use Rattle.std.proofs.lemmas.List.FromFn.{sum_by-map-range_with_len_more}
 use Rattle.std.proofs.lemmas.List.Sums.{sum_by-cons, sum_by_more, sum_by-take-le, count_by-le-length}
 use Rattle.std.proofs.lemmas.Option.{slice_get_cases, get_or_from_slice_get, none-some}
-use Rattle.sl_machine.specs.Effects.{one_if}
+use Rattle.sl_semantics.specs.Effects.{one_if}
 
 -- ---- sums
 

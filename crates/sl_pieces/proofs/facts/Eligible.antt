@@ -9,13 +9,13 @@ use Rattle.sl_stages.specs.declared.book.Shape.TheVariants as shape
 use Rattle.sl_stages.specs.returns.Election.{Election, IsElection}
 use Rattle.sl_stages.specs.returns.Facts.{is_of, meets, is_eligible}
 use Rattle.sl_stages.specs.declared.book.Cond.{Cond}
-use Rattle.sl_code.specs.declared.instr.Instr.TheVariants.{Get}
-use Rattle.sl_code.specs.declared.operand.Input.TheVariants as input
-use Rattle.sl_code.specs.Codes.{CountingCode}
-use Rattle.sl_machine.specs.State.{State, with_register, with_column}
-use Rattle.sl_machine.specs.Effects.{one_if, input_of, with_party, with_win}
-use Rattle.sl_machine.proofs.effects.Registers.{get_does, zero_does, input_does}
-use Rattle.sl_machine.proofs.effects.Cursors.{winner_is}
+use Rattle.sl_instructions.specs.declared.instr.Instr.TheVariants.{Get}
+use Rattle.sl_instructions.specs.declared.operand.Input.TheVariants as input
+use Rattle.sl_instructions.specs.Codes.{CountingCode}
+use Rattle.sl_semantics.specs.State.{State, with_register, with_column}
+use Rattle.sl_semantics.specs.Effects.{one_if, input_of, with_party, with_win}
+use Rattle.sl_semantics.proofs.effects.Registers.{get_does, zero_does, input_does}
+use Rattle.sl_semantics.proofs.effects.Cursors.{winner_is}
 use Rattle.sl_plans.specs.declared.plan.Cursor.TheVariants as cursor
 use Rattle.sl_plans.specs.declared.plan.Test.TheVariants as test
 use Rattle.sl_plans.specs.Trees.{Tree, Line, Then, If, Each}

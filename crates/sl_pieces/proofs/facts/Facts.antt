@@ -12,14 +12,14 @@ use Rattle.sl_stages.specs.meaning.Columns.{fact_column}
 use Rattle.sl_stages.specs.returns.Votes.{counted_in}
 use Rattle.sl_stages.specs.returns.Election.{Election, IsElection, lands_of, parties_of, list_at}
 use Rattle.sl_stages.specs.returns.Facts.{is_eligible, counted_votes}
-use Rattle.sl_code.specs.declared.instr.Instr.TheVariants.{Store, House}
-use Rattle.sl_code.specs.declared.operand.Input.TheVariants as input
-use Rattle.sl_code.specs.Codes.{CountingCode}
-use Rattle.sl_machine.specs.State.{State, with_register, with_cell}
-use Rattle.sl_machine.specs.Effects.{one_if, input_of, with_party, with_land}
-use Rattle.sl_machine.proofs.effects.Registers.{set_does, get_does, store_does, input_does, house_there, house_missing}
-use Rattle.sl_machine.proofs.effects.Cursors.{both_are}
-use Rattle.sl_machine.proofs.effects.Storing.{cell_same, cell_other_place, cell_other_slot}
+use Rattle.sl_instructions.specs.declared.instr.Instr.TheVariants.{Store, House}
+use Rattle.sl_instructions.specs.declared.operand.Input.TheVariants as input
+use Rattle.sl_instructions.specs.Codes.{CountingCode}
+use Rattle.sl_semantics.specs.State.{State, with_register, with_cell}
+use Rattle.sl_semantics.specs.Effects.{one_if, input_of, with_party, with_land}
+use Rattle.sl_semantics.proofs.effects.Registers.{set_does, get_does, store_does, input_does, house_there, house_missing}
+use Rattle.sl_semantics.proofs.effects.Cursors.{both_are}
+use Rattle.sl_semantics.proofs.effects.Storing.{cell_same, cell_other_place, cell_other_slot}
 use Rattle.sl_plans.specs.declared.plan.Cursor.TheVariants as cursor
 use Rattle.sl_plans.specs.Trees.{Line, Each}
 use Rattle.sl_plans.specs.Achieves.{Achieves, Never}

@@ -9,11 +9,11 @@ use Rattle.sl_stages.specs.declared.returns.ListVotes.{ListVotes}
 use Rattle.sl_stages.specs.returns.Election.{Election, lands_of, parties_of, list_at}
 use Rattle.sl_stages.specs.returns.Facts.{by_party, by_land, by_list}
 use Rattle.sl_stages.proofs.meaning.ListPlaces.{length_by_list, by_list_at}
-use Rattle.sl_code.specs.Codes.{CountingCode}
-use Rattle.sl_machine.specs.State.{State}
-use Rattle.sl_machine.specs.Effects.{from_lists}
-use Rattle.sl_machine.proofs.soundness.KeptTables.{list_parts}
-use Rattle.sl_machine.proofs.soundness.KeptEntries.{list_below}
+use Rattle.sl_instructions.specs.Codes.{CountingCode}
+use Rattle.sl_semantics.specs.State.{State}
+use Rattle.sl_semantics.specs.Effects.{from_lists}
+use Rattle.sl_semantics.proofs.soundness.KeptTables.{list_parts}
+use Rattle.sl_semantics.proofs.soundness.KeptEntries.{list_below}
 use Rattle.sl_plans.specs.Trees.{Tree}
 use Rattle.sl_plans.specs.Achieves.{Achieves, Never}
 use Rattle.sl_plans.specs.Frames.{may_write_slot, may_seat, may_record_step, may_record_weight}

@@ -15,15 +15,15 @@ use Rattle.sl_stages.specs.declared.returns.ListVotes.{ListVotes}
 use Rattle.sl_stages.specs.returns.Votes.{valid_in}
 use Rattle.sl_stages.specs.returns.Election.{Election, IsElection, IsCell, lands_of, parties_of, list_at}
 use Rattle.sl_stages.specs.returns.Facts.{valid_votes, all_valid_votes, meets}
-use Rattle.sl_code.specs.declared.instr.Instr.{Instr}
-use Rattle.sl_code.specs.declared.instr.Instr.TheVariants.{Set, Add, Mul, Get}
-use Rattle.sl_code.specs.declared.operand.Input.TheVariants as input
-use Rattle.sl_code.specs.Codes.{CountingCode}
-use Rattle.sl_machine.specs.State.{State, with_register, with_column}
-use Rattle.sl_machine.specs.Effects.{most, input_of, with_party, with_land}
-use Rattle.sl_machine.proofs.effects.Registers.{get_does, input_does}
-use Rattle.sl_machine.proofs.effects.Cursors.{both_are}
-use Rattle.sl_machine.proofs.effects.Storing.{register_same, register_other}
+use Rattle.sl_instructions.specs.declared.instr.Instr.{Instr}
+use Rattle.sl_instructions.specs.declared.instr.Instr.TheVariants.{Set, Add, Mul, Get}
+use Rattle.sl_instructions.specs.declared.operand.Input.TheVariants as input
+use Rattle.sl_instructions.specs.Codes.{CountingCode}
+use Rattle.sl_semantics.specs.State.{State, with_register, with_column}
+use Rattle.sl_semantics.specs.Effects.{most, input_of, with_party, with_land}
+use Rattle.sl_semantics.proofs.effects.Registers.{get_does, input_does}
+use Rattle.sl_semantics.proofs.effects.Cursors.{both_are}
+use Rattle.sl_semantics.proofs.effects.Storing.{register_same, register_other}
 use Rattle.sl_plans.specs.declared.plan.Cursor.TheVariants as cursor
 use Rattle.sl_plans.specs.declared.plan.Test.TheVariants as test
 use Rattle.sl_plans.specs.Trees.{Tree, Line, Then, If, Each}

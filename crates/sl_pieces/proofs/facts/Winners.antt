@@ -11,12 +11,12 @@ use Rattle.sl_stages.specs.returns.Election.{Election, IsElection, parties_of, h
 use Rattle.sl_stages.specs.returns.Facts.{is_of, is_in, is_eligible, takes_part, is_on_list, list_winners, outside_winners, independent_winners}
 use Rattle.sl_stages.proofs.FactReadings.{lists_are_named}
 use Rattle.sl_stages.proofs.meaning.PlacedWinners.{count_if, when_both}
-use Rattle.sl_code.specs.declared.instr.Instr.TheVariants.{Zero, Wland}
-use Rattle.sl_code.specs.Codes.{CountingCode}
-use Rattle.sl_machine.specs.State.{State, with_register, with_column}
-use Rattle.sl_machine.specs.Effects.{most, one_if, winner_at, with_party, with_land, with_win}
-use Rattle.sl_machine.proofs.effects.Registers.{get_does, zero_does}
-use Rattle.sl_machine.proofs.effects.Cursors.{both_are, winner_is, wland_does}
+use Rattle.sl_instructions.specs.declared.instr.Instr.TheVariants.{Zero, Wland}
+use Rattle.sl_instructions.specs.Codes.{CountingCode}
+use Rattle.sl_semantics.specs.State.{State, with_register, with_column}
+use Rattle.sl_semantics.specs.Effects.{most, one_if, winner_at, with_party, with_land, with_win}
+use Rattle.sl_semantics.proofs.effects.Registers.{get_does, zero_does}
+use Rattle.sl_semantics.proofs.effects.Cursors.{both_are, winner_is, wland_does}
 use Rattle.sl_plans.specs.declared.plan.Cursor.TheVariants as cursor
 use Rattle.sl_plans.specs.declared.plan.Test.TheVariants as test
 use Rattle.sl_plans.specs.Trees.{Tree, Line, Then, If, Each}

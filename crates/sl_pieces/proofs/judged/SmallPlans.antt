@@ -13,7 +13,7 @@ use Rattle.sl_stages.specs.declared.book.Cond.TheVariants as condition
 use Rattle.sl_stages.specs.declared.book.Shape.{Shape}
 use Rattle.sl_stages.specs.declared.book.Shape.TheVariants as shape
 use Rattle.sl_stages.specs.book.Limits.{condition_numbers}
-use Rattle.sl_code.specs.declared.instr.Instr.{Instr}
+use Rattle.sl_instructions.specs.declared.instr.Instr.{Instr}
 use Rattle.sl_plans.specs.Trees.{Tree, Line}
 use Rattle.sl_pieces.specs.covers.Trees.{CoverSlots, cover_tree}
 use Rattle.sl_pieces.specs.columns.Trees.{copy_tree, pair_tree, sum_tree}

@@ -2,7 +2,7 @@
 use Rattle.std.proofs.Common.{◌≡◌, ℕ, [], ◌++◌, sym, ap, ◌∙◌, append_assoc, append-nil}
 use Rattle.std.proofs.lemmas.List.Sorted.{IsPermutation-refl, IsPermutation-append}
 use Rattle.sl_stages.specs.meaning.Records.{Records, no_records, both_records}
-use Rattle.sl_machine.specs.State.{State}
+use Rattle.sl_semantics.specs.State.{State}
 use Rattle.sl_pieces.specs.nodes.Scopes.{AddsRecords}
 
 pub adds_none : (s t : State) → t.steps ≡ s.steps → t.weights ≡ s.weights → ((winner : ℕ) → t.placed winner ≡ s.placed winner) → AddsRecords no_records s t

@@ -14,7 +14,7 @@ use Rattle.sl_stages.specs.meaning.Expressions.{minima_at}
 use Rattle.sl_stages.specs.laws.OneLaws.{FitsMethod}
 use Rattle.sl_stages.proofs.methods.SeatSums.{length_zeros, sum_zeros}
 use Rattle.sl_stages.proofs.meaning.OneAward.{TakesMinima}
-use Rattle.sl_machine.specs.State.{State}
+use Rattle.sl_semantics.specs.State.{State}
 use Rattle.sl_pieces.specs.scopes.Forms.{Form, votes_of, groups_of}
 use Rattle.sl_pieces.proofs.scopes.Scopes.{scopes_hold}
 use Rattle.sl_pieces.specs.columns.Columns.{HoldsColumn}

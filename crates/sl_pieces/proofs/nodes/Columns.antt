@@ -15,10 +15,10 @@ use Rattle.sl_stages.proofs.meaning.AwardedEntries.{told_entry, scope_entries_di
 use Rattle.sl_stages.proofs.meaning.DistinctLists.{every_weaker, every_pieces, every_zipped}
 use Rattle.sl_stages.proofs.meaning.ListPlaces.{length_by_list}
 use Rattle.sl_stages.proofs.meaning.TypedSplits.{told_none}
-use Rattle.sl_code.specs.declared.operand.Entries.{Entries}
-use Rattle.sl_code.specs.declared.operand.Entries.TheVariants as entries
-use Rattle.sl_machine.specs.Places.{cells_of, item_of}
-use Rattle.sl_machine.proofs.soundness.KeptTables.{list_parts}
+use Rattle.sl_instructions.specs.declared.operand.Entries.{Entries}
+use Rattle.sl_instructions.specs.declared.operand.Entries.TheVariants as entries
+use Rattle.sl_semantics.specs.Places.{cells_of, item_of}
+use Rattle.sl_semantics.proofs.soundness.KeptTables.{list_parts}
 use Rattle.sl_pieces.specs.scopes.Forms.{Form, AllParties, AllLands, amounts_of, votes_of, table_of, groups_of}
 use Rattle.sl_pieces.specs.scopes.Scopes.{IsEntry}
 use Rattle.sl_pieces.proofs.scopes.Scopes.{scopes_hold, scopes_apart}

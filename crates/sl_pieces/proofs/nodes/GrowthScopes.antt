@@ -18,9 +18,9 @@ use Rattle.sl_stages.specs.laws.Ladders.{IsTop}
 use Rattle.sl_stages.proofs.methods.DivisorProofs.{divisor_ladders_law, empty_fields}
 use Rattle.sl_stages.proofs.methods.HouseProofs.{growth_batches}
 use Rattle.sl_stages.proofs.methods.SeatSums.{some_less}
-use Rattle.sl_code.specs.declared.operand.EndFault.TheVariants as end
-use Rattle.sl_code.specs.Codes.{CountingCode}
-use Rattle.sl_machine.specs.State.{State, End, with_register}
+use Rattle.sl_instructions.specs.declared.operand.EndFault.TheVariants as end
+use Rattle.sl_instructions.specs.Codes.{CountingCode}
+use Rattle.sl_semantics.specs.State.{State, End, with_register}
 use Rattle.sl_plans.specs.declared.plan.Test.TheVariants as test
 use Rattle.sl_plans.specs.declared.plan.Bound.TheVariants as bound
 use Rattle.sl_plans.specs.Trees.{Tree, Then, If}

@@ -7,11 +7,11 @@ use Rattle.sl_stages.specs.methods.Field.{InField}
 use Rattle.sl_stages.specs.methods.LeastHouse.{outside_sum, AboveCap, IsGrowth}
 use Rattle.sl_stages.specs.meaning.Scopes.{Group}
 use Rattle.sl_stages.proofs.methods.SeatSums.{some_less}
-use Rattle.sl_code.specs.declared.instr.Instr.TheVariants.{Add, Max}
-use Rattle.sl_code.specs.declared.operand.EndFault.TheVariants as end
-use Rattle.sl_code.specs.Codes.{CountingCode}
-use Rattle.sl_machine.specs.State.{State, with_register}
-use Rattle.sl_machine.specs.Effects.{most}
+use Rattle.sl_instructions.specs.declared.instr.Instr.TheVariants.{Add, Max}
+use Rattle.sl_instructions.specs.declared.operand.EndFault.TheVariants as end
+use Rattle.sl_instructions.specs.Codes.{CountingCode}
+use Rattle.sl_semantics.specs.State.{State, with_register}
+use Rattle.sl_semantics.specs.Effects.{most}
 use Rattle.sl_plans.specs.Trees.{Line, Then}
 use Rattle.sl_plans.specs.Achieves.{Achieves}
 use Rattle.sl_plans.proofs.Rules.{achieves_from, line_ends, then_achieves, if_zero, goes_as, line_first, line_over, achieves_never}

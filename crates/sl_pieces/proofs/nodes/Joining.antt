@@ -18,11 +18,11 @@ use Rattle.sl_stages.specs.meaning.Records.{Records, both_records}
 use Rattle.sl_stages.specs.meaning.Splits.{Award, Seats, Refused, awarded}
 use Rattle.sl_stages.proofs.meaning.DistinctLists.{every_append}
 use Rattle.sl_stages.proofs.meaning.AwardedEntries.{every_at}
-use Rattle.sl_code.specs.declared.operand.EndFault.TheVariants as end
-use Rattle.sl_code.specs.Codes.{CountingCode}
-use Rattle.sl_machine.specs.State.{State, End, Faulted, with_register, with_column}
-use Rattle.sl_machine.proofs.effects.Registers.{get_does, zero_does}
-use Rattle.sl_machine.proofs.effects.Storing.{column_same, column_other}
+use Rattle.sl_instructions.specs.declared.operand.EndFault.TheVariants as end
+use Rattle.sl_instructions.specs.Codes.{CountingCode}
+use Rattle.sl_semantics.specs.State.{State, End, Faulted, with_register, with_column}
+use Rattle.sl_semantics.proofs.effects.Registers.{get_does, zero_does}
+use Rattle.sl_semantics.proofs.effects.Storing.{column_same, column_other}
 use Rattle.sl_plans.specs.Achieves.{Achieves}
 use Rattle.sl_plans.proofs.Rules.{line_first, line_over, achieves_so, achieves_more, line_ends, line_goes, then_achieves}
 use Rattle.sl_plans.specs.Trees.{Tree}

@@ -22,16 +22,16 @@ use Rattle.sl_stages.specs.meaning.Lots.{stage_lot}
 use Rattle.sl_stages.specs.laws.Ladders.{Ladders, IsTop, HasRoom}
 use Rattle.sl_stages.proofs.methods.DivisorProofs.{cases_field}
 use Rattle.sl_stages.proofs.methods.SeatSums.{sum_mono}
-use Rattle.sl_code.specs.declared.instr.Instr.TheVariants as op
-use Rattle.sl_code.specs.Codes.{CountingCode}
-use Rattle.sl_code.specs.declared.operand.Entries.{Entries}
-use Rattle.sl_machine.specs.State.{State, End, with_register}
-use Rattle.sl_machine.specs.Effects.{most}
-use Rattle.sl_machine.proofs.effects.Registers.{get_does}
-use Rattle.sl_machine.specs.Places.{item_of}
-use Rattle.sl_machine.specs.Drawn.{lot_of}
-use Rattle.sl_machine.specs.SameLots.{SameLot, lot_meant}
-use Rattle.sl_machine.proofs.drawing.LotProofs.{same_lots}
+use Rattle.sl_instructions.specs.declared.instr.Instr.TheVariants as op
+use Rattle.sl_instructions.specs.Codes.{CountingCode}
+use Rattle.sl_instructions.specs.declared.operand.Entries.{Entries}
+use Rattle.sl_semantics.specs.State.{State, End, with_register}
+use Rattle.sl_semantics.specs.Effects.{most}
+use Rattle.sl_semantics.proofs.effects.Registers.{get_does}
+use Rattle.sl_semantics.specs.Places.{item_of}
+use Rattle.sl_semantics.specs.Drawn.{lot_of}
+use Rattle.sl_semantics.specs.SameLots.{SameLot, lot_meant}
+use Rattle.sl_semantics.proofs.drawing.LotProofs.{same_lots}
 use Rattle.sl_plans.specs.Trees.{Tree, Line, Then}
 use Rattle.sl_plans.specs.Achieves.{Achieves, Never}
 use Rattle.sl_plans.proofs.Rules.{then_achieves, line_first, line_over, achieves_never, achieves_more}

@@ -20,12 +20,12 @@ use Rattle.sl_stages.specs.methods.Ties.{Lists}
 use Rattle.sl_stages.specs.laws.Awards.{LadderLaws, free_ladders}
 use Rattle.sl_stages.specs.laws.Ladders.{IsPeer}
 use Rattle.sl_stages.proofs.methods.LadderProofs as ladders
-use Rattle.sl_code.specs.declared.instr.Instr.TheVariants.{Set, Add, Store, Prio}
-use Rattle.sl_code.specs.Codes.{CountingCode}
-use Rattle.sl_machine.specs.State.{State, PriorityTable, with_register, with_cell}
-use Rattle.sl_machine.specs.Effects.{most}
-use Rattle.sl_machine.proofs.effects.Registers.{get_does, store_does}
-use Rattle.sl_machine.proofs.effects.Storing.{cell_same, cell_other_place, cell_other_slot}
+use Rattle.sl_instructions.specs.declared.instr.Instr.TheVariants.{Set, Add, Store, Prio}
+use Rattle.sl_instructions.specs.Codes.{CountingCode}
+use Rattle.sl_semantics.specs.State.{State, PriorityTable, with_register, with_cell}
+use Rattle.sl_semantics.specs.Effects.{most}
+use Rattle.sl_semantics.proofs.effects.Registers.{get_does, store_does}
+use Rattle.sl_semantics.proofs.effects.Storing.{cell_same, cell_other_place, cell_other_slot}
 use Rattle.sl_plans.specs.declared.plan.Test.TheVariants as test
 use Rattle.sl_plans.specs.Trees.{Line, Then, If, ones}
 use Rattle.sl_plans.specs.Achieves.{Achieves, Never}

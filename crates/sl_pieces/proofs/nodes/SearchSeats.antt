@@ -19,12 +19,12 @@ use Rattle.sl_stages.proofs.methods.DivisorProofs.{field_of, has_of, in_range}
 use Rattle.sl_stages.proofs.methods.RaisedSeats.{Contains-head}
 use Rattle.sl_stages.proofs.methods.SeatSums.{none_needed, length_zeros}
 use Rattle.sl_stages.proofs.methods.WalkProofs.{walks}
-use Rattle.sl_code.specs.declared.instr.Instr.TheVariants.{Set, Add, Store}
-use Rattle.sl_code.specs.Codes.{CountingCode}
-use Rattle.sl_machine.specs.State.{State, PriorityTable, with_register, with_cell}
-use Rattle.sl_machine.specs.Effects.{most}
-use Rattle.sl_machine.proofs.effects.Registers.{get_does, store_does}
-use Rattle.sl_machine.proofs.effects.Storing.{cell_same, cell_other_place, cell_other_slot}
+use Rattle.sl_instructions.specs.declared.instr.Instr.TheVariants.{Set, Add, Store}
+use Rattle.sl_instructions.specs.Codes.{CountingCode}
+use Rattle.sl_semantics.specs.State.{State, PriorityTable, with_register, with_cell}
+use Rattle.sl_semantics.specs.Effects.{most}
+use Rattle.sl_semantics.proofs.effects.Registers.{get_does, store_does}
+use Rattle.sl_semantics.proofs.effects.Storing.{cell_same, cell_other_place, cell_other_slot}
 use Rattle.sl_plans.specs.declared.plan.Test.TheVariants as test
 use Rattle.sl_plans.specs.Trees.{Line, Then, If, ones, count_down}
 use Rattle.sl_plans.specs.Achieves.{Achieves, Never}

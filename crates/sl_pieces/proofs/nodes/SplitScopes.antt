@@ -19,8 +19,8 @@ use Rattle.sl_stages.specs.laws.OneLaws.{FitsMethod}
 use Rattle.sl_stages.proofs.methods.DivisorProofs.{divisor_ladders_law}
 use Rattle.sl_stages.proofs.methods.HamiltonProofs.{hamilton_ladders_law}
 use Rattle.sl_stages.proofs.meaning.OneAward.{TakesMinima, HasNone, none_refused}
-use Rattle.sl_code.specs.Codes.{CountingCode}
-use Rattle.sl_machine.specs.State.{State, End}
+use Rattle.sl_instructions.specs.Codes.{CountingCode}
+use Rattle.sl_semantics.specs.State.{State, End}
 use Rattle.sl_plans.specs.Trees.{Tree, Then}
 use Rattle.sl_plans.specs.Achieves.{Achieves}
 use Rattle.sl_plans.specs.declared.plan.Bound.TheVariants as bound

@@ -14,9 +14,9 @@ use Rattle.sl_stages.specs.declared.fault.Item.TheVariants as item
 use Rattle.sl_stages.specs.returns.Election.{Election, lands_of, parties_of, has_list}
 use Rattle.sl_stages.specs.returns.Facts.{lands, parties}
 use Rattle.sl_stages.specs.meaning.Scopes.{place, entries_of, lists_in_land, lists_of_party, Group}
-use Rattle.sl_code.specs.declared.operand.Entries.TheVariants as entries
-use Rattle.sl_machine.specs.State.{State}
-use Rattle.sl_machine.specs.Places.{both}
+use Rattle.sl_instructions.specs.declared.operand.Entries.TheVariants as entries
+use Rattle.sl_semantics.specs.State.{State}
+use Rattle.sl_semantics.specs.Places.{both}
 use Rattle.sl_stages.proofs.meaning.DistinctLists.{every_map, every_filter, every_pieces, every_weaker}
 use Rattle.sl_pieces.specs.scopes.Forms.{AllParties, AllLands, AllLists, ListsOfParty, ListsInLand, groups_of, OnScope, OnItem}
 use Rattle.sl_pieces.specs.scopes.Scopes.{IsEntry, IsScope, ScopesHold, ScopesApart}

@@ -7,11 +7,11 @@ use Rattle.std.proofs.lemmas.Option.{slice_get_within, get_or_from_slice_get}
 use Rattle.sl_stages.specs.declared.fault.Item.{Item}
 use Rattle.sl_stages.specs.returns.Election.{Election}
 use Rattle.sl_stages.specs.meaning.Scopes.{Group, place}
-use Rattle.sl_code.specs.Codes.{CountingCode}
-use Rattle.sl_machine.specs.State.{State, with_register}
-use Rattle.sl_machine.specs.Effects.{most}
-use Rattle.sl_machine.proofs.effects.Registers.{set_does, get_does}
-use Rattle.sl_machine.proofs.effects.Storing.{register_same, register_other}
+use Rattle.sl_instructions.specs.Codes.{CountingCode}
+use Rattle.sl_semantics.specs.State.{State, with_register}
+use Rattle.sl_semantics.specs.Effects.{most}
+use Rattle.sl_semantics.proofs.effects.Registers.{set_does, get_does}
+use Rattle.sl_semantics.proofs.effects.Storing.{register_same, register_other}
 use Rattle.sl_plans.specs.Achieves.{Achieves, Never}
 use Rattle.sl_plans.proofs.Rules.{line_ends, line_goes, then_achieves, achieves_so}
 use Rattle.sl_pieces.specs.scopes.Forms.{Form, votes_of, table_of, OnScope, OnItem}

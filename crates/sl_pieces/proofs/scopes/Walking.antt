@@ -7,8 +7,8 @@ use Rattle.std.proofs.lemmas.List.Concat.{flat_map_single}
 use Rattle.sl_stages.specs.declared.fault.Item.{Item}
 use Rattle.sl_stages.specs.declared.fault.Item.TheVariants as item
 use Rattle.sl_stages.specs.returns.Election.{Election, has_list}
-use Rattle.sl_code.specs.Codes.{CountingCode}
-use Rattle.sl_machine.specs.State.{State, End}
+use Rattle.sl_instructions.specs.Codes.{CountingCode}
+use Rattle.sl_semantics.specs.State.{State, End}
 use Rattle.sl_plans.specs.declared.plan.Cursor.{Cursor}
 use Rattle.sl_plans.specs.Trees.{Tree, Each}
 use Rattle.sl_plans.specs.Meaning.{count_of, cursor_of, set_cursor}

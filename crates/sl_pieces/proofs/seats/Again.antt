@@ -10,9 +10,9 @@ use Rattle.sl_stages.specs.methods.Hamilton.{whole}
 use Rattle.sl_stages.specs.meaning.Scopes.{Group, place}
 use Rattle.sl_stages.specs.laws.Ladders.{Has}
 use Rattle.sl_stages.proofs.methods.HamiltonProofs.{hamilton_ladders_law}
-use Rattle.sl_code.specs.Codes.{CountingCode}
-use Rattle.sl_machine.specs.State.{State, with_register}
-use Rattle.sl_machine.proofs.effects.Registers.{get_does}
+use Rattle.sl_instructions.specs.Codes.{CountingCode}
+use Rattle.sl_semantics.specs.State.{State, with_register}
+use Rattle.sl_semantics.proofs.effects.Registers.{get_does}
 use Rattle.sl_plans.specs.Achieves.{Achieves, Never}
 use Rattle.sl_plans.proofs.Rules.{line_ends, line_goes, if_zero, line_first, line_over}
 use Rattle.sl_pieces.specs.scopes.Forms.{Form, votes_of, table_of, OnItem}

@@ -12,10 +12,10 @@ use Rattle.sl_stages.specs.meaning.Scopes.{Group, place}
 use Rattle.sl_stages.proofs.methods.HamiltonProofs.{zero_div, at_wholes}
 use Rattle.sl_stages.proofs.methods.HouseProofs.{outside_at, outside_in}
 use Rattle.sl_stages.proofs.methods.SeatSums.{none_needed, entry_le_sum}
-use Rattle.sl_code.specs.Codes.{CountingCode}
-use Rattle.sl_machine.specs.State.{State, with_register}
-use Rattle.sl_machine.specs.Effects.{most}
-use Rattle.sl_machine.proofs.effects.Registers.{div_does, rem_does, get_does}
+use Rattle.sl_instructions.specs.Codes.{CountingCode}
+use Rattle.sl_semantics.specs.State.{State, with_register}
+use Rattle.sl_semantics.specs.Effects.{most}
+use Rattle.sl_semantics.proofs.effects.Registers.{div_does, rem_does, get_does}
 use Rattle.sl_plans.specs.Trees.{Tree}
 use Rattle.sl_plans.specs.Achieves.{Achieves, Never}
 use Rattle.sl_plans.specs.Frames.{may_write_table, may_record_weight}

@@ -15,16 +15,16 @@ use Rattle.sl_stages.specs.methods.Hamilton.{whole, whole_parts, remainder, rema
 use Rattle.sl_stages.specs.meaning.Records.{tells_weights}
 use Rattle.sl_stages.specs.meaning.Scopes.{Group, place}
 use Rattle.sl_stages.proofs.methods.HamiltonProofs.{at_wholes}
-use Rattle.sl_code.specs.declared.instr.Instr.TheVariants.{Prio, Lead, Weigh}
-use Rattle.sl_code.specs.declared.operand.Rounding.{Rounding}
-use Rattle.sl_code.specs.declared.operand.Rounding.TheVariants as rounding
-use Rattle.sl_code.specs.Codes.{CountingCode}
-use Rattle.sl_code.specs.Numbers.{divisor_of, rounding_of}
-use Rattle.sl_machine.specs.State.{State, with_register}
-use Rattle.sl_machine.specs.Places.{item_of}
-use Rattle.sl_machine.specs.Effects.{Goes, most, stage_of, with_entry, with_weight}
-use Rattle.sl_machine.proofs.effects.Records.{weigh_does}
-use Rattle.sl_machine.proofs.effects.Table.{rest_does, lead_does}
+use Rattle.sl_instructions.specs.declared.instr.Instr.TheVariants.{Prio, Lead, Weigh}
+use Rattle.sl_instructions.specs.declared.operand.Rounding.{Rounding}
+use Rattle.sl_instructions.specs.declared.operand.Rounding.TheVariants as rounding
+use Rattle.sl_instructions.specs.Codes.{CountingCode}
+use Rattle.sl_instructions.specs.Numbers.{divisor_of, rounding_of}
+use Rattle.sl_semantics.specs.State.{State, with_register}
+use Rattle.sl_semantics.specs.Places.{item_of}
+use Rattle.sl_semantics.specs.Effects.{Goes, most, stage_of, with_entry, with_weight}
+use Rattle.sl_semantics.proofs.effects.Records.{weigh_does}
+use Rattle.sl_semantics.proofs.effects.Table.{rest_does, lead_does}
 use Rattle.sl_plans.specs.Trees.{Line}
 use Rattle.sl_plans.specs.Achieves.{Achieves, Never}
 use Rattle.sl_plans.proofs.Rules.{line_ends, line_goes, if_less, goes_as, achieves_so}

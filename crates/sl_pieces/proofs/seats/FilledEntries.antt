@@ -14,15 +14,15 @@ use Rattle.sl_stages.specs.declared.table.Weight.{Weight}
 use Rattle.sl_stages.specs.returns.Election.{Election}
 use Rattle.sl_stages.specs.meaning.Scopes.{Group, place}
 use Rattle.sl_stages.proofs.methods.SeatSums.{entry_le_sum}
-use Rattle.sl_code.specs.declared.operand.Ranking.{Ranking}
-use Rattle.sl_code.specs.declared.instr.Instr.TheVariants.{Set, Mov, Sub, Get, Store}
-use Rattle.sl_code.specs.Codes.{CountingCode}
+use Rattle.sl_instructions.specs.declared.operand.Ranking.{Ranking}
+use Rattle.sl_instructions.specs.declared.instr.Instr.TheVariants.{Set, Mov, Sub, Get, Store}
+use Rattle.sl_instructions.specs.Codes.{CountingCode}
 use Rattle.sl_prio.specs.Ranking.{ranked}
 use Rattle.sl_prio.proofs.RankedEntries.{ranked_alike}
-use Rattle.sl_machine.specs.State.{State, with_register, with_cell}
-use Rattle.sl_machine.specs.Places.{index_at, item_of}
-use Rattle.sl_machine.proofs.effects.Registers.{get_does, store_does}
-use Rattle.sl_machine.proofs.effects.Storing.{cell_same, cell_other_place, cell_other_slot}
+use Rattle.sl_semantics.specs.State.{State, with_register, with_cell}
+use Rattle.sl_semantics.specs.Places.{index_at, item_of}
+use Rattle.sl_semantics.proofs.effects.Registers.{get_does, store_does}
+use Rattle.sl_semantics.proofs.effects.Storing.{cell_same, cell_other_place, cell_other_slot}
 use Rattle.sl_plans.specs.Frames.{KeepsRest}
 use Rattle.sl_plans.specs.Trees.{Tree, Line}
 use Rattle.sl_plans.specs.Achieves.{Achieves, Never}

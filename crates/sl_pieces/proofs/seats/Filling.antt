@@ -26,11 +26,11 @@ use Rattle.sl_stages.specs.methods.LeastHouse.{outside_minima}
 use Rattle.sl_stages.proofs.methods.HamiltonProofs.{at_wholes}
 use Rattle.sl_stages.proofs.methods.HouseProofs.{length-outside}
 use Rattle.sl_stages.specs.declared.book.Majority.{Majority}
-use Rattle.sl_code.specs.declared.instr.Instr.TheVariants.{Mov, Table}
-use Rattle.sl_code.specs.declared.operand.Ranking.{Ranking}
-use Rattle.sl_code.specs.Codes.{CountingCode}
-use Rattle.sl_code.specs.declared.operand.Ranking.TheVariants as ranking
-use Rattle.sl_machine.specs.State.{State, PriorityTable}
+use Rattle.sl_instructions.specs.declared.instr.Instr.TheVariants.{Mov, Table}
+use Rattle.sl_instructions.specs.declared.operand.Ranking.{Ranking}
+use Rattle.sl_instructions.specs.Codes.{CountingCode}
+use Rattle.sl_instructions.specs.declared.operand.Ranking.TheVariants as ranking
+use Rattle.sl_semantics.specs.State.{State, PriorityTable}
 use Rattle.sl_plans.specs.Trees.{Tree, Line}
 use Rattle.sl_plans.specs.Achieves.{Achieves, Never}
 use Rattle.sl_plans.proofs.Rules.{then_achieves, ends_in, achieves_so}

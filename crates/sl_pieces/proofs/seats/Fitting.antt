@@ -7,8 +7,8 @@ use Rattle.std.proofs.lemmas.List.Sums.{sum_by-le}
 use Rattle.sl_ratio.specs.declared.limits.TheConstants.{MAX_WEIGHT, MAX_LANDS, MAX_PARTIES}
 use Rattle.sl_stages.specs.returns.Election.{Election, IsElection, lands_of, parties_of}
 use Rattle.sl_stages.specs.meaning.Scopes.{Group, place}
-use Rattle.sl_machine.specs.Places.{cells_of}
-use Rattle.sl_machine.specs.Effects.{most}
+use Rattle.sl_semantics.specs.Places.{cells_of}
+use Rattle.sl_semantics.specs.Effects.{most}
 use Rattle.sl_pieces.specs.scopes.Forms.{Form, AllParties, AllLands, votes_of, groups_of}
 use Rattle.sl_pieces.specs.scopes.Scopes.{IsScope}
 use Rattle.sl_pieces.proofs.scopes.Scopes.{scopes_hold}

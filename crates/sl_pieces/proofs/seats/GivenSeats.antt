@@ -7,13 +7,13 @@ use Rattle.sl_stages.specs.declared.fault.Item.{Item}
 use Rattle.sl_stages.specs.declared.table.Mark.TheVariants as mark
 use Rattle.sl_stages.specs.declared.table.SeatStep.{SeatStep}
 use Rattle.sl_stages.specs.returns.Election.{Election}
-use Rattle.sl_code.specs.declared.instr.Instr.TheVariants.{Given}
-use Rattle.sl_code.specs.declared.operand.ScopeKind.{ScopeKind}
-use Rattle.sl_code.specs.Codes.{CountingCode}
-use Rattle.sl_machine.specs.State.{State, PriorityTable, with_register}
-use Rattle.sl_machine.specs.Places.{scope_at, index_at, item_of}
-use Rattle.sl_machine.specs.Effects.{most, stage_of, with_step}
-use Rattle.sl_machine.proofs.effects.Records.{given_does}
+use Rattle.sl_instructions.specs.declared.instr.Instr.TheVariants.{Given}
+use Rattle.sl_instructions.specs.declared.operand.ScopeKind.{ScopeKind}
+use Rattle.sl_instructions.specs.Codes.{CountingCode}
+use Rattle.sl_semantics.specs.State.{State, PriorityTable, with_register}
+use Rattle.sl_semantics.specs.Places.{scope_at, index_at, item_of}
+use Rattle.sl_semantics.specs.Effects.{most, stage_of, with_step}
+use Rattle.sl_semantics.proofs.effects.Records.{given_does}
 use Rattle.sl_plans.specs.declared.plan.Bound.TheVariants as bound
 use Rattle.sl_plans.specs.Trees.{Tree, Line, Times, ones}
 use Rattle.sl_plans.specs.Achieves.{Achieves, Never}

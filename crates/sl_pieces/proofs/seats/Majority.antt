@@ -13,12 +13,12 @@ use Rattle.sl_stages.specs.declared.fault.Item.{Item}
 use Rattle.sl_stages.specs.returns.Election.{Election}
 use Rattle.sl_stages.specs.meaning.Scopes.{Group, place}
 use Rattle.sl_stages.specs.meaning.Splits.{is_deprived, is_refuse, is_refused}
-use Rattle.sl_code.specs.declared.instr.Instr.TheVariants as op
-use Rattle.sl_code.specs.declared.operand.EndFault.TheVariants as end
-use Rattle.sl_code.specs.Codes.{CountingCode}
-use Rattle.sl_machine.specs.State.{State, End, with_register}
-use Rattle.sl_machine.specs.Effects.{most}
-use Rattle.sl_machine.proofs.effects.Registers.{get_does}
+use Rattle.sl_instructions.specs.declared.instr.Instr.TheVariants as op
+use Rattle.sl_instructions.specs.declared.operand.EndFault.TheVariants as end
+use Rattle.sl_instructions.specs.Codes.{CountingCode}
+use Rattle.sl_semantics.specs.State.{State, End, with_register}
+use Rattle.sl_semantics.specs.Effects.{most}
+use Rattle.sl_semantics.proofs.effects.Registers.{get_does}
 use Rattle.sl_plans.specs.declared.plan.Test.TheVariants as test
 use Rattle.sl_plans.specs.Trees.{Tree, Line, Then, If}
 use Rattle.sl_plans.specs.Achieves.{Achieves}

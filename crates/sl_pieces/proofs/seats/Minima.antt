@@ -4,7 +4,7 @@ use Rattle.sl_stages.specs.declared.fault.Item.{Item}
 use Rattle.sl_stages.specs.returns.Election.{Election}
 use Rattle.sl_stages.specs.meaning.Scopes.{place}
 use Rattle.sl_stages.proofs.methods.SeatSums.{length_zeros}
-use Rattle.sl_machine.specs.State.{State}
+use Rattle.sl_semantics.specs.State.{State}
 use Rattle.sl_pieces.specs.seats.Slots.{HasCells, HasMinima}
 
 pub cells_kept : (e : Election) (entries : List Item) (before after : ℕ → ℕ) (v : List ℕ) → ((q : ℕ) → after q ≡ before q) → HasCells e entries before v → HasCells e entries after v

@@ -8,11 +8,11 @@ use Rattle.sl_ratio.specs.Quotient.{quotient}
 use Rattle.sl_stages.specs.declared.fault.Item.{Item}
 use Rattle.sl_stages.specs.returns.Election.{Election}
 use Rattle.sl_stages.specs.meaning.Scopes.{Group, place}
-use Rattle.sl_code.specs.declared.instr.Instr.TheVariants.{Prio}
-use Rattle.sl_code.specs.Codes.{CountingCode}
-use Rattle.sl_machine.specs.State.{State}
-use Rattle.sl_machine.specs.Effects.{Goes, effect, with_table, with_entry}
-use Rattle.sl_machine.proofs.effects.Table.{prio_does}
+use Rattle.sl_instructions.specs.declared.instr.Instr.TheVariants.{Prio}
+use Rattle.sl_instructions.specs.Codes.{CountingCode}
+use Rattle.sl_semantics.specs.State.{State}
+use Rattle.sl_semantics.specs.Effects.{Goes, effect, with_table, with_entry}
+use Rattle.sl_semantics.proofs.effects.Table.{prio_does}
 use Rattle.sl_pieces.specs.scopes.Forms.{Form, table_of, OnItem}
 use Rattle.sl_pieces.specs.scopes.Scopes.{IsScope}
 use Rattle.sl_pieces.specs.arenas.Arenas as arenas

@@ -8,14 +8,14 @@ use Rattle.sl_stages.specs.returns.Election.{Election}
 use Rattle.sl_stages.specs.meaning.Scopes.{Group}
 use Rattle.sl_stages.specs.meaning.Splits.{refusal}
 use Rattle.sl_stages.specs.meaning.Results.{fault_at}
-use Rattle.sl_code.specs.Codes.{CountingCode}
-use Rattle.sl_code.specs.declared.operand.EndFault.{EndFault}
-use Rattle.sl_code.specs.declared.operand.EndFault.TheVariants as end
-use Rattle.sl_machine.specs.State.{State, End, Faulted, with_register}
-use Rattle.sl_machine.specs.Effects as effects
-use Rattle.sl_machine.specs.Effects.{most}
-use Rattle.sl_machine.proofs.effects.Records.{fault_ends}
-use Rattle.sl_machine.proofs.effects.Storing.{register_other}
+use Rattle.sl_instructions.specs.Codes.{CountingCode}
+use Rattle.sl_instructions.specs.declared.operand.EndFault.{EndFault}
+use Rattle.sl_instructions.specs.declared.operand.EndFault.TheVariants as end
+use Rattle.sl_semantics.specs.State.{State, End, Faulted, with_register}
+use Rattle.sl_semantics.specs.Effects as effects
+use Rattle.sl_semantics.specs.Effects.{most}
+use Rattle.sl_semantics.proofs.effects.Records.{fault_ends}
+use Rattle.sl_semantics.proofs.effects.Storing.{register_other}
 use Rattle.sl_plans.specs.declared.plan.Test.TheVariants as test
 use Rattle.sl_plans.specs.Trees.{Tree, If}
 use Rattle.sl_plans.specs.Achieves.{Achieves}

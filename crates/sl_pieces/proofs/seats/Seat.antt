@@ -12,15 +12,15 @@ use Rattle.sl_stages.specs.returns.Election.{Election}
 use Rattle.sl_stages.specs.meaning.Scopes.{Group, place}
 use Rattle.sl_stages.specs.declared.table.Weight.{Weight}
 use Rattle.sl_stages.specs.laws.Ladders.{Has}
-use Rattle.sl_code.specs.declared.instr.Instr.TheVariants.{Get, Store, Emit}
-use Rattle.sl_code.specs.declared.operand.Entries.{Entries}
-use Rattle.sl_code.specs.Codes.{CountingCode}
-use Rattle.sl_machine.specs.State.{State, PriorityTable, with_register, with_cell}
-use Rattle.sl_machine.specs.Places.{index_at, item_of, at_entry}
-use Rattle.sl_machine.specs.Effects.{most, with_step}
-use Rattle.sl_machine.proofs.effects.Registers.{get_does, store_does}
-use Rattle.sl_machine.proofs.effects.Records.{emit_does}
-use Rattle.sl_machine.proofs.effects.Storing.{cell_same, cell_other_place, cell_other_slot}
+use Rattle.sl_instructions.specs.declared.instr.Instr.TheVariants.{Get, Store, Emit}
+use Rattle.sl_instructions.specs.declared.operand.Entries.{Entries}
+use Rattle.sl_instructions.specs.Codes.{CountingCode}
+use Rattle.sl_semantics.specs.State.{State, PriorityTable, with_register, with_cell}
+use Rattle.sl_semantics.specs.Places.{index_at, item_of, at_entry}
+use Rattle.sl_semantics.specs.Effects.{most, with_step}
+use Rattle.sl_semantics.proofs.effects.Registers.{get_does, store_does}
+use Rattle.sl_semantics.proofs.effects.Records.{emit_does}
+use Rattle.sl_semantics.proofs.effects.Storing.{cell_same, cell_other_place, cell_other_slot}
 use Rattle.sl_plans.specs.Trees.{Line, ones, Tree}
 use Rattle.sl_plans.specs.Achieves.{Achieves, Never}
 use Rattle.sl_plans.proofs.Rules.{line_ends, line_goes, then_achieves}

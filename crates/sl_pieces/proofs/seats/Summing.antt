@@ -8,17 +8,17 @@ use Rattle.sl_stages.specs.declared.fault.Item.{Item}
 use Rattle.sl_stages.specs.methods.Field.{no_minima}
 use Rattle.sl_stages.specs.returns.Election.{Election}
 use Rattle.sl_stages.specs.meaning.Scopes.{Group, place}
-use Rattle.sl_code.specs.declared.instr.Instr.TheVariants as op
-use Rattle.sl_code.specs.Codes.{CountingCode}
-use Rattle.sl_machine.specs.State.{State, with_register}
-use Rattle.sl_machine.specs.Effects.{most}
-use Rattle.sl_machine.proofs.effects.Registers.{get_does}
+use Rattle.sl_instructions.specs.declared.instr.Instr.TheVariants as op
+use Rattle.sl_instructions.specs.Codes.{CountingCode}
+use Rattle.sl_semantics.specs.State.{State, with_register}
+use Rattle.sl_semantics.specs.Effects.{most}
+use Rattle.sl_semantics.proofs.effects.Registers.{get_does}
 use Rattle.sl_plans.specs.Trees.{Tree, Line}
 use Rattle.sl_plans.specs.Achieves.{Achieves, Never}
 use Rattle.sl_plans.specs.Frames.{may_write_register}
 use Rattle.sl_plans.proofs.Rules.{line_ends, line_goes, then_achieves, ends_in}
 use Rattle.sl_plans.proofs.KeepingRules.{achieves_keeping}
-use Rattle.sl_machine.specs.Frames.{writes_register}
+use Rattle.sl_semantics.specs.Frames.{writes_register}
 use Rattle.sl_pieces.specs.scopes.Forms.{Form, votes_of, table_of, entries_plan, OnScope, OnItem, groups_of}
 use Rattle.sl_pieces.specs.inner.scopes.Walks.{bare, Visits}
 use Rattle.sl_pieces.specs.scopes.Scopes.{IsEntry}

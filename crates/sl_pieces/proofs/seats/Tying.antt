@@ -15,12 +15,12 @@ use Rattle.sl_stages.specs.meaning.Results.{fault_at}
 use Rattle.sl_stages.specs.laws.Ladders.{IsPeer, IsTop}
 use Rattle.sl_stages.proofs.methods.RaisedSeats.{Contains-none, Contains-head, Contains-tail}
 use Rattle.sl_stages.proofs.methods.SeatSums.{entry_le_sum}
-use Rattle.sl_code.specs.Codes.{CountingCode}
+use Rattle.sl_instructions.specs.Codes.{CountingCode}
 use Rattle.sl_prio.specs.Ranking.{ranked}
 use Rattle.sl_prio.specs.Prio.{top, peers}
-use Rattle.sl_machine.specs.State.{State, Faulted}
-use Rattle.sl_machine.specs.Places.{item_of}
-use Rattle.sl_machine.proofs.effects.Records.{tie_ends}
+use Rattle.sl_semantics.specs.State.{State, Faulted}
+use Rattle.sl_semantics.specs.Places.{item_of}
+use Rattle.sl_semantics.proofs.effects.Records.{tie_ends}
 use Rattle.sl_plans.proofs.Rules.{stop_achieves}
 use Rattle.sl_pieces.specs.scopes.Forms.{Form, kind_of}
 use Rattle.sl_pieces.specs.arenas.Arenas.{Arena, seat_of, waiting, table_of}

@@ -5,10 +5,10 @@ use Rattle.std.specs.Prelude.{nat_eq}
 use Rattle.sl_stages.specs.declared.table.Weight.{Weight}
 use Rattle.sl_stages.specs.returns.Election.{Election}
 use Rattle.sl_stages.specs.meaning.Scopes.{Group, place}
-use Rattle.sl_code.specs.declared.instr.Instr.{Instr}
-use Rattle.sl_code.specs.declared.instr.Instr.TheVariants as op
-use Rattle.sl_machine.specs.State.{State}
-use Rattle.sl_machine.specs.Frames.{writes_slot, records_step, records_weight}
+use Rattle.sl_instructions.specs.declared.instr.Instr.{Instr}
+use Rattle.sl_instructions.specs.declared.instr.Instr.TheVariants as op
+use Rattle.sl_semantics.specs.State.{State}
+use Rattle.sl_semantics.specs.Frames.{writes_slot, records_step, records_weight}
 use Rattle.sl_plans.specs.Trees.{Tree}
 use Rattle.sl_plans.specs.Frames.{has_instr, may_write_register, may_write_slot, seats_winner, may_seat, may_record_step, may_record_weight, KeepsRest}
 use Rattle.sl_plans.proofs.KeepingRules.{free_of}

@@ -14,14 +14,14 @@ use Rattle.sl_stages.specs.methods.Covering.{share}
 use Rattle.sl_stages.specs.returns.Election.{Election}
 use Rattle.sl_stages.specs.meaning.Records.{quotient_mark, remainder_mark}
 use Rattle.sl_stages.specs.laws.Ladders.{Ladders, Has, AreFalling, divisor_ladders, hamilton_ladders, covering_ladders}
-use Rattle.sl_code.specs.declared.operand.Entries.{Entries}
-use Rattle.sl_code.specs.declared.operand.Entries.TheVariants as entries
-use Rattle.sl_code.specs.declared.operand.Ranking.{Ranking}
-use Rattle.sl_code.specs.declared.operand.Ranking.TheVariants as ranking
+use Rattle.sl_instructions.specs.declared.operand.Entries.{Entries}
+use Rattle.sl_instructions.specs.declared.operand.Entries.TheVariants as entries
+use Rattle.sl_instructions.specs.declared.operand.Ranking.{Ranking}
+use Rattle.sl_instructions.specs.declared.operand.Ranking.TheVariants as ranking
 use Rattle.sl_prio.specs.Ranking.{ranked}
-use Rattle.sl_machine.specs.State.{State, PriorityTable}
-use Rattle.sl_machine.specs.Places.{at_entry}
-use Rattle.sl_machine.specs.Effects.{mark_of}
+use Rattle.sl_semantics.specs.State.{State, PriorityTable}
+use Rattle.sl_semantics.specs.Places.{at_entry}
+use Rattle.sl_semantics.specs.Effects.{mark_of}
 
 -- the ladders of a scope's entries; for the table their numbers in it, its kind of entries and its ranking; and the mark of the seat
 -- that an entry wins when it holds so many

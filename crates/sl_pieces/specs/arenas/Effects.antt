@@ -4,14 +4,14 @@ use Rattle.sl_ratio.specs.declared.entry.Entry.{Entry}
 use Rattle.sl_stages.specs.returns.Election.{Election}
 use Rattle.sl_stages.specs.methods.Ties.{Lists}
 use Rattle.sl_stages.specs.laws.Ladders.{Has, IsPeer}
-use Rattle.sl_code.specs.declared.instr.Instr.TheVariants as instr
-use Rattle.sl_code.specs.Codes.{CountingCode}
+use Rattle.sl_instructions.specs.declared.instr.Instr.TheVariants as instr
+use Rattle.sl_instructions.specs.Codes.{CountingCode}
 use Rattle.sl_prio.specs.Ranking.{ranked}
 use Rattle.sl_prio.specs.Prio.{top}
 use Rattle.sl_prio.specs.Lot.{drawn}
-use Rattle.sl_machine.specs.State.{State}
-use Rattle.sl_machine.specs.Drawn.{lot_of}
-use Rattle.sl_machine.specs.Effects.{Goes, counts_peers, name_of, effect, with_table, with_entry}
+use Rattle.sl_semantics.specs.State.{State}
+use Rattle.sl_semantics.specs.Drawn.{lot_of}
+use Rattle.sl_semantics.specs.Effects.{Goes, counts_peers, name_of, effect, with_table, with_entry}
 use Rattle.sl_pieces.specs.arenas.Arenas.{Arena, IsArena, HasWaiting, seat_of, waiting, table_of, seat_taken}
 use Rattle.sl_pieces.specs.arenas.Laws.{SeatTaken}
 

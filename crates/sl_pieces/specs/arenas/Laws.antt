@@ -13,12 +13,12 @@ use Rattle.sl_stages.specs.methods.Ties as meaning
 use Rattle.sl_stages.specs.laws.Awards.{DrawsNext}
 use Rattle.sl_stages.specs.laws.Ladders.{Has, IsPeer, RaisesEach}
 use Rattle.sl_stages.specs.laws.Walks.{MidBatch}
-use Rattle.sl_code.specs.declared.operand.Entries.{Entries}
+use Rattle.sl_instructions.specs.declared.operand.Entries.{Entries}
 use Rattle.sl_prio.specs.Ranking.{ranked, insert_ranked, without}
 use Rattle.sl_prio.specs.Prio.{top, peers, is_covered}
 use Rattle.sl_prio.specs.Lot as machine
-use Rattle.sl_machine.specs.Effects.{mark_of}
-use Rattle.sl_machine.specs.SameLots.{SameLot}
+use Rattle.sl_semantics.specs.Effects.{mark_of}
+use Rattle.sl_semantics.specs.SameLots.{SameLot}
 use Rattle.sl_pieces.specs.arenas.Arenas.{Arena, IsArena, AreWeighed, seat_of, next_seat, waiting, divisor_arena, hamilton_arena, covering_arena}
 
 -- what the table answers where the entries hold t and these are their peers: its peers are their next seats

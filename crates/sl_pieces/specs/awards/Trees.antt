@@ -1,8 +1,8 @@
 -- The plans that award seats, whatever a seat is: whole batches of peers first, and then the last seats by the stage's lot
 -- (docs/blocks.md, section 2).
 use Rattle.std.specs.Prelude.{ℕ, List, [], ◌∷◌}
-use Rattle.sl_code.specs.declared.instr.Instr.{Instr}
-use Rattle.sl_code.specs.declared.instr.Instr.TheVariants.{Set, Mov, Add, Sub, Take, Takelot}
+use Rattle.sl_instructions.specs.declared.instr.Instr.{Instr}
+use Rattle.sl_instructions.specs.declared.instr.Instr.TheVariants.{Set, Mov, Add, Sub, Take, Takelot}
 use Rattle.sl_plans.specs.declared.plan.Test.TheVariants as test
 use Rattle.sl_plans.specs.declared.plan.Bound.{Bound}
 use Rattle.sl_plans.specs.Trees.{Tree, Line, Then, If, Times, ones, count_down}

@@ -11,10 +11,10 @@ use Rattle.sl_stages.specs.book.Typing.{base_tests, is_typed}
 use Rattle.sl_stages.specs.returns.Election.{Election, IsElection}
 use Rattle.sl_stages.specs.meaning.Tables.{SeatTable}
 use Rattle.sl_stages.specs.meaning.Means.{Known, IsEnd}
-use Rattle.sl_code.specs.Codes.{CountingCode}
-use Rattle.sl_machine.specs.State.{State, End, Faulted}
-use Rattle.sl_machine.specs.Memories.{held_of}
-use Rattle.sl_machine.specs.Tables.{held_table}
+use Rattle.sl_instructions.specs.Codes.{CountingCode}
+use Rattle.sl_semantics.specs.State.{State, End, Faulted}
+use Rattle.sl_semantics.specs.Memories.{held_of}
+use Rattle.sl_semantics.specs.Tables.{held_table}
 use Rattle.sl_plans.specs.Laid.{AchievesAll}
 use Rattle.sl_pieces.specs.facts.Laws.{flags}
 use Rattle.sl_pieces.specs.columns.Columns.{HoldsColumn}

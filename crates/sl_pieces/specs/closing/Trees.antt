@@ -8,9 +8,9 @@ use Rattle.sl_stages.specs.declared.book.Seating.{Seating}
 use Rattle.sl_stages.specs.declared.book.Seating.TheVariants as seating
 use Rattle.sl_stages.specs.declared.book.Shape.TheVariants as shape
 use Rattle.sl_stages.specs.book.Typing.{Column, is_named}
-use Rattle.sl_code.specs.declared.instr.Instr.{Instr}
-use Rattle.sl_code.specs.declared.instr.Instr.TheVariants.{Input, Seat, Single, Halt, Haltv}
-use Rattle.sl_code.specs.declared.operand.Input.TheVariants as input
+use Rattle.sl_instructions.specs.declared.instr.Instr.{Instr}
+use Rattle.sl_instructions.specs.declared.instr.Instr.TheVariants.{Input, Seat, Single, Halt, Haltv}
+use Rattle.sl_instructions.specs.declared.operand.Input.TheVariants as input
 use Rattle.sl_plans.specs.declared.plan.Cursor.TheVariants as cursor
 use Rattle.sl_plans.specs.Trees.{Tree, Line, Each}
 use Rattle.sl_pieces.specs.columns.Trees.{copy_tree, pair_tree}

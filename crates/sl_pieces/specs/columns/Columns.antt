@@ -2,8 +2,8 @@
 use Rattle.std.specs.Prelude.{◌≡◌, ◌≢◌, ℕ, ◌<◌, List, length, slice_index}
 use Rattle.sl_stages.specs.declared.book.Shape.{Shape}
 use Rattle.sl_stages.specs.returns.Election.{Election}
-use Rattle.sl_machine.specs.State.{State}
-use Rattle.sl_machine.specs.Places.{cells_of}
+use Rattle.sl_semantics.specs.State.{State}
+use Rattle.sl_semantics.specs.Places.{cells_of}
 
 -- the cells of a column are those values
 pub record HoldsColumn (e : Election) (shape : Shape) (column : ℕ → ℕ) (values : List ℕ) : Type 0 where

@@ -9,9 +9,9 @@ use Rattle.sl_stages.specs.returns.Election.{Election, IsElection, lands_of, par
 use Rattle.sl_stages.specs.returns.Facts.{lists_of}
 use Rattle.sl_stages.specs.methods.Ties.{Choice}
 use Rattle.sl_stages.specs.meaning.Seating.{IsSeating, tie_of, seated_on, cover_place}
-use Rattle.sl_code.specs.Codes.{CountingCode}
-use Rattle.sl_machine.specs.State.{State, End, Faulted}
-use Rattle.sl_machine.specs.Effects.{one_if}
+use Rattle.sl_instructions.specs.Codes.{CountingCode}
+use Rattle.sl_semantics.specs.State.{State, End, Faulted}
+use Rattle.sl_semantics.specs.Effects.{one_if}
 use Rattle.sl_plans.specs.Achieves.{Achieves}
 use Rattle.sl_pieces.specs.covers.Trees.{CoverSlots, cover_tree}
 

@@ -1,9 +1,9 @@
 -- The plan of a covering: on each list its winners are seated by their shares, as many as the list has seats (docs/blocks.md, section 6).
 use Rattle.std.specs.Prelude.{ℕ, [], ◌∷◌, ◌++◌}
-use Rattle.sl_code.specs.declared.instr.Instr.TheVariants.{Set, Mov, Sub, Get, Store, Zero, Table, Wland, Share, Take, Tie, Seat, Single}
-use Rattle.sl_code.specs.declared.operand.Entries.TheVariants as entries
-use Rattle.sl_code.specs.declared.operand.Ranking.TheVariants as ranking
-use Rattle.sl_code.specs.declared.operand.ScopeKind.TheVariants as kind
+use Rattle.sl_instructions.specs.declared.instr.Instr.TheVariants.{Set, Mov, Sub, Get, Store, Zero, Table, Wland, Share, Take, Tie, Seat, Single}
+use Rattle.sl_instructions.specs.declared.operand.Entries.TheVariants as entries
+use Rattle.sl_instructions.specs.declared.operand.Ranking.TheVariants as ranking
+use Rattle.sl_instructions.specs.declared.operand.ScopeKind.TheVariants as kind
 use Rattle.sl_verify.specs.declared.needs.TheConstants.{LAST_CLAUSE}
 use Rattle.sl_plans.specs.declared.plan.Cursor.TheVariants as cursor
 use Rattle.sl_plans.specs.declared.plan.Test.TheVariants as test

@@ -15,9 +15,9 @@ use Rattle.sl_stages.specs.meaning.Records.{Records}
 use Rattle.sl_stages.specs.meaning.Results as results
 use Rattle.sl_stages.specs.meaning.Expressions.{Context, ExprMeans}
 use Rattle.sl_stages.specs.laws.ColumnLaws.{IsTypedAs}
-use Rattle.sl_code.specs.declared.code.CodeStage.{CodeStage}
-use Rattle.sl_code.specs.Codes.{CountingCode}
-use Rattle.sl_machine.specs.State.{State}
+use Rattle.sl_instructions.specs.declared.code.CodeStage.{CodeStage}
+use Rattle.sl_instructions.specs.Codes.{CountingCode}
+use Rattle.sl_semantics.specs.State.{State}
 use Rattle.sl_plans.specs.Laid.{AchievesAll}
 use Rattle.sl_pieces.specs.columns.Columns.{HoldsColumn}
 use Rattle.sl_pieces.specs.nodes.Nodes.{EndsWith}

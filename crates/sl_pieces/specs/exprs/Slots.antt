@@ -5,7 +5,7 @@ use Rattle.sl_stages.specs.declared.book.Shape.TheVariants as shape
 use Rattle.sl_stages.specs.declared.fact.Fact.TheVariants as facts
 use Rattle.sl_stages.specs.declared.limits.TheConstants.{MAX_DEPTH}
 use Rattle.sl_stages.specs.book.Typing.{Column, fact_number, shape_number}
-use Rattle.sl_code.specs.Codes.{CountingCode}
+use Rattle.sl_instructions.specs.Codes.{CountingCode}
 use Rattle.sl_pieces.specs.declared.slots.TheConstants.{ELIGIBLE, FIRST_FACT, VOTES, NUMBERS}
 pub use Rattle.sl_pieces.specs.declared.slots.TheConstants.{PAIR_NUMBERS as pair_numbers, NAMES_LEFT as names_left, VACANT_SEATS as vacant_seats, FIRST_PASSING_SLOT, LEVELS, FIRST_STAGE_SLOT}
 use Rattle.sl_pieces.specs.facts.Trees.{FactSlots}

@@ -10,9 +10,9 @@ use Rattle.sl_stages.specs.book.Typing.{fact_type}
 use Rattle.sl_stages.specs.returns.Election.{Election, IsElection}
 use Rattle.sl_stages.specs.returns.Facts.{by_party, is_eligible}
 use Rattle.sl_stages.specs.meaning.Columns.{fact_column}
-use Rattle.sl_code.specs.Codes.{CountingCode}
-use Rattle.sl_machine.specs.State.{State}
-use Rattle.sl_machine.specs.Effects.{one_if}
+use Rattle.sl_instructions.specs.Codes.{CountingCode}
+use Rattle.sl_semantics.specs.State.{State}
+use Rattle.sl_semantics.specs.Effects.{one_if}
 use Rattle.sl_plans.specs.Achieves.{Achieves, Never}
 use Rattle.sl_pieces.specs.columns.Columns.{HoldsColumn, GetsColumn}
 use Rattle.sl_pieces.specs.facts.Trees.{FactSlots, eligible_tree, fact_tree}

@@ -10,8 +10,8 @@ use Rattle.sl_stages.specs.meaning.Scopes.{Group, place, cells}
 use Rattle.sl_stages.specs.meaning.Records.{Records}
 use Rattle.sl_stages.specs.meaning.Splits.{Award, Seats, Refused}
 use Rattle.sl_stages.specs.meaning.Results.{Stand, fault_at}
-use Rattle.sl_code.specs.Codes.{CountingCode}
-use Rattle.sl_machine.specs.State.{State, End, Faulted}
+use Rattle.sl_instructions.specs.Codes.{CountingCode}
+use Rattle.sl_semantics.specs.State.{State, End, Faulted}
 use Rattle.sl_plans.specs.Trees.{Tree}
 use Rattle.sl_plans.specs.Achieves.{Achieves}
 use Rattle.sl_pieces.specs.scopes.Forms.{Form, amounts_of, votes_of, groups_of, OnScope}

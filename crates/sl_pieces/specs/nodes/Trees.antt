@@ -4,9 +4,9 @@ use Rattle.sl_ratio.specs.declared.method.Divisor.{Divisor}
 use Rattle.sl_ratio.specs.declared.method.Method.{Method}
 use Rattle.sl_ratio.specs.declared.method.Method.TheVariants as by
 use Rattle.sl_stages.specs.declared.book.Majority.{Majority}
-use Rattle.sl_code.specs.declared.instr.Instr.TheVariants.{Set, Mov, Add, Max, Get, Store, Zero, Table, Prio}
-use Rattle.sl_code.specs.declared.operand.EndFault.TheVariants as end
-use Rattle.sl_code.specs.declared.operand.Ranking.TheVariants as ranking
+use Rattle.sl_instructions.specs.declared.instr.Instr.TheVariants.{Set, Mov, Add, Max, Get, Store, Zero, Table, Prio}
+use Rattle.sl_instructions.specs.declared.operand.EndFault.TheVariants as end
+use Rattle.sl_instructions.specs.declared.operand.Ranking.TheVariants as ranking
 use Rattle.sl_plans.specs.declared.plan.Test.TheVariants as test
 use Rattle.sl_plans.specs.declared.plan.Bound.TheVariants as bound
 use Rattle.sl_plans.specs.Trees.{Tree, Line, Then, If, count_down}

@@ -6,9 +6,9 @@ use Rattle.sl_stages.specs.declared.fault.Scope.{Scope}
 use Rattle.sl_stages.specs.declared.fault.Item.{Item}
 use Rattle.sl_stages.specs.returns.Election.{Election}
 use Rattle.sl_stages.specs.meaning.Scopes.{Group, place}
-use Rattle.sl_code.specs.declared.operand.Entries.{Entries}
-use Rattle.sl_machine.specs.State.{State}
-use Rattle.sl_machine.specs.Places.{cells_of, cell_at, index_at, item_of, at_entry, scope_at}
+use Rattle.sl_instructions.specs.declared.operand.Entries.{Entries}
+use Rattle.sl_semantics.specs.State.{State}
+use Rattle.sl_semantics.specs.Places.{cells_of, cell_at, index_at, item_of, at_entry, scope_at}
 use Rattle.sl_pieces.specs.scopes.Forms.{Form, amounts_of, votes_of, table_of, kind_of, groups_of, OnScope, OnItem}
 
 -- an entry of a scope, in a table of that kind and in columns of that shape: its place tells which one it is, the cursors can be set to it,

@@ -2,10 +2,10 @@
 use Rattle.std.specs.Prelude.{◌≡◌, ◌≢◌, ℕ, [], ◌∷◌, min, sum_by, Some, slice_get}
 use Rattle.sl_stages.specs.returns.Election.{Election}
 use Rattle.sl_stages.specs.meaning.Scopes.{Group, place}
-use Rattle.sl_code.specs.declared.instr.Instr.TheVariants.{Set, Get, Add}
-use Rattle.sl_code.specs.Codes.{CountingCode}
-use Rattle.sl_machine.specs.State.{State}
-use Rattle.sl_machine.specs.Effects.{most}
+use Rattle.sl_instructions.specs.declared.instr.Instr.TheVariants.{Set, Get, Add}
+use Rattle.sl_instructions.specs.Codes.{CountingCode}
+use Rattle.sl_semantics.specs.State.{State}
+use Rattle.sl_semantics.specs.Effects.{most}
 use Rattle.sl_plans.specs.Trees.{Tree, Line, Then}
 use Rattle.sl_plans.specs.Achieves.{Achieves, Never}
 use Rattle.sl_pieces.specs.scopes.Forms.{Form, votes_of, groups_of, entries_plan, OnScope}

@@ -4,9 +4,9 @@ use Rattle.sl_stages.specs.declared.fault.Item.{Item}
 use Rattle.sl_stages.specs.returns.Election.{Election}
 use Rattle.sl_stages.specs.methods.Field.{no_minima}
 use Rattle.sl_stages.specs.meaning.Scopes.{place}
-use Rattle.sl_code.specs.Codes.{CountingCode}
-use Rattle.sl_machine.specs.State.{State}
-use Rattle.sl_machine.specs.Effects.{stage_of, name_of}
+use Rattle.sl_instructions.specs.Codes.{CountingCode}
+use Rattle.sl_semantics.specs.State.{State}
+use Rattle.sl_semantics.specs.Effects.{stage_of, name_of}
 use Rattle.sl_pieces.specs.scopes.Forms.{Form, amounts_of, votes_of}
 
 -- its stage, and the slots of the amounts, of the votes, of the minima if there are any, and of its result

@@ -7,14 +7,14 @@ use Rattle.sl_ratio.specs.declared.limits.TheConstants.{MAX_SEATS}
 use Rattle.sl_stages.specs.declared.book.Majority.{Majority}
 use Rattle.sl_stages.specs.book.Typing.{is_prefer}
 use Rattle.sl_stages.specs.meaning.Splits.{is_refuse}
-use Rattle.sl_code.specs.declared.instr.Instr.{Instr}
-use Rattle.sl_code.specs.declared.instr.Instr.TheVariants.{Set, Mov, Add, Sub, Mul, Div, Rem, Get, Store, Table, Prio, Rest, Lead, Emit, Given, Fault, Tie, Weigh}
-use Rattle.sl_code.specs.declared.operand.EndFault.{EndFault}
-use Rattle.sl_code.specs.declared.operand.EndFault.TheVariants as end
-use Rattle.sl_code.specs.declared.operand.Ranking.{Ranking}
-use Rattle.sl_code.specs.declared.operand.Ranking.TheVariants as ranking
-use Rattle.sl_code.specs.declared.operand.Rounding.{Rounding}
-use Rattle.sl_code.specs.Numbers.{rounding_of}
+use Rattle.sl_instructions.specs.declared.instr.Instr.{Instr}
+use Rattle.sl_instructions.specs.declared.instr.Instr.TheVariants.{Set, Mov, Add, Sub, Mul, Div, Rem, Get, Store, Table, Prio, Rest, Lead, Emit, Given, Fault, Tie, Weigh}
+use Rattle.sl_instructions.specs.declared.operand.EndFault.{EndFault}
+use Rattle.sl_instructions.specs.declared.operand.EndFault.TheVariants as end
+use Rattle.sl_instructions.specs.declared.operand.Ranking.{Ranking}
+use Rattle.sl_instructions.specs.declared.operand.Ranking.TheVariants as ranking
+use Rattle.sl_instructions.specs.declared.operand.Rounding.{Rounding}
+use Rattle.sl_instructions.specs.Numbers.{rounding_of}
 use Rattle.sl_plans.specs.declared.plan.Test.TheVariants as test
 use Rattle.sl_plans.specs.declared.plan.Bound.TheVariants as bound
 use Rattle.sl_plans.specs.Trees.{Tree, Line, Stop, Then, If, Times}

@@ -1,7 +1,7 @@
 -- The tree that a plan stands for (docs/plans.md, section 6).
 use Rattle.std.specs.Prelude.{List, map, slice_get, unwrap_or}
-use Rattle.sl_code.specs.declared.instr.Instr.{Instr}
-use Rattle.sl_code.specs.declared.instr.Instr.TheVariants.{Set}
+use Rattle.sl_instructions.specs.declared.instr.Instr.{Instr}
+use Rattle.sl_instructions.specs.declared.instr.Instr.TheVariants.{Set}
 use Rattle.sl_plans.specs.declared.plan.Part.{Part}
 use Rattle.sl_plans.specs.declared.plan.Part.TheVariants as part
 use Rattle.sl_plans.specs.declared.plan.Plan.{Plan}

@@ -3,7 +3,7 @@ use Rattle.std.specs.Prelude.{◌≡◌, ◌<◌, ◌*◌, All, length}
 use Rattle.sl_stages.specs.declared.table.ListSeats.{ListSeats}
 use Rattle.sl_stages.specs.returns.Election.{Election, lands_of, parties_of, wins_of}
 use Rattle.sl_stages.specs.meaning.Tables.{SeatTable}
-use Rattle.sl_machine.specs.Memories.{Held}
+use Rattle.sl_semantics.specs.Memories.{Held}
 
 -- a list is of a Land and of a party of the election
 abbrev pub IsOf : Election → ListSeats → Type 0

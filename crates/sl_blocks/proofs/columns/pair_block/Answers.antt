@@ -1,6 +1,6 @@
 use Rattle.std.proofs.Common.{[], ◌∷◌, ap}
-use Rattle.sl_code.specs.declared.instr.Instr.{Instr}
-use Rattle.sl_code.specs.declared.instr.Instr.TheVariants.{Get, Store}
+use Rattle.sl_instructions.specs.declared.instr.Instr.{Instr}
+use Rattle.sl_instructions.specs.declared.instr.Instr.TheVariants.{Get, Store}
 use Rattle.sl_plans.specs.Trees.{Line}
 use Rattle.sl_pieces.specs.columns.Trees.{cells_plan, pair_tree}
 use Rattle.sl_pieces.specs.declared.registers.TheConstants as reg

@@ -1,5 +1,5 @@
 use Rattle.std.proofs.Common.{◌+◌, ◌<◌, vec_len, sym, subst, arith}
-use Rattle.sl_code.specs.declared.code.TheConstants.{MAX_INSTRS}
+use Rattle.sl_instructions.specs.declared.code.TheConstants.{MAX_INSTRS}
 use Rattle.sl_plans.specs.Trees.{Tree, size_of}
 use Rattle.sl_pieces.specs.facts.Trees.{fact_tree}
 use Rattle.sl_pieces.specs.exprs.Slots.{fact_slots}

@@ -1,5 +1,5 @@
 use Rattle.std.proofs.Common.{List, [], ◌∷◌, vec_len, ap, ◌∙◌}
-use Rattle.sl_code.specs.declared.instr.Instr.{Instr}
+use Rattle.sl_instructions.specs.declared.instr.Instr.{Instr}
 use Rattle.sl_plans.specs.declared.plan.Part.TheVariants as part
 use Rattle.sl_plans.specs.inner.Layout.{filled, tree_of}
 use Rattle.sl_plans.specs.Trees.{Tree, Line, Then}

@@ -1,5 +1,5 @@
 use Rattle.std.proofs.Common.{ℕ, [], ◌++◌, slice_get, ap, ◌∙◌, arith}
-use Rattle.sl_code.specs.Codes.{CountingCode}
+use Rattle.sl_instructions.specs.Codes.{CountingCode}
 use Rattle.sl_pieces.specs.closing.Trees.{seating_pieces, vacant_pieces}
 use Rattle.sl_books.specs.Codes.{HasSoFar}
 use Rattle.sl_books.proofs.Rows.{blocks_in}

@@ -2,9 +2,9 @@ use Rattle.std.proofs.Common.{[], ◌∷◌, sym, ap, subst, arith}
 use Rattle.sl_stages.specs.declared.fact.Fact.TheVariants as facts
 use Rattle.sl_stages.specs.declared.book.Pairing.TheVariants as pairings
 use Rattle.sl_stages.specs.declared.book.Shape.TheVariants as shape
-use Rattle.sl_code.specs.declared.instr.Instr.TheVariants.{Input}
-use Rattle.sl_code.specs.declared.operand.Input.TheVariants as input
-use Rattle.sl_code.specs.Codes.{CountingCode}
+use Rattle.sl_instructions.specs.declared.instr.Instr.TheVariants.{Input}
+use Rattle.sl_instructions.specs.declared.operand.Input.TheVariants as input
+use Rattle.sl_instructions.specs.Codes.{CountingCode}
 use Rattle.sl_plans.specs.Trees.{Line}
 use Rattle.sl_pieces.specs.columns.Trees.{pair_tree}
 use Rattle.sl_pieces.specs.declared.slots.TheConstants.{NAMES_LEFT as names_left, VACANT_SEATS as vacant_seats}

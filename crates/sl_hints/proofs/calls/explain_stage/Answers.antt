@@ -1,5 +1,5 @@
 use Rattle.std.proofs.Common.{rules}
-use Rattle.sl_desk.specs.Judging.{input_of}
+use Rattle.sl_inputs.specs.Judging.{input_of}
 use Rattle.sl_hints.proofs.Commands.{stage_fault}
 use Rattle.sl_hints.proofs.calls.explain_stage.Goals as goal
 use Rattle.sl_stages.specs.book.Books.{book_of}

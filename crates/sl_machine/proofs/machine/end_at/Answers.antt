@@ -1,7 +1,7 @@
 -- The end fits, and is that of the run.
 use Rattle.std.proofs.Common.{◌≡◌}
 use Rattle.std.proofs.lemmas.Result.{IfOk-weaker}
-use Rattle.sl_machine.specs.Effects.{Ends, effect}
+use Rattle.sl_semantics.specs.Effects.{Ends, effect}
 use Rattle.sl_machine.specs.inner.Ahead.{place_of}
 use Rattle.sl_machine.specs.inner.Leading.{EndsWith}
 use Rattle.sl_machine.specs.inner.Stores.{state_of, end_with}

@@ -2,7 +2,7 @@
 use Rattle.std.proofs.Common.{◌≡◌, IsTrue, ◌≤◌, ◌+◌, ◌-◌, ℕ, length, drop, take, Some, sym, ap, subst, ◌∙◌, arith}
 use Rattle.std.proofs.lemmas.List.{take_rest}
 use Rattle.std.proofs.lemmas.Option.{same_Some, slice_get_within}
-use Rattle.sl_code.specs.declared.instr.Instr.{Instr}
+use Rattle.sl_instructions.specs.declared.instr.Instr.{Instr}
 use Rattle.sl_machine.specs.inner.Ahead.{place_of, AreAhead}
 use Rattle.sl_machine.specs.inner.Leading.{LeadsTo, ends_run}
 use Rattle.sl_machine.specs.inner.Stores.{state_of}

@@ -1,8 +1,8 @@
 -- A step leads on, and what is left of the run ends as the whole.
 use Rattle.std.proofs.Common.{◌≡◌, ℕ, suc, ◌-◌, ◌<◌, IfSome, IfNone, sym, ap, subst, ◌∙◌, arith}
 use Rattle.sl_machine.specs.declared.store.Store.{Store}
-use Rattle.sl_machine.specs.Agrees.{IsSafe}
-use Rattle.sl_machine.specs.Runs.{run}
+use Rattle.sl_semantics.specs.Agrees.{IsSafe}
+use Rattle.sl_semantics.specs.Runs.{run}
 use Rattle.sl_machine.specs.inner.Ahead.{place_of, AreAhead}
 use Rattle.sl_machine.specs.inner.Leading.{LeadsTo, EndsAt}
 use Rattle.sl_machine.specs.inner.Recording.{ending_by}

@@ -1,7 +1,7 @@
 -- What is left of the run ends as the whole.
 use Rattle.std.proofs.Common.{◌≡◌}
-use Rattle.sl_machine.specs.Agrees.{IsSafe}
-use Rattle.sl_machine.specs.Runs.{run}
+use Rattle.sl_semantics.specs.Agrees.{IsSafe}
+use Rattle.sl_semantics.specs.Runs.{run}
 use Rattle.sl_machine.specs.inner.Ahead.{place_of, AreAhead}
 use Rattle.sl_machine.specs.inner.Recording.{state_by, ending_by}
 use Rattle.sl_machine.specs.inner.Stores.{state_of, sizes_of, sizes_for}

@@ -5,12 +5,12 @@ use Rattle.std.specs.List.{list_any}
 use Rattle.sl_stages.specs.returns.Election.{Election}
 use Rattle.sl_stages.specs.methods.Ties.{Lists, Decided, Tied, IsChoice}
 use Rattle.sl_stages.specs.laws.Ladders.{IsPeer, IsSettled, IsTop, HasRoom}
-use Rattle.sl_code.specs.Codes.{CountingCode}
-use Rattle.sl_machine.specs.State.{State, End}
-use Rattle.sl_machine.specs.Drawn.{lot_of}
-use Rattle.sl_machine.specs.Effects.{name_of}
-use Rattle.sl_machine.specs.Effects as machine
-use Rattle.sl_machine.specs.SameLots.{SameLot}
+use Rattle.sl_instructions.specs.Codes.{CountingCode}
+use Rattle.sl_semantics.specs.State.{State, End}
+use Rattle.sl_semantics.specs.Drawn.{lot_of}
+use Rattle.sl_semantics.specs.Effects.{name_of}
+use Rattle.sl_semantics.specs.Effects as machine
+use Rattle.sl_semantics.specs.SameLots.{SameLot}
 use Rattle.sl_plans.specs.declared.plan.Bound.{Bound}
 use Rattle.sl_plans.specs.Trees.{Tree, ones}
 use Rattle.sl_plans.specs.Meaning.{turns_in}

@@ -5,8 +5,8 @@ use Rattle.sl_stages.specs.returns.Election.{Election}
 use Rattle.sl_stages.specs.methods.Ties.{Lists}
 use Rattle.sl_stages.specs.laws.Ladders.{Has, IsPeer, IsSettled, RaisesEach}
 use Rattle.sl_stages.specs.laws.Walks.{MidBatch}
-use Rattle.sl_code.specs.Codes.{CountingCode}
-use Rattle.sl_machine.specs.State.{State, with_register}
+use Rattle.sl_instructions.specs.Codes.{CountingCode}
+use Rattle.sl_semantics.specs.State.{State, with_register}
 use Rattle.sl_plans.specs.declared.plan.Bound.{Bound}
 use Rattle.sl_plans.specs.Trees.{Tree, ones}
 use Rattle.sl_plans.specs.Meaning.{turns_in}

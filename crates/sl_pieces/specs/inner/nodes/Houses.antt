@@ -7,7 +7,7 @@ use Rattle.sl_stages.specs.returns.Election.{Election}
 use Rattle.sl_stages.specs.methods.LeastHouse.{GrownTo, AboveCap, IsGrowth}
 use Rattle.sl_stages.specs.meaning.Scopes.{Group, place}
 use Rattle.sl_stages.specs.meaning.Results.{fault_at}
-use Rattle.sl_machine.specs.State.{State, End, Faulted}
+use Rattle.sl_semantics.specs.State.{State, End, Faulted}
 use Rattle.sl_pieces.specs.scopes.Forms.{OnScope}
 use Rattle.sl_pieces.specs.declared.registers.TheConstants as reg
 use Rattle.sl_pieces.specs.seats.Slots.{Slots}

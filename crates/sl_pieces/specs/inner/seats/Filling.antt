@@ -14,9 +14,9 @@ use Rattle.sl_stages.specs.book.Typing.{is_prefer}
 use Rattle.sl_stages.specs.methods.LeastHouse.{outside_minima}
 use Rattle.sl_stages.specs.meaning.Scopes.{Group, place}
 use Rattle.sl_stages.specs.meaning.Records.{field_weights, tells_weights}
-use Rattle.sl_code.specs.declared.operand.Ranking.{Ranking}
-use Rattle.sl_code.specs.Codes.{CountingCode}
-use Rattle.sl_machine.specs.State.{State}
+use Rattle.sl_instructions.specs.declared.operand.Ranking.{Ranking}
+use Rattle.sl_instructions.specs.Codes.{CountingCode}
+use Rattle.sl_semantics.specs.State.{State}
 use Rattle.sl_plans.specs.declared.plan.Cursor.TheVariants as cursor
 use Rattle.sl_plans.specs.Trees.{Tree}
 use Rattle.sl_plans.specs.Achieves.{Achieves, Never}

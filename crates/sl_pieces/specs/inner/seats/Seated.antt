@@ -10,7 +10,7 @@ use Rattle.sl_stages.specs.returns.Election.{Election}
 use Rattle.sl_stages.specs.meaning.Scopes.{Group, place}
 use Rattle.sl_stages.specs.meaning.Records.{seat_step}
 use Rattle.sl_stages.specs.laws.Ladders.{Ladders, IsTop}
-use Rattle.sl_machine.specs.State.{State}
+use Rattle.sl_semantics.specs.State.{State}
 use Rattle.sl_pieces.specs.scopes.Forms.{OnScope}
 use Rattle.sl_pieces.specs.arenas.Arenas.{Arena}
 use Rattle.sl_pieces.specs.declared.registers.TheConstants as reg

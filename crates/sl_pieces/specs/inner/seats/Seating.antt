@@ -11,8 +11,8 @@ use Rattle.sl_stages.specs.meaning.Scopes.{Group}
 use Rattle.sl_stages.specs.meaning.Splits.{entries_at}
 use Rattle.sl_stages.specs.meaning.Results.{fault_at}
 use Rattle.sl_stages.specs.laws.Ladders.{IsTop}
-use Rattle.sl_code.specs.Codes.{CountingCode}
-use Rattle.sl_machine.specs.State.{State, End, Faulted}
+use Rattle.sl_instructions.specs.Codes.{CountingCode}
+use Rattle.sl_semantics.specs.State.{State, End, Faulted}
 use Rattle.sl_pieces.specs.arenas.Arenas.{Arena}
 use Rattle.sl_pieces.specs.inner.awards.Batches.{GivesSeats}
 use Rattle.sl_pieces.specs.inner.awards.Awards.{IsCounted, EndsTied, FitsAwards}

@@ -8,8 +8,8 @@ use Rattle.sl_stages.specs.returns.Election.{Election}
 use Rattle.sl_stages.specs.meaning.Scopes.{Group}
 use Rattle.sl_stages.specs.meaning.Splits.{refusal, is_refused}
 use Rattle.sl_stages.specs.meaning.Results.{fault_at}
-use Rattle.sl_machine.specs.State.{State, End, Faulted}
-use Rattle.sl_machine.specs.Effects.{most}
+use Rattle.sl_semantics.specs.State.{State, End, Faulted}
+use Rattle.sl_semantics.specs.Effects.{most}
 use Rattle.sl_pieces.specs.scopes.Forms.{OnScope}
 use Rattle.sl_pieces.specs.arenas.Arenas.{Arena}
 use Rattle.sl_pieces.specs.declared.registers.TheConstants as reg

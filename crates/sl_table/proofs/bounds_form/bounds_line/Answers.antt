@@ -1,5 +1,5 @@
 use Rattle.std.proofs.Common.{Some, None, length, map, sym, subst}
-use Rattle.sl_machine.specs.Fits.{FitsWeight}
+use Rattle.sl_semantics.specs.Fits.{FitsWeight}
 use Rattle.sl_table.specs.Bounds.{IsToldPair}
 use Rattle.sl_table.specs.inner.Counts.{counted_seats}
 use Rattle.sl_table.proofs.BoundsLines.{no_lines, one_line, one_written, first_holds}

@@ -2,7 +2,7 @@ use Rattle.std.proofs.Common.{◌≡◌, [], length, map, sym, ap, subst, refl, 
 use Rattle.std.specs.List.{All, count_by}
 use Rattle.std.proofs.lemmas.List.{get_or-map}
 use Rattle.std.proofs.lemmas.List.Elements.{All-get_or}
-use Rattle.sl_machine.specs.Fits.{FitsWeight}
+use Rattle.sl_semantics.specs.Fits.{FitsWeight}
 use Rattle.sl_stages.specs.declared.table.Weight.{Weight}
 use Rattle.sl_table.specs.Bounds.{is_one_scope, groups, scope_weights, is_of_entry, seats_of, AreBoundsLines}
 use Rattle.sl_table.specs.Orders.{weight_key, in_order}

@@ -1,5 +1,5 @@
 use Rattle.std.proofs.Common.{length, map, sym, subst}
-use Rattle.sl_machine.specs.Fits.{FitsStep}
+use Rattle.sl_semantics.specs.Fits.{FitsStep}
 use Rattle.sl_table.specs.Steps.{step_line}
 use Rattle.sl_table.proofs.LineLoops.{lines_more}
 use Rattle.sl_table.proofs.Lists.{within_map, in_map}

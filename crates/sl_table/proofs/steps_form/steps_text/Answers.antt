@@ -1,6 +1,6 @@
 use Rattle.std.proofs.Common.{◌≡◌, length, map, flat_map, sym, ap, subst, ◌∙◌, append_assoc}
 use Rattle.std.specs.List.{All}
-use Rattle.sl_machine.specs.Fits.{FitsStep}
+use Rattle.sl_semantics.specs.Fits.{FitsStep}
 use Rattle.sl_table.specs.Lines.{with_lines}
 use Rattle.sl_table.specs.Orders.{step_key, in_order}
 use Rattle.sl_table.specs.Short.{short_text}

@@ -1,5 +1,5 @@
 use Rattle.std.proofs.Common.{◌≡◌, Some, rules}
-use Rattle.sl_code.specs.Rows.{target_of}
+use Rattle.sl_instructions.specs.Rows.{target_of}
 use Rattle.sl_verify.specs.Leaves.{carried}
 use Rattle.sl_stages.specs.book.Tests.{first_failing}
 use Rattle.sl_verify.specs.Faults.{need_tests, jump_tests, own_tests}

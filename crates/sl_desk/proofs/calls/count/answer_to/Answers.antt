@@ -1,6 +1,6 @@
 use Rattle.std.proofs.Common.{ap, ◌∙◌}
 use Rattle.sl_stages.specs.book.Books.{book_of}
-use Rattle.sl_desk.specs.Reading.{book_input}
+use Rattle.sl_inputs.specs.Reading.{book_input}
 use Rattle.sl_desk.proofs.Order.{refusal_counts, reads_after_good}
 use Rattle.sl_desk.proofs.calls.count.answer_to.Goals as goal
 

@@ -1,5 +1,5 @@
 use Rattle.sl_stages.specs.book.Books.{book_of}
-use Rattle.sl_desk.specs.Failures.{counts}
+use Rattle.sl_inputs.specs.Failures.{counts}
 use Rattle.sl_desk.proofs.Order.{memory_counts, tree_counts}
 use Rattle.sl_desk.proofs.calls.count.counted.Goals as goal
 

@@ -1,4 +1,4 @@
-use Rattle.sl_desk.specs.Failures.{counts}
+use Rattle.sl_inputs.specs.Failures.{counts}
 use Rattle.sl_desk.proofs.Order.{memory_counts, code_runs}
 use Rattle.sl_desk.proofs.calls.run.counted.Goals as goal
 

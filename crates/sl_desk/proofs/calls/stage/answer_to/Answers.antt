@@ -1,7 +1,7 @@
 use Rattle.std.proofs.Common.{sym, ◌∙◌}
 use Rattle.sl_stages.specs.book.Books.{book_of}
-use Rattle.sl_desk.specs.declared.status.Input.TheVariants.{Book}
-use Rattle.sl_desk.specs.Reading.{book_input}
+use Rattle.sl_inputs.specs.declared.status.Input.TheVariants.{Book}
+use Rattle.sl_inputs.specs.Reading.{book_input}
 use Rattle.sl_desk.specs.Showing.{IsNoBookWith}
 use Rattle.sl_desk.proofs.Order.{counts_stage, reads_after_stage, reads_none}
 use Rattle.sl_desk.proofs.calls.stage.answer_to.Goals as goal

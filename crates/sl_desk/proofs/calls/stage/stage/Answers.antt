@@ -1,5 +1,5 @@
 use Rattle.sl_desk.specs.Showing.{IsStageOutput}
-use Rattle.sl_desk.specs.Reading.{book_input, ForKnown}
+use Rattle.sl_inputs.specs.Reading.{book_input, ForKnown}
 use Rattle.sl_desk.proofs.Delivering.{delivers_text}
 use Rattle.sl_desk.proofs.calls.stage.stage.Goals as goal
 

@@ -2,9 +2,9 @@
 use Rattle.std.proofs.Common.{ℕ, List, length, sym, ap, ◌∙◌}
 use Rattle.std.proofs.lemmas.List.FromFn.{length-map-range_with_len}
 use Rattle.sl_verify.specs.Needs.{input_shape}
-use Rattle.sl_machine.specs.Places.{cells_of}
-use Rattle.sl_machine.specs.State.{with_column}
-use Rattle.sl_machine.specs.Effects.{Goes, input_of}
+use Rattle.sl_semantics.specs.Places.{cells_of}
+use Rattle.sl_semantics.specs.State.{with_column}
+use Rattle.sl_semantics.specs.Effects.{Goes, input_of}
 use Rattle.sl_machine.specs.inner.Stores.{state_of}
 use Rattle.sl_machine.proofs.stores.Cells.{same_columns, row_of_width, widths_kept, column_written}
 use Rattle.sl_machine.proofs.stores.Inputs.{input_at}

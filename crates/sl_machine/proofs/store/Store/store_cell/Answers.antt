@@ -2,9 +2,9 @@
 use Rattle.std.proofs.Common.{ℕ, List, length, slice_get, refl, sym, ap, ◌∙◌, arith}
 use Rattle.std.proofs.lemmas.List.{length-set}
 use Rattle.std.specs.Vec.{with_item}
-use Rattle.sl_machine.specs.State.{with_cell}
-use Rattle.sl_machine.specs.Places.{cell_at}
-use Rattle.sl_machine.specs.Effects.{Goes}
+use Rattle.sl_semantics.specs.State.{with_cell}
+use Rattle.sl_semantics.specs.Places.{cell_at}
+use Rattle.sl_semantics.specs.Effects.{Goes}
 use Rattle.sl_machine.specs.inner.Stores.{state_of, Sizes}
 use Rattle.sl_machine.proofs.stores.Cells.{found_behind, same_columns, place_in_row, widths_kept, cells_written}
 use Rattle.sl_machine.proofs.store.Store.store_cell.Goals as goal

@@ -1,0 +1,13 @@
+pub mod Statuses
+pub mod Failures
+pub mod Writing
+pub mod Refusals
+pub mod Library
+pub mod Books
+pub mod Judging
+pub mod Returns
+pub mod CodeFiles
+pub mod StageNames
+pub mod Reading
+pub mod Adapters
+pub mod inner

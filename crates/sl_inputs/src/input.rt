@@ -1,0 +1,73 @@
+//! Reading an input to its end, and writing a text whole.
+
+ghost use Rattle.std.specs.Prelude.{◌≡◌, ◌+◌, ◌<◌, ◌^◌, IfOk, IfSome};
+ghost use Rattle.sl_inputs.specs.Failures.{failures_after, input_counts, counts_after};
+ghost use Rattle.sl_inputs.specs.inner.Inputs.{Holds, IsWithin};
+ghost use Rattle.sl_inputs.specs.Reading.{TakesAtMost};
+ghost use Rattle.sl_inputs.specs.Writing.{Writes};
+
+use crate::sink::Sink;
+use crate::source::{Failed, Source};
+use crate::status::{DeskError, Input};
+use std::alloc::Global;
+
+/// An input: its bytes, if they are not too many.
+#[derive(Drop)]
+pub(crate) enum Bytes {
+    Whole(Vec<u8>),
+    TooLong,
+}
+
+const CHUNK: usize = 8192;
+
+/// All bytes of an input, if they are at most `limit`. It is read to at most one byte past that.
+///
+/// # Errors
+///
+/// `Read` of that input where a call of the source failed, which is then the last one, and `NoMemory`.
+pub(crate) fn read_all<S: Source>(
+    alloc: Global,
+    source: &mut S,
+    input: Input,
+    limit: usize,
+) -> Result<Bytes, DeskError>
+    requires { limit < 2 ^ 32 }
+    ensures bytes { IfOk result (λ b. IfSome (S.remaining source.old) (Holds limit b)) }
+    ensures within { IfOk result (IsWithin limit) }
+    ensures failures { input_counts input (S.failed source.new) ≡ counts_after (input_counts input (S.failed source.old)) result }
+    ensures limited { TakesAtMost (limit + 1) (S.remaining source.old) (S.remaining source.new) }
+{
+    let mut bytes = Vec::new(alloc);
+    let mut chunk = [0; CHUNK];
+    'reading: while bytes.len() <= limit {
+        let room = (limit + 1 - bytes.len()).min(CHUNK);
+        let Ok(n) = source.fetch(&mut chunk[..room]) else {
+            return Err(DeskError::Read(input));
+        };
+        if n == 0 {
+            return Ok(Bytes::Whole(bytes));
+        }
+        if bytes.extend_from_slice(&chunk[..n]).is_err() {
+            return Err(DeskError::NoMemory);
+        }
+    }
+    Ok(Bytes::TooLong)
+}
+
+/// Writes a whole text.
+///
+/// # Errors
+///
+/// A call of the sink failed, which is then the last one. A prefix of the text has gone out.
+pub fn write_all<W: Sink>(out: &mut W, text: &[u8]) -> Result<(), Failed>
+    ensures written { Writes text.now (W.contents out.old) (W.contents out.new) result }
+    ensures failures { W.failed out.new ≡ failures_after (W.failed out.old) result }
+{
+    let mut rest = text;
+    'writing: while !rest.is_empty() {
+        let n = out.put(rest)?;
+        let (_, after) = rest.split_at(n);
+        rest = after;
+    }
+    Ok(())
+}

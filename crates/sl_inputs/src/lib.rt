@@ -1,0 +1,26 @@
+//! The inputs of the calls, and where they write: readers and writers of bytes, and what bytes come to as a rulebook, as returns or as a code file.
+#![tactic(auto)]
+
+mod book;
+mod code_file;
+mod input;
+mod limits;
+mod refusal;
+mod returns;
+mod sink;
+mod source;
+mod stage_name;
+mod status;
+mod verdict;
+
+pub use book::{BookText, judge_book, read_book};
+pub use code_file::{judge_code, read_code};
+pub use input::write_all;
+pub use limits::{MAX_BOOK_BYTES, MAX_CODE_BYTES, MAX_RETURNS_BYTES};
+pub use refusal::{BookRefusal, CodeRefusal, ReturnsRefusal};
+pub use returns::{judge_returns, read_election};
+pub use sink::{Sink, ToWrite};
+pub use source::{BookSource, Failed, FromRead, Source};
+pub use stage_name::stage_number;
+pub use status::{DeskError, Input, Status};
+pub use verdict::Verdict;

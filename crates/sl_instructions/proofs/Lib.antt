@@ -1,0 +1,2 @@
+-- The lemmas of counting code.
+pub mod Standing

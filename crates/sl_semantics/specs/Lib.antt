@@ -1,0 +1,16 @@
+pub mod State
+pub mod Places
+pub mod Drawn
+pub mod SameLots
+pub mod Effects
+pub mod Seen
+pub mod Frames
+pub mod Runs
+pub mod Comes
+pub mod Unrecorded
+pub mod Memories
+pub mod Tables
+pub mod Fits
+pub mod Safe
+pub mod Agrees
+pub mod Laws
