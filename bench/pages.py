@@ -188,7 +188,7 @@ def fault_rows():
             yield from ("`%s %s`" % (word, number) for number in re.findall(r"^%s .*= numbered (\d+)" % name, text, re.M))
     returns = (TOP / "crates" / "sl_returns" / "specs" / "Faults.antt").read_text()
     yield from re.findall(r"^fault_number \w+ = (\d+)", returns, re.M)
-    legal = (TOP / "crates" / "sl_table" / "specs" / "Faults.antt").read_text()
+    legal = (TOP / "crates" / "sl_texts" / "specs" / "Faults.antt").read_text()
     yield from ("`" + kind for kind in re.findall(r'^ *kind_words .*codes "(\w+)"', legal, re.M))
 
 

@@ -13,10 +13,10 @@ use Rattle.sl_stages.proofs.meaning.ExactlyOne.{same_ones}
 use Rattle.sl_stages.proofs.meaning.MeaningProofs.{at_most_one_outcome}
 use Rattle.sl_stages.proofs.meaning.OneOutcome.{one_stages_result}
 use Rattle.sl_stages.proofs.meaning.RecordsOnce.{records_once}
-use Rattle.sl_table.proofs.AnyOrder.{same_text}
-use Rattle.sl_table.specs.Short.{short_text}
+use Rattle.sl_texts.proofs.AnyOrder.{same_text}
+use Rattle.sl_texts.specs.Short.{short_text}
 use Rattle.sl_table.specs.Stages.{stage_text}
-use Rattle.sl_table.specs.Faults.{fault_text}
+use Rattle.sl_texts.specs.Faults.{fault_text}
 use Rattle.sl_desk.specs.declared.report.Report.{Report}
 use Rattle.sl_desk.specs.declared.report.Report.TheVariants.{Seats, Steps, Stage}
 use Rattle.sl_inputs.specs.declared.status.Status.{Status}

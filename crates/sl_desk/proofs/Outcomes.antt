@@ -19,10 +19,10 @@ use Rattle.sl_semantics.specs.State.{State, End, Halted, Faulted}
 use Rattle.sl_semantics.specs.Tables.{held_table}
 use Rattle.sl_semantics.specs.Unrecorded.{unrecorded, without_records}
 use Rattle.sl_books.specs.Compiled.{ComesTo, IsCompiled, ending_by}
-use Rattle.sl_table.specs.Faults.{fault_text}
-use Rattle.sl_table.specs.Short.{short_text}
+use Rattle.sl_texts.specs.Faults.{fault_text}
+use Rattle.sl_texts.specs.Short.{short_text}
 use Rattle.sl_table.specs.Stages.{held_stage_text}
-use Rattle.sl_table.specs.Steps.{IsStepsText}
+use Rattle.sl_texts.specs.Steps.{IsStepsText}
 use Rattle.sl_desk.specs.declared.report.Report.{Report}
 use Rattle.sl_desk.specs.declared.report.Report.TheVariants.{Seats, Steps, Stage}
 use Rattle.sl_inputs.specs.declared.status.Status.{Status}

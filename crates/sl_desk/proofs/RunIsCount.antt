@@ -30,8 +30,8 @@ use Rattle.sl_desk.specs.Laws.{OneCodeVerdict, NoOtherCodeVerdict, OneRun, HasOn
 use Rattle.sl_desk.specs.Counting.{IsTreeOutput, IsCount}
 use Rattle.sl_inputs.specs.CodeFiles.{IsCodeVerdict, code_line}
 use Rattle.sl_desk.specs.Running.{IsCodeOutput, IsRun, IsRunCode}
-use Rattle.sl_table.specs.Faults.{fault_text}
-use Rattle.sl_table.specs.Short.{short_text}
+use Rattle.sl_texts.specs.Faults.{fault_text}
+use Rattle.sl_texts.specs.Short.{short_text}
 use Rattle.sl_verify.specs.WellKinded.{IsWellKinded}
 use Rattle.sl_inputs.specs.Returns.{IsReturnsVerdict, returns_line}
 use Rattle.sl_desk.proofs.CodeLengths.{file_fits}

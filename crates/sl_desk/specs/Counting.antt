@@ -19,8 +19,8 @@ use Rattle.sl_stages.specs.declared.table.Outcome.TheVariants as outcome
 use Rattle.sl_stages.specs.meaning.Means.{Means}
 use Rattle.sl_stages.specs.meaning.Tables.{SeatTable}
 use Rattle.sl_stages.specs.returns.Election.{Election}
-use Rattle.sl_table.specs.Faults.{fault_text}
-use Rattle.sl_table.specs.Short.{short_text}
+use Rattle.sl_texts.specs.Faults.{fault_text}
+use Rattle.sl_texts.specs.Short.{short_text}
 
 -- the table's text
 abbrev pub ShowsSeats : BookTree → Election → SeatTable → List ℕ → Type 0

@@ -8,11 +8,11 @@ use Rattle.sl_semantics.specs.Memories.{Held}
 use Rattle.sl_semantics.specs.Runs.{Ending}
 use Rattle.sl_semantics.specs.Tables.{held_table}
 use Rattle.sl_semantics.specs.Unrecorded.{without_records}
-use Rattle.sl_table.specs.Faults.{fault_text}
-use Rattle.sl_table.specs.Lines.{line}
-use Rattle.sl_table.specs.Short.{short_text}
+use Rattle.sl_texts.specs.Faults.{fault_text}
+use Rattle.sl_texts.specs.Lines.{line}
+use Rattle.sl_texts.specs.Short.{short_text}
 use Rattle.sl_table.specs.Stages.{stage_slot, held_stage_text}
-use Rattle.sl_table.specs.Steps.{IsStepsText}
+use Rattle.sl_texts.specs.Steps.{IsStepsText}
 use Rattle.sl_desk.specs.declared.report.Report.{Report}
 use Rattle.sl_desk.specs.declared.report.Report.TheVariants.{Seats, Steps, Stage}
 use Rattle.sl_inputs.specs.declared.status.Status.{Status}

@@ -3,7 +3,7 @@ use Rattle.std.specs.Prelude.{ℕ, List}
 use Rattle.sl_stages.specs.book.Trees.{BookTree}
 use Rattle.sl_stages.specs.meaning.Tables.{SeatTable}
 use Rattle.sl_stages.specs.returns.Election.{Election}
-use Rattle.sl_table.specs.Steps.{IsStepsText}
+use Rattle.sl_texts.specs.Steps.{IsStepsText}
 use Rattle.sl_inputs.specs.StageNames.{names_of}
 
 -- the table's text behind the step of each of its seats

@@ -2,7 +2,7 @@
 use Rattle.std.specs.Fmt.{decimal}
 use Rattle.std.specs.Prelude.{List, codes, ◌++◌, ◌∷◌, ℕ, []}
 use Rattle.sl_inputs.specs.declared.refusal.Numbered.{Numbered}
-use Rattle.sl_table.specs.Lines.{line}
+use Rattle.sl_texts.specs.Lines.{line}
 
 -- a fault by its number, and where it shows
 abbrev pub numbered : ℕ → ℕ → Numbered

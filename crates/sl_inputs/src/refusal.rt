@@ -12,7 +12,7 @@ use sl_lex::LexFault;
 use sl_parse::ParseFault;
 use sl_ratio::NoMemory;
 use sl_returns::ReturnsFault;
-use sl_table::Text;
+use sl_texts::Text;
 use sl_verify::VerifyFault;
 use std::alloc::Global;
 

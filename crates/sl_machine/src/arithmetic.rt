@@ -3,7 +3,7 @@
 ghost use Rattle.std.specs.Prelude.{◌≡◌, ◌<◌, ◌+◌, ◌-◌, ◌*◌, ◌/◌, ◌%◌, ◌==◌, min, max, nat_lt, if◌then◌else◌};
 ghost use Rattle.sl_verify.specs.declared.known.TheConstants.{REGISTERS};
 ghost use Rattle.sl_semantics.specs.Effects.{Goes, Jumps, sets, most, where_positive};
-ghost use Rattle.sl_machine.specs.inner.Stores.{state_of, sizes_of, effect_of};
+ghost use Rattle.sl_machine.specs.inner.Stores.{state_of, sizes_of, effect_of, IsTo};
 
 use crate::step::Effect;
 use crate::store::Store;
@@ -106,25 +106,27 @@ impl Store {
     }
 
     /// Jumps where a register holds 0.
-    pub(crate) fn jump_if_zero(&self, register: u8) -> Effect
+    pub(crate) fn jump_if_zero(&self, register: u8, target: u32) -> Effect
         requires { register < REGISTERS }
-        ensures { let s = state_of self.now in effect_of result s ≡ (if s.registers register == 0 then Jumps s else Goes s) }
+        ensures follows { let s = state_of self.now in effect_of result s ≡ (if s.registers register == 0 then Jumps s else Goes s) }
+        ensures target { IsTo target result }
     {
         if self.register(register) == 0 {
-            Effect::Jumps
+            Effect::Jumps(target)
         } else {
             Effect::Goes
         }
     }
 
     /// Jumps where a register holds less than another.
-    pub(crate) fn jump_if_less(&self, left: u8, right: u8) -> Effect
+    pub(crate) fn jump_if_less(&self, left: u8, right: u8, target: u32) -> Effect
         requires left { left < REGISTERS }
         requires right { right < REGISTERS }
-        ensures { let s = state_of self.now in effect_of result s ≡ (if nat_lt (s.registers left) (s.registers right) then Jumps s else Goes s) }
+        ensures follows { let s = state_of self.now in effect_of result s ≡ (if nat_lt (s.registers left) (s.registers right) then Jumps s else Goes s) }
+        ensures target { IsTo target result }
     {
         if self.register(left) < self.register(right) {
-            Effect::Jumps
+            Effect::Jumps(target)
         } else {
             Effect::Goes
         }

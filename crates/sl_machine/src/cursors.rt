@@ -10,7 +10,7 @@ ghost use Rattle.sl_semantics.specs.State.{State};
 ghost use Rattle.sl_semantics.specs.Places.{both, cells_of, cell_at, index_at, scope_at, item_of, at_entry};
 ghost use Rattle.sl_semantics.specs.Effects.{Goes, Jumps, effect, given, with_party, with_land, with_win, winner_at, first_of, next_of, to_party};
 ghost use Rattle.sl_semantics.specs.Safe.{IsInRange, entries_in};
-ghost use Rattle.sl_machine.specs.inner.Stores.{state_of, sizes_of, effect_of};
+ghost use Rattle.sl_machine.specs.inner.Stores.{state_of, sizes_of, effect_of, IsTo};
 
 use crate::cursor::Cursor;
 use crate::step::Effect;
@@ -19,24 +19,26 @@ use sl_instructions::{Entries, ScopeKind};
 use sl_stages::{Item, Returns, Scope, Shape};
 
 // Moves a cursor to the first of so many, if there is one, and answers where the run goes on.
-fn to_first(cursor: &mut Cursor, count: usize) -> Effect
-    ensures { (set : Option ℕ → State → State) (s : State) → effect_of result (set cursor.new s) ≡ first_of count set s }
+fn to_first(cursor: &mut Cursor, count: usize, target: u32) -> Effect
+    ensures follows { (set : Option ℕ → State → State) (s : State) → effect_of result (set cursor.new s) ≡ first_of count set s }
+    ensures target { IsTo target result }
 {
     if cursor.set_below(count, 0) {
         Effect::Goes
     } else {
-        Effect::Jumps
+        Effect::Jumps(target)
     }
 }
 
 // Moves a cursor to the next of so many, if there is one, and answers where the run goes on.
-fn to_next(cursor: &mut Cursor, count: usize) -> Effect
+fn to_next(cursor: &mut Cursor, count: usize, target: u32) -> Effect
     requires set { IsSome cursor.old }
     requires within { ForSome cursor.old (λ place. place < count) }
-    ensures { (set : Option ℕ → State → State) (s : State) → effect_of result (set cursor.new s) ≡ next_of count cursor.old set s }
+    ensures follows { (set : Option ℕ → State → State) (s : State) → effect_of result (set cursor.new s) ≡ next_of count cursor.old set s }
+    ensures target { IsTo target result }
 {
     if cursor.set_below(count, cursor.place() + 1) {
-        Effect::Jumps
+        Effect::Jumps(target)
     } else {
         Effect::Goes
     }
@@ -131,19 +133,20 @@ impl Store {
     }
 
     /// Jumps where the Land and the party have no list.
-    pub(crate) fn jump_without_list(&self, returns: &Returns) -> Effect
+    pub(crate) fn jump_without_list(&self, returns: &Returns, target: u32) -> Effect
         requires land { IsSome (state_of self.now).land }
         requires party { IsSome (state_of self.now).party }
         requires range { IsInRange returns.now (state_of self.now) }
-        ensures { let s = state_of self.now in
+        ensures follows { let s = state_of self.now in
             effect_of result s ≡ given (both s.land s.party (has_list returns.now)) (λ there. if there then Goes s else Jumps s) }
+        ensures target { IsTo target result }
     {
         let land = self.cursors.land.place();
         let party = self.cursors.party.place();
         if returns.is_list(land, party) {
             Effect::Goes
         } else {
-            Effect::Jumps
+            Effect::Jumps(target)
         }
     }
 
@@ -160,17 +163,18 @@ impl Store {
     }
 
     /// Moves to the winner's party.
-    pub(crate) fn to_winners_party(&mut self, returns: &Returns) -> Effect
+    pub(crate) fn to_winners_party(&mut self, returns: &Returns, target: u32) -> Effect
         requires win { IsSome (state_of self.old).win }
         requires range { IsInRange returns.now (state_of self.old) }
         ensures follows { let s = state_of self.old in effect_of result (state_of self.new) ≡ given (winner_at returns.now s) (λ w. to_party w.party s) }
+        ensures target { IsTo target result }
         ensures kept { sizes_of self.new ≡ sizes_of self.old }
     {
         let winner = returns.win(self.cursors.win.place());
         self.cursors.party.set_to(winner.party);
         match winner.party {
             Some(_) => Effect::Goes,
-            None => Effect::Jumps,
+            None => Effect::Jumps(target),
         }
     }
 
@@ -187,56 +191,62 @@ impl Store {
     }
 
     /// Moves to the first party.
-    pub(crate) fn first_party(&mut self, returns: &Returns) -> Effect
+    pub(crate) fn first_party(&mut self, returns: &Returns, target: u32) -> Effect
         ensures follows { effect_of result (state_of self.new) ≡ first_of (parties_of returns.now) with_party (state_of self.old) }
+        ensures target { IsTo target result }
         ensures kept { sizes_of self.new ≡ sizes_of self.old }
     {
-        to_first(&mut self.cursors.party, returns.parties())
+        to_first(&mut self.cursors.party, returns.parties(), target)
     }
 
     /// Moves to the next party.
-    pub(crate) fn next_party(&mut self, returns: &Returns) -> Effect
+    pub(crate) fn next_party(&mut self, returns: &Returns, target: u32) -> Effect
         requires party { IsSome (state_of self.old).party }
         requires range { IsInRange returns.now (state_of self.old) }
         ensures follows { let s = state_of self.old in effect_of result (state_of self.new) ≡ next_of (parties_of returns.now) s.party with_party s }
+        ensures target { IsTo target result }
         ensures kept { sizes_of self.new ≡ sizes_of self.old }
     {
-        to_next(&mut self.cursors.party, returns.parties())
+        to_next(&mut self.cursors.party, returns.parties(), target)
     }
 
     /// Moves to the first Land.
-    pub(crate) fn first_land(&mut self, returns: &Returns) -> Effect
+    pub(crate) fn first_land(&mut self, returns: &Returns, target: u32) -> Effect
         ensures follows { effect_of result (state_of self.new) ≡ first_of (lands_of returns.now) with_land (state_of self.old) }
+        ensures target { IsTo target result }
         ensures kept { sizes_of self.new ≡ sizes_of self.old }
     {
-        to_first(&mut self.cursors.land, returns.lands())
+        to_first(&mut self.cursors.land, returns.lands(), target)
     }
 
     /// Moves to the next Land.
-    pub(crate) fn next_land(&mut self, returns: &Returns) -> Effect
+    pub(crate) fn next_land(&mut self, returns: &Returns, target: u32) -> Effect
         requires land { IsSome (state_of self.old).land }
         requires range { IsInRange returns.now (state_of self.old) }
         ensures follows { let s = state_of self.old in effect_of result (state_of self.new) ≡ next_of (lands_of returns.now) s.land with_land s }
+        ensures target { IsTo target result }
         ensures kept { sizes_of self.new ≡ sizes_of self.old }
     {
-        to_next(&mut self.cursors.land, returns.lands())
+        to_next(&mut self.cursors.land, returns.lands(), target)
     }
 
     /// Moves to the first winner.
-    pub(crate) fn first_win(&mut self, returns: &Returns) -> Effect
+    pub(crate) fn first_win(&mut self, returns: &Returns, target: u32) -> Effect
         ensures follows { effect_of result (state_of self.new) ≡ first_of (wins_of returns.now) with_win (state_of self.old) }
+        ensures target { IsTo target result }
         ensures kept { sizes_of self.new ≡ sizes_of self.old }
     {
-        to_first(&mut self.cursors.win, returns.wins())
+        to_first(&mut self.cursors.win, returns.wins(), target)
     }
 
     /// Moves to the next winner.
-    pub(crate) fn next_win(&mut self, returns: &Returns) -> Effect
+    pub(crate) fn next_win(&mut self, returns: &Returns, target: u32) -> Effect
         requires win { IsSome (state_of self.old).win }
         requires range { IsInRange returns.now (state_of self.old) }
         ensures follows { let s = state_of self.old in effect_of result (state_of self.new) ≡ next_of (wins_of returns.now) s.win with_win s }
+        ensures target { IsTo target result }
         ensures kept { sizes_of self.new ≡ sizes_of self.old }
     {
-        to_next(&mut self.cursors.win, returns.wins())
+        to_next(&mut self.cursors.win, returns.wins(), target)
     }
 }

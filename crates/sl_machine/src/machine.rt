@@ -89,7 +89,7 @@ fn step_from<'a, R: Recording>(
     let instr = next_instr(ahead);
     match store.step::<R>(code, returns, instr)? {
         Some(Effect::Goes) => Ok(Some(&ahead[1..])),
-        Some(Effect::Jumps) => Ok(Some(instrs_from(code, instr.target().unwrap() as usize))),
+        Some(Effect::Jumps(target)) => Ok(Some(instrs_from(code, target as usize))),
         None => Ok(None),
     }
 }

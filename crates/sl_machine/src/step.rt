@@ -1,6 +1,7 @@
 //! One step of a run.
 
 ghost use Rattle.std.specs.Prelude.{◌≡◌, IsTrue, IfOk, IfSome, IfNone};
+ghost use Rattle.sl_instructions.specs.Rows.{target_of};
 ghost use Rattle.sl_verify.specs.Needs.{has_columns};
 ghost use Rattle.sl_verify.specs.WellKinded.{context_of};
 ghost use Rattle.sl_semantics.specs.Effects.{Ends, effect};
@@ -9,7 +10,7 @@ ghost use Rattle.sl_machine.specs.inner.Recording.{state_by, left_by};
 ghost use Rattle.sl_machine.specs.declared.step.Records.{Records};
 ghost use Rattle.sl_semantics.specs.Safe.{MayStep};
 ghost use Rattle.sl_machine.specs.inner.Leading.{ends_run};
-ghost use Rattle.sl_machine.specs.inner.Stores.{state_of, sizes_of, sizes_for, effect_of, end_with};
+ghost use Rattle.sl_machine.specs.inner.Stores.{state_of, sizes_of, sizes_for, effect_of, IsTo, end_with};
 
 use crate::ends::{halt, halt_with_vacant};
 use crate::store::Store;
@@ -25,11 +26,11 @@ pub(crate) enum End {
     Faulted(LegalFault),
 }
 
-/// What an instruction did: the run goes on after it, or at its target. It is small, for each step writes one.
+/// What an instruction did: the run goes on after it, or at its target, which is told.
 #[derive(Clone, Copy, Debug)]
 pub(crate) enum Effect {
     Goes,
-    Jumps,
+    Jumps(u32),
 }
 
 /// Whether seat steps and weights are kept.
@@ -89,6 +90,7 @@ impl Store {
         requires records { state_by R.records (state_of self.old) ≡ state_of self.old }
         ensures follows { IfOk result (λ next. IfSome next (λ move. effect_of move (state_of self.new)
             ≡ left_by R.records instr.now (effect code.now returns.now instr.now (state_of self.old)))) }
+        ensures target { IfOk result (λ next. IfSome next (λ move. IfSome (target_of instr.now) (λ target. IsTo target move))) }
         ensures ends { IfOk result (λ next. IfNone next (IsTrue (ends_run instr.now) × (self.new ≡ self.old))) }
         ensures kept { sizes_of self.new ≡ sizes_of self.old }
     {
@@ -101,10 +103,10 @@ impl Store {
             Instr::Div(register, by) => Ok(Some(self.divide(register, by))),
             Instr::Rem(register, by) => Ok(Some(self.keep_rest(register, by))),
             Instr::Max(register, by) => Ok(Some(self.keep_greater(register, by))),
-            Instr::Jmp(..) => Ok(Some(Effect::Jumps)),
-            Instr::Jz(register, _) => Ok(Some(self.jump_if_zero(register))),
-            Instr::Jlt(left, right, _) => Ok(Some(self.jump_if_less(left, right))),
-            Instr::Jnl(..) => Ok(Some(self.jump_without_list(returns))),
+            Instr::Jmp(target) => Ok(Some(Effect::Jumps(target))),
+            Instr::Jz(register, target) => Ok(Some(self.jump_if_zero(register, target))),
+            Instr::Jlt(left, right, target) => Ok(Some(self.jump_if_less(left, right, target))),
+            Instr::Jnl(target) => Ok(Some(self.jump_without_list(returns, target))),
             Instr::Get(register, slot) => Ok(Some(self.get_cell(code, returns, register, slot))),
             Instr::Store(slot, register) => Ok(Some(self.store_cell(
                 code, returns, slot, register,
@@ -112,14 +114,14 @@ impl Store {
             Instr::Zero(slot) => Ok(Some(self.zero_column(slot))),
             Instr::Input(slot, input) => Ok(Some(self.input_column(returns, slot, input))),
             Instr::House(register) => Ok(Some(self.set_house(returns, register))),
-            Instr::Wparty(..) => Ok(Some(self.to_winners_party(returns))),
+            Instr::Wparty(target) => Ok(Some(self.to_winners_party(returns, target))),
             Instr::Wland => Ok(Some(self.to_winners_land(returns))),
-            Instr::Fparty(..) => Ok(Some(self.first_party(returns))),
-            Instr::Nparty(..) => Ok(Some(self.next_party(returns))),
-            Instr::Fland(..) => Ok(Some(self.first_land(returns))),
-            Instr::Nland(..) => Ok(Some(self.next_land(returns))),
-            Instr::Fwin(..) => Ok(Some(self.first_win(returns))),
-            Instr::Nwin(..) => Ok(Some(self.next_win(returns))),
+            Instr::Fparty(target) => Ok(Some(self.first_party(returns, target))),
+            Instr::Nparty(target) => Ok(Some(self.next_party(returns, target))),
+            Instr::Fland(target) => Ok(Some(self.first_land(returns, target))),
+            Instr::Nland(target) => Ok(Some(self.next_land(returns, target))),
+            Instr::Fwin(target) => Ok(Some(self.first_win(returns, target))),
+            Instr::Nwin(target) => Ok(Some(self.next_win(returns, target))),
             Instr::Table(entries, ranking) => Ok(Some(self.open_table(entries, ranking))),
             Instr::Prio(method, weight, seats) => Ok(Some(self.enter_quotient(
                 returns, method, weight, seats,
@@ -127,9 +129,9 @@ impl Store {
             Instr::Rest(register) => Ok(Some(self.enter_remainder(returns, register)?)),
             Instr::Lead => Ok(Some(self.enter_lead(returns)?)),
             Instr::Share => Ok(Some(self.enter_share(returns)?)),
-            Instr::Peers(register, _) => Ok(Some(self.count_peers(register))),
+            Instr::Peers(register, target) => Ok(Some(self.count_peers(register, target))),
             Instr::Take => Ok(Some(self.take_top(returns))),
-            Instr::Lot(stage, _) => Ok(Some(self.jump_without_lot(code, stage))),
+            Instr::Lot(stage, target) => Ok(Some(self.jump_without_lot(code, stage, target))),
             Instr::Takelot(stage) => Ok(Some(self.take_drawn(code, returns, stage))),
             Instr::Emit(stage, scope, number, step) => match R::records() {
                 Records::Kept => Ok(Some(self.emit(code, returns, stage, scope, number, step)?)),

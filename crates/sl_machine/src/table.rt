@@ -18,7 +18,7 @@ ghost use Rattle.sl_semantics.specs.Drawn.{lot_of};
 ghost use Rattle.sl_semantics.specs.Safe.{IsInRange, entries_in};
 ghost use Rattle.sl_machine.specs.inner.Lots.{lots_for};
 ghost use Rattle.sl_semantics.specs.Seen.{entry_at, puts_in};
-ghost use Rattle.sl_machine.specs.inner.Stores.{state_of, sizes_of, effect_of};
+ghost use Rattle.sl_machine.specs.inner.Stores.{state_of, sizes_of, effect_of, IsTo};
 ghost use Rattle.sl_machine.specs.inner.Tables.{FitsMark};
 
 use crate::priority::Taken;
@@ -126,15 +126,16 @@ impl Store {
     }
 
     /// Sets a register to the number of peers, and jumps where there are none.
-    pub(crate) fn count_peers(&mut self, register: u8) -> Effect
+    pub(crate) fn count_peers(&mut self, register: u8, target: u32) -> Effect
         requires register { register < REGISTERS }
         requires table { IsSome self.old.table.on }
-        ensures follows { (c : CountingCode) (e : Election) → effect_of result (state_of self.new) ≡ effect c e (instr.Peers register 0) (state_of self.old) }
+        ensures follows { (c : CountingCode) (e : Election) → effect_of result (state_of self.new) ≡ effect c e (instr.Peers register target) (state_of self.old) }
+        ensures target { IsTo target result }
         ensures kept { sizes_of self.new ≡ sizes_of self.old }
     {
         let peers = self.table.peers();
         if peers == 0 {
-            Effect::Jumps
+            Effect::Jumps(target)
         } else {
             self.set(register, peers as u64)
         }
@@ -174,17 +175,18 @@ impl Store {
     }
 
     /// Jumps unless the stage's lot names every peer.
-    pub(crate) fn jump_without_lot(&self, code: &Code, stage: u8) -> Effect
+    pub(crate) fn jump_without_lot(&self, code: &Code, stage: u8, target: u32) -> Effect
         requires stage { IsTrue (has_stage (context_of code.now) stage) }
         requires top { IsSome (option_and_then (λ t. top t.contents) self.now.table.on) }
         requires lots { (e : Election) × (self.now.table.lots ≡ lots_for code.now e) }
-        ensures { (e : Election) → self.now.table.lots ≡ lots_for code.now e →
-            effect_of result (state_of self.now) ≡ effect code.now e (instr.Lot stage 0) (state_of self.now) }
+        ensures follows { (e : Election) → self.now.table.lots ≡ lots_for code.now e →
+            effect_of result (state_of self.now) ≡ effect code.now e (instr.Lot stage target) (state_of self.now) }
+        ensures target { IsTo target result }
     {
         if self.table.covers(self.lot(code, stage)) {
             Effect::Goes
         } else {
-            Effect::Jumps
+            Effect::Jumps(target)
         }
     }
 

@@ -2,7 +2,8 @@
 
 ghost use Rattle.std.specs.Prelude.{length};
 ghost use Rattle.sl_semantics.specs.Fits.{FitsFault, FitsMemory, FitsRecords};
-ghost use Rattle.sl_table.specs.inner.Fits.{Fits, FitsHeld};
+ghost use Rattle.sl_table.specs.inner.Held.{FitsHeld};
+ghost use Rattle.sl_texts.specs.inner.Fits.{Fits};
 
 use sl_code::Code;
 use sl_machine::{Ending, Memory};

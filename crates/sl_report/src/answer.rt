@@ -1,5 +1,6 @@
 //! What a command that reports answers: a text in one of the forms, and a status.
 
+use sl_inputs::Status;
 use sl_ratio::NoMemory;
 use sl_sheets::{Sheet, aligned_text, comma_text, json_text};
 use std::alloc::Global;
@@ -49,8 +50,8 @@ impl Answer {
         shape: Shape,
     ) -> Result<Answer, NoMemory> {
         let status = match line {
-            Some(_) => 3,
-            None => 0,
+            Some(_) => Status::Legal.number(),
+            None => Status::Done.number(),
         };
         let text = match shape {
             Shape::Text => aligned(alloc, line, sheets)?,
@@ -63,24 +64,31 @@ impl Answer {
         })
     }
 
+    /// The answer that refuses an input by a line.
+    pub(crate) fn refused(line: Vec<u8>) -> Answer {
+        Answer {
+            status: Status::Refused.number(),
+            text: line,
+        }
+    }
+
     /// The line that refuses the names in a record.
     pub(crate) fn refused_names(alloc: Global, row: u64) -> Result<Answer, NoMemory> {
-        Ok(Answer {
-            status: 2,
-            text: format!(in alloc; "refused names {row}\n")?.into_bytes(),
-        })
+        let line = format!(in alloc; "refused names {row}\n")?;
+        Ok(Answer::refused(line.into_bytes()))
     }
 
     /// The line that refuses names of too many bytes.
     pub(crate) fn names_too_long(alloc: Global) -> Result<Answer, NoMemory> {
-        Ok(Answer {
-            status: 2,
-            text: String::from_str(alloc, "refused names toolong\n")?.into_bytes(),
-        })
+        let line = String::from_str(alloc, "refused names toolong\n")?;
+        Ok(Answer::refused(line.into_bytes()))
     }
 
-    /// The text as a line of UTF-8, as all is that counting writes.
-    pub(crate) fn line(&self) -> &str {
-        std::str::from_utf8(self.text.as_slice()).unwrap_or("")
+    /// The line of a run that needs more steps than it may take, as no rulebook's does.
+    pub(crate) fn out_of_budget(alloc: Global) -> Result<Answer, NoMemory> {
+        Ok(Answer {
+            status: Status::Budget.number(),
+            text: String::from_str(alloc, "out of budget\n")?.into_bytes(),
+        })
     }
 }

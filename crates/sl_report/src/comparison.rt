@@ -1,9 +1,9 @@
 //! The command that shows several rulebooks side by side: `compare`.
 
 use crate::answer::{Answer, Shape};
-use crate::cases::{Case, names_of, read_book, read_election};
+use crate::cases::{names_of, read_book, read_election};
 use crate::runs::{Outcome, outcome_of};
-use sl_desk::BookText;
+use sl_inputs::BookText;
 use sl_naming::Naming;
 use sl_ratio::NoMemory;
 use sl_report_sheets::{Judged, compare_sheets};
@@ -54,7 +54,7 @@ fn judged(
 ) -> Result<Judged, NoMemory> {
     let (counted, fault) = match outcome_of(alloc, &book, returns)? {
         Outcome::Counted(counted) => (Some(counted), None),
-        Outcome::Fault(fault) => (None, Some(fault)),
+        Outcome::Fault(fault, _line) => (None, Some(fault)),
         Outcome::OutOfBudget => (None, None),
     };
     Ok(Judged {
@@ -69,19 +69,14 @@ fn judged(
 fn judged_all(
     alloc: Global,
     books: &[Named<'_>],
-    returns: &[u8],
-    election: &Returns,
+    returns: &Returns,
 ) -> Result<Result<Vec<Judged>, Answer>, NoMemory> {
     let mut all: Vec<Judged> = Vec::new(alloc);
     for named in books {
-        let Some(book) = read_book(alloc, named.book)? else {
-            let case = Case {
-                book: named.book,
-                returns,
-            };
-            return Ok(Err(case.counted(alloc)?));
-        };
-        all.push(judged(alloc, named.word, book, election)?)?;
+        match read_book(alloc, named.book)? {
+            Ok(book) => all.push(judged(alloc, named.word, book, returns)?)?,
+            Err(refused) => return Ok(Err(refused)),
+        }
     }
     Ok(Ok(all))
 }
@@ -111,24 +106,25 @@ fn compared(
 fn compare_on(
     alloc: Global,
     books: &[Named<'_>],
-    returns: &[u8],
-    election: &Returns,
+    returns: &Returns,
     names: Option<&[u8]>,
     shape: Shape,
 ) -> Result<Answer, NoMemory> {
-    match judged_all(alloc, books, returns, election)? {
-        Ok(all) => compared(alloc, all.as_slice(), election, names, shape),
+    match judged_all(alloc, books, returns)? {
+        Ok(all) => compared(alloc, all.as_slice(), returns, names, shape),
         Err(refused) => Ok(refused),
     }
 }
 
-// The line that refuses returns, as counting by the first of the books writes it.
-fn refused(alloc: Global, books: &[Named<'_>], returns: &[u8]) -> Result<Answer, NoMemory> {
-    let book = match books.first() {
-        Some(named) => named.book,
-        None => BookText::Library("2023"),
+// The answer with which counting by the first of the books refuses the book, or else these returns.
+fn refused(alloc: Global, books: &[Named<'_>], returns: Answer) -> Result<Answer, NoMemory> {
+    let Some(first) = books.first() else {
+        return Ok(returns);
     };
-    Case { book, returns }.counted(alloc)
+    match read_book(alloc, first.book)? {
+        Ok(_) => Ok(returns),
+        Err(book) => Ok(book),
+    }
 }
 
 /// Several books on the same returns, side by side. Inputs that `count` refuses are refused by the same line; a legal fault stands in its column.
@@ -145,7 +141,7 @@ pub fn compare(
     shape: Shape,
 ) -> Result<Answer, NoMemory> {
     match read_election(alloc, returns)? {
-        Some(election) => compare_on(alloc, books, returns, &election, names, shape),
-        None => refused(alloc, books, returns),
+        Ok(returns) => compare_on(alloc, books, &returns, names, shape),
+        Err(answer) => refused(alloc, books, answer),
     }
 }

@@ -1,9 +1,9 @@
 //! The commands that show one count: `report` and `stages`.
 
 use crate::answer::{Answer, Shape};
-use crate::cases::{Case, names_of, read_book, read_election};
+use crate::cases::{names_of, read_book, read_election};
 use crate::runs::{Outcome, outcome_of};
-use sl_desk::BookText;
+use sl_inputs::BookText;
 use sl_naming::{Naming, explanation_sheet, fault_sheet};
 use sl_ratio::NoMemory;
 use sl_report_sheets::{report_sheets, stage_sheets};
@@ -69,37 +69,25 @@ fn fault_sheets(
     Ok(sheets)
 }
 
-// The answer of these sheets to a legal fault, with the line with which counting ends.
-fn with_line(
-    alloc: Global,
-    show: Show,
-    case: Case<'_>,
-    sheets: &[Sheet],
-    shape: Shape,
-) -> Result<Answer, NoMemory> {
-    let written = case.counted(alloc)?;
-    Answer::of(alloc, show.command(), Some(written.line()), sheets, shape)
-}
-
-// The answer to a legal fault.
+// The answer to a legal fault, which counting tells by this line.
 fn fault_answer(
     alloc: Global,
     show: Show,
-    case: Case<'_>,
     setting: &Setting<'_>,
     naming: &Naming<'_>,
     fault: &LegalFault,
+    line: &[u8],
     shape: Shape,
 ) -> Result<Answer, NoMemory> {
     let sheets = fault_sheets(alloc, setting, naming, fault)?;
-    with_line(alloc, show, case, sheets.as_slice(), shape)
+    let line = std::str::from_utf8(line).unwrap_or("");
+    Answer::of(alloc, show.command(), Some(line), sheets.as_slice(), shape)
 }
 
 // The answer that shows what a good book comes to.
 fn outcome_answer(
     alloc: Global,
     show: Show,
-    case: Case<'_>,
     setting: &Setting<'_>,
     naming: &Naming<'_>,
     outcome: &Outcome,
@@ -107,8 +95,10 @@ fn outcome_answer(
 ) -> Result<Answer, NoMemory> {
     match outcome {
         Outcome::Counted(counted) => counted_answer(alloc, show, setting, naming, counted, shape),
-        Outcome::Fault(fault) => fault_answer(alloc, show, case, setting, naming, fault, shape),
-        Outcome::OutOfBudget => case.counted(alloc),
+        Outcome::Fault(fault, line) => {
+            fault_answer(alloc, show, setting, naming, fault, line.as_slice(), shape)
+        }
+        Outcome::OutOfBudget => Answer::out_of_budget(alloc),
     }
 }
 
@@ -116,7 +106,6 @@ fn outcome_answer(
 fn shown(
     alloc: Global,
     show: Show,
-    case: Case<'_>,
     book: &CheckedBook,
     naming: &Naming<'_>,
     shape: Shape,
@@ -124,14 +113,13 @@ fn shown(
     let parts = parts_of(alloc, book.book.eligible.as_slice(), naming.returns)?;
     let setting = Setting::new(alloc, &book.book, naming.returns, parts)?;
     let outcome = outcome_of(alloc, book, naming.returns)?;
-    outcome_answer(alloc, show, case, &setting, naming, &outcome, shape)
+    outcome_answer(alloc, show, &setting, naming, &outcome, shape)
 }
 
 // What a command on a good book writes on good returns.
 fn one_count(
     alloc: Global,
     show: Show,
-    case: Case<'_>,
     book: &CheckedBook,
     returns: &Returns,
     names: Option<&[u8]>,
@@ -143,7 +131,7 @@ fn one_count(
                 returns,
                 full: &full,
             };
-            shown(alloc, show, case, book, &naming, shape)
+            shown(alloc, show, book, &naming, shape)
         }
         Err(refused) => Ok(refused),
     }
@@ -153,14 +141,14 @@ fn one_count(
 fn good_book(
     alloc: Global,
     show: Show,
-    case: Case<'_>,
     book: &CheckedBook,
+    returns: &[u8],
     names: Option<&[u8]>,
     shape: Shape,
 ) -> Result<Answer, NoMemory> {
-    match read_election(alloc, case.returns)? {
-        Some(returns) => one_count(alloc, show, case, book, &returns, names, shape),
-        None => case.counted(alloc),
+    match read_election(alloc, returns)? {
+        Ok(returns) => one_count(alloc, show, book, &returns, names, shape),
+        Err(refused) => Ok(refused),
     }
 }
 
@@ -168,13 +156,14 @@ fn good_book(
 fn one_book(
     alloc: Global,
     show: Show,
-    case: Case<'_>,
+    book: BookText<'_>,
+    returns: &[u8],
     names: Option<&[u8]>,
     shape: Shape,
 ) -> Result<Answer, NoMemory> {
-    match read_book(alloc, case.book)? {
-        Some(book) => good_book(alloc, show, case, &book, names, shape),
-        None => case.counted(alloc),
+    match read_book(alloc, book)? {
+        Ok(book) => good_book(alloc, show, &book, returns, names, shape),
+        Err(refused) => Ok(refused),
     }
 }
 
@@ -190,7 +179,7 @@ pub fn report(
     names: Option<&[u8]>,
     shape: Shape,
 ) -> Result<Answer, NoMemory> {
-    one_book(alloc, Show::Report, Case { book, returns }, names, shape)
+    one_book(alloc, Show::Report, book, returns, names, shape)
 }
 
 /// The columns of all stages of a book, as `report` refuses inputs and tells of a legal fault.
@@ -205,5 +194,5 @@ pub fn stages(
     names: Option<&[u8]>,
     shape: Shape,
 ) -> Result<Answer, NoMemory> {
-    one_book(alloc, Show::Stages, Case { book, returns }, names, shape)
+    one_book(alloc, Show::Stages, book, returns, names, shape)
 }

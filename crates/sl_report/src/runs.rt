@@ -10,14 +10,15 @@ use sl_machine::{Ending, Memory, budget, run};
 use sl_ratio::NoMemory;
 use sl_results::{Column, Counted};
 use sl_stages::{CheckedBook, LegalFault, MAX_STAGES, Returns};
-use sl_table::table_of;
+use sl_table::{fault_text, table_of};
 use std::alloc::Global;
 
 /// What a rulebook comes to on returns: a count, or a legal fault. A code of a rulebook keeps its budget.
 #[derive(Drop)]
 pub(crate) enum Outcome {
     Counted(Counted),
-    Fault(LegalFault),
+    /// A fault, and the line with which counting tells it.
+    Fault(LegalFault, Vec<u8>),
     OutOfBudget,
 }
 
@@ -65,7 +66,10 @@ fn ended(alloc: Global, code: &Code, returns: &Returns, ending: Ending) -> Resul
 {
     match ending {
         Ending::Done(memory) => Ok(Outcome::Counted(counted(alloc, code, &memory, returns)?)),
-        Ending::Fault(fault) => Ok(Outcome::Fault(fault)),
+        Ending::Fault(fault) => {
+            let line = fault_text(alloc, &fault, returns, code)?;
+            Ok(Outcome::Fault(fault, line))
+        }
         Ending::OutOfBudget => Ok(Outcome::OutOfBudget),
     }
 }

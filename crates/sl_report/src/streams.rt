@@ -1,7 +1,7 @@
 //! From readers to bytes, and from an answer to a writer.
 
 use crate::answer::Answer;
-use sl_desk::{Input, Sink, Source};
+use sl_inputs::{Input, Sink, Source};
 use sl_ratio::NoMemory;
 use std::alloc::Global;
 use thiserror::Error;

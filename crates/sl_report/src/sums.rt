@@ -1,8 +1,8 @@
 //! The command that adds up returns: `totals`.
 
 use crate::answer::{Answer, Shape};
-use crate::cases::{Case, names_of, read_book, read_election};
-use sl_desk::BookText;
+use crate::cases::{names_of, read_book, read_election};
+use sl_inputs::BookText;
 use sl_naming::{FullNames, Naming};
 use sl_ratio::NoMemory;
 use sl_report_sheets::total_sheets;
@@ -44,14 +44,14 @@ fn named_totals(
 // The totals of returns, with a good book if one is given.
 fn good_totals(
     alloc: Global,
-    case: Case<'_>,
     book: Option<&Book>,
+    returns: &[u8],
     names: Option<&[u8]>,
     shape: Shape,
 ) -> Result<Answer, NoMemory> {
-    match read_election(alloc, case.returns)? {
-        Some(returns) => named_totals(alloc, book, &returns, names, shape),
-        None => case.counted(alloc),
+    match read_election(alloc, returns)? {
+        Ok(returns) => named_totals(alloc, book, &returns, names, shape),
+        Err(refused) => Ok(refused),
     }
 }
 
@@ -69,15 +69,10 @@ pub fn totals(
     shape: Shape,
 ) -> Result<Answer, NoMemory> {
     let Some(text) = book else {
-        let book = BookText::Library("2023");
-        return good_totals(alloc, Case { book, returns }, None, names, shape);
-    };
-    let case = Case {
-        book: text,
-        returns,
+        return good_totals(alloc, None, returns, names, shape);
     };
     match read_book(alloc, text)? {
-        Some(checked) => good_totals(alloc, case, Some(&checked.book), names, shape),
-        None => case.counted(alloc),
+        Ok(checked) => good_totals(alloc, Some(&checked.book), returns, names, shape),
+        Err(refused) => Ok(refused),
     }
 }

@@ -7,7 +7,7 @@ use Rattle.sl_stages.specs.returns.Election.{Election, lands_of, parties_of, has
 use Rattle.sl_stages.specs.returns.Facts.{lands, parties, each_list}
 use Rattle.sl_semantics.specs.Memories.{Held}
 use Rattle.sl_semantics.specs.Tables.{held_line}
-use Rattle.sl_table.specs.inner.Fits.{IsOf}
+use Rattle.sl_texts.specs.inner.Fits.{IsOf}
 
 -- what holds of each element of each piece
 All-flat_map : {X Y : Type 0} (P : Y → Type 0) (f : X → List Y) (xs : List X) → All (λ x. All P (f x)) xs → All P (flat_map f xs)

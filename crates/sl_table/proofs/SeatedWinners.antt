@@ -12,25 +12,13 @@ use Rattle.sl_stages.specs.returns.Election.{Election, IsElection, IsWin, lands_
 use Rattle.sl_stages.specs.returns.Facts.{is_in, is_of, by_list}
 use Rattle.sl_stages.specs.meaning.Seating.{is_on, placed_on}
 use Rattle.sl_stages.proofs.meaning.PlacedWinners.{count_each}
+use Rattle.sl_texts.proofs.PartyWinners.{is_at, always, never}
 use Rattle.sl_table.specs.inner.Places.{list_place}
 use Rattle.sl_table.proofs.Cells.{by_list_as}
-
--- a winner counts at that place
-abbrev pub is_at : ℕ → Option ℕ → Bool
-is_at k None = false
-is_at k (Some place) = nat_eq place k
 
 -- a winner beside the place counts at that place of a column
 abbrev pub counts_at : Election → ℕ → Win × Placed → Bool
 counts_at e k x = is_at k (list_place e x.0.land x.0.party x.1)
-
-pub never : (b : Bool) → (b && false) ≡ false
-never true = refl
-never false = refl
-
-pub always : (b : Bool) → (b && true) ≡ b
-always true = refl
-always false = refl
 
 -- where one of two tests fails, both don't hold
 not_both : (a b : Bool) → (a ≡ false) ⊎ (b ≡ false) → (a && b) ≡ false

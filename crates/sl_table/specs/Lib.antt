@@ -1,8 +1,2 @@
-pub mod Lines
-pub mod Short
-pub mod Faults
 pub mod Stages
-pub mod Orders
-pub mod Bounds
-pub mod Steps
 pub mod inner

@@ -7,9 +7,9 @@ use Rattle.sl_stages.specs.returns.Election.{Election, has_list}
 use Rattle.sl_stages.specs.returns.Facts.{lands, parties, list_cell}
 use Rattle.sl_instructions.specs.Codes.{CountingCode}
 use Rattle.sl_semantics.specs.Memories.{Held}
-use Rattle.sl_table.specs.Faults.{list_word}
-use Rattle.sl_table.specs.Lines.{line}
-use Rattle.sl_table.specs.Short.{land_word, party_word}
+use Rattle.sl_texts.specs.Faults.{list_word}
+use Rattle.sl_texts.specs.Lines.{line}
+use Rattle.sl_texts.specs.Short.{land_word, party_word}
 
 -- the line of an entry: its word and its value
 abbrev pub entry_line : List ℕ → ℕ → List ℕ

@@ -1,5 +1,3 @@
 -- Definitions on which no call of the desk and no law rests.
-pub mod Counts
-pub mod PartyCounts
-pub mod Fits
 pub mod Places
+pub mod Held

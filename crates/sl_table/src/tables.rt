@@ -6,7 +6,8 @@ ghost use Rattle.sl_stages.specs.returns.Election.{lands_of, parties_of, has_lis
 ghost use Rattle.sl_stages.specs.returns.Facts.{parties, each_list, by_list};
 ghost use Rattle.sl_stages.specs.meaning.Seating.{placed_on};
 ghost use Rattle.sl_semantics.specs.Tables.{held_line, held_table};
-ghost use Rattle.sl_table.specs.inner.Fits.{Fits, FitsHeld};
+ghost use Rattle.sl_table.specs.inner.Held.{FitsHeld};
+ghost use Rattle.sl_texts.specs.inner.Fits.{Fits};
 ghost use Rattle.sl_table.specs.inner.Places.{list_place};
 
 use sl_machine::Memory;

@@ -1,5 +1,5 @@
 -- What a step from a safe place comes to, by a run that keeps what it records or drops it.
-use Rattle.std.proofs.Common.{◌≡◌, ℕ, suc, ◌+◌, Option, Some, IsSome, IsTrue, is_some, slice_get, refl, sym, ap, subst, ◌∙◌}
+use Rattle.std.proofs.Common.{◌≡◌, ℕ, suc, ◌+◌, Option, Some, IfSome, IsTrue, slice_get, refl, sym, ap, subst, ◌∙◌}
 use Rattle.std.proofs.lemmas.Option.{same_Some}
 use Rattle.sl_stages.specs.returns.Election.{Election}
 use Rattle.sl_instructions.specs.Codes.{CountingCode}
@@ -85,8 +85,10 @@ module _ {c : CountingCode} {e : Election} {p : ℕ} {s : State} (safe : IsSafe 
     pub goes_on : {t : State} → Goes t ≡ left_by k i (effect c e i s) → LeadsTo k c e p s (p + 1) t
     goes_on {t} h = let there = is_good (Goes t) h in (there.0, there.1, runs_on (Goes t) h)
 
-    pub has_target : {t : State} → Jumps t ≡ left_by k i (effect c e i s) → IsSome (target_of i)
-    has_target {t} h = ap is_some (is_good (Jumps t) h).0.target
+    pub target_is : {t : State} {q : ℕ} → Jumps t ≡ left_by k i (effect c e i s) → IfSome (target_of i) (λ target. q ≡ target) → target_of i ≡ Some q
+    target_is {t} {q} h told =
+        let target = (is_good (Jumps t) h).0.target in
+        target ∙ ap Some (sym (subst (λ (o : Option ℕ). IfSome o (λ target. q ≡ target)) target told))
 
     pub jumps_to : {t : State} {q : ℕ} → Jumps t ≡ left_by k i (effect c e i s) → target_of i ≡ Some q → LeadsTo k c e p s q t
     jumps_to {t} {q} h target =

@@ -1,5 +1,5 @@
 -- How the machine's store stands for a state.
-use Rattle.std.specs.Prelude.{ℕ, List, [], length, map, slice_index, slice_index_or}
+use Rattle.std.specs.Prelude.{◌≡◌, ℕ, List, [], length, map, slice_index, slice_index_or}
 use Rattle.sl_stages.specs.declared.table.Placed.TheVariants as placed
 use Rattle.sl_stages.specs.returns.Election.{Election, wins_of}
 use Rattle.sl_instructions.specs.Codes.{CountingCode}
@@ -52,4 +52,9 @@ end_with (end.Faulted fault) s = Faulted fault
 
 abbrev pub effect_of : Move → State → Effect
 effect_of move.Goes s = Goes s
-effect_of move.Jumps s = Jumps s
+effect_of (move.Jumps target) s = Jumps s
+
+-- an effect that jumps, if it is one, jumps to that place
+abbrev pub IsTo : ℕ → Move → Type 0
+IsTo place move.Goes = Unit {0}
+IsTo place (move.Jumps target) = target ≡ place

@@ -7,7 +7,7 @@ use Rattle.sl_machine.specs.inner.Ahead.{place_of, AreAhead}
 use Rattle.sl_machine.specs.inner.Leading.{LeadsTo, ends_run}
 use Rattle.sl_machine.specs.inner.Stores.{state_of}
 use Rattle.sl_machine.proofs.runs.Ahead.{some_ahead, stands, next_place, next_ahead, from_place}
-use Rattle.sl_machine.proofs.runs.Leading.{may_here, columns_here, goes_on, has_target, jumps_to}
+use Rattle.sl_machine.proofs.runs.Leading.{may_here, columns_here, goes_on, target_is, jumps_to}
 use Rattle.sl_machine.proofs.machine.step_from.Goals as goal
 
 pub next_instr-instr-requires : goal.next_instr-instr-requires
@@ -19,18 +19,14 @@ step-requires-clause-step g c = may_here c.requires.safe (stands c.args.code.now
 pub step-requires-clause-columns : goal.step-requires-clause-columns
 step-requires-clause-columns g c = columns_here c.requires.safe (stands c.args.code.now c.requires.ahead c.next_instr-instr.ensures)
 
-pub unwrap-requires : goal.unwrap-requires
-unwrap-requires g c =
-    let at = stands c.args.code.now c.requires.ahead c.next_instr-instr.ensures in
-    let follows = rw (c.in-Some-Jumps.is ∙ ap Some c.in-Some-Jumps.field-0-is) at c.in_ok-step.ensures.follows in
-    rw c.target.ensures (has_target c.requires.safe at g.R.Recording.records c.requires.records follows)
-
 pub instrs_from-requires : goal.instrs_from-requires
 instrs_from-requires g c =
     let at = stands c.args.code.now c.requires.ahead c.next_instr-instr.ensures in
-    let follows = rw (c.in-Some-Jumps.is ∙ ap Some c.in-Some-Jumps.field-0-is) at c.in_ok-step.ensures.follows in
-    let there = (jumps_to c.requires.safe at g.R.Recording.records c.requires.records follows (sym c.target.ensures ∙ c.unwrap.ensures)).0 in
-    omega (arith, slice_get_within c.args.code.now.instrs c.unwrap.result there.instr there.stands)
+    let same = c.in-Some-Jumps.is ∙ ap Some c.in-Some-Jumps.field-0-is in
+    let follows = rw same at c.in_ok-step.ensures.follows in
+    let target = target_is c.requires.safe at g.R.Recording.records c.requires.records follows (rw same at c.in_ok-step.ensures.target) in
+    let there = (jumps_to c.requires.safe at g.R.Recording.records c.requires.records follows target).0 in
+    omega (arith, slice_get_within c.args.code.now.instrs c.in-Some-Jumps.target there.instr there.stands)
 
 pub returns-in-Some-Goes-clause-ahead : goal.returns-in-Some-Goes-clause-ahead
 returns-in-Some-Goes-clause-ahead g c =
@@ -54,9 +50,11 @@ returns-in-Some-Jumps-clause-leads g c =
     let code = c.args.code.now in
     let k = g.R.Recording.records in
     let at = stands code c.requires.ahead c.next_instr-instr.ensures in
-    let follows = rw (c.in-Some-Jumps.is ∙ ap Some c.in-Some-Jumps.field-0-is) at c.in_ok-step.ensures.follows in
-    let q = c.unwrap.result in
-    let there = jumps_to c.requires.safe at k c.requires.records follows (sym c.target.ensures ∙ c.unwrap.ensures) in
+    let same = c.in-Some-Jumps.is ∙ ap Some c.in-Some-Jumps.field-0-is in
+    let follows = rw same at c.in_ok-step.ensures.follows in
+    let q = c.in-Some-Jumps.target in
+    let target = target_is c.requires.safe at k c.requires.records follows (rw same at c.in_ok-step.ensures.target) in
+    let there = jumps_to c.requires.safe at k c.requires.records follows target in
     let within : q ≤ length code.instrs = omega (arith, slice_get_within code.instrs q there.0.instr there.0.stands) in
     let next : q ≡ place_of code c.instrs_from.result.now = sym (ap (place_of code) c.instrs_from.ensures ∙ from_place code q within) in
     subst (λ (r : ℕ). LeadsTo k code c.args.returns.now (place_of code c.args.ahead.now) (state_of c.args.store.now) r (state_of c.step.new.self)) next there

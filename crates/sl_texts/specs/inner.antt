@@ -1,0 +1,4 @@
+-- Definitions on which no call of the desk and no law rests.
+pub mod Counts
+pub mod PartyCounts
+pub mod Fits

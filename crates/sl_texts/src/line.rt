@@ -1,0 +1,162 @@
+//! Texts of lines, written word by word.
+
+ghost use Rattle.std.specs.Prelude.{◌≡◌, ◌++◌, OnOk, OnErr, codes};
+ghost use Rattle.std.specs.Fmt.{decimal};
+ghost use Rattle.sl_texts.specs.Lines.{ratio_word, no_text, with_word, with_end};
+
+use itoa::Buffer;
+use sl_ratio::{NoMemory, Ratio};
+use std::alloc::Global;
+use std::marker::Model;
+
+/// A text that is written word by word. A line is words parted by one blank, with LF after the last of them (docs/output.md, section 1).
+#[derive(Debug, Drop)]
+pub struct Text {
+    alloc: Global,
+    bytes: Vec<u8>,
+    // whether the last line has a word and no end yet
+    begun: bool,
+}
+
+impl Model for Text {
+    ghost use Rattle.sl_texts.specs.Lines.{Draft};
+
+    ghost Value = { Draft };
+
+    ghost view = { λ t. record { bytes = t.bytes.items; begun = t.begun } };
+}
+
+impl Text {
+    /// A text without a byte. Takes no memory.
+    pub fn new(alloc: Global) -> Text
+        ensures { result ≡ no_text }
+    {
+        Text {
+            alloc,
+            bytes: Vec::new(alloc),
+            begun: false,
+        }
+    }
+
+    /// Where the text takes its memory.
+    pub(crate) fn alloc(&self) -> Global {
+        self.alloc
+    }
+
+    /// Adds a word to the line, after a blank if it is not the line's first.
+    ///
+    /// # Errors
+    ///
+    /// Want of memory. The text is then unchanged.
+    pub fn word(&mut self, word: &[u8]) -> Result<(), NoMemory>
+        ensures added { OnOk result (self.new ≡ with_word self.old word.now) }
+        ensures unchanged { OnErr result (self.new ≡ self.old) }
+    {
+        let length = self.bytes.len();
+        if self.begun {
+            self.bytes.push(b' ')?;
+        }
+        if self.bytes.extend_from_slice(word).is_err() {
+            self.bytes.truncate(length);
+            return Err(NoMemory);
+        }
+        self.begun = true;
+        Ok(())
+    }
+
+    /// Adds two names to the line as one word, parted by a slash.
+    ///
+    /// # Errors
+    ///
+    /// Want of memory. The text is then unchanged.
+    pub fn pair(&mut self, first: &[u8], second: &[u8]) -> Result<(), NoMemory>
+        ensures added { OnOk result (self.new ≡ with_word self.old (first.now ++ (codes "/" ++ second.now))) }
+        ensures unchanged { OnErr result (self.new ≡ self.old) }
+    {
+        let mut word = Vec::from_slice(self.alloc, first)?;
+        word.push(b'/')?;
+        word.extend_from_slice(second)?;
+        self.word(&word)
+    }
+
+    /// Adds a number to the line, in plain decimal, as a word of its own.
+    ///
+    /// # Errors
+    ///
+    /// Want of memory. The text is then unchanged.
+    pub fn number(&mut self, number: u64) -> Result<(), NoMemory>
+        ensures added { OnOk result (self.new ≡ with_word self.old (decimal number)) }
+        ensures unchanged { OnErr result (self.new ≡ self.old) }
+    {
+        let mut digits = Buffer::new();
+        self.word(digits.format(number).as_bytes())
+    }
+
+    /// Adds a number of up to 128 bits, as `number` does.
+    ///
+    /// # Errors
+    ///
+    /// Want of memory. The text is then unchanged.
+    pub fn wide_number(&mut self, number: u128) -> Result<(), NoMemory>
+        ensures added { OnOk result (self.new ≡ with_word self.old (decimal number)) }
+        ensures unchanged { OnErr result (self.new ≡ self.old) }
+    {
+        let mut digits = Buffer::new();
+        self.word(digits.format(number).as_bytes())
+    }
+
+    /// Adds two numbers to the line as one word, parted by a slash.
+    ///
+    /// # Errors
+    ///
+    /// Want of memory. The text is then unchanged.
+    pub fn number_pair(&mut self, first: u128, second: u128) -> Result<(), NoMemory>
+        ensures added { OnOk result (self.new ≡ with_word self.old (decimal first ++ (codes "/" ++ decimal second))) }
+        ensures unchanged { OnErr result (self.new ≡ self.old) }
+    {
+        let mut left = Buffer::new();
+        let mut right = Buffer::new();
+        self.pair(
+            left.format(first).as_bytes(),
+            right.format(second).as_bytes(),
+        )
+    }
+
+    /// Adds a quotient to the line as a word, not reduced.
+    ///
+    /// # Errors
+    ///
+    /// Want of memory. The text is then unchanged.
+    pub fn ratio(&mut self, ratio: Ratio) -> Result<(), NoMemory>
+        ensures added { OnOk result (self.new ≡ with_word self.old (ratio_word ratio)) }
+        ensures unchanged { OnErr result (self.new ≡ self.old) }
+    {
+        if ratio.is_infinite() {
+            self.word(b"inf")
+        } else {
+            self.number_pair(ratio.num(), ratio.den())
+        }
+    }
+
+    /// Ends the line.
+    ///
+    /// # Errors
+    ///
+    /// Want of memory. The text is then unchanged.
+    pub fn end_line(&mut self) -> Result<(), NoMemory>
+        ensures ended { OnOk result (self.new ≡ with_end self.old) }
+        ensures unchanged { OnErr result (self.new ≡ self.old) }
+    {
+        self.bytes.push(b'\n')?;
+        self.begun = false;
+        Ok(())
+    }
+
+    /// The bytes of the text.
+    pub fn into_bytes(self) -> Vec<u8>
+        ensures { result.items ≡ self.bytes }
+    {
+        let Text { bytes, .. } = self;
+        bytes
+    }
+}
