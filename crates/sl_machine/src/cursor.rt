@@ -1,6 +1,6 @@
 //! A cursor of the machine.
 
-ghost use Rattle.std.specs.Prelude.{◌≡◌, Some, None, IsSome, nat_lt, if◌then◌else◌};
+ghost use Rattle.std.specs.Prelude.{◌≡◌, Some, None, IsSome};
 
 use std::marker::Model;
 
@@ -38,14 +38,19 @@ impl Cursor {
         self.place = place;
     }
 
-    /// Moves it to a number that is below a count, or leaves it unset where the number is not: whether it is set.
-    pub(crate) fn set_below(&mut self, count: usize, place: usize) -> bool
-        ensures value { result ≡ nat_lt place count }
-        ensures moved { self.new ≡ (if nat_lt place count then Some place else None) }
+    /// Moves it on to a number.
+    pub(crate) fn move_on(&mut self, place: usize)
+        requires { IsSome self.old }
+        ensures { self.new ≡ Some place }
     {
-        self.is_set = place < count;
         self.place = place;
-        self.is_set
+    }
+
+    /// Leaves it unset.
+    pub(crate) fn clear(&mut self)
+        ensures { self.new ≡ None }
+    {
+        self.is_set = false;
     }
 
     /// Moves it to a number, if there is one, and leaves it unset else.

@@ -23,9 +23,11 @@ fn to_first(cursor: &mut Cursor, count: usize, target: u32) -> Effect
     ensures follows { (set : Option ℕ → State → State) (s : State) → effect_of result (set cursor.new s) ≡ first_of count set s }
     ensures target { IsTo target result }
 {
-    if cursor.set_below(count, 0) {
+    if count > 0 {
+        cursor.set(0);
         Effect::Goes
     } else {
+        cursor.clear();
         Effect::Jumps(target)
     }
 }
@@ -37,9 +39,12 @@ fn to_next(cursor: &mut Cursor, count: usize, target: u32) -> Effect
     ensures follows { (set : Option ℕ → State → State) (s : State) → effect_of result (set cursor.new s) ≡ next_of count cursor.old set s }
     ensures target { IsTo target result }
 {
-    if cursor.set_below(count, cursor.place() + 1) {
+    let next = cursor.place() + 1;
+    if next < count {
+        cursor.move_on(next);
         Effect::Jumps(target)
     } else {
+        cursor.clear();
         Effect::Goes
     }
 }

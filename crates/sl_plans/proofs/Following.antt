@@ -1,5 +1,5 @@
 -- The machine follows a plan.
-use Rattle.std.proofs.Common.{◌≡◌, ℕ, ◌+◌, ◌-◌, [], ◌∷◌, Option, Some, None, refl, ◌∙◌, arith, true, false}
+use Rattle.std.proofs.Common.{◌≡◌, ℕ, ◌+◌, ◌-◌, [], ◌∷◌, Option, Some, None, refl, sym, ap, subst, ◌∙◌, arith, true, false}
 use Rattle.std.proofs.lemmas.Bool.{lt-ltb, le-ltb}
 use Rattle.sl_stages.specs.returns.Election.{Election}
 use Rattle.sl_instructions.specs.declared.instr.Instr.TheVariants.{Set, Sub, Jz, At}
@@ -17,10 +17,11 @@ use Rattle.sl_plans.specs.declared.plan.Test.{Test}
 use Rattle.sl_plans.specs.declared.plan.Cursor.{Cursor}
 use Rattle.sl_plans.specs.declared.plan.Cursor.TheVariants as cursor
 use Rattle.sl_plans.specs.declared.plan.Bound.{Bound}
-use Rattle.sl_plans.specs.Trees.{Tree, Line, Stop, Then, If, Each, Times, size_of, flat, jump_of, to_first, to_next, ones, at_join, kinds_after, known_in_arm, known_in_other, known_in_turn, known_after_loop}
+use Rattle.sl_plans.specs.Trees.{Tree, Line, Stop, Then, If, Each, Times, is_nothing, size_of, flat, jump_of, to_first, to_next, ones, at_join, kinds_after, known_in_arm, known_in_other, known_in_turn, known_after_loop}
 use Rattle.sl_plans.specs.Meaning.{Course, count_of, cursor_of, set_cursor, turns_in, counted, does, cost}
 use Rattle.sl_plans.specs.Following.{Follows, PlansAreFollowed}
-use Rattle.sl_plans.proofs.Places.{first_plan, second_plan, if_stands, each_stands, times_stands}
+use Rattle.sl_plans.proofs.Arms.{by_arm, nothing_is, size_if}
+use Rattle.sl_plans.proofs.Places.{first_plan, second_plan, unless_stands, if_stands, each_stands, times_stands}
 use Rattle.sl_plans.proofs.Pieces.{same_jump, jump_target, first_target, next_target, follows_after, follows_wider, follows_at, in_order, and_on, stops_of, branches_of, declares, leaves_for, line_run}
 use Rattle.sl_plans.proofs.Loops.{each_runs, turns_run}
 
@@ -38,11 +39,31 @@ module _ (c : CountingCode) (e : Election) where
   abbrev Runs : Tree → Type 0
   Runs tree = (k : Kinds) (p : ℕ) (s : State) → HasAt c p (flat k p tree) → Follows c e (cost e tree) p s (p + size_of tree) (does c e tree s)
 
-  if_run : (t : Test) (a b : Tree) → Runs a → Runs b → Runs (If t a b)
-  if_run t a b run_a run_b k p s has =
+  -- without an arm
+  unless_run : (t : Test) (b : Tree) → Runs b → Runs (If t (Line []) b)
+  unless_run t b run_b k p s has =
+      let end = p + size_of b + 1 in
+      let parts = unless_stands c t b k p has in
+      let course : Course = does c e (If t (Line []) b) s in
+      let n : ℕ = cost e b + 1 in
+      let to_end : p + 1 + size_of b ≡ end = omega arith in
+      let behind : end + 1 ≡ p + (size_of b + 2) = omega arith in
+      let joined : (u : State) → Comes c e 1 end u (end + 1) u = declares c e end (end + 1) (at_join k) refl parts.joined in
+      let in_other : (u : State) → Follows c e n (p + 1) u (end + 1) (does c e b u) = λ u.
+      and_on c e (cost e b) 1 (p + 1) end (end + 1) u (does c e b u)
+      (follows_at c e (cost e b) (p + 1) (p + 1 + size_of b) end u (does c e b u) to_end (run_b (known_in_other k t) (p + 1) u parts.other)) joined in
+      let in_arm : (u : State) → Follows c e n end u (end + 1) (does c e (Line []) u) = λ u.
+      follows_wider c e 1 n end (end + 1) u (does c e (Line []) u) (omega arith) (joined u) in
+      follows_wider c e (1 + n) (cost e (If t (Line []) b)) p (p + (size_of b + 2)) s course (omega arith)
+      (follows_at c e (1 + n) p (end + 1) (p + (size_of b + 2)) s course behind
+      (branches_of c e p s (jump_of t end) parts.jump end (end + 1) n (does c e (Line [])) (does c e b) (jump_target t end) in_arm in_other (effect c e (jump_of t 0) s) (same_jump t end c e s)))
+
+  -- with one
+  if_run : (t : Test) (a b : Tree) → is_nothing a ≡ false → Runs a → Runs b → Runs (If t a b)
+  if_run t a b some run_a run_b k p s has =
       let arm = p + size_of b + 2 in
       let end = arm + size_of a + 1 in
-      let parts = if_stands c t a b k p has in
+      let parts = if_stands c t a b some k p has in
       let course : Course = does c e (If t a b) s in
       let n : ℕ = cost e a + cost e b + 2 in
       let to_end : arm + 1 + size_of a ≡ end = omega arith in
@@ -57,9 +78,16 @@ module _ (c : CountingCode) (e : Election) where
       (follows_after c e 1 (cost e a + 1) arm (arm + 1) (end + 1) u u (does c e a u) (declares c e arm (arm + 1) (known_in_arm k t) refl parts.declared u)
       (and_on c e (cost e a) 1 (arm + 1) end (end + 1) u (does c e a u)
       (follows_at c e (cost e a) (arm + 1) (arm + 1 + size_of a) end u (does c e a u) to_end (run_a (known_in_arm k t) (arm + 1) u parts.arm_plan)) joined)) in
-      follows_wider c e (1 + n) (cost e a + cost e b + 3) p (p + (size_of a + size_of b + 4)) s course (omega arith)
+      let size : p + (size_of a + size_of b + 4) ≡ p + size_of (If t a b) = ap (λ (m : ℕ). p + m) (sym (size_if t a b some)) in
+      follows_at c e (cost e a + cost e b + 3) p (p + (size_of a + size_of b + 4)) (p + size_of (If t a b)) s course size
+      (follows_wider c e (1 + n) (cost e a + cost e b + 3) p (p + (size_of a + size_of b + 4)) s course (omega arith)
       (follows_at c e (1 + n) p (end + 1) (p + (size_of a + size_of b + 4)) s course behind
-      (branches_of c e p s (jump_of t arm) parts.jump arm (end + 1) n (does c e a) (does c e b) (jump_target t arm) in_arm in_other (effect c e (jump_of t 0) s) (same_jump t arm c e s)))
+      (branches_of c e p s (jump_of t arm) parts.jump arm (end + 1) n (does c e a) (does c e b) (jump_target t arm) in_arm in_other (effect c e (jump_of t 0) s) (same_jump t arm c e s))))
+
+  choice_run : (t : Test) (a b : Tree) → Runs a → Runs b → Runs (If t a b)
+  choice_run t a b run_a run_b = by_arm a
+      (λ none. subst (λ (arm : Tree). Runs (If t arm b)) (sym (nothing_is a none)) (unless_run t b run_b))
+      (λ some. if_run t a b some run_a run_b)
 
   each_loop : (over : Cursor) (a : Tree) → Runs a → Runs (Each over a)
   each_loop over a run_a k p s has =
@@ -118,7 +146,7 @@ module _ (c : CountingCode) (e : Election) where
       follows_at c e (cost e a + cost e b) p (p + size_of a + size_of b) (p + (size_of a + size_of b)) s (does c e (Then a b) s) end
       (in_order c e (cost e a) (cost e b) p (p + size_of a) (p + size_of a + size_of b) s (does c e a s) (does c e b)
       (follow a k p s (first_plan c a b k p has)) (λ t. follow b (kinds_after k a) (p + size_of a) t (second_plan c a b k p has)))
-  follow (If t a b) k p s has = if_run t a b (follow a) (follow b) k p s has
+  follow (If t a b) k p s has = choice_run t a b (follow a) (follow b) k p s has
   follow (Each over a) k p s has = each_loop over a (follow a) k p s has
   follow (Times r m a) k p s has = times_loop r m a (follow a) k p s has
 

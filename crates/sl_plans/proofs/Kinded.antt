@@ -10,7 +10,7 @@ use Rattle.sl_instructions.specs.declared.kinds.Kinds.{Kinds}
 use Rattle.sl_instructions.specs.Codes.{CountingCode}
 use Rattle.sl_instructions.specs.Rows.{target_of}
 use Rattle.sl_instructions.specs.Standing.{HasAt}
-use Rattle.sl_verify.specs.Kinds.{implies}
+use Rattle.sl_verify.specs.Kinds.{implies, includes, covers, fits_table}
 use Rattle.sl_verify.specs.Leaves.{ends, behind, carried}
 use Rattle.sl_verify.specs.Needs.{Context, has_needs}
 use Rattle.sl_verify.specs.Pieces.{kinds_here, comes_next, comes_after, meets, has_own, is_passed, are_passed, IsWithin}
@@ -22,9 +22,10 @@ use Rattle.sl_plans.specs.declared.plan.Test.TheVariants as test
 use Rattle.sl_plans.specs.declared.plan.Bound.{Bound}
 use Rattle.sl_plans.specs.declared.plan.Cursor.{Cursor}
 use Rattle.sl_plans.specs.declared.plan.Cursor.TheVariants as cursor
-use Rattle.sl_plans.specs.Trees.{Tree, Line, Stop, Then, If, Each, Times, size_of, flat, jump_of, to_first, to_next, ones, at_join, known_after_all, kinds_after, known_in_arm, known_in_other, known_in_turn, known_after_loop}
+use Rattle.sl_plans.specs.Trees.{Tree, Line, Stop, Then, If, Each, Times, is_nothing, size_of, flat, jump_of, to_first, to_next, ones, at_join, known_after_all, kinds_after, known_in_arm, known_in_other, known_in_turn, known_after_loop}
 use Rattle.sl_plans.specs.Fine.{bare, kinds_next, kinds_in_turn, kinds_along_all, kinds_along, is_plain, is_fine_line, is_fine, ArePassed, FinePlansPass}
-use Rattle.sl_plans.proofs.Places.{first_plan, second_plan, if_stands, each_stands, times_stands}
+use Rattle.sl_plans.proofs.Arms.{by_arm, nothing_is, flat_if}
+use Rattle.sl_plans.proofs.Places.{first_plan, second_plan, unless_stands, if_stands, each_stands, times_stands}
 
 -- ---- tests
 
@@ -153,11 +154,50 @@ module _ (code : CountingCode) (slots : ℕ → Option Shape) (stages : ℕ) whe
       ends_there all k i (is_none (declared_by i) (not_so _ parts.1)) needs.0 (leads_nowhere (carried k i) (target_of i) (is_none (target_of i) (not_so _ parts.0)))
       (Some d) (At d ∷ []) over.0 (declares all None (Some d) d [] refl needs.1 (nothing all (Some d)))
 
-  if_passes : (t : Test) (a b : Tree) → Pass a → Pass b → Pass (If t a b)
-  if_passes t a b pass_a pass_b k p has fine =
+  -- what implies a declaration without positive registers, and what this implies beside, implies both
+  implied_on : (have mid need : Kinds) → have.cursors ≡ mid.cursors → have.table ≡ mid.table → mid.positive ≡ need.positive → implies have mid ≡ true → implies mid need ≡ true → implies have need ≡ true
+  implied_on have mid need cursors table positive first second =
+      let one = and_parts (includes have.positive mid.positive && covers have.cursors mid.cursors) (fits_table have.table mid.table) first in
+      let positives = and_parts (includes have.positive mid.positive) (covers have.cursors mid.cursors) one.0 in
+      let two = and_parts (includes mid.positive need.positive && covers mid.cursors need.cursors) (fits_table mid.table need.table) second in
+      let rest = and_parts (includes mid.positive need.positive) (covers mid.cursors need.cursors) two.0 in
+      both_hold (includes have.positive need.positive && covers have.cursors need.cursors) (fits_table have.table need.table)
+      (both_hold (includes have.positive need.positive) (covers have.cursors need.cursors)
+      (ap (λ m. includes have.positive m) (sym positive) ∙ positives.0) (ap (λ m. covers m need.cursors) cursors ∙ rest.1))
+      (ap (λ m. fits_table m need.table) table ∙ two.1)
+
+  -- without an arm
+  unless_passes : (t : Test) (b : Tree) → Pass b → Pass (If t (Line []) b)
+  unless_passes t b pass_b k p has fine =
+      let end = p + size_of b + 1 in
+      let parts = unless_stands code t b (bare k) p has in
+      let d = at_join (bare k) in
+      let in_arm = known_in_arm (bare k) t in
+      let in_other = kinds_next k (jump_of t 0) in
+      let after_b = kinds_along in_other b in
+      let fb = flat (known_in_other (bare k) t) (p + 1) b in
+      let f1 = and_parts (has_needs all k (jump_of t 0)) _ fine in
+      let f2 = and_parts (implies (carried k (jump_of t 0)) in_arm) _ f1.1 in
+      let f3 = and_parts (is_fine all in_other b) _ f2.1 in
+      let f4 = and_parts (has_needs all after_b (Jmp 0)) _ f3.1 in
+      let f5 = and_parts (implies (carried after_b (Jmp 0)) d) _ f4.1 in
+      let f6 = and_parts (has_needs all in_arm (At in_arm)) _ f5.1 in
+      let f7 = and_parts (is_fine all in_arm (Line [])) _ f6.1 in
+      let f8 = and_parts (implies in_arm d) (has_needs all d (At d)) f7.1 in
+      let last : ArePassed all (Some after_b) (At d ∷ []) (Some d) = declares all (Some after_b) (Some d) d [] f5.0 f8.1 (nothing all (Some d)) in
+      let from_other : ArePassed all (Some in_other) (fb ++ (At d ∷ [])) (Some d) =
+      in_row all (Some in_other) (Some after_b) (Some d) fb (At d ∷ []) (pass_as b pass_b in_other (known_in_other (bare k) t) (p + 1) (bare_other k t) parts.other f3.0) last in
+      let jump = test_jump t end in
+      let implied : implies (carried k (jump_of t end)) d ≡ true = ap (λ m. implies m d) (jump.carries k) ∙ implied_on (carried k (jump_of t 0)) in_arm d refl refl refl f2.0 f8.0 in
+      goes_on all k (jump_of t end) jump.declares_none (jump.needs all k ∙ f1.0) (leads_to (carried k (jump_of t end)) d (target_of (jump_of t end)) end jump.target parts.joined implied)
+      (Some d) (fb ++ (At d ∷ [])) jump.goes_on (subst (λ m. ArePassed all (Some m) (fb ++ (At d ∷ [])) (Some d)) (sym (jump.next k)) from_other)
+
+  -- with one
+  if_passes : (t : Test) (a b : Tree) → is_nothing a ≡ false → Pass a → Pass b → Pass (If t a b)
+  if_passes t a b some pass_a pass_b k p has fine =
       let arm = p + size_of b + 2 in
       let end = arm + size_of a + 1 in
-      let parts = if_stands code t a b (bare k) p has in
+      let parts = if_stands code t a b some (bare k) p has in
       let d = at_join (bare k) in
       let in_arm = known_in_arm (bare k) t in
       let in_other = kinds_next k (jump_of t 0) in
@@ -183,9 +223,15 @@ module _ (code : CountingCode) (slots : ℕ → Option Shape) (stages : ℕ) whe
       in_row all (Some in_other) (Some after_b) (Some d) fb (Jmp end ∷ (At in_arm ∷ (fa ++ (At d ∷ [])))) (pass_as b pass_b in_other (known_in_other (bare k) t) (p + 1) (bare_other k t) parts.other f3.0) from_leave in
       let jump = test_jump t arm in
       let implied : implies (carried k (jump_of t arm)) in_arm ≡ true = ap (λ m. implies m in_arm) (jump.carries k) ∙ f2.0 in
-      goes_on all k (jump_of t arm) jump.declares_none (jump.needs all k ∙ f1.0) (leads_to (carried k (jump_of t arm)) in_arm (target_of (jump_of t arm)) arm jump.target parts.declared implied)
+      subst (λ (is : List Instr). ArePassed all (Some k) is (Some d)) (sym (flat_if t a b some (bare k) p))
+      (goes_on all k (jump_of t arm) jump.declares_none (jump.needs all k ∙ f1.0) (leads_to (carried k (jump_of t arm)) in_arm (target_of (jump_of t arm)) arm jump.target parts.declared implied)
       (Some d) (fb ++ (Jmp end ∷ (At in_arm ∷ (fa ++ (At d ∷ []))))) jump.goes_on
-      (subst (λ m. ArePassed all (Some m) (fb ++ (Jmp end ∷ (At in_arm ∷ (fa ++ (At d ∷ []))))) (Some d)) (sym (jump.next k)) from_other)
+      (subst (λ m. ArePassed all (Some m) (fb ++ (Jmp end ∷ (At in_arm ∷ (fa ++ (At d ∷ []))))) (Some d)) (sym (jump.next k)) from_other))
+
+  choice_passes : (t : Test) (a b : Tree) → Pass a → Pass b → Pass (If t a b)
+  choice_passes t a b pass_a pass_b = by_arm a
+      (λ none. subst (λ (arm : Tree). Pass (If t arm b)) (sym (nothing_is a none)) (unless_passes t b pass_b))
+      (λ some. if_passes t a b some pass_a pass_b)
 
   each_passes : (over : Cursor) (a : Tree) → Pass a → Pass (Each over a)
   each_passes over a pass_a k p has fine =
@@ -259,7 +305,7 @@ module _ (code : CountingCode) (slots : ℕ → Option Shape) (stages : ℕ) whe
       in_row all (Some k) (Some (kinds_along k a)) (Some (kinds_along k (Then a b))) (flat (bare k) p a) (flat (kinds_after (bare k) a) q b)
       (plan_passes a k p (first_plan code a b (bare k) p has) parts.0)
       (pass_as b (plan_passes b) (kinds_along k a) (kinds_after (bare k) a) q (bare_along k a) (second_plan code a b (bare k) p has) parts.1)
-  plan_passes (If t a b) k p has fine = if_passes t a b (plan_passes a) (plan_passes b) k p has fine
+  plan_passes (If t a b) k p has fine = choice_passes t a b (plan_passes a) (plan_passes b) k p has fine
   plan_passes (Each over a) k p has fine = each_passes over a (plan_passes a) k p has fine
   plan_passes (Times r m a) k p has fine = times_passes r m a (plan_passes a) k p has fine
 

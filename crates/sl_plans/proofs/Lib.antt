@@ -1,4 +1,5 @@
 -- The lemmas of plans.
+pub mod Arms
 pub mod Places
 pub mod Pieces
 pub mod Loops

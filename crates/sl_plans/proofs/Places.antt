@@ -1,5 +1,5 @@
 -- How many instructions a plan is, and where the parts of each form stand.
-use Rattle.std.proofs.Common.{◌≡◌, ℕ, suc, ◌+◌, List, [], ◌∷◌, ◌++◌, length, Some, slice_get, refl, subst, arith, length-append}
+use Rattle.std.proofs.Common.{◌≡◌, ℕ, suc, ◌+◌, Bool, true, false, List, [], ◌∷◌, ◌++◌, length, Some, slice_get, if◌then◌else◌, refl, subst, arith, length-append}
 use Rattle.sl_instructions.specs.declared.instr.Instr.{Instr}
 use Rattle.sl_instructions.specs.declared.instr.Instr.TheVariants.{Set, Sub, Jmp, Jz, At}
 use Rattle.sl_instructions.specs.declared.kinds.Kinds.{Kinds}
@@ -9,7 +9,12 @@ use Rattle.sl_instructions.proofs.Standing.{prefix_stands, rest_stands, first_st
 use Rattle.sl_plans.specs.declared.plan.Test.{Test}
 use Rattle.sl_plans.specs.declared.plan.Cursor.{Cursor}
 use Rattle.sl_plans.specs.declared.plan.Bound.{Bound}
-use Rattle.sl_plans.specs.Trees.{Tree, Line, Stop, Then, If, Each, Times, size_of, flat, jump_of, to_first, to_next, ones, at_join, kinds_after, known_in_arm, known_in_other, known_in_turn, known_after_loop}
+use Rattle.sl_plans.proofs.Arms.{flat_if}
+use Rattle.sl_plans.specs.Trees.{Tree, Line, Stop, Then, If, Each, Times, is_nothing, size_of, flat, with_arm, without_arm, jump_of, to_first, to_next, ones, at_join, kinds_after, known_in_arm, known_in_other, known_in_turn, known_after_loop}
+
+length-either : (n : Bool) (xs ys : List Instr) (x y : ℕ) → length xs ≡ x → length ys ≡ y → length (if n then xs else ys) ≡ (if n then x else y)
+length-either true xs ys x y is_x is_y = is_x
+length-either false xs ys x y is_x is_y = is_y
 
 pub length-flat : (tree : Tree) (k : Kinds) (p : ℕ) → length (flat k p tree) ≡ size_of tree
 length-flat (Line is) k p = refl
@@ -23,7 +28,10 @@ length-flat (If t a b) k p =
     let fa = flat (known_in_arm k t) (arm + 1) a in
     let fb = flat (known_in_other k t) (p + 1) b in
     let joined = At (at_join k) ∷ [] in
-    omega (arith, length-append fb (Jmp end ∷ (At (known_in_arm k t) ∷ (fa ++ joined))), length-append fa joined, length-flat a (known_in_arm k t) (arm + 1), length-flat b (known_in_other k t) (p + 1))
+    let none : length (without_arm k t (p + size_of b + 1) fb) ≡ size_of b + 2 = omega (arith, length-append fb joined, length-flat b (known_in_other k t) (p + 1)) in
+    let some : length (with_arm k t arm end fa fb) ≡ size_of a + size_of b + 4 =
+    omega (arith, length-append fb (Jmp end ∷ (At (known_in_arm k t) ∷ (fa ++ joined))), length-append fa joined, length-flat a (known_in_arm k t) (arm + 1), length-flat b (known_in_other k t) (p + 1)) in
+    length-either (is_nothing a) (without_arm k t (p + size_of b + 1) fb) (with_arm k t arm end fa fb) (size_of b + 2) (size_of a + size_of b + 4) none some
 length-flat (Each over a) k p =
     let fa = flat (known_in_turn k over) (p + 2) a in
     omega (arith, length-append fa (to_next over (p + 1) ∷ (At (known_after_loop k over) ∷ [])), length-flat a (known_in_turn k over) (p + 2))
@@ -53,7 +61,26 @@ module _ (c : CountingCode) where
   pub second_plan : (a b : Tree) (k : Kinds) (p : ℕ) → HasAt c p (flat k p (Then a b)) → HasAt c (p + size_of a) (flat (kinds_after k a) (p + size_of a) b)
   second_plan a b k p h = behind_plan a k p (p + size_of a) (flat (kinds_after k a) (p + size_of a) b) refl h
 
-  -- ---- the parts of `If`
+  -- ---- the parts of `If` without an arm
+  pub record UnlessStands (t : Test) (b : Tree) (k : Kinds) (p end : ℕ) : Type 0 where
+    pub jump : slice_get c.instrs p ≡ Some (jump_of t end)
+    pub other : HasAt c (p + 1) (flat (known_in_other k t) (p + 1) b)
+    pub joined : slice_get c.instrs end ≡ Some (At (at_join k))
+
+  pub unless_stands : (t : Test) (b : Tree) (k : Kinds) (p : ℕ) → HasAt c p (flat k p (If t (Line []) b)) → UnlessStands t b k p (p + size_of b + 1)
+  unless_stands t b k p h =
+      let end = p + size_of b + 1 in
+      let fb = flat (known_in_other k t) (p + 1) b in
+      let last = At (at_join k) ∷ [] in
+      let other = behind_one p (p + 1) (jump_of t end) (fb ++ last) refl h in
+      let to_end : p + 1 + size_of b ≡ end = omega arith in
+      record {
+        jump = first_stands c p (jump_of t end) (fb ++ last) h;
+        other = prefix_stands c (p + 1) fb last other;
+        joined = first_stands c end (At (at_join k)) [] (behind_plan b (known_in_other k t) (p + 1) end last to_end other);
+      }
+
+  -- ---- the parts of `If` with one
   pub record IfStands (t : Test) (a b : Tree) (k : Kinds) (p arm end : ℕ) : Type 0 where
     pub jump : slice_get c.instrs p ≡ Some (jump_of t arm)
     pub other : HasAt c (p + 1) (flat (known_in_other k t) (p + 1) b)
@@ -62,8 +89,9 @@ module _ (c : CountingCode) where
     pub arm_plan : HasAt c (arm + 1) (flat (known_in_arm k t) (arm + 1) a)
     pub joined : slice_get c.instrs end ≡ Some (At (at_join k))
 
-  pub if_stands : (t : Test) (a b : Tree) (k : Kinds) (p : ℕ) → HasAt c p (flat k p (If t a b)) → IfStands t a b k p (p + size_of b + 2) (p + size_of b + 2 + size_of a + 1)
-  if_stands t a b k p h =
+  pub if_stands : (t : Test) (a b : Tree) → is_nothing a ≡ false → (k : Kinds) (p : ℕ) → HasAt c p (flat k p (If t a b)) → IfStands t a b k p (p + size_of b + 2) (p + size_of b + 2 + size_of a + 1)
+  if_stands t a b some k p has =
+      let h = subst (λ (is : List Instr). HasAt c p is) (flat_if t a b some k p) has in
       let arm = p + size_of b + 2 in
       let end = arm + size_of a + 1 in
       let fa = flat (known_in_arm k t) (arm + 1) a in

@@ -1,5 +1,5 @@
 -- The operands of a plan's instructions fit their bytes, where its lines neither jump nor declare and set registers to numbers that fit.
-use Rattle.std.proofs.Common.{◌≡◌, ℕ, ◌+◌, ◌<◌, ◌≤◌, ◌^◌, Bool, true, false, ◌&&◌, List, [], ◌∷◌, ◌++◌, flat_map, refl, arith}
+use Rattle.std.proofs.Common.{◌≡◌, ℕ, ◌+◌, ◌<◌, ◌≤◌, ◌^◌, Bool, true, false, ◌&&◌, List, [], ◌∷◌, ◌++◌, flat_map, if◌then◌else◌, refl, arith}
 use Rattle.std.specs.Prelude.{nat_lt}
 use Rattle.std.specs.List.{AllByRecursion, list_all}
 use Rattle.std.proofs.lemmas.Bool.{and_parts, and_from, false≢true, lt-ltb, ltb-true}
@@ -16,7 +16,7 @@ use Rattle.sl_plans.specs.declared.plan.Cursor.{Cursor}
 use Rattle.sl_plans.specs.declared.plan.Cursor.TheVariants as cursor
 use Rattle.sl_plans.specs.declared.plan.Test.{Test}
 use Rattle.sl_plans.specs.declared.plan.Test.TheVariants as test
-use Rattle.sl_plans.specs.Trees.{Tree, Line, Stop, Then, If, Each, Times, size_of, flat, jump_of, to_first, to_next, ones, at_join, known_after_all, known_after, known_in_arm, known_in_other, known_in_turn, known_after_loop, with_cursor_known, kinds_after}
+use Rattle.sl_plans.specs.Trees.{Tree, Line, Stop, Then, If, Each, Times, is_nothing, size_of, flat, with_arm, without_arm, jump_of, to_first, to_next, ones, at_join, known_after_all, known_after, known_in_arm, known_in_other, known_in_turn, known_after_loop, with_cursor_known, kinds_after}
 use Rattle.sl_plans.specs.Fine.{is_plain, jumps_nowhere, has_quiet_lines}
 use Rattle.sl_plans.specs.Laid.{laid}
 use Rattle.sl_plans.proofs.ProperLists.{all_append, all_parts, AllFit, small_fit}
@@ -161,22 +161,41 @@ InRangeFrom tree = (k : Kinds) (p : ℕ) → HasMask k → p + size_of tree ≤ 
 
 -- the jumps of a form lead to places within it
 if_in_range : (t : Test) (a b : Tree) → InRangeFrom a → InRangeFrom b → InRangeFrom (If t a b)
-if_in_range t a b in_a in_b k p mask below =
-    let arm : ℕ = p + size_of b + 2 in
-    let end : ℕ = arm + size_of a + 1 in
-    let jump : arm < 2 ^ 32 = omega (arith, below) in
-    let leave : end < 2 ^ 32 = omega (arith, below) in
-    let b_below : p + 1 + size_of b ≤ 2 ^ 32 = omega (arith, below) in
-    let a_below : arm + 1 + size_of a ≤ 2 ^ 32 = omega (arith, below) in (
-      test_in_range arm jump t,
-      all_append IsInRange (flat (known_in_other k t) (p + 1) b) _ (in_b (known_in_other k t) (p + 1) mask b_below) (
-        jmp_in_range end leave,
-        (
-          at_in_range (known_in_arm k t) mask,
-          all_append IsInRange (flat (known_in_arm k t) (arm + 1) a) _ (in_a (known_in_arm k t) (arm + 1) mask a_below) (at_in_range (at_join k) mask, tt),
-        ),
-      ),
-    )
+if_in_range t a b in_a in_b k p mask = either (is_nothing a) _ _ (size_of b + 2) (size_of a + size_of b + 4) none some
+  where
+    fb : List Instr
+    fb = flat (known_in_other k t) (p + 1) b
+
+    none : p + (size_of b + 2) ≤ 2 ^ 32 → AllByRecursion IsInRange (without_arm k t (p + size_of b + 1) fb)
+    none below =
+        let end : ℕ = p + size_of b + 1 in
+        let jump : end < 2 ^ 32 = omega (arith, below) in
+        let b_below : p + 1 + size_of b ≤ 2 ^ 32 = omega (arith, below) in
+        (test_in_range end jump t, all_append IsInRange fb _ (in_b (known_in_other k t) (p + 1) mask b_below) (at_in_range (at_join k) mask, tt))
+
+    some : p + (size_of a + size_of b + 4) ≤ 2 ^ 32
+        → AllByRecursion IsInRange (with_arm k t (p + size_of b + 2) (p + size_of b + 2 + size_of a + 1) (flat (known_in_arm k t) (p + size_of b + 2 + 1) a) fb)
+    some below =
+        let arm : ℕ = p + size_of b + 2 in
+        let end : ℕ = arm + size_of a + 1 in
+        let jump : arm < 2 ^ 32 = omega (arith, below) in
+        let leave : end < 2 ^ 32 = omega (arith, below) in
+        let b_below : p + 1 + size_of b ≤ 2 ^ 32 = omega (arith, below) in
+        let a_below : arm + 1 + size_of a ≤ 2 ^ 32 = omega (arith, below) in (
+          test_in_range arm jump t,
+          all_append IsInRange fb _ (in_b (known_in_other k t) (p + 1) mask b_below) (
+            jmp_in_range end leave,
+            (
+              at_in_range (known_in_arm k t) mask,
+              all_append IsInRange (flat (known_in_arm k t) (arm + 1) a) _ (in_a (known_in_arm k t) (arm + 1) mask a_below) (at_in_range (at_join k) mask, tt),
+            ),
+          ),
+        )
+
+    either : (n : Bool) (xs ys : List Instr) (x y : ℕ) → (p + x ≤ 2 ^ 32 → AllByRecursion IsInRange xs) → (p + y ≤ 2 ^ 32 → AllByRecursion IsInRange ys)
+        → p + (if n then x else y) ≤ 2 ^ 32 → AllByRecursion IsInRange (if n then xs else ys)
+    either true xs ys x y without with below = without below
+    either false xs ys x y without with below = with below
 
 each_in_range : (over : Cursor) (a : Tree) → InRangeFrom a → InRangeFrom (Each over a)
 each_in_range over a in_a k p mask below =

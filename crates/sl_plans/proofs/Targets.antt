@@ -1,5 +1,5 @@
 -- The jumps of a plan stay within its instructions.
-use Rattle.std.proofs.Common.{◌≡◌, ℕ, zero, suc, ◌+◌, ◌<◌, ◌≤◌, true, not, List, [], ◌∷◌, ◌++◌, length, Option, Some, None, slice_get, refl, sym, ap, ◌∙◌, arith}
+use Rattle.std.proofs.Common.{◌≡◌, ℕ, zero, suc, ◌+◌, ◌<◌, ◌≤◌, Bool, true, false, not, List, [], ◌∷◌, ◌++◌, length, Option, Some, None, slice_get, if◌then◌else◌, refl, sym, ap, ◌∙◌, arith}
 use Rattle.std.proofs.lemmas.Bool.{and_parts}
 use Rattle.std.specs.Prelude.{is_some, unwrap_or}
 use Rattle.std.specs.List.{list_all}
@@ -7,7 +7,7 @@ use Rattle.sl_instructions.specs.declared.instr.Instr.{Instr}
 use Rattle.sl_instructions.specs.declared.instr.Instr.TheVariants.{Set, Sub, Jmp, Jz, At}
 use Rattle.sl_instructions.specs.declared.kinds.Kinds.{Kinds}
 use Rattle.sl_instructions.specs.Rows.{target_of}
-use Rattle.sl_plans.specs.Trees.{Tree, Line, Stop, Then, If, Each, Times, size_of, flat, jump_of, to_first, to_next, ones, at_join, kinds_after, known_in_arm, known_in_other, known_in_turn, known_after_loop}
+use Rattle.sl_plans.specs.Trees.{Tree, Line, Stop, Then, If, Each, Times, is_nothing, size_of, flat, with_arm, without_arm, jump_of, to_first, to_next, ones, at_join, kinds_after, known_in_arm, known_in_other, known_in_turn, known_after_loop}
 use Rattle.sl_plans.specs.Fine.{jumps_nowhere, has_quiet_lines, PlansJumpWithin}
 use Rattle.sl_plans.proofs.Places.{length-flat}
 use Rattle.sl_plans.proofs.Pieces.{jump_target, first_target, next_target}
@@ -79,12 +79,25 @@ plan_targets (If t a b) k p h =
     let fa = flat (known_in_arm k t) (arm + 1) a in
     let fb = flat (known_in_other k t) (p + 1) b in
     let from_arm = At (known_in_arm k t) ∷ (fa ++ last) in
+    let leave = p + size_of b + 1 in
+    let low = p + (size_of b + 2) in
+    let other = plan_targets b (known_in_other k t) (p + 1) parts.1 in
+    let none : Targets p low (without_arm k t leave fb) =
+    also p low (jump_of t leave) (fb ++ last) (leads_to p low leave (jump_of t leave) (jump_target t leave) (omega arith) (omega arith))
+    (in_row p low fb last (wider (p + 1) (p + 1 + size_of b) p low fb (omega arith) (omega arith) other)
+    (also p low (At (at_join k)) [] (leads_nowhere p low (At (at_join k)) refl) (no_targets p low))) in
+    let some : Targets p hi (with_arm k t arm end fa fb) =
     also p hi (jump_of t arm) (fb ++ (Jmp end ∷ from_arm)) (leads_to p hi arm (jump_of t arm) (jump_target t arm) (omega arith) (omega arith))
-    (in_row p hi fb (Jmp end ∷ from_arm) (wider (p + 1) (p + 1 + size_of b) p hi fb (omega arith) (omega arith) (plan_targets b (known_in_other k t) (p + 1) parts.1))
+    (in_row p hi fb (Jmp end ∷ from_arm) (wider (p + 1) (p + 1 + size_of b) p hi fb (omega arith) (omega arith) other)
     (also p hi (Jmp end) from_arm (leads_to p hi end (Jmp end) refl (omega arith) (omega arith))
     (also p hi (At (known_in_arm k t)) (fa ++ last) (leads_nowhere p hi (At (known_in_arm k t)) refl)
     (in_row p hi fa last (wider (arm + 1) (arm + 1 + size_of a) p hi fa (omega arith) (omega arith) (plan_targets a (known_in_arm k t) (arm + 1) parts.0))
-    (also p hi (At (at_join k)) [] (leads_nowhere p hi (At (at_join k)) refl) (no_targets p hi))))))
+    (also p hi (At (at_join k)) [] (leads_nowhere p hi (At (at_join k)) refl) (no_targets p hi)))))) in
+    either (is_nothing a) (without_arm k t leave fb) (with_arm k t arm end fa fb) (size_of b + 2) (size_of a + size_of b + 4) none some
+  where
+    either : (n : Bool) (xs ys : List Instr) (x y : ℕ) → Targets p (p + x) xs → Targets p (p + y) ys → Targets p (p + (if n then x else y)) (if n then xs else ys)
+    either true xs ys x y none some = none
+    either false xs ys x y none some = some
 plan_targets (Each over a) k p h =
     let end = p + size_of a + 3 in
     let hi = p + (size_of a + 4) in

@@ -1,5 +1,5 @@
 -- Plans of counting code without references and blanks, and the instructions that they stand for (docs/plans.md, sections 1 and 2).
-use Rattle.std.specs.Prelude.{ℕ, ◌+◌, Bool, true, false, List, [], ◌∷◌, ◌++◌, length}
+use Rattle.std.specs.Prelude.{ℕ, ◌+◌, Bool, true, false, List, [], ◌∷◌, ◌++◌, length, if◌then◌else◌}
 use Rattle.sl_instructions.specs.declared.instr.Instr.{Instr}
 use Rattle.sl_instructions.specs.declared.instr.Instr.TheVariants.{Set, Sub, Jmp, Jz, Jlt, Jnl, Wparty, Fparty, Nparty, Fland, Nland, Fwin, Nwin, Peers, Lot, At}
 use Rattle.sl_instructions.specs.declared.kinds.Kinds.{Kinds}
@@ -19,12 +19,17 @@ pub data Tree : Type 0 where
   Each : (over : Cursor) (body : Tree) → Tree
   Times : (register : ℕ) (most : Bound) (body : Tree) → Tree
 
+-- whether it is a line without instructions
+abbrev pub is_nothing : Tree → Bool
+is_nothing (Line []) = true
+is_nothing _ = false
+
 -- how many instructions it has
 abbrev pub size_of : Tree → ℕ
 size_of (Line is) = length is
 size_of (Stop i) = 2
 size_of (Then a b) = size_of a + size_of b
-size_of (If t a b) = size_of a + size_of b + 4
+size_of (If t a b) = if is_nothing a then size_of b + 2 else size_of a + size_of b + 4
 size_of (Each over a) = size_of a + 4
 size_of (Times r m a) = size_of a + 6
 
@@ -102,15 +107,21 @@ kinds_after k (Times r m a) = at_join k
 
 -- ---- the instructions of a plan whose first one stands at place p, where k is known
 
+-- a choice between two plans: a jump to the declaration of the arm, or over the other plan to the end, where there is no arm
+abbrev pub with_arm : Kinds → Test → ℕ → ℕ → List Instr → List Instr → List Instr
+with_arm k t arm end in_arm other = jump_of t arm ∷ (other ++ (Jmp end ∷ (At (known_in_arm k t) ∷ (in_arm ++ (At (at_join k) ∷ [])))))
+
+abbrev pub without_arm : Kinds → Test → ℕ → List Instr → List Instr
+without_arm k t end other = jump_of t end ∷ (other ++ (At (at_join k) ∷ []))
+
 abbrev pub flat : Kinds → ℕ → Tree → List Instr
 flat k p (Line is) = is
 flat k p (Stop i) = i ∷ (At (at_join k) ∷ [])
 flat k p (Then a b) = flat k p a ++ flat (kinds_after k a) (p + size_of a) b
 flat k p (If t a b) =
+    let other = flat (known_in_other k t) (p + 1) b in
     let arm = p + size_of b + 2 in
-    let end = arm + size_of a + 1 in
-    jump_of t arm
-    ∷ (flat (known_in_other k t) (p + 1) b ++ (Jmp end ∷ (At (known_in_arm k t) ∷ (flat (known_in_arm k t) (arm + 1) a ++ (At (at_join k) ∷ [])))))
+    if is_nothing a then without_arm k t (p + size_of b + 1) other else with_arm k t arm (arm + size_of a + 1) (flat (known_in_arm k t) (arm + 1) a) other
 flat k p (Each over a) =
     let end = p + size_of a + 3 in
     to_first over end ∷ (At (known_in_turn k over) ∷ (flat (known_in_turn k over) (p + 2) a ++ (to_next over (p + 1) ∷ (At (known_after_loop k over) ∷ []))))

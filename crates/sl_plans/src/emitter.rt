@@ -1,10 +1,11 @@
 //! From plans to instructions.
 
-ghost use Rattle.std.specs.Prelude.{◌≡◌, ◌+◌, ◌<◌, ◌≤◌, [], ◌∷◌, ◌++◌, map, length, IfOk, OnErr, vec_len, vec_capacity};
+ghost use Rattle.std.specs.Prelude.{◌≡◌, ◌+◌, ◌<◌, ◌≤◌, List, [], ◌∷◌, ◌++◌, map, length, IfOk, OnErr, vec_len, vec_capacity};
 ghost use Rattle.sl_verify.specs.Kinds.{start_kinds};
 ghost use Rattle.sl_plans.specs.Laid.{laid};
 ghost use Rattle.sl_plans.specs.inner.Layout.{filled, tree_of};
-ghost use Rattle.sl_plans.specs.Trees.{size_of, flat, jump_of, to_first, to_next, known_after_all, kinds_after};
+ghost use Rattle.sl_instructions.specs.declared.instr.Instr.{Instr as Instruction};
+ghost use Rattle.sl_plans.specs.Trees.{is_nothing, size_of, flat, jump_of, to_first, to_next, known_after_all, kinds_after};
 
 use crate::known::{at_join, known_after, known_in_arm, with_cursor_known};
 use crate::plan::{Cursor, Part, Plan, Test};
@@ -66,6 +67,16 @@ pub fn lay(code: &mut Vec<Instr>, plan: &Plan<'_>, given: &[Instr]) -> Result<()
     Ok(())
 }
 
+/// Whether a plan is a line without parts.
+fn is_nothing(plan: &Plan<'_>) -> bool
+    ensures { (given : List Instruction) → result ≡ is_nothing (tree_of given plan.now) }
+{
+    match plan {
+        Plan::Line(parts) => parts.is_empty(),
+        _ => false,
+    }
+}
+
 /// How many instructions a plan is.
 pub fn size(plan: &Plan<'_>, given: &[Instr]) -> u32
     requires { size_of (tree_of given.now plan.now) ≤ MAX_INSTRS }
@@ -75,7 +86,14 @@ pub fn size(plan: &Plan<'_>, given: &[Instr]) -> u32
         Plan::Line(parts) => parts.len() as u32,
         Plan::Stop(_) => 2,
         Plan::Then(first, second) => size(first, given) + size(second, given),
-        Plan::If(_, arm, other) => size(arm, given) + size(other, given) + 4,
+        Plan::If(_, arm, other) => {
+            let other = size(other, given);
+            if is_nothing(arm) {
+                other + 2
+            } else {
+                size(arm, given) + other + 4
+            }
+        }
         Plan::Each(_, body) => size(body, given) + 4,
         Plan::Times(_, _, body) => size(body, given) + 6,
     }
@@ -104,17 +122,25 @@ pub fn put(code: &mut Vec<Instr>, plan: &Plan<'_>, given: &[Instr], known: Kinds
             put(code, second, given, known)
         }
         Plan::If(test, arm, other) => {
-            let target = at + size(other, given) + 2;
-            let end = target + size(arm, given) + 1;
-            let jump = jump(*test, target);
-            push(code, jump);
-            put(code, other, given, known_after(known, jump));
-            push(code, Instr::Jmp(end));
-            let known = known_in_arm(known, *test);
-            push(code, Instr::At(known));
-            put(code, arm, given, known);
-            push(code, Instr::At(joined));
-            joined
+            let leave = at + size(other, given) + 1;
+            if is_nothing(arm) {
+                let jump = jump(*test, leave);
+                push(code, jump);
+                put(code, other, given, known_after(known, jump));
+                push(code, Instr::At(joined));
+                joined
+            } else {
+                let end = leave + size(arm, given) + 2;
+                let jump = jump(*test, leave + 1);
+                push(code, jump);
+                put(code, other, given, known_after(known, jump));
+                push(code, Instr::Jmp(end));
+                let known = known_in_arm(known, *test);
+                push(code, Instr::At(known));
+                put(code, arm, given, known);
+                push(code, Instr::At(joined));
+                joined
+            }
         }
         Plan::Each(over, body) => {
             let known = with_cursor_known(*over, true, joined);
