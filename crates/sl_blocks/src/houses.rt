@@ -74,10 +74,10 @@ pub fn search_entries(block: &Block) -> Plan<'static>
     )
 }
 
-/// A batch begins as long as a minimum is not met.
+/// A batch begins as long as a minimum is not met; else no turns are left.
 const SEARCH_BATCH: &Plan<'static> = &Plan::If(
     Test::Zero(TURNS),
-    NOTHING,
+    &Plan::Line(&[Fixed(Instr::Set(LEFT, 0))]),
     &Plan::If(
         Test::Empty(PEERS),
         NOTHING,

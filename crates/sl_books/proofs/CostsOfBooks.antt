@@ -29,8 +29,9 @@ use Rattle.sl_plans.specs.Trees.{Tree, Line, Then}
 use Rattle.sl_pieces.specs.columns.Trees.{copy_tree}
 use Rattle.sl_pieces.specs.facts.Trees.{FactSlots, condition_tree, conditions_tree, eligible_tree, fact_tree}
 use Rattle.sl_pieces.specs.declared.slots.TheConstants.{NAMES_LEFT as names_left, VACANT_SEATS as vacant_seats}
-use Rattle.sl_pieces.specs.exprs.Slots.{fact_slots, winners_slot, passing}
-use Rattle.sl_pieces.specs.exprs.Pieces.{form_by, shape_of, node_slots, split_piece, grow_piece, pieces}
+use Rattle.sl_pieces.specs.exprs.Slots.{fact_slots, winners_slot}
+use Rattle.sl_pieces.specs.declared.arguments.Arguments.{Arguments}
+use Rattle.sl_pieces.specs.exprs.Pieces.{form_by, shape_of, slot_of, arguments_at, node_slots, split_piece, grow_piece, pieces}
 use Rattle.sl_pieces.specs.exprs.Stages.{stage_pieces, stages_pieces}
 use Rattle.sl_pieces.specs.closing.Trees.{base_slot, final_seats, cover_slots, seating_pieces, vacant_pieces, last_pieces}
 use Rattle.sl_books.specs.Codes.{facts_pieces, book_pieces}
@@ -108,24 +109,24 @@ one_more c n x h = omega (arith, h)
 module _ (f : Tree → ℕ) (node column fact cover : ℕ) (m : IsMeasure f node column fact cover) where
   -- ---- expressions
   module _ (types : List Column) (stage : ℕ) where
-    fact_at_most : (level : ℕ) (s : Shape) (slot : ℕ) → total f (copy_tree s slot (passing level s) ∷ []) ≤ at_most node column 0 1
-    fact_at_most level s slot = leaf node column _ (one_at_most f _ column (m.columns _ (copy_judged s slot (passing level s))))
+    copy_at_most : (s : Shape) (from to : ℕ) → total f (copy_tree s from to ∷ []) ≤ at_most node column 0 1
+    copy_at_most s from to = leaf node column _ (one_at_most f _ column (m.columns _ (copy_judged s from to)))
 
-    split_at_most : (level : ℕ) (seats votes : Shape) (minima : Option ℕ) (method : Method) (major : Majority) →
-        total f (split_piece types stage level seats votes minima method major) ≤ node
-    split_at_most level seats votes minima method major =
-        one_at_most f _ node (m.nodes _ (split_modest (form_by seats votes) (node_slots types stage level seats votes minima) method major))
+    split_at_most : (level : ℕ) (seats votes : Shape) (from : Arguments) (method : Method) (major : Majority) →
+        total f (split_piece types stage level seats votes from method major) ≤ node
+    split_at_most level seats votes from method major =
+        one_at_most f _ node (m.nodes _ (split_modest (form_by seats votes) (node_slots types stage level from votes) method major))
 
-    grow_at_most : (level : ℕ) (seats votes : Shape) (slot : ℕ) (method : Method) (major : Majority) (most : ℕ) →
-        total f (grow_piece types stage level seats votes (Some slot) method major most) ≤ node
-    grow_at_most level seats votes slot (by.Divisor d) major most =
-        one_at_most f _ node (m.nodes _ (growth_modest (form_by seats votes) (node_slots types stage level seats votes (Some slot)) d major most slot refl))
-    grow_at_most level seats votes slot by.Hamilton major most = omega arith
+    grow_at_most : (level : ℕ) (seats votes : Shape) (from : Arguments) (slot : ℕ) → from.minima ≡ Some slot → (method : Method) (major : Majority) (most : ℕ) →
+        total f (grow_piece types stage level seats votes from method major most) ≤ node
+    grow_at_most level seats votes from slot some (by.Divisor d) major most =
+        one_at_most f _ node (m.nodes _ (growth_modest (form_by seats votes) (node_slots types stage level from votes) d major most slot some))
+    grow_at_most level seats votes from slot some by.Hamilton major most = omega arith
 
-    -- each part has one plan of its own
+    -- each part has one plan of its own at most
     pieces_at_most : (level : ℕ) (x : ExprTree) → total f (pieces types stage level x) ≤ at_most node column (splits_in x) (parts_of x)
-    pieces_at_most level (of_returns at told) = fact_at_most level _ _
-    pieces_at_most level (name at n) = fact_at_most level _ _
+    pieces_at_most level (of_returns at told) = omega arith
+    pieces_at_most level (name at n) = copy_at_most _ _ _
     pieces_at_most level (sum at x over) =
         after_one node column _ (splits_in x) (parts_of x)
         (both_at_most f (pieces types stage level x) _ _ column (pieces_at_most level x) (one_at_most f _ column (m.columns _ (sum_judged over _ _ _))))
@@ -136,19 +137,19 @@ module _ (f : Tree → ℕ) (node column fact cover : ℕ) (m : IsMeasure f node
     pieces_at_most level (split at s v method without major) =
         split_of_two node column _ (splits_in s) (splits_in v) (parts_of s) (parts_of v)
         (both_at_most f (pieces types stage level s) _ _ _ (pieces_at_most level s)
-        (both_at_most f (pieces types stage (level + 1) v) _ _ node (pieces_at_most (level + 1) v) (split_at_most level (shape_of types stage s) (shape_of types stage v) None method major)))
+        (both_at_most f (pieces types stage (level + 1) v) _ _ node (pieces_at_most (level + 1) v) (split_at_most level (shape_of types s) (shape_of types v) (arguments_at types level s v None) method major)))
     pieces_at_most level (split at s v method (atleast g) major) =
         split_of_three node column _ (splits_in s) (splits_in v) (splits_in g) (parts_of s) (parts_of v) (parts_of g)
         (both_at_most f (pieces types stage level s) _ _ _ (pieces_at_most level s)
         (both_at_most f (pieces types stage (level + 1) v) _ _ _ (pieces_at_most (level + 1) v)
         (both_at_most f (pieces types stage (level + 2) g) _ _ node (pieces_at_most (level + 2) g)
-        (split_at_most level (shape_of types stage s) (shape_of types stage v) (Some (passing (level + 2) (shape_of types stage v))) method major))))
+        (split_at_most level (shape_of types s) (shape_of types v) (arguments_at types level s v (Some g)) method major))))
     pieces_at_most level (grow at s v method g most major) =
         split_of_three node column _ (splits_in s) (splits_in v) (splits_in g) (parts_of s) (parts_of v) (parts_of g)
         (both_at_most f (pieces types stage level s) _ _ _ (pieces_at_most level s)
         (both_at_most f (pieces types stage (level + 1) v) _ _ _ (pieces_at_most (level + 1) v)
         (both_at_most f (pieces types stage (level + 2) g) _ _ node (pieces_at_most (level + 2) g)
-        (grow_at_most level (shape_of types stage s) (shape_of types stage v) (passing (level + 2) (shape_of types stage v)) method major most.value))))
+        (grow_at_most level (shape_of types s) (shape_of types v) (arguments_at types level s v (Some g)) (slot_of types (level + 2) g) refl method major most.value))))
 
   -- ---- stages
   -- at most one split or growth, as many other plans as there are parts, and a copy

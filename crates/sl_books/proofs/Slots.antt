@@ -66,7 +66,7 @@ module _ (types : List Column) where
       ∙ slice_get-map (λ c. c.type.shape) types k
       ∙ rw at refl
 
-  fact_there : (told : Fact) → slice_get (book_slots types) (fact_slots.of told) ≡ Some (fact_type told).shape
+  pub fact_there : (told : Fact) → slice_get (book_slots types) (fact_slots.of told) ≡ Some (fact_type told).shape
   fact_there facts.House = refl
   fact_there told = refl
 

@@ -1,15 +1,18 @@
 -- The blocks of an expression stand where those of its arguments and then its own do.
 use Rattle.std.proofs.Common.{◌≡◌, ℕ, ◌+◌, ◌*◌, ◌<◌, max, List, [], ◌∷◌, ◌++◌, Result, IfOk, sym, ap, ◌∙◌, subst, arith, append_assoc}
 use Rattle.sl_stages.specs.declared.book.ColumnType.{ColumnType}
-use Rattle.sl_stages.specs.book.Trees.{ExprTree}
+use Rattle.sl_stages.specs.declared.book.Expr.{Expr}
+use Rattle.sl_stages.specs.book.Trees.{ExprTree, tree_of}
 use Rattle.sl_stages.specs.book.Limits.{depth_of}
 use Rattle.sl_stages.specs.book.Typing.{Column, type_of}
 use Rattle.sl_instructions.specs.declared.instr.Instr.{Instr}
 use Rattle.sl_instructions.specs.Codes.{CountingCode}
 use Rattle.sl_plans.specs.Trees.{Tree}
 use Rattle.sl_pieces.specs.columns.Trees.{copy_tree}
-use Rattle.sl_pieces.specs.exprs.Slots.{passing}
-use Rattle.sl_pieces.specs.exprs.Pieces.{pieces}
+use Rattle.sl_pieces.specs.exprs.Slots.{passing, StandsOn}
+use Rattle.sl_pieces.specs.exprs.Pieces.{slot_of, pieces}
+use Rattle.sl_pieces.proofs.exprs.Places.{slot_stands}
+use Rattle.sl_books.proofs.Rows.{no_blocks}
 use Rattle.sl_blocks.specs.PlanBlocks.{AreBlocks, HasRoom}
 use Rattle.sl_compile.specs.inner.Earlier.{Fits}
 use Rattle.sl_compile.proofs.Places.{blocks_as, blocks_behind, blocks_where, room_as, room_first, room_rest}
@@ -31,7 +34,27 @@ module _ (whole first own : List Tree) (is : whole ≡ first ++ own) (before : L
 pub has_as : {E : Type 0} (r : Result ColumnType E) {of t : ColumnType} → of ≡ t → IfOk r (λ has. has ≡ of) → IfOk r (λ has. has ≡ t)
 has_as r is h = subst (λ (t : ColumnType). IfOk r (λ has. has ≡ t)) is h
 
--- ---- no arguments: a copy of a column that has what the tree has
+-- ---- slots
+
+-- the slot that is told of an expression is that of the same expression
+pub slot_at : (types : List Column) (level slot : ℕ) (of : ColumnType) (d b : Expr) → d ≡ b → (of ≡ type_of types (tree_of d) → slot ≡ slot_of types level (tree_of d))
+    → of ≡ type_of types (tree_of b) → slot ≡ slot_of types level (tree_of b)
+slot_at types level slot of d b same h is =
+    subst (λ (x : Expr). slot ≡ slot_of types level (tree_of x)) same (h (is ∙ ap (λ (x : Expr). type_of types (tree_of x)) (sym same)))
+
+-- ---- no arguments: a fact stands in its slot, and a column of a stage is copied
+
+-- no plans, no blocks
+pub none_blocks : (types : List Column) (stage level : ℕ) {x y : ExprTree} → x ≡ y → pieces types stage level y ≡ [] → (T : CountingCode → Type 0) (code : List Instr)
+    → AreBlocks T (pieces types stage level x) code code
+none_blocks types stage level is none T code =
+    subst (λ (ts : List Tree). AreBlocks T ts code code) (sym (ap (pieces types stage level) is ∙ none)) (no_blocks T code)
+
+-- an expression's slot stands on its level
+pub slot_on : (types : List Column) {level from : ℕ} (y : ExprTree) {of : ColumnType} → of ≡ type_of types y → from ≡ slot_of types level y → StandsOn level of.shape from
+slot_on types {level} {from} y {of} of_is from_is =
+    subst (λ (n : ℕ). StandsOn level of.shape n) (sym from_is)
+    (subst (λ (t : ColumnType). StandsOn level t.shape (slot_of types level y)) (sym of_is) (slot_stands types y level))
 
 module _ (types : List Column) {x y : ExprTree} {of : ColumnType} (is : x ≡ y) (of_is : of ≡ type_of types y) where
   pub copy_has : {E : Type 0} (r : Result ColumnType E) → IfOk r (λ has. has ≡ of) → IfOk r (λ has. has ≡ type_of types x)

@@ -15,12 +15,12 @@ use Rattle.sl_instructions.specs.declared.instr.Instr.{Instr}
 use Rattle.sl_instructions.specs.Codes.{CountingCode}
 use Rattle.sl_plans.specs.Trees.{Tree}
 use Rattle.sl_pieces.specs.columns.Trees.{sum_tree, pair_tree, summed}
-use Rattle.sl_pieces.specs.exprs.Slots.{passing}
-use Rattle.sl_pieces.specs.exprs.Pieces.{pieces}
+use Rattle.sl_pieces.specs.exprs.Slots.{passing, StandsOn}
+use Rattle.sl_pieces.specs.exprs.Pieces.{slot_of, pieces}
 use Rattle.sl_blocks.specs.PlanBlocks.{AreBlocks, HasRoom}
 use Rattle.sl_compile.specs.inner.Earlier.{Fits}
-use Rattle.sl_compile.proofs.Arguments.{Over, first_room, own_room, own_blocks, has_as}
-use Rattle.sl_compile.proofs.Levels.{sum_fits, pair_fits}
+use Rattle.sl_compile.proofs.Arguments.{Over, slot_on, first_room, own_room, own_blocks, has_as}
+use Rattle.sl_compile.proofs.Levels.{sum_fits, pair_fits, pair_same}
 
 -- ---- trees
 
@@ -55,15 +55,16 @@ module _ (types : List Column) {at : ℕ} {x y : ExprTree} {over : Axis} (is : x
           (sum_fits types level at y over (subst (λ (z : ExprTree). Fits types level z) is fits), first_room whole first _ (ap (pieces types stage level) is) code room),
         )
 
-    module _ {of : ColumnType} (of_is : of ≡ type_of types y) where
+    module _ {of : ColumnType} {from : ℕ} (of_is : of ≡ type_of types y) (from_is : from ≡ slot_of types level y) where
       abbrev own : List Tree
-      own = sum_tree over of.shape (passing level of.shape) (passing level (shape_over over)) ∷ []
+      own = sum_tree over of.shape from (passing level (shape_over over)) ∷ []
 
       behind_one : whole ≡ first ++ own
       behind_one =
           ap (pieces types stage level) is
-          ∙ ap (λ (t : ColumnType). first ++ sum_tree over t.shape (passing level t.shape) (passing level (summed over)) ∷ []) (sym of_is)
-          ∙ ap (λ (s : Shape). first ++ sum_tree over of.shape (passing level of.shape) (passing level s) ∷ []) (sym (summed_is over))
+          ∙ ap (λ (n : ℕ). first ++ sum_tree over (type_of types y).shape n (passing level (summed over)) ∷ []) (sym from_is)
+          ∙ ap (λ (t : ColumnType). first ++ sum_tree over t.shape from (passing level (summed over)) ∷ []) (sym of_is)
+          ∙ ap (λ (s : Shape). first ++ sum_tree over of.shape from (passing level s) ∷ []) (sym (summed_is over))
 
       -- its column can be summed so
       pub sum_can : Fits types level x → can_sum of.shape over ≡ true
@@ -80,12 +81,20 @@ module _ (types : List Column) {at : ℕ} {x y : ExprTree} {over : Axis} (is : x
 
 -- ---- pairs
 
-abbrev pub own_pair : Pairing → ℕ → ColumnType → ColumnType → List Tree
-own_pair pairing level of by = pair_tree pairing of.shape (passing level of.shape) (passing (level + 1) of.shape) (passing level of.shape) ∷ []
+abbrev pub own_pair : Pairing → (level left right : ℕ) → ColumnType → ColumnType → List Tree
+own_pair pairing level left right of by = pair_tree pairing of.shape left right (passing level of.shape) ∷ []
 
-pub over_pair : {types : List Column} (stage : ℕ) {level at : ℕ} {pairing : Pairing} {x l r : ExprTree} → x ≡ pair at pairing l r → Fits types level x →
-    Over types stage level x l r (λ of by. of) (own_pair pairing level)
-over_pair {types} stage {level} {at} {pairing} {x} {l} {r} is fits =
+pub over_pair : {types : List Column} (stage : ℕ) {level at left right : ℕ} {pairing : Pairing} {x l r : ExprTree} → x ≡ pair at pairing l r → Fits types level x →
+    left ≡ slot_of types level l → right ≡ slot_of types (level + 1) r → Over types stage level x l r (λ of by. of) (own_pair pairing level left right)
+over_pair {types} stage {level} {at} {left} {right} {pairing} {x} {l} {r} is fits left_is right_is =
     let deep : depth_of x ≡ 1 + max (depth_of l) (depth_of r) = ap depth_of is in
     let h = pair_fits types level at pairing l r (subst (λ (z : ExprTree). Fits types level z) is fits) in
-    record { left = h.0; right = h.1; falls = omega (arith, deep); type = ap (type_of types) is; plans = ap (pieces types stage level) is }
+    record { left = h.0; right = h.1; falls = omega (arith, deep); type = ap (type_of types) is; plans = ap (pieces types stage level) is ∙ rw (left_is, right_is) refl }
+
+-- the second one stands on its level by the shape of the first
+pub other_on : {types : List Column} {level at right : ℕ} {pairing : Pairing} {x l r : ExprTree} {of by : ColumnType} → x ≡ pair at pairing l r → Fits types level x →
+    (of ≡ type_of types l) × (by ≡ type_of types r) → right ≡ slot_of types (level + 1) r → StandsOn (level + 1) of.shape right
+other_on {types} {level} {at} {right} {pairing} {x} {l} {r} {of} {by} is fits have right_is =
+    let same = pair_same types level at pairing l r (subst (λ (z : ExprTree). Fits types level z) is fits) in
+    let shapes : by.shape ≡ of.shape = ap (λ (t : ColumnType). t.shape) have.1 ∙ same ∙ sym (ap (λ (t : ColumnType). t.shape) have.0) in
+    subst (λ (s : Shape). StandsOn (level + 1) s right) shapes (slot_on types r have.1 right_is)

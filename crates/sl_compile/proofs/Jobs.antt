@@ -1,6 +1,6 @@
 -- The slots of splits and growths are there, and their blocks stand.
-use Rattle.std.proofs.Common.{◌≡◌, ℕ, zero, suc, ◌+◌, ◌<◌, ◌≤◌, Bool, true, false, List, [], ◌∷◌, length, Some, slice_get, refl, sym, ap, subst, ◌∙◌, arith}
-use Rattle.std.proofs.lemmas.Option.{same_Some}
+use Rattle.std.proofs.Common.{◌≡◌, ◌≢◌, ℕ, zero, suc, ◌+◌, ◌<◌, ◌≤◌, true, List, [], ◌∷◌, length, Option, None, Some, IsSome, slice_get, refl, sym, ap, subst, ◌∙◌, arith}
+use Rattle.std.proofs.lemmas.Bool.{false≢true}
 use Rattle.sl_ratio.specs.declared.method.Divisor.{Divisor}
 use Rattle.sl_ratio.specs.declared.method.Method.{Method}
 use Rattle.sl_ratio.specs.declared.method.Method.TheVariants as by
@@ -18,14 +18,15 @@ use Rattle.sl_pieces.specs.declared.form.Form.{Form}
 use Rattle.sl_pieces.specs.scopes.Forms.{amounts_of, votes_of}
 use Rattle.sl_pieces.specs.seats.Slots.{Slots}
 use Rattle.sl_pieces.specs.nodes.Trees.{split_tree, grow_tree}
-use Rattle.sl_books.proofs.Slots.{passing_there as passing_in_book}
+use Rattle.sl_books.proofs.Slots.{passing_there as passing_in_book, fact_there}
 use Rattle.sl_blocks.specs.declared.job.Job.{Job}
 use Rattle.sl_blocks.specs.inner.Jobs.{slots_of, IsJob, TakesMinima, IsSplitJob, IsGrowthJob, HasJob}
-use Rattle.sl_pieces.specs.exprs.Slots.{passing}
+use Rattle.sl_pieces.specs.declared.arguments.Arguments.{Arguments}
+use Rattle.sl_pieces.specs.exprs.Slots.{passing, StandsOn, OfFact, InPassing}
 use Rattle.sl_pieces.specs.exprs.Pieces.{form_by, node_slots, split_piece, grow_piece}
-use Rattle.sl_pieces.proofs.exprs.Places.{amounts_apart, other_level}
+use Rattle.sl_pieces.proofs.exprs.Places.{stands_apart, amounts_stand_apart}
 use Rattle.sl_compile.specs.inner.Slots.{low_shapes}
-use Rattle.sl_compile.specs.inner.Nodes.{minima_at, top_of, MayHave}
+use Rattle.sl_compile.specs.inner.Nodes.{AreArguments, MayHave}
 use Rattle.sl_blocks.specs.PlanBlocks.{AreBlocks}
 use Rattle.sl_blocks.specs.inner.Jobs.{IsSplitPlan, IsGrowthPlan}
 use Rattle.sl_books.specs.Codes.{HasSoFar}
@@ -36,6 +37,15 @@ use Rattle.sl_books.proofs.Rows.{no_blocks, blocks_in}
 -- each passing column is there, as in a book without stages
 pub passing_there : (level : ℕ) (s : Shape) → level ≤ MAX_DEPTH → slice_get low_shapes (passing level s) ≡ Some s
 passing_there level s low = passing_in_book [] level s low
+
+-- and the slot of each argument
+low_there : (level : ℕ) (s : Shape) (slot : ℕ) → level ≤ MAX_DEPTH → StandsOn level s slot → slice_get low_shapes slot ≡ Some s
+low_there level s slot low (OfFact told is shaped) = ap (slice_get low_shapes) is ∙ fact_there [] told ∙ ap Some shaped
+low_there level s slot low (InPassing is) = ap (slice_get low_shapes) is ∙ passing_there level s low
+
+some_is : (o : Option ℕ) → IsSome o → (slot : ℕ) × (o ≡ Some slot)
+some_is None some = absurd (false≢true some)
+some_is (Some slot) some = (slot, refl)
 
 -- ---- forms
 
@@ -55,18 +65,10 @@ form_votes shape.Party shape.List can = refl
 form_votes shape.Land shape.List can = refl
 form_votes _ _ can = cc
 
-one_on : (level : ℕ) (m : Bool) → top_of level m ≤ MAX_DEPTH → level + 1 ≤ MAX_DEPTH
-one_on level false low = low
-one_on level true low = omega (arith, low)
-
-minima_there : (level : ℕ) (v : Shape) (m : Bool) (slot : ℕ) → top_of level m ≤ MAX_DEPTH → minima_at level v m ≡ Some slot → (slot ≡ passing (level + 2) v) × (level + 2 ≤ MAX_DEPTH)
-minima_there level v false slot low is = cc
-minima_there level v true slot low is = (sym (same_Some (passing (level + 2) v) slot is), low)
-
-takes : (level : ℕ) (v : Shape) (method : Method) (m : Bool) → MayHave method m → TakesMinima method (minima_at level v m)
-takes level v method false may = tt
-takes level v (by.Divisor d) true may = tt
-takes level v by.Hamilton true may = absurd may
+takes : (method : Method) (minima : Option ℕ) → MayHave method minima → TakesMinima method minima
+takes method None may = tt
+takes (by.Divisor d) (Some slot) may = tt
+takes by.Hamilton (Some slot) may = absurd may
 
 -- ---- jobs
 
@@ -76,42 +78,48 @@ stage_in [] n few = absurd (omega (arith, few))
 stage_in (s ∷ stages) zero few = (s, refl)
 stage_in (s ∷ stages) (suc n) few = stage_in stages n (omega (arith, few))
 
-module _ (j : Job) (stage level : ℕ) (s v : Shape) (m : Bool) (is : slots_of j ≡ node_slots [] stage level s v (minima_at level v m))
-    (can : can_split s v ≡ true) (low : top_of level m ≤ MAX_DEPTH) (few : stage < MAX_STAGES) where
+module _ (j : Job) (stage level : ℕ) (s v : Shape) (from : Arguments) (is : slots_of j ≡ node_slots [] stage level from v)
+    (can : can_split s v ≡ true) (are : AreArguments level s v from) (few : stage < MAX_STAGES) where
   abbrev form : Form
   form = form_by s v
 
-  amounts_is : j.amount ≡ passing level (amounts_of form)
-  amounts_is = ap (λ (x : Slots). x.amounts) is ∙ ap (passing level) (sym (form_amounts s v can))
+  amounts_is : j.amount ≡ from.amounts
+  amounts_is = ap (λ (x : Slots). x.amounts) is
 
-  votes_is : j.weights ≡ passing (level + 1) (votes_of form)
-  votes_is = ap (λ (x : Slots). x.votes) is ∙ ap (passing (level + 1)) (sym (form_votes s v can))
+  votes_is : j.weights ≡ from.votes
+  votes_is = ap (λ (x : Slots). x.votes) is
 
-  result_is : j.result ≡ passing level (votes_of form)
-  result_is = ap (λ (x : Slots). x.result) is ∙ ap (passing level) (sym (form_votes s v can))
-
-  minima_is : j.minima ≡ minima_at level v m
+  minima_is : j.minima ≡ from.minima
   minima_is = ap (λ (x : Slots). x.minima) is
 
-  slot_is : (slot : ℕ) → j.minima ≡ Some slot → (slot ≡ passing (level + 2) (votes_of form)) × (level + 2 ≤ MAX_DEPTH)
-  slot_is slot at =
-      let h = minima_there level v m slot low (sym minima_is ∙ at) in
-      (h.0 ∙ ap (passing (level + 2)) (sym (form_votes s v can)), h.1)
+  result_is : j.result ≡ passing level v
+  result_is = ap (λ (x : Slots). x.result) is
+
+  seats_are : Some s ≡ Some (amounts_of form)
+  seats_are = ap Some (sym (form_amounts s v can))
+
+  votes_are : Some v ≡ Some (votes_of form)
+  votes_are = ap Some (sym (form_votes s v can))
+
+  amounts_apart : j.amount ≢ j.result
+  amounts_apart same =
+      amounts_stand_apart form level from.amounts (subst (λ x. StandsOn level x from.amounts) (sym (form_amounts s v can)) are.amounts)
+      (sym amounts_is ∙ same ∙ result_is ∙ ap (passing level) (sym (form_votes s v can)))
 
   pub is_job : IsJob low_shapes form j
   is_job = record {
-    amounts = ap (slice_get low_shapes) amounts_is ∙ passing_there level (amounts_of form) (omega (arith, one_on level m low));
-    votes = ap (slice_get low_shapes) votes_is ∙ passing_there (level + 1) (votes_of form) (one_on level m low);
-    minima = λ slot at. ap (slice_get low_shapes) (slot_is slot at).0 ∙ passing_there (level + 2) (votes_of form) (slot_is slot at).1;
-    result = ap (slice_get low_shapes) result_is ∙ passing_there level (votes_of form) (omega (arith, one_on level m low));
-    not_amounts = λ same. amounts_apart form level (sym amounts_is ∙ same ∙ result_is);
-    not_votes = λ same. other_level level (level + 1) (votes_of form) (votes_of form) (omega arith) (sym votes_is ∙ same ∙ result_is);
-    not_minima = λ slot at same. other_level level (level + 2) (votes_of form) (votes_of form) (omega arith) (sym (slot_is slot at).0 ∙ same ∙ result_is);
+    amounts = ap (slice_get low_shapes) amounts_is ∙ low_there level s from.amounts (omega (arith, are.low)) are.amounts ∙ seats_are;
+    votes = ap (slice_get low_shapes) votes_is ∙ low_there (level + 1) v from.votes are.low are.votes ∙ votes_are;
+    minima = λ slot at. let on = are.minima slot (sym minima_is ∙ at) in low_there (level + 2) v slot on.0 on.1 ∙ votes_are;
+    result = ap (slice_get low_shapes) result_is ∙ passing_there level v (omega (arith, are.low)) ∙ votes_are;
+    not_amounts = amounts_apart;
+    not_votes = λ same. stands_apart level (level + 1) v v from.votes (omega arith) are.votes (sym votes_is ∙ same ∙ result_is);
+    not_minima = λ slot at same. stands_apart level (level + 2) v v slot (omega arith) (are.minima slot (sym minima_is ∙ at)).1 (same ∙ result_is);
     stage = omega (arith, ap (λ (x : Slots). x.stage) is, few);
   }
 
-  pub is_split_job : (method : Method) → MayHave method m → IsSplitJob low_shapes j method
-  is_split_job method may = record { form = form; job = is_job; takes = subst (λ o. TakesMinima method o) (sym minima_is) (takes level v method m may) }
+  pub is_split_job : (method : Method) → MayHave method from.minima → IsSplitJob low_shapes j method
+  is_split_job method may = record { form = form; job = is_job; takes = subst (λ o. TakesMinima method o) (sym minima_is) (takes method from.minima may) }
 
   -- a code with the slots of a book, and the job's stage
   has_job : (code : CountingCode) → HasSoFar [] (stage + 1) code → HasJob low_shapes j code
@@ -121,14 +129,14 @@ module _ (j : Job) (stage level : ℕ) (s v : Shape) (m : Bool) (is : slots_of j
 
   -- the blocks
   pub split_blocks : (method : Method) (majority : Majority) (before after : List Instr) → j.majority ≡ majority → IsSplitPlan low_shapes j method before after →
-      AreBlocks (HasSoFar [] (stage + 1)) (split_piece [] stage level s v (minima_at level v m) method majority) before after
+      AreBlocks (HasSoFar [] (stage + 1)) (split_piece [] stage level s v from method majority) before after
   split_blocks method majority before after same h =
-      subst (λ (c : Majority). AreBlocks (HasSoFar [] (stage + 1)) (split_tree form (node_slots [] stage level s v (minima_at level v m)) method c ∷ []) before after) same
+      subst (λ (c : Majority). AreBlocks (HasSoFar [] (stage + 1)) (split_tree form (node_slots [] stage level from v) method c ∷ []) before after) same
       (subst (λ (x : Slots). AreBlocks (HasSoFar [] (stage + 1)) (split_tree form x method j.majority ∷ []) before after) is (blocks_in has_job (h form is_job)))
 
   module _ (method : Method) (cap : ℕ) (majority : Majority) (before after code : List Instr) (there : code ≡ after) where
     abbrev Grows : Method → List Instr → Type 0
-    Grows by_it to = AreBlocks (HasSoFar [] (stage + 1)) (grow_piece [] stage level s v (minima_at level v m) by_it majority cap) before to
+    Grows by_it to = AreBlocks (HasSoFar [] (stage + 1)) (grow_piece [] stage level s v from by_it majority cap) before to
 
     abbrev grown : Divisor → Slots → Majority → List Tree
     grown d x c = grow_tree form x d c cap ∷ []
@@ -137,7 +145,7 @@ module _ (j : Job) (stage level : ℕ) (s v : Shape) (m : Bool) (is : slots_of j
     growth_blocks d kind same h =
         subst (λ (to : List Instr). Grows method to) (sym there)
         (subst (λ (k : Method). Grows k after) (sym kind)
-        (subst (λ (c : Majority). AreBlocks (HasSoFar [] (stage + 1)) (grown d (node_slots [] stage level s v (minima_at level v m)) c) before after) same
+        (subst (λ (c : Majority). AreBlocks (HasSoFar [] (stage + 1)) (grown d (node_slots [] stage level from v) c) before after) same
         (subst (λ (x : Slots). AreBlocks (HasSoFar [] (stage + 1)) (grown d x j.majority) before after) is (blocks_in has_job (h form is_job)))))
 
     -- by Hamilton's method none
@@ -145,13 +153,13 @@ module _ (j : Job) (stage level : ℕ) (s v : Shape) (m : Bool) (is : slots_of j
     growth_none kind none =
         subst (λ (to : List Instr). Grows method to) (sym (there ∙ none)) (subst (λ (k : Method). Grows k before) (sym kind) (no_blocks (HasSoFar [] (stage + 1)) before))
 
-pub is_growth_job : (j : Job) (stage level : ℕ) (s v : Shape) (cap : ℕ) → slots_of j ≡ node_slots [] stage level s v (minima_at level v true) →
-    can_split s v ≡ true → level + 2 ≤ MAX_DEPTH → stage < MAX_STAGES → s ≡ shape.One → cap ≤ MAX_SEATS → IsGrowthJob low_shapes j cap
-is_growth_job j stage level s v cap is can low few one small = record {
+pub is_growth_job : (j : Job) (stage level : ℕ) (s v : Shape) (cap : ℕ) (from : Arguments) → slots_of j ≡ node_slots [] stage level from v →
+    can_split s v ≡ true → AreArguments level s v from → stage < MAX_STAGES → s ≡ shape.One → cap ≤ MAX_SEATS → IsSome from.minima → IsGrowthJob low_shapes j cap
+is_growth_job j stage level s v cap from is can are few one small some = record {
   form = form_by s v;
-  job = is_job j stage level s v true is can low few;
+  job = is_job j stage level s v from is can are few;
   one = form_amounts s v can ∙ one;
-  slot = passing (level + 2) v;
-  minima = ap (λ (x : Slots). x.minima) is;
+  slot = (some_is from.minima some).0;
+  minima = ap (λ (x : Slots). x.minima) is ∙ (some_is from.minima some).1;
   few = small;
 }

@@ -13,7 +13,7 @@ use Rattle.sl_stages.specs.book.Typing.{Column, type_of, expr_tests, splits_in, 
 use Rattle.sl_stages.proofs.Tests.{pass_parts}
 use Rattle.sl_stages.proofs.typing.TestLists.{pass_parts3, pass_parts4}
 use Rattle.sl_pieces.specs.declared.slots.TheConstants.{LEVELS}
-use Rattle.sl_pieces.proofs.exprs.Levels.{low_level, one_level, two_levels, split_levels, three_levels, split_passes, split_from_passes, grow_passes}
+use Rattle.sl_pieces.proofs.exprs.Levels.{low_level, one_level, two_levels, split_levels, three_levels, pair_passes, split_passes, split_from_passes, grow_passes}
 use Rattle.sl_compile.specs.inner.Earlier.{Fits, FitsSplit, FitsMinima, FitsGrowth}
 
 pub low : {types : List Column} {level : ℕ} {x : ExprTree} → Fits types level x → level ≤ MAX_DEPTH
@@ -36,6 +36,10 @@ module _ (types : List Column) (level at : ℕ) where
   pair_fits pairing l r h =
       let p = pass_parts3 (expr_tests types l) (expr_tests types r) (alike_tests types at l r) h.typed in
       both l r p.0 p.1 h.levels
+
+  pub pair_same : (pairing : Pairing) (l r : ExprTree) → Fits types level (pair at pairing l r) → (type_of types r).shape ≡ (type_of types l).shape
+  pair_same pairing l r h =
+      pair_passes at (type_of types l) (type_of types r) (pass_parts3 (expr_tests types l) (expr_tests types r) (alike_tests types at l r) h.typed).2
 
   pub split_fits : (s v : ExprTree) (method : Method) (m : Majority) → Fits types level (split at s v method without m) → FitsSplit types level s v
   split_fits s v method m h =

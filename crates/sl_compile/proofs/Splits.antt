@@ -1,6 +1,7 @@
 -- Splits and growths: what is asked of their arguments and of their own plans.
-use Rattle.std.proofs.Common.{◌≡◌, ℕ, ◌+◌, ◌*◌, ◌<◌, ◌≤◌, max, true, false, List, [], ◌++◌, Result, IfOk, Option, Some, None, sym, ap, ◌∙◌, subst, arith}
-use Rattle.std.specs.Prelude.{is_some}
+use Rattle.std.proofs.Common.{◌≡◌, ℕ, ◌+◌, ◌*◌, ◌<◌, max, true, List, [], ◌++◌, Result, IfOk, Option, Some, None, sym, ap, ◌∙◌, subst, arith}
+use Rattle.std.specs.Prelude.{option_map}
+use Rattle.std.proofs.lemmas.Option.{same_Some}
 use Rattle.std.specs.Global.{Box}
 use Rattle.sl_ratio.specs.declared.method.Divisor.{Divisor}
 use Rattle.sl_ratio.specs.declared.method.Method.{Method}
@@ -11,17 +12,19 @@ use Rattle.sl_stages.specs.declared.book.Shape.{Shape}
 use Rattle.sl_stages.specs.declared.book.Unit.TheVariants as unit
 use Rattle.sl_stages.specs.declared.book.ColumnType.{ColumnType}
 use Rattle.sl_stages.specs.declared.book.Expr.{Expr, Split, Grow}
-use Rattle.sl_stages.specs.declared.limits.TheConstants.{MAX_DEPTH}
 use Rattle.sl_stages.specs.book.Limits.{depth_of}
 use Rattle.sl_stages.specs.book.Trees.{ExprTree, tree_of, split, without, atleast, grow}
 use Rattle.sl_stages.specs.book.Typing.{Column, column, type_of, can_split}
 use Rattle.sl_instructions.specs.declared.instr.Instr.{Instr}
 use Rattle.sl_instructions.specs.Codes.{CountingCode}
 use Rattle.sl_plans.specs.Trees.{Tree}
-use Rattle.sl_pieces.specs.exprs.Pieces.{pieces, split_piece, grow_piece}
+use Rattle.sl_pieces.specs.declared.arguments.Arguments.{Arguments}
+use Rattle.sl_pieces.specs.exprs.Slots.{StandsOn}
+use Rattle.sl_pieces.specs.exprs.Pieces.{slot_of, arguments_at, pieces, split_piece, grow_piece}
+use Rattle.sl_pieces.proofs.exprs.Places.{slot_stands}
 use Rattle.sl_blocks.specs.PlanBlocks.{AreBlocks, HasRoom}
 use Rattle.sl_compile.specs.inner.Earlier.{Fits, FitsMinima, FitsGrowth}
-use Rattle.sl_compile.specs.inner.Nodes.{minima_at, top_of, MayHave}
+use Rattle.sl_compile.specs.inner.Nodes.{AreArguments, MayHave}
 use Rattle.sl_compile.proofs.Arguments.{Over, first_room, rest_room, rest_blocks}
 use Rattle.sl_compile.proofs.Levels.{low, split_fits, split_from_fits, grow_fits}
 use Rattle.sl_compile.proofs.Places.{blocks_behind, room_rest}
@@ -48,6 +51,11 @@ abbrev pub minima_plans : List Column → ℕ → ℕ → Option (Box Expr) → 
 minima_plans types stage level None = []
 minima_plans types stage level (Some m) = pieces types stage (level + 2) (tree_of m.value)
 
+-- their trees
+abbrev pub trees_of : Option (Box Expr) → Option ExprTree
+trees_of None = None
+trees_of (Some m) = Some (tree_of m.value)
+
 -- minima fit two levels on, and are less deep
 abbrev pub MinimaFit : List Column → ℕ → ExprTree → Option (Box Expr) → Type 0
 MinimaFit types level x None = Unit {0}
@@ -66,22 +74,39 @@ pub record OverSplit (types : List Column) (stage level : ℕ) (x s v : ExprTree
   pub over : Over types stage level x s v seats_by (then_own types stage level minima own)
   pub can : can_split (type_of types s).shape (type_of types v).shape ≡ true
   pub third : MinimaFit types level x minima
-  pub top : top_of level (is_some minima) ≤ MAX_DEPTH
-  pub may : MayHave method (is_some minima)
+  pub are : AreArguments level (type_of types s).shape (type_of types v).shape (arguments_at types level s v (trees_of minima))
+  pub may : MayHave method (arguments_at types level s v (trees_of minima)).minima
 
 -- the own plans by the shapes of seats and votes
-abbrev pub own_split : ℕ → ℕ → Option (Box Expr) → Method → Majority → Shape → Shape → List Tree
-own_split stage level minima method majority a b = split_piece [] stage level a b (minima_at level b (is_some minima)) method majority
+abbrev pub own_split : ℕ → ℕ → Arguments → Method → Majority → Shape → Shape → List Tree
+own_split stage level from method majority a b = split_piece [] stage level a b from method majority
 
-abbrev pub own_growth : ℕ → ℕ → Method → Number → Majority → Shape → Shape → List Tree
-own_growth stage level method cap majority a b = grow_piece [] stage level a b (minima_at level b true) method majority cap.value
+abbrev pub own_growth : ℕ → ℕ → Arguments → Method → Number → Majority → Shape → Shape → List Tree
+own_growth stage level from method cap majority a b = grow_piece [] stage level a b from method majority cap.value
 
-may_without : (method : Method) → MayHave method false
+may_without : (method : Method) → MayHave method None
 may_without kind.Hamilton = tt
 may_without (kind.Divisor d) = tt
 
-may_with : (method : Method) (d : Divisor) → method ≡ kind.Divisor d → MayHave method true
-may_with method d is = subst (λ (m : Method). MayHave m true) (sym is) tt
+may_with : (method : Method) (d : Divisor) (slot : ℕ) → method ≡ kind.Divisor d → MayHave method (Some slot)
+may_with method d slot is = subst (λ (m : Method). MayHave m (Some slot)) (sym is) tt
+
+are_without : {types : List Column} {level : ℕ} (s : ExprTree) {v : ExprTree} → Fits types (level + 1) v →
+    AreArguments level (type_of types s).shape (type_of types v).shape (arguments_at types level s v None)
+are_without {types} {level} s {v} h = record { low = low h; amounts = slot_stands types s level; votes = slot_stands types v (level + 1); minima = λ slot is. cc }
+
+are_with : {types : List Column} {level : ℕ} (s : ExprTree) {v m : ExprTree} → Fits types (level + 1) v → Fits types (level + 2) m → (type_of types m).shape ≡ (type_of types v).shape →
+    AreArguments level (type_of types s).shape (type_of types v).shape (arguments_at types level s v (Some m))
+are_with {types} {level} s {v} {m} h g same = record {
+  low = low h;
+  amounts = slot_stands types s level;
+  votes = slot_stands types v (level + 1);
+  minima = λ slot is. (
+    low g,
+    subst (λ (n : ℕ). StandsOn (level + 2) (type_of types v).shape n) (same_Some (slot_of types (level + 2) m) slot is)
+        (subst (λ (x : Shape). StandsOn (level + 2) x (slot_of types (level + 2) m)) same (slot_stands types m (level + 2))),
+  );
+}
 
 -- with minima, by what is so of all three arguments
 over_minima : {types : List Column} {stage level : ℕ} {x s v : ExprTree} {m : Box Expr} {method : Method} {own : Shape → Shape → List Tree} →
@@ -92,8 +117,8 @@ over_minima {types} {stage} {level} {x} {s} {v} {m} {method} deep type plans h =
   over = record { left = h.split.seats; right = h.split.votes; falls = omega (arith, deep); type = type; plans = plans };
   can = h.split.can;
   third = (h.minima, omega (arith, deep));
-  top = low h.minima;
-  may = may_with method h.divisor h.by_it;
+  are = are_with s h.split.votes h.minima h.same;
+  may = may_with method h.divisor (slot_of types (level + 2) (tree_of m.value)) h.by_it;
 }
 
 pub growth_fits : {types : List Column} {level : ℕ} {e : Expr} {at : ℕ} {s v m : Box Expr} {method : Method} {cap : Number} {majority : Majority} {x y : Expr} →
@@ -104,7 +129,7 @@ growth_fits {types} {level} {e} {at} {s} {v} {m} {method} {cap} {majority} {x} {
 module _ {types : List Column} (stage : ℕ) {level : ℕ} {e : Expr} {at : ℕ} {s v : Box Expr} {method : Method} {majority : Majority} {x y : Expr}
     (x_is : x ≡ s.value) (y_is : y ≡ v.value) (fits : Fits types level (tree_of e)) where
   pub over_split : (minima : Option (Box Expr)) → e ≡ Split at s v method minima majority →
-      OverSplit types stage level (tree_of e) (tree_of x) (tree_of y) method minima (own_split stage level minima method majority)
+      OverSplit types stage level (tree_of e) (tree_of x) (tree_of y) method minima (own_split stage level (arguments_at types level (tree_of x) (tree_of y) (trees_of minima)) method majority)
   over_split None is =
       let tree = split_is x_is y_is is in
       let deep : depth_of (tree_of e) ≡ 1 + max (depth_of (tree_of x)) (depth_of (tree_of y)) = ap depth_of tree in
@@ -113,7 +138,7 @@ module _ {types : List Column} (stage : ℕ) {level : ℕ} {e : Expr} {at : ℕ}
         over = record { left = h.seats; right = h.votes; falls = omega (arith, deep); type = ap (type_of types) tree; plans = ap (pieces types stage level) tree };
         can = h.can;
         third = tt;
-        top = low h.votes;
+        are = are_without (tree_of x) h.votes;
         may = may_without method;
       }
   over_split (Some m) is =
@@ -123,17 +148,38 @@ module _ {types : List Column} (stage : ℕ) {level : ℕ} {e : Expr} {at : ℕ}
       (split_from_fits types level at (tree_of x) (tree_of y) (tree_of m.value) method majority (subst (λ (z : ExprTree). Fits types level z) tree fits))
 
   pub over_growth : {m : Box Expr} {cap : Number} → e ≡ Grow at s v method m cap majority →
-      OverSplit types stage level (tree_of e) (tree_of x) (tree_of y) method (Some m) (own_growth stage level method cap majority)
+      OverSplit types stage level (tree_of e) (tree_of x) (tree_of y) method (Some m) (own_growth stage level (arguments_at types level (tree_of x) (tree_of y) (Some (tree_of m.value))) method cap majority)
   over_growth {m} is =
       let tree = grow_is x_is y_is is in
       let deep : depth_of (tree_of e) ≡ 1 + max (max (depth_of (tree_of x)) (depth_of (tree_of y))) (depth_of (tree_of m.value)) = ap depth_of tree in
       over_minima deep (ap (type_of types) tree) (ap (pieces types stage level) tree) (growth_fits x_is y_is fits is).split
+
+-- ---- the slots of the arguments, as they are told
+
+-- of minima, where there are some, and where there are none
+pub some_slot : (types : List Column) (level slot : ℕ) (minima : Option (Box Expr)) (m : Box Expr) (o : Option ℕ) → o ≡ Some slot → minima ≡ Some m
+    → slot ≡ slot_of types (level + 2) (tree_of m.value) → o ≡ option_map (slot_of types (level + 2)) (trees_of minima)
+some_slot types level slot minima m o is some at =
+    is ∙ ap Some at ∙ sym (ap (λ (p : Option (Box Expr)). option_map (slot_of types (level + 2)) (trees_of p)) some)
+
+pub no_slot : (types : List Column) (level : ℕ) (minima : Option (Box Expr)) (o : Option ℕ) → o ≡ None → minima ≡ None → o ≡ option_map (slot_of types (level + 2)) (trees_of minima)
+no_slot types level minima o is none = is ∙ sym (ap (λ (p : Option (Box Expr)). option_map (slot_of types (level + 2)) (trees_of p)) none)
+
+pub arguments_are : {a b c d : ℕ} {m n : Option ℕ} → a ≡ c → b ≡ d → m ≡ n
+    → ◌≡◌ {A = Arguments} (record { amounts = a; votes = b; minima = m }) (record { amounts = c; votes = d; minima = n })
+arguments_are p q r = λ i. record { amounts = p i; votes = q i; minima = r i }
 
 -- ---- minima behind seats and votes, and the own plan behind these
 
 pub can_as : {of by s v : ColumnType} → (of ≡ s) × (by ≡ v) → can_split s.shape v.shape ≡ true → can_split of.shape by.shape ≡ true
 can_as {of} {by} {s} {v} have can =
     ap (λ (t : ColumnType). can_split t.shape by.shape) have.0 ∙ ap (λ (t : ColumnType). can_split s.shape t.shape) have.1 ∙ can
+
+pub are_as : {level : ℕ} {of by s v : ColumnType} {from at : Arguments} → (of ≡ s) × (by ≡ v) → at ≡ from → AreArguments level s.shape v.shape from → AreArguments level of.shape by.shape at
+are_as {level} {of} {by} {s} {v} {from} {at} have same are =
+    subst (λ (f : Arguments). AreArguments level of.shape by.shape f) (sym same)
+    (subst (λ (t : ColumnType). AreArguments level t.shape by.shape from) (sym have.0)
+    (subst (λ (t : ColumnType). AreArguments level s.shape t.shape from) (sym have.1) are))
 
 module _ {types : List Column} {stage level : ℕ} {x s v : ExprTree} {method : Method} {minima : Option (Box Expr)} {own : Shape → Shape → List Tree}
     (h : OverSplit types stage level x s v method minima own) where

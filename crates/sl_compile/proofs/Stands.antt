@@ -21,7 +21,8 @@ use Rattle.sl_stages.proofs.Tests.{head_holds}
 use Rattle.sl_instructions.specs.declared.instr.Instr.{Instr}
 use Rattle.sl_instructions.specs.Codes.{CountingCode}
 use Rattle.sl_pieces.specs.columns.Trees.{pair_tree, sum_tree}
-use Rattle.sl_pieces.specs.exprs.Slots.{passing, stage_slot, HasBookSlots}
+use Rattle.sl_pieces.specs.exprs.Slots.{passing, StandsOn, stage_slot, HasBookSlots}
+use Rattle.sl_pieces.proofs.exprs.Places.{stands_there}
 use Rattle.sl_pieces.specs.closing.Trees.{base_slot}
 use Rattle.sl_blocks.specs.PlanBlocks.{AreBlocks, HasCopy, HasPair, HasSum}
 use Rattle.sl_books.specs.Codes.{HasSoFar}
@@ -87,34 +88,31 @@ copy_there types n level {of} {t} {from} {slot} of_is from_is low there code has
     }
 
 module _ (level : ℕ) {x y : List Instr} where
-  -- a sum of a passing column
-  pub sum_stands : (over : Axis) (s : Shape) {from to : ℕ} → level ≤ MAX_DEPTH → from ≡ passing level s → to ≡ passing level (shape_over over)
+  -- a sum of an argument
+  pub sum_stands : (over : Axis) (s : Shape) {from to : ℕ} → level ≤ MAX_DEPTH → StandsOn level s from → to ≡ passing level (shape_over over)
       → AreBlocks (HasSum over s from to) (sum_tree over s from to ∷ []) x y
-      → AreBlocks (HasSoFar [] 0) (sum_tree over s (passing level s) (passing level (shape_over over)) ∷ []) x y
-  sum_stands over s {from} {to} low from_is to_is h =
+      → AreBlocks (HasSoFar [] 0) (sum_tree over s from (passing level (shape_over over)) ∷ []) x y
+  sum_stands over s {from} {to} low on to_is h =
       let there : (code : CountingCode) → HasSoFar [] 0 code → HasSum over s from to code =
       λ code has.
       let slots = has_book_slots [] code has.slots in
       record {
-        from_there = ap (slice_get code.slots) from_is ∙ slots.passing_are level s low;
+        from_there = stands_there code [] slots level s from low on;
         to_there = ap (slice_get code.slots) to_is ∙ slots.passing_are level (shape_over over) low ∙ ap Some (summed_is over);
       } in
-      subst (λ (n : ℕ). AreBlocks (HasSoFar [] 0) (sum_tree over s n (passing level (shape_over over)) ∷ []) x y) from_is
-      (subst (λ (n : ℕ). AreBlocks (HasSoFar [] 0) (sum_tree over s from n ∷ []) x y) to_is (blocks_in there h))
+      subst (λ (n : ℕ). AreBlocks (HasSoFar [] 0) (sum_tree over s from n ∷ []) x y) to_is (blocks_in there h)
 
-  -- a pair of passing columns
-  pub pair_stands : (pairing : Pairing) (s : Shape) {left right to : ℕ} → level + 1 ≤ MAX_DEPTH → left ≡ passing level s → right ≡ passing (level + 1) s → to ≡ passing level s
+  -- a pair of arguments
+  pub pair_stands : (pairing : Pairing) (s : Shape) {left right to : ℕ} → level + 1 ≤ MAX_DEPTH → StandsOn level s left → StandsOn (level + 1) s right → to ≡ passing level s
       → AreBlocks (HasPair s left right to) (pair_tree pairing s left right to ∷ []) x y
-      → AreBlocks (HasSoFar [] 0) (pair_tree pairing s (passing level s) (passing (level + 1) s) (passing level s) ∷ []) x y
-  pair_stands pairing s {left} {right} {to} low left_is right_is to_is h =
+      → AreBlocks (HasSoFar [] 0) (pair_tree pairing s left right (passing level s) ∷ []) x y
+  pair_stands pairing s {left} {right} {to} low left_on right_on to_is h =
       let there : (code : CountingCode) → HasSoFar [] 0 code → HasPair s left right to code =
       λ code has.
       let slots = has_book_slots [] code has.slots in
       record {
-        left_there = ap (slice_get code.slots) left_is ∙ slots.passing_are level s (omega (arith, low));
-        right_there = ap (slice_get code.slots) right_is ∙ slots.passing_are (level + 1) s low;
+        left_there = stands_there code [] slots level s left (omega (arith, low)) left_on;
+        right_there = stands_there code [] slots (level + 1) s right low right_on;
         to_there = ap (slice_get code.slots) to_is ∙ slots.passing_are level s (omega (arith, low));
       } in
-      subst (λ (n : ℕ). AreBlocks (HasSoFar [] 0) (pair_tree pairing s n (passing (level + 1) s) (passing level s) ∷ []) x y) left_is
-      (subst (λ (n : ℕ). AreBlocks (HasSoFar [] 0) (pair_tree pairing s left n (passing level s) ∷ []) x y) right_is
-      (subst (λ (n : ℕ). AreBlocks (HasSoFar [] 0) (pair_tree pairing s left right n ∷ []) x y) to_is (blocks_in there h)))
+      subst (λ (n : ℕ). AreBlocks (HasSoFar [] 0) (pair_tree pairing s left right n ∷ []) x y) to_is (blocks_in there h)

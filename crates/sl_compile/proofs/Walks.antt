@@ -23,8 +23,9 @@ use Rattle.sl_instructions.specs.Codes.{CountingCode}
 use Rattle.sl_plans.specs.Trees.{Tree}
 use Rattle.sl_pieces.specs.columns.Trees.{copy_tree}
 use Rattle.sl_pieces.specs.declared.slots.TheConstants.{LEVELS}
-use Rattle.sl_pieces.specs.exprs.Slots.{passing, stage_slot}
-use Rattle.sl_pieces.specs.exprs.Pieces.{pieces}
+use Rattle.sl_pieces.specs.exprs.Slots.{stage_slot}
+use Rattle.sl_pieces.specs.exprs.Pieces.{slot_of, pieces}
+use Rattle.sl_pieces.proofs.exprs.Places.{stands_there}
 use Rattle.sl_pieces.specs.exprs.Stages.{stage_pieces, stages_pieces}
 use Rattle.sl_pieces.proofs.exprs.StageRules.{last_there}
 use Rattle.sl_blocks.specs.PlanBlocks.{AreBlocks, HasRoom, HasCopy}
@@ -33,6 +34,7 @@ use Rattle.sl_books.specs.Codes.{HasSoFar}
 use Rattle.sl_books.proofs.Rows.{blocks_then, blocks_in}
 use Rattle.sl_books.proofs.Slots.{has_book_slots, has_fewer}
 use Rattle.sl_compile.proofs.Places.{room_first, room_rest, room_as}
+use Rattle.sl_compile.proofs.Arguments.{slot_on}
 use Rattle.std.proofs.Common.{append_assoc, subst, length-take}
 
 -- ---- names
@@ -110,28 +112,27 @@ drop_here ss i s lt here = rw (← here) at (drop-cons ss i s lt)
 -- there is room for its expression
 pub expr_room : (types : List Column) (k : ℕ) (s : StageTree) (x : List Instr) → HasRoom (stage_pieces types k s) x → HasRoom (pieces types k 0 s.expr) x
 expr_room types k s x room =
-    room_first (pieces types k 0 s.expr) (copy_tree (type_of types s.expr).shape (passing 0 (type_of types s.expr).shape) (stage_slot k) ∷ []) x room
+    room_first (pieces types k 0 s.expr) (copy_tree (type_of types s.expr).shape (slot_of types 0 s.expr) (stage_slot k) ∷ []) x room
 
 -- the copy into the stage's slot, by what the expression has
-copy_as : (of t : ColumnType) (k from to : ℕ) → of ≡ t → from ≡ passing 0 of.shape → to ≡ stage_slot k →
-    copy_tree of.shape from to ∷ [] ≡ copy_tree t.shape (passing 0 t.shape) (stage_slot k) ∷ []
-copy_as of t k from to is first second =
+copy_as : (of t : ColumnType) (k slot from to : ℕ) → of ≡ t → from ≡ slot → to ≡ stage_slot k → copy_tree of.shape from to ∷ [] ≡ copy_tree t.shape slot (stage_slot k) ∷ []
+copy_as of t k slot from to is first second =
     ap (λ (n : ℕ). copy_tree of.shape n to ∷ []) first
-    ∙ ap (λ (n : ℕ). copy_tree of.shape (passing 0 of.shape) n ∷ []) second
-    ∙ ap (λ (u : ColumnType). copy_tree u.shape (passing 0 u.shape) (stage_slot k) ∷ []) is
+    ∙ ap (λ (n : ℕ). copy_tree of.shape slot n ∷ []) second
+    ∙ ap (λ (u : ColumnType). copy_tree u.shape slot (stage_slot k) ∷ []) is
 
 -- what is there with one stage more is there without it
 pub so_far_before : (types : List Column) (c : Column) (k : ℕ) (code : CountingCode) → HasSoFar (types ++ c ∷ []) (k + 1) code → HasSoFar types (k + 1) code
 so_far_before types c k code has = record { slots = has_fewer types c code has.slots; stages = has.stages }
 
 module _ (types : List Column) (k : ℕ) (s : StageTree) (of : ColumnType) (from to : ℕ) (x y : List Instr)
-    (is : of ≡ type_of types s.expr) (first : from ≡ passing 0 of.shape) (second : to ≡ stage_slot k)
+    (is : of ≡ type_of types s.expr) (first : from ≡ slot_of types 0 s.expr) (second : to ≡ stage_slot k)
     (blocks : AreBlocks (HasSoFar types (k + 1)) (pieces types k 0 s.expr) x y) where
   abbrev own : List Tree
-  own = copy_tree (type_of types s.expr).shape (passing 0 (type_of types s.expr).shape) (stage_slot k) ∷ []
+  own = copy_tree (type_of types s.expr).shape (slot_of types 0 s.expr) (stage_slot k) ∷ []
 
   same : copy_tree of.shape from to ∷ [] ≡ own
-  same = copy_as of (type_of types s.expr) k from to is first second
+  same = copy_as of (type_of types s.expr) k (slot_of types 0 s.expr) from to is first second
 
   -- there is room for the copy behind it, and then the stage is done
   pub copy_room : HasRoom (stage_pieces types k s) x → HasRoom (copy_tree of.shape from to ∷ []) y
@@ -142,7 +143,7 @@ module _ (types : List Column) (k : ℕ) (s : StageTree) (of : ColumnType) (from
   copy_there number code has =
       let slots = has_book_slots (types ++ stage_column types s ∷ []) code has.slots in
       record {
-        from_there = ap (slice_get code.slots) first ∙ slots.passing_are 0 of.shape (omega arith);
+        from_there = stands_there code (types ++ stage_column types s ∷ []) slots 0 of.shape from (omega arith) (slot_on types s.expr is first);
         to_there = ap (slice_get code.slots) second
             ∙ slots.stages_are k (stage_column types s) (last_there types (stage_column types s) k number)
             ∙ ap (λ (t : ColumnType). Some t.shape) (sym is);

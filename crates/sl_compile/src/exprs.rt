@@ -1,10 +1,10 @@
 //! The blocks of expressions (docs/compiler.md, section 4).
 
-ghost use Rattle.std.specs.Prelude.{◌≡◌, ◌+◌, ◌<◌, ◌++◌, IfOk};
+ghost use Rattle.std.specs.Prelude.{◌≡◌, ◌+◌, ◌<◌, ◌≤◌, ◌++◌, List, IfOk};
 ghost use Rattle.sl_stages.specs.declared.limits.TheConstants.{MAX_STAGES};
-ghost use Rattle.sl_stages.specs.book.Typing.{type_of};
+ghost use Rattle.sl_stages.specs.book.Typing.{Column, type_of};
 ghost use Rattle.sl_stages.specs.book.Trees.{tree_of};
-ghost use Rattle.sl_pieces.specs.exprs.Pieces.{pieces};
+ghost use Rattle.sl_pieces.specs.exprs.Pieces.{pieces, slot_of};
 ghost use Rattle.sl_books.specs.Codes.{HasSoFar};
 ghost use Rattle.sl_blocks.specs.PlanBlocks.{AreBlocks, HasRoom};
 ghost use Rattle.sl_compile.specs.inner.Slots.{low_shapes};
@@ -12,10 +12,11 @@ ghost use Rattle.sl_compile.specs.inner.Earlier.{columns, Fits};
 
 use crate::earlier::Earlier;
 use crate::nodes::{copy, pair, sum};
-use crate::slots::fact_slot;
+use crate::slots::{fact_slot, passing};
 use sl_instructions::Instr;
+use sl_pieces::Arguments;
 use sl_ratio::NoMemory;
-use sl_stages::{ColumnType, Expr, Shape};
+use sl_stages::{ColumnType, Expr, MAX_DEPTH, Shape};
 
 /// Where an expression is laid out: the shapes of the slots below those of the stages, the stages before, and the number of its own stage.
 #[derive(Clone, Copy)]
@@ -25,6 +26,17 @@ pub struct Site<'a> {
     pub stage: u8,
     ghost low: { slots.now ≡ low_shapes },
     ghost few: { stage < MAX_STAGES },
+}
+
+/// The slot in which the blocks of an expression leave its column: a fact's own, and else the passing one of its shape on that level.
+pub fn column_slot(level: u8, expr: &Expr, of: ColumnType) -> u8
+    requires { level ≤ MAX_DEPTH }
+    ensures { (types : List Column) → of ≡ type_of types (tree_of expr.now) → result ≡ slot_of types level (tree_of expr.now) }
+{
+    match expr {
+        Expr::Fact { fact, .. } => fact_slot(*fact),
+        _ => passing(level, of.shape),
+    }
 }
 
 impl<'a> Site<'a> {
@@ -54,7 +66,7 @@ impl<'a> Site<'a> {
         Ok((left, right))
     }
 
-    /// Appends the blocks of an expression, which leave its column in the passing one of its shape on that level, and says what it has.
+    /// Appends the blocks of an expression, which leave its column in its slot on that level (`column_slot`), and says what it has.
     #[cycle(expr)]
     #[tactic(none)]
     pub fn expr(
@@ -73,14 +85,14 @@ impl<'a> Site<'a> {
             in IfOk result (λ _. AreBlocks (HasSoFar known (self.now.stage + 1)) (pieces known self.now.stage level (tree_of expr.now)) code.old.items code.new.items) }
     {
         match expr {
-            Expr::Fact { fact, .. } => copy(code, level, fact_slot(*fact), fact.column_type()),
+            Expr::Fact { fact, .. } => Ok(fact.column_type()),
             Expr::Name { name, .. } => {
                 let (slot, of) = self.earlier.column(name);
                 copy(code, level, slot, of)
             }
             Expr::Sum { of, over, .. } => {
-                let of = self.expr(code, level, of)?;
-                sum(code, level, of, *over)
+                let has = self.expr(code, level, of)?;
+                sum(code, level, column_slot(level, of, has), has, *over)
             }
             Expr::Pair {
                 pairing,
@@ -88,8 +100,10 @@ impl<'a> Site<'a> {
                 right,
                 ..
             } => {
-                let (of, _) = self.both(code, level, left, right)?;
-                pair(code, level, *pairing, of)
+                let (of, by) = self.both(code, level, left, right)?;
+                let from = column_slot(level, left, of);
+                let other = column_slot(level + 1, right, by);
+                pair(code, level, *pairing, from, other, of)
             }
             Expr::Split {
                 seats,
@@ -100,10 +114,19 @@ impl<'a> Site<'a> {
                 ..
             } => {
                 let (of, by) = self.both(code, level, seats, votes)?;
-                if let Some(minima) = minima {
-                    self.expr(code, level + 2, minima)?;
-                }
-                self.split(code, level, of, by, minima.is_some(), *method, *majority)
+                let minima = match minima {
+                    Some(minima) => {
+                        let has = self.expr(code, level + 2, minima)?;
+                        Some(column_slot(level + 2, minima, has))
+                    }
+                    None => None,
+                };
+                let from = Arguments {
+                    amounts: column_slot(level, seats, of),
+                    votes: column_slot(level + 1, votes, by),
+                    minima,
+                };
+                self.split(code, level, from, of.shape, by.shape, *method, *majority)
             }
             Expr::Grow {
                 seats,
@@ -115,8 +138,15 @@ impl<'a> Site<'a> {
                 ..
             } => {
                 let (of, by) = self.both(code, level, seats, votes)?;
-                self.expr(code, level + 2, minima)?;
-                self.growth(code, level, of, by, *method, cap.value, *majority)
+                let has = self.expr(code, level + 2, minima)?;
+                let from = Arguments {
+                    amounts: column_slot(level, seats, of),
+                    votes: column_slot(level + 1, votes, by),
+                    minima: Some(column_slot(level + 2, minima, has)),
+                };
+                self.growth(
+                    code, level, from, of.shape, by.shape, *method, cap.value, *majority,
+                )
             }
         }
     }

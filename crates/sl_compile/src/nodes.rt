@@ -1,7 +1,7 @@
-//! The own blocks of expressions, whose arguments are in passing columns (docs/compiler.md, section 4). Each leaves its column in the passing
-//! one of its shape, and says what the column has.
+//! The own blocks of expressions, whose arguments are in columns of facts or in passing ones (docs/compiler.md, section 4). Each leaves its
+//! column in the passing one of its shape, and says what the column has.
 
-ghost use Rattle.std.specs.Prelude.{◌≡◌, ◌+◌, ◌≤◌, [], ◌∷◌, true, IfOk};
+ghost use Rattle.std.specs.Prelude.{◌≡◌, ◌+◌, ◌≤◌, [], ◌∷◌, true, IfOk, IsSome};
 ghost use Rattle.sl_stages.specs.declared.book.Shape.TheVariants as shape;
 ghost use Rattle.sl_stages.specs.declared.book.Unit.TheVariants as unit;
 ghost use Rattle.sl_stages.specs.book.Typing.{can_split, can_sum, column, shape_over};
@@ -9,14 +9,15 @@ ghost use Rattle.sl_blocks.specs.inner.Jobs.{slots_of};
 ghost use Rattle.sl_blocks.specs.PlanBlocks.{AreBlocks, HasCopy, HasRoom};
 ghost use Rattle.sl_pieces.specs.columns.Trees.{copy_tree, pair_tree, sum_tree};
 ghost use Rattle.sl_pieces.specs.exprs.Pieces.{node_slots, split_piece, grow_piece};
-ghost use Rattle.sl_pieces.specs.exprs.Slots.{passing};
+ghost use Rattle.sl_pieces.specs.exprs.Slots.{passing, StandsOn};
 ghost use Rattle.sl_books.specs.Codes.{HasSoFar};
-ghost use Rattle.sl_compile.specs.inner.Nodes.{minima_at, top_of, MayHave};
+ghost use Rattle.sl_compile.specs.inner.Nodes.{AreArguments, MayHave};
 
 use crate::exprs::Site;
 use crate::slots::passing;
 use sl_blocks::{Job, copy_block, grow_block, pair_block, split_block, sum_block};
 use sl_instructions::Instr;
+use sl_pieces::Arguments;
 use sl_ratio::{Method, NoMemory};
 use sl_stages::{Axis, ColumnType, MAX_DEPTH, MAX_SEATS, Majority, Pairing, Shape};
 
@@ -40,23 +41,19 @@ pub fn copy(
 pub fn sum(
     code: &mut Vec<Instr>,
     level: u8,
+    from: u8,
     of: ColumnType,
     over: Axis,
 ) -> Result<ColumnType, NoMemory>
     requires level { level ≤ MAX_DEPTH }
+    requires from { StandsOn level of.shape from }
     requires can { can_sum of.shape over ≡ true }
-    requires room { HasRoom (sum_tree over of.shape (passing level of.shape) (passing level (shape_over over)) ∷ []) code.old.items }
+    requires room { HasRoom (sum_tree over of.shape from (passing level (shape_over over)) ∷ []) code.old.items }
     ensures has { IfOk result (λ has. has ≡ column (shape_over over) of.unit) }
-    ensures blocks { IfOk result (λ _. AreBlocks (HasSoFar [] 0) (sum_tree over of.shape (passing level of.shape) (passing level (shape_over over)) ∷ []) code.old.items code.new.items) }
+    ensures blocks { IfOk result (λ _. AreBlocks (HasSoFar [] 0) (sum_tree over of.shape from (passing level (shape_over over)) ∷ []) code.old.items code.new.items) }
 {
     let shape = over.shape();
-    sum_block(
-        code,
-        over,
-        of.shape,
-        passing(level, of.shape),
-        passing(level, shape),
-    )?;
+    sum_block(code, over, of.shape, from, passing(level, shape))?;
     Ok(ColumnType {
         shape,
         unit: of.unit,
@@ -68,21 +65,24 @@ pub fn pair(
     code: &mut Vec<Instr>,
     level: u8,
     pairing: Pairing,
+    left: u8,
+    right: u8,
     of: ColumnType,
 ) -> Result<ColumnType, NoMemory>
     requires level { level + 1 ≤ MAX_DEPTH }
-    requires room { HasRoom (pair_tree pairing of.shape (passing level of.shape) (passing (level + 1) of.shape) (passing level of.shape) ∷ []) code.old.items }
+    requires left { StandsOn level of.shape left }
+    requires right { StandsOn (level + 1) of.shape right }
+    requires room { HasRoom (pair_tree pairing of.shape left right (passing level of.shape) ∷ []) code.old.items }
     ensures has { IfOk result (λ has. has ≡ of) }
-    ensures blocks { IfOk result (λ _. AreBlocks (HasSoFar [] 0) (pair_tree pairing of.shape (passing level of.shape) (passing (level + 1) of.shape) (passing level of.shape) ∷ []) code.old.items code.new.items) }
+    ensures blocks { IfOk result (λ _. AreBlocks (HasSoFar [] 0) (pair_tree pairing of.shape left right (passing level of.shape) ∷ []) code.old.items code.new.items) }
 {
-    let to = passing(level, of.shape);
     pair_block(
         code,
         pairing,
         of.shape,
-        to,
-        passing(level + 1, of.shape),
-        to,
+        left,
+        right,
+        passing(level, of.shape),
     )?;
     Ok(of)
 }
@@ -91,21 +91,17 @@ pub fn pair(
 const NO_SCRATCH: [[u8; 8]; 4] = [[0; 8]; 4];
 
 impl<'a> Site<'a> {
-    /// The slots of a split or a growth by the shapes of the seats and of the votes, whose minima, if there are any, are two levels on.
-    fn job(&self, level: u8, of: Shape, by: Shape, minima: bool, majority: Majority) -> Job
-        requires { top_of level minima ≤ MAX_DEPTH }
-        ensures slots { slots_of result ≡ node_slots [] self.now.stage level of by (minima_at level by minima) }
+    /// The slots of a split or a growth with these arguments, by the shape of the votes.
+    fn job(&self, level: u8, from: Arguments, by: Shape, majority: Majority) -> Job
+        requires { level ≤ MAX_DEPTH }
+        ensures slots { slots_of result ≡ node_slots [] self.now.stage level from by }
         ensures majority { result.majority ≡ majority }
     {
         Job {
             stage: self.stage,
-            amount: passing(level, of),
-            weights: passing(level + 1, by),
-            minima: if minima {
-                Some(passing(level + 2, by))
-            } else {
-                None
-            },
+            amount: from.amounts,
+            weights: from.votes,
+            minima: from.minima,
             result: passing(level, by),
             majority,
             scratch: NO_SCRATCH,
@@ -117,22 +113,22 @@ impl<'a> Site<'a> {
         &self,
         code: &mut Vec<Instr>,
         level: u8,
-        of: ColumnType,
-        by: ColumnType,
-        minima: bool,
+        from: Arguments,
+        of: Shape,
+        by: Shape,
         method: Method,
         majority: Majority,
     ) -> Result<ColumnType, NoMemory>
-        requires levels { top_of level minima ≤ MAX_DEPTH }
-        requires can { can_split of.shape by.shape ≡ true }
-        requires may { MayHave method minima }
-        requires room { HasRoom (split_piece [] self.now.stage level of.shape by.shape (minima_at level by.shape minima) method majority) code.old.items }
-        ensures has { IfOk result (λ has. has ≡ column by.shape unit.Seats) }
-        ensures blocks { IfOk result (λ _. AreBlocks (HasSoFar [] (self.now.stage + 1)) (split_piece [] self.now.stage level of.shape by.shape (minima_at level by.shape minima) method majority) code.old.items code.new.items) }
+        requires from { AreArguments level of by from }
+        requires can { can_split of by ≡ true }
+        requires may { MayHave method from.minima }
+        requires room { HasRoom (split_piece [] self.now.stage level of by from method majority) code.old.items }
+        ensures has { IfOk result (λ has. has ≡ column by unit.Seats) }
+        ensures blocks { IfOk result (λ _. AreBlocks (HasSoFar [] (self.now.stage + 1)) (split_piece [] self.now.stage level of by from method majority) code.old.items code.new.items) }
     {
-        let job = self.job(level, of.shape, by.shape, minima, majority);
+        let job = self.job(level, from, by, majority);
         split_block(code, self.slots, &job, method)?;
-        Ok(ColumnType::seats(by.shape))
+        Ok(ColumnType::seats(by))
     }
 
     /// Appends the block of a growth; Hamilton's method has none.
@@ -140,24 +136,26 @@ impl<'a> Site<'a> {
         &self,
         code: &mut Vec<Instr>,
         level: u8,
-        of: ColumnType,
-        by: ColumnType,
+        from: Arguments,
+        of: Shape,
+        by: Shape,
         method: Method,
         cap: u32,
         majority: Majority,
     ) -> Result<ColumnType, NoMemory>
-        requires levels { level + 2 ≤ MAX_DEPTH }
-        requires can { can_split of.shape by.shape ≡ true }
-        requires one { of.shape ≡ shape.One }
+        requires from { AreArguments level of by from }
+        requires minima { IsSome from.minima }
+        requires can { can_split of by ≡ true }
+        requires one { of ≡ shape.One }
         requires few { cap ≤ MAX_SEATS }
-        requires room { HasRoom (grow_piece [] self.now.stage level of.shape by.shape (minima_at level by.shape true) method majority cap) code.old.items }
-        ensures has { IfOk result (λ has. has ≡ column by.shape unit.Seats) }
-        ensures blocks { IfOk result (λ _. AreBlocks (HasSoFar [] (self.now.stage + 1)) (grow_piece [] self.now.stage level of.shape by.shape (minima_at level by.shape true) method majority cap) code.old.items code.new.items) }
+        requires room { HasRoom (grow_piece [] self.now.stage level of by from method majority cap) code.old.items }
+        ensures has { IfOk result (λ has. has ≡ column by unit.Seats) }
+        ensures blocks { IfOk result (λ _. AreBlocks (HasSoFar [] (self.now.stage + 1)) (grow_piece [] self.now.stage level of by from method majority cap) code.old.items code.new.items) }
     {
-        let job = self.job(level, of.shape, by.shape, true, majority);
+        let job = self.job(level, from, by, majority);
         if let Method::Divisor(divisor) = method {
             grow_block(code, self.slots, &job, divisor, cap)?;
         }
-        Ok(ColumnType::seats(by.shape))
+        Ok(ColumnType::seats(by))
     }
 }

@@ -12,8 +12,8 @@ ghost use Rattle.sl_compile.specs.inner.Slots.{low_shapes};
 ghost use Rattle.sl_compile.specs.inner.Earlier.{columns, Fits};
 
 use crate::earlier::Earlier;
-use crate::exprs::Site;
-use crate::slots::{passing, stage_slot};
+use crate::exprs::{Site, column_slot};
+use crate::slots::stage_slot;
 use sl_blocks::copy_block;
 use sl_instructions::Instr;
 use sl_ratio::NoMemory;
@@ -33,7 +33,12 @@ fn lay_stage(code: &mut Vec<Instr>, site: &Site<'_>, stage: &Stage) -> Result<Co
         in IfOk result (λ _. AreBlocks (HasSoFar (known ++ stage_column known (stage_of stage.now) ∷ []) (site.now.stage + 1)) (stage_pieces known site.now.stage (stage_of stage.now)) code.old.items code.new.items) }
 {
     let of = site.expr(code, 0, &stage.expr)?;
-    copy_block(code, of.shape, passing(0, of.shape), stage_slot(site.stage))?;
+    copy_block(
+        code,
+        of.shape,
+        column_slot(0, &stage.expr, of),
+        stage_slot(site.stage),
+    )?;
     Ok(of)
 }
 

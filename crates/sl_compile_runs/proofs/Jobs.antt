@@ -8,9 +8,9 @@ use Rattle.sl_pieces.specs.declared.form.Form.TheVariants.{AllLists}
 use Rattle.sl_blocks.specs.declared.job.Job.{Job}
 use Rattle.sl_blocks.specs.inner.Jobs.{IsSplitJob}
 
-module _ (shapes : List Shape) (j : Job) (stage : j.stage ≡ 0) (amount : j.amount ≡ 12) (weights : j.weights ≡ 19) (result : j.result ≡ 15) (none : j.minima ≡ None) where
+module _ (shapes : List Shape) (j : Job) (stage : j.stage ≡ 0) (amount : j.amount ≡ 1) (weights : j.weights ≡ 2) (result : j.result ≡ 15) (none : j.minima ≡ None) where
   -- where these slots have the shapes of seats, of votes and of a result
-  pub split_of_lists : (method : Method) → slice_get shapes 12 ≡ Some shape.One → slice_get shapes 19 ≡ Some shape.List → slice_get shapes 15 ≡ Some shape.List → IsSplitJob shapes j method
+  pub split_of_lists : (method : Method) → slice_get shapes 1 ≡ Some shape.One → slice_get shapes 2 ≡ Some shape.List → slice_get shapes 15 ≡ Some shape.List → IsSplitJob shapes j method
   split_of_lists method one votes seats = record {
     form = AllLists;
     job = record {

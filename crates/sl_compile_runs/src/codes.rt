@@ -26,11 +26,11 @@ const SLOTS: [Shape; 81] = [
     List, List,
 ];
 
-// The seats in the passing column of one number on the first level, the votes in that of lists on the second.
+// The house and the counted votes in the slots of these facts, the result in the passing column of lists on the first level.
 const JOB: Job = Job {
     stage: 0,
-    amount: 12,
-    weights: 19,
+    amount: 1,
+    weights: 2,
     minima: None,
     result: 15,
     majority: Majority::Free,

@@ -1,6 +1,6 @@
 //! Columns: their cells at the cursors, zeros, and columns of the returns.
 
-ghost use Rattle.std.specs.Prelude.{◌≡◌, ◌<◌, ◌≤◌, ℕ, Option, Some, IsSome, List, length, map, replicate, slice_get, slice_index, slice_index_or, []};
+ghost use Rattle.std.specs.Prelude.{◌≡◌, ◌<◌, ℕ, Option, Some, IsSome, IfOk, length, map, slice_get, slice_index};
 ghost use Rattle.std.specs.List.{range_with_len};
 ghost use Rattle.sl_verify.specs.declared.known.TheConstants.{REGISTERS};
 ghost use Rattle.sl_verify.specs.Needs.{input_shape};
@@ -19,6 +19,7 @@ ghost use Rattle.sl_machine.specs.inner.Stores.{state_of, columns_of, sizes_of, 
 use crate::step::Effect;
 use crate::store::Store;
 use sl_instructions::{Code, Input};
+use sl_ratio::NoMemory;
 use sl_stages::Returns;
 
 // A cell of a column of the returns.
@@ -52,29 +53,14 @@ fn names_or_most(names: Option<u32>) -> u64
     }
 }
 
-// Makes a column one of the returns'.
-fn read_input(column: &mut [u64], returns: &Returns, input: Input)
+// Makes cells those of a column of the returns.
+pub(crate) fn read_input(column: &mut [u64], returns: &Returns, input: Input)
     requires { length column.old ≡ cells_of returns.now (input_shape input) }
     ensures { column.new ≡ map (input_of returns.now input) (range_with_len 0 (cells_of returns.now (input_shape input))) }
 {
     for (place, cell) in column.iter_mut().enumerate() {
         *cell = input_cell(returns, input, place);
     }
-}
-
-// Makes a whole column one of the returns'.
-fn read_column(column: &mut Vec<u64>, returns: &Returns, input: Input)
-    requires { length column.old.items ≡ cells_of returns.now (input_shape input) }
-    ensures { column.new.items ≡ map (input_of returns.now input) (range_with_len 0 (cells_of returns.now (input_shape input))) }
-{
-    read_input(column.as_mut_slice(), returns, input);
-}
-
-// Makes a column 0.
-fn clear(column: &mut Vec<u64>)
-    ensures { column.new.items ≡ replicate (length column.old.items) 0 }
-{
-    column.fill(0);
 }
 
 impl Store {
@@ -96,7 +82,7 @@ impl Store {
         requires place { place < slice_index (sizes_of self.now).columns slot }
         ensures { result ≡ (state_of self.now).columns slot place }
     {
-        self.columns[usize::from(slot)][place]
+        self.columns[usize::from(slot)].number(place)
     }
 
     /// Sets a register to a column's cell.
@@ -119,25 +105,29 @@ impl Store {
     }
 
     /// Sets a column's cell to a register.
+    ///
+    /// # Errors
+    ///
+    /// Want of memory.
     pub(crate) fn store_cell(
         &mut self,
         code: &Code,
         returns: &Returns,
         slot: u8,
         register: u8,
-    ) -> Effect
+    ) -> Result<Effect, NoMemory>
         requires register { register < REGISTERS }
         requires there { IsSome (place_at code.now returns.now slot (state_of self.old)) }
         requires range { IsInRange returns.now (state_of self.old) }
         requires sizes { sizes_of self.old ≡ sizes_for code.now returns.now }
-        ensures follows { effect_of result (state_of self.new) ≡ effect code.now returns.now (instr.Store slot register) (state_of self.old) }
+        ensures follows { IfOk result (λ next. effect_of next (state_of self.new) ≡ effect code.now returns.now (instr.Store slot register) (state_of self.old)) }
         ensures kept { sizes_of self.new ≡ sizes_of self.old }
     {
         let place = self.place(code, returns, slot);
         let value = self.register(register);
         let column = &mut self.columns[usize::from(slot)];
-        column[place] = value;
-        Effect::Goes
+        column.put(place, value)?;
+        Ok(Effect::Goes)
     }
 
     /// Makes a column 0.
@@ -147,19 +137,28 @@ impl Store {
         ensures kept { sizes_of self.new ≡ sizes_of self.old }
     {
         let column = &mut self.columns[usize::from(slot)];
-        clear(column);
+        column.clear();
         Effect::Goes
     }
 
     /// Makes a column one of the returns'.
-    pub(crate) fn input_column(&mut self, returns: &Returns, slot: u8, input: Input) -> Effect
+    ///
+    /// # Errors
+    ///
+    /// Want of memory.
+    pub(crate) fn input_column(
+        &mut self,
+        returns: &Returns,
+        slot: u8,
+        input: Input,
+    ) -> Result<(), NoMemory>
         requires election { IsElection returns.now }
         requires width { slice_get (sizes_of self.old).columns slot ≡ Some (cells_of returns.now (input_shape input)) }
-        ensures follows { effect_of result (state_of self.new) ≡ Goes (with_column slot (input_of returns.now input) (state_of self.old)) }
+        ensures follows { IfOk result (λ done. Goes (state_of self.new) ≡ Goes (with_column slot (input_of returns.now input) (state_of self.old))) }
         ensures kept { sizes_of self.new ≡ sizes_of self.old }
     {
         let column = &mut self.columns[usize::from(slot)];
-        read_column(column, returns, input);
-        Effect::Goes
+        column.read(returns, input)?;
+        Ok(())
     }
 }

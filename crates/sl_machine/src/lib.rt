@@ -2,6 +2,7 @@
 #![tactic(auto)]
 
 mod arithmetic;
+mod column;
 mod columns;
 mod cursor;
 mod cursors;

@@ -151,7 +151,7 @@ fn run_with<R: Recording>(
     let code = code.code();
     let mut store = Store::start(alloc, code, returns)?;
     match steps::<R>(&mut store, code, returns, budget)? {
-        Some(End::Halted { base, vacant }) => Ok(Ending::Done(Memory::new(store, base, vacant)?)),
+        Some(End::Halted { base, vacant }) => Ok(Ending::Done(Memory::new(store, base, vacant))),
         Some(End::Faulted(fault)) => Ok(Ending::Fault(fault)),
         None => Ok(Ending::OutOfBudget),
     }

@@ -1,6 +1,6 @@
 //! What a run leaves.
 
-ghost use Rattle.std.specs.Prelude.{◌≡◌, ◌<◌, Some, IfOk, IsSome, slice_get, length};
+ghost use Rattle.std.specs.Prelude.{◌≡◌, ◌<◌, Some, IsSome, slice_get, length};
 ghost use Rattle.std.specs.Option.{ForSome};
 ghost use Rattle.sl_stages.specs.returns.Election.{Election};
 ghost use Rattle.sl_instructions.specs.Codes.{CountingCode};
@@ -8,8 +8,8 @@ ghost use Rattle.sl_semantics.specs.Memories.{held_of};
 ghost use Rattle.sl_machine.specs.inner.Leaving.{held_with, HasVacancy};
 ghost use Rattle.sl_machine.specs.inner.Stores.{state_of, sizes_of, sizes_for};
 
-use crate::store::{Store, zeros};
-use sl_ratio::NoMemory;
+use crate::column::Column;
+use crate::store::Store;
 use sl_stages::{Placed, SeatStep, Weight};
 use std::marker::Model;
 
@@ -17,13 +17,13 @@ use std::marker::Model;
 #[derive(Drop)]
 pub(crate) enum Vacant {
     Column(usize),
-    Nowhere(Vec<u64>),
+    Nowhere(Column),
 }
 
 /// What the machine holds when a run is done (docs/machine.md, section 1).
 #[derive(Drop)]
 pub struct Memory {
-    columns: Vec<Vec<u64>>,
+    columns: Vec<Column>,
     base: usize,
     vacant: Vacant,
     placed: Vec<Placed>,
@@ -45,16 +45,16 @@ impl Model for Memory {
 
 impl Memory {
     // What a store holds that halts with the seats of the lists in a slot, and with the vacant ones if a slot is named.
-    pub(crate) fn new(store: Store, base: usize, vacant: Option<usize>) -> Result<Memory, NoMemory>
+    pub(crate) fn new(store: Store, base: usize, vacant: Option<usize>) -> Memory
         requires base { base < length (sizes_of store).columns }
         requires vacant { ForSome vacant (λ slot. slot < length (sizes_of store).columns) }
-        ensures { (c : CountingCode) (e : Election) → sizes_of store ≡ sizes_for c e → IfOk result (λ memory. memory ≡ held_of c e base vacant (state_of store)) }
+        ensures { (c : CountingCode) (e : Election) → sizes_of store ≡ sizes_for c e → result ≡ held_of c e base vacant (state_of store) }
     {
         match vacant {
-            Some(slot) => Ok(Memory::of(store, base, Vacant::Column(slot))),
+            Some(slot) => Memory::of(store, base, Vacant::Column(slot)),
             None => {
-                let zeros = zeros(store.alloc, store.columns[base].len())?;
-                Ok(Memory::of(store, base, Vacant::Nowhere(zeros)))
+                let zeros = Column::zeros(store.alloc, store.columns[base].len());
+                Memory::of(store, base, Vacant::Nowhere(zeros))
             }
         }
     }

@@ -110,9 +110,12 @@ impl Store {
             Instr::Get(register, slot) => Ok(Some(self.get_cell(code, returns, register, slot))),
             Instr::Store(slot, register) => Ok(Some(self.store_cell(
                 code, returns, slot, register,
-            ))),
+            )?)),
             Instr::Zero(slot) => Ok(Some(self.zero_column(slot))),
-            Instr::Input(slot, input) => Ok(Some(self.input_column(returns, slot, input))),
+            Instr::Input(slot, input) => {
+                self.input_column(returns, slot, input)?;
+                Ok(Some(Effect::Goes))
+            }
             Instr::House(register) => Ok(Some(self.set_house(returns, register))),
             Instr::Wparty(target) => Ok(Some(self.to_winners_party(returns, target))),
             Instr::Wland => Ok(Some(self.to_winners_land(returns))),

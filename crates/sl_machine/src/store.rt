@@ -1,11 +1,12 @@
 //! What the machine holds during a run.
 
-ghost use Rattle.std.specs.Prelude.{◌≡◌, ◌++◌, ◌∷◌, [], map, replicate, IfOk, OnOk};
+ghost use Rattle.std.specs.Prelude.{◌≡◌, ◌≤◌, ◌++◌, ◌∷◌, [], map, replicate, IfOk, OnOk};
 ghost use Rattle.sl_stages.specs.returns.Election.{IsElection};
 ghost use Rattle.sl_semantics.specs.State.{start};
 ghost use Rattle.sl_semantics.specs.Places.{cells_of};
 ghost use Rattle.sl_machine.specs.inner.Stores.{state_of, sizes_of, sizes_for};
 
+use crate::column::{Column, MOST_CELLS};
 use crate::cursor::Cursor;
 use crate::lots::Lots;
 use crate::priority::PriorityTable;
@@ -29,7 +30,7 @@ pub(crate) struct Store {
     pub alloc: Global,
     pub registers: [u64; REGISTERS as usize],
     // a column for each slot
-    pub columns: Vec<Vec<u64>>,
+    pub columns: Vec<Column>,
     pub cursors: Cursors,
     pub table: PriorityTable,
     // the mark of the entry taken last
@@ -38,15 +39,6 @@ pub(crate) struct Store {
     pub weights: Vec<Weight>,
     // by winner
     pub placed: Vec<Placed>,
-}
-
-// So many zeros.
-pub(crate) fn zeros(alloc: Global, length: usize) -> Result<Vec<u64>, NoMemory>
-    ensures { IfOk result (λ column. column.items ≡ replicate length 0) }
-{
-    let mut column = Vec::new(alloc);
-    column.resize(length, 0)?;
-    Ok(column)
 }
 
 // Adds an item.
@@ -59,7 +51,8 @@ pub(crate) fn append<T: Drop>(items: &mut Vec<T>, item: T) -> Result<(), NoMemor
 
 // The number of cells of a column.
 pub(crate) fn cells(returns: &Returns, shape: Shape) -> usize
-    ensures { result ≡ cells_of returns.now shape }
+    ensures value { result ≡ cells_of returns.now shape }
+    ensures few { result ≤ MOST_CELLS }
 {
     match shape {
         Shape::One => 1,
@@ -70,16 +63,12 @@ pub(crate) fn cells(returns: &Returns, shape: Shape) -> usize
 }
 
 // A column of zeros for each slot.
-fn blank_columns(
-    alloc: Global,
-    slots: &[Shape],
-    returns: &Returns,
-) -> Result<Vec<Vec<u64>>, NoMemory>
-    ensures { IfOk result (λ columns. map (λ column. column.items) columns.items ≡ map (λ shape. replicate (cells_of returns.now shape) 0) slots.now) }
+fn blank_columns(alloc: Global, slots: &[Shape], returns: &Returns) -> Result<Vec<Column>, NoMemory>
+    ensures { IfOk result (λ columns. columns.items ≡ map (λ shape. replicate (cells_of returns.now shape) 0) slots.now) }
 {
     let mut columns = Vec::new(alloc);
     for shape in slots {
-        append(&mut columns, zeros(alloc, cells(returns, *shape))?)?;
+        append(&mut columns, Column::zeros(alloc, cells(returns, *shape)))?;
     }
     Ok(columns)
 }

@@ -1,9 +1,11 @@
 //! The plans of the parts of a rulebook, from seats awarded in a priority table to the last clause, and what they achieve.
 #![tactic(auto)]
 
+mod arguments;
 mod form;
 pub mod laws;
 pub mod registers;
 pub mod slots;
 
+pub use arguments::Arguments;
 pub use form::Form;

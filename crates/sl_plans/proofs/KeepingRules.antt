@@ -90,5 +90,9 @@ pub times_keeping : (Inv : ℕ → State → Type 0) {c : CountingCode} {e : Ele
     → Achieves c e (Times r m body) s Q E
 times_keeping Inv {r = r} {body = body} other free within first turn last =
     times_achieves Inv other within first
-    (λ w t is inv. achieves_keeping (turn w t is inv) (λ u h kept. (kept.registers r free ∙ register_same (with_register ones 1 t) r w, h)))
+    (λ w t is inv.
+    achieves_keeping (turn w t is inv)
+    (λ u h kept.
+    let same : u.registers r ≡ w = kept.registers r free ∙ register_same (with_register ones 1 t) r w in
+    (omega (arith, same), subst (λ (n : ℕ). Inv n u) (sym same) h)))
     last

@@ -203,26 +203,26 @@ counted_down r w t other is =
     ap (λ (v : ℕ). with_register r v (with_register ones 1 t)) less
 
 meets_turns : (r : ℕ) (turn : State → Course) (Inv : ℕ → State → Type 0) (E : End → Type 0)
-    → ((w : ℕ) (t : State) → t.registers r ≡ suc w → Inv (suc w) t → Meets (turn t) (λ u. (u.registers r ≡ w) × Inv w u) E)
+    → ((w : ℕ) (t : State) → t.registers r ≡ suc w → Inv (suc w) t → Meets (turn t) (λ u. (u.registers r ≤ w) × Inv (u.registers r) u) E)
     → (n v : ℕ) (s : State) → s.registers r ≡ v → v ≤ n → Inv v s → Meets (turns r n turn s) (λ u. (u.registers r ≡ 0) × Inv 0 u) E
 meets_turns r turn Inv E each zero zero s is within h = meets_is (turns r 0 turn s) (Onward s) _ E (ap (λ (m : ℕ). at_zero m (Onward s) Unsaid) is) (is, h)
 meets_turns r turn Inv E each zero (suc v) s is within h = absurd (omega arith)
 meets_turns r turn Inv E each (suc n) zero s is within h = meets_is (turns r (suc n) turn s) (Onward s) _ E (ap (λ (m : ℕ). at_zero m (Onward s) (then_do (turn s) (turns r n turn))) is) (is, h)
 meets_turns r turn Inv E each (suc n) (suc v) s is within h =
     meets_is (turns r (suc n) turn s) (then_do (turn s) (turns r n turn)) _ E (ap (λ (m : ℕ). at_zero m (Onward s) (then_do (turn s) (turns r n turn))) is)
-    (meets_then (turn s) (turns r n turn) (λ u. (u.registers r ≡ v) × Inv v u) (λ u. (u.registers r ≡ 0) × Inv 0 u) E (each v s is h)
-    (λ t k. meets_turns r turn Inv E each n v t k.0 (omega arith) k.1))
+    (meets_then (turn s) (turns r n turn) (λ u. (u.registers r ≤ v) × Inv (u.registers r) u) (λ u. (u.registers r ≡ 0) × Inv 0 u) E (each v s is h)
+    (λ t k. meets_turns r turn Inv E each n (t.registers r) t refl (omega (arith, within, k.0)) k.1))
 
--- with an invariant over the number of turns still to come
+-- with an invariant over the number of turns still to come, which the plan of a turn may lower
 pub times_achieves : (Inv : ℕ → State → Type 0) {c : CountingCode} {e : Election} {r : ℕ} {m : Bound} {body : Tree} {s : State} {Q : State → Type 0} {E : End → Type 0}
     → (r == ones) ≡ false → s.registers r ≤ turns_in e m → Inv (s.registers r) s
-    → ((w : ℕ) (t : State) → t.registers r ≡ suc w → Inv (suc w) t → Achieves c e body (with_register r w (with_register ones 1 t)) (λ u. (u.registers r ≡ w) × Inv w u) E)
+    → ((w : ℕ) (t : State) → t.registers r ≡ suc w → Inv (suc w) t → Achieves c e body (with_register r w (with_register ones 1 t)) (λ u. (u.registers r ≤ w) × Inv (u.registers r) u) E)
     → ((t : State) → t.registers r ≡ 0 → Inv 0 t → Q t)
     → Achieves c e (Times r m body) s Q E
 times_achieves Inv {c = c} {e = e} {r = r} {m = m} {body = body} {s = s} {Q = Q} {E = E} other within first turn last = record {
   meets = meets_more (does c e (Times r m body) s) (λ u. (u.registers r ≡ 0) × Inv 0 u) Q E E
       (meets_turns r (counted c e r (does c e body)) Inv E
-      (λ w t is inv. subst (λ (u : State). Meets (does c e body u) (λ v. (v.registers r ≡ w) × Inv w v) E) (sym (counted_down r w t other is)) (turn w t is inv).meets)
+      (λ w t is inv. subst (λ (u : State). Meets (does c e body u) (λ v. (v.registers r ≤ w) × Inv (v.registers r) v) E) (sym (counted_down r w t other is)) (turn w t is inv).meets)
       (turns_in e m) (s.registers r) s refl within first)
       (λ t h. last t h.0 h.1) (λ x h. h);
 }

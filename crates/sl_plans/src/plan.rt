@@ -58,6 +58,6 @@ pub enum Plan<'a> {
     If(Test, &'a Plan<'a>, &'a Plan<'a>),
     /// The plan for each party, Land or winner in turn.
     Each(Cursor, &'a Plan<'a>),
-    /// The plan as often as the register says. The register is one less in each turn, and 0 in the end.
+    /// The plan, as long as the register is not 0. The register is one less in each turn, and 0 in the end.
     Times(u8, Bound, &'a Plan<'a>),
 }

@@ -102,7 +102,9 @@ fn lists(alloc: Global, memory: &Memory, returns: &Returns) -> Result<Vec<ListSe
     ensures { IfOk result (λ lists. lists.items ≡ each_list returns.now (held_line returns.now memory.now)) }
 {
     let direct = seated_winners(alloc, memory, returns)?;
-    let mut lists = Vec::new(alloc);
+    let Ok(mut lists) = Vec::with_capacity(alloc, direct.len()) else {
+        return Err(NoMemory);
+    };
     for land in 0..returns.lands() {
         push_lists(&mut lists, memory, returns, &direct, land)?;
     }

@@ -1,27 +1,26 @@
 -- Splits and growths as the compiler lays them out.
-use Rattle.std.specs.Prelude.{◌≡◌, ℕ, ◌+◌, [], Bool, true, false, Option, None, Some, slice_get}
+use Rattle.std.specs.Prelude.{◌≡◌, ℕ, ◌+◌, ◌≤◌, [], Option, Some, slice_get}
 use Rattle.sl_ratio.specs.declared.method.Method.{Method}
 use Rattle.sl_ratio.specs.declared.method.Method.TheVariants as by
 use Rattle.sl_stages.specs.declared.book.Shape.{Shape}
 use Rattle.sl_stages.specs.declared.book.Shape.TheVariants as shape
 use Rattle.sl_instructions.specs.Codes.{CountingCode}
-use Rattle.sl_pieces.specs.exprs.Slots.{passing}
+use Rattle.sl_stages.specs.declared.limits.TheConstants.{MAX_DEPTH}
+use Rattle.sl_pieces.specs.declared.arguments.Arguments.{Arguments}
+use Rattle.sl_pieces.specs.exprs.Slots.{StandsOn}
 use Rattle.sl_books.specs.Codes.{HasSoFar}
 
--- the slot of the minima, where there are minima
-abbrev pub minima_at : ℕ → Shape → Bool → Option ℕ
-minima_at level votes false = None
-minima_at level votes true = Some (passing (level + 2) votes)
+-- the arguments of a split or a growth are on one level after the other: seats, votes, and minima if there are any
+pub record AreArguments (level : ℕ) (s v : Shape) (from : Arguments) : Type 0 where
+  pub low : level + 1 ≤ MAX_DEPTH
+  pub amounts : StandsOn level s from.amounts
+  pub votes : StandsOn (level + 1) v from.votes
+  pub minima : (slot : ℕ) → from.minima ≡ Some slot → (level + 2 ≤ MAX_DEPTH) × StandsOn (level + 2) v slot
 
--- Hamilton's method takes none
-abbrev pub MayHave : Method → Bool → Type 0
-MayHave by.Hamilton true = ⊥
+-- Hamilton's method takes no minima
+abbrev pub MayHave : Method → Option ℕ → Type 0
+MayHave by.Hamilton (Some slot) = ⊥
 MayHave _ _ = Unit {0}
-
--- the highest level of a column
-abbrev pub top_of : ℕ → Bool → ℕ
-top_of level false = level + 1
-top_of level true = level + 2
 
 -- the slots of a book, and a column of lists as the base of its last clause
 pub record HasBase (from : ℕ) (code : CountingCode) : Type 0 where

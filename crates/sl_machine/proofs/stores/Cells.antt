@@ -23,6 +23,10 @@ widths_set : (css : List (List ℕ)) (k : ℕ) (xs : List ℕ) → k < length cs
 widths_set css k xs h e =
     map-set length css k xs ∙ ap (λ (n : ℕ). set (map length css) k n) e ∙ set-get_or (map length css) k 0
 
+-- where there is one, what is told of none does not matter
+same_within : (css : List (List ℕ)) (k : ℕ) (xs ys : List ℕ) → k < length css → get_or css k xs ≡ get_or css k ys
+same_within css k xs ys h = grind (arith, common_steps)
+
 -- another number in a cell
 cell_set : (css : List (List ℕ)) (k p v : ℕ) (q r : ℕ) → k < length css → p < length (get_or css k [])
     → cell_in (set css k (set (get_or css k []) p v)) q r ≡ (if (q == k) && (r == p) then v else cell_in css q r)
@@ -41,49 +45,42 @@ picked : (b : Bool) (xs : List ℕ) (f g : ℕ → ℕ) (r : ℕ) → ((p : ℕ)
 picked true xs f g r h = h r
 picked false xs f g r h = refl
 
--- ---- rows that hold columns
-module _ {R : Type 0} (items : R → List ℕ) (rows : List R) (k : ℕ) (row : R) (there : k < length rows) (is : row ≡ get_or rows k row) where
-  pub row_items : items row ≡ get_or (map items rows) k []
-  row_items = ap items is ∙ sym (get_or-map items rows k row [] there)
+-- ---- a column of those of a store
+module _ (css : List (List ℕ)) (k : ℕ) (xs : List ℕ) (there : k < length css) (is : xs ≡ get_or css k xs) where
+  pub column_here : xs ≡ get_or css k []
+  column_here = is ∙ same_within css k xs [] there
 
-  in_columns : k < length (map items rows)
-  in_columns = omega (arith, length-map rows items)
+  pub width_is : length xs ≡ get_or (map length css) k 0
+  width_is = ap length column_here ∙ width_at css k there
 
-  pub row_width : length (items row) ≡ get_or (map length (map items rows)) k 0
-  row_width = ap length row_items ∙ width_at (map items rows) k in_columns
+  pub widths_kept : (ys : List ℕ) → length ys ≡ length xs → map length (set css k ys) ≡ map length css
+  widths_kept ys h = widths_set css k ys there (h ∙ width_is)
 
-  pub widths_kept : (other : R) → length (items other) ≡ length (items row) → map length (map items (set rows k other)) ≡ map length (map items rows)
-  widths_kept other h = ap (map length) (map-set items rows k other) ∙ widths_set (map items rows) k (items other) in_columns (h ∙ row_width)
+  pub cells_written : (ys : List ℕ) (p v : ℕ) → ys ≡ set xs p v → p < length xs → (q r : ℕ)
+      → cell_in (set css k ys) q r ≡ (if (q == k) && (r == p) then v else cell_in css q r)
+  cells_written ys p v h g q r =
+      let written = h ∙ ap (λ (zs : List ℕ). set zs p v) column_here in
+      let within : p < length (get_or css k []) = omega (arith, g, ap length column_here) in
+      ap (λ (zs : List ℕ). cell_in (set css k zs) q r) written ∙ cell_set css k p v q r there within
 
-  pub cells_written : (other : R) (p v : ℕ) → items other ≡ set (items row) p v → p < length (items row) → (q r : ℕ)
-      → cell_in (map items (set rows k other)) q r ≡ (if (q == k) && (r == p) then v else cell_in (map items rows) q r)
-  cells_written other p v h g q r =
-      let items_set = h ∙ ap (λ (xs : List ℕ). set xs p v) row_items in
-      let written = map-set items rows k other ∙ ap (λ (xs : List ℕ). set (map items rows) k xs) items_set in
-      let within : p < length (get_or (map items rows) k []) = omega (arith, ap length row_items) in
-      ap (λ (css : List (List ℕ)). cell_in css q r) written ∙ cell_set (map items rows) k p v q r in_columns within
+  pub column_written : (ys : List ℕ) (f : ℕ → ℕ) → ((p : ℕ) → get_or ys p 0 ≡ f p) → (q r : ℕ)
+      → cell_in (set css k ys) q r ≡ (if q == k then f else cell_in css q) r
+  column_written ys f h q r = column_set css k ys q r there ∙ picked (q == k) ys f (cell_in css q) r h
 
-  pub column_written : (other : R) (f : ℕ → ℕ) → ((p : ℕ) → get_or (items other) p 0 ≡ f p) → (q r : ℕ)
-      → cell_in (map items (set rows k other)) q r ≡ (if q == k then f else cell_in (map items rows) q) r
-  column_written other f h q r =
-      ap (λ (css : List (List ℕ)). cell_in css q r) (map-set items rows k other)
-      ∙ column_set (map items rows) k (items other) q r in_columns
-      ∙ picked (q == k) (items other) f (cell_in (map items rows) q) r h
+-- the column of a slot, by the widths of all
+module _ (css : List (List ℕ)) {k slot : ℕ} {xs : List ℕ} (at : k ≡ slot) (is : xs ≡ get_or css k xs) where
+  column_there : slot < length (map length css) → k < length css
+  column_there low = omega (arith, low, at, length-map css length)
 
--- the row of a slot, by the widths of all columns
-module _ {R : Type 0} (items : R → List ℕ) (rows : List R) {k slot : ℕ} {row : R} (at : k ≡ slot) (is : row ≡ get_or rows k row) where
-  row_there : slot < length (map length (map items rows)) → k < length rows
-  row_there low = omega (arith, length-map (map items rows) length, length-map rows items)
+  width_there : (there : k < length css) → length xs ≡ get_or (map length css) slot 0
+  width_there there = width_is css k xs there is ∙ ap (λ (j : ℕ). get_or (map length css) j 0) at
 
-  width_there : (there : k < length rows) → length (items row) ≡ get_or (map length (map items rows)) slot 0
-  width_there there = row_width items rows k row there is ∙ ap (λ (j : ℕ). get_or (map length (map items rows)) j 0) at
+  pub column_of_width : {n : ℕ} → slice_get (map length css) slot ≡ Some n → (k < length css) × (length xs ≡ n)
+  column_of_width {n} width =
+      let there = column_there (slice_get_within (map length css) slot n width) in
+      (there, width_there there ∙ get_or_from_slice_get (map length css) slot n 0 width)
 
-  pub row_of_width : {n : ℕ} → slice_get (map length (map items rows)) slot ≡ Some n → (k < length rows) × (length (items row) ≡ n)
-  row_of_width {n} width =
-      let there = row_there (slice_get_within (map length (map items rows)) slot n width) in
-      (there, width_there there ∙ get_or_from_slice_get (map length (map items rows)) slot n 0 width)
-
-  pub place_in_row : {ws : List ℕ} {place : ℕ} → map length (map items rows) ≡ ws → slot < length ws → place < get_or ws slot 0 → (k < length rows) × (place < length (items row))
-  place_in_row {ws} {place} e low within =
-      let there = row_there (omega (arith, ap length e)) in
-      (there, omega (arith, width_there there, ap (λ (xs : List ℕ). get_or xs slot 0) e))
+  pub place_in_column : {ws : List ℕ} {place : ℕ} → map length css ≡ ws → slot < length ws → place < get_or ws slot 0 → (k < length css) × (place < length xs)
+  place_in_column {ws} {place} e low within =
+      let there = column_there (omega (arith, low, ap length e)) in
+      (there, omega (arith, within, width_there there, ap (λ (zs : List ℕ). get_or zs slot 0) e))

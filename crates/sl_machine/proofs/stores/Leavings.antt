@@ -1,5 +1,5 @@
 -- What a state leaves, as the store keeps it.
-use Rattle.std.proofs.Common.{◌≡◌, ℕ, ◌<◌, List, [], length, map, get_or, replicate, Some, None, Vec, Global, refl, sym, ap, ◌∙◌, arith}
+use Rattle.std.proofs.Common.{◌≡◌, ℕ, ◌<◌, List, [], length, map, get_or, replicate, Some, None, refl, sym, ap, ◌∙◌, arith}
 use Rattle.std.specs.List.{range_with_len}
 use Rattle.std.proofs.lemmas.List.{length-map, get_or-map}
 use Rattle.std.proofs.lemmas.List.FromFn.{fill_by_all}
@@ -44,7 +44,7 @@ module _ (c : CountingCode) (e : Election) (s : Store) (sizes : sizes_of s ≡ s
     weights = s.weights.items;
   }
 
-  pub held_nowhere : (base : ℕ) (zeros : Vec ℕ Global) → base < length (columns_of s) → zeros.items ≡ replicate (length (get_or (columns_of s) base [])) 0
+  pub held_nowhere : (base : ℕ) (zeros : List ℕ) → base < length (columns_of s) → zeros ≡ replicate (length (get_or (columns_of s) base [])) 0
       → held_with s base (vacant.Nowhere zeros) ≡ held_of c e base None (state_of s)
   held_nowhere base zeros h z =
       let none = z ∙ ap (λ (xs : List ℕ). replicate (length xs) 0) (column_is base h) in

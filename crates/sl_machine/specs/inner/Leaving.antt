@@ -8,7 +8,7 @@ use Rattle.sl_machine.specs.inner.Stores.{columns_of}
 
 abbrev pub vacancy : Store → Vacant → List ℕ
 vacancy s (vacant.Column slot) = slice_index_or (columns_of s) slot []
-vacancy s (vacant.Nowhere zeros) = zeros.items
+vacancy s (vacant.Nowhere zeros) = zeros
 
 abbrev pub HasVacancy : Store → Vacant → Type 0
 HasVacancy s (vacant.Column slot) = slot < length (columns_of s)

@@ -1,16 +1,16 @@
 -- How a value of `Memory` keeps what it holds.
-use Rattle.std.specs.Prelude.{◌<◌, ℕ, List, [], length, map, slice_index_or}
+use Rattle.std.specs.Prelude.{◌<◌, ℕ, List, [], length, slice_index_or}
 use Rattle.sl_machine.specs.declared.memory.Memory.TheInside.{Inside}
 use Rattle.sl_machine.specs.declared.memory.Vacant.{Vacant}
 use Rattle.sl_machine.specs.declared.memory.Vacant.TheVariants as vacant
 use Rattle.sl_semantics.specs.Memories.{Held}
 
 abbrev pub columns_in : Inside → List (List ℕ)
-columns_in m = map (λ column. column.items) m.columns.items
+columns_in m = m.columns.items
 
 abbrev pub vacant_in : Inside → Vacant → List ℕ
 vacant_in m (vacant.Column slot) = slice_index_or (columns_in m) slot []
-vacant_in m (vacant.Nowhere zeros) = zeros.items
+vacant_in m (vacant.Nowhere zeros) = zeros
 
 abbrev pub held_in : Inside → Held
 held_in m = record {

@@ -13,9 +13,9 @@ use Rattle.sl_semantics.specs.Places.{cells_of}
 use Rattle.sl_semantics.specs.Effects.{Effect, Goes, Jumps}
 use Rattle.sl_machine.specs.inner.Lots.{StageLots, lots_for}
 
--- the columns, each as the list of its cells
+-- the columns, each as the list of its numbers
 abbrev pub columns_of : Store → List (List ℕ)
-columns_of s = map (λ column. column.items) s.columns.items
+columns_of s = s.columns.items
 
 -- the state that a store stands for: what is told of no register, no cell and no winner is 0, and unseated
 abbrev pub state_of : Store → State

@@ -9,15 +9,15 @@ use Rattle.sl_stages.specs.laws.Walks.{MidBatch}
 use Rattle.sl_stages.proofs.methods.WalkProofs.{walks}
 use Rattle.sl_instructions.specs.Codes.{CountingCode}
 use Rattle.sl_semantics.specs.State.{State, with_register}
-use Rattle.sl_semantics.proofs.effects.Storing.{register_other}
+use Rattle.sl_semantics.proofs.effects.Storing.{register_same, register_other}
 use Rattle.sl_plans.specs.declared.plan.Test.TheVariants as test
 use Rattle.sl_plans.specs.declared.plan.Bound.{Bound}
 use Rattle.sl_plans.specs.Trees.{Tree, Line, If, Times, ones}
 use Rattle.sl_plans.specs.Meaning.{turns_in}
 use Rattle.sl_plans.specs.Achieves.{Achieves, Never}
 use Rattle.sl_plans.specs.Frames.{may_write_register}
-use Rattle.sl_plans.proofs.Rules.{line_ends, then_achieves, if_zero, goes_as, then_at, achieves_so}
-use Rattle.sl_plans.proofs.KeepingRules.{times_keeping, free_of}
+use Rattle.sl_plans.proofs.Rules.{line_ends, then_achieves, if_zero, goes_as, then_at, achieves_so, times_achieves}
+use Rattle.sl_plans.proofs.KeepingRules.{achieves_keeping, free_of}
 use Rattle.sl_pieces.specs.arenas.Arenas.{Arena, IsArena, HasWaiting}
 use Rattle.sl_pieces.specs.declared.registers.TheConstants as reg
 use Rattle.sl_pieces.specs.awards.Trees.{one_seat, batch_turn, batches}
@@ -39,18 +39,26 @@ pub record BeforeTurn (a : Arena) (seats : ℕ) (Begun : List ℕ → ℕ → Ty
   pub held : Held t state
   pub turn : StandsAt a seats Begun Stopped w t (state.registers reg.IN_BATCH) (state.registers reg.STEP)
 
--- the plan of a turn does not write the loop's register
-keeps_turns : (Held : List ℕ → State → Type 0) (r : ℕ) (begin on : Tree) → FitsLoop Held r begin on → may_write_register (batch_turn begin on) r ≡ false
-keeps_turns Held r begin on fits =
-    rw (fits.begin_keeps, fits.on_keeps, free_of (nat_eq r) walk_registers fits.apart reg.PEERS refl, free_of (nat_eq r) walk_registers fits.apart reg.IN_BATCH refl, free_of (nat_eq r) walk_registers fits.apart ones refl) refl
+-- the second half of a turn: a seat, where a batch is under way
+abbrev seat_half : Tree → Tree
+seat_half on = If (test.Zero reg.IN_BATCH) (Line []) (one_seat on)
+
+-- it does not write the loop's register
+keeps_turns : (Held : List ℕ → State → Type 0) (r : ℕ) (on : Tree) → FitsLoop Held r on → may_write_register (seat_half on) r ≡ false
+keeps_turns Held r on fits =
+    rw (fits.on_keeps, free_of (nat_eq r) walk_registers fits.apart reg.PEERS refl, free_of (nat_eq r) walk_registers fits.apart reg.IN_BATCH refl, free_of (nat_eq r) walk_registers fits.apart ones refl) refl
 
 module _ (c : CountingCode) (e : Election) (a : Arena) (most seats r : ℕ) (begin on : Tree)
     (Begun : List ℕ → ℕ → Type 0) (Stopped : List ℕ → Type 0) (Held : List ℕ → State → Type 0)
     (arena : IsArena most a) (within : seats ≤ most) (gives : GivesSeats c e a most Begun Held on)
-    (begins : BeginsBatches c e a seats Begun Stopped Held begin) (fits : FitsLoop Held r begin on) where
+    (begins : BeginsBatches c e a seats r Begun Stopped Held begin) (fits : FitsLoop Held r on) where
   -- what is known with so many turns to come
   abbrev Before : ℕ → State → Type 0
   Before = BeforeTurn a seats Begun Stopped Held
+
+  -- after a turn that began with so many to come: no more are to come, and what is known with as many as are
+  abbrev Turned : ℕ → State → Type 0
+  Turned w state = (state.registers r ≤ w) × Before (state.registers r) state
 
   -- other registers are not the loop's
   apart : (q : ℕ) → list_any (nat_eq q) walk_registers ≡ true → q ≢ r
@@ -87,40 +95,51 @@ module _ (c : CountingCode) (e : Election) (a : Arena) (most seats r : ℕ) (beg
   -- ---- the second half of a turn, where a batch is under way, and where there is none
   seat_turn : (w : ℕ) (s peers given t : List ℕ) (state : State) → suc w + sum t ≡ seats → MidBatch a.ladders s peers given t → length given + state.registers reg.IN_BATCH ≡ length peers
       → 0 < state.registers reg.IN_BATCH → Begun s (state.registers reg.STEP) → HasWaiting a t state → Held t state
-      → Achieves c e (If (test.Zero reg.IN_BATCH) (Line []) (one_seat on)) state (Before w) Never
+      → Achieves c e (seat_half on) state (Before w) Never
   seat_turn w s peers given t state many mid left some begun waits held =
       if_zero (λ none. absurd (omega (arith, some, none)))
       (λ n is.
       let rest : length given + suc n ≡ length peers = omega (arith, left, is) in
-      achieves_so (gives_seat c e a Held r begin on fits most Begun arena gives seats n s peers given t state within (omega (arith, many)) mid rest begun waits held is)
+      achieves_so (gives_seat c e a Held r on fits most Begun arena gives seats n s peers given t state within (omega (arith, many)) mid rest begun waits held is)
       (λ v h. seat_over w n (state.registers reg.STEP) s peers given t v many rest begun h))
 
+  -- the second half leaves as many turns to come as there were
+  as_many_turns : (w : ℕ) (state : State) → state.registers r ≡ w → Achieves c e (seat_half on) state (Before w) Never → Achieves c e (seat_half on) state (Turned w) Never
+  as_many_turns w state is h =
+      achieves_keeping h
+      (λ after before kept.
+      let same : after.registers r ≡ w = kept.registers r (keeps_turns Held r on fits) ∙ is in
+      (omega (arith, same), subst (λ (n : ℕ). Before n after) (sym same) before))
+
   idle_turn : (w : ℕ) (t : List ℕ) (state : State) → IsSettled a.ladders t → Stopped t → HasWaiting a t state → Held t state → state.registers reg.IN_BATCH ≡ 0
-      → Achieves c e (If (test.Zero reg.IN_BATCH) (Line []) (one_seat on)) state (Before w) Never
-  idle_turn w t state settled stopped waits held none =
-      if_zero (λ is. line_ends (record { t = t; waits = waits; held = held; turn = BehindLast settled is stopped }))
+      → state.registers r ≤ w → Achieves c e (seat_half on) state (Turned w) Never
+  idle_turn w t state settled stopped waits held none low =
+      if_zero (λ is. line_ends (low, record { t = t; waits = waits; held = held; turn = BehindLast settled is stopped }))
       (λ n is. absurd (omega (arith, none, is)))
 
   -- after the first half of a turn that found no batch under way
-  begun_turn : (w : ℕ) (t : List ℕ) (state : State) → suc w + sum t ≡ seats → IsSettled a.ladders t → HasWaiting a t state → Held t state → HasBegun a Begun Stopped t state
-      → Achieves c e (If (test.Zero reg.IN_BATCH) (Line []) (one_seat on)) state (Before w) Never
-  begun_turn w t state many settled waits held (NoBatch none stopped) = idle_turn w t state settled stopped waits held none
-  begun_turn w t state many settled waits held (OneBegan peers listed some all begun) =
-      seat_turn w t peers [] t state many ((walks a.ladders arena.falling).begin t peers settled listed) (omega (arith, all)) (omega (arith, some, all)) begun waits held
+  begun_turn : (w : ℕ) (t : List ℕ) (state : State) → suc w + sum t ≡ seats → IsSettled a.ladders t → HasWaiting a t state → Held t state → HasBegun a r w Begun Stopped t state
+      → Achieves c e (seat_half on) state (Turned w) Never
+  begun_turn w t state many settled waits held (NoBatch none low stopped) = idle_turn w t state settled stopped waits held none low
+  begun_turn w t state many settled waits held (OneBegan peers listed some all is begun) =
+      as_many_turns w state is
+      (seat_turn w t peers [] t state many ((walks a.ladders arena.falling).begin t peers settled listed) (omega (arith, all)) (omega (arith, some, all)) begun waits held)
 
   -- ---- a turn
-  turn_goes : (w : ℕ) (t : List ℕ) (state : State) → HasWaiting a t state → Held t state → StandsAt a seats Begun Stopped (suc w) t (state.registers reg.IN_BATCH) (state.registers reg.STEP)
-      → Achieves c e (batch_turn begin on) state (Before w) Never
-  turn_goes w t state waits held (BetweenBatches settled none many) =
-      then_achieves {Q = λ v. HasWaiting a t v × Held t v × HasBegun a Begun Stopped t v}
+  turn_goes : (w : ℕ) (t : List ℕ) (state : State) → state.registers r ≡ w → HasWaiting a t state → Held t state
+      → StandsAt a seats Begun Stopped (suc w) t (state.registers reg.IN_BATCH) (state.registers reg.STEP)
+      → Achieves c e (batch_turn begin on) state (Turned w) Never
+  turn_goes w t state turns waits held (BetweenBatches settled none many) =
+      then_achieves {Q = λ v. HasWaiting a t v × Held t v × HasBegun a r (state.registers r) Begun Stopped t v}
       (if_zero (λ is. begins.begins t state settled waits held is (omega (arith, many))) (λ n is. absurd (omega (arith, none, is))))
-      (λ v h. begun_turn w t v many settled h.0 h.1 h.2)
-  turn_goes w t state waits held (WithinBatch s peers given mid left some begun many) =
-      then_at (if_zero (λ is. absurd (omega (arith, some, is))) (λ n is. line_ends refl)) (seat_turn w s peers given t state many mid left some begun waits held)
-  turn_goes w t state waits held (BehindLast settled none stopped) =
-      then_achieves {Q = λ v. HasWaiting a t v × Held t v × (v.registers reg.IN_BATCH ≡ 0)}
+      (λ v h. begun_turn w t v many settled h.0 h.1 (subst (λ (n : ℕ). HasBegun a r n Begun Stopped t v) turns h.2))
+  turn_goes w t state turns waits held (WithinBatch s peers given mid left some begun many) =
+      then_at (if_zero (λ is. absurd (omega (arith, some, is))) (λ n is. line_ends refl))
+      (as_many_turns w state turns (seat_turn w s peers given t state many mid left some begun waits held))
+  turn_goes w t state turns waits held (BehindLast settled none stopped) =
+      then_achieves {Q = λ v. HasWaiting a t v × Held t v × (v.registers reg.IN_BATCH ≡ 0) × (v.registers r ≤ state.registers r)}
       (if_zero (λ is. begins.rests t state settled waits held is stopped) (λ n is. absurd (omega (arith, none, is))))
-      (λ v h. idle_turn w t v settled stopped h.0 h.1 h.2)
+      (λ v h. idle_turn w t v settled stopped h.0 h.1 h.2 (omega (arith, h.3, turns)))
 
   -- ---- all turns
   ends_so : (t : List ℕ) (state : State) → StandsAt a seats Begun Stopped 0 t (state.registers reg.IN_BATCH) (state.registers reg.STEP) → EndOfBatches a seats Begun Stopped t state
@@ -131,9 +150,9 @@ module _ (c : CountingCode) (e : Election) (a : Arena) (most seats r : ℕ) (beg
   all_turns : (bound : Bound) (state : State) → state.registers r ≤ turns_in e bound → Before (state.registers r) state
       → Achieves c e (Times r bound (batch_turn begin on)) state (AfterBatches a seats Begun Stopped Held) Never
   all_turns bound state few first =
-      times_keeping Before (free_of (nat_eq r) walk_registers fits.apart ones refl) (keeps_turns Held r begin on fits) few first
+      times_achieves Before (free_of (nat_eq r) walk_registers fits.apart ones refl) few first
       (λ w u is h. let here : Before (suc w) (with_register r w (with_register ones 1 u)) = counted w u h in
-      turn_goes w here.t (with_register r w (with_register ones 1 u)) here.waits here.held here.turn)
+      turn_goes w here.t (with_register r w (with_register ones 1 u)) (register_same (with_register ones 1 u) r w) here.waits here.held here.turn)
       (λ u is h. record { t = h.t; waiting = h.waits; held = h.held; end = ends_so h.t u h.turn })
 
   all_batches : (bound : Bound) (t : List ℕ) (state : State) → IsSettled a.ladders t → HasWaiting a t state → Held t state

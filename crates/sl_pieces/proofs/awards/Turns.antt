@@ -74,7 +74,7 @@ pub record SeatGiven (a : Arena) (Held : List ℕ → State → Type 0) (s peers
   pub total : sum u ≡ sum t + 1
   pub after : AfterSeat a Held u n number state
 
-module _ (c : CountingCode) (e : Election) (a : Arena) (Held : List ℕ → State → Type 0) (r : ℕ) (begin on : Tree) (fits : FitsLoop Held r begin on) where
+module _ (c : CountingCode) (e : Election) (a : Arena) (Held : List ℕ → State → Type 0) (r : ℕ) (on : Tree) (fits : FitsLoop Held r on) where
   -- the seat is counted
   counts_seat : (u : List ℕ) (n number : ℕ) (state : State) → AfterSeat a Held u (suc n) number state
       → Achieves c e (Line (count_down reg.IN_BATCH)) state (AfterSeat a Held u n number) Never

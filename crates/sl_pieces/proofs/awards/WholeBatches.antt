@@ -1,5 +1,5 @@
 -- Whole batches of peers, while there are seats for all of them, and the registers that count the seats.
-use Rattle.std.proofs.Common.{◌≡◌, ℕ, suc, ◌+◌, ◌-◌, ◌<◌, ◌≤◌, min, List, [], ◌∷◌, length, sum, refl, ap, arith, Bool, false, ◌==◌, if◌then◌else◌, sym, ◌∙◌, true}
+use Rattle.std.proofs.Common.{◌≡◌, ℕ, suc, ◌+◌, ◌-◌, ◌<◌, ◌≤◌, min, List, [], ◌∷◌, length, sum, refl, ap, arith, le_refl, Bool, false, ◌==◌, if◌then◌else◌, sym, ◌∙◌, true}
 use Rattle.std.specs.Prelude.{Contains, slice_index, nat_eq}
 use Rattle.std.specs.List.{list_any}
 use Rattle.sl_stages.specs.returns.Election.{Election}
@@ -197,10 +197,10 @@ module _ (c : CountingCode) (e : Election) (a : Arena) (most seats : ℕ) (on : 
       (waits : HasWaiting a t state) (counts : Counts a seats Held t state) (between : state.registers reg.IN_BATCH ≡ 0) where
     -- what holds once a batch has begun or there is none any more, and what holds from then on
     abbrev Begun : State → Type 0
-    Begun after = HasWaiting a t after × Counts a seats Held t after × HasBegun a (IsWhole a seats) (IsLast a seats) t after
+    Begun after = HasWaiting a t after × Counts a seats Held t after × HasBegun a reg.TURNS (state.registers reg.TURNS) (IsWhole a seats) (IsLast a seats) t after
 
     abbrev AtRest : State → Type 0
-    AtRest after = HasWaiting a t after × Counts a seats Held t after × (after.registers reg.IN_BATCH ≡ 0)
+    AtRest after = HasWaiting a t after × Counts a seats Held t after × (after.registers reg.IN_BATCH ≡ 0) × (after.registers reg.TURNS ≤ state.registers reg.TURNS)
 
     tied : List ℕ
     tied = ((batches a.ladders arena.falling).peers t).0
@@ -221,14 +221,14 @@ module _ (c : CountingCode) (e : Election) (a : Arena) (most seats : ℕ) (on : 
         (λ n is scarce. (
           waits,
           counts_peers t (suc n) state counts,
-          NoBatch between (record { scarce = λ also h. omega (arith, is, scarce, counts.left, as_many a.ladders t tied also listed h) }),
+          NoBatch between (le_refl (state.registers reg.TURNS)) (record { scarce = λ also h. omega (arith, is, scarce, counts.left, as_many a.ladders t tied also listed h) }),
         ))
         (λ n is enough.
         let begun : State = with_register reg.IN_BATCH (suc n) (with_register reg.PEERS (suc n) state) in
         let now : Counts a seats Held t begun = counts_blind reg.IN_BATCH refl refl refl t (suc n) (with_register reg.PEERS (suc n) state) (counts_peers t (suc n) state counts) in (
           waits,
           counts_stepping t begun now,
-          OneBegan tied listed some (sym is) (record {
+          OneBegan tied listed some (sym is) refl (record {
             counted = counted_step t begun settled less countable now;
             enough = λ also h. omega (arith, is, enough, counts.left, as_many a.ladders t tied also listed h);
           }),
@@ -237,24 +237,23 @@ module _ (c : CountingCode) (e : Election) (a : Arena) (most seats : ℕ) (on : 
     rest_batch : IsLast a seats t → Achieves c e whole_batch state AtRest Never
     rest_batch last =
         whole_batch_ways t tied state AtRest arena few_now listed waits
-        (λ none. (waits, counts, between))
-        (λ n is scarce. (waits, counts_peers t (suc n) state counts, between))
+        (λ none. (waits, counts, between, le_refl (state.registers reg.TURNS)))
+        (λ n is scarce. (waits, counts_peers t (suc n) state counts, between, le_refl (state.registers reg.TURNS)))
         (λ n is enough. absurd (let more : seats < sum t + length tied = last.scarce tied listed in omega (arith, is, enough, counts.left, more)))
 
   pub begins_whole : IsArena most a → HasRoom a.ladders seats → seats ≤ most → seats ≤ machine.most
-      → BeginsBatches c e a seats (IsWhole a seats) (IsLast a seats) (Counts a seats Held) whole_batch
+      → BeginsBatches c e a seats reg.TURNS (IsWhole a seats) (IsLast a seats) (Counts a seats Held) whole_batch
   begins_whole arena room few countable = record {
     begins = λ t state settled waits counts between less. begin_batch arena room few countable t state settled waits counts between less;
     rests = λ t state settled waits counts between last. rest_batch arena room few countable t state settled waits counts between last;
   }
 
-  pub fits_whole : FitsLoop (Counts a seats Held) reg.TURNS whole_batch (counted_seat on)
+  pub fits_whole : FitsLoop (Counts a seats Held) reg.TURNS (counted_seat on)
   fits_whole = record {
     apart = refl;
     own = counts_blind reg.TURNS refl refl refl;
     blind = each_of (IsBlind (Counts a seats Held)) (ones ∷ reg.PEERS ∷ reg.IN_BATCH ∷ [])
         (counts_blind ones refl refl refl, (counts_blind reg.PEERS refl refl refl, (counts_blind reg.IN_BATCH refl refl refl, tt)));
-    begin_keeps = refl;
     on_keeps = keeps reg.TURNS refl;
     keeps = rw (keeps reg.IN_BATCH refl, keeps reg.STEP refl) refl;
   }

@@ -14,7 +14,7 @@ use Rattle.sl_pieces.specs.nodes.Nodes.{EndsWith}
 use Rattle.sl_pieces.specs.exprs.Slots.{passing, FIRST_STAGE_SLOT}
 use Rattle.sl_pieces.proofs.columns.Cells.{still_holds}
 use Rattle.sl_pieces.proofs.exprs.Following.{AllAchieve, all_more, all_then, all_one}
-use Rattle.sl_pieces.proofs.exprs.Places.{first_of, first_same, first_next, level_below, outside, wider}
+use Rattle.sl_pieces.proofs.exprs.Places.{first_of, first_same, first_next, outside, wider}
 use Rattle.sl_pieces.proofs.nodes.Added.{adds_none, adds_more}
 use Rattle.sl_pieces.specs.exprs.Meaning.{ComesTo}
 
@@ -88,29 +88,29 @@ plain_all {e = e} {IsResult = IsResult} {shape = shape} {slot = slot} {first = f
 
 -- ---- two arguments, and three
 
-module _ {c : CountingCode} {e : Election} (level : ℕ) (First Second : ExprResult → Type 0) {one two made : Shape} where
+module _ {c : CountingCode} {e : Election} (level : ℕ) (First Second : ExprResult → Type 0) {one two made : Shape} {first_slot second_slot : ℕ} (below : first_slot < first_of (level + 1)) where
   pub two_arguments : (Next : List ℕ → List ℕ → ExprResult → Type 0) {ts us vs : List Tree} {s : State}
-      → AllAchieve c e ts s (ComesTo e First one (passing level one) (first_of level) s) (EndsWith First)
-      → ((t : State) → ComesTo e First one (passing level one) (first_of level) s t
-      → AllAchieve c e us t (ComesTo e Second two (passing (level + 1) two) (first_of (level + 1)) t) (EndsWith Second))
-      → ((u : State) (xs ys : List ℕ) → HasArgument e First one (passing level one) u xs → HasArgument e Second two (passing (level + 1) two) u ys
+      → AllAchieve c e ts s (ComesTo e First one first_slot (first_of level) s) (EndsWith First)
+      → ((t : State) → ComesTo e First one first_slot (first_of level) s t
+      → AllAchieve c e us t (ComesTo e Second two second_slot (first_of (level + 1)) t) (EndsWith Second))
+      → ((u : State) (xs ys : List ℕ) → HasArgument e First one first_slot u xs → HasArgument e Second two second_slot u ys
       → AllAchieve c e vs u (ComesTo e (Next xs ys) made (passing level made) (first_of level) u) (EndsWith (Next xs ys)))
       → AllAchieve c e (ts ++ (us ++ vs)) s (ComesTo e (Then First (λ xs. Then Second (Next xs))) made (passing level made) (first_of level) s)
       (EndsWith (Then First (λ xs. Then Second (Next xs))))
   two_arguments Next {s = s} first second last =
       then_all e First (λ xs. Then Second (Next xs)) (first_same level) (first_same level) first
       (λ t h. then_all e Second (Next h.values) (first_next level 1) (first_same level) (second t h)
-      (λ u k. last u h.values k.values (argument_kept (level_below level (level + 1) one (omega arith)) (argument h) k) (argument k)))
+      (λ u k. last u h.values k.values (argument_kept below (argument h) k) (argument k)))
 
-  module _ (Third : ExprResult → Type 0) {three : Shape} where
+  module _ (Third : ExprResult → Type 0) {three : Shape} {third_slot : ℕ} (second_below : second_slot < first_of (level + 2)) where
     pub three_arguments : (Next : List ℕ → List ℕ → List ℕ → ExprResult → Type 0) {ts us vs ws : List Tree} {s : State}
-        → AllAchieve c e ts s (ComesTo e First one (passing level one) (first_of level) s) (EndsWith First)
-        → ((t : State) → ComesTo e First one (passing level one) (first_of level) s t
-        → AllAchieve c e us t (ComesTo e Second two (passing (level + 1) two) (first_of (level + 1)) t) (EndsWith Second))
-        → ((t u : State) → ComesTo e First one (passing level one) (first_of level) s t → ComesTo e Second two (passing (level + 1) two) (first_of (level + 1)) t u
-        → AllAchieve c e vs u (ComesTo e Third three (passing (level + 2) three) (first_of (level + 2)) u) (EndsWith Third))
-        → ((v : State) (xs ys zs : List ℕ) → HasArgument e First one (passing level one) v xs → HasArgument e Second two (passing (level + 1) two) v ys
-        → HasArgument e Third three (passing (level + 2) three) v zs
+        → AllAchieve c e ts s (ComesTo e First one first_slot (first_of level) s) (EndsWith First)
+        → ((t : State) → ComesTo e First one first_slot (first_of level) s t
+        → AllAchieve c e us t (ComesTo e Second two second_slot (first_of (level + 1)) t) (EndsWith Second))
+        → ((t u : State) → ComesTo e First one first_slot (first_of level) s t → ComesTo e Second two second_slot (first_of (level + 1)) t u
+        → AllAchieve c e vs u (ComesTo e Third three third_slot (first_of (level + 2)) u) (EndsWith Third))
+        → ((v : State) (xs ys zs : List ℕ) → HasArgument e First one first_slot v xs → HasArgument e Second two second_slot v ys
+        → HasArgument e Third three third_slot v zs
         → AllAchieve c e ws v (ComesTo e (Next xs ys zs) made (passing level made) (first_of level) v) (EndsWith (Next xs ys zs)))
         → AllAchieve c e (ts ++ (us ++ (vs ++ ws))) s
         (ComesTo e (Then First (λ xs. Then Second (λ ys. Then Third (Next xs ys)))) made (passing level made) (first_of level) s)
@@ -120,5 +120,5 @@ module _ {c : CountingCode} {e : Election} (level : ℕ) (First Second : ExprRes
         (λ t h. then_all e Second (λ ys. Then Third (Next h.values ys)) (first_next level 1) (first_same level) (second t h)
         (λ u k. then_all e Third (Next h.values k.values) (first_next level 2) (first_same level) (third t u h k)
         (λ v l. last v h.values k.values l.values
-        (argument_kept (level_below level (level + 2) one (omega arith)) (argument_kept (level_below level (level + 1) one (omega arith)) (argument h) k) l)
-        (argument_kept (level_below (level + 1) (level + 2) two (omega arith)) (argument k) l) (argument l))))
+        (argument_kept (omega (arith, below)) (argument_kept below (argument h) k) l)
+        (argument_kept second_below (argument k) l) (argument l))))

@@ -1,5 +1,5 @@
--- Leaves: the facts and the columns of the stages before are copied.
-use Rattle.std.proofs.Common.{one-add, ◌≡◌, ◌⊎◌, ℕ, suc, ◌+◌, ◌<◌, ◌≤◌, ◌||◌, Bool, true, cond, not, List, [], ◌∷◌, length, Option, None, Some, slice_get, sym, ap, subst, ◌∙◌, inl, inr, arith}
+-- Leaves: a fact stands in its slot, and the columns of the stages before are copied.
+use Rattle.std.proofs.Common.{one-add, ◌≡◌, ◌⊎◌, ℕ, suc, ◌+◌, ◌<◌, ◌≤◌, ◌||◌, Bool, true, cond, not, List, [], ◌∷◌, length, Option, None, Some, slice_get, refl, sym, ap, subst, ◌∙◌, inl, inr, arith}
 use Rattle.std.specs.Prelude.{find, position, unwrap_or, option_map}
 use Rattle.std.specs.List.{AllZip, list_any, position_or_len, prefix_len}
 use Rattle.std.specs.Str.{bytes_eq}
@@ -10,6 +10,7 @@ use Rattle.sl_stages.specs.book.Trees.{BookTree}
 use Rattle.sl_stages.specs.book.Typing.{Column, is_named, type_or_one}
 use Rattle.sl_stages.specs.returns.Election.{Election}
 use Rattle.sl_stages.specs.meaning.Columns.{NamedColumn, is_column_of}
+use Rattle.sl_stages.specs.meaning.Records.{no_records}
 use Rattle.sl_stages.specs.meaning.Results.{ExprResult, plain}
 use Rattle.sl_stages.specs.laws.ColumnLaws.{IsTypedAs}
 use Rattle.sl_instructions.specs.Codes.{CountingCode}
@@ -24,6 +25,7 @@ use Rattle.sl_pieces.proofs.exprs.Following.{AllAchieve}
 use Rattle.sl_pieces.proofs.exprs.Places.{first_of, fact_low, stages_above, outside}
 use Rattle.sl_pieces.proofs.exprs.Arguments.{plain_all}
 use Rattle.sl_pieces.proofs.columns.Cells.{still_holds}
+use Rattle.sl_pieces.proofs.nodes.Added.{adds_none}
 
 -- ---- what is known stays known
 
@@ -46,7 +48,13 @@ module _ {b : BookTree} {e : Election} {types : List Column} {columns : List Nam
       below level k (inl low) = inl (omega (arith, low))
       below level k (inr high) = inr high
 
--- ---- copies
+-- ---- facts, and copies
+
+pub fact_all : {c : CountingCode} {e : Election} {IsResult : ExprResult → Type 0} (s : Shape) (slot first : ℕ) (values : List ℕ) (state : State)
+    → HoldsColumn e s (state.columns slot) values → IsResult (plain values) → AllAchieve c e [] state (ComesTo e IsResult s slot first state) (EndsWith IsResult)
+fact_all s slot first values state holds result = record {
+  all = record { values = values; records = no_records; result = result; column = holds; columns = λ k q apart. refl; adds = adds_none state state refl refl (λ winner. refl) };
+}
 
 module _ {c : CountingCode} {e : Election} {IsResult : ExprResult → Type 0} (level : ℕ) (low : level ≤ MAX_DEPTH) where
   pub leaf_all : (s : Shape) (from : ℕ) (values : List ℕ) (state : State) → slice_get c.slots from ≡ Some s → slice_get c.slots (passing level s) ≡ Some s

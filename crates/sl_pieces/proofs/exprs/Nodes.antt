@@ -1,5 +1,5 @@
 -- Splits and growths, whose arguments are in passing columns.
-use Rattle.std.proofs.Common.{◌≡◌, ℕ, get_or, ◌+◌, ◌<◌, ◌≤◌, Bool, true, false, ◌==◌, if◌then◌else◌, List, [], ◌∷◌, All, length, Option, None, Some, slice_get, sym, ap, ◌∙◌, arith}
+use Rattle.std.proofs.Common.{◌≡◌, ℕ, get_or, ◌+◌, ◌<◌, ◌≤◌, Bool, true, false, ◌==◌, if◌then◌else◌, List, [], ◌∷◌, All, length, Option, None, Some, slice_get, ap, subst, ◌∙◌, arith}
 use Rattle.std.specs.Prelude.{option_map}
 use Rattle.std.proofs.lemmas.Bool.{false≢true, ne_eqb}
 use Rattle.std.proofs.lemmas.Option.{same_Some}
@@ -32,10 +32,11 @@ use Rattle.sl_pieces.specs.nodes.Nodes.{HasResult, EndsWith}
 use Rattle.sl_pieces.specs.nodes.Trees.{split_tree, grow_tree}
 use Rattle.sl_pieces.proofs.nodes.Arguments.{cells_within}
 use Rattle.sl_pieces.proofs.nodes.Nodes.{splits_achieve, growths_achieve}
-use Rattle.sl_pieces.specs.exprs.Slots.{passing, FIRST_STAGE_SLOT}
+use Rattle.sl_pieces.specs.exprs.Slots.{passing, StandsOn, FIRST_STAGE_SLOT}
+use Rattle.sl_pieces.specs.declared.arguments.Arguments.{Arguments}
 use Rattle.sl_pieces.specs.exprs.Pieces.{form_by, node_slots}
 use Rattle.sl_pieces.proofs.exprs.Following.{AllAchieve, all_one}
-use Rattle.sl_pieces.proofs.exprs.Places.{first_of, stages_above, other_level, outside, amounts_apart}
+use Rattle.sl_pieces.proofs.exprs.Places.{first_of, stages_above, outside, stands_apart, amounts_stand_apart}
 use Rattle.sl_pieces.specs.exprs.Meaning.{ComesTo}
 
 -- ---- the columns of arguments and of results
@@ -67,83 +68,92 @@ has_stage c stage name of few staged named =
           ∙ ap (option_map (λ (s : CodeStage). s.name)) staged ∙ ap Some named;
     }
 
--- minima, if there are any, are in the passing column of the votes' shape two levels on
-pub record HasMinimaAt (level : ℕ) (votes : Shape) (minima : Option ℕ) : Type 0 where
-  pub there : (slot : ℕ) → minima ≡ Some slot → (slot ≡ passing (level + 2) votes) × (level + 2 ≤ MAX_DEPTH)
+-- the slot of an argument is there, on that level
+pub record IsThere (c : CountingCode) (level : ℕ) (s : Shape) (slot : ℕ) : Type 0 where
+  pub there : slice_get c.slots slot ≡ Some s
+  pub on : StandsOn level s slot
 
-pub no_minima_at : (level : ℕ) (votes : Shape) → HasMinimaAt level votes None
-no_minima_at level votes = record { there = λ slot is. cc }
+-- those of seats and votes are, and of minima, if there are any, one level after the other
+pub record HasArguments (c : CountingCode) (level : ℕ) (s v : Shape) (from : Arguments) : Type 0 where
+  pub amounts : IsThere c level s from.amounts
+  pub votes : IsThere c (level + 1) v from.votes
+  pub minima : (slot : ℕ) → from.minima ≡ Some slot → IsThere c (level + 2) v slot
 
-pub some_minima_at : (level : ℕ) (votes : Shape) → level + 2 ≤ MAX_DEPTH → HasMinimaAt level votes (Some (passing (level + 2) votes))
-some_minima_at level votes low = record { there = λ slot is. (sym (same_Some (passing (level + 2) votes) slot is), low) }
+pub without_minima : (c : CountingCode) (level : ℕ) (s v : Shape) (amounts votes : ℕ) → IsThere c level s amounts → IsThere c (level + 1) v votes
+    → HasArguments c level s v (record { amounts = amounts; votes = votes; minima = None })
+without_minima c level s v amounts votes a b = record { amounts = a; votes = b; minima = λ slot is. cc }
+
+pub with_minima : (c : CountingCode) (level : ℕ) (s v : Shape) (amounts votes minima : ℕ) → IsThere c level s amounts → IsThere c (level + 1) v votes
+    → IsThere c (level + 2) v minima → HasArguments c level s v (record { amounts = amounts; votes = votes; minima = Some minima })
+with_minima c level s v amounts votes minima a b m =
+    record { amounts = a; votes = b; minima = λ slot is. subst (IsThere c (level + 2) v) (same_Some minima slot is) m }
 
 module _ (c : CountingCode) (types : List Column) (stage : ℕ) (name : List ℕ) (level : ℕ) (stands : HasStage c stage name)
-    (passing_are : (k : ℕ) (s : Shape) → k ≤ MAX_DEPTH → slice_get c.slots (passing k s) ≡ Some s) (low : level + 1 ≤ MAX_DEPTH) where
-  has_slots : (f : Form) (minima : Option ℕ) → HasMinimaAt level (votes_of f) minima → HasSlots c f (node_slots types stage level (amounts_of f) (votes_of f) minima) name
-  has_slots f minima has = record {
-    amounts = passing_are level (amounts_of f) (omega (arith, low));
-    votes = passing_are (level + 1) (votes_of f) low;
-    minima = λ slot is. let at = has.there slot is in ap (slice_get c.slots) at.0 ∙ passing_are (level + 2) (votes_of f) at.1;
+    (passing_are : (k : ℕ) (s : Shape) → k ≤ MAX_DEPTH → slice_get c.slots (passing k s) ≡ Some s) (low : level + 1 ≤ MAX_DEPTH) (from : Arguments) where
+  has_slots : (f : Form) → HasArguments c level (amounts_of f) (votes_of f) from → HasSlots c f (node_slots types stage level from (votes_of f)) name
+  has_slots f has = record {
+    amounts = has.amounts.there;
+    votes = has.votes.there;
+    minima = λ slot is. (has.minima slot is).there;
     result = passing_are level (votes_of f) (omega (arith, low));
-    not_amounts = amounts_apart f level;
-    not_votes = other_level level (level + 1) (votes_of f) (votes_of f) (omega arith);
-    not_minima = λ slot is same. other_level level (level + 2) (votes_of f) (votes_of f) (omega arith) (sym (has.there slot is).0 ∙ same);
+    not_amounts = amounts_stand_apart f level from.amounts has.amounts.on;
+    not_votes = stands_apart level (level + 1) (votes_of f) (votes_of f) from.votes (omega arith) has.votes.on;
+    not_minima = λ slot is. stands_apart level (level + 2) (votes_of f) (votes_of f) slot (omega arith) (has.minima slot is).on;
     stage = stands.stage_is;
     named = stands.named;
   }
 
   module _ (e : Election) (is : IsElection e) (amounts votes : List ℕ) (u : State) (weights : All (λ weight. weight ≤ MAX_WEIGHT) votes) where
     -- the columns of the amounts, of the votes, and of the minima if there are any
-    abbrev pub Holds : (s v : Shape) (slot : Option ℕ) (minima : Option (List ℕ)) → Type 0
-    Holds s v slot minima =
-        HoldsColumn e s (u.columns (passing level s)) amounts × HoldsColumn e v (u.columns (passing (level + 1) v)) votes × node.HoldsMinima e v slot u minima
+    abbrev pub Holds : (s v : Shape) (minima : Option (List ℕ)) → Type 0
+    Holds s v minima = HoldsColumn e s (u.columns from.amounts) amounts × HoldsColumn e v (u.columns from.votes) votes × node.HoldsMinima e v from.minima u minima
 
-    holds_arguments : (f : Form) (slot : Option ℕ) (minima : Option (List ℕ)) → Holds (amounts_of f) (votes_of f) slot minima
-        → node.HoldsArguments e f (node_slots types stage level (amounts_of f) (votes_of f) slot) amounts votes minima u
-    holds_arguments f slot minima h = record {
+    holds_arguments : (f : Form) (minima : Option (List ℕ)) → Holds (amounts_of f) (votes_of f) minima
+        → node.HoldsArguments e f (node_slots types stage level from (votes_of f)) amounts votes minima u
+    holds_arguments f minima h = record {
       amounts_are = h.0;
       votes_are = h.1;
       minima_are = h.2;
       weights = λ k g within. cells_within MAX_WEIGHT e (get_or (groups_of e f) k g).entries votes weights;
     }
 
-    node_all : (f : Form) (slot : Option ℕ) (tree : Tree) (IsResult : ExprResult → Type 0)
-        → Achieves c e tree u (HasResult e f (node_slots types stage level (amounts_of f) (votes_of f) slot) IsResult u) (EndsWith IsResult)
+    node_all : (f : Form) (tree : Tree) (IsResult : ExprResult → Type 0)
+        → Achieves c e tree u (HasResult e f (node_slots types stage level from (votes_of f)) IsResult u) (EndsWith IsResult)
         → AllAchieve c e (tree ∷ []) u (ComesTo e IsResult (votes_of f) (passing level (votes_of f)) (first_of level) u) (EndsWith IsResult)
-    node_all f slot tree IsResult h =
+    node_all f tree IsResult h =
         all_one (achieves_so h
-        (λ t k. comes_node e f (node_slots types stage level (amounts_of f) (votes_of f) slot) IsResult (first_of level) u t (omega arith)
+        (λ t k. comes_node e f (node_slots types stage level from (votes_of f)) IsResult (first_of level) u t (omega arith)
         (stages_above level (votes_of f) (omega (arith, low))) k))
 
     abbrev at_votes : Shape → Stand
     at_votes v = record { stage = stage; name = name; shape = v }
 
     -- what is shown of a split, and of a growth, in the form of these shapes
-    abbrev Splits : (slot : Option ℕ) (minima : Option (List ℕ)) (method : Method) (majority : Majority) → Form → (s v : Shape) → Type 0
-    Splits slot minima method majority f s v =
-        HasMinimaAt level v slot → Holds s v slot minima
-        → AllAchieve c e (split_tree f (node_slots types stage level s v slot) method majority ∷ []) u
+    abbrev Splits : (minima : Option (List ℕ)) (method : Method) (majority : Majority) → Form → (s v : Shape) → Type 0
+    Splits minima method majority f s v =
+        HasArguments c level s v from → Holds s v minima
+        → AllAchieve c e (split_tree f (node_slots types stage level from v) method majority ∷ []) u
         (ComesTo e (IsSplit e (at_votes v) amounts votes s method majority minima) v (passing level v) (first_of level) u)
         (EndsWith (IsSplit e (at_votes v) amounts votes s method majority minima))
 
-    abbrev Grows : (slot : Option ℕ) (minima : List ℕ) (d : Divisor) (majority : Majority) (cap : ℕ) → Form → (s v : Shape) → Type 0
-    Grows slot minima d majority cap f s v =
-        s ≡ shape.One → HasMinimaAt level v slot → Holds s v slot (Some minima)
-        → AllAchieve c e (grow_tree f (node_slots types stage level s v slot) d majority cap ∷ []) u
+    abbrev Grows : (minima : List ℕ) (d : Divisor) (majority : Majority) (cap : ℕ) → Form → (s v : Shape) → Type 0
+    Grows minima d majority cap f s v =
+        s ≡ shape.One → HasArguments c level s v from → Holds s v (Some minima)
+        → AllAchieve c e (grow_tree f (node_slots types stage level from v) d majority cap ∷ []) u
         (ComesTo e (IsGrown e (at_votes v) amounts votes (by.Divisor d) majority minima cap) v (passing level v) (first_of level) u)
         (EndsWith (IsGrown e (at_votes v) amounts votes (by.Divisor d) majority minima cap))
 
-    split_formed : (slot : Option ℕ) (minima : Option (List ℕ)) (method : Method) (majority : Majority) → FitsMethod method minima → (f : Form)
-        → Splits slot minima method majority f (amounts_of f) (votes_of f)
-    split_formed slot minima method majority fits f has holds =
-        node_all f slot _ _ (splits_achieve c e f (node_slots types stage level (amounts_of f) (votes_of f) slot) name amounts votes minima method majority u is
-        (has_slots f slot has) fits (holds_arguments f slot minima holds))
+    split_formed : (minima : Option (List ℕ)) (method : Method) (majority : Majority) → FitsMethod method minima → (f : Form)
+        → Splits minima method majority f (amounts_of f) (votes_of f)
+    split_formed minima method majority fits f has holds =
+        node_all f _ _ (splits_achieve c e f (node_slots types stage level from (votes_of f)) name amounts votes minima method majority u is
+        (has_slots f has) fits (holds_arguments f minima holds))
 
-    grow_formed : (slot : Option ℕ) (minima : List ℕ) (d : Divisor) (majority : Majority) (cap : ℕ) → cap ≤ MAX_SEATS → (f : Form)
-        → Grows slot minima d majority cap f (amounts_of f) (votes_of f)
-    grow_formed slot minima d majority cap small f one has holds =
-        node_all f slot _ _ (growths_achieve c e f (node_slots types stage level (amounts_of f) (votes_of f) slot) name amounts votes minima d majority cap u is
-        (has_slots f slot has) one small (holds_arguments f slot (Some minima) holds))
+    grow_formed : (minima : List ℕ) (d : Divisor) (majority : Majority) (cap : ℕ) → cap ≤ MAX_SEATS → (f : Form)
+        → Grows minima d majority cap f (amounts_of f) (votes_of f)
+    grow_formed minima d majority cap small f one has holds =
+        node_all f _ _ (growths_achieve c e f (node_slots types stage level from (votes_of f)) name amounts votes minima d majority cap u is
+        (has_slots f has) one small (holds_arguments f (Some minima) holds))
 
     by_form : (P : Form → Shape → Shape → Type 0) → ((f : Form) → P f (amounts_of f) (votes_of f)) → (s v : Shape) → can_split s v ≡ true → P (form_by s v) s v
     by_form P each shape.One shape.Party can = each AllParties
@@ -153,16 +163,16 @@ module _ (c : CountingCode) (types : List Column) (stage : ℕ) (name : List ℕ
     by_form P each shape.Land shape.List can = each ListsInLand
     by_form P each _ _ can = absurd (false≢true can)
 
-    pub split_all : (slot : Option ℕ) (minima : Option (List ℕ)) (method : Method) (majority : Majority) → FitsMethod method minima → (s v : Shape) → can_split s v ≡ true
-        → HasMinimaAt level v slot → Holds s v slot minima
-        → AllAchieve c e (split_tree (form_by s v) (node_slots types stage level s v slot) method majority ∷ []) u
+    pub split_all : (minima : Option (List ℕ)) (method : Method) (majority : Majority) → FitsMethod method minima → (s v : Shape) → can_split s v ≡ true
+        → HasArguments c level s v from → Holds s v minima
+        → AllAchieve c e (split_tree (form_by s v) (node_slots types stage level from v) method majority ∷ []) u
         (ComesTo e (IsSplit e (record { stage = stage; name = name; shape = v }) amounts votes s method majority minima) v (passing level v) (first_of level) u)
         (EndsWith (IsSplit e (record { stage = stage; name = name; shape = v }) amounts votes s method majority minima))
-    split_all slot minima method majority fits s v can = by_form (Splits slot minima method majority) (split_formed slot minima method majority fits) s v can
+    split_all minima method majority fits s v can = by_form (Splits minima method majority) (split_formed minima method majority fits) s v can
 
-    pub grow_all : (slot : Option ℕ) (minima : List ℕ) (d : Divisor) (majority : Majority) (cap : ℕ) → cap ≤ MAX_SEATS → (s v : Shape) → can_split s v ≡ true
-        → s ≡ shape.One → HasMinimaAt level v slot → Holds s v slot (Some minima)
-        → AllAchieve c e (grow_tree (form_by s v) (node_slots types stage level s v slot) d majority cap ∷ []) u
+    pub grow_all : (minima : List ℕ) (d : Divisor) (majority : Majority) (cap : ℕ) → cap ≤ MAX_SEATS → (s v : Shape) → can_split s v ≡ true
+        → s ≡ shape.One → HasArguments c level s v from → Holds s v (Some minima)
+        → AllAchieve c e (grow_tree (form_by s v) (node_slots types stage level from v) d majority cap ∷ []) u
         (ComesTo e (IsGrown e (record { stage = stage; name = name; shape = v }) amounts votes (by.Divisor d) majority minima cap) v (passing level v) (first_of level) u)
         (EndsWith (IsGrown e (record { stage = stage; name = name; shape = v }) amounts votes (by.Divisor d) majority minima cap))
-    grow_all slot minima d majority cap small s v can = by_form (Grows slot minima d majority cap) (grow_formed slot minima d majority cap small) s v can
+    grow_all minima d majority cap small s v can = by_form (Grows minima d majority cap) (grow_formed minima d majority cap small) s v can

@@ -30,12 +30,12 @@ use Rattle.sl_pieces.specs.columns.Trees.{copy_tree}
 use Rattle.sl_pieces.proofs.columns.Writing.{columns_are_copied}
 use Rattle.sl_pieces.specs.nodes.Nodes.{EndsWith}
 use Rattle.sl_pieces.proofs.nodes.JoiningLists.{pushed_there}
-use Rattle.sl_pieces.specs.exprs.Slots.{fact_slots, passing, stage_slot, HasBookSlots, LEVELS, FIRST_PASSING_SLOT, FIRST_STAGE_SLOT}
-use Rattle.sl_pieces.specs.exprs.Pieces.{pieces}
-use Rattle.sl_pieces.proofs.exprs.Places.{fact_low, number_few}
+use Rattle.sl_pieces.specs.exprs.Slots.{fact_slots, stage_slot, HasBookSlots, LEVELS, FIRST_PASSING_SLOT, FIRST_STAGE_SLOT}
+use Rattle.sl_pieces.specs.exprs.Pieces.{pieces, slot_of}
+use Rattle.sl_pieces.proofs.exprs.Places.{fact_low}
 use Rattle.sl_pieces.specs.exprs.Meaning.{HoldsKnown, StandsIn, HasExpr, ExprsAchieve}
 use Rattle.sl_pieces.specs.exprs.Stages.{stage_pieces, stages_pieces, HasStages, IsBehind, HasColumns, EndsStopped, StagesAchieve}
-use Rattle.sl_pieces.proofs.exprs.Expressions.{exprs_achieve}
+use Rattle.sl_pieces.proofs.exprs.Expressions.{slot_is, slot_below, exprs_achieve}
 use Rattle.sl_pieces.proofs.exprs.StageRules.{all_more, all_then, last_there, extended, slots_before, rest_staged}
 use Rattle.sl_pieces.proofs.nodes.Added.{adds_more}
 
@@ -156,17 +156,24 @@ module _ (code : CountingCode) (b : BookTree) (e : Election) (typed : is_typed b
           (extended (k.types ++ stage_column k.types s ∷ []) ss (length k.columns) (stage_column k.types s)
           (last_there k.types (stage_column k.types s) (length k.columns) (AllZip-long (IsTypedAs e) k.types k.columns behind.typed)))
 
-      apart_from : (of : Shape) (n : ℕ) → passing 0 of ≢ stage_slot n
-      apart_from of n = λ same. let few = number_few of in omega (arith, few, same)
+      -- its expression's column is in a slot that is there, and no stage's
+      abbrev from : ℕ
+      from = slot_of k.types 0 s.expr
+
+      from_there : 0 + depth_of s.expr + splits_in s.expr ≤ LEVELS → slice_get code.slots from ≡ Some (type_of k.types s.expr).shape
+      from_there deep = (slot_is code (context_of k s) stands_in.slots s.expr 0 deep).there
+
+      apart_from : (n : ℕ) → from ≢ stage_slot n
+      apart_from n same = let below = slot_below code (context_of k s) stands_in.slots s.expr 0 1 (omega arith) in omega (arith, below, same)
 
       -- the column of its expression is copied into its slot
-      copied : (t : State) → HasExpr b e (context_of k s) s.expr 0 start t →
-          AchievesAll code e (copy_tree (type_of k.types s.expr).shape (passing 0 (type_of k.types s.expr).shape) (stage_slot (length k.columns)) ∷ []) t (HasStage b e k s before)
+      copied : 0 + depth_of s.expr + splits_in s.expr ≤ LEVELS → (t : State) → HasExpr b e (context_of k s) s.expr 0 start t →
+          AchievesAll code e (copy_tree (type_of k.types s.expr).shape from (stage_slot (length k.columns)) ∷ []) t (HasStage b e k s before)
           (EndsWith (ExprMeans b e (context_of k s) s.expr))
-      copied t h =
+      copied deep t h =
           achieves_more {R = HasStage b e k s before}
-          (columns_are_copied code e (type_of k.types s.expr).shape (passing 0 (type_of k.types s.expr).shape) (stage_slot (length k.columns)) h.values t
-          (slots.passing_are 0 (type_of k.types s.expr).shape (omega arith)) slot_there (apart_from (type_of k.types s.expr).shape (length k.columns)) h.column)
+          (columns_are_copied code e (type_of k.types s.expr).shape from (stage_slot (length k.columns)) h.values t
+          (from_there deep) slot_there (apart_from (length k.columns)) h.column)
           (λ u g. record { values = h.values; records = h.records; means = h.result; behind = stage_behind b e k s before start t u behind h g typed is pass })
           (λ x no. absurd no)
 
@@ -174,11 +181,11 @@ module _ (code : CountingCode) (b : BookTree) (e : Election) (typed : is_typed b
       stage_achieves : ExprsAchieve → 0 + depth_of s.expr + splits_in s.expr ≤ LEVELS →
           AchievesAll code e (stage_pieces k.types (length k.columns) s) start (HasStage b e k s before) (EndsWith (ExprMeans b e (context_of k s) s.expr))
       stage_achieves exprs deep =
-          let copy = copy_tree (type_of k.types s.expr).shape (passing 0 (type_of k.types s.expr).shape) (stage_slot (length k.columns)) in
+          let copy = copy_tree (type_of k.types s.expr).shape from (stage_slot (length k.columns)) in
           let Q : State → Type 0 = HasStage b e k s before in
           let E : End → Type 0 = EndsWith (ExprMeans b e (context_of k s) s.expr) in
           all_then code e Q E (copy ∷ []) (pieces k.types (length k.columns) 0 s.expr) start
-          (all_more code e (HasExpr b e (context_of k s) s.expr 0 start) (λ t. AchievesAll code e (copy ∷ []) t Q E) E E copied (λ x h. h)
+          (all_more code e (HasExpr b e (context_of k s) s.expr 0 start) (λ t. AchievesAll code e (copy ∷ []) t Q E) E E (copied deep) (λ x h. h)
           (pieces k.types (length k.columns) 0 s.expr) start
           (exprs code b e (context_of k s) s.expr 0 start typed is behind.typed pass deep stands_in behind.known))
 

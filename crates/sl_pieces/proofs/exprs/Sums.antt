@@ -26,9 +26,9 @@ use Rattle.sl_pieces.specs.columns.Trees.{sum_tree, pair_tree, summed}
 use Rattle.sl_pieces.proofs.columns.Writing.{pairs_are_taken}
 use Rattle.sl_pieces.proofs.columns.Sums.{sums_are_taken}
 use Rattle.sl_pieces.specs.nodes.Nodes.{EndsWith}
-use Rattle.sl_pieces.specs.exprs.Slots.{passing}
+use Rattle.sl_pieces.specs.exprs.Slots.{passing, StandsOn}
 use Rattle.sl_pieces.proofs.exprs.Following.{AllAchieve}
-use Rattle.sl_pieces.proofs.exprs.Places.{first_of, stages_above, other_level}
+use Rattle.sl_pieces.proofs.exprs.Places.{first_of, stages_above, stands_apart}
 use Rattle.sl_pieces.proofs.exprs.Arguments.{plain_all}
 use Rattle.sl_pieces.specs.exprs.Meaning.{ComesTo}
 
@@ -59,21 +59,22 @@ summed_is : (over : Axis) → summed over ≡ shape_over over
 summed_is axis.Party = refl
 summed_is _ = refl
 
-module _ {c : CountingCode} {e : Election} (level : ℕ) (there : (s : Shape) → slice_get c.slots (passing level s) ≡ Some s) (low : level ≤ MAX_DEPTH) (s : Shape) where
-  pub sum_all : (over : Axis) (xs : List ℕ) (state : State) → can_sum s over ≡ true → HoldsColumn e s (state.columns (passing level s)) xs
+module _ {c : CountingCode} {e : Election} (level : ℕ) (there : (s : Shape) → slice_get c.slots (passing level s) ≡ Some s) (low : level ≤ MAX_DEPTH) (s : Shape)
+    (from : ℕ) (from_there : slice_get c.slots from ≡ Some s) where
+  pub sum_all : (over : Axis) (xs : List ℕ) (state : State) → can_sum s over ≡ true → HoldsColumn e s (state.columns from) xs
       → All (λ n. n ≤ most) (sum_over e over xs)
-      → AllAchieve c e (sum_tree over s (passing level s) (passing level (summed over)) ∷ []) state
+      → AllAchieve c e (sum_tree over s from (passing level (summed over)) ∷ []) state
       (ComesTo e (λ r. r ≡ plain (sum_over e over xs)) (shape_over over) (passing level (shape_over over)) (first_of level) state) (EndsWith (λ r. r ≡ plain (sum_over e over xs)))
   sum_all over xs state can holds small =
       let Is : ExprResult → Type 0 = λ r. r ≡ plain (sum_over e over xs) in
-      subst (λ made. AllAchieve c e (sum_tree over s (passing level s) (passing level (summed over)) ∷ []) state (ComesTo e Is made (passing level made) (first_of level) state) (EndsWith Is))
+      subst (λ made. AllAchieve c e (sum_tree over s from (passing level (summed over)) ∷ []) state (ComesTo e Is made (passing level made) (first_of level) state) (EndsWith Is))
       (summed_is over)
       (plain_all (omega arith) (stages_above level (summed over) low) refl
-      (sums_are_taken c e over s (passing level s) (passing level (summed over)) xs state (fits_axis s over can) (there s) (there (summed over)) holds small))
+      (sums_are_taken c e over s from (passing level (summed over)) xs state (fits_axis s over can) from_there (there (summed over)) holds small))
 
-  module _ (next : slice_get c.slots (passing (level + 1) s) ≡ Some s) (xs ys : List ℕ) (state : State) (left : HoldsColumn e s (state.columns (passing level s)) xs)
-      (right : HoldsColumn e s (state.columns (passing (level + 1) s)) ys) where
-    pub pair_all : (pairing : Pairing) → AllAchieve c e (pair_tree pairing s (passing level s) (passing (level + 1) s) (passing level s) ∷ []) state
+  module _ (other : ℕ) (other_there : slice_get c.slots other ≡ Some s) (on : StandsOn (level + 1) s other) (xs ys : List ℕ) (state : State)
+      (left : HoldsColumn e s (state.columns from) xs) (right : HoldsColumn e s (state.columns other) ys) where
+    pub pair_all : (pairing : Pairing) → AllAchieve c e (pair_tree pairing s from other (passing level s) ∷ []) state
         (ComesTo e (λ r. r ≡ plain (pair_of pairing xs ys)) s (passing level s) (first_of level) state) (EndsWith (λ r. r ≡ plain (pair_of pairing xs ys)))
     pair_all pairing = plain_all (omega arith) (stages_above level s low) refl
-        (pairs_are_taken c e pairing s (passing level s) (passing (level + 1) s) (passing level s) xs ys state (there s) next (there s) (other_level level (level + 1) s s (omega arith)) left right)
+        (pairs_are_taken c e pairing s from other (passing level s) xs ys state from_there other_there (there s) (stands_apart level (level + 1) s s other (omega arith) on) left right)

@@ -207,11 +207,11 @@ module _ {c : CountingCode} {e : Election} {f : Form} {x : Slots} {name : List �
   laws : LadderLaws (free_ladders d v)
   laws = ladders.batches (free_ladders d v) (arena_of can).arena.falling
 
-  begins_batches : BeginsBatches c e (search_arena e f g d v) cap (BatchBegun v m) (IsFound d v m) Held search_batch
+  begins_batches : BeginsBatches c e (search_arena e f g d v) cap reg.LEFT (BatchBegun v m) (IsFound d v m) Held search_batch
   begins_batches = record {
     begins = λ t state settled waits h none room.
         if_zero
-        (λ no. line_ends (waits, h, NoBatch none (record { none_missing = sym h.turns ∙ no; least = h.least settled (sym h.turns ∙ no) })))
+        (λ no. ends_in refl (waits, h, NoBatch none (omega arith) (record { none_missing = sym h.turns ∙ no; least = h.least settled (sym h.turns ∙ no) })))
         (λ w some.
         let long : length t ≡ length v = settled.on.same_length ∙ length_zeros (length v) in
         let short : IsShort v m t = is_short d v m (minimum_each can) t long (omega (arith, some, h.turns)) in
@@ -225,18 +225,17 @@ module _ {c : CountingCode} {e : Election} {f : Form} {x : Slots} {name : List �
         ends_in refl (
           waits,
           h,
-          OneBegan next.0 next.1 there (sym many ∙ wait.number) short,
+          OneBegan next.0 next.1 there (sym many ∙ wait.number) refl short,
         )));
     rests = λ t state settled waits h none found.
-        if_zero (λ no. line_ends (waits, h, none)) (λ w some. absurd (omega (arith, some, h.turns, found.none_missing)));
+        if_zero (λ no. ends_in refl (waits, h, none, omega arith)) (λ w some. absurd (omega (arith, some, h.turns, found.none_missing)));
   }
 
-  fits_loop : FitsLoop Held reg.LEFT search_batch (search_seat (with_minima x slot) d)
+  fits_loop : FitsLoop Held reg.LEFT (search_seat (with_minima x slot) d)
   fits_loop = record {
     apart = refl;
     own = λ t value s h. h;
     blind = each_of (IsBlind Held) (ones ∷ reg.PEERS ∷ reg.IN_BATCH ∷ []) (λ t value s h. h, (λ t value s h. h, (λ t value s h. h, tt)));
-    begin_keeps = refl;
     on_keeps = refl;
     keeps = refl;
   }

@@ -22,7 +22,7 @@ one_seat on = If (test.Empty reg.PEERS) (Line []) (Then (Line (Take ∷ [])) (Th
 abbrev pub batch_turn : Tree → Tree → Tree
 batch_turn begin on = Then (If (test.Zero reg.IN_BATCH) begin (Line [])) (If (test.Zero reg.IN_BATCH) (Line []) (one_seat on))
 
--- as many turns as the register says
+-- turns as long as the register is not 0
 abbrev pub batches : ℕ → Bound → Tree → Tree → Tree
 batches r bound begin on = Then (Line (Set reg.IN_BATCH 0 ∷ [])) (Times r bound (batch_turn begin on))
 

@@ -22,7 +22,7 @@ use Rattle.sl_plans.specs.Laid.{AchievesAll}
 use Rattle.sl_pieces.specs.columns.Columns.{HoldsColumn}
 use Rattle.sl_pieces.specs.nodes.Nodes.{EndsWith}
 use Rattle.sl_pieces.specs.exprs.Slots.{fact_slots, passing, stage_slot, HasBookSlots, LEVELS, FIRST_STAGE_SLOT}
-use Rattle.sl_pieces.specs.exprs.Pieces.{pieces}
+use Rattle.sl_pieces.specs.exprs.Pieces.{pieces, slot_of}
 use Rattle.sl_pieces.specs.nodes.Scopes.{AddsRecords}
 
 -- the columns of facts, and those of the stages before, are in their slots
@@ -48,10 +48,10 @@ pub record ComesTo (e : Election) (IsResult : results.ExprResult → Type 0) (of
   pub columns : (k q : ℕ) → (k < first) ⊎ (FIRST_STAGE_SLOT ≤ k) → after.columns k q ≡ before.columns k q
   pub adds : AddsRecords records before after
 
--- an expression comes to a column in the passing column of its level; it may change those of this level and of later ones
+-- an expression comes to a column in its slot; it may change the passing columns of this level and of later ones
 abbrev pub HasExpr : BookTree → Election → Context → ExprTree → ℕ → State → State → Type 0
 HasExpr b e c x level =
-    ComesTo e (ExprMeans b e c x) (type_of c.types x).shape (passing level (type_of c.types x).shape) (passing level shape.One)
+    ComesTo e (ExprMeans b e c x) (type_of c.types x).shape (slot_of c.types level x) (passing level shape.One)
 
 -- a typed expression of at most so many levels
 abbrev pub ExprsAchieve : Type 0

@@ -2,9 +2,10 @@
 use Rattle.std.specs.Prelude.{◌≡◌, ℕ, ◌+◌, ◌*◌, ◌≤◌, List, Some, slice_get}
 use Rattle.sl_stages.specs.declared.book.Shape.{Shape}
 use Rattle.sl_stages.specs.declared.book.Shape.TheVariants as shape
+use Rattle.sl_stages.specs.declared.fact.Fact.{Fact}
 use Rattle.sl_stages.specs.declared.fact.Fact.TheVariants as facts
 use Rattle.sl_stages.specs.declared.limits.TheConstants.{MAX_DEPTH}
-use Rattle.sl_stages.specs.book.Typing.{Column, fact_number, shape_number}
+use Rattle.sl_stages.specs.book.Typing.{Column, fact_number, fact_type, shape_number}
 use Rattle.sl_instructions.specs.Codes.{CountingCode}
 use Rattle.sl_pieces.specs.declared.slots.TheConstants.{ELIGIBLE, FIRST_FACT, VOTES, NUMBERS}
 pub use Rattle.sl_pieces.specs.declared.slots.TheConstants.{PAIR_NUMBERS as pair_numbers, NAMES_LEFT as names_left, VACANT_SEATS as vacant_seats, FIRST_PASSING_SLOT, LEVELS, FIRST_STAGE_SLOT}
@@ -21,6 +22,11 @@ winners_slot = fact_slots.of facts.Winners
 -- a column of each shape for each level of an expression
 abbrev pub passing : ℕ → Shape → ℕ
 passing level s = FIRST_PASSING_SLOT + 4 * level + shape_number s
+
+-- the slot in which an expression of that level leaves its column: that of a fact, or the passing one of the shape
+pub data StandsOn (level : ℕ) (s : Shape) (slot : ℕ) : Type 0 where
+  OfFact : (told : Fact) → slot ≡ fact_slots.of told → (fact_type told).shape ≡ s → StandsOn level s slot
+  InPassing : slot ≡ passing level s → StandsOn level s slot
 
 -- the column of a stage
 abbrev pub stage_slot : ℕ → ℕ

@@ -17,15 +17,15 @@ use Rattle.sl_semantics.specs.State.{State, End, Faulted}
 use Rattle.sl_plans.specs.Trees.{Tree}
 use Rattle.sl_plans.specs.Laid.{AchievesAll}
 use Rattle.sl_pieces.specs.columns.Trees.{copy_tree}
-use Rattle.sl_pieces.specs.exprs.Slots.{passing, stage_slot, HasBookSlots, FIRST_PASSING_SLOT}
-use Rattle.sl_pieces.specs.exprs.Pieces.{pieces}
+use Rattle.sl_pieces.specs.exprs.Slots.{stage_slot, HasBookSlots, FIRST_PASSING_SLOT}
+use Rattle.sl_pieces.specs.exprs.Pieces.{pieces, slot_of}
 use Rattle.sl_pieces.specs.exprs.Meaning.{HoldsKnown}
 use Rattle.sl_pieces.specs.nodes.Scopes.{AddsRecords}
 
 -- those of the stage of that number: its expression, whose column is copied into the stage's slot
 abbrev pub stage_pieces : List Column → ℕ → StageTree → List Tree
 stage_pieces types k s =
-    pieces types k 0 s.expr ++ copy_tree (type_of types s.expr).shape (passing 0 (type_of types s.expr).shape) (stage_slot k) ∷ []
+    pieces types k 0 s.expr ++ copy_tree (type_of types s.expr).shape (slot_of types 0 s.expr) (stage_slot k) ∷ []
 
 -- those of the stages from that number on
 abbrev pub stages_pieces : List Column → ℕ → List StageTree → List Tree

@@ -49,9 +49,9 @@ search_entry f x d =
     (Then (Line (Set reg.HELD 0 ∷ (Store x.result reg.HELD ∷ [])))
     (If (test.Zero reg.WEIGHT) nothing (Line (Prio d reg.WEIGHT reg.HELD ∷ []))))))
 
--- a batch begins as long as a minimum is not met
+-- a batch begins as long as a minimum is not met; else no turns are left
 abbrev pub search_batch : Tree
-search_batch = If (test.Zero reg.TURNS) nothing (If (test.Empty reg.PEERS) nothing (Line (Mov reg.IN_BATCH reg.PEERS ∷ [])))
+search_batch = If (test.Zero reg.TURNS) (Line (Set reg.LEFT 0 ∷ [])) (If (test.Empty reg.PEERS) nothing (Line (Mov reg.IN_BATCH reg.PEERS ∷ [])))
 
 -- a seat of the search
 abbrev pub search_seat : Slots → Divisor → Tree

@@ -5,5 +5,5 @@ use Rattle.sl_compile.proofs.nodes.sum.Goals as goal
 
 pub returns-clause-blocks : goal.returns-clause-blocks
 returns-clause-blocks c =
-    sum_stands c.args.level c.args.over c.args.of.shape c.requires.level c.passing.ensures (c.passing-2.ensures ∙ ap (passing c.args.level) c.shape-shape.ensures)
+    sum_stands c.args.level c.args.over c.args.of.shape c.requires.level c.requires.from (c.passing.ensures ∙ ap (passing c.args.level) c.shape-shape.ensures)
     c.in_ok-sum_block.ensures.ok

@@ -11,11 +11,11 @@ expr-requires-clause-room c =
 pub copy_block-requires : goal.copy_block-requires
 copy_block-requires c =
     let known = columns c.args.site.now.earlier.stages.now c.args.site.now.earlier.types.now in
-    copy_room known c.args.site.now.stage (stage_of c.args.stage.now) c.in_ok-of.of c.passing.result c.stage_slot.result c.args.code.now.items c.expr.new.code.items
-    c.in_ok-of.ensures.has c.passing.ensures c.stage_slot.ensures c.in_ok-of.ensures.blocks c.requires.room
+    copy_room known c.args.site.now.stage (stage_of c.args.stage.now) c.in_ok-of.of c.column_slot.result c.stage_slot.result c.args.code.now.items c.expr.new.code.items
+    c.in_ok-of.ensures.has (c.column_slot.ensures known c.in_ok-of.ensures.has) c.stage_slot.ensures c.in_ok-of.ensures.blocks c.requires.room
 
 pub returns-clause-blocks : goal.returns-clause-blocks
 returns-clause-blocks c =
     let known = columns c.args.site.now.earlier.stages.now c.args.site.now.earlier.types.now in
-    stage_blocks known c.args.site.now.stage (stage_of c.args.stage.now) c.in_ok-of.of c.passing.result c.stage_slot.result c.args.code.now.items c.expr.new.code.items
-    c.in_ok-of.ensures.has c.passing.ensures c.stage_slot.ensures c.in_ok-of.ensures.blocks c.requires.number c.copy_block.new.code.items c.in_ok-copy_block.ensures.ok
+    stage_blocks known c.args.site.now.stage (stage_of c.args.stage.now) c.in_ok-of.of c.column_slot.result c.stage_slot.result c.args.code.now.items c.expr.new.code.items
+    c.in_ok-of.ensures.has (c.column_slot.ensures known c.in_ok-of.ensures.has) c.stage_slot.ensures c.in_ok-of.ensures.blocks c.requires.number c.copy_block.new.code.items c.in_ok-copy_block.ensures.ok

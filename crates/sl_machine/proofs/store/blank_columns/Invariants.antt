@@ -4,4 +4,4 @@ use Rattle.sl_machine.proofs.stores.Starting.{blank}
 use Rattle.sl_machine.proofs.store.blank_columns.Given as goal
 
 abbrev pub invariant-loop-shape : goal.invariant-loop-shape
-invariant-loop-shape l = map (λ column. column.items) l.columns.items ≡ map (blank l.returns) (take l.shape-index l.slots)
+invariant-loop-shape l = l.columns.items ≡ map (blank l.returns) (take l.shape-index l.slots)

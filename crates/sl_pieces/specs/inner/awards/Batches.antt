@@ -42,22 +42,24 @@ IsBlind Held r = (t : List ℕ) (value : ℕ) (state : State) → Held t state �
 
 -- ---- batches
 
--- a batch has begun from t on, or there is none any more, and of t that is known
-pub data HasBegun (a : Arena) (Begun : List ℕ → ℕ → Type 0) (Stopped : List ℕ → Type 0) (t : List ℕ) (state : State) : Type 0 where
-  NoBatch : state.registers reg.IN_BATCH ≡ 0 → Stopped t → HasBegun a Begun Stopped t state
+-- a batch has begun from t on, and the loop's register r still holds w; or there is none any more, r holds no more than w, and of t that is
+-- known
+pub data HasBegun (a : Arena) (r w : ℕ) (Begun : List ℕ → ℕ → Type 0) (Stopped : List ℕ → Type 0) (t : List ℕ) (state : State) : Type 0 where
+  NoBatch : state.registers reg.IN_BATCH ≡ 0 → state.registers r ≤ w → Stopped t → HasBegun a r w Begun Stopped t state
   OneBegan : (peers : List ℕ) → Lists (IsPeer a.ladders t) peers → 0 < length peers → state.registers reg.IN_BATCH ≡ length peers →
-      Begun t (state.registers reg.STEP) → HasBegun a Begun Stopped t state
+      state.registers r ≡ w → Begun t (state.registers reg.STEP) → HasBegun a r w Begun Stopped t state
 
--- What a plan has to achieve that begins a batch: where seats are left, up to so many in all, it begins one or stops for good; and once it
--- has stopped, it begins no other.
-pub record BeginsBatches (c : CountingCode) (e : Election) (a : Arena) (seats : ℕ) (Begun : List ℕ → ℕ → Type 0) (Stopped : List ℕ → Type 0)
+-- What a plan has to achieve that begins a batch, where r is the loop's register: where seats are left, up to so many in all, it begins one
+-- or stops for good; and once it has stopped, it begins no other. Where it begins none, it may leave fewer turns to come.
+pub record BeginsBatches (c : CountingCode) (e : Election) (a : Arena) (seats r : ℕ) (Begun : List ℕ → ℕ → Type 0) (Stopped : List ℕ → Type 0)
     (Held : List ℕ → State → Type 0) (begin : Tree) : Type 0 where
   pub begins : (t : List ℕ) (state : State) → IsSettled a.ladders t → HasWaiting a t state → Held t state → state.registers reg.IN_BATCH ≡ 0 →
       sum t < seats →
-      Achieves c e begin state (λ after. HasWaiting a t after × Held t after × HasBegun a Begun Stopped t after) Never
+      Achieves c e begin state (λ after. HasWaiting a t after × Held t after × HasBegun a r (state.registers r) Begun Stopped t after) Never
   pub rests : (t : List ℕ) (state : State) → IsSettled a.ladders t → HasWaiting a t state → Held t state → state.registers reg.IN_BATCH ≡ 0 →
       Stopped t →
-      Achieves c e begin state (λ after. HasWaiting a t after × Held t after × (after.registers reg.IN_BATCH ≡ 0)) Never
+      Achieves c e begin state
+      (λ after. HasWaiting a t after × Held t after × (after.registers reg.IN_BATCH ≡ 0) × (after.registers r ≤ state.registers r)) Never
 
 -- where the batches end: at a settled vector of so many seats, or one that is known to be the last, or within a batch with so many seats
 pub data EndOfBatches (a : Arena) (seats : ℕ) (Begun : List ℕ → ℕ → Type 0) (Stopped : List ℕ → Type 0) (t : List ℕ) (state : State) : Type 0 where
@@ -76,12 +78,11 @@ pub record AfterBatches (a : Arena) (seats : ℕ) (Begun : List ℕ → ℕ → 
 abbrev pub walk_registers : List ℕ
 walk_registers = ones ∷ reg.PEERS ∷ reg.IN_BATCH ∷ reg.STEP ∷ []
 
--- what is asked of a walk with these plans: the loop's register is no other's, and neither plan writes one of the loop's
-pub record FitsLoop (Held : List ℕ → State → Type 0) (r : ℕ) (begin on : Tree) : Type 0 where
+-- what is asked of a walk with this plan for each seat: the loop's register is no other's, and the plan writes none of the loop's
+pub record FitsLoop (Held : List ℕ → State → Type 0) (r : ℕ) (on : Tree) : Type 0 where
   pub apart : list_any (nat_eq r) walk_registers ≡ false
   pub own : IsBlind Held r
   pub blind : (q : ℕ) → list_any (nat_eq q) (ones ∷ reg.PEERS ∷ reg.IN_BATCH ∷ []) ≡ true → IsBlind Held q
-  pub begin_keeps : may_write_register begin r ≡ false
   pub on_keeps : may_write_register on r ≡ false
   pub keeps : list_any (may_write_register on) (reg.IN_BATCH ∷ reg.STEP ∷ []) ≡ false
 
@@ -90,6 +91,6 @@ abbrev pub BatchesAchieve : Type 1
 BatchesAchieve =
     (c : CountingCode) (e : Election) (a : Arena) (most seats r : ℕ) (bound : Bound) (begin on : Tree) (Begun : List ℕ → ℕ → Type 0)
     (Stopped : List ℕ → Type 0) (Held : List ℕ → State → Type 0) (t : List ℕ) (state : State) → IsArena most a → seats ≤ most →
-    GivesSeats c e a most Begun Held on → BeginsBatches c e a seats Begun Stopped Held begin → FitsLoop Held r begin on →
+    GivesSeats c e a most Begun Held on → BeginsBatches c e a seats r Begun Stopped Held begin → FitsLoop Held r on →
     IsSettled a.ladders t → HasWaiting a t state → Held t state → state.registers r + sum t ≡ seats → state.registers r ≤ turns_in e bound →
     Achieves c e (batches r bound begin on) state (AfterBatches a seats Begun Stopped Held) Never

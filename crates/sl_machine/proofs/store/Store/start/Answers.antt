@@ -13,7 +13,7 @@ pub returns-clause-state : goal.returns-clause-state
 returns-clause-state c =
     let e = c.args.returns.now in
     let slots = c.args.code.now.slots in
-    let columns = map (λ column. column.items) c.in_ok-columns.columns.items in
+    let columns = c.in_ok-columns.columns.items in
     let blanks : columns ≡ map (blank e) slots = c.in_ok-columns.ensures ∙ ap (map (blank e)) c.slots.ensures.slots in
     let nobody : c.in_ok-placed.placed.items ≡ replicate c.wins.result placed.Unseated = c.in_ok-placed.ensures in
     rw (c.unset.ensures, c.unset-2.ensures, c.unset-3.ensures)
@@ -27,7 +27,7 @@ pub returns-clause-fits : goal.returns-clause-fits
 returns-clause-fits c =
     let e = c.args.returns.now in
     let slots = c.args.code.now.slots in
-    let columns = map (λ column. column.items) c.in_ok-columns.columns.items in
+    let columns = c.in_ok-columns.columns.items in
     let blanks : columns ≡ map (blank e) slots = c.in_ok-columns.ensures ∙ ap (map (blank e)) c.slots.ensures.slots in
     let nobody : c.in_ok-placed.placed.items ≡ replicate c.wins.result placed.Unseated = c.in_ok-placed.ensures in
     let widths = ap (map length) blanks ∙ blank_widths e slots in

@@ -1,26 +1,26 @@
 -- The cell that is written, in a column as long as before.
-use Rattle.std.proofs.Common.{ℕ, List, length, slice_get, refl, sym, ap, ◌∙◌, arith}
-use Rattle.std.proofs.lemmas.List.{length-set}
-use Rattle.std.specs.Vec.{with_item}
+use Rattle.std.proofs.Common.{ℕ, List, length, slice_get, sym, ap, ◌∙◌}
 use Rattle.sl_semantics.specs.State.{with_cell}
 use Rattle.sl_semantics.specs.Places.{cell_at}
 use Rattle.sl_semantics.specs.Effects.{Goes}
 use Rattle.sl_machine.specs.inner.Stores.{state_of, Sizes}
-use Rattle.sl_machine.proofs.stores.Cells.{found_behind, same_columns, place_in_row, widths_kept, cells_written}
+use Rattle.sl_machine.proofs.stores.Cells.{found_behind, same_columns, place_in_column, widths_kept, cells_written}
 use Rattle.sl_machine.proofs.store.Store.store_cell.Goals as goal
 
-pub index_mut-requires : goal.index_mut-requires
-index_mut-requires c =
+pub returns-in_err-put-clause-kept : goal.returns-in_err-put-clause-kept
+returns-in_err-put-clause-kept c =
     let place = c.place-place.ensures in
-    omega (arith, (place_in_row (λ row. row.items) c.args.self.now.columns.items c.from.ensures c.index_mut-column.ensures.value (ap (λ (z : Sizes). z.columns) c.requires.sizes) place.slot place.within).1)
+    let is = c.index_mut-column.ensures.value in
+    let found = place_in_column c.args.self.now.columns.items c.from.ensures is (ap (λ (z : Sizes). z.columns) c.requires.sizes) place.slot place.within in
+    let kept = widths_kept c.args.self.now.columns.items c.from.result c.index_mut-column.result.now found.0 is c.put.new.self c.put.ensures.kept in
+    ap (λ (ws : List ℕ). record { columns = ws; winners = length c.args.self.now.placed.items; lots = c.args.self.now.table.lots }) kept
 
 pub returns-clause-kept : goal.returns-clause-kept
 returns-clause-kept c =
     let place = c.place-place.ensures in
     let is = c.index_mut-column.ensures.value in
-    let found = place_in_row (λ row. row.items) c.args.self.now.columns.items c.from.ensures is (ap (λ (z : Sizes). z.columns) c.requires.sizes) place.slot place.within in
-    let row = c.index_mut-column.result.now in
-    let kept = widths_kept (λ row. row.items) c.args.self.now.columns.items c.from.result row found.0 is (with_item row c.place-place.result c.register-value.result) (length-set row.items c.place-place.result c.register-value.result) in
+    let found = place_in_column c.args.self.now.columns.items c.from.ensures is (ap (λ (z : Sizes). z.columns) c.requires.sizes) place.slot place.within in
+    let kept = widths_kept c.args.self.now.columns.items c.from.result c.index_mut-column.result.now found.0 is c.put.new.self c.put.ensures.kept in
     ap (λ (ws : List ℕ). record { columns = ws; winners = length c.args.self.now.placed.items; lots = c.args.self.now.table.lots }) kept
 
 pub returns-clause-follows : goal.returns-clause-follows
@@ -28,10 +28,8 @@ returns-clause-follows c =
     let s = state_of c.args.self.now in
     let place = c.place-place.ensures in
     let is = c.index_mut-column.ensures.value in
-    let found = place_in_row (λ row. row.items) c.args.self.now.columns.items c.from.ensures is (ap (λ (z : Sizes). z.columns) c.requires.sizes) place.slot place.within in
-    let row = c.index_mut-column.result.now in
-    let other = with_item row c.place-place.result c.register-value.result in
-    let cells = cells_written (λ row. row.items) c.args.self.now.columns.items c.from.result row found.0 is other c.place-place.result c.register-value.result refl found.1 in
+    let found = place_in_column c.args.self.now.columns.items c.from.ensures is (ap (λ (z : Sizes). z.columns) c.requires.sizes) place.slot place.within in
+    let cells = cells_written c.args.self.now.columns.items c.from.result c.index_mut-column.result.now found.0 is c.put.new.self c.place-place.result c.register-value.result c.in_ok-put.ensures.put found.1 in
     ap Goes (same_columns s _ _ cells)
     ∙ ap (λ (k : ℕ). Goes (with_cell k c.place-place.result c.register-value.result s)) c.from.ensures
     ∙ ap (λ (v : ℕ). Goes (with_cell c.args.slot c.place-place.result v s)) c.register-value.ensures
