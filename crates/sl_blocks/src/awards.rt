@@ -29,10 +29,9 @@ pub fn count_left() -> &'static Plan<'static>
 
 pub const ENDS_BY_TIE: &Plan<'static> = &Plan::Stop(TIE);
 
-/// One seat more for the entry at the cursors.
+/// One seat more for the entry at the cursors, in a turn.
 const ONE_MORE: &Plan<'static> = &Plan::Line(&[
     GET_HELD,
-    Fixed(Instr::Set(ONES, 1)),
     Fixed(Instr::Add(HELD, ONES)),
     STORE_HELD,
     EMIT,
@@ -54,7 +53,8 @@ pub const COUNT_STEP: &Plan<'static> = &Plan::Line(&[
     Fixed(Instr::Add(STEP, ONES)),
 ]);
 
-/// A batch begins if there are seats for all peers.
+/// A batch begins if there are seats for all peers. The turns that come after this one are one fewer than the seats that are left, so they
+/// tell its step.
 pub const WHOLE_BATCH: &Plan<'static> = &Plan::If(
     Test::Empty(PEERS),
     NOTHING,
@@ -64,17 +64,12 @@ pub const WHOLE_BATCH: &Plan<'static> = &Plan::If(
         &Plan::Line(&[
             Fixed(Instr::Mov(IN_BATCH, PEERS)),
             Fixed(Instr::Mov(STEP, ALL_LEFT)),
-            Fixed(Instr::Sub(STEP, LEFT)),
-            Fixed(Instr::Set(ONES, 1)),
-            Fixed(Instr::Add(STEP, ONES)),
+            Fixed(Instr::Sub(STEP, TURNS)),
         ]),
     ),
 );
 
-pub const LESS_LEFT: &Plan<'static> = &Plan::Line(&[
-    Fixed(Instr::Set(ONES, 1)),
-    Fixed(Instr::Sub(LEFT, ONES)),
-]);
+pub const LESS_LEFT: &Plan<'static> = &Plan::Line(&[Fixed(Instr::Sub(LEFT, ONES))]);
 
 const BATCHES_BY_QUOTIENTS: &Plan<'static> = batches!(
     TURNS,

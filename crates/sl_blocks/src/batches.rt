@@ -1,6 +1,6 @@
 //! Seats by batches of peers.
 
-/// So many turns, at most the bound, each of which may begin a batch and gives out a seat of it.
+/// So many turns, at most the bound, each of which may begin a batch and gives out a seat of it. The register of ones is 1 in each turn.
 macro_rules! batches {
     ($turns:expr, $bound:expr, $begin:expr, $seat:expr) => {
         &Plan::Then(
@@ -17,14 +17,11 @@ macro_rules! batches {
                             Test::Empty(PEERS),
                             NOTHING,
                             &Plan::Then(
-                                &Plan::Line(&[Fixed(Instr::Take)]),
-                                &Plan::Then(
-                                    $seat,
-                                    &Plan::Line(&[
-                                        Fixed(Instr::Set(ONES, 1)),
-                                        Fixed(Instr::Sub(IN_BATCH, ONES)),
-                                    ]),
-                                ),
+                                &Plan::Line(&[
+                                    Fixed(Instr::Sub(IN_BATCH, ONES)),
+                                    Fixed(Instr::Take),
+                                ]),
+                                $seat,
                             ),
                         ),
                     ),

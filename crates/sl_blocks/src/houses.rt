@@ -93,15 +93,13 @@ const SEARCH_SEAT: &Plan<'static> = &Plan::Then(
         &Plan::Then(
             &Plan::If(
                 Test::Less(HELD, BASE),
-                &Plan::Line(&[Fixed(Instr::Set(ONES, 1)), Fixed(Instr::Sub(TURNS, ONES))]),
+                &Plan::Line(&[Fixed(Instr::Sub(TURNS, ONES))]),
                 NOTHING,
             ),
             &Plan::Then(
                 &Plan::Line(&[
-                    Fixed(Instr::Set(ONES, 1)),
                     Fixed(Instr::Add(HELD, ONES)),
                     STORE_HELD,
-                    Fixed(Instr::Set(ONES, 1)),
                     Fixed(Instr::Add(ALL_LEFT, ONES)),
                 ]),
                 ENTER_AGAIN,

@@ -1,5 +1,6 @@
 -- What a step of the program leads to, with its records or without them.
 pub mod Dropping
 pub mod Unrecorded
-pub mod Ahead
+pub mod Ways
+pub mod UnderWay
 pub mod Leading

@@ -7,7 +7,7 @@ ghost use Rattle.sl_verify.specs.Needs.{input_shape};
 ghost use Rattle.sl_instructions.specs.Codes.{CountingCode};
 ghost use Rattle.sl_instructions.specs.declared.instr.Instr.TheVariants as instr;
 ghost use Rattle.sl_stages.specs.declared.returns.ListVotes.{ListVotes};
-ghost use Rattle.sl_stages.specs.returns.Election.{IsElection};
+ghost use Rattle.sl_stages.specs.returns.Election.{IsElection, parties_of};
 ghost use Rattle.sl_stages.specs.returns.Votes.{slate_in};
 ghost use Rattle.sl_semantics.specs.State.{with_column};
 ghost use Rattle.sl_semantics.specs.Places.{cells_of};
@@ -68,6 +68,7 @@ impl Store {
     fn place(&self, code: &Code, returns: &Returns, slot: u8) -> usize
         requires there { IsSome (place_at code.now returns.now slot (state_of self.now)) }
         requires range { IsInRange returns.now (state_of self.now) }
+        requires parties { (sizes_of self.now).parties ≡ parties_of returns.now }
         ensures value { place_at code.now returns.now slot (state_of self.now) ≡ Some result }
         ensures slot { slot < length (sizes_for code.now returns.now).columns }
         ensures within { result < slice_index (sizes_for code.now returns.now).columns slot }

@@ -1,4 +1,4 @@
-//! A cursor of the machine.
+//! A cursor of the machine that stands at no cell of a column.
 
 ghost use Rattle.std.specs.Prelude.{◌≡◌, Some, None, IsSome};
 
@@ -51,21 +51,6 @@ impl Cursor {
         ensures { self.new ≡ None }
     {
         self.is_set = false;
-    }
-
-    /// Moves it to a number, if there is one, and leaves it unset else.
-    pub(crate) fn set_to(&mut self, place: Option<usize>)
-        ensures { self.new ≡ place }
-    {
-        self.is_set = place.is_some();
-        self.place = place.unwrap_or(0);
-    }
-
-    /// The number at which it stands, if it is set.
-    pub(crate) fn get(&self) -> Option<usize>
-        ensures { result ≡ self.now }
-    {
-        self.is_set.then_some(self.place)
     }
 
     /// The number at which it stands.

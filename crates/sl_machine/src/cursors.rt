@@ -1,53 +1,19 @@
 //! The cursors: what they stand at, and how they move.
 
-ghost use Rattle.std.specs.Prelude.{◌≡◌, ◌<◌, ◌+◌, ◌*◌, ℕ, Option, Some, IsSome, if◌then◌else◌};
-ghost use Rattle.std.specs.Option.{ForSome};
+ghost use Rattle.std.specs.Prelude.{◌≡◌, ◌<◌, ◌+◌, ◌*◌, Some, IsSome, if◌then◌else◌};
 ghost use Rattle.sl_verify.specs.declared.known.TheConstants.{REGISTERS};
 ghost use Rattle.sl_instructions.specs.Codes.{CountingCode};
 ghost use Rattle.sl_instructions.specs.declared.instr.Instr.TheVariants as instr;
-ghost use Rattle.sl_stages.specs.returns.Election.{lands_of, parties_of, wins_of, has_list};
-ghost use Rattle.sl_semantics.specs.State.{State};
+ghost use Rattle.sl_stages.specs.returns.Election.{IsElection, lands_of, parties_of, wins_of, has_list};
 ghost use Rattle.sl_semantics.specs.Places.{both, cells_of, cell_at, index_at, scope_at, item_of, at_entry};
 ghost use Rattle.sl_semantics.specs.Effects.{Goes, Jumps, effect, given, with_party, with_land, with_win, winner_at, first_of, next_of, to_party};
 ghost use Rattle.sl_semantics.specs.Safe.{IsInRange, entries_in};
 ghost use Rattle.sl_machine.specs.inner.Stores.{state_of, sizes_of, effect_of, IsTo};
 
-use crate::cursor::Cursor;
 use crate::step::Effect;
 use crate::store::Store;
 use sl_instructions::{Entries, ScopeKind};
 use sl_stages::{Item, Returns, Scope, Shape};
-
-// Moves a cursor to the first of so many, if there is one, and answers where the run goes on.
-fn to_first(cursor: &mut Cursor, count: usize, target: u32) -> Effect
-    ensures follows { (set : Option ℕ → State → State) (s : State) → effect_of result (set cursor.new s) ≡ first_of count set s }
-    ensures target { IsTo target result }
-{
-    if count > 0 {
-        cursor.set(0);
-        Effect::Goes
-    } else {
-        cursor.clear();
-        Effect::Jumps(target)
-    }
-}
-
-// Moves a cursor to the next of so many, if there is one, and answers where the run goes on.
-fn to_next(cursor: &mut Cursor, count: usize, target: u32) -> Effect
-    requires set { IsSome cursor.old }
-    requires within { ForSome cursor.old (λ place. place < count) }
-    ensures follows { (set : Option ℕ → State → State) (s : State) → effect_of result (set cursor.new s) ≡ next_of count cursor.old set s }
-    ensures target { IsTo target result }
-{
-    let next = cursor.place() + 1;
-    if next < count {
-        cursor.move_on(next);
-        Effect::Jumps(target)
-    } else {
-        cursor.clear();
-        Effect::Goes
-    }
-}
 
 /// The item that an entry of the table of that number is.
 pub(crate) fn item_of(returns: &Returns, entries: Entries, index: usize) -> Item
@@ -71,22 +37,19 @@ impl Store {
         ensures value { let s = state_of self.now in both s.land s.party (λ land party. land * parties_of returns.now + party) ≡ Some result }
         ensures within { result < lands_of returns.now * parties_of returns.now }
     {
-        self.cursors.land.place() * returns.parties() + self.cursors.party.place()
+        self.cursors.cells.cell(Shape::Land) * returns.parties()
+            + self.cursors.cells.cell(Shape::Party)
     }
 
-    /// The cell of a column of that shape at the cursors, of which those of its shape are set: a read of a cell tests none.
+    /// The cell of a column of that shape at the cursors, of which those of its shape are set: a read of a cell tests none. Only the contract reads the returns.
     pub(crate) fn cell_index(&self, returns: &Returns, shape: Shape) -> usize
         requires set { IsSome (cell_at returns.now shape (state_of self.now)) }
         requires range { IsInRange returns.now (state_of self.now) }
+        requires parties { (sizes_of self.now).parties ≡ parties_of returns.now }
         ensures value { cell_at returns.now shape (state_of self.now) ≡ Some result }
         ensures within { result < cells_of returns.now shape }
     {
-        match shape {
-            Shape::One => 0,
-            Shape::Party => self.cursors.party.place(),
-            Shape::Land => self.cursors.land.place(),
-            Shape::List => self.list_index(returns),
-        }
+        self.cursors.cells.cell(shape)
     }
 
     /// The number of the table's entry at the cursors, of which those of such entries are set.
@@ -97,8 +60,8 @@ impl Store {
         ensures within { result < entries_in returns.now entries }
     {
         match entries {
-            Entries::Party => self.cursors.party.place(),
-            Entries::Land => self.cursors.land.place(),
+            Entries::Party => self.cursors.cells.cell(Shape::Party),
+            Entries::Land => self.cursors.cells.cell(Shape::Land),
             Entries::List => self.list_index(returns),
             Entries::Win => self.cursors.win.place(),
         }
@@ -110,11 +73,11 @@ impl Store {
     {
         match kind {
             ScopeKind::All => Some(Scope::All),
-            ScopeKind::Land => Some(Scope::Land(self.cursors.land.get()?)),
-            ScopeKind::Party => Some(Scope::Party(self.cursors.party.get()?)),
+            ScopeKind::Land => Some(Scope::Land(self.cursors.cells.land()?)),
+            ScopeKind::Party => Some(Scope::Party(self.cursors.cells.party()?)),
             ScopeKind::List => Some(Scope::List(
-                self.cursors.land.get()?,
-                self.cursors.party.get()?,
+                self.cursors.cells.land()?,
+                self.cursors.cells.party()?,
             )),
         }
     }
@@ -126,12 +89,13 @@ impl Store {
         ensures table { self.new.table ≡ self.old.table }
         ensures kept { sizes_of self.new ≡ sizes_of self.old }
     {
+        let parties = returns.parties();
         match entries {
-            Entries::Party => self.cursors.party.set(index),
-            Entries::Land => self.cursors.land.set(index),
+            Entries::Party => self.cursors.cells.set_party(index),
+            Entries::Land => self.cursors.cells.set_land(index),
             Entries::List => {
-                self.cursors.land.set(index / returns.parties());
-                self.cursors.party.set(index % returns.parties());
+                self.cursors.cells.set_land(index / parties);
+                self.cursors.cells.set_party(index % parties);
             }
             Entries::Win => self.cursors.win.set(index),
         }
@@ -146,8 +110,8 @@ impl Store {
             effect_of result s ≡ given (both s.land s.party (has_list returns.now)) (λ there. if there then Goes s else Jumps s) }
         ensures target { IsTo target result }
     {
-        let land = self.cursors.land.place();
-        let party = self.cursors.party.place();
+        let land = self.cursors.cells.cell(Shape::Land);
+        let party = self.cursors.cells.cell(Shape::Party);
         if returns.is_list(land, party) {
             Effect::Goes
         } else {
@@ -170,28 +134,35 @@ impl Store {
     /// Moves to the winner's party.
     pub(crate) fn to_winners_party(&mut self, returns: &Returns, target: u32) -> Effect
         requires win { IsSome (state_of self.old).win }
+        requires election { IsElection returns.now }
         requires range { IsInRange returns.now (state_of self.old) }
         ensures follows { let s = state_of self.old in effect_of result (state_of self.new) ≡ given (winner_at returns.now s) (λ w. to_party w.party s) }
         ensures target { IsTo target result }
         ensures kept { sizes_of self.new ≡ sizes_of self.old }
     {
         let winner = returns.win(self.cursors.win.place());
-        self.cursors.party.set_to(winner.party);
         match winner.party {
-            Some(_) => Effect::Goes,
-            None => Effect::Jumps(target),
+            Some(party) => {
+                self.cursors.cells.set_party(party);
+                Effect::Goes
+            }
+            None => {
+                self.cursors.cells.clear_party();
+                Effect::Jumps(target)
+            }
         }
     }
 
     /// Moves to the winner's Land.
     pub(crate) fn to_winners_land(&mut self, returns: &Returns) -> Effect
         requires win { IsSome (state_of self.old).win }
+        requires election { IsElection returns.now }
         requires range { IsInRange returns.now (state_of self.old) }
         ensures follows { let s = state_of self.old in effect_of result (state_of self.new) ≡ given (winner_at returns.now s) (λ w. Goes (with_land (Some w.land) s)) }
         ensures kept { sizes_of self.new ≡ sizes_of self.old }
     {
         let winner = returns.win(self.cursors.win.place());
-        self.cursors.land.set(winner.land);
+        self.cursors.cells.set_land(winner.land);
         Effect::Goes
     }
 
@@ -201,7 +172,13 @@ impl Store {
         ensures target { IsTo target result }
         ensures kept { sizes_of self.new ≡ sizes_of self.old }
     {
-        to_first(&mut self.cursors.party, returns.parties(), target)
+        if returns.parties() > 0 {
+            self.cursors.cells.set_party(0);
+            Effect::Goes
+        } else {
+            self.cursors.cells.clear_party();
+            Effect::Jumps(target)
+        }
     }
 
     /// Moves to the next party.
@@ -212,7 +189,15 @@ impl Store {
         ensures target { IsTo target result }
         ensures kept { sizes_of self.new ≡ sizes_of self.old }
     {
-        to_next(&mut self.cursors.party, returns.parties(), target)
+        let count = returns.parties();
+        let next = self.cursors.cells.cell(Shape::Party) + 1;
+        if next < count {
+            self.cursors.cells.move_party_on(next);
+            Effect::Jumps(target)
+        } else {
+            self.cursors.cells.clear_party();
+            Effect::Goes
+        }
     }
 
     /// Moves to the first Land.
@@ -221,7 +206,13 @@ impl Store {
         ensures target { IsTo target result }
         ensures kept { sizes_of self.new ≡ sizes_of self.old }
     {
-        to_first(&mut self.cursors.land, returns.lands(), target)
+        if returns.lands() > 0 {
+            self.cursors.cells.set_land(0);
+            Effect::Goes
+        } else {
+            self.cursors.cells.clear_land();
+            Effect::Jumps(target)
+        }
     }
 
     /// Moves to the next Land.
@@ -232,7 +223,15 @@ impl Store {
         ensures target { IsTo target result }
         ensures kept { sizes_of self.new ≡ sizes_of self.old }
     {
-        to_next(&mut self.cursors.land, returns.lands(), target)
+        let count = returns.lands();
+        let next = self.cursors.cells.cell(Shape::Land) + 1;
+        if next < count {
+            self.cursors.cells.set_land(next);
+            Effect::Jumps(target)
+        } else {
+            self.cursors.cells.clear_land();
+            Effect::Goes
+        }
     }
 
     /// Moves to the first winner.
@@ -241,7 +240,13 @@ impl Store {
         ensures target { IsTo target result }
         ensures kept { sizes_of self.new ≡ sizes_of self.old }
     {
-        to_first(&mut self.cursors.win, returns.wins(), target)
+        if returns.wins() > 0 {
+            self.cursors.win.set(0);
+            Effect::Goes
+        } else {
+            self.cursors.win.clear();
+            Effect::Jumps(target)
+        }
     }
 
     /// Moves to the next winner.
@@ -252,6 +257,14 @@ impl Store {
         ensures target { IsTo target result }
         ensures kept { sizes_of self.new ≡ sizes_of self.old }
     {
-        to_next(&mut self.cursors.win, returns.wins(), target)
+        let count = returns.wins();
+        let next = self.cursors.win.place() + 1;
+        if next < count {
+            self.cursors.win.move_on(next);
+            Effect::Jumps(target)
+        } else {
+            self.cursors.win.clear();
+            Effect::Goes
+        }
     }
 }

@@ -2,6 +2,8 @@
 #![tactic(auto)]
 
 mod arithmetic;
+mod cell_cursors;
+mod clock;
 mod column;
 mod columns;
 mod cursor;
@@ -16,6 +18,7 @@ mod records;
 mod step;
 mod store;
 mod table;
+mod way;
 
 pub use machine::{Ending, budget, run, run_unrecorded};
 pub use memory::Memory;

@@ -1,21 +1,24 @@
 //! Runs of a code on returns.
 
-ghost use Rattle.std.specs.Prelude.{◌≡◌, ◌<◌, ◌≤◌, Some, drop, length, slice_get, IfOk, IfSome, IfNone, IsSome, ◌+◌, ◌*◌};
+ghost use Rattle.std.specs.Prelude.{◌≡◌, ◌<◌, ◌≤◌, ◌⊎◌, Some, length, slice_get, IfOk, IfSome, IfNone, ◌+◌, ◌*◌};
 ghost use Rattle.sl_ratio.specs.declared.limits.TheConstants.{MAX_SEATS as most_seats, MAX_LANDS, MAX_PARTIES};
 ghost use Rattle.sl_stages.specs.declared.limits.TheConstants.{MAX_STAGES, MAX_WINS};
 ghost use Rattle.sl_semantics.specs.Agrees.{IsSafe};
 ghost use Rattle.sl_machine.specs.Answers.{answer_of};
 ghost use Rattle.sl_machine.specs.Fits.{Fits};
-ghost use Rattle.sl_machine.specs.inner.Ahead.{place_of, AreAhead};
-ghost use Rattle.sl_machine.specs.inner.Leading.{LeadsTo, EndsAt, EndsWith, ending_with, FitsWith};
+ghost use Rattle.sl_machine.specs.inner.Leading.{EndsAt, EndsWith, ending_with, FitsWith};
+ghost use Rattle.sl_machine.specs.inner.UnderWay.{IsUnderWay, GoesOn, IsOut, EndsFirst};
 ghost use Rattle.sl_machine.specs.inner.Recording.{state_by, ending_by};
 ghost use Rattle.sl_semantics.specs.Runs.{run, ending, share_of, budget_of};
 ghost use Rattle.sl_semantics.specs.Unrecorded.{without_records};
 ghost use Rattle.sl_machine.specs.inner.Stores.{state_of, sizes_of, sizes_for};
+ghost use Rattle.sl_machine.specs.inner.Ways.{IsWay};
 
+use crate::clock::Clock;
 use crate::memory::Memory;
 use crate::step::{Drops, Effect, End, Keeps, Recording};
 use crate::store::Store;
+use crate::way::{Standing, Way, first_of};
 use sl_instructions::{Code, Instr};
 use sl_ratio::NoMemory;
 use sl_semantics::STEPS_EACH;
@@ -53,62 +56,59 @@ pub fn budget(stages: usize, returns: &Returns) -> u64
     (stages as u64 + 2) * share(returns)
 }
 
-// The instructions from a place on.
-fn instrs_from(code: &Code, place: usize) -> &[Instr]
-    requires { place ≤ length code.now.instrs }
-    ensures { result.now ≡ drop place code.now.instrs }
+// The instruction at a place.
+fn instr_at(code: &Code, place: usize) -> &Instr
+    requires { place < length code.now.instrs }
+    ensures { slice_get code.now.instrs place ≡ Some result.now }
 {
-    &code.instrs()[place..]
+    &code.instrs()[place]
 }
 
-// The instruction that comes next, where it stands: a copy is written in parts and read in others, which costs more than a step.
-fn next_instr(ahead: &[Instr]) -> &Instr
-    requires { 0 < length ahead.now }
-    ensures { slice_get ahead.now 0 ≡ Some result.now }
-{
-    &ahead[0]
-}
-
-// Makes a step, by the first of the instructions ahead, and answers those that are ahead then, but for an instruction that ends the run.
+// Makes a step, by the first of the instructions ahead, and answers those that are ahead then; `None` where that one ends the run, or jumps when no
+// step is left for it.
 fn step_from<'a, R: Recording>(
     store: &mut Store,
-    code: &'a Code,
+    code: &Code,
     returns: &Returns,
-    ahead: &'a [Instr],
-) -> Result<Option<&'a [Instr]>, NoMemory>
-    requires ahead { AreAhead code.now ahead.now }
-    requires safe { IsSafe code.now returns.now (place_of code.now ahead.now) (state_of store.old) }
+    way: &'a Way,
+    clock: &mut Clock,
+    ahead: &'a [Standing],
+) -> Result<Option<&'a [Standing]>, NoMemory>
+    requires way { IsWay R.records code.now way.now }
+    requires under_way { IsUnderWay R.records code.now returns.now clock.old ahead.now (state_of store.old) }
     requires sizes { sizes_of store.old ≡ sizes_for code.now returns.now }
-    requires records { state_by R.records (state_of store.old) ≡ state_of store.old }
-    ensures ahead { IfOk result (λ next. IfSome next (λ there. AreAhead code.now there.now)) }
-    ensures leads { IfOk result (λ next. IfSome next (λ there.
-        LeadsTo R.records code.now returns.now (place_of code.now ahead.now) (state_of store.old) (place_of code.now there.now) (state_of store.new))) }
-    ensures ends { IfOk result (λ next. IfNone next (EndsAt code.now (place_of code.now ahead.now) × (store.new ≡ store.old))) }
+    ensures goes { IfOk result (λ next. IfSome next (λ there. GoesOn R.records code.now returns.now clock.old ahead.now (state_of store.old) clock.new there.now (state_of store.new))) }
+    ensures stops { IfOk result (λ next. IfNone next ((clock.new ≡ clock.old) × (IsOut clock.old ahead.now ⊎ (EndsFirst ahead.now × (store.new ≡ store.old))))) }
     ensures kept { sizes_of store.new ≡ sizes_of store.old }
 {
-    let instr = next_instr(ahead);
-    match store.step::<R>(code, returns, instr)? {
-        Some(Effect::Goes) => Ok(Some(&ahead[1..])),
-        Some(Effect::Jumps(target)) => Ok(Some(instrs_from(code, target as usize))),
+    let (here, others) = first_of(ahead);
+    match store.step::<R>(code, returns, &here.instr)? {
+        Some(Effect::Goes) => Ok(Some(others)),
+        Some(Effect::Jumps(target)) => match clock.after_jump(here.place, target as usize) {
+            Some(after) => {
+                *clock = after;
+                Ok(Some(way.from::<R>(code, target as usize)))
+            }
+            None => Ok(None),
+        },
         None => Ok(None),
     }
 }
 
-// The end that the first of the instructions ahead gives the run.
+// The end that the instruction at a place gives the run.
 fn end_at<R: Recording>(
     store: &mut Store,
     code: &Code,
     returns: &Returns,
-    ahead: &[Instr],
+    place: usize,
 ) -> Result<End, NoMemory>
-    requires ahead { AreAhead code.now ahead.now }
-    requires safe { IsSafe code.now returns.now (place_of code.now ahead.now) (state_of store.old) }
+    requires safe { IsSafe code.now returns.now place (state_of store.old) }
     requires records { state_by R.records (state_of store.old) ≡ state_of store.old }
-    requires ends { EndsAt code.now (place_of code.now ahead.now) }
-    ensures ends { IfOk result (λ end. EndsWith R.records code.now returns.now (place_of code.now ahead.now) (state_of store.old) end (state_of store.new)) }
+    requires ends { EndsAt code.now place }
+    ensures ends { IfOk result (λ end. EndsWith R.records code.now returns.now place (state_of store.old) end (state_of store.new)) }
     ensures kept { sizes_of store.new ≡ sizes_of store.old }
 {
-    store.end(code, returns, next_instr(ahead))
+    store.end(code, returns, instr_at(code, place))
 }
 
 // Makes at most so many steps from the start, and answers how they end, if they do.
@@ -116,8 +116,10 @@ fn steps<R: Recording>(
     store: &mut Store,
     code: &Code,
     returns: &Returns,
+    way: &Way,
     budget: u64,
 ) -> Result<Option<End>, NoMemory>
+    requires way { IsWay R.records code.now way.now }
     requires safe { IsSafe code.now returns.now 0 (state_of store.old) }
     requires sizes { sizes_of store.old ≡ sizes_for code.now returns.now }
     requires records { state_by R.records (state_of store.old) ≡ state_of store.old }
@@ -125,17 +127,23 @@ fn steps<R: Recording>(
     ensures fits { IfOk result (λ end. FitsWith code.now returns.now end (state_of store.new)) }
     ensures kept { IfOk result (λ end. sizes_of store.new ≡ sizes_for code.now returns.now) }
 {
-    // the instructions from the place of the run on: a slice, in which a step goes on without a look at where it ends
-    let mut ahead = instrs_from(code, 0);
-    let mut left = budget;
-    while left > 0 {
-        left -= 1;
-        match step_from::<R>(store, code, returns, ahead)? {
+    let mut clock = Clock {
+        left: budget,
+        since: 0,
+    };
+    let mut ahead = way.from::<R>(code, 0);
+    loop {
+        match step_from::<R>(store, code, returns, way, &mut clock, ahead)? {
             Some(next) => ahead = next,
-            None => return Ok(Some(end_at::<R>(store, code, returns, ahead)?)),
+            None => {
+                let place = first_of(ahead).0.place;
+                if clock.is_out(place) {
+                    return Ok(None);
+                }
+                return Ok(Some(end_at::<R>(store, code, returns, place)?));
+            }
         }
     }
-    Ok(None)
 }
 
 // Runs accepted code on returns, and keeps what it records or drops it.
@@ -149,8 +157,9 @@ fn run_with<R: Recording>(
     ensures fits { IfOk result (Fits code.now returns.now) }
 {
     let code = code.code();
+    let way = Way::of::<R>(alloc, code)?;
     let mut store = Store::start(alloc, code, returns)?;
-    match steps::<R>(&mut store, code, returns, budget)? {
+    match steps::<R>(&mut store, code, returns, &way, budget)? {
         Some(End::Halted { base, vacant }) => Ok(Ending::Done(Memory::new(store, base, vacant))),
         Some(End::Faulted(fault)) => Ok(Ending::Fault(fault)),
         None => Ok(Ending::OutOfBudget),

@@ -6,6 +6,7 @@ ghost use Rattle.sl_semantics.specs.State.{start};
 ghost use Rattle.sl_semantics.specs.Places.{cells_of};
 ghost use Rattle.sl_machine.specs.inner.Stores.{state_of, sizes_of, sizes_for};
 
+use crate::cell_cursors::CellCursors;
 use crate::column::{Column, MOST_CELLS};
 use crate::cursor::Cursor;
 use crate::lots::Lots;
@@ -16,11 +17,10 @@ use sl_stages::{Mark, Placed, Returns, SeatStep, Shape, Weight};
 use sl_verify::REGISTERS;
 use std::alloc::Global;
 
-/// The cursors.
+/// The cursors: those by which a cell of a column is found, and that of the winners.
 #[derive(Debug, Drop)]
 pub(crate) struct Cursors {
-    pub party: Cursor,
-    pub land: Cursor,
+    pub cells: CellCursors,
     pub win: Cursor,
 }
 
@@ -101,8 +101,7 @@ impl Store {
             registers: [0; REGISTERS as usize],
             columns,
             cursors: Cursors {
-                party: Cursor::unset(),
-                land: Cursor::unset(),
+                cells: CellCursors::unset(returns.parties()),
                 win: Cursor::unset(),
             },
             table: PriorityTable::off(alloc, lots),

@@ -160,7 +160,7 @@ top_at_first (x ∷ xs) heap = sym (top_first (x ∷ xs) heap x (omega arith) re
 
 -- ---- a part of a vector that is lent and comes back
 
-pub given_back : (n : ℕ) (xs ys : List Entry) → n ≡ length xs → length ys ≡ length xs → take n (ys ++ drop (length ys) xs) ≡ ys
+pub given_back : {X : Type 0} (n : ℕ) (xs ys : List X) → n ≡ length xs → length ys ≡ length xs → take n (ys ++ drop (length ys) xs) ≡ ys
 given_back n xs ys e l = ap (λ k. take k (ys ++ drop (length ys) xs)) (e ∙ sym l) ∙ take-append_seam ys (drop (length ys) xs)
 
 -- ---- what a table keeps

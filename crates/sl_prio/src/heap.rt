@@ -6,7 +6,7 @@ ghost use Rattle.std.specs.Ordering.{is_gt};
 ghost use Rattle.sl_ratio.specs.Entry.{entry_cmp};
 ghost use Rattle.sl_prio.specs.inner.Heap.{IsHeap, IsHeapBut, MayRise, IsGreatestChild, HasNoSmallerParent, IsSmallerParent};
 
-use crate::places::{Places, note};
+use crate::places::note;
 use sl_ratio::{Entry, Ratio};
 
 // The numerator of a quotient times the denominator of another, which has at most 64 bits.
@@ -29,7 +29,7 @@ fn exceeds(entry: &Entry, other: &Entry) -> bool
 }
 
 // Moves the entry at a place up, until its parent is no smaller, and notes the places of those that go down for it.
-pub(crate) fn sift_up(entries: &mut [Entry], places: &mut Places, place: usize)
+pub(crate) fn sift_up(entries: &mut [Entry], places: &mut [u16], place: usize)
     requires { MayRise entries.old place }
     ensures moved { IsPermutation entries.old entries.new }
     ensures heap { IsHeap entries.new }
@@ -61,7 +61,7 @@ fn smaller_parent(entries: &[Entry], entry: &Entry, place: usize) -> Option<usiz
 }
 
 // Makes a heap again of entries that would be one, were the entry at a place not there.
-pub(crate) fn mend(entries: &mut [Entry], places: &mut Places, place: usize)
+pub(crate) fn mend(entries: &mut [Entry], places: &mut [u16], place: usize)
     requires within { place < length entries.old }
     requires others { IsHeapBut entries.old place }
     ensures moved { IsPermutation entries.old entries.new }
@@ -73,7 +73,7 @@ pub(crate) fn mend(entries: &mut [Entry], places: &mut Places, place: usize)
 }
 
 // Takes the entry at a place out of a heap.
-pub(crate) fn take_out(entries: &mut Vec<Entry>, places: &mut Places, place: usize) -> Entry
+pub(crate) fn take_out(entries: &mut Vec<Entry>, places: &mut [u16], place: usize) -> Entry
     requires within { place < length entries.old.items }
     requires heap { IsHeap entries.old.items }
     ensures value { result ≡ slice_index_or entries.old.items place result }

@@ -8,20 +8,17 @@ ghost use Rattle.sl_prio.specs.inner.Marks.{AreMarks, HaveMarks, have_index, nam
 use sl_ratio::{Entry, MAX_LANDS, MAX_PARTIES};
 use std::cmp::Ordering;
 
-// How many indexes have a mark: those of the lists of the greatest election.
+// How many indexes can have a mark: those of the lists of the greatest election.
 pub(crate) const MARKS: usize = MAX_PARTIES * MAX_LANDS;
 
-/// A mark for each index below `MARKS`.
-pub(crate) type Marks = [bool; MARKS];
-
-// Marks an index, where it has a mark, and answers whether that was still to be given.
-pub(crate) fn mark(marks: &mut Marks, index: u32) -> bool
+// Marks an index, where the marks reach it, and answers whether that was still to be done.
+pub(crate) fn mark(marks: &mut [bool], index: u32) -> bool
     ensures fresh { IsTrue result → slice_get marks.old index ≡ Some false }
     ensures marked { (before : ℕ → Bool) → AreMarks before marks.old → AreMarks (λ other. before other || nat_eq index other) marks.new }
     ensures kept { (xs : List Entry) (x : Entry) → x.index ≡ index → HaveMarks xs marks.old → HaveMarks (x ∷ xs) marks.new }
 {
     let place = index as usize;
-    if place >= MARKS {
+    if place >= marks.len() {
         return false;
     }
     let fresh = !marks[place];
@@ -30,17 +27,17 @@ pub(crate) fn mark(marks: &mut Marks, index: u32) -> bool
 }
 
 // Takes the mark of an index away.
-pub(crate) fn unmark(marks: &mut Marks, index: u32)
+pub(crate) fn unmark(marks: &mut [bool], index: u32)
     ensures { (xs : List Entry) → have_index xs index ≡ false → HaveMarks xs marks.old → HaveMarks xs marks.new }
 {
     let place = index as usize;
-    if place < MARKS {
+    if place < marks.len() {
         marks[place] = false;
     }
 }
 
 // Marks the indexes that a lot names.
-pub(crate) fn marks(lot: &[u32]) -> Marks
+pub(crate) fn marks(lot: &[u32]) -> [bool; MARKS]
     ensures { AreMarks (names lot.now) result }
 {
     let mut marks = [false; MARKS];
@@ -50,13 +47,13 @@ pub(crate) fn marks(lot: &[u32]) -> Marks
     marks
 }
 
-// Whether a lot with these marks names an index. Only an index without a mark is searched for.
-pub(crate) fn is_named(lot: &[u32], marks: &Marks, index: u32) -> bool
+// Whether a lot with these marks names an index. Only an index that the marks do not reach is searched for.
+pub(crate) fn is_named(lot: &[u32], marks: &[bool], index: u32) -> bool
     requires { AreMarks (names lot.now) marks.now }
     ensures { result ≡ names lot.now index }
 {
     let place = index as usize;
-    if place < MARKS {
+    if place < marks.len() {
         marks[place]
     } else {
         lot.contains(&index)

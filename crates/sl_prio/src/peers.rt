@@ -8,8 +8,8 @@ ghost use Rattle.sl_prio.specs.inner.Heap.{AreCounted, IsKept, IsPeerAt, IsAt, I
 ghost use Rattle.sl_prio.specs.inner.Marks.{AreApart, AreApartFrom, AreMarks, HaveMarks, IsPassed, names, have_index, first_named};
 
 use crate::heap::across;
-use crate::lot::{MARKS, Marks, is_named, lot_cmp, mark, unmark};
-use crate::places::{Places, note};
+use crate::lot::{is_named, lot_cmp, mark, unmark};
+use crate::places::note;
 use sl_ratio::Entry;
 
 // Whether an entry has the quotient of the top.
@@ -48,7 +48,7 @@ impl Counted {
     };
 
     // With one peer more, with which there are `count`. Beside others that are marked, it is marked too.
-    pub(crate) fn with_one(self, count: usize, marks: &mut Marks, index: u32) -> Counted
+    pub(crate) fn with_one(self, count: usize, marks: &mut [bool], index: u32) -> Counted
         ensures count { result.count ≡ count }
         ensures fresh { IsTrue result.marked → IsTrue self.marked × (slice_get marks.old index ≡ Some false) }
         ensures kept { IsTrue result.marked → (xs : List Entry) (x : Entry) → x.index ≡ index → HaveMarks xs marks.old → HaveMarks (x ∷ xs) marks.new }
@@ -106,7 +106,7 @@ fn count_peers(entries: &[Entry]) -> usize
 // The peers that are left in a heap of those before, of which one is gone. Where it was the only one, they are counted anew.
 pub(crate) fn peers_left(
     entries: &[Entry],
-    marks: &mut Marks,
+    marks: &mut [bool],
     before: Counted,
     gone: &Entry,
 ) -> Counted
@@ -128,7 +128,7 @@ pub(crate) fn peers_left(
 }
 
 // Takes the mark of an index away that a peer had which is gone.
-fn unmark_gone(marks: &mut Marks, marked: bool, index: u32)
+fn unmark_gone(marks: &mut [bool], marked: bool, index: u32)
     ensures { IsTrue marked → (xs : List Entry) → have_index xs index ≡ false → HaveMarks xs marks.old → HaveMarks xs marks.new }
 {
     if marked {
@@ -140,8 +140,8 @@ fn unmark_gone(marks: &mut Marks, marked: bool, index: u32)
 pub(crate) fn marked_anew(
     entries: &[Entry],
     top: &Entry,
-    marks: &mut Marks,
-    places: &mut Places,
+    marks: &mut [bool],
+    places: &mut [u16],
     counted: Counted,
 ) -> Counted
     requires kept { IsKept entries.now }
@@ -153,7 +153,7 @@ pub(crate) fn marked_anew(
     if counted.marked {
         return counted;
     }
-    *marks = [false; MARKS];
+    marks.fill(false);
     Counted {
         count: counted.count,
         marked: mark_peers(entries, top, marks, places, 0),
@@ -165,7 +165,7 @@ pub(crate) fn are_named(
     entries: &[Entry],
     top: &Entry,
     lot: &[u32],
-    marks: &Marks,
+    marks: &[bool],
     place: usize,
 ) -> bool
     requires marks { AreMarks (names lot.now) marks.now }
@@ -187,8 +187,8 @@ pub(crate) fn are_named(
 fn mark_peers(
     entries: &[Entry],
     top: &Entry,
-    marks: &mut Marks,
-    places: &mut Places,
+    marks: &mut [bool],
+    places: &mut [u16],
     place: usize,
 ) -> bool
     requires kept { IsKept entries.now }
@@ -206,13 +206,14 @@ fn mark_peers(
     fresh & left & right
 }
 
-// A place at which a peer with an index stands. An index without a mark is not searched for, and one with a mark is first searched for
-// from its noted place upwards. All entries are gone through only where that fails, and for an index that can have no mark.
+// A place at which a peer with an index stands. Of the indexes that the marks reach, one without a mark is not searched for, and one with
+// a mark is first searched for from its noted place upwards. All entries are gone through only where that fails, and for an index that the
+// marks do not reach.
 fn place_of(
     entries: &[Entry],
     top: &Entry,
-    marks: &Marks,
-    places: &Places,
+    marks: &[bool],
+    places: &[u16],
     index: u32,
 ) -> Option<usize>
     requires kept { IsKept entries.now }
@@ -220,13 +221,11 @@ fn place_of(
     ensures { MatchOption result (have_index (peers_under top.now entries.now 0) index ≡ false) (IsAt (is_peer_with top.now index) entries.now) }
 {
     let mark = index as usize;
-    if mark < MARKS {
-        if !marks[mark] {
-            return None;
-        }
-        if let Some(place) = place_above(entries, top, index, places[mark] as usize) {
-            return Some(place);
-        }
+    if mark < marks.len() && !marks[mark] {
+        return None;
+    }
+    if let Some(place) = noted_place(entries, top, places, index) {
+        return Some(place);
     }
     entries
         .iter()
@@ -241,6 +240,14 @@ fn has_at(entries: &[Entry], top: &Entry, index: u32, place: usize) -> bool
         Some(entry) => entry.index == index && is_peer(top, entry),
         None => false,
     }
+}
+
+// The first place from the noted one of an index upwards at which a peer with that index stands, where one is noted.
+fn noted_place(entries: &[Entry], top: &Entry, places: &[u16], index: u32) -> Option<usize>
+    ensures { IfSome result (IsAt (is_peer_with top.now index) entries.now) }
+{
+    let noted = *places.get(index as usize)?;
+    place_above(entries, top, index, noted as usize)
 }
 
 // The first place from the noted one upwards at which a peer with an index stands.
@@ -269,8 +276,8 @@ pub(crate) struct Named {
 fn first_named(
     entries: &[Entry],
     top: &Entry,
-    marks: &Marks,
-    places: &Places,
+    marks: &[bool],
+    places: &[u16],
     lot: &[u32],
     passed: usize,
 ) -> Option<Named>
@@ -309,8 +316,8 @@ fn draw(entries: &[Entry], top: &Entry, lot: &[u32], place: usize, best: usize) 
 pub(crate) fn drawn_at(
     entries: &[Entry],
     top: &Entry,
-    marks: &Marks,
-    places: &Places,
+    marks: &[bool],
+    places: &[u16],
     distinct: bool,
     lot: &[u32],
     passed: usize,

@@ -12,9 +12,9 @@ ghost use Rattle.sl_prio.specs.Lot.{drawn};
 ghost use Rattle.sl_prio.specs.inner.Marks.{IsPassed};
 
 use crate::heap::{sift_up, take_out};
-use crate::lot::{MARKS, Marks, marks};
+use crate::lot::{MARKS, marks};
 use crate::peers::{Counted, are_named, drawn_at, is_peer, marked_anew, peers_left};
-use crate::places::{Places, note};
+use crate::places::note;
 use sl_ratio::{Entry, NoMemory};
 use std::alloc::Global;
 use std::cmp::Ordering;
@@ -34,10 +34,10 @@ pub struct Prio {
     entries: Vec<Entry>,
     // the peers, the top among them
     counted: Counted,
-    // the peers' indexes have marks; another may have one that a peer left behind
-    marks: Marks,
-    // where the peers stand, or stood before they rose
-    places: Places,
+    // by index, as far as they reach: the peers' indexes have marks, and another may have one that a peer left behind
+    marks: Vec<bool>,
+    // by index, as far as they reach: where the peers stand, or stood before they rose
+    places: Vec<u16>,
 }
 
 impl Model for Prio {
@@ -49,7 +49,7 @@ impl Model for Prio {
 
     ghost view = { λ p. p.entries.items };
 
-    ghost invariant = { λ p. IsTable p.entries.items p.counted.count p.counted.marked p.marks };
+    ghost invariant = { λ p. IsTable p.entries.items p.counted.count p.counted.marked p.marks.items };
 }
 
 impl Prio {
@@ -60,8 +60,8 @@ impl Prio {
         Prio {
             entries: Vec::new(alloc),
             counted: Counted::NONE,
-            marks: [false; MARKS],
-            places: [0; MARKS],
+            marks: Vec::new(alloc),
+            places: Vec::new(alloc),
         }
     }
 
@@ -82,6 +82,17 @@ impl Prio {
         ensures added { OnOk result (IsPermutation (entry ∷ self.old) self.new) }
         ensures unchanged { OnErr result (self.new ≡ self.old) }
     {
+        if self.marks.is_empty() {
+            self.make_marks()?;
+        }
+        self.add(entry)
+    }
+
+    // Adds an entry, beside those that there are.
+    fn add(&mut self, entry: Entry) -> Result<(), NoMemory>
+        ensures added { OnOk result (IsPermutation (entry ∷ self.old) self.new) }
+        ensures unchanged { OnErr result (self.new ≡ self.old) }
+    {
         // no ratio has numerator 0: in order, only entries with their quotient come between two entries with one quotient
         prove!(entry.ratio.num() > 0);
         let joined = self.peers_with(&entry);
@@ -94,6 +105,19 @@ impl Prio {
         // from there it has risen
         note(&mut self.places, entry.index, place);
         self.counted = self.counted.with_one(count, &mut self.marks, entry.index);
+        Ok(())
+    }
+
+    // Makes the marks and the places, for all indexes below `MARKS`. It is called for the first entry, and stands apart so that a put which finds
+    // them is short.
+    #[cold]
+    #[inline(never)]
+    fn make_marks(&mut self) -> Result<(), NoMemory>
+        ensures { self.new ≡ self.old }
+    {
+        self.places.resize(MARKS, 0)?;
+        self.marks.resize(MARKS, false)?;
+        self.counted.marked = false;
         Ok(())
     }
 

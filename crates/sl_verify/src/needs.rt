@@ -6,7 +6,8 @@ ghost use Rattle.std.specs.Option.{option_map_or};
 ghost use Rattle.sl_verify.specs.Kinds.{contains, is_register};
 ghost use Rattle.sl_verify.specs.WellKinded.{context_of};
 ghost use Rattle.sl_stages.specs.book.Typing.{same_shape};
-ghost use Rattle.sl_instructions.specs.Rows.{register_in, slot_in, stage_in};
+ghost use Rattle.sl_instructions.specs.declared.instr.Instr.{Instr};
+ghost use Rattle.sl_instructions.specs.Rows.{operands_of, register_in, slot_in, stage_in};
 ghost use Rattle.sl_verify.specs.Needs.{has_registers, has_slot, has_column, has_stage, input_shape, needed_shape, suits, has_columns, needed_positive, shape_cursors, scope_cursors, entry_cursors, slot_cursors, table_cursors, needed_cursors, has_kinds, takes_entry, takes_share, points_at, has_table};
 
 use crate::known::{
@@ -14,7 +15,7 @@ use crate::known::{
     same_entries, same_ranking,
 };
 use sl_instructions::{
-    Code, Cursors, Entries, Input, Instr, Kinds, Operand, Ranking, ScopeKind, TableState,
+    Code, Cursors, Entries, Input, Instr, Kinds, Operand, Operands, Ranking, ScopeKind, TableState,
 };
 use sl_stages::Shape;
 
@@ -37,11 +38,11 @@ fn each_register(operands: &[Operand]) -> bool
     operands.iter().all(has_register)
 }
 
-/// Whether the machine has the registers that the instruction names.
-pub fn has_registers(instr: Instr) -> bool
-    ensures { result ≡ has_registers instr }
+/// Whether the machine has the registers that an instruction with these operands names.
+pub fn has_registers(operands: &Operands) -> bool
+    ensures { (instr : Instr) → operands.now ≡ operands_of instr → result ≡ has_registers instr }
 {
-    each_register(instr.operands().as_slice())
+    each_register(operands.as_slice())
 }
 
 fn same_shape(a: Shape, b: Shape) -> bool
@@ -123,11 +124,12 @@ fn each_operand(code: &Code, shape: Option<Shape>, operands: &[Operand]) -> bool
         .all(|operand| has_operand(code, shape, *operand))
 }
 
-/// Whether the code has the columns and the stage that the instruction names.
-pub fn has_columns(code: &Code, instr: Instr) -> bool
+/// Whether the code has the columns and the stage that the instruction, which has these operands, names.
+pub fn has_columns(code: &Code, instr: Instr, operands: &Operands) -> bool
+    requires { operands.now ≡ operands_of instr }
     ensures { result ≡ has_columns (context_of code.now) instr }
 {
-    each_operand(code, needed_shape(instr), instr.operands().as_slice())
+    each_operand(code, needed_shape(instr), operands.as_slice())
 }
 
 /// The register that must be positive.

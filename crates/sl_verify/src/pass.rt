@@ -67,10 +67,11 @@ fn check_needs(code: &Code, place: usize, kinds: Kinds, instr: Instr) -> Result<
     ensures tests { Judges result (need_tests code.now place kinds instr) tt }
     ensures registers { OnOk result (IsTrue (has_registers instr)) }
 {
-    if !has_registers(instr) {
+    let operands = instr.operands();
+    if !has_registers(&operands) {
         return Err(VerifyFault::Register(place));
     }
-    if !has_columns(code, instr) {
+    if !has_columns(code, instr, &operands) {
         return Err(VerifyFault::Slot(place));
     }
     if !has_kinds(code, kinds, instr) {

@@ -1,23 +1,30 @@
 -- An instruction reads no records: in a state without them it does what it does, but for those.
-use Rattle.std.proofs.Common.{◌≡◌, ◌≢◌, sym, ℕ, zero, suc, Bool, true, false, Option, Some, None, if◌then◌else◌, refl, ap, rules}
+use Rattle.std.proofs.Common.{◌≡◌, ◌≢◌, sym, ℕ, zero, suc, Bool, true, false, Option, Some, None, min, if◌then◌else◌, refl, ap, rules}
 use Rattle.sl_stages.specs.declared.book.Shape.{Shape}
 use Rattle.sl_stages.specs.declared.book.Shape.TheVariants as shape
 use Rattle.sl_stages.specs.declared.fault.Scope.{Scope}
-use Rattle.sl_stages.specs.declared.table.Weight.{Weight}
+use Rattle.sl_ratio.specs.declared.limits.TheConstants.{MAX_WEIGHT}
+use Rattle.sl_stages.specs.declared.table.Mark.{Mark}
+use Rattle.sl_stages.specs.declared.table.Mark.TheVariants as mark
 use Rattle.sl_stages.specs.returns.Election.{Election}
 use Rattle.sl_instructions.specs.declared.instr.Instr.{Instr}
 use Rattle.sl_instructions.specs.declared.instr.Instr.TheVariants as instr
 use Rattle.sl_instructions.specs.declared.operand.Entries.{Entries}
 use Rattle.sl_instructions.specs.declared.operand.Entries.TheVariants as entries
+use Rattle.sl_instructions.specs.declared.operand.Rounding.{Rounding}
 use Rattle.sl_instructions.specs.declared.operand.ScopeKind.{ScopeKind}
 use Rattle.sl_instructions.specs.declared.operand.ScopeKind.TheVariants as kind
 use Rattle.sl_instructions.specs.Codes.{CountingCode}
+use Rattle.sl_instructions.specs.Numbers.{divisor_of}
+use Rattle.sl_machine.specs.declared.step.Records.{Records}
 use Rattle.sl_machine.specs.declared.step.Records.TheVariants as records
 use Rattle.sl_semantics.specs.State.{State, PriorityTable}
-use Rattle.sl_semantics.specs.Places.{cell_at, index_at, at_entry, scope_at}
-use Rattle.sl_semantics.specs.Effects.{Effect, Goes, Jumps, NoCase, with_weight, effect, given, where_positive, to_party, first_of, seat_winner, sets_house, counts_peers}
+use Rattle.sl_semantics.specs.Places.{cell_at, index_at, at_entry, item_of, scope_at}
+use Rattle.sl_semantics.specs.Effects.{Effect, Goes, Jumps, NoCase, with_step, with_weight, stage_of, effect, given, where_positive, to_party, first_of, seat_winner, sets_house, counts_peers}
+use Rattle.sl_semantics.specs.Effects as machine
 use Rattle.sl_semantics.specs.Unrecorded.{unrecorded}
-use Rattle.sl_machine.specs.inner.Recording.{unrecorded_effect, left_by}
+use Rattle.sl_machine.specs.inner.Recording.{unrecorded_effect, state_by, left_by}
+use Rattle.sl_machine.specs.inner.Ways.{is_idle}
 
 -- ---- the forms of effects
 given_left : {A : Type 0} (o : Option A) (go : A → Effect) → unrecorded_effect (given o go) ≡ given o (λ x. unrecorded_effect (go x))
@@ -79,15 +86,48 @@ module _ (c : CountingCode) (e : Election) (s : State) where
   drops instr.Wland = search dropping
   drops i = search dropping
 
--- ---- a weight that is dropped
+-- ---- what does nothing
 
-module _ (s : State) (bare : unrecorded s ≡ s) where
-  weight_there : (o : Option ℕ) (to : ℕ → Weight) → given o (λ i. Goes (with_weight (to i) s)) ≢ NoCase → Goes s ≡ unrecorded_effect (given o (λ i. Goes (with_weight (to i) s)))
-  weight_there None to h = absurd (h refl)
-  weight_there (Some i) to h = ap Goes (sym bare)
+module _ (s : State) where
+  goes_there : (o : Option ℕ) (to : ℕ → State) → ((i : ℕ) → unrecorded (to i) ≡ s) → given o (λ i. Goes (to i)) ≢ NoCase → Goes s ≡ unrecorded_effect (given o (λ i. Goes (to i)))
+  goes_there None to same case = absurd (case refl)
+  goes_there (Some i) to same case = ap Goes (sym (same i))
 
-  pub weight_dropped : (n : ℕ) (stage : Option ℕ) (scope : Option Scope) (table : Option PriorityTable) (index : PriorityTable → Option ℕ) (to : ℕ → Scope → PriorityTable → ℕ → Weight) →
-      where_positive n (given stage (λ a. given scope (λ b. given table (λ t. given (index t) (λ i. Goes (with_weight (to a b t i) s)))))) ≢ NoCase →
-      Goes s ≡ unrecorded_effect (where_positive n (given stage (λ a. given scope (λ b. given table (λ t. given (index t) (λ i. Goes (with_weight (to a b t i) s)))))))
-  weight_dropped (suc n) (Some a) (Some b) (Some t) index to h = weight_there (index t) (to a b t) h
-  weight_dropped n stage scope table index to h = absurd (h refl)
+  -- a record that is dropped
+  record_goes : (stage : Option ℕ) (scope : Option Scope) (table : Option PriorityTable) (index : PriorityTable → Option ℕ) (to : ℕ → Scope → PriorityTable → ℕ → State) →
+      ((a : ℕ) (b : Scope) (t : PriorityTable) (i : ℕ) → unrecorded (to a b t i) ≡ s) →
+      given stage (λ a. given scope (λ b. given table (λ t. given (index t) (λ i. Goes (to a b t i))))) ≢ NoCase →
+      Goes s ≡ unrecorded_effect (given stage (λ a. given scope (λ b. given table (λ t. given (index t) (λ i. Goes (to a b t i))))))
+  record_goes (Some a) (Some b) (Some t) index to same case = goes_there (index t) (to a b t) (same a b t) case
+  record_goes stage scope table index to same case = absurd (case refl)
+
+  where_goes : (n : ℕ) (x : Effect) → (x ≢ NoCase → Goes s ≡ unrecorded_effect x) → where_positive n x ≢ NoCase → Goes s ≡ unrecorded_effect (where_positive n x)
+  where_goes zero x there case = absurd (case refl)
+  where_goes (suc n) x there case = there case
+
+module _ (c : CountingCode) (e : Election) (s : State) (bare : unrecorded s ≡ s) where
+  recorded : (n : ℕ) (kind : ScopeKind) (number step : ℕ) (mark : Mark) → machine.records c e n kind number step mark s ≢ NoCase →
+      Goes s ≡ unrecorded_effect (machine.records c e n kind number step mark s)
+  recorded n kind number step mark case =
+      record_goes s (stage_of c.stages n) (scope_at kind s) s.table (λ t. index_at e t.entries s)
+      (λ stage scope t index. with_step (record { stage = stage; scope = scope; entry = item_of e t.entries index; n = number; step = step; mark = mark }) s)
+      (λ stage scope t index. bare) case
+
+  pub weighed : (n : ℕ) (kind : ScopeKind) (by : Rounding) (weight : ℕ) → where_positive weight (machine.weighs c e n kind by weight s) ≢ NoCase →
+      Goes s ≡ unrecorded_effect (where_positive weight (machine.weighs c e n kind by weight s))
+  weighed n kind by weight case =
+      where_goes s weight (machine.weighs c e n kind by weight s)
+      (record_goes s (stage_of c.stages n) (scope_at kind s) s.table (λ t. index_at e t.entries s)
+      (λ stage scope t index.
+      with_weight (record { stage = stage; scope = scope; entry = item_of e t.entries index; divisor = divisor_of by; weight = min weight MAX_WEIGHT }) s)
+      (λ stage scope t index. bare)) case
+
+-- an instruction that does nothing goes on in the state
+pub idle_goes : (c : CountingCode) (e : Election) (s : State) (k : Records) (i : Instr) → is_idle k i ≡ true → state_by k s ≡ s → effect c e i s ≢ NoCase →
+    Goes s ≡ left_by k i (effect c e i s)
+idle_goes c e s k (instr.At known) idle none case = refl
+idle_goes c e s records.Dropped (instr.Emit n kind number step) idle none case = recorded c e s none n kind (s.registers number) (s.registers step) s.mark case
+idle_goes c e s records.Dropped (instr.Given n kind number) idle none case = recorded c e s none n kind (s.registers number) 0 mark.Given case
+idle_goes c e s records.Dropped (instr.Weigh n kind by r) idle none case = weighed c e s none n kind by (s.registers r) case
+idle_goes c e s records.Kept i idle none case = cc
+idle_goes c e s records.Dropped i idle none case = cc

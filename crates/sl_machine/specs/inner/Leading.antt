@@ -1,5 +1,5 @@
 -- Where a step of the machine leads, and how its steps end.
-use Rattle.std.specs.Prelude.{◌≡◌, ℕ, suc, Bool, true, false, Option, Some, None, IsTrue, slice_get}
+use Rattle.std.specs.Prelude.{◌≡◌, ◌-◌, ℕ, suc, Bool, true, false, Option, Some, None, IsTrue, slice_get}
 use Rattle.std.specs.Option.{ForSome}
 use Rattle.sl_stages.specs.returns.Election.{Election}
 use Rattle.sl_instructions.specs.Codes.{CountingCode}
@@ -26,10 +26,10 @@ ends_run _ = false
 abbrev pub EndsAt : CountingCode → ℕ → Type 0
 EndsAt c p = ForSome (slice_get c.instrs p) (λ i. IsTrue (ends_run i))
 
--- a step from a place and a state leads to a place and a state that are safe: runs with one step less go on there, but for the records where they are
--- dropped, of which the state has none then
-abbrev pub LeadsTo : Records → CountingCode → Election → ℕ → State → ℕ → State → Type 0
-LeadsTo k c e p s q t = IsSafe c e q t × (state_by k t ≡ t) × ((n : ℕ) → ending_by k (run c e (suc n) p s) ≡ ending_by k (run c e n q t))
+-- so many steps from a place and a state lead to a place and a state that are safe: a run ends as one with so many steps less does from there, but for the
+-- records where they are dropped, of which the state has none then
+abbrev pub LeadsTo : Records → CountingCode → Election → ℕ → State → ℕ → ℕ → State → Type 0
+LeadsTo k c e p s n q t = IsSafe c e q t × (state_by k t ≡ t) × ((left : ℕ) → ending_by k (run c e left p s) ≡ ending_by k (run c e (left - n) q t))
 
 -- it comes to an end that fits
 abbrev pub EndsWith : Records → CountingCode → Election → ℕ → State → End → State → Type 0

@@ -1,7 +1,7 @@
 -- How the machine's store stands for a state.
 use Rattle.std.specs.Prelude.{◌≡◌, ℕ, List, [], length, map, slice_index, slice_index_or}
 use Rattle.sl_stages.specs.declared.table.Placed.TheVariants as placed
-use Rattle.sl_stages.specs.returns.Election.{Election, wins_of}
+use Rattle.sl_stages.specs.returns.Election.{Election, parties_of, wins_of}
 use Rattle.sl_instructions.specs.Codes.{CountingCode}
 use Rattle.sl_machine.specs.declared.step.End.{End as Answer}
 use Rattle.sl_machine.specs.declared.step.End.TheVariants as end
@@ -22,8 +22,8 @@ abbrev pub state_of : Store → State
 state_of s = record {
   registers = λ r. slice_index s.registers r;
   columns = λ k place. slice_index (slice_index_or (columns_of s) k []) place;
-  party = s.cursors.party;
-  land = s.cursors.land;
+  party = s.cursors.cells.party;
+  land = s.cursors.cells.land;
   win = s.cursors.win;
   table = s.table.on;
   mark = s.mark;
@@ -32,18 +32,19 @@ state_of s = record {
   placed = λ w. slice_index_or s.placed.items w placed.Unseated;
 }
 
--- what no step changes: how many cells each column has, how many winners there are, and the lots
+-- what no step changes: how many cells each column has, how many parties and winners there are, and the lots
 pub record Sizes : Type 0 where
   pub columns : List ℕ
+  pub parties : ℕ
   pub winners : ℕ
   pub lots : List StageLots
 
 abbrev pub sizes_of : Store → Sizes
-sizes_of s = record { columns = map length (columns_of s); winners = length s.placed.items; lots = s.table.lots }
+sizes_of s = record { columns = map length (columns_of s); parties = s.cursors.cells.parties; winners = length s.placed.items; lots = s.table.lots }
 
 -- those that a code and returns ask for
 abbrev pub sizes_for : CountingCode → Election → Sizes
-sizes_for c e = record { columns = map (cells_of e) c.slots; winners = wins_of e; lots = lots_for c e }
+sizes_for c e = record { columns = map (cells_of e) c.slots; parties = parties_of e; winners = wins_of e; lots = lots_for c e }
 
 -- the end that a body answers, and the effect, with the state that it leaves
 abbrev pub end_with : Answer → State → End

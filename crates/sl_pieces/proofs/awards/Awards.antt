@@ -58,7 +58,7 @@ module _ (c : CountingCode) (e : Election) (a : Arena) (most seats n : ℕ) (mea
       let counts : Counts a seats Held base (set_out state) = counts_first state held all in
       let walked : Achieves c e (plan.batches reg.TURNS bound whole_batch (counted_seat on)) (set_out state) (AfterBatches a seats (IsWhole a seats) (IsLast a seats) (Counts a seats Held)) Never =
       batches_achieve c e a most seats reg.TURNS bound whole_batch (counted_seat on) (IsWhole a seats) (IsLast a seats) (Counts a seats Held) base (set_out state) can.arena can.few
-      (gives_counted c e a most seats on Held fits can.arena gives) (begins_whole c e a most seats on Held fits can.arena can.room can.few can.countable)
+      (gives_counted c e a most seats on Held fits can.arena gives) (begins_whole c e a most seats on Held fits can.arena can.room can.few)
       (fits_whole c e a most seats on Held fits) begin waits counts counts.left (omega (arith, all, within)) in
       goes_as {t = set_out state}
       (then_achieves {Q = AfterBatches a seats (IsWhole a seats) (IsLast a seats) (Counts a seats Held)} (achieves_never walked)

@@ -46,7 +46,7 @@ seat_half on = If (test.Zero reg.IN_BATCH) (Line []) (one_seat on)
 -- it does not write the loop's register
 keeps_turns : (Held : List ℕ → State → Type 0) (r : ℕ) (on : Tree) → FitsLoop Held r on → may_write_register (seat_half on) r ≡ false
 keeps_turns Held r on fits =
-    rw (fits.on_keeps, free_of (nat_eq r) walk_registers fits.apart reg.PEERS refl, free_of (nat_eq r) walk_registers fits.apart reg.IN_BATCH refl, free_of (nat_eq r) walk_registers fits.apart ones refl) refl
+    rw (fits.on_keeps, free_of (nat_eq r) walk_registers fits.apart reg.PEERS refl, free_of (nat_eq r) walk_registers fits.apart reg.IN_BATCH refl) refl
 
 module _ (c : CountingCode) (e : Election) (a : Arena) (most seats r : ℕ) (begin on : Tree)
     (Begun : List ℕ → ℕ → Type 0) (Stopped : List ℕ → Type 0) (Held : List ℕ → State → Type 0)
@@ -94,13 +94,13 @@ module _ (c : CountingCode) (e : Election) (a : Arena) (most seats r : ℕ) (beg
 
   -- ---- the second half of a turn, where a batch is under way, and where there is none
   seat_turn : (w : ℕ) (s peers given t : List ℕ) (state : State) → suc w + sum t ≡ seats → MidBatch a.ladders s peers given t → length given + state.registers reg.IN_BATCH ≡ length peers
-      → 0 < state.registers reg.IN_BATCH → Begun s (state.registers reg.STEP) → HasWaiting a t state → Held t state
+      → 0 < state.registers reg.IN_BATCH → Begun s (state.registers reg.STEP) → state.registers ones ≡ 1 → HasWaiting a t state → Held t state
       → Achieves c e (seat_half on) state (Before w) Never
-  seat_turn w s peers given t state many mid left some begun waits held =
+  seat_turn w s peers given t state many mid left some begun one waits held =
       if_zero (λ none. absurd (omega (arith, some, none)))
       (λ n is.
       let rest : length given + suc n ≡ length peers = omega (arith, left, is) in
-      achieves_so (gives_seat c e a Held r on fits most Begun arena gives seats n s peers given t state within (omega (arith, many)) mid rest begun waits held is)
+      achieves_so (gives_seat c e a Held r on fits most Begun arena gives seats n s peers given t state within (omega (arith, many)) mid rest begun one waits held is)
       (λ v h. seat_over w n (state.registers reg.STEP) s peers given t v many rest begun h))
 
   -- the second half leaves as many turns to come as there were
@@ -119,24 +119,26 @@ module _ (c : CountingCode) (e : Election) (a : Arena) (most seats r : ℕ) (beg
 
   -- after the first half of a turn that found no batch under way
   begun_turn : (w : ℕ) (t : List ℕ) (state : State) → suc w + sum t ≡ seats → IsSettled a.ladders t → HasWaiting a t state → Held t state → HasBegun a r w Begun Stopped t state
-      → Achieves c e (seat_half on) state (Turned w) Never
-  begun_turn w t state many settled waits held (NoBatch none low stopped) = idle_turn w t state settled stopped waits held none low
-  begun_turn w t state many settled waits held (OneBegan peers listed some all is begun) =
+      → state.registers ones ≡ 1 → Achieves c e (seat_half on) state (Turned w) Never
+  begun_turn w t state many settled waits held (NoBatch none low stopped) one = idle_turn w t state settled stopped waits held none low
+  begun_turn w t state many settled waits held (OneBegan peers listed some all is begun) one =
       as_many_turns w state is
-      (seat_turn w t peers [] t state many ((walks a.ladders arena.falling).begin t peers settled listed) (omega (arith, all)) (omega (arith, some, all)) begun waits held)
+      (seat_turn w t peers [] t state many ((walks a.ladders arena.falling).begin t peers settled listed) (omega (arith, all)) (omega (arith, some, all)) begun one waits held)
 
   -- ---- a turn
-  turn_goes : (w : ℕ) (t : List ℕ) (state : State) → state.registers r ≡ w → HasWaiting a t state → Held t state
+  turn_goes : (w : ℕ) (t : List ℕ) (state : State) → state.registers r ≡ w → state.registers ones ≡ 1 → HasWaiting a t state → Held t state
       → StandsAt a seats Begun Stopped (suc w) t (state.registers reg.IN_BATCH) (state.registers reg.STEP)
       → Achieves c e (batch_turn begin on) state (Turned w) Never
-  turn_goes w t state turns waits held (BetweenBatches settled none many) =
-      then_achieves {Q = λ v. HasWaiting a t v × Held t v × HasBegun a r (state.registers r) Begun Stopped t v}
-      (if_zero (λ is. begins.begins t state settled waits held is (omega (arith, many))) (λ n is. absurd (omega (arith, none, is))))
-      (λ v h. begun_turn w t v many settled h.0 h.1 (subst (λ (n : ℕ). HasBegun a r n Begun Stopped t v) turns h.2))
-  turn_goes w t state turns waits held (WithinBatch s peers given mid left some begun many) =
+  turn_goes w t state turns one waits held (BetweenBatches settled none many) =
+      then_achieves {Q = λ v. HasWaiting a t v × Held t v × HasBegun a r (state.registers r) Begun Stopped t v × (v.registers ones ≡ 1)}
+      (if_zero
+      (λ is. achieves_keeping (begins.begins t state settled waits held is (omega (arith, many, turns))) (λ v h kept. (h.0, h.1, h.2, kept.registers ones begins.keeps ∙ one)))
+      (λ n is. absurd (omega (arith, none, is))))
+      (λ v h. begun_turn w t v many settled h.0 h.1 (subst (λ (n : ℕ). HasBegun a r n Begun Stopped t v) turns h.2) h.3)
+  turn_goes w t state turns one waits held (WithinBatch s peers given mid left some begun many) =
       then_at (if_zero (λ is. absurd (omega (arith, some, is))) (λ n is. line_ends refl))
-      (as_many_turns w state turns (seat_turn w s peers given t state many mid left some begun waits held))
-  turn_goes w t state turns waits held (BehindLast settled none stopped) =
+      (as_many_turns w state turns (seat_turn w s peers given t state many mid left some begun one waits held))
+  turn_goes w t state turns one waits held (BehindLast settled none stopped) =
       then_achieves {Q = λ v. HasWaiting a t v × Held t v × (v.registers reg.IN_BATCH ≡ 0) × (v.registers r ≤ state.registers r)}
       (if_zero (λ is. begins.rests t state settled waits held is stopped) (λ n is. absurd (omega (arith, none, is))))
       (λ v h. idle_turn w t v settled stopped h.0 h.1 h.2 (omega (arith, h.3, turns)))
@@ -151,8 +153,10 @@ module _ (c : CountingCode) (e : Election) (a : Arena) (most seats r : ℕ) (beg
       → Achieves c e (Times r bound (batch_turn begin on)) state (AfterBatches a seats Begun Stopped Held) Never
   all_turns bound state few first =
       times_achieves Before (free_of (nat_eq r) walk_registers fits.apart ones refl) few first
-      (λ w u is h. let here : Before (suc w) (with_register r w (with_register ones 1 u)) = counted w u h in
-      turn_goes w here.t (with_register r w (with_register ones 1 u)) (register_same (with_register ones 1 u) r w) here.waits here.held here.turn)
+      (λ w u is h.
+      let one : State = with_register ones 1 u in
+      let here : Before (suc w) (with_register r w one) = counted w u h in
+      turn_goes w here.t (with_register r w one) (register_same one r w) (register_other one r w ones (apart ones refl)) here.waits here.held here.turn)
       (λ u is h. record { t = h.t; waiting = h.waits; held = h.held; end = ends_so h.t u h.turn })
 
   all_batches : (bound : Bound) (t : List ℕ) (state : State) → IsSettled a.ladders t → HasWaiting a t state → Held t state

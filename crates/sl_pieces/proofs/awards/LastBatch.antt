@@ -135,7 +135,7 @@ module _ (c : CountingCode) (e : Election) (a : Arena) (most seats n : ℕ) (mea
           let one : IsWaiting a t seat.entry seat.gets.taken.others = record { has = seat.gets.has; seats = seat.gets.taken.before } in
           line_first (effects.takes_drawn n can.name first seat.entry seat.gets.taken.others one can.named seat.turn.first seat.drawn_turn.draws)
           (line_over (achieves_keeping
-          (gives.gives s tied (drawn meant drawing.k tied) t seat.u seat.entry before_seat seat.gets few_then drawing.counted drawing.waits (held_counted t w number state drawing.held))
+          (gives.gives s tied (drawn meant drawing.k tied) t seat.u seat.entry before_seat seat.gets few_then drawing.counted refl drawing.waits (held_counted t w number state drawing.held))
           (λ after h kept. next_drawn after h.0 h.1 kept)))
 
     draw_turn : (w : ℕ) (state : State) → IsDrawing a seats meant Held s tied (suc w) state

@@ -9,7 +9,7 @@ use Rattle.sl_stages.proofs.methods.RaisedSeats.{raise, Contains-cases, Contains
 use Rattle.sl_stages.proofs.methods.LadderProofs.{raise_each}
 use Rattle.sl_stages.proofs.methods.SeatSums.{entry_le_sum}
 use Rattle.sl_stages.proofs.methods.WalkProofs.{walks}
-use Rattle.sl_instructions.specs.declared.instr.Instr.TheVariants.{Take}
+use Rattle.sl_instructions.specs.declared.instr.Instr.TheVariants.{Sub, Take}
 use Rattle.sl_instructions.specs.declared.operand.Entries.{Entries}
 use Rattle.sl_instructions.specs.declared.operand.Entries.TheVariants as entries
 use Rattle.sl_instructions.specs.Codes.{CountingCode}
@@ -18,10 +18,10 @@ use Rattle.sl_prio.specs.Prio.{top}
 use Rattle.sl_semantics.specs.State.{State, with_register}
 use Rattle.sl_semantics.specs.Places.{at_entry}
 use Rattle.sl_semantics.specs.Effects.{Goes, effect}
-use Rattle.sl_plans.specs.Trees.{Tree, Line, Then, ones, count_down}
+use Rattle.sl_plans.specs.Trees.{Tree, Line, Then, ones}
 use Rattle.sl_plans.specs.Achieves.{Achieves, Never}
 use Rattle.sl_plans.specs.Frames.{KeepsRest, may_write_register}
-use Rattle.sl_plans.proofs.Rules.{then_achieves, if_empty, ends_in, line_first, line_over, achieves_so}
+use Rattle.sl_plans.proofs.Rules.{if_empty, line_first, line_over, achieves_so}
 use Rattle.sl_plans.proofs.KeepingRules.{achieves_keeping, free_of}
 use Rattle.sl_pieces.specs.arenas.Arenas.{Arena, IsArena, HasWaiting, seat_of, table_of, waiting, seat_taken}
 use Rattle.sl_pieces.specs.arenas.Laws.{SeatTaken, Turn}
@@ -75,15 +75,6 @@ pub record SeatGiven (a : Arena) (Held : List ℕ → State → Type 0) (s peers
   pub after : AfterSeat a Held u n number state
 
 module _ (c : CountingCode) (e : Election) (a : Arena) (Held : List ℕ → State → Type 0) (r : ℕ) (on : Tree) (fits : FitsLoop Held r on) where
-  -- the seat is counted
-  counts_seat : (u : List ℕ) (n number : ℕ) (state : State) → AfterSeat a Held u (suc n) number state
-      → Achieves c e (Line (count_down reg.IN_BATCH)) state (AfterSeat a Held u n number) Never
-  counts_seat u n number state h =
-      let one : State = with_register ones 1 state in
-      let less : state.registers reg.IN_BATCH - 1 ≡ n = omega (arith, h.left) in
-      ends_in refl (assumption
-      (fits.blind reg.IN_BATCH refl u (one.registers reg.IN_BATCH - one.registers ones) one (fits.blind ones refl u 1 state h.held)))
-
   -- what is done with a seat leaves the registers of the batch
   keeps_batch : (u : List ℕ) (n number : ℕ) (state after : State) → state.registers reg.IN_BATCH ≡ n → state.registers reg.STEP ≡ number
       → HasWaiting a u after → Held u after → KeepsRest on state after → AfterSeat a Held u n number after
@@ -93,30 +84,29 @@ module _ (c : CountingCode) (e : Election) (a : Arena) (Held : List ℕ → Stat
   )
 
   module _ (most : ℕ) (Begun : List ℕ → ℕ → Type 0) (arena : IsArena most a) (gives : GivesSeats c e a most Begun Held on) where
-    -- the seat on top of the table is taken and given
+    -- the seat on top of the table is counted, taken and given
     takes_seat : (s peers given t u : List ℕ) (entry n : ℕ) (state : State) (gets : Gets a s peers given t u entry) → ((i : ℕ) → slice_index t i ≤ most)
         → ((i : ℕ) → slice_index u i ≤ most) → top (ranked (waiting a t)) ≡ Some (seat_of a entry (slice_index t entry)) → Begun s (state.registers reg.STEP)
-        → HasWaiting a t state → Held t state → state.registers reg.IN_BATCH ≡ suc n
-        → Achieves c e (Then (Line (Take ∷ [])) (Then on (Line (count_down reg.IN_BATCH)))) state (AfterSeat a Held u n (state.registers reg.STEP)) Never
-    takes_seat s peers given t u entry n state gets few few_after first begun waits held left =
+        → state.registers ones ≡ 1 → HasWaiting a t state → Held t state → state.registers reg.IN_BATCH ≡ suc n
+        → Achieves c e (Then (Line (Sub reg.IN_BATCH ones ∷ (Take ∷ []))) on) state (AfterSeat a Held u n (state.registers reg.STEP)) Never
+    takes_seat s peers given t u entry n state gets few few_after first begun one waits held left =
         let others : List Entry = gets.taken.others in
-        let taken : State = seat_taken e a entry (slice_index t entry) others state in
-        let number : ℕ = state.registers reg.STEP in
-        let same : taken.registers ≡ state.registers = taken_registers e a entry (slice_index t entry) others state in
+        let counted : State = with_register reg.IN_BATCH (state.registers reg.IN_BATCH - state.registers ones) state in
+        let less : state.registers reg.IN_BATCH - state.registers ones ≡ n = omega (arith, left, one) in
+        let taken : State = seat_taken e a entry (slice_index t entry) others counted in
+        let same : taken.registers ≡ counted.registers = taken_registers e a entry (slice_index t entry) others counted in
         let is_waiting : IsWaiting a t entry others = record { has = gets.has; seats = gets.taken.before } in
-        let takes : effect c e Take state ≡ Goes taken = (waiting_effects c e most a t state arena few waits).takes entry others is_waiting first in
-        line_first takes
-        (line_over (then_achieves {Q = AfterSeat a Held u (suc n) number}
-        (achieves_keeping (gives.gives s peers given t u entry state gets few_after begun waits held)
-        (λ v h kept. keeps_batch u (suc n) number taken v (ap (λ f. f reg.IN_BATCH) same ∙ left) (ap (λ f. f reg.STEP) same) h.0 h.1 kept))
-        (λ v h. counts_seat u n number v h)))
+        let takes : effect c e Take counted ≡ Goes taken = (waiting_effects c e most a t counted arena few waits).takes entry others is_waiting first in
+        line_first refl (line_first takes
+        (line_over (achieves_keeping (gives.gives s peers given t u entry counted gets few_after begun one waits (fits.blind reg.IN_BATCH refl t _ state held))
+        (λ v h kept. keeps_batch u n (state.registers reg.STEP) taken v (ap (λ f. f reg.IN_BATCH) same ∙ less) (ap (λ f. f reg.STEP) same) h.0 h.1 kept))))
 
     -- the plan of a seat, within a batch of which seats are left
     pub gives_seat : (seats n : ℕ) (s peers given t : List ℕ) (state : State) → seats ≤ most → sum t < seats
         → MidBatch a.ladders s peers given t → length given + suc n ≡ length peers
-        → Begun s (state.registers reg.STEP) → HasWaiting a t state → Held t state → state.registers reg.IN_BATCH ≡ suc n
+        → Begun s (state.registers reg.STEP) → state.registers ones ≡ 1 → HasWaiting a t state → Held t state → state.registers reg.IN_BATCH ≡ suc n
         → Achieves c e (one_seat on) state (SeatGiven a Held s peers given t n (state.registers reg.STEP)) Never
-    gives_seat seats n s peers given t state within room mid many begun waits held left =
+    gives_seat seats n s peers given t state within room mid many begun one waits held left =
         let l : Ladders = a.ladders in
         let few : (i : ℕ) → slice_index t i ≤ most = holds_at_most most seats t (omega (arith, room)) within in
         let turn : Turn a s peers given t = waiting_turns most a s peers given t arena few mid (omega (arith, many)) in
@@ -134,5 +124,5 @@ module _ (c : CountingCode) (e : Election) (a : Arena) (Held : List ℕ → Stat
         (λ none. let some = turn.some in absurd (omega (arith, some, none)))
         (λ m is.
         let counted : State = with_register reg.PEERS (suc m) state in
-        achieves_so (takes_seat s peers given t u entry n counted gets few few_after turn.first begun waits (fits.blind reg.PEERS refl t (suc m) state held) left)
+        achieves_so (takes_seat s peers given t u entry n counted gets few few_after turn.first begun one waits (fits.blind reg.PEERS refl t (suc m) state held) left)
         (λ v h. record { u = u; entry = entry; mid = goes.0; total = total; after = h }))

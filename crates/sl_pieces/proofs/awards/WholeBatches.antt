@@ -36,7 +36,7 @@ use Rattle.sl_pieces.proofs.awards.Turns.{holds_at_most, same_registers}
 
 -- the state with one seat less to give
 abbrev pub lessened : State → State
-lessened s = with_register reg.LEFT (s.registers reg.LEFT - 1) (with_register ones 1 s)
+lessened s = with_register reg.LEFT (s.registers reg.LEFT - s.registers ones) s
 
 module _ (e : Election) where
   -- the seat may be counted once an entry is taken, or before
@@ -44,7 +44,11 @@ module _ (e : Election) where
   lessened_before entries.Party index s = refl
   lessened_before _ index s = refl
 
--- the state with the step of the batch that begins
+-- the state with the step of the batch that begins in a turn
+abbrev pub beginning : State → State
+beginning s = with_register reg.STEP (s.registers reg.ALL_LEFT - s.registers reg.TURNS) (with_register reg.STEP (s.registers reg.ALL_LEFT) s)
+
+-- the state with the step of the last batch
 abbrev pub stepping : State → State
 stepping s =
     with_register reg.STEP (min (s.registers reg.ALL_LEFT - s.registers reg.LEFT + 1) machine.most)
@@ -118,11 +122,10 @@ module _ (c : CountingCode) (e : Election) (a : Arena) (most seats : ℕ) (on : 
   -- ---- a seat
 
   held_less : (t : List ℕ) (state : State) → Held t state → Held t (lessened state)
-  held_less t state h =
-      fits.blind reg.LEFT refl t (state.registers reg.LEFT - 1) (with_register ones 1 state) (fits.blind ones refl t 1 state h)
+  held_less t state h = fits.blind reg.LEFT refl t (state.registers reg.LEFT - state.registers ones) state h
 
   module _ (arena : IsArena most a) (gives : GivesSeats c e a most (IsCounted a seats) Held on) (s tied given t u : List ℕ) (entry : ℕ) (state : State)
-      (gets : Gets a s tied given t u entry) where
+      (gets : Gets a s tied given t u entry) (one : state.registers ones ≡ 1) where
     -- the state of the machine where the plan for the seat begins
     at_seat : State
     at_seat = seat_taken e a entry (slice_index t entry) gets.taken.others (lessened state)
@@ -138,7 +141,7 @@ module _ (c : CountingCode) (e : Election) (a : Arena) (most seats : ℕ) (on : 
     count_seat : (after : State) → IsWhole a seats s (state.registers reg.STEP) → Counts a seats Held t state → Held u after → KeepsRest on at_seat after → Counts a seats Held u after
     count_seat after begun counts held kept =
         let sums : TurnSums s tied given t u = turn_sums a.ladders arena.falling s tied given t u entry gets.batch gets.one_of gets.left gets.raised in
-        let left : after.registers reg.LEFT ≡ state.registers reg.LEFT - 1 = kept.registers reg.LEFT (keeps reg.LEFT refl) ∙ at_seat_registers reg.LEFT in
+        let left : after.registers reg.LEFT ≡ state.registers reg.LEFT - state.registers ones = kept.registers reg.LEFT (keeps reg.LEFT refl) ∙ at_seat_registers reg.LEFT in
         let all : after.registers reg.ALL_LEFT ≡ state.registers reg.ALL_LEFT = kept.registers reg.ALL_LEFT (keeps reg.ALL_LEFT refl) ∙ at_seat_registers reg.ALL_LEFT in
         search arith
 
@@ -147,12 +150,12 @@ module _ (c : CountingCode) (e : Election) (a : Arena) (most seats : ℕ) (on : 
     unfolding at_seat
     seat_counted few begun waits counts =
         then_at {w = at_seat} (ends_in refl taken_first)
-        (achieves_keeping (gives.gives s tied given t u entry (lessened state) gets few begun.counted waits (held_less t state counts.held))
+        (achieves_keeping (gives.gives s tied given t u entry (lessened state) gets few begun.counted one waits (held_less t state counts.held))
         (λ after h kept. (h.0, count_seat after begun counts h.1 kept)))
 
   pub gives_counted : IsArena most a → GivesSeats c e a most (IsCounted a seats) Held on → GivesSeats c e a most (IsWhole a seats) (Counts a seats Held) (counted_seat on)
   gives_counted arena gives = record {
-    gives = λ s tied given t u entry state gets few begun waits counts. seat_counted arena gives s tied given t u entry state gets few begun waits counts;
+    gives = λ s tied given t u entry state gets few begun one waits counts. seat_counted arena gives s tied given t u entry state gets one few begun waits counts;
   }
 
   -- ---- a batch
@@ -165,15 +168,21 @@ module _ (c : CountingCode) (e : Election) (a : Arena) (most seats : ℕ) (on : 
 
     whole_batch_ways : (length tied ≡ 0 → Q state)
         → ((n : ℕ) → length tied ≡ suc n → state.registers reg.LEFT < suc n → Q (with_register reg.PEERS (suc n) state))
-        → ((n : ℕ) → length tied ≡ suc n → suc n ≤ state.registers reg.LEFT → Q (stepping (with_register reg.IN_BATCH (suc n) (with_register reg.PEERS (suc n) state))))
+        → ((n : ℕ) → length tied ≡ suc n → suc n ≤ state.registers reg.LEFT → Q (beginning (with_register reg.IN_BATCH (suc n) (with_register reg.PEERS (suc n) state))))
         → Achieves c e whole_batch state Q Never
     whole_batch_ways none scarce enough =
         if_empty waits (λ is. line_ends (none (sym many ∙ is))) (λ n is.
-        if_less (λ less. line_ends (scarce n (sym many ∙ is) less)) (λ rest. line_goes refl (step_counted (enough n (sym many ∙ is) rest))))
+        if_less (λ less. line_ends (scarce n (sym many ∙ is) less)) (λ rest. line_goes refl (ends_in refl (enough n (sym many ∙ is) rest))))
 
   -- what holds does not depend on the registers of a batch,
   pub counts_peers : (t : List ℕ) (n : ℕ) (state : State) → Counts a seats Held t state → Counts a seats Held t (with_register reg.PEERS n state)
   counts_peers t n state h = counts_blind reg.PEERS refl refl refl t n state h
+
+  counts_beginning : (t : List ℕ) (state : State) → Counts a seats Held t state → Counts a seats Held t (beginning state)
+  counts_beginning t state h =
+      let first : State = with_register reg.STEP (state.registers reg.ALL_LEFT) state in
+      let step : IsBlind Held reg.STEP = fits.blind reg.STEP refl in
+      record { held = step t _ first (step t _ state h.held); left = h.left; all_left = h.all_left }
 
   held_stepping : (t : List ℕ) (state : State) → Held t state → Held t (stepping state)
   held_stepping t state h =
@@ -193,7 +202,14 @@ module _ (c : CountingCode) (e : Election) (a : Arena) (most seats : ℕ) (on : 
     counted = step_is (sum a.ladders.base) (sum t) seats (state.registers reg.ALL_LEFT) (state.registers reg.LEFT) machine.most h.all_left h.left (base_within a.ladders t settled) less few;
   }
 
-  module _ (arena : IsArena most a) (room : HasRoom a.ladders seats) (few : seats ≤ most) (countable : seats ≤ machine.most) (t : List ℕ) (state : State) (settled : IsSettled a.ladders t)
+  begun_step : (t : List ℕ) (state : State) → IsSettled a.ladders t → sum t + 1 + state.registers reg.TURNS ≡ seats → Counts a seats Held t state
+      → IsCounted a seats t ((beginning state).registers reg.STEP)
+  begun_step t state settled turns h = record {
+    left = omega (arith, turns);
+    counted = omega (arith, turns, h.all_left, base_within a.ladders t settled);
+  }
+
+  module _ (arena : IsArena most a) (room : HasRoom a.ladders seats) (few : seats ≤ most) (t : List ℕ) (state : State) (settled : IsSettled a.ladders t)
       (waits : HasWaiting a t state) (counts : Counts a seats Held t state) (between : state.registers reg.IN_BATCH ≡ 0) where
     -- what holds once a batch has begun or there is none any more, and what holds from then on
     abbrev Begun : State → Type 0
@@ -212,9 +228,9 @@ module _ (c : CountingCode) (e : Election) (a : Arena) (most seats : ℕ) (on : 
     few_now : (i : ℕ) → slice_index t i ≤ most
     few_now = holds_at_most most seats t (omega (arith, counts.left)) few
 
-    begin_batch : sum t < seats → Achieves c e whole_batch state Begun Never
-    begin_batch less =
-        let next : (i : ℕ) × Has a.ladders i (slice_index t i) = room t settled.on less in
+    begin_batch : sum t + 1 + state.registers reg.TURNS ≡ seats → Achieves c e whole_batch state Begun Never
+    begin_batch turns =
+        let next : (i : ℕ) × Has a.ladders i (slice_index t i) = room t settled.on (omega (arith, turns)) in
         let some : 0 < length tied = ((batches a.ladders arena.falling).batch t tied settled listed).more next.0 next.1 in
         whole_batch_ways t tied state Begun arena few_now listed waits
         (λ none. absurd (omega (arith, some, none)))
@@ -227,9 +243,9 @@ module _ (c : CountingCode) (e : Election) (a : Arena) (most seats : ℕ) (on : 
         let begun : State = with_register reg.IN_BATCH (suc n) (with_register reg.PEERS (suc n) state) in
         let now : Counts a seats Held t begun = counts_blind reg.IN_BATCH refl refl refl t (suc n) (with_register reg.PEERS (suc n) state) (counts_peers t (suc n) state counts) in (
           waits,
-          counts_stepping t begun now,
+          counts_beginning t begun now,
           OneBegan tied listed some (sym is) refl (record {
-            counted = counted_step t begun settled less countable now;
+            counted = begun_step t begun settled turns now;
             enough = λ also h. omega (arith, is, enough, counts.left, as_many a.ladders t tied also listed h);
           }),
         ))
@@ -241,11 +257,12 @@ module _ (c : CountingCode) (e : Election) (a : Arena) (most seats : ℕ) (on : 
         (λ n is scarce. (waits, counts_peers t (suc n) state counts, between, le_refl (state.registers reg.TURNS)))
         (λ n is enough. absurd (let more : seats < sum t + length tied = last.scarce tied listed in omega (arith, is, enough, counts.left, more)))
 
-  pub begins_whole : IsArena most a → HasRoom a.ladders seats → seats ≤ most → seats ≤ machine.most
+  pub begins_whole : IsArena most a → HasRoom a.ladders seats → seats ≤ most
       → BeginsBatches c e a seats reg.TURNS (IsWhole a seats) (IsLast a seats) (Counts a seats Held) whole_batch
-  begins_whole arena room few countable = record {
-    begins = λ t state settled waits counts between less. begin_batch arena room few countable t state settled waits counts between less;
-    rests = λ t state settled waits counts between last. rest_batch arena room few countable t state settled waits counts between last;
+  begins_whole arena room few = record {
+    begins = λ t state settled waits counts between turns. begin_batch arena room few t state settled waits counts between turns;
+    rests = λ t state settled waits counts between last. rest_batch arena room few t state settled waits counts between last;
+    keeps = refl;
   }
 
   pub fits_whole : FitsLoop (Counts a seats Held) reg.TURNS (counted_seat on)

@@ -128,7 +128,7 @@ module _ (eligible : ℕ → Bool) (e : Election) (base : List ℕ) (l : ℕ × 
 
     pub seats_are_given : (c : CountingCode) → GivesSeats c e a (seats + 1) (IsCounted a seats) Seated (Line (Seat ∷ []))
     seats_are_given c = record {
-      gives = λ s peers given t u i state gets bound begun waits h.
+      gives = λ s peers given t u i state gets bound begun one waits h.
           let now : State = seat_taken e a i (slice_index t i) gets.taken.others state in
           let next = next_winner (won eligible e l) i (slice_index t i) gets.has in
           let y : ℕ × Win = next.0 in

@@ -229,6 +229,7 @@ module _ {c : CountingCode} {e : Election} {f : Form} {x : Slots} {name : List �
         )));
     rests = λ t state settled waits h none found.
         if_zero (λ no. ends_in refl (waits, h, none, omega arith)) (λ w some. absurd (omega (arith, some, h.turns, found.none_missing)));
+    keeps = refl;
   }
 
   fits_loop : FitsLoop Held reg.LEFT (search_seat (with_minima x slot) d)

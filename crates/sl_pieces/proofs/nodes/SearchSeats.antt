@@ -19,14 +19,14 @@ use Rattle.sl_stages.proofs.methods.DivisorProofs.{field_of, has_of, in_range}
 use Rattle.sl_stages.proofs.methods.RaisedSeats.{Contains-head}
 use Rattle.sl_stages.proofs.methods.SeatSums.{none_needed, length_zeros}
 use Rattle.sl_stages.proofs.methods.WalkProofs.{walks}
-use Rattle.sl_instructions.specs.declared.instr.Instr.TheVariants.{Set, Add, Store}
+use Rattle.sl_instructions.specs.declared.instr.Instr.TheVariants.{Add, Store, Sub}
 use Rattle.sl_instructions.specs.Codes.{CountingCode}
 use Rattle.sl_semantics.specs.State.{State, PriorityTable, with_register, with_cell}
 use Rattle.sl_semantics.specs.Effects.{most}
 use Rattle.sl_semantics.proofs.effects.Registers.{get_does, store_does}
 use Rattle.sl_semantics.proofs.effects.Storing.{cell_same, cell_other_place, cell_other_slot}
 use Rattle.sl_plans.specs.declared.plan.Test.TheVariants as test
-use Rattle.sl_plans.specs.Trees.{Line, Then, If, ones, count_down}
+use Rattle.sl_plans.specs.Trees.{Line, Then, If, ones}
 use Rattle.sl_plans.specs.Achieves.{Achieves, Never}
 use Rattle.sl_plans.specs.Frames.{may_write_slot, KeepsRest}
 use Rattle.sl_plans.proofs.Rules.{line_ends, then_achieves, if_less, goes_as, ends_in, line_first, line_over}
@@ -93,6 +93,7 @@ module _ {c : CountingCode} {e : Election} {f : Form} {x : Slots} {name : List �
       held : w.registers reg.HELD ≡ slice_index t j
       turns : w.registers reg.TURNS ≡ missing v m u
       all_left : w.registers reg.ALL_LEFT ≡ min (sum t) most
+      one : w.registers ones ≡ 1
       columns : w.columns ≡ s.columns
       table : w.table ≡ Some (arenas.table_of arena taken.others)
 
@@ -114,32 +115,32 @@ module _ {c : CountingCode} {e : Election} {f : Form} {x : Slots} {name : List �
     }
 
     counts : (s w : State) → OnItem i w → w.registers reg.HELD ≡ slice_index t j → w.registers reg.BASE ≡ slice_index m j → w.registers reg.TURNS ≡ missing v m t
-        → w.registers reg.ALL_LEFT ≡ min (sum t) most → w.columns ≡ s.columns → w.table ≡ Some (arenas.table_of arena taken.others)
-        → Achieves c e (If (test.Less reg.HELD reg.BASE) (Line (count_down reg.TURNS)) nothing) w (IsCounted s) Never
-    counts s w on held base turns all_left columns table =
+        → w.registers reg.ALL_LEFT ≡ min (sum t) most → w.registers ones ≡ 1 → w.columns ≡ s.columns → w.table ≡ Some (arenas.table_of arena taken.others)
+        → Achieves c e (If (test.Less reg.HELD reg.BASE) (Line (Sub reg.TURNS ones ∷ [])) nothing) w (IsCounted s) Never
+    counts s w on held base turns all_left one columns table =
         if_less
         (λ less.
         let fewer : missing v m t ≡ missing v m u + 1 = one_less_missing v m (minimum_each can) t u j long raised field (omega (arith, less, held, base)) in
-        ends_in refl (record { on_item = on; held = held; turns = omega (arith, turns, fewer); all_left = all_left; columns = columns; table = table }))
+        ends_in refl (record { on_item = on; held = held; turns = omega (arith, turns, fewer, one); all_left = all_left; one = one; columns = columns; table = table }))
         (λ met.
         let same : missing v m u ≡ missing v m t = as_much_missing v m (minimum_each can) t u j long raised field (omega (arith, met, held, base)) in
-        line_ends (record { on_item = on; held = held; turns = turns ∙ sym same; all_left = all_left; columns = columns; table = table }))
+        line_ends (record { on_item = on; held = held; turns = turns ∙ sym same; all_left = all_left; one = one; columns = columns; table = table }))
 
     holds : (s w : State) → HasCells e g.entries (s.columns x.votes) v → IsCounted s w
-        → Achieves c e (Then (Line (Set ones 1 ∷ (Add reg.HELD ones ∷ (Store x.result reg.HELD ∷ (Set ones 1 ∷ (Add reg.ALL_LEFT ones ∷ [])))))) (enter_again (with_minima x slot) d)) w
+        → Achieves c e (Then (Line (Add reg.HELD ones ∷ (Store x.result reg.HELD ∷ (Add reg.ALL_LEFT ones ∷ [])))) (enter_again (with_minima x slot) d)) w
         (λ y. HasWaiting arena u y × IsGiven s y) Never
     holds s w votes h =
         let p : ℕ = place e i in
-        let more : ℕ = min (w.registers reg.HELD + 1) most in
-        let w2 : State = with_register reg.HELD more (with_register ones 1 w) in
-        let w5 : State = with_register reg.ALL_LEFT (min (w.registers reg.ALL_LEFT + 1) most) (with_register ones 1 (with_cell x.result p more w2)) in
-        let holds_more : more ≡ slice_index u j = omega (arith, h.held, next, few) in
+        let more : ℕ = min (w.registers reg.HELD + w.registers ones) most in
+        let w2 : State = with_register reg.HELD more w in
+        let w5 : State = with_register reg.ALL_LEFT (min (w.registers reg.ALL_LEFT + w.registers ones) most) (with_cell x.result p more w2) in
+        let holds_more : more ≡ slice_index u j = omega (arith, h.held, next, few, h.one) in
         let given : IsGiven s w5 = record {
           on_item = h.on_item;
           cell = cell_same w2 x.result p more ∙ holds_more;
           elsewhere = λ q other. cell_other_place w2 x.result p more q other ∙ ap (λ (y : ℕ → ℕ → ℕ). y x.result q) h.columns;
           turns = h.turns;
-          all_left = omega (arith, h.all_left, one_seat_more);
+          all_left = omega (arith, h.all_left, one_seat_more, h.one);
         } in
         let same_votes : HasCells e g.entries (w5.columns x.votes) v = record {
           one_each = votes.one_each;
@@ -150,22 +151,22 @@ module _ {c : CountingCode} {e : Election} {f : Form} {x : Slots} {name : List �
         quotients_again c e f (with_minima x slot) name g d v (no_minima v) can.ready.slots can.ready.weights (arena_of can) in
         let has : (held : ℕ) → Has arena.ladders j held = λ held. has_of d v (no_minima v) j held field in
         let low : slice_index (no_minima v) j ≤ slice_index t j = omega (arith, none_needed (length v) j) in
-        line_first refl (line_first refl
+        line_first refl
         (line_first (store_does c e w2 x.result (votes_of f) can.ready.slots.result reg.HELD p (entry.cell w2 h.on_item))
         (goes_as
         (achieves_keeping (again.enters t u j i w5 taken at (has (slice_index t j)) low next few h.on_item holds_more same_votes h.table)
         (λ z r kept. (r, given_still s w5 z kept given)))
-        refl)))
+        refl))
 
     seat_is_given : (s : State) → OnItem i s → s.columns x.result (place e i) ≡ slice_index t j → s.columns slot (place e i) ≡ slice_index m j → HasCells e g.entries (s.columns x.votes) v
-        → s.registers reg.TURNS ≡ missing v m t → s.registers reg.ALL_LEFT ≡ min (sum t) most → s.table ≡ Some (arenas.table_of arena taken.others)
+        → s.registers reg.TURNS ≡ missing v m t → s.registers reg.ALL_LEFT ≡ min (sum t) most → s.registers ones ≡ 1 → s.table ≡ Some (arenas.table_of arena taken.others)
         → Achieves c e (search_seat (with_minima x slot) d) s (λ y. HasWaiting arena u y × IsGiven s y) Never
-    seat_is_given s on cell minimum votes turns all_left table =
-        let one : State = with_register reg.HELD (s.columns x.result (place e i)) s in
-        let two : State = with_register reg.BASE (s.columns slot (place e i)) one in
+    seat_is_given s on cell minimum votes turns all_left one table =
+        let first : State = with_register reg.HELD (s.columns x.result (place e i)) s in
+        let two : State = with_register reg.BASE (s.columns slot (place e i)) first in
         line_first (get_does c e s x.result (votes_of f) can.ready.slots.result reg.HELD (place e i) (entry.cell s on)) (line_over
-        (line_first (get_does c e one slot (votes_of f) (can.ready.slots.minima slot refl) reg.BASE (place e i) (entry.cell one on)) (line_over
-        (then_achieves {Q = IsCounted s} (counts s two on cell minimum turns all_left refl table) (λ z h. holds s z votes h)))))
+        (line_first (get_does c e first slot (votes_of f) (can.ready.slots.minima slot refl) reg.BASE (place e i) (entry.cell first on)) (line_over
+        (then_achieves {Q = IsCounted s} (counts s two on cell minimum turns all_left one refl table) (λ z h. holds s z votes h)))))
 
     -- what stands with t before the seat stands with u after it
     searched_next : (tab : PriorityTable) (mark : Mark) (state now after : State) → IsTaken i tab mark state now → IsGiven now after → KeepsRest (search_seat (with_minima x slot) d) now after
@@ -206,7 +207,7 @@ module _ {c : CountingCode} {e : Election} {f : Form} {x : Slots} {name : List �
 
   pub search_gives : GivesSeats c e (search_arena e f g d v) MAX_SEATS (BatchBegun v m) (IsSearched e x g d v m seats before) (search_seat (with_minima x slot) d)
   search_gives = record {
-    gives = λ s peers given t u j state gets few short waits h.
+    gives = λ s peers given t u j state gets few short one waits h.
         let field : InField v j = field_of d v (no_minima v) j (slice_index t j) gets.has in
         let there : (i : Item) × (slice_get g.entries j ≡ Some i) = entry_there e f g arena (arena_of can) j (slice_index t j) gets.has in
         let i : Item = there.0 in
@@ -227,6 +228,6 @@ module _ {c : CountingCode} {e : Election} {f : Form} {x : Slots} {name : List �
         achieves_keeping
         (seat_is_given j i t u at field long gets.raised (few j) gets.taken now taken_now.on_item (column x.result (place e i) ∙ h.cells.at j i at)
         (column slot (place e i) ∙ h.kept.columns slot (place e i) (can.ready.slots.not_minima slot refl) ∙ can.ready.minima.at j i at) votes
-        (register reg.TURNS ∙ h.turns) (register reg.ALL_LEFT ∙ h.all_left) taken_now.table)
+        (register reg.TURNS ∙ h.turns) (register reg.ALL_LEFT ∙ h.all_left) (register ones ∙ one) taken_now.table)
         (λ after r kept. (r.0, searched_next j i t u at field long gets.raised (few j) gets.taken tab (arena.won j (slice_index t j)) state now after taken_now r.1 kept h least));
   }

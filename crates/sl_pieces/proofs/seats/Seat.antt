@@ -12,7 +12,7 @@ use Rattle.sl_stages.specs.returns.Election.{Election}
 use Rattle.sl_stages.specs.meaning.Scopes.{Group, place}
 use Rattle.sl_stages.specs.declared.table.Weight.{Weight}
 use Rattle.sl_stages.specs.laws.Ladders.{Has}
-use Rattle.sl_instructions.specs.declared.instr.Instr.TheVariants.{Get, Store, Emit}
+use Rattle.sl_instructions.specs.declared.instr.Instr.TheVariants.{Get, Store, Emit, Add}
 use Rattle.sl_instructions.specs.declared.operand.Entries.{Entries}
 use Rattle.sl_instructions.specs.Codes.{CountingCode}
 use Rattle.sl_semantics.specs.State.{State, PriorityTable, with_register, with_cell}
@@ -30,7 +30,6 @@ use Rattle.sl_pieces.specs.scopes.Forms.{Form, votes_of, table_of, kind_of, OnIt
 use Rattle.sl_pieces.specs.scopes.Scopes.{IsEntry}
 use Rattle.sl_pieces.specs.arenas.Arenas.{Arena, table_of as table_with, seat_taken, HasWaiting}
 use Rattle.sl_pieces.specs.declared.registers.TheConstants as reg
-use Rattle.sl_pieces.specs.awards.Trees.{count_up}
 use Rattle.sl_pieces.proofs.awards.Turns.{moved}
 use Rattle.sl_pieces.specs.seats.Slots.{Slots, HasSlots, HasCells}
 use Rattle.sl_pieces.proofs.seats.Steps.{awarded_step, one_more, others_same, above_base, steps_grow}
@@ -117,14 +116,15 @@ module _ (c : CountingCode) (e : Election) (f : Form) (x : Slots) (name : List �
     read = with_register reg.HELD (s.columns x.result p) s
 
     abbrev counted : State
-    counted = with_register reg.HELD (min (s.columns x.result p + 1) most) (with_register ones 1 read)
+    counted = with_register reg.HELD (min (s.columns x.result p + s.registers ones) most) read
 
     abbrev stored : State
-    stored = with_cell x.result p (min (s.columns x.result p + 1) most) counted
+    stored = with_cell x.result p (min (s.columns x.result p + s.registers ones) most) counted
 
-    module _ (t : PriorityTable) (kind : t.entries ≡ table_of f) (table : s.table ≡ Some t) (had : s.columns x.result p ≡ n) (few : n + 1 ≤ MAX_SEATS) where
-      next : min (s.columns x.result p + 1) most ≡ n + 1
-      next = omega (arith, had, few)
+    module _ (t : PriorityTable) (kind : t.entries ≡ table_of f) (table : s.table ≡ Some t) (had : s.columns x.result p ≡ n) (few : n + 1 ≤ MAX_SEATS)
+        (one : s.registers ones ≡ 1) where
+      next : min (s.columns x.result p + s.registers ones) most ≡ n + 1
+      next = omega (arith, had, few, one)
 
       given_here : IsGiven x p n i (awarded_step x.stage g.scope i n (s.registers reg.STEP) s.mark) s (with_step (awarded_step x.stage g.scope i n (s.registers reg.STEP) s.mark) stored)
       given_here = record {
@@ -132,22 +132,22 @@ module _ (c : CountingCode) (e : Election) (f : Form) (x : Slots) (name : List �
         held = next;
         amount = refl;
         total = refl;
-        cell = cell_same counted x.result p (min (s.columns x.result p + 1) most) ∙ next;
-        elsewhere = λ q other. cell_other_place counted x.result p (min (s.columns x.result p + 1) most) q other;
-        columns = λ slot q other. cell_other_slot counted x.result p (min (s.columns x.result p + 1) most) slot q other;
+        cell = cell_same counted x.result p (min (s.columns x.result p + s.registers ones) most) ∙ next;
+        elsewhere = λ q other. cell_other_place counted x.result p (min (s.columns x.result p + s.registers ones) most) q other;
+        columns = λ slot q other. cell_other_slot counted x.result p (min (s.columns x.result p + s.registers ones) most) slot q other;
         table = refl;
         steps = refl;
         weights = refl;
         placed = refl;
       }
 
-      pub seat_is_given : Achieves c e (Line (Get reg.HELD x.result ∷ (count_up reg.HELD ++ Store x.result reg.HELD ∷ (Emit x.stage (kind_of f) reg.HELD reg.STEP ∷ [])))) s
+      pub seat_is_given : Achieves c e (Line (Get reg.HELD x.result ∷ (Add reg.HELD ones ∷ (Store x.result reg.HELD ∷ (Emit x.stage (kind_of f) reg.HELD reg.STEP ∷ []))))) s
           (IsGiven x p n i (awarded_step x.stage g.scope i n (s.registers reg.STEP) s.mark) s) Never
       seat_is_given =
           line_goes (get_does c e s x.result (votes_of f) slots.result reg.HELD p (entry.cell s on))
-          (line_goes refl (line_goes refl
+          (line_goes refl
           (line_goes (store_does c e counted x.result (votes_of f) slots.result reg.HELD p (entry.cell counted on))
-          (emits t kind stored on table next given_here))))
+          (emits t kind stored on table next given_here)))
 
 -- ---- the entry's next seat, and the scope
 
@@ -208,7 +208,7 @@ module _ (c : CountingCode) (e : Election) (f : Form) (x : Slots) (name : List �
   module _ (again : Tree) (re : ReEnters c e x g a v again) (votes : HasCells e g.entries (before.columns x.votes) v) where
     pub seats_are_given : GivesSeats c e a MAX_SEATS (IsCounted a seats) (IsSeated e x g a v seats told before) (seat f x again)
     seats_are_given = record {
-      gives = λ s peers given t u j state gets few begun waits seated.
+      gives = λ s peers given t u j state gets few begun one waits seated.
           let entry : (i : Item) × (slice_get g.entries j ≡ Some i) = entry_there e f g a of j (slice_index t j) gets.has in
           let i : Item = entry.0 in
           let at : slice_get g.entries j ≡ Some i = entry.1 in
@@ -224,7 +224,8 @@ module _ (c : CountingCode) (e : Election) (f : Form) (x : Slots) (name : List �
           let is : mine ≡ awarded_step x.stage g.scope i held step (a.won j held) = ap (awarded_step x.stage g.scope i held step) taken.mark in
           let had : now.columns x.result (place e i) ≡ held = ap (λ (y : ℕ → ℕ → ℕ). y x.result (place e i)) taken.columns ∙ seated.cells.at j i at in
           then_achieves {Q = IsGiven x (place e i) held i mine now}
-          (seat_is_given c e f x name g a j held i slots of at now taken.on_item (table_with a gets.taken.others) of.entries taken.table had (omega (arith, more, high)))
+          (seat_is_given c e f x name g a j held i slots of at now taken.on_item (table_with a gets.taken.others) of.entries taken.table had (omega (arith, more, high))
+          (ap (λ (y : ℕ → ℕ). y ones) taken.registers ∙ one))
           (λ next got.
           let after : IsSeated e x g a v seats told before u next =
           seated_next s peers given t u j i gets at (table_with a gets.taken.others) (a.won j held) mine state now next taken got seated step counted is in

@@ -1,18 +1,18 @@
 -- The plans of a split and of a growth (docs/blocks.md, section 4).
-use Rattle.std.specs.Prelude.{ℕ, [], ◌∷◌, ◌++◌}
+use Rattle.std.specs.Prelude.{ℕ, [], ◌∷◌}
 use Rattle.sl_ratio.specs.declared.method.Divisor.{Divisor}
 use Rattle.sl_ratio.specs.declared.method.Method.{Method}
 use Rattle.sl_ratio.specs.declared.method.Method.TheVariants as by
 use Rattle.sl_stages.specs.declared.book.Majority.{Majority}
-use Rattle.sl_instructions.specs.declared.instr.Instr.TheVariants.{Set, Mov, Add, Max, Get, Store, Zero, Table, Prio}
+use Rattle.sl_instructions.specs.declared.instr.Instr.TheVariants.{Set, Mov, Add, Sub, Max, Get, Store, Zero, Table, Prio}
 use Rattle.sl_instructions.specs.declared.operand.EndFault.TheVariants as end
 use Rattle.sl_instructions.specs.declared.operand.Ranking.TheVariants as ranking
 use Rattle.sl_plans.specs.declared.plan.Test.TheVariants as test
 use Rattle.sl_plans.specs.declared.plan.Bound.TheVariants as bound
-use Rattle.sl_plans.specs.Trees.{Tree, Line, Then, If, count_down}
+use Rattle.sl_plans.specs.Trees.{Tree, Line, Then, If, ones}
 use Rattle.sl_pieces.specs.scopes.Forms.{Form, table_of, scopes_plan, entries_plan}
 use Rattle.sl_pieces.specs.declared.registers.TheConstants as reg
-use Rattle.sl_pieces.specs.awards.Trees.{count_up, batches, awards}
+use Rattle.sl_pieces.specs.awards.Trees.{batches, awards}
 use Rattle.sl_pieces.specs.seats.Slots.{Slots}
 use Rattle.sl_pieces.specs.seats.Trees.{nothing, most_seats, faulty, not_over, sums, refuses_seats, minimum_base, outside_base, base_of, enter_quotient, enter_of, ranking_of, fill, enter_again, again_of, seat, tied, refuse}
 
@@ -53,13 +53,13 @@ search_entry f x d =
 abbrev pub search_batch : Tree
 search_batch = If (test.Zero reg.TURNS) (Line (Set reg.LEFT 0 ∷ [])) (If (test.Empty reg.PEERS) nothing (Line (Mov reg.IN_BATCH reg.PEERS ∷ [])))
 
--- a seat of the search
+-- a seat of the search, in a turn of the batches
 abbrev pub search_seat : Slots → Divisor → Tree
 search_seat x d =
     Then (Line (Get reg.HELD x.result ∷ []))
     (Then (minimum_base x.minima)
-    (Then (If (test.Less reg.HELD reg.BASE) (Line (count_down reg.TURNS)) nothing)
-    (Then (Line (count_up reg.HELD ++ Store x.result reg.HELD ∷ count_up reg.ALL_LEFT)) (enter_again x d))))
+    (Then (If (test.Less reg.HELD reg.BASE) (Line (Sub reg.TURNS ones ∷ [])) nothing)
+    (Then (Line (Add reg.HELD ones ∷ (Store x.result reg.HELD ∷ (Add reg.ALL_LEFT ones ∷ [])))) (enter_again x d))))
 
 abbrev pub search : Form → Slots → Divisor → ℕ → Tree
 search f x d cap =

@@ -17,7 +17,7 @@ use Rattle.sl_instructions.specs.declared.operand.Rounding.{Rounding}
 use Rattle.sl_instructions.specs.Numbers.{rounding_of}
 use Rattle.sl_plans.specs.declared.plan.Test.TheVariants as test
 use Rattle.sl_plans.specs.declared.plan.Bound.TheVariants as bound
-use Rattle.sl_plans.specs.Trees.{Tree, Line, Stop, Then, If, Times}
+use Rattle.sl_plans.specs.Trees.{Tree, Line, Stop, Then, If, Times, ones}
 use Rattle.sl_pieces.specs.scopes.Forms.{Form, table_of, kind_of, entries_plan}
 use Rattle.sl_pieces.specs.declared.registers.TheConstants as reg
 use Rattle.sl_pieces.specs.awards.Trees.{count_up}
@@ -136,8 +136,9 @@ abbrev pub again_of : Slots → Method → Tree
 again_of x (by.Divisor d) = enter_again x d
 again_of x by.Hamilton = nothing
 
+-- it is counted by `ones`, which is 1 where seats are awarded
 abbrev pub seat : Form → Slots → Tree → Tree
-seat f x again = Then (Line (Get reg.HELD x.result ∷ (count_up reg.HELD ++ Store x.result reg.HELD ∷ (Emit x.stage (kind_of f) reg.HELD reg.STEP ∷ [])))) again
+seat f x again = Then (Line (Get reg.HELD x.result ∷ (Add reg.HELD ones ∷ (Store x.result reg.HELD ∷ (Emit x.stage (kind_of f) reg.HELD reg.STEP ∷ []))))) again
 
 -- a tie ends the run
 abbrev pub tied : Form → Slots → Tree

@@ -1,63 +1,30 @@
--- A step leads on, and what is left of the run ends as the whole.
-use Rattle.std.proofs.Common.{◌≡◌, ℕ, suc, ◌-◌, ◌<◌, IfSome, IfNone, sym, ap, subst, ◌∙◌, arith}
-use Rattle.sl_machine.specs.declared.store.Store.{Store}
-use Rattle.sl_semantics.specs.Agrees.{IsSafe}
+-- The run begins, and where it goes on no further it has ended, or its steps have run out.
+use Rattle.std.proofs.Common.{◌≡◌, ℕ, suc, ◌-◌, List, sym, ap, subst, ◌∙◌}
 use Rattle.sl_semantics.specs.Runs.{run}
-use Rattle.sl_machine.specs.inner.Ahead.{place_of, AreAhead}
-use Rattle.sl_machine.specs.inner.Leading.{LeadsTo, EndsAt}
+use Rattle.sl_machine.specs.declared.store.Store.{Store}
+use Rattle.sl_machine.specs.declared.way.Standing.{Standing}
 use Rattle.sl_machine.specs.inner.Recording.{ending_by}
 use Rattle.sl_machine.specs.inner.Stores.{state_of}
-use Rattle.sl_machine.proofs.runs.Ahead.{from_place, from_place_ahead}
+use Rattle.sl_machine.specs.inner.UnderWay.{rest_of, steps_left}
+use Rattle.sl_machine.proofs.runs.UnderWay.{begins, ends_as_it_was}
 use Rattle.sl_machine.proofs.machine.steps.Goals as goal
 
-pub loop-left-init : goal.loop-left-init
-loop-left-init g c =
-    let k = g.R.Recording.records in
-    let code = c.args.code.now in
-    let e = c.args.returns.now in
-    let s = state_of c.args.store.now in
-    let ahead = c.instrs_from-ahead.result.now in
-    let start : 0 ≡ place_of code ahead = sym (ap (place_of code) c.instrs_from-ahead.ensures ∙ from_place code 0 (omega arith)) in
-    record {
-      ahead = subst (AreAhead code) (sym c.instrs_from-ahead.ensures) (from_place_ahead code 0 (omega arith));
-      same = ap (λ (p : ℕ). ending_by k (run code e c.args.budget p s)) start;
-      safe = subst (λ (p : ℕ). IsSafe code e p s) start c.requires.safe;
-      none = c.requires.records;
-      sizes = c.requires.sizes;
-    }
-
-pub loop-left-preserved : goal.loop-left-preserved
-loop-left-preserved g c =
-    let k = g.R.Recording.records in
-    let code = c.args.code.now in
-    let e = c.args.returns.now in
-    let l = c.loop-left in
-    let place = place_of code l.ahead.now in
-    let s = state_of l.store in
-    let t = state_of c.step_from.new.store in
-    let some : 0 < l.left = c.loop-left-test.true in
-    let one : l.left ≡ suc (l.left - 1) = omega (arith, some) in
-    let ahead = subst (λ o. IfSome o (λ next. AreAhead code next.now)) c.in-Some.is c.in_ok-next.ensures.ahead in
-    let leads = subst (λ o. IfSome o (λ next. LeadsTo k code e place s (place_of code next.now) t)) c.in-Some.is c.in_ok-next.ensures.leads in
-    record {
-      ahead = ahead;
-      same = l.invariant.same ∙ ap (λ (n : ℕ). ending_by k (run code e n place s)) one ∙ leads.2 (l.left - 1);
-      safe = leads.0;
-      none = leads.1;
-      sizes = c.step_from.ensures.kept ∙ l.invariant.sizes;
-    }
+pub loop-next-init : goal.loop-next-init
+loop-next-init g c =
+    let there = begins g.R.Recording.records c.args.code.now c.args.returns.now c.args.budget (state_of c.args.store.now) c.from-ahead.result.now c.requires.safe c.requires.records c.from-ahead.ensures in
+    record { under_way = there.0; same = there.1; sizes = c.requires.sizes }
 
 pub returns-in-None-clause-end : goal.returns-in-None-clause-end
 returns-in-None-clause-end g c =
     let k = g.R.Recording.records in
     let code = c.args.code.now in
     let e = c.args.returns.now in
-    let l = c.loop-left in
-    let place = place_of code l.ahead.now in
-    let some : 0 < l.left = c.loop-left-test.true in
-    let one : l.left ≡ suc (l.left - 1) = omega (arith, some) in
-    let ends = subst (λ o. IfNone o (EndsAt code place × (c.step_from.new.store ≡ l.store))) c.in-None.is c.in_ok-next.ensures.ends in
-    l.invariant.same
-    ∙ ap (λ (n : ℕ). ending_by k (run code e n place (state_of l.store))) one
-    ∙ ap (λ (x : Store). ending_by k (run code e (suc (l.left - 1)) place (state_of x))) (sym ends.1)
-    ∙ c.in_ok-end_at-in-None.ensures.ends.1 (l.left - 1)
+    let l = c.loop-next in
+    let here = c.first_of.result.0.now in
+    let s = state_of l.store in
+    let same = subst (λ (xs : List Standing). ending_by k (run code e c.args.budget 0 (state_of c.args.store.now)) ≡ rest_of k code e l.clock xs s) c.first_of.ensures l.invariant.same in
+    let stops = rw c.in-None.is at c.in_ok-next.ensures.stops in
+    let was = ends_as_it_was l.clock c.step_from.new.clock l.ahead.now here c.first_of.result.1.now l.store c.step_from.new.store c.first_of.ensures stops.0 c.if-is_out.ensures.1 stops.1 in
+    same ∙ ap (λ (n : ℕ). ending_by k (run code e n here.place s)) was.0
+    ∙ ap (λ (x : Store). ending_by k (run code e (suc (steps_left l.clock here.place - 1)) here.place (state_of x))) (sym was.1)
+    ∙ c.in_ok-end_at-in-None.ensures.ends.1 (steps_left l.clock here.place - 1)

@@ -1,20 +1,17 @@
--- What is left of the run ends as the whole.
+-- The run is on its way, and ends as it would have.
 use Rattle.std.proofs.Common.{◌≡◌}
-use Rattle.sl_semantics.specs.Agrees.{IsSafe}
 use Rattle.sl_semantics.specs.Runs.{run}
-use Rattle.sl_machine.specs.inner.Ahead.{place_of, AreAhead}
-use Rattle.sl_machine.specs.inner.Recording.{state_by, ending_by}
+use Rattle.sl_machine.specs.inner.Recording.{ending_by}
 use Rattle.sl_machine.specs.inner.Stores.{state_of, sizes_of, sizes_for}
+use Rattle.sl_machine.specs.inner.UnderWay.{IsUnderWay, rest_of, work}
 use Rattle.sl_machine.proofs.machine.steps.Given as goal
 
-abbrev pub invariant-loop-left : goal.invariant-loop-left
-invariant-loop-left g l = record {
-  ahead : AreAhead l.code l.ahead;
-  same : ending_by g.R.Recording.records (run l.code l.returns l.budget 0 (state_of l.fn.store)) ≡ ending_by g.R.Recording.records (run l.code l.returns l.left (place_of l.code l.ahead) (state_of l.store));
-  safe : IsSafe l.code l.returns (place_of l.code l.ahead) (state_of l.store);
-  none : state_by g.R.Recording.records (state_of l.store) ≡ state_of l.store;
+abbrev pub invariant-loop-next : goal.invariant-loop-next
+invariant-loop-next g l = record {
+  under_way : IsUnderWay g.R.Recording.records l.code l.returns l.clock l.ahead (state_of l.store);
+  same : ending_by g.R.Recording.records (run l.code l.returns l.budget 0 (state_of l.fn.store)) ≡ rest_of g.R.Recording.records l.code l.returns l.clock l.ahead (state_of l.store);
   sizes : sizes_of l.store ≡ sizes_for l.code l.returns;
 }
 
-abbrev pub decreases-loop-left : goal.decreases-loop-left
-decreases-loop-left g l = l.left
+abbrev pub decreases-loop-next : goal.decreases-loop-next
+decreases-loop-next g l = work l.code l.clock l.ahead

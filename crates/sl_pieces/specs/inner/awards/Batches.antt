@@ -28,12 +28,12 @@ pub record Gets (a : Arena) (s peers given t u : List ℕ) (entry : ℕ) : Type 
   pub raised : RaisesEach (entry ∷ []) t u
   pub taken : SeatTaken a entry t u
 
--- What a plan has to achieve that is run for each seat. `Begun s step` is what is known of a batch from the settled vector s on, where
--- that is what the register of steps holds; `Held t` holds of a state while the entries hold t.
+-- What a plan has to achieve that is run for each seat, in a turn, where `ones` is 1. `Begun s step` is what is known of a batch from the
+-- settled vector s on, where that is what the register of steps holds; `Held t` holds of a state while the entries hold t.
 pub record GivesSeats (c : CountingCode) (e : Election) (a : Arena) (most : ℕ) (Begun : List ℕ → ℕ → Type 0) (Held : List ℕ → State → Type 0)
     (on : Tree) : Type 0 where
   pub gives : (s peers given t u : List ℕ) (entry : ℕ) (state : State) (gets : Gets a s peers given t u entry) → ((i : ℕ) → slice_index u i ≤ most) →
-      Begun s (state.registers reg.STEP) → HasWaiting a t state → Held t state →
+      Begun s (state.registers reg.STEP) → state.registers ones ≡ 1 → HasWaiting a t state → Held t state →
       Achieves c e on (seat_taken e a entry (slice_index t entry) gets.taken.others state) (λ after. HasWaiting a u after × Held u after) Never
 
 -- what holds of a state does not depend on the register
@@ -49,17 +49,19 @@ pub data HasBegun (a : Arena) (r w : ℕ) (Begun : List ℕ → ℕ → Type 0) 
   OneBegan : (peers : List ℕ) → Lists (IsPeer a.ladders t) peers → 0 < length peers → state.registers reg.IN_BATCH ≡ length peers →
       state.registers r ≡ w → Begun t (state.registers reg.STEP) → HasBegun a r w Begun Stopped t state
 
--- What a plan has to achieve that begins a batch, where r is the loop's register: where seats are left, up to so many in all, it begins one
--- or stops for good; and once it has stopped, it begins no other. Where it begins none, it may leave fewer turns to come.
+-- What a plan has to achieve that begins a batch, where r is the loop's register: where of so many seats in all one is left for this turn
+-- and one for each turn to come, it begins one or stops for good; and once it has stopped, it begins no other. Where it begins none, it may
+-- leave fewer turns to come. It leaves `ones` to the seat of the turn.
 pub record BeginsBatches (c : CountingCode) (e : Election) (a : Arena) (seats r : ℕ) (Begun : List ℕ → ℕ → Type 0) (Stopped : List ℕ → Type 0)
     (Held : List ℕ → State → Type 0) (begin : Tree) : Type 0 where
   pub begins : (t : List ℕ) (state : State) → IsSettled a.ladders t → HasWaiting a t state → Held t state → state.registers reg.IN_BATCH ≡ 0 →
-      sum t < seats →
+      sum t + 1 + state.registers r ≡ seats →
       Achieves c e begin state (λ after. HasWaiting a t after × Held t after × HasBegun a r (state.registers r) Begun Stopped t after) Never
   pub rests : (t : List ℕ) (state : State) → IsSettled a.ladders t → HasWaiting a t state → Held t state → state.registers reg.IN_BATCH ≡ 0 →
       Stopped t →
       Achieves c e begin state
       (λ after. HasWaiting a t after × Held t after × (after.registers reg.IN_BATCH ≡ 0) × (after.registers r ≤ state.registers r)) Never
+  pub keeps : may_write_register begin ones ≡ false
 
 -- where the batches end: at a settled vector of so many seats, or one that is known to be the last, or within a batch with so many seats
 pub data EndOfBatches (a : Arena) (seats : ℕ) (Begun : List ℕ → ℕ → Type 0) (Stopped : List ℕ → Type 0) (t : List ℕ) (state : State) : Type 0 where

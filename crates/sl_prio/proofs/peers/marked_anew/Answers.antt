@@ -1,9 +1,15 @@
 -- At first no index has a mark.
-use Rattle.std.proofs.Common.{ℕ, Bool, false, nat_eq, arith}
-use Rattle.std.proofs.lemmas.List.{get_or-replicate}
+use Rattle.std.proofs.Common.{◌≡◌, ℕ, Bool, false, List, length, nat_eq, replicate, sym, subst, arith}
+use Rattle.std.proofs.lemmas.List.{get_or-replicate, length-replicate}
+use Rattle.sl_prio.specs.inner.Marks.{AreMarks}
 use Rattle.sl_prio.proofs.PeerMarks.{anew_marked}
 use Rattle.sl_prio.proofs.Seen.{seen_counts}
 use Rattle.sl_prio.proofs.peers.marked_anew.Goals as goal
+
+none_marked : (old new : List Bool) → new ≡ replicate (length old) false → AreMarks (λ index. false) new
+none_marked old new is =
+    let long = length-replicate (length old) false in
+    subst (λ (marks : List Bool). AreMarks (λ index. false) marks) (sym is) (λ index d l. get_or-replicate (length old) index false d (omega (arith, long, l)))
 
 pub returns-clause-counted : goal.returns-clause-counted
 returns-clause-counted c =
@@ -11,16 +17,18 @@ returns-clause-counted c =
     let heap = c.requires.kept.heap in
     let first = c.args.top.now in
     let none : ℕ → Bool = λ index. false in
+    let clear = none_marked c.args.marks.now c.fill.new.self (c.fill.ensures.after (λ y e. e)) in
     let found = c.mark_peers.ensures in record {
       counted = c.requires.counted.counted;
       apart = λ t index.
-          let most = found.apart t none (λ other d l. get_or-replicate _ other _ d l) index in
+          let most = found.apart t none clear index in
           let same = seen_counts xs heap first c.requires.first (λ x. nat_eq x.index index) in
           omega (arith, most, same);
-      indexes = λ t. anew_marked xs heap first c.requires.first none c.mark_peers.new.marks (found.marks none (λ other d l. get_or-replicate _ other _ d l));
+      indexes = λ t. anew_marked xs heap first c.requires.first none c.mark_peers.new.marks (found.marks none clear);
     }
 
 pub returns-clause-marks : goal.returns-clause-marks
 returns-clause-marks c =
     let none : ℕ → Bool = λ index. false in
-    anew_marked c.args.entries.now c.requires.kept.heap c.args.top.now c.requires.first none c.mark_peers.new.marks (c.mark_peers.ensures.marks none (λ other d l. get_or-replicate _ other _ d l))
+    let clear = none_marked c.args.marks.now c.fill.new.self (c.fill.ensures.after (λ y e. e)) in
+    anew_marked c.args.entries.now c.requires.kept.heap c.args.top.now c.requires.first none c.mark_peers.new.marks (c.mark_peers.ensures.marks none clear)

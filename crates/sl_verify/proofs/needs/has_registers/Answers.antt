@@ -7,5 +7,5 @@ use Rattle.sl_verify.proofs.Rows.{each_holds}
 use Rattle.sl_verify.proofs.needs.has_registers.Goals as goal
 
 pub returns : goal.returns
-returns c =
-    c.each_register.ensures ∙ ap (list_all (λ x. option_map_or is_register (register_in x) true)) (c.as_slice.ensures ∙ c.operands.ensures) ∙ each_holds register_in is_register (operands_of c.args.instr)
+returns c = λ instr same.
+    c.each_register.ensures ∙ ap (list_all (λ x. option_map_or is_register (register_in x) true)) (c.as_slice.ensures ∙ same) ∙ each_holds register_in is_register (operands_of instr)

@@ -15,14 +15,14 @@ returns-in_err-read-clause-kept c =
     let is = c.index_mut-column.ensures.value in
     let found = column_of_width c.args.self.now.columns.items c.from.ensures is c.requires.width in
     let kept = widths_kept c.args.self.now.columns.items c.from.result c.index_mut-column.result.now found.0 is c.read.new.self c.read.ensures.kept in
-    ap (λ (ws : List ℕ). record { columns = ws; winners = length c.args.self.now.placed.items; lots = c.args.self.now.table.lots }) kept
+    ap (λ (ws : List ℕ). record { columns = ws; parties = c.args.self.now.cursors.cells.parties; winners = length c.args.self.now.placed.items; lots = c.args.self.now.table.lots }) kept
 
 pub returns-clause-kept : goal.returns-clause-kept
 returns-clause-kept c =
     let is = c.index_mut-column.ensures.value in
     let found = column_of_width c.args.self.now.columns.items c.from.ensures is c.requires.width in
     let kept = widths_kept c.args.self.now.columns.items c.from.result c.index_mut-column.result.now found.0 is c.read.new.self c.read.ensures.kept in
-    ap (λ (ws : List ℕ). record { columns = ws; winners = length c.args.self.now.placed.items; lots = c.args.self.now.table.lots }) kept
+    ap (λ (ws : List ℕ). record { columns = ws; parties = c.args.self.now.cursors.cells.parties; winners = length c.args.self.now.placed.items; lots = c.args.self.now.table.lots }) kept
 
 pub returns-clause-follows : goal.returns-clause-follows
 returns-clause-follows c =

@@ -6,6 +6,7 @@ use Rattle.sl_stages.specs.declared.table.Placed.{Placed}
 use Rattle.sl_stages.specs.declared.table.Placed.TheVariants as placed
 use Rattle.sl_verify.specs.declared.known.TheConstants.{REGISTERS}
 use Rattle.sl_machine.specs.inner.Lots.{LotTable}
+use Rattle.sl_machine.specs.inner.Positions.{Position}
 use Rattle.sl_machine.proofs.stores.Starting.{same_at, blank, blank_at, blank_widths, started}
 use Rattle.sl_machine.proofs.store.Store.start.Goals as goal
 
@@ -16,7 +17,7 @@ returns-clause-state c =
     let columns = c.in_ok-columns.columns.items in
     let blanks : columns ≡ map (blank e) slots = c.in_ok-columns.ensures ∙ ap (map (blank e)) c.slots.ensures.slots in
     let nobody : c.in_ok-placed.placed.items ≡ replicate c.wins.result placed.Unseated = c.in_ok-placed.ensures in
-    rw (c.unset.ensures, c.unset-2.ensures, c.unset-3.ensures)
+    rw (c.unset.ensures, c.unset-2.ensures)
     (started (replicate {A = ℕ} REGISTERS 0) columns c.off.result.on (mark.Quotient c.new.result) c.new-2.result.items c.new-3.result.items c.in_ok-placed.placed.items
     (same_at REGISTERS 0)
     (λ k p. ap (λ (css : List (List ℕ)). get_or (get_or css k []) p 0) blanks ∙ blank_at e slots k p)
@@ -33,4 +34,5 @@ returns-clause-fits c =
     let widths = ap (map length) blanks ∙ blank_widths e slots in
     let winners = ap length nobody ∙ length-replicate {A = Placed} c.wins.result placed.Unseated ∙ c.wins.ensures.number in
     let lots = ap (λ (t : LotTable). t.lots) c.off.ensures ∙ c.in_ok-lots.ensures in
-    λ i. record { columns = widths i; winners = winners i; lots = lots i }
+    let parties = ap (λ (p : Position). p.parties) c.unset.ensures ∙ c.parties.ensures.number in
+    λ i. record { columns = widths i; parties = parties i; winners = winners i; lots = lots i }

@@ -4,7 +4,7 @@ use Rattle.sl_semantics.specs.Effects.{stage_of}
 use Rattle.sl_semantics.specs.Places.{scope_at, index_at, item_of}
 use Rattle.sl_machine.specs.inner.Stores.{state_of}
 use Rattle.sl_machine.proofs.drawing.Drawing.{entry_there}
-use Rattle.sl_machine.proofs.runs.Dropping.{weight_dropped}
+use Rattle.sl_machine.proofs.runs.Dropping.{weighed}
 use Rattle.sl_machine.proofs.store.Store.step.Goals as goal
 
 pub weigh-requires-clause-entry : goal.weigh-requires-clause-entry
@@ -40,5 +40,4 @@ returns-in-Dropped-records-2-clause-follows g c =
     let w = c.in-Weigh in
     let dropped = sym c.records-in-Weigh.ensures ∙ c.in-Dropped-records-2.is in
     let case = rw w.is at c.requires.step.case in
-    rw (w.is, dropped) (weight_dropped s (rw dropped at c.requires.records) (s.registers w.weight) (stage_of c.args.code.now.stages w.stage) (scope_at w.scope s) s.table
-    (λ t. index_at e t.entries s) _ case)
+    rw (w.is, dropped) (weighed c.args.code.now e s (rw dropped at c.requires.records) w.stage w.scope w.rounding (s.registers w.weight) case)

@@ -15,7 +15,7 @@ returns-clause-kept c =
     let column = c.index_mut-column.result.now in
     let long = ap length c.clear.ensures ∙ length-replicate (length column) 0 in
     let kept = widths_kept columns c.from.result column there c.index_mut-column.ensures.value c.clear.new.self long in
-    ap (λ (ws : List ℕ). record { columns = ws; winners = length c.args.self.now.placed.items; lots = c.args.self.now.table.lots }) kept
+    ap (λ (ws : List ℕ). record { columns = ws; parties = c.args.self.now.cursors.cells.parties; winners = length c.args.self.now.placed.items; lots = c.args.self.now.table.lots }) kept
 
 pub returns-clause-follows : goal.returns-clause-follows
 returns-clause-follows c =

@@ -1,4 +1,4 @@
-use Rattle.std.proofs.Common.{◌≡◌, ◌<◌, ◌≤◌, List, Some, get_or, length, nat_eq, slice_get, Contains, sym, ap, subst, ◌∙◌, arith}
+use Rattle.std.proofs.Common.{◌≡◌, ◌<◌, ◌≤◌, Bool, List, Some, get_or, length, nat_eq, slice_get, Contains, sym, ap, subst, ◌∙◌, arith}
 use Rattle.std.proofs.lemmas.List.Elements.{Contains-get_or}
 use Rattle.std.proofs.lemmas.Option.{get_or_from_slice_get}
 use Rattle.sl_ratio.specs.declared.entry.Entry.{Entry}
@@ -7,6 +7,7 @@ use Rattle.sl_prio.specs.Prio.{peers}
 use Rattle.sl_prio.specs.inner.Heap.{IsDrawnOf, IsDrawnFrom, peers_under}
 use Rattle.sl_prio.specs.inner.Marks.{AreApart, HaveMarks, IsPassed}
 use Rattle.sl_prio.proofs.Finding.{All-at}
+use Rattle.sl_prio.proofs.Heaps.{given_back}
 use Rattle.sl_prio.proofs.PeerCounts.{left_peers}
 use Rattle.sl_prio.proofs.Seen.{seen_among, seen_counts, seen_drawn, seen_peer, seen_under}
 use Rattle.sl_prio.proofs.prio.Prio.take_lot_from.Goals as goal
@@ -17,9 +18,12 @@ drawn_at-named-requires-clause-marks c =
     let held = c.self.inside.entries.items in
     let first = c.in_ok-top.field-0.now in
     let marks = c.marked_anew-self-inside.new.marks in
+    let before = c.self.inside.marks in
+    let here = c.deref-4.ensures.value ∙ given_back before.len before.items marks (omega arith) (omega arith) in
     let at : slice_get held 0 ≡ Some first = sym (ap (λ (xs : List Entry). slice_get xs 0) c.deref.ensures.value) ∙ sym c.in_ok-top.ensures.value in
     let marked = subst (λ (xs : List Entry). HaveMarks (peers xs) marks) c.deref-2.ensures.value c.marked_anew-self-inside.ensures.marks in
-    subst (λ (xs : List Entry). HaveMarks (peers_under first xs 0) marks) (sym c.deref-3.ensures.value) (λ x here. marked x (seen_peer held c.self.invariant.kept.heap first at x here))
+    subst (λ (ms : List Bool). HaveMarks (peers_under first c.deref-3.result.now 0) ms) (sym here)
+    (subst (λ (xs : List Entry). HaveMarks (peers_under first xs 0) marks) (sym c.deref-3.ensures.value) (λ x k. marked x (seen_peer held c.self.invariant.kept.heap first at x k)))
 
 pub drawn_at-named-requires-clause-apart : goal.drawn_at-named-requires-clause-apart
 drawn_at-named-requires-clause-apart c = λ distinct.

@@ -1,4 +1,4 @@
-use Rattle.std.proofs.Common.{◌≡◌, List, [], ◌∷◌, ◌++◌, IsPermutation, sym, subst, ◌∙◌, arith}
+use Rattle.std.proofs.Common.{◌≡◌, Bool, List, [], ◌∷◌, ◌++◌, IsPermutation, sym, subst, ◌∙◌, arith}
 use Rattle.std.proofs.lemmas.List.Elements.{All-push}
 use Rattle.std.proofs.lemmas.List.Sorted.{IsPermutation-to_front, IsPermutation-sym, IsPermutation-trans}
 use Rattle.sl_ratio.specs.Quotient.{FitsRatio}
@@ -8,7 +8,7 @@ use Rattle.sl_prio.specs.inner.Heap.{AreCounted, IsNewPeer}
 use Rattle.sl_prio.proofs.LawProofs.{order_is_free}
 use Rattle.sl_prio.proofs.Heaps.{given_back, kept_by}
 use Rattle.sl_prio.proofs.PeerCounts.{joined_counted}
-use Rattle.sl_prio.proofs.prio.Prio.put.Goals as goal
+use Rattle.sl_prio.proofs.prio.Prio.add.Goals as goal
 
 pub invariant_of-self-2 : goal.invariant_of-self-2
 invariant_of-self-2 c =
@@ -22,13 +22,17 @@ invariant_of-self-2 c =
     let both = IsPermutation-trans (c.args.entry ∷ held) more after first moved in
     let same = (order_is_free (c.args.entry ∷ held) after both).same_peers in
     let joined = subst (λ (xs : List Entry). IsNewPeer xs c.args.entry c.in-Some.count) (sym c.self.view_is) c.in-Some.ensures in
-    rw (given_back c.push.new.self.len pushed after (omega arith) (omega arith)) (record {
+    let before = c.self.inside.counted in
+    let marks = c.self.inside.marks in
+    let now = c.with_one-self-inside.new.marks in
+    let counted = subst (λ (ms : List Bool). AreCounted (peers held) before.count before.marked ms) (sym c.deref_mut-4.ensures.value) c.self.invariant.counted in
+    rw (given_back c.push.new.self.len pushed after (omega arith) (omega arith)) (rw (given_back marks.len marks.items now (omega arith) (omega arith)) (record {
       kept = kept_by more after moved ratios c.sift_up.ensures.heap;
       counted =
-          joined_counted held c.self.invariant.kept.ratios c.args.entry c.num.ensures.fits after c.in-Some.count joined same c.self.inside.counted.count c.self.inside.counted.marked c.self.inside.marks
-          c.self.invariant.counted c.with_one-self-inside.result.count c.with_one-self-inside.result.marked c.with_one-self-inside.new.marks
+          joined_counted held c.self.invariant.kept.ratios c.args.entry c.num.ensures.fits after c.in-Some.count joined same before.count before.marked c.deref_mut-4.result.now
+          counted c.with_one-self-inside.result.count c.with_one-self-inside.result.marked now
           c.with_one-self-inside.ensures.count c.with_one-self-inside.ensures.fresh c.with_one-self-inside.ensures.kept;
-    })
+    }))
 
 pub invariant_of-self-in_default : goal.invariant_of-self-in_default
 invariant_of-self-in_default c =
@@ -44,7 +48,7 @@ invariant_of-self-in_default c =
     let passed = subst (λ (xs : List Entry). peers (c.args.entry ∷ xs) ≡ peers xs) (sym c.self.view_is) c.in_default.ensures in
     rw (given_back c.push.new.self.len pushed after (omega arith) (omega arith)) (record {
       kept = kept_by more after moved ratios c.sift_up.ensures.heap;
-      counted = subst (λ (ps : List Entry). AreCounted ps c.self.inside.counted.count c.self.inside.counted.marked c.self.inside.marks) (sym passed ∙ same) c.self.invariant.counted;
+      counted = subst (λ (ps : List Entry). AreCounted ps c.self.inside.counted.count c.self.inside.counted.marked c.self.inside.marks.items) (sym passed ∙ same) c.self.invariant.counted;
     })
 
 pub returns-clause-added : goal.returns-clause-added
