@@ -1,10 +1,11 @@
 //! Reading an input to its end, and writing a text whole.
 
-ghost use Rattle.std.specs.Prelude.{◌≡◌, ◌+◌, ◌<◌, ◌^◌, IfOk, IfSome};
+ghost use Rattle.std.specs.Prelude.{◌≡◌, ◌+◌, ◌<◌, ◌^◌, [], IfOk, IfErr, IfSome};
 ghost use Rattle.sl_inputs.specs.Failures.{failures_after, input_counts, counts_after};
 ghost use Rattle.sl_inputs.specs.inner.Inputs.{Holds, IsWithin};
 ghost use Rattle.sl_inputs.specs.Reading.{TakesAtMost};
 ghost use Rattle.sl_inputs.specs.Writing.{Writes};
+ghost use Rattle.sl_inputs.specs.declared.status.DeskError.TheVariants as fault;
 
 use crate::sink::Sink;
 use crate::source::{Failed, Source};
@@ -19,6 +20,17 @@ pub(crate) enum Bytes {
 }
 
 const CHUNK: usize = 8192;
+
+// No bytes yet, with room for so many: they need not move as more are read.
+fn with_room(alloc: Global, room: usize) -> Result<Vec<u8>, DeskError>
+    ensures none { IfOk result (λ bytes. bytes.items ≡ []) }
+    ensures error { IfErr result (λ e. e ≡ fault.NoMemory) }
+{
+    let Ok(bytes) = Vec::with_capacity(alloc, room) else {
+        return Err(DeskError::NoMemory);
+    };
+    Ok(bytes)
+}
 
 /// All bytes of an input, if they are at most `limit`. It is read to at most one byte past that.
 ///
@@ -37,7 +49,7 @@ pub(crate) fn read_all<S: Source>(
     ensures failures { input_counts input (S.failed source.new) ≡ counts_after (input_counts input (S.failed source.old)) result }
     ensures limited { TakesAtMost (limit + 1) (S.remaining source.old) (S.remaining source.new) }
 {
-    let mut bytes = Vec::new(alloc);
+    let mut bytes = with_room(alloc, limit + 1)?;
     let mut chunk = [0; CHUNK];
     'reading: while bytes.len() <= limit {
         let room = (limit + 1 - bytes.len()).min(CHUNK);
