@@ -1,5 +1,5 @@
 -- A text that is delivered, and two texts that are.
-use Rattle.std.proofs.Common.{◌≡◌, Result, Ok, Err, Option, List, ℕ, IfErr, refl, sym, ap, subst, ◌∙◌, inl, inr}
+use Rattle.std.proofs.Common.{◌≡◌, Result, Ok, Err, Option, List, ℕ, IfErr, sym, ap, subst, ◌∙◌, inl, inr}
 use Rattle.sl_inputs.specs.declared.status.Status.{Status}
 use Rattle.sl_inputs.specs.declared.status.DeskError.{DeskError}
 use Rattle.sl_inputs.specs.declared.status.DeskError.TheVariants.{Read, Write, NoMemory}

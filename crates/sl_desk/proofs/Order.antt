@@ -1,6 +1,5 @@
 -- The book, or the code file, is judged before the returns are read.
-use Rattle.std.proofs.Common.{◌≡◌, ◌≢◌, ℕ, ◌+◌, ◌-◌, ◌^◌, min, List, [], map, Option, Some, None, IfSome, IfOk, IfErr, Result, Ok, Err, refl, ap, subst, arith}
-use Rattle.std.specs.List.{position}
+use Rattle.std.proofs.Common.{◌≡◌, ◌≢◌, ℕ, ◌+◌, ◌-◌, ◌^◌, min, List, [], Option, Some, None, IfSome, IfOk, IfErr, Result, Ok, Err, refl, ap, subst, arith}
 use Rattle.std.specs.Result.{IsErrAnd}
 use Rattle.sl_instructions.specs.Codes.{CountingCode}
 use Rattle.sl_stages.specs.book.Trees.{BookTree}

@@ -10,7 +10,7 @@ use sl_code::Code;
 use sl_machine::{Ending, Memory, run, run_unrecorded};
 use sl_ratio::NoMemory;
 use sl_stages::Returns;
-use sl_table::{short_text, stage_text, steps_text, table_of};
+use sl_table::{into_table, short_text, stage_text, steps_text};
 use sl_verify::Verified;
 use std::alloc::Global;
 
@@ -49,24 +49,24 @@ impl Report {
     pub fn text(
         self,
         alloc: Global,
-        memory: &Memory,
+        memory: Memory,
         returns: &Returns,
         code: &Code,
     ) -> Result<Vec<u8>, NoMemory>
-        requires fits { FitsMemory code.now returns.now memory.now }
+        requires fits { FitsMemory code.now returns.now memory }
         requires asked { HasAsked self code.now }
-        ensures { IfOk result (λ text. IsHeldText self code.now returns.now memory.now text.items) }
+        ensures { IfOk result (λ text. IsHeldText self code.now returns.now memory text.items) }
     {
         match self {
             Report::Seats => {
-                let table = table_of(alloc, memory, returns)?;
+                let table = into_table(alloc, memory, returns)?;
                 short_text(alloc, &table, returns)
             }
             Report::Steps => {
-                let table = table_of(alloc, memory, returns)?;
+                let table = into_table(alloc, memory, returns)?;
                 steps_text(alloc, &table, returns, code)
             }
-            Report::Stage(stage) => stage_text(alloc, memory, returns, code, stage),
+            Report::Stage(stage) => stage_text(alloc, &memory, returns, code, stage),
         }
     }
 }

@@ -121,4 +121,12 @@ impl Memory {
     {
         self.weights.as_slice()
     }
+
+    /// The seat steps and the weights themselves, each in the order in which they were recorded. What else is held is let go.
+    pub fn into_records(self) -> (Vec<SeatStep>, Vec<Weight>)
+        ensures steps { result.0.items ≡ self.steps }
+        ensures weights { result.1.items ≡ self.weights }
+    {
+        (self.steps, self.weights)
+    }
 }

@@ -1,14 +1,14 @@
 -- Entries that move up and down in a heap, and one that leaves it.
 use Rattle.std.proofs.Common.{◌≡◌, ℕ, zero, suc, ◌+◌, ◌-◌, ◌*◌, ◌/◌, ◌<◌, ◌≤◌, ◌≢◌, true, false, List, [], ◌∷◌, All, IsPermutation, length, get_or, IsTrue, Some, slice_get, take, drop, ◌++◌, refl, sym, ap, subst, ◌∙◌, inl, inr, arith}
-use Rattle.std.specs.List.{SwappedAt, swap_remove}
+use Rattle.std.specs.List.{SwappedAt}
 use Rattle.std.specs.Ordering.{is_le, is_gt}
 use Rattle.std.proofs.lemmas.Bool.{cases_eq}
-use Rattle.std.proofs.lemmas.List.{get_or_default}
+use Rattle.std.proofs.lemmas.List.{get_or-take, get_or_default, length-take-le}
 use Rattle.sl_ratio.specs.declared.entry.Entry.{Entry}
 use Rattle.sl_ratio.specs.Entry.{entry_cmp}
 use Rattle.std.proofs.Math.Seq.{take-append_seam}
 use Rattle.std.proofs.lemmas.List.Elements.{All-tail}
-use Rattle.std.proofs.lemmas.List.Sorted.{All-permutation, IsPermutation-swap_remove}
+use Rattle.std.proofs.lemmas.List.Sorted.{All-permutation}
 use Rattle.sl_ratio.specs.Quotient.{FitsRatio}
 use Rattle.sl_prio.specs.inner.Heap.{IsKept, IsUnder, IsHeap, IsHeapBut, MayRise, IsGreatestChild}
 use Rattle.sl_prio.specs.Prio.{top}
@@ -53,28 +53,31 @@ module _ (xs : List Entry) (j c : ℕ) (from : j * 2 + 1 ≤ c) (to : c ≤ j * 
     ];
   }
 
--- ---- an exchange of an entry with a child
+-- ---- a child that moves up into the hole
 
-module _ (xs ys : List Entry) (j c : ℕ) (s : SwappedAt xs ys j c) (long : length ys ≡ length xs) where
-  at_first : (k : ℕ) → k ≡ j → (d : Entry) → get_or ys k d ≡ get_or xs c d
-  at_first k e d = ap (λ n. get_or ys n d) e ∙ s.0 d
-
-  at_second : (k : ℕ) → k ≡ c → (d : Entry) → get_or ys k d ≡ get_or xs j d
-  at_second k e d = ap (λ n. get_or ys n d) e ∙ s.1 d
+module _ (xs ys : List Entry) (j c : ℕ) (long : length ys ≡ length xs) (first : (d : Entry) → get_or ys j d ≡ get_or xs c d) (others : (k : ℕ) (d : Entry) → k ≢ j → get_or ys k d ≡ get_or xs k d) where
+  in_hole : (k : ℕ) → k ≡ j → (d : Entry) → get_or ys k d ≡ get_or xs c d
+  in_hole k e d = ap (λ n. get_or ys n d) e ∙ first d
 
   pub sunk : IsGreatestChild xs j c → IsHeapBut xs j → IsHeapBut ys c
   sunk g h =
       let from : j * 2 + 1 ≤ c = g.from in
       let to : c ≤ j * 2 + 2 = g.to in record {
         apart = λ p k a b l u v. elim (cases_eq p j) [
-          | inl e ↦ moved xs ys p k c k (at_first p e) (λ d. s.2 k d (omega arith) v) (g.greatest k (omega arith) (omega arith) (omega arith))
+          | inl e ↦ moved xs ys p k c k (in_hole p e) (λ d. others k d (omega arith)) (g.greatest k (omega arith) (omega arith) (omega arith))
           | inr z ↦ elim (cases_eq k j) [
-            | inl e ↦ moved xs ys p k p c (λ d. s.2 p d z u) (at_first k e) (h.across p c (omega arith) (omega arith) from to g.within)
-            | inr y ↦ moved xs ys p k p k (λ d. s.2 p d z u) (λ d. s.2 k d y v) (h.apart p k a b (omega arith) z y)
+            | inl e ↦ moved xs ys p k p c (λ d. others p d z) (in_hole k e) (h.across p c (omega arith) (omega arith) from to g.within)
+            | inr y ↦ moved xs ys p k p k (λ d. others p d z) (λ d. others k d y) (h.apart p k a b (omega arith) z y)
           ]
         ];
-        across = λ p k a b f t l. moved xs ys p k c k (at_first p (omega arith)) (λ d. s.2 k d (omega arith) (omega arith)) (h.apart c k f t (omega arith) (omega arith) (omega arith));
+        across = λ p k a b f t l. moved xs ys p k c k (in_hole p (omega arith)) (λ d. others k d (omega arith)) (h.apart c k f t (omega arith) (omega arith) (omega arith));
       }
+
+-- ---- an exchange of an entry with its parent
+
+module _ (xs ys : List Entry) (j c : ℕ) (s : SwappedAt xs ys j c) (long : length ys ≡ length xs) where
+  at_second : (k : ℕ) → k ≡ c → (d : Entry) → get_or ys k d ≡ get_or xs j d
+  at_second k e d = ap (λ n. get_or ys n d) e ∙ s.1 d
 
   module _ (from : j * 2 + 1 ≤ c) (to : c ≤ j * 2 + 2) (may : MayRise xs c) (under : IsUnder xs c j) where
     rest : IsHeapBut xs c
@@ -104,8 +107,8 @@ module _ (xs ys : List Entry) (j c : ℕ) (s : SwappedAt xs ys j c) (long : leng
                 ];
           };
           below = λ k f t l. elim (cases_eq k c) [
-            | inl e ↦ moved xs ys j k c j (at_first j refl) (at_second k e) under
-            | inr z ↦ moved xs ys j k c k (at_first j refl) (λ d. s.2 k d (omega arith) z) (under_chain xs c j k under (sibling k f t (omega arith) z))
+            | inl e ↦ moved xs ys j k c j s.0 (at_second k e) under
+            | inr z ↦ moved xs ys j k c k s.0 (λ d. s.2 k d (omega arith) z) (under_chain xs c j k under (sibling k f t (omega arith) z))
           ];
         }
 
@@ -130,13 +133,31 @@ module _ (xs : List Entry) (j : ℕ) (may : MayRise xs j) where
 
 -- ---- an entry that leaves
 
-pub left : (xs ys : List Entry) (j : ℕ) → length ys + 1 ≡ length xs → ((k : ℕ) (d : Entry) → k ≢ j → k + 1 < length xs → get_or ys k d ≡ get_or xs k d) → IsHeap xs → IsHeapBut ys j
-left xs ys j long same heap = record {
-  apart = λ p k a b l u v. moved xs ys p k p k (λ d. same p d u (omega arith)) (λ d. same k d v (omega arith)) (heap p k a b (omega arith));
-  across = λ p k a b f t l.
-      moved xs ys p k p k (λ d. same p d (omega arith) (omega arith)) (λ d. same k d (omega arith) (omega arith))
-      (under_chain xs p j k (heap p j a b (omega arith)) (heap j k f t (omega arith)));
-}
+pub without_one : (xs : List Entry) (j : ℕ) → IsHeap xs → IsHeapBut xs j
+without_one xs j heap = record { apart = λ p k a b l u v. heap p k a b l; across = λ p k a b f t l. under_chain xs p j k (heap p j a b (omega arith)) (heap j k f t l) }
+
+-- the first n entries
+module _ (xs : List Entry) (n : ℕ) (short : n ≤ length xs) where
+  long : length (take n xs) ≡ n
+  long = length-take-le n xs short
+
+  within_front : (p k : ℕ) → p < n → k < n → IsUnder xs p k → IsUnder (take n xs) p k
+  within_front p k u v h = moved xs (take n xs) p k p k (λ d. get_or-take n xs p d u) (λ d. get_or-take n xs k d v) h
+
+  pub front_rises : (j : ℕ) → j < n → MayRise xs j → MayRise (take n xs) j
+  front_rises j inside may =
+      let e = long in record {
+        within = omega (arith, e, inside);
+        others = record {
+          apart = λ p k a b l u v. within_front p k (omega (arith, e)) (omega (arith, e)) (may.others.apart p k a b (omega (arith, e, short)) u v);
+          across = λ p k a b f t l. within_front p k (omega (arith, e)) (omega (arith, e)) (may.others.across p k a b f t (omega (arith, e, short)));
+        };
+        below = λ k f t l. within_front j k inside (omega (arith, e)) (may.below k f t (omega (arith, e, short)));
+      }
+
+  pub front_heap : (j : ℕ) → n ≤ j → IsHeapBut xs j → IsHeap (take n xs)
+  front_heap j outside but p k a b l =
+      let e = long in within_front p k (omega (arith, e)) (omega (arith, e)) (but.apart p k a b (omega (arith, e, short)) (omega (arith, e, outside)) (omega (arith, e, outside)))
 
 -- ---- the top
 
@@ -164,9 +185,6 @@ pub given_back : {X : Type 0} (n : ℕ) (xs ys : List X) → n ≡ length xs →
 given_back n xs ys e l = ap (λ k. take k (ys ++ drop (length ys) xs)) (e ∙ sym l) ∙ take-append_seam ys (drop (length ys) xs)
 
 -- ---- what a table keeps
-
-pub swapped_out : (xs ys : List Entry) (j : ℕ) (x : Entry) → j < length xs → x ≡ get_or xs j x → ys ≡ swap_remove xs j x → IsPermutation xs (x ∷ ys)
-swapped_out xs ys j x l e is = rw is (IsPermutation-swap_remove xs j x l e)
 
 pub kept_by : (xs ys : List Entry) → IsPermutation xs ys → All (λ entry. FitsRatio entry.ratio) xs → IsHeap ys → IsKept ys
 kept_by xs ys h ratios heap = record { heap = heap; ratios = All-permutation (λ entry. FitsRatio entry.ratio) xs ys h ratios }

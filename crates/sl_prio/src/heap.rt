@@ -1,8 +1,9 @@
 //! A binary heap of entries in a slice, whose greatest entry stands first: no entry is greater than the one at its parent's place.
 //! The children of place `p` stand at `2 * p + 1` and `2 * p + 2`.
 
-ghost use Rattle.std.specs.Prelude.{◌≡◌, ◌+◌, ◌*◌, ◌<◌, ◌≤◌, ◌∷◌, length, slice_index_or, IsPermutation, MatchOption};
+ghost use Rattle.std.specs.Prelude.{◌≡◌, ◌+◌, ◌*◌, ◌<◌, ◌≤◌, ◌∷◌, length, slice_index_or, slice_set, IsPermutation, MatchOption};
 ghost use Rattle.std.specs.Ordering.{is_gt};
+ghost use Rattle.sl_ratio.specs.declared.entry.Entry.{Entry};
 ghost use Rattle.sl_ratio.specs.Entry.{entry_cmp};
 ghost use Rattle.sl_prio.specs.inner.Heap.{IsHeap, IsHeapBut, MayRise, IsGreatestChild, HasNoSmallerParent, IsSmallerParent};
 
@@ -23,25 +24,35 @@ fn exceeds(entry: &Entry, other: &Entry) -> bool
     let mine = across(&entry.ratio, &other.ratio);
     let its = across(&other.ratio, &entry.ratio);
     if mine == its {
-        return entry > other;
+        return exceeds_at_tie(*entry, *other);
     }
     mine > its
 }
 
-// Moves the entry at a place up, until its parent is no smaller, and notes the places of those that go down for it.
-pub(crate) fn sift_up(entries: &mut [Entry], places: &mut [u16], place: usize)
-    requires { MayRise entries.old place }
-    ensures moved { IsPermutation entries.old entries.new }
+// Whether an entry is greater than another, where their quotients may be equal. It stands apart, and takes copies, so that the comparison
+// of entries with different quotients is short.
+#[cold]
+#[inline(never)]
+fn exceeds_at_tie(entry: Entry, other: Entry) -> bool
+    ensures { result ≡ is_gt (entry_cmp entry other) }
+{
+    entry > other
+}
+
+// Puts an entry, which comes to the hole at a place, into the heap: moves the parents down into the hole until one is no smaller, and notes
+// the places of those that go down.
+pub(crate) fn raise(entries: &mut [Entry], places: &mut [u16], place: usize, entry: Entry)
+    requires { MayRise (slice_set entries.old place entry) place }
+    ensures moved { IsPermutation (slice_set entries.old place entry) entries.new }
     ensures heap { IsHeap entries.new }
 {
-    let rising = entries[place];
-    let mut place = place;
-    while let Some(parent) = smaller_parent(entries, &rising, place) {
-        entries[place] = entries[parent];
-        note(places, entries[place].index, place);
-        place = parent;
+    let mut hole = place;
+    while let Some(parent) = smaller_parent(entries, &entry, hole) {
+        entries[hole] = entries[parent];
+        note(places, entries[hole].index, hole);
+        hole = parent;
     }
-    entries[place] = rising;
+    entries[hole] = entry;
 }
 
 // The parent of a place, if an entry that comes to that place is greater than the one there.
@@ -60,49 +71,38 @@ fn smaller_parent(entries: &[Entry], entry: &Entry, place: usize) -> Option<usiz
     }
 }
 
-// Makes a heap again of entries that would be one, were the entry at a place not there.
-pub(crate) fn mend(entries: &mut [Entry], places: &mut [u16], place: usize)
-    requires within { place < length entries.old }
-    requires others { IsHeapBut entries.old place }
-    ensures moved { IsPermutation entries.old entries.new }
-    ensures heap { IsHeap entries.new }
-{
-    let settled = sift_down(entries, place);
-    note(places, entries[settled].index, settled);
-    sift_up(entries, places, settled);
-}
-
-// Takes the entry at a place out of a heap.
-pub(crate) fn take_out(entries: &mut Vec<Entry>, places: &mut [u16], place: usize) -> Entry
+// Takes the entry at a place out of a heap. The last entry comes into the hole that it leaves, once that has sunk to the bottom, unless it
+// was itself moved up on the way.
+pub(crate) fn take_out(entries: &mut Vec<Entry>, places: &mut [u16], place: usize)
     requires within { place < length entries.old.items }
     requires heap { IsHeap entries.old.items }
-    ensures value { result ≡ slice_index_or entries.old.items place result }
-    ensures rest { IsPermutation entries.old.items (result ∷ entries.new.items) }
+    ensures rest { (d : Entry) → IsPermutation entries.old.items (slice_index_or entries.old.items place d ∷ entries.new.items) }
     ensures heap { IsHeap entries.new.items }
 {
-    let removed = entries.swap_remove(place);
-    if place < entries.len() {
-        mend(entries, places, place);
+    let hole = sink(entries, place);
+    let Some(last) = entries.pop() else {
+        return;
+    };
+    if hole < entries.len() {
+        note(places, last.index, hole);
+        raise(entries, places, hole, last);
     }
-    removed
 }
 
-// Moves the entry at a place down to a place without children, and answers that. It stands too low then, if it is greater than its parent:
-// the last entry of a heap, which comes to the place of one that is taken, seldom is.
-fn sift_down(entries: &mut [Entry], place: usize) -> usize
+// Moves the hole at a place down to a place without children, and answers that. An entry that comes into it stands too low, if it is
+// greater than its parent: the last entry of a heap seldom is.
+fn sink(entries: &mut [Entry], place: usize) -> usize
     requires within { place < length entries.old }
     requires others { IsHeapBut entries.old place }
-    ensures moved { IsPermutation entries.old entries.new }
-    ensures settled { MayRise entries.new result }
+    ensures moved { (x : Entry) → IsPermutation (slice_set entries.old place x) (slice_set entries.new result x) }
+    ensures settled { (x : Entry) → MayRise (slice_set entries.new result x) result }
 {
-    let sinking = entries[place];
-    let mut place = place;
-    while let Some(child) = greatest_child(entries, place) {
-        entries[place] = entries[child];
-        place = child;
+    let mut hole = place;
+    while let Some(child) = greatest_child(entries, hole) {
+        entries[hole] = entries[child];
+        hole = child;
     }
-    entries[place] = sinking;
-    place
+    hole
 }
 
 // The place of the greatest child of a place, where that has one.
@@ -110,13 +110,14 @@ fn greatest_child(entries: &[Entry], place: usize) -> Option<usize>
     requires { place < length entries.now }
     ensures { MatchOption result (length entries.now ≤ place * 2 + 1) (λ child. IsGreatestChild entries.now place child) }
 {
-    let left = 2 * place + 1;
-    if left >= entries.len() {
-        return None;
+    let right = 2 * place + 2;
+    let left = right - 1;
+    if right < entries.len() {
+        return Some(left + usize::from(exceeds(&entries[right], &entries[left])));
     }
-    let right = left + 1;
-    if right < entries.len() && exceeds(&entries[right], &entries[left]) {
-        return Some(right);
+    if left < entries.len() {
+        Some(left)
+    } else {
+        None
     }
-    Some(left)
 }

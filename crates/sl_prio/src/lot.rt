@@ -11,6 +11,9 @@ use std::cmp::Ordering;
 // How many indexes can have a mark: those of the lists of the greatest election.
 pub(crate) const MARKS: usize = MAX_PARTIES * MAX_LANDS;
 
+// How many indexes have a mark at least, where one has.
+pub(crate) const LEAST_MARKS: usize = 64;
+
 // Marks an index, where the marks reach it, and answers whether that was still to be done.
 pub(crate) fn mark(marks: &mut [bool], index: u32) -> bool
     ensures fresh { IsTrue result → slice_get marks.old index ≡ Some false }

@@ -103,19 +103,19 @@ fn count_peers(entries: &[Entry]) -> usize
     }
 }
 
-// The peers that are left in a heap of those before, of which one is gone. Where it was the only one, they are counted anew.
+// The peers that are left in a heap of those before, of which one with an index is gone. Where it was the only one, they are counted anew.
 pub(crate) fn peers_left(
     entries: &[Entry],
     marks: &mut [bool],
     before: Counted,
-    gone: &Entry,
+    gone: u32,
 ) -> Counted
     requires kept { IsKept entries.now }
-    requires before { 1 < before.count → AreCounted (gone.now ∷ peers entries.now) before.count before.marked marks.old }
+    requires before { 1 < before.count → (x : Entry) × (x.index ≡ gone) × AreCounted (x ∷ peers entries.now) before.count before.marked marks.old }
     ensures { AreCounted (peers entries.now) result.count result.marked marks.new }
 {
     if before.count > 1 {
-        unmark_gone(marks, before.marked, gone.index);
+        unmark_gone(marks, before.marked, gone);
         return Counted {
             count: before.count - 1,
             marked: before.marked,

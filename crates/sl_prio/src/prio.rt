@@ -11,13 +11,12 @@ ghost use Rattle.sl_prio.specs.Prio.{has_quotient_of, top, peers, is_covered};
 ghost use Rattle.sl_prio.specs.Lot.{drawn};
 ghost use Rattle.sl_prio.specs.inner.Marks.{IsPassed};
 
-use crate::heap::{sift_up, take_out};
-use crate::lot::{MARKS, marks};
+use crate::heap::{across, raise, take_out};
+use crate::lot::{LEAST_MARKS, MARKS, marks};
 use crate::peers::{Counted, are_named, drawn_at, is_peer, marked_anew, peers_left};
 use crate::places::note;
 use sl_ratio::{Entry, NoMemory};
 use std::alloc::Global;
-use std::cmp::Ordering;
 use std::marker::Model;
 
 /// An entry that a lot drew, and a place of the lot before which it names none of the peers that are left.
@@ -82,8 +81,9 @@ impl Prio {
         ensures added { OnOk result (IsPermutation (entry ∷ self.old) self.new) }
         ensures unchanged { OnErr result (self.new ≡ self.old) }
     {
-        if self.marks.is_empty() {
-            self.make_marks()?;
+        let index = entry.index as usize;
+        if index >= self.marks.len() && index < MARKS {
+            self.reach(index)?;
         }
         self.add(entry)
     }
@@ -98,7 +98,7 @@ impl Prio {
         let joined = self.peers_with(&entry);
         let place = self.entries.len();
         self.entries.push(entry)?;
-        sift_up(&mut self.entries, &mut self.places, place);
+        raise(&mut self.entries, &mut self.places, place, entry);
         let Some(count) = joined else {
             return Ok(());
         };
@@ -108,15 +108,17 @@ impl Prio {
         Ok(())
     }
 
-    // Makes the marks and the places, for all indexes below `MARKS`. It is called for the first entry, and stands apart so that a put which finds
-    // them is short.
+    // Makes the marks and the places reach an index, and as far again, so that they seldom grow. It stands apart so that a put of an
+    // index that they reach is short.
     #[cold]
     #[inline(never)]
-    fn make_marks(&mut self) -> Result<(), NoMemory>
+    fn reach(&mut self, index: usize) -> Result<(), NoMemory>
+        requires { index < MARKS }
         ensures { self.new ≡ self.old }
     {
-        self.places.resize(MARKS, 0)?;
-        self.marks.resize(MARKS, false)?;
+        let reach = (2 * index + 2).clamp(LEAST_MARKS, MARKS);
+        self.places.resize(reach, 0)?;
+        self.marks.resize(reach, false)?;
         self.counted.marked = false;
         Ok(())
     }
@@ -129,10 +131,15 @@ impl Prio {
         let Some(top) = self.entries.first() else {
             return Some(1);
         };
-        match entry.ratio.cmp(&top.ratio) {
-            Ordering::Less => None,
-            Ordering::Equal => Some(self.counted.count + 1),
-            Ordering::Greater => Some(1),
+        let mine = across(&entry.ratio, &top.ratio);
+        let its = across(&top.ratio, &entry.ratio);
+        if mine < its {
+            return None;
+        }
+        if mine == its {
+            Some(self.counted.count + 1)
+        } else {
+            Some(1)
         }
     }
 
@@ -280,8 +287,11 @@ impl Prio {
         ensures value { result ≡ slice_index_or self.old place result }
         ensures rest { IsPermutation self.old (result ∷ self.new) }
     {
-        let removed = take_out(&mut self.entries, &mut self.places, place);
-        self.counted = peers_left(&self.entries, &mut self.marks, self.counted, &removed);
+        // the index is read apart, so that the entry is copied as a whole
+        let index = self.entries[place].index;
+        let removed = self.entries[place];
+        take_out(&mut self.entries, &mut self.places, place);
+        self.counted = peers_left(&self.entries, &mut self.marks, self.counted, index);
         removed
     }
 }

@@ -4,7 +4,7 @@ ghost use Rattle.std.specs.Prelude.{refl};
 ghost use Rattle.std.specs.Cmp.{po};
 ghost use Rattle.std.specs.Ordering.{as_partial_cmp};
 ghost use Rattle.sl_ratio.specs.Entry.{entry_cmp};
-ghost use Rattle.sl_ratio.specs.inner.EntryLaws.{entry_ties, entry_total};
+ghost use Rattle.sl_ratio.specs.inner.EntryLaws.{entry_total, kept_ties};
 
 use crate::ratio::Ratio;
 use std::cmp::Ordering;
@@ -26,7 +26,7 @@ impl Ord for Entry {
 
     ghost matches_partial_cmp = { λ x y. refl };
 
-    ghost matches_eq = { entry_ties };
+    ghost matches_eq = { kept_ties };
 
     fn cmp(&self, other: &Entry) -> Ordering {
         self.ratio
@@ -40,7 +40,7 @@ impl Ord for Entry {
 impl PartialOrd for Entry {
     ghost partial_cmp = { as_partial_cmp entry_cmp };
 
-    ghost laws = { po entry_total entry_ties };
+    ghost laws = { po entry_total kept_ties };
 
     fn partial_cmp(&self, other: &Entry) -> Option<Ordering> {
         Some(self.cmp(other))

@@ -12,26 +12,33 @@ pub const MAX_NUMERATOR: u128 = 10_000_000_000_000_000_000_000_000;
 /// The greatest denominator of a ratio.
 pub const MAX_DENOMINATOR: u128 = 1_000_000_000_000;
 
+// How many values a word has: 2^64.
+const WORD: u128 = 1 << 64;
+
 /// A quotient of votes by a divisor. It is kept as it came, not reduced: 60/3 and 20/1 are equal quotients and two ratios.
 ///
 /// `==` compares the ratios, and `cmp` the quotients.
 #[derive(Clone, Copy, Debug, PartialEq, Eq, Hash)]
 pub struct Ratio {
-    num: u128,
-    den: u128,
+    // The numerator as two words: with a `u128`, which lies at a multiple of 16 bytes, an entry would take 48 bytes in place of 32.
+    high: u64,
+    low: u64,
+    den: u64,
 }
 
 impl Model for Ratio {
-    ghost use Rattle.std.specs.Prelude.{◌≤◌};
-    ghost use Rattle.sl_ratio.specs.Quotient.{Quotient, FitsRatio};
+    ghost use Rattle.sl_ratio.specs.Quotient.{Quotient};
+    ghost use Rattle.sl_ratio.specs.inner.Kept.{quotient_in, kept_as, FitsWords, kept_again};
 
     ghost Value = { Quotient };
 
-    ghost view = { λ r. record { num = r.num; den = r.den } };
+    ghost view = { quotient_in };
 
-    ghost invariant = { λ r. FitsRatio (record { num = r.num; den = r.den }) };
+    ghost invariant = { FitsWords };
 
-    ghost inverse = { λ q. record { num = q.num; den = q.den } };
+    ghost inverse = { kept_as };
+
+    ghost inverse_ok = { kept_again };
 }
 
 impl Ratio {
@@ -42,7 +49,11 @@ impl Ratio {
         requires den { den ≤ MAX_DENOMINATOR }
         ensures value { result ≡ record { num = num; den = den } }
     {
-        Ratio { num, den }
+        Ratio {
+            high: (num / WORD) as u64,
+            low: (num % WORD) as u64,
+            den: den as u64,
+        }
     }
 
     /// The numerator.
@@ -50,7 +61,7 @@ impl Ratio {
         ensures value { result ≡ self.now.num }
         ensures fits { FitsRatio self.now }
     {
-        self.num
+        u128::from(self.high) * WORD + u128::from(self.low)
     }
 
     /// The denominator, 0 where the quotient is infinite.
@@ -58,7 +69,7 @@ impl Ratio {
         ensures value { result ≡ self.now.den }
         ensures fits { FitsRatio self.now }
     {
-        self.den
+        u128::from(self.den)
     }
 
     /// Whether the quotient is infinite.
@@ -72,8 +83,8 @@ impl Ratio {
     pub fn cmp(&self, other: &Ratio) -> Ordering
         ensures { result ≡ compare self.now other.now }
     {
-        let across = self.num * other.den;
-        let back = other.num * self.den;
+        let across = self.num() * u128::from(other.den);
+        let back = other.num() * u128::from(self.den);
         across.cmp(&back)
     }
 }

@@ -17,7 +17,7 @@ use sl_memory::codes::{compiled, ending};
 use sl_ratio::NoMemory;
 use sl_returns::read_returns;
 use sl_stages::{LegalFault, ListSeats, Returns, Table};
-use sl_table::{fault_text, short_text, stage_text, steps_text, table_of};
+use sl_table::{fault_text, into_table, short_text, stage_text, steps_text, table_of};
 use sl_verify::Verified;
 use std::alloc::Global;
 
@@ -116,6 +116,8 @@ enum Asked {
     Seats,
     Short,
     Steps,
+    // the steps of the table that takes over what the run holds
+    Taken,
     Stage(usize),
 }
 
@@ -137,30 +139,50 @@ fn table_text(
     }
 }
 
+// The text of the steps of the table that takes over what a run holds.
+fn taken_text(alloc: Global, memory: Memory, returns: &Returns, code: &Code) -> Text
+    requires { FitsMemory code.now returns.now memory }
+{
+    begin(alloc);
+    let first = into_table(alloc, memory, returns);
+    end(alloc);
+    let table = first?;
+    steps(alloc, &table, returns, code)
+}
+
 // The text of what a run holds.
-fn text_of(alloc: Global, memory: &Memory, returns: &Returns, code: &Code, asked: Asked) -> Text
-    requires { FitsMemory code.now returns.now memory.now }
+fn text_of(alloc: Global, memory: Memory, returns: &Returns, code: &Code, asked: Asked) -> Text
+    requires { FitsMemory code.now returns.now memory }
 {
     match asked {
-        Asked::Seats => seats(alloc, memory, returns),
-        Asked::Short => table_text(alloc, memory, returns, code, false),
-        Asked::Steps => table_text(alloc, memory, returns, code, true),
-        Asked::Stage(number) => stage(alloc, memory, returns, code, number),
+        Asked::Seats => seats(alloc, &memory, returns),
+        Asked::Short => table_text(alloc, &memory, returns, code, false),
+        Asked::Steps => table_text(alloc, &memory, returns, code, true),
+        Asked::Taken => taken_text(alloc, memory, returns, code),
+        Asked::Stage(number) => stage(alloc, &memory, returns, code, number),
     }
 }
 
 // The text of a run of a code: what is asked of it, or its legal fault. It is empty if the steps run out.
 fn run_text(alloc: Global, code: &Verified, returns: &Returns, asked: Asked) -> Text {
     match ending(alloc, code, returns)? {
-        Ending::Done(memory) => text_of(alloc, &memory, returns, code.code(), asked),
+        Ending::Done(memory) => text_of(alloc, memory, returns, code.code(), asked),
         Ending::Fault(found) => fault(alloc, &found, returns, code.code()),
         Ending::OutOfBudget => Ok(Vec::new(alloc)),
     }
 }
 
+// The same. What a run holds is gone where its table was to take it over, and so the code runs again then.
+fn answer(alloc: Global, code: &Verified, returns: &Returns, asked: Asked) -> Text {
+    match run_text(alloc, code, returns, asked) {
+        Err(_) if matches!(asked, Asked::Taken) => run_text(alloc, code, returns, asked),
+        first => first,
+    }
+}
+
 // Whether the run of a code comes to a text.
 fn runs_to(alloc: Global, code: &Verified, returns: &Returns, asked: Asked, text: &[u8]) -> bool {
-    match run_text(alloc, code, returns, asked) {
+    match answer(alloc, code, returns, asked) {
         Ok(found) => found.as_slice() == text,
         Err(_) => false,
     }
@@ -206,6 +228,13 @@ fn short_texts(rt: HostRuntime) {
 fn steps_texts(rt: HostRuntime) {
     for (book, steps) in &THREE_METHODS {
         assert!(rt; splits_to(rt.alloc(), book, Asked::Steps, steps.as_bytes()));
+    }
+}
+
+#[test]
+fn taken_tables(rt: HostRuntime) {
+    for (book, steps) in &THREE_METHODS {
+        assert!(rt; splits_to(rt.alloc(), book, Asked::Taken, steps.as_bytes()));
     }
 }
 

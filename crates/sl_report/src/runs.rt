@@ -10,7 +10,7 @@ use sl_machine::{Ending, Memory, budget, run};
 use sl_ratio::NoMemory;
 use sl_results::{Column, Counted};
 use sl_stages::{CheckedBook, LegalFault, MAX_STAGES, Returns};
-use sl_table::{fault_text, table_of};
+use sl_table::{fault_text, into_table};
 use std::alloc::Global;
 
 /// What a rulebook comes to on returns: a count, or a legal fault. A code of a rulebook keeps its budget.
@@ -49,15 +49,14 @@ fn columns(
 fn counted(
     alloc: Global,
     code: &Code,
-    memory: &Memory,
+    memory: Memory,
     returns: &Returns,
 ) -> Result<Counted, NoMemory>
-    requires { FitsMemory code.now returns.now memory.now }
+    requires { FitsMemory code.now returns.now memory }
 {
-    Ok(Counted {
-        table: table_of(alloc, memory, returns)?,
-        columns: columns(alloc, code, memory, returns)?,
-    })
+    let columns = columns(alloc, code, &memory, returns)?;
+    let table = into_table(alloc, memory, returns)?;
+    Ok(Counted { table, columns })
 }
 
 // What the end of a run of a code on returns comes to.
@@ -65,7 +64,7 @@ fn ended(alloc: Global, code: &Code, returns: &Returns, ending: Ending) -> Resul
     requires { Fits code.now returns.now ending }
 {
     match ending {
-        Ending::Done(memory) => Ok(Outcome::Counted(counted(alloc, code, &memory, returns)?)),
+        Ending::Done(memory) => Ok(Outcome::Counted(counted(alloc, code, memory, returns)?)),
         Ending::Fault(fault) => {
             let line = fault_text(alloc, &fault, returns, code)?;
             Ok(Outcome::Fault(fault, line))

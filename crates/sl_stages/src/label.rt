@@ -1,37 +1,44 @@
 //! The stage that a lot names.
 
-ghost use Rattle.std.specs.Prelude.{◌≡◌, None, IfOk};
+ghost use Rattle.std.specs.Prelude.{◌≡◌, None};
 ghost use Rattle.sl_ratio.specs.Names.{spelling_fault};
 
-use sl_ratio::NoMemory;
-use std::alloc::Global;
+use sl_ratio::MAX_NAME_BYTES;
 use std::marker::Model;
 
-/// A name as returns write it: 1 to `MAX_NAME_BYTES` bytes, each a letter, a digit, `_` or `-`.
+/// A name as returns write it: 1 to `MAX_NAME_BYTES` bytes, each a letter, a digit, `_` or `-`. There is one for each lot, so it takes no memory of
+/// its own.
 #[derive(Debug, Drop)]
 pub struct Label {
-    bytes: Vec<u8>,
+    // the name, and zeros behind it
+    bytes: [u8; MAX_NAME_BYTES],
+    length: usize,
 }
 
 impl Model for Label {
-    ghost use Rattle.std.specs.Prelude.{◌≡◌, ℕ, List, None};
+    ghost use Rattle.std.specs.Prelude.{◌≡◌, ◌≤◌, ℕ, List, None, take};
     ghost use Rattle.sl_ratio.specs.Names.{spelling_fault};
+    ghost use Rattle.sl_ratio.specs.declared.names.TheConstants.{MAX_NAME_BYTES};
 
     ghost Value = { List ℕ };
 
-    ghost view = { λ l. l.bytes.items };
+    ghost view = { λ l. take l.length l.bytes };
 
-    ghost invariant = { λ l. spelling_fault l.bytes.items ≡ None };
+    ghost invariant = { λ l. (l.length ≤ MAX_NAME_BYTES) × (spelling_fault (take l.length l.bytes) ≡ None) };
 }
 
 impl Label {
     /// The label of these bytes.
-    pub fn new(alloc: Global, bytes: &[u8]) -> Result<Label, NoMemory>
+    pub fn new(bytes: &[u8]) -> Label
         requires { spelling_fault bytes.now ≡ None }
-        ensures { IfOk result (λ l. l ≡ bytes.now) }
+        ensures { result ≡ bytes.now }
     {
-        let bytes = Vec::from_slice(alloc, bytes)?;
-        Ok(Label { bytes })
+        let mut kept = [0; MAX_NAME_BYTES];
+        kept[..bytes.len()].copy_from_slice(bytes);
+        Label {
+            bytes: kept,
+            length: bytes.len(),
+        }
     }
 
     /// Its bytes.
@@ -39,6 +46,6 @@ impl Label {
         ensures bytes { result.now ≡ self.now }
         ensures spelled { spelling_fault self.now ≡ None }
     {
-        self.bytes.as_slice()
+        &self.bytes[..self.length]
     }
 }

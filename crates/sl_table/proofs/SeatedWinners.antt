@@ -1,5 +1,5 @@
 -- Winners who are placed on lists, counted by the place of their list.
-use Rattle.std.proofs.Common.{◌≡◌, ◌≢◌, ◌⊎◌, ℕ, ◌+◌, ◌*◌, ◌<◌, ◌&&◌, Bool, true, false, List, [], ◌∷◌, Option, Some, None, map, count_by, nat_eq, refl, sym, ap, ◌∙◌, eq-eqb, inl, inr}
+use Rattle.std.proofs.Common.{◌≡◌, ◌≢◌, ◌⊎◌, ℕ, ◌+◌, ◌*◌, ◌<◌, ◌&&◌, Bool, false, List, [], ◌∷◌, Option, Some, None, map, count_by, nat_eq, refl, sym, ap, ◌∙◌, eq-eqb, inl, inr}
 use Rattle.std.specs.List.{All, AllByRecursion as Every, zip, range_with_len}
 use Rattle.std.specs.Option.{ForSome}
 use Rattle.std.proofs.lemmas.Bool.{cases_eq, ne_eqb}

@@ -6,4 +6,4 @@ mod tables;
 
 pub use sl_texts::{Text, fault_text, short_text, steps_text};
 pub use stage_form::stage_text;
-pub use tables::table_of;
+pub use tables::{into_table, table_of};

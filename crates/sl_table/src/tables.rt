@@ -32,6 +32,22 @@ pub fn table_of(alloc: Global, memory: &Memory, returns: &Returns) -> Result<Tab
     Ok(Table::new(lists, placed, steps, weights))
 }
 
+/// The same table, which takes over the records of what the run holds. They are many, and so not copied; what else is held is let go.
+///
+/// # Errors
+///
+/// Want of memory.
+pub fn into_table(alloc: Global, memory: Memory, returns: &Returns) -> Result<Table, NoMemory>
+    requires { FitsHeld memory returns.now }
+    ensures table { IfOk result (λ table. table ≡ held_table returns.now memory) }
+    ensures fits { IfOk result (λ table. Fits table returns.now) }
+{
+    let lists = lists(alloc, &memory, returns)?;
+    let placed = places(alloc, &memory, returns)?;
+    let (steps, weights) = memory.into_records();
+    Ok(Table::new(lists, placed, steps, weights))
+}
+
 // The number of the pair of Land and party of a winner who is placed on a list.
 fn list_place(returns: &Returns, win: Win, place: Placed) -> Option<usize>
     requires land { win.land < lands_of returns.now }

@@ -1,6 +1,6 @@
 //! Texts of lines, written word by word.
 
-ghost use Rattle.std.specs.Prelude.{◌≡◌, ◌++◌, OnOk, OnErr, codes};
+ghost use Rattle.std.specs.Prelude.{◌≡◌, ◌<◌, ◌≤◌, ◌+◌, ◌-◌, ◌^◌, ◌++◌, ◌∷◌, [], OnOk, OnErr, codes, if◌then◌else◌, length, vec_len, vec_capacity};
 ghost use Rattle.std.specs.Fmt.{decimal};
 ghost use Rattle.sl_texts.specs.Lines.{ratio_word, no_text, with_word, with_end};
 
@@ -24,6 +24,39 @@ impl Model for Text {
     ghost Value = { Draft };
 
     ghost view = { λ t. record { bytes = t.bytes.items; begun = t.begun } };
+}
+
+// The most bytes that are added one by one: a call that copies so few costs more.
+const FEW: usize = 8;
+
+// Makes room for a word of so many bytes, and adds the blank before it, if the line has begun.
+#[inline]
+fn begin(bytes: &mut Vec<u8>, begun: bool, length: usize) -> Result<(), NoMemory>
+    requires { length < 2 ^ 64 - 1 }
+    ensures parted { OnOk result (bytes.new.items ≡ bytes.old.items ++ (if begun then 32 ∷ [] else [])) }
+    ensures room { OnOk result (vec_len bytes.new + length ≤ vec_capacity bytes.new) }
+    ensures unchanged { OnErr result (bytes.new.items ≡ bytes.old.items) }
+{
+    bytes.reserve(length + 1)?;
+    if begun {
+        bytes.push_reserved(b' ');
+    }
+    Ok(())
+}
+
+// Adds bytes for which there is room.
+#[inline]
+fn add(bytes: &mut Vec<u8>, more: &[u8])
+    requires { vec_len bytes.old + length more.now ≤ vec_capacity bytes.old }
+    ensures { bytes.new.items ≡ bytes.old.items ++ more.now }
+{
+    if more.len() > FEW {
+        let _ = bytes.extend_from_slice(more);
+        return;
+    }
+    for byte in more {
+        bytes.push_reserved(*byte);
+    }
 }
 
 impl Text {
@@ -52,14 +85,8 @@ impl Text {
         ensures added { OnOk result (self.new ≡ with_word self.old word.now) }
         ensures unchanged { OnErr result (self.new ≡ self.old) }
     {
-        let length = self.bytes.len();
-        if self.begun {
-            self.bytes.push(b' ')?;
-        }
-        if self.bytes.extend_from_slice(word).is_err() {
-            self.bytes.truncate(length);
-            return Err(NoMemory);
-        }
+        begin(&mut self.bytes, self.begun, word.len())?;
+        add(&mut self.bytes, word);
         self.begun = true;
         Ok(())
     }
@@ -73,10 +100,15 @@ impl Text {
         ensures added { OnOk result (self.new ≡ with_word self.old (first.now ++ (codes "/" ++ second.now))) }
         ensures unchanged { OnErr result (self.new ≡ self.old) }
     {
-        let mut word = Vec::from_slice(self.alloc, first)?;
-        word.push(b'/')?;
-        word.extend_from_slice(second)?;
-        self.word(&word)
+        let length = self.bytes.len();
+        let begun = self.begun;
+        self.word(first)?;
+        if self.bytes.push(b'/').is_err() || self.bytes.extend_from_slice(second).is_err() {
+            self.bytes.truncate(length);
+            self.begun = begun;
+            return Err(NoMemory);
+        }
+        Ok(())
     }
 
     /// Adds a number to the line, in plain decimal, as a word of its own.

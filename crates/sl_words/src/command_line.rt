@@ -121,11 +121,25 @@ fn with_command<'a>(
     program.subcommand(command_of(alloc, form)?)
 }
 
-// The program with all its commands.
-fn program<'a>(alloc: Global) -> Result<Command<'a>, AllocError> {
+// The command that the words name, if they name one.
+fn named_command(words: &[String]) -> Option<&str> {
+    let word = words.get(1)?.as_str();
+    if COMMANDS.iter().any(|form| form.name == word) {
+        Some(word)
+    } else {
+        None
+    }
+}
+
+// The program with the command that the words name, since the others have no part in what that one reads and says; with all commands where they
+// name none.
+fn program<'a>(alloc: Global, words: &[String]) -> Result<Command<'a>, AllocError> {
+    let named = named_command(words);
     let mut program = command_of(alloc, &PROGRAM)?;
     for form in &COMMANDS {
-        program = with_command(alloc, program, form)?;
+        if named.is_none() || named == Some(form.name) {
+            program = with_command(alloc, program, form)?;
+        }
     }
     Ok(program.version(VERSION).subcommand_required(true))
 }
@@ -217,7 +231,7 @@ fn judged<'a>(
 ///
 /// A refusal, a help or the version by `clap`, a refusal of `code` with one word for its rulebook and its code file, or want of memory.
 pub fn request_of<'a>(alloc: Global, words: &'a [String]) -> Result<Option<Asked<'a>>, Error> {
-    let mut program = program(alloc)?;
+    let mut program = program(alloc, words)?;
     let matches = program.try_get_matches_from_mut(words)?;
     let asked = asked_in(alloc, &matches)?;
     judged(&mut program, asked)

@@ -50,7 +50,7 @@ fn outcome(
     let code = compile(alloc, book)?;
     let steps = steps_of(&book.book, returns);
     let ending = report.run(alloc, &code, returns, steps)?;
-    Ok(ended(report, alloc, code.code(), returns, &ending)?)
+    Ok(ended(report, alloc, code.code(), returns, ending)?)
 }
 
 // What a good book comes to on the returns of a source.

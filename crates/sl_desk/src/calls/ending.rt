@@ -31,15 +31,15 @@ pub(crate) fn ended(
     alloc: Global,
     code: &Code,
     returns: &Returns,
-    ending: &Ending,
+    ending: Ending,
 ) -> Result<Answer, NoMemory>
-    requires fits { Fits code.now returns.now ending.now }
+    requires fits { Fits code.now returns.now ending }
     requires asked { HasAsked report code.now }
-    ensures { IfOk result (λ a. IsEndingOutput report code.now returns.now ending.now a.status a.text.items) }
+    ensures { IfOk result (λ a. IsEndingOutput report code.now returns.now ending a.status a.text.items) }
 {
     match ending {
         Ending::Done(memory) => Ok(Answer::done(report.text(alloc, memory, returns, code)?)),
-        Ending::Fault(fault) => Ok(Answer::legal(fault_text(alloc, fault, returns, code)?)),
+        Ending::Fault(fault) => Ok(Answer::legal(fault_text(alloc, &fault, returns, code)?)),
         Ending::OutOfBudget => Ok(Answer::out_of_budget(out_of_budget(alloc)?)),
     }
 }

@@ -25,7 +25,7 @@ fn outcome(alloc: Global, code: &Verified, returns: &Returns) -> Result<Answer, 
 {
     let steps = budget(code.code().stages().len(), returns);
     let ending = Report::Seats.run(alloc, code, returns, steps)?;
-    Ok(ended(Report::Seats, alloc, code.code(), returns, &ending)?)
+    Ok(ended(Report::Seats, alloc, code.code(), returns, ending)?)
 }
 
 // What good code comes to on the returns of a source.

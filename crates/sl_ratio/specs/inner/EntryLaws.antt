@@ -11,6 +11,7 @@ use Rattle.std.specs.Ordering.{MatchOrdering, nat_cmp, is_eq, ordering_then}
 use Rattle.sl_ratio.specs.declared.entry.Entry.{Entry}
 use Rattle.sl_ratio.specs.Quotient.{Quotient, compare}
 use Rattle.sl_ratio.specs.Entry.{as_ordered, quotient_cmp, entry_cmp}
+use Rattle.sl_ratio.specs.inner.Kept.{kept_as, kept_alike, kept_alike-parts}
 
 -- what an answer says of the two numbers
 said : (a b : ℕ) (r : Ordering) → nat_cmp a b ≡ r → MatchOrdering r (a < b) (a ≡ b) (b < a)
@@ -127,3 +128,7 @@ entry_ties x y =
     same_from_decides _ _
     (Decides-and _ _ (Decides-and _ _ (Decides-eqb x.ratio.num y.ratio.num) (Decides-eqb x.ratio.den y.ratio.den)) (Decides-eqb x.index y.index))
     (order_decides x y)
+
+-- the same of `==`, which compares ratios as they are kept
+pub kept_ties : (x y : Entry) → (kept_alike (kept_as x.ratio) (kept_as y.ratio) && nat_eq x.index y.index) ≡ is_eq (entry_cmp x y)
+kept_ties x y = ap (λ same. same && nat_eq x.index y.index) (kept_alike-parts x.ratio y.ratio) ∙ entry_ties x y

@@ -206,11 +206,10 @@ impl Returns {
         ensures unchanged { OnErr result (self.new ≡ self.old) }
     {
         make_room(&mut self.lots)?;
-        let stage = Label::new(self.alloc, stage)?;
         let lot = Lot {
             land,
             party,
-            stage,
+            stage: Label::new(stage),
             win,
         };
         put(&mut self.lots, lot);

@@ -1,4 +1,6 @@
-use Rattle.std.proofs.Common.{◌≡◌, ◌+◌, ◌∷◌, List, Some, slice_get, sym, ap, subst, ◌∙◌, arith}
+use Rattle.std.proofs.Common.{◌≡◌, ◌+◌, ◌*◌, ◌∷◌, List, Some, slice_get, sym, ap, subst, ◌∙◌, arith}
+use Rattle.std.specs.Cmp.{nat_cmp_is}
+use Rattle.std.specs.declared.cmp.Ordering.TheVariants.{Less, Equal, Greater}
 use Rattle.sl_ratio.specs.declared.entry.Entry.{Entry}
 use Rattle.sl_prio.specs.Prio.{peers, top}
 use Rattle.sl_prio.specs.inner.Heap.{IsNewPeer}
@@ -9,26 +11,32 @@ use Rattle.sl_prio.proofs.prio.Prio.peers_with.Goals as goal
 pub overflow_add-result : goal.overflow_add-result
 overflow_add-result c = let most = peers_at_most c.self.inside.entries.items in let e = c.self.invariant.counted.counted in omega (arith, most, e)
 
-pub returns-in-Less : goal.returns-in-Less
-returns-in-Less c =
+pub returns-then-mine-its : goal.returns-then-mine-its
+returns-then-mine-its c =
     let held = c.self.inside.entries.items in
     let first = c.in-Some.top.now in
+    let mine = c.args.entry.now.ratio.num * first.ratio.den in
+    let its = first.ratio.num * c.args.entry.now.ratio.den in
     let is_top : top held ≡ Some first = sym (top_at_first held c.self.invariant.kept.heap) ∙ sym (ap (λ (xs : List Entry). slice_get xs 0) c.deref.ensures.value) ∙ sym c.in-Some.ensures.value in
     subst (λ (xs : List Entry). peers (c.args.entry.now ∷ xs) ≡ peers xs) c.self.view_is
-    (passed held c.self.invariant.kept.ratios first is_top c.args.entry.now c.requires (sym c.cmp.ensures ∙ c.in-Less.is))
+    (passed held c.self.invariant.kept.ratios first is_top c.args.entry.now c.requires (sym (nat_cmp_is mine its Less (omega arith))))
 
-pub returns-in-Equal : goal.returns-in-Equal
-returns-in-Equal c =
+pub returns-then-mine-its-2 : goal.returns-then-mine-its-2
+returns-then-mine-its-2 c =
     let held = c.self.inside.entries.items in
     let first = c.in-Some.top.now in
+    let mine = c.args.entry.now.ratio.num * first.ratio.den in
+    let its = first.ratio.num * c.args.entry.now.ratio.den in
     let is_top : top held ≡ Some first = sym (top_at_first held c.self.invariant.kept.heap) ∙ sym (ap (λ (xs : List Entry). slice_get xs 0) c.deref.ensures.value) ∙ sym c.in-Some.ensures.value in
     subst (λ (xs : List Entry). IsNewPeer xs c.args.entry.now (c.self.inside.counted.count + 1)) c.self.view_is
-    (new_alike held c.self.invariant.kept.ratios first is_top c.args.entry.now c.requires (sym c.cmp.ensures ∙ c.in-Equal.is) c.self.inside.counted.count c.self.invariant.counted.counted)
+    (new_alike held c.self.invariant.kept.ratios first is_top c.args.entry.now c.requires (sym (nat_cmp_is mine its Equal (omega arith))) c.self.inside.counted.count c.self.invariant.counted.counted)
 
-pub returns-in-Greater : goal.returns-in-Greater
-returns-in-Greater c =
+pub returns-else-mine-its-2 : goal.returns-else-mine-its-2
+returns-else-mine-its-2 c =
     let held = c.self.inside.entries.items in
     let first = c.in-Some.top.now in
+    let mine = c.args.entry.now.ratio.num * first.ratio.den in
+    let its = first.ratio.num * c.args.entry.now.ratio.den in
     let is_top : top held ≡ Some first = sym (top_at_first held c.self.invariant.kept.heap) ∙ sym (ap (λ (xs : List Entry). slice_get xs 0) c.deref.ensures.value) ∙ sym c.in-Some.ensures.value in
     subst (λ (xs : List Entry). IsNewPeer xs c.args.entry.now 1) c.self.view_is
-    (new_greater held c.self.invariant.kept.ratios first is_top c.args.entry.now c.requires (sym c.cmp.ensures ∙ c.in-Greater.is))
+    (new_greater held c.self.invariant.kept.ratios first is_top c.args.entry.now c.requires (sym (nat_cmp_is mine its Greater (omega arith))))

@@ -10,7 +10,7 @@ use Rattle.sl_stages.proofs.returns.Returns.add_lot.Goals as goal
 use Rattle.sl_stages.proofs.returns.Returns.add_lot.Goals.{After-put}
 
 abbrev lot : After-put → Lot
-lot c = record { land = c.args.land; party = c.args.party; stage = c.in_ok-stage.stage; win = c.args.win }
+lot c = record { land = c.args.land; party = c.args.party; stage = c.new.result; win = c.args.win }
 
 lots : (c : After-put) → c.put.new.items.items ≡ c.self.inside.lots.items ++ lot c ∷ []
 lots c = c.put.ensures ∙ ap (λ ls. ls ++ lot c ∷ []) c.make_room.ensures.same
@@ -22,7 +22,7 @@ joined c = rw (lots c)
 named : (c : After-put) → IsLot (length (election_of c.self.inside).land_names) (length (election_of c.self.inside).party_names) (length (election_of c.self.inside).win_names) (lot c)
 named c =
     let wins = c.self.invariant.1.wins in
-    let stage = subst (λ stage. spelling_fault stage ≡ None) (sym c.in_ok-stage.ensures) c.requires.stage in
+    let stage = subst (λ stage. spelling_fault stage ≡ None) (sym c.new.ensures) c.requires.stage in
     let e = election_of c.self.inside in
     let kept = subst (λ (e : Election). IsLot (length e.land_names) (length e.party_names) (length e.wins) (lot c)) (sym c.self.view_is) (search rules) in
     subst (λ n. IsLot (length e.land_names) (length e.party_names) n (lot c)) (sym wins) kept

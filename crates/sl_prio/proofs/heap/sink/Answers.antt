@@ -1,17 +1,15 @@
 use Rattle.std.proofs.Common.{◌≢◌, ◌∙◌, arith}
 use Rattle.std.proofs.lemmas.List.{length-set}
 use Rattle.std.proofs.lemmas.List.Sorted.{IsPermutation-trans}
-use Rattle.sl_prio.proofs.Gaps.{after, before, child_below, exchanged, moves, same_length}
-use Rattle.sl_prio.proofs.Heaps.{sunk}
-use Rattle.sl_prio.proofs.heap.sift_down.Goals as goal
+use Rattle.sl_prio.proofs.Gaps.{deeper, filled, moves}
+use Rattle.sl_prio.proofs.heap.sink.Goals as goal
 
 pub loop-child-preserved : goal.loop-child-preserved
 loop-child-preserved c =
     let now = c.loop-child in
     let xs = now.entries in
-    let j = now.place in
+    let j = now.hole in
     let child = c.in-Some.child in
-    let x = c.index-entries-place.result in
     let y = c.index-entries-child.result in
     let found = c.in-Some.ensures in
     let from = found.from in
@@ -22,8 +20,9 @@ loop-child-preserved c =
     let within = found.within in record {
       within = omega (arith, long, within);
       same_length = long ∙ now.invariant.same_length;
-      moved = IsPermutation-trans _ _ _ now.invariant.moved (moves xs j child x y gap within other read);
-      others =
-          sunk (before xs j child x y gap within other read) (after xs j child x y gap within other read) j child (exchanged xs j child x y gap within other read) (same_length xs j child x y gap within other read)
-          (child_below xs j child x found) now.invariant.others;
+      moved = λ x. IsPermutation-trans _ _ _ (now.invariant.moved x) (moves xs j child x y gap within other read);
+      others = deeper xs j child y gap read found now.invariant.others;
     }
+
+pub returns-clause-settled : goal.returns-clause-settled
+returns-clause-settled c = λ x. filled c.loop-child.entries c.loop-child.hole x c.loop-child.invariant.within c.in_default.ensures c.loop-child.invariant.others

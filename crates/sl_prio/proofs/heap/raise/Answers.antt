@@ -4,15 +4,15 @@ use Rattle.std.proofs.lemmas.List.{length-set}
 use Rattle.std.proofs.lemmas.List.Sorted.{IsPermutation-trans}
 use Rattle.sl_prio.proofs.Gaps.{after, before, exchanged_back, moves, same_length, under_gap, gap_under}
 use Rattle.sl_prio.proofs.Heaps.{risen, rests_on_top, rests_under_parent}
-use Rattle.sl_prio.proofs.heap.sift_up.Goals as goal
+use Rattle.sl_prio.proofs.heap.raise.Goals as goal
 
 pub loop-parent-preserved : goal.loop-parent-preserved
 loop-parent-preserved c =
     let now = c.loop-parent in
     let xs = now.entries in
-    let j = now.place in
+    let j = now.hole in
     let parent = c.in-Some.parent in
-    let x = c.index-entries-place.result in
+    let x = c.args.entry in
     let y = c.index-entries-parent.result in
     let found = c.in-Some.ensures in
     let pos = found.above in
@@ -34,8 +34,8 @@ pub returns-clause-heap : goal.returns-clause-heap
 returns-clause-heap c =
     let now = c.loop-parent in
     let xs = now.entries in
-    let j = now.place in
-    let x = c.index-entries-place.result in
+    let j = now.hole in
+    let x = c.args.entry in
     let gap = now.invariant.within in
     elim (cases_eq j 0) [
       | inl e ↦ rests_on_top (set xs j x) j now.invariant.rises e
