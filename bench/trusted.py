@@ -16,7 +16,7 @@ import sys
 TOP = pathlib.Path(__file__).resolve().parent.parent
 CRATES = TOP / "crates"
 PAGE = TOP / "docs" / "trusted.md"
-CALLS = ["count", "steps", "stage", "check_book", "code", "run_code", "law_text"]
+CALLS = ["count", "steps", "stage", "show", "check_book", "code", "run_code", "law_text"]
 NAMES = re.compile(r"\s*(?:ghost |pub )*use Rattle\.(\w+)\.specs\.([\w.]+)\.\{(.*)\};?$")
 MODULE = re.compile(r"\s*(?:ghost |pub )*use Rattle\.(\w+)\.specs\.([\w.]+)(?: as (\w+))?;?$")
 # Crates whose public functions promise something to whoever uses the program or the page, beside the laws.
@@ -111,9 +111,9 @@ def contracts(path, which=None):
 def reached_by(path, text):
     seen, types = set(), set()
     reach(path, text, seen, types)
-    for trait in ("Source", "Sink"):
+    for trait, crate in (("Source", "sl_inputs"), ("Sink", "sl_inputs"), ("Listener", "sl_desk")):
         if re.search(rf"\b{trait}\b", text):
-            place = CRATES / "sl_inputs" / "src" / f"{trait.lower()}.rt"
+            place = CRATES / crate / "src" / f"{trait.lower()}.rt"
             reach(place, blocks(place, trait), seen, types)
     return seen
 
@@ -156,13 +156,13 @@ def page():
         "is for a reader to judge. This page lists the files with these definitions, call by call. It is written by `python3 bench/trusted.py`,",
         "which follows the imports. Definition lines are those that are no import, no comment and not blank. The library of the toolchain, on",
         "which the files rest too, is not listed; nor are the types and constants in `src/` that the definitions name, such as `LegalFault`,",
-        "`Divisor` and the limits, and the traits `Source` and `Sink` with their clauses, which have to be read as well.",
+        "`Divisor` and the limits, and the traits `Source`, `Sink` and `Listener` with their clauses, which have to be read as well.",
         "",
         "| call | files | definition lines |",
         "|---|---|---|",
     ]
     out += [f"| `{name}` | {len(calls[name])} | {sum(map(definition_lines, calls[name]))} |" for name in CALLS]
-    out += [f"| all seven | {len(every)} | {sum(map(definition_lines, every))} |", "", "## The files", "", "A cross stands where the call rests on the file.", ""]
+    out += [f"| all eight | {len(every)} | {sum(map(definition_lines, every))} |", "", "## The files", "", "A cross stands where the call rests on the file.", ""]
     out += ["| file | lines | " + " | ".join(f"`{name}`" for name in CALLS) + " | what it is for |", "|---|---|" + "---|" * len(CALLS) + "---|"]
     for path in sorted(every, key=by_place):
         marks = " | ".join("x" if path in calls[name] else "" for name in CALLS)

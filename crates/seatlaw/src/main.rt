@@ -1,10 +1,8 @@
 //! The program: a command line over the calls of the desk.
 #![tactic(auto)]
 
-mod files;
-mod reports;
+mod explainer;
 mod run;
-mod telling;
 
 use sl_words::request_of;
 use std::alloc::{AllocError, Global};

@@ -1,13 +1,15 @@
 //! Commands over files.
 
-use crate::files::{Failure, KeptFile, create, open, open_book, text_of};
-use crate::reports;
-use crate::telling::{Desk, language_of, tell_failure, tell_fault};
-use sl_desk::{BookSource, BookText, DeskError, Input, Status, ToWrite};
+use crate::explainer::Explainer;
+use sl_console::{
+    Desk, Failure, KeptFile, create, language_of, open, open_book, report_status, tell,
+    tell_failure, tell_fault, text_of,
+};
+use sl_desk::{BookSource, BookText, Input, Status, ToWrite};
 use sl_hints::{explain_check, explain_count, explain_run, explain_stage};
 use sl_words::{Asked, Request, Show};
 
-// Explains why a count gave nothing to show.
+// Explains why a count is refused.
 fn tell_count(
     desk: Desk<'_>,
     show: Show<'_>,
@@ -28,19 +30,19 @@ fn tell_count(
     tell_fault(desk, (book.0, text.bytes()), (returns.0, bytes), explained);
 }
 
-// Writes what is to be shown of a count.
-fn show_count(
-    desk: Desk<'_>,
-    show: Show<'_>,
-    book: &mut BookSource<'_, KeptFile>,
-    returns: &mut KeptFile,
-) -> Result<Status, DeskError> {
-    let alloc = desk.rt.alloc();
-    let mut out = ToWrite::new(desk.rt.stdout());
+// Tells what the explainer has to say of a legal fault.
+fn tell_legal(desk: Desk<'_>, returns: (&str, &KeptFile), explainer: &Explainer) {
+    if let (Some(explanation), Some(bytes)) = (explainer.explanation(), returns.1.bytes()) {
+        tell(desk, Some((returns.0, bytes)), explanation);
+    }
+}
+
+// What the desk is to show of a count.
+fn view_of(show: Show<'_>) -> sl_desk::View<'_> {
     match show {
-        Show::Seats => sl_desk::count(alloc, book, returns, &mut out),
-        Show::Steps => sl_desk::steps(alloc, book, returns, &mut out),
-        Show::Stage(name) => sl_desk::stage(alloc, book, returns, name, &mut out),
+        Show::Seats => sl_desk::View::Seats,
+        Show::Steps => sl_desk::View::Steps,
+        Show::Stage(name) => sl_desk::View::Stage(name),
     }
 }
 
@@ -52,9 +54,22 @@ fn count<'a>(
 ) -> Result<Status, Failure<'a>> {
     let mut source = open_book(desk.rt, book)?;
     let mut file = open(desk.rt, returns, Input::Returns)?;
-    let status = show_count(desk, show, &mut source, &mut file)?;
-    if status != Status::Done {
-        tell_count(desk, show, (book, &source), (returns, &file));
+    let mut out = ToWrite::new(desk.rt.stdout());
+    let alloc = desk.rt.alloc();
+    let mut explainer = Explainer::new(alloc, desk.language);
+    let view = view_of(show);
+    let status = sl_desk::show(
+        view,
+        alloc,
+        &mut source,
+        &mut file,
+        &mut out,
+        &mut explainer,
+    )?;
+    match status {
+        Status::Done => {}
+        Status::Legal => tell_legal(desk, (returns, &file), &explainer),
+        _ => tell_count(desk, show, (book, &source), (returns, &file)),
     }
     Ok(status)
 }
@@ -160,7 +175,7 @@ pub fn exit_status(rt: &HostRuntime, asked: Asked<'_>) -> u8 {
     };
     let desk = Desk { rt, language };
     match asked.request {
-        Request::Report { what, form, names } => reports::exit_status(desk, what, form, names),
+        Request::Report { what, form, names } => report_status(desk, what, form, names),
         request => desk_status(desk, request),
     }
 }

@@ -6,5 +6,7 @@ pub mod Showing
 pub mod Reports
 pub mod Compiling
 pub mod Running
+pub mod Hearing
+pub mod Shows
 pub mod Laws
 pub mod inner

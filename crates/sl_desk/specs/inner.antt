@@ -1,2 +1,3 @@
 -- Definitions on which no call of the desk and no law rests.
 pub mod Stages
+pub mod Hearing

@@ -10,6 +10,7 @@ pub mod count;
 mod ending;
 pub mod law;
 pub mod run;
+pub mod show;
 pub mod stage;
 
 use sl_inputs::{DeskError, Sink, Status, write_all};

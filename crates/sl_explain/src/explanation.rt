@@ -1,6 +1,6 @@
 //! What is wrong, where, and what to do.
 
-use sl_ratio::NoMemory;
+use sl_no_memory::NoMemory;
 use std::alloc::Global;
 
 /// Bytes of an input, by the offset of the first and that behind the last, both from 0.

@@ -1,6 +1,6 @@
 //! Messages in two languages, which stand side by side.
 
-use sl_ratio::NoMemory;
+use sl_no_memory::NoMemory;
 use std::alloc::Global;
 
 /// The language in which a person is spoken to.

@@ -1,6 +1,6 @@
 //! The name that a misspelt one was likely meant for.
 
-use sl_ratio::NoMemory;
+use sl_no_memory::NoMemory;
 use std::alloc::Global;
 use strsim::generic_levenshtein;
 

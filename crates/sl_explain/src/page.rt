@@ -4,7 +4,7 @@ use crate::explanation::{Explanation, Span};
 use crate::language::{Language, Message};
 use crate::line::line_at;
 use crate::parts::{append, begins_character, characters, from, shown_byte, until};
-use sl_ratio::NoMemory;
+use sl_no_memory::NoMemory;
 use std::alloc::Global;
 
 const ERROR: Message = Message {

@@ -1,6 +1,6 @@
 //! Parts of texts, and texts put together from them.
 
-use sl_ratio::NoMemory;
+use sl_no_memory::NoMemory;
 
 /// Adds parts to the end of a text.
 ///

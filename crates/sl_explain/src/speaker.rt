@@ -4,7 +4,7 @@ use crate::explanation::{Explanation, Span};
 use crate::language::{Language, Message};
 use crate::names::nearest;
 use crate::parts::{begins_character, shown_byte};
-use sl_ratio::NoMemory;
+use sl_no_memory::NoMemory;
 use std::alloc::Global;
 
 const OR: Message = Message {

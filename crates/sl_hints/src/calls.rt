@@ -18,14 +18,14 @@ use sl_inputs::{
     BookRefusal, BookText, CodeRefusal, ReturnsRefusal, Verdict, judge_book, judge_code,
     judge_returns, stage_number,
 };
-use sl_instructions::CodeStage;
+use sl_instructions::{Code, CodeStage};
 use sl_legal_hints::{
     explain_budget, explain_code_bytes, explain_code_kinds, explain_legal, explain_long_code,
 };
 use sl_machine::Ending;
 use sl_ratio::NoMemory;
 use sl_returns_hints::{explain_long_returns, explain_returns};
-use sl_stages::{Returns, Stage};
+use sl_stages::{LegalFault, Returns, Stage};
 use sl_verify::Verified;
 use std::alloc::Global;
 
@@ -274,6 +274,22 @@ fn explain_run_of<'a>(
         Verdict::Good(returns) => explain_code_run(alloc, language, code, &returns),
         Verdict::Refused(why) => refused_returns(alloc, language, bytes, why),
     }
+}
+
+/// What is said of a legal fault to which a code came on returns.
+///
+/// # Errors
+///
+/// Want of memory.
+pub fn explain_fault(
+    alloc: Global,
+    language: Language,
+    code: &Code,
+    returns: &Returns,
+    fault: &LegalFault,
+) -> Result<Explanation, NoMemory> {
+    let names = code_names(alloc, code.stages())?;
+    explain_legal(alloc, language, names.as_slice(), returns, fault)
 }
 
 // A refused code file, explained.

@@ -8,7 +8,7 @@ mod judging;
 mod kept;
 mod opening;
 
-pub use calls::{explain_check, explain_count, explain_run, explain_stage};
+pub use calls::{explain_check, explain_count, explain_fault, explain_run, explain_stage};
 pub use fault::{Explained, Fault};
 pub use kept::Kept;
 pub use opening::{explain_opening, explain_writing};

@@ -2,7 +2,7 @@
 
 use sl_stages::{Returns, Scope};
 
-/// Lists and votes.
+// Lists and votes.
 #[derive(Clone, Copy)]
 pub(crate) struct Sums {
     pub(crate) lists: u64,
@@ -39,8 +39,8 @@ impl Sums {
     }
 }
 
-/// The lists of a party in a scope.
-pub(crate) fn sums_of_party(returns: &Returns, scope: Scope, party: usize) -> Sums {
+// The lists of a party in a scope.
+fn sums_of_party(returns: &Returns, scope: Scope, party: usize) -> Sums {
     let mut sums = Sums {
         lists: 0,
         counted: 0,
@@ -49,7 +49,7 @@ pub(crate) fn sums_of_party(returns: &Returns, scope: Scope, party: usize) -> Su
     sums
 }
 
-/// All lists of a scope.
+// All lists of a scope.
 pub(crate) fn sums_of(returns: &Returns, scope: Scope) -> Sums {
     let mut sums = Sums {
         lists: 0,
@@ -61,7 +61,7 @@ pub(crate) fn sums_of(returns: &Returns, scope: Scope) -> Sums {
     sums
 }
 
-/// The party with more than half of the counted votes of a scope, if there is one.
+// The party with more than half of the counted votes of a scope, if there is one.
 pub(crate) fn majority_party(returns: &Returns, scope: Scope) -> Option<(usize, u64)> {
     let all = sums_of(returns, scope).counted;
     for party in 0..returns.parties() {
@@ -73,7 +73,7 @@ pub(crate) fn majority_party(returns: &Returns, scope: Scope) -> Option<(usize, 
     None
 }
 
-/// How many people live in the Länder.
+// How many people live in the Länder.
 pub(crate) fn population(returns: &Returns) -> u64 {
     let mut people = 0u64;
     for land in 0..returns.lands() {
@@ -82,8 +82,8 @@ pub(crate) fn population(returns: &Returns) -> u64 {
     people
 }
 
-/// How many winners a party has in a Land.
-pub(crate) fn winners_of(returns: &Returns, land: usize, party: usize) -> u64 {
+// How many winners a party has in a Land.
+fn winners_of(returns: &Returns, land: usize, party: usize) -> u64 {
     let mut winners = 0u64;
     for win in 0..returns.wins() {
         let winner = returns.win(win);
@@ -94,7 +94,7 @@ pub(crate) fn winners_of(returns: &Returns, land: usize, party: usize) -> u64 {
     winners
 }
 
-/// How many winners there are in a scope.
+// How many winners there are in a scope.
 pub(crate) fn winners_in(returns: &Returns, scope: Scope) -> u64 {
     let mut winners = 0u64;
     for win in 0..returns.wins() {
@@ -112,7 +112,7 @@ pub(crate) fn winners_in(returns: &Returns, scope: Scope) -> u64 {
     winners
 }
 
-/// A list with its winners and its counted votes.
+// A list with its winners and its counted votes.
 #[derive(Clone, Copy)]
 pub(crate) struct Burden {
     pub(crate) land: usize,
@@ -147,7 +147,7 @@ fn burden_of(returns: &Returns, win: usize) -> Option<Burden> {
     })
 }
 
-/// The list with the most winners for its counted votes, if there is a winner with a party.
+// The list with the most winners for its counted votes, if there is a winner with a party.
 pub(crate) fn heaviest(returns: &Returns) -> Option<Burden> {
     let mut found: Option<Burden> = None;
     for win in 0..returns.wins() {

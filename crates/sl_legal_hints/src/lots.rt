@@ -355,7 +355,7 @@ fn add_missing(
     add_lacking(speaker, returns, lacking.as_slice(), explanation)
 }
 
-/// Adds the lots that decide a tie of these items, and those of the returns that have no effect on it.
+// Adds the lots that decide a tie of these items, and those of the returns that have no effect on it.
 pub(crate) fn add_lots(
     speaker: Speaker,
     stages: &[&[u8]],

@@ -30,7 +30,7 @@ const NAMED: usize = 12;
 // What stands for a name that is not there.
 const NOBODY: &[u8] = b"?";
 
-/// The name of a Land.
+// The name of a Land.
 pub(crate) fn land_name(returns: &Returns, land: usize) -> &[u8] {
     if land < returns.lands() {
         returns.land_name(land)
@@ -39,7 +39,7 @@ pub(crate) fn land_name(returns: &Returns, land: usize) -> &[u8] {
     }
 }
 
-/// The name of a party.
+// The name of a party.
 pub(crate) fn party_name(returns: &Returns, party: usize) -> &[u8] {
     if party < returns.parties() {
         returns.party_name(party)
@@ -48,7 +48,7 @@ pub(crate) fn party_name(returns: &Returns, party: usize) -> &[u8] {
     }
 }
 
-/// The constituency of a winner.
+// The constituency of a winner.
 pub(crate) fn win_name(returns: &Returns, win: usize) -> &[u8] {
     if win < returns.wins() {
         returns.win_name(win)
@@ -57,7 +57,7 @@ pub(crate) fn win_name(returns: &Returns, win: usize) -> &[u8] {
     }
 }
 
-/// A scope in words.
+// A scope in words.
 pub(crate) fn scope_words(
     speaker: Speaker,
     returns: &Returns,
@@ -103,7 +103,7 @@ fn push_items(text: &mut Vec<u8>, returns: &Returns, items: &[Item]) -> Result<(
     Ok(())
 }
 
-/// The names of some items, the first ones where they are many.
+// The names of some items, the first ones where they are many.
 pub(crate) fn item_words(
     speaker: Speaker,
     returns: &Returns,
@@ -114,7 +114,7 @@ pub(crate) fn item_words(
     Ok(text)
 }
 
-/// The names of stages, in quotes.
+// The names of stages, in quotes.
 pub(crate) fn stage_words(speaker: Speaker, stages: &[&[u8]]) -> Result<Vec<u8>, NoMemory> {
     let mut text = Vec::new(speaker.alloc);
     for stage in stages {
@@ -124,7 +124,7 @@ pub(crate) fn stage_words(speaker: Speaker, stages: &[&[u8]]) -> Result<Vec<u8>,
     Ok(text)
 }
 
-/// The name of a stage, or `seats` for the last clause.
+// The name of a stage, or `seats` for the last clause.
 pub(crate) fn stage_name<'a>(stages: &[&'a [u8]], stage: usize) -> &'a [u8] {
     match stages.get(stage) {
         Some(name) => *name,

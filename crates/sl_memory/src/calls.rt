@@ -1,7 +1,9 @@
 //! The calls of the desk over memory.
 
 use crate::memory::{Ending, Narrow, Slow};
-use sl_desk::{BookSource, check_book, code, count, law_text, run_code, stage, steps};
+use sl_desk::{
+    BookSource, Listener, View, check_book, code, count, law_text, run_code, show, stage, steps,
+};
 use std::alloc::Global;
 
 /// How a call over memory goes: the bytes that a source gives or a sink takes at once, and the call of each that fails, from 1, or 0 for
@@ -82,6 +84,25 @@ pub fn staged_by(alloc: Global, law: &str, returns: &[u8], name: &str, pace: Pac
     let mut returns = Slow::new(returns, pace.step, pace.returns_fail);
     let mut out = Narrow::new(alloc, pace.step, pace.out_fails);
     let result = stage(alloc, &mut book, &mut returns, name, &mut out);
+    Ending {
+        result,
+        written: out.taken,
+    }
+}
+
+/// How showing that of a count ends, with a listener.
+pub fn shown<L: Listener>(
+    alloc: Global,
+    view: View<'_>,
+    book: &[u8],
+    returns: &[u8],
+    pace: Pace,
+    listener: &mut L,
+) -> Ending {
+    let mut book = BookSource::Reader(Slow::new(book, pace.step, pace.book_fails));
+    let mut returns = Slow::new(returns, pace.step, pace.returns_fail);
+    let mut out = Narrow::new(alloc, pace.step, pace.out_fails);
+    let result = show(view, alloc, &mut book, &mut returns, &mut out, listener);
     Ending {
         result,
         written: out.taken,

@@ -1,12 +1,10 @@
 //! The command that shows several rulebooks side by side: `compare`.
 
-use crate::answer::{Answer, Shape};
-use crate::cases::{names_of, read_book, read_election};
-use crate::runs::{Outcome, outcome_of};
+use crate::runs::outcome_of;
+use sl_answers::{Answer, Outcome, Shape, comparison_answer, read_book, read_election};
 use sl_inputs::BookText;
-use sl_naming::Naming;
 use sl_ratio::NoMemory;
-use sl_report_sheets::{Judged, compare_sheets};
+use sl_report_sheets::Judged;
 use sl_stages::{CheckedBook, Returns};
 use std::alloc::Global;
 
@@ -81,27 +79,6 @@ fn judged_all(
     Ok(Ok(all))
 }
 
-// What several books come to, side by side.
-fn compared(
-    alloc: Global,
-    books: &[Judged],
-    returns: &Returns,
-    names: Option<&[u8]>,
-    shape: Shape,
-) -> Result<Answer, NoMemory> {
-    match names_of(alloc, names)? {
-        Ok(full) => {
-            let naming = Naming {
-                returns,
-                full: &full,
-            };
-            let sheets = compare_sheets(alloc, &naming, books)?;
-            Answer::of(alloc, "compare", None, sheets.as_slice(), shape)
-        }
-        Err(refused) => Ok(refused),
-    }
-}
-
 // Several books on good returns, side by side.
 fn compare_on(
     alloc: Global,
@@ -111,7 +88,7 @@ fn compare_on(
     shape: Shape,
 ) -> Result<Answer, NoMemory> {
     match judged_all(alloc, books, returns)? {
-        Ok(all) => compared(alloc, all.as_slice(), returns, names, shape),
+        Ok(all) => comparison_answer(alloc, all.as_slice(), returns, names, shape),
         Err(refused) => Ok(refused),
     }
 }

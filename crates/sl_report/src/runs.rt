@@ -4,23 +4,15 @@ ghost use Rattle.std.specs.Prelude.{◌≡◌};
 ghost use Rattle.sl_machine.specs.Fits.{Fits};
 ghost use Rattle.sl_semantics.specs.Fits.{FitsMemory};
 
+use sl_answers::Outcome;
 use sl_code::Code;
 use sl_compile::compile;
 use sl_machine::{Ending, Memory, budget, run};
 use sl_ratio::NoMemory;
 use sl_results::{Column, Counted};
-use sl_stages::{CheckedBook, LegalFault, MAX_STAGES, Returns};
+use sl_stages::{CheckedBook, MAX_STAGES, Returns};
 use sl_table::{fault_text, into_table};
 use std::alloc::Global;
-
-/// What a rulebook comes to on returns: a count, or a legal fault. A code of a rulebook keeps its budget.
-#[derive(Drop)]
-pub(crate) enum Outcome {
-    Counted(Counted),
-    /// A fault, and the line with which counting tells it.
-    Fault(LegalFault, Vec<u8>),
-    OutOfBudget,
-}
 
 // The columns of the stages of a code, in what a run holds.
 fn columns(

@@ -1,13 +1,10 @@
 //! From readers to bytes, and from an answer to a writer.
 
-use crate::answer::Answer;
+use sl_answers::Answer;
 use sl_inputs::{Input, Sink, Source};
 use sl_ratio::NoMemory;
 use std::alloc::Global;
 use thiserror::Error;
-
-/// Bytes of a file of names.
-pub const MAX_NAMES_BYTES: usize = 4_194_304;
 
 const CHUNK: usize = 8192;
 

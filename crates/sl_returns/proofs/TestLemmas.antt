@@ -5,7 +5,6 @@ use Rattle.std.proofs.lemmas.Bool.{false≢true}
 use Rattle.std.proofs.lemmas.Option.{none-some}
 use Rattle.sl_returns.specs.declared.fault.FaultKind.{FaultKind}
 use Rattle.sl_returns.specs.declared.fault.FaultKind.TheVariants as fault
-use Rattle.sl_ratio.specs.declared.memory.NoMemory.{NoMemory}
 use Rattle.sl_stages.specs.book.Tests.{Test, first_failing}
 use Rattle.sl_stages.proofs.Tests.{fails_in_row, fails_first, pass_parts}
 use Rattle.sl_returns.specs.Tests.{one_test, Pass, FailBy, Refuse}
@@ -43,8 +42,13 @@ pub wanting : {ts : List (Test FaultKind)} (r : Result (Unit {0}) FaultKind) →
 wanting (Ok u) h e = tt
 wanting (Err k) h e = inr (h, e)
 
+-- the same, where a `?` hands that on
+pub left_wanting : {ts : List (Test FaultKind)} {k : FaultKind} (r : Result (Unit {0}) FaultKind) → IsErrAnd r (λ e. e ≡ k) → Pass ts → k ≡ fault.NoMemory → IfErr r (Refuse ts)
+left_wanting (Ok u) h passed wants = absurd h
+left_wanting (Err e) h passed wants = inr (passed, h ∙ wants)
+
 -- where the returns took a record, its tests hold and they have it
-pub taken : {P : Type 0} (Q : Type 0) (r : Result (Unit {0}) FaultKind) (answer : Result (Unit {0}) NoMemory) → OnOk r (IsOk answer) → P → OnOk answer Q → OnOk r (P × Q)
+pub taken : {P E : Type 0} (Q : Type 0) (r : Result (Unit {0}) FaultKind) (answer : Result (Unit {0}) E) → IsOk answer → P → OnOk answer Q → OnOk r (P × Q)
 taken Q (Err k) answer ok p q = tt
 taken Q (Ok u) (Ok v) ok p q = (p, q)
 taken Q (Ok u) (Err e) ok p q = absurd (false≢true ok)

@@ -3,13 +3,14 @@
 ghost use Rattle.std.specs.Prelude.{◌≡◌, ◌++◌, ◌∷◌, [], List, None, Some, OnOk, IfOk, IfErr, IfSome, Ok, Err};
 ghost use Rattle.csv.specs.Records.{fields_of};
 ghost use Rattle.sl_returns.specs.Cells.{Record};
+ghost use Rattle.sl_returns.specs.inner.Indexed.{index_of};
 ghost use Rattle.sl_returns.specs.inner.Joining.{TakesRecord, RefusesRecord};
 
 use crate::fault::{FaultKind, ReturnsFault};
 use crate::header::Version;
+use crate::index::Index;
 use crate::join::join;
 use crate::near::Near;
-use crate::told::ToldLots;
 use csv::ByteRecord;
 use sl_stages::Returns;
 use std::alloc::Global;
@@ -19,8 +20,8 @@ use std::marker::Model;
 #[derive(Drop)]
 pub struct ReturnsBuilder {
     returns: Returns,
-    // the lots of the returns
-    told: ToldLots,
+    // the names and the lots of the returns
+    index: Index,
     // where the next list mostly stands
     near: Near,
     // the version that the header told
@@ -33,13 +34,14 @@ pub struct ReturnsBuilder {
 impl Model for ReturnsBuilder {
     ghost use Rattle.std.specs.Prelude.{◌≡◌, None};
     ghost use Rattle.sl_returns.specs.inner.Building.{Building};
+    ghost use Rattle.sl_returns.specs.inner.Indexed.{index_of};
 
     ghost Value = { Building };
 
     ghost view = { λ b. record { election = b.returns; version = b.version; row = b.row; fault = b.fault } };
 
-    // until it has failed, it finds just the lots of the returns
-    ghost invariant = { λ b. b.fault ≡ None → b.told ≡ b.returns.lots };
+    // until it has failed, it finds just the names and the lots of the returns
+    ghost invariant = { λ b. b.fault ≡ None → b.index ≡ index_of b.returns };
 }
 
 impl ReturnsBuilder {
@@ -52,7 +54,7 @@ impl ReturnsBuilder {
     {
         ReturnsBuilder {
             returns: Returns::empty(alloc),
-            told: ToldLots::new(alloc),
+            index: Index::new(alloc),
             near: Near::first(),
             version: None,
             row: 0,
@@ -80,7 +82,7 @@ impl ReturnsBuilder {
         let row = self.row.saturating_add(1);
         match take(
             &mut self.returns,
-            &mut self.told,
+            &mut self.index,
             &mut self.near,
             self.version,
             fields,
@@ -133,20 +135,20 @@ impl ReturnsBuilder {
 // Takes a record, which must be the header where none has told its version, and answers the version.
 fn take(
     returns: &mut Returns,
-    told: &mut ToldLots,
+    index: &mut Index,
     near: &mut Near,
     version: Option<Version>,
     fields: &ByteRecord,
 ) -> Result<Version, FaultKind>
-    requires told { told.old ≡ returns.old.lots }
+    requires index { index.old ≡ index_of returns.old }
     ensures taken { IfOk result (λ v. TakesRecord version v returns.old returns.new (fields_of fields.now)) }
-    ensures told { OnOk result (told.new ≡ returns.new.lots) }
+    ensures index { OnOk result (index.new ≡ index_of returns.new) }
     ensures refused { IfErr result (RefusesRecord version returns.old (fields_of fields.now)) }
 {
     match version {
         None => Version::of(fields).ok_or(FaultKind::Header),
         Some(version) => {
-            join(returns, told, near, version, fields)?;
+            join(returns, index, near, version, fields)?;
             Ok(version)
         }
     }

@@ -5,6 +5,7 @@ ghost use Rattle.csv.specs.Records.{fields_of};
 ghost use Rattle.sl_stages.specs.returns.Votes.{IsListVotes};
 ghost use Rattle.sl_stages.specs.returns.Election.{lands_of, parties_of, has_list, with_list};
 ghost use Rattle.sl_returns.specs.Tests.{Pass, Refuse, fills_list, house_tests, land_tests, party_tests, list_tests, win_tests, lot_tests, record_tests};
+ghost use Rattle.sl_returns.specs.inner.Indexed.{index_of};
 ghost use Rattle.sl_returns.specs.inner.Joining.{with_house_of, with_land_of, with_party_of, with_list_of, with_win_of, with_lot_of, with_record};
 
 use crate::cells::{
@@ -13,10 +14,10 @@ use crate::cells::{
 };
 use crate::fault::FaultKind;
 use crate::header::Version;
+use crate::index::{Index, add_name};
 use crate::kind::Kind;
 use crate::lot::ToldLot;
 use crate::near::Near;
-use crate::told::ToldLots;
 use csv::ByteRecord;
 use sl_ratio::NoMemory;
 use sl_stages::{
@@ -46,30 +47,40 @@ fn join_house(returns: &mut Returns, fields: &ByteRecord) -> Result<(), FaultKin
 
 // Joins a Land.
 #[tactic(auto, using(crate::proofs::TestLemmas::passes, crate::proofs::TestLemmas::fails))]
-fn join_land(returns: &mut Returns, fields: &ByteRecord) -> Result<(), FaultKind>
+fn join_land(returns: &mut Returns, index: &mut Index, fields: &ByteRecord) -> Result<(), FaultKind>
+    requires index { index.old ≡ index_of returns.old }
     ensures joined { OnOk result (Pass (land_tests returns.old (fields_of fields.now)) × (returns.new ≡ with_land_of returns.old (fields_of fields.now))) }
+    ensures index { OnOk result (index.new ≡ index_of returns.new) }
     ensures refused { IfErr result (Refuse (land_tests returns.old (fields_of fields.now))) }
 {
     ensure(are_blank(fields, &[PARTY, B, C]), FaultKind::Fields)?;
     let name = cell(fields, LAND);
-    new_name(name, returns.find_land(name))?;
+    new_name(name, index.lands.find(name))?;
     let population = number(cell(fields, A), 0, MAX_VOTES)?;
     ensure(returns.lands() < MAX_LANDS, FaultKind::TooMany)?;
-    kept(returns.add_land(name, population))
+    kept(returns.add_land(name, population))?;
+    kept(add_name(&mut index.lands, name))
 }
 
 // Joins a party.
 #[tactic(auto, using(crate::proofs::TestLemmas::passes))]
-fn join_party(returns: &mut Returns, fields: &ByteRecord) -> Result<(), FaultKind>
+fn join_party(
+    returns: &mut Returns,
+    index: &mut Index,
+    fields: &ByteRecord,
+) -> Result<(), FaultKind>
+    requires index { index.old ≡ index_of returns.old }
     ensures joined { OnOk result (Pass (party_tests returns.old (fields_of fields.now)) × (returns.new ≡ with_party_of returns.old (fields_of fields.now))) }
+    ensures index { OnOk result (index.new ≡ index_of returns.new) }
     ensures refused { IfErr result (Refuse (party_tests returns.old (fields_of fields.now))) }
 {
     ensure(are_blank(fields, &[LAND, B, C]), FaultKind::Fields)?;
     let name = cell(fields, PARTY);
-    new_name(name, returns.find_party(name))?;
+    new_name(name, index.parties.find(name))?;
     let minority = number(cell(fields, A), 0, 1)?;
     ensure(returns.parties() < MAX_PARTIES, FaultKind::TooMany)?;
-    kept(returns.add_party(name, minority == 1))
+    kept(returns.add_party(name, minority == 1))?;
+    kept(add_name(&mut index.parties, name))
 }
 
 // Keeps a list, with the names left on it, if they are told.
@@ -104,18 +115,20 @@ fn fills_list(version: Version, fields: &ByteRecord) -> bool
 #[tactic(auto, using(crate::proofs::TestLemmas::passes))]
 fn join_list(
     returns: &mut Returns,
+    index: &Index,
     near: &mut Near,
     version: Version,
     fields: &ByteRecord,
 ) -> Result<(), FaultKind>
+    requires index { index.now ≡ index_of returns.old }
     ensures joined { OnOk result (Pass (list_tests version returns.old (fields_of fields.now)) × (returns.new ≡ with_list_of returns.old (fields_of fields.now))) }
     ensures refused { IfErr result (Refuse (list_tests version returns.old (fields_of fields.now))) }
 {
     ensure(fills_list(version, fields), FaultKind::Fields)?;
     let land_name = cell(fields, LAND);
-    let land = near.known_land(returns, land_name)?;
+    let land = near.known_land(&index.lands, land_name)?;
     let party_name = cell(fields, PARTY);
-    let party = near.known_party(returns, party_name)?;
+    let party = near.known_party(&index.parties, party_name)?;
     *near = Near::behind(land, party);
     let valid = number(cell(fields, A), 0, MAX_VOTES)?;
     let counted = number(cell(fields, B), 0, MAX_VOTES)?;
@@ -132,67 +145,67 @@ fn join_list(
 
 // Joins a winner.
 #[tactic(auto, using(crate::proofs::TestLemmas::passes))]
-fn join_win(returns: &mut Returns, fields: &ByteRecord) -> Result<(), FaultKind>
+fn join_win(returns: &mut Returns, index: &mut Index, fields: &ByteRecord) -> Result<(), FaultKind>
+    requires index { index.old ≡ index_of returns.old }
     ensures joined { OnOk result (Pass (win_tests returns.old (fields_of fields.now)) × (returns.new ≡ with_win_of returns.old (fields_of fields.now))) }
+    ensures index { OnOk result (index.new ≡ index_of returns.new) }
     ensures refused { IfErr result (Refuse (win_tests returns.old (fields_of fields.now))) }
 {
     let land_name = cell(fields, LAND);
-    let land = known_name(land_name, returns.find_land(land_name))?;
+    let land = known_name(land_name, index.lands.find(land_name))?;
     let party_name = cell(fields, PARTY);
-    let party = known_or_none(party_name, returns.find_party(party_name))?;
+    let party = known_or_none(party_name, index.parties.find(party_name))?;
     let name = cell(fields, A);
-    new_name(name, returns.find_win(name))?;
+    new_name(name, index.winners.find(name))?;
     let first = number(cell(fields, B), 1, MAX_VOTES)?;
     let valid = number(cell(fields, C), 0, MAX_VOTES)?;
     ensure(first <= valid, FaultKind::Range)?;
     ensure(returns.wins() < MAX_WINS, FaultKind::TooMany)?;
-    kept(returns.add_win(land, party, name, first, valid))
+    kept(returns.add_win(land, party, name, first, valid))?;
+    kept(add_name(&mut index.winners, name))
 }
 
-// Joins a lot, to the returns and to those told.
+// Joins a lot.
 #[tactic(auto, using(crate::proofs::TestLemmas::passes))]
-fn join_lot(
-    returns: &mut Returns,
-    told: &mut ToldLots,
-    fields: &ByteRecord,
-) -> Result<(), FaultKind>
-    requires told { told.old ≡ returns.old.lots }
+fn join_lot(returns: &mut Returns, index: &mut Index, fields: &ByteRecord) -> Result<(), FaultKind>
+    requires index { index.old ≡ index_of returns.old }
     ensures joined { OnOk result (Pass (lot_tests returns.old (fields_of fields.now)) × (returns.new ≡ with_lot_of returns.old (fields_of fields.now))) }
-    ensures told { OnOk result (told.new ≡ returns.new.lots) }
+    ensures index { OnOk result (index.new ≡ index_of returns.new) }
     ensures refused { IfErr result (Refuse (lot_tests returns.old (fields_of fields.now))) }
 {
-    let lot = ToldLot::read(returns, fields)?;
-    ensure(!told.contains(&lot), FaultKind::Twice)?;
+    let lot = ToldLot::read(index, fields)?;
+    ensure(!index.lots.contains(&lot), FaultKind::Twice)?;
     ensure(returns.lots().len() < MAX_LOTS, FaultKind::TooMany)?;
     kept(returns.add_lot(lot.land, lot.party, lot.stage, lot.win))?;
-    kept(told.add(&lot))
+    kept(index.lots.add(&lot))
 }
 
-/// Joins a record behind a header of that version to the returns, and its lot to those told. `near` is where a list mostly stands.
+/// Joins a record behind a header of that version to the returns, and its name or its lot to their index. `near` is
+/// where a list mostly stands.
 ///
 /// # Errors
 ///
 /// The fault of the first test that the record fails; or, where it passes, want of memory.
 pub(crate) fn join(
     returns: &mut Returns,
-    told: &mut ToldLots,
+    index: &mut Index,
     near: &mut Near,
     version: Version,
     fields: &ByteRecord,
 ) -> Result<(), FaultKind>
-    requires told { told.old ≡ returns.old.lots }
+    requires index { index.old ≡ index_of returns.old }
     ensures joined { OnOk result (Pass (record_tests version returns.old (fields_of fields.now)) × (returns.new ≡ with_record returns.old (fields_of fields.now))) }
-    ensures told { OnOk result (told.new ≡ returns.new.lots) }
+    ensures index { OnOk result (index.new ≡ index_of returns.new) }
     ensures refused { IfErr result (Refuse (record_tests version returns.old (fields_of fields.now))) }
 {
     ensure(fields.len() == COLUMNS, FaultKind::Fields)?;
     match Kind::named(cell(fields, KIND)) {
         Some(Kind::House) => join_house(returns, fields),
-        Some(Kind::Land) => join_land(returns, fields),
-        Some(Kind::Party) => join_party(returns, fields),
-        Some(Kind::List) => join_list(returns, near, version, fields),
-        Some(Kind::Win) => join_win(returns, fields),
-        Some(Kind::Lot) => join_lot(returns, told, fields),
+        Some(Kind::Land) => join_land(returns, index, fields),
+        Some(Kind::Party) => join_party(returns, index, fields),
+        Some(Kind::List) => join_list(returns, index, near, version, fields),
+        Some(Kind::Win) => join_win(returns, index, fields),
+        Some(Kind::Lot) => join_lot(returns, index, fields),
         None => Err(FaultKind::Kind),
     }
 }

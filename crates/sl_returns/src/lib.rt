@@ -5,6 +5,7 @@ mod builder;
 mod cells;
 mod fault;
 mod header;
+mod index;
 mod join;
 mod kind;
 pub mod laws;

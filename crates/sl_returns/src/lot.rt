@@ -1,19 +1,21 @@
 //! The lot that a record tells.
 
-ghost use Rattle.std.specs.Prelude.{◌≡◌, ◌<◌, IfOk, IfErr, OnOk, None, if◌then◌else◌};
+ghost use Rattle.std.specs.Prelude.{◌≡◌, ◌<◌, IfOk, IfErr, OnOk, None, length, if◌then◌else◌};
 ghost use Rattle.std.specs.Option.{ForSome};
 ghost use Rattle.csv.specs.Records.{fields_of};
 ghost use Rattle.sl_ratio.specs.Names.{spelling_fault};
-ghost use Rattle.sl_stages.specs.returns.Election.{IsLot, lands_of, parties_of, wins_of};
+ghost use Rattle.sl_stages.specs.returns.Election.{Election, IsLot};
 ghost use Rattle.sl_returns.specs.Cells.{is_blank, number_in};
 ghost use Rattle.sl_returns.specs.Records.{lot_of};
 ghost use Rattle.sl_returns.specs.Tests.{Pass, FailBy, name_or_none_tests, lot_cell_tests, fills_lot};
+ghost use Rattle.sl_returns.specs.inner.Indexed.{index_of};
 ghost use Rattle.sl_returns.specs.inner.Lots.{lot_told};
 
 use crate::cells::{A, B, C, LAND, PARTY, cell, ensure, is_name, known_or_none};
 use crate::fault::FaultKind;
+use crate::index::Index;
 use csv::ByteRecord;
-use sl_stages::Returns;
+use sl_ratio::Names;
 
 // What a record tells of a lot, by the numbers of what it names.
 #[derive(Clone, Copy, PartialEq, Eq, Hash)]
@@ -26,22 +28,22 @@ pub(crate) struct ToldLot<'a> {
 
 impl<'a> ToldLot<'a> {
     // The lot that a record tells, whose cells it tests.
-    pub(crate) fn read(returns: &Returns, fields: &'a ByteRecord) -> Result<ToldLot<'a>, FaultKind>
-        ensures passed { OnOk result (Pass (lot_cell_tests returns.now (fields_of fields.now))) }
-        ensures told { IfOk result (λ l. lot_told l ≡ lot_of returns.now.land_names returns.now.party_names returns.now.win_names (fields_of fields.now)) }
-        ensures named { IfOk result (λ l. IsLot (lands_of returns.now) (parties_of returns.now) (wins_of returns.now) (lot_told l)) }
+    pub(crate) fn read(index: &Index, fields: &'a ByteRecord) -> Result<ToldLot<'a>, FaultKind>
+        ensures passed { (e : Election) → index.now ≡ index_of e → OnOk result (Pass (lot_cell_tests e (fields_of fields.now))) }
+        ensures told { (e : Election) → index.now ≡ index_of e → IfOk result (λ l. lot_told l ≡ lot_of e.land_names e.party_names e.win_names (fields_of fields.now)) }
+        ensures named { IfOk result (λ l. IsLot (length index.now.lands.names) (length index.now.parties.names) (length index.now.winners.names) (lot_told l)) }
         ensures spelled { IfOk result (λ l. spelling_fault l.stage.now ≡ None) }
-        ensures failed { IfErr result (FailBy (lot_cell_tests returns.now (fields_of fields.now))) }
+        ensures failed { (e : Election) → index.now ≡ index_of e → IfErr result (FailBy (lot_cell_tests e (fields_of fields.now))) }
     {
         ensure(fills_lot(fields), FaultKind::Fields)?;
         let land_name = cell(fields, LAND);
-        let land = known_or_none(land_name, returns.find_land(land_name))?;
+        let land = known_or_none(land_name, index.lands.find(land_name))?;
         let party_name = cell(fields, PARTY);
-        let party = known_or_none(party_name, returns.find_party(party_name))?;
+        let party = known_or_none(party_name, index.parties.find(party_name))?;
         let stage = cell(fields, A);
         ensure(is_name(stage), FaultKind::Name)?;
         let win_name = cell(fields, B);
-        let win = win_or_none(returns, win_name)?;
+        let win = win_or_none(&index.winners, win_name)?;
         Ok(ToldLot {
             land,
             party,
@@ -53,16 +55,16 @@ impl<'a> ToldLot<'a> {
 
 // The number of the winner of that constituency, which is to be known. Most lots name none, and then none is looked for.
 #[tactic(auto, unfolding(crate::specs::Tests::known_or_none_tests))]
-fn win_or_none(returns: &Returns, name: &[u8]) -> Result<Option<usize>, FaultKind>
-    ensures passed { OnOk result (Pass (name_or_none_tests returns.now.win_names name.now)) }
-    ensures number { IfOk result (λ win. win ≡ (if is_blank name.now then None else number_in returns.now.win_names name.now)) }
-    ensures within { IfOk result (λ win. ForSome win (λ number. number < wins_of returns.now)) }
-    ensures failed { IfErr result (FailBy (name_or_none_tests returns.now.win_names name.now)) }
+fn win_or_none(winners: &Names, name: &[u8]) -> Result<Option<usize>, FaultKind>
+    ensures passed { OnOk result (Pass (name_or_none_tests winners.now.names name.now)) }
+    ensures number { IfOk result (λ win. win ≡ (if is_blank name.now then None else number_in winners.now.names name.now)) }
+    ensures within { IfOk result (λ win. ForSome win (λ number. number < length winners.now.names)) }
+    ensures failed { IfErr result (FailBy (name_or_none_tests winners.now.names name.now)) }
 {
     if name.is_empty() {
         return Ok(None);
     }
-    known_or_none(name, returns.find_win(name))
+    known_or_none(name, winners.find(name))
 }
 
 // Whether the cells that a lot must fill are filled, and the others are empty: it names a Land or a party, and a

@@ -1,13 +1,12 @@
 //! The Land and the party of a list, which are looked for first where they mostly stand.
 
-ghost use Rattle.std.specs.Prelude.{◌≡◌, ◌<◌, Some, IfOk, IfErr, OnOk};
-ghost use Rattle.sl_stages.specs.returns.Election.{lands_of, parties_of};
+ghost use Rattle.std.specs.Prelude.{◌≡◌, ◌<◌, Some, IfOk, IfErr, OnOk, length};
 ghost use Rattle.sl_returns.specs.Cells.{number_in};
 ghost use Rattle.sl_returns.specs.Tests.{Pass, FailBy, known_name_tests};
 
 use crate::cells::known_name;
 use crate::fault::FaultKind;
-use sl_stages::Returns;
+use sl_ratio::Names;
 
 // Where the next list mostly stands: in the Land of the last one, at the party behind it.
 #[derive(Clone, Copy)]
@@ -31,28 +30,35 @@ impl Near {
     }
 
     // The number of the Land of that name, which is to be known.
-    pub(crate) fn known_land(self, returns: &Returns, name: &[u8]) -> Result<usize, FaultKind>
-        ensures passed { OnOk result (Pass (known_name_tests returns.now.land_names name.now)) }
-        ensures number { IfOk result (λ land. number_in returns.now.land_names name.now ≡ Some land) }
-        ensures within { IfOk result (λ land. land < lands_of returns.now) }
-        ensures failed { IfErr result (FailBy (known_name_tests returns.now.land_names name.now)) }
+    pub(crate) fn known_land(self, lands: &Names, name: &[u8]) -> Result<usize, FaultKind>
+        ensures passed { OnOk result (Pass (known_name_tests lands.now.names name.now)) }
+        ensures number { IfOk result (λ land. number_in lands.now.names name.now ≡ Some land) }
+        ensures within { IfOk result (λ land. land < length lands.now.names) }
+        ensures failed { IfErr result (FailBy (known_name_tests lands.now.names name.now)) }
     {
-        if self.land < returns.lands() && returns.land_name(self.land) == name {
-            return Ok(self.land);
-        }
-        known_name(name, returns.find_land(name))
+        known_at(lands, self.land, name)
     }
 
     // The number of the party of that name, which is to be known.
-    pub(crate) fn known_party(self, returns: &Returns, name: &[u8]) -> Result<usize, FaultKind>
-        ensures passed { OnOk result (Pass (known_name_tests returns.now.party_names name.now)) }
-        ensures number { IfOk result (λ party. number_in returns.now.party_names name.now ≡ Some party) }
-        ensures within { IfOk result (λ party. party < parties_of returns.now) }
-        ensures failed { IfErr result (FailBy (known_name_tests returns.now.party_names name.now)) }
+    pub(crate) fn known_party(self, parties: &Names, name: &[u8]) -> Result<usize, FaultKind>
+        ensures passed { OnOk result (Pass (known_name_tests parties.now.names name.now)) }
+        ensures number { IfOk result (λ party. number_in parties.now.names name.now ≡ Some party) }
+        ensures within { IfOk result (λ party. party < length parties.now.names) }
+        ensures failed { IfErr result (FailBy (known_name_tests parties.now.names name.now)) }
     {
-        if self.party < returns.parties() && returns.party_name(self.party) == name {
-            return Ok(self.party);
-        }
-        known_name(name, returns.find_party(name))
+        known_at(parties, self.party, name)
     }
+}
+
+// The number of a name that is to be known, and mostly stands at this place.
+fn known_at(names: &Names, place: usize, name: &[u8]) -> Result<usize, FaultKind>
+    ensures passed { OnOk result (Pass (known_name_tests names.now.names name.now)) }
+    ensures number { IfOk result (λ number. number_in names.now.names name.now ≡ Some number) }
+    ensures within { IfOk result (λ number. number < length names.now.names) }
+    ensures failed { IfErr result (FailBy (known_name_tests names.now.names name.now)) }
+{
+    if place < names.len() && names.name(place) == name {
+        return Ok(place);
+    }
+    known_name(name, names.find(name))
 }

@@ -8,6 +8,8 @@ mod counts;
 #[cfg(test)]
 mod faults;
 #[cfg(test)]
+mod heard;
+#[cfg(test)]
 mod library_counts;
 #[cfg(test)]
 mod returns;

@@ -3,7 +3,7 @@
 use crate::cell::Cell;
 use crate::sheet::{Head, Sheet};
 use serde_json::{Map, Number, Value, push, put};
-use sl_ratio::NoMemory;
+use sl_no_memory::NoMemory;
 use std::alloc::Global;
 
 fn text_value(alloc: Global, text: &str) -> Result<Value, NoMemory> {

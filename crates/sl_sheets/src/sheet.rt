@@ -1,7 +1,7 @@
 //! Sheets: a key, a title, the heads of the columns, and rows.
 
 use crate::cell::Cell;
-use sl_ratio::NoMemory;
+use sl_no_memory::NoMemory;
 use std::alloc::Global;
 
 /// How a column looks in aligned text.

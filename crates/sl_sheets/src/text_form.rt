@@ -2,7 +2,7 @@
 
 use crate::cell::Cell;
 use crate::sheet::{Head, Look, Sheet};
-use sl_ratio::NoMemory;
+use sl_no_memory::NoMemory;
 use std::alloc::Global;
 use unicode_width::{UnicodeWidthChar, UnicodeWidthStr};
 

@@ -6,7 +6,7 @@ use Rattle.std.specs.List.{All}
 use Rattle.std.specs.Option.{ForSome}
 use Rattle.std.proofs.lemmas.Option.{none-some, same_Some}
 use Rattle.sl_ratio.specs.declared.limits.TheConstants.{MAX_SEATS, MAX_LANDS, MAX_PARTIES, MAX_VOTES}
-use Rattle.sl_ratio.specs.Names.{name_fault}
+use Rattle.sl_ratio.specs.Names.{NameList, name_fault, spelling_fault}
 use Rattle.sl_ratio.proofs.NameLists.{joins, with_name}
 use Rattle.sl_stages.specs.declared.limits.TheConstants.{MAX_WINS, MAX_LOTS, MAX_SLATE}
 use Rattle.sl_stages.specs.declared.returns.ListVotes.{ListVotes}
@@ -14,6 +14,11 @@ use Rattle.sl_stages.specs.declared.returns.Win.{Win}
 use Rattle.sl_stages.specs.declared.returns.Lot.{Lot}
 use Rattle.sl_stages.specs.returns.Votes.{IsListVotes, valid_in, counted_in}
 use Rattle.sl_stages.specs.returns.Election.{Election, IsElection, IsWin, IsLot, IsCell, EndsBefore, with_house, with_land, with_party, with_list, with_win, with_slate, with_lot, list_at}
+use Rattle.sl_stages.proofs.Tests.{neither}
+
+-- a name that may join a list is well spelled
+pub is_spelled : (list : NameList) (name : List ℕ) → name_fault list name ≡ None → spelling_fault name ≡ None
+is_spelled list name may = (neither (spelling_fault name) _ may).0
 
 -- a winner stays one as Länder and parties join
 win_stays : (lands parties more_lands more_parties : ℕ) → lands ≤ more_lands → parties ≤ more_parties → (w : Win) → IsWin lands parties w → IsWin more_lands more_parties w

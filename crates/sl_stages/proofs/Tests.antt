@@ -17,7 +17,7 @@ module _ {F : Type 0} where
   pub no_fault : (tests : List (Test F)) → is_none (first_failing tests) ≡ true → first_failing tests ≡ None
   no_fault tests h = elim (first_failing tests) as (λ o. is_none o ≡ true → o ≡ None) [ None ↦ λ p. refl | Some f ↦ λ p. cc ] h
 
-  neither : (x y : Option F) → option_or x y ≡ None → (x ≡ None) × (y ≡ None)
+  pub neither : (x y : Option F) → option_or x y ≡ None → (x ≡ None) × (y ≡ None)
   neither None y h = (refl, h)
   neither (Some f) y h = cc
 

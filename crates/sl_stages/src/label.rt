@@ -1,13 +1,15 @@
-//! The stage that a lot names.
+//! A name that the returns keep: of a Land, a party or a winner, or of the stage that a lot names.
 
-ghost use Rattle.std.specs.Prelude.{◌≡◌, None};
+ghost use Rattle.std.specs.Prelude.{◌≡◌, ◌<◌, None, IfSome, length};
+ghost use Rattle.std.specs.List.{position};
+ghost use Rattle.std.specs.Str.{bytes_eq};
 ghost use Rattle.sl_ratio.specs.Names.{spelling_fault};
 
 use sl_ratio::MAX_NAME_BYTES;
 use std::marker::Model;
 
-/// A name as returns write it: 1 to `MAX_NAME_BYTES` bytes, each a letter, a digit, `_` or `-`. There is one for each lot, so it takes no memory of
-/// its own.
+/// A name as returns write it: 1 to `MAX_NAME_BYTES` bytes, each a letter, a digit, `_` or `-`. There is one for each
+/// Land, party, winner and lot, so it takes no memory of its own.
 #[derive(Debug, Drop)]
 pub struct Label {
     // the name, and zeros behind it
@@ -48,4 +50,12 @@ impl Label {
     {
         &self.bytes[..self.length]
     }
+}
+
+// The number of the first label that is this name.
+pub(crate) fn number_among(labels: &[Label], name: &[u8]) -> Option<usize>
+    ensures number { result ≡ position (bytes_eq name.now) labels.now }
+    ensures within { IfSome result (λ number. number < length labels.now) }
+{
+    labels.iter().position(|label| name == label.as_bytes())
 }

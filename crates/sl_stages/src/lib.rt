@@ -2,6 +2,7 @@
 #![tactic(auto)]
 
 mod book;
+mod cell;
 mod check_fault;
 mod checked;
 mod fact;

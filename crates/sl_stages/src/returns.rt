@@ -7,9 +7,8 @@ ghost use Rattle.sl_stages.specs.returns.Votes.{valid_in, counted_in, slate_in};
 
 mod add;
 
-use crate::label::Label;
-use crate::limits::{MAX_LANDS, MAX_PARTIES, MAX_WINS};
-use sl_ratio::Names;
+use crate::cell::Cell;
+use crate::label::{Label, number_among};
 use std::alloc::Global;
 use std::marker::Model;
 
@@ -44,13 +43,13 @@ pub struct Lot {
 pub struct Returns {
     alloc: Global,
     house: Option<u32>,
-    lands: Names,
+    lands: Vec<Label>,
     populations: Vec<u32>,
     // for each Land a row with a cell for each party that there may be
-    rows: Vec<Vec<Option<ListVotes>>>,
-    parties: Names,
+    rows: Vec<Vec<Cell>>,
+    parties: Vec<Label>,
     minorities: Vec<bool>,
-    winners: Names,
+    winners: Vec<Label>,
     wins: Vec<Win>,
     lots: Vec<Lot>,
 }
@@ -60,11 +59,11 @@ impl Model for Returns {
 
     ghost Value = { Election };
 
-    ghost use Rattle.sl_stages.specs.inner.Kept.{election_of, KeepsLimits};
+    ghost use Rattle.sl_stages.specs.inner.Kept.{election_of};
 
     ghost view = { election_of };
 
-    ghost invariant = { λ r. KeepsLimits r × IsElection (election_of r) };
+    ghost invariant = { λ r. IsElection (election_of r) };
 }
 
 impl Returns {
@@ -77,12 +76,12 @@ impl Returns {
         Returns {
             alloc,
             house: None,
-            lands: Names::new(alloc, MAX_LANDS),
+            lands: Vec::new(alloc),
             populations: Vec::new(alloc),
             rows: Vec::new(alloc),
-            parties: Names::new(alloc, MAX_PARTIES),
+            parties: Vec::new(alloc),
             minorities: Vec::new(alloc),
-            winners: Names::new(alloc, MAX_WINS),
+            winners: Vec::new(alloc),
             wins: Vec::new(alloc),
             lots: Vec::new(alloc),
         }
@@ -126,7 +125,7 @@ impl Returns {
         requires party { party < parties_of self.now }
         ensures { result ≡ list_at self.now land party }
     {
-        self.rows[land][party]
+        self.rows[land][party].votes()
     }
 
     /// Whether a party has a list in a Land.
@@ -202,7 +201,7 @@ impl Returns {
         requires { land < lands_of self.now }
         ensures { slice_get self.now.land_names land ≡ Some result.now }
     {
-        self.lands.name(land)
+        self.lands[land].as_bytes()
     }
 
     /// The name of a party.
@@ -210,7 +209,7 @@ impl Returns {
         requires { party < parties_of self.now }
         ensures { slice_get self.now.party_names party ≡ Some result.now }
     {
-        self.parties.name(party)
+        self.parties[party].as_bytes()
     }
 
     /// The constituency of a winner.
@@ -218,30 +217,31 @@ impl Returns {
         requires { win < wins_of self.now }
         ensures { slice_get self.now.win_names win ≡ Some result.now }
     {
-        self.winners.name(win)
+        self.winners[win].as_bytes()
     }
 
-    /// The number of the Land with that name.
+    /// The number of the Land with that name. Looks at one name after the other, as `find_party` and `find_win` do: whoever
+    /// looks for many keeps `Names` beside the returns, as the reader of returns does.
     pub fn find_land(&self, name: &[u8]) -> Option<usize>
         ensures number { result ≡ position (bytes_eq name.now) self.now.land_names }
         ensures within { IfSome result (λ land. land < lands_of self.now) }
     {
-        self.lands.find(name)
+        number_among(&self.lands, name)
     }
 
-    /// The number of the party with that name.
+    /// The number of the party with that name. Looks at one name after the other.
     pub fn find_party(&self, name: &[u8]) -> Option<usize>
         ensures number { result ≡ position (bytes_eq name.now) self.now.party_names }
         ensures within { IfSome result (λ party. party < parties_of self.now) }
     {
-        self.parties.find(name)
+        number_among(&self.parties, name)
     }
 
-    /// The number of the winner of that constituency.
+    /// The number of the winner of that constituency. Looks at one name after the other.
     pub fn find_win(&self, name: &[u8]) -> Option<usize>
         ensures number { result ≡ position (bytes_eq name.now) self.now.win_names }
         ensures within { IfSome result (λ win. win < wins_of self.now) }
     {
-        self.winners.find(name)
+        number_among(&self.winners, name)
     }
 }

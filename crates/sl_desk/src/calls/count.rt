@@ -11,6 +11,8 @@ ghost use Rattle.sl_inputs.specs.Failures.{counts, counts_after};
 ghost use Rattle.sl_desk.specs.Counting.{IsOutput, IsCount, IsTreeOutput};
 ghost use Rattle.sl_desk.specs.Counting.{ReadsReturns};
 ghost use Rattle.sl_inputs.specs.Reading.{book_input, book_failures, ForKnown, ReadsBook, TakesAtMost};
+ghost use Rattle.sl_desk.specs.Hearing.{HearsOf};
+ghost use Rattle.sl_desk.specs.inner.Hearing.{HearsCount, HearsOutcome};
 ghost use Rattle.sl_desk.specs.inner.Stages.{HasStage};
 ghost use Rattle.sl_inputs.specs.Writing.{Delivers};
 ghost use Rattle.sl_desk.specs.Reports.{IsReported};
@@ -19,6 +21,7 @@ ghost use Rattle.sl_desk.specs.Steps.{ShowsSteps};
 
 use crate::calls::Answer;
 use crate::calls::ending::ended;
+use crate::listener::{Listener, Nobody};
 use crate::report::Report;
 use sl_check::CheckedBook;
 use sl_compile::compile;
@@ -36,58 +39,66 @@ fn steps_of(book: &Book, returns: &Returns) -> u64
     budget(book.stages.len(), returns)
 }
 
-// What a good book comes to on good returns: its code is run with its budget.
-fn outcome(
+// What a good book comes to on good returns: its code is run with its budget. The listener hears of a legal fault.
+fn outcome<L: Listener>(
     report: Report,
     alloc: Global,
     book: &CheckedBook,
     returns: &Returns,
+    listener: &mut L,
 ) -> Result<Answer, DeskError>
     requires asked { HasStage report (book_of book.now.book) }
     ensures memory { IfErr result (λ e. e ≡ DeskError.NoMemory) }
     ensures output { IfOk result (λ a. IsTreeOutput (IsReported report) (book_of book.now.book) (verdict.Good returns.now) a.status a.text.items) }
+    ensures heard { IfOk result (λ a. HearsOutcome L.hears listener.old listener.new (book_of book.now.book) returns.now a.status) }
 {
     let code = compile(alloc, book)?;
     let steps = steps_of(&book.book, returns);
     let ending = report.run(alloc, &code, returns, steps)?;
-    Ok(ended(report, alloc, code.code(), returns, ending)?)
+    Ok(ended(report, alloc, code.code(), returns, ending, listener)?)
 }
 
 // What a good book comes to on the returns of a source.
-pub(super) fn counted<S: Source>(
+pub(super) fn counted<S: Source, L: Listener>(
     report: Report,
     alloc: Global,
     book: &CheckedBook,
     returns: &mut S,
+    listener: &mut L,
 ) -> Result<Answer, DeskError>
     requires asked { HasStage report (book_of book.now.book) }
     ensures answer { IfOk result (λ a. IfSome (S.remaining returns.old) (λ bytes. IsCount (IsReported report) (verdict.Good (book_of book.now.book)) bytes a.status a.text.items)) }
+    ensures heard { IfOk result (λ a. IfSome (S.remaining returns.old) (λ bytes.
+        HearsCount L.hears listener.old listener.new (book_of book.now.book) bytes a.status)) }
     ensures failures { counts 0 (S.failed returns.new) 0 0 ≡ counts_after (counts 0 (S.failed returns.old) 0 0) result }
     ensures limited { TakesAtMost (MAX_RETURNS_BYTES + 1) (S.remaining returns.old) (S.remaining returns.new) }
 {
     match read_election(alloc, returns)? {
-        Verdict::Good(returns) => outcome(report, alloc, book, &returns),
+        Verdict::Good(returns) => outcome(report, alloc, book, &returns, listener),
         Verdict::Refused(why) => Ok(Answer::refused(why.line(alloc)?)),
     }
 }
 
 // What counting a book on returns writes, where no stage of the book is asked for.
-fn answer_to<B: Source, R: Source>(
+pub(super) fn answer_to<B: Source, R: Source, L: Listener>(
     report: Report,
     alloc: Global,
     book: &mut BookSource<'_, B>,
     returns: &mut R,
+    listener: &mut L,
 ) -> Result<Answer, DeskError>
     requires asked { (tree : BookTree) → HasStage report tree }
     ensures answer { IfOk result (λ a. ForKnown (book_input B.remaining book.old) (R.remaining returns.old) (λ input bytes.
         IsOutput (IsReported report) input bytes a.status a.text.items)) }
+    ensures heard { IfOk result (λ a. ForKnown (book_input B.remaining book.old) (R.remaining returns.old) (λ input bytes.
+        HearsOf L.hears listener.old listener.new input bytes a.status)) }
     ensures failures { counts (book_failures B.failed book.new) (R.failed returns.new) 0 0
         ≡ counts_after (counts (book_failures B.failed book.old) (R.failed returns.old) 0 0) result }
     ensures book { ReadsBook B.remaining book.old book.new }
     ensures returns { ReadsReturns R.remaining (book_input B.remaining book.old) returns.old returns.new result }
 {
     match read_book(alloc, book)? {
-        Verdict::Good(book) => counted(report, alloc, &book, returns),
+        Verdict::Good(book) => counted(report, alloc, &book, returns, listener),
         Verdict::Refused(why) => Ok(Answer::refused(why.line(alloc)?)),
     }
 }
@@ -116,7 +127,7 @@ pub fn count<B: Source, R: Source, W: Sink>(
     ensures book { ReadsBook B.remaining book.old book.new }
     ensures returns { ReadsReturns R.remaining (book_input B.remaining book.old) returns.old returns.new result }
 {
-    let answer = answer_to(Report::Seats, alloc, book, returns)?;
+    let answer = answer_to(Report::Seats, alloc, book, returns, &mut Nobody)?;
     answer.deliver(out)
 }
 
@@ -143,6 +154,6 @@ pub fn steps<B: Source, R: Source, W: Sink>(
     ensures book { ReadsBook B.remaining book.old book.new }
     ensures returns { ReadsReturns R.remaining (book_input B.remaining book.old) returns.old returns.new result }
 {
-    let answer = answer_to(Report::Steps, alloc, book, returns)?;
+    let answer = answer_to(Report::Steps, alloc, book, returns, &mut Nobody)?;
     answer.deliver(out)
 }

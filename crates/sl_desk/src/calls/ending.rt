@@ -3,8 +3,10 @@
 ghost use Rattle.std.specs.Prelude.{◌≡◌, IfOk};
 ghost use Rattle.sl_machine.specs.Fits.{Fits};
 ghost use Rattle.sl_desk.specs.Endings.{HasAsked, IsEndingOutput, out_of_budget};
+ghost use Rattle.sl_desk.specs.inner.Hearing.{HearsEnding};
 
 use crate::calls::Answer;
+use crate::listener::Listener;
 use crate::report::Report;
 use sl_code::Code;
 use sl_machine::Ending;
@@ -25,21 +27,27 @@ fn out_of_budget(alloc: Global) -> Result<Vec<u8>, NoMemory>
     Ok(text.into_bytes())
 }
 
-/// What the end of a run of a code on returns writes.
-pub(crate) fn ended(
+/// What the end of a run of a code on returns writes. The listener hears of a legal fault.
+pub(crate) fn ended<L: Listener>(
     report: Report,
     alloc: Global,
     code: &Code,
     returns: &Returns,
     ending: Ending,
+    listener: &mut L,
 ) -> Result<Answer, NoMemory>
     requires fits { Fits code.now returns.now ending }
     requires asked { HasAsked report code.now }
-    ensures { IfOk result (λ a. IsEndingOutput report code.now returns.now ending a.status a.text.items) }
+    ensures output { IfOk result (λ a. IsEndingOutput report code.now returns.now ending a.status a.text.items) }
+    ensures heard { IfOk result (λ _. HearsEnding L.hears listener.old listener.new code.now returns.now ending) }
 {
     match ending {
         Ending::Done(memory) => Ok(Answer::done(report.text(alloc, memory, returns, code)?)),
-        Ending::Fault(fault) => Ok(Answer::legal(fault_text(alloc, &fault, returns, code)?)),
+        Ending::Fault(fault) => {
+            let text = fault_text(alloc, &fault, returns, code)?;
+            listener.hear(code, returns, &fault);
+            Ok(Answer::legal(text))
+        }
         Ending::OutOfBudget => Ok(Answer::out_of_budget(out_of_budget(alloc)?)),
     }
 }

@@ -11,6 +11,7 @@ ghost use Rattle.sl_inputs.specs.Writing.{Delivers};
 
 use crate::calls::Answer;
 use crate::calls::ending::ended;
+use crate::listener::Nobody;
 use crate::report::Report;
 use sl_inputs::{DeskError, Sink, Source, Status, Verdict, read_code, read_election};
 use sl_machine::budget;
@@ -25,7 +26,14 @@ fn outcome(alloc: Global, code: &Verified, returns: &Returns) -> Result<Answer, 
 {
     let steps = budget(code.code().stages().len(), returns);
     let ending = Report::Seats.run(alloc, code, returns, steps)?;
-    Ok(ended(Report::Seats, alloc, code.code(), returns, ending)?)
+    Ok(ended(
+        Report::Seats,
+        alloc,
+        code.code(),
+        returns,
+        ending,
+        &mut Nobody,
+    )?)
 }
 
 // What good code comes to on the returns of a source.

@@ -4,12 +4,14 @@ ghost use Rattle.std.specs.Prelude.{◌≡◌, IfOk};
 ghost use Rattle.sl_inputs.specs.Failures.{counts, counts_after};
 ghost use Rattle.sl_desk.specs.Showing.{IsStageOutput};
 ghost use Rattle.sl_inputs.specs.Reading.{book_input, book_failures, ForKnown, ReadsBook};
+ghost use Rattle.sl_desk.specs.Hearing.{HearsOf};
 ghost use Rattle.sl_desk.specs.Showing.{ReadsBehindStage};
 ghost use Rattle.sl_desk.specs.Showing.{unknown_stage};
 ghost use Rattle.sl_inputs.specs.Writing.{Delivers};
 
 use crate::calls::Answer;
 use crate::calls::count::counted;
+use crate::listener::{Listener, Nobody};
 use crate::report::Report;
 use sl_inputs::{BookSource, DeskError, Sink, Source, Status, Verdict, read_book, stage_number};
 use sl_ratio::NoMemory;
@@ -29,14 +31,17 @@ fn refusal(alloc: Global, name: &str) -> Result<Vec<u8>, NoMemory>
 }
 
 // What showing a stage of a book on returns writes.
-fn answer_to<B: Source, R: Source>(
+pub(super) fn answer_to<B: Source, R: Source, L: Listener>(
     alloc: Global,
     book: &mut BookSource<'_, B>,
     returns: &mut R,
     name: &str,
+    listener: &mut L,
 ) -> Result<Answer, DeskError>
     ensures answer { IfOk result (λ a. ForKnown (book_input B.remaining book.old) (R.remaining returns.old) (λ input bytes.
         IsStageOutput name.now input bytes a.status a.text.items)) }
+    ensures heard { IfOk result (λ a. ForKnown (book_input B.remaining book.old) (R.remaining returns.old) (λ input bytes.
+        HearsOf L.hears listener.old listener.new input bytes a.status)) }
     ensures failures { counts (book_failures B.failed book.new) (R.failed returns.new) 0 0
         ≡ counts_after (counts (book_failures B.failed book.old) (R.failed returns.old) 0 0) result }
     ensures book { ReadsBook B.remaining book.old book.new }
@@ -44,7 +49,7 @@ fn answer_to<B: Source, R: Source>(
 {
     match read_book(alloc, book)? {
         Verdict::Good(book) => match stage_number(&book.book, name) {
-            Some(stage) => counted(Report::Stage(stage), alloc, &book, returns),
+            Some(stage) => counted(Report::Stage(stage), alloc, &book, returns, listener),
             None => Ok(Answer::refused(refusal(alloc, name)?)),
         },
         Verdict::Refused(why) => Ok(Answer::refused(why.line(alloc)?)),
@@ -76,6 +81,6 @@ pub fn stage<B: Source, R: Source, W: Sink>(
     ensures book { ReadsBook B.remaining book.old book.new }
     ensures returns { ReadsBehindStage name.now R.remaining (book_input B.remaining book.old) returns.old returns.new result }
 {
-    let answer = answer_to(alloc, book, returns, name)?;
+    let answer = answer_to(alloc, book, returns, name, &mut Nobody)?;
     answer.deliver(out)
 }

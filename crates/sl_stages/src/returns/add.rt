@@ -5,7 +5,9 @@ ghost use Rattle.std.specs.Option.{ForSome};
 ghost use Rattle.sl_ratio.specs.Names.{name_fault, spelling_fault};
 ghost use Rattle.sl_ratio.specs.declared.limits.TheConstants.{MAX_SEATS, MAX_LANDS, MAX_PARTIES, MAX_VOTES};
 ghost use Rattle.sl_stages.specs.declared.limits.TheConstants.{MAX_SLATE, MAX_WINS, MAX_LOTS};
+ghost use Rattle.sl_stages.specs.returns.Votes.{IsListVotes};
 
+use crate::cell::Cell;
 use crate::label::Label;
 use crate::limits::MAX_PARTIES;
 use crate::returns::{ListVotes, Lot, Returns, Win};
@@ -13,11 +15,11 @@ use sl_ratio::NoMemory;
 use std::alloc::Global;
 
 // A row without a list.
-fn blank_row(alloc: Global) -> Result<Vec<Option<ListVotes>>, NoMemory>
+fn blank_row(alloc: Global) -> Result<Vec<Cell>, NoMemory>
     ensures { IfOk result (λ row. row.items ≡ replicate MAX_PARTIES None) }
 {
     let mut row = Vec::new(alloc);
-    row.resize(MAX_PARTIES, None)?;
+    row.resize(MAX_PARTIES, Cell::blank())?;
     Ok(row)
 }
 
@@ -39,14 +41,15 @@ fn put<T: Drop>(items: &mut Vec<T>, item: T)
 }
 
 // Writes the cell of a list, in rows by Land.
-fn write_cell(rows: &mut Vec<Vec<Option<ListVotes>>>, land: usize, party: usize, votes: ListVotes)
+fn write_cell(rows: &mut Vec<Vec<Cell>>, land: usize, party: usize, votes: ListVotes)
     requires land { land < vec_len rows.old }
     requires party { party < length (slice_index_or (map (λ row. row.items) rows.old.items) land []) }
+    requires votes { IsListVotes votes }
     ensures { let cells = map (λ row. row.items) rows.old.items in
         map (λ row. row.items) rows.new.items ≡ slice_set cells land (slice_set (slice_index_or cells land []) party (Some votes)) }
 {
     let row = &mut rows[land];
-    row[party] = Some(votes);
+    row[party] = Cell::of(votes);
 }
 
 impl Returns {
@@ -73,11 +76,10 @@ impl Returns {
         ensures unchanged { OnErr result (self.new ≡ self.old) }
     {
         let row = blank_row(self.alloc)?;
+        make_room(&mut self.lands)?;
         make_room(&mut self.populations)?;
         make_room(&mut self.rows)?;
-        if self.lands.add(name).is_err() {
-            return Err(NoMemory);
-        }
+        put(&mut self.lands, Label::new(name));
         put(&mut self.populations, population);
         put(&mut self.rows, row);
         Ok(())
@@ -93,10 +95,9 @@ impl Returns {
         ensures added { OnOk result (self.new ≡ with_party self.old name.now minority) }
         ensures unchanged { OnErr result (self.new ≡ self.old) }
     {
+        make_room(&mut self.parties)?;
         make_room(&mut self.minorities)?;
-        if self.parties.add(name).is_err() {
-            return Err(NoMemory);
-        }
+        put(&mut self.parties, Label::new(name));
         put(&mut self.minorities, minority);
         Ok(())
     }
@@ -155,10 +156,9 @@ impl Returns {
         ensures added { OnOk result (self.new ≡ with_win self.old name.now (record { land = land; party = party; first = first; valid = valid })) }
         ensures unchanged { OnErr result (self.new ≡ self.old) }
     {
+        make_room(&mut self.winners)?;
         make_room(&mut self.wins)?;
-        if self.winners.add(name).is_err() {
-            return Err(NoMemory);
-        }
+        put(&mut self.winners, Label::new(name));
         let win = Win {
             land,
             party,

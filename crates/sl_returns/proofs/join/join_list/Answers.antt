@@ -16,29 +16,29 @@ returns-in_err-ensure-clause-refused c =
 pub returns-in_err-land-clause-refused : goal.returns-in_err-land-clause-refused
 returns-in_err-land-clause-refused c =
     let blank = rw c.fills_list.ensures at c.in_ok-ensure.ensures.passed in
-    let land = rw c.cell-land_name.ensures at c.in_err-land.ensures.failed in
+    let land = rw (c.requires.index, c.cell-land_name.ensures) at c.in_err-land.ensures.failed in
     exit c.from_residual-in_err-land.result c.from_residual-in_err-land.ensures.1 (after blank (here _ land))
 
 pub returns-in_err-party-clause-refused : goal.returns-in_err-party-clause-refused
 returns-in_err-party-clause-refused c =
     let blank = rw c.fills_list.ensures at c.in_ok-ensure.ensures.passed in
-    let land = rw c.cell-land_name.ensures at c.in_ok-land.ensures.passed in
-    let party = rw c.cell-party_name.ensures at c.in_err-party.ensures.failed in
+    let land = rw (c.requires.index, c.cell-land_name.ensures) at c.in_ok-land.ensures.passed in
+    let party = rw (c.requires.index, c.cell-party_name.ensures) at c.in_err-party.ensures.failed in
     exit c.from_residual-in_err-party.result c.from_residual-in_err-party.ensures.1 (after blank (after land (here _ party)))
 
 pub returns-in_err-valid-clause-refused : goal.returns-in_err-valid-clause-refused
 returns-in_err-valid-clause-refused c =
     let blank = rw c.fills_list.ensures at c.in_ok-ensure.ensures.passed in
-    let land = rw c.cell-land_name.ensures at c.in_ok-land.ensures.passed in
-    let party = rw c.cell-party_name.ensures at c.in_ok-party.ensures.passed in
+    let land = rw (c.requires.index, c.cell-land_name.ensures) at c.in_ok-land.ensures.passed in
+    let party = rw (c.requires.index, c.cell-party_name.ensures) at c.in_ok-party.ensures.passed in
     let valid = rw c.cell.ensures at c.in_err-valid.ensures.failed in
     exit c.from_residual-in_err-valid.result c.from_residual-in_err-valid.ensures.1 (after blank (after land (after party (here _ valid))))
 
 pub returns-in_err-counted-clause-refused : goal.returns-in_err-counted-clause-refused
 returns-in_err-counted-clause-refused c =
     let blank = rw c.fills_list.ensures at c.in_ok-ensure.ensures.passed in
-    let land = rw c.cell-land_name.ensures at c.in_ok-land.ensures.passed in
-    let party = rw c.cell-party_name.ensures at c.in_ok-party.ensures.passed in
+    let land = rw (c.requires.index, c.cell-land_name.ensures) at c.in_ok-land.ensures.passed in
+    let party = rw (c.requires.index, c.cell-party_name.ensures) at c.in_ok-party.ensures.passed in
     let valid = rw c.cell.ensures at c.in_ok-valid.ensures.passed.0 in
     let counted = rw c.cell-2.ensures at c.in_err-counted.ensures.failed in
     exit c.from_residual-in_err-counted.result c.from_residual-in_err-counted.ensures.1 (after blank (after land (after party (after valid (here _ counted)))))
@@ -46,8 +46,8 @@ returns-in_err-counted-clause-refused c =
 pub returns-in_err-slate-clause-refused : goal.returns-in_err-slate-clause-refused
 returns-in_err-slate-clause-refused c =
     let blank = rw c.fills_list.ensures at c.in_ok-ensure.ensures.passed in
-    let land = rw c.cell-land_name.ensures at c.in_ok-land.ensures.passed in
-    let party = rw c.cell-party_name.ensures at c.in_ok-party.ensures.passed in
+    let land = rw (c.requires.index, c.cell-land_name.ensures) at c.in_ok-land.ensures.passed in
+    let party = rw (c.requires.index, c.cell-party_name.ensures) at c.in_ok-party.ensures.passed in
     let valid = rw c.cell.ensures at c.in_ok-valid.ensures.passed.0 in
     let counted = rw c.cell-2.ensures at c.in_ok-counted.ensures.passed.0 in
     let slate = rw c.cell-3.ensures at c.in_err-slate.ensures.failed in
@@ -56,8 +56,8 @@ returns-in_err-slate-clause-refused c =
 pub returns-in_err-ensure-2-clause-refused : goal.returns-in_err-ensure-2-clause-refused
 returns-in_err-ensure-2-clause-refused c =
     let blank = rw c.fills_list.ensures at c.in_ok-ensure.ensures.passed in
-    let land = rw c.cell-land_name.ensures at c.in_ok-land.ensures.passed in
-    let party = rw c.cell-party_name.ensures at c.in_ok-party.ensures.passed in
+    let land = rw (c.requires.index, c.cell-land_name.ensures) at c.in_ok-land.ensures.passed in
+    let party = rw (c.requires.index, c.cell-party_name.ensures) at c.in_ok-party.ensures.passed in
     let valid = rw c.cell.ensures at c.in_ok-valid.ensures.passed.0 in
     let counted = rw c.cell-2.ensures at c.in_ok-counted.ensures.passed.0 in
     let slate = rw c.cell-3.ensures at c.in_ok-slate.ensures.passed in
@@ -67,42 +67,42 @@ returns-in_err-ensure-2-clause-refused c =
 pub returns-in_err-ensure-3-clause-refused : goal.returns-in_err-ensure-3-clause-refused
 returns-in_err-ensure-3-clause-refused c =
     let blank = rw c.fills_list.ensures at c.in_ok-ensure.ensures.passed in
-    let land = rw c.cell-land_name.ensures at c.in_ok-land.ensures.passed in
-    let party = rw c.cell-party_name.ensures at c.in_ok-party.ensures.passed in
+    let land = rw (c.requires.index, c.cell-land_name.ensures) at c.in_ok-land.ensures.passed in
+    let party = rw (c.requires.index, c.cell-party_name.ensures) at c.in_ok-party.ensures.passed in
     let valid = rw c.cell.ensures at c.in_ok-valid.ensures.passed.0 in
     let counted = rw c.cell-2.ensures at c.in_ok-counted.ensures.passed.0 in
     let slate = rw c.cell-3.ensures at c.in_ok-slate.ensures.passed in
     let within = rw (c.in_ok-counted.ensures.passed.1, c.in_ok-valid.ensures.passed.1, c.cell-2.ensures, c.cell.ensures) at c.in_ok-ensure-2.ensures.passed in
-    let land_place = rw c.cell-land_name.ensures at (found_place c.args.returns.now.land_names c.cell-land_name.result.now c.in_ok-land.land c.in_ok-land.ensures.number) in
-    let party_place = rw c.cell-party_name.ensures at (found_place c.args.returns.now.party_names c.cell-party_name.result.now c.in_ok-party.party c.in_ok-party.ensures.number) in
+    let land_place = rw c.cell-land_name.ensures at (found_place c.args.returns.now.land_names c.cell-land_name.result.now c.in_ok-land.land (rw c.requires.index at c.in_ok-land.ensures.number)) in
+    let party_place = rw c.cell-party_name.ensures at (found_place c.args.returns.now.party_names c.cell-party_name.result.now c.in_ok-party.party (rw c.requires.index at c.in_ok-party.ensures.number)) in
     let new = rw (c.is_list.ensures, land_place, party_place) at c.in_err-ensure-3.ensures.failed in
     exit c.from_residual-in_err-ensure-3.result c.from_residual-in_err-ensure-3.ensures.1 (after blank (after land (after party (after valid (after counted (after slate (after within new)))))))
 
 pub returns-clause-refused : goal.returns-clause-refused
 returns-clause-refused c =
     let blank = rw c.fills_list.ensures at c.in_ok-ensure.ensures.passed in
-    let land = rw c.cell-land_name.ensures at c.in_ok-land.ensures.passed in
-    let party = rw c.cell-party_name.ensures at c.in_ok-party.ensures.passed in
+    let land = rw (c.requires.index, c.cell-land_name.ensures) at c.in_ok-land.ensures.passed in
+    let party = rw (c.requires.index, c.cell-party_name.ensures) at c.in_ok-party.ensures.passed in
     let valid = rw c.cell.ensures at c.in_ok-valid.ensures.passed.0 in
     let counted = rw c.cell-2.ensures at c.in_ok-counted.ensures.passed.0 in
     let slate = rw c.cell-3.ensures at c.in_ok-slate.ensures.passed in
     let within = rw (c.in_ok-counted.ensures.passed.1, c.in_ok-valid.ensures.passed.1, c.cell-2.ensures, c.cell.ensures) at c.in_ok-ensure-2.ensures.passed in
-    let land_place = rw c.cell-land_name.ensures at (found_place c.args.returns.now.land_names c.cell-land_name.result.now c.in_ok-land.land c.in_ok-land.ensures.number) in
-    let party_place = rw c.cell-party_name.ensures at (found_place c.args.returns.now.party_names c.cell-party_name.result.now c.in_ok-party.party c.in_ok-party.ensures.number) in
+    let land_place = rw c.cell-land_name.ensures at (found_place c.args.returns.now.land_names c.cell-land_name.result.now c.in_ok-land.land (rw c.requires.index at c.in_ok-land.ensures.number)) in
+    let party_place = rw c.cell-party_name.ensures at (found_place c.args.returns.now.party_names c.cell-party_name.result.now c.in_ok-party.party (rw c.requires.index at c.in_ok-party.ensures.number)) in
     let new = rw (c.is_list.ensures, land_place, party_place) at c.in_ok-ensure-3.ensures.passed in
     wanting c.keep_list.result (both blank (both land (both party (both valid (both counted (both slate (both within new))))))) c.keep_list.ensures.wants
 
 pub returns-clause-joined : goal.returns-clause-joined
 returns-clause-joined c =
     let blank = rw c.fills_list.ensures at c.in_ok-ensure.ensures.passed in
-    let land = rw c.cell-land_name.ensures at c.in_ok-land.ensures.passed in
-    let party = rw c.cell-party_name.ensures at c.in_ok-party.ensures.passed in
+    let land = rw (c.requires.index, c.cell-land_name.ensures) at c.in_ok-land.ensures.passed in
+    let party = rw (c.requires.index, c.cell-party_name.ensures) at c.in_ok-party.ensures.passed in
     let valid = rw c.cell.ensures at c.in_ok-valid.ensures.passed.0 in
     let counted = rw c.cell-2.ensures at c.in_ok-counted.ensures.passed.0 in
     let slate = rw c.cell-3.ensures at c.in_ok-slate.ensures.passed in
     let within = rw (c.in_ok-counted.ensures.passed.1, c.in_ok-valid.ensures.passed.1, c.cell-2.ensures, c.cell.ensures) at c.in_ok-ensure-2.ensures.passed in
-    let land_place = rw c.cell-land_name.ensures at (found_place c.args.returns.now.land_names c.cell-land_name.result.now c.in_ok-land.land c.in_ok-land.ensures.number) in
-    let party_place = rw c.cell-party_name.ensures at (found_place c.args.returns.now.party_names c.cell-party_name.result.now c.in_ok-party.party c.in_ok-party.ensures.number) in
+    let land_place = rw c.cell-land_name.ensures at (found_place c.args.returns.now.land_names c.cell-land_name.result.now c.in_ok-land.land (rw c.requires.index at c.in_ok-land.ensures.number)) in
+    let party_place = rw c.cell-party_name.ensures at (found_place c.args.returns.now.party_names c.cell-party_name.result.now c.in_ok-party.party (rw c.requires.index at c.in_ok-party.ensures.number)) in
     let new = rw (c.is_list.ensures, land_place, party_place) at c.in_ok-ensure-3.ensures.passed in
     let e = c.args.returns.now in
     let joined : with_list e c.in_ok-land.land c.in_ok-party.party (record { valid = c.in_ok-valid.valid; counted = c.in_ok-counted.counted; slate = c.in_ok-slate.slate }) ≡ with_list_of e (fields_of c.args.fields.now) =

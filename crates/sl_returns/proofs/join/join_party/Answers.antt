@@ -14,20 +14,20 @@ returns-in_err-ensure-clause-refused c =
 pub returns-in_err-new_name-clause-refused : goal.returns-in_err-new_name-clause-refused
 returns-in_err-new_name-clause-refused c =
     let blank = rw c.are_blank.ensures at c.in_ok-ensure.ensures.passed in
-    let name = rw (c.find_party.ensures.number, c.cell-name.ensures) at c.in_err-new_name.ensures.failed in
+    let name = rw (c.find.ensures.number, c.requires.index, c.cell-name.ensures) at c.in_err-new_name.ensures.failed in
     exit c.from_residual-in_err-new_name.result c.from_residual-in_err-new_name.ensures.1 (after blank (here _ name))
 
 pub returns-in_err-minority-clause-refused : goal.returns-in_err-minority-clause-refused
 returns-in_err-minority-clause-refused c =
     let blank = rw c.are_blank.ensures at c.in_ok-ensure.ensures.passed in
-    let name = rw (c.find_party.ensures.number, c.cell-name.ensures) at c.in_ok-new_name.ensures.passed in
+    let name = rw (c.find.ensures.number, c.requires.index, c.cell-name.ensures) at c.in_ok-new_name.ensures.passed in
     let flag = rw c.cell.ensures at c.in_err-minority.ensures.failed in
     exit c.from_residual-in_err-minority.result c.from_residual-in_err-minority.ensures.1 (after blank (after name (here _ flag)))
 
 pub returns-in_err-ensure-2-clause-refused : goal.returns-in_err-ensure-2-clause-refused
 returns-in_err-ensure-2-clause-refused c =
     let blank = rw c.are_blank.ensures at c.in_ok-ensure.ensures.passed in
-    let name = rw (c.find_party.ensures.number, c.cell-name.ensures) at c.in_ok-new_name.ensures.passed in
+    let name = rw (c.find.ensures.number, c.requires.index, c.cell-name.ensures) at c.in_ok-new_name.ensures.passed in
     let flag = rw c.cell.ensures at c.in_ok-minority.ensures.passed.0 in
     let room = rw c.parties.ensures.number at c.in_err-ensure-2.ensures.failed in
     exit c.from_residual-in_err-ensure-2.result c.from_residual-in_err-ensure-2.ensures.1 (after blank (after name (after flag room)))
@@ -35,13 +35,19 @@ returns-in_err-ensure-2-clause-refused c =
 pub returns-clause-refused : goal.returns-clause-refused
 returns-clause-refused c =
     let blank = rw c.are_blank.ensures at c.in_ok-ensure.ensures.passed in
-    let name = rw (c.find_party.ensures.number, c.cell-name.ensures) at c.in_ok-new_name.ensures.passed in
+    let name = rw (c.find.ensures.number, c.requires.index, c.cell-name.ensures) at c.in_ok-new_name.ensures.passed in
     let flag = rw c.cell.ensures at c.in_ok-minority.ensures.passed.0 in
     let room = rw c.parties.ensures.number at c.in_ok-ensure-2.ensures.passed in
-    wanting c.kept.result (both blank (both name (both flag room))) c.kept.ensures.err
+    wanting c.kept-2.result (both blank (both name (both flag room))) c.kept-2.ensures.err
 
 pub add_party-requires : goal.add_party-requires
 add_party-requires c =
-    let name = rw c.find_party.ensures.number at c.in_ok-new_name.ensures.passed in
+    let name = rw (c.find.ensures.number, c.requires.index) at c.in_ok-new_name.ensures.passed in
     let free : length c.args.returns.now.party_names < MAX_PARTIES = ltb-true _ _ (rw c.parties.ensures.number at c.in_ok-ensure-2.ensures.held) in
     may_join c.args.returns.now.party_names MAX_PARTIES c.cell-name.result.now name free
+
+pub add_name-requires : goal.add_name-requires
+add_name-requires c =
+    let name = rw (c.find.ensures.number, c.requires.index) at c.in_ok-new_name.ensures.passed in
+    let free : length c.args.returns.now.party_names < MAX_PARTIES = ltb-true _ _ (rw c.parties.ensures.number at c.in_ok-ensure-2.ensures.held) in
+    rw c.requires.index (may_join c.args.returns.now.party_names MAX_PARTIES c.cell-name.result.now name free)

@@ -4,6 +4,7 @@ use Rattle.sl_inputs.specs.declared.status.Input.TheVariants.{Book}
 use Rattle.sl_inputs.specs.Reading.{book_input}
 use Rattle.sl_desk.specs.Showing.{IsNoBookWith}
 use Rattle.sl_desk.proofs.Order.{counts_stage, reads_after_stage, reads_none}
+use Rattle.sl_desk.proofs.Heard.{heard_fault, unheard}
 use Rattle.sl_desk.proofs.calls.stage.answer_to.Goals as goal
 
 pub returns-in-Some-clause-returns : goal.returns-in-Some-clause-returns
@@ -22,3 +23,8 @@ pub returns-in-Some-clause-answer : goal.returns-in-Some-clause-answer
 returns-in-Some-clause-answer g c =
     counts_stage c.args.name.now (book_of c.in-Good.book.book) (book_input g.B.Source.remaining c.args.book.now) (g.R.Source.remaining c.args.returns.now) c.in-Some.stage c.counted.result
     (rw c.in-Good.is at c.in_ok-book.ensures.verdict) (sym c.in-Some.is ∙ c.stage_number.ensures) c.counted.ensures.answer
+
+pub returns-in-Some-clause-heard : goal.returns-in-Some-clause-heard
+returns-in-Some-clause-heard g c =
+    heard_fault g.L.Listener.hears c.args.listener.now c.counted.new.listener (book_of c.in-Good.book.book) (book_input g.B.Source.remaining c.args.book.now)
+    (g.R.Source.remaining c.args.returns.now) c.counted.result (rw c.in-Good.is at c.in_ok-book.ensures.verdict) c.counted.ensures.heard

@@ -12,12 +12,13 @@ use Rattle.sl_stages.proofs.returns.Returns.add_list.Goals.{After-write_cell}
 pub write_cell-requires : goal.write_cell-requires
 write_cell-requires c =
     let e = election_of c.self.inside in
-    let kept = c.self.invariant.1 in
+    let kept = c.self.invariant in
     let land : c.args.land < length e.land_names = subst (λ (e : Election). c.args.land < length e.land_names) (sym c.self.view_is) c.requires.land in
     let party : c.args.party < length e.party_names = subst (λ (e : Election). c.args.party < length e.party_names) (sym c.self.view_is) c.requires.party in
     record {
       land = omega (arith, land, kept.rows, length-map c.self.inside.rows.items (λ row. row.items));
       party = cell_within e c.args.land c.args.party kept land party;
+      votes = record { counted = c.requires.counted; valid = c.requires.valid; slate = λ n e. absurd (none-some n e) };
     }
 
 -- the list's votes
@@ -30,12 +31,9 @@ joined c = ap (λ (rows : List (List (Option ListVotes))). record (election_of c
 
 pub invariant_of-self : goal.invariant_of-self
 invariant_of-self c =
-    let limits = c.self.invariant.0 in
     let land : c.args.land < length (election_of c.self.inside).land_names = subst (λ (e : Election). c.args.land < length e.land_names) (sym c.self.view_is) c.requires.land in
-    let party : c.args.party < length (election_of c.self.inside).party_names = subst (λ (e : Election). c.args.party < length e.party_names) (sym c.self.view_is) c.requires.party in (
-      record { lands = limits.lands; parties = limits.parties; winners = limits.winners },
-      subst IsElection (sym (joined c)) (is_with_list (election_of c.self.inside) c.args.land c.args.party (votes c) c.self.invariant.1 land party (record { counted = c.requires.counted; valid = c.requires.valid; slate = λ n e. absurd (none-some n e) })),
-    )
+    let party : c.args.party < length (election_of c.self.inside).party_names = subst (λ (e : Election). c.args.party < length e.party_names) (sym c.self.view_is) c.requires.party in
+    subst IsElection (sym (joined c)) (is_with_list (election_of c.self.inside) c.args.land c.args.party (votes c) c.self.invariant land party (record { counted = c.requires.counted; valid = c.requires.valid; slate = λ n e. absurd (none-some n e) }))
 
 pub returns-clause-added : goal.returns-clause-added
 returns-clause-added c = joined c ∙ ap (λ e. with_list e c.args.land c.args.party (votes c)) c.self.view_is
@@ -45,4 +43,4 @@ returns-clause-listed c =
     let e = election_of c.self.inside in
     let land : c.args.land < length e.land_names = subst (λ (e : Election). c.args.land < length e.land_names) (sym c.self.view_is) c.requires.land in
     let party : c.args.party < length e.party_names = subst (λ (e : Election). c.args.party < length e.party_names) (sym c.self.view_is) c.requires.party in
-    ap (λ e. list_at e c.args.land c.args.party) (joined c) ∙ list_told e c.args.land c.args.party (votes c) c.self.invariant.1 land party
+    ap (λ e. list_at e c.args.land c.args.party) (joined c) ∙ list_told e c.args.land c.args.party (votes c) c.self.invariant land party

@@ -21,7 +21,7 @@ joined c = rw (lots c)
 -- the lot names a Land, a party and a winner of the election
 named : (c : After-put) → IsLot (length (election_of c.self.inside).land_names) (length (election_of c.self.inside).party_names) (length (election_of c.self.inside).win_names) (lot c)
 named c =
-    let wins = c.self.invariant.1.wins in
+    let wins = c.self.invariant.wins in
     let stage = subst (λ stage. spelling_fault stage ≡ None) (sym c.new.ensures) c.requires.stage in
     let e = election_of c.self.inside in
     let kept = subst (λ (e : Election). IsLot (length e.land_names) (length e.party_names) (length e.wins) (lot c)) (sym c.self.view_is) (search rules) in
@@ -29,9 +29,6 @@ named c =
 
 pub invariant_of-self-2 : goal.invariant_of-self-2
 invariant_of-self-2 c =
-    let limits = c.self.invariant.0 in
     let e = election_of c.self.inside in
-    let room : length e.lots < MAX_LOTS = subst (λ (e : Election). length e.lots < MAX_LOTS) (sym c.self.view_is) c.requires.room in (
-      record { lands = limits.lands; parties = limits.parties; winners = limits.winners },
-      subst IsElection (sym (joined c)) (is_with_lot e (lot c) c.self.invariant.1 room (named c)),
-    )
+    let room : length e.lots < MAX_LOTS = subst (λ (e : Election). length e.lots < MAX_LOTS) (sym c.self.view_is) c.requires.room in
+    subst IsElection (sym (joined c)) (is_with_lot e (lot c) c.self.invariant room (named c))

@@ -9,7 +9,7 @@ use Rattle.sl_stages.proofs.returns.Returns.list.Goals as goal
 pub index-requires-2 : goal.index-requires-2
 index-requires-2 c =
     let e = election_of c.self.inside in
-    let kept = c.self.invariant.1 in
+    let kept = c.self.invariant in
     let named : length e.land_names ≡ length c.args.self.now.land_names = ap (λ x. length x.land_names) c.self.view_is in
     let parties : length e.party_names ≡ length c.args.self.now.party_names = ap (λ x. length x.party_names) c.self.view_is in
     let in_cells : c.args.land < length e.cells = omega (arith, named, kept.rows, c.requires.land) in

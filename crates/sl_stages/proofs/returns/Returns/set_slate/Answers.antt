@@ -23,10 +23,7 @@ joined c =
 
 pub invariant_of-self : goal.invariant_of-self
 invariant_of-self c =
-    let limits = c.self.invariant.0 in
     let e = election_of c.self.inside in
     let land : c.args.land < length e.land_names = subst (λ (e : Election). c.args.land < length e.land_names) (sym c.self.view_is) c.requires.land in
-    let party : c.args.party < length e.party_names = subst (λ (e : Election). c.args.party < length e.party_names) (sym c.self.view_is) c.requires.party in (
-      record { lands = limits.lands; parties = limits.parties; winners = limits.winners },
-      subst IsElection (sym (joined c)) (is_with_slate e c.args.land c.args.party c.args.names c.self.invariant.1 land party c.requires.names),
-    )
+    let party : c.args.party < length e.party_names = subst (λ (e : Election). c.args.party < length e.party_names) (sym c.self.view_is) c.requires.party in
+    subst IsElection (sym (joined c)) (is_with_slate e c.args.land c.args.party c.args.names c.self.invariant land party c.requires.names)

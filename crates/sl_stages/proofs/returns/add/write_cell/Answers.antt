@@ -11,5 +11,7 @@ returns c =
     let row = c.index_mut-row.result.now in
     let there : c.args.land < length rows = omega arith in
     let same = ap (λ row. row.items) c.index_mut-row.ensures.value ∙ sym (get_or-map (λ row. row.items) rows c.args.land row [] there) in
+    let written =
     map-set (λ row. row.items) rows c.args.land (with_item row c.args.party (Some c.args.votes))
-    ∙ ap (λ (items : List (Option ListVotes)). set (map (λ row. row.items) rows) c.args.land (set items c.args.party (Some c.args.votes))) same
+    ∙ ap (λ (items : List (Option ListVotes)). set (map (λ row. row.items) rows) c.args.land (set items c.args.party (Some c.args.votes))) same in
+    rw c.of.ensures written

@@ -2,8 +2,8 @@
 
 use crate::files::Failure;
 use crate::telling::{Desk, tell_failure, tell_fault};
-use sl_desk::{BookText, FromRead, Input, MAX_BOOK_BYTES, MAX_RETURNS_BYTES, ToWrite};
 use sl_hints::{explain_check, explain_count};
+use sl_inputs::{BookText, FromRead, Input, MAX_BOOK_BYTES, MAX_RETURNS_BYTES, ToWrite};
 use sl_ratio::NoMemory;
 use sl_report::{
     Answer, MAX_NAMES_BYTES, Named, ReportError, STATUTES, Shape, bytes_of, compare, deliver,
@@ -305,7 +305,12 @@ fn reported<'a>(
 }
 
 /// Writes a report to standard output, and answers the exit status: 5 after an error, also where its line cannot be printed.
-pub fn exit_status(desk: Desk<'_>, what: Report<'_>, form: ReportForm, names: Option<&str>) -> u8 {
+pub fn report_status(
+    desk: Desk<'_>,
+    what: Report<'_>,
+    form: ReportForm,
+    names: Option<&str>,
+) -> u8 {
     match reported(desk, &what, shape_of(form), names) {
         Ok(status) => status,
         Err(Stop::Report(error)) => {

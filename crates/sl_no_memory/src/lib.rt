@@ -1,4 +1,5 @@
 //! The one refusal that every call which allocates may give.
+#![tactic(auto)]
 
 use std::alloc::{AllocError, AllocFailed};
 use thiserror::Error;

@@ -39,8 +39,8 @@ pub struct Desk<'a> {
     pub language: Option<Language>,
 }
 
-// Writes an explanation. Where it cannot be written, nothing else can be said.
-fn tell(desk: Desk<'_>, file: Option<(&str, &[u8])>, explanation: &Explanation) {
+/// Writes an explanation, of a file as the command's line names it, with its bytes. Where it cannot be written, nothing else can be said.
+pub fn tell(desk: Desk<'_>, file: Option<(&str, &[u8])>, explanation: &Explanation) {
     let Some(language) = desk.language else {
         return;
     };

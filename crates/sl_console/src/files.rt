@@ -1,10 +1,10 @@
 //! Files as inputs and as outputs of the desk.
 
-use sl_desk::{
+use sl_hints::Kept;
+use sl_inputs::{
     BookSource, BookText, DeskError, FromRead, Input, MAX_BOOK_BYTES, MAX_CODE_BYTES,
     MAX_RETURNS_BYTES, ToWrite,
 };
-use sl_hints::Kept;
 use std::fs::File;
 
 /// A file that is read, whose bytes are kept for an explanation.

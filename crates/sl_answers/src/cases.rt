@@ -1,19 +1,21 @@
 //! Rulebooks, returns and full names, or the answers that refuse them.
 
 use crate::answer::Answer;
-use crate::streams::MAX_NAMES_BYTES;
 use sl_inputs::{BookText, Verdict, judge_book, judge_returns};
 use sl_naming::FullNames;
 use sl_ratio::NoMemory;
 use sl_stages::{CheckedBook, Returns};
 use std::alloc::Global;
 
+/// Bytes of a file of names.
+pub const MAX_NAMES_BYTES: usize = 4_194_304;
+
 /// A rulebook, or the answer that refuses it by the line with which counting does.
 ///
 /// # Errors
 ///
 /// Want of memory.
-pub(crate) fn read_book(
+pub fn read_book(
     alloc: Global,
     book: BookText<'_>,
 ) -> Result<Result<CheckedBook, Answer>, NoMemory> {
@@ -28,10 +30,7 @@ pub(crate) fn read_book(
 /// # Errors
 ///
 /// Want of memory.
-pub(crate) fn read_election(
-    alloc: Global,
-    bytes: &[u8],
-) -> Result<Result<Returns, Answer>, NoMemory> {
+pub fn read_election(alloc: Global, bytes: &[u8]) -> Result<Result<Returns, Answer>, NoMemory> {
     match judge_returns(alloc, bytes)? {
         Verdict::Good(returns) => Ok(Ok(returns)),
         Verdict::Refused(why) => Ok(Err(Answer::refused(why.line(alloc)?))),
@@ -43,7 +42,7 @@ pub(crate) fn read_election(
 /// # Errors
 ///
 /// Want of memory.
-pub(crate) fn names_of(
+pub fn names_of(
     alloc: Global,
     names: Option<&[u8]>,
 ) -> Result<Result<FullNames, Answer>, NoMemory> {

@@ -41,7 +41,7 @@ fn aligned(alloc: Global, line: Option<&str>, sheets: &[Sheet]) -> Result<String
 }
 
 impl Answer {
-    /// The answer of a command that comes to these sheets, with the line of a legal fault, if it has one.
+    // The answer of a command that comes to these sheets, with the line of a legal fault, if it has one.
     pub(crate) fn of(
         alloc: Global,
         command: &str,
@@ -65,26 +65,26 @@ impl Answer {
     }
 
     /// The answer that refuses an input by a line.
-    pub(crate) fn refused(line: Vec<u8>) -> Answer {
+    pub fn refused(line: Vec<u8>) -> Answer {
         Answer {
             status: Status::Refused.number(),
             text: line,
         }
     }
 
-    /// The line that refuses the names in a record.
+    // The line that refuses the names in a record.
     pub(crate) fn refused_names(alloc: Global, row: u64) -> Result<Answer, NoMemory> {
         let line = format!(in alloc; "refused names {row}\n")?;
         Ok(Answer::refused(line.into_bytes()))
     }
 
-    /// The line that refuses names of too many bytes.
+    // The line that refuses names of too many bytes.
     pub(crate) fn names_too_long(alloc: Global) -> Result<Answer, NoMemory> {
         let line = String::from_str(alloc, "refused names toolong\n")?;
         Ok(Answer::refused(line.into_bytes()))
     }
 
-    /// The line of a run that needs more steps than it may take, as no rulebook's does.
+    // The line of a run that needs more steps than it may take, as no rulebook's does.
     pub(crate) fn out_of_budget(alloc: Global) -> Result<Answer, NoMemory> {
         Ok(Answer {
             status: Status::Budget.number(),
