@@ -1,6 +1,8 @@
 //! What the returns hold in a scope.
 
-use sl_stages::{Returns, Scope};
+use sl_ratio::NoMemory;
+use sl_stages::{Returns, Scope, Win};
+use std::alloc::Global;
 
 // Lists and votes.
 #[derive(Clone, Copy)]
@@ -82,18 +84,6 @@ pub(crate) fn population(returns: &Returns) -> u64 {
     people
 }
 
-// How many winners a party has in a Land.
-fn winners_of(returns: &Returns, land: usize, party: usize) -> u64 {
-    let mut winners = 0u64;
-    for win in 0..returns.wins() {
-        let winner = returns.win(win);
-        if winner.land == land && winner.party == Some(party) {
-            winners = winners.saturating_add(1);
-        }
-    }
-    winners
-}
-
 // How many winners there are in a scope.
 pub(crate) fn winners_in(returns: &Returns, scope: Scope) -> u64 {
     let mut winners = 0u64;
@@ -110,6 +100,60 @@ pub(crate) fn winners_in(returns: &Returns, scope: Scope) -> u64 {
         }
     }
     winners
+}
+
+// How many winners each party has in each Land: for each Land a row with a number for each party.
+#[derive(Drop)]
+struct Winners {
+    rows: Vec<Vec<u64>>,
+}
+
+impl Winners {
+    // Adds the row of a Land.
+    fn add_row(&mut self, alloc: Global, parties: usize) -> Result<(), NoMemory> {
+        let mut row = Vec::new(alloc);
+        row.resize(parties, 0)?;
+        self.rows.push(row)?;
+        Ok(())
+    }
+
+    // Counts a winner.
+    fn count(&mut self, winner: Win) {
+        let (Some(row), Some(party)) = (self.rows.get_mut(winner.land), winner.party) else {
+            return;
+        };
+        if let Some(number) = row.get_mut(party) {
+            *number = number.saturating_add(1);
+        }
+    }
+
+    // Those of a party in a Land.
+    fn of(&self, land: usize, party: usize) -> u64 {
+        match self.rows.get(land) {
+            Some(row) => row.get(party).copied().unwrap_or(0),
+            None => 0,
+        }
+    }
+}
+
+// The winners of all lists, none counted.
+fn no_winners(alloc: Global, returns: &Returns) -> Result<Winners, NoMemory> {
+    let mut winners = Winners {
+        rows: Vec::new(alloc),
+    };
+    for _ in 0..returns.lands() {
+        winners.add_row(alloc, returns.parties())?;
+    }
+    Ok(winners)
+}
+
+// The winners of all lists.
+fn winners_of_lists(alloc: Global, returns: &Returns) -> Result<Winners, NoMemory> {
+    let mut winners = no_winners(alloc, returns)?;
+    for win in 0..returns.wins() {
+        winners.count(returns.win(win));
+    }
+    Ok(winners)
 }
 
 // A list with its winners and its counted votes.
@@ -129,8 +173,8 @@ impl Burden {
     }
 }
 
-// The list of a winner.
-fn burden_of(returns: &Returns, win: usize) -> Option<Burden> {
+// The list of a winner, with the winners of all lists.
+fn burden_of(returns: &Returns, winners: &Winners, win: usize) -> Option<Burden> {
     if win >= returns.wins() {
         return None;
     }
@@ -142,16 +186,16 @@ fn burden_of(returns: &Returns, win: usize) -> Option<Burden> {
     Some(Burden {
         land: winner.land,
         party,
-        winners: winners_of(returns, winner.land, party),
+        winners: winners.of(winner.land, party),
         counted: u64::from(returns.counted(winner.land, party)),
     })
 }
 
-// The list with the most winners for its counted votes, if there is a winner with a party.
-pub(crate) fn heaviest(returns: &Returns) -> Option<Burden> {
+// Of the lists of winners, the first one with the most winners for its counted votes.
+fn heaviest_of(returns: &Returns, winners: &Winners) -> Option<Burden> {
     let mut found: Option<Burden> = None;
     for win in 0..returns.wins() {
-        if let Some(burden) = burden_of(returns, win) {
+        if let Some(burden) = burden_of(returns, winners, win) {
             let is_more = match found {
                 Some(before) => burden.is_heavier(&before),
                 None => true,
@@ -162,4 +206,10 @@ pub(crate) fn heaviest(returns: &Returns) -> Option<Burden> {
         }
     }
     found
+}
+
+// The list with the most winners for its counted votes, if there is a winner with a party.
+pub(crate) fn heaviest(alloc: Global, returns: &Returns) -> Result<Option<Burden>, NoMemory> {
+    let winners = winners_of_lists(alloc, returns)?;
+    Ok(heaviest_of(returns, &winners))
 }

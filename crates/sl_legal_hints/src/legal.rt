@@ -189,7 +189,7 @@ fn add_heaviest(
     returns: &Returns,
     explanation: &mut Explanation,
 ) -> Result<(), NoMemory> {
-    if let Some(burden) = heaviest(returns) {
+    if let Some(burden) = heaviest(speaker.alloc, returns)? {
         add_burden(speaker, returns, burden, explanation)?;
     }
     speaker.helps(explanation, &RAISE_CAP, &[])
