@@ -1,5 +1,5 @@
 -- What a listener heard, from the end of a run to a call.
-use Rattle.std.proofs.Common.{◌≡◌, Err, IfOk, IfSome, List, None, Ok, Option, Result, Some, subst, true, ℕ}
+use Rattle.std.proofs.Common.{◌≡◌, Err, IfOk, IfSome, List, None, Ok, Option, Result, Some, subst, ℕ}
 use Rattle.sl_books.specs.Compiled.{IsCompiled}
 use Rattle.sl_desk.proofs.Outcomes.{Answers, fault_is_meant}
 use Rattle.sl_desk.specs.Endings.{IsEndingOutput}
@@ -26,7 +26,8 @@ module _ {L : Type 0} (hears : L → L → List (List ℕ) → Election → Lega
   pub heard_outcome : (report : Report) (b : BookTree) (c : CountingCode) (e : Election) (is : IsCompiled b c) (in_range : IsElection e) (a : End) → Answers report b c e is in_range a
       → (ends : Status) (output : List ℕ) → IsEndingOutput report c e a ends output → HearsEnding hears old new c e a → HearsOutcome hears old new b e ends
   heard_outcome report b c e is in_range (answer.Done h) told ends output written heard = rw written.0 heard
-  heard_outcome report b c e is in_range (answer.Fault f) told ends output written heard = rw written.0 (f, fault_is_meant report b c e is in_range f told, subst (λ names. hears old new names e f) is.stages heard)
+  heard_outcome report b c e is in_range (answer.Fault f) told ends output written heard =
+      rw written.0 (f, fault_is_meant report b c e is in_range f told, subst (λ names. hears old new names e f) is.stages heard)
   heard_outcome report b c e is in_range answer.OutOfBudget told ends output written heard = rw written.0 heard
 
   heard_status : (b : BookTree) (e : Election) (bytes : List ℕ) (ends : Status) → IsReturnsVerdict bytes (Good e) → HearsOutcome hears old new b e ends → HearsCount hears old new b bytes ends

@@ -4,7 +4,7 @@ use Rattle.sl_inputs.specs.declared.status.Input.TheVariants.{Book}
 use Rattle.sl_inputs.specs.Reading.{book_input}
 use Rattle.sl_desk.specs.Showing.{IsNoBookWith}
 use Rattle.sl_desk.proofs.Order.{counts_stage, reads_after_stage, reads_none}
-use Rattle.sl_desk.proofs.Heard.{heard_fault, unheard}
+use Rattle.sl_desk.proofs.Heard.{heard_fault}
 use Rattle.sl_desk.proofs.calls.stage.answer_to.Goals as goal
 
 pub returns-in-Some-clause-returns : goal.returns-in-Some-clause-returns
