@@ -7,8 +7,8 @@ use Rattle.std.proofs.lemmas.Option.{get_or_from_slice_get}
 use Rattle.std.proofs.lemmas.List.FromFn.{length-map-range_with_len, get_or-map-range_with_len}
 use Rattle.sl_ratio.specs.declared.method.Method.{Method}
 use Rattle.sl_ratio.specs.declared.method.Method.TheVariants as by
-use Rattle.sl_stages.specs.declared.book.Shape.{Shape}
-use Rattle.sl_stages.specs.declared.book.Shape.TheVariants as shape
+use Rattle.sl_terms.specs.declared.shape.Shape.{Shape}
+use Rattle.sl_terms.specs.declared.shape.Shape.TheVariants as shape
 use Rattle.sl_stages.specs.returns.Election.{Election}
 use Rattle.sl_stages.specs.laws.OneLaws.{FitsMethod}
 use Rattle.sl_instructions.specs.declared.code.CodeStage.{CodeStage}

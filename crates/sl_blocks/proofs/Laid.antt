@@ -1,6 +1,6 @@
 -- Blocks as they are laid out: their plans, put together from those of their parts.
 use Rattle.std.proofs.Common.{◌≡◌, ℕ, List, [], ◌∷◌, length, None, Some, unwrap_or, Result, Ok, Err, IfOk, refl, subst}
-use Rattle.sl_stages.specs.declared.book.Shape.{Shape}
+use Rattle.sl_terms.specs.declared.shape.Shape.{Shape}
 use Rattle.sl_instructions.specs.declared.instr.Instr.{Instr}
 use Rattle.sl_instructions.specs.declared.instr.Instr.TheVariants.{Set, Mov, Get, Zero, Table}
 use Rattle.sl_instructions.specs.declared.operand.EndFault.TheVariants as end
@@ -17,7 +17,7 @@ use Rattle.sl_blocks.specs.declared.blanks.Block.{Block}
 use Rattle.sl_blocks.specs.inner.Jobs.{IsJob}
 use Rattle.sl_blocks.specs.inner.Layout.{IsLaid}
 use Rattle.sl_blocks.specs.inner.LayoutParts.{form_in, slots_in, sum_entries, fill_outside, search_entries, search_batches, some_votes, count_left}
-use Rattle.sl_blocks.specs.inner.LayoutParts.{whole_batches, drawn_batch, refuse_in, rest_in, growth_with, all_with, split_all, growth_all, block_tree}
+use Rattle.sl_blocks.specs.inner.LayoutParts.{whole_batches, drawn_batch, refuse_in, rest_with, sums_with, found_with, house_with, growth_with, all_with, split_all, growth_all, block_with, block_tree}
 
 -- ---- laid out
 
@@ -47,36 +47,45 @@ module _ (b : Block) where
       Then limits (Then (Line (Zero b.job.result ∷ [])) scopes) ≡ all_with b scope
   all_as scope limits scopes limits_is scopes_is = rw (limits_is, scopes_is) refl
 
-  -- the seats that are awarded and the majority clause
-  pub rest_as : (counted whole drawn refused : Tree) → counted ≡ count_left → whole ≡ whole_batches b → drawn ≡ drawn_batch b → refused ≡ refuse_in b →
-      Then
-      (Then counted
-      (Then whole
+  -- the last batch
+  pub last_as : (drawn : Tree) → drawn ≡ drawn_batch b →
+      block_with b
       (If (test.Zero reg.LEFT) (Line [])
-      (Then (If (test.Empty reg.PEERS) (Line []) (If (test.NotCovered b.job.stage) (tied (form_in b) (slots_in b)) (Line []))) drawn))))
-      refused
-      ≡ rest_in b
-  rest_as counted whole drawn refused counted_is whole_is drawn_is refused_is = rw (counted_is, whole_is, drawn_is, refused_is) refl
+      (Then (If (test.Empty reg.PEERS) (Line []) (If (test.NotCovered b.job.stage) (tied (form_in b) (slots_in b)) (Line []))) drawn))
+      ≡ block_tree b
+  last_as drawn drawn_is = rw drawn_is refl
 
-  -- a scope of a growth, from its sums, its search and its first seats
-  pub growth_as : (cap : ℕ) (summed voted searched batched filled rest : Tree) →
-      summed ≡ sum_entries b → voted ≡ some_votes b → searched ≡ search_entries b → batched ≡ search_batches b cap → filled ≡ fill_outside b →
-      Then (Line (Get reg.AMOUNT b.job.amount ∷ []))
-      (Then (Then (Line (Set reg.TOTAL 0 ∷ (Set reg.NEEDED 0 ∷ []))) summed)
-      (Then voted
-      (Then (not_over (form_in b) (slots_in b) reg.NEEDED cap end.Cap)
-      (Then
-      (Then
-      (Then (Line (Set reg.NUMBER 0 ∷ (Set reg.TURNS 0 ∷ (Table (table_of (form_in b)) ranking.Quotients ∷ [])))) (Then searched batched))
-      (take_house (form_in b) (slots_in b) cap))
-      (Then (Then (Line (Table (table_of (form_in b)) (ranking_of b.method) ∷ (Mov reg.LEFT reg.AMOUNT ∷ []))) filled) rest)))))
-      ≡ growth_with b cap rest
-  growth_as cap summed voted searched batched filled rest summed_is voted_is searched_is batched_is filled_is =
-      rw (summed_is, voted_is, searched_is, batched_is, filled_is) refl
+  -- the seats that are awarded and the majority clause
+  pub rest_as : (counted whole last refused : Tree) → counted ≡ count_left → whole ≡ whole_batches b → refused ≡ refuse_in b →
+      Then (Then counted (Then whole last)) refused ≡ rest_with b last
+  rest_as counted whole last refused counted_is whole_is refused_is = rw (counted_is, whole_is, refused_is) refl
+
+  -- a scope, from its sums
+  pub sums_as : (summed rest : Tree) → summed ≡ sum_entries b →
+      Then (Line (Get reg.AMOUNT b.job.amount ∷ [])) (Then (Then (Line (Set reg.TOTAL 0 ∷ (Set reg.NEEDED 0 ∷ []))) summed) rest) ≡ sums_with b rest
+  sums_as summed rest summed_is = rw summed_is refl
+
+  -- a scope of a growth, from its search
+  pub house_as : (cap : ℕ) (searched batched rest : Tree) → searched ≡ search_entries b → batched ≡ search_batches b cap →
+      found_with b cap (Then (Line (Set reg.NUMBER 0 ∷ (Set reg.TURNS 0 ∷ (Table (table_of (form_in b)) ranking.Quotients ∷ [])))) (Then searched batched)) rest
+      ≡ house_with b cap rest
+  house_as cap searched batched rest searched_is batched_is = rw (searched_is, batched_is) refl
+
+  -- from the house
+  pub found_as : (cap : ℕ) (voted searched rest : Tree) → voted ≡ some_votes b →
+      sums_with b
+      (Then voted (Then (not_over (form_in b) (slots_in b) reg.NEEDED cap end.Cap) (Then (Then searched (take_house (form_in b) (slots_in b) cap)) rest)))
+      ≡ found_with b cap searched rest
+  found_as cap voted searched rest voted_is = rw voted_is refl
+
+  -- and from its first seats
+  pub growth_as : (cap : ℕ) (filled rest : Tree) → filled ≡ fill_outside b →
+      house_with b cap (Then (Then (Line (Table (table_of (form_in b)) (ranking_of b.method) ∷ (Mov reg.LEFT reg.AMOUNT ∷ []))) filled) rest) ≡ growth_with b cap rest
+  growth_as cap filled rest filled_is = rw filled_is refl
 
   -- a block without a cap is a split, and one with a cap a growth
-  pub block_as_split : (rest : Tree) → b.cap ≡ None → rest ≡ rest_in b → split_all b rest ≡ block_tree b
-  block_as_split rest cap_is rest_is = rw (cap_is, rest_is) refl
+  pub block_as_split : (last rest : Tree) → b.cap ≡ None → rest ≡ rest_with b last → split_all b rest ≡ block_with b last
+  block_as_split last rest cap_is rest_is = rw (cap_is, rest_is) refl
 
-  pub block_as_growth : (cap : ℕ) (rest : Tree) → b.cap ≡ Some cap → rest ≡ rest_in b → growth_all b (unwrap_or b.cap 0) rest ≡ block_tree b
-  block_as_growth cap rest cap_is rest_is = rw (cap_is, rest_is) refl
+  pub block_as_growth : (cap : ℕ) (last rest : Tree) → b.cap ≡ Some cap → rest ≡ rest_with b last → growth_all b (unwrap_or b.cap 0) rest ≡ block_with b last
+  block_as_growth cap last rest cap_is rest_is = rw (cap_is, rest_is) refl

@@ -5,7 +5,7 @@ use Rattle.sl_stages.specs.declared.fact.Fact.{Fact}
 use Rattle.sl_stages.specs.declared.book.Axis.{Axis}
 use Rattle.sl_stages.specs.declared.book.Cond.{Cond}
 use Rattle.sl_stages.specs.declared.book.Pairing.{Pairing}
-use Rattle.sl_stages.specs.declared.book.Shape.{Shape}
+use Rattle.sl_terms.specs.declared.shape.Shape.{Shape}
 use Rattle.sl_stages.specs.book.Limits.{condition_numbers}
 use Rattle.sl_stages.specs.book.Typing.{can_sum}
 use Rattle.sl_instructions.specs.declared.instr.Instr.{Instr}

@@ -1,7 +1,7 @@
 -- What a block of counting code is: it stands behind the code before it, passes the verifier's tests wherever its slots and its stage are, and
 -- does in its time what it is asked for (docs/blocks.md, section 5).
 use Rattle.std.specs.Prelude.{◌≡◌, ℕ, ◌≤◌, true, List, ◌∷◌, ◌++◌, All, Option, Some, length, slice_get}
-use Rattle.sl_stages.specs.declared.book.Shape.{Shape}
+use Rattle.sl_terms.specs.declared.shape.Shape.{Shape}
 use Rattle.sl_stages.specs.returns.Election.{Election, IsElection}
 use Rattle.sl_instructions.specs.declared.code.TheConstants.{MAX_INSTRS}
 use Rattle.sl_instructions.specs.declared.instr.Instr.{Instr}

@@ -1,9 +1,11 @@
 //! A block: first what comes in each of its scopes after the first seats.
 
 ghost use Rattle.std.specs.Prelude.{◌≡◌, ◌+◌, ◌<◌, IfOk, OnErr, IsSome, vec_len};
+ghost use Rattle.sl_plans.specs.inner.Layout.{tree_of};
 ghost use Rattle.sl_plans.specs.Trees.{size_of};
+ghost use Rattle.sl_blocks.specs.inner.Given.{given_of};
 ghost use Rattle.sl_blocks.specs.inner.Layout.{IsLaid};
-ghost use Rattle.sl_blocks.specs.inner.LayoutParts.{block_tree};
+ghost use Rattle.sl_blocks.specs.inner.LayoutParts.{block_tree, block_with};
 
 use crate::awards::{ENDS_BY_TIE, count_left, drawn_batch, whole_batches};
 use crate::blanks::Block;
@@ -33,7 +35,21 @@ pub fn lay_block(code: &mut Vec<Instr>, block: &Block) -> Result<(), NoMemory>
     let tie = Plan::If(Test::Empty(PEERS), NOTHING, &unnamed);
     let drawn = Plan::Then(&tie, drawn_batch(block));
     let last_batch = Plan::If(Test::Zero(LEFT), NOTHING, &drawn);
-    let batches = Plan::Then(whole_batches(block), &last_batch);
+    lay_block_with(code, block, &last_batch)
+}
+
+/// The same with this as the last batch of each scope.
+fn lay_block_with(
+    code: &mut Vec<Instr>,
+    block: &Block,
+    last_batch: &Plan<'_>,
+) -> Result<(), NoMemory>
+    requires fits { vec_len code.old + size_of (block_with block.now (tree_of (given_of block.now) last_batch.now)) < MAX_INSTRS }
+    requires minima { IsSome block.now.cap → IsSome block.now.job.minima }
+    ensures ok { IfOk result (λ _. IsLaid (block_with block.now (tree_of (given_of block.now) last_batch.now)) (vec_len code.old) code.old.items code.new.items) }
+    ensures err { OnErr result (code.new.items ≡ code.old.items) }
+{
+    let batches = Plan::Then(whole_batches(block), &*last_batch);
     let awards = Plan::Then(count_left(), &batches);
     let rest = Plan::Then(&awards, refuse(block));
     match block.cap {

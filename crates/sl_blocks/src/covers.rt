@@ -1,9 +1,10 @@
 //! The block of a covering.
 
 ghost use Rattle.std.specs.Prelude.{◌≡◌, ◌+◌, ◌≤◌, [], ◌∷◌, IfOk, OnErr, vec_len};
-ghost use Rattle.sl_pieces.specs.covers.Trees.{cover_tree};
+ghost use Rattle.sl_plans.specs.inner.Layout.{tree_of};
+ghost use Rattle.sl_pieces.specs.covers.Trees.{CoverSlots, cover_contested, cover_tree};
 ghost use Rattle.sl_blocks.specs.Blocks.{HasSlotsOf};
-ghost use Rattle.sl_blocks.specs.inner.Covers.{cover_slots, IsCoverBlock, IsCoverJob};
+ghost use Rattle.sl_blocks.specs.inner.Covers.{cover_given, cover_slots, IsCoverBlock, IsCoverJob};
 ghost use Rattle.sl_blocks.specs.PlanBlocks.{AreBlocks};
 
 use crate::awards::{COUNT_LEFT, COUNT_STEP, LESS_LEFT, WHOLE_BATCH, draw_seats};
@@ -221,16 +222,12 @@ const COVER_CONTESTED: &Plan<'static> = &Plan::Then(
     &Plan::Times(NEEDED, Bound::Lists, COVER_PAIR),
 );
 
-const COVERING: &Plan<'static> = &Plan::Then(
-    PLACE_SINGLES,
-    &Plan::Then(
-        COUNT_WINNERS,
-        &Plan::Then(
-            NUMBER_CONTESTED,
-            &Plan::Then(SEAT_UNCONTESTED, COVER_CONTESTED),
-        ),
-    ),
-);
+/// The plan for the contested lists, whatever slots it is given.
+fn cover_contested() -> &'static Plan<'static>
+    ensures { (x : CoverSlots) → tree_of (cover_given x) result.now ≡ cover_contested x }
+{
+    COVER_CONTESTED
+}
 
 /// Appends the block of a covering (docs/blocks.md, section 6), which places each winner, or ends the run with the first
 /// tie. It is the plan of `sl_pieces` behind a declaration. The numbers of the lists stand in the first scratch slot by list.
@@ -262,5 +259,9 @@ pub fn cover_block(
         Instr::Store(numbers, WEIGHT),
         Instr::Store(numbers, SECOND_PASSING),
     ];
-    lay(code, COVERING, &given)
+    let lists = Plan::Then(SEAT_UNCONTESTED, cover_contested());
+    let numbered = Plan::Then(NUMBER_CONTESTED, &lists);
+    let counted = Plan::Then(COUNT_WINNERS, &numbered);
+    let plan = Plan::Then(PLACE_SINGLES, &counted);
+    lay(code, &plan, &given)
 }

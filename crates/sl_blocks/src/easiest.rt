@@ -3,14 +3,14 @@
 use sl_stages::Number;
 
 /// At least `share` votes in each `per` of all valid votes.
-#[derive(Clone, Copy, Debug, PartialEq, Eq)]
+#[derive(Clone, Copy)]
 pub struct Share {
     pub share: Number,
     pub per: u32,
 }
 
 /// Conditions of which a party that takes part meets one.
-#[derive(Clone, Copy, Debug, PartialEq, Eq)]
+#[derive(Clone, Copy)]
 pub struct Easiest {
     pub valid: Option<Share>,
     /// At least so many winners.

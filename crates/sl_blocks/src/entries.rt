@@ -6,23 +6,40 @@ ghost use Rattle.sl_plans.specs.inner.Layout.{tree_of};
 ghost use Rattle.sl_plans.specs.declared.plan.Cursor.TheVariants as cursor;
 ghost use Rattle.sl_plans.specs.Trees.{Each};
 ghost use Rattle.sl_pieces.specs.scopes.Forms.{on_list, entries_plan, scopes_plan};
+ghost use Rattle.sl_blocks.specs.inner.LayoutParts.{inside, entry_in};
 
 use sl_pieces::Form;
-use sl_plans::{Cursor, Plan};
+use sl_plans::{Cursor, Plan, Test};
 
 pub const NOTHING: &Plan<'static> = &Plan::Line(&[]);
 
-/// The plan for each entry of the scope at the cursors. The other two are the plan where the cursors have a list, and that for each party's.
-pub fn each_entry<'a>(
-    form: Form,
-    plan: &'a Plan<'a>,
-    listed: &'a Plan<'a>,
-    by_party: &'a Plan<'a>,
-) -> Plan<'a>
-    requires list { (given : List Instr) → tree_of given listed.now ≡ on_list (tree_of given plan.now) }
-    requires party { (given : List Instr) → tree_of given by_party.now ≡ Each cursor.Party (on_list (tree_of given plan.now)) }
-    ensures { (given : List Instr) → tree_of given result ≡ entries_plan form (tree_of given plan.now) }
+/// The plan for each party that has a list in the Land at the cursors.
+macro_rules! by_party {
+    ($plan:expr) => {
+        &Plan::Each(Cursor::Party, &Plan::If(Test::NoList, NOTHING, $plan))
+    };
+}
+
+pub(crate) use by_party;
+
+/// The plan in each turn, or where the test fails.
+fn inside<'a>(plan: &'a Plan<'a>) -> &'a Plan<'a>
+    ensures { (given : List Instr) → tree_of given result.now ≡ inside (tree_of given plan.now) }
 {
+    match plan {
+        Plan::Each(_, body) => body,
+        Plan::If(_, _, other) => other,
+        _ => plan,
+    }
+}
+
+/// The plan for each entry of the scope at the cursors, from that for each party that has a list there.
+pub fn each_entry<'a>(form: Form, by_party: &'a Plan<'a>) -> Plan<'a>
+    requires { (given : List Instr) → tree_of given by_party.now ≡ Each cursor.Party (on_list (entry_in (tree_of given by_party.now))) }
+    ensures { (given : List Instr) → tree_of given result ≡ entries_plan form (entry_in (tree_of given by_party.now)) }
+{
+    let listed = inside(by_party);
+    let plan = inside(listed);
     match form {
         Form::AllParties => Plan::Each(Cursor::Party, plan),
         Form::AllLands => Plan::Each(Cursor::Land, plan),

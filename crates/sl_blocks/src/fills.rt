@@ -6,7 +6,7 @@ ghost use Rattle.sl_blocks.specs.inner.Given.{given_of};
 ghost use Rattle.sl_blocks.specs.inner.LayoutParts.{fill_entries, fill_outside};
 
 use crate::blanks::{Block, ENTER_BASE, GET_MINIMUM, GET_WEIGHT, GIVE, STORE_BASE, TABLE, WEIGH};
-use crate::entries::{NOTHING, each_entry};
+use crate::entries::{NOTHING, by_party, each_entry};
 use sl_instructions::Instr;
 use sl_pieces::registers::{
     AMOUNT, BASE, FIRST_PASSING, LEFT, NUMBER, SECOND_PASSING, STEP, TOTAL, TURNS, WEIGHT,
@@ -107,65 +107,28 @@ macro_rules! fill_entry {
     };
 }
 
-const FILL_QUOTIENT: &Plan<'static> = fill_entry!(TAKE_MINIMUM, ENTER_QUOTIENT);
+const FILL_QUOTIENT: &Plan<'static> = by_party!(fill_entry!(TAKE_MINIMUM, ENTER_QUOTIENT));
 
-const FILL_AND_WEIGH: &Plan<'static> = fill_entry!(TAKE_MINIMUM, WEIGH_AND_ENTER);
+const FILL_AND_WEIGH: &Plan<'static> = by_party!(fill_entry!(TAKE_MINIMUM, WEIGH_AND_ENTER));
 
-const FILL_REMAINDER: &Plan<'static> = fill_entry!(TAKE_WHOLE, ENTER_REMAINDER);
+const FILL_REMAINDER: &Plan<'static> = by_party!(fill_entry!(TAKE_WHOLE, ENTER_REMAINDER));
 
-const FILL_PREFERRED: &Plan<'static> = fill_entry!(TAKE_WHOLE, ENTER_PREFERRED);
+const FILL_PREFERRED: &Plan<'static> = by_party!(fill_entry!(TAKE_WHOLE, ENTER_PREFERRED));
 
-const FILL_OUTSIDE: &Plan<'static> = fill_entry!(TAKE_OUTSIDE, ENTER_QUOTIENT);
-
-const FILL_QUOTIENT_ON_LIST: &Plan<'static> = &Plan::If(Test::NoList, NOTHING, FILL_QUOTIENT);
-
-const FILL_AND_WEIGH_ON_LIST: &Plan<'static> = &Plan::If(Test::NoList, NOTHING, FILL_AND_WEIGH);
-
-const FILL_REMAINDER_ON_LIST: &Plan<'static> = &Plan::If(Test::NoList, NOTHING, FILL_REMAINDER);
-
-const FILL_PREFERRED_ON_LIST: &Plan<'static> = &Plan::If(Test::NoList, NOTHING, FILL_PREFERRED);
-
-const FILL_OUTSIDE_ON_LIST: &Plan<'static> = &Plan::If(Test::NoList, NOTHING, FILL_OUTSIDE);
-
-const FILL_QUOTIENT_BY_PARTY: &Plan<'static> = &Plan::Each(Cursor::Party, FILL_QUOTIENT_ON_LIST);
-
-const FILL_AND_WEIGH_BY_PARTY: &Plan<'static> = &Plan::Each(Cursor::Party, FILL_AND_WEIGH_ON_LIST);
-
-const FILL_REMAINDER_BY_PARTY: &Plan<'static> = &Plan::Each(Cursor::Party, FILL_REMAINDER_ON_LIST);
-
-const FILL_PREFERRED_BY_PARTY: &Plan<'static> = &Plan::Each(Cursor::Party, FILL_PREFERRED_ON_LIST);
-
-const FILL_OUTSIDE_BY_PARTY: &Plan<'static> = &Plan::Each(Cursor::Party, FILL_OUTSIDE_ON_LIST);
+const FILL_OUTSIDE: &Plan<'static> = by_party!(fill_entry!(TAKE_OUTSIDE, ENTER_QUOTIENT));
 
 /// Gives each entry its first seats, and enters its next one.
 pub fn fill_entries(block: &Block) -> Plan<'static>
     ensures { tree_of (given_of block.now) result ≡ fill_entries block.now }
 {
     match (block.method, block.job.minima, block.job.majority) {
-        (Method::Hamilton, _, Majority::Prefer) => each_entry(
-            block.form,
-            FILL_PREFERRED,
-            FILL_PREFERRED_ON_LIST,
-            FILL_PREFERRED_BY_PARTY,
-        ),
-        (Method::Hamilton, _, _) => each_entry(
-            block.form,
-            FILL_REMAINDER,
-            FILL_REMAINDER_ON_LIST,
-            FILL_REMAINDER_BY_PARTY,
-        ),
+        (Method::Hamilton, _, Majority::Prefer) => each_entry(block.form, FILL_PREFERRED),
+        (Method::Hamilton, _, _) => each_entry(block.form, FILL_REMAINDER),
         (Method::Divisor(divisor), None, _) if divisor.is_rounding() => each_entry(
             block.form,
             FILL_AND_WEIGH,
-            FILL_AND_WEIGH_ON_LIST,
-            FILL_AND_WEIGH_BY_PARTY,
         ),
-        _ => each_entry(
-            block.form,
-            FILL_QUOTIENT,
-            FILL_QUOTIENT_ON_LIST,
-            FILL_QUOTIENT_BY_PARTY,
-        ),
+        _ => each_entry(block.form, FILL_QUOTIENT),
     }
 }
 
@@ -174,10 +137,5 @@ pub fn fill_outside(block: &Block) -> Plan<'static>
     requires { IsSome block.now.job.minima }
     ensures { tree_of (given_of block.now) result ≡ fill_outside block.now }
 {
-    each_entry(
-        block.form,
-        FILL_OUTSIDE,
-        FILL_OUTSIDE_ON_LIST,
-        FILL_OUTSIDE_BY_PARTY,
-    )
+    each_entry(block.form, FILL_OUTSIDE)
 }

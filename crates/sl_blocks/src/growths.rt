@@ -6,7 +6,7 @@ ghost use Rattle.sl_plans.specs.Trees.{size_of};
 ghost use Rattle.sl_blocks.specs.inner.Given.{given_of};
 ghost use Rattle.sl_blocks.specs.inner.Jobs.{IsGrowthBlock, IsGrowthJob};
 ghost use Rattle.sl_blocks.specs.inner.Layout.{IsLaid};
-ghost use Rattle.sl_blocks.specs.inner.LayoutParts.{growth_all};
+ghost use Rattle.sl_blocks.specs.inner.LayoutParts.{all_with, found_with, house_with, growth_all};
 ghost use Rattle.sl_blocks.specs.inner.Jobs.{IsGrowthPlan};
 
 use crate::blanks::Block;
@@ -15,8 +15,7 @@ use crate::fills::{CLEAR_TABLE, fill_outside};
 use crate::form::form_of;
 use crate::houses::{CLEAR_SEARCH, TAKE_HOUSE, WITHIN_CAP, search_batches, search_entries};
 use crate::job::Job;
-use crate::scopes::{START_SCOPE, lay_scopes};
-use crate::sums::{CLEAR_SUMS, some_votes, sum_entries};
+use crate::sums::{lay_sums_with, some_votes};
 use sl_instructions::{Instr, MAX_INSTRS};
 use sl_plans::Plan;
 use sl_ratio::{Divisor, Method, NoMemory};
@@ -63,19 +62,38 @@ pub fn lay_growth_with(
     ensures ok { IfOk result (λ _. IsLaid (growth_all block.now (unwrap_or block.now.cap 0) (tree_of (given_of block.now) rest.now)) (vec_len code.old) code.old.items code.new.items) }
     ensures err { OnErr result (code.new.items ≡ code.old.items) }
 {
-    let sum_entries = sum_entries(block);
-    let sums = Plan::Then(CLEAR_SUMS, &sum_entries);
-    let search_entries = search_entries(block);
-    let searched = Plan::Then(&search_entries, search_batches());
-    let search = Plan::Then(CLEAR_SEARCH, &searched);
-    let house = Plan::Then(&search, TAKE_HOUSE);
     let fill_entries = fill_outside(block);
     let fill = Plan::Then(CLEAR_TABLE, &fill_entries);
     let filled = Plan::Then(&fill, &*rest);
-    let grown = Plan::Then(&house, &filled);
+    lay_house_with(code, block, &filled)
+}
+
+/// The same, of which this comes behind the house of each scope.
+fn lay_house_with(code: &mut Vec<Instr>, block: &Block, rest: &Plan<'_>) -> Result<(), NoMemory>
+    requires { vec_len code.old + size_of (all_with block.now (house_with block.now (unwrap_or block.now.cap 0) (tree_of (given_of block.now) rest.now))) < MAX_INSTRS }
+    ensures ok { IfOk result (λ _. IsLaid (all_with block.now (house_with block.now (unwrap_or block.now.cap 0) (tree_of (given_of block.now) rest.now))) (vec_len code.old) code.old.items code.new.items) }
+    ensures err { OnErr result (code.new.items ≡ code.old.items) }
+{
+    let search_entries = search_entries(block);
+    let search_turns = Plan::Then(&search_entries, search_batches());
+    let searched = Plan::Then(CLEAR_SEARCH, &search_turns);
+    lay_found_with(code, block, &searched, rest)
+}
+
+/// The same with this search for the house.
+fn lay_found_with(
+    code: &mut Vec<Instr>,
+    block: &Block,
+    searched: &Plan<'_>,
+    rest: &Plan<'_>,
+) -> Result<(), NoMemory>
+    requires { vec_len code.old + size_of (all_with block.now (found_with block.now (unwrap_or block.now.cap 0) (tree_of (given_of block.now) searched.now) (tree_of (given_of block.now) rest.now))) < MAX_INSTRS }
+    ensures ok { IfOk result (λ _. IsLaid (all_with block.now (found_with block.now (unwrap_or block.now.cap 0) (tree_of (given_of block.now) searched.now) (tree_of (given_of block.now) rest.now))) (vec_len code.old) code.old.items code.new.items) }
+    ensures err { OnErr result (code.new.items ≡ code.old.items) }
+{
+    let house = Plan::Then(&*searched, TAKE_HOUSE);
+    let grown = Plan::Then(&house, &*rest);
     let capped = Plan::Then(WITHIN_CAP, &grown);
     let voted = Plan::Then(some_votes(), &capped);
-    let summed = Plan::Then(&sums, &voted);
-    let scope = Plan::Then(START_SCOPE, &summed);
-    lay_scopes(code, block, &scope)
+    lay_sums_with(code, block, &voted)
 }

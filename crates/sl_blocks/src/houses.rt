@@ -12,7 +12,7 @@ use crate::blanks::{
     Block, CAP_IN_PASSING, CAP_LEFT, ENTER_HELD, GET_HELD, GET_MINIMUM, GET_WEIGHT, OVER_CAP,
     SEARCH_TABLE, STORE_HELD,
 };
-use crate::entries::{NOTHING, each_entry};
+use crate::entries::{NOTHING, by_party, each_entry};
 use sl_instructions::Instr;
 use sl_pieces::registers::{
     ALL_LEFT, AMOUNT, BASE, FIRST_PASSING, HELD, IN_BATCH, LEFT, NEEDED, NUMBER, PEERS, TURNS,
@@ -40,7 +40,7 @@ pub const CLEAR_SEARCH: &Plan<'static> = &Plan::Line(&[
 
 /// In the search the register of numbers holds the minima of entries without weight, and that of turns what the seats that the other
 /// entries hold lack of their minima.
-const SEARCH_ENTRY: &Plan<'static> = &Plan::Then(
+const SEARCH_ENTRY: &Plan<'static> = by_party!(&Plan::Then(
     &Plan::Line(&[GET_WEIGHT]),
     &Plan::Then(
         &Plan::Line(&[GET_MINIMUM]),
@@ -56,22 +56,13 @@ const SEARCH_ENTRY: &Plan<'static> = &Plan::Then(
             ),
         ),
     ),
-);
-
-const SEARCH_ENTRY_ON_LIST: &Plan<'static> = &Plan::If(Test::NoList, NOTHING, SEARCH_ENTRY);
-
-const SEARCH_ENTRY_BY_PARTY: &Plan<'static> = &Plan::Each(Cursor::Party, SEARCH_ENTRY_ON_LIST);
+));
 
 /// Each entry begins without seats.
 pub fn search_entries(block: &Block) -> Plan<'static>
     ensures { tree_of (given_of block.now) result ≡ search_entries block.now }
 {
-    each_entry(
-        block.form,
-        SEARCH_ENTRY,
-        SEARCH_ENTRY_ON_LIST,
-        SEARCH_ENTRY_BY_PARTY,
-    )
+    each_entry(block.form, SEARCH_ENTRY)
 }
 
 /// A batch begins as long as a minimum is not met; else no turns are left.

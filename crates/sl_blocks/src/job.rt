@@ -3,7 +3,7 @@
 use sl_stages::Majority;
 
 /// A split or a growth: its stage, the slots of its columns, and the majority clause.
-#[derive(Clone, Copy, Debug, PartialEq, Eq)]
+#[derive(Clone, Copy)]
 pub struct Job {
     /// The number of the stage.
     pub stage: u8,

@@ -14,8 +14,7 @@ use crate::blocks::{MAX_BLOCK_INSTRS, lay_block};
 use crate::fills::{CLEAR_TABLE, fill_entries};
 use crate::form::form_of;
 use crate::job::Job;
-use crate::scopes::{START_SCOPE, lay_scopes};
-use crate::sums::{CLEAR_SUMS, REFUSES_SEATS, sum_entries};
+use crate::sums::{REFUSES_SEATS, lay_sums_with};
 use sl_instructions::{Instr, MAX_INSTRS};
 use sl_plans::Plan;
 use sl_ratio::{Method, NoMemory};
@@ -56,13 +55,9 @@ pub fn lay_split_with(code: &mut Vec<Instr>, block: &Block, rest: &Plan<'_>) -> 
     ensures ok { IfOk result (λ _. IsLaid (split_all block.now (tree_of (given_of block.now) rest.now)) (vec_len code.old) code.old.items code.new.items) }
     ensures err { OnErr result (code.new.items ≡ code.old.items) }
 {
-    let sum_entries = sum_entries(block);
-    let sums = Plan::Then(CLEAR_SUMS, &sum_entries);
     let fill_entries = fill_entries(block);
     let fill = Plan::Then(CLEAR_TABLE, &fill_entries);
     let filled = Plan::Then(&fill, &*rest);
     let refused = Plan::Then(REFUSES_SEATS, &filled);
-    let summed = Plan::Then(&sums, &refused);
-    let scope = Plan::Then(START_SCOPE, &summed);
-    lay_scopes(code, block, &scope)
+    lay_sums_with(code, block, &refused)
 }

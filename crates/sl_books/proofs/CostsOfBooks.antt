@@ -14,15 +14,16 @@ use Rattle.sl_stages.specs.declared.book.LastClause.{LastClause}
 use Rattle.sl_stages.specs.declared.book.Majority.{Majority}
 use Rattle.sl_stages.specs.declared.book.Seating.{Seating}
 use Rattle.sl_stages.specs.declared.book.Seating.TheVariants as seating
-use Rattle.sl_stages.specs.declared.book.Shape.{Shape}
-use Rattle.sl_stages.specs.declared.book.Shape.TheVariants as shape
+use Rattle.sl_terms.specs.declared.shape.Shape.{Shape}
+use Rattle.sl_terms.specs.declared.shape.Shape.TheVariants as shape
 use Rattle.sl_stages.specs.declared.check_fault.CheckFault.TheVariants as fault
-use Rattle.sl_stages.specs.declared.limits.TheConstants.{MAX_STAGES, MAX_DEPTH, MAX_PARTS}
-use Rattle.sl_stages.specs.book.Tests.{test, first_failing}
+use Rattle.sl_stages.specs.declared.limits.TheConstants.{MAX_DEPTH, MAX_PARTS}
+use Rattle.sl_terms.specs.declared.limits.TheConstants.{MAX_STAGES}
+use Rattle.sl_terms.specs.Tests.{test, first_failing}
 use Rattle.sl_stages.specs.book.Trees.{ExprTree, fact as of_returns, name, sum, pair, split, without, atleast, grow, StageTree, BookTree}
 use Rattle.sl_stages.specs.book.Limits.{depth_of, parts_of, is_within_stage}
 use Rattle.sl_stages.specs.book.Typing.{Column, splits_in, is_seat_number, expr_tests, stage_column, columns_of, stages_tests, version_tests, condition_tests, base_tests, tests_of, is_typed}
-use Rattle.sl_stages.proofs.Tests.{no_fault, pass_parts, head_holds}
+use Rattle.sl_terms.proofs.Tests.{no_fault, pass_parts, head_holds}
 use Rattle.sl_instructions.specs.declared.instr.Instr.TheVariants.{Zero, Input}
 use Rattle.sl_instructions.specs.declared.operand.Input.TheVariants as input
 use Rattle.sl_plans.specs.Trees.{Tree, Line, Then}

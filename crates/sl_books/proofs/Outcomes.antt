@@ -5,8 +5,8 @@ use Rattle.std.proofs.lemmas.Option.{slice_get_within, slice_get_cases, get_or_f
 use Rattle.std.proofs.lemmas.Slice.Zip.{AllZip-long}
 use Rattle.sl_stages.specs.declared.book.Seating.{Seating}
 use Rattle.sl_stages.specs.declared.book.Seating.TheVariants as seating
-use Rattle.sl_stages.specs.declared.book.Shape.{Shape}
-use Rattle.sl_stages.specs.declared.book.Shape.TheVariants as shape
+use Rattle.sl_terms.specs.declared.shape.Shape.{Shape}
+use Rattle.sl_terms.specs.declared.shape.Shape.TheVariants as shape
 use Rattle.sl_stages.specs.declared.fault.LegalFault.{LegalFault}
 use Rattle.sl_stages.specs.declared.table.Outcome.{Outcome}
 use Rattle.sl_stages.specs.declared.table.Outcome.TheVariants as outcome

@@ -2,16 +2,16 @@
 use Rattle.std.proofs.Common.{◌≡◌, true, List, [], ◌++◌, None, length, refl, sym, subst, ◌∙◌, arith}
 use Rattle.std.specs.List.{list_all}
 use Rattle.sl_stages.specs.declared.book.Cond.{Cond}
-use Rattle.sl_stages.specs.declared.book.Shape.TheVariants as shape
+use Rattle.sl_terms.specs.declared.shape.Shape.TheVariants as shape
 use Rattle.sl_stages.specs.declared.fault.LegalFault.{LegalFault}
 use Rattle.sl_stages.specs.declared.table.Outcome.TheVariants as outcome
-use Rattle.sl_stages.specs.book.Tests.{first_failing}
+use Rattle.sl_terms.specs.Tests.{first_failing}
 use Rattle.sl_stages.specs.book.Trees.{BookTree}
 use Rattle.sl_stages.specs.book.Limits.{is_within_stage}
 use Rattle.sl_stages.specs.book.Typing.{Column, columns_of, stages_tests, base_tests, tests_of, is_typed}
 use Rattle.sl_stages.specs.returns.Election.{Election, IsElection}
 use Rattle.sl_stages.specs.meaning.Means.{Known, Through, Stopped, nothing_known, StagesMean, IsOutcome}
-use Rattle.sl_stages.proofs.Tests.{no_fault}
+use Rattle.sl_terms.proofs.Tests.{no_fault}
 use Rattle.sl_stages.proofs.meaning.OneOutcome.{typed_parts}
 use Rattle.sl_instructions.specs.Codes.{CountingCode}
 use Rattle.sl_semantics.specs.State.{State, End, Faulted, start}

@@ -3,7 +3,8 @@ use Rattle.std.proofs.Common.{◌≡◌, ℕ, ◌+◌, ◌*◌, ◌≤◌, true,
 use Rattle.std.specs.Prelude.{nat_le}
 use Rattle.std.specs.List.{list_all}
 use Rattle.std.proofs.lemmas.Bool.{and_parts, leb-true}
-use Rattle.sl_stages.specs.declared.limits.TheConstants.{MAX_STAGES, MAX_PARTS}
+use Rattle.sl_stages.specs.declared.limits.TheConstants.{MAX_PARTS}
+use Rattle.sl_terms.specs.declared.limits.TheConstants.{MAX_STAGES}
 use Rattle.sl_stages.specs.book.Limits.{is_within_stage, is_within_limits}
 use Rattle.sl_stages.specs.declared.book.Cond.{Cond}
 use Rattle.sl_stages.specs.book.Trees.{StageTree, BookTree}

@@ -6,8 +6,8 @@ use Rattle.sl_stages.specs.declared.book.ColumnType.{ColumnType}
 use Rattle.sl_stages.specs.declared.book.Unit.TheVariants as unit
 use Rattle.sl_stages.specs.book.Trees.{ExprTree}
 use Rattle.sl_stages.specs.book.Typing.{Column, column, type_of, expr_tests}
-use Rattle.sl_stages.proofs.Tests.{fails_in_row}
-use Rattle.sl_stages.specs.book.Tests.{Test, first_failing, Judges}
+use Rattle.sl_terms.proofs.Tests.{fails_in_row}
+use Rattle.sl_terms.specs.Tests.{Test, first_failing, Judges}
 
 -- the first two lists may be taken together
 pub fails_behind : (a b c : List (Test CheckFault)) → first_failing (a ++ (b ++ c)) ≡ option_or (first_failing (a ++ b)) (first_failing c)

@@ -7,10 +7,10 @@ use Rattle.sl_stages.specs.declared.check_fault.CheckFault.{CheckFault}
 use Rattle.sl_stages.specs.declared.book.Stage.{Stage}
 use Rattle.sl_stages.specs.declared.book.ColumnType.{ColumnType}
 use Rattle.sl_stages.specs.book.Trees.{tree_of, stage_of}
-use Rattle.sl_stages.specs.book.Tests.{first_failing}
+use Rattle.sl_terms.specs.Tests.{first_failing}
 use Rattle.sl_stages.specs.book.Typing.{Column, stage_column, columns_of, type_of, stage_tests, stages_tests}
 use Rattle.sl_check.specs.inner.Known.{columns}
-use Rattle.sl_stages.proofs.Tests.{fails_in_row}
+use Rattle.sl_terms.proofs.Tests.{fails_in_row}
 
 -- the first i stages pass, and have the columns of the first i types
 pub record Passed (ss : List Stage) (ts : List ColumnType) (i : ℕ) : Type 0 where

@@ -3,9 +3,9 @@
 ghost use Rattle.std.specs.Prelude.{◌≡◌, ◌≤◌, [], ◌∷◌, map, length, Some, None, MatchResult, IsTrue};
 ghost use Rattle.sl_stages.specs.book.Trees.{tree_of, stage_of};
 ghost use Rattle.sl_stages.specs.book.Limits.{parts_of, is_within_limits};
-ghost use Rattle.sl_stages.specs.book.Tests.{first_failing};
+ghost use Rattle.sl_terms.specs.Tests.{first_failing};
 ghost use Rattle.sl_stages.specs.book.Typing.{type_of, stage_tests, stages_tests, columns_of, base_tests};
-ghost use Rattle.sl_stages.specs.book.Tests.{Judges};
+ghost use Rattle.sl_terms.specs.Tests.{Judges};
 ghost use Rattle.sl_check.specs.inner.Known.{columns};
 
 use crate::columns::Columns;

@@ -5,12 +5,12 @@ use Rattle.std.proofs.lemmas.Bool.{and_parts, and_from, eqb-true, false≢true, 
 use Rattle.std.proofs.lemmas.Bool.Decides.{leb_tells}
 use Rattle.std.proofs.lemmas.List.Concat.{flat_map_single}
 use Rattle.sl_ratio.specs.declared.names.TheConstants.{MAX_NAME_BYTES}
-use Rattle.sl_stages.specs.declared.book.TheConstants.{SHAPES}
-use Rattle.sl_stages.specs.declared.book.Shape.{Shape}
-use Rattle.sl_stages.specs.declared.book.Shape.TheVariants as shapes
-use Rattle.sl_stages.specs.declared.limits.TheConstants.{MAX_STAGES}
-use Rattle.sl_stages.specs.book.Typing.{shape_number}
-use Rattle.sl_stages.specs.book.Words.{is_letter, is_word}
+use Rattle.sl_terms.specs.declared.shape.TheConstants.{SHAPES}
+use Rattle.sl_terms.specs.declared.shape.Shape.{Shape}
+use Rattle.sl_terms.specs.declared.shape.Shape.TheVariants as shapes
+use Rattle.sl_terms.specs.declared.limits.TheConstants.{MAX_STAGES}
+use Rattle.sl_terms.specs.Shapes.{shape_number}
+use Rattle.sl_terms.specs.Words.{is_letter, is_word}
 use Rattle.sl_instructions.specs.declared.code.TheConstants.{MAX_SLOTS, MAX_INSTRS}
 use Rattle.sl_code.specs.declared.fault.Cause.TheVariants as causes
 use Rattle.sl_code.specs.declared.fault.Cause.{Cause}

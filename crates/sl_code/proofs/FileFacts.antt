@@ -4,8 +4,8 @@ use Rattle.std.specs.Int.{w32, from_le_bytes}
 use Rattle.std.specs.List.{All}
 use Rattle.std.proofs.lemmas.Nat.{from_le_bytes-to_le_bytes_4}
 use Rattle.std.proofs.lemmas.List.Concat.{flat_map_single}
-use Rattle.sl_stages.specs.declared.limits.TheConstants.{MAX_STAGES}
-use Rattle.sl_stages.specs.declared.book.Shape.{Shape}
+use Rattle.sl_terms.specs.declared.limits.TheConstants.{MAX_STAGES}
+use Rattle.sl_terms.specs.declared.shape.Shape.{Shape}
 use Rattle.sl_instructions.specs.declared.code.TheConstants.{MAX_SLOTS, MAX_INSTRS}
 use Rattle.sl_instructions.specs.declared.code.CodeStage.{CodeStage}
 use Rattle.sl_code.specs.declared.fault.Cause.TheVariants as causes
@@ -13,7 +13,7 @@ use Rattle.sl_code.specs.declared.fault.CodeFault.{CodeFault}
 use Rattle.sl_code.specs.declared.fault.Stop.{Stop}
 use Rattle.sl_instructions.specs.declared.instr.Instr.{Instr}
 use Rattle.sl_instructions.specs.Codes.{CountingCode, IsCode}
-use Rattle.sl_stages.specs.book.Typing.{shape_number}
+use Rattle.sl_terms.specs.Shapes.{shape_number}
 use Rattle.sl_code.specs.Operands.{four_bytes}
 use Rattle.sl_code.specs.Spelling.{instr_bytes, stage_bytes, opening, stages_part, slots_part, instrs_part, spelling_of}
 use Rattle.sl_instructions.specs.Proper.{IsStage}

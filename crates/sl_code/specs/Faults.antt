@@ -1,9 +1,9 @@
 -- Which fault bytes have that spell no code (docs/code.md, section 1).
 use Rattle.std.specs.Prelude.{◌≡◌, ℕ, zero, suc, ◌-◌, ◌<◌, ◌≤◌, ◌^◌, Bool, ◌||◌, ◌&&◌, List, [], ◌∷◌, ◌++◌, length, flat_map, replicate, All, IsTrue, MatchBool, ◌⊎◌, nat_eq, nat_le, nat_lt}
 use Rattle.sl_ratio.specs.declared.names.TheConstants.{MAX_NAME_BYTES}
-use Rattle.sl_stages.specs.declared.limits.TheConstants.{MAX_STAGES}
-use Rattle.sl_stages.specs.declared.book.Shape.{Shape}
-use Rattle.sl_stages.specs.book.Words.{is_letter, is_digit}
+use Rattle.sl_terms.specs.declared.limits.TheConstants.{MAX_STAGES}
+use Rattle.sl_terms.specs.declared.shape.Shape.{Shape}
+use Rattle.sl_terms.specs.Words.{is_letter, is_digit}
 use Rattle.sl_instructions.specs.declared.code.TheConstants.{MAX_SLOTS, MAX_INSTRS}
 use Rattle.sl_instructions.specs.declared.code.CodeStage.{CodeStage}
 use Rattle.sl_code.specs.declared.fault.Cause.{Cause}
@@ -14,7 +14,7 @@ use Rattle.sl_code.specs.declared.fault.CodeFault.TheVariants as faults
 use Rattle.sl_instructions.specs.declared.instr.Instr.{Instr}
 use Rattle.sl_instructions.specs.Codes.{CountingCode, IsCode}
 use Rattle.sl_instructions.specs.Proper.{IsStage}
-use Rattle.sl_stages.specs.book.Typing.{shape_number}
+use Rattle.sl_terms.specs.Shapes.{shape_number}
 use Rattle.sl_instructions.specs.Rows.{opcode_of, operands_of}
 use Rattle.sl_code.specs.Operands.{tests_of, four_bytes, is_any, is_shape}
 use Rattle.sl_code.specs.Spelling.{instr_bytes, stage_bytes, opening, stages_part, slots_part, spelling_of}

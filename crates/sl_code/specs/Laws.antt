@@ -1,6 +1,6 @@
 -- What the definitions of code files imply.
 use Rattle.std.specs.Prelude.{◌≡◌, ◌≢◌, ℕ, ◌<◌, List, All, Result, Ok, Err, ◌⊎◌}
-use Rattle.sl_stages.specs.declared.limits.TheConstants.{MAX_STAGES}
+use Rattle.sl_terms.specs.declared.limits.TheConstants.{MAX_STAGES}
 use Rattle.sl_instructions.specs.declared.code.TheConstants.{MAX_SLOTS, MAX_INSTRS}
 use Rattle.sl_code.specs.declared.fault.CodeFault.{CodeFault}
 use Rattle.sl_code.specs.declared.fault.CodeFault.TheVariants as faults

@@ -3,8 +3,8 @@ use Rattle.std.specs.Prelude.{ℕ, Bool, true, List, [], ◌∷◌, nat_eq, nat_
 use Rattle.std.specs.List.{list_any}
 use Rattle.std.specs.Int.{w16, w32, w64, to_le_bytes}
 use Rattle.sl_ratio.specs.declared.method.TheConstants.{DIVISORS}
-use Rattle.sl_stages.specs.declared.book.TheConstants.{SHAPES}
-use Rattle.sl_stages.specs.book.Typing.{shape_number}
+use Rattle.sl_terms.specs.declared.shape.TheConstants.{SHAPES}
+use Rattle.sl_terms.specs.Shapes.{shape_number}
 use Rattle.sl_instructions.specs.declared.operand.TheConstants.{ENTRY_KINDS, RANKINGS, SCOPE_KINDS, INPUTS, END_FAULTS, ROUNDINGS}
 use Rattle.sl_instructions.specs.declared.parts.Operand.{Operand}
 use Rattle.sl_instructions.specs.declared.parts.Operand.TheVariants as o

@@ -1,6 +1,6 @@
 -- What reading a file, an instruction or an element gives.
 use Rattle.std.specs.Prelude.{◌≡◌, ℕ, Bool, ◌||◌, List, [], ◌++◌, flat_map, nat_eq, nat_le, ◌&&◌, length, IsTrue, Result, Ok, Err}
-use Rattle.sl_stages.specs.book.Words.{is_word}
+use Rattle.sl_terms.specs.Words.{is_word}
 use Rattle.sl_code.specs.declared.fault.Cause.TheVariants as causes
 use Rattle.sl_code.specs.declared.fault.Stop.{Stop}
 use Rattle.sl_code.specs.declared.fault.CodeFault.{CodeFault}

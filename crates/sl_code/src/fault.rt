@@ -5,26 +5,60 @@ ghost use Rattle.sl_code.specs.declared.fault.Refusal.TheVariants as refusals;
 
 use sl_ratio::NoMemory;
 use std::alloc::AllocFailed;
-use thiserror::Error;
+use std::error::Error;
+use std::fmt;
 
 /// Why bytes are no code file, with the offset in bytes at which it shows.
-#[derive(Clone, Copy, Debug, PartialEq, Eq, Error)]
+#[derive(Clone, Copy, PartialEq, Eq)]
 pub enum CodeFault {
-    #[error("the file does not begin like a code file at {0}")]
+    /// The file does not begin like a code file.
     Magic(usize),
-    #[error("the version at {0} is not 1")]
+    /// The version is not 1.
     Version(usize),
-    #[error("the byte at {0} has no meaning there")]
+    /// The byte has no meaning there.
     Op(usize),
-    #[error("the file ends at {0}, where a byte is needed")]
+    /// The file ends where a byte is needed.
     Short(usize),
-    #[error("at {0} something follows the code")]
+    /// Something follows the code.
     Trailing(usize),
-    #[error("the number at {0} is too great")]
+    /// The number is too great.
     Limit(usize),
-    #[error("out of memory")]
+    /// Memory is wanting.
     NoMemory,
 }
+
+impl CodeFault {
+    // The text before the offset, the offset, and the text behind it. Want of memory has none.
+    fn words(self) -> Option<(&'static str, usize, &'static str)> {
+        match self {
+            CodeFault::Magic(at) => Some(("the file does not begin like a code file at ", at, "")),
+            CodeFault::Version(at) => Some(("the version at ", at, " is not 1")),
+            CodeFault::Op(at) => Some(("the byte at ", at, " has no meaning there")),
+            CodeFault::Short(at) => Some(("the file ends at ", at, ", where a byte is needed")),
+            CodeFault::Trailing(at) => Some(("at ", at, " something follows the code")),
+            CodeFault::Limit(at) => Some(("the number at ", at, " is too great")),
+            CodeFault::NoMemory => None,
+        }
+    }
+}
+
+impl fmt::Display for CodeFault {
+    fn fmt<W: fmt::Write>(&self, f: &mut fmt::Formatter<W>) -> fmt::Result {
+        let Some((before, at, behind)) = self.words() else {
+            return f.write_str("out of memory");
+        };
+        write!(f, "{before}{at}{behind}")
+    }
+}
+
+/// Shows the text of `Display`.
+impl fmt::Debug for CodeFault {
+    fn fmt<W: fmt::Write>(&self, f: &mut fmt::Formatter<W>) -> fmt::Result {
+        fmt::Display::fmt(self, f)
+    }
+}
+
+impl Error for CodeFault {}
 
 /// What is wrong at a byte.
 #[derive(Clone, Copy)]

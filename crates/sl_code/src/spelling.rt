@@ -1,7 +1,7 @@
 //! Writes a code as bytes.
 
 ghost use Rattle.std.specs.Prelude.{◌≡◌, ◌∷◌, ◌++◌, flat_map, map, IfOk, OnOk};
-ghost use Rattle.sl_stages.specs.book.Typing.{shape_number};
+ghost use Rattle.sl_terms.specs.Shapes.{shape_number};
 ghost use Rattle.sl_code.specs.Operands.{bytes_of};
 ghost use Rattle.sl_code.specs.Spelling.{opening, instr_bytes, stage_bytes, stages_part, slots_part, instrs_part, spelling_of};
 

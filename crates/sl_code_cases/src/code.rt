@@ -53,7 +53,7 @@ fn files_are_listed(rt: HostRuntime) -> Result<(), Fail> {
 fn the_smallest_file_read(rt: HostRuntime) -> Result<(), Fail> {
     let code = from_bytes(rt.alloc(), &HALT)?;
     assert_eq!(rt; code.instrs(), [Instr::Halt(0)].as_slice());
-    assert_eq!(rt; code.slots(), [Shape::List].as_slice());
+    assert!(rt; code.slots() == [Shape::List].as_slice());
     assert_eq!(rt; code.stages().len(), 0);
     Ok(())
 }

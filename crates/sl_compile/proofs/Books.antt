@@ -4,13 +4,13 @@ use Rattle.std.proofs.lemmas.List.{length-map}
 use Rattle.sl_stages.specs.declared.book.Cond.{Cond}
 use Rattle.sl_stages.specs.declared.book.Book.{Book}
 use Rattle.sl_stages.specs.declared.book.Stage.{Stage}
-use Rattle.sl_stages.specs.declared.book.Shape.{Shape}
+use Rattle.sl_terms.specs.declared.shape.Shape.{Shape}
 use Rattle.sl_stages.specs.declared.book.ColumnType.{ColumnType}
-use Rattle.sl_stages.specs.declared.limits.TheConstants.{MAX_STAGES}
+use Rattle.sl_terms.specs.declared.limits.TheConstants.{MAX_STAGES}
 use Rattle.sl_stages.specs.book.Trees.{BookTree, stage_of}
 use Rattle.sl_stages.specs.book.Books.{book_of}
 use Rattle.sl_stages.specs.book.Limits.{is_within_limits}
-use Rattle.sl_stages.specs.book.Tests.{first_failing}
+use Rattle.sl_terms.specs.Tests.{first_failing}
 use Rattle.sl_stages.specs.book.Typing.{Column, columns_of, base_tests, is_typed}
 use Rattle.sl_instructions.specs.declared.code.CodeStage.{CodeStage}
 use Rattle.sl_instructions.specs.declared.instr.Instr.{Instr}

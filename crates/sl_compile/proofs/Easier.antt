@@ -8,9 +8,9 @@ use Rattle.std.proofs.lemmas.List.Elements.{All-nil, All-cons, All-append}
 use Rattle.sl_stages.specs.declared.book.Cond.{Cond}
 use Rattle.sl_stages.specs.declared.book.Cond.TheVariants as condition
 use Rattle.sl_stages.specs.declared.check_fault.CheckFault.TheVariants as fault
-use Rattle.sl_stages.specs.book.Tests.{first_failing}
+use Rattle.sl_terms.specs.Tests.{first_failing}
 use Rattle.sl_stages.specs.book.Typing.{condition_tests}
-use Rattle.sl_stages.proofs.Tests.{head_holds}
+use Rattle.sl_terms.proofs.Tests.{head_holds}
 use Rattle.sl_stages.specs.returns.Election.{Election}
 use Rattle.sl_stages.specs.returns.Facts.{meets, is_eligible, valid_votes, all_valid_votes}
 use Rattle.sl_pieces.specs.facts.Laws.{IsShare}

@@ -6,9 +6,10 @@ use Rattle.sl_ratio.specs.declared.method.Method.{Method}
 use Rattle.sl_ratio.specs.declared.method.Method.TheVariants as by
 use Rattle.sl_ratio.specs.declared.limits.TheConstants.{MAX_SEATS}
 use Rattle.sl_stages.specs.declared.book.Majority.{Majority}
-use Rattle.sl_stages.specs.declared.book.Shape.{Shape}
-use Rattle.sl_stages.specs.declared.book.Shape.TheVariants as shape
-use Rattle.sl_stages.specs.declared.limits.TheConstants.{MAX_DEPTH, MAX_STAGES}
+use Rattle.sl_terms.specs.declared.shape.Shape.{Shape}
+use Rattle.sl_terms.specs.declared.shape.Shape.TheVariants as shape
+use Rattle.sl_stages.specs.declared.limits.TheConstants.{MAX_DEPTH}
+use Rattle.sl_terms.specs.declared.limits.TheConstants.{MAX_STAGES}
 use Rattle.sl_stages.specs.book.Typing.{can_split}
 use Rattle.sl_instructions.specs.declared.code.CodeStage.{CodeStage}
 use Rattle.sl_instructions.specs.declared.instr.Instr.{Instr}

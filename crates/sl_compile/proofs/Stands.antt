@@ -10,14 +10,15 @@ use Rattle.sl_stages.specs.declared.book.Base.{Base}
 use Rattle.sl_stages.specs.declared.book.Base.TheVariants as base
 use Rattle.sl_stages.specs.declared.book.ColumnType.{ColumnType}
 use Rattle.sl_stages.specs.declared.book.Pairing.{Pairing}
-use Rattle.sl_stages.specs.declared.book.Shape.{Shape}
-use Rattle.sl_stages.specs.declared.book.Shape.TheVariants as shape
+use Rattle.sl_terms.specs.declared.shape.Shape.{Shape}
+use Rattle.sl_terms.specs.declared.shape.Shape.TheVariants as shape
 use Rattle.sl_stages.specs.declared.limits.TheConstants.{MAX_DEPTH}
-use Rattle.sl_stages.specs.book.Tests.{first_failing}
+use Rattle.sl_terms.specs.Tests.{first_failing}
 use Rattle.sl_stages.specs.book.Trees.{ExprTree, name}
-use Rattle.sl_stages.specs.book.Typing.{Column, is_named, type_or_one, type_of, same_shape, shape_over, base_tests}
-use Rattle.sl_stages.proofs.Shapes.{same_shape_is}
-use Rattle.sl_stages.proofs.Tests.{head_holds}
+use Rattle.sl_stages.specs.book.Typing.{Column, is_named, type_or_one, type_of, shape_over, base_tests}
+use Rattle.sl_terms.specs.Shapes.{same_shape}
+use Rattle.sl_terms.proofs.Shapes.{same_shape_is}
+use Rattle.sl_terms.proofs.Tests.{head_holds}
 use Rattle.sl_instructions.specs.declared.instr.Instr.{Instr}
 use Rattle.sl_instructions.specs.Codes.{CountingCode}
 use Rattle.sl_pieces.specs.columns.Trees.{pair_tree, sum_tree}

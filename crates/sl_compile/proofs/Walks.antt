@@ -9,15 +9,16 @@ use Rattle.std.proofs.lemmas.List.{length-map}
 use Rattle.std.proofs.Math.Seq.{drop-cons}
 use Rattle.std.proofs.lemmas.Bool.{leb-true}
 use Rattle.sl_stages.specs.declared.book.Stage.{Stage}
-use Rattle.sl_stages.specs.declared.book.Shape.TheVariants as shape
+use Rattle.sl_terms.specs.declared.shape.Shape.TheVariants as shape
 use Rattle.sl_stages.specs.declared.book.Unit.TheVariants as unit
 use Rattle.sl_stages.specs.declared.book.ColumnType.{ColumnType}
-use Rattle.sl_stages.specs.declared.limits.TheConstants.{MAX_DEPTH, MAX_STAGES}
+use Rattle.sl_stages.specs.declared.limits.TheConstants.{MAX_DEPTH}
+use Rattle.sl_terms.specs.declared.limits.TheConstants.{MAX_STAGES}
 use Rattle.sl_stages.specs.book.Trees.{StageTree, tree_of, stage_of}
-use Rattle.sl_stages.specs.book.Tests.{first_failing}
+use Rattle.sl_terms.specs.Tests.{first_failing}
 use Rattle.sl_stages.specs.book.Limits.{is_within_stage, is_within_limits, depth_of}
 use Rattle.sl_stages.specs.book.Typing.{Column, column, is_named, type_or_one, type_of, stage_column, columns_of, stage_tests, stages_tests, splits_in}
-use Rattle.sl_stages.proofs.Tests.{pass_parts, head_holds}
+use Rattle.sl_terms.proofs.Tests.{pass_parts, head_holds}
 use Rattle.sl_instructions.specs.declared.instr.Instr.{Instr}
 use Rattle.sl_instructions.specs.Codes.{CountingCode}
 use Rattle.sl_plans.specs.Trees.{Tree}

@@ -1,7 +1,7 @@
 //! The blocks of a rulebook's last clause (docs/compiler.md, section 6).
 
 ghost use Rattle.std.specs.Prelude.{◌≡◌, [], None, IfOk};
-ghost use Rattle.sl_stages.specs.book.Tests.{first_failing};
+ghost use Rattle.sl_terms.specs.Tests.{first_failing};
 ghost use Rattle.sl_stages.specs.book.Typing.{base_tests};
 ghost use Rattle.sl_pieces.specs.closing.Trees.{base_slot, seating_pieces, vacant_pieces, last_pieces, halting};
 ghost use Rattle.sl_blocks.specs.PlanBlocks.{AreBlocks, HasRoom};

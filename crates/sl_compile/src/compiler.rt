@@ -22,8 +22,11 @@ use sl_blocks::Easiest;
 use sl_instructions::{Code, Instr};
 use sl_ratio::NoMemory;
 use sl_stages::{Book, CheckedBook, ColumnType, MAX_STAGES, Shape, Stage};
-use sl_verify::{Verified, verify};
+use sl_verify::Verified;
 use std::alloc::Global;
+
+/// For so many instructions there is room from the first on: most books have fewer, and memory that nothing touches costs nothing.
+const FIRST_ROOM: usize = 2048;
 
 /// Appends the blocks of a book and its last instruction, and says what the column of each stage has.
 fn lay_book(
@@ -57,14 +60,15 @@ fn code_of(alloc: Global, book: &Book) -> Result<Code, NoMemory>
 {
     let few = easiest(&book.eligible);
     let mut slots = low_slots(alloc)?;
-    let mut instrs = Vec::new(alloc);
+    let mut instrs = Vec::with_capacity(alloc, FIRST_ROOM)?;
     let types = lay_book(&mut instrs, &slots, &few, book)?;
     add_columns(&mut slots, &types[..book.stages.len()])?;
     let stages = code_stages(alloc, &book.stages)?;
     Ok(Code::new(instrs, stages, slots))
 }
 
-/// The code of a book, whose runs end with what the book means (docs/compiler.md, section 8).
+/// The code of a book, whose runs end with what the book means (docs/compiler.md, section 8). That the verifier accepts it is proved, so
+/// it is not asked.
 ///
 /// # Errors
 /// No memory was found.
@@ -72,8 +76,5 @@ pub fn compile(alloc: Global, book: &CheckedBook) -> Result<Verified, NoMemory>
     ensures { IfOk result (IsCompiled (book_of book.now.book)) }
 {
     let code = code_of(alloc, &book.book)?;
-    match verify(code) {
-        Ok(verified) => Ok(verified),
-        Err(_) => unreachable!(),
-    }
+    Ok(Verified::known(code))
 }

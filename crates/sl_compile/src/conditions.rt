@@ -1,7 +1,7 @@
 //! Few conditions that say what all of a rulebook's say (docs/compiler.md, section 7).
 
 ghost use Rattle.std.specs.Prelude.{◌≡◌, ◌||◌, ℕ, None};
-ghost use Rattle.sl_stages.specs.book.Tests.{first_failing};
+ghost use Rattle.sl_terms.specs.Tests.{first_failing};
 ghost use Rattle.sl_stages.specs.book.Typing.{condition_tests};
 ghost use Rattle.sl_stages.specs.returns.Election.{Election};
 ghost use Rattle.sl_stages.specs.returns.Facts.{meets, is_eligible};

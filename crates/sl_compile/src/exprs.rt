@@ -1,7 +1,7 @@
 //! The blocks of expressions (docs/compiler.md, section 4).
 
 ghost use Rattle.std.specs.Prelude.{◌≡◌, ◌+◌, ◌<◌, ◌≤◌, ◌++◌, List, IfOk};
-ghost use Rattle.sl_stages.specs.declared.limits.TheConstants.{MAX_STAGES};
+ghost use Rattle.sl_terms.specs.declared.limits.TheConstants.{MAX_STAGES};
 ghost use Rattle.sl_stages.specs.book.Typing.{Column, type_of};
 ghost use Rattle.sl_stages.specs.book.Trees.{tree_of};
 ghost use Rattle.sl_pieces.specs.exprs.Pieces.{pieces, slot_of};

@@ -2,7 +2,7 @@
 //! column in the passing one of its shape, and says what the column has.
 
 ghost use Rattle.std.specs.Prelude.{◌≡◌, ◌+◌, ◌≤◌, [], ◌∷◌, true, IfOk, IsSome};
-ghost use Rattle.sl_stages.specs.declared.book.Shape.TheVariants as shape;
+ghost use Rattle.sl_terms.specs.declared.shape.Shape.TheVariants as shape;
 ghost use Rattle.sl_stages.specs.declared.book.Unit.TheVariants as unit;
 ghost use Rattle.sl_stages.specs.book.Typing.{can_split, can_sum, column, shape_over};
 ghost use Rattle.sl_blocks.specs.inner.Jobs.{slots_of};

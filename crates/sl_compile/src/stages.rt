@@ -3,7 +3,7 @@
 ghost use Rattle.std.specs.Prelude.{◌≡◌, ◌+◌, [], ◌∷◌, ◌++◌, length, map, None, IfOk, IsTrue};
 ghost use Rattle.sl_stages.specs.book.Trees.{tree_of, stage_of};
 ghost use Rattle.sl_stages.specs.book.Limits.{is_within_limits};
-ghost use Rattle.sl_stages.specs.book.Tests.{first_failing};
+ghost use Rattle.sl_terms.specs.Tests.{first_failing};
 ghost use Rattle.sl_stages.specs.book.Typing.{type_of, stage_column, stages_tests, columns_of};
 ghost use Rattle.sl_pieces.specs.exprs.Stages.{stage_pieces, stages_pieces};
 ghost use Rattle.sl_books.specs.Codes.{HasSoFar};

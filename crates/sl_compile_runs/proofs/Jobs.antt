@@ -2,8 +2,8 @@
 use Rattle.std.proofs.Common.{◌≡◌, List, None, Some, slice_get, sym, ap, ◌∙◌, arith}
 use Rattle.std.proofs.lemmas.Option.{none-some}
 use Rattle.sl_ratio.specs.declared.method.Method.{Method}
-use Rattle.sl_stages.specs.declared.book.Shape.{Shape}
-use Rattle.sl_stages.specs.declared.book.Shape.TheVariants as shape
+use Rattle.sl_terms.specs.declared.shape.Shape.{Shape}
+use Rattle.sl_terms.specs.declared.shape.Shape.TheVariants as shape
 use Rattle.sl_pieces.specs.declared.form.Form.TheVariants.{AllLists}
 use Rattle.sl_blocks.specs.declared.job.Job.{Job}
 use Rattle.sl_blocks.specs.inner.Jobs.{IsSplitJob}

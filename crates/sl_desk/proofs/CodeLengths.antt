@@ -5,7 +5,7 @@ use Rattle.std.proofs.lemmas.List.{length-map}
 use Rattle.std.proofs.lemmas.List.Elements.{All-tail}
 use Rattle.std.proofs.lemmas.Bool.{and_parts, false≢true}
 use Rattle.sl_ratio.specs.declared.names.TheConstants.{MAX_NAME_BYTES}
-use Rattle.sl_stages.specs.book.Words.{is_word, is_letter, is_digit}
+use Rattle.sl_terms.specs.Words.{is_word, is_letter, is_digit}
 use Rattle.sl_instructions.specs.declared.code.CodeStage.{CodeStage}
 use Rattle.sl_instructions.specs.declared.instr.Instr.{Instr}
 use Rattle.sl_instructions.specs.declared.instr.Instr.TheVariants as instr
@@ -13,7 +13,7 @@ use Rattle.sl_instructions.specs.declared.parts.Operand.{Operand}
 use Rattle.sl_instructions.specs.declared.parts.Operand.TheVariants as o
 use Rattle.sl_instructions.specs.Codes.{CountingCode}
 use Rattle.sl_instructions.specs.Proper.{IsStage}
-use Rattle.sl_stages.specs.book.Typing.{shape_number}
+use Rattle.sl_terms.specs.Shapes.{shape_number}
 use Rattle.sl_code.specs.Operands.{bytes_of, two_bytes, four_bytes, eight_bytes}
 use Rattle.sl_instructions.specs.Proper.{IsProper}
 use Rattle.sl_instructions.specs.Rows.{operands_of}

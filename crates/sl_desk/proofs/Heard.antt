@@ -68,3 +68,8 @@ module _ {L : Type 0} (hears : L → L → List (List ℕ) → Election → Lega
   unheard None known ends refused same = tt
   unheard (Some input) None ends refused same = tt
   unheard (Some input) (Some bytes) ends refused same = rw refused same
+
+  pub unheard_answer : (book : Option BookInput) (known : Option (List ℕ)) (r : Result Answer DeskError) → IfOk r (λ a. a.status ≡ status.Refused) → new ≡ old
+      → IfOk r (λ a. ForKnown book known (λ input bytes. HearsOf hears old new input bytes a.status))
+  unheard_answer book known (Ok a) refused same = unheard book known a.status refused same
+  unheard_answer book known (Err x) refused same = tt

@@ -1,6 +1,5 @@
 -- The book, or the code file, is judged before the returns are read.
 use Rattle.std.proofs.Common.{◌≡◌, ◌≢◌, ℕ, ◌+◌, ◌-◌, ◌^◌, min, List, [], Option, Some, None, IfSome, IfOk, IfErr, Result, Ok, Err, refl, ap, subst, arith}
-use Rattle.std.specs.Result.{IsErrAnd}
 use Rattle.sl_instructions.specs.Codes.{CountingCode}
 use Rattle.sl_stages.specs.book.Trees.{BookTree}
 use Rattle.sl_stages.specs.returns.Election.{Election}
@@ -91,12 +90,12 @@ for_any : {A : Type 0} (Z : A → Type 0) (known : Option A) → ((a : A) → Z 
 for_any Z None h = tt
 for_any Z (Some a) h = h a
 
-not_returns : {X : Type 0} (r : Result X DeskError) → IsErrAnd r (λ e. e ≡ NoMemory) → r ≡ Err (Read Returns) → ⊥
+not_returns : {X : Type 0} (r : Result X DeskError) → IfErr r (λ e. e ≡ NoMemory) → r ≡ Err (Read Returns) → ⊥
 not_returns (Ok x) full same = absurd cc
 not_returns (Err e) full same = absurd cc
 
 pub reads_none : {R A X : Type 0} (remaining : R → Option (List ℕ)) (old : R) (first : Input) (known : Option A) (IsBad : A → Type 0) (r : Result X DeskError)
-    → IsErrAnd r (λ e. e ≡ NoMemory) → ReadsBehind remaining first known IsBad old old r
+    → IfErr r (λ e. e ≡ NoMemory) → ReadsBehind remaining first known IsBad old old r
 reads_none remaining old first known IsBad r full = record {
   limited = takes_none (MAX_RETURNS_BYTES + 1) (remaining old);
   untouched = for_any _ known (λ a bad. refl);
@@ -149,6 +148,13 @@ module _ (name : List ℕ) (tree : BookTree) where
   refuses_name book returns ends output good same refused line =
       stage_output book returns None ends output good same (for_any (λ bytes. IsNumbered name tree None bytes ends output) returns (λ bytes. (refused, line)))
 
+  pub refuses_unknown : (book : Option BookInput) (returns : Option (List ℕ)) (r : Result Answer DeskError)
+      → IfSome book (λ input. IsBookVerdict input (Good tree)) → None ≡ stage_number name tree
+      → IfOk r (λ a. a.status ≡ status.Refused) → IfOk r (λ a. a.text.items ≡ unknown_stage name)
+      → IfOk r (λ a. ForKnown book returns (λ input bytes. IsStageOutput name input bytes a.status a.text.items))
+  refuses_unknown book returns (Ok a) good same refused line = refuses_name book returns a.status a.text.items good same refused line
+  refuses_unknown book returns (Err x) good same refused line = tt
+
   good_stage : (known : Option BookInput) (n : ℕ) → IfSome known (λ i. IsBookVerdict i (Good tree)) → stage_number name tree ≡ Some n
       → IfSome known (λ i. IsNoBookWith name i → ⊥)
   good_stage None n good is = tt
@@ -159,6 +165,14 @@ module _ (name : List ℕ) (tree : BookTree) where
       → counts 0 count' 0 0 ≡ counts_after (counts 0 count 0 0) r → ReadsBehindStage name remaining known old new r
   reads_after_stage remaining known n old new count count' r good is limited counted =
       reads_after remaining old new count count' r Book known (IsNoBookWith name) (λ e. cc) (good_stage known n good is) limited counted
+
+-- the line that refuses a book, whatever the name and the returns are
+pub refusal_shows : (name : List ℕ) (book : Option BookInput) (returns : Option (List ℕ)) (why : BookRefusal) (ends : Status) (output : List ℕ)
+    → IfSome book (λ input. IsBookVerdict input (Refused why)) → ends ≡ status.Refused → output ≡ book_line why
+    → ForKnown book returns (λ input bytes. IsStageOutput name input bytes ends output)
+refusal_shows name None returns why ends output bad refused same = tt
+refusal_shows name (Some input) None why ends output bad refused same = tt
+refusal_shows name (Some input) (Some bytes) why ends output bad refused same = (Refused why, bad, (refused, same))
 
 -- ---- code files
 

@@ -10,7 +10,7 @@ use Rattle.sl_stages.specs.declared.book.Majority.{Majority}
 use Rattle.sl_stages.specs.declared.book.Majority.TheVariants as majority
 use Rattle.sl_stages.specs.declared.book.Seating.{Seating}
 use Rattle.sl_stages.specs.declared.book.Seating.TheVariants as seating
-use Rattle.sl_stages.specs.declared.book.Shape.TheVariants as shape
+use Rattle.sl_terms.specs.declared.shape.Shape.TheVariants as shape
 use Rattle.sl_stages.specs.declared.fault.LegalFault.{LegalFault}
 use Rattle.sl_stages.specs.declared.fault.Scope.TheVariants as scope
 use Rattle.sl_stages.specs.declared.fault.FaultKind.TheVariants as fault

@@ -4,7 +4,7 @@ use sl_no_memory::NoMemory;
 use std::alloc::Global;
 
 /// The language in which a person is spoken to.
-#[derive(Clone, Copy, Debug, PartialEq, Eq)]
+#[derive(Clone, Copy, PartialEq, Eq)]
 pub enum Language {
     English,
     German,

@@ -6,13 +6,14 @@ use Rattle.std.proofs.lemmas.Option.{same_Some}
 use Rattle.sl_stages.specs.declared.book.Base.{Base}
 use Rattle.sl_stages.specs.declared.book.Base.TheVariants as base
 use Rattle.sl_stages.specs.declared.book.LastClause.{LastClause}
-use Rattle.sl_stages.specs.declared.book.Shape.TheVariants as shape
+use Rattle.sl_terms.specs.declared.shape.Shape.TheVariants as shape
 use Rattle.sl_stages.specs.declared.book.Unit.TheVariants as unit
 use Rattle.sl_stages.specs.declared.table.Outcome.{Outcome}
 use Rattle.sl_stages.specs.declared.table.Outcome.TheVariants as outcome
 use Rattle.sl_stages.specs.book.Trees.{name, StageTree, BookTree}
-use Rattle.sl_stages.specs.book.Tests.{first_failing}
-use Rattle.sl_stages.specs.book.Typing.{Column as TypedColumn, type_of, expr_tests, base_tests, columns_of, tests_of, is_typed, same_shape, same_unit}
+use Rattle.sl_terms.specs.Tests.{first_failing}
+use Rattle.sl_stages.specs.book.Typing.{Column as TypedColumn, type_of, expr_tests, base_tests, columns_of, tests_of, is_typed, same_unit}
+use Rattle.sl_terms.specs.Shapes.{same_shape}
 use Rattle.sl_stages.specs.returns.Election.{Election, IsElection}
 use Rattle.sl_stages.specs.returns.Facts.{lists_of}
 use Rattle.sl_stages.specs.meaning.Columns.{NamedColumn, IsLeaf}
@@ -23,8 +24,8 @@ use Rattle.sl_stages.specs.meaning.Seating.{base_of}
 use Rattle.sl_stages.specs.meaning.Tables.{SeatTable}
 use Rattle.sl_stages.specs.meaning.Means.{Known, Through, Stopped, StagesResult, nothing_known, with_stage, GoesOn, StagesMean, IsSeated, EndsAs, SameOutcome, Means}
 use Rattle.sl_stages.specs.laws.ColumnLaws.{size_of, FitsType}
-use Rattle.sl_stages.proofs.Shapes.{same_shape_is}
-use Rattle.sl_stages.proofs.Tests.{no_fault, head_holds}
+use Rattle.sl_terms.proofs.Shapes.{same_shape_is}
+use Rattle.sl_terms.proofs.Tests.{no_fault, head_holds}
 use Rattle.sl_stages.proofs.meaning.ExactlyOne.{same_ones}
 use Rattle.sl_stages.proofs.meaning.OneOutcome.{typed_parts, one_stages_result}
 use Rattle.sl_stages.proofs.meaning.TypedMeaning.{typed_expressions, typed_stages}

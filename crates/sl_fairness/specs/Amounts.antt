@@ -5,7 +5,7 @@ use Rattle.sl_ratio.specs.declared.method.Method.{Method}
 use Rattle.sl_stages.specs.declared.book.Majority.{Majority}
 use Rattle.sl_stages.specs.declared.book.Majority.TheVariants as majority
 use Rattle.sl_stages.specs.declared.book.Number.{Number}
-use Rattle.sl_stages.specs.declared.book.Shape.TheVariants as shape
+use Rattle.sl_terms.specs.declared.shape.Shape.TheVariants as shape
 use Rattle.sl_stages.specs.declared.fault.Item.{Item}
 use Rattle.sl_stages.specs.book.Trees.{ExprTree, split, grow, MinimaTree, BookTree}
 use Rattle.sl_stages.specs.book.Typing.{can_split}

@@ -1,7 +1,7 @@
 -- What every code keeps by its types (docs/code.md, section 1).
 use Rattle.std.specs.Prelude.{◌<◌, ◌^◌, All, IsTrue}
 use Rattle.std.specs.List.{AllByRecursion}
-use Rattle.sl_stages.specs.book.Words.{is_word}
+use Rattle.sl_terms.specs.Words.{is_word}
 use Rattle.sl_instructions.specs.declared.code.CodeStage.{CodeStage}
 use Rattle.sl_instructions.specs.declared.instr.Instr.{Instr}
 use Rattle.sl_instructions.specs.declared.parts.Operand.{Operand}

@@ -5,7 +5,7 @@ ghost use Rattle.sl_instructions.specs.Codes.{CountingCode};
 ghost use Rattle.sl_instructions.specs.Proper.{IsProper};
 
 use crate::instr::Instr;
-use sl_stages::{Shape, Word};
+use sl_terms::{Shape, Word};
 use std::marker::Model;
 
 /// Slots of a code.
@@ -15,7 +15,7 @@ pub const MAX_SLOTS: usize = 200;
 pub const MAX_INSTRS: usize = 200_000;
 
 /// A stage: its name, and the slot of its column.
-#[derive(Debug, Drop)]
+#[derive(Drop)]
 pub struct CodeStage {
     pub name: Word,
     pub slot: u8,
@@ -23,7 +23,7 @@ pub struct CodeStage {
 
 /// A code that can be spelled: within the limits of its format, with names that are words and operands that fit their bytes
 /// (docs/code.md, section 1).
-#[derive(Debug, Drop)]
+#[derive(Drop)]
 pub struct Code {
     instrs: Vec<Instr>,
     stages: Vec<CodeStage>,

@@ -82,7 +82,7 @@ impl fmt::Debug for Operand {
 }
 
 /// The operands of an instruction, in order.
-#[derive(Debug, Drop)]
+#[derive(Drop)]
 pub struct Operands {
     list: [Operand; 4],
     len: usize,

@@ -4,7 +4,7 @@ ghost use Rattle.std.specs.Prelude.{◌≡◌};
 ghost use Rattle.sl_lex.specs.Keywords.{spelling, keywords, keyword_of};
 
 /// A keyword. Every other word is a name, `vacate` too.
-#[derive(Clone, Copy, Debug, PartialEq, Eq)]
+#[derive(Clone, Copy, PartialEq, Eq)]
 pub enum Keyword {
     Rulebook,
     Law,

@@ -3,7 +3,7 @@
 use crate::keyword::Keyword;
 
 /// A mark of one byte: `;` `=` `,` `(` `)`.
-#[derive(Clone, Copy, Debug, PartialEq, Eq)]
+#[derive(Clone, Copy, PartialEq, Eq)]
 pub enum Mark {
     Semicolon,
     Equals,
@@ -13,7 +13,7 @@ pub enum Mark {
 }
 
 /// What a token is. A name is a word that is no keyword; a text stands between two quotes.
-#[derive(Clone, Copy, Debug, PartialEq, Eq)]
+#[derive(Clone, Copy, PartialEq, Eq)]
 pub enum Kind {
     Keyword(Keyword),
     Name,
@@ -23,7 +23,7 @@ pub enum Kind {
 }
 
 /// A token, and where it stands: the offset of its first byte, and that after its last one.
-#[derive(Clone, Copy, Debug, PartialEq, Eq)]
+#[derive(Clone, Copy)]
 pub struct Token {
     pub kind: Kind,
     pub start: usize,

@@ -1,11 +1,13 @@
 -- The priority table, as the entries of a `Prio` make it.
-use Rattle.std.proofs.Common.{◌≡◌, ℕ, ◌<◌, List, [], ◌∷◌, slice_get, Option, Some, None, is_some, Result, Ok, Err, OnOk, OnErr, All, IsPermutation, IsSome, refl, sym, ap, subst, ◌∙◌}
+use Rattle.std.proofs.Common.{◌≡◌, ℕ, ◌<◌, Bool, List, [], ◌∷◌, slice_get, Option, Some, None, is_some, Result, Ok, Err, OnOk, OnErr, All, IsPermutation, IsSome, refl, sym, ap, subst, ◌∙◌}
+use Rattle.std.specs.Prelude.{if◌then◌else◌}
 use Rattle.std.specs.Option.{option_map, option_and_then, ForSome}
 use Rattle.std.proofs.lemmas.Bool.{true≢false}
 use Rattle.std.proofs.lemmas.Option.{same_Some}
 use Rattle.std.proofs.lemmas.List.Elements.{All-cons, All-head, All-tail}
 use Rattle.std.proofs.lemmas.List.Sorted.{All-permutation, IsPermutation-sym}
 use Rattle.sl_ratio.specs.declared.entry.Entry.{Entry}
+use Rattle.sl_ratio.specs.Quotient.{FitsRatio}
 use Rattle.sl_stages.specs.returns.Election.{Election}
 use Rattle.sl_prio.specs.Ranking.{ranked}
 use Rattle.sl_prio.specs.Prio.{top, peers, is_covered}
@@ -16,15 +18,17 @@ use Rattle.sl_prio.proofs.Greatest.{greatest-None}
 use Rattle.sl_prio.proofs.Orders.{lot_order}
 use Rattle.sl_prio.proofs.Rankings.{ranked-permutation}
 use Rattle.sl_prio.proofs.LawProofs.{order_is_free, first_peers}
-use Rattle.sl_prio.proofs.RankedEntries.{ranked_with_one_more, ranked_without_one}
+use Rattle.sl_prio.proofs.RankedEntries.{ranked_alike, ranked_with_one_more, ranked_without_one}
+use Rattle.sl_prio.specs.inner.Marks.{IsPassed}
 use Rattle.sl_machine.specs.declared.priority.TableKind.{TableKind}
 use Rattle.sl_machine.specs.declared.priority.PriorityTable.TheInside.{Inside}
 use Rattle.sl_machine.specs.declared.priority.Taken.{Taken}
 use Rattle.sl_semantics.specs.State.{State, PriorityTable}
 use Rattle.sl_semantics.specs.Places.{at_entry}
-use Rattle.sl_semantics.specs.Effects.{Goes, given, takes, mark_of, with_entry}
+use Rattle.sl_semantics.specs.Effects.{Goes, Jumps, given, takes, mark_of, with_entry}
 use Rattle.sl_semantics.specs.Safe.{entries_in}
-use Rattle.sl_machine.specs.inner.Tables.{table_in}
+use Rattle.sl_machine.specs.inner.Lots.{LotTable}
+use Rattle.sl_machine.specs.inner.Tables.{FitsMark, HasMarks, HasPassed, table_in}
 
 -- ---- a table that is on
 
@@ -38,12 +42,30 @@ contents_of (Some k) xs x h = ap (λ t. t.contents) (sym (same_Some (table_with 
 pub alike : (xs : List Entry) → AnswersAlike xs (ranked xs)
 alike xs = order_is_free xs (ranked xs) (ranked-permutation xs)
 
-module _ (t : Inside) (x : PriorityTable) (h : table_in t ≡ Some x) where
-  pub seen_peers : peers t.prio ≡ peers x.contents
-  seen_peers = (alike t.prio).same_peers ∙ ap peers (sym (contents_of t.kind t.prio x h))
+pub seen_peers : (kind : Option TableKind) (xs : List Entry) (x : PriorityTable) → option_map (λ k. table_with k xs) kind ≡ Some x → peers xs ≡ peers x.contents
+seen_peers kind xs x h = (alike xs).same_peers ∙ ap peers (sym (contents_of kind xs x h))
 
-  pub seen_covered : (lot : List ℕ) → is_covered lot t.prio ≡ is_covered lot x.contents
-  seen_covered lot = (alike t.prio).same_covers lot ∙ ap (is_covered lot) (sym (contents_of t.kind t.prio x h))
+-- what the lot of a stage does where it names every peer, and where it does not
+pub covered_is : (kind : Option TableKind) (k : TableKind) (xs : List Entry) (now : Option PriorityTable) (lot : List ℕ) (s : State) (result : Bool)
+    → kind ≡ Some k → option_map (λ k. table_with k xs) kind ≡ now → result ≡ is_covered lot xs
+    → given now (λ t. if is_covered lot t.contents then Goes s else Jumps s) ≡ (if result then Goes s else Jumps s)
+covered_is kind k xs now lot s result is view told =
+    rw (← view, is) (ap (λ (b : Bool). if b then Goes s else Jumps s) (sym ((alike xs).same_covers lot) ∙ sym told))
+
+-- the same entries in another order make the same table, and keep what it keeps
+module _ (t : Inside) (ys : List Entry) (h : IsPermutation t.prio ys) where
+  pub same_table : table_in (record t { prio = ys }) ≡ table_in t
+  same_table = ap (λ (zs : List Entry). option_map (λ (k : TableKind). record { entries = k.entries; ranking = k.ranking; contents = zs }) t.kind) (sym (ranked_alike t.prio ys h))
+
+  pub same_on : {now : LotTable} → record { on = table_in t; lots = t.lots } ≡ now → record { on = table_in (record t { prio = ys }); lots = t.lots } ≡ now
+  same_on view = ap (λ (on : Option PriorityTable). record { on = on; lots = t.lots }) same_table ∙ view
+
+  pub same_kept : HasMarks t × All (λ x. FitsRatio x.ratio) t.prio × HasPassed t → HasMarks (record t { prio = ys }) × All (λ x. FitsRatio x.ratio) ys × HasPassed (record t { prio = ys })
+  same_kept kept = (
+    (λ kind is. All-permutation (λ x. FitsMark kind.ranking x.ratio) t.prio ys h (kept.0 kind is)),
+    All-permutation (λ x. FitsRatio x.ratio) t.prio ys h kept.1,
+    (λ kind is lot at. subst (λ (ps : List Entry). IsPassed lot t.draws.passed ps) (order_is_free t.prio ys h).same_peers (kept.2 kind is lot at)),
+  )
 
 pub top_there : (kind : Option TableKind) (xs : List Entry) → IsSome (option_and_then (λ x. top x.contents) (option_map (λ k. table_with k xs) kind)) → IsSome (top xs)
 top_there None xs h = cc

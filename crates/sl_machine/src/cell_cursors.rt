@@ -16,7 +16,7 @@ const LAND: usize = Shape::Land as usize;
 const LIST: usize = Shape::List as usize;
 
 /// The cursors of the party and the Land, each at a number if it is set. They keep the cell at them for each shape of a column: whoever reads a cell finds it by one look, without a test or a product.
-#[derive(Debug, Drop)]
+#[derive(Drop)]
 pub(crate) struct CellCursors {
     is_party_set: bool,
     is_land_set: bool,

@@ -5,7 +5,7 @@ ghost use Rattle.std.specs.Prelude.{◌≡◌, Some, None, IsSome};
 use std::marker::Model;
 
 /// A cursor, which stands at a number if it is set. Whoever knows that it is set reads the number without a test.
-#[derive(Debug, Drop)]
+#[derive(Drop)]
 pub(crate) struct Cursor {
     is_set: bool,
     place: usize,

@@ -1,25 +1,26 @@
 //! Draws from the lot of a stage, one after the other, among the same peers.
 
-ghost use Rattle.std.specs.Prelude.{◌≡◌, ◌≤◌, ◌∷◌, ℕ, All, List, false, if◌then◌else◌, nat_eq};
+ghost use Rattle.std.specs.Prelude.{◌≡◌, ◌≤◌, ◌∷◌, ℕ, All, IsPermutation, List, false, if◌then◌else◌, nat_eq};
 ghost use Rattle.std.specs.Option.{option_map_or};
 ghost use Rattle.std.specs.Ordering.{is_lt};
 ghost use Rattle.sl_ratio.specs.Quotient.{compare, FitsRatio};
 ghost use Rattle.sl_prio.specs.Prio.{top, peers};
 ghost use Rattle.sl_prio.specs.inner.Marks.{IsPassed};
 
-use sl_prio::Prio;
+use sl_prio::AwardTable;
 use sl_ratio::Entry;
 
 /// The stage whose lot drew last, and a place of that lot before which it names none of the peers. The next draw goes on from there.
-#[derive(Clone, Copy, Debug)]
+#[derive(Clone, Copy)]
 pub(crate) struct Draws {
     pub(crate) stage: usize,
     pub(crate) passed: usize,
 }
 
 // Whether an entry has a smaller quotient than the top.
-fn is_behind_top(prio: &Prio, entry: &Entry) -> bool
-    ensures { result ≡ option_map_or (λ first. is_lt (compare entry.now.ratio first.ratio)) (top prio.now) false }
+fn is_behind_top(prio: &mut AwardTable, entry: &Entry) -> bool
+    ensures behind { result ≡ option_map_or (λ first. is_lt (compare entry.now.ratio first.ratio)) (top prio.old) false }
+    ensures same { IsPermutation prio.old prio.new }
 {
     match prio.top() {
         Some(top) => entry.ratio.cmp(&top.ratio).is_lt(),
@@ -42,11 +43,12 @@ impl Draws {
     }
 
     /// Lets an entry in, beside those of the table: the draws go on where it is behind the peers, and else begin anew.
-    pub(crate) fn enter(&mut self, prio: &Prio, entry: &Entry)
-        requires { All (λ x. FitsRatio x.ratio) (entry.now ∷ prio.now) }
+    pub(crate) fn enter(&mut self, prio: &mut AwardTable, entry: &Entry)
+        requires { All (λ x. FitsRatio x.ratio) (entry.now ∷ prio.old) }
         ensures stage { self.new.stage ≡ self.old.stage }
         ensures no_farther { self.new.passed ≤ self.old.passed }
-        ensures passed { (lot : List ℕ) → IsPassed lot self.old.passed (peers prio.now) → IsPassed lot self.new.passed (peers (entry.now ∷ prio.now)) }
+        ensures passed { (lot : List ℕ) → IsPassed lot self.old.passed (peers prio.old) → IsPassed lot self.new.passed (peers (entry.now ∷ prio.old)) }
+        ensures same { IsPermutation prio.old prio.new }
     {
         if self.passed == 0 || is_behind_top(prio, entry) {
             return;

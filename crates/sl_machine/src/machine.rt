@@ -2,7 +2,8 @@
 
 ghost use Rattle.std.specs.Prelude.{◌≡◌, ◌<◌, ◌≤◌, ◌⊎◌, Some, length, slice_get, IfOk, IfSome, IfNone, ◌+◌, ◌*◌};
 ghost use Rattle.sl_ratio.specs.declared.limits.TheConstants.{MAX_SEATS as most_seats, MAX_LANDS, MAX_PARTIES};
-ghost use Rattle.sl_stages.specs.declared.limits.TheConstants.{MAX_STAGES, MAX_WINS};
+ghost use Rattle.sl_stages.specs.declared.limits.TheConstants.{MAX_WINS};
+ghost use Rattle.sl_terms.specs.declared.limits.TheConstants.{MAX_STAGES};
 ghost use Rattle.sl_semantics.specs.Agrees.{IsSafe};
 ghost use Rattle.sl_machine.specs.Answers.{answer_of};
 ghost use Rattle.sl_machine.specs.Fits.{Fits};

@@ -1,15 +1,15 @@
 //! The priority table, which is on or off, and the lots that draw from it.
 
-ghost use Rattle.std.specs.Prelude.{◌≡◌, ◌<◌, All, Some, None, [], List, IsSome, IfOk, OnOk, length, map, drop, slice_get, option_map};
+ghost use Rattle.std.specs.Prelude.{◌≡◌, ◌<◌, All, Some, None, [], List, IsSome, IfOk, OnOk, length, map, drop, slice_get, option_map, if◌then◌else◌};
 ghost use Rattle.std.specs.Option.{ForSome, option_and_then};
 ghost use Rattle.sl_instructions.specs.declared.operand.Ranking.TheVariants as ranking;
 ghost use Rattle.sl_prio.specs.Prio.{top, peers, is_covered};
 ghost use Rattle.sl_prio.specs.Lot.{drawn};
-ghost use Rattle.sl_machine.specs.inner.Lots.{lot_at, lot_in};
+ghost use Rattle.sl_machine.specs.inner.Lots.{lot_in};
 ghost use Rattle.sl_stages.specs.returns.Election.{Election};
 ghost use Rattle.sl_semantics.specs.State.{State};
 ghost use Rattle.sl_semantics.specs.Places.{at_entry, item_of};
-ghost use Rattle.sl_semantics.specs.Effects.{Goes, given, takes, mark_of, with_entry};
+ghost use Rattle.sl_semantics.specs.Effects.{Goes, Jumps, given, takes, mark_of, with_entry};
 ghost use Rattle.sl_semantics.specs.Safe.{entries_in};
 ghost use Rattle.sl_machine.specs.inner.Tables.{FitsMark};
 
@@ -18,21 +18,21 @@ use crate::draws::Draws;
 use crate::lots::Lots;
 use crate::store::append;
 use sl_instructions::{Entries, Ranking};
-use sl_prio::Prio;
+use sl_prio::AwardTable;
 use sl_ratio::{Entry, NoMemory, Ratio};
 use sl_stages::{Item, Mark, Returns};
 use std::alloc::Global;
 use std::marker::Model;
 
 /// What the table's entries are, and by what they are ranked.
-#[derive(Clone, Copy, Debug)]
+#[derive(Clone, Copy)]
 pub(crate) struct TableKind {
     pub entries: Entries,
     pub ranking: Ranking,
 }
 
 /// An entry that was taken: its number among such entries, and its mark.
-#[derive(Clone, Copy, Debug)]
+#[derive(Clone, Copy)]
 pub(crate) struct Taken {
     pub entries: Entries,
     pub index: u32,
@@ -43,7 +43,7 @@ pub(crate) struct Taken {
 #[derive(Drop)]
 pub(crate) struct PriorityTable {
     kind: Option<TableKind>,
-    prio: Prio,
+    prio: AwardTable,
     lots: Lots,
     draws: Draws,
 }
@@ -106,7 +106,7 @@ impl PriorityTable {
     {
         PriorityTable {
             kind: None,
-            prio: Prio::new(alloc),
+            prio: AwardTable::new(alloc),
             lots,
             draws: Draws::NONE,
         }
@@ -144,31 +144,28 @@ impl PriorityTable {
     {
         // no ratio has numerator 0, so the peers stand first in a ranking
         prove!(entry.ratio.num() > 0);
-        self.draws.enter(&self.prio, &entry);
+        self.draws.enter(&mut self.prio, &entry);
         self.prio.put(entry)
     }
 
     /// The number of peers.
-    pub(crate) fn peers(&self) -> usize
-        ensures { ForSome self.now.on (λ t. result ≡ length (peers t.contents)) }
+    pub(crate) fn peers(&mut self) -> usize
+        ensures number { ForSome self.old.on (λ t. result ≡ length (peers t.contents)) }
+        ensures same { self.new ≡ self.old }
     {
         self.prio.peers()
     }
 
-    /// The lot of a stage.
-    pub(crate) fn lot(&self, stage: usize) -> &[u32]
-        requires stage { stage < length self.now.lots }
-        requires on { IsSome self.now.on }
-        ensures { lot_at stage self.now ≡ Some result.now }
+    /// Whether the lot of a stage names every peer.
+    pub(crate) fn is_covered(&mut self, stage: usize) -> bool
+        requires stage { stage < length self.old.lots }
+        requires on { IsSome self.old.on }
+        ensures covered { (s : State) → given self.old.on (λ t. given (option_map (lot_in t.entries) (slice_get self.old.lots stage)) (λ lot. if is_covered lot t.contents then Goes s else Jumps s))
+            ≡ (if result then Goes s else Jumps s) }
+        ensures same { self.new ≡ self.old }
     {
         let kind = self.kind.unwrap();
-        self.lots.lot(stage, kind.entries)
-    }
-
-    /// Whether a lot names every peer.
-    pub(crate) fn covers(&self, lot: &[u32]) -> bool
-        ensures { ForSome self.now.on (λ t. result ≡ is_covered lot.now t.contents) }
-    {
+        let lot = self.lots.lot(stage, kind.entries);
         self.prio.covers(lot)
     }
 
@@ -225,7 +222,8 @@ impl PriorityTable {
         let kind = self.kind.unwrap();
         self.draws = Draws::NONE;
         let mut items = Vec::new(alloc);
-        for _ in 0..self.prio.peers() {
+        let peers = self.prio.peers();
+        for _ in 0..peers {
             let peer = self.prio.take().unwrap();
             append(
                 &mut items,

@@ -19,7 +19,7 @@ use sl_ratio::NoMemory;
 use sl_stages::{LegalFault, Returns};
 
 /// The end that an instruction gives a run.
-#[derive(Debug, Drop)]
+#[derive(Drop)]
 pub(crate) enum End {
     /// With the seats of the lists in a slot, and the vacant ones in a slot if one is named.
     Halted { base: usize, vacant: Option<usize> },
@@ -27,14 +27,14 @@ pub(crate) enum End {
 }
 
 /// What an instruction did: the run goes on after it, or at its target, which is told.
-#[derive(Clone, Copy, Debug)]
+#[derive(Clone, Copy)]
 pub(crate) enum Effect {
     Goes,
     Jumps(u32),
 }
 
 /// Whether seat steps and weights are kept.
-#[derive(Clone, Copy, Debug)]
+#[derive(Clone, Copy)]
 pub(crate) enum Records {
     Kept,
     Dropped,

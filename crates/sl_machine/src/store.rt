@@ -18,7 +18,7 @@ use sl_verify::REGISTERS;
 use std::alloc::Global;
 
 /// The cursors: those by which a cell of a column is found, and that of the winners.
-#[derive(Debug, Drop)]
+#[derive(Drop)]
 pub(crate) struct Cursors {
     pub cells: CellCursors,
     pub win: Cursor,

@@ -163,27 +163,17 @@ impl Store {
         self.move_to_taken(returns, taken)
     }
 
-    // The lot of a stage in such a table.
-    fn lot(&self, code: &Code, stage: u8) -> &[u32]
-        requires stage { IsTrue (has_stage (context_of code.now) stage) }
-        requires table { IsSome self.now.table.on }
-        requires lots { (e : Election) × (self.now.table.lots ≡ lots_for code.now e) }
-        ensures { (e : Election) → self.now.table.lots ≡ lots_for code.now e →
-            option_and_then (λ t. option_map (lot_of e t.entries) (name_of code.now.stages stage)) self.now.table.on ≡ Some result.now }
-    {
-        self.table.lot(stage_number(code, stage))
-    }
-
     /// Jumps unless the stage's lot names every peer.
-    pub(crate) fn jump_without_lot(&self, code: &Code, stage: u8, target: u32) -> Effect
+    pub(crate) fn jump_without_lot(&mut self, code: &Code, stage: u8, target: u32) -> Effect
         requires stage { IsTrue (has_stage (context_of code.now) stage) }
-        requires top { IsSome (option_and_then (λ t. top t.contents) self.now.table.on) }
-        requires lots { (e : Election) × (self.now.table.lots ≡ lots_for code.now e) }
-        ensures follows { (e : Election) → self.now.table.lots ≡ lots_for code.now e →
-            effect_of result (state_of self.now) ≡ effect code.now e (instr.Lot stage target) (state_of self.now) }
+        requires top { IsSome (option_and_then (λ t. top t.contents) self.old.table.on) }
+        requires lots { (e : Election) × (self.old.table.lots ≡ lots_for code.now e) }
+        ensures follows { (e : Election) → self.old.table.lots ≡ lots_for code.now e →
+            effect_of result (state_of self.new) ≡ effect code.now e (instr.Lot stage target) (state_of self.old) }
         ensures target { IsTo target result }
+        ensures kept { sizes_of self.new ≡ sizes_of self.old }
     {
-        if self.table.covers(self.lot(code, stage)) {
+        if self.table.is_covered(stage_number(code, stage)) {
             Effect::Goes
         } else {
             Effect::Jumps(target)

@@ -12,7 +12,7 @@ use std::marker::Model;
 pub const MAX_PLACES: u32 = 12;
 
 /// A decimal number: `digits / 10 ^ places`, with so many places behind the point.
-#[derive(Clone, Copy, Debug, PartialEq, Eq)]
+#[derive(Clone, Copy)]
 pub struct Decimal {
     digits: u128,
     places: u32,

@@ -10,7 +10,7 @@ use Rattle.sl_lex.specs.declared.token.Kind.{Kind}
 use Rattle.sl_lex.specs.declared.token.Kind.TheVariants as kinds
 use Rattle.sl_lex.specs.declared.token.Token.{Token}
 use Rattle.sl_ratio.specs.declared.limits.TheConstants.{MAX_NUMBER}
-use Rattle.sl_stages.specs.declared.limits.TheConstants.{MAX_STAGES}
+use Rattle.sl_terms.specs.declared.limits.TheConstants.{MAX_STAGES}
 use Rattle.sl_stages.specs.declared.book.Number.{Number}
 use Rattle.sl_stages.specs.declared.book.Cond.{Cond}
 use Rattle.sl_stages.specs.declared.book.Cond.TheVariants as conditions

@@ -1,7 +1,8 @@
 -- What a parse answers (docs/language.md, section 2).
 use Rattle.std.specs.Prelude.{◌≡◌, ℕ, List, [], ◌∷◌, length, Result, Ok, Err, IsTrue}
 use Rattle.sl_lex.specs.declared.token.Token.{Token}
-use Rattle.sl_stages.specs.declared.limits.TheConstants.{MAX_STAGES, MAX_DEPTH, MAX_PARTS}
+use Rattle.sl_stages.specs.declared.limits.TheConstants.{MAX_DEPTH, MAX_PARTS}
+use Rattle.sl_terms.specs.declared.limits.TheConstants.{MAX_STAGES}
 use Rattle.sl_stages.specs.declared.book.Book.{Book}
 use Rattle.sl_stages.specs.book.Trees.{BookTree}
 use Rattle.sl_stages.specs.book.Books.{book_of}

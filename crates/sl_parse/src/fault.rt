@@ -5,26 +5,62 @@ ghost use Rattle.sl_parse.specs.declared.fault.Stop.TheVariants.{NoMemory as Out
 
 use sl_ratio::NoMemory;
 use std::alloc::{AllocError, AllocFailed};
-use thiserror::Error;
+use std::error::Error;
+use std::fmt;
 
 /// Why tokens are no book within the limits, with the offset in bytes at which it shows: that of a token, or the length of
 /// the text where tokens are missing.
-#[derive(Clone, Copy, Debug, PartialEq, Eq, Error)]
+#[derive(Clone, Copy, PartialEq, Eq)]
 pub enum ParseFault {
-    #[error("no book goes on like this at {0}")]
+    /// No book goes on like this.
     Expected(usize),
-    #[error("the expression at {0} lies too deep, or is one too many in its stage")]
+    /// An expression too many levels down, or one too many in its stage.
     TooDeep(usize),
-    #[error("the stage at {0} is one too many")]
+    /// One stage too many.
     TooManyStages(usize),
-    #[error("at {0} something follows the book")]
+    /// Something follows the book.
     After(usize),
-    #[error("out of memory")]
+    /// Memory is wanting.
     NoMemory,
 }
 
+impl ParseFault {
+    // The text before the offset, the offset, and the text behind it. Want of memory has none.
+    fn words(self) -> Option<(&'static str, usize, &'static str)> {
+        match self {
+            ParseFault::Expected(at) => Some(("no book goes on like this at ", at, "")),
+            ParseFault::TooDeep(at) => Some((
+                "the expression at ",
+                at,
+                " lies too deep, or is one too many in its stage",
+            )),
+            ParseFault::TooManyStages(at) => Some(("the stage at ", at, " is one too many")),
+            ParseFault::After(at) => Some(("at ", at, " something follows the book")),
+            ParseFault::NoMemory => None,
+        }
+    }
+}
+
+impl fmt::Display for ParseFault {
+    fn fmt<W: fmt::Write>(&self, f: &mut fmt::Formatter<W>) -> fmt::Result {
+        let Some((before, at, behind)) = self.words() else {
+            return f.write_str("out of memory");
+        };
+        write!(f, "{before}{at}{behind}")
+    }
+}
+
+/// Shows the text of `Display`.
+impl fmt::Debug for ParseFault {
+    fn fmt<W: fmt::Write>(&self, f: &mut fmt::Formatter<W>) -> fmt::Result {
+        fmt::Display::fmt(self, f)
+    }
+}
+
+impl Error for ParseFault {}
+
 /// What is wrong at a token.
-#[derive(Clone, Copy, Debug, PartialEq, Eq)]
+#[derive(Clone, Copy)]
 pub enum Cause {
     /// It continues no book.
     Expected,
@@ -37,7 +73,7 @@ pub enum Cause {
 }
 
 /// Why reading stopped, and at which token, counted from 0.
-#[derive(Clone, Copy, Debug)]
+#[derive(Clone, Copy)]
 pub(crate) enum Stop {
     At(Cause, usize),
     NoMemory,

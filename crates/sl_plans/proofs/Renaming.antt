@@ -3,9 +3,9 @@ use Rattle.std.proofs.Common.{◌≡◌, ℕ, Bool, true, false, not, ◌&&◌, 
 use Rattle.std.proofs.lemmas.Bool.{and_parts}
 use Rattle.std.specs.Prelude.{nat_lt, is_some}
 use Rattle.std.specs.Option.{option_map_or}
-use Rattle.sl_stages.specs.declared.book.Shape.{Shape}
-use Rattle.sl_stages.specs.declared.book.Shape.TheVariants as shape
-use Rattle.sl_stages.specs.book.Typing.{same_shape}
+use Rattle.sl_terms.specs.declared.shape.Shape.{Shape}
+use Rattle.sl_terms.specs.declared.shape.Shape.TheVariants as shape
+use Rattle.sl_terms.specs.Shapes.{same_shape}
 use Rattle.sl_instructions.specs.declared.instr.Instr.{Instr}
 use Rattle.sl_instructions.specs.declared.instr.Instr.TheVariants as op
 use Rattle.sl_instructions.specs.declared.kinds.Kinds.{Kinds}

@@ -1,7 +1,7 @@
 -- A worked plan: the sum of a column over all lists (docs/plans.md, section 8).
 use Rattle.std.specs.Prelude.{◌≡◌, ℕ, ◌+◌, ◌*◌, ◌≤◌, [], ◌∷◌, map, Some, slice_get}
 use Rattle.std.specs.List.{sum, range_with_len}
-use Rattle.sl_stages.specs.declared.book.Shape.TheVariants as shape
+use Rattle.sl_terms.specs.declared.shape.Shape.TheVariants as shape
 use Rattle.sl_stages.specs.returns.Election.{Election, lands_of, parties_of}
 use Rattle.sl_instructions.specs.declared.instr.Instr.TheVariants.{Set, Get, Add}
 use Rattle.sl_instructions.specs.declared.kinds.Kinds.{Kinds}

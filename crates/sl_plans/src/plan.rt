@@ -3,7 +3,7 @@
 use sl_instructions::Instr;
 
 /// What a jump asks.
-#[derive(Clone, Copy, Debug, PartialEq, Eq)]
+#[derive(Clone, Copy)]
 pub enum Test {
     /// Is the register 0?
     Zero(u8),
@@ -20,7 +20,7 @@ pub enum Test {
 }
 
 /// What a loop goes over.
-#[derive(Clone, Copy, Debug, PartialEq, Eq)]
+#[derive(Clone, Copy)]
 pub enum Cursor {
     Party,
     Land,
@@ -28,7 +28,7 @@ pub enum Cursor {
 }
 
 /// How many turns a counted loop makes at most.
-#[derive(Clone, Copy, Debug, PartialEq, Eq)]
+#[derive(Clone, Copy)]
 pub enum Bound {
     /// So many.
     AtMost(u32),

@@ -19,3 +19,4 @@ pub mod PeerCounts
 pub mod PeerMarks
 pub mod DrawnPeers
 pub mod PassedNames
+pub mod TakenTops

@@ -26,7 +26,7 @@ ranked_with_one_more entry xs ys h = sym (ranked_alike (entry ∷ xs) ys h)
 
 -- ---- an entry that is taken out
 
-same_itself : (x : Entry) → same_entry x x ≡ true
+pub same_itself : (x : Entry) → same_entry x x ≡ true
 same_itself x = grind (arith)
 
 not_same : (x y : Entry) → is_gt (entry_cmp y x) ≡ true → same_entry x y ≡ false

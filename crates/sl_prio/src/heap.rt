@@ -89,6 +89,19 @@ pub(crate) fn take_out(entries: &mut Vec<Entry>, places: &mut [u16], place: usiz
     }
 }
 
+// Puts an entry in the place of the first one, which goes. It comes into the hole that that one leaves, once the hole has sunk to the bottom,
+// and rises from there.
+pub(crate) fn replace_first(entries: &mut [Entry], places: &mut [u16], entry: Entry)
+    requires some { 0 < length entries.old }
+    requires heap { IsHeap entries.old }
+    ensures moved { IsPermutation (slice_set entries.old 0 entry) entries.new }
+    ensures heap { IsHeap entries.new }
+{
+    let hole = sink(entries, 0);
+    note(places, entry.index, hole);
+    raise(entries, places, hole, entry);
+}
+
 // Moves the hole at a place down to a place without children, and answers that. An entry that comes into it stands too low, if it is
 // greater than its parent: the last entry of a heap seldom is.
 fn sink(entries: &mut [Entry], place: usize) -> usize

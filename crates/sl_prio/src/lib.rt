@@ -1,6 +1,7 @@
 //! Priority tables: entries of a scope, of which the greatest and those with its quotient are found.
 #![tactic(auto)]
 
+mod awards;
 mod heap;
 pub mod laws;
 mod lot;
@@ -8,4 +9,5 @@ mod peers;
 mod places;
 mod prio;
 
+pub use awards::AwardTable;
 pub use prio::{Drawn, Prio};

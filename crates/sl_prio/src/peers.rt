@@ -34,7 +34,7 @@ fn peer_at(entries: &[Entry], top: &Entry, place: usize) -> Option<Entry>
 }
 
 // How many peers there are, and whether their indexes have marks, none of them that of two peers.
-#[derive(Clone, Copy, Debug)]
+#[derive(Clone, Copy)]
 pub(crate) struct Counted {
     pub(crate) count: usize,
     pub(crate) marked: bool,
@@ -46,6 +46,18 @@ impl Counted {
         count: 0,
         marked: false,
     };
+
+    // The peers of a heap's top. None of them is marked.
+    pub(crate) fn anew(entries: &[Entry]) -> Counted
+        requires kept { IsKept entries.now }
+        ensures count { result.count ≡ length (peers entries.now) }
+        ensures marked { result.marked ≡ false }
+    {
+        Counted {
+            count: count_peers(entries),
+            marked: false,
+        }
+    }
 
     // With one peer more, with which there are `count`. Beside others that are marked, it is marked too.
     pub(crate) fn with_one(self, count: usize, marks: &mut [bool], index: u32) -> Counted
@@ -121,10 +133,7 @@ pub(crate) fn peers_left(
             marked: before.marked,
         };
     }
-    Counted {
-        count: count_peers(entries),
-        marked: false,
-    }
+    Counted::anew(entries)
 }
 
 // Takes the mark of an index away that a peer had which is gone.
@@ -265,7 +274,7 @@ fn place_above(entries: &[Entry], top: &Entry, index: u32, noted: usize) -> Opti
 }
 
 /// A name of a lot, by its place there, and the place of the heap at which a peer stands.
-#[derive(Clone, Copy, Debug)]
+#[derive(Clone, Copy)]
 pub(crate) struct Named {
     pub(crate) name: usize,
     pub(crate) peer: usize,

@@ -11,7 +11,7 @@ ghost use Rattle.sl_prio.specs.Prio.{has_quotient_of, top, peers, is_covered};
 ghost use Rattle.sl_prio.specs.Lot.{drawn};
 ghost use Rattle.sl_prio.specs.inner.Marks.{IsPassed};
 
-use crate::heap::{across, raise, take_out};
+use crate::heap::{across, raise, replace_first, take_out};
 use crate::lot::{LEAST_MARKS, MARKS, marks};
 use crate::peers::{Counted, are_named, drawn_at, is_peer, marked_anew, peers_left};
 use crate::places::note;
@@ -20,7 +20,7 @@ use std::alloc::Global;
 use std::marker::Model;
 
 /// An entry that a lot drew, and a place of the lot before which it names none of the peers that are left.
-#[derive(Clone, Copy, Debug)]
+#[derive(Clone, Copy)]
 pub struct Drawn {
     pub entry: Entry,
     pub passed: usize,
@@ -28,7 +28,7 @@ pub struct Drawn {
 
 /// A priority table: the entries that it holds, of which the greatest is the top. The peers of the top are the entries with its
 /// quotient, the top among them.
-#[derive(Debug, Drop)]
+#[derive(Drop)]
 pub struct Prio {
     entries: Vec<Entry>,
     // the peers, the top among them
@@ -220,6 +220,18 @@ impl Prio {
             return None;
         }
         Some(self.remove(0))
+    }
+
+    /// Puts an entry in the place of the greatest one, which has no other peer: what `take` and `put` do one after the other, on one way
+    /// through the table. Takes no memory.
+    pub fn replace_top(&mut self, entry: Entry)
+        requires { length (peers self.old) ≡ 1 }
+        ensures { IfSome (top self.old) (λ first. IsPermutation (entry ∷ self.old) (first ∷ self.new)) }
+    {
+        // no ratio has numerator 0: the peers of the next top stand together
+        prove!(entry.ratio.num() > 0);
+        replace_first(&mut self.entries, &mut self.places, entry);
+        self.counted = Counted::anew(&self.entries);
     }
 
     /// Whether a lot names the index of each peer of the top, as it does where there is no entry.

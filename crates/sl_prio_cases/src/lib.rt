@@ -2,6 +2,8 @@
 #![tactic(auto)]
 
 #[cfg(test)]
+mod awards;
+#[cfg(test)]
 mod quotients;
 #[cfg(test)]
 mod tables;

@@ -183,14 +183,14 @@ fn more_peers_than_marks(rt: HostRuntime) -> Result<(), Fail> {
 
 // Numbers in no order, for entries with so many indexes, which stand `spread` apart.
 #[derive(Drop)]
-struct Dice {
-    state: u64,
-    indexes: u32,
-    spread: u32,
+pub struct Dice {
+    pub state: u64,
+    pub indexes: u32,
+    pub spread: u32,
 }
 
 impl Dice {
-    fn roll(&mut self) -> u32 {
+    pub fn roll(&mut self) -> u32 {
         self.state = self
             .state
             .wrapping_mul(6_364_136_223_846_793_005)
@@ -203,13 +203,13 @@ impl Dice {
     }
 
     // An entry with the quotient 1, or with one of three.
-    fn entry(&mut self, one: bool) -> Entry {
+    pub fn entry(&mut self, one: bool) -> Entry {
         let index = self.index();
         let part = u128::from(self.roll() % 3) + 1;
         entry(part, if one { part } else { 2 }, index)
     }
 
-    fn lot(&mut self, alloc: Global) -> Result<Vec<u32>, NoMemory> {
+    pub fn lot(&mut self, alloc: Global) -> Result<Vec<u32>, NoMemory> {
         let mut lot = Vec::new(alloc);
         for _ in 0..self.roll() % 8 {
             lot.push(self.index())?;

@@ -13,7 +13,7 @@ use std::cmp::Ordering;
 ///
 /// The greater of two entries is the one with the greater quotient, at equal quotients the one with the smaller index, and then
 /// the one with the greater numerator, and the greater denominator.
-#[derive(Clone, Copy, Debug, PartialEq, Eq, Hash)]
+#[derive(Clone, Copy, PartialEq, Eq, Hash)]
 pub struct Entry {
     pub ratio: Ratio,
     pub index: u32,

@@ -39,7 +39,7 @@ impl Divisor {
 }
 
 /// A method that gives out the seats of a scope: by divisors, or by largest remainders.
-#[derive(Clone, Copy, Debug, PartialEq, Eq)]
+#[derive(Clone, Copy)]
 pub enum Method {
     Divisor(Divisor),
     Hamilton,

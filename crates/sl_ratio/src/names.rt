@@ -6,28 +6,51 @@ ghost use Rattle.sl_ratio.specs.Names.{NameList, IsNameList, Refuses, is_name, i
 
 use indexmap::IndexSet;
 use std::alloc::Global;
+use std::error::Error;
+use std::fmt;
 use std::marker::Model;
-use thiserror::Error;
 
 /// The greatest number of bytes in a name.
 pub const MAX_NAME_BYTES: usize = 12;
 
 /// Why a name is not added, the first that applies in this order.
-#[derive(Clone, Copy, Debug, PartialEq, Eq, Error)]
+#[derive(Clone, Copy, Debug, PartialEq, Eq)]
 pub enum NameFault {
-    #[error("the name is empty")]
+    /// The name is empty.
     Empty,
-    #[error("the name has more than {MAX_NAME_BYTES} bytes")]
+    /// It has more than `MAX_NAME_BYTES` bytes.
     TooLong,
-    #[error("the name has a byte that is no letter, digit, `_` or `-`")]
+    /// It has a byte that is no letter, digit, `_` or `-`.
     BadByte,
-    #[error("the name is there already")]
+    /// It is there already.
     Twice,
-    #[error("there are as many names as there may be")]
+    /// There are as many names as there may be.
     Full,
-    #[error("out of memory")]
+    /// Memory is wanting.
     NoMemory,
 }
+
+impl NameFault {
+    // What it says.
+    fn text(self) -> &'static str {
+        match self {
+            NameFault::Empty => "the name is empty",
+            NameFault::TooLong => "the name is too long",
+            NameFault::BadByte => "the name has a byte that is no letter, digit, `_` or `-`",
+            NameFault::Twice => "the name is there already",
+            NameFault::Full => "there are as many names as there may be",
+            NameFault::NoMemory => "out of memory",
+        }
+    }
+}
+
+impl fmt::Display for NameFault {
+    fn fmt<W: fmt::Write>(&self, f: &mut fmt::Formatter<W>) -> fmt::Result {
+        f.write_str(self.text())
+    }
+}
+
+impl Error for NameFault {}
 
 // Whether a name may have the byte.
 fn is_name_byte(byte: u8) -> bool
@@ -59,7 +82,7 @@ pub fn spelling_fault(name: &[u8]) -> Option<NameFault>
 }
 
 /// A list of names, each once, at most as many as its limit. A name is found by its bytes, and its number is its place.
-#[derive(Debug, Drop)]
+#[derive(Drop)]
 pub struct Names {
     limit: usize,
     names: IndexSet<Vec<u8>>,

@@ -38,23 +38,23 @@ pub trait Signpost {
 }
 
 /// The method of Adams, by rounding up.
-#[derive(Clone, Copy, Debug)]
+#[derive(Clone, Copy)]
 pub struct Adams;
 
 /// The method of Dean, by the harmonic mean.
-#[derive(Clone, Copy, Debug)]
+#[derive(Clone, Copy)]
 pub struct Dean;
 
 /// The method of Hill, by the geometric mean. The quotient is squared, so that it is one of whole numbers.
-#[derive(Clone, Copy, Debug)]
+#[derive(Clone, Copy)]
 pub struct Hill;
 
 /// The method of Webster, by standard rounding.
-#[derive(Clone, Copy, Debug)]
+#[derive(Clone, Copy)]
 pub struct Webster;
 
 /// The method of Jefferson, by rounding down, which is that of d'Hondt.
-#[derive(Clone, Copy, Debug)]
+#[derive(Clone, Copy)]
 pub struct Jefferson;
 
 impl Signpost for Adams {

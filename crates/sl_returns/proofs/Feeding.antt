@@ -11,7 +11,7 @@ use Rattle.sl_returns.specs.declared.header.Version.{Version}
 use Rattle.sl_returns.specs.Cells.{Record}
 use Rattle.sl_returns.specs.Headers.{version_of}
 use Rattle.sl_returns.specs.Records.{election_of_records}
-use Rattle.sl_stages.specs.book.Tests.{first_failing}
+use Rattle.sl_terms.specs.Tests.{first_failing}
 use Rattle.sl_returns.specs.Tests.{Pass, FailBy, record_tests}
 use Rattle.sl_returns.specs.inner.Joining.{with_record, TakesRecord, RefusesRecord}
 use Rattle.sl_returns.specs.Returns.{fault_behind, first_fault, refusal_under, refusal_of}

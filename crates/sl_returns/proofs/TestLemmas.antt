@@ -5,8 +5,8 @@ use Rattle.std.proofs.lemmas.Bool.{false≢true}
 use Rattle.std.proofs.lemmas.Option.{none-some}
 use Rattle.sl_returns.specs.declared.fault.FaultKind.{FaultKind}
 use Rattle.sl_returns.specs.declared.fault.FaultKind.TheVariants as fault
-use Rattle.sl_stages.specs.book.Tests.{Test, first_failing}
-use Rattle.sl_stages.proofs.Tests.{fails_in_row, fails_first, pass_parts}
+use Rattle.sl_terms.specs.Tests.{Test, first_failing}
+use Rattle.sl_terms.proofs.Tests.{fails_in_row, fails_first, pass_parts}
 use Rattle.sl_returns.specs.Tests.{one_test, Pass, FailBy, Refuse}
 
 -- where the first tests hold, the others decide

@@ -9,7 +9,7 @@ use Rattle.sl_returns.specs.declared.header.Version.{Version}
 use Rattle.sl_returns.specs.Faults.{fault_at, row_behind}
 use Rattle.sl_returns.specs.Cells.{Record}
 use Rattle.sl_returns.specs.Headers.{version_of}
-use Rattle.sl_stages.specs.book.Tests.{first_failing}
+use Rattle.sl_terms.specs.Tests.{first_failing}
 use Rattle.sl_returns.specs.Tests.{record_tests}
 use Rattle.sl_returns.specs.Records.{land_names, election_of_records}
 

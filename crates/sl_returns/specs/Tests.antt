@@ -7,7 +7,7 @@ use Rattle.sl_ratio.specs.Names.{is_name}
 use Rattle.sl_ratio.specs.declared.limits.TheConstants.{MAX_SEATS, MAX_LANDS, MAX_PARTIES, MAX_VOTES}
 use Rattle.sl_stages.specs.declared.limits.TheConstants.{MAX_WINS, MAX_LOTS, MAX_SLATE}
 use Rattle.sl_stages.specs.declared.returns.Lot.{Lot}
-use Rattle.sl_stages.specs.book.Tests.{Test, first_failing}
+use Rattle.sl_terms.specs.Tests.{Test, first_failing}
 use Rattle.sl_stages.specs.returns.Election.{Election, lands_of, parties_of, wins_of, has_list}
 use Rattle.sl_returns.specs.declared.cells.TheConstants.{COLUMNS, KIND, LAND, PARTY, A, B, C}
 use Rattle.sl_returns.specs.declared.header.Version.{Version}

@@ -3,38 +3,58 @@
 ghost use Rattle.std.specs.Prelude.{◌≡◌};
 ghost use Rattle.sl_returns.specs.Faults.{fault_at, fault_number};
 
+use std::{error, fmt};
 use thiserror::Error;
 
 /// What is wrong with returns, in the order of its numbers, from 1 (docs/returns.md, section 5).
-#[derive(Clone, Copy, Debug, PartialEq, Eq, Error)]
+#[derive(Clone, Copy, Debug, PartialEq, Eq)]
 pub enum FaultKind {
-    #[error("the first record is not the header")]
+    /// The first record is not the header.
     Header = 1,
-    #[error("the record has not six cells, or a cell is filled or empty against its kind")]
+    /// The record has not six cells, or a cell is filled or empty against its kind.
     Fields,
-    #[error("there is no such kind of record")]
+    /// There is no such kind of record.
     Kind,
-    #[error("a name is empty, too long, or has a byte that no name may have")]
+    /// A name is empty, too long, or has a byte that no name may have.
     Name,
-    #[error("a number is not one to twelve digits")]
+    /// A number is not one to twelve digits.
     Number,
-    #[error("a number is out of its range")]
+    /// A number is out of its range.
     Range,
-    #[error("a name is not declared")]
+    /// A name is not declared.
     Unknown,
-    #[error("it is told a second time")]
+    /// It is told a second time.
     Twice,
-    #[error("more votes are counted than are valid")]
+    /// More votes are counted than are valid.
     Counted,
-    #[error("there are more records of this kind than there may be")]
+    /// There are more records of this kind than there may be.
     TooMany,
-    #[error("there is no Land")]
+    /// There is no Land.
     NoLand,
-    #[error("out of memory")]
+    /// Memory is wanting.
     NoMemory,
 }
 
 impl FaultKind {
+    // What it says.
+    fn text(self) -> &'static str {
+        match self {
+            FaultKind::Header => "the first record is not the header",
+            FaultKind::Fields =>
+                "the record has not six cells, or a cell is filled or empty against its kind",
+            FaultKind::Kind => "there is no such kind of record",
+            FaultKind::Name => "a name is empty, too long, or has a byte that no name may have",
+            FaultKind::Number => "a number is not one to twelve digits",
+            FaultKind::Range => "a number is out of its range",
+            FaultKind::Unknown => "a name is not declared",
+            FaultKind::Twice => "it is told a second time",
+            FaultKind::Counted => "more votes are counted than are valid",
+            FaultKind::TooMany => "there are more records of this kind than there may be",
+            FaultKind::NoLand => "there is no Land",
+            FaultKind::NoMemory => "out of memory",
+        }
+    }
+
     /// Its number, from 1.
     pub fn number(self) -> u32
         ensures { result ≡ fault_number self }
@@ -42,6 +62,14 @@ impl FaultKind {
         self as u32
     }
 }
+
+impl fmt::Display for FaultKind {
+    fn fmt<W: fmt::Write>(&self, f: &mut fmt::Formatter<W>) -> fmt::Result {
+        f.write_str(self.text())
+    }
+}
+
+impl error::Error for FaultKind {}
 
 /// What is wrong with returns, and the row of the record, the header's being 1. Want of memory has the row 0.
 #[derive(Clone, Copy, Debug, PartialEq, Eq, Error)]

@@ -8,7 +8,7 @@ use std::alloc::Global;
 const KEPT: usize = 8;
 
 // Where in a cell a byte stands.
-#[derive(Clone, Copy, PartialEq, Eq)]
+#[derive(Clone, Copy)]
 enum State {
     Begin,
     Plain,

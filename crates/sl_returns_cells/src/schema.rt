@@ -57,7 +57,7 @@ impl Kind {
 }
 
 /// The spaces of names.
-#[derive(Clone, Copy, PartialEq, Eq)]
+#[derive(Clone, Copy)]
 pub enum Space {
     Land,
     Party,

@@ -1,7 +1,7 @@
 -- The lots of a code's stages, as numbers of entries of the priority table (docs/machine.md, section 3).
 use Rattle.std.specs.Prelude.{ℕ, List, Option, filter_map}
 use Rattle.std.specs.Option.{option_map}
-use Rattle.sl_stages.specs.declared.book.Shape.TheVariants as shape
+use Rattle.sl_terms.specs.declared.shape.Shape.TheVariants as shape
 use Rattle.sl_stages.specs.declared.fault.Item.{Item}
 use Rattle.sl_stages.specs.declared.returns.Lot.{Lot}
 use Rattle.sl_stages.specs.returns.Election.{Election}

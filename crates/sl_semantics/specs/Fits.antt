@@ -2,7 +2,7 @@
 -- column has the length of its shape (docs/machine.md, section 6).
 use Rattle.std.specs.Prelude.{◌≡◌, ◌<◌, ◌≤◌, ℕ, ◌*◌, List, All, Option, Some, length, map, slice_get}
 use Rattle.std.specs.Option.{ForSome}
-use Rattle.sl_stages.specs.declared.book.Shape.TheVariants as shape
+use Rattle.sl_terms.specs.declared.shape.Shape.TheVariants as shape
 use Rattle.sl_stages.specs.declared.fault.FaultKind.{FaultKind}
 use Rattle.sl_stages.specs.declared.fault.FaultKind.TheVariants as fault
 use Rattle.sl_stages.specs.declared.fault.Item.{Item}

@@ -1,8 +1,8 @@
 -- What the cursors stand at: a cell of a column, an entry of the table, a scope (docs/machine.md, section 2).
 use Rattle.std.specs.Prelude.{ℕ, ◌+◌, ◌*◌, ◌/◌, ◌%◌, Option, Some}
 use Rattle.std.specs.Option.{option_map, option_and_then}
-use Rattle.sl_stages.specs.declared.book.Shape.{Shape}
-use Rattle.sl_stages.specs.declared.book.Shape.TheVariants as shape
+use Rattle.sl_terms.specs.declared.shape.Shape.{Shape}
+use Rattle.sl_terms.specs.declared.shape.Shape.TheVariants as shape
 use Rattle.sl_stages.specs.declared.fault.Item.{Item}
 use Rattle.sl_stages.specs.declared.fault.Item.TheVariants as item
 use Rattle.sl_stages.specs.declared.fault.Scope.{Scope}

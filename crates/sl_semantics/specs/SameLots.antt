@@ -6,7 +6,7 @@ use Rattle.sl_ratio.specs.declared.entry.Entry.{Entry}
 use Rattle.sl_prio.specs.Lot.{place_in_lot}
 use Rattle.sl_prio.specs.Lot as machine
 use Rattle.sl_prio.specs.Prio.{peers, is_covered}
-use Rattle.sl_stages.specs.declared.book.Shape.TheVariants as shape
+use Rattle.sl_terms.specs.declared.shape.Shape.TheVariants as shape
 use Rattle.sl_stages.specs.declared.fault.Item.{Item}
 use Rattle.sl_stages.specs.returns.Election.{Election, IsElection}
 use Rattle.sl_stages.specs.meaning.Scopes.{place}

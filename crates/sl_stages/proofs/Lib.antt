@@ -1,5 +1,4 @@
-pub mod Tests
-pub mod Shapes
+pub mod Units
 pub mod Elections
 pub mod FactReadings
 pub mod typing

@@ -1,8 +1,6 @@
 -- What a rulebook is: its words, its tree, its limits and the tests of a well-formed one.
-pub mod Words
 pub mod Trees
 pub mod Limits
 pub mod Books
-pub mod Tests
 pub mod Typing
 pub mod HasType

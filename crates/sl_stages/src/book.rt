@@ -3,43 +3,22 @@
 ghost use Rattle.std.specs.Prelude.{◌≡◌, IsTrue, map};
 ghost use Rattle.sl_stages.specs.declared.book.Unit.TheVariants as unit;
 ghost use Rattle.sl_stages.specs.book.Trees.{stage_of};
-ghost use Rattle.sl_stages.specs.book.Typing.{column, shape_number, shape_over};
+ghost use Rattle.sl_stages.specs.book.Typing.{column, shape_over};
 ghost use Rattle.sl_stages.specs.book.Limits.{is_within_limits, book_numbers, are_small};
 
 use crate::fact::Fact;
-use crate::word::Word;
 use sl_ratio::Method;
-
-/// What a column has a number for: one for all, each party, each Land, or each list.
-#[derive(Clone, Copy, Debug, PartialEq, Eq)]
-pub enum Shape {
-    One,
-    Party,
-    Land,
-    List,
-}
-
-/// The shapes, in the order of their numbers.
-pub const SHAPES: [Shape; 4] = [Shape::One, Shape::Party, Shape::Land, Shape::List];
-
-impl Shape {
-    /// Its number, from 0.
-    pub fn number(self) -> u8
-        ensures { result ≡ shape_number self }
-    {
-        self as u8
-    }
-}
+use sl_terms::{Shape, Word};
 
 /// What the numbers of a column count.
-#[derive(Clone, Copy, Debug, PartialEq, Eq)]
+#[derive(Clone, Copy, PartialEq, Eq)]
 pub enum Unit {
     Seats,
     Votes,
 }
 
 /// What a column has: a shape and a unit.
-#[derive(Clone, Copy, Debug, PartialEq, Eq)]
+#[derive(Clone, Copy, PartialEq, Eq)]
 pub struct ColumnType {
     pub shape: Shape,
     pub unit: Unit,
@@ -68,7 +47,7 @@ impl ColumnType {
 }
 
 /// What a sum leaves: a number for each party, for each Land, or one for all.
-#[derive(Clone, Copy, Debug, PartialEq, Eq)]
+#[derive(Clone, Copy, Debug)]
 pub enum Axis {
     Party,
     Land,
@@ -89,7 +68,7 @@ impl Axis {
 }
 
 /// What two numbers of a pair of columns make.
-#[derive(Clone, Copy, Debug, PartialEq, Eq)]
+#[derive(Clone, Copy, Debug)]
 pub enum Pairing {
     /// The greater one.
     Larger,
@@ -98,7 +77,7 @@ pub enum Pairing {
 }
 
 /// The majority clause of a split or a growth.
-#[derive(Clone, Copy, Debug, PartialEq, Eq)]
+#[derive(Clone, Copy, Debug)]
 pub enum Majority {
     /// None is written.
     Free,
@@ -109,7 +88,7 @@ pub enum Majority {
 }
 
 /// A number of a book, with the offset of its first byte.
-#[derive(Clone, Copy, Debug, PartialEq, Eq)]
+#[derive(Clone, Copy)]
 pub struct Number {
     pub value: u32,
     pub at: usize,
@@ -162,7 +141,7 @@ pub enum Expr {
 }
 
 /// A condition under which a party takes part.
-#[derive(Clone, Copy, Debug, PartialEq, Eq)]
+#[derive(Clone, Copy)]
 pub enum Cond {
     /// At least `share` votes in each `per` of all valid votes.
     Valid { share: Number, per: u32 },
@@ -189,7 +168,7 @@ pub enum Base {
 }
 
 /// What becomes of constituency winners.
-#[derive(Clone, Copy, Debug, PartialEq, Eq)]
+#[derive(Clone, Copy, Debug)]
 pub enum Seating {
     /// All are seated.
     Keep,

@@ -3,10 +3,11 @@
 ghost use Rattle.std.specs.Prelude.{◌≡◌};
 ghost use Rattle.sl_stages.specs.book.Typing.{fact_number, fact_type};
 
-use crate::book::{ColumnType, Shape};
+use crate::book::ColumnType;
+use sl_terms::Shape;
 
 /// A column that no stage computes.
-#[derive(Clone, Copy, Debug, PartialEq, Eq)]
+#[derive(Clone, Copy, Debug)]
 pub enum Fact {
     /// The seats of the house: those of the returns, else those of the book.
     House,

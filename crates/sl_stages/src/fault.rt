@@ -5,7 +5,7 @@ ghost use Rattle.std.specs.Prelude.{◌≡◌};
 use std::marker::Model;
 
 /// One of the parts in which a stage gives out seats: a single one, or one for each Land, party or list. Pairs have the Land first.
-#[derive(Clone, Copy, Debug, PartialEq, Eq)]
+#[derive(Clone, Copy, PartialEq, Eq)]
 pub enum Scope {
     All,
     Land(usize),
@@ -14,7 +14,7 @@ pub enum Scope {
 }
 
 /// What takes part in a scope, by its number: a party, a Land, a list (its Land first), or a constituency winner.
-#[derive(Clone, Copy, Debug, PartialEq, Eq)]
+#[derive(Clone, Copy, PartialEq, Eq)]
 pub enum Item {
     Party(usize),
     Land(usize),
@@ -23,7 +23,7 @@ pub enum Item {
 }
 
 /// The items of a tie, in their order.
-#[derive(Debug, Drop)]
+#[derive(Drop)]
 pub struct Items {
     items: Vec<Item>,
 }
@@ -54,7 +54,7 @@ impl Items {
 }
 
 /// Why a scope of a stage has no seats.
-#[derive(Debug, Drop)]
+#[derive(Drop)]
 pub enum FaultKind {
     /// More than `MAX_SEATS` seats are to be given out.
     Limit,
@@ -71,7 +71,7 @@ pub enum FaultKind {
 }
 
 /// A legal fault. The stage is its number from 0, or the number of stages for the last clause.
-#[derive(Debug, Drop)]
+#[derive(Drop)]
 pub struct LegalFault {
     pub stage: usize,
     pub scope: Scope,

@@ -10,11 +10,11 @@ use std::marker::Model;
 
 /// A name as returns write it: 1 to `MAX_NAME_BYTES` bytes, each a letter, a digit, `_` or `-`. There is one for each
 /// Land, party, winner and lot, so it takes no memory of its own.
-#[derive(Debug, Drop)]
+#[derive(Drop)]
 pub struct Label {
     // the name, and zeros behind it
     bytes: [u8; MAX_NAME_BYTES],
-    length: usize,
+    length: u8,
 }
 
 impl Model for Label {
@@ -39,7 +39,7 @@ impl Label {
         kept[..bytes.len()].copy_from_slice(bytes);
         Label {
             bytes: kept,
-            length: bytes.len(),
+            length: bytes.len() as u8,
         }
     }
 
@@ -48,7 +48,7 @@ impl Label {
         ensures bytes { result.now ≡ self.now }
         ensures spelled { spelling_fault self.now ≡ None }
     {
-        &self.bytes[..self.length]
+        &self.bytes[..usize::from(self.length)]
     }
 }
 

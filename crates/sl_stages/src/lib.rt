@@ -12,11 +12,10 @@ pub mod laws;
 mod limits;
 mod returns;
 mod table;
-mod word;
 
 pub use book::{
-    Axis, Base, Book, ColumnType, Cond, Expr, LastClause, Majority, Number, Pairing, SHAPES,
-    Seating, Shape, Stage, Unit,
+    Axis, Base, Book, ColumnType, Cond, Expr, LastClause, Majority, Number, Pairing, Seating,
+    Stage, Unit,
 };
 pub use check_fault::CheckFault;
 pub use checked::CheckedBook;
@@ -28,5 +27,5 @@ pub use limits::{
     MAX_SLATE, MAX_STAGES, MAX_VOTES, MAX_WINS,
 };
 pub use returns::{ListVotes, Lot, Returns, Win};
+pub use sl_terms::{SHAPES, Shape, Word};
 pub use table::{ListSeats, Mark, Outcome, Placed, SeatStep, Table, Weight};
-pub use word::Word;

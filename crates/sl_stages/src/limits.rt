@@ -1,9 +1,7 @@
 //! The limits of rulebooks and returns. Each stands once, for code and definitions alike (docs/limits.md).
 
 pub use sl_ratio::{MAX_LANDS, MAX_NUMBER, MAX_PARTIES, MAX_SEATS, MAX_VOTES};
-
-/// Stages of a book.
-pub const MAX_STAGES: usize = 32;
+pub use sl_terms::MAX_STAGES;
 
 /// Levels of a stage's expression, the whole being the first.
 pub const MAX_DEPTH: u32 = 16;

@@ -13,7 +13,7 @@ use std::alloc::Global;
 use std::marker::Model;
 
 /// The votes of a list, and how many names are left on it, if that is told.
-#[derive(Clone, Copy, Debug, PartialEq, Eq)]
+#[derive(Clone, Copy)]
 pub struct ListVotes {
     pub valid: u32,
     pub counted: u32,
@@ -21,7 +21,7 @@ pub struct ListVotes {
 }
 
 /// The winner of a constituency: the Land, the party, if there is one, the winner's first votes, and all valid first votes.
-#[derive(Clone, Copy, Debug, PartialEq, Eq)]
+#[derive(Clone, Copy)]
 pub struct Win {
     pub land: usize,
     pub party: Option<usize>,
@@ -30,7 +30,7 @@ pub struct Win {
 }
 
 /// A lot that was drawn: the Land and the party that it names, the stage, or `seats`, at which it counts, and with `seats` the winner.
-#[derive(Debug, Drop)]
+#[derive(Drop)]
 pub struct Lot {
     pub land: Option<usize>,
     pub party: Option<usize>,

@@ -7,7 +7,7 @@ use sl_ratio::{Divisor, Ratio};
 use std::marker::Model;
 
 /// What won a seat.
-#[derive(Clone, Copy, Debug)]
+#[derive(Clone, Copy)]
 pub enum Mark {
     /// A minimum, a whole part, or an entry without votes.
     Given,
@@ -20,7 +20,7 @@ pub enum Mark {
 }
 
 /// The step that won a seat: the n-th one of an entry in a scope of a stage.
-#[derive(Clone, Copy, Debug)]
+#[derive(Clone, Copy)]
 pub struct SeatStep {
     pub stage: usize,
     pub scope: Scope,
@@ -31,7 +31,7 @@ pub struct SeatStep {
 }
 
 /// The weight of an entry of the field, in a scope of a stage that Adams', Webster's or Jefferson's method splits without minima.
-#[derive(Clone, Copy, Debug)]
+#[derive(Clone, Copy)]
 pub struct Weight {
     pub stage: usize,
     pub scope: Scope,
@@ -41,7 +41,7 @@ pub struct Weight {
 }
 
 /// A list's seats, the constituency winners seated on it, and its vacant seats.
-#[derive(Clone, Copy, Debug, PartialEq, Eq)]
+#[derive(Clone, Copy)]
 pub struct ListSeats {
     pub land: usize,
     pub party: usize,
@@ -51,7 +51,7 @@ pub struct ListSeats {
 }
 
 /// Where a constituency winner sits.
-#[derive(Clone, Copy, Debug, PartialEq, Eq)]
+#[derive(Clone, Copy)]
 pub enum Placed {
     Unseated,
     OnList,

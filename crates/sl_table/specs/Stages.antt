@@ -1,8 +1,8 @@
 -- The text of a stage's column (docs/output.md, section 1).
 use Rattle.std.specs.Prelude.{ℕ, List, [], ◌∷◌, map, flat_map, filter, codes, slice_index, slice_index_or}
 use Rattle.std.specs.Fmt.{decimal}
-use Rattle.sl_stages.specs.declared.book.Shape.{Shape}
-use Rattle.sl_stages.specs.declared.book.Shape.TheVariants as shape
+use Rattle.sl_terms.specs.declared.shape.Shape.{Shape}
+use Rattle.sl_terms.specs.declared.shape.Shape.TheVariants as shape
 use Rattle.sl_stages.specs.returns.Election.{Election, has_list}
 use Rattle.sl_stages.specs.returns.Facts.{lands, parties, list_cell}
 use Rattle.sl_instructions.specs.Codes.{CountingCode}

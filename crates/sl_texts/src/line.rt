@@ -10,7 +10,7 @@ use std::alloc::Global;
 use std::marker::Model;
 
 /// A text that is written word by word. A line is words parted by one blank, with LF after the last of them (docs/output.md, section 1).
-#[derive(Debug, Drop)]
+#[derive(Drop)]
 pub struct Text {
     alloc: Global,
     bytes: Vec<u8>,
@@ -29,6 +29,9 @@ impl Model for Text {
 // The most bytes that are added one by one: a call that copies so few costs more.
 const FEW: usize = 8;
 
+// For so many bytes there is room from the first word on: a seat table mostly has fewer, and memory that nothing touches costs nothing.
+const FIRST_ROOM: usize = 8192;
+
 // Makes room for a word of so many bytes, and adds the blank before it, if the line has begun.
 #[inline]
 fn begin(bytes: &mut Vec<u8>, begun: bool, length: usize) -> Result<(), NoMemory>
@@ -37,7 +40,8 @@ fn begin(bytes: &mut Vec<u8>, begun: bool, length: usize) -> Result<(), NoMemory
     ensures room { OnOk result (vec_len bytes.new + length ≤ vec_capacity bytes.new) }
     ensures unchanged { OnErr result (bytes.new.items ≡ bytes.old.items) }
 {
-    bytes.reserve(length + 1)?;
+    let first = if bytes.is_empty() { FIRST_ROOM } else { 0 };
+    bytes.reserve(first.max(length + 1))?;
     if begun {
         bytes.push_reserved(b' ');
     }

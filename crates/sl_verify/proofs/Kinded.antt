@@ -12,9 +12,9 @@ use Rattle.sl_verify.specs.Needs.{has_registers, has_columns, has_kinds, has_tab
 use Rattle.sl_verify.specs.Leaves.{behind, carried}
 use Rattle.sl_verify.specs.WellKinded.{declared_by, context_of, leads_well, has_stage_slots, coming, IsKinded, IsWellKinded}
 use Rattle.sl_verify.specs.Pieces.{kinds_here, comes_next, comes_after, meets, has_own, is_passed, are_passed}
-use Rattle.sl_stages.specs.book.Tests.{test, first_failing}
+use Rattle.sl_terms.specs.Tests.{test, first_failing}
 use Rattle.sl_verify.specs.Faults.{coming_tests, need_tests, jump_tests, own_tests, instr_tests, pass_tests, end_tests, verify_fault}
-use Rattle.sl_stages.proofs.Tests.{pass_parts, pass_join}
+use Rattle.sl_terms.proofs.Tests.{pass_parts, pass_join}
 use Rattle.sl_verify.proofs.Passing.{both_hold, one_holds, one_passes, four_hold, four_pass, coming_meets, meets_coming, meets_stands, stands_meets, jump_leads, leads_jump, nothing_comes, nothing_ends}
 
 module _ (code : CountingCode) where

@@ -8,8 +8,8 @@ use Rattle.sl_verify.specs.declared.fault.VerifyFault.{VerifyFault}
 use Rattle.sl_verify.specs.Kinds.{implies}
 use Rattle.sl_verify.specs.WellKinded.{declared_at, context_of, leads_well, Stands}
 use Rattle.sl_verify.specs.Pieces.{kinds_here, meets}
-use Rattle.sl_stages.specs.book.Tests.{Test, test, first_failing, Judges}
-use Rattle.sl_stages.proofs.Tests.{fails_in_row, pass_join}
+use Rattle.sl_terms.specs.Tests.{Test, test, first_failing, Judges}
+use Rattle.sl_terms.proofs.Tests.{fails_in_row, pass_join}
 use Rattle.sl_verify.specs.Faults.{coming_tests, landing_tests, jump_tests, end_tests}
 
 pub both_hold : (a b : Bool) → IsTrue a → IsTrue b → IsTrue (a && b)

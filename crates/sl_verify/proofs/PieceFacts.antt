@@ -6,9 +6,9 @@ use Rattle.std.specs.Int.Bits.{and_zero_r}
 use Rattle.std.proofs.Math.Bool.{or-true}
 use Rattle.std.proofs.lemmas.Bool.{and_parts, ltb-true, lt-ltb, leb-true, le-leb, eq-eqb}
 use Rattle.std.proofs.lemmas.Option.{option_and_then_some}
-use Rattle.sl_stages.specs.declared.book.Shape.{Shape}
-use Rattle.sl_stages.specs.declared.book.Shape.TheVariants as shape
-use Rattle.sl_stages.specs.book.Typing.{same_shape}
+use Rattle.sl_terms.specs.declared.shape.Shape.{Shape}
+use Rattle.sl_terms.specs.declared.shape.Shape.TheVariants as shape
+use Rattle.sl_terms.specs.Shapes.{same_shape}
 use Rattle.sl_instructions.specs.Codes.{CountingCode}
 use Rattle.sl_instructions.specs.Rows.{target_of}
 use Rattle.sl_instructions.specs.Standing.{HasAt}

@@ -1,6 +1,6 @@
 -- What keeps a code from being well kinded: each test in its order, and the fault that it gives (docs/verifier.md, section 4).
 use Rattle.std.specs.Prelude.{ℕ, suc, ◌-◌, false, List, [], ◌∷◌, ◌++◌, length, Option, Some, None}
-use Rattle.sl_stages.specs.book.Tests.{Test, test, first_failing}
+use Rattle.sl_terms.specs.Tests.{Test, test, first_failing}
 use Rattle.sl_instructions.specs.Codes.{CountingCode}
 use Rattle.sl_instructions.specs.Rows.{target_of}
 use Rattle.sl_instructions.specs.declared.instr.Instr.{Instr}

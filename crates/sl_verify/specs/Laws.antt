@@ -1,7 +1,7 @@
 -- What the definitions of the verifier imply for pieces of code.
 use Rattle.std.specs.Prelude.{◌≡◌, ◌↔◌, ℕ, ◌+◌, ◌≤◌, ◌&&◌, List, ◌++◌, length, Option, Some, None, slice_get, option_and_then, IsTrue}
-use Rattle.sl_stages.specs.book.Tests.{first_failing}
-use Rattle.sl_stages.specs.declared.book.Shape.{Shape}
+use Rattle.sl_terms.specs.Tests.{first_failing}
+use Rattle.sl_terms.specs.declared.shape.Shape.{Shape}
 use Rattle.sl_instructions.specs.Codes.{CountingCode}
 use Rattle.sl_instructions.specs.Standing.{HasAt}
 use Rattle.sl_instructions.specs.declared.instr.Instr.{Instr}

@@ -1,6 +1,6 @@
 -- The kinds that come along a list of instructions, and whether its instructions pass, wherever it stands (docs/verifier.md, section 3).
 use Rattle.std.specs.Prelude.{◌≡◌, ℕ, ◌+◌, ◌-◌, ◌<◌, ◌≤◌, Bool, true, false, ◌&&◌, nat_le, List, [], ◌∷◌, length, Option, Some, None, slice_get, option_and_then, if◌then◌else◌}
-use Rattle.sl_stages.specs.declared.book.Shape.{Shape}
+use Rattle.sl_terms.specs.declared.shape.Shape.{Shape}
 use Rattle.sl_instructions.specs.Rows.{target_of}
 use Rattle.sl_instructions.specs.declared.instr.Instr.{Instr}
 use Rattle.sl_instructions.specs.declared.kinds.Kinds.{Kinds}

@@ -1,22 +1,70 @@
 //! What keeps a code from being well kinded.
 
-use thiserror::Error;
+use std::error::Error;
+use std::fmt;
 
 /// The first test that a code fails, with the number of its instruction, from 0 (docs/verifier.md, section 4).
-#[derive(Clone, Copy, Debug, PartialEq, Eq, Error)]
+#[derive(Clone, Copy, PartialEq, Eq)]
 pub enum VerifyFault {
-    #[error("instruction {0} jumps to a place without a declaration")]
+    /// It jumps to a place without a declaration.
     Jump(usize),
-    #[error("instruction {0} names a register that is not there")]
+    /// It names a register that is not there.
     Register(usize),
-    #[error("instruction {0} needs a positive register or a cursor")]
+    /// It needs a positive register or a cursor.
     Kind(usize),
-    #[error("instruction {0} names a column or a stage that is not there")]
+    /// It names a column or a stage that is not there.
     Slot(usize),
-    #[error("instruction {0} needs another table")]
+    /// It needs another table.
     TableKind(usize),
-    #[error("instruction {0} goes on to what it does not imply, or is never reached")]
+    /// It goes on to what it does not imply, or is never reached.
     Meet(usize),
-    #[error("nothing stands behind instruction {0}")]
+    /// Nothing stands behind it.
     RunsOff(usize),
 }
+
+impl VerifyFault {
+    // The text before the number, the number, and the text behind it.
+    fn words(self) -> (&'static str, usize, &'static str) {
+        match self {
+            VerifyFault::Jump(at) => (
+                "instruction ",
+                at,
+                " jumps to a place without a declaration",
+            ),
+            VerifyFault::Register(at) => (
+                "instruction ",
+                at,
+                " names a register that is not there",
+            ),
+            VerifyFault::Kind(at) => ("instruction ", at, " needs a positive register or a cursor"),
+            VerifyFault::Slot(at) => (
+                "instruction ",
+                at,
+                " names a column or a stage that is not there",
+            ),
+            VerifyFault::TableKind(at) => ("instruction ", at, " needs another table"),
+            VerifyFault::Meet(at) => (
+                "instruction ",
+                at,
+                " goes on to what it does not imply, or is never reached",
+            ),
+            VerifyFault::RunsOff(at) => ("nothing stands behind instruction ", at, ""),
+        }
+    }
+}
+
+impl fmt::Display for VerifyFault {
+    fn fmt<W: fmt::Write>(&self, f: &mut fmt::Formatter<W>) -> fmt::Result {
+        let (before, at, behind) = self.words();
+        write!(f, "{before}{at}{behind}")
+    }
+}
+
+/// Shows the text of `Display`.
+impl fmt::Debug for VerifyFault {
+    fn fmt<W: fmt::Write>(&self, f: &mut fmt::Formatter<W>) -> fmt::Result {
+        fmt::Display::fmt(self, f)
+    }
+}
+
+impl Error for VerifyFault {}

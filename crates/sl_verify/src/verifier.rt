@@ -10,7 +10,7 @@ use sl_instructions::Code;
 use std::marker::Model;
 
 /// A code that is well kinded (docs/verifier.md, section 3).
-#[derive(Debug, Drop)]
+#[derive(Drop)]
 pub struct Verified {
     code: Code,
 }
@@ -27,6 +27,14 @@ impl Model for Verified {
 }
 
 impl Verified {
+    /// A code that is known to be well kinded, without a test.
+    pub fn known(code: Code) -> Verified
+        requires { IsWellKinded code }
+        ensures { result ≡ code }
+    {
+        Verified { code }
+    }
+
     /// The code.
     pub fn code(&self) -> &Code
         ensures code { result.now ≡ self.now }

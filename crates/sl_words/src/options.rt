@@ -4,7 +4,7 @@ use clap::ArgMatches;
 use sl_explain::Language;
 
 /// How a command speaks on standard error.
-#[derive(Clone, Copy, Debug, PartialEq, Eq)]
+#[derive(Clone, Copy)]
 pub struct Options {
     /// It leaves its explanations away.
     pub is_quiet: bool,

@@ -1,14 +1,17 @@
 -- A covering as a block: the caller's conditions, and what the block does (docs/blocks.md, section 6).
-use Rattle.std.specs.Prelude.{◌≡◌, ◌≢◌, ℕ, ◌<◌, Bool, List, [], Some, nat_eq, slice_get, slice_index, slice_index_or}
-use Rattle.sl_stages.specs.declared.book.Shape.{Shape}
-use Rattle.sl_stages.specs.declared.book.Shape.TheVariants as shape
+use Rattle.std.specs.Prelude.{◌≡◌, ◌≢◌, ℕ, ◌<◌, Bool, List, [], ◌∷◌, Some, nat_eq, slice_get, slice_index, slice_index_or}
+use Rattle.sl_terms.specs.declared.shape.Shape.{Shape}
+use Rattle.sl_terms.specs.declared.shape.Shape.TheVariants as shape
 use Rattle.sl_stages.specs.declared.table.Placed.TheVariants as placed
 use Rattle.sl_stages.specs.returns.Election.{Election, parties_of}
 use Rattle.sl_instructions.specs.declared.instr.Instr.{Instr}
+use Rattle.sl_instructions.specs.declared.instr.Instr.TheVariants.{Get, Zero, Store}
 use Rattle.sl_semantics.specs.State.{State}
 use Rattle.sl_semantics.specs.Effects.{one_if}
 use Rattle.sl_semantics.specs.Memories.{column_of}
-use Rattle.sl_pieces.specs.covers.Trees.{CoverSlots}
+use Rattle.sl_plans.specs.Trees.{Tree, Then}
+use Rattle.sl_pieces.specs.declared.registers.TheConstants as reg
+use Rattle.sl_pieces.specs.covers.Trees.{CoverSlots, place_singles, count_winners, number_contested, seat_uncontested}
 use Rattle.sl_pieces.specs.covers.Covering.{AreCovered, EndsInTie}
 use Rattle.sl_blocks.specs.Blocks.{HasSlotsOf, IsShareBlock}
 
@@ -22,6 +25,17 @@ pub record IsCoverJob (shapes : List Shape) (x : CoverSlots) : Type 0 where
 -- the slots of a covering: the numbers of the lists stand in the first scratch slot by list
 abbrev pub cover_slots : (base eligible : ℕ) (scratch : List (List ℕ)) → CoverSlots
 cover_slots base eligible scratch = record { base = base; eligible = eligible; numbers = slice_index (slice_index_or scratch 3 []) 0 }
+
+-- the instructions of the blanks in the plan of a covering
+abbrev pub cover_given : CoverSlots → List Instr
+cover_given x =
+    Get reg.WEIGHT x.numbers
+    ∷ (Get reg.BASE x.eligible
+    ∷ (Get reg.LEFT x.base ∷ (Zero x.numbers ∷ (Store x.numbers reg.WEIGHT ∷ (Store x.numbers reg.SECOND_PASSING ∷ [])))))
+
+-- the plan of a covering with this for the contested lists
+abbrev pub cover_with : CoverSlots → Tree → Tree
+cover_with x contested = Then place_singles (Then (count_winners x) (Then (number_contested x) (Then (seat_uncontested x) contested)))
 
 -- the parties whose cell is 1
 abbrev pub flagged : CoverSlots → State → ℕ → Bool

@@ -4,9 +4,9 @@ use Rattle.sl_ratio.specs.declared.limits.TheConstants.{MAX_SEATS}
 use Rattle.sl_ratio.specs.declared.method.Divisor.{Divisor}
 use Rattle.sl_ratio.specs.declared.method.Method.{Method}
 use Rattle.sl_ratio.specs.declared.method.Method.TheVariants as by
-use Rattle.sl_stages.specs.declared.book.Shape.{Shape}
-use Rattle.sl_stages.specs.declared.book.Shape.TheVariants as shape
-use Rattle.sl_stages.specs.declared.limits.TheConstants.{MAX_STAGES}
+use Rattle.sl_terms.specs.declared.shape.Shape.{Shape}
+use Rattle.sl_terms.specs.declared.shape.Shape.TheVariants as shape
+use Rattle.sl_terms.specs.declared.limits.TheConstants.{MAX_STAGES}
 use Rattle.sl_stages.specs.returns.Election.{Election}
 use Rattle.sl_stages.specs.meaning.Results.{ExprResult}
 use Rattle.sl_stages.specs.meaning.Expressions.{IsSplit, IsGrown}

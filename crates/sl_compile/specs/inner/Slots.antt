@@ -1,6 +1,6 @@
 -- The shapes of the slots below those of the stages.
 use Rattle.std.specs.Prelude.{List, ◌++◌}
-use Rattle.sl_stages.specs.declared.book.Shape.{Shape}
+use Rattle.sl_terms.specs.declared.shape.Shape.{Shape}
 use Rattle.sl_blocks.specs.Facts.{fact_shapes, closing_shapes}
 use Rattle.sl_books.specs.Codes.{passing_shapes}
 

@@ -1,6 +1,6 @@
 //! The column of a stage: from a rulebook, returns and a name to the text of the column.
 
-ghost use Rattle.std.specs.Prelude.{◌≡◌, IfOk};
+ghost use Rattle.std.specs.Prelude.{◌≡◌, IfOk, IfErr};
 ghost use Rattle.sl_inputs.specs.Failures.{counts, counts_after};
 ghost use Rattle.sl_desk.specs.Showing.{IsStageOutput};
 ghost use Rattle.sl_inputs.specs.Reading.{book_input, book_failures, ForKnown, ReadsBook};
@@ -30,6 +30,15 @@ fn refusal(alloc: Global, name: &str) -> Result<Vec<u8>, NoMemory>
     Ok(line.into_bytes())
 }
 
+// The answer to a name without a stage.
+fn unknown(alloc: Global, name: &str) -> Result<Answer, DeskError>
+    ensures status { IfOk result (λ a. a.status ≡ Status.Refused) }
+    ensures line { IfOk result (λ a. a.text.items ≡ unknown_stage name.now) }
+    ensures memory { IfErr result (λ e. e ≡ DeskError.NoMemory) }
+{
+    Ok(Answer::refused(refusal(alloc, name)?))
+}
+
 // What showing a stage of a book on returns writes.
 pub(super) fn answer_to<B: Source, R: Source, L: Listener>(
     alloc: Global,
@@ -50,7 +59,7 @@ pub(super) fn answer_to<B: Source, R: Source, L: Listener>(
     match read_book(alloc, book)? {
         Verdict::Good(book) => match stage_number(&book.book, name) {
             Some(stage) => counted(Report::Stage(stage), alloc, &book, returns, listener),
-            None => Ok(Answer::refused(refusal(alloc, name)?)),
+            None => unknown(alloc, name),
         },
         Verdict::Refused(why) => Ok(Answer::refused(why.line(alloc)?)),
     }

@@ -1,7 +1,7 @@
 -- The lots of a table's stages, and draws that go on from the one before.
-use Rattle.std.proofs.Common.{◌≡◌, ◌≤◌, ℕ, zero, suc, true, false, List, [], ◌∷◌, ◌++◌, length, map, slice_get, Option, Some, None, Result, Ok, Err, OnOk, OnErr, All, IsPermutation, IsSome, nat_eq, codes, refl, sym, ap, subst, ◌∙◌, inl, inr, arith, eq-eqb, ne_eqb}
+use Rattle.std.proofs.Common.{◌≡◌, ◌≤◌, ℕ, zero, suc, Bool, true, false, List, [], ◌∷◌, ◌++◌, length, map, slice_get, Option, Some, None, Result, Ok, Err, OnOk, OnErr, All, IsPermutation, IsSome, nat_eq, codes, refl, sym, ap, subst, ◌∙◌, inl, inr, arith, eq-eqb, ne_eqb}
 use Rattle.std.specs.Prelude.{◌==◌, if◌then◌else◌}
-use Rattle.std.specs.Option.{option_map, option_map_or, ForSome}
+use Rattle.std.specs.Option.{option_and_then, option_map, option_map_or, ForSome}
 use Rattle.std.specs.Ordering.{is_lt}
 use Rattle.std.specs.declared.cmp.Ordering.{Ordering}
 use Rattle.std.specs.declared.cmp.Ordering.TheVariants.{Less}
@@ -9,7 +9,7 @@ use Rattle.std.proofs.lemmas.Bool.{cases_Bool, cases_eq}
 use Rattle.std.proofs.lemmas.Option.{same_Some}
 use Rattle.sl_ratio.specs.declared.entry.Entry.{Entry}
 use Rattle.sl_ratio.specs.Quotient.{FitsRatio, compare}
-use Rattle.sl_prio.specs.Prio.{peers, top}
+use Rattle.sl_prio.specs.Prio.{is_covered, peers, top}
 use Rattle.sl_prio.specs.inner.Marks.{IsPassed}
 use Rattle.sl_prio.proofs.LawProofs.{order_is_free}
 use Rattle.sl_prio.proofs.PeerCounts.{passed}
@@ -21,10 +21,11 @@ use Rattle.sl_instructions.specs.Codes.{CountingCode}
 use Rattle.sl_verify.specs.declared.needs.TheConstants.{LAST_CLAUSE}
 use Rattle.sl_machine.specs.declared.priority.TableKind.{TableKind}
 use Rattle.sl_semantics.specs.Drawn.{lot_of}
-use Rattle.sl_semantics.specs.Effects.{Effect, given, stage_of, name_of}
-use Rattle.sl_semantics.specs.State.{PriorityTable}
+use Rattle.sl_semantics.specs.Effects.{Effect, Goes, Jumps, given, stage_of, name_of}
+use Rattle.sl_semantics.specs.State.{PriorityTable, State}
 use Rattle.sl_machine.specs.inner.Lots.{LotTable, StageLots, lot_in, lots_for, stage_lots}
 use Rattle.sl_machine.proofs.Priorities.{table_with}
+use Rattle.sl_machine.proofs.drawing.Drawing.{topped}
 
 -- ---- the names that are passed over
 
@@ -120,3 +121,12 @@ pub by_name : (e : Election) (table : Option PriorityTable) (lots : List StageLo
 by_name e None lots k name go is = refl
 by_name e (Some t) lots k None go is = rw is refl
 by_name e (Some t) lots k (Some n) go is = rw is (ap (go t) (lot_of_stage e t.entries n))
+
+-- where there is a top: the answer whether it names every peer
+pub covers_by_name : (e : Election) (table : Option PriorityTable) (lots : List StageLots) (k : ℕ) (name : Option (List ℕ)) (s : State) (result : Bool)
+    → slice_get lots k ≡ option_map (stage_lots e) name → IsSome (option_and_then (λ t. top t.contents) table)
+    → given table (λ t. given (option_map (lot_in t.entries) (slice_get lots k)) (λ lot. if is_covered lot t.contents then Goes s else Jumps s)) ≡ (if result then Goes s else Jumps s)
+    → (if result then Goes s else Jumps s) ≡ given table (λ t. given (top t.contents) (λ first. given name (λ n. if is_covered (lot_of e t.entries n) t.contents then Goes s else Jumps s)))
+covers_by_name e table lots k name s result its some covers =
+    let go : PriorityTable → List ℕ → Effect = λ t lot. if is_covered lot t.contents then Goes s else Jumps s in
+    sym covers ∙ by_name e table lots k name go its ∙ sym (topped e go table name some)

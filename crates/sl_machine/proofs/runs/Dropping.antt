@@ -1,7 +1,7 @@
 -- An instruction reads no records: in a state without them it does what it does, but for those.
 use Rattle.std.proofs.Common.{◌≡◌, ◌≢◌, sym, ℕ, zero, suc, Bool, true, false, Option, Some, None, min, if◌then◌else◌, refl, ap, rules}
-use Rattle.sl_stages.specs.declared.book.Shape.{Shape}
-use Rattle.sl_stages.specs.declared.book.Shape.TheVariants as shape
+use Rattle.sl_terms.specs.declared.shape.Shape.{Shape}
+use Rattle.sl_terms.specs.declared.shape.Shape.TheVariants as shape
 use Rattle.sl_stages.specs.declared.fault.Scope.{Scope}
 use Rattle.sl_ratio.specs.declared.limits.TheConstants.{MAX_WEIGHT}
 use Rattle.sl_stages.specs.declared.table.Mark.{Mark}

@@ -1,6 +1,6 @@
 -- The lots of a code's stages in tables of each kind of entries.
-use Rattle.std.specs.Prelude.{ℕ, List, [], ◌∷◌, ◌++◌, Option, map, codes, slice_get}
-use Rattle.std.specs.Option.{option_and_then, option_map, option_to_list}
+use Rattle.std.specs.Prelude.{ℕ, List, [], ◌∷◌, ◌++◌, Option, map, codes}
+use Rattle.std.specs.Option.{option_map, option_to_list}
 use Rattle.sl_stages.specs.declared.returns.Lot.{Lot}
 use Rattle.sl_stages.specs.returns.Election.{Election}
 use Rattle.sl_stages.specs.meaning.Scopes.{place}
@@ -44,7 +44,3 @@ lots_for c e = map (λ stage. stage_lots e stage.name) c.stages ++ stage_lots e 
 pub record LotTable : Type 0 where
   pub on : Option PriorityTable
   pub lots : List StageLots
-
--- the lot of a stage in the table that is on
-abbrev pub lot_at : ℕ → LotTable → Option (List ℕ)
-lot_at stage t = option_and_then (λ table. option_map (lot_in table.entries) (slice_get t.lots stage)) t.on

@@ -1,7 +1,7 @@
 -- What the cursors of the party and the Land stand at, and the cells of columns there.
 use Rattle.std.specs.Prelude.{ℕ, ◌+◌, ◌*◌, Option, Some}
-use Rattle.sl_stages.specs.declared.book.Shape.{Shape}
-use Rattle.sl_stages.specs.declared.book.Shape.TheVariants as shape
+use Rattle.sl_terms.specs.declared.shape.Shape.{Shape}
+use Rattle.sl_terms.specs.declared.shape.Shape.TheVariants as shape
 use Rattle.sl_semantics.specs.Places.{both}
 
 -- each is set or unset; how many parties there are is how many lists a Land's row has

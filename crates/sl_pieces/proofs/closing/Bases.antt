@@ -10,12 +10,13 @@ use Rattle.sl_stages.specs.declared.book.Base.TheVariants as base
 use Rattle.sl_stages.specs.declared.book.ColumnType.{ColumnType}
 use Rattle.sl_stages.specs.declared.check_fault.CheckFault.TheVariants as fault
 use Rattle.sl_stages.specs.declared.book.LastClause.{LastClause}
-use Rattle.sl_stages.specs.declared.book.Shape.{Shape}
-use Rattle.sl_stages.specs.declared.book.Shape.TheVariants as shape
+use Rattle.sl_terms.specs.declared.shape.Shape.{Shape}
+use Rattle.sl_terms.specs.declared.shape.Shape.TheVariants as shape
 use Rattle.sl_stages.specs.declared.book.Unit.TheVariants as unit
-use Rattle.sl_stages.specs.book.Tests.{test, first_failing}
+use Rattle.sl_terms.specs.Tests.{test, first_failing}
 use Rattle.sl_stages.specs.book.Trees.{BookTree, name}
-use Rattle.sl_stages.specs.book.Typing.{column, type_of, type_or_one, is_named, is_typed, same_shape, same_unit, name_tests, base_tests}
+use Rattle.sl_stages.specs.book.Typing.{column, type_of, type_or_one, is_named, is_typed, same_unit, name_tests, base_tests}
+use Rattle.sl_terms.specs.Shapes.{same_shape}
 use Rattle.sl_stages.specs.returns.Election.{Election, IsElection, lands_of, parties_of}
 use Rattle.sl_stages.specs.returns.Facts.{list_winners}
 use Rattle.sl_stages.specs.meaning.Columns.{IsLeaf}
@@ -24,8 +25,9 @@ use Rattle.sl_stages.specs.meaning.Means.{Known}
 use Rattle.sl_stages.specs.meaning.Records.{no_records}
 use Rattle.sl_stages.specs.meaning.Seating.{base_of}
 use Rattle.sl_stages.specs.laws.ColumnLaws.{FitsType}
-use Rattle.sl_stages.proofs.Shapes.{same_shape_is, same_unit_is}
-use Rattle.sl_stages.proofs.Tests.{pass_parts, head_holds}
+use Rattle.sl_stages.proofs.Units.{same_unit_is}
+use Rattle.sl_terms.proofs.Shapes.{same_shape_is}
+use Rattle.sl_terms.proofs.Tests.{pass_parts, head_holds}
 use Rattle.sl_stages.proofs.typing.NodeLaws.{column_is}
 use Rattle.sl_stages.proofs.meaning.TypedColumns.{winners_typed}
 use Rattle.sl_stages.proofs.meaning.TypedMeaning.{typed_expressions}

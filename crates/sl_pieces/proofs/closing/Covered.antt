@@ -9,7 +9,7 @@ use Rattle.sl_ratio.specs.declared.limits.TheConstants.{MAX_SEATS}
 use Rattle.sl_stages.specs.declared.fact.Fact.TheVariants as facts
 use Rattle.sl_stages.specs.declared.book.Seating.{Seating}
 use Rattle.sl_stages.specs.declared.book.Seating.TheVariants as seating
-use Rattle.sl_stages.specs.declared.book.Shape.TheVariants as shape
+use Rattle.sl_terms.specs.declared.shape.Shape.TheVariants as shape
 use Rattle.sl_stages.specs.declared.fault.LegalFault.{LegalFault}
 use Rattle.sl_stages.specs.declared.returns.Win.{Win}
 use Rattle.sl_stages.specs.declared.table.Outcome.{Outcome}

@@ -15,7 +15,7 @@ use Rattle.sl_stages.specs.declared.book.Pairing.TheVariants as pairings
 use Rattle.sl_stages.specs.declared.fact.Fact.TheVariants as facts
 use Rattle.sl_stages.specs.declared.book.Seating.{Seating}
 use Rattle.sl_stages.specs.declared.book.Seating.TheVariants as seating
-use Rattle.sl_stages.specs.declared.book.Shape.TheVariants as shape
+use Rattle.sl_terms.specs.declared.shape.Shape.TheVariants as shape
 use Rattle.sl_stages.specs.declared.table.Outcome.TheVariants as outcome
 use Rattle.sl_stages.specs.meaning.Means.{Known, IsSeated, IsEnd}
 use Rattle.sl_stages.proofs.meaning.PlacedWinners.{kept_direct}

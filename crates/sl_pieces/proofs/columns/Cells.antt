@@ -1,7 +1,7 @@
 -- The walk over the cells of a column: a body that leads from so many cells done to one more does all of them.
 use Rattle.std.proofs.Common.{◌≡◌, ℕ, ◌+◌, ◌*◌, ◌<◌, false, List, Option, Some, None, refl, subst, ◌∙◌, arith}
-use Rattle.sl_stages.specs.declared.book.Shape.{Shape}
-use Rattle.sl_stages.specs.declared.book.Shape.TheVariants as shape
+use Rattle.sl_terms.specs.declared.shape.Shape.{Shape}
+use Rattle.sl_terms.specs.declared.shape.Shape.TheVariants as shape
 use Rattle.sl_stages.specs.returns.Election.{Election, lands_of, parties_of}
 use Rattle.sl_instructions.specs.Codes.{CountingCode}
 use Rattle.sl_semantics.specs.State.{State, End}

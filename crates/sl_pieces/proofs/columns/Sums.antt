@@ -6,8 +6,8 @@ use Rattle.std.proofs.lemmas.List.FromFn.{length-map-range_with_len, get_or-map-
 use Rattle.std.proofs.lemmas.List.Sums.{sum_by_more, sum_by-take-le}
 use Rattle.std.proofs.lemmas.Option.{same_Some}
 use Rattle.sl_stages.specs.declared.book.Axis.TheVariants as axis
-use Rattle.sl_stages.specs.declared.book.Shape.{Shape}
-use Rattle.sl_stages.specs.declared.book.Shape.TheVariants as shape
+use Rattle.sl_terms.specs.declared.shape.Shape.{Shape}
+use Rattle.sl_terms.specs.declared.shape.Shape.TheVariants as shape
 use Rattle.sl_stages.specs.returns.Election.{Election, lands_of, parties_of}
 use Rattle.sl_stages.specs.returns.Facts.{list_cell}
 use Rattle.sl_stages.specs.meaning.Columns.{sum_over}

@@ -6,9 +6,9 @@ use Rattle.sl_ratio.specs.declared.limits.TheConstants.{MAX_WEIGHT}
 use Rattle.sl_ratio.specs.declared.method.Method.TheVariants as by
 use Rattle.sl_stages.specs.declared.book.Axis.{Axis}
 use Rattle.sl_stages.specs.declared.book.Pairing.{Pairing}
-use Rattle.sl_stages.specs.declared.book.Shape.{Shape}
+use Rattle.sl_terms.specs.declared.shape.Shape.{Shape}
 use Rattle.sl_stages.specs.book.Limits.{depth_of}
-use Rattle.sl_stages.specs.book.Tests.{first_failing}
+use Rattle.sl_terms.specs.Tests.{first_failing}
 use Rattle.sl_stages.specs.book.Trees.{ExprTree, fact, name, sum, pair, split, without, atleast, grow, BookTree}
 use Rattle.sl_stages.specs.book.Typing.{is_typed, fact_type, type_of, expr_tests, splits_in, is_named}
 use Rattle.sl_stages.specs.returns.Election.{Election, IsElection}
@@ -17,7 +17,7 @@ use Rattle.sl_stages.specs.meaning.Records.{Records, no_records, both_records}
 use Rattle.sl_stages.specs.meaning.Results.{Column, plain, Then}
 use Rattle.sl_stages.specs.meaning.Expressions.{Context, shape_in, stand, ExprMeans, IsSplit, IsGrown}
 use Rattle.sl_stages.specs.laws.ColumnLaws.{IsTypedAs}
-use Rattle.sl_stages.proofs.Tests.{head_holds, pass_parts}
+use Rattle.sl_terms.proofs.Tests.{head_holds, pass_parts}
 use Rattle.sl_stages.proofs.typing.TestLists.{pass_parts3, pass_parts4}
 use Rattle.sl_stages.proofs.meaning.TypedMeaning.{typed_expressions}
 use Rattle.sl_instructions.specs.Codes.{CountingCode}

@@ -1,12 +1,13 @@
 -- Where the columns in passing stand.
 use Rattle.std.proofs.Common.{◌≡◌, ◌≢◌, ◌⊎◌, ℕ, ◌+◌, ◌<◌, ◌≤◌, List, Some, slice_get, refl, sym, ap, ◌∙◌, inl, inr, arith}
-use Rattle.sl_stages.specs.declared.book.Shape.{Shape}
-use Rattle.sl_stages.specs.declared.book.Shape.TheVariants as shape
+use Rattle.sl_terms.specs.declared.shape.Shape.{Shape}
+use Rattle.sl_terms.specs.declared.shape.Shape.TheVariants as shape
 use Rattle.sl_stages.specs.declared.fact.Fact.{Fact}
 use Rattle.sl_stages.specs.declared.fact.Fact.TheVariants as facts
 use Rattle.sl_stages.specs.declared.limits.TheConstants.{MAX_DEPTH}
 use Rattle.sl_stages.specs.book.Trees.{ExprTree, fact}
-use Rattle.sl_stages.specs.book.Typing.{Column, type_of, shape_number}
+use Rattle.sl_stages.specs.book.Typing.{Column, type_of}
+use Rattle.sl_terms.specs.Shapes.{shape_number}
 use Rattle.sl_instructions.specs.Codes.{CountingCode}
 use Rattle.sl_pieces.specs.scopes.Forms.{Form, AllParties, amounts_of, votes_of}
 use Rattle.sl_pieces.specs.exprs.Slots.{fact_slots, passing, StandsOn, OfFact, InPassing, HasBookSlots, FIRST_PASSING_SLOT, FIRST_STAGE_SLOT}

@@ -6,8 +6,8 @@ use Rattle.sl_ratio.specs.declared.limits.TheConstants.{MAX_WEIGHT}
 use Rattle.sl_stages.specs.declared.book.Axis.{Axis}
 use Rattle.sl_stages.specs.declared.book.Axis.TheVariants as axis
 use Rattle.sl_stages.specs.declared.book.Pairing.{Pairing}
-use Rattle.sl_stages.specs.declared.book.Shape.{Shape}
-use Rattle.sl_stages.specs.declared.book.Shape.TheVariants as shape
+use Rattle.sl_terms.specs.declared.shape.Shape.{Shape}
+use Rattle.sl_terms.specs.declared.shape.Shape.TheVariants as shape
 use Rattle.sl_stages.specs.declared.book.Unit.{Unit as Units}
 use Rattle.sl_stages.specs.declared.book.Unit.TheVariants as unit
 use Rattle.sl_stages.specs.declared.book.ColumnType.{ColumnType}

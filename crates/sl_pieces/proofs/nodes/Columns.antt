@@ -5,7 +5,7 @@ use Rattle.std.specs.List.{AllByRecursion as Every, AllZip}
 use Rattle.std.proofs.lemmas.Bool.{and_parts, cases_eq, false_from_ne_true}
 use Rattle.std.proofs.lemmas.List.FromFn.{length-map-range_with_len}
 use Rattle.std.proofs.lemmas.Option.{none-some, same_Some, slice_get_within, slice_get-get_or}
-use Rattle.sl_stages.specs.declared.book.Shape.TheVariants as shape
+use Rattle.sl_terms.specs.declared.shape.Shape.TheVariants as shape
 use Rattle.sl_stages.specs.declared.fault.Item.{Item}
 use Rattle.sl_stages.specs.declared.fault.Item.TheVariants as item
 use Rattle.sl_stages.specs.returns.Election.{Election, lands_of, parties_of}

@@ -10,7 +10,7 @@ use Rattle.sl_stages.specs.returns.Election.{Election}
 use Rattle.sl_stages.specs.meaning.Scopes.{Group, pair_column}
 use Rattle.sl_stages.specs.meaning.Results.{fault_at, first_over, ExprResult, Fault, AreJoined, IsShared}
 use Rattle.sl_stages.proofs.meaning.JoinedScopes.{none_over, over_after, IsSeats, joined_fault, joined_seats}
-use Rattle.sl_stages.specs.declared.book.Shape.{Shape}
+use Rattle.sl_terms.specs.declared.shape.Shape.{Shape}
 use Rattle.sl_stages.specs.declared.fault.LegalFault.{LegalFault}
 use Rattle.sl_stages.specs.declared.table.SeatStep.{SeatStep}
 use Rattle.sl_stages.specs.declared.table.Weight.{Weight}

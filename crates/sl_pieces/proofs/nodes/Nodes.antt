@@ -1,6 +1,6 @@
 -- Splits and growths, from what their plans achieve in each scope.
 use Rattle.std.proofs.Common.{Some, subst}
-use Rattle.sl_stages.specs.declared.book.Shape.{Shape}
+use Rattle.sl_terms.specs.declared.shape.Shape.{Shape}
 use Rattle.sl_stages.specs.meaning.Scopes.{scopes}
 use Rattle.sl_stages.specs.meaning.Results.{ExprResult, Stand, IsShared}
 use Rattle.sl_stages.specs.meaning.Expressions.{IsSplitIn, split_records, IsGrowthIn, growth_records}

@@ -1,7 +1,7 @@
 -- What the plan of a covering achieves (docs/blocks.md, section 6).
 use Rattle.std.specs.Prelude.{◌≡◌, ◌≢◌, ℕ, ◌*◌, ◌<◌, Bool, List, [], Some, length, slice_get, slice_index, filter_map, flat_map}
 use Rattle.std.specs.List.{zip, AllZip}
-use Rattle.sl_stages.specs.declared.book.Shape.TheVariants as shape
+use Rattle.sl_terms.specs.declared.shape.Shape.TheVariants as shape
 use Rattle.sl_stages.specs.declared.fault.LegalFault.{LegalFault}
 use Rattle.sl_stages.specs.declared.returns.Win.{Win}
 use Rattle.sl_stages.specs.declared.table.Placed.TheVariants as placed

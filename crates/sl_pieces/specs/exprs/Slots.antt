@@ -1,11 +1,12 @@
 -- The slots of a compiled rulebook: facts, columns to work in, columns in passing, and a column for each stage (docs/compiler.md, section 3).
 use Rattle.std.specs.Prelude.{◌≡◌, ℕ, ◌+◌, ◌*◌, ◌≤◌, List, Some, slice_get}
-use Rattle.sl_stages.specs.declared.book.Shape.{Shape}
-use Rattle.sl_stages.specs.declared.book.Shape.TheVariants as shape
+use Rattle.sl_terms.specs.declared.shape.Shape.{Shape}
+use Rattle.sl_terms.specs.declared.shape.Shape.TheVariants as shape
 use Rattle.sl_stages.specs.declared.fact.Fact.{Fact}
 use Rattle.sl_stages.specs.declared.fact.Fact.TheVariants as facts
 use Rattle.sl_stages.specs.declared.limits.TheConstants.{MAX_DEPTH}
-use Rattle.sl_stages.specs.book.Typing.{Column, fact_number, fact_type, shape_number}
+use Rattle.sl_stages.specs.book.Typing.{Column, fact_number, fact_type}
+use Rattle.sl_terms.specs.Shapes.{shape_number}
 use Rattle.sl_instructions.specs.Codes.{CountingCode}
 use Rattle.sl_pieces.specs.declared.slots.TheConstants.{ELIGIBLE, FIRST_FACT, VOTES, NUMBERS}
 pub use Rattle.sl_pieces.specs.declared.slots.TheConstants.{PAIR_NUMBERS as pair_numbers, NAMES_LEFT as names_left, VACANT_SEATS as vacant_seats, FIRST_PASSING_SLOT, LEVELS, FIRST_STAGE_SLOT}

@@ -1,7 +1,7 @@
 -- What the plan of a scope achieves: the award that the scope comes to, or its fault (docs/blocks.md, section 4).
 use Rattle.std.specs.Prelude.{◌≡◌, ◌≢◌, ℕ, ◌≤◌, List, Option, None, Some, ◌++◌, All, slice_get, slice_index, IsPermutation}
 use Rattle.sl_ratio.specs.declared.limits.TheConstants.{MAX_WEIGHT, MAX_SEATS}
-use Rattle.sl_stages.specs.declared.book.Shape.{Shape}
+use Rattle.sl_terms.specs.declared.shape.Shape.{Shape}
 use Rattle.sl_stages.specs.declared.fault.Item.{Item}
 use Rattle.sl_stages.specs.declared.fault.FaultKind.{FaultKind}
 use Rattle.sl_stages.specs.declared.table.SeatStep.{SeatStep}

@@ -1,7 +1,7 @@
 -- The instructions on registers and columns, and the jumps that compare registers.
 use Rattle.std.proofs.Common.{◌≡◌, ◌≢◌, ℕ, suc, ◌+◌, ◌-◌, ◌/◌, ◌%◌, ◌<◌, ◌≤◌, min, max, ◌==◌, Option, Some, None, slice_get, if◌then◌else◌, refl, ap, arith, ne_eqb}
 use Rattle.std.proofs.lemmas.Bool.{lt-ltb, le-ltb}
-use Rattle.sl_stages.specs.declared.book.Shape.{Shape}
+use Rattle.sl_terms.specs.declared.shape.Shape.{Shape}
 use Rattle.sl_stages.specs.returns.Election.{Election}
 use Rattle.sl_instructions.specs.declared.instr.Instr.TheVariants as instr
 use Rattle.sl_instructions.specs.declared.operand.Input.{Input}

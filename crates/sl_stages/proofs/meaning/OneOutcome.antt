@@ -16,7 +16,7 @@ use Rattle.sl_stages.specs.declared.table.Outcome.{Outcome}
 use Rattle.sl_stages.specs.declared.table.Outcome.TheVariants as outcome
 use Rattle.sl_stages.specs.book.Trees.{StageTree, BookTree}
 use Rattle.sl_stages.specs.returns.Election.{Election, IsElection, IsWin}
-use Rattle.sl_stages.specs.book.Tests.{first_failing, test}
+use Rattle.sl_terms.specs.Tests.{first_failing, test}
 use Rattle.sl_stages.specs.book.Typing.{is_seat_number, columns_of, stage_column, base_tests, tests_of, version_tests, condition_tests, stages_tests, is_typed}
 use Rattle.sl_stages.specs.meaning.Columns.{IsLeaf}
 use Rattle.sl_stages.specs.meaning.Seating.{base_of}
@@ -32,7 +32,7 @@ use Rattle.sl_stages.specs.laws.OneLaws.{ExactlyOne, OneStagesResult, OneSeating
 use Rattle.sl_stages.proofs.methods.CoveringProofs.{coverings}
 use Rattle.sl_stages.proofs.meaning.ExactlyOne.{one_equal, one_zip}
 use Rattle.sl_stages.proofs.meaning.OneAward.{mentions_distinct}
-use Rattle.sl_stages.proofs.Tests.{no_fault, head_holds, pass_parts}
+use Rattle.sl_terms.proofs.Tests.{no_fault, head_holds, pass_parts}
 use Rattle.sl_stages.proofs.meaning.OneResult.{SameNames, one_column, one_run}
 use Rattle.sl_stages.proofs.meaning.Members.{all_and_one}
 

@@ -5,8 +5,8 @@ use Rattle.sl_ratio.specs.declared.method.Method.{Method}
 use Rattle.sl_ratio.specs.declared.method.Method.TheVariants.{Divisor, Hamilton}
 use Rattle.sl_ratio.specs.declared.limits.TheConstants.{MAX_SEATS}
 use Rattle.sl_stages.specs.declared.limits.TheConstants.{MAX_PER}
-use Rattle.sl_stages.specs.declared.book.Shape.{Shape}
-use Rattle.sl_stages.specs.declared.book.Shape.TheVariants as shape
+use Rattle.sl_terms.specs.declared.shape.Shape.{Shape}
+use Rattle.sl_terms.specs.declared.shape.Shape.TheVariants as shape
 use Rattle.sl_stages.specs.declared.book.Unit.{Unit as Units}
 use Rattle.sl_stages.specs.declared.book.Unit.TheVariants as unit
 use Rattle.sl_stages.specs.declared.book.Axis.{Axis}
@@ -23,9 +23,10 @@ use Rattle.sl_stages.specs.declared.check_fault.CheckFault.{CheckFault}
 use Rattle.sl_stages.specs.declared.fact.Fact.{Fact}
 use Rattle.sl_stages.specs.declared.fact.Fact.TheVariants as facts
 use Rattle.sl_stages.specs.declared.check_fault.CheckFault.TheVariants as fault
-use Rattle.sl_stages.specs.book.Tests.{Test, test, first_failing}
+use Rattle.sl_terms.specs.Tests.{Test, test, first_failing}
 use Rattle.sl_stages.specs.book.Trees.{ExprTree, fact, name, sum, pair, split, without, atleast, grow, StageTree, BookTree}
 use Rattle.std.specs.Str.{bytes_eq}
+use Rattle.sl_terms.specs.Shapes.{same_shape}
 
 -- ---- columns
 
@@ -40,12 +41,6 @@ is_named n c = bytes_eq n c.name
 -- a column of that shape and unit
 abbrev pub column : Shape → Units → ColumnType
 column s u = record { shape = s; unit = u }
-
-abbrev pub shape_number : Shape → ℕ
-shape_number shape.One = 0
-shape_number shape.Party = 1
-shape_number shape.Land = 2
-shape_number shape.List = 3
 
 abbrev pub type_or_one : Option Column → ColumnType
 type_or_one None = column shape.One unit.Seats
@@ -82,13 +77,6 @@ type_of cs (sum at e over) = column (shape_over over) (type_of cs e).unit
 type_of cs (pair at pairing l r) = type_of cs l
 type_of cs (split at s v method minima m) = column (type_of cs v).shape unit.Seats
 type_of cs (grow at s v method f cap m) = column (type_of cs v).shape unit.Seats
-
-abbrev pub same_shape : Shape → Shape → Bool
-same_shape shape.One shape.One = true
-same_shape shape.Party shape.Party = true
-same_shape shape.Land shape.Land = true
-same_shape shape.List shape.List = true
-same_shape _ _ = false
 
 abbrev pub same_unit : Units → Units → Bool
 same_unit unit.Seats unit.Seats = true

@@ -1,7 +1,8 @@
 -- The value of each limit of rulebooks and returns (docs/limits.md).
 use Rattle.std.specs.Prelude.{◌≡◌}
 use Rattle.sl_ratio.specs.declared.limits.TheConstants.{MAX_NUMBER, MAX_SEATS, MAX_PARTIES, MAX_LANDS, MAX_VOTES}
-use Rattle.sl_stages.specs.declared.limits.TheConstants.{MAX_STAGES, MAX_DEPTH, MAX_PARTS, MAX_PER, MAX_WINS, MAX_LOTS, MAX_SLATE}
+use Rattle.sl_stages.specs.declared.limits.TheConstants.{MAX_DEPTH, MAX_PARTS, MAX_PER, MAX_WINS, MAX_LOTS, MAX_SLATE}
+use Rattle.sl_terms.specs.declared.limits.TheConstants.{MAX_STAGES}
 
 pub record Limits : Type 0 where
   pub stages : MAX_STAGES ≡ 32

@@ -3,7 +3,7 @@
 use Rattle.std.specs.Prelude.{◌≡◌, ℕ, List, Option, Some, None, MatchOption, option_map, unwrap_or, flat_map, filter_map, find, nat_lt, slice_get, slice_index}
 use Rattle.std.specs.List.{zip, AllZip}
 use Rattle.sl_ratio.specs.declared.limits.TheConstants.{MAX_SEATS}
-use Rattle.sl_stages.specs.declared.book.Shape.{Shape}
+use Rattle.sl_terms.specs.declared.shape.Shape.{Shape}
 use Rattle.sl_stages.specs.declared.fault.Scope.{Scope}
 use Rattle.sl_stages.specs.declared.fault.FaultKind.{FaultKind}
 use Rattle.sl_stages.specs.declared.fault.FaultKind.TheVariants as fault

@@ -9,7 +9,7 @@ ghost use Rattle.sl_stages.specs.returns.Votes.{IsListVotes};
 
 use crate::cell::Cell;
 use crate::label::Label;
-use crate::limits::MAX_PARTIES;
+use crate::limits::{MAX_LANDS, MAX_PARTIES, MAX_WINS};
 use crate::returns::{ListVotes, Lot, Returns, Win};
 use sl_ratio::NoMemory;
 use std::alloc::Global;
@@ -23,12 +23,14 @@ fn blank_row(alloc: Global) -> Result<Vec<Cell>, NoMemory>
     Ok(row)
 }
 
-// Makes room for one more item.
-fn make_room<T>(items: &mut Vec<T>) -> Result<(), NoMemory>
+// Makes room for one more item. The first asks for as many as there may be, so that none is copied later: memory that is
+// not touched costs nothing.
+fn make_room<T>(items: &mut Vec<T>, most: usize) -> Result<(), NoMemory>
     ensures same { items.new.items ≡ items.old.items }
     ensures room { OnOk result (vec_len items.new < vec_capacity items.new) }
 {
-    items.reserve(1)?;
+    let more = if items.is_empty() { most.max(1) } else { 1 };
+    items.reserve(more)?;
     Ok(())
 }
 
@@ -76,9 +78,9 @@ impl Returns {
         ensures unchanged { OnErr result (self.new ≡ self.old) }
     {
         let row = blank_row(self.alloc)?;
-        make_room(&mut self.lands)?;
-        make_room(&mut self.populations)?;
-        make_room(&mut self.rows)?;
+        make_room(&mut self.lands, MAX_LANDS)?;
+        make_room(&mut self.populations, MAX_LANDS)?;
+        make_room(&mut self.rows, MAX_LANDS)?;
         put(&mut self.lands, Label::new(name));
         put(&mut self.populations, population);
         put(&mut self.rows, row);
@@ -95,8 +97,8 @@ impl Returns {
         ensures added { OnOk result (self.new ≡ with_party self.old name.now minority) }
         ensures unchanged { OnErr result (self.new ≡ self.old) }
     {
-        make_room(&mut self.parties)?;
-        make_room(&mut self.minorities)?;
+        make_room(&mut self.parties, MAX_PARTIES)?;
+        make_room(&mut self.minorities, MAX_PARTIES)?;
         put(&mut self.parties, Label::new(name));
         put(&mut self.minorities, minority);
         Ok(())
@@ -156,8 +158,8 @@ impl Returns {
         ensures added { OnOk result (self.new ≡ with_win self.old name.now (record { land = land; party = party; first = first; valid = valid })) }
         ensures unchanged { OnErr result (self.new ≡ self.old) }
     {
-        make_room(&mut self.winners)?;
-        make_room(&mut self.wins)?;
+        make_room(&mut self.winners, MAX_WINS)?;
+        make_room(&mut self.wins, MAX_WINS)?;
         put(&mut self.winners, Label::new(name));
         let win = Win {
             land,
@@ -205,7 +207,7 @@ impl Returns {
         ensures added { OnOk result (self.new ≡ with_lot self.old (record { land = land; party = party; stage = stage.now; win = win })) }
         ensures unchanged { OnErr result (self.new ≡ self.old) }
     {
-        make_room(&mut self.lots)?;
+        make_room(&mut self.lots, 1)?;
         let lot = Lot {
             land,
             party,

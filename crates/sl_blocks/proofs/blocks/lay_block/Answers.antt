@@ -1,25 +1,12 @@
 use Rattle.std.proofs.Common.{vec_len}
 use Rattle.sl_plans.specs.inner.Layout.{tree_of}
 use Rattle.sl_blocks.specs.inner.Given.{given_of}
-use Rattle.sl_blocks.proofs.Laid.{laid_as, rest_as, block_as_split, block_as_growth}
+use Rattle.sl_blocks.proofs.Laid.{laid_as, last_as}
 use Rattle.sl_blocks.proofs.blocks.lay_block.Goals as goal
 
-pub returns-in-None-clause-ok : goal.returns-in-None-clause-ok
-returns-in-None-clause-ok c =
+pub returns-clause-ok : goal.returns-clause-ok
+returns-clause-ok c =
     let b = c.args.block.now in
-    let given = given_of b in
-    laid_as c.lay_split_with.result _ _ (vec_len c.args.code.now) c.args.code.now.items c.lay_split_with.new.code.items
-    (block_as_split b _ c.in-None.is
-    (rest_as b (tree_of given c.count_left.result.now) (tree_of given c.whole_batches.result.now) (tree_of given c.drawn_batch.result.now) (tree_of given c.refuse.result.now)
-    (c.count_left.ensures given) c.whole_batches.ensures c.drawn_batch.ensures c.refuse.ensures))
-    c.lay_split_with.ensures.ok
-
-pub returns-in-Some-clause-ok : goal.returns-in-Some-clause-ok
-returns-in-Some-clause-ok c =
-    let b = c.args.block.now in
-    let given = given_of b in
-    laid_as c.lay_growth_with.result _ _ (vec_len c.args.code.now) c.args.code.now.items c.lay_growth_with.new.code.items
-    (block_as_growth b c.in-Some.field-0 _ c.in-Some.is
-    (rest_as b (tree_of given c.count_left.result.now) (tree_of given c.whole_batches.result.now) (tree_of given c.drawn_batch.result.now) (tree_of given c.refuse.result.now)
-    (c.count_left.ensures given) c.whole_batches.ensures c.drawn_batch.ensures c.refuse.ensures))
-    c.lay_growth_with.ensures.ok
+    laid_as c.lay_block_with.result _ _ (vec_len c.args.code.now) c.args.code.now.items c.lay_block_with.new.code.items
+    (last_as b (tree_of (given_of b) c.drawn_batch.result.now) c.drawn_batch.ensures)
+    c.lay_block_with.ensures.ok

@@ -9,8 +9,6 @@ pub returns-clause-ok : goal.returns-clause-ok
 returns-clause-ok c =
     let b = c.args.block.now in
     let given = given_of b in
-    laid_as c.lay_scopes.result _ _ (vec_len c.args.code.now) c.args.code.now.items c.lay_scopes.new.code.items
-    (ap (all_with b) (growth_as b (unwrap_or b.cap 0) (tree_of given c.sum_entries-sum_entries.result) (tree_of given c.some_votes.result.now) (tree_of given c.search_entries-search_entries.result)
-    (tree_of given c.search_batches.result.now) (tree_of given c.fill_outside-fill_entries.result) (tree_of given c.args.rest.now)
-    c.sum_entries-sum_entries.ensures (c.some_votes.ensures b) c.search_entries-search_entries.ensures (c.search_batches.ensures b) c.fill_outside-fill_entries.ensures))
-    c.lay_scopes.ensures.ok
+    laid_as c.lay_house_with.result _ _ (vec_len c.args.code.now) c.args.code.now.items c.lay_house_with.new.code.items
+    (ap (all_with b) (growth_as b (unwrap_or b.cap 0) (tree_of given c.fill_outside-fill_entries.result) (tree_of given c.args.rest.now) c.fill_outside-fill_entries.ensures))
+    c.lay_house_with.ensures.ok

@@ -1,7 +1,7 @@
 use Rattle.std.proofs.Common.{[], ◌∷◌, sym, ap, subst, arith}
 use Rattle.sl_stages.specs.declared.fact.Fact.TheVariants as facts
 use Rattle.sl_stages.specs.declared.book.Pairing.TheVariants as pairings
-use Rattle.sl_stages.specs.declared.book.Shape.TheVariants as shape
+use Rattle.sl_terms.specs.declared.shape.Shape.TheVariants as shape
 use Rattle.sl_instructions.specs.declared.instr.Instr.TheVariants.{Input}
 use Rattle.sl_instructions.specs.declared.operand.Input.TheVariants as input
 use Rattle.sl_instructions.specs.Codes.{CountingCode}

@@ -1,7 +1,7 @@
 -- The shapes so far are appended, and those of the levels to come make all of them.
 use Rattle.std.proofs.Common.{◌≡◌, ◌-◌, ◌∷◌, ◌++◌, map, take, flat_map}
 use Rattle.std.specs.List.{range_with_len}
-use Rattle.sl_stages.specs.declared.book.Shape.TheVariants as shape
+use Rattle.sl_terms.specs.declared.shape.Shape.TheVariants as shape
 use Rattle.sl_stages.specs.declared.fact.TheConstants.{FACTS}
 use Rattle.sl_stages.specs.book.Typing.{fact_type}
 use Rattle.sl_pieces.specs.declared.slots.TheConstants.{LEVELS}

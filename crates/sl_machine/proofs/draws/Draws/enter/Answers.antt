@@ -19,5 +19,5 @@ returns-then-self-eq0-clause-passed c = λ lot held.
     elim c.then-self-eq0.branch [
       | then-self-eq0-via-then-self-eq0 w ↦ no_draws lot (peers (entry ∷ xs)) n w.if-self-eq0.true
       | then-self-eq0-via-else-self-eq0+then-is_behind_top w ↦
-          subst (λ (ps : List Entry). IsPassed lot n ps) (sym (behind_passed xs ratios entry fits (sym w.is_behind_top.ensures ∙ w.if-is_behind_top.true))) held
+          subst (λ (ps : List Entry). IsPassed lot n ps) (sym (behind_passed xs ratios entry fits (sym w.is_behind_top.ensures.behind ∙ w.if-is_behind_top.true))) held
     ]

@@ -10,28 +10,35 @@ use Rattle.sl_semantics.specs.Places.{item_of}
 use Rattle.sl_semantics.specs.Safe.{entries_in}
 use Rattle.sl_machine.specs.inner.Tables.{FitsMark}
 use Rattle.sl_machine.specs.inner.Lots.{LotTable}
-use Rattle.sl_machine.proofs.Priorities.{taken_fits}
+use Rattle.sl_prio.proofs.LawProofs.{order_is_free}
+use Rattle.sl_machine.proofs.Priorities.{same_kept, same_on, taken_fits}
 use Rattle.sl_machine.proofs.drawing.PeerLists.{top_left, peers_taken, rest_behind, one_more, range_held, peers_told, rest_told}
 use Rattle.sl_machine.proofs.drawing.Passing.{no_draws}
 use Rattle.sl_machine.proofs.priority.PriorityTable.take_peers.Goals as goal
 
 pub loop-init : goal.loop-init
-loop-init c = record {
-  kind = c.unwrap-kind.ensures;
-  lots = refl;
-  draws = refl;
-  marks = c.self.invariant.0 c.unwrap-kind.result c.unwrap-kind.ensures;
-  ratios = c.self.invariant.1;
-  range = range_held c.args.returns.now c.self.inside.kind c.unwrap-kind.result c.self.inside.prio c.args.self.now.on c.unwrap-kind.ensures (ap (λ (t : LotTable). t.on) c.self.view_is) c.requires.range;
-  rest = refl;
-  items = c.new-items.ensures.items;
-}
+loop-init c =
+    let held = c.peers-peers.new.self in
+    let kept = same_kept c.self.inside held c.peers-peers.ensures.same c.self.invariant in
+    let view = same_on c.self.inside held c.peers-peers.ensures.same c.self.view_is in record {
+      kind = c.unwrap-kind.ensures;
+      lots = refl;
+      draws = refl;
+      marks = kept.0 c.unwrap-kind.result c.unwrap-kind.ensures;
+      ratios = kept.1;
+      range = range_held c.args.returns.now c.self.inside.kind c.unwrap-kind.result held c.args.self.now.on c.unwrap-kind.ensures (ap (λ (t : LotTable). t.on) view) c.requires.range;
+      rest = refl;
+      items = c.new-items.ensures.items;
+    }
 
 pub unwrap-peer-requires : goal.unwrap-peer-requires
 unwrap-peer-requires c =
-    let more : c.loop.counter < length (peers c.self.inside.prio) = omega arith in
+    let held = c.peers-peers.new.self in
+    let kept = same_kept c.self.inside held c.peers-peers.ensures.same c.self.invariant in
+    let count = ap length (order_is_free c.self.inside.prio held c.peers-peers.ensures.same).same_peers in
+    let more : c.loop.counter < length (peers held) = omega (arith, count) in
     subst (λ (o : Option Entry). IsSome o) (sym c.take.ensures.top)
-    (top_left c.self.inside.prio c.self.invariant.1 c.loop.self-inside.prio c.loop.counter more c.loop.invariant.rest)
+    (top_left held kept.1 c.loop.self-inside.prio c.loop.counter more c.loop.invariant.rest)
 
 pub item_of-requires : goal.item_of-requires
 item_of-requires c =
@@ -54,7 +61,7 @@ loop-preserved c =
     let e = c.args.returns.now in
     let k = c.unwrap-kind.result in
     let first = sym c.take.ensures.top ∙ c.unwrap-peer.ensures in
-    let more = one_more c.self.inside.prio c.loop.self-inside.prio c.take.new.self c.unwrap-peer.result c.loop.counter first rest c.loop.invariant.rest
+    let more = one_more c.peers-peers.new.self c.loop.self-inside.prio c.take.new.self c.unwrap-peer.result c.loop.counter first rest c.loop.invariant.rest
     (λ x. item_of e k.entries x.index) c.loop.items.items c.loop.invariant.items in
     record {
       kind = c.loop.invariant.kind;
@@ -63,20 +70,27 @@ loop-preserved c =
       marks = (taken_fits (λ x. FitsMark k.ranking x.ratio) _ _ _ rest c.loop.invariant.marks).1;
       ratios = (taken_fits (λ x. FitsRatio x.ratio) _ _ _ rest c.loop.invariant.ratios).1;
       range = (taken_fits (λ x. x.index < entries_in e k.entries) _ _ _ rest c.loop.invariant.range).1;
-      rest = rest_behind c.self.inside.prio c.loop.self-inside.prio c.take.new.self c.unwrap-peer.result c.loop.counter first rest c.loop.invariant.rest;
+      rest = rest_behind c.peers-peers.new.self c.loop.self-inside.prio c.take.new.self c.unwrap-peer.result c.loop.counter first rest c.loop.invariant.rest;
       items = c.in_ok-append.ensures ∙ ap (λ (item : Item). c.loop.items.items ++ item ∷ []) c.item_of.ensures ∙ more;
     }
 
 pub returns-clause-items : goal.returns-clause-items
 returns-clause-items c =
-    let all : c.loop.counter ≡ length (peers c.self.inside.prio) = omega arith in
-    peers_told c.args.returns.now c.self.inside.kind c.unwrap-kind.result c.self.inside.prio c.args.self.now.on c.unwrap-kind.ensures (ap (λ (t : LotTable). t.on) c.self.view_is)
-    _ c.loop.items.items (rw all (peers_taken c.self.inside.prio c.self.invariant.1)) c.loop.invariant.items
+    let held = c.peers-peers.new.self in
+    let kept = same_kept c.self.inside held c.peers-peers.ensures.same c.self.invariant in
+    let view = same_on c.self.inside held c.peers-peers.ensures.same c.self.view_is in
+    let count = ap length (order_is_free c.self.inside.prio held c.peers-peers.ensures.same).same_peers in
+    let all : c.loop.counter ≡ length (peers held) = omega (arith, count) in
+    peers_told c.args.returns.now c.self.inside.kind c.unwrap-kind.result held c.args.self.now.on c.unwrap-kind.ensures (ap (λ (t : LotTable). t.on) view)
+    _ c.loop.items.items (rw all (peers_taken held kept.1)) c.loop.invariant.items
 
 pub returns-clause-rest : goal.returns-clause-rest
 returns-clause-rest c =
-    let all : c.loop.counter ≡ length (peers c.self.inside.prio) = omega arith in
-    rest_told c.args.returns.now c.self.inside.kind c.unwrap-kind.result c.self.inside.prio c.args.self.now.on c.unwrap-kind.ensures (ap (λ (t : LotTable). t.on) c.self.view_is)
+    let held = c.peers-peers.new.self in
+    let view = same_on c.self.inside held c.peers-peers.ensures.same c.self.view_is in
+    let count = ap length (order_is_free c.self.inside.prio held c.peers-peers.ensures.same).same_peers in
+    let all : c.loop.counter ≡ length (peers held) = omega (arith, count) in
+    rest_told c.args.returns.now c.self.inside.kind c.unwrap-kind.result held c.args.self.now.on c.unwrap-kind.ensures (ap (λ (t : LotTable). t.on) view)
     c.loop.self-inside.prio c.loop.self-inside.kind c.loop.invariant.kind (rw all at c.loop.invariant.rest)
 
 pub invariant_of-self : goal.invariant_of-self

@@ -1,7 +1,7 @@
 -- Lists of tests in a row.
 use Rattle.std.proofs.Common.{◌≡◌, Bool, List, [], ◌∷◌, ◌++◌, Option, Some, None, is_none, true, false, if◌then◌else◌, refl, ◌∙◌, sym}
 use Rattle.std.specs.Option.{option_or}
-use Rattle.sl_stages.specs.book.Tests.{Test, first_failing}
+use Rattle.sl_terms.specs.Tests.{Test, first_failing}
 
 module _ {F : Type 0} where
   -- the first that fails is that of the first list, or else that of the second

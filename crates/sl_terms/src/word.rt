@@ -1,14 +1,14 @@
 //! The name of a stage.
 
 ghost use Rattle.std.specs.Prelude.{◌≡◌, ◌<◌, ◌≤◌, ℕ, List, length, IsTrue, IfOk};
-ghost use Rattle.sl_stages.specs.book.Words.{is_word};
+ghost use Rattle.sl_terms.specs.Words.{is_word};
 
 use sl_ratio::NoMemory;
 use std::alloc::Global;
 use std::marker::Model;
 
 /// A word of 1 to `MAX_NAME_BYTES` bytes: a letter, and then letters, digits and underscores.
-#[derive(Debug, Drop)]
+#[derive(Drop)]
 pub struct Word {
     bytes: Vec<u8>,
 }

@@ -1,0 +1,15 @@
+use Rattle.std.proofs.Common.{vec_len, unwrap_or, ap}
+use Rattle.sl_plans.specs.inner.Layout.{tree_of}
+use Rattle.sl_blocks.specs.inner.Given.{given_of}
+use Rattle.sl_blocks.specs.inner.LayoutParts.{all_with}
+use Rattle.sl_blocks.proofs.Laid.{laid_as, house_as}
+use Rattle.sl_blocks.proofs.growths.lay_house_with.Goals as goal
+
+pub returns-clause-ok : goal.returns-clause-ok
+returns-clause-ok c =
+    let b = c.args.block.now in
+    let given = given_of b in
+    laid_as c.lay_found_with.result _ _ (vec_len c.args.code.now) c.args.code.now.items c.lay_found_with.new.code.items
+    (ap (all_with b) (house_as b (unwrap_or b.cap 0) (tree_of given c.search_entries-search_entries.result) (tree_of given c.search_batches.result.now) (tree_of given c.args.rest.now)
+    c.search_entries-search_entries.ensures (c.search_batches.ensures b)))
+    c.lay_found_with.ensures.ok

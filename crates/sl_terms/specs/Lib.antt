@@ -1,0 +1,3 @@
+pub mod Shapes
+pub mod Tests
+pub mod Words
