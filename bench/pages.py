@@ -39,8 +39,8 @@ WORDS = (
 )
 # Where the desk's faults have their numbers: files of definitions, each with functions and the word of their lines.
 DESK_FAULTS = (
-    ("Books.antt", (("lex_fault", "lex"), ("parse_fault", "parse"), ("checked_fault", "check"))),
-    ("CodeFiles.antt", (("code_fault", "file"), ("kinds_fault", "verify"))),
+    ("sl_inputs/specs/Books.antt", (("lex_fault", "lex"), ("parse_fault", "parse"), ("checked_fault", "check"))),
+    ("sl_code_inputs/specs/CodeFiles.antt", (("code_fault", "file"), ("kinds_fault", "verify"))),
 )
 CODE = re.compile(r"`([^`]+)`")
 LINK = re.compile(r"\[([^\]]*)\]\(([^)\s]+)\)")
@@ -181,9 +181,8 @@ def missing_words():
 
 def fault_rows():
     """For each number of a fault how its row in docs/faults.md begins."""
-    specs = TOP / "crates" / "sl_inputs" / "specs"
     for file, kinds in DESK_FAULTS:
-        text = (specs / file).read_text()
+        text = (TOP / "crates" / file).read_text()
         for name, word in kinds:
             yield from ("`%s %s`" % (word, number) for number in re.findall(r"^%s .*= numbered (\d+)" % name, text, re.M))
     returns = (TOP / "crates" / "sl_returns" / "specs" / "Faults.antt").read_text()

@@ -1,5 +1,5 @@
 -- The first test that fails, of an expression with several arguments.
-use Rattle.std.proofs.Common.{◌≡◌, List, ◌++◌, Option, Some, None, Result, Ok, Err, refl, ◌∙◌, sym, ap, subst, append_assoc}
+use Rattle.std.proofs.Common.{◌≡◌, List, ◌++◌, Some, None, Result, Ok, Err, refl, ◌∙◌, sym, ap, subst, append_assoc}
 use Rattle.std.specs.Option.{option_or}
 use Rattle.sl_stages.specs.declared.check_fault.CheckFault.{CheckFault}
 use Rattle.sl_stages.specs.declared.book.ColumnType.{ColumnType}

@@ -25,9 +25,6 @@ use sl_stages::{Book, CheckedBook, ColumnType, MAX_STAGES, Shape, Stage};
 use sl_verify::Verified;
 use std::alloc::Global;
 
-/// For so many instructions there is room from the first on: most books have fewer, and memory that nothing touches costs nothing.
-const FIRST_ROOM: usize = 2048;
-
 /// Appends the blocks of a book and its last instruction, and says what the column of each stage has.
 fn lay_book(
     code: &mut Vec<Instr>,
@@ -60,7 +57,7 @@ fn code_of(alloc: Global, book: &Book) -> Result<Code, NoMemory>
 {
     let few = easiest(&book.eligible);
     let mut slots = low_slots(alloc)?;
-    let mut instrs = Vec::with_capacity(alloc, FIRST_ROOM)?;
+    let mut instrs = Vec::new(alloc);
     let types = lay_book(&mut instrs, &slots, &few, book)?;
     add_columns(&mut slots, &types[..book.stages.len()])?;
     let stages = code_stages(alloc, &book.stages)?;

@@ -5,6 +5,7 @@ use sl_inputs::{
     BookSource, BookText, DeskError, FromRead, Input, MAX_BOOK_BYTES, MAX_CODE_BYTES,
     MAX_RETURNS_BYTES, ToWrite,
 };
+use std::alloc::{AllocError, Global};
 use std::fs::File;
 
 /// A file that is read, whose bytes are kept for an explanation.
@@ -42,20 +43,48 @@ impl Failure<'_> {
     }
 }
 
-// How many bytes the desk reads of an input at most: its limit, and one more to see that there are too many.
-fn room_for(input: Input) -> usize {
+// How many bytes the desk reads at most of an input whose file has so many: its limit, and one more to see that there are too many.
+fn room_for(input: Input, length: u64) -> usize {
     let limit = match input {
         Input::Book => MAX_BOOK_BYTES,
         Input::Code => MAX_CODE_BYTES,
         Input::Returns => MAX_RETURNS_BYTES,
     };
-    limit + 1
+    usize::try_from(length).unwrap_or(limit).min(limit) + 1
+}
+
+// A file of so many bytes is large: pieces of memory for it are such as the C library gives back to the system when they are let go.
+const LARGE_FILE: u64 = 131_072;
+
+// As many bytes as a count asks for in one piece.
+const LARGE_PIECE: usize = 8_388_608;
+
+// Lets a large piece of memory go. From then on the C library keeps what is let go, up to that size, for what is asked for next. Before, it gives each
+// large piece back to the system, and the pages of the next one have to be made.
+fn keep_memory(alloc: Global) {
+    let _piece: Result<Vec<u8>, AllocError> = Vec::with_capacity(alloc, LARGE_PIECE);
+}
+
+// The file at a path, and how many bytes it has, as far as the system says. For a large one memory is made ready.
+pub(crate) fn file_at(rt: &HostRuntime, path: &str) -> std::io::Result<(File, u64)> {
+    let file = File::open(rt, path)?;
+    let length = match file.metadata() {
+        Ok(about) => about.len(),
+        Err(_) => 0,
+    };
+    if length >= LARGE_FILE {
+        keep_memory(rt.alloc());
+    }
+    Ok((file, length))
 }
 
 /// The file at a path, as that input.
 pub fn open<'a>(rt: &HostRuntime, path: &'a str, input: Input) -> Result<KeptFile, Failure<'a>> {
-    match File::open(rt, path) {
-        Ok(file) => Ok(Kept::new(rt.alloc(), FromRead::new(file), room_for(input))),
+    match file_at(rt, path) {
+        Ok((file, length)) => {
+            let room = room_for(input, length);
+            Ok(Kept::new(rt.alloc(), FromRead::new(file), room))
+        }
         Err(error) => Err(Failure::Unopened { input, path, error }),
     }
 }

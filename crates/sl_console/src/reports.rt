@@ -1,6 +1,6 @@
 //! Reports over files.
 
-use crate::files::Failure;
+use crate::files::{Failure, file_at};
 use crate::telling::{Desk, tell_failure, tell_fault};
 use sl_hints::{explain_check, explain_count};
 use sl_inputs::{BookText, FromRead, Input, MAX_BOOK_BYTES, MAX_RETURNS_BYTES, ToWrite};
@@ -64,8 +64,8 @@ fn load<'a>(
     input: Input,
     limit: usize,
 ) -> Result<Vec<u8>, Stop<'a>> {
-    match File::open(rt, path) {
-        Ok(file) => {
+    match file_at(rt, path) {
+        Ok((file, _)) => {
             let failed = ReportError::Read(input);
             Ok(bytes_of(rt.alloc(), &mut FromRead::new(file), failed, limit)?)
         }

@@ -12,11 +12,11 @@ use Rattle.sl_verify.specs.declared.fault.VerifyFault.{VerifyFault}
 use Rattle.sl_verify.specs.Faults.{verify_fault}
 use Rattle.sl_verify.specs.WellKinded.{IsWellKinded}
 use Rattle.sl_inputs.specs.declared.limits.TheConstants.{MAX_CODE_BYTES}
-use Rattle.sl_inputs.specs.declared.refusal.CodeRefusal.{CodeRefusal}
-use Rattle.sl_inputs.specs.declared.refusal.CodeRefusal.TheVariants as code
+use Rattle.sl_code_inputs.specs.declared.refusal.CodeRefusal.{CodeRefusal}
+use Rattle.sl_code_inputs.specs.declared.refusal.CodeRefusal.TheVariants as code
 use Rattle.sl_inputs.specs.declared.verdict.Verdict.{Verdict}
 use Rattle.sl_inputs.specs.declared.verdict.Verdict.TheVariants.{Good, Refused}
-use Rattle.sl_inputs.specs.CodeFiles.{IsCodeVerdict}
+use Rattle.sl_code_inputs.specs.CodeFiles.{IsCodeVerdict}
 use Rattle.sl_desk.specs.Laws.{OneCodeVerdict, NoOtherCodeVerdict}
 
 -- what the layers below say of code files

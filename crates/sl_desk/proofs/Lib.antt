@@ -1,9 +1,5 @@
 pub mod Order
 pub mod Delivering
-pub mod OneMeaning
-pub mod StageColumns
-pub mod Outcomes
-pub mod Heard
 pub mod OneOutput
 pub mod OneVerdict
 pub mod CodeFiles

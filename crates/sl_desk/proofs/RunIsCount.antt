@@ -18,28 +18,28 @@ use Rattle.sl_books.specs.Compiled.{IsCompiled, ending_by}
 use Rattle.sl_books.proofs.StageColumns.{code_stages_long}
 use Rattle.sl_returns.specs.Returns.{records_in}
 use Rattle.sl_returns.proofs.ReadElections.{read_is}
-use Rattle.sl_inputs.specs.declared.refusal.CodeRefusal.{CodeRefusal}
+use Rattle.sl_code_inputs.specs.declared.refusal.CodeRefusal.{CodeRefusal}
 use Rattle.sl_inputs.specs.declared.refusal.ReturnsRefusal.{ReturnsRefusal}
-use Rattle.sl_desk.specs.declared.report.Report.TheVariants.{Seats}
+use Rattle.sl_counts.specs.declared.report.Report.TheVariants.{Seats}
 use Rattle.sl_inputs.specs.declared.status.Status.{Status}
 use Rattle.sl_inputs.specs.declared.status.Status.TheVariants as status
 use Rattle.sl_inputs.specs.declared.verdict.Verdict.{Verdict}
 use Rattle.sl_inputs.specs.declared.verdict.Verdict.TheVariants.{Good, Refused}
-use Rattle.sl_desk.specs.Endings.{IsRunOutput, code_names, out_of_budget}
+use Rattle.sl_counts.specs.Endings.{IsRunOutput, code_names, out_of_budget}
 use Rattle.sl_desk.specs.Laws.{OneCodeVerdict, NoOtherCodeVerdict, OneRun, HasOneRun, RunsItsCode, RunIsCount}
-use Rattle.sl_desk.specs.Counting.{IsTreeOutput, IsCount}
-use Rattle.sl_inputs.specs.CodeFiles.{IsCodeVerdict, code_line}
+use Rattle.sl_counts.specs.Counting.{IsTreeOutput, IsCount}
+use Rattle.sl_code_inputs.specs.CodeFiles.{IsCodeVerdict, code_line}
 use Rattle.sl_desk.specs.Running.{IsCodeOutput, IsRun, IsRunCode}
 use Rattle.sl_texts.specs.Faults.{fault_text}
 use Rattle.sl_texts.specs.Short.{short_text}
 use Rattle.sl_verify.specs.WellKinded.{IsWellKinded}
 use Rattle.sl_inputs.specs.Returns.{IsReturnsVerdict, returns_line}
 use Rattle.sl_desk.proofs.CodeLengths.{file_fits}
-use Rattle.sl_desk.proofs.OneMeaning.{same_short}
+use Rattle.sl_counts.proofs.OneMeaning.{same_short}
 use Rattle.sl_desk.proofs.OneOutput.{one_returns_verdict}
 use Rattle.sl_desk.proofs.OneVerdict.{one_returns}
-use Rattle.sl_desk.proofs.Outcomes.{tree_output}
-use Rattle.sl_desk.specs.Counting.{ShowsSeats}
+use Rattle.sl_counts.proofs.Outcomes.{tree_output}
+use Rattle.sl_counts.specs.Counting.{ShowsSeats}
 
 module _ (no_other : NoOtherCodeVerdict) where
   pub runs_its_code : RunsItsCode

@@ -8,21 +8,21 @@ use Rattle.sl_stages.specs.book.Trees.{BookTree}
 use Rattle.sl_stages.specs.book.Typing.{is_typed}
 use Rattle.sl_stages.specs.laws.OneLaws.{ExactlyOne}
 use Rattle.sl_verify.specs.WellKinded.{IsWellKinded}
-use Rattle.sl_inputs.specs.declared.refusal.CodeRefusal.{CodeRefusal}
-use Rattle.sl_desk.specs.declared.report.Report.{Report}
+use Rattle.sl_code_inputs.specs.declared.refusal.CodeRefusal.{CodeRefusal}
+use Rattle.sl_counts.specs.declared.report.Report.{Report}
 use Rattle.sl_inputs.specs.declared.status.Status.{Status}
 use Rattle.sl_inputs.specs.declared.verdict.Verdict.{Verdict}
 use Rattle.sl_inputs.specs.declared.verdict.Verdict.TheVariants.{Good}
 use Rattle.sl_inputs.specs.Books.{BookInput, IsTextVerdict}
-use Rattle.sl_inputs.specs.CodeFiles.{IsCodeVerdict}
+use Rattle.sl_code_inputs.specs.CodeFiles.{IsCodeVerdict}
 use Rattle.sl_inputs.specs.Returns.{IsReturnsVerdict}
 use Rattle.sl_desk.specs.Checking.{IsCheckOutput}
 use Rattle.sl_desk.specs.Compiling.{IsCodeOf}
-use Rattle.sl_desk.specs.Counting.{IsCount, IsOutput}
+use Rattle.sl_counts.specs.Counting.{IsCount, IsOutput}
 use Rattle.sl_desk.specs.Running.{IsRun, IsRunCode}
-use Rattle.sl_desk.specs.Showing.{IsStageOutput}
-use Rattle.sl_desk.specs.Reports.{IsReported}
-use Rattle.sl_desk.specs.Counting.{ShowsSeats}
+use Rattle.sl_counts.specs.Showing.{IsStageOutput}
+use Rattle.sl_counts.specs.Reports.{IsReported}
+use Rattle.sl_counts.specs.Counting.{ShowsSeats}
 
 -- each text of a book comes to exactly one verdict
 abbrev pub OneBookVerdict : Type 0

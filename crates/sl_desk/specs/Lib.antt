@@ -1,12 +1,4 @@
-pub mod Endings
 pub mod Checking
-pub mod Counting
-pub mod Steps
-pub mod Showing
-pub mod Reports
 pub mod Compiling
 pub mod Running
-pub mod Hearing
-pub mod Shows
 pub mod Laws
-pub mod inner

@@ -1,14 +1,7 @@
-//! Runs the commands on the pages of the examples and of reports, on the files beside them, and says of each whether it ends and writes as its
-//! page shows. Then it reads and writes where calls fail.
+//! The examples and the pages of reports: runs the commands on each, and then reads and writes where calls fail.
 #![tactic(auto)]
 
-mod counts;
-mod files;
-mod lines;
-mod pages;
-mod reports;
-mod streams;
-
+use sl_example_pages::{show_failures, show_page};
 use std::io;
 
 // The pages, each with the files that its commands name beside it.
@@ -27,7 +20,7 @@ static PAGES: [&str; 10] = [
 
 fn main(rt: HostRuntime) -> io::Result<()> {
     for page in &PAGES {
-        pages::show(&rt, page)?;
+        show_page(&rt, page)?;
     }
-    streams::show(&rt)
+    show_failures(&rt)
 }

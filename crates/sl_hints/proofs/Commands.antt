@@ -2,7 +2,7 @@
 use Rattle.std.proofs.Common.{Err, IfOk, List, Ok, Option, Result, inr, ℕ}
 use Rattle.sl_instructions.specs.Codes.{CountingCode}
 use Rattle.sl_inputs.specs.Books.{BookInput, IsBookVerdict}
-use Rattle.sl_inputs.specs.CodeFiles.{IsCodeVerdict}
+use Rattle.sl_code_inputs.specs.CodeFiles.{IsCodeVerdict}
 use Rattle.sl_inputs.specs.declared.verdict.Verdict.TheVariants.{Good}
 use Rattle.sl_hints.specs.Faults.{IsCodeFault, IsRunFault, IsStageFault, IsTreeFault, fault_in}
 use Rattle.sl_hints.specs.declared.fault.Explained.{Explained}

@@ -2,11 +2,11 @@
 use Rattle.std.specs.Prelude.{List, None, Option, Some, length, option_map, ◌≡◌, ◌⊎◌, ℕ}
 use Rattle.sl_instructions.specs.Codes.{CountingCode}
 use Rattle.sl_inputs.specs.Books.{BookInput, IsBookVerdict}
-use Rattle.sl_inputs.specs.CodeFiles.{IsCodeVerdict}
+use Rattle.sl_code_inputs.specs.CodeFiles.{IsCodeVerdict}
 use Rattle.sl_inputs.specs.Returns.{IsReturnsVerdict}
 use Rattle.sl_inputs.specs.StageNames.{stage_number}
 use Rattle.sl_inputs.specs.declared.refusal.BookRefusal.{BookRefusal}
-use Rattle.sl_inputs.specs.declared.refusal.CodeRefusal.{CodeRefusal}
+use Rattle.sl_code_inputs.specs.declared.refusal.CodeRefusal.{CodeRefusal}
 use Rattle.sl_inputs.specs.declared.refusal.ReturnsRefusal.{ReturnsRefusal}
 use Rattle.sl_inputs.specs.declared.verdict.Verdict.TheVariants.{Good, Refused}
 use Rattle.sl_hints.specs.declared.fault.Explained.{Explained}

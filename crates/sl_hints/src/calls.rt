@@ -13,10 +13,10 @@ use sl_book_hints::{
     explain_unknown_stage,
 };
 use sl_check::CheckedBook;
+use sl_code_inputs::{CodeRefusal, judge_code};
 use sl_explain::{Explanation, Language};
 use sl_inputs::{
-    BookRefusal, BookText, CodeRefusal, ReturnsRefusal, Verdict, judge_book, judge_code,
-    judge_returns, stage_number,
+    BookRefusal, BookText, ReturnsRefusal, Verdict, judge_book, judge_returns, stage_number,
 };
 use sl_instructions::{Code, CodeStage};
 use sl_legal_hints::{

@@ -1,7 +1,8 @@
 //! What is explained.
 
+use sl_code_inputs::CodeRefusal;
 use sl_explain::Explanation;
-use sl_inputs::{BookRefusal, CodeRefusal, ReturnsRefusal};
+use sl_inputs::{BookRefusal, ReturnsRefusal};
 use sl_stages::LegalFault;
 
 /// Why a command ends without what it was asked for, where no file and no memory is to blame.

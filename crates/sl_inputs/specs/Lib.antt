@@ -6,8 +6,7 @@ pub mod Library
 pub mod Books
 pub mod Judging
 pub mod Returns
-pub mod CodeFiles
 pub mod StageNames
 pub mod Reading
 pub mod Adapters
-pub mod inner
+pub mod Inputs

@@ -1,8 +1,8 @@
 //! Reading an input to its end, and writing a text whole.
 
-ghost use Rattle.std.specs.Prelude.{◌≡◌, ◌+◌, ◌<◌, ◌^◌, [], IfOk, IfErr, IfSome};
+ghost use Rattle.std.specs.Prelude.{◌≡◌, ◌+◌, ◌<◌, ◌^◌, ◌++◌, [], IfOk, OnOk, IfErr, IfSome};
 ghost use Rattle.sl_inputs.specs.Failures.{failures_after, input_counts, counts_after};
-ghost use Rattle.sl_inputs.specs.inner.Inputs.{Holds, IsWithin};
+ghost use Rattle.sl_inputs.specs.Inputs.{Holds, IsWithin};
 ghost use Rattle.sl_inputs.specs.Reading.{TakesAtMost};
 ghost use Rattle.sl_inputs.specs.Writing.{Writes};
 ghost use Rattle.sl_inputs.specs.declared.status.DeskError.TheVariants as fault;
@@ -10,18 +10,21 @@ ghost use Rattle.sl_inputs.specs.declared.status.DeskError.TheVariants as fault;
 use crate::sink::Sink;
 use crate::source::{Failed, Source};
 use crate::status::{DeskError, Input};
-use std::alloc::Global;
+use std::alloc::{AllocError, Global};
 
 /// An input: its bytes, if they are not too many.
 #[derive(Drop)]
-pub(crate) enum Bytes {
+pub enum Bytes {
     Whole(Vec<u8>),
     TooLong,
 }
 
 const CHUNK: usize = 8192;
 
-// No bytes yet, with room for so many: they need not move as more are read.
+// So many bytes have room from the first on: most inputs have fewer.
+const FIRST_ROOM: usize = 65_536;
+
+// No bytes yet, with room for so many.
 fn with_room(alloc: Global, room: usize) -> Result<Vec<u8>, DeskError>
     ensures none { IfOk result (λ bytes. bytes.items ≡ []) }
     ensures error { IfErr result (λ e. e ≡ fault.NoMemory) }
@@ -32,12 +35,22 @@ fn with_room(alloc: Global, room: usize) -> Result<Vec<u8>, DeskError>
     Ok(bytes)
 }
 
+// Adds bytes. Where the room that is left does not do, it grows by `room` bytes at once, so that the bytes move once at most.
+fn add(bytes: &mut Vec<u8>, piece: &[u8], room: usize) -> Result<(), AllocError>
+    ensures { OnOk result (bytes.new.items ≡ bytes.old.items ++ piece.now) }
+{
+    if piece.len() > bytes.capacity() - bytes.len() {
+        bytes.reserve(room)?;
+    }
+    bytes.extend_from_slice(piece)
+}
+
 /// All bytes of an input, if they are at most `limit`. It is read to at most one byte past that.
 ///
 /// # Errors
 ///
 /// `Read` of that input where a call of the source failed, which is then the last one, and `NoMemory`.
-pub(crate) fn read_all<S: Source>(
+pub fn read_all<S: Source>(
     alloc: Global,
     source: &mut S,
     input: Input,
@@ -49,7 +62,7 @@ pub(crate) fn read_all<S: Source>(
     ensures failures { input_counts input (S.failed source.new) ≡ counts_after (input_counts input (S.failed source.old)) result }
     ensures limited { TakesAtMost (limit + 1) (S.remaining source.old) (S.remaining source.new) }
 {
-    let mut bytes = with_room(alloc, limit + 1)?;
+    let mut bytes = with_room(alloc, FIRST_ROOM)?;
     let mut chunk = [0; CHUNK];
     'reading: while bytes.len() <= limit {
         let room = (limit + 1 - bytes.len()).min(CHUNK);
@@ -59,7 +72,7 @@ pub(crate) fn read_all<S: Source>(
         if n == 0 {
             return Ok(Bytes::Whole(bytes));
         }
-        if bytes.extend_from_slice(&chunk[..n]).is_err() {
+        if add(&mut bytes, &chunk[..n], limit + 1).is_err() {
             return Err(DeskError::NoMemory);
         }
     }

@@ -1,8 +1,7 @@
-//! The inputs of the calls, and where they write: readers and writers of bytes, and what bytes come to as a rulebook, as returns or as a code file.
+//! The inputs of the calls, and where they write: readers and writers of bytes, and what bytes come to as a rulebook or as returns.
 #![tactic(auto)]
 
 mod book;
-mod code_file;
 mod input;
 mod limits;
 mod refusal;
@@ -14,10 +13,9 @@ mod status;
 mod verdict;
 
 pub use book::{BookText, judge_book, read_book};
-pub use code_file::{judge_code, read_code};
-pub use input::write_all;
+pub use input::{Bytes, read_all, write_all};
 pub use limits::{MAX_BOOK_BYTES, MAX_CODE_BYTES, MAX_RETURNS_BYTES};
-pub use refusal::{BookRefusal, CodeRefusal, ReturnsRefusal};
+pub use refusal::{BookRefusal, Numbered, ReturnsRefusal, refused, refused_by};
 pub use returns::{judge_returns, read_election};
 pub use sink::{Sink, ToWrite};
 pub use source::{BookSource, Failed, FromRead, Source};

@@ -3,17 +3,14 @@
 ghost use Rattle.std.specs.Prelude.{◌≡◌, ◌∷◌, [], IfOk, codes};
 ghost use Rattle.sl_returns.specs.Faults.{fault_number};
 ghost use Rattle.sl_inputs.specs.Books.{lex_fault, parse_fault, checked_fault};
-ghost use Rattle.sl_inputs.specs.CodeFiles.{code_fault, kinds_fault};
 ghost use Rattle.sl_inputs.specs.Refusals.{numbered, refused, refused_at};
 
 use sl_check::CheckFault;
-use sl_code::CodeFault;
 use sl_lex::LexFault;
 use sl_parse::ParseFault;
 use sl_ratio::NoMemory;
 use sl_returns::ReturnsFault;
 use sl_texts::Text;
-use sl_verify::VerifyFault;
 use std::alloc::Global;
 
 /// Why a rulebook is refused.
@@ -79,39 +76,9 @@ impl ReturnsRefusal {
     }
 }
 
-/// Why a code file is refused.
-#[derive(Clone, Copy)]
-pub enum CodeRefusal {
-    /// It has too many bytes.
-    TooLong,
-    /// The bytes spell no code.
-    File(CodeFault),
-    /// The code fails a test of the verifier.
-    Kinds(VerifyFault),
-}
-
-impl CodeRefusal {
-    ghost use Rattle.sl_inputs.specs.CodeFiles.{code_line};
-
-    /// The line that refuses the code file.
-    ///
-    /// # Errors
-    ///
-    /// Want of memory.
-    pub fn line(self, alloc: Global) -> Result<Vec<u8>, NoMemory>
-        ensures { IfOk result (λ line. line.items ≡ code_line self) }
-    {
-        match self {
-            CodeRefusal::TooLong => refused(alloc, b"code", b"toolong"),
-            CodeRefusal::File(fault) => refused_by(alloc, b"code", b"file", code_fault(fault)),
-            CodeRefusal::Kinds(fault) => refused_by(alloc, b"code", b"verify", kinds_fault(fault)),
-        }
-    }
-}
-
 /// A fault of a rulebook or of a code file by its number, and the offset in bytes, or the number of the instruction, where it shows.
 #[derive(Clone, Copy)]
-pub(crate) struct Numbered {
+pub struct Numbered {
     pub number: u64,
     pub at: u64,
 }
@@ -173,46 +140,12 @@ fn checked_fault(fault: CheckFault) -> Numbered
     }
 }
 
-// The number of a fault of a code file, and its offset.
-fn code_fault(fault: CodeFault) -> Numbered
-    ensures { result ≡ code_fault fault }
-{
-    let (number, at) = match fault {
-        CodeFault::Magic(at) => (1, at),
-        CodeFault::Version(at) => (2, at),
-        CodeFault::Op(at) => (3, at),
-        CodeFault::Short(at) => (4, at),
-        CodeFault::Trailing(at) => (5, at),
-        CodeFault::Limit(at) => (6, at),
-        CodeFault::NoMemory => (7, 0),
-    };
-    Numbered {
-        number,
-        at: at as u64,
-    }
-}
-
-// The number of a test of the verifier that a code fails, and the number of the instruction.
-fn kinds_fault(fault: VerifyFault) -> Numbered
-    ensures { result ≡ kinds_fault fault }
-{
-    let (number, at) = match fault {
-        VerifyFault::Jump(at) => (1, at),
-        VerifyFault::Register(at) => (2, at),
-        VerifyFault::Kind(at) => (3, at),
-        VerifyFault::Slot(at) => (4, at),
-        VerifyFault::TableKind(at) => (5, at),
-        VerifyFault::Meet(at) => (6, at),
-        VerifyFault::RunsOff(at) => (7, at),
-    };
-    Numbered {
-        number,
-        at: at as u64,
-    }
-}
-
-// `refused`, and two words.
-fn refused(alloc: Global, first: &[u8], second: &[u8]) -> Result<Vec<u8>, NoMemory>
+/// The line of a refusal: `refused`, and two words.
+///
+/// # Errors
+///
+/// Want of memory.
+pub fn refused(alloc: Global, first: &[u8], second: &[u8]) -> Result<Vec<u8>, NoMemory>
     ensures { IfOk result (λ text. text.items ≡ refused (first.now ∷ second.now ∷ [])) }
 {
     let mut text = Text::new(alloc);
@@ -236,8 +169,12 @@ fn refused_returns(alloc: Global, fault: ReturnsFault) -> Result<Vec<u8>, NoMemo
     Ok(text.into_bytes())
 }
 
-// A refusal of an input by one of its readers, with the number of the fault and where it shows.
-fn refused_by(
+/// The line of a refusal of an input by one of its readers, with the number of the fault and where it shows.
+///
+/// # Errors
+///
+/// Want of memory.
+pub fn refused_by(
     alloc: Global,
     input: &[u8],
     reader: &[u8],

@@ -4,10 +4,10 @@
 ghost use Rattle.std.specs.Prelude.{◌≤◌, length, take};
 ghost use Rattle.sl_inputs.specs.Books.{text};
 ghost use Rattle.sl_desk.specs.Checking.{IsCheckOutput};
-ghost use Rattle.sl_desk.specs.Counting.{IsOutput, ShowsSeats};
+ghost use Rattle.sl_counts.specs.Counting.{IsOutput, ShowsSeats};
 ghost use Rattle.sl_inputs.specs.Library.{IsLawOutput};
-ghost use Rattle.sl_desk.specs.Showing.{IsStageOutput};
-ghost use Rattle.sl_desk.specs.Steps.{ShowsSteps};
+ghost use Rattle.sl_counts.specs.Showing.{IsStageOutput};
+ghost use Rattle.sl_counts.specs.Steps.{ShowsSteps};
 ghost use Rattle.sl_hints.specs.Faults.{IsCheckFault, IsCountFault};
 ghost use Rattle.sl_page.specs.Handing.{HandsOver};
 ghost use Rattle.sl_page.specs.Telling.{TellsFault};

@@ -5,7 +5,7 @@ ghost use Rattle.std.specs.List.{list_all};
 ghost use Rattle.sl_ratio.specs.Names.{NameList, IsNameList, Refuses, is_name, is_name_byte, name_fault, number_of, spelling_fault};
 
 use indexmap::IndexSet;
-use std::alloc::Global;
+use std::alloc::{AllocError, Global};
 use std::error::Error;
 use std::fmt;
 use std::marker::Model;
@@ -81,6 +81,9 @@ pub fn spelling_fault(name: &[u8]) -> Option<NameFault>
     }
 }
 
+// So many names have room from the first on, if there may be so many: an index that grows is made anew each time.
+const FIRST_ROOM: usize = 512;
+
 /// A list of names, each once, at most as many as its limit. A name is found by its bytes, and its number is its place.
 #[derive(Drop)]
 pub struct Names {
@@ -128,6 +131,9 @@ impl Names {
             return Err(fault);
         }
         let number = self.names.len();
+        if self.make_room().is_err() {
+            return Err(NameFault::NoMemory);
+        }
         let Ok(kept) = Vec::from_slice(self.alloc, name) else {
             return Err(NameFault::NoMemory);
         };
@@ -135,6 +141,16 @@ impl Names {
             return Err(NameFault::NoMemory);
         };
         Ok(number)
+    }
+
+    // Makes room for the first names.
+    fn make_room(&mut self) -> Result<(), AllocError>
+        ensures { self.new ≡ self.old }
+    {
+        if self.names.is_empty() {
+            self.names.reserve(self.limit.min(FIRST_ROOM))?;
+        }
+        Ok(())
     }
 
     // Why the name can't be added.

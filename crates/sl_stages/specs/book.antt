@@ -1,4 +1,4 @@
--- What a rulebook is: its words, its tree, its limits and the tests of a well-formed one.
+-- What a rulebook is: its tree, its limits and the tests of a well-formed one.
 pub mod Trees
 pub mod Limits
 pub mod Books

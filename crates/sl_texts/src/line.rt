@@ -29,9 +29,6 @@ impl Model for Text {
 // The most bytes that are added one by one: a call that copies so few costs more.
 const FEW: usize = 8;
 
-// For so many bytes there is room from the first word on: a seat table mostly has fewer, and memory that nothing touches costs nothing.
-const FIRST_ROOM: usize = 8192;
-
 // Makes room for a word of so many bytes, and adds the blank before it, if the line has begun.
 #[inline]
 fn begin(bytes: &mut Vec<u8>, begun: bool, length: usize) -> Result<(), NoMemory>
@@ -40,8 +37,7 @@ fn begin(bytes: &mut Vec<u8>, begun: bool, length: usize) -> Result<(), NoMemory
     ensures room { OnOk result (vec_len bytes.new + length ≤ vec_capacity bytes.new) }
     ensures unchanged { OnErr result (bytes.new.items ≡ bytes.old.items) }
 {
-    let first = if bytes.is_empty() { FIRST_ROOM } else { 0 };
-    bytes.reserve(first.max(length + 1))?;
+    bytes.reserve(length + 1)?;
     if begun {
         bytes.push_reserved(b' ');
     }

@@ -7,7 +7,7 @@ ghost use Rattle.sl_desk.specs.Checking.{IsCheckOutput, check_line};
 ghost use Rattle.sl_inputs.specs.Reading.{book_input, book_failures, ReadsBook};
 ghost use Rattle.sl_inputs.specs.Writing.{Delivers};
 
-use crate::calls::Answer;
+use sl_counts::Answer;
 use sl_inputs::{BookSource, DeskError, Sink, Source, Status, Verdict, read_book};
 use sl_ratio::NoMemory;
 use sl_stages::Book;

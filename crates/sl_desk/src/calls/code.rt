@@ -7,10 +7,10 @@ ghost use Rattle.sl_desk.specs.Compiling.{IsCodeOf, IsCompilingOutput};
 ghost use Rattle.sl_inputs.specs.Reading.{book_input, book_failures, ReadsBook};
 ghost use Rattle.sl_inputs.specs.Writing.{DeliversBoth};
 
-use crate::calls::Answer;
 use sl_check::CheckedBook;
 use sl_code::{listing, to_bytes};
 use sl_compile::compile;
+use sl_counts::Answer;
 use sl_inputs::{BookSource, DeskError, Sink, Source, Status, Verdict, read_book, write_all};
 use sl_ratio::NoMemory;
 use std::alloc::Global;

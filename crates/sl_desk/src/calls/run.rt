@@ -9,11 +9,9 @@ ghost use Rattle.sl_inputs.specs.Reading.{ForKnown, TakesAtMost};
 ghost use Rattle.sl_desk.specs.Running.{ReadsBehindCode};
 ghost use Rattle.sl_inputs.specs.Writing.{Delivers};
 
-use crate::calls::Answer;
-use crate::calls::ending::ended;
-use crate::listener::Nobody;
-use crate::report::Report;
-use sl_inputs::{DeskError, Sink, Source, Status, Verdict, read_code, read_election};
+use sl_code_inputs::read_code;
+use sl_counts::{Answer, Nobody, Report, ended};
+use sl_inputs::{DeskError, Sink, Source, Status, Verdict, read_election};
 use sl_machine::budget;
 use sl_stages::Returns;
 use sl_verify::Verified;

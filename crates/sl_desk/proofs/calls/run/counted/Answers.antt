@@ -1,5 +1,6 @@
 use Rattle.sl_inputs.specs.Failures.{counts}
-use Rattle.sl_desk.proofs.Order.{memory_counts, code_runs}
+use Rattle.sl_counts.proofs.Order.{memory_counts}
+use Rattle.sl_desk.proofs.Order.{code_runs}
 use Rattle.sl_desk.proofs.calls.run.counted.Goals as goal
 
 pub returns-in-Good-clause-answer : goal.returns-in-Good-clause-answer

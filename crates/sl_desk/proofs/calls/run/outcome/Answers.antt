@@ -1,4 +1,4 @@
-use Rattle.sl_desk.proofs.Outcomes.{run_output}
+use Rattle.sl_counts.proofs.Outcomes.{run_output}
 use Rattle.sl_desk.proofs.calls.run.outcome.Goals as goal
 
 pub returns-clause-output : goal.returns-clause-output

@@ -1,6 +1,6 @@
 use Rattle.sl_desk.specs.Running.{IsRunCode}
 use Rattle.sl_inputs.specs.Reading.{ForKnown}
-use Rattle.sl_desk.proofs.Delivering.{delivers_text}
+use Rattle.sl_counts.proofs.Delivering.{delivers_text}
 use Rattle.sl_desk.proofs.calls.run.run_code.Goals as goal
 
 pub returns-clause-delivers : goal.returns-clause-delivers

@@ -1,0 +1,54 @@
+//! Judging a code file.
+
+ghost use Rattle.std.specs.Prelude.{◌≡◌, ◌≤◌, ◌+◌, length, IfOk, IfSome};
+ghost use Rattle.sl_inputs.specs.Failures.{counts, counts_after};
+ghost use Rattle.sl_inputs.specs.Reading.{TakesAtMost};
+ghost use Rattle.sl_code_inputs.specs.CodeFiles.{IsCodeVerdict};
+
+use crate::refusal::CodeRefusal;
+use sl_code::{CodeFault, from_bytes};
+use sl_inputs::{Bytes, DeskError, Input, MAX_CODE_BYTES, Source, Verdict, read_all};
+use sl_ratio::NoMemory;
+use sl_verify::{Verified, verify};
+use std::alloc::Global;
+
+/// What bytes come to as a code file: the code that they spell, and the tests of the verifier.
+///
+/// # Errors
+///
+/// Want of memory.
+pub fn judge_code(alloc: Global, bytes: &[u8]) -> Result<Verdict<Verified, CodeRefusal>, NoMemory>
+    ensures { IfOk result (IsCodeVerdict bytes.now) }
+{
+    if bytes.len() > MAX_CODE_BYTES {
+        return Ok(Verdict::Refused(CodeRefusal::TooLong));
+    }
+    let code = match from_bytes(alloc, bytes) {
+        Ok(code) => code,
+        Err(CodeFault::NoMemory) => return Err(NoMemory),
+        Err(fault) => return Ok(Verdict::Refused(CodeRefusal::File(fault))),
+    };
+    match verify(code) {
+        Ok(code) => Ok(Verdict::Good(code)),
+        Err((_, fault)) => Ok(Verdict::Refused(CodeRefusal::Kinds(fault))),
+    }
+}
+
+/// Reads a code file and judges it.
+///
+/// # Errors
+///
+/// `Read` where the source failed, and `NoMemory`.
+pub fn read_code<S: Source>(
+    alloc: Global,
+    source: &mut S,
+) -> Result<Verdict<Verified, CodeRefusal>, DeskError>
+    ensures verdict { IfOk result (λ v. IfSome (S.remaining source.old) (λ bytes. IsCodeVerdict bytes v)) }
+    ensures failures { counts 0 0 (S.failed source.new) 0 ≡ counts_after (counts 0 0 (S.failed source.old) 0) result }
+    ensures limited { TakesAtMost (MAX_CODE_BYTES + 1) (S.remaining source.old) (S.remaining source.new) }
+{
+    match read_all(alloc, source, Input::Code, MAX_CODE_BYTES)? {
+        Bytes::Whole(bytes) => Ok(judge_code(alloc, bytes.as_slice())?),
+        Bytes::TooLong => Ok(Verdict::Refused(CodeRefusal::TooLong)),
+    }
+}

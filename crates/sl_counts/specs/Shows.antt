@@ -1,0 +1,21 @@
+-- What is shown of a count, by what is asked for (docs/output.md).
+use Rattle.std.specs.Prelude.{List, Option, Result, ℕ}
+use Rattle.sl_counts.specs.Counting.{IsOutput, ReadsReturns, ShowsSeats}
+use Rattle.sl_counts.specs.Showing.{IsStageOutput, ReadsBehindStage}
+use Rattle.sl_counts.specs.Steps.{ShowsSteps}
+use Rattle.sl_counts.specs.declared.calls.show.View.TheVariants.{Seats, Stage, Steps}
+use Rattle.sl_counts.specs.declared.calls.show.View.{View}
+use Rattle.sl_inputs.specs.Books.{BookInput}
+use Rattle.sl_inputs.specs.declared.status.DeskError.{DeskError}
+use Rattle.sl_inputs.specs.declared.status.Status.{Status}
+
+-- what is written: that of `count`, of `steps`, or of `stage` with the name
+abbrev pub IsShownOutput : View → BookInput → List ℕ → Status → List ℕ → Type 0
+IsShownOutput Seats = IsOutput ShowsSeats
+IsShownOutput Steps = IsOutput ShowsSteps
+IsShownOutput (Stage name) = IsStageOutput name.now
+
+-- what is read of the returns: as by `stage` where a stage is shown, and else as by `count`
+abbrev pub ReadsBehindShown : {R X : Type 0} → View → (R → Option (List ℕ)) → Option BookInput → R → R → Result X DeskError → Type 0
+ReadsBehindShown (Stage name) = ReadsBehindStage name.now
+ReadsBehindShown _ = ReadsReturns

@@ -1,2 +1,0 @@
--- Definitions on which no call of the desk and no law rests.
-pub mod Inputs
