@@ -1,16 +1,14 @@
 //! The program: a command line over the calls of the desk.
 #![tactic(auto)]
 
-mod explainer;
-mod run;
-
+use sl_commands::exit_status;
 use sl_words::request_of;
 use std::process::ExitCode;
 
 fn main(rt: HostRuntime) -> anyhow::Result<ExitCode> {
     let words: Vec<String> = std::env::args(&rt)?.collect(rt.alloc())?;
     let status = match request_of(rt.alloc(), words.as_slice()) {
-        Ok(Some(asked)) => run::exit_status(&rt, asked),
+        Ok(Some(asked)) => exit_status(&rt, asked),
         Ok(None) => {
             eprintln!(rt; "no command is given")?;
             1
