@@ -1,5 +1,5 @@
-//! The program that counts: `count`, `steps` and `stage` as the program seatlaw has them, without options and without explanations. It needs the
-//! desk and no more, so the script seatlaw builds it first.
+//! The program that counts: `count`, `steps` and `stage` as the program seatlaw has them, without options and without explanations. It stands
+//! on the calls that count and no more, so the script seatlaw builds it first.
 #![tactic(auto)]
 
 use sl_counts::{Nobody, View, show};
