@@ -23,7 +23,7 @@ from measure import PROGRAM
 EXAMPLES = pathlib.Path(__file__).resolve().parent.parent / "examples"
 LAWS = ("1956", "1985", "2008", "2013", "2023", "2023-order")
 PLACE = re.compile(rb"^ *--> (.*):(\d+):(\d+)$", re.M)
-FIRST = {"en": b"error: ", "de": b"Fehler: "}
+FIRST = {"en": b"error[", "de": b"Fehler["}
 BYTES = b"\x00\t\n\r \"#';,=()-_.%0159AZaz\x7f\x80\xc3\xbc\xff\xef\xbb\xbf"
 
 

@@ -8,6 +8,7 @@ differs is printed.
 The exit status is 0 if none does. Linux alone, for /dev/full, /dev/zero and /proc.
 """
 import os
+import re
 import subprocess
 import sys
 import tempfile
@@ -32,7 +33,7 @@ UNMADE = ("missing/file", "book/file", "", "loop", ".", "n" * 5000)
 
 READ = {name: "read fault %s\n" % name for name in ("book", "returns", "code")}
 WRITE = "write fault\n"
-EXPLANATION = "error: "
+EXPLANATION = re.compile(r"error(\[\w+\])?: ")
 
 
 def write_files(folder):
@@ -117,7 +118,7 @@ def start(program, words, folder, out, err):
 
 def without_explanation(said):
     """What stands on standard error before an explanation."""
-    return said[: said.find(EXPLANATION)] if EXPLANATION in said else said
+    return EXPLANATION.split(said)[0]
 
 
 def run(program, words, folder, out=subprocess.PIPE, err=subprocess.PIPE):

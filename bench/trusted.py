@@ -20,7 +20,7 @@ CALLS = ["count", "steps", "stage", "show", "check_book", "code", "run_code", "l
 NAMES = re.compile(r"\s*(?:ghost |pub )*use Rattle\.(\w+)\.specs\.([\w.]+)\.\{(.*)\};?$")
 MODULE = re.compile(r"\s*(?:ghost |pub )*use Rattle\.(\w+)\.specs\.([\w.]+)(?: as (\w+))?;?$")
 # Crates whose public functions promise something to whoever uses the program or the page, beside the laws.
-PROMISING = {CRATES / name for name in ("sl_inputs", "sl_code_inputs", "sl_counts", "sl_desk", "sl_hints", "sl_margins", "sl_page")}
+PROMISING = {CRATES / name for name in ("sl_inputs", "sl_code_inputs", "sl_counts", "sl_count_outcomes", "sl_desk", "sl_explain", "sl_explain_calls", "sl_law_counts", "sl_margins", "sl_report", "sl_page")}
 WORD = re.compile(r"[^\W\d]\w*")
 
 
@@ -111,7 +111,7 @@ def contracts(path, which=None):
 def reached_by(path, text):
     seen, types = set(), set()
     reach(path, text, seen, types)
-    for trait, crate in (("Source", "sl_inputs"), ("Sink", "sl_inputs"), ("Listener", "sl_counts")):
+    for trait, crate in (("Source", "sl_inputs"), ("Sink", "sl_inputs")):
         if re.search(rf"\b{trait}\b", text):
             place = CRATES / crate / "src" / f"{trait.lower()}.rt"
             reach(place, blocks(place, trait), seen, types)
@@ -138,7 +138,7 @@ def order():
 
 def page():
     calls = {}
-    for path in sorted(CRATES.glob("sl_counts/src/calls/*.rt")) + sorted(CRATES.glob("sl_desk/src/calls/*.rt")):
+    for path in sorted(CRATES.glob("sl_counts/src/*.rt")) + sorted(CRATES.glob("sl_desk/src/calls/*.rt")):
         for name, text in contracts(path, CALLS):
             calls[name] = reached_by(path, text)
     laws = set()
@@ -156,7 +156,7 @@ def page():
         "is for a reader to judge. This page lists the files with these definitions, call by call. It is written by `python3 bench/trusted.py`,",
         "which follows the imports. Definition lines are those that are no import, no comment and not blank. The library of the toolchain, on",
         "which the files rest too, is not listed; nor are the types and constants in `src/` that the definitions name, such as `LegalFault`,",
-        "`Divisor` and the limits, and the traits `Source`, `Sink` and `Listener` with their clauses, which have to be read as well.",
+        "`Divisor` and the limits, and the traits `Source` and `Sink` with their clauses, which have to be read as well.",
         "",
         "| call | files | definition lines |",
         "|---|---|---|",

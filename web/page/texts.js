@@ -124,8 +124,8 @@ const TEXTS = {
   minimum: ["Mindestzahl", "Minimum"],
   missing: ["Stimmen bis zum nächsten Sitz", "Votes missing for one more seat"],
   missingNote: [
-    "So viele weitere Stimmen, alles andere gleich, geben sicher einen Sitz mehr, und weniger nicht. Mit Mindestzahlen, in einem wachsenden Haus und bei Hare/Niemeyer bleibt das offen.",
-    "So many further votes, all else equal, are certain to give one more seat, and fewer are not. With minima, in a house that grows and by largest remainders this stays open.",
+    "So viele weitere Stimmen geben in dieser Verteilung, bei gleichen Stimmen der anderen und gleicher Sitzzahl, sicher einen Sitz mehr, und weniger nicht. Was sie anderswo ändern (die Fünfprozenthürde, andere Stufen, das Haus), steht nicht darin. Mit Mindestzahlen, in einem wachsenden Haus und bei Hare/Niemeyer bleibt das offen.",
+    "So many further votes are certain to give one more seat in this distribution, with the votes of the others and its seats as they are, and fewer are not. What they change elsewhere (the threshold, other stages, the house) is not in it. With minima, in a house that grows and by largest remainders this stays open.",
   ],
   byLot: ["durch Los", "by lot"],
   column: ["Werte einer Stufe", "Values of a stage"],

@@ -1,7 +1,7 @@
-//! The program: a command line over the calls of the desk.
+//! The program: a command line over the commands of the terminal.
 #![tactic(auto)]
 
-use sl_commands::exit_status;
+use sl_terminal::exit_status;
 use sl_words::request_of;
 use std::process::ExitCode;
 

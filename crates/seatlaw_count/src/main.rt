@@ -2,7 +2,7 @@
 //! on the calls that count and no more, so the script seatlaw builds it first.
 #![tactic(auto)]
 
-use sl_counts::{Nobody, View, show};
+use sl_counts::{View, show};
 use sl_inputs::{BookSource, DeskError, FromRead, Input, ToWrite};
 use std::fs::File;
 use std::process::ExitCode;
@@ -53,15 +53,8 @@ fn counted(rt: &HostRuntime, count: Count<'_>) -> Result<u8, DeskError> {
     let mut book = open_book(rt, count.book)?;
     let mut returns = open(rt, count.returns, Input::Returns)?;
     let mut out = ToWrite::new(rt.stdout());
-    let status = show(
-        count.view,
-        rt.alloc(),
-        &mut book,
-        &mut returns,
-        &mut out,
-        &mut Nobody,
-    )?;
-    Ok(status.number())
+    let shown = show(count.view, rt.alloc(), &mut book, &mut returns, &mut out)?;
+    Ok(shown.status.number())
 }
 
 fn main(rt: HostRuntime) -> anyhow::Result<ExitCode> {

@@ -1,5 +1,7 @@
 //! What a command that reports answers: a text in one of the forms, and a status.
 
+ghost use Rattle.std.specs.Prelude.{◌≡◌, IfOk};
+
 use sl_inputs::Status;
 use sl_ratio::NoMemory;
 use sl_sheets::{Sheet, aligned_text, comma_text, json_text};
@@ -13,10 +15,10 @@ pub enum Shape {
     Comma,
 }
 
-/// A text, and the exit status that stands for it: 0, 2 where an input is refused, 3 at a legal fault.
+/// A text, and the status that stands for it.
 #[derive(Drop)]
 pub struct Answer {
-    pub status: u8,
+    pub status: Status,
     pub text: Vec<u8>,
 }
 
@@ -41,22 +43,47 @@ fn aligned(alloc: Global, line: Option<&str>, sheets: &[Sheet]) -> Result<String
 }
 
 impl Answer {
-    // The answer of a command that comes to these sheets, with the line of a legal fault, if it has one.
-    pub(crate) fn of(
+    // The answer of a command that comes to these sheets.
+    pub(crate) fn done(
         alloc: Global,
         command: &str,
+        sheets: &[Sheet],
+        shape: Shape,
+    ) -> Result<Answer, NoMemory>
+        ensures { IfOk result (λ a. a.status ≡ Status.Done) }
+    {
+        Answer::of(alloc, command, Status::Done, None, sheets, shape)
+    }
+
+    // The answer of a command that comes to a legal fault, told by this line, and to these sheets.
+    pub(crate) fn legal(
+        alloc: Global,
+        command: &str,
+        line: &str,
+        sheets: &[Sheet],
+        shape: Shape,
+    ) -> Result<Answer, NoMemory>
+        ensures { IfOk result (λ a. a.status ≡ Status.Legal) }
+    {
+        Answer::of(alloc, command, Status::Legal, Some(line), sheets, shape)
+    }
+
+    // The answer of a command that comes to these sheets, with the line of a legal fault, if it has one.
+    fn of(
+        alloc: Global,
+        command: &str,
+        status: Status,
         line: Option<&str>,
         sheets: &[Sheet],
         shape: Shape,
-    ) -> Result<Answer, NoMemory> {
-        let status = match line {
-            Some(_) => Status::Legal.number(),
-            None => Status::Done.number(),
-        };
+    ) -> Result<Answer, NoMemory>
+        ensures { IfOk result (λ a. a.status ≡ status) }
+    {
+        let number = status.number();
         let text = match shape {
             Shape::Text => aligned(alloc, line, sheets)?,
             Shape::Comma => comma_text(alloc, sheets)?,
-            Shape::Json => json_text(alloc, command, status, line.map(without_end), sheets)?,
+            Shape::Json => json_text(alloc, command, number, line.map(without_end), sheets)?,
         };
         Ok(Answer {
             status,
@@ -65,30 +92,28 @@ impl Answer {
     }
 
     /// The answer that refuses an input by a line.
-    pub fn refused(line: Vec<u8>) -> Answer {
+    pub fn refused(line: Vec<u8>) -> Answer
+        ensures { result.status ≡ Status.Refused }
+    {
         Answer {
-            status: Status::Refused.number(),
+            status: Status::Refused,
             text: line,
         }
     }
 
     // The line that refuses the names in a record.
-    pub(crate) fn refused_names(alloc: Global, row: u64) -> Result<Answer, NoMemory> {
+    pub(crate) fn refused_names(alloc: Global, row: u64) -> Result<Answer, NoMemory>
+        ensures { IfOk result (λ a. a.status ≡ Status.Refused) }
+    {
         let line = format!(in alloc; "refused names {row}\n")?;
         Ok(Answer::refused(line.into_bytes()))
     }
 
     // The line that refuses names of too many bytes.
-    pub(crate) fn names_too_long(alloc: Global) -> Result<Answer, NoMemory> {
+    pub(crate) fn names_too_long(alloc: Global) -> Result<Answer, NoMemory>
+        ensures { IfOk result (λ a. a.status ≡ Status.Refused) }
+    {
         let line = String::from_str(alloc, "refused names toolong\n")?;
         Ok(Answer::refused(line.into_bytes()))
-    }
-
-    // The line of a run that needs more steps than it may take, as no rulebook's does.
-    pub(crate) fn out_of_budget(alloc: Global) -> Result<Answer, NoMemory> {
-        Ok(Answer {
-            status: Status::Budget.number(),
-            text: String::from_str(alloc, "out of budget\n")?.into_bytes(),
-        })
     }
 }

@@ -1,34 +1,30 @@
-//! The answer that shows several rulebooks side by side.
+//! The answer that shows several rulebooks side by side: that of `compare`.
+
+ghost use Rattle.std.specs.Prelude.{◌≡◌, IfOk};
+ghost use Rattle.sl_inputs.specs.declared.status.Status.TheVariants.{Done};
 
 use crate::answer::{Answer, Shape};
-use crate::cases::names_of;
-use sl_naming::Naming;
+use sl_naming::{FullNames, Naming};
 use sl_ratio::NoMemory;
 use sl_report_sheets::{Judged, compare_sheets};
 use sl_stages::Returns;
 use std::alloc::Global;
 
-/// The answer that shows what several books come to on returns, side by side, or that refuses the names.
+/// What several books come to on returns, side by side.
 ///
 /// # Errors
 ///
-/// Want of memory.
+/// Out of memory.
 pub fn comparison_answer(
     alloc: Global,
     books: &[Judged],
     returns: &Returns,
-    names: Option<&[u8]>,
+    full: &FullNames,
     shape: Shape,
-) -> Result<Answer, NoMemory> {
-    match names_of(alloc, names)? {
-        Ok(full) => {
-            let naming = Naming {
-                returns,
-                full: &full,
-            };
-            let sheets = compare_sheets(alloc, &naming, books)?;
-            Answer::of(alloc, "compare", None, sheets.as_slice(), shape)
-        }
-        Err(refused) => Ok(refused),
-    }
+) -> Result<Answer, NoMemory>
+    ensures { IfOk result (λ a. a.status ≡ Done) }
+{
+    let naming = Naming { returns, full };
+    let sheets = compare_sheets(alloc, &naming, books)?;
+    Answer::done(alloc, "compare", sheets.as_slice(), shape)
 }

@@ -1,13 +1,17 @@
 //! The answers that show one count: those of `report` and of `stages`.
 
+ghost use Rattle.std.specs.Prelude.{◌≡◌, IfOk};
+ghost use Rattle.sl_answers.specs.Ends.{end_status};
+ghost use Rattle.sl_inputs.specs.declared.status.Status.TheVariants as status;
+
 use crate::answer::{Answer, Shape};
-use crate::outcome::Outcome;
-use sl_naming::{Naming, explanation_sheet, fault_sheet};
+use sl_count_value::{Counted, End};
+use sl_naming::{FullNames, Naming, explanation_sheet, fault_sheet};
 use sl_ratio::NoMemory;
 use sl_report_sheets::{report_sheets, stage_sheets};
-use sl_results::{Counted, Setting, parts_of};
+use sl_results::{Setting, parts_of};
 use sl_sheets::Sheet;
-use sl_stages::{CheckedBook, LegalFault};
+use sl_stages::{CheckedBook, LegalFault, Returns};
 use std::alloc::Global;
 
 /// What a command shows of a count.
@@ -28,31 +32,22 @@ impl Show {
     }
 }
 
-// The sheets of a count.
-fn counted_sheets(
-    alloc: Global,
-    show: Show,
-    setting: &Setting<'_>,
-    naming: &Naming<'_>,
-    counted: &Counted,
-) -> Result<Vec<Sheet>, NoMemory> {
-    match show {
-        Show::Report => report_sheets(alloc, setting, naming, Some(counted)),
-        Show::Stages => stage_sheets(alloc, setting, naming, counted),
-    }
-}
-
-// The answer that shows a count.
-fn counted_answer(
+// The answer that shows a table with its columns.
+fn table_answer(
     alloc: Global,
     show: Show,
     setting: &Setting<'_>,
     naming: &Naming<'_>,
     counted: &Counted,
     shape: Shape,
-) -> Result<Answer, NoMemory> {
-    let sheets = counted_sheets(alloc, show, setting, naming, counted)?;
-    Answer::of(alloc, show.command(), None, sheets.as_slice(), shape)
+) -> Result<Answer, NoMemory>
+    ensures { IfOk result (λ a. a.status ≡ status.Done) }
+{
+    let sheets = match show {
+        Show::Report => report_sheets(alloc, setting, naming, Some(counted))?,
+        Show::Stages => stage_sheets(alloc, setting, naming, counted)?,
+    };
+    Answer::done(alloc, show.command(), sheets.as_slice(), shape)
 }
 
 // The sheets of a legal fault, and who takes part.
@@ -78,44 +73,36 @@ fn fault_answer(
     fault: &LegalFault,
     line: &[u8],
     shape: Shape,
-) -> Result<Answer, NoMemory> {
+) -> Result<Answer, NoMemory>
+    ensures { IfOk result (λ a. a.status ≡ status.Legal) }
+{
     let sheets = fault_sheets(alloc, setting, naming, fault)?;
     let line = std::str::from_utf8(line).unwrap_or("");
-    Answer::of(alloc, show.command(), Some(line), sheets.as_slice(), shape)
+    Answer::legal(alloc, show.command(), line, sheets.as_slice(), shape)
 }
 
-// The answer that shows what a good book comes to.
-fn outcome_answer(
-    alloc: Global,
-    show: Show,
-    setting: &Setting<'_>,
-    naming: &Naming<'_>,
-    outcome: &Outcome,
-    shape: Shape,
-) -> Result<Answer, NoMemory> {
-    match outcome {
-        Outcome::Counted(counted) => counted_answer(alloc, show, setting, naming, counted, shape),
-        Outcome::Fault(fault, line) => {
-            fault_answer(alloc, show, setting, naming, fault, line.as_slice(), shape)
-        }
-        Outcome::OutOfBudget => Answer::out_of_budget(alloc),
-    }
-}
-
-/// The answer that shows what a good book comes to on good returns.
+/// The answer that shows how the count of a good book on good returns ends; a legal fault is told by the line with which counting does.
 ///
 /// # Errors
 ///
-/// Want of memory.
+/// Out of memory.
 pub fn count_answer(
     alloc: Global,
     show: Show,
     book: &CheckedBook,
-    naming: &Naming<'_>,
-    outcome: &Outcome,
+    returns: &Returns,
+    full: &FullNames,
+    end: &End,
+    line: &[u8],
     shape: Shape,
-) -> Result<Answer, NoMemory> {
-    let parts = parts_of(alloc, book.book.eligible.as_slice(), naming.returns)?;
-    let setting = Setting::new(alloc, &book.book, naming.returns, parts)?;
-    outcome_answer(alloc, show, &setting, naming, outcome, shape)
+) -> Result<Answer, NoMemory>
+    ensures { IfOk result (λ a. a.status ≡ end_status end.now) }
+{
+    let naming = Naming { returns, full };
+    let parts = parts_of(alloc, book.book.eligible.as_slice(), returns)?;
+    let setting = Setting::new(alloc, &book.book, returns, parts)?;
+    match end {
+        End::Counted(counted) => table_answer(alloc, show, &setting, &naming, counted, shape),
+        End::Fault(fault) => fault_answer(alloc, show, &setting, &naming, fault, line, shape),
+    }
 }

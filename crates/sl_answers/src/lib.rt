@@ -6,12 +6,10 @@ mod answer;
 mod cases;
 mod comparison;
 mod counts;
-mod outcome;
 mod sums;
 
 pub use answer::{Answer, Shape};
-pub use cases::{MAX_NAMES_BYTES, names_of, read_book, read_election};
+pub use cases::{MAX_NAMES_BYTES, names_of};
 pub use comparison::comparison_answer;
 pub use counts::{Show, count_answer};
-pub use outcome::Outcome;
-pub use sums::totals;
+pub use sums::totals_answer;

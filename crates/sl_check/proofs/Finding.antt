@@ -1,5 +1,5 @@
 -- The column of a name among those of earlier stages.
-use Rattle.std.proofs.Common.{◌≡◌, ℕ, suc, zero, ◌<◌, ◌≤◌, ◌||◌, List, [], ◌∷◌, Bool, true, false, cond, Some, length, find, option_map, drop, get_or, arith, refl}
+use Rattle.std.proofs.Common.{◌≡◌, ℕ, suc, zero, ◌<◌, ◌≤◌, ◌||◌, List, [], ◌∷◌, Bool, true, false, cond, Some, length, find, option_map, drop, take, get_or, arith, refl, ap}
 use Rattle.std.specs.Str.{bytes_eq}
 use Rattle.std.specs.Option.{ok_or}
 use Rattle.std.specs.List.{list_any}
@@ -27,3 +27,12 @@ judges_name p [] at = refl
 judges_name p (c ∷ cs) at =
     elim (p c) as (λ b. Judges (ok_or (option_map (λ d. d.type) (cond b (Some c) (find p cs))) (StageUnknown at)) (test (b || list_any p cs) (StageUnknown at) ∷ []) (type_or_one (cond b (Some c) (find p cs))))
     [ true ↦ (refl, refl) | false ↦ judges_name p cs at ]
+
+-- stages without a type have no column
+pub first_columns : (n : ℕ) (ss : List Stage) (ts : List ColumnType) → (n < length ss → length ts ≤ n) → columns (take n ss) ts ≡ columns ss ts
+first_columns zero [] ts few = refl
+first_columns zero (s ∷ ss) [] few = refl
+first_columns zero (s ∷ ss) (t ∷ ts) few = absurd (omega (arith, few (omega arith)))
+first_columns (suc n) [] ts few = refl
+first_columns (suc n) (s ∷ ss) [] few = refl
+first_columns (suc n) (s ∷ ss) (t ∷ ts) few = ap (λ cs. record { name = s.name; type = t } ∷ cs) (first_columns n ss ts (λ lt. omega (arith, few (omega (arith, lt)))))

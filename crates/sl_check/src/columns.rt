@@ -19,6 +19,17 @@ pub struct Columns<'a> {
 }
 
 impl<'a> Columns<'a> {
+    /// The first of these stages, as many as there are types.
+    pub fn of(stages: &'a [Stage], types: &'a [ColumnType]) -> Columns<'a>
+        ensures { columns result.stages.now result.types.now ≡ columns stages.now types.now }
+    {
+        let count = stages.len().min(types.len());
+        Columns {
+            stages: &stages[..count],
+            types,
+        }
+    }
+
     /// What the column of the stage of that name has.
     pub fn find(&self, name: &Word) -> Option<ColumnType>
         ensures { let known = columns self.now.stages.now self.now.types.now

@@ -9,4 +9,5 @@ mod parts;
 mod stages;
 
 pub use checker::check;
+pub use columns::Columns;
 pub use sl_stages::{CheckFault, CheckedBook};

@@ -34,21 +34,31 @@ pub fn judge_code(alloc: Global, bytes: &[u8]) -> Result<Verdict<Verified, CodeR
     }
 }
 
+/// A code file that was read: its bytes, and what they come to.
+#[derive(Drop)]
+pub struct ReadCode {
+    pub file: Vec<u8>,
+    pub verdict: Verdict<Verified, CodeRefusal>,
+}
+
 /// Reads a code file and judges it.
 ///
 /// # Errors
 ///
 /// `Read` where the source failed, and `NoMemory`.
-pub fn read_code<S: Source>(
-    alloc: Global,
-    source: &mut S,
-) -> Result<Verdict<Verified, CodeRefusal>, DeskError>
-    ensures verdict { IfOk result (λ v. IfSome (S.remaining source.old) (λ bytes. IsCodeVerdict bytes v)) }
+pub fn read_code<S: Source>(alloc: Global, source: &mut S) -> Result<ReadCode, DeskError>
+    ensures verdict { IfOk result (λ r. IfSome (S.remaining source.old) (λ bytes. IsCodeVerdict bytes r.verdict)) }
     ensures failures { counts 0 0 (S.failed source.new) 0 ≡ counts_after (counts 0 0 (S.failed source.old) 0) result }
     ensures limited { TakesAtMost (MAX_CODE_BYTES + 1) (S.remaining source.old) (S.remaining source.new) }
 {
     match read_all(alloc, source, Input::Code, MAX_CODE_BYTES)? {
-        Bytes::Whole(bytes) => Ok(judge_code(alloc, bytes.as_slice())?),
-        Bytes::TooLong => Ok(Verdict::Refused(CodeRefusal::TooLong)),
+        Bytes::Whole(file) => {
+            let verdict = judge_code(alloc, file.as_slice())?;
+            Ok(ReadCode { file, verdict })
+        }
+        Bytes::TooLong => Ok(ReadCode {
+            file: Vec::new(alloc),
+            verdict: Verdict::Refused(CodeRefusal::TooLong),
+        }),
     }
 }

@@ -4,5 +4,5 @@
 mod code_file;
 mod refusal;
 
-pub use code_file::{judge_code, read_code};
+pub use code_file::{ReadCode, judge_code, read_code};
 pub use refusal::CodeRefusal;

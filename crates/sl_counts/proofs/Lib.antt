@@ -1,6 +1,4 @@
-pub mod Order
 pub mod Delivering
 pub mod OneMeaning
-pub mod StageColumns
-pub mod Outcomes
-pub mod Heard
+pub mod CountTexts
+pub mod AnyInputs

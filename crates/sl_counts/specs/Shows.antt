@@ -1,10 +1,11 @@
 -- What is shown of a count, by what is asked for (docs/output.md).
-use Rattle.std.specs.Prelude.{List, Option, Result, ℕ}
+use Rattle.std.specs.Prelude.{Err, List, Ok, Option, Result, ℕ}
 use Rattle.sl_counts.specs.Counting.{IsOutput, ReadsReturns, ShowsSeats}
 use Rattle.sl_counts.specs.Showing.{IsStageOutput, ReadsBehindStage}
 use Rattle.sl_counts.specs.Steps.{ShowsSteps}
-use Rattle.sl_counts.specs.declared.calls.show.View.TheVariants.{Seats, Stage, Steps}
-use Rattle.sl_counts.specs.declared.calls.show.View.{View}
+use Rattle.sl_counts.specs.declared.view.View.TheVariants.{Seats, Stage, Steps}
+use Rattle.sl_counts.specs.declared.view.View.{View}
+use Rattle.sl_counts.specs.declared.showing.Shown.{Shown}
 use Rattle.sl_inputs.specs.Books.{BookInput}
 use Rattle.sl_inputs.specs.declared.status.DeskError.{DeskError}
 use Rattle.sl_inputs.specs.declared.status.Status.{Status}
@@ -19,3 +20,8 @@ IsShownOutput (Stage name) = IsStageOutput name.now
 abbrev pub ReadsBehindShown : {R X : Type 0} → View → (R → Option (List ℕ)) → Option BookInput → R → R → Result X DeskError → Type 0
 ReadsBehindShown (Stage name) = ReadsBehindStage name.now
 ReadsBehindShown _ = ReadsReturns
+
+-- the status with which a count was shown
+abbrev pub status_in : Result Shown DeskError → Result Status DeskError
+status_in (Ok shown) = Ok shown.status
+status_in (Err error) = Err error

@@ -1,3 +1,2 @@
--- Definitions on which no call of the desk and no law rests.
-pub mod Stages
-pub mod Hearing
+-- Definitions that bodies and proofs alone cite.
+pub mod Texts

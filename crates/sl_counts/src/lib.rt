@@ -1,14 +1,17 @@
-//! The calls that count: from a rulebook and returns, as readers of bytes, to the text of a table, of a column or of a legal fault.
+//! The calls that count: from a rulebook and returns, as readers of bytes, to the text of a table, of a column or of a legal fault. Each judges and counts once,
+//! by `sl_count_outcomes`, and writes the text of what came of it.
 #![tactic(auto)]
 
+mod answer;
 mod calls;
-mod listener;
 mod report;
+mod showing;
+mod texts;
+mod view;
 
-pub use calls::Answer;
-pub use calls::count::{count, steps};
-pub use calls::ending::ended;
-pub use calls::show::{View, show};
-pub use calls::stage::stage;
-pub use listener::{Listener, Nobody};
+pub use answer::Answer;
+pub use calls::{count, stage, steps};
 pub use report::Report;
+pub use showing::{Shown, show};
+pub use texts::answer_of;
+pub use view::View;

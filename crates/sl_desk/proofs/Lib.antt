@@ -1,3 +1,4 @@
+pub mod RunOutputs
 pub mod Order
 pub mod Delivering
 pub mod OneOutput

@@ -1,5 +1,5 @@
 -- What running the file of a code writes is how the run of the code ends, and of a book's code what counting by the book writes.
-use Rattle.std.proofs.Common.{◌≡◌, ◌≢◌, ℕ, true, List, length, Option, None, Some, refl, sym, ap, subst, ◌∙◌}
+use Rattle.std.proofs.Common.{◌≡◌, ◌≢◌, ℕ, true, List, length, Option, None, Some, inl, inr, refl, sym, ap, subst, ◌∙◌}
 use Rattle.sl_stages.specs.book.Trees.{BookTree}
 use Rattle.sl_stages.specs.book.Typing.{is_typed}
 use Rattle.sl_stages.specs.returns.Election.{Election, IsElection}
@@ -20,12 +20,14 @@ use Rattle.sl_returns.specs.Returns.{records_in}
 use Rattle.sl_returns.proofs.ReadElections.{read_is}
 use Rattle.sl_code_inputs.specs.declared.refusal.CodeRefusal.{CodeRefusal}
 use Rattle.sl_inputs.specs.declared.refusal.ReturnsRefusal.{ReturnsRefusal}
-use Rattle.sl_counts.specs.declared.report.Report.TheVariants.{Seats}
 use Rattle.sl_inputs.specs.declared.status.Status.{Status}
 use Rattle.sl_inputs.specs.declared.status.Status.TheVariants as status
 use Rattle.sl_inputs.specs.declared.verdict.Verdict.{Verdict}
 use Rattle.sl_inputs.specs.declared.verdict.Verdict.TheVariants.{Good, Refused}
-use Rattle.sl_counts.specs.Endings.{IsRunOutput, code_names, out_of_budget}
+use Rattle.sl_count_outcomes.proofs.Ends.{fault_is_meant, table_is_meant}
+use Rattle.sl_count_outcomes.specs.Outcomes.{code_names}
+use Rattle.sl_count_value.specs.declared.count.Records.TheVariants.{Kept}
+use Rattle.sl_desk.specs.Endings.{IsRunOutput, out_of_budget}
 use Rattle.sl_desk.specs.Laws.{OneCodeVerdict, NoOtherCodeVerdict, OneRun, HasOneRun, RunsItsCode, RunIsCount}
 use Rattle.sl_counts.specs.Counting.{IsTreeOutput, IsCount}
 use Rattle.sl_code_inputs.specs.CodeFiles.{IsCodeVerdict, code_line}
@@ -35,10 +37,9 @@ use Rattle.sl_texts.specs.Short.{short_text}
 use Rattle.sl_verify.specs.WellKinded.{IsWellKinded}
 use Rattle.sl_inputs.specs.Returns.{IsReturnsVerdict, returns_line}
 use Rattle.sl_desk.proofs.CodeLengths.{file_fits}
-use Rattle.sl_counts.proofs.OneMeaning.{same_short}
 use Rattle.sl_desk.proofs.OneOutput.{one_returns_verdict}
 use Rattle.sl_desk.proofs.OneVerdict.{one_returns}
-use Rattle.sl_counts.proofs.Outcomes.{tree_output}
+use Rattle.sl_stages.proofs.meaning.MeaningProofs.{some_outcome}
 use Rattle.sl_counts.specs.Counting.{ShowsSeats}
 
 module _ (no_other : NoOtherCodeVerdict) where
@@ -115,12 +116,10 @@ module _ (b : BookTree) (c : CountingCode) (is : IsCompiled b c) (typed : is_typ
   ended_counts : (e : Election) (end : End) (ends : Status) (output : List ℕ) → IsElection e → ending_by b c e ≡ Ended end
       → IsRunOutput c e (answer_of c e (Ended end)) ends output → IsTreeOutput ShowsSeats b (Good e) ends output
   ended_counts e (Halted base vacant s) ends output in_range at written =
-      let held : Held = held_of c e base vacant s in
-      let bare : Held = held_of c e base vacant (unrecorded s) in
-      tree_output Seats b c e is in_range typed (answer.Done bare) ends output tt (ap (λ x. answer_of c e (without_records x)) at)
-      (written.0, written.1 ∙ same_short (held_table e held) (held_table e bare) e refl refl)
+      let o = some_outcome b e typed in_range in
+      inl (written.0, (held_table e (held_of c e base vacant s), table_is_meant Kept b c e is in_range base vacant s at o.0 o.1, written.1))
   ended_counts e (Faulted f) ends output in_range at written =
-      tree_output Seats b c e is in_range typed (answer.Fault f) ends output tt (ap (λ x. answer_of c e (without_records x)) at) written
+      inr (written.0, (f, fault_is_meant Kept b c e is in_range f (ap (answer_of c e) at), written.1 ∙ ap (λ (names : List (List ℕ)). fault_text names e f) is.stages))
 
   code_counts : (returns : List ℕ) (v : Verdict Election ReturnsRefusal) (ends : Status) (output : List ℕ) → IsReturnsVerdict returns v → IsCodeOutput c v ends output
       → IsTreeOutput ShowsSeats b v ends output

@@ -2,7 +2,7 @@
 use Rattle.std.specs.Prelude.{List, Option, Result, length, ◌≡◌, ℕ}
 use Rattle.sl_instructions.specs.Codes.{CountingCode}
 use Rattle.sl_code_inputs.specs.CodeFiles.{IsCodeVerdict, code_line}
-use Rattle.sl_counts.specs.Endings.{IsRunOutput}
+use Rattle.sl_desk.specs.Endings.{IsRunOutput}
 use Rattle.sl_inputs.specs.Reading.{ReadsBehind}
 use Rattle.sl_inputs.specs.Returns.{IsReturnsVerdict, returns_line}
 use Rattle.sl_code_inputs.specs.declared.refusal.CodeRefusal.{CodeRefusal}

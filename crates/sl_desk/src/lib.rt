@@ -3,15 +3,16 @@
 
 mod calls;
 pub mod laws;
+mod runs;
 
-pub use calls::check::check_book;
-pub use calls::code::code;
+pub use calls::check::{check_answer, check_book};
+pub use calls::code::{Compilation, code, compilation_of};
 pub use calls::law::law_text;
-pub use calls::run::run_code;
+pub use calls::run::{JudgedRun, ReadRun, Run, judge_run, run_answer, run_code};
 pub use sl_code_inputs::{CodeRefusal, judge_code};
-pub use sl_counts::{Listener, Nobody, View, count, show, stage, steps};
+pub use sl_counts::{View, count, show, stage, steps};
 pub use sl_inputs::{
     BookRefusal, BookSource, BookText, DeskError, Failed, FromRead, Input, MAX_BOOK_BYTES,
-    MAX_CODE_BYTES, MAX_RETURNS_BYTES, ReturnsRefusal, Sink, Source, Status, ToWrite, Verdict,
-    judge_book, judge_returns, stage_number,
+    MAX_CODE_BYTES, MAX_RETURNS_BYTES, ReadBook, RefusedBook, RefusedElection, ReturnsRefusal,
+    Sink, Source, Status, ToWrite, Verdict, judge_book, judge_returns, read_book, stage_number,
 };

@@ -58,7 +58,7 @@ pub fn run(rt: &HostRuntime, line: &Line<'_>) -> io::Result<Answer> {
     let mut out = Narrow::with_room(rt.alloc(), 0)?;
     match ending(rt, line, &mut out)? {
         Ok(status) => Ok(Answer {
-            status: status.number(),
+            status,
             text: out.taken,
         }),
         Err(_) => Err(Error::from(ErrorKind::Other)),

@@ -31,7 +31,7 @@ fn show_answer(rt: &HostRuntime, page: &str, line: &str, answer: &Answer) -> io:
         return Err(Error::from(ErrorKind::InvalidData));
     };
     let block = block(rt.alloc(), line, text)?;
-    let status = answer.status;
+    let status = answer.status.number();
     if page.contains(block.as_str()) {
         println!(rt; "{line}: status {status}, as shown")
     } else {

@@ -4,7 +4,7 @@ use crate::files::{beside, wanted};
 use crate::lines::Line;
 use sl_desk::BookText;
 use sl_ratio::NoMemory;
-use sl_report::{Answer, Named, STATUTES, compare, report, stages, totals};
+use sl_report::{Answer, Named, compare, compare_statutes, report, stages, totals};
 use std::fs;
 use std::io::{self, Error, ErrorKind};
 
@@ -109,7 +109,7 @@ fn compare_report(rt: &HostRuntime, line: &Line<'_>, names: Option<&[u8]>) -> io
     let returns = returns.as_str().as_bytes();
     let loaded = load_books(rt, line)?;
     if loaded.is_empty() {
-        return done(compare(rt.alloc(), &STATUTES, returns, names, line.shape));
+        return done(compare_statutes(rt.alloc(), returns, names, line.shape));
     }
     let named = named_books(rt, loaded.as_slice())?;
     let books = named.as_slice();

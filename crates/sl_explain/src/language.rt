@@ -1,5 +1,8 @@
 //! Messages in two languages, which stand side by side.
 
+ghost use Rattle.std.specs.Prelude.{◌≡◌};
+
+use crate::code::FaultCode;
 use sl_no_memory::NoMemory;
 use std::alloc::Global;
 
@@ -17,6 +20,14 @@ pub struct Message {
     pub german: &'static str,
 }
 
+/// What is said of a fault, in both languages, with the code of the fault. Each `$` in it stands for the next value.
+#[derive(Clone, Copy)]
+pub struct Sentence {
+    pub code: FaultCode,
+    pub english: &'static str,
+    pub german: &'static str,
+}
+
 impl Message {
     /// The message in a language.
     pub fn in_language(&self, language: Language) -> &'static str {
@@ -26,11 +37,11 @@ impl Message {
         }
     }
 
-    /// The text of the message, with these values in place of each `$`, in their order. A `$` behind the last value is left away.
+    /// The text of the message, with these values in place of each `$`, in their order. A `$` without a value is dropped.
     ///
     /// # Errors
     ///
-    /// Want of memory.
+    /// Out of memory.
     pub fn text(
         &self,
         alloc: Global,
@@ -47,5 +58,26 @@ impl Message {
             }
         }
         Ok(text)
+    }
+
+    /// The message as what is said of a fault, where the same is said of several.
+    pub fn of_fault(&self, code: FaultCode) -> Sentence
+        ensures { result.code ≡ code }
+    {
+        Sentence {
+            code,
+            english: self.english,
+            german: self.german,
+        }
+    }
+}
+
+impl Sentence {
+    // The sentence without its code.
+    pub(crate) fn message(&self) -> Message {
+        Message {
+            english: self.english,
+            german: self.german,
+        }
     }
 }

@@ -1,18 +1,23 @@
-//! Explanations for people: a sentence, the place in a file, the line that stands there with a mark, and what to do, in English or in German.
+//! Explanations for people: a sentence with the code of the fault, the place in a file, the line that stands there with a mark, and what to do,
+//! in English or in German.
 #![tactic(auto)]
 
+mod code;
 mod explanation;
 mod language;
 mod line;
 mod names;
 mod page;
 mod parts;
+mod shown;
 mod speaker;
 
+pub use code::{CODES, FaultCode};
 pub use explanation::{Explanation, Span};
-pub use language::{Language, Message};
+pub use language::{Language, Message, Sentence};
 pub use line::{Line, line_at};
 pub use names::nearest;
 pub use page::written;
 pub use parts::{append, first_line};
+pub use shown::push_shown;
 pub use speaker::Speaker;

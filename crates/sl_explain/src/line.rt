@@ -1,6 +1,7 @@
 //! Lines and columns of a text, as an editor counts them.
 
-use crate::parts::{characters, first_line, from, until};
+use crate::parts::{first_line, from, until};
+use crate::shown::shown_count;
 
 /// A line of a text, without its end, and a place in it.
 #[derive(Clone, Copy)]
@@ -23,7 +24,7 @@ fn ends_line(text: &[u8], at: usize) -> bool {
     }
 }
 
-/// The line in which the byte at that offset stands. An offset behind the text stands at its end.
+/// The line in which the byte at that offset stands. An offset after the text stands at its end.
 pub fn line_at(text: &[u8], at: usize) -> Line<'_> {
     let mut number = 1usize;
     let mut start = 0usize;
@@ -34,11 +35,12 @@ pub fn line_at(text: &[u8], at: usize) -> Line<'_> {
         }
     }
     let rest = from(text, start);
+    let line = first_line(rest);
     let before = until(rest, at.saturating_sub(start));
     Line {
         number,
-        column: characters(before).saturating_add(1),
+        column: shown_count(line, before).saturating_add(1),
         start,
-        text: first_line(rest),
+        text: line,
     }
 }

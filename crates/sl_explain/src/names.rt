@@ -24,7 +24,7 @@ fn edits_between(alloc: Global, small: &[u8], name: &[u8]) -> Result<usize, NoMe
 ///
 /// # Errors
 ///
-/// Want of memory.
+/// Out of memory.
 pub fn nearest<'a>(
     alloc: Global,
     word: &[u8],

@@ -3,13 +3,14 @@
 use crate::explanation::{Explanation, Span};
 use crate::language::{Language, Message};
 use crate::line::line_at;
-use crate::parts::{append, begins_character, characters, from, shown_byte, until};
+use crate::parts::{append, begins_character, from, until};
+use crate::shown::{push_shown, shown_count};
 use sl_no_memory::NoMemory;
 use std::alloc::Global;
 
 const ERROR: Message = Message {
-    english: "error: ",
-    german: "Fehler: ",
+    english: "error",
+    german: "Fehler",
 };
 
 const HELP: Message = Message {
@@ -62,22 +63,13 @@ fn window(line: &[u8], at: usize) -> (&[u8], usize) {
     (until_shown(rest), place.saturating_sub(skipped))
 }
 
-// Adds bytes as they are shown.
-fn write_shown(text: &mut Vec<u8>, bytes: &[u8]) -> Result<(), NoMemory> {
-    let is_utf8 = std::str::from_utf8(bytes).is_ok();
-    for byte in bytes {
-        text.push(shown_byte(*byte, is_utf8))?;
-    }
-    Ok(())
-}
-
-// As many blanks as a line's number has digits, and what stands behind them.
+// As many blanks as a line's number has digits, and what stands after them.
 fn write_margin(text: &mut Vec<u8>, width: usize, parts: &[&[u8]]) -> Result<(), NoMemory> {
     repeat(text, b' ', width)?;
     append(text, parts)
 }
 
-// A mark below some bytes of a part of a line: at least one character, also behind its end.
+// A mark below some bytes of a part of a line: at least one character, also after its end.
 fn write_mark(
     text: &mut Vec<u8>,
     part: &[u8],
@@ -85,8 +77,8 @@ fn write_mark(
     length: usize,
 ) -> Result<(), NoMemory> {
     let marked = until(from(part, place), length);
-    repeat(text, b' ', characters(until(part, place)))?;
-    repeat(text, b'^', characters(marked).max(1))?;
+    repeat(text, b' ', shown_count(part, until(part, place)))?;
+    repeat(text, b'^', shown_count(part, marked).max(1))?;
     append(text, &[b"\n"])
 }
 
@@ -100,7 +92,7 @@ fn write_line(
 ) -> Result<(), NoMemory> {
     let (part, place) = window(line, at);
     write_margin(text, digits.len(), &[b" |\n", digits, b" | "])?;
-    write_shown(text, part)?;
+    push_shown(text, part)?;
     append(text, &[b"\n"])?;
     write_margin(text, digits.len(), &[b" | "])?;
     write_mark(text, part, place, length)
@@ -135,9 +127,22 @@ fn write_place(
     write_line(text, digits.as_bytes(), line.text, at, length)
 }
 
-// A line of its own, behind what it begins with.
+// A line of its own, after what it begins with.
 fn write_sentence(text: &mut Vec<u8>, label: &[u8], sentence: &[u8]) -> Result<(), NoMemory> {
     append(text, &[label, sentence, b"\n"])
+}
+
+// What is wrong, after the word for an error and the code.
+fn write_error(
+    text: &mut Vec<u8>,
+    language: Language,
+    explanation: &Explanation,
+) -> Result<(), NoMemory> {
+    append(text, &[ERROR.in_language(language).as_bytes()])?;
+    if let Some(code) = explanation.code() {
+        append(text, &[b"[", code.word().as_bytes(), b"]"])?;
+    }
+    write_sentence(text, b": ", explanation.sentence())
 }
 
 // The remedies, a line each.
@@ -171,21 +176,20 @@ fn write_explanation(
     input: &[u8],
     explanation: &Explanation,
 ) -> Result<(), NoMemory> {
-    let label = ERROR.in_language(language).as_bytes();
-    write_sentence(text, label, explanation.sentence.as_slice())?;
+    write_error(text, language, explanation)?;
     if let Some(path) = path {
-        write_file(text, alloc, path, input, explanation.span)?;
+        write_file(text, alloc, path, input, explanation.span())?;
     }
     let label = HELP.in_language(language).as_bytes();
-    write_remedies(text, label, explanation.remedies.as_slice())
+    write_remedies(text, label, explanation.remedies())
 }
 
-/// An explanation as it is written: the sentence; the path of the file, and with a place its line and column, and the line with a mark under
+/// An explanation as it is written: the code and the sentence; the path of the file, and with a place its line and column, and the line with a mark under
 /// the place; and the remedies. Without a path, as where no file is spoken of, no place is written.
 ///
 /// # Errors
 ///
-/// Want of memory.
+/// Out of memory.
 pub fn written(
     alloc: Global,
     language: Language,

@@ -1,9 +1,12 @@
 //! Explanations in one language, put together from messages.
 
+ghost use Rattle.std.specs.Prelude.{◌≡◌, IfOk, Some};
+
 use crate::explanation::{Explanation, Span};
-use crate::language::{Language, Message};
+use crate::language::{Language, Message, Sentence};
 use crate::names::nearest;
-use crate::parts::{begins_character, shown_byte};
+use crate::parts::{begins_character, from, until};
+use crate::shown::push_shown;
 use sl_no_memory::NoMemory;
 use std::alloc::Global;
 
@@ -25,6 +28,16 @@ const MEANT: Message = Message {
 // How many bytes of an input a sentence repeats, up to the next character.
 const REPEATED: usize = 40;
 
+// The bytes of a text that a sentence repeats.
+fn repeated(text: &[u8]) -> &[u8] {
+    for (place, byte) in from(text, REPEATED).iter().enumerate() {
+        if begins_character(*byte) {
+            return until(text, REPEATED.saturating_add(place));
+        }
+    }
+    text
+}
+
 /// The language in which a person is spoken to, and the memory for what is said.
 #[derive(Clone, Copy)]
 pub struct Speaker {
@@ -37,24 +50,28 @@ impl Speaker {
     ///
     /// # Errors
     ///
-    /// Want of memory.
-    pub fn says(self, message: &Message, values: &[&[u8]]) -> Result<Explanation, NoMemory> {
-        let text = message.text(self.alloc, self.language, values)?;
-        Ok(Explanation::new(self.alloc, text))
+    /// Out of memory.
+    pub fn says(self, sentence: &Sentence, values: &[&[u8]]) -> Result<Explanation, NoMemory>
+        ensures { IfOk result (λ x. x.code ≡ Some sentence.now.code) }
+    {
+        let text = self.text(&sentence.message(), values)?;
+        Ok(Explanation::of(self.alloc, Some(sentence.code), text))
     }
 
-    /// The same, of some bytes.
+    /// An explanation of one sentence, on some bytes.
     ///
     /// # Errors
     ///
-    /// Want of memory.
+    /// Out of memory.
     pub fn says_at(
         self,
-        message: &Message,
+        sentence: &Sentence,
         values: &[&[u8]],
         span: Span,
-    ) -> Result<Explanation, NoMemory> {
-        let explanation = self.says(message, values)?;
+    ) -> Result<Explanation, NoMemory>
+        ensures { IfOk result (λ x. x.code ≡ Some sentence.now.code) }
+    {
+        let explanation = self.says(sentence, values)?;
         Ok(explanation.at(span.start, span.end))
     }
 
@@ -62,33 +79,37 @@ impl Speaker {
     ///
     /// # Errors
     ///
-    /// Want of memory.
+    /// Out of memory.
     pub fn explains(
         self,
-        message: &Message,
+        sentence: &Sentence,
         values: &[&[u8]],
         remedies: &[&Message],
-    ) -> Result<Explanation, NoMemory> {
-        let mut explanation = self.says(message, values)?;
+    ) -> Result<Explanation, NoMemory>
+        ensures { IfOk result (λ x. x.code ≡ Some sentence.now.code) }
+    {
+        let mut explanation = self.says(sentence, values)?;
         for remedy in remedies {
             self.helps(&mut explanation, remedy, &[])?;
         }
         Ok(explanation)
     }
 
-    /// The same, of some bytes.
+    /// An explanation of one sentence and of what to do, on some bytes.
     ///
     /// # Errors
     ///
-    /// Want of memory.
+    /// Out of memory.
     pub fn explains_at(
         self,
-        message: &Message,
+        sentence: &Sentence,
         values: &[&[u8]],
         span: Span,
         remedies: &[&Message],
-    ) -> Result<Explanation, NoMemory> {
-        let explanation = self.explains(message, values, remedies)?;
+    ) -> Result<Explanation, NoMemory>
+        ensures { IfOk result (λ x. x.code ≡ Some sentence.now.code) }
+    {
+        let explanation = self.explains(sentence, values, remedies)?;
         Ok(explanation.at(span.start, span.end))
     }
 
@@ -96,7 +117,7 @@ impl Speaker {
     ///
     /// # Errors
     ///
-    /// Want of memory.
+    /// Out of memory.
     pub fn text(self, message: &Message, values: &[&[u8]]) -> Result<Vec<u8>, NoMemory> {
         message.text(self.alloc, self.language, values)
     }
@@ -105,21 +126,23 @@ impl Speaker {
     ///
     /// # Errors
     ///
-    /// Want of memory.
+    /// Out of memory.
     pub fn helps(
         self,
         explanation: &mut Explanation,
         message: &Message,
         values: &[&[u8]],
-    ) -> Result<(), NoMemory> {
-        explanation.remedy(message.text(self.alloc, self.language, values)?)
+    ) -> Result<(), NoMemory>
+        ensures { explanation.new.code ≡ explanation.old.code }
+    {
+        explanation.remedy(self.text(message, values)?)
     }
 
     /// A number in digits.
     ///
     /// # Errors
     ///
-    /// Want of memory.
+    /// Out of memory.
     pub fn number(self, number: usize) -> Result<Vec<u8>, NoMemory> {
         Ok(number.to_string(self.alloc)?.into_bytes())
     }
@@ -128,16 +151,13 @@ impl Speaker {
     ///
     /// # Errors
     ///
-    /// Want of memory.
+    /// Out of memory.
     pub fn shown(self, text: &[u8]) -> Result<Vec<u8>, NoMemory> {
-        let is_utf8 = std::str::from_utf8(text).is_ok();
+        let repeated = repeated(text);
         let mut shown = Vec::new(self.alloc);
-        for (place, byte) in text.iter().enumerate() {
-            if place >= REPEATED && begins_character(*byte) {
-                shown.extend_from_slice(b"...")?;
-                return Ok(shown);
-            }
-            shown.push(shown_byte(*byte, is_utf8))?;
+        push_shown(&mut shown, repeated)?;
+        if repeated.len() < text.len() {
+            shown.extend_from_slice(b"...")?;
         }
         Ok(shown)
     }
@@ -151,13 +171,15 @@ impl Speaker {
     ///
     /// # Errors
     ///
-    /// Want of memory.
+    /// Out of memory.
     pub fn helps_nearest(
         self,
         explanation: &mut Explanation,
         word: &[u8],
         names: &[&[u8]],
-    ) -> Result<bool, NoMemory> {
+    ) -> Result<bool, NoMemory>
+        ensures { explanation.new.code ≡ explanation.old.code }
+    {
         match nearest(self.alloc, word, names) {
             Ok(Some(name)) => self.helps_meant(explanation, name),
             Ok(None) => Ok(false),
@@ -166,7 +188,9 @@ impl Speaker {
     }
 
     // Adds the question whether a name is meant.
-    fn helps_meant(self, explanation: &mut Explanation, name: &[u8]) -> Result<bool, NoMemory> {
+    fn helps_meant(self, explanation: &mut Explanation, name: &[u8]) -> Result<bool, NoMemory>
+        ensures { explanation.new.code ≡ explanation.old.code }
+    {
         self.helps(explanation, &MEANT, &[name])?;
         Ok(true)
     }
@@ -175,7 +199,7 @@ impl Speaker {
     ///
     /// # Errors
     ///
-    /// Want of memory.
+    /// Out of memory.
     pub fn one_of(self, words: &[Vec<u8>]) -> Result<Vec<u8>, NoMemory> {
         self.listed(words, &OR)
     }
@@ -184,12 +208,12 @@ impl Speaker {
     ///
     /// # Errors
     ///
-    /// Want of memory.
+    /// Out of memory.
     pub fn all_of(self, words: &[Vec<u8>]) -> Result<Vec<u8>, NoMemory> {
         self.listed(words, &AND)
     }
 
-    // What stands before a word in a row, behind which so many are left.
+    // What stands before a word in a row, after which so many are left.
     fn separator(self, is_first: bool, behind: usize, joint: &Message) -> &'static [u8] {
         if is_first {
             b""
@@ -217,7 +241,7 @@ impl Speaker {
     ///
     /// # Errors
     ///
-    /// Want of memory.
+    /// Out of memory.
     pub fn quoted(self, word: &[u8]) -> Result<Vec<u8>, NoMemory> {
         Ok([b"`".as_slice(), word, b"`"].concat(self.alloc)?)
     }

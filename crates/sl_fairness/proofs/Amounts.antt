@@ -240,7 +240,7 @@ splits_allocate b e c at s v method m values can h =
     (one.0, (one.1, one.2), two.0, (two.1, two.2), λ g there. (split_in e (stand c v) one.0 two.0 (shape_in c s) can values two.3 g there method m None two.4).allocation)
 
 -- the numbers of an entry of a scope, in both columns
-no_less : (e : Election) (g : Group) (low high : List ℕ) → ((j : ℕ) → get_or (cells e g.entries low) j 0 ≤ get_or (cells e g.entries high) j 0) → (i : Item) → Contains g.entries i → get_or low (place e i) 0 ≤ get_or high (place e i) 0
+pub no_less : (e : Election) (g : Group) (low high : List ℕ) → ((j : ℕ) → get_or (cells e g.entries low) j 0 ≤ get_or (cells e g.entries high) j 0) → (i : Item) → Contains g.entries i → get_or low (place e i) 0 ≤ get_or high (place e i) 0
 no_less e g low high le i there =
     let at = stands_at g.entries i there in
     let x = cell_at (λ i. get_or low (place e i) 0) g.entries at.0 i at.1 in
@@ -254,10 +254,13 @@ splits_meet_the_minima b e c at s v d least m values can h =
     let one = then_column (ExprMeans b e c s) (λ amounts. Then (ExprMeans b e c v) (λ votes. Then (ExprMeans b e c least) (Split amounts votes))) values h.0 h.1 in
     let two = then_column (ExprMeans b e c v) (λ votes. Then (ExprMeans b e c least) (Split one.0 votes)) values one.3 one.4 in
     let three = then_column (ExprMeans b e c least) (Split one.0 two.0) values two.3 two.4 in (
+      one.0,
+      (one.1, one.2),
+      two.0,
+      (two.1, two.2),
       three.0,
       (three.1, three.2),
-      λ g there i among.
-          no_less e g three.0 values (split_in e (stand c v) one.0 two.0 (shape_in c s) can values three.3 g there (by.Divisor d) m (Some three.0) three.4).allocation.minima i among,
+      λ g there. (split_in e (stand c v) one.0 two.0 (shape_in c s) can values three.3 g there (by.Divisor d) m (Some three.0) three.4).allocation,
     )
 
 pub growths_allocate : GrowthsAllocate

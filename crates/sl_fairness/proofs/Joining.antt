@@ -14,7 +14,7 @@ use Rattle.sl_fairness.proofs.Sums.{times_none}
 use Rattle.sl_fairness.proofs.Moves.{IsMoved, moved, holder_tied, taker_tied}
 
 -- the seats of both at i
-both : (s : List ℕ) (i j : ℕ) → i ≢ j → (0 < get_or s j 0 → i < length s) →
+pub both : (s : List ℕ) (i j : ℕ) → i ≢ j → (0 < get_or s j 0 → i < length s) →
     (t : List ℕ) × IsMoved s t i j × (get_or t i 0 ≡ get_or s i 0 + get_or s j 0) × (get_or t j 0 ≡ 0)
 both s i j ne within =
     elim (cases_lt 0 (get_or s j 0)) [

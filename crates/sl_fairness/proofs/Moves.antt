@@ -115,7 +115,8 @@ module _ (method : Divisor) (v m : List ℕ) (seats : ℕ) (s : List ℕ) (h : I
           (quotient_positive method (get_or v j 0) (get_or s j 0) fj) (next_low q fq) (last_high p fp less);
     }
 
-  other : (t : List ℕ) × IsDivisorAllocation method v m seats t × (get_or t i 0 ≡ get_or s i 0 - 1) × (get_or t j 0 ≡ get_or s j 0 + 1)
+  -- with a seat moved there it is another allocation
+  pub other : (t : List ℕ) × IsDivisorAllocation method v m seats t × (get_or t i 0 ≡ get_or s i 0 - 1) × (get_or t j 0 ≡ get_or s j 0 + 1)
   other =
       let li = in_range v i fi in
       let lj = in_range v j fj in

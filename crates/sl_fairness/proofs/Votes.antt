@@ -9,43 +9,9 @@ use Rattle.sl_ratio.proofs.Order.{AtMost-trans}
 use Rattle.sl_stages.specs.methods.Field.{InField}
 use Rattle.sl_stages.specs.methods.Allocations.{IsDivisorAllocation}
 use Rattle.sl_stages.proofs.methods.SeatSums.{some_greater, sum_mono_strict}
-use Rattle.sl_fairness.specs.Votes.{PopulationMonotone, VotesMonotone, VotesOrdered, SameField, AreFirstSeats, FirstSeatsByLot}
-use Rattle.sl_fairness.proofs.Chains.{falls_weak, rises_weak, same_den, in_field}
-
-pub population_monotone : PopulationMonotone
-population_monotone method v w m seats house s t hs ht i j gain no_gain finite lost =
-    elim (cases_lt (get_or s j 0) (get_or t j 0)) [
-      | inr g ↦ g
-      | inl more ↦
-          (let mi = ht.minima i in
-          let mj = hs.minima j in
-          let above_i : get_or m i 0 < get_or s i 0 = omega (arith, mi, lost) in
-          let above_j : get_or m j 0 < get_or t j 0 = omega (arith, mj, more) in
-          let fi = in_field method v m seats s hs i above_i in
-          let wj = in_field method w m house t ht j above_j in
-          let vj : InField v j = omega (arith, wj, no_gain) in
-          let wi : InField w i = omega (arith, fi, gain) in
-          let A = quotient method (get_or w i 0) (get_or t i 0) in
-          let B = quotient method (get_or w j 0) (get_or t j 0 - 1) in
-          let C = quotient method (get_or v j 0) (get_or t j 0 - 1) in
-          let D = quotient method (get_or v j 0) (get_or s j 0) in
-          let E = quotient method (get_or v i 0) (get_or s i 0 - 1) in
-          let F = quotient method (get_or v i 0) (get_or t i 0) in
-          let ab : AtMost A B = ht.min_max j i wj wi above_j in
-          let bc : AtMost B C = rises_weak method (get_or w j 0) (get_or v j 0) (get_or t j 0 - 1) no_gain in
-          let cd : AtMost C D = falls_weak method v j (get_or s j 0) (get_or t j 0 - 1) vj (omega arith) in
-          let de : AtMost D E = hs.min_max i j fi vj above_i in
-          let ef : AtMost E F = falls_weak method v i (get_or t i 0) (get_or s i 0 - 1) fi (omega arith) in
-          let some : 0 < F.den = omega (arith, finite, same_den method (get_or v i 0) (get_or w i 0) (get_or t i 0)) in
-          let fa : Below F A = quotient_rises method (get_or v i 0) (get_or w i 0) (get_or t i 0) gain some in
-          let posA = quotient_positive method (get_or w i 0) (get_or t i 0) wi in
-          let posB = quotient_positive method (get_or w j 0) (get_or t j 0 - 1) wj in
-          let posC = quotient_positive method (get_or v j 0) (get_or t j 0 - 1) vj in
-          let posD = quotient_positive method (get_or v j 0) (get_or s j 0) vj in
-          let posE = quotient_positive method (get_or v i 0) (get_or s i 0 - 1) fi in
-          let af : AtMost A F = AtMost-trans A E F posE (AtMost-trans A D E posD (AtMost-trans A C D posC (AtMost-trans A B C posB ab bc) cd) de) ef in
-          absurd (omega (arith, af, fa)))
-    ]
+use Rattle.sl_fairness.specs.Votes.{VotesMonotone, VotesOrdered, SameField, AreFirstSeats, FirstSeatsByLot}
+use Rattle.sl_fairness.proofs.Chains.{falls_weak, same_den, in_field}
+use Rattle.sl_fairness.proofs.RelativeVotes.{absolutely_monotone}
 
 pub votes_monotone : VotesMonotone
 votes_monotone method v w m seats s t hs ht i gain others finite =
@@ -58,7 +24,7 @@ votes_monotone method v w m seats s t hs ht i gain others finite =
           elim (cases_eq j i) [
             | inl e ↦ absurd (let more' = subst (λ k. get_or s k 0 < get_or t k 0) e more in omega (arith, more', lost))
             | inr ne ↦
-                (let le = population_monotone method v w m seats seats s t hs ht i j gain (others j ne) finite lost in
+                (let le = absolutely_monotone method v w m seats seats s t hs ht i j gain (others j ne) finite lost in
                 absurd (omega (arith, le, more)))
           ])
     ]

@@ -32,3 +32,9 @@ GrownByVotes =
     (method : Divisor) (v m : List ℕ) (house : ℕ) (s : List ℕ) → IsGrownAllocation method v m house s →
     (entries : List ℕ) → All (InField v) entries →
     IsDivisorAllocation method (part entries v) (no_minima (part entries v)) (sum (part entries s)) (part entries s)
+
+-- with a house that meets each minimum and has those outside the field, each larger one does
+abbrev pub LargerHouseMeets : Type 0
+LargerHouseMeets =
+    (method : Divisor) (v m : List ℕ) → length m ≡ length v → (h k : ℕ) →
+    outside_sum v m ≤ h → MeetsEach method v m h → h ≤ k → MeetsEach method v m k

@@ -1,7 +1,7 @@
 -- Two entries that join: Jefferson's method rewards it, and Adams's does not (Balinski and Young, Fair Representation, appendix A).
 -- Each law is the contract of a function of `laws`.
 use Rattle.std.specs.Prelude.{◌≡◌, ◌≢◌, ◌⊎◌, ℕ, ◌+◌, ◌≤◌, List, length, slice_index}
-use Rattle.sl_ratio.specs.declared.method.Divisor.TheVariants.{Adams, Jefferson}
+use Rattle.sl_ratio.specs.declared.method.Divisor.TheVariants.{Adams, Webster, Jefferson}
 use Rattle.sl_stages.specs.methods.Field.{no_minima}
 use Rattle.sl_stages.specs.methods.Allocations.{IsDivisorAllocation}
 use Rattle.sl_stages.specs.methods.Ties.{IsTied}
@@ -29,3 +29,10 @@ AdamsJoins =
     IsDivisorAllocation Adams v (no_minima v) seats s → IsDivisorAllocation Adams w (no_minima w) seats t →
     (slice_index t i ≤ slice_index s i + slice_index s j)
     ⊎ ((slice_index t i ≡ slice_index s i + slice_index s j + 1) × IsTied (IsDivisorAllocation Adams w (no_minima w) seats) i)
+
+-- under Webster it has what the two had, or one more or one fewer
+abbrev pub WebsterJoins : Type 0
+WebsterJoins =
+    (v w : List ℕ) (i j : ℕ) → Joins v w i j → (seats : ℕ) (s t : List ℕ) →
+    IsDivisorAllocation Webster v (no_minima v) seats s → IsDivisorAllocation Webster w (no_minima w) seats t →
+    (slice_index s i + slice_index s j ≤ slice_index t i + 1) × (slice_index t i ≤ slice_index s i + slice_index s j + 1)

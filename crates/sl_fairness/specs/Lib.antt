@@ -9,3 +9,12 @@ pub mod Growths
 pub mod Winners
 pub mod Amounts
 pub mod Allocated
+pub mod Impossible
+pub mod ByDivisor
+pub mod ClosedHouse
+pub mod Hamilton
+pub mod NearQuota
+pub mod Huntington
+pub mod Optimal
+pub mod MethodOrder
+pub mod Principles

@@ -1,10 +1,11 @@
 -- How divisor allocations answer to a change of votes (Balinski and Young, Fair Representation, appendix A).
 -- Each law is the contract of a function of `laws`.
-use Rattle.std.specs.Prelude.{◌≡◌, ◌≢◌, ◌⊎◌, ◌↔◌, ℕ, ◌<◌, ◌≤◌, List, length, sum, slice_index}
+use Rattle.std.specs.Prelude.{◌≡◌, ◌≢◌, ◌⊎◌, ◌↔◌, ℕ, ◌+◌, ◌*◌, ◌<◌, ◌≤◌, List, length, sum, slice_index}
 use Rattle.sl_ratio.specs.declared.method.Divisor.{Divisor}
 use Rattle.sl_ratio.specs.Quotient.{Quotient, quotient}
 use Rattle.sl_stages.specs.methods.Field.{InField}
 use Rattle.sl_stages.specs.methods.Allocations.{IsDivisorAllocation}
+use Rattle.sl_stages.specs.methods.Ties.{IsTied}
 
 -- the quotient is no infinite one: under Webster and Jefferson each, under the others each but that of a first seat
 abbrev pub IsFinite : Quotient → Type 0
@@ -17,9 +18,29 @@ IsInfinite q = q.den ≡ 0
 abbrev pub next_of : Divisor → List ℕ → List ℕ → ℕ → Quotient
 next_of method v s i = quotient method (slice_index v i) (slice_index s i)
 
--- i gained votes and j did not; then i does not lose a seat while j gets one more, whatever the seats of the two houses
+-- the votes of i grew by a larger factor than those of j; then i does not lose a seat while j gets one more, whatever the seats of the
+-- two houses
 abbrev pub PopulationMonotone : Type 0
 PopulationMonotone =
+    (method : Divisor) (v w m : List ℕ) (seats house : ℕ) (s t : List ℕ) →
+    IsDivisorAllocation method v m seats s → IsDivisorAllocation method w m house t →
+    (i j : ℕ) → slice_index v i * slice_index w j < slice_index w i * slice_index v j →
+    IsFinite (next_of method w t i) → slice_index t i < slice_index s i → slice_index t j ≤ slice_index s j
+
+-- they grew by the same factor; then i loses a seat while j gets one more by a tie alone: one seat, in both houses
+abbrev pub SameFactor : Type 0
+SameFactor =
+    (method : Divisor) (v w m : List ℕ) (seats house : ℕ) (s t : List ℕ) →
+    IsDivisorAllocation method v m seats s → IsDivisorAllocation method w m house t →
+    (i j : ℕ) → slice_index v i * slice_index w j ≡ slice_index w i * slice_index v j →
+    slice_index t i < slice_index s i → slice_index s j < slice_index t j →
+    (slice_index s i ≡ slice_index t i + 1) × (slice_index t j ≡ slice_index s j + 1)
+    × IsTied (IsDivisorAllocation method v m seats) i × IsTied (IsDivisorAllocation method v m seats) j
+    × IsTied (IsDivisorAllocation method w m house) i × IsTied (IsDivisorAllocation method w m house) j
+
+-- so it is where i gained votes and j did not
+abbrev pub AbsolutelyMonotone : Type 0
+AbsolutelyMonotone =
     (method : Divisor) (v w m : List ℕ) (seats house : ℕ) (s t : List ℕ) →
     IsDivisorAllocation method v m seats s → IsDivisorAllocation method w m house t →
     (i j : ℕ) → slice_index v i < slice_index w i → slice_index w j ≤ slice_index v j →

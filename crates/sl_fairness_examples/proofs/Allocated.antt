@@ -1,5 +1,5 @@
 -- Allocations by tests that compute: some, and the only ones.
-use Rattle.std.proofs.Common.{◌≡◌, ℕ, true, false, List, length, sum, refl}
+use Rattle.std.proofs.Common.{◌≡◌, ℕ, Bool, true, false, List, length, sum, refl}
 use Rattle.sl_ratio.specs.declared.method.Divisor.{Divisor}
 use Rattle.sl_stages.specs.methods.Allocations.{IsDivisorAllocation}
 use Rattle.sl_stages.specs.methods.Hamilton.{IsHamiltonAllocation}
@@ -23,10 +23,14 @@ module _ (method : Divisor) (v m s : List ℕ) (e : length m ≡ length v) (f : 
       let alone = ((batches l tops.falling).settled s (settled_by_test l s tops.falling f test)).alone in
       ((tops.tops (sum s) s).1 ((alone s).1 refl), λ t h. (alone t).0 ((tops.tops (sum s) t).0 h))
 
-pub hamilton_only : (v s : List ℕ) → length s ≡ length (hamilton_ladders false v (sum s)).base → settled_test (hamilton_ladders false v (sum s)) s ≡ true →
-    IsOnly (IsHamiltonAllocation false v (sum s)) s
-hamilton_only v s f test =
-    let l = hamilton_ladders false v (sum s) in
-    let tops = hamilton_tops false v (sum s) in
+pub hamilton_only_with : (prefer : Bool) (v s : List ℕ) → length s ≡ length (hamilton_ladders prefer v (sum s)).base → settled_test (hamilton_ladders prefer v (sum s)) s ≡ true →
+    IsOnly (IsHamiltonAllocation prefer v (sum s)) s
+hamilton_only_with prefer v s f test =
+    let l = hamilton_ladders prefer v (sum s) in
+    let tops = hamilton_tops prefer v (sum s) in
     let alone = ((batches l tops.falling).settled s (settled_by_test l s tops.falling f test)).alone in
     ((tops.tops s).1 ((alone s).1 refl), λ t h. (alone t).0 ((tops.tops t).0 h))
+
+pub hamilton_only : (v s : List ℕ) → length s ≡ length (hamilton_ladders false v (sum s)).base → settled_test (hamilton_ladders false v (sum s)) s ≡ true →
+    IsOnly (IsHamiltonAllocation false v (sum s)) s
+hamilton_only v s f test = hamilton_only_with false v s f test

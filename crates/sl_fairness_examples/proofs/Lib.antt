@@ -9,3 +9,9 @@ pub mod Joined
 pub mod SmallReturns
 pub mod VotesAndOverhang
 pub mod VotesAndGrowth
+pub mod DeanAndHill
+pub mod RealHouses
+pub mod WinnersAbove
+pub mod ByHand
+pub mod Sharper
+pub mod Threshold

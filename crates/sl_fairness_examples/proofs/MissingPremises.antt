@@ -2,7 +2,7 @@
 use Rattle.std.proofs.Common.{ℕ, zero, suc, ◌≤◌, [], ◌∷◌, arith, refl, sym, subst}
 use Rattle.sl_ratio.specs.declared.method.Divisor.TheVariants.{Adams, Dean, Hill, Webster, Jefferson}
 use Rattle.sl_stages.specs.methods.LeastHouse.{Meets, Serves}
-use Rattle.sl_fairness_examples.specs.Examples.{IsOnly, Free, MoreVotesByLot, FewerVotesByLot, FewerVotesByMinima, MoreVotesAmongOthers, MajorityByMinima, WebsterMajority, AdamsMajority, HalfOfEven, HouseGrows}
+use Rattle.sl_fairness_examples.specs.Examples.{IsOnly, Free, MoreVotesByLot, FewerVotesByLot, FewerVotesByMinima, MoreVotesAmongOthers, MajorityByMinima, WebsterMajority, HalfOfEven, HouseGrows}
 use Rattle.sl_fairness_examples.proofs.Allocated.{divisor_some, divisor_only}
 
 pub fewer_votes_by_lot : FewerVotesByLot
@@ -41,9 +41,6 @@ more_votes_among_others = record {
 
 pub webster_majority : WebsterMajority
 webster_majority = divisor_only Webster (4 ∷ 1 ∷ 1 ∷ 1 ∷ []) (0 ∷ 0 ∷ 0 ∷ 0 ∷ []) (2 ∷ 1 ∷ 1 ∷ 1 ∷ []) refl refl refl
-
-pub adams_majority : AdamsMajority
-adams_majority = divisor_only Adams (3 ∷ 1 ∷ 1 ∷ []) (0 ∷ 0 ∷ 0 ∷ []) (1 ∷ 1 ∷ 1 ∷ []) refl refl refl
 
 pub half_of_even : HalfOfEven
 half_of_even = divisor_only Jefferson (3 ∷ 2 ∷ []) (0 ∷ 0 ∷ []) (1 ∷ 1 ∷ []) refl refl refl

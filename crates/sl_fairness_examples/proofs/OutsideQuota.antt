@@ -3,7 +3,7 @@ use Rattle.std.proofs.Common.{[], ◌∷◌, refl}
 use Rattle.sl_ratio.specs.declared.method.Divisor.{Divisor}
 use Rattle.sl_ratio.specs.declared.method.Divisor.TheVariants.{Adams, Dean, Hill, Webster, Jefferson}
 use Rattle.sl_stages.specs.methods.Allocations.{IsDivisorAllocation}
-use Rattle.sl_fairness_examples.specs.Examples.{IsOnly, WebsterBelow, WebsterAbove, JeffersonAbove, AdamsBelow, MinimaOutside}
+use Rattle.sl_fairness_examples.specs.Examples.{IsOnly, WebsterBelow, WebsterAbove, JeffersonAbove, MinimaOutside}
 use Rattle.sl_fairness_examples.proofs.Allocated.{divisor_only}
 
 pub webster_below : WebsterBelow
@@ -21,12 +21,6 @@ webster_above = record {
 pub jefferson_above : JeffersonAbove
 jefferson_above = record {
   seats = divisor_only Jefferson (4 ∷ 1 ∷ 1 ∷ []) (0 ∷ 0 ∷ 0 ∷ []) (3 ∷ 0 ∷ 0 ∷ []) refl refl refl;
-  share = refl;
-}
-
-pub adams_below : AdamsBelow
-adams_below = record {
-  seats = divisor_only Adams (4 ∷ 1 ∷ 1 ∷ []) (0 ∷ 0 ∷ 0 ∷ []) (1 ∷ 1 ∷ 1 ∷ []) refl refl refl;
   share = refl;
 }
 

@@ -16,7 +16,9 @@ use Rattle.sl_stages.specs.returns.Facts.{by_party}
 use Rattle.sl_stages.specs.methods.Allocations.{IsDivisorAllocation}
 use Rattle.sl_stages.specs.methods.Ties.{Decided, IsChoice}
 use Rattle.sl_stages.specs.methods.Hamilton.{IsHamiltonAllocation}
-use Rattle.sl_stages.specs.laws.Ladders.{divisor_ladders, hamilton_ladders}
+use Rattle.sl_stages.specs.methods.Covering.{IsCovering}
+use Rattle.sl_stages.specs.laws.Ladders.{divisor_ladders, hamilton_ladders, covering_ladders}
+use Rattle.sl_stages.specs.laws.MethodLaws.{AllHaveVotes}
 use Rattle.sl_stages.specs.meaning.Columns.{IsLeaf}
 use Rattle.sl_stages.specs.meaning.Seating.{base_of, keep_table}
 use Rattle.sl_stages.specs.meaning.Tables.{SeatTable}
@@ -26,6 +28,8 @@ use Rattle.sl_stages.proofs.meaning.MeaningProofs.{same_itself, at_most_one_outc
 use Rattle.sl_stages.proofs.methods.DivisorProofs.{divisor_tops}
 use Rattle.sl_stages.proofs.methods.HamiltonProofs.{hamilton_tops}
 use Rattle.sl_stages.proofs.methods.LadderProofs.{batches}
+use Rattle.sl_stages.proofs.methods.CoveringProofs.{covering_tops}
+use Rattle.sl_stages.proofs.methods.SeatSums.{length_zeros}
 use Rattle.sl_statutes.specs.Parties.{seats_column}
 use Rattle.sl_fairness_examples.specs.VotesThatCost.{votes, winner, two_by_two, Gives}
 use Rattle.sl_fairness_examples.proofs.Tested.{settled_test, settled_by_test}
@@ -79,22 +83,30 @@ is_two_by_two seats x y some few in_x in_y =
 of_lists : (e : Election) (t u : SeatTable) → t.lists ≡ u.lists → seats_column e t ≡ seats_column e u
 of_lists e t u same = ap (λ ls. by_party e (λ party. sum_by (λ s. s.seats) (filter (λ s. nat_eq s.party party) ls))) same
 
+-- by any last clause
+module _ (b : BookTree) (e : Election) (typed : is_typed b ≡ true) (is : IsElection e) (k : Known) (run : StagesMean b e nothing_known b.stages (Through k))
+    (base : List ℕ) (is_base : IsLeaf b e k.columns (base_of b.last) base) (t : SeatTable) (seated : IsSeated b e b.last.seating base k.records (outcome.Table t)) where
+  pub means_it : Means b e (outcome.Table t)
+  means_it = record {
+    ordered = outcome.Table t;
+    is = record { run = Through k; stages = run; ends = record { base = base; is_base = is_base; seated = seated } };
+    same = same_itself (outcome.Table t);
+  }
+
+  pub gives_it : (seats : List ℕ) → seats_column e t ≡ seats → Gives b e seats
+  gives_it seats have = record {
+    table = t;
+    means = means_it;
+    have = λ u also. of_lists e u t ((at_most_one_outcome b e typed is (outcome.Table u) (outcome.Table t) also means_it).lists) ∙ have;
+  }
+
 pub gives : (b : BookTree) (e : Election) → is_typed b ≡ true → IsElection e → b.last.seating ≡ seating.Keep → (k : Known) → StagesMean b e nothing_known b.stages (Through k) →
     (base : List ℕ) → IsLeaf b e k.columns (base_of b.last) base → (seats : List ℕ) → seats_column e (keep_table b e base k.records) ≡ seats → Gives b e seats
 gives b e typed is keeps k run base is_base seats have =
-    let t = keep_table b e base k.records in
-    let means : Means b e (outcome.Table t) = record {
-      ordered = outcome.Table t;
-      is = record { run = Through k; stages = run; ends = record { base = base; is_base = is_base; seated = kept } };
-      same = same_itself (outcome.Table t);
-    } in
-    record {
-      table = t;
-      means = means;
-      have = λ u also. of_lists e u t ((at_most_one_outcome b e typed is (outcome.Table u) (outcome.Table t) also means).lists) ∙ have;
-    } where
-      kept : IsSeated b e b.last.seating base k.records (outcome.Table (keep_table b e base k.records))
-      kept = subst (λ s. IsSeated b e s base k.records (outcome.Table (keep_table b e base k.records))) (sym keeps) refl
+    gives_it b e typed is k run base is_base (keep_table b e base k.records) kept seats have
+  where
+    kept : IsSeated b e b.last.seating base k.records (outcome.Table (keep_table b e base k.records))
+    kept = subst (λ s. IsSeated b e s base k.records (outcome.Table (keep_table b e base k.records))) (sym keeps) refl
 
 -- ---- scopes
 
@@ -112,3 +124,10 @@ undisputed_remainders prefer v s f test lot =
     let tops = hamilton_tops prefer v (sum s) in
     let l = hamilton_ladders prefer v (sum s) in
     (tops.choice lot (Decided s)).0 (((batches l tops.falling).settled s (settled_by_test l s tops.falling f test)).choice lot)
+
+pub undisputed_covering : (first valid s : List ℕ) → AllHaveVotes first → length s ≡ length first → settled_test (covering_ladders first valid) s ≡ true →
+    (lot : List ℕ) → IsChoice (IsCovering first valid (sum s)) lot (Decided s)
+undisputed_covering first valid s some f test lot =
+    let tops = covering_tops first valid some in
+    let l = covering_ladders first valid in
+    (tops.choice (sum s) lot (Decided s)).0 (((batches l tops.falling).settled s (settled_by_test l s tops.falling (f ∙ sym (length_zeros (length first))) test)).choice lot)

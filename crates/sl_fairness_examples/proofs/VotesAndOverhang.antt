@@ -41,7 +41,7 @@ law_of at title seats method m = record {
 }
 
 -- these are the seats of that amount by those votes
-abbrev Chosen : Method → Majority → List ℕ → List ℕ → ℕ → List ℕ → Type 0
+abbrev pub Chosen : Method → Majority → List ℕ → List ℕ → ℕ → List ℕ → Type 0
 Chosen method m v min seats s = IsChoice (IsAllocation method m v min seats) [] (Decided s)
 
 -- what is allocated before and after

@@ -1,14 +1,15 @@
 -- What fails, in small numbers. Each example is the contract of a function of `hamilton`, `quota`, `premises` or `joins`.
-use Rattle.std.specs.Prelude.{◌≡◌, ℕ, false, List, [], ◌∷◌}
+use Rattle.std.specs.Prelude.{◌≡◌, ℕ, ◌*◌, ◌≤◌, false, List, [], ◌∷◌, sum, slice_index}
 use Rattle.sl_ratio.specs.declared.method.Divisor.{Divisor}
 use Rattle.sl_ratio.specs.declared.method.Divisor.TheVariants.{Adams, Dean, Hill, Webster, Jefferson}
-use Rattle.sl_stages.specs.methods.Field.{no_minima}
+use Rattle.sl_stages.specs.methods.Field.{InField, no_minima}
 use Rattle.sl_stages.specs.methods.Allocations.{IsDivisorAllocation}
 use Rattle.sl_stages.specs.methods.Hamilton.{whole, IsHamiltonAllocation}
 use Rattle.sl_stages.specs.methods.LeastHouse.{IsGrowth, GrownTo}
 use Rattle.sl_fairness.specs.Parts.{part, IsPutIn}
 use Rattle.sl_fairness.specs.Quota.{raised_whole}
 use Rattle.sl_fairness.specs.Joining.{Joins}
+use Rattle.sl_fairness.specs.Optimal.{IsGivenOut}
 
 -- s is in X, and nothing else is
 abbrev pub IsOnly : (List ℕ → Type 0) → List ℕ → Type 0
@@ -60,10 +61,6 @@ pub record JeffersonAbove : Type 0 where
   pub seats : IsOnly (Free Jefferson (4 ∷ 1 ∷ 1 ∷ []) 3) (3 ∷ 0 ∷ 0 ∷ [])
   pub share : raised_whole (4 ∷ 1 ∷ 1 ∷ []) 3 0 ≡ 2
 
-pub record AdamsBelow : Type 0 where
-  pub seats : IsOnly (Free Adams (4 ∷ 1 ∷ 1 ∷ []) 3) (1 ∷ 1 ∷ 1 ∷ [])
-  pub share : whole (4 ∷ 1 ∷ 1 ∷ []) 3 0 ≡ 2
-
 -- minima 0 and 2
 pub record MinimaOutside : Type 0 where
   pub seats : (method : Divisor) → IsOnly (IsDivisorAllocation method (1 ∷ 1 ∷ []) (0 ∷ 2 ∷ []) 2) (0 ∷ 2 ∷ [])
@@ -106,15 +103,24 @@ pub record NamedTwice : Type 0 where
   pub put : IsPutIn first_twice (1 ∷ 1 ∷ 0 ∷ 0 ∷ []) (0 ∷ 1 ∷ 1 ∷ []) (1 ∷ 0 ∷ 0 ∷ [])
   pub after : (method : Divisor) → ¬ Free method (1 ∷ 1 ∷ 1 ∷ []) 2 (1 ∷ 0 ∷ 0 ∷ [])
 
+-- without votes the shares are 0 whatever the seats: these are just as many, and no allocation
+pub record NoVotes : Type 0 where
+  pub shares : (i : ℕ) → sum (0 ∷ []) * slice_index (1 ∷ []) i ≡ 1 * slice_index (0 ∷ []) i
+  pub none : (method : Divisor) → ¬ Free method (0 ∷ []) 1 (1 ∷ [])
+
+-- the most seats for a vote are as few as they can be by these seats, which are no allocation by Jefferson's method
+pub record LeastMostByTie : Type 0 where
+  pub given : IsGivenOut (2 ∷ 2 ∷ 3 ∷ []) 2 (1 ∷ 1 ∷ 0 ∷ [])
+  pub least : (t : List ℕ) → IsGivenOut (2 ∷ 2 ∷ 3 ∷ []) 2 t → (i : ℕ) → InField (2 ∷ 2 ∷ 3 ∷ []) i →
+      (j : ℕ) × InField (2 ∷ 2 ∷ 3 ∷ []) j × (slice_index (1 ∷ 1 ∷ 0 ∷ []) i * slice_index (2 ∷ 2 ∷ 3 ∷ []) j ≤ slice_index t j * slice_index (2 ∷ 2 ∷ 3 ∷ []) i)
+  pub none : ¬ Free Jefferson (2 ∷ 2 ∷ 3 ∷ []) 2 (1 ∷ 1 ∷ 0 ∷ [])
+
 -- minima 0 and 1
 abbrev pub MajorityByMinima : Type 0
 MajorityByMinima = (method : Divisor) → IsOnly (IsDivisorAllocation method (2 ∷ 1 ∷ []) (0 ∷ 1 ∷ []) 1) (0 ∷ 1 ∷ [])
 
 abbrev pub WebsterMajority : Type 0
 WebsterMajority = IsOnly (Free Webster (4 ∷ 1 ∷ 1 ∷ 1 ∷ []) 5) (2 ∷ 1 ∷ 1 ∷ 1 ∷ [])
-
-abbrev pub AdamsMajority : Type 0
-AdamsMajority = IsOnly (Free Adams (3 ∷ 1 ∷ 1 ∷ []) 3) (1 ∷ 1 ∷ 1 ∷ [])
 
 abbrev pub HalfOfEven : Type 0
 HalfOfEven = IsOnly (Free Jefferson (3 ∷ 2 ∷ []) 2) (1 ∷ 1 ∷ [])

@@ -1,6 +1,7 @@
 //! What fails where two entries join. Each function does nothing: its contract is the example.
 
 ghost use Rattle.sl_fairness_examples.specs.Examples.{JeffersonByTie, AdamsByTie, WebsterLoses, WebsterWins};
+ghost use Rattle.sl_fairness_examples.specs.Joined.{JoinLoses, JoinWins, JeffersonWins, HamiltonLoses, HamiltonWins};
 
 /// Under Jefferson's method a join may lose a seat by a tie: of three seats, 1, 1 and 2 votes have one each, and 2, 0 and 2 votes
 /// have 1, 0 and 2.
@@ -23,4 +24,29 @@ pub fn webster_loses()
 /// And the same join may win a seat without a tie: of two seats, the votes before have 0, 0 and 2, and those after it 1, 0 and 1.
 pub fn webster_wins()
     ensures { WebsterWins }
+{}
+
+/// By the same three a join may lose a seat without a tie.
+pub fn join_loses()
+    ensures { JoinLoses }
+{}
+
+/// By Dean's and Hill's methods a join may win a seat without a tie.
+pub fn join_wins()
+    ensures { JoinWins }
+{}
+
+/// By Jefferson's method a join may win a seat without a tie.
+pub fn jefferson_wins()
+    ensures { JeffersonWins }
+{}
+
+/// By Hamilton's method a join may lose a seat without a tie.
+pub fn hamilton_loses()
+    ensures { HamiltonLoses }
+{}
+
+/// And it may win one.
+pub fn hamilton_wins()
+    ensures { HamiltonWins }
 {}

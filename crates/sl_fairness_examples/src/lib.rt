@@ -2,6 +2,7 @@
 //! in which more votes cost a party a seat by a statute.
 #![tactic(auto)]
 
+pub mod by_hand;
 pub mod hamilton;
 pub mod joins;
 pub mod premises;

@@ -2,7 +2,8 @@
 
 ghost use Rattle.sl_fairness_examples.specs.Examples.{MoreVotesByLot, FewerVotesByLot, FewerVotesByMinima, MoreVotesAmongOthers};
 ghost use Rattle.sl_fairness_examples.specs.Examples.{EqualVotes, LargerHouseByTie, NamedTwice};
-ghost use Rattle.sl_fairness_examples.specs.Examples.{MajorityByMinima, WebsterMajority, AdamsMajority, HalfOfEven, HouseGrows};
+ghost use Rattle.sl_fairness_examples.specs.Examples.{NoVotes, LeastMostByTie, MajorityByMinima, WebsterMajority, HalfOfEven, HouseGrows};
+ghost use Rattle.sl_fairness_examples.specs.Joined.{LessThanHalf};
 
 /// Where first seats are infinite quotients, who alone gains votes may lose the seat by lot: 1 and 1 votes have 1 and 0 seats, and
 /// 2 and 1 votes have 0 and 1. So monotonicity, in votes as in populations, asks for a quotient that is finite.
@@ -55,11 +56,6 @@ pub fn webster_majority()
     ensures { WebsterMajority }
 {}
 
-/// Under Adams's method too: 3 of 5 votes have 1 of 3 seats.
-pub fn adams_majority()
-    ensures { AdamsMajority }
-{}
-
 /// Of an even house more than half of the votes may have no more than half, under Jefferson's method too: 3 of 5 votes have 1 of 2 seats.
 pub fn half_of_even()
     ensures { HalfOfEven }
@@ -69,4 +65,20 @@ pub fn half_of_even()
 /// the second entry the house is grown to two.
 pub fn house_grows()
     ensures { HouseGrows }
+{}
+
+/// Without votes nothing is exact: the shares are 0 whatever the seats, and one seat for nobody is no allocation.
+pub fn no_votes()
+    ensures { NoVotes }
+{}
+
+/// Where the most seats for a vote are as few as they can be there may be no allocation by Jefferson's method, at a tie: of two seats, 2, 2 and 3
+/// votes have 1, 1 and 0.
+pub fn least_most_by_tie()
+    ensures { LeastMostByTie }
+{}
+
+/// By Adams's, Dean's and Hill's methods 3 of 5 votes have 1 of 3 seats.
+pub fn less_than_half()
+    ensures { LessThanHalf }
 {}

@@ -1,6 +1,7 @@
 //! Allocations outside quota. Each function does nothing: its contract is the example.
 
-ghost use Rattle.sl_fairness_examples.specs.Examples.{WebsterBelow, WebsterAbove, JeffersonAbove, AdamsBelow, MinimaOutside};
+ghost use Rattle.sl_fairness_examples.specs.Examples.{WebsterBelow, WebsterAbove, JeffersonAbove, MinimaOutside};
+ghost use Rattle.sl_fairness_examples.specs.Joined.{BelowQuota, AboveQuota};
 
 /// Webster's method gives fewer seats than the share rounded down: 6 of 9 votes have 3 of 6 seats.
 pub fn webster_below()
@@ -17,12 +18,17 @@ pub fn jefferson_above()
     ensures { JeffersonAbove }
 {}
 
-/// Adams's method gives fewer seats than the share rounded down: 4 of 6 votes have 1 of 3 seats.
-pub fn adams_below()
-    ensures { AdamsBelow }
-{}
-
 /// With minima no method stays within quota, neither below nor above: 1 of 2 votes has no seat of two, and the other has both.
 pub fn minima_outside()
     ensures { MinimaOutside }
+{}
+
+/// Adams's, Dean's and Hill's methods give fewer seats than the share rounded down: 4 of 6 votes have 1 of 3 seats.
+pub fn below_quota()
+    ensures { BelowQuota }
+{}
+
+/// Dean's and Hill's methods give more seats than the share rounded up: 25 of 55 votes have 6 of 11 seats.
+pub fn above_quota()
+    ensures { AboveQuota }
 {}

@@ -4,7 +4,9 @@ use crate::escapes::hex;
 use crate::shown::{LANGUAGES, no_memory, show};
 use crate::words::parted;
 use sl_code::{CodeFault, from_bytes};
-use sl_legal_hints::{explain_budget, explain_code_bytes, explain_code_kinds, explain_long_code};
+use sl_explain_faults::{
+    explain_budget, explain_code_bytes, explain_code_kinds, explain_long_code,
+};
 use sl_verify::{VerifyFault, verify};
 use std::alloc::{AllocError, Global};
 use std::io;

@@ -2,7 +2,7 @@
 
 use crate::shown::{LANGUAGES, no_memory, show};
 use crate::words::{behind_scope, kind_in, parted, scope_in};
-use sl_legal_hints::explain_legal;
+use sl_explain_faults::explain_legal;
 use sl_returns::read_returns;
 use sl_stages::{LegalFault, MAX_STAGES, Returns};
 use std::alloc::{AllocError, Global};

@@ -1,11 +1,12 @@
 //! Rows of mistakes, each with its explanation in English and in German: mistakes in rulebooks and in names, wrong returns, legal faults and
-//! wrong code files. The program reads each kind of rows from a file, and writes what is said of each.
+//! wrong code files. The program reads each kind of rows from a file, and writes what is said of each, and at the end what is said of each code.
 #![tactic(auto)]
 
 mod books;
 mod codes;
 mod escapes;
 mod legal;
+mod meanings;
 mod returns;
 mod shown;
 mod words;
@@ -72,5 +73,6 @@ fn end_rows(rt: &HostRuntime) -> io::Result<()> {
 fn main(rt: HostRuntime) -> io::Result<()> {
     book_rows(&rt)?;
     returns_rows(&rt)?;
-    end_rows(&rt)
+    end_rows(&rt)?;
+    meanings::rows(&rt)
 }

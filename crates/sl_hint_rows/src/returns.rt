@@ -2,8 +2,8 @@
 
 use crate::escapes::add_text;
 use crate::shown::{LANGUAGES, no_memory, show};
-use sl_returns::{ReturnsFault, read_returns};
-use sl_returns_hints::{explain_long_returns, explain_returns};
+use sl_explain_returns::{explain_long_returns, explain_returns};
+use sl_returns::{RefusedReturns, read_or_refuse};
 use std::alloc::{AllocError, Global};
 use std::io;
 
@@ -40,7 +40,7 @@ fn add_times(alloc: Global, input: &mut Vec<u8>, times: u32, line: &str) -> Resu
 ///
 /// # Errors
 ///
-/// Want of memory.
+/// Out of memory.
 pub fn add_line(alloc: Global, input: &mut Vec<u8>, line: &str) -> Result<(), AllocError> {
     if line == "@" {
         return input.extend_from_slice(KNOWN.as_bytes());
@@ -58,13 +58,13 @@ pub fn add_line(alloc: Global, input: &mut Vec<u8>, line: &str) -> Result<(), Al
     }
 }
 
-// Writes the explanation of a fault.
-fn explain(rt: &HostRuntime, input: &[u8], fault: ReturnsFault) -> io::Result<()> {
-    let number = fault.kind.number();
-    let row = fault.row;
+// Writes the explanation of refused returns.
+fn explain(rt: &HostRuntime, input: &[u8], refused: &RefusedReturns) -> io::Result<()> {
+    let number = refused.fault.kind.number();
+    let row = refused.fault.row;
     println!(rt; "refused returns {number} {row}")?;
     for language in &LANGUAGES {
-        let Ok(explanation) = explain_returns(rt.alloc(), *language, input, fault) else {
+        let Ok(explanation) = explain_returns(rt.alloc(), *language, input, refused) else {
             return Err(no_memory());
         };
         show(rt, *language, PATH, input, &explanation)?;
@@ -76,11 +76,11 @@ fn explain(rt: &HostRuntime, input: &[u8], fault: ReturnsFault) -> io::Result<()
 ///
 /// # Errors
 ///
-/// Want of memory, and those of the output.
+/// Out of memory, and those of the output.
 pub fn row(rt: &HostRuntime, input: &[u8]) -> io::Result<()> {
-    match read_returns(rt.alloc(), input) {
+    match read_or_refuse(rt.alloc(), input) {
         Ok(_) => println!(rt; "nothing is wrong")?,
-        Err(fault) => explain(rt, input, fault)?,
+        Err(refused) => explain(rt, input, &refused)?,
     }
     println!(rt; "")
 }
@@ -89,7 +89,7 @@ pub fn row(rt: &HostRuntime, input: &[u8]) -> io::Result<()> {
 ///
 /// # Errors
 ///
-/// Want of memory, and those of the output.
+/// Out of memory, and those of the output.
 pub fn rest(rt: &HostRuntime) -> io::Result<()> {
     println!(rt; "== more than 4,194,304 bytes")?;
     for language in &LANGUAGES {

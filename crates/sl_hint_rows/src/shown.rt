@@ -6,7 +6,7 @@ use std::io::{self, Error, ErrorKind};
 /// The languages, in the order of the rows.
 pub static LANGUAGES: [Language; 2] = [Language::English, Language::German];
 
-/// The error where memory is wanting.
+/// The error of running out of memory.
 pub fn no_memory() -> Error {
     Error::from(ErrorKind::OutOfMemory)
 }
@@ -23,7 +23,7 @@ fn is_within(span: Option<Span>, input: &[u8]) -> bool {
 ///
 /// # Errors
 ///
-/// Want of memory, and those of the output.
+/// Out of memory, and those of the output.
 pub fn show(
     rt: &HostRuntime,
     language: Language,
@@ -31,7 +31,7 @@ pub fn show(
     input: &[u8],
     explanation: &Explanation,
 ) -> io::Result<()> {
-    if !is_within(explanation.span, input) {
+    if !is_within(explanation.span(), input) {
         println!(rt; "the place lies outside of the input")?;
     }
     let Ok(text) = written(rt.alloc(), language, Some(path), input, explanation) else {

@@ -14,27 +14,31 @@ abbrev pub failures_after : {X E : Type 0} → ℕ → Result X E → ℕ
 failures_after n (Ok x) = n
 failures_after n (Err e) = one_more n
 
--- the failures of each input of a call of the desk, and of its writer
+-- the failures of each input that is read, and of the writer
 pub record Counts : Type 0 where
   pub book : ℕ
   pub returns : ℕ
   pub code : ℕ
+  pub names : ℕ
   pub out : ℕ
 
+-- those of a call of the desk, which reads no names
 abbrev pub counts : (book returns code out : ℕ) → Counts
-counts book returns code out = record { book = book; returns = returns; code = code; out = out }
+counts book returns code out = record { book = book; returns = returns; code = code; names = 0; out = out }
 
 -- those of a call that reads one input and writes nothing
 abbrev pub input_counts : Input → ℕ → Counts
 input_counts input.Book n = counts n 0 0 0
 input_counts input.Returns n = counts 0 n 0 0
 input_counts input.Code n = counts 0 0 n 0
+input_counts input.Names n = record { book = 0; returns = 0; code = 0; names = n; out = 0 }
 
 -- after an error: Read is one more failure of that input alone, Write one of the writer alone, and want of memory none
 abbrev pub counts_at : Counts → DeskError → Counts
 counts_at before (fault.Read input.Book) = record before { book = one_more before.book }
 counts_at before (fault.Read input.Returns) = record before { returns = one_more before.returns }
 counts_at before (fault.Read input.Code) = record before { code = one_more before.code }
+counts_at before (fault.Read input.Names) = record before { names = one_more before.names }
 counts_at before fault.Write = record before { out = one_more before.out }
 counts_at before fault.NoMemory = before
 

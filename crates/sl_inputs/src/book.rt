@@ -9,7 +9,7 @@ ghost use Rattle.sl_inputs.specs.Judging.{input_of, tree_verdict};
 
 use crate::input::{Bytes, read_all};
 use crate::limits::MAX_BOOK_BYTES;
-use crate::refusal::BookRefusal;
+use crate::refused_book::RefusedBook;
 use crate::source::{BookSource, Source};
 use crate::status::{DeskError, Input};
 use crate::verdict::Verdict;
@@ -45,25 +45,25 @@ impl<'a> BookText<'a> {
 pub(crate) fn judge_text<'a>(
     alloc: Global,
     text: &[u8],
-) -> Result<Verdict<CheckedBook, BookRefusal<'a>>, NoMemory>
+) -> Result<Verdict<CheckedBook, RefusedBook<'a>>, NoMemory>
     ensures { IfOk result (λ v. IsTextVerdict text.now (tree_verdict v)) }
 {
     if text.len() > MAX_BOOK_BYTES {
-        return Ok(Verdict::Refused(BookRefusal::TooLong));
+        return Ok(Verdict::Refused(RefusedBook::TooLong));
     }
     let tokens = match lex(alloc, text) {
         Ok(tokens) => tokens,
         Err(LexFault::NoMemory) => return Err(NoMemory),
-        Err(fault) => return Ok(Verdict::Refused(BookRefusal::Tokens(fault))),
+        Err(fault) => return Ok(Verdict::Refused(RefusedBook::Tokens(fault))),
     };
     let book = match parse(alloc, text, tokens.as_slice()) {
         Ok(book) => book,
         Err(ParseFault::NoMemory) => return Err(NoMemory),
-        Err(fault) => return Ok(Verdict::Refused(BookRefusal::Grammar(fault))),
+        Err(fault) => return Ok(Verdict::Refused(RefusedBook::Grammar(fault, tokens))),
     };
     match check(book) {
         Ok(book) => Ok(Verdict::Good(book)),
-        Err((_, fault)) => Ok(Verdict::Refused(BookRefusal::Test(fault))),
+        Err((book, fault)) => Ok(Verdict::Refused(RefusedBook::Test(fault, book))),
     }
 }
 
@@ -75,27 +75,37 @@ pub(crate) fn judge_text<'a>(
 pub(crate) fn judge_law<'a>(
     alloc: Global,
     name: &'a str,
-) -> Result<Verdict<CheckedBook, BookRefusal<'a>>, NoMemory>
+) -> Result<Verdict<CheckedBook, RefusedBook<'a>>, NoMemory>
     ensures { IfOk result (λ v. IsLawVerdict name.now (law_text name.now) (tree_verdict v)) }
 {
     match law(name) {
         Some(text) => judge_text(alloc, text.as_bytes()),
-        None => Ok(Verdict::Refused(BookRefusal::UnknownLaw(name))),
+        None => Ok(Verdict::Refused(RefusedBook::UnknownStatute(name))),
     }
 }
 
+/// A rulebook that was read: the bytes of its text, none for one of the library, and what it comes to.
+#[derive(Drop)]
+pub struct ReadBook<'a> {
+    pub text: Vec<u8>,
+    pub verdict: Verdict<CheckedBook, RefusedBook<'a>>,
+}
+
 // Reads the text of a rulebook and judges it.
-fn read_text<'a, S: Source>(
-    alloc: Global,
-    reader: &mut S,
-) -> Result<Verdict<CheckedBook, BookRefusal<'a>>, DeskError>
-    ensures verdict { IfOk result (λ v. IfSome (S.remaining reader.old) (λ bytes. IsTextVerdict bytes (tree_verdict v))) }
+fn read_text<'a, S: Source>(alloc: Global, reader: &mut S) -> Result<ReadBook<'a>, DeskError>
+    ensures verdict { IfOk result (λ r. IfSome (S.remaining reader.old) (λ bytes. IsTextVerdict bytes (tree_verdict r.verdict))) }
     ensures failures { counts (S.failed reader.new) 0 0 0 ≡ counts_after (counts (S.failed reader.old) 0 0 0) result }
     ensures limited { TakesAtMost (MAX_BOOK_BYTES + 1) (S.remaining reader.old) (S.remaining reader.new) }
 {
     match read_all(alloc, reader, Input::Book, MAX_BOOK_BYTES)? {
-        Bytes::Whole(text) => Ok(judge_text(alloc, text.as_slice())?),
-        Bytes::TooLong => Ok(Verdict::Refused(BookRefusal::TooLong)),
+        Bytes::Whole(text) => {
+            let verdict = judge_text(alloc, text.as_slice())?;
+            Ok(ReadBook { text, verdict })
+        }
+        Bytes::TooLong => Ok(ReadBook {
+            text: Vec::new(alloc),
+            verdict: Verdict::Refused(RefusedBook::TooLong),
+        }),
     }
 }
 
@@ -107,7 +117,7 @@ fn read_text<'a, S: Source>(
 pub fn judge_book<'a>(
     alloc: Global,
     book: BookText<'a>,
-) -> Result<Verdict<CheckedBook, BookRefusal<'a>>, NoMemory>
+) -> Result<Verdict<CheckedBook, RefusedBook<'a>>, NoMemory>
     ensures { IfOk result (λ v. IsBookVerdict (input_of book.entry) (tree_verdict v)) }
 {
     match book {
@@ -124,13 +134,19 @@ pub fn judge_book<'a>(
 pub fn read_book<'a, S: Source>(
     alloc: Global,
     source: &mut BookSource<'a, S>,
-) -> Result<Verdict<CheckedBook, BookRefusal<'a>>, DeskError>
-    ensures verdict { IfOk result (λ v. IfSome (book_input S.remaining source.old) (λ input. IsBookVerdict input (tree_verdict v))) }
+) -> Result<ReadBook<'a>, DeskError>
+    ensures verdict { IfOk result (λ r. IfSome (book_input S.remaining source.old) (λ input. IsBookVerdict input (tree_verdict r.verdict))) }
     ensures failures { counts (book_failures S.failed source.new) 0 0 0 ≡ counts_after (counts (book_failures S.failed source.old) 0 0 0) result }
     ensures source { ReadsBook S.remaining source.old source.new }
 {
     match source {
-        BookSource::Library(name) => Ok(judge_law(alloc, name)?),
+        BookSource::Library(name) => {
+            let verdict = judge_law(alloc, name)?;
+            Ok(ReadBook {
+                text: Vec::new(alloc),
+                verdict,
+            })
+        }
         BookSource::Reader(reader) => read_text(alloc, reader),
     }
 }

@@ -2,17 +2,18 @@
 
 ghost use Rattle.std.specs.Prelude.{◌≡◌, ◌≤◌, ◌+◌, length, IfOk, IfSome};
 ghost use Rattle.sl_inputs.specs.Failures.{counts, counts_after};
+ghost use Rattle.sl_inputs.specs.Judging.{election_verdict};
 ghost use Rattle.sl_inputs.specs.Reading.{TakesAtMost};
 ghost use Rattle.sl_inputs.specs.Returns.{IsReturnsVerdict};
 
 use crate::input::{Bytes, read_all};
 use crate::limits::MAX_RETURNS_BYTES;
-use crate::refusal::ReturnsRefusal;
+use crate::refused_election::RefusedElection;
 use crate::source::Source;
 use crate::status::{DeskError, Input};
 use crate::verdict::Verdict;
 use sl_ratio::NoMemory;
-use sl_returns::{FaultKind, ReturnsFault, read_returns};
+use sl_returns::{FaultKind, read_or_refuse};
 use sl_stages::Returns;
 use std::alloc::Global;
 
@@ -20,26 +21,28 @@ use std::alloc::Global;
 ///
 /// # Errors
 ///
-/// Want of memory.
+/// Out of memory.
 pub fn judge_returns(
     alloc: Global,
     bytes: &[u8],
-) -> Result<Verdict<Returns, ReturnsRefusal>, NoMemory>
-    ensures { IfOk result (IsReturnsVerdict bytes.now) }
+) -> Result<Verdict<Returns, RefusedElection>, NoMemory>
+    ensures { IfOk result (λ v. IsReturnsVerdict bytes.now (election_verdict v)) }
 {
     if bytes.len() > MAX_RETURNS_BYTES {
-        return Ok(Verdict::Refused(ReturnsRefusal::TooLong));
+        return Ok(Verdict::Refused(RefusedElection::TooLong));
     }
-    match read_returns(alloc, bytes) {
+    match read_or_refuse(alloc, bytes) {
         Ok(returns) => Ok(Verdict::Good(returns)),
-        Err(
-            ReturnsFault {
-                kind: FaultKind::NoMemory,
-                ..
-            },
-        ) => Err(NoMemory),
-        Err(fault) => Ok(Verdict::Refused(ReturnsRefusal::Records(fault))),
+        Err(refused) if refused.fault.kind == FaultKind::NoMemory => Err(NoMemory),
+        Err(refused) => Ok(Verdict::Refused(RefusedElection::Records(refused))),
     }
+}
+
+/// Returns that were read: their bytes, and what they come to.
+#[derive(Drop)]
+pub struct ReadReturns {
+    pub text: Vec<u8>,
+    pub verdict: Verdict<Returns, RefusedElection>,
 }
 
 /// Reads returns and judges them.
@@ -47,16 +50,19 @@ pub fn judge_returns(
 /// # Errors
 ///
 /// `Read` where the source failed, and `NoMemory`.
-pub fn read_election<S: Source>(
-    alloc: Global,
-    source: &mut S,
-) -> Result<Verdict<Returns, ReturnsRefusal>, DeskError>
-    ensures verdict { IfOk result (λ v. IfSome (S.remaining source.old) (λ bytes. IsReturnsVerdict bytes v)) }
+pub fn read_election<S: Source>(alloc: Global, source: &mut S) -> Result<ReadReturns, DeskError>
+    ensures verdict { IfOk result (λ r. IfSome (S.remaining source.old) (λ bytes. IsReturnsVerdict bytes (election_verdict r.verdict))) }
     ensures failures { counts 0 (S.failed source.new) 0 0 ≡ counts_after (counts 0 (S.failed source.old) 0 0) result }
     ensures limited { TakesAtMost (MAX_RETURNS_BYTES + 1) (S.remaining source.old) (S.remaining source.new) }
 {
     match read_all(alloc, source, Input::Returns, MAX_RETURNS_BYTES)? {
-        Bytes::Whole(bytes) => Ok(judge_returns(alloc, bytes.as_slice())?),
-        Bytes::TooLong => Ok(Verdict::Refused(ReturnsRefusal::TooLong)),
+        Bytes::Whole(text) => {
+            let verdict = judge_returns(alloc, text.as_slice())?;
+            Ok(ReadReturns { text, verdict })
+        }
+        Bytes::TooLong => Ok(ReadReturns {
+            text: Vec::new(alloc),
+            verdict: Verdict::Refused(RefusedElection::TooLong),
+        }),
     }
 }

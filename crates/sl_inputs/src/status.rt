@@ -33,6 +33,8 @@ pub enum Input {
     Book,
     Returns,
     Code,
+    /// Full names of parties and Länder, for a report.
+    Names,
 }
 
 impl fmt::Display for Input {
@@ -41,6 +43,7 @@ impl fmt::Display for Input {
             Input::Book => write!(f, "book"),
             Input::Returns => write!(f, "returns"),
             Input::Code => write!(f, "code"),
+            Input::Names => write!(f, "names"),
         }
     }
 }

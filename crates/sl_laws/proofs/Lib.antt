@@ -1,1 +1,1 @@
-pub mod Named
+pub mod Statutes

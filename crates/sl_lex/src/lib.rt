@@ -8,7 +8,7 @@ mod scan;
 mod token;
 
 pub use fault::LexFault;
-pub use keyword::Keyword;
+pub use keyword::{KEYWORDS, Keyword};
 pub use scan::lex;
 pub use sl_ratio::MAX_NUMBER;
 pub use token::{Kind, Mark, Token};

@@ -4,14 +4,15 @@ use Rattle.std.proofs.lemmas.Bool.{cases_lt, cases_eq}
 use Rattle.std.proofs.lemmas.List.{length-set, get_or-set_same, get_or-set_other}
 use Rattle.sl_ratio.specs.declared.method.Divisor.{Divisor}
 use Rattle.sl_ratio.specs.declared.method.Divisor.TheVariants.{Adams, Dean, Hill, Webster, Jefferson}
-use Rattle.sl_ratio.specs.Quotient.{AtMost, quotient}
+use Rattle.sl_ratio.specs.Quotient.{Quotient, AtMost, quotient}
 use Rattle.sl_ratio.specs.Bounds.{last_quotient}
 use Rattle.sl_ratio.specs.inner.QuotientLaws.{quotient_positive}
 use Rattle.sl_ratio.proofs.Order.{AtMost-trans, not-Below}
-use Rattle.sl_stages.specs.methods.Field.{InField, no_minima}
-use Rattle.sl_stages.proofs.methods.SeatSums.{some_greater, none_needed}
+use Rattle.sl_stages.specs.methods.Field.{InField}
+use Rattle.sl_stages.specs.methods.Allocations.{IsDivisorAllocation}
+use Rattle.sl_stages.proofs.methods.SeatSums.{some_greater}
 use Rattle.sl_fairness.proofs.Chains.{falls_weak, rises_weak, in_field}
-use Rattle.sl_margins.specs.MissingVotes.{IsAllocation, with_further, IsAllocationAfter, AreEnough, AreTooFew}
+use Rattle.sl_margins.specs.MissingVotes.{with_further, AreEnoughWith, AreTooFewWith}
 use Rattle.sl_margins.specs.inner.Needed.{IsRival, IsAbove}
 
 -- without votes the numerator is 0
@@ -27,13 +28,16 @@ above_zero : (a b c d : ℕ) → a * d < c * b → 0 < c
 above_zero a b zero d h = absurd (omega arith)
 above_zero a b (suc c) d h = omega arith
 
-pub has_weight : (method : Divisor) (v s : List ℕ) (i j w : ℕ) → IsAbove method (get_or s i 0) (last_quotient method v s j) w → 0 < w
-has_weight method v s i j w h =
-    let x = last_quotient method v s j in
-    let y = quotient method w (get_or s i 0) in
-    weight_of method w (get_or s i 0) (above_zero x.num x.den y.num y.den h)
+-- who has a quotient above another has votes
+pub above_weight : (method : Divisor) (held w : ℕ) (claim : Quotient) → IsAbove method held claim w → 0 < w
+above_weight method held w claim h =
+    let y = quotient method w held in
+    weight_of method w held (above_zero claim.num claim.den y.num y.den h)
 
-module _ (method : Divisor) (v s : List ℕ) (h : IsAllocation method v s) (i x : ℕ) (within : i < length v) where
+pub has_weight : (method : Divisor) (v s : List ℕ) (i j w : ℕ) → IsAbove method (get_or s i 0) (last_quotient method v s j) w → 0 < w
+has_weight method v s i j w h = above_weight method (get_or s i 0) w (last_quotient method v s j) h
+
+module _ (method : Divisor) (v m s : List ℕ) (h : IsDivisorAllocation method v m (sum s) s) (i x : ℕ) (within : i < length v) where
   abbrev w : List ℕ
   w = with_further v i x
 
@@ -50,20 +54,18 @@ module _ (method : Divisor) (v s : List ℕ) (h : IsAllocation method v s) (i x 
   ]
 
   -- a rival whose last quotient is below the entry's next one cannot keep it from one more seat
-  module _ (j : ℕ) (rival : IsRival s i j) (above : IsAbove method (get_or s i 0) (last_quotient method v s j) (get_or v i 0 + x))
-      (t : List ℕ) (ht : IsAllocationAfter method v s i x t) (few : get_or t i 0 ≤ get_or s i 0) where
+  module _ (j : ℕ) (rival : IsRival m s i j) (above : IsAbove method (get_or s i 0) (last_quotient method v s j) (get_or v i 0 + x))
+      (t : List ℕ) (ht : IsDivisorAllocation method w m (sum s) t) (few : get_or t i 0 ≤ get_or s i 0) where
     fi : InField w i
     fi = let pos = has_weight method v s i j (get_or v i 0 + x) above in omega (arith, here, pos)
 
     fj : InField v j
-    fj = let z = none_needed (length v) j in let seated = rival.seated in in_field method v (no_minima v) (sum s) s h j (omega arith)
+    fj = in_field method v m (sum s) s h j rival.beyond
 
     -- the entry's next quotient is no greater than the last one of who has a seat
-    next_low : (k : ℕ) → k ≢ i → 0 < get_or t k 0 → AtMost (quotient method (get_or w i 0) (get_or s i 0)) (quotient method (get_or v k 0) (get_or t k 0 - 1))
-    next_low k ne some =
-        let z = none_needed (length v) k in
-        let above_k : get_or (no_minima v) k 0 < get_or t k 0 = omega (arith, z, some) in
-        let fk = in_field method w (no_minima v) (sum s) t ht k above_k in
+    next_low : (k : ℕ) → k ≢ i → get_or m k 0 < get_or t k 0 → AtMost (quotient method (get_or w i 0) (get_or s i 0)) (quotient method (get_or v k 0) (get_or t k 0 - 1))
+    next_low k ne above_k =
+        let fk = in_field method w m (sum s) t ht k above_k in
         let same = other k ne in
         let fair = ht.min_max k i fk fi above_k in
         let fair' = subst (λ n. AtMost (quotient method (get_or w i 0) (get_or t i 0)) (quotient method n (get_or t k 0 - 1))) same fair in
@@ -78,8 +80,8 @@ module _ (method : Divisor) (v s : List ℕ) (h : IsAllocation method v s) (i x 
     no_such : ⊥
     no_such = elim (cases_lt (get_or t j 0) (get_or s j 0)) [
       | inr g ↦
-          (let seated = rival.seated in
-          let first = next_low j rival.other (omega (arith, seated, g)) in
+          (let beyond = rival.beyond in
+          let first = next_low j rival.other (omega (arith, beyond, g)) in
           clash (AtMost-trans (quotient method (get_or w i 0) (get_or s i 0)) (quotient method (get_or v j 0) (get_or t j 0 - 1)) (last_quotient method v s j)
           (quotient_positive method (get_or v j 0) (get_or t j 0 - 1) fj) first (falls_weak method v j (get_or s j 0 - 1) (get_or t j 0 - 1) fj (omega arith))))
       | inl less ↦
@@ -87,38 +89,36 @@ module _ (method : Divisor) (v s : List ℕ) (h : IsAllocation method v s) (i x 
           let k = found.0 in
           let more : get_or s k 0 < get_or t k 0 = found.1 in
           let ne : k ≢ i = λ e. let more' = subst (λ n. get_or s n 0 < get_or t n 0) e more in omega (arith, more', few) in
-          let zk = none_needed (length v) k in
-          let zj = none_needed (length v) j in
-          let seated = rival.seated in
-          let wk = in_field method w (no_minima v) (sum s) t ht k (omega (arith, zk, more)) in
+          let low = h.minima k in
+          let beyond : get_or m k 0 < get_or t k 0 = omega (arith, low, more) in
+          let wk = in_field method w m (sum s) t ht k beyond in
           let fk : InField v k = omega (arith, wk, other k ne) in
-          let first = next_low k ne (omega (arith, more)) in
+          let first = next_low k ne beyond in
           let second = falls_weak method v k (get_or s k 0) (get_or t k 0 - 1) fk (omega (arith, more)) in
-          let third = h.min_max j k fj fk (omega (arith, zj, seated)) in
+          let third = h.min_max j k fj fk rival.beyond in
           clash (AtMost-trans (quotient method (get_or w i 0) (get_or s i 0)) (quotient method (get_or v k 0) (get_or t k 0 - 1)) (last_quotient method v s j)
           (quotient_positive method (get_or v k 0) (get_or t k 0 - 1) fk) first
           (AtMost-trans (quotient method (get_or v k 0) (get_or t k 0 - 1)) (quotient method (get_or v k 0) (get_or s k 0)) (last_quotient method v s j)
           (quotient_positive method (get_or v k 0) (get_or s k 0) fk) second third)))
     ]
 
-  pub enough_by : (j : ℕ) → IsRival s i j → IsAbove method (get_or s i 0) (last_quotient method v s j) (get_or v i 0 + x) → AreEnough method v s i x
+  pub enough_by : (j : ℕ) → IsRival m s i j → IsAbove method (get_or s i 0) (last_quotient method v s j) (get_or v i 0 + x) → AreEnoughWith method v m s i x
   enough_by j rival above t ht =
       elim (cases_lt (get_or s i 0) (get_or t i 0)) [ inl l ↦ l | inr few ↦ absurd (no_such j rival above t ht few) ]
 
   -- where no rival's last quotient is below it, the seats are an allocation still
-  module _ (none : (j : ℕ) → IsRival s i j → IsAbove method (get_or s i 0) (last_quotient method v s j) (get_or v i 0 + x) → ⊥) where
-    fair : (p q : ℕ) → InField w p → InField w q → get_or (no_minima v) p 0 < get_or s p 0 →
+  module _ (none : (j : ℕ) → IsRival m s i j → IsAbove method (get_or s i 0) (last_quotient method v s j) (get_or v i 0 + x) → ⊥) where
+    fair : (p q : ℕ) → InField w p → InField w q → get_or m p 0 < get_or s p 0 →
         AtMost (quotient method (get_or w q 0) (get_or s q 0)) (quotient method (get_or w p 0) (get_or s p 0 - 1))
     fair p q fp fq less =
-        let z = none_needed (length v) p in
-        let vp = in_field method v (no_minima v) (sum s) s h p less in
+        let vp = in_field method v m (sum s) s h p less in
         elim (cases_eq q i) [
           | inl e ↦ subst (λ k. AtMost (quotient method (get_or w k 0) (get_or s k 0)) (quotient method (get_or w p 0) (get_or s p 0 - 1))) (sym e)
               (elim (cases_eq p i) [
                 | inl e' ↦ subst (λ k. AtMost (quotient method (get_or w k 0) (get_or s k 0)) (quotient method (get_or w p 0) (get_or s p 0 - 1))) e'
                     (falls_weak method w p (get_or s p 0 - 1) (get_or s p 0) fp (omega arith))
                 | inr ne ↦
-                    (let rival : IsRival s i p = record { other = ne; seated = omega (arith, z, less) } in
+                    (let rival : IsRival m s i p = record { other = ne; beyond = less } in
                     let low = not-Below (last_quotient method v s p) (quotient method (get_or v i 0 + x) (get_or s i 0)) (none p rival) in
                     subst (λ n. AtMost (quotient method n (get_or s i 0)) (quotient method (get_or w p 0) (get_or s p 0 - 1))) (sym here)
                     (subst (λ n. AtMost (quotient method (get_or v i 0 + x) (get_or s i 0)) (quotient method n (get_or s p 0 - 1))) (sym (other p ne)) low))
@@ -133,7 +133,7 @@ module _ (method : Divisor) (v s : List ℕ) (h : IsAllocation method v s) (i x 
               (quotient_positive method (get_or v p 0) (get_or s p 0 - 1) vp) one two))
         ]
 
-    stays : IsAllocationAfter method v s i x s
+    stays : IsDivisorAllocation method w m (sum s) s
     stays = record {
       same_length = h.same_length ∙ sym (length-set v i (get_or v i 0 + x));
       total = refl;
@@ -142,5 +142,5 @@ module _ (method : Divisor) (v s : List ℕ) (h : IsAllocation method v s) (i x 
       min_max = fair;
     }
 
-    pub too_few_without : AreTooFew method v s i x
+    pub too_few_without : AreTooFewWith method v m s i x
     too_few_without = (s, stays, omega arith)

@@ -7,3 +7,9 @@ pub mod Shortest
 pub mod Dividing
 pub mod Digits
 pub mod BetweenClaims
+pub mod StayingEnough
+pub mod NoMinima
+pub mod Kept
+pub mod Sparing
+pub mod Swinging
+pub mod Filling

@@ -1,4 +1,4 @@
--- Decimal numbers, their texts, and quotients in decimals (docs/margins.md, section 3).
+-- Decimal numbers, their texts, and quotients in decimals (docs/margins.md, section 5).
 use Rattle.std.specs.Prelude.{◌≡◌, ℕ, ◌-◌, ◌*◌, ◌/◌, ◌%◌, ◌^◌, ◌<◌, ◌≤◌, List, ◌++◌, length, codes, nat_eq, if◌then◌else◌}
 use Rattle.std.specs.Fmt.{decimal}
 use Rattle.std.specs.List.{repeat}

@@ -1,4 +1,4 @@
--- Divisors of the fewest digits between the claims of an allocation (docs/margins.md, section 2). A scope is given by the votes v and
+-- Divisors of the fewest digits between the claims of an allocation (docs/margins.md, section 4). A scope is given by the votes v and
 -- the seats s of its entries, in entry order.
 use Rattle.std.specs.Prelude.{ℕ, ◌*◌, ◌^◌, ◌<◌, List, Option, Some, None, slice_index}
 use Rattle.sl_ratio.specs.declared.method.Divisor.{Divisor}

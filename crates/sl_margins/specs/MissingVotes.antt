@@ -1,6 +1,6 @@
 -- The votes that an entry lacks for one more seat (docs/margins.md, section 1). A scope is given by the votes v and the seats s of its
 -- entries, in entry order. A list reads 0 past its end.
-use Rattle.std.specs.Prelude.{◌≢◌, ℕ, ◌+◌, ◌<◌, ◌≤◌, List, Option, Some, None, sum, slice_index, slice_set}
+use Rattle.std.specs.Prelude.{◌≢◌, ℕ, ◌+◌, ◌<◌, ◌≤◌, List, [], Option, Some, None, max, sum, slice_index, slice_set}
 use Rattle.sl_ratio.specs.declared.method.Divisor.{Divisor}
 use Rattle.sl_ratio.specs.declared.method.Divisor.TheVariants.{Adams, Dean, Hill, Webster, Jefferson}
 use Rattle.sl_stages.specs.methods.Field.{no_minima}
@@ -14,22 +14,20 @@ IsAllocation method v s = IsDivisorAllocation method v (no_minima v) (sum s) s
 abbrev pub with_further : List ℕ → ℕ → ℕ → List ℕ
 with_further v i x = slice_set v i (slice_index v i + x)
 
--- with x further votes for entry i, t is an allocation of as many seats as s has
-abbrev pub IsAllocationAfter : Divisor → List ℕ → List ℕ → ℕ → ℕ → List ℕ → Type 0
-IsAllocationAfter method v s i x t = IsDivisorAllocation method (with_further v i x) (no_minima v) (sum s) t
+-- ---- with minima m
 
 -- x further votes are enough: every allocation gives the entry more seats than it has in s
-abbrev pub AreEnough : Divisor → List ℕ → List ℕ → ℕ → ℕ → Type 0
-AreEnough method v s i x = (t : List ℕ) → IsAllocationAfter method v s i x t → slice_index s i < slice_index t i
+abbrev pub AreEnoughWith : Divisor → (v m s : List ℕ) → ℕ → ℕ → Type 0
+AreEnoughWith method v m s i x = (t : List ℕ) → IsDivisorAllocation method (with_further v i x) m (sum s) t → slice_index s i < slice_index t i
 
 -- x further votes are too few: some allocation gives it no more
-abbrev pub AreTooFew : Divisor → List ℕ → List ℕ → ℕ → ℕ → Type 0
-AreTooFew method v s i x = (t : List ℕ) × IsAllocationAfter method v s i x t × (slice_index t i ≤ slice_index s i)
+abbrev pub AreTooFewWith : Divisor → (v m s : List ℕ) → ℕ → ℕ → Type 0
+AreTooFewWith method v m s i x = (t : List ℕ) × IsDivisorAllocation method (with_further v i x) m (sum s) t × (slice_index t i ≤ slice_index s i)
 
 -- the least number of further votes that is enough, or nothing where every number is too few
-abbrev pub AreMissing : Divisor → List ℕ → List ℕ → ℕ → Option ℕ → Type 0
-AreMissing method v s i (Some x) = AreEnough method v s i x × ((y : ℕ) → y < x → AreTooFew method v s i y)
-AreMissing method v s i None = (x : ℕ) → AreTooFew method v s i x
+abbrev pub AreMissingWith : Divisor → (v m s : List ℕ) → ℕ → Option ℕ → Type 0
+AreMissingWith method v m s i (Some x) = AreEnoughWith method v m s i x × ((y : ℕ) → y < x → AreTooFewWith method v m s i y)
+AreMissingWith method v m s i None = (x : ℕ) → AreTooFewWith method v m s i x
 
 -- the seats of an entry that no votes of another can take: under Adams, Dean and Hill its first one, whose quotient is infinite
 abbrev pub safe_seats : Divisor → ℕ
@@ -39,6 +37,17 @@ safe_seats Hill = 1
 safe_seats Webster = 0
 safe_seats Jefferson = 0
 
--- no entry other than i has a seat that it may lose
+-- no entry other than i has a seat that it may lose: beyond its minimum, and beyond these
+abbrev pub AreOthersSafeWith : Divisor → (m s : List ℕ) → ℕ → Type 0
+AreOthersSafeWith method m s i = (j : ℕ) → j ≢ i → slice_index s j ≤ max (slice_index m j) (safe_seats method)
+
+-- ---- without minima
+
+abbrev pub AreEnough : Divisor → List ℕ → List ℕ → ℕ → ℕ → Type 0
+AreEnough method v s = AreEnoughWith method v (no_minima v) s
+
+abbrev pub AreMissing : Divisor → List ℕ → List ℕ → ℕ → Option ℕ → Type 0
+AreMissing method v s = AreMissingWith method v (no_minima v) s
+
 abbrev pub AreOthersSafe : Divisor → List ℕ → ℕ → Type 0
-AreOthersSafe method s i = (j : ℕ) → j ≢ i → slice_index s j ≤ safe_seats method
+AreOthersSafe method s = AreOthersSafeWith method [] s

@@ -7,10 +7,16 @@ mod decimal;
 mod divisors;
 pub mod laws;
 mod limits;
+mod minima;
+mod spare;
+mod swings;
 mod votes;
 
 pub use claims::{is_allocation, last_seats, next_claims};
 pub use decimal::{Decimal, MAX_PLACES, cut};
 pub use divisors::divisor;
 pub use limits::are_within;
-pub use votes::votes_missing;
+pub use minima::is_allocation_with_minima;
+pub use spare::votes_to_spare;
+pub use swings::{is_swing_within, swing};
+pub use votes::{votes_missing, votes_missing_with_minima};

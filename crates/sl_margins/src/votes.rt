@@ -1,8 +1,9 @@
 //! The votes that an entry lacks for one more seat.
 
-ghost use Rattle.std.specs.Prelude.{◌≡◌, ◌^◌, ◌<◌, ◌≤◌, ◌↔◌, None, All, MatchOption, length};
+ghost use Rattle.std.specs.Prelude.{◌≡◌, ◌^◌, ◌<◌, ◌≤◌, ◌↔◌, None, All, MatchOption, length, sum, slice_index};
 ghost use Rattle.sl_ratio.specs.Quotient.{quotient};
-ghost use Rattle.sl_margins.specs.MissingVotes.{IsAllocation, AreMissing, AreOthersSafe};
+ghost use Rattle.sl_stages.specs.methods.Allocations.{IsDivisorAllocation};
+ghost use Rattle.sl_margins.specs.MissingVotes.{IsAllocation, AreMissing, AreMissingWith, AreOthersSafe, AreOthersSafeWith};
 ghost use Rattle.sl_margins.specs.inner.Needed.{power_of, IsLeast, IsAbove, IsNeeded, lesser};
 
 use sl_ratio::{Divisor, MAX_SEATS, MAX_WEIGHT};
@@ -20,7 +21,7 @@ pub(crate) fn root_above(method: Divisor, power: u128) -> u128
 
 // The least weight whose quotient with `held` seats is above that of `weight` with `won` seats, or `None` where that one is infinite,
 // so that none is above it.
-fn weight_above(method: Divisor, held: u32, weight: u64, won: u32) -> Option<u64>
+pub(crate) fn weight_above(method: Divisor, held: u32, weight: u64, won: u32) -> Option<u64>
     requires positive { 1 ≤ weight }
     requires weight { weight ≤ MAX_WEIGHT }
     requires held { held ≤ MAX_SEATS }
@@ -47,18 +48,34 @@ fn lesser(found: Option<u64>, weight: Option<u64>) -> Option<u64>
     }
 }
 
-// The least weight by which the entry's next quotient is above the last one of another entry.
-fn weight_needed(method: Divisor, weights: &[u64], seats: &[u32], entry: usize) -> Option<u64>
+// The minimum of an entry: 0 past the end of the list.
+pub(crate) fn minimum(minima: &[u32], entry: usize) -> u32
+    ensures { result ≡ slice_index minima.now entry }
+{
+    match minima.get(entry) {
+        Some(least) => *least,
+        None => 0,
+    }
+}
+
+// The least weight by which the entry's next quotient is above the last one of another entry, by a seat beyond the minimum of that one.
+fn weight_needed(
+    method: Divisor,
+    weights: &[u64],
+    minima: &[u32],
+    seats: &[u32],
+    entry: usize,
+) -> Option<u64>
     requires weights { All (λ v. v ≤ MAX_WEIGHT) weights.now }
     requires seats { All (λ s. s ≤ MAX_SEATS) seats.now }
-    requires allocation { IsAllocation method weights.now seats.now }
+    requires allocation { IsDivisorAllocation method weights.now minima.now (sum seats.now) seats.now }
     requires entry { entry < length weights.now }
-    ensures { IsNeeded method weights.now seats.now entry (length weights.now) result }
+    ensures { IsNeeded method weights.now minima.now seats.now entry (length weights.now) result }
 {
     let mut needed = None;
     for (rival, weight) in weights.iter().enumerate() {
         let held = seats[rival];
-        if rival != entry && held > 0 {
+        if rival != entry && held > minimum(minima, rival) {
             needed = lesser(
                 needed,
                 weight_above(method, seats[entry], *weight, held - 1),
@@ -66,6 +83,27 @@ fn weight_needed(method: Divisor, weights: &[u64], seats: &[u32], entry: usize) 
         }
     }
     needed
+}
+
+/// The votes that an entry lacks for one more seat beside minima: the least number of further votes for it, all else equal, with which every
+/// allocation of the same number of seats, with the same minima, gives it more than it has, or `None` where no number does. An entry may be
+/// without votes.
+pub fn votes_missing_with_minima(
+    method: Divisor,
+    weights: &[u64],
+    minima: &[u32],
+    seats: &[u32],
+    entry: usize,
+) -> Option<u64>
+    requires weights { All (λ v. v ≤ MAX_WEIGHT) weights.now }
+    requires seats { All (λ s. s ≤ MAX_SEATS) seats.now }
+    requires allocation { IsDivisorAllocation method weights.now minima.now (sum seats.now) seats.now }
+    requires entry { entry < length weights.now }
+    ensures missing { AreMissingWith method weights.now minima.now seats.now entry result }
+    ensures none { (result ≡ None) ↔ AreOthersSafeWith method minima.now seats.now entry }
+{
+    let needed = weight_needed(method, weights, minima, seats, entry)?;
+    Some(needed - weights[entry])
 }
 
 /// The votes that an entry lacks for one more seat: the least number of further votes for it, all else equal, with which every allocation of
@@ -80,6 +118,5 @@ pub fn votes_missing(method: Divisor, weights: &[u64], seats: &[u32], entry: usi
     ensures missing { AreMissing method weights.now seats.now entry result }
     ensures none { (result ≡ None) ↔ AreOthersSafe method seats.now entry }
 {
-    let needed = weight_needed(method, weights, seats, entry)?;
-    Some(needed - weights[entry])
+    votes_missing_with_minima(method, weights, &[], seats, entry)
 }

@@ -1,9 +1,9 @@
 //! The calls of the desk over memory.
 
 use crate::memory::{Ending, Narrow, Slow};
-use sl_desk::{
-    BookSource, Listener, View, check_book, code, count, law_text, run_code, show, stage, steps,
-};
+use sl_count_outcomes::{Counting, End, Judged};
+use sl_desk::{BookSource, View, check_book, code, count, law_text, run_code, show, stage, steps};
+use sl_stages::LegalFault;
 use std::alloc::Global;
 
 /// How a call over memory goes: the bytes that a source gives or a sink takes at once, and the call of each that fails, from 1, or 0 for
@@ -90,23 +90,48 @@ pub fn staged_by(alloc: Global, law: &str, returns: &[u8], name: &str, pace: Pac
     }
 }
 
-/// How showing that of a count ends, with a listener.
-pub fn shown<L: Listener>(
+// The legal fault of an end, if it is one.
+fn fault_of(end: End) -> Option<LegalFault> {
+    match end {
+        End::Fault(fault) => Some(fault),
+        End::Counted(_) => None,
+    }
+}
+
+// The legal fault to which two inputs came, if they did.
+fn fault_in(judged: Judged<'_>) -> Option<LegalFault> {
+    match judged {
+        Judged::Counted(counting) => {
+            let Counting { outcome, .. } = counting;
+            fault_of(outcome.end)
+        }
+        Judged::BookRefused(_) | Judged::StageUnknown(_, _) | Judged::ReturnsRefused(_) => None,
+    }
+}
+
+/// How showing that of a count ends, and the legal fault that it answers.
+pub fn shown(
     alloc: Global,
     view: View<'_>,
     book: &[u8],
     returns: &[u8],
     pace: Pace,
-    listener: &mut L,
-) -> Ending {
+) -> (Ending, Option<LegalFault>) {
     let mut book = BookSource::Reader(Slow::new(book, pace.step, pace.book_fails));
     let mut returns = Slow::new(returns, pace.step, pace.returns_fail);
     let mut out = Narrow::new(alloc, pace.step, pace.out_fails);
-    let result = show(view, alloc, &mut book, &mut returns, &mut out, listener);
-    Ending {
+    let (result, fault) = match show(view, alloc, &mut book, &mut returns, &mut out) {
+        Ok(shown) => {
+            let read = shown.read;
+            (Ok(shown.status), fault_in(read.judged))
+        }
+        Err(error) => (Err(error), None),
+    };
+    let ending = Ending {
         result,
         written: out.taken,
-    }
+    };
+    (ending, fault)
 }
 
 /// How compiling a book ends, with what was written to the file.

@@ -1,25 +1,28 @@
--- What an explanation that is handed over speaks of (docs/page.md): the fault of a command's inputs, by the number of its status.
-use Rattle.std.specs.Prelude.{◌≡◌, ◌<◌, ℕ, List, [], Option, None, Some}
+-- What an explanation that is handed over goes with (docs/page.md): the number of the status of the command that it explains.
+use Rattle.std.specs.Prelude.{List, None, ◌<◌, ◌≡◌, ℕ}
+use Rattle.sl_count_outcomes.specs.Judged.{IsJudged}
+use Rattle.sl_count_outcomes.specs.declared.judged.Judged.{Judged}
+use Rattle.sl_count_value.specs.declared.count.Records.TheVariants.{Dropped}
+use Rattle.sl_inputs.specs.Books.{BookInput, IsBookVerdict}
+use Rattle.sl_inputs.specs.Judging.{tree_verdict}
 use Rattle.sl_inputs.specs.Statuses.{status_number}
+use Rattle.sl_inputs.specs.declared.refused_book.RefusedBook.{RefusedBook}
 use Rattle.sl_inputs.specs.declared.status.Status.TheVariants as status
 use Rattle.sl_inputs.specs.declared.status.Status.{Status}
-use Rattle.sl_hints.specs.declared.fault.Fault.TheVariants as fault
-use Rattle.sl_hints.specs.declared.fault.Fault.{Fault}
+use Rattle.sl_inputs.specs.declared.verdict.Verdict.TheVariants as verdict
+use Rattle.sl_inputs.specs.declared.verdict.Verdict.{Verdict}
+use Rattle.sl_report.specs.Statuses.{judged_status}
+use Rattle.sl_stages.specs.declared.checked.CheckedBook.{CheckedBook}
 
--- the status of a command that meets a fault
-abbrev pub fault_status : Fault → Status
-fault_status (fault.Book why) = status.Refused
-fault_status (fault.Stage name) = status.Refused
-fault_status (fault.Returns why) = status.Refused
-fault_status (fault.Code why) = status.Refused
-fault_status (fault.Legal f) = status.Legal
-fault_status fault.Budget = status.Budget
+-- the status of `check`
+abbrev pub check_status : Verdict CheckedBook RefusedBook → Status
+check_status (verdict.Good book) = status.Done
+check_status (verdict.Refused why) = status.Refused
 
--- without a fault the number is 0, and no text is handed over; else the number is that of the fault's status
-abbrev pub Tells : Option Fault → ℕ → List ℕ → Type 0
-Tells None number handed = (number ≡ 0) × (handed ≡ [])
-Tells (Some f) number handed = number ≡ status_number (fault_status f)
+-- a number below 5 is that of the status with which the book is checked
+abbrev pub TellsCheck : BookInput → ℕ → Type 0
+TellsCheck input number = number < 5 → (v : Verdict CheckedBook RefusedBook) × IsBookVerdict input (tree_verdict v) × (number ≡ status_number (check_status v))
 
--- a number below 5 tells of the fault that a command meets in its inputs, or that it meets none
-abbrev pub TellsFault : (Option Fault → Type 0) → ℕ → List ℕ → Type 0
-TellsFault IsFault number handed = number < 5 → (found : Option Fault) × IsFault found × Tells found number handed
+-- or that with which the book is counted by on the returns
+abbrev pub TellsCount : BookInput → List ℕ → ℕ → Type 0
+TellsCount input returns number = number < 5 → (judged : Judged) × IsJudged Dropped None input returns judged × (number ≡ status_number (judged_status judged))

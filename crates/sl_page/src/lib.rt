@@ -8,21 +8,20 @@ ghost use Rattle.sl_counts.specs.Counting.{IsOutput, ShowsSeats};
 ghost use Rattle.sl_inputs.specs.Library.{IsLawOutput};
 ghost use Rattle.sl_counts.specs.Showing.{IsStageOutput};
 ghost use Rattle.sl_counts.specs.Steps.{ShowsSteps};
-ghost use Rattle.sl_hints.specs.Faults.{IsCheckFault, IsCountFault};
 ghost use Rattle.sl_page.specs.Handing.{HandsOver};
-ghost use Rattle.sl_page.specs.Telling.{TellsFault};
+ghost use Rattle.sl_page.specs.Telling.{TellsCheck, TellsCount};
 
 mod compared;
 mod taken;
 mod told;
 
 use compared::compare_words;
-use sl_desk::{BookSource, BookText, FromRead};
-use sl_hints::{explain_check, explain_count};
+use sl_count_outcomes::{Records, judge};
+use sl_desk::{BookSource, BookText, FromRead, judge_book};
 use sl_report::{Shape, report, totals};
 use std::alloc::Global;
-use taken::{NO_NAME, Taken, hand_answer, hand_over};
-use told::{language_of, tell};
+use taken::{NO_MEMORY, NO_NAME, Taken, hand_answer, hand_over};
+use told::{language_of, tell_check, tell_count};
 
 /// Counts the returns by the rulebook. Answers the exit status of the program, 0, 2 or 3, with what it writes in `out` and how many bytes that
 /// are in `count`; or 5 where memory ran out, and 6 where `out` is too short.
@@ -185,12 +184,15 @@ pub extern "C" fn page_explain_check(
     out: &mut [u8],
     count: &mut usize,
 ) -> u32
-    ensures fault { TellsFault (IsCheckFault (text book.now)) result (take count.new out.new) }
+    ensures fault { TellsCheck (text book.now) result }
     ensures within { count.new ≤ length out.new }
 {
     let language = language_of(language);
-    let explained = explain_check(alloc, language, BookText::Text(book));
-    tell(alloc, language, explained, book, &[], out, count)
+    *count = 0;
+    match judge_book(alloc, BookText::Text(book)) {
+        Ok(verdict) => tell_check(alloc, language, &verdict, book, out, count),
+        Err(_) => NO_MEMORY,
+    }
 }
 
 /// Why `count` and `steps` write no table, as `page_explain_check` tells it, for files `book` and `returns`.
@@ -203,10 +205,13 @@ pub extern "C" fn page_explain_count(
     out: &mut [u8],
     count: &mut usize,
 ) -> u32
-    ensures fault { TellsFault (IsCountFault (text book.now) returns.now) result (take count.new out.new) }
+    ensures fault { TellsCount (text book.now) returns.now result }
     ensures within { count.new ≤ length out.new }
 {
     let language = language_of(language);
-    let explained = explain_count(alloc, language, BookText::Text(book), returns);
-    tell(alloc, language, explained, book, returns, out, count)
+    *count = 0;
+    match judge(Records::Dropped, alloc, BookText::Text(book), None, returns) {
+        Ok(judged) => tell_count(alloc, language, &judged, book, returns, out, count),
+        Err(_) => NO_MEMORY,
+    }
 }

@@ -99,7 +99,7 @@ pub(crate) fn hand_answer(
 {
     *count = 0;
     match answer {
-        Ok(answer) => put(answer.status, answer.text.as_slice(), out, count),
+        Ok(answer) => put(answer.status.number(), answer.text.as_slice(), out, count),
         Err(_) => NO_MEMORY,
     }
 }

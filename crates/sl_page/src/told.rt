@@ -1,20 +1,18 @@
 //! Explanations, as the program writes them, handed over to the page.
 
-ghost use Rattle.std.specs.Prelude.{◌≡◌, ◌<◌, ◌≤◌, Option, Ok, length, take};
-ghost use Rattle.sl_hints.specs.Faults.{fault_in};
-ghost use Rattle.sl_page.specs.Telling.{Tells, fault_status};
+ghost use Rattle.std.specs.Prelude.{◌≡◌, ◌<◌, ◌≤◌, length};
+ghost use Rattle.sl_inputs.specs.Statuses.{status_number};
+ghost use Rattle.sl_page.specs.Telling.{check_status};
+ghost use Rattle.sl_report.specs.Statuses.{judged_status};
 
 use crate::taken::{NO_MEMORY, put};
-use sl_desk::Status;
+use sl_check::CheckedBook;
+use sl_count_outcomes::{End, Judged};
+use sl_desk::{Input, RefusedBook, Status, Verdict};
 use sl_explain::{Language, written};
-use sl_hints::{Explained, Fault};
+use sl_explain_calls::{Explained, explain_judged, explain_verdict};
 use sl_ratio::NoMemory;
 use std::alloc::Global;
-
-// The paths by which an explanation names the two inputs.
-const BOOK: &[u8] = b"book";
-
-const RETURNS: &[u8] = b"returns";
 
 /// The language of a word: German for `de`, and English for any other.
 pub(crate) fn language_of(word: &[u8]) -> Language {
@@ -25,37 +23,51 @@ pub(crate) fn language_of(word: &[u8]) -> Language {
     }
 }
 
-// The status of a command that meets this fault.
-fn status_of(fault: &Fault<'_>) -> Status
-    ensures { result ≡ fault_status fault.now }
+// The status of `check` on a judged rulebook.
+fn check_status(book: &Verdict<CheckedBook, RefusedBook<'_>>) -> Status
+    ensures { result ≡ check_status book.entry.now }
 {
-    match fault {
-        Fault::Book(_) | Fault::Stage(_) | Fault::Returns(_) | Fault::Code(_) => Status::Refused,
-        Fault::Legal(_) => Status::Legal,
-        Fault::Budget => Status::Budget,
+    match book {
+        Verdict::Good(_) => Status::Done,
+        Verdict::Refused(_) => Status::Refused,
     }
 }
 
-// The input in which a fault is: its path, and its bytes.
-fn file_of<'a>(fault: &Fault<'_>, book: &'a [u8], returns: &'a [u8]) -> (&'static [u8], &'a [u8]) {
-    match fault {
-        Fault::Returns(_) | Fault::Legal(_) => (RETURNS, returns),
-        _ => (BOOK, book),
+// The status of `count` on what its inputs come to.
+fn judged_status(judged: &Judged<'_>) -> Status
+    ensures { result ≡ judged_status judged.entry.now }
+{
+    match judged {
+        Judged::BookRefused(_) | Judged::StageUnknown(_, _) | Judged::ReturnsRefused(_) => {
+            Status::Refused
+        }
+        Judged::Counted(counting) => match counting.outcome.end {
+            End::Counted(_) => Status::Done,
+            End::Fault(_) => Status::Legal,
+        },
     }
 }
 
-/// Puts an explanation into `out` and its length into `count`, and answers the number of the status of its fault: 0, with no text, where there is
-/// none. Where memory ran out it answers `NO_MEMORY`, and `count` is 0.
-pub(crate) fn tell(
+// The path by which an explanation names an input, and its bytes.
+fn file_of<'a>(input: Input, book: &'a [u8], returns: &'a [u8]) -> (&'static [u8], &'a [u8]) {
+    match input {
+        Input::Returns => (b"returns", returns),
+        Input::Book | Input::Code | Input::Names => (b"book", book),
+    }
+}
+
+// Puts an explanation, if there is one, with the number of a status.
+fn tell(
     alloc: Global,
     language: Language,
-    explained: Result<Option<Explained<'_>>, NoMemory>,
+    status: Status,
+    explained: Result<Option<Explained>, NoMemory>,
     book: &[u8],
     returns: &[u8],
     out: &mut [u8],
     count: &mut usize,
 ) -> u32
-    ensures fault { result < 5 → (told : Option Explained) × (explained.entry ≡ Ok told) × Tells (fault_in told) result (take count.new out.new) }
+    ensures status { result < 5 → result ≡ status_number status }
     ensures within { count.new ≤ length out.new }
 {
     *count = 0;
@@ -63,11 +75,63 @@ pub(crate) fn tell(
         return NO_MEMORY;
     };
     let Some(told) = told else {
-        return 0;
+        return put(status.number(), b"", out, count);
     };
-    let (path, input) = file_of(&told.fault, book, returns);
+    let (path, input) = file_of(told.input, book, returns);
     match written(alloc, language, Some(path), input, &told.explanation) {
-        Ok(text) => put(status_of(&told.fault).number(), text.as_slice(), out, count),
+        Ok(text) => put(status.number(), text.as_slice(), out, count),
         Err(_) => NO_MEMORY,
     }
+}
+
+/// Puts the explanation of a judged rulebook into `out` and its length into `count`, and answers the number of the status of `check`. Where memory ran
+/// out it answers `NO_MEMORY`, and `count` is 0.
+pub(crate) fn tell_check(
+    alloc: Global,
+    language: Language,
+    book: &Verdict<CheckedBook, RefusedBook<'_>>,
+    text: &[u8],
+    out: &mut [u8],
+    count: &mut usize,
+) -> u32
+    ensures status { result < 5 → result ≡ status_number (check_status book.entry.now) }
+    ensures within { count.new ≤ length out.new }
+{
+    let explained = explain_verdict(alloc, language, text, book);
+    tell(
+        alloc,
+        language,
+        check_status(book),
+        explained,
+        text,
+        b"",
+        out,
+        count,
+    )
+}
+
+/// Puts the explanation of what a rulebook and returns come to, as `tell_check` does, with the status of `count`.
+pub(crate) fn tell_count(
+    alloc: Global,
+    language: Language,
+    judged: &Judged<'_>,
+    book: &[u8],
+    returns: &[u8],
+    out: &mut [u8],
+    count: &mut usize,
+) -> u32
+    ensures status { result < 5 → result ≡ status_number (judged_status judged.entry.now) }
+    ensures within { count.new ≤ length out.new }
+{
+    let explained = explain_judged(alloc, language, judged, book, returns);
+    tell(
+        alloc,
+        language,
+        judged_status(judged),
+        explained,
+        book,
+        returns,
+        out,
+        count,
+    )
 }

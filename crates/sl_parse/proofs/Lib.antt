@@ -15,4 +15,5 @@ pub mod OneTree
 pub mod Stands
 pub mod Loop
 mod SpanFacts
+pub mod Beginnings
 mod TokenNumbers

@@ -12,6 +12,7 @@ use std::test::Fail;
 
 const NO_MEMORY: ReturnsFault = ReturnsFault {
     row: 0,
+    column: None,
     kind: FaultKind::NoMemory,
 };
 

@@ -1,11 +1,13 @@
 //! The command that shows several rulebooks side by side: `compare`.
 
-use crate::runs::outcome_of;
-use sl_answers::{Answer, Outcome, Shape, comparison_answer, read_book, read_election};
-use sl_inputs::BookText;
+use sl_answers::{Answer, Shape, comparison_answer, names_of};
+use sl_count_outcomes::{End, Records, outcome_of};
+use sl_count_value::Counted;
+use sl_inputs::{BookText, Verdict, judge_book, judge_returns};
+use sl_laws::STATUTES;
 use sl_ratio::NoMemory;
 use sl_report_sheets::Judged;
-use sl_stages::{CheckedBook, Returns};
+use sl_stages::{CheckedBook, LegalFault, Returns};
 use std::alloc::Global;
 
 /// A rulebook, and the word by which it is called.
@@ -15,68 +17,74 @@ pub struct Named<'a> {
     pub book: BookText<'a>,
 }
 
-/// The six statutes of the library, which are compared where no rulebook is given.
-pub const STATUTES: [Named<'static>; 6] = [
-    Named {
-        word: "@1956",
-        book: BookText::Library("1956"),
-    },
-    Named {
-        word: "@1985",
-        book: BookText::Library("1985"),
-    },
-    Named {
-        word: "@2008",
-        book: BookText::Library("2008"),
-    },
-    Named {
-        word: "@2013",
-        book: BookText::Library("2013"),
-    },
-    Named {
-        word: "@2023",
-        book: BookText::Library("2023"),
-    },
-    Named {
-        word: "@2023-order",
-        book: BookText::Library("2023-order"),
-    },
-];
+/// A good rulebook, and the word by which it is called.
+#[derive(Drop)]
+pub struct Compared<'a> {
+    pub word: &'a str,
+    pub book: CheckedBook,
+}
+
+// What was counted, or the legal fault.
+fn parts_of(end: End) -> (Option<Counted>, Option<LegalFault>) {
+    match end {
+        End::Counted(counted) => (Some(counted), None),
+        End::Fault(fault) => (None, Some(fault)),
+    }
+}
 
 // A book with what it comes to.
-fn judged(
-    alloc: Global,
-    word: &str,
-    book: CheckedBook,
-    returns: &Returns,
-) -> Result<Judged, NoMemory> {
-    let (counted, fault) = match outcome_of(alloc, &book, returns)? {
-        Outcome::Counted(counted) => (Some(counted), None),
-        Outcome::Fault(fault, _line) => (None, Some(fault)),
-        Outcome::OutOfBudget => (None, None),
-    };
+fn judged(alloc: Global, compared: Compared<'_>, returns: &Returns) -> Result<Judged, NoMemory> {
+    let outcome = outcome_of(Records::Dropped, alloc, &compared.book, returns)?;
+    let (counted, fault) = parts_of(outcome.end);
     Ok(Judged {
-        word: String::from_str(alloc, word)?,
-        book,
+        word: String::from_str(alloc, compared.word)?,
+        book: compared.book,
         counted,
         fault,
     })
 }
 
-// Several books with what they come to on returns, or the answer that refuses one of them.
-fn judged_all(
+/// Several good books on good returns, side by side. A legal fault stands in its column. Without a book the table has no column.
+///
+/// # Errors
+///
+/// Out of memory.
+pub fn compare_judged(
     alloc: Global,
-    books: &[Named<'_>],
+    books: Vec<Compared<'_>>,
     returns: &Returns,
-) -> Result<Result<Vec<Judged>, Answer>, NoMemory> {
+    names: Option<&[u8]>,
+    shape: Shape,
+) -> Result<Answer, NoMemory> {
+    let full = match names_of(alloc, names)? {
+        Ok(full) => full,
+        Err(refused) => return Ok(refused),
+    };
     let mut all: Vec<Judged> = Vec::new(alloc);
+    for compared in books {
+        all.push(judged(alloc, compared, returns)?)?;
+    }
+    comparison_answer(alloc, all.as_slice(), returns, &full, shape)
+}
+
+// The good ones of some books, or the answer that refuses the first that is not.
+fn good_books<'a>(
+    alloc: Global,
+    books: &[Named<'a>],
+) -> Result<Result<Vec<Compared<'a>>, Answer>, NoMemory> {
+    let mut good: Vec<Compared<'a>> = Vec::new(alloc);
     for named in books {
-        match read_book(alloc, named.book)? {
-            Ok(book) => all.push(judged(alloc, named.word, book, returns)?)?,
-            Err(refused) => return Ok(Err(refused)),
+        match judge_book(alloc, named.book)? {
+            Verdict::Good(book) => good.push(Compared {
+                word: named.word,
+                book,
+            })?,
+            Verdict::Refused(refused) => {
+                return Ok(Err(Answer::refused(refused.why().line(alloc)?)));
+            }
         }
     }
-    Ok(Ok(all))
+    Ok(Ok(good))
 }
 
 // Several books on good returns, side by side.
@@ -87,8 +95,8 @@ fn compare_on(
     names: Option<&[u8]>,
     shape: Shape,
 ) -> Result<Answer, NoMemory> {
-    match judged_all(alloc, books, returns)? {
-        Ok(all) => comparison_answer(alloc, all.as_slice(), returns, names, shape),
+    match good_books(alloc, books)? {
+        Ok(good) => compare_judged(alloc, good, returns, names, shape),
         Err(refused) => Ok(refused),
     }
 }
@@ -98,9 +106,9 @@ fn refused(alloc: Global, books: &[Named<'_>], returns: Answer) -> Result<Answer
     let Some(first) = books.first() else {
         return Ok(returns);
     };
-    match read_book(alloc, first.book)? {
-        Ok(_) => Ok(returns),
-        Err(book) => Ok(book),
+    match judge_book(alloc, first.book)? {
+        Verdict::Good(_) => Ok(returns),
+        Verdict::Refused(refused) => Ok(Answer::refused(refused.why().line(alloc)?)),
     }
 }
 
@@ -109,7 +117,7 @@ fn refused(alloc: Global, books: &[Named<'_>], returns: Answer) -> Result<Answer
 ///
 /// # Errors
 ///
-/// Want of memory.
+/// Out of memory.
 pub fn compare(
     alloc: Global,
     books: &[Named<'_>],
@@ -117,8 +125,53 @@ pub fn compare(
     names: Option<&[u8]>,
     shape: Shape,
 ) -> Result<Answer, NoMemory> {
-    match read_election(alloc, returns)? {
-        Ok(returns) => compare_on(alloc, books, &returns, names, shape),
-        Err(answer) => refused(alloc, books, answer),
+    match judge_returns(alloc, returns)? {
+        Verdict::Good(returns) => compare_on(alloc, books, &returns, names, shape),
+        Verdict::Refused(why) => {
+            let answer = Answer::refused(why.why().line(alloc)?);
+            refused(alloc, books, answer)
+        }
+    }
+}
+
+/// The statutes of the library on good returns, side by side, each by its name behind `@`.
+///
+/// # Errors
+///
+/// Out of memory.
+pub fn compare_statutes_on(
+    alloc: Global,
+    returns: &Returns,
+    names: Option<&[u8]>,
+    shape: Shape,
+) -> Result<Answer, NoMemory> {
+    let mut words: Vec<String> = Vec::new(alloc);
+    for statute in &STATUTES {
+        words.push(format!(in alloc; "@{}", statute.name)?)?;
+    }
+    let mut books: Vec<Named<'_>> = Vec::new(alloc);
+    for (word, statute) in words.iter().zip(STATUTES.iter()) {
+        books.push(Named {
+            word: word.as_str(),
+            book: BookText::Library(statute.name),
+        })?;
+    }
+    compare_on(alloc, books.as_slice(), returns, names, shape)
+}
+
+/// The statutes of the library on returns, side by side. Returns that `count` refuses are refused by the same line.
+///
+/// # Errors
+///
+/// Out of memory.
+pub fn compare_statutes(
+    alloc: Global,
+    returns: &[u8],
+    names: Option<&[u8]>,
+    shape: Shape,
+) -> Result<Answer, NoMemory> {
+    match judge_returns(alloc, returns)? {
+        Verdict::Good(returns) => compare_statutes_on(alloc, &returns, names, shape),
+        Verdict::Refused(refused) => Ok(Answer::refused(refused.why().line(alloc)?)),
     }
 }

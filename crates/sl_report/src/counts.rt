@@ -1,51 +1,113 @@
 //! The commands that show one count: `report` and `stages`.
 
-use crate::runs::outcome_of;
-use sl_answers::{Answer, Shape, Show, count_answer, names_of, read_book, read_election};
-use sl_inputs::BookText;
-use sl_naming::Naming;
+ghost use Rattle.std.specs.Prelude.{◌⊎◌, ◌≡◌, IfErr, IfOk, length};
+ghost use Rattle.sl_answers.specs.Ends.{end_status};
+ghost use Rattle.sl_count_outcomes.specs.Judged.{FitsJudged};
+ghost use Rattle.sl_count_outcomes.specs.Outcomes.{FitsEnd, FitsOutcome};
+ghost use Rattle.sl_count_value.specs.declared.count.Records.TheVariants.{Kept};
+ghost use Rattle.sl_inputs.specs.Judging.{input_of};
+ghost use Rattle.sl_inputs.specs.declared.status.Status.TheVariants as status;
+ghost use Rattle.sl_report.specs.Statuses.{IsReportStatus, judged_status};
+ghost use Rattle.sl_stages.specs.book.Books.{book_of};
+
+use sl_answers::{Answer, Shape, Show, count_answer, names_of};
+use sl_count_outcomes::{Counting, End, Judged, Outcome, Records, judge};
+use sl_inputs::{BookText, refused};
+use sl_naming::FullNames;
 use sl_ratio::NoMemory;
 use sl_stages::{CheckedBook, Returns};
+use sl_table::fault_text;
 use std::alloc::Global;
 
-// What a command on a good book writes on good returns.
-fn one_count(
+// The line with which counting tells how a count ends: that of a legal fault, and none of a table.
+fn line_of(alloc: Global, returns: &Returns, outcome: &Outcome) -> Result<Vec<u8>, NoMemory>
+    requires fits { FitsEnd (length outcome.now.code.stages) returns.now outcome.now.end }
+{
+    match &outcome.end {
+        End::Counted(_) => Ok(Vec::new(alloc)),
+        End::Fault(fault) => fault_text(alloc, fault, returns, outcome.code.code()),
+    }
+}
+
+/// The answer that shows what a good book comes to on good returns, by a count that kept its records.
+///
+/// # Errors
+///
+/// Out of memory.
+pub fn answer_count(
     alloc: Global,
     show: Show,
     book: &CheckedBook,
     returns: &Returns,
-    names: Option<&[u8]>,
+    outcome: &Outcome,
+    full: &FullNames,
     shape: Shape,
-) -> Result<Answer, NoMemory> {
-    match names_of(alloc, names)? {
-        Ok(full) => {
-            let naming = Naming {
-                returns,
-                full: &full,
-            };
-            let outcome = outcome_of(alloc, book, returns)?;
-            count_answer(alloc, show, book, &naming, &outcome, shape)
-        }
-        Err(refused) => Ok(refused),
-    }
+) -> Result<Answer, NoMemory>
+    requires fits { FitsOutcome (book_of book.now.book) returns.now outcome.now }
+    ensures { IfOk result (λ a. a.status ≡ end_status outcome.now.end) }
+{
+    let line = line_of(alloc, returns, outcome)?;
+    count_answer(
+        alloc,
+        show,
+        book,
+        returns,
+        full,
+        &outcome.end,
+        line.as_slice(),
+        shape,
+    )
 }
 
-// What a command on a good book writes.
-fn good_book(
+// The answer that shows a count with the full names of a text, or that refuses these names.
+fn named_answer(
     alloc: Global,
     show: Show,
-    book: &CheckedBook,
-    returns: &[u8],
-    names: Option<&[u8]>,
+    counting: &Counting,
+    names: Result<FullNames, Answer>,
     shape: Shape,
-) -> Result<Answer, NoMemory> {
-    match read_election(alloc, returns)? {
-        Ok(returns) => one_count(alloc, show, book, &returns, names, shape),
+) -> Result<Answer, NoMemory>
+    requires fits { FitsOutcome (book_of counting.now.book.book) counting.now.returns counting.now.outcome }
+    requires refused { IfErr names (λ a. a.status ≡ status.Refused) }
+    ensures { IfOk result (λ a. (a.status ≡ end_status counting.now.outcome.end) ⊎ (a.status ≡ status.Refused)) }
+{
+    match names {
+        Ok(full) => answer_count(
+            alloc,
+            show,
+            &counting.book,
+            &counting.returns,
+            &counting.outcome,
+            &full,
+            shape,
+        ),
         Err(refused) => Ok(refused),
     }
 }
 
-// What a command on one book writes.
+// The answer that shows what inputs come to: the refusal of one of them, or the count.
+fn judged_answer(
+    alloc: Global,
+    show: Show,
+    judged: &Judged<'_>,
+    names: Result<FullNames, Answer>,
+    shape: Shape,
+) -> Result<Answer, NoMemory>
+    requires fits { FitsJudged Kept judged.now }
+    requires refused { IfErr names (λ a. a.status ≡ status.Refused) }
+    ensures { IfOk result (λ a. (a.status ≡ judged_status judged.now) ⊎ (a.status ≡ status.Refused)) }
+{
+    match judged {
+        Judged::Counted(counting) => named_answer(alloc, show, counting, names, shape),
+        Judged::BookRefused(book) => Ok(Answer::refused(book.why().line(alloc)?)),
+        Judged::ReturnsRefused(returns) => Ok(Answer::refused(returns.why().line(alloc)?)),
+        Judged::StageUnknown(_, name) => {
+            Ok(Answer::refused(refused(alloc, b"stage", name.as_bytes())?))
+        }
+    }
+}
+
+// What a command on one book answers.
 fn one_book(
     alloc: Global,
     show: Show,
@@ -53,25 +115,28 @@ fn one_book(
     returns: &[u8],
     names: Option<&[u8]>,
     shape: Shape,
-) -> Result<Answer, NoMemory> {
-    match read_book(alloc, book)? {
-        Ok(book) => good_book(alloc, show, &book, returns, names, shape),
-        Err(refused) => Ok(refused),
-    }
+) -> Result<Answer, NoMemory>
+    ensures { IfOk result (λ a. IsReportStatus (input_of book.entry) returns.now a.status) }
+{
+    let names = names_of(alloc, names)?;
+    let judged = judge(Records::Kept, alloc, book, None, returns)?;
+    judged_answer(alloc, show, &judged, names, shape)
 }
 
 /// What a book comes to on returns, in full. Inputs that `count` refuses are refused by the same line, and a legal fault has its line first.
 ///
 /// # Errors
 ///
-/// Want of memory.
+/// Out of memory.
 pub fn report(
     alloc: Global,
     book: BookText<'_>,
     returns: &[u8],
     names: Option<&[u8]>,
     shape: Shape,
-) -> Result<Answer, NoMemory> {
+) -> Result<Answer, NoMemory>
+    ensures { IfOk result (λ a. IsReportStatus (input_of book.entry) returns.now a.status) }
+{
     one_book(alloc, Show::Report, book, returns, names, shape)
 }
 
@@ -79,13 +144,15 @@ pub fn report(
 ///
 /// # Errors
 ///
-/// Want of memory.
+/// Out of memory.
 pub fn stages(
     alloc: Global,
     book: BookText<'_>,
     returns: &[u8],
     names: Option<&[u8]>,
     shape: Shape,
-) -> Result<Answer, NoMemory> {
+) -> Result<Answer, NoMemory>
+    ensures { IfOk result (λ a. IsReportStatus (input_of book.entry) returns.now a.status) }
+{
     one_book(alloc, Show::Stages, book, returns, names, shape)
 }

@@ -1,12 +1,14 @@
-//! The commands that report, from bytes to bytes: of one count, of all stages, of several rulebooks side by side, and of the totals of returns.
+//! The commands that report, from bytes or from what they come to: of one count, of all stages, of several rulebooks side by side, and of the totals of
+//! returns. Each input is judged once, and each book is run once.
 #![tactic(auto)]
 
 mod comparison;
 mod counts;
-mod runs;
-mod streams;
+mod sums;
 
-pub use comparison::{Named, STATUTES, compare};
-pub use counts::{report, stages};
-pub use sl_answers::{Answer, MAX_NAMES_BYTES, Shape, totals};
-pub use streams::{ReportError, bytes_of, deliver};
+pub use comparison::{
+    Compared, Named, compare, compare_judged, compare_statutes, compare_statutes_on,
+};
+pub use counts::{answer_count, report, stages};
+pub use sl_answers::{Answer, MAX_NAMES_BYTES, Shape, Show, names_of};
+pub use sums::{totals, totals_answer};

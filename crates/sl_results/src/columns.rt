@@ -1,16 +1,10 @@
 //! The columns of expressions, and what the split or the growth of a stage distributes.
 
 use crate::facts::Setting;
+use sl_count_value::Column;
 use sl_ratio::{Method, NoMemory};
 use sl_stages::{Axis, Expr, Pairing, Returns, Shape, Table, Word};
 use std::alloc::Global;
-
-/// A column: a number for each entry of its shape. A column of lists has one for each pair of Land and party, by Land and then by party.
-#[derive(Drop)]
-pub struct Column {
-    pub shape: Shape,
-    pub cells: Vec<u64>,
-}
 
 /// What a split or a growth distributes: seats by votes, with minima where it has them.
 #[derive(Drop)]
@@ -22,31 +16,22 @@ pub struct Distribution {
     pub grows: bool,
 }
 
-/// What a count comes to: the seat table, with the steps that won its seats, and the column of each stage.
-#[derive(Drop)]
-pub struct Counted {
-    pub table: Table,
-    pub columns: Vec<Column>,
-}
-
 /// The place of a pair of Land and party in a column of lists.
 pub(crate) fn place_of(returns: &Returns, land: usize, party: usize) -> usize {
     land.saturating_mul(returns.parties()).saturating_add(party)
 }
 
-impl Column {
-    /// The number at a place, 0 past the end.
-    pub fn at(&self, place: usize) -> u64 {
-        self.cells.get(place).copied().unwrap_or(0)
-    }
+/// The number at a place of a column, 0 past the end.
+pub(crate) fn number_at(column: &Column, place: usize) -> u64 {
+    column.cells.get(place).copied().unwrap_or(0)
+}
 
-    // The same column once more.
-    fn again(&self, alloc: Global) -> Result<Column, NoMemory> {
-        Ok(Column {
-            shape: self.shape,
-            cells: Vec::from_slice(alloc, self.cells.as_slice())?,
-        })
-    }
+// The same column once more.
+fn copy_of(alloc: Global, column: &Column) -> Result<Column, NoMemory> {
+    Ok(Column {
+        shape: column.shape,
+        cells: Vec::from_slice(alloc, column.cells.as_slice())?,
+    })
 }
 
 // A column of zeros.
@@ -124,7 +109,7 @@ fn named(
 ) -> Result<Option<Column>, NoMemory> {
     for (stage, column) in setting.book.stages.iter().zip(earlier) {
         if stage.name.as_bytes() == name.as_bytes() {
-            return Ok(Some(column.again(alloc)?));
+            return Ok(Some(copy_of(alloc, column)?));
         }
     }
     Ok(None)

@@ -3,9 +3,10 @@
 ghost use Rattle.std.specs.Prelude.{◌<◌};
 ghost use Rattle.sl_stages.specs.returns.Election.{lands_of, parties_of};
 
-use crate::columns::{Column, place_of};
+use crate::columns::place_of;
 use crate::parts::PartyPart;
 use crate::votes::independents_in;
+use sl_count_value::Column;
 use sl_ratio::NoMemory;
 use sl_stages::{Book, Fact, Returns, Shape, Win};
 use std::alloc::Global;

@@ -13,7 +13,7 @@ mod scopes;
 mod seats;
 mod votes;
 
-pub use columns::{Column, Counted, Distribution, distribution_of};
+pub use columns::{Distribution, distribution_of};
 pub use contests::{Ranked, contested};
 pub use facts::Setting;
 pub use fraction::Fraction;
@@ -21,4 +21,5 @@ pub use parts::{PartyPart, parts_of, votes_short};
 pub use places::item_at;
 pub use scopes::{Entry, Scoped, scopes_of};
 pub use seats::{Seats, seats_in_all, seats_of};
+pub use sl_count_value::{Column, Counted};
 pub use votes::{Votes, all_votes, independents_in, land_votes, winners_in, winners_of};

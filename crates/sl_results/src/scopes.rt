@@ -1,6 +1,6 @@
 //! The scopes of a stage.
 
-use crate::columns::Distribution;
+use crate::columns::{Distribution, number_at};
 use crate::fraction::Fraction;
 use crate::margins::{Margins, margins_of};
 use crate::places::{is_in, item_at, scope_at, scope_count, seats_by_place};
@@ -42,12 +42,12 @@ pub struct Scoped {
 // The entry at a place, without its quotient.
 fn entry_at(returns: &Returns, what: &Distribution, seats: &[u64], place: usize) -> Entry {
     let minimum = match &what.minima {
-        Some(minima) => minima.at(place),
+        Some(minima) => number_at(minima, place),
         None => 0,
     };
     Entry {
         item: item_at(returns, what.votes.shape, place),
-        weight: what.votes.at(place),
+        weight: number_at(&what.votes, place),
         seats: seats.get(place).copied().unwrap_or(0),
         minimum,
         quotient: None,

@@ -11,7 +11,7 @@ use Rattle.sl_returns.specs.Cells.{Record}
 use Rattle.sl_returns.specs.Records.{election_of_records, land_names, party_names, of_kind}
 use Rattle.sl_returns.specs.Returns.{refusal_of, lack_of, behind_header, returns_of, unless}
 use Rattle.sl_returns.specs.Laws.{ValidVotesAreTold}
-use Rattle.sl_returns.specs.declared.kind.Kind.TheVariants as kind
+use Rattle.sl_returns.specs.declared.schema.Kind.TheVariants as kind
 use Rattle.sl_returns.proofs.ToldVotes.{valid_from, votes_of_rows}
 use Rattle.sl_returns.proofs.Steps.{IsGood, no_records}
 use Rattle.sl_returns.proofs.Feeding.{neither, sound, good_from}

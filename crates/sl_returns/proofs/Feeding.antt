@@ -1,12 +1,13 @@
 -- A builder that takes one record more.
-use Rattle.std.proofs.Common.{◌≡◌, ◌+◌, ◌-◌, ◌^◌, ℕ, min, List, [], ◌∷◌, ◌++◌, length, Option, Some, None, inl, inr, refl, sym, ap, subst, ◌∙◌, arith, append_assoc}
+use Rattle.std.proofs.Common.{◌≡◌, ◌+◌, ◌-◌, ◌^◌, ℕ, min, List, [], ◌∷◌, ◌++◌, length, Option, Some, None, inl, inr, ◌≢◌, refl, sym, ap, subst, ◌∙◌, arith, append_assoc}
 use Rattle.std.specs.Option.{option_map, option_or}
 use Rattle.std.proofs.lemmas.List.{append-nil, length_push}
 use Rattle.std.proofs.lemmas.Option.{none-some}
 use Rattle.sl_stages.specs.returns.Election.{Election}
 use Rattle.sl_returns.specs.declared.fault.FaultKind.{FaultKind}
+use Rattle.sl_returns.specs.declared.fault.RecordFault.{RecordFault}
 use Rattle.sl_returns.specs.declared.fault.FaultKind.TheVariants as fault
-use Rattle.sl_returns.specs.Faults.{fault_at, row_behind}
+use Rattle.sl_returns.specs.Faults.{fault_at, of_record, row_behind, row_told}
 use Rattle.sl_returns.specs.declared.header.Version.{Version}
 use Rattle.sl_returns.specs.Cells.{Record}
 use Rattle.sl_returns.specs.Headers.{version_of}
@@ -15,7 +16,7 @@ use Rattle.sl_terms.specs.Tests.{first_failing}
 use Rattle.sl_returns.specs.Tests.{Pass, FailBy, record_tests}
 use Rattle.sl_returns.specs.inner.Joining.{with_record, TakesRecord, RefusesRecord}
 use Rattle.sl_returns.specs.Returns.{fault_behind, first_fault, refusal_under, refusal_of}
-use Rattle.sl_returns.specs.inner.Building.{Building, StandsFor, RefusesLast}
+use Rattle.sl_returns.specs.inner.Building.{Building, HasRowBehind, last_row, StandsFor, RefusesLast}
 use Rattle.sl_returns.proofs.Steps.{IsGood, no_records, grows}
 
 -- ---- the first of two options
@@ -64,7 +65,7 @@ pub sound : (h : Record) (rest : List Record) → refusal_of (h ∷ rest) ≡ No
 sound h rest accepted = go (version_of h) refl accepted
   where
     go : (o : Option Version) → version_of h ≡ o → refusal_under o rest ≡ None → Sound h rest
-    go None e n = absurd (none-some (fault_at (row_behind 0) fault.Header) (sym n))
+    go None e n = absurd (none-some (fault_at (row_behind 0) (of_record fault.Header)) (sym n))
     go (Some v) e n = record { version = v; header = e; none = n }
 
 refusal_push : (h : Record) (rest : List Record) (r : Record) (is : Sound h rest) → refusal_of ((h ∷ rest) ++ r ∷ []) ≡ fault_behind is.version rest r
@@ -121,7 +122,7 @@ taken b (h ∷ rest) r v e s t =
 
 -- ---- a record that is refused
 
-refused_next : (b : Building) (h : Record) (rest : List Record) (r : Record) (k : FaultKind) (is : Sound h rest) → StandsFor b (h ∷ rest) → RefusesRecord (Some is.version) b.election r k
+refused_next : (b : Building) (h : Record) (rest : List Record) (r : Record) (k : RecordFault) (is : Sound h rest) → StandsFor b (h ∷ rest) → RefusesRecord (Some is.version) b.election r k
     → RefusesLast ((h ∷ rest) ++ r ∷ []) (fault_at (row_after b.row) k)
 refused_next b h rest r k is s refuses =
     let row : row_after b.row ≡ row_behind (length rest + 1) = omega (arith, s.row) in
@@ -132,13 +133,36 @@ refused_next b h rest r k is s refuses =
       | inr wants ↦ inr (not_refused b h rest r is s wants.0, ap (fault_at (row_after b.row)) wants.1)
     ]
 
-refused_first : (b : Building) (r : Record) (k : FaultKind) → StandsFor b [] → RefusesRecord None b.election r k → RefusesLast (r ∷ []) (fault_at (row_after b.row) k)
+refused_first : (b : Building) (r : Record) (k : RecordFault) → StandsFor b [] → RefusesRecord None b.election r k → RefusesLast (r ∷ []) (fault_at (row_after b.row) k)
 refused_first b r k s (none, header) =
     let row : row_behind 0 ≡ row_after b.row = ap row_after (sym s.row) in
-    inl (ap (λ o. refusal_under o []) none ∙ rw header (ap (λ n. Some (fault_at n fault.Header)) row))
+    inl (ap (λ o. refusal_under o []) none ∙ rw header (ap (λ n. Some (fault_at n (of_record fault.Header))) row))
 
-pub refused : (b : Building) (rs : List Record) (r : Record) (k : FaultKind) → StandsFor b rs → RefusesRecord b.version b.election r k → RefusesLast (rs ++ r ∷ []) (fault_at (row_after b.row) k)
+pub refused : (b : Building) (rs : List Record) (r : Record) (k : RecordFault) → StandsFor b rs → RefusesRecord b.version b.election r k → RefusesLast (rs ++ r ∷ []) (fault_at (row_after b.row) k)
 refused b [] r k s refuses = refused_first b r k s (subst (λ o. RefusesRecord o b.election r k) s.version refuses)
 refused b (h ∷ rest) r k s refuses =
     let is = sound h rest s.accepted in
     refused_next b h rest r k is s (subst (λ o. RefusesRecord o b.election r k) (s.version ∙ is.header) refuses)
+
+-- ---- the row of a fault
+
+row_is : (row : ℕ) (k : FaultKind) → k ≢ fault.NoMemory → row_told row k ≡ row
+row_is row fault.Header h = refl
+row_is row fault.Fields h = refl
+row_is row fault.Kind h = refl
+row_is row fault.Name h = refl
+row_is row fault.Number h = refl
+row_is row fault.Range h = refl
+row_is row fault.Unknown h = refl
+row_is row fault.Twice h = refl
+row_is row fault.Counted h = refl
+row_is row fault.TooMany h = refl
+row_is row fault.NoLand h = refl
+row_is row fault.NoMemory h = absurd (h refl)
+
+next_row : (rs : List Record) (row : ℕ) → row ≡ last_row rs → row_after row ≡ row_behind (length rs)
+next_row [] row h = ap row_after h
+next_row (r ∷ rest) row h = omega (arith, h)
+
+pub has_row : (b : Building) (rs : List Record) (f : RecordFault) → StandsFor b rs → HasRowBehind (length rs) (fault_at (row_after b.row) f)
+has_row b rs f s h = row_is (row_after b.row) f.kind h ∙ next_row rs b.row s.row

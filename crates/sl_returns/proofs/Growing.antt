@@ -10,11 +10,11 @@ use Rattle.sl_ratio.proofs.NameLists.{with_name}
 use Rattle.sl_ratio.specs.declared.limits.TheConstants.{MAX_LANDS, MAX_PARTIES}
 use Rattle.sl_stages.specs.declared.returns.ListVotes.{ListVotes}
 use Rattle.sl_stages.specs.returns.Election.{Election, has_list}
-use Rattle.sl_returns.specs.declared.cells.TheConstants.{LAND, PARTY, A, B}
+use Rattle.sl_returns.specs.declared.schema.TheConstants.{LAND, PARTY, A, B}
 use Rattle.sl_returns.specs.Cells.{Record, cell, number_of, number_in, place_in}
 use Rattle.sl_returns.specs.Records.{column, is_minority, list_from, rows_from, win_of, lot_of}
 use Rattle.sl_returns.specs.inner.Joining.{with_house_of, with_land_of, with_party_of, with_list_of, with_win_of, with_lot_of}
-use Rattle.sl_returns.proofs.Places.{Known, KnownOrNone, Keeps, at_place, keeps_or_none, keeps_push, keeps_same}
+use Rattle.sl_returns.proofs.NamePlaces.{Known, KnownOrNone, Keeps, at_place, keeps_or_none, keeps_push, keeps_same}
 use Rattle.sl_returns.proofs.Rows.{NamesKnown, list_at_places, map_agree, rows_with_land, rows_with_party, rows_with_list}
 use Rattle.sl_returns.proofs.ToldVotes.{AreVotesTold, list_told}
 

@@ -1,9 +1,10 @@
 pub mod CellLemmas
 pub mod TestLemmas
+pub mod Blanks
 pub mod NameTests
 pub mod NearNames
 pub mod Joins
-pub mod Places
+pub mod NamePlaces
 pub mod Rows
 pub mod ToldVotes
 pub mod ToldLots
@@ -17,3 +18,6 @@ pub mod AllRecords
 pub mod Prefixes
 pub mod Reading
 pub mod ReadElections
+pub mod Scans
+pub mod Marks
+pub mod LocatedCells

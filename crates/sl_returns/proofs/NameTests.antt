@@ -11,7 +11,8 @@ use Rattle.sl_ratio.specs.Names.{is_name, is_name_byte, name_fault, spelling_fau
 use Rattle.sl_ratio.proofs.NameLists.{is_free}
 use Rattle.sl_returns.specs.declared.fault.FaultKind.TheVariants as fault
 use Rattle.sl_returns.specs.Cells.{is_blank, number_in, place_in, place_or_none}
-use Rattle.sl_returns.specs.Tests.{Pass, one_test, new_tests, known_tests, known_or_none_tests}
+use Rattle.sl_returns.specs.Faults.{of_cell}
+use Rattle.sl_returns.specs.Tests.{Pass, one_test, name_tests, new_tests, known_tests, known_or_none_tests}
 
 -- a well spelled name has no fault of spelling
 spelled : (name : List ℕ) → is_name name ≡ true → spelling_fault name ≡ None
@@ -44,38 +45,39 @@ pub record IsNew (name : List ℕ) (found : Option ℕ) : Type 0 where
   pub spelled : is_name name ≡ true
   pub new : found ≡ None
 
-pub is_new : (name : List ℕ) (found : Option ℕ) → Pass (new_tests name found) → IsNew name found
-unfolding new_tests one_test
-is_new name found h = go (is_name name) refl found h.none
+pub is_new : (column : ℕ) (name : List ℕ) (found : Option ℕ) → Pass (new_tests found column name) → IsNew name found
+unfolding new_tests name_tests one_test
+is_new column name found h = go (is_name name) refl found h.none
   where
-    go : (b : Bool) → is_name name ≡ b → (f : Option ℕ) → cond b (cond (is_none f) None (Some fault.Twice)) (Some fault.Name) ≡ None → IsNew name f
+    go : (b : Bool) → is_name name ≡ b → (f : Option ℕ) → cond b (cond (is_none f) None (Some (of_cell fault.Twice column))) (Some (of_cell fault.Name column)) ≡ None → IsNew name f
     go true e None h = record { spelled = e; new = refl }
-    go true e (Some n) h = absurd (none-some fault.Twice (sym h))
-    go false e f h = absurd (none-some fault.Name (sym h))
+    go true e (Some n) h = absurd (none-some (of_cell fault.Twice column) (sym h))
+    go false e f h = absurd (none-some (of_cell fault.Name column) (sym h))
 
 -- a new name may join a list of names that has room
-pub may_join : (names : List (List ℕ)) (limit : ℕ) (name : List ℕ) → Pass (new_tests name (number_in names name)) → length names < limit → name_fault (record { limit = limit; names = names }) name ≡ None
-may_join names limit name h free =
-    let is = is_new name (number_in names name) h in
+pub may_join : (column : ℕ) (names : List (List ℕ)) (limit : ℕ) (name : List ℕ) → Pass (new_tests (number_in names name) column name) → length names < limit
+    → name_fault (record { limit = limit; names = names }) name ≡ None
+may_join column names limit name h free =
+    let is = is_new _ name (number_in names name) h in
     is_free (record { limit = limit; names = names }) name (spelled name is.spelled) (not_found names name is.new) free
 
 -- a name that is to be known, and is, was found
-pub is_known : (name : List ℕ) (found : Option ℕ) → Pass (known_tests name found) → (n : ℕ) × (found ≡ Some n)
-unfolding known_tests one_test
-is_known name found h = go (is_name name) found h.none
+pub is_known : (column : ℕ) (name : List ℕ) (found : Option ℕ) → Pass (known_tests found column name) → (n : ℕ) × (found ≡ Some n)
+unfolding known_tests name_tests one_test
+is_known column name found h = go (is_name name) found h.none
   where
-    go : (b : Bool) (f : Option ℕ) → cond b (cond (is_some f) None (Some fault.Unknown)) (Some fault.Name) ≡ None → (n : ℕ) × (f ≡ Some n)
-    go true None h = absurd (none-some fault.Unknown (sym h))
+    go : (b : Bool) (f : Option ℕ) → cond b (cond (is_some f) None (Some (of_cell fault.Unknown column))) (Some (of_cell fault.Name column)) ≡ None → (n : ℕ) × (f ≡ Some n)
+    go true None h = absurd (none-some (of_cell fault.Unknown column) (sym h))
     go true (Some n) h = (n, refl)
-    go false f h = absurd (none-some fault.Name (sym h))
+    go false f h = absurd (none-some (of_cell fault.Name column) (sym h))
 
 -- a name that may be empty: nothing where it is, else its place
-pub found_or_none : (names : List (List ℕ)) (name : List ℕ) → Pass (known_or_none_tests name (number_in names name)) → (if is_blank name then None else number_in names name) ≡ place_or_none names name
+pub found_or_none : (column : ℕ) (names : List (List ℕ)) (name : List ℕ) → Pass (known_or_none_tests (number_in names name) column name) → (if is_blank name then None else number_in names name) ≡ place_or_none names name
 unfolding known_or_none_tests
-found_or_none names name h = go (is_blank name) h
+found_or_none column names name h = go (is_blank name) h
   where
-    go : (b : Bool) → Pass (if b then [] else known_tests name (number_in names name)) → (if b then None else number_in names name) ≡ (if b then None else Some (place_in names name))
+    go : (b : Bool) → Pass (if b then [] else known_tests (number_in names name) column name) → (if b then None else number_in names name) ≡ (if b then None else Some (place_in names name))
     go true h = refl
     go false h =
-        let (n, found) = is_known name (number_in names name) h in
+        let (n, found) = is_known _ name (number_in names name) h in
         found ∙ ap Some (found_place names name n found)

@@ -4,7 +4,7 @@ use Rattle.std.proofs.lemmas.Option.{slice_get_within, get_or_from_slice_get}
 use Rattle.sl_ratio.specs.Names.{NameList, IsNameList, is_name}
 use Rattle.sl_ratio.proofs.NameLists.{number_stands, number_lacks}
 use Rattle.sl_returns.specs.Cells.{number_in}
-use Rattle.sl_returns.specs.Tests.{Pass, one_test, known_tests, known_name_tests}
+use Rattle.sl_returns.specs.Tests.{Pass, one_test, name_tests, known_tests, known_name_tests}
 
 module _ (list : NameList) (is : IsNameList list) (name : List ℕ) (n : ℕ) (at : slice_get list.names n ≡ Some name) where
   pub number_there : number_in list.names name ≡ Some n
@@ -17,6 +17,6 @@ module _ (list : NameList) (is : IsNameList list) (name : List ℕ) (n : ℕ) (a
   spelled_there : is_name name ≡ true
   spelled_there = subst (λ (x : List ℕ). IsTrue (is_name x)) (get_or_from_slice_get list.names n name name at) (is.spelled n name (slice_get_within list.names n name at))
 
-  pub known_there : Pass (known_name_tests list.names name)
-  unfolding known_tests one_test
-  known_there = let spelled = spelled_there in let found = number_there in record { none = rw (spelled, found) refl }
+  pub known_there : (column : ℕ) → Pass (known_name_tests list.names column name)
+  unfolding known_tests name_tests one_test
+  known_there column = let spelled = spelled_there in let found = number_there in record { none = rw (spelled, found) refl }

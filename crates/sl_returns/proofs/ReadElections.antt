@@ -1,7 +1,7 @@
 -- Records that make an election make one that keeps what every election keeps.
-use Rattle.std.proofs.Common.{◌≡◌, ℕ, ◌+◌, ◌<◌, ◌≤◌, ◌&&◌, Bool, true, false, not, List, [], ◌∷◌, ◌++◌, length, Option, Some, None, Ok, IsTrue, is_ok, is_none, nat_eq, nat_le, nat_lt, if◌then◌else◌, refl, sym, ap, subst, append_assoc, arith}
+use Rattle.std.proofs.Common.{◌≡◌, ℕ, ◌+◌, ◌<◌, ◌≤◌, ◌&&◌, Bool, true, false, not, List, [], ◌∷◌, ◌++◌, length, Option, Some, None, Ok, IsTrue, is_ok, nat_eq, nat_le, nat_lt, if◌then◌else◌, refl, sym, ap, subst, append_assoc, arith}
 use Rattle.std.specs.Option.{ForSome, option_map, option_or}
-use Rattle.std.proofs.lemmas.Bool.{and_parts, not-true, leb-true, le-ltb, ltb-true, false≢true}
+use Rattle.std.proofs.lemmas.Bool.{and_parts, not-true, leb-true, le-ltb, false≢true}
 use Rattle.std.proofs.lemmas.List.{append-nil}
 use Rattle.std.proofs.lemmas.List.Elements.{All-nil}
 use Rattle.std.proofs.lemmas.Option.{none-some, same_Some}
@@ -9,48 +9,48 @@ use Rattle.std.specs.List.{list_all}
 use Rattle.sl_ratio.specs.declared.names.TheConstants.{MAX_NAME_BYTES}
 use Rattle.sl_ratio.specs.Names.{IsNameList, is_name, is_name_byte, spelling_fault}
 use Rattle.sl_ratio.specs.declared.limits.TheConstants.{MAX_SEATS, MAX_LANDS, MAX_PARTIES, MAX_VOTES}
-use Rattle.sl_stages.specs.declared.limits.TheConstants.{MAX_WINS, MAX_LOTS, MAX_SLATE}
+use Rattle.sl_stages.specs.declared.limits.TheConstants.{MAX_WINS, MAX_SLATE}
 use Rattle.sl_terms.specs.Tests.{first_failing}
-use Rattle.sl_stages.specs.returns.Election.{Election, IsElection, has_list, wins_of}
+use Rattle.sl_stages.specs.returns.Election.{Election, IsElection}
 use Rattle.sl_stages.proofs.Elections.{is_with_house, is_with_land, is_with_party, is_with_list, is_with_win, is_with_lot}
-use Rattle.sl_returns.specs.declared.cells.TheConstants.{COLUMNS, KIND, LAND, PARTY, A, B, C}
+use Rattle.sl_returns.specs.declared.schema.TheConstants.{KIND, LAND, PARTY, A, B, C}
 use Rattle.sl_returns.specs.declared.fault.FaultKind.TheVariants as fault
 use Rattle.sl_returns.specs.declared.fault.ReturnsFault.{ReturnsFault}
 use Rattle.sl_returns.specs.declared.header.Version.{Version}
-use Rattle.sl_returns.specs.declared.kind.Kind.{Kind}
-use Rattle.sl_returns.specs.declared.kind.Kind.TheVariants as kind
+use Rattle.sl_returns.specs.declared.schema.Kind.{Kind}
+use Rattle.sl_returns.specs.declared.schema.Kind.TheVariants as kind
 use Rattle.sl_returns.specs.Cells.{Record, cell, is_blank, is_number, number_of, number_or_none, place_in, place_or_none}
-use Rattle.sl_returns.specs.Faults.{fault_at, row_behind}
+use Rattle.sl_returns.specs.Faults.{fault_at, of_cell, row_behind}
 use Rattle.sl_returns.specs.inner.Joining.{with_kind, with_record}
-use Rattle.sl_returns.specs.Kinds.{kind_named}
-use Rattle.sl_returns.specs.Records.{election_of_records, votes_of, lot_of}
+use Rattle.sl_returns.specs.Schema.{kind_named}
+use Rattle.sl_returns.specs.Records.{election_of_records, votes_of}
 use Rattle.sl_returns.specs.Returns.{fault_behind, first_fault, refusal_of, lack_of, behind_header, returns_of, unless}
-use Rattle.sl_returns.specs.Tests.{Pass, one_test, are_blank, new_name_tests, known_name_tests, name_or_none_tests, number_tests, number_or_none_tests, fills_list, fills_lot, has_lot, house_tests, land_tests, party_tests, list_tests, win_tests, lot_cell_tests, lot_tests, kind_tests, record_tests}
+use Rattle.sl_returns.specs.Tests.{Pass, one_test, number_tests, number_or_none_tests, sized_test, house_tests, land_tests, party_tests, list_tests, win_tests, lot_tests, kind_tests, record_tests}
 use Rattle.sl_returns.proofs.Accepted.{makes}
 use Rattle.sl_returns.proofs.Feeding.{sound}
 use Rattle.sl_returns.proofs.NameTests.{may_join}
-use Rattle.sl_returns.proofs.PassedTests.{passed_land, passed_party, passed_list, passed_win, passed_lot}
-use Rattle.sl_returns.proofs.Places.{KnownOrNone}
+use Rattle.sl_returns.proofs.PassedTests.{passed_house, passed_land, passed_party, passed_list, passed_win, passed_lot}
+use Rattle.sl_returns.proofs.NamePlaces.{KnownOrNone}
 use Rattle.sl_returns.proofs.Steps.{IsGood, no_records, grows}
 use Rattle.sl_returns.proofs.TestLemmas.{parts, holds}
 
 -- ---- numbers and names
 
 -- a number that passes its tests is in its range
-in_range : (c : List ℕ) (least greatest : ℕ) → Pass (number_tests c least greatest) → (least ≤ number_of c) × (number_of c ≤ greatest)
+in_range : (column : ℕ) (c : List ℕ) (low high : ℕ) → Pass (number_tests low high column c) → (low ≤ number_of c) × (number_of c ≤ high)
 unfolding number_tests
-in_range c least greatest h =
-    let both = and_parts (nat_le least (number_of c)) (nat_le (number_of c) greatest)
-    (holds _ _ (parts (one_test (is_number c) fault.Number) (one_test (nat_le least (number_of c) && nat_le (number_of c) greatest) fault.Range) h).1) in
-    (leb-true least (number_of c) both.0, leb-true (number_of c) greatest both.1)
+in_range column c low high h =
+    let both = and_parts (nat_le low (number_of c)) (nat_le (number_of c) high)
+    (holds _ _ (parts (one_test (is_number c) (of_cell fault.Number column)) (one_test (nat_le low (number_of c) && nat_le (number_of c) high) (of_cell fault.Range column)) h).1) in
+    (leb-true low (number_of c) both.0, leb-true (number_of c) high both.1)
 
-in_range_or_none : (c : List ℕ) (least greatest : ℕ) → Pass (number_or_none_tests c least greatest) → ForSome (number_or_none c) (λ n. n ≤ greatest)
+in_range_or_none : (column : ℕ) (c : List ℕ) (low high : ℕ) → Pass (number_or_none_tests low high column c) → ForSome (number_or_none c) (λ n. n ≤ high)
 unfolding number_or_none_tests
-in_range_or_none c least greatest h = go (is_blank c) h
+in_range_or_none column c low high h = go (is_blank c) h
   where
-    go : (b : Bool) → Pass (if b then [] else number_tests c least greatest) → ForSome (if b then None else Some (number_of c)) (λ n. n ≤ greatest)
+    go : (b : Bool) → Pass (if b then [] else number_tests low high column c) → ForSome (if b then None else Some (number_of c)) (λ n. n ≤ high)
     go true h n e = absurd (none-some n e)
-    go false h n e = subst (λ m. m ≤ greatest) (same_Some (number_of c) n e) (in_range c least greatest h).1
+    go false h n e = subst (λ m. m ≤ high) (same_Some (number_of c) n e) (in_range _ c low high h).1
 
 -- the place of a name that is known, or empty
 place_below : (names : List (List ℕ)) (name : List ℕ) → KnownOrNone names name → ForSome (place_or_none names name) (λ n. n < length names)
@@ -74,96 +74,50 @@ well_spelled name h =
 module _ (e : Election) (is : IsElection e) (r : Record) where
   joins_house : Pass (house_tests e r) → IsElection (with_kind (Some kind.House) e r)
   joins_house h =
-      let last = one_test (is_none e.house) fault.Twice in
-      let numbers = number_tests (cell r A) 1 MAX_SEATS in
-      let (blank, rest) = parts (one_test (are_blank r (LAND ∷ PARTY ∷ B ∷ C ∷ [])) fault.Fields) (numbers ++ last) h in
-      let range = in_range (cell r A) 1 MAX_SEATS (parts numbers last rest).0 in
+      let range = in_range _ (cell r A) 1 MAX_SEATS (passed_house e r h).seats in
       is_with_house e (number_of (cell r A)) is range.0 range.1
 
   joins_land : Pass (land_tests e r) → IsElection (with_kind (Some kind.Land) e r)
   joins_land h =
       let passed = passed_land e r h in
-      let last = one_test (nat_lt (length e.land_names) MAX_LANDS) fault.TooMany in
-      let numbers = number_tests (cell r A) 0 MAX_VOTES in
-      let names = new_name_tests e.land_names (cell r LAND) in
-      let (blank, h1) = parts (one_test (are_blank r (PARTY ∷ B ∷ C ∷ [])) fault.Fields) (names ++ (numbers ++ last)) h in
-      let (name, h2) = parts names (numbers ++ last) h1 in
-      let range = in_range (cell r A) 0 MAX_VOTES (parts numbers last h2).0 in
-      is_with_land e (cell r LAND) (number_of (cell r A)) is (may_join e.land_names MAX_LANDS (cell r LAND) passed.name passed.free) range.1
+      let range = in_range _ (cell r A) 0 MAX_VOTES passed.people in
+      is_with_land e (cell r LAND) (number_of (cell r A)) is (may_join _ e.land_names MAX_LANDS (cell r LAND) passed.name passed.free) range.1
 
   joins_party : Pass (party_tests e r) → IsElection (with_kind (Some kind.Party) e r)
   joins_party h =
       let passed = passed_party e r h in
-      is_with_party e (cell r PARTY) _ is (may_join e.party_names MAX_PARTIES (cell r PARTY) passed.name passed.free)
+      is_with_party e (cell r PARTY) _ is (may_join _ e.party_names MAX_PARTIES (cell r PARTY) passed.name passed.free)
 
   joins_list : (v : Version) → Pass (list_tests v e r) → IsElection (with_kind (Some kind.List) e r)
   joins_list v h =
       let passed = passed_list e r v h in
-      let last = one_test (not (has_list e (place_in e.land_names (cell r LAND)) (place_in e.party_names (cell r PARTY)))) fault.Twice in
-      let within = one_test (nat_le (number_of (cell r B)) (number_of (cell r A))) fault.Counted in
-      let slate = number_or_none_tests (cell r C) 0 MAX_SLATE in
-      let counted = number_tests (cell r B) 0 MAX_VOTES in
-      let valid = number_tests (cell r A) 0 MAX_VOTES in
-      let party = known_name_tests e.party_names (cell r PARTY) in
-      let land = known_name_tests e.land_names (cell r LAND) in
-      let h1 = (parts (one_test (fills_list v r) fault.Fields) (land ++ (party ++ (valid ++ (counted ++ (slate ++ (within ++ last)))))) h).1 in
-      let h2 = (parts land (party ++ (valid ++ (counted ++ (slate ++ (within ++ last))))) h1).1 in
-      let h3 = (parts party (valid ++ (counted ++ (slate ++ (within ++ last)))) h2).1 in
-      let (of_valid, h4) = parts valid (counted ++ (slate ++ (within ++ last))) h3 in
-      let h5 = (parts counted (slate ++ (within ++ last)) h4).1 in
-      let (of_slate, h6) = parts slate (within ++ last) h5 in
-      let of_within = (parts within last h6).0 in
       is_with_list e _ _ (votes_of r) is passed.named.land passed.named.party (record {
-        counted = leb-true (number_of (cell r B)) (number_of (cell r A)) (holds _ _ of_within);
-        valid = (in_range (cell r A) 0 MAX_VOTES of_valid).1;
-        slate = in_range_or_none (cell r C) 0 MAX_SLATE of_slate;
+        counted = leb-true (number_of (cell r B)) (number_of (cell r A)) passed.within;
+        valid = (in_range _ (cell r A) 0 MAX_VOTES passed.valid).1;
+        slate = in_range_or_none _ (cell r C) 0 MAX_SLATE passed.slate;
       })
 
   joins_win : Pass (win_tests e r) → IsElection (with_kind (Some kind.Win) e r)
   joins_win h =
       let passed = passed_win e r h in
-      let last = one_test (nat_lt (wins_of e) MAX_WINS) fault.TooMany in
-      let within = one_test (nat_le (number_of (cell r B)) (number_of (cell r C))) fault.Range in
-      let valid = number_tests (cell r C) 0 MAX_VOTES in
-      let first = number_tests (cell r B) 1 MAX_VOTES in
-      let name = new_name_tests e.win_names (cell r A) in
-      let party = name_or_none_tests e.party_names (cell r PARTY) in
-      let land = known_name_tests e.land_names (cell r LAND) in
-      let h1 = (parts land (party ++ (name ++ (first ++ (valid ++ (within ++ last))))) h).1 in
-      let h2 = (parts party (name ++ (first ++ (valid ++ (within ++ last)))) h1).1 in
-      let (of_name, h3) = parts name (first ++ (valid ++ (within ++ last))) h2 in
-      let (of_first, h4) = parts first (valid ++ (within ++ last)) h3 in
-      let (of_valid, h5) = parts valid (within ++ last) h4 in
-      let (of_within, of_last) = parts within last h5 in
-      let few : wins_of e < MAX_WINS = ltb-true (wins_of e) MAX_WINS (holds _ _ of_last) in
+      let few = passed.free in
       let free : length e.win_names < MAX_WINS = omega (arith, is.wins, few) in
-      is_with_win e (cell r A) _ is (may_join e.win_names MAX_WINS (cell r A) of_name free) (record {
-        land = passed.land;
-        party = place_below e.party_names (cell r PARTY) passed.party;
-        least = (in_range (cell r B) 1 MAX_VOTES of_first).0;
-        most = leb-true (number_of (cell r B)) (number_of (cell r C)) (holds _ _ of_within);
-        valid = (in_range (cell r C) 0 MAX_VOTES of_valid).1;
+      is_with_win e (cell r A) _ is (may_join _ e.win_names MAX_WINS (cell r A) passed.name free) (record {
+        land = passed.backed.land;
+        party = place_below e.party_names (cell r PARTY) passed.backed.party;
+        least = (in_range _ (cell r B) 1 MAX_VOTES passed.first).0;
+        most = leb-true (number_of (cell r B)) (number_of (cell r C)) passed.within;
+        valid = (in_range _ (cell r C) 0 MAX_VOTES passed.valid).1;
       })
 
   joins_lot : Pass (lot_tests e r) → IsElection (with_kind (Some kind.Lot) e r)
   joins_lot h =
       let passed = passed_lot e r h in
-      let new = one_test (not (has_lot e.lots (lot_of e.land_names e.party_names e.win_names r))) fault.Twice in
-      let room = one_test (nat_lt (length e.lots) MAX_LOTS) fault.TooMany in
-      let win = name_or_none_tests e.win_names (cell r B) in
-      let stage = one_test (is_name (cell r A)) fault.Name in
-      let party = name_or_none_tests e.party_names (cell r PARTY) in
-      let land = name_or_none_tests e.land_names (cell r LAND) in
-      let (cells, rest) = parts (lot_cell_tests e r) (new ++ room) h in
-      let h1 = (parts (one_test (fills_lot r) fault.Fields) (land ++ (party ++ (stage ++ win))) cells).1 in
-      let h2 = (parts land (party ++ (stage ++ win)) h1).1 in
-      let h3 = (parts party (stage ++ win) h2).1 in
-      let named = holds _ _ (parts stage win h3).0 in
-      is_with_lot e _ is (ltb-true (length e.lots) MAX_LOTS (holds _ _ (parts new room rest).1)) (record {
-        stage = well_spelled (cell r A) named;
-        land = place_below e.land_names (cell r LAND) passed.land;
-        party = place_below e.party_names (cell r PARTY) passed.party;
-        win = place_below e.win_names (cell r B) passed.win;
+      is_with_lot e _ is passed.free (record {
+        stage = well_spelled (cell r A) passed.stage;
+        land = place_below e.land_names (cell r LAND) passed.drawn.land;
+        party = place_below e.party_names (cell r PARTY) passed.drawn.party;
+        win = place_below e.win_names (cell r B) passed.drawn.win;
       })
 
   joins_kind : (v : Version) (k : Kind) → Pass (kind_tests v (Some k) e r) → IsElection (with_kind (Some k) e r)
@@ -175,10 +129,10 @@ module _ (e : Election) (is : IsElection e) (r : Record) where
   joins_kind v kind.Lot h = joins_lot h
 
   joins_record : (v : Version) → Pass (record_tests v e r) → IsElection (with_record e r)
-  joins_record v h = by (kind_named (cell r KIND)) refl (parts (one_test (nat_eq (length r) COLUMNS) fault.Fields) (kind_tests v (kind_named (cell r KIND)) e r) h).1
+  joins_record v h = by (kind_named (cell r KIND)) refl (parts (sized_test r) (kind_tests v (kind_named (cell r KIND)) e r) h).1
     where
       by : (k : Option Kind) → kind_named (cell r KIND) ≡ k → Pass (kind_tests v k e r) → IsElection (with_record e r)
-      by None named h = absurd (false≢true (holds false fault.Kind h))
+      by None named h = absurd (false≢true (holds false (of_cell fault.Kind KIND) h))
       by (Some k) named h = subst (λ (x : Option Kind). IsElection (with_kind x e r)) (sym named) (joins_kind v k h)
 
 -- ---- all records

@@ -11,10 +11,10 @@ use Rattle.std.proofs.lemmas.List.Folds.{find-append}
 use Rattle.std.proofs.lemmas.Slice.Eq.{bytes_eq-Decides}
 use Rattle.sl_ratio.specs.Names.{IsNameList}
 use Rattle.sl_ratio.specs.declared.limits.TheConstants.{MAX_LANDS, MAX_PARTIES}
-use Rattle.sl_returns.specs.declared.cells.TheConstants.{LAND, PARTY}
+use Rattle.sl_returns.specs.declared.schema.TheConstants.{LAND, PARTY}
 use Rattle.sl_returns.specs.Cells.{Record, cell, number_in, place_in}
 use Rattle.sl_returns.specs.Records.{votes_of, names_both, list_from, row_from, rows_from}
-use Rattle.sl_returns.proofs.Places.{Known, new_differs, at_place, elsewhere}
+use Rattle.sl_returns.proofs.NamePlaces.{Known, new_differs, at_place, elsewhere}
 
 -- ---- maps
 

@@ -6,11 +6,11 @@ use Rattle.std.proofs.lemmas.List.{append-nil}
 use Rattle.std.proofs.lemmas.List.Elements.{filter-append}
 use Rattle.std.proofs.lemmas.Option.{none-some, same_Some}
 use Rattle.std.proofs.lemmas.Slice.Eq.{bytes_eq-Decides}
-use Rattle.sl_returns.specs.declared.cells.TheConstants.{KIND}
-use Rattle.sl_returns.specs.declared.kind.Kind.{Kind}
-use Rattle.sl_returns.specs.declared.kind.Kind.TheVariants as kind
+use Rattle.sl_returns.specs.declared.schema.TheConstants.{KIND}
+use Rattle.sl_returns.specs.declared.schema.Kind.{Kind}
+use Rattle.sl_returns.specs.declared.schema.Kind.TheVariants as kind
 use Rattle.sl_returns.specs.Cells.{Record, cell}
-use Rattle.sl_returns.specs.Kinds.{word_of, kind_named, kinds}
+use Rattle.sl_returns.specs.Schema.{word_of, kind_named, kinds}
 use Rattle.sl_returns.specs.Records.{of_kind}
 use Rattle.sl_returns.proofs.Growing.{Sorted}
 

@@ -1,20 +1,21 @@
 -- A record that passes its tests, behind good records.
-use Rattle.std.proofs.Common.{◌≡◌, ◌++◌, ℕ, List, [], ◌∷◌, length, Option, Some, None, nat_eq, IsTrue, false, refl, sym, ap, subst, ◌∙◌, arith}
+use Rattle.std.proofs.Common.{◌≡◌, ◌++◌, ℕ, List, [], ◌∷◌, Option, Some, None, IsTrue, false, refl, sym, ap, subst, ◌∙◌, arith}
 use Rattle.std.proofs.lemmas.Bool.{false≢true}
 use Rattle.std.proofs.lemmas.List.Elements.{All-nil}
 use Rattle.std.proofs.lemmas.Option.{none-some}
 use Rattle.sl_ratio.specs.Names.{IsNameList, is_name}
 use Rattle.sl_ratio.specs.declared.limits.TheConstants.{MAX_LANDS, MAX_PARTIES}
 use Rattle.sl_stages.specs.returns.Election.{Election}
-use Rattle.sl_returns.specs.declared.cells.TheConstants.{COLUMNS, KIND, LAND, PARTY}
+use Rattle.sl_returns.specs.declared.schema.TheConstants.{KIND, LAND, PARTY}
 use Rattle.sl_returns.specs.declared.header.Version.{Version}
-use Rattle.sl_returns.specs.declared.kind.Kind.{Kind}
-use Rattle.sl_returns.specs.declared.kind.Kind.TheVariants as kind
+use Rattle.sl_returns.specs.declared.schema.Kind.{Kind}
+use Rattle.sl_returns.specs.declared.schema.Kind.TheVariants as kind
 use Rattle.sl_returns.specs.declared.fault.FaultKind.TheVariants as fault
 use Rattle.sl_returns.specs.Cells.{Record, cell, number_in}
-use Rattle.sl_returns.specs.Kinds.{kind_named}
+use Rattle.sl_returns.specs.Faults.{of_cell}
+use Rattle.sl_returns.specs.Schema.{kind_named}
 use Rattle.sl_returns.specs.Records.{election_of_records}
-use Rattle.sl_returns.specs.Tests.{Pass, one_test, kind_tests, record_tests}
+use Rattle.sl_returns.specs.Tests.{Pass, sized_test, kind_tests, record_tests}
 use Rattle.sl_returns.specs.inner.Joining.{with_record}
 use Rattle.sl_returns.specs.inner.Joining as joining
 use Rattle.sl_returns.proofs.TestLemmas.{parts, holds}
@@ -63,25 +64,25 @@ module _ (s : Sorted) (r : Record) (good : AreGood s) where
   e = election_from s
 
   sorted_grows : (v : Version) (k : Kind) → Pass (kind_tests v (Some k) e r) → GrowsSorted k s r
-  sorted_grows v kind.House h = record { good = good; election = election_with_house s good r (passed_house e r h) }
+  sorted_grows v kind.House h = record { good = good; election = election_with_house s good r (passed_house e r h).new }
   sorted_grows v kind.Land h =
       let passed = passed_land e r h in
-      let new = (is_new (cell r LAND) (number_in e.land_names (cell r LAND)) passed.name).new in
-      let may = may_join e.land_names MAX_LANDS (cell r LAND) passed.name passed.free in
+      let new = (is_new _ (cell r LAND) (number_in e.land_names (cell r LAND)) passed.name).new in
+      let may = may_join _ e.land_names MAX_LANDS (cell r LAND) passed.name passed.free in
       record { good = good_with_land s good r new may; election = election_with_land s good r new may }
   sorted_grows v kind.Party h =
       let passed = passed_party e r h in
-      let new = (is_new (cell r PARTY) (number_in e.party_names (cell r PARTY)) passed.name).new in
-      let may = may_join e.party_names MAX_PARTIES (cell r PARTY) passed.name passed.free in
+      let new = (is_new _ (cell r PARTY) (number_in e.party_names (cell r PARTY)) passed.name).new in
+      let may = may_join _ e.party_names MAX_PARTIES (cell r PARTY) passed.name passed.free in
       record { good = good_with_party s good r new passed.free may; election = election_with_party s good r new passed.free may }
   sorted_grows v kind.List h =
       let passed = passed_list e r v h in
       record { good = good_with_list s good r passed.named passed.new; election = election_with_list s good r passed.named passed.new }
   sorted_grows v kind.Win h =
-      let backed = passed_win e r h in
+      let backed = (passed_win e r h).backed in
       record { good = good_with_win s good r backed; election = election_with_win s good r backed }
   sorted_grows v kind.Lot h =
-      let drawn = passed_lot e r h in
+      let drawn = (passed_lot e r h).drawn in
       record { good = good_with_lot s good r drawn; election = election_with_lot s good r drawn }
 
 module _ (rs : List Record) (r : Record) (good : IsGood rs) (v : Version) where
@@ -100,9 +101,9 @@ module _ (rs : List Record) (r : Record) (good : IsGood rs) (v : Version) where
   -- a record that passes its tests joins good ones
   pub grows : Pass (record_tests v before r) → Grows rs r
   grows h =
-      let (sized, rest) = parts (one_test (nat_eq (length r) COLUMNS) fault.Fields) (kind_tests v (kind_named (cell r KIND)) before r) h in
+      let (sized, rest) = parts (sized_test r) (kind_tests v (kind_named (cell r KIND)) before r) h in
       by (kind_named (cell r KIND)) refl rest
     where
       by : (k : Option Kind) → kind_named (cell r KIND) ≡ k → Pass (kind_tests v k before r) → Grows rs r
-      by None named h = absurd (false≢true (holds false fault.Kind h))
+      by None named h = absurd (false≢true (holds false (of_cell fault.Kind KIND) h))
       by (Some k) named h = kind_grows k named h

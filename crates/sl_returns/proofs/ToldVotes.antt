@@ -10,10 +10,10 @@ use Rattle.std.proofs.lemmas.Slice.Eq.{bytes_eq-Decides}
 use Rattle.sl_ratio.specs.Names.{IsNameList}
 use Rattle.sl_ratio.specs.declared.limits.TheConstants.{MAX_LANDS, MAX_PARTIES}
 use Rattle.sl_stages.specs.returns.Votes.{valid_in}
-use Rattle.sl_returns.specs.declared.cells.TheConstants.{LAND, PARTY, A}
+use Rattle.sl_returns.specs.declared.schema.TheConstants.{LAND, PARTY, A}
 use Rattle.sl_returns.specs.Cells.{Record, cell, number_of, place_in}
 use Rattle.sl_returns.specs.Records.{list_from, rows_from, of_party}
-use Rattle.sl_returns.proofs.Places.{at_place, elsewhere}
+use Rattle.sl_returns.proofs.NamePlaces.{at_place, elsewhere}
 use Rattle.sl_returns.proofs.Rows.{NamesKnown, map_agree, map_at, told_other, told_here, list_at_places}
 
 -- ---- sums

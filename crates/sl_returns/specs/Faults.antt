@@ -1,7 +1,8 @@
 -- The faults of returns (docs/returns.md, section 5).
-use Rattle.std.specs.Prelude.{◌^◌, ◌+◌, ◌-◌, ℕ, min}
+use Rattle.std.specs.Prelude.{◌^◌, ◌+◌, ◌-◌, ℕ, None, Some, min}
 use Rattle.sl_returns.specs.declared.fault.FaultKind.{FaultKind}
 use Rattle.sl_returns.specs.declared.fault.FaultKind.TheVariants.{Header, Fields, Kind, Name, Number, Range, Unknown, Twice, Counted, TooMany, NoLand, NoMemory}
+use Rattle.sl_returns.specs.declared.fault.RecordFault.{RecordFault}
 use Rattle.sl_returns.specs.declared.fault.ReturnsFault.{ReturnsFault}
 
 -- the number of a fault
@@ -34,13 +35,21 @@ row_told row TooMany = row
 row_told row NoLand = row
 row_told row NoMemory = 0
 
--- what is wrong with the record of a row
-abbrev pub fault_at : ℕ → FaultKind → ReturnsFault
-fault_at row kind = record { row = row_told row kind; kind = kind }
+-- a fault of the cell of a column
+abbrev pub of_cell : FaultKind → ℕ → RecordFault
+of_cell k column = record { kind = k; column = Some column }
 
--- the answer where memory is wanting
+-- a fault of a record as a whole
+abbrev pub of_record : FaultKind → RecordFault
+of_record k = record { kind = k; column = None }
+
+-- what is wrong with the record of a row
+abbrev pub fault_at : ℕ → RecordFault → ReturnsFault
+fault_at row f = record { row = row_told row f.kind; column = f.column; kind = f.kind }
+
+-- the answer when out of memory
 abbrev pub no_memory : ReturnsFault
-no_memory = record { row = 0; kind = NoMemory }
+no_memory = record { row = 0; column = None; kind = NoMemory }
 
 -- the row of the record behind so many others. A row has 32 bits: one that is past them is told as the greatest
 abbrev pub row_behind : ℕ → ℕ

@@ -1,14 +1,15 @@
 -- The first record, by the version of the returns (docs/returns.md, section 1).
-use Rattle.std.specs.Prelude.{ℕ, Bool, List, [], ◌∷◌, Option, codes, find}
+use Rattle.std.specs.Prelude.{ℕ, Bool, List, [], ◌∷◌, Option, codes, drop, find}
 use Rattle.std.specs.Cmp.Lexicographic.{pointwise}
 use Rattle.std.specs.Str.{bytes_eq}
 use Rattle.sl_returns.specs.declared.header.Version.{Version}
 use Rattle.sl_returns.specs.declared.header.Version.TheVariants as version
 use Rattle.sl_returns.specs.Cells.{Record}
+use Rattle.sl_returns.specs.Schema.{column_names}
 
--- the header that begins with a word
+-- the header that begins with a word: the names of the columns behind it
 abbrev pub header : List ℕ → Record
-header word = word ∷ codes "land" ∷ codes "party" ∷ codes "a" ∷ codes "b" ∷ codes "c" ∷ []
+header word = word ∷ drop 1 column_names
 
 abbrev pub is_header : List ℕ → Record → Bool
 is_header word r = pointwise bytes_eq r (header word)

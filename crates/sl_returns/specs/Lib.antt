@@ -1,9 +1,10 @@
 pub mod Faults
-pub mod Kinds
+pub mod Schema
 pub mod Cells
 pub mod Headers
 pub mod Tests
 pub mod Records
 pub mod Returns
+pub mod Places
 pub mod Laws
 pub mod inner

@@ -6,11 +6,11 @@ use Rattle.sl_stages.specs.declared.returns.ListVotes.{ListVotes}
 use Rattle.sl_stages.specs.declared.returns.Win.{Win}
 use Rattle.sl_stages.specs.declared.returns.Lot.{Lot}
 use Rattle.sl_stages.specs.returns.Election.{Election}
-use Rattle.sl_returns.specs.declared.cells.TheConstants.{KIND, LAND, PARTY, A, B, C}
-use Rattle.sl_returns.specs.declared.kind.Kind.{Kind}
-use Rattle.sl_returns.specs.declared.kind.Kind.TheVariants as kind
+use Rattle.sl_returns.specs.declared.schema.TheConstants.{KIND, LAND, PARTY, A, B, C}
+use Rattle.sl_returns.specs.declared.schema.Kind.{Kind}
+use Rattle.sl_returns.specs.declared.schema.Kind.TheVariants as kind
 use Rattle.sl_returns.specs.Cells.{Record, cell, number_of, number_or_none, place_in, place_or_none}
-use Rattle.sl_returns.specs.Kinds.{word_of}
+use Rattle.sl_returns.specs.Schema.{word_of}
 
 -- the records of a kind, in their order
 abbrev pub of_kind : Kind → List Record → List Record

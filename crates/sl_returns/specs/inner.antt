@@ -4,3 +4,5 @@ pub mod Building
 pub mod Indexed
 pub mod Joining
 pub mod Lots
+pub mod Scanning
+pub mod Texts

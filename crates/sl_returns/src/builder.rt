@@ -1,12 +1,12 @@
 //! Returns, built record by record.
 
-ghost use Rattle.std.specs.Prelude.{◌≡◌, ◌++◌, ◌∷◌, [], List, None, Some, OnOk, IfOk, IfErr, IfSome, Ok, Err};
+ghost use Rattle.std.specs.Prelude.{◌≡◌, ◌++◌, ◌∷◌, [], List, None, Some, OnOk, IfOk, IfErr, IfSome, Ok, Err, length};
 ghost use Rattle.csv.specs.Records.{fields_of};
 ghost use Rattle.sl_returns.specs.Cells.{Record};
 ghost use Rattle.sl_returns.specs.inner.Indexed.{index_of};
 ghost use Rattle.sl_returns.specs.inner.Joining.{TakesRecord, RefusesRecord};
 
-use crate::fault::{FaultKind, ReturnsFault};
+use crate::fault::{FaultKind, RecordFault, ReturnsFault};
 use crate::header::Version;
 use crate::index::Index;
 use crate::join::join;
@@ -45,7 +45,7 @@ impl Model for ReturnsBuilder {
 }
 
 impl ReturnsBuilder {
-    ghost use Rattle.sl_returns.specs.inner.Building.{Building, StandsFor, RefusesLast};
+    ghost use Rattle.sl_returns.specs.inner.Building.{Building, HasRowBehind, StandsFor, RefusesLast};
     ghost use Rattle.sl_returns.specs.Returns.{returns_of};
 
     /// A builder that has taken no record. Takes no memory.
@@ -71,6 +71,7 @@ impl ReturnsBuilder {
     pub fn feed(&mut self, fields: &ByteRecord) -> Result<(), ReturnsFault>
         ensures taken { (rs : List Record) → StandsFor self.old rs → OnOk result (StandsFor self.new (rs ++ fields_of fields.now ∷ [])) }
         ensures refused { (rs : List Record) → StandsFor self.old rs → IfErr result (RefusesLast (rs ++ fields_of fields.now ∷ [])) }
+        ensures row { (rs : List Record) → StandsFor self.old rs → IfErr result (HasRowBehind (length rs)) }
 
         // after a refusal it has failed, and a builder that has failed refuses with the same fault
         ensures fails { IfErr result (λ f. self.new.fault ≡ Some f) }
@@ -92,8 +93,8 @@ impl ReturnsBuilder {
                 self.row = row;
                 Ok(())
             }
-            Err(kind) => {
-                let fault = ReturnsFault::at(row, kind);
+            Err(why) => {
+                let fault = ReturnsFault::at(row, why);
                 self.fault = Some(fault);
                 Err(fault)
             }
@@ -113,8 +114,15 @@ impl ReturnsBuilder {
         checked.and(Ok(self.returns))
     }
 
+    // The returns of the records that were taken.
+    pub(crate) fn into_returns(self) -> Returns
+        ensures { result ≡ self.election }
+    {
+        self.returns
+    }
+
     // Whether the records give returns, or the fault with which the builder has failed; or that there is no header, or no Land.
-    fn check(&self) -> Result<(), ReturnsFault>
+    pub(crate) fn check(&self) -> Result<(), ReturnsFault>
         ensures finished { (rs : List Record) → StandsFor self.now rs → OnOk result (returns_of rs ≡ Ok self.now.election) }
         ensures refused { (rs : List Record) → StandsFor self.now rs → IfErr result (λ f. returns_of rs ≡ Err f) }
         ensures failed { IfSome self.now.fault (λ f. result ≡ Err f) }
@@ -123,10 +131,10 @@ impl ReturnsBuilder {
             return Err(fault);
         }
         if self.row == 0 {
-            return Err(ReturnsFault::at(1, FaultKind::Header));
+            return Err(ReturnsFault::at(1, FaultKind::Header.of_record()));
         }
         if self.returns.lands() == 0 {
-            return Err(ReturnsFault::at(self.row, FaultKind::NoLand));
+            return Err(ReturnsFault::at(self.row, FaultKind::NoLand.of_record()));
         }
         Ok(())
     }
@@ -139,14 +147,14 @@ fn take(
     near: &mut Near,
     version: Option<Version>,
     fields: &ByteRecord,
-) -> Result<Version, FaultKind>
+) -> Result<Version, RecordFault>
     requires index { index.old ≡ index_of returns.old }
     ensures taken { IfOk result (λ v. TakesRecord version v returns.old returns.new (fields_of fields.now)) }
     ensures index { OnOk result (index.new ≡ index_of returns.new) }
     ensures refused { IfErr result (RefusesRecord version returns.old (fields_of fields.now)) }
 {
     match version {
-        None => Version::of(fields).ok_or(FaultKind::Header),
+        None => Version::of(fields).ok_or(FaultKind::Header.of_record()),
         Some(version) => {
             join(returns, index, near, version, fields)?;
             Ok(version)

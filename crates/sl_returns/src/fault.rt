@@ -1,7 +1,7 @@
 //! What is wrong with returns, and where.
 
 ghost use Rattle.std.specs.Prelude.{◌≡◌};
-ghost use Rattle.sl_returns.specs.Faults.{fault_at, fault_number};
+ghost use Rattle.sl_returns.specs.Faults.{fault_at, fault_number, of_cell, of_record};
 
 use std::{error, fmt};
 use thiserror::Error;
@@ -71,22 +71,58 @@ impl fmt::Display for FaultKind {
 
 impl error::Error for FaultKind {}
 
-/// What is wrong with returns, and the row of the record, the header's being 1. Want of memory has the row 0.
+/// What is wrong with a record, and the column of the cell that is at fault, from 0; no column where it is the record as a whole.
+#[derive(Clone, Copy, Debug, PartialEq, Eq)]
+pub struct RecordFault {
+    pub kind: FaultKind,
+    pub column: Option<usize>,
+}
+
+impl FaultKind {
+    // This fault of the cell of a column.
+    pub(crate) fn of_cell(self, column: usize) -> RecordFault
+        ensures { result ≡ of_cell self column }
+    {
+        RecordFault {
+            kind: self,
+            column: Some(column),
+        }
+    }
+
+    // This fault of a record as a whole.
+    pub(crate) fn of_record(self) -> RecordFault
+        ensures { result ≡ of_record self }
+    {
+        RecordFault {
+            kind: self,
+            column: None,
+        }
+    }
+}
+
+/// What is wrong with returns: the row of the record, the header's being 1, the column of the cell that is at fault, from 0, and the fault.
+/// There is no column where the record or the file is at fault as a whole. Out of memory has the row 0.
 #[derive(Clone, Copy, Debug, PartialEq, Eq, Error)]
 #[error("record {row}: {kind}")]
 pub struct ReturnsFault {
     pub row: u32,
+    pub column: Option<usize>,
     pub kind: FaultKind,
 }
 
 impl ReturnsFault {
     // What is wrong with the record of a row.
-    pub(crate) fn at(row: u32, kind: FaultKind) -> ReturnsFault
-        ensures { result ≡ fault_at row kind }
+    pub(crate) fn at(row: u32, fault: RecordFault) -> ReturnsFault
+        ensures { result ≡ fault_at row fault }
     {
         ReturnsFault {
-            row: if kind == FaultKind::NoMemory { 0 } else { row },
-            kind,
+            row: if fault.kind == FaultKind::NoMemory {
+                0
+            } else {
+                row
+            },
+            column: fault.column,
+            kind: fault.kind,
         }
     }
 }

@@ -7,7 +7,8 @@ ghost use Rattle.sl_returns.specs.Cells.{cell};
 ghost use Rattle.sl_returns.specs.Headers.{is_header, version_of};
 ghost use Rattle.sl_returns.specs.Tests.{may_tell_slate};
 
-use crate::cells::{A, B, C, COLUMNS, KIND, LAND, PARTY, cell};
+use crate::cells::cell;
+use crate::schema::{A, B, C, COLUMNS, KIND, LAND, PARTY, column_name};
 use csv::ByteRecord;
 
 // The version of the returns, which the header tells. In the second, a list may tell the names left on it.
@@ -45,11 +46,11 @@ fn is_header(fields: &ByteRecord, word: &[u8]) -> bool
 {
     fields.len() == COLUMNS
         && is_cell(fields, KIND, word)
-        && is_cell(fields, LAND, b"land")
-        && is_cell(fields, PARTY, b"party")
-        && is_cell(fields, A, b"a")
-        && is_cell(fields, B, b"b")
-        && is_cell(fields, C, b"c")
+        && is_cell(fields, LAND, column_name(LAND))
+        && is_cell(fields, PARTY, column_name(PARTY))
+        && is_cell(fields, A, column_name(A))
+        && is_cell(fields, B, column_name(B))
+        && is_cell(fields, C, column_name(C))
 }
 
 // Whether the cell of a column is this word.

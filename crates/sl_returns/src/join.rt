@@ -4,42 +4,40 @@ ghost use Rattle.std.specs.Prelude.{◌≡◌, ◌<◌, IfOk, IfErr, OnOk, IsOk,
 ghost use Rattle.csv.specs.Records.{fields_of};
 ghost use Rattle.sl_stages.specs.returns.Votes.{IsListVotes};
 ghost use Rattle.sl_stages.specs.returns.Election.{lands_of, parties_of, has_list, with_list};
+ghost use Rattle.sl_returns.specs.Faults.{of_record};
 ghost use Rattle.sl_returns.specs.Tests.{Pass, Refuse, fills_list, house_tests, land_tests, party_tests, list_tests, win_tests, lot_tests, record_tests};
 ghost use Rattle.sl_returns.specs.inner.Indexed.{index_of};
 ghost use Rattle.sl_returns.specs.inner.Joining.{with_house_of, with_land_of, with_party_of, with_list_of, with_win_of, with_lot_of, with_record};
 
 use crate::cells::{
-    A, B, C, COLUMNS, KIND, LAND, PARTY, are_blank, cell, ensure, known_name, known_or_none,
-    new_name, number, number_or_none,
+    blanks, cell, ensure, ensure_cell, known_name, known_or_none, new_name, number, number_or_none,
 };
-use crate::fault::FaultKind;
+use crate::fault::{FaultKind, RecordFault};
 use crate::header::Version;
 use crate::index::{Index, add_name};
-use crate::kind::Kind;
 use crate::lot::ToldLot;
 use crate::near::Near;
+use crate::schema::{A, B, C, COLUMNS, KIND, Kind, LAND, PARTY, Quantity};
 use csv::ByteRecord;
 use sl_ratio::NoMemory;
-use sl_stages::{
-    ListVotes, MAX_LANDS, MAX_LOTS, MAX_PARTIES, MAX_SEATS, MAX_SLATE, MAX_VOTES, MAX_WINS, Returns,
-};
+use sl_stages::{ListVotes, MAX_LANDS, MAX_LOTS, MAX_PARTIES, MAX_WINS, Returns};
 
 // What the returns answer to a record that passed its tests.
-fn kept(answer: Result<(), NoMemory>) -> Result<(), FaultKind>
+fn kept(answer: Result<(), NoMemory>) -> Result<(), RecordFault>
     ensures ok { OnOk result (IsOk answer) }
-    ensures err { IfErr result (λ k. k ≡ FaultKind.NoMemory) }
+    ensures err { IfErr result (λ f. f ≡ of_record FaultKind.NoMemory) }
 {
-    answer.or(Err(FaultKind::NoMemory))
+    answer.or(Err(FaultKind::NoMemory.of_record()))
 }
 
 // Joins the house.
 #[tactic(auto, using(crate::proofs::TestLemmas::passes, crate::proofs::TestLemmas::fails))]
-fn join_house(returns: &mut Returns, fields: &ByteRecord) -> Result<(), FaultKind>
+fn join_house(returns: &mut Returns, fields: &ByteRecord) -> Result<(), RecordFault>
     ensures joined { OnOk result (Pass (house_tests returns.old (fields_of fields.now)) × (returns.new ≡ with_house_of returns.old (fields_of fields.now))) }
     ensures refused { IfErr result (Refuse (house_tests returns.old (fields_of fields.now))) }
 {
-    ensure(are_blank(fields, &[LAND, PARTY, B, C]), FaultKind::Fields)?;
-    let seats = number(cell(fields, A), 1, MAX_SEATS)?;
+    blanks(Kind::House, fields)?;
+    let seats = number(A, cell(fields, A), Quantity::House)?;
     ensure(returns.house().is_none(), FaultKind::Twice)?;
     returns.set_house(seats);
     Ok(())
@@ -47,16 +45,20 @@ fn join_house(returns: &mut Returns, fields: &ByteRecord) -> Result<(), FaultKin
 
 // Joins a Land.
 #[tactic(auto, using(crate::proofs::TestLemmas::passes, crate::proofs::TestLemmas::fails))]
-fn join_land(returns: &mut Returns, index: &mut Index, fields: &ByteRecord) -> Result<(), FaultKind>
+fn join_land(
+    returns: &mut Returns,
+    index: &mut Index,
+    fields: &ByteRecord,
+) -> Result<(), RecordFault>
     requires index { index.old ≡ index_of returns.old }
     ensures joined { OnOk result (Pass (land_tests returns.old (fields_of fields.now)) × (returns.new ≡ with_land_of returns.old (fields_of fields.now))) }
     ensures index { OnOk result (index.new ≡ index_of returns.new) }
     ensures refused { IfErr result (Refuse (land_tests returns.old (fields_of fields.now))) }
 {
-    ensure(are_blank(fields, &[PARTY, B, C]), FaultKind::Fields)?;
+    blanks(Kind::Land, fields)?;
     let name = cell(fields, LAND);
-    new_name(name, index.lands.find(name))?;
-    let population = number(cell(fields, A), 0, MAX_VOTES)?;
+    new_name(LAND, name, index.lands.find(name))?;
+    let population = number(A, cell(fields, A), Quantity::Population)?;
     ensure(returns.lands() < MAX_LANDS, FaultKind::TooMany)?;
     kept(returns.add_land(name, population))?;
     kept(add_name(&mut index.lands, name))
@@ -68,16 +70,16 @@ fn join_party(
     returns: &mut Returns,
     index: &mut Index,
     fields: &ByteRecord,
-) -> Result<(), FaultKind>
+) -> Result<(), RecordFault>
     requires index { index.old ≡ index_of returns.old }
     ensures joined { OnOk result (Pass (party_tests returns.old (fields_of fields.now)) × (returns.new ≡ with_party_of returns.old (fields_of fields.now))) }
     ensures index { OnOk result (index.new ≡ index_of returns.new) }
     ensures refused { IfErr result (Refuse (party_tests returns.old (fields_of fields.now))) }
 {
-    ensure(are_blank(fields, &[LAND, B, C]), FaultKind::Fields)?;
+    blanks(Kind::Party, fields)?;
     let name = cell(fields, PARTY);
-    new_name(name, index.parties.find(name))?;
-    let minority = number(cell(fields, A), 0, 1)?;
+    new_name(PARTY, name, index.parties.find(name))?;
+    let minority = number(A, cell(fields, A), Quantity::Minority)?;
     ensure(returns.parties() < MAX_PARTIES, FaultKind::TooMany)?;
     kept(returns.add_party(name, minority == 1))?;
     kept(add_name(&mut index.parties, name))
@@ -89,13 +91,13 @@ fn keep_list(
     land: usize,
     party: usize,
     votes: ListVotes,
-) -> Result<(), FaultKind>
+) -> Result<(), RecordFault>
     requires land { land < lands_of returns.old }
     requires party { party < parties_of returns.old }
     requires new { has_list returns.old land party ≡ false }
     requires votes { IsListVotes votes }
     ensures kept { OnOk result (returns.new ≡ with_list returns.old land party votes) }
-    ensures wants { IfErr result (λ k. k ≡ FaultKind.NoMemory) }
+    ensures wants { IfErr result (λ f. f ≡ of_record FaultKind.NoMemory) }
 {
     kept(returns.add_list(land, party, votes.valid, votes.counted))?;
     if let Some(names) = votes.slate {
@@ -119,20 +121,20 @@ fn join_list(
     near: &mut Near,
     version: Version,
     fields: &ByteRecord,
-) -> Result<(), FaultKind>
+) -> Result<(), RecordFault>
     requires index { index.now ≡ index_of returns.old }
     ensures joined { OnOk result (Pass (list_tests version returns.old (fields_of fields.now)) × (returns.new ≡ with_list_of returns.old (fields_of fields.now))) }
     ensures refused { IfErr result (Refuse (list_tests version returns.old (fields_of fields.now))) }
 {
-    ensure(fills_list(version, fields), FaultKind::Fields)?;
+    ensure_cell(fills_list(version, fields), FaultKind::Fields, C)?;
     let land_name = cell(fields, LAND);
     let land = near.known_land(&index.lands, land_name)?;
     let party_name = cell(fields, PARTY);
     let party = near.known_party(&index.parties, party_name)?;
     *near = Near::behind(land, party);
-    let valid = number(cell(fields, A), 0, MAX_VOTES)?;
-    let counted = number(cell(fields, B), 0, MAX_VOTES)?;
-    let slate = number_or_none(cell(fields, C), 0, MAX_SLATE)?;
+    let valid = number(A, cell(fields, A), Quantity::Valid)?;
+    let counted = number(B, cell(fields, B), Quantity::Counted)?;
+    let slate = number_or_none(C, cell(fields, C), Quantity::Slate)?;
     ensure(counted <= valid, FaultKind::Counted)?;
     ensure(!returns.is_list(land, party), FaultKind::Twice)?;
     let votes = ListVotes {
@@ -145,20 +147,24 @@ fn join_list(
 
 // Joins a winner.
 #[tactic(auto, using(crate::proofs::TestLemmas::passes))]
-fn join_win(returns: &mut Returns, index: &mut Index, fields: &ByteRecord) -> Result<(), FaultKind>
+fn join_win(
+    returns: &mut Returns,
+    index: &mut Index,
+    fields: &ByteRecord,
+) -> Result<(), RecordFault>
     requires index { index.old ≡ index_of returns.old }
     ensures joined { OnOk result (Pass (win_tests returns.old (fields_of fields.now)) × (returns.new ≡ with_win_of returns.old (fields_of fields.now))) }
     ensures index { OnOk result (index.new ≡ index_of returns.new) }
     ensures refused { IfErr result (Refuse (win_tests returns.old (fields_of fields.now))) }
 {
     let land_name = cell(fields, LAND);
-    let land = known_name(land_name, index.lands.find(land_name))?;
+    let land = known_name(LAND, land_name, index.lands.find(land_name))?;
     let party_name = cell(fields, PARTY);
-    let party = known_or_none(party_name, index.parties.find(party_name))?;
+    let party = known_or_none(PARTY, party_name, index.parties.find(party_name))?;
     let name = cell(fields, A);
-    new_name(name, index.winners.find(name))?;
-    let first = number(cell(fields, B), 1, MAX_VOTES)?;
-    let valid = number(cell(fields, C), 0, MAX_VOTES)?;
+    new_name(A, name, index.winners.find(name))?;
+    let first = number(B, cell(fields, B), Quantity::First)?;
+    let valid = number(C, cell(fields, C), Quantity::ValidFirst)?;
     ensure(first <= valid, FaultKind::Range)?;
     ensure(returns.wins() < MAX_WINS, FaultKind::TooMany)?;
     kept(returns.add_win(land, party, name, first, valid))?;
@@ -167,7 +173,11 @@ fn join_win(returns: &mut Returns, index: &mut Index, fields: &ByteRecord) -> Re
 
 // Joins a lot.
 #[tactic(auto, using(crate::proofs::TestLemmas::passes))]
-fn join_lot(returns: &mut Returns, index: &mut Index, fields: &ByteRecord) -> Result<(), FaultKind>
+fn join_lot(
+    returns: &mut Returns,
+    index: &mut Index,
+    fields: &ByteRecord,
+) -> Result<(), RecordFault>
     requires index { index.old ≡ index_of returns.old }
     ensures joined { OnOk result (Pass (lot_tests returns.old (fields_of fields.now)) × (returns.new ≡ with_lot_of returns.old (fields_of fields.now))) }
     ensures index { OnOk result (index.new ≡ index_of returns.new) }
@@ -192,7 +202,7 @@ pub(crate) fn join(
     near: &mut Near,
     version: Version,
     fields: &ByteRecord,
-) -> Result<(), FaultKind>
+) -> Result<(), RecordFault>
     requires index { index.old ≡ index_of returns.old }
     ensures joined { OnOk result (Pass (record_tests version returns.old (fields_of fields.now)) × (returns.new ≡ with_record returns.old (fields_of fields.now))) }
     ensures index { OnOk result (index.new ≡ index_of returns.new) }
@@ -206,6 +216,6 @@ pub(crate) fn join(
         Some(Kind::List) => join_list(returns, index, near, version, fields),
         Some(Kind::Win) => join_win(returns, index, fields),
         Some(Kind::Lot) => join_lot(returns, index, fields),
-        None => Err(FaultKind::Kind),
+        None => Err(FaultKind::Kind.of_cell(KIND)),
     }
 }

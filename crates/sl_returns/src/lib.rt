@@ -7,13 +7,21 @@ mod fault;
 mod header;
 mod index;
 mod join;
-mod kind;
 pub mod laws;
 mod lot;
 mod near;
+mod places;
 mod read;
+mod refused;
+mod schema;
 mod told;
 
 pub use builder::ReturnsBuilder;
-pub use fault::{FaultKind, ReturnsFault};
-pub use read::read_returns;
+pub use cells::MAX_DIGITS;
+pub use fault::{FaultKind, RecordFault, ReturnsFault};
+pub use places::{Place, cell_place};
+pub use read::{read_or_refuse, read_returns};
+pub use refused::{RefusedReturns, find_record};
+pub use schema::{
+    A, B, C, COLUMNS, Content, KIND, Kind, LAND, Named, PARTY, Quantity, column_name,
+};

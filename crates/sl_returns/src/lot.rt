@@ -7,13 +7,14 @@ ghost use Rattle.sl_ratio.specs.Names.{spelling_fault};
 ghost use Rattle.sl_stages.specs.returns.Election.{Election, IsLot};
 ghost use Rattle.sl_returns.specs.Cells.{is_blank, number_in};
 ghost use Rattle.sl_returns.specs.Records.{lot_of};
-ghost use Rattle.sl_returns.specs.Tests.{Pass, FailBy, name_or_none_tests, lot_cell_tests, fills_lot};
+ghost use Rattle.sl_returns.specs.Tests.{Pass, FailBy, name_or_none_tests, lot_cell_tests, filled_tests, names_entry, names_winner_of_seats};
 ghost use Rattle.sl_returns.specs.inner.Indexed.{index_of};
 ghost use Rattle.sl_returns.specs.inner.Lots.{lot_told};
 
-use crate::cells::{A, B, C, LAND, PARTY, cell, ensure, is_name, known_or_none};
-use crate::fault::FaultKind;
+use crate::cells::{blanks, cell, ensure_cell, known_or_none, name};
+use crate::fault::{FaultKind, RecordFault};
 use crate::index::Index;
+use crate::schema::{A, B, Kind, LAND, PARTY};
 use csv::ByteRecord;
 use sl_ratio::Names;
 
@@ -28,20 +29,20 @@ pub(crate) struct ToldLot<'a> {
 
 impl<'a> ToldLot<'a> {
     // The lot that a record tells, whose cells it tests.
-    pub(crate) fn read(index: &Index, fields: &'a ByteRecord) -> Result<ToldLot<'a>, FaultKind>
+    pub(crate) fn read(index: &Index, fields: &'a ByteRecord) -> Result<ToldLot<'a>, RecordFault>
         ensures passed { (e : Election) → index.now ≡ index_of e → OnOk result (Pass (lot_cell_tests e (fields_of fields.now))) }
         ensures told { (e : Election) → index.now ≡ index_of e → IfOk result (λ l. lot_told l ≡ lot_of e.land_names e.party_names e.win_names (fields_of fields.now)) }
         ensures named { IfOk result (λ l. IsLot (length index.now.lands.names) (length index.now.parties.names) (length index.now.winners.names) (lot_told l)) }
         ensures spelled { IfOk result (λ l. spelling_fault l.stage.now ≡ None) }
         ensures failed { (e : Election) → index.now ≡ index_of e → IfErr result (FailBy (lot_cell_tests e (fields_of fields.now))) }
     {
-        ensure(fills_lot(fields), FaultKind::Fields)?;
+        ensure_filled(fields)?;
         let land_name = cell(fields, LAND);
-        let land = known_or_none(land_name, index.lands.find(land_name))?;
+        let land = known_or_none(LAND, land_name, index.lands.find(land_name))?;
         let party_name = cell(fields, PARTY);
-        let party = known_or_none(party_name, index.parties.find(party_name))?;
+        let party = known_or_none(PARTY, party_name, index.parties.find(party_name))?;
         let stage = cell(fields, A);
-        ensure(is_name(stage), FaultKind::Name)?;
+        name(A, stage)?;
         let win_name = cell(fields, B);
         let win = win_or_none(&index.winners, win_name)?;
         Ok(ToldLot {
@@ -55,24 +56,39 @@ impl<'a> ToldLot<'a> {
 
 // The number of the winner of that constituency, which is to be known. Most lots name none, and then none is looked for.
 #[tactic(auto, unfolding(crate::specs::Tests::known_or_none_tests))]
-fn win_or_none(winners: &Names, name: &[u8]) -> Result<Option<usize>, FaultKind>
-    ensures passed { OnOk result (Pass (name_or_none_tests winners.now.names name.now)) }
+fn win_or_none(winners: &Names, name: &[u8]) -> Result<Option<usize>, RecordFault>
+    ensures passed { OnOk result (Pass (name_or_none_tests winners.now.names B name.now)) }
     ensures number { IfOk result (λ win. win ≡ (if is_blank name.now then None else number_in winners.now.names name.now)) }
     ensures within { IfOk result (λ win. ForSome win (λ number. number < length winners.now.names)) }
-    ensures failed { IfErr result (FailBy (name_or_none_tests winners.now.names name.now)) }
+    ensures failed { IfErr result (FailBy (name_or_none_tests winners.now.names B name.now)) }
 {
     if name.is_empty() {
         return Ok(None);
     }
-    known_or_none(name, winners.find(name))
+    known_or_none(B, name, winners.find(name))
 }
 
-// Whether the cells that a lot must fill are filled, and the others are empty: it names a Land or a party, and a
-// constituency exactly where its stage is `seats`.
-fn fills_lot(fields: &ByteRecord) -> bool
-    ensures { result ≡ fills_lot (fields_of fields.now) }
+// Whether a lot names a Land or a party.
+fn names_entry(fields: &ByteRecord) -> bool
+    ensures { result ≡ names_entry (fields_of fields.now) }
 {
-    let names_entry = !cell(fields, LAND).is_empty() || !cell(fields, PARTY).is_empty();
+    !cell(fields, LAND).is_empty() || !cell(fields, PARTY).is_empty()
+}
+
+// Whether a lot names a constituency exactly where its stage is `seats`.
+fn names_winner_of_seats(fields: &ByteRecord) -> bool
+    ensures { result ≡ names_winner_of_seats (fields_of fields.now) }
+{
     let is_of_seats = cell(fields, A) == b"seats".as_slice();
-    cell(fields, C).is_empty() && names_entry && is_of_seats != cell(fields, B).is_empty()
+    is_of_seats != cell(fields, B).is_empty()
+}
+
+// The tests that the cells that a lot must fill are filled, and the others are empty.
+fn ensure_filled(fields: &ByteRecord) -> Result<(), RecordFault>
+    ensures passed { OnOk result (Pass (filled_tests (fields_of fields.now))) }
+    ensures failed { IfErr result (FailBy (filled_tests (fields_of fields.now))) }
+{
+    blanks(Kind::Lot, fields)?;
+    ensure_cell(names_entry(fields), FaultKind::Fields, LAND)?;
+    ensure_cell(names_winner_of_seats(fields), FaultKind::Fields, B)
 }

@@ -6,7 +6,7 @@ ghost use Rattle.sl_stages.specs.returns.Election.{lands_of};
 mod refusals;
 
 use csv::ByteRecord;
-use sl_returns::{FaultKind, ReturnsBuilder, ReturnsFault, read_returns};
+use sl_returns::{A, FaultKind, ReturnsBuilder, ReturnsFault, read_returns};
 use sl_stages::{Lot, MAX_LANDS, MAX_PARTIES, Returns};
 use std::alloc::{AllocError, Global};
 use std::test::*;
@@ -180,6 +180,7 @@ fn all_lists_are_read(rt: HostRuntime) -> Result<(), Fail> {
 fn text_of_a_fault(rt: HostRuntime) -> Result<(), Fail> {
     let fault = ReturnsFault {
         row: 7,
+        column: Some(A),
         kind: FaultKind::Range,
     };
     let text = format!(in rt.alloc(); "{fault}")?;

@@ -2,13 +2,13 @@
 #![tactic(auto)]
 
 #[cfg(test)]
+mod answered;
+#[cfg(test)]
 mod count_limits;
 #[cfg(test)]
 mod counts;
 #[cfg(test)]
 mod faults;
-#[cfg(test)]
-mod heard;
 #[cfg(test)]
 mod library_counts;
 #[cfg(test)]

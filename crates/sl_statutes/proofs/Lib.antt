@@ -5,3 +5,9 @@ pub mod Statutes
 pub mod PartySeats
 pub mod MoreVotes
 pub mod Grown
+pub mod Majorities
+pub mod ListGains
+pub mod BeforeOverhang
+pub mod Overhang
+pub mod Unseated
+pub mod Best

@@ -24,7 +24,7 @@ use Rattle.sl_stages.specs.meaning.Columns.{IsLeaf, fact_column}
 use Rattle.sl_stages.specs.meaning.Scopes.{cells, entries_of}
 use Rattle.sl_stages.specs.meaning.Seating.{base_of}
 use Rattle.sl_stages.specs.meaning.Means.{Through, nothing_known, StagesMean}
-use Rattle.sl_stages.proofs.Elections.{is_with_list, list_told}
+use Rattle.sl_stages.proofs.Elections.{list_told}
 use Rattle.sl_stages.proofs.FactReadings.{lists_are_named}
 use Rattle.sl_stages.proofs.methods.SeatSums.{none_needed}
 use Rattle.sl_stages.proofs.meaning.ListPlaces.{by_list_at}
@@ -68,7 +68,7 @@ module _ (at : ℕ → ℕ) (b : BookTree) (typed : is_typed b ≡ true) (stages
 -- ---- who is eligible with more votes for one list
 
 -- a condition of a share asks for no more than all
-abbrev IsFair : Cond → Type 0
+abbrev pub IsFair : Cond → Type 0
 IsFair (condition.Valid n d) = n.value ≤ d
 IsFair _ = Unit {0}
 
@@ -84,14 +84,14 @@ fair_share : (n d all own more : ℕ) → n ≤ d → n * all ≤ d * own → n 
 fair_share n d all own more fair met = let step : n * more ≤ d * more = mul-le-mul_right more fair in omega (arith, met, step)
 
 module _ (e : Election) (is : IsElection e) (land party : ℕ) (votes : ListVotes) (gain : IsGain e land party votes) where
-  named : (land < lands_of e) × (party < parties_of e)
+  pub named : (land < lands_of e) × (party < parties_of e)
   named = lists_are_named e land party is (ap is_some gain.had)
 
-  told : list_at (with_list e land party votes) land party ≡ Some votes
+  pub told : list_at (with_list e land party votes) land party ≡ Some votes
   told = list_told e land party votes is named.0 named.1
 
   -- all other lists are the same
-  other_land : (l p : ℕ) → l ≢ land → list_at (with_list e land party votes) l p ≡ list_at e l p
+  pub other_land : (l p : ℕ) → l ≢ land → list_at (with_list e land party votes) l p ≡ list_at e l p
   other_land l p ne = ap (λ row. get_or row p None) (get_or-set_other e.cells land l (set (get_or e.cells land []) party (Some votes)) [] ne)
 
   other_party : (l p : ℕ) → p ≢ party → list_at (with_list e land party votes) l p ≡ list_at e l p
@@ -108,12 +108,12 @@ module _ (e : Election) (is : IsElection e) (land party : ℕ) (votes : ListVote
     abbrev of_lists : Election → ℕ → ℕ
     of_lists e p = sum_by (λ l. read (list_at e l p)) (lands e)
 
-    same_lists : (p : ℕ) → p ≢ party → of_lists (with_list e land party votes) p ≡ of_lists e p
+    pub same_lists : (p : ℕ) → p ≢ party → of_lists (with_list e land party votes) p ≡ of_lists e p
     same_lists p ne =
         sum_agree (λ l. read (list_at (with_list e land party votes) l p)) (λ l. read (list_at e l p)) (lands e)
         (always (λ l. read (list_at (with_list e land party votes) l p) ≡ read (list_at e l p)) (λ l. ap read (other_party l p ne)) (lands e))
 
-    more_lists : (x y : ℕ) → read (list_at e land party) ≡ x → read (Some votes) ≡ y → x ≤ y → of_lists (with_list e land party votes) party ≡ of_lists e party + (y - x)
+    pub more_lists : (x y : ℕ) → read (list_at e land party) ≡ x → read (Some votes) ≡ y → x ≤ y → of_lists (with_list e land party votes) party ≡ of_lists e party + (y - x)
     more_lists x y before after le =
         let now : read (list_at (with_list e land party votes) land party) ≡ y = ap read told ∙ after in
         let rise = sum_raised (λ l. read (list_at e l party)) (λ l. read (list_at (with_list e land party votes) l party)) land (lands_of e) named.0
@@ -123,7 +123,7 @@ module _ (e : Election) (is : IsElection e) (land party : ℕ) (votes : ListVote
   had_valid : valid_in (list_at e land party) ≡ gain.before.valid
   had_valid = ap valid_in gain.had
 
-  had_counted : counted_in (list_at e land party) ≡ gain.before.counted
+  pub had_counted : counted_in (list_at e land party) ≡ gain.before.counted
   had_counted = ap counted_in gain.had
 
   own_valid : valid_votes (with_list e land party votes) party ≡ valid_votes e party + (votes.valid - gain.before.valid)
@@ -157,18 +157,18 @@ module _ (e : Election) (is : IsElection e) (land party : ℕ) (votes : ListVote
   meets_less p ne condition.All h = h
 
   module _ (conds : List Cond) (fair : Every IsFair conds) where
-    still_eligible : is_eligible conds e party ≡ true → is_eligible conds (with_list e land party votes) party ≡ true
+    pub still_eligible : is_eligible conds e party ≡ true → is_eligible conds (with_list e land party votes) party ≡ true
     still_eligible = any_weaker (meets e party) (meets (with_list e land party votes) party) conds
         (every_weaker IsFair (λ c. meets e party c ≡ true → meets (with_list e land party votes) party c ≡ true) meets_more conds fair)
 
-    no_more_eligible : (p : ℕ) → p ≢ party → is_eligible conds (with_list e land party votes) p ≡ true → is_eligible conds e p ≡ true
+    pub no_more_eligible : (p : ℕ) → p ≢ party → is_eligible conds (with_list e land party votes) p ≡ true → is_eligible conds e p ≡ true
     no_more_eligible p ne = any_weaker (meets (with_list e land party votes) p) (meets e p) conds
         (always (λ c. meets (with_list e land party votes) p c ≡ true → meets e p c ≡ true) (meets_less p ne) conds)
 
 -- ---- votes of parties
 
 -- what the column of the parties has for each
-abbrev votes_of : BookTree → Election → ℕ → ℕ
+abbrev pub votes_of : BookTree → Election → ℕ → ℕ
 votes_of b e party = sum_by (λ land. list_cell e (counted_votes b.eligible e) land party) (lands e)
 
 sum_if : (t : Bool) (f : ℕ → ℕ) (xs : List ℕ) → sum_by (λ x. cond t (f x) 0) xs ≡ cond t (sum_by f xs) 0
@@ -176,10 +176,10 @@ sum_if true f xs = refl
 sum_if false f xs = sum_zero xs
 
 module _ (b : BookTree) (e : Election) (party : ℕ) (within : party < parties_of e) where
-  counted_at : (land : ℕ) → land < lands_of e → list_cell e (counted_votes b.eligible e) land party ≡ cond (is_eligible b.eligible e party) (counted_in (list_at e land party)) 0
+  pub counted_at : (land : ℕ) → land < lands_of e → list_cell e (counted_votes b.eligible e) land party ≡ cond (is_eligible b.eligible e party) (counted_in (list_at e land party)) 0
   counted_at land in_lands = by_list_at e (λ land party. cond (is_eligible b.eligible e party) (counted_in (list_at e land party)) 0) land party in_lands within
 
-  votes_are_if : get_or (party_column b e) party 0 ≡ cond (is_eligible b.eligible e party) (sum_by (λ land. counted_in (list_at e land party)) (lands e)) 0
+  pub votes_are_if : get_or (party_column b e) party 0 ≡ cond (is_eligible b.eligible e party) (sum_by (λ land. counted_in (list_at e land party)) (lands e)) 0
   votes_are_if =
       at_party e (votes_of b e) party within
       ∙ sum_agree (λ land. list_cell e (counted_votes b.eligible e) land party) (λ land. cond (is_eligible b.eligible e party) (counted_in (list_at e land party)) 0) (lands e)
@@ -187,7 +187,7 @@ module _ (b : BookTree) (e : Election) (party : ℕ) (within : party < parties_o
       ∙ sum_if (is_eligible b.eligible e party) (λ land. counted_in (list_at e land party)) (lands e)
 
 -- another party has the votes that it had, or none where it is no longer eligible
-no_more : (b : BookTree) (e g : Election) (p : ℕ) → p < parties_of e → p < parties_of g →
+pub no_more : (b : BookTree) (e g : Election) (p : ℕ) → p < parties_of e → p < parties_of g →
     sum_by (λ land. counted_in (list_at g land p)) (lands g) ≡ sum_by (λ land. counted_in (list_at e land p)) (lands e) →
     (is_eligible b.eligible g p ≡ true → is_eligible b.eligible e p ≡ true) → get_or (party_column b g) p 0 ≤ get_or (party_column b e) p 0
 no_more b e g p in_e in_g same less =
@@ -205,15 +205,16 @@ no_more b e g p in_e in_g same less =
 
 module _ (at : ℕ → ℕ) (b : BookTree) (typed : is_typed b ≡ true) (stages : b.stages ≡ shares at facts.Independents (by.Divisor Webster) majority.Refuse) (last : b.last ≡ cover at)
     (fair : Every IsFair b.eligible) where
-  never_loses : NeverLosesByVotes b
-  never_loses e land party votes is gain t u means after =
+  pub never_loses : NeverLosesByVotes b
+  never_loses e land party votes is gain lots isl t u means after =
       let g = with_list e land party votes in
+      let drawn : Election = record g { lots = lots } in
       let n = named e is land party votes gain in
-      let isg : IsElection g = is_with_list e land party votes is n.0 n.1 gain.is in
       let v = party_column b e in
       let w = party_column b g in
       let s = by_webster at b typed stages last e t is means in
-      let r = by_webster at b typed stages last g u isg after in
+      let r : IsDivisorAllocation Webster w (no_minima w) (house_of b g - independents g) (seats_column g u) =
+      by_webster at b typed stages last drawn u isl after in
       let before' = votes_are_if b e party n.1 in
       let after' = votes_are_if b g party n.1 in
       let here = at_party e (party_seats t) party n.1 in

@@ -10,7 +10,7 @@ use Rattle.sl_terms.specs.declared.shape.Shape.TheVariants as shape
 use Rattle.sl_stages.specs.declared.fault.Item.TheVariants as item
 use Rattle.sl_stages.specs.declared.table.ListSeats.{ListSeats}
 use Rattle.sl_stages.specs.returns.Election.{Election, parties_of, has_list}
-use Rattle.sl_stages.specs.returns.Facts.{lands, parties, by_party, lists_of, list_cell}
+use Rattle.sl_stages.specs.returns.Facts.{lands, parties, by_party, lists_of}
 use Rattle.sl_stages.specs.meaning.Scopes.{place, cells, entries_of}
 use Rattle.sl_stages.specs.meaning.Tables.{SeatTable}
 use Rattle.sl_stages.proofs.meaning.DistinctLists.{every_weaker, always}
@@ -36,29 +36,34 @@ none_anyway : (t : Bool) → ◌≡◌ {A = ℕ} (cond t 0 0) 0
 none_anyway true = refl
 none_anyway false = refl
 
-module _ (e : Election) (column : List ℕ) (party : ℕ) (within : party < parties_of e) where
-  in_land : (land : ℕ) →
-      sum_by (λ l. cond (nat_eq l.1 party) (base_seats e column l) 0) (map (λ p. (land, p)) (filter (has_list e land) (parties e))) ≡ cond (has_list e land party) (list_cell e column land party) 0
-  in_land land =
-      let cell : ℕ → ℕ = λ p. cond (nat_eq p party) (list_cell e column land p) 0 in
-      sum_mapped (λ l. cond (nat_eq l.1 party) (base_seats e column l) 0) (λ p. (land, p)) (filter (has_list e land) (parties e))
+module _ (e : Election) (party : ℕ) (within : party < parties_of e) where
+  in_land : (has : ℕ × ℕ → ℕ) (land : ℕ) →
+      sum_by (λ l. cond (nat_eq l.1 party) (has l) 0) (map (λ p. (land, p)) (filter (has_list e land) (parties e))) ≡ cond (has_list e land party) (has (land, party)) 0
+  in_land has land =
+      let cell : ℕ → ℕ = λ p. cond (nat_eq p party) (has (land, p)) 0 in
+      sum_mapped (λ l. cond (nat_eq l.1 party) (has l) 0) (λ p. (land, p)) (filter (has_list e land) (parties e))
       ∙ sum_filter (has_list e land) cell (parties e)
       ∙ one_term (λ p. cond (has_list e land p) (cell p) 0) party 0 (parties_of e)
-      (λ p ne. ap (λ same. cond (has_list e land p) (cond same (list_cell e column land p) 0) 0) (ne_eqb p party ne) ∙ none_anyway (has_list e land p))
+      (λ p ne. ap (λ same. cond (has_list e land p) (cond same (has (land, p)) 0) 0) (ne_eqb p party ne) ∙ none_anyway (has_list e land p))
       (omega arith) (omega (arith, within))
-      ∙ ap (λ same. cond (has_list e land party) (cond same (list_cell e column land party) 0) 0) (eq-eqb party party refl)
+      ∙ ap (λ same. cond (has_list e land party) (cond same (has (land, party)) 0) 0) (eq-eqb party party refl)
 
-  -- where each list has what stands in a column, a party has what its lists have there
-  pub lines_sum : (winners : ℕ × ℕ → ℕ) (t : SeatTable) → AllZip (λ l. IsLine l (base_seats e column l) (winners l)) (lists_of e) t.lists → party_seats t party ≡ sum_in e (party_lists e party) column
-  lines_sum winners t lines =
-      let f : ℕ × ℕ → ℕ = λ l. cond (nat_eq l.1 party) (base_seats e column l) 0 in
+  -- where each list has so many seats, a party has those of its lists, Land by Land
+  pub lines_by : (has winners : ℕ × ℕ → ℕ) (t : SeatTable) → AllZip (λ l. IsLine l (has l) (winners l)) (lists_of e) t.lists →
+      party_seats t party ≡ sum_by (λ land. cond (has_list e land party) (has (land, party)) 0) (lands e)
+  lines_by has winners t lines =
+      let f : ℕ × ℕ → ℕ = λ l. cond (nat_eq l.1 party) (has l) 0 in
       sum_filter (λ s. nat_eq s.party party) (λ (s : ListSeats). s.seats) t.lists
-      ∙ zip_sum (λ l. IsLine l (base_seats e column l) (winners l)) f (λ s. cond (nat_eq s.party party) s.seats 0)
+      ∙ zip_sum (λ l. IsLine l (has l) (winners l)) f (λ s. cond (nat_eq s.party party) s.seats 0)
       (λ l s is. ap (λ p. cond (nat_eq p party) s.seats 0) is.party ∙ ap (λ n. cond (nat_eq l.1 party) n 0) is.seats) (lists_of e) t.lists lines
       ∙ sum_pieces f (λ land. map (λ p. (land, p)) (filter (has_list e land) (parties e))) (lands e)
-      ∙ sum_agree (λ land. sum_by f (map (λ p. (land, p)) (filter (has_list e land) (parties e)))) (λ land. cond (has_list e land party) (list_cell e column land party) 0) (lands e)
-      (always (λ land. sum_by f (map (λ p. (land, p)) (filter (has_list e land) (parties e))) ≡ cond (has_list e land party) (list_cell e column land party) 0) in_land (lands e))
-      ∙ sym (of_party e column party)
+      ∙ sum_agree (λ land. sum_by f (map (λ p. (land, p)) (filter (has_list e land) (parties e)))) (λ land. cond (has_list e land party) (has (land, party)) 0) (lands e)
+      (always (λ land. sum_by f (map (λ p. (land, p)) (filter (has_list e land) (parties e))) ≡ cond (has_list e land party) (has (land, party)) 0) (in_land has) (lands e))
+
+-- where each list has what stands in a column, a party has what its lists have there
+pub lines_sum : (e : Election) (column : List ℕ) (party : ℕ) → party < parties_of e → (winners : ℕ × ℕ → ℕ) (t : SeatTable) →
+    AllZip (λ l. IsLine l (base_seats e column l) (winners l)) (lists_of e) t.lists → party_seats t party ≡ sum_in e (party_lists e party) column
+lines_sum e column party within winners t lines = lines_by e party within (base_seats e column) winners t lines ∙ sym (of_party e column party)
 
 -- ---- columns of parties
 

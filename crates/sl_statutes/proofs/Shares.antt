@@ -14,7 +14,7 @@ use Rattle.sl_stages.specs.declared.fact.Fact.TheVariants as facts
 use Rattle.sl_stages.specs.declared.fault.Scope.TheVariants as scope
 use Rattle.sl_stages.specs.declared.fault.Item.TheVariants as item
 use Rattle.sl_stages.specs.declared.returns.Win.{Win}
-use Rattle.sl_stages.specs.book.Trees.{fact, name, without, BookTree}
+use Rattle.sl_stages.specs.book.Trees.{fact, name, split, without, BookTree}
 use Rattle.sl_stages.specs.returns.Election.{Election, IsElection, IsWin, lands_of, parties_of, has_list}
 use Rattle.sl_stages.specs.returns.Facts.{lands, parties, lists_of, list_cell, is_in, is_on_list}
 use Rattle.sl_stages.specs.meaning.Columns.{IsLeaf, is_column_of, fact_column}
@@ -24,14 +24,14 @@ use Rattle.sl_stages.specs.meaning.Splits.{IsAllocation}
 use Rattle.sl_stages.specs.meaning.Means.{Known, Through, nothing_known, context_of, with_stage, StagesMean}
 use Rattle.sl_stages.proofs.meaning.DistinctLists.{every_weaker, always}
 use Rattle.sl_fairness.specs.Winners.{base_seats, outside, independents}
-use Rattle.sl_fairness.specs.Amounts.{sum_in}
+use Rattle.sl_fairness.specs.Amounts.{ComesToColumn, sum_in, KeepsMajorities}
 use Rattle.sl_fairness.proofs.ListColumns.{sum_agree, sum_mapped, sum_pieces}
-use Rattle.sl_fairness.proofs.Amounts.{splits_allocate, splits_give_the_amount}
+use Rattle.sl_fairness.proofs.Amounts.{splits_allocate, splits_give_the_amount, majority_kept}
 use Rattle.sl_statutes.specs.Trees.{pool, upper, lower, party_votes, shares}
 use Rattle.sl_statutes.specs.Houses.{house_of}
 use Rattle.sl_statutes.specs.Parties.{party_column}
 use Rattle.sl_statutes.proofs.Sums.{every_of, sum_filter, sum_swap, sum_of_lands}
-use Rattle.sl_statutes.proofs.Runs.{ran, same_known, name_is, pool_is, votes_are}
+use Rattle.sl_statutes.proofs.Runs.{ran, same_known, fact_is, name_is, pool_is, votes_are}
 
 -- ---- a list contains its elements
 
@@ -114,6 +114,21 @@ shared_out e base upper each n all =
 pub each_scope : (e : Election) → Every (λ party. Contains (scopes e shape.Party shape.List) (party_lists e party)) (parties e)
 each_scope e = every_unmap (Contains (scopes e shape.Party shape.List)) (party_lists e) (parties e) (contained (scopes e shape.Party shape.List))
 
+-- the lists of a party have among them an allocation of what it has, by their counted votes
+abbrev pub IsShared : Method → BookTree → Election → List ℕ → List ℕ → ℕ → Type 0
+IsShared method b e base upper party =
+    let votes = cells e (lists_of_party e party) (fact_column b e facts.Counted) in
+    IsAllocation method majority.Free votes (no_minima votes) (slice_index upper party) (cells e (lists_of_party e party) base)
+
+among_is : (method : Method) (b : BookTree) (e : Election) (party : ℕ) (base lower upper amounts votes : List ℕ) → base ≡ lower → amounts ≡ upper → votes ≡ fact_column b e facts.Counted →
+    IsAllocation method majority.Free (cells e (lists_of_party e party) votes) (no_minima (cells e (lists_of_party e party) votes)) (slice_index amounts party) (cells e (lists_of_party e party) lower) →
+    IsShared method b e base upper party
+among_is method b e party base lower upper amounts votes last same counted h =
+    let of : List ℕ → List ℕ = λ v. cells e (lists_of_party e party) v in
+    subst (λ s. IsAllocation method majority.Free (of (fact_column b e facts.Counted)) (no_minima (of (fact_column b e facts.Counted))) (slice_index upper party) (of s)) (sym last)
+    (subst (λ a. IsAllocation method majority.Free (of (fact_column b e facts.Counted)) (no_minima (of (fact_column b e facts.Counted))) (slice_index a party) (of lower)) same
+    (subst (λ v. IsAllocation method majority.Free (of v) (no_minima (of v)) (slice_index amounts party) (of lower)) counted h))
+
 -- the parties have an allocation of the pool, and their lists have what they have
 pub record AreShared (method : Method) (m : Majority) (b : BookTree) (e : Election) (base : List ℕ) (amount : ℕ) : Type 0 where
   pub upper : List ℕ
@@ -121,8 +136,10 @@ pub record AreShared (method : Method) (m : Majority) (b : BookTree) (e : Electi
   pub by_votes : votes ≡ party_column b e
   pub allocated : IsAllocation method m (cells e (entries_of e shape.Party) votes) (no_minima (cells e (entries_of e shape.Party) votes)) amount (cells e (entries_of e shape.Party) upper)
   pub lists : Every (λ party. sum_in e (party_lists e party) base ≡ slice_index upper party) (parties e)
+  pub majorities : m ≡ majority.Refuse → KeepsMajorities e (all_parties e ∷ []) votes upper
+  pub among : Every (IsShared method b e base upper) (parties e)
 
-all_given : (method : Method) (m : Majority) (v min : List ℕ) (amount : ℕ) (s : List ℕ) → IsAllocation method m v min amount s → sum s ≡ amount
+pub all_given : (method : Method) (m : Majority) (v min : List ℕ) (amount : ℕ) (s : List ℕ) → IsAllocation method m v min amount s → sum s ≡ amount
 all_given (by.Divisor d) m v min amount s is = is.total
 all_given by.Hamilton m v min amount s is = is.total
 
@@ -159,6 +176,17 @@ module _ (at : ℕ → ℕ) (told : Fact) (method : Method) (m : Majority) (b : 
             (ap (λ c. slice_index c 0) (first ∙ pooled)) (of_pool.4 (all_parties e) (first_in (all_parties e) []));
         lists = every_weaker (λ party. Contains (scopes e shape.Party shape.List) (party_lists e party)) (λ party. sum_in e (party_lists e party) base ≡ slice_index two.values party)
             (λ party there. amount_is e base three.values party of_upper.0 two.values is_last (of_upper.2 (party_lists e party) there) second) (parties e) (each_scope e);
+        majorities = λ refuse.
+            let kept = majority_kept b e context_1 (at 9) (name (at 10) (codes "pool")) (party_votes at) method without two.values refl
+            (subst (λ m. ComesToColumn b e context_1 (split (at 9) (name (at 10) (codes "pool")) (party_votes at) method without m) two.values) refuse (two.records, two.means)) in
+            let same : kept.0 ≡ of_pool.2 = votes_are at b e context_1 kept.0 kept.1.0 kept.1.1 ∙ sym (votes_are at b e context_1 of_pool.2 of_pool.3.0 of_pool.3.1) in
+            subst (λ votes. KeepsMajorities e (all_parties e ∷ []) votes two.values) same kept.2;
+        among =
+            let shared = splits_allocate b e context_2 (at 12) (name (at 13) (codes "upper")) (fact (at 14) facts.Counted) method majority.Free three.values refl (three.records, three.means) in
+            let amounts : shared.0 ≡ two.values = name_is b e context_2 shared.0 shared.1.0 (at 13) (codes "upper") two.values refl shared.1.1 in
+            let votes : shared.2 ≡ fact_column b e facts.Counted = fact_is b e context_2 shared.2 shared.3.0 (at 14) facts.Counted shared.3.1 in
+            every_weaker (λ party. Contains (scopes e shape.Party shape.List) (party_lists e party)) (IsShared method b e base two.values)
+            (λ party there. among_is method b e party base three.values two.values shared.0 shared.2 is_last amounts votes (shared.4 (party_lists e party) there)) (parties e) (each_scope e);
       }
 
 -- ---- the winners that are taken from the house

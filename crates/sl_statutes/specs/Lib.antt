@@ -3,4 +3,9 @@ pub mod Trees
 pub mod Statutes
 pub mod Houses
 pub mod Parties
+pub mod Lists
+pub mod Overhang
+pub mod Majorities
 pub mod Grown
+pub mod Unseated
+pub mod Best

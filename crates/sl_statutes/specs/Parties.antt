@@ -1,10 +1,11 @@
 -- How the parties stand to each other by the statutes, and what more votes bring them, whatever the offsets in their texts. Each law is the
 -- contract of a function of `laws`.
-use Rattle.std.specs.Prelude.{◌≡◌, ℕ, ◌-◌, ◌<◌, ◌≤◌, List, Some, filter, sum_by, nat_eq}
+use Rattle.std.specs.Prelude.{◌≡◌, ℕ, ◌-◌, ◌<◌, ◌≤◌, List, Some, filter, sum, sum_by, nat_eq}
 use Rattle.sl_ratio.specs.declared.method.Divisor.TheVariants.{Webster}
 use Rattle.sl_stages.specs.declared.book.Axis.TheVariants as axis
 use Rattle.sl_stages.specs.declared.fact.Fact.TheVariants as facts
 use Rattle.sl_stages.specs.declared.returns.ListVotes.{ListVotes}
+use Rattle.sl_stages.specs.declared.returns.Lot.{Lot}
 use Rattle.sl_stages.specs.declared.table.Outcome.TheVariants as outcome
 use Rattle.sl_stages.specs.book.Trees.{BookTree}
 use Rattle.sl_stages.specs.returns.Votes.{IsListVotes}
@@ -13,6 +14,7 @@ use Rattle.sl_stages.specs.returns.Facts.{by_party}
 use Rattle.sl_stages.specs.methods.Field.{no_minima}
 use Rattle.sl_stages.specs.methods.Allocations.{IsDivisorAllocation}
 use Rattle.sl_stages.specs.meaning.Columns.{sum_over, fact_column}
+use Rattle.sl_stages.specs.meaning.Scopes.{cells, lists_of_party}
 use Rattle.sl_stages.specs.meaning.Tables.{SeatTable}
 use Rattle.sl_stages.specs.meaning.Means.{Means}
 use Rattle.sl_fairness.specs.Winners.{independents}
@@ -30,6 +32,10 @@ party_seats t party = sum_by (λ s. s.seats) (filter (λ s. nat_eq s.party party
 abbrev pub seats_column : Election → SeatTable → List ℕ
 seats_column e t = by_party e (party_seats t)
 
+-- the seats of a party's lists in the base, before any overhang
+abbrev pub base_of_party : Election → List ℕ → ℕ → ℕ
+base_of_party e base party = sum (cells e (lists_of_party e party) base)
+
 -- in each table the parties have an allocation, by Webster's method, of the house without the independents
 abbrev pub AlwaysByWebster : BookTree → Type 0
 AlwaysByWebster b =
@@ -44,11 +50,12 @@ pub record IsGain (e : Election) (land party : ℕ) (votes : ListVotes) : Type 0
   pub counted : before.counted < votes.counted
   pub valid : before.valid ≤ votes.valid
 
--- with more votes for one of its lists, and all else equal, a party has no fewer seats
+-- with more votes for one of its lists, and all else equal but the lots, a party has no fewer seats
 abbrev pub NeverLosesByVotes : BookTree → Type 0
 NeverLosesByVotes b =
     (e : Election) (land party : ℕ) (votes : ListVotes) → IsElection e → IsGain e land party votes →
-    (t u : SeatTable) → Means b e (outcome.Table t) → Means b (with_list e land party votes) (outcome.Table u) →
+    (lots : List Lot) → IsElection (record (with_list e land party votes) { lots = lots }) →
+    (t u : SeatTable) → Means b e (outcome.Table t) → Means b (record (with_list e land party votes) { lots = lots }) (outcome.Table u) →
     party_seats t party ≤ party_seats u party
 
 -- ---- the laws

@@ -3,7 +3,12 @@
 ghost use Rattle.sl_statutes.specs.Statutes.{LastClauses, AreWellFormed, WinnersOf2013};
 ghost use Rattle.sl_statutes.specs.Houses.{OverhangOf1956, OverhangOf1985, OverhangOf2008, TotalOf2023, TotalOf2023Order};
 ghost use Rattle.sl_statutes.specs.Grown.{HouseOf2013, PartiesOf2013};
+ghost use Rattle.sl_statutes.specs.Unseated.{UnseatedOf2023};
+ghost use Rattle.sl_statutes.specs.Best.{BestOf2023};
 ghost use Rattle.sl_statutes.specs.Parties.{PartiesOf2023, VotesOf2023};
+ghost use Rattle.sl_statutes.specs.Overhang.{PartiesBefore2013};
+ghost use Rattle.sl_statutes.specs.Lists.{ListsOf2013, ListsOf2023, ListVotesOf2023};
+ghost use Rattle.sl_statutes.specs.Majorities.{MajorityBefore2013, MajorityOf2013, MajorityOf2023};
 
 /// The statutes up to 2013 keep the winners, and those of 2023 cover them.
 pub fn last_clauses()
@@ -72,4 +77,57 @@ pub fn parties_of_2023()
 /// no seat.
 pub fn votes_of_2023()
     ensures { VotesOf2023 }
+{}
+
+/// By the statutes of 2023, with the order of 2024 or without it, a party with more than half of the counted votes has more than half of the
+/// seats that the parties share, where there are any.
+pub fn majority_of_2023()
+    ensures { MajorityOf2023 }
+{}
+
+/// By the statutes of 2023, with the order of 2024 or without it, the lists of each party have in the table an allocation by Webster's method
+/// of the seats that the party has.
+pub fn lists_of_2023()
+    ensures { ListsOf2023 }
+{}
+
+/// By the statutes of 2023, with the order of 2024 or without it, more counted votes for a list, and all else equal, cost the list itself no
+/// seat.
+pub fn list_votes_of_2023()
+    ensures { ListVotesOf2023 }
+{}
+
+/// More than half of the counted votes has before any overhang at least half of the seats that the parties share by the statute of 1956, and
+/// more than half of them by those of 1985 and 2008.
+pub fn majority_before_2013()
+    ensures { MajorityBefore2013 }
+{}
+
+/// By the statutes of 2023, with the order of 2024 or without it, as many winners stay without a seat as the overhang of the same base would
+/// be, and with them those of parties without a list.
+pub fn unseated_of_2023()
+    ensures { UnseatedOf2023 }
+{}
+
+/// By the statutes of 2023, with the order of 2024 or without it, the seats for each vote deviate, from party to party, as little as they can.
+pub fn best_of_2023()
+    ensures { BestOf2023 }
+{}
+
+/// By the statute of 2013 a party with more than half of the counted votes has more than half of the seats that the parties have, where there
+/// are any.
+pub fn majority_of_2013()
+    ensures { MajorityOf2013 }
+{}
+
+/// By the statute of 2013 the lists of each party have in the table an allocation by Webster's method of the seats that the party has, with
+/// their winners as minima.
+pub fn lists_of_2013()
+    ensures { ListsOf2013 }
+{}
+
+/// By the statutes of 1956, 1985 and 2008 the parties have before overhang an allocation by the method of the statute, and in the table each
+/// has its overhang beside it: who has overhang stands above the allocation.
+pub fn parties_before_2013()
+    ensures { PartiesBefore2013 }
 {}

@@ -34,8 +34,25 @@ pub fn stage_text(
     ensures { IfOk result (λ text. text.items ≡ held_stage_text code.now returns.now memory.now stage) }
 {
     let slot = usize::from(code.stages()[stage].slot);
+    column_text(alloc, code.slots()[slot], memory.column(slot), returns)
+}
+
+/// The text of a column of that shape (docs/output.md, section 1).
+///
+/// # Errors
+///
+/// Want of memory.
+pub fn column_text(
+    alloc: Global,
+    shape: Shape,
+    column: &[u64],
+    returns: &Returns,
+) -> Result<Vec<u8>, NoMemory>
+    requires { length column.now ≡ cells_of returns.now shape }
+    ensures { IfOk result (λ text. text.items ≡ stage_text returns.now shape column.now) }
+{
     let mut text = Text::new(alloc);
-    entry_lines(&mut text, code.slots()[slot], memory.column(slot), returns)?;
+    entry_lines(&mut text, shape, column, returns)?;
     Ok(text.into_bytes())
 }
 

@@ -126,7 +126,7 @@ const HELPS: [(&str, &str); 2] = [
          \x20     --json             Write JSON (docs/report.md)\n\
          \x20     --csv              Write comma-separated values\n\
          \x20     --names <FILE>     Full names: the path of a CSV file of short and full ones\n\
-         \x20 -q, --quiet            Leaves explanations on standard error away\n\
+         \x20 -q, --quiet            Omits explanations on standard error\n\
          \x20     --lang <LANGUAGE>  The language of explanations, else that of the environment [possible values: de, en]\n\
          \x20 -h, --help             Print help\n\
          \n\
@@ -151,7 +151,7 @@ const HELPS: [(&str, &str); 2] = [
          \x20     --json             Write JSON (docs/report.md)\n\
          \x20     --csv              Write comma-separated values\n\
          \x20     --names <FILE>     Full names: the path of a CSV file of short and full ones\n\
-         \x20 -q, --quiet            Leaves explanations on standard error away\n\
+         \x20 -q, --quiet            Omits explanations on standard error\n\
          \x20     --lang <LANGUAGE>  The language of explanations, else that of the environment [possible values: de, en]\n\
          \x20 -h, --help             Print help\n\
          \n\

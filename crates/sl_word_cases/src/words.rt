@@ -31,6 +31,10 @@ fn text_of(alloc: Global, request: Request<'_>) -> Result<String, Fail> {
         Request::Code { book, file } => format!(in alloc; "code of {book} in {file}")?,
         Request::Run { code, returns } => format!(in alloc; "run of {code} and {returns}")?,
         Request::Law { name } => format!(in alloc; "law {name}")?,
+        Request::Explain { code } => {
+            let word = code.word();
+            format!(in alloc; "explain {word}")?
+        }
         Request::Report { what, form, names } => {
             report_words::text_of(alloc, &what, form, names)?
         }
@@ -48,7 +52,7 @@ pub(crate) fn answer(alloc: Global, line: &str) -> Result<(String, bool), Fail> 
 }
 
 // Lines, each with the request as text.
-const REQUESTS: [(&str, &str); 12] = [
+const REQUESTS: [(&str, &str); 13] = [
     (
         "seatlaw count book.law returns.csv",
         "seats of book.law and returns.csv",
@@ -85,6 +89,7 @@ const REQUESTS: [(&str, &str); 12] = [
     ),
     ("seatlaw law 2023-order", "law 2023-order"),
     ("seatlaw law @2023", "law @2023"),
+    ("seatlaw explain b15", "explain B15"),
 ];
 
 #[test]
@@ -131,10 +136,10 @@ fn options(rt: HostRuntime) -> Result<(), Fail> {
 }
 
 // Lines that are refused, each with the text on standard error.
-const REFUSALS: [(&str, &str); 10] = [
+const REFUSALS: [(&str, &str); 11] = [
     (
         "seatlaw",
-        "error: 'seatlaw' requires a subcommand but one was not provided\n  [subcommands: count, steps, stage, check, code, run, law, report, stages, totals, compare, help]\n\nUsage: seatlaw <COMMAND>\n\nFor more information, try '--help'.\n",
+        "error: 'seatlaw' requires a subcommand but one was not provided\n  [subcommands: count, steps, stage, check, code, run, law, explain, report, stages, totals, compare, help]\n\nUsage: seatlaw <COMMAND>\n\nFor more information, try '--help'.\n",
     ),
     (
         "seatlaw counts",
@@ -167,6 +172,10 @@ const REFUSALS: [(&str, &str); 10] = [
     (
         "seatlaw code own.law own.law",
         "error: BOOK and OUT are one file, which would be emptied before it is read: write the code to another\n\nUsage: seatlaw <COMMAND>\n\nFor more information, try '--help'.\n",
+    ),
+    (
+        "seatlaw explain B99",
+        "error: there is no such code: a code is a letter and two digits, such as B15; docs/faults.md lists them\n\nUsage: seatlaw <COMMAND>\n\nFor more information, try '--help'.\n",
     ),
     (
         "seatlaw count @2023 returns.csv --lang fr",
@@ -220,6 +229,7 @@ const HELPS: [(&[&str], &str); 8] = [
          \x20 code     Compiles a rulebook to a code file and writes the listing of the code\n\
          \x20 run      Runs a code file on returns and writes the seat table\n\
          \x20 law      Writes a rulebook of the library\n\
+         \x20 explain  Says what the code of a fault means\n\
          \x20 report   Counts an election and writes all of it as tables that people read\n\
          \x20 stages   Counts an election and writes the numbers of all stages\n\
          \x20 totals   Writes the sums of returns, and warnings of what is likely a mistake\n\
@@ -250,7 +260,7 @@ const HELPS: [(&[&str], &str); 8] = [
          \x20 <RETURNS>  The returns, the numbers of an election: the path of a CSV file\n\
          \n\
          Options:\n\
-         \x20 -q, --quiet            Leaves explanations on standard error away\n\
+         \x20 -q, --quiet            Omits explanations on standard error\n\
          \x20     --lang <LANGUAGE>  The language of explanations, else that of the environment [possible values: de, en]\n\
          \x20 -h, --help             Print help\n\
          \n\
@@ -272,7 +282,7 @@ const HELPS: [(&[&str], &str); 8] = [
          \x20 <RETURNS>  The returns, the numbers of an election: the path of a CSV file\n\
          \n\
          Options:\n\
-         \x20 -q, --quiet            Leaves explanations on standard error away\n\
+         \x20 -q, --quiet            Omits explanations on standard error\n\
          \x20     --lang <LANGUAGE>  The language of explanations, else that of the environment [possible values: de, en]\n\
          \x20 -h, --help             Print help\n\
          \n\
@@ -296,7 +306,7 @@ const HELPS: [(&[&str], &str); 8] = [
          \x20 <NAME>     The name of a stage of the rulebook: the word after `stage`\n\
          \n\
          Options:\n\
-         \x20 -q, --quiet            Leaves explanations on standard error away\n\
+         \x20 -q, --quiet            Omits explanations on standard error\n\
          \x20     --lang <LANGUAGE>  The language of explanations, else that of the environment [possible values: de, en]\n\
          \x20 -h, --help             Print help\n\
          \n\
@@ -317,7 +327,7 @@ const HELPS: [(&[&str], &str); 8] = [
          \x20 <BOOK>  The rulebook: a path, or @NAME for one of the library\n\
          \n\
          Options:\n\
-         \x20 -q, --quiet            Leaves explanations on standard error away\n\
+         \x20 -q, --quiet            Omits explanations on standard error\n\
          \x20     --lang <LANGUAGE>  The language of explanations, else that of the environment [possible values: de, en]\n\
          \x20 -h, --help             Print help\n\
          \n\
@@ -338,7 +348,7 @@ const HELPS: [(&[&str], &str); 8] = [
          \x20 <OUT>   The code file to write: a path, whose file is made or emptied first\n\
          \n\
          Options:\n\
-         \x20 -q, --quiet            Leaves explanations on standard error away\n\
+         \x20 -q, --quiet            Omits explanations on standard error\n\
          \x20     --lang <LANGUAGE>  The language of explanations, else that of the environment [possible values: de, en]\n\
          \x20 -h, --help             Print help\n\
          \n\
@@ -360,7 +370,7 @@ const HELPS: [(&[&str], &str); 8] = [
          \x20 <RETURNS>  The returns, the numbers of an election: the path of a CSV file\n\
          \n\
          Options:\n\
-         \x20 -q, --quiet            Leaves explanations on standard error away\n\
+         \x20 -q, --quiet            Omits explanations on standard error\n\
          \x20     --lang <LANGUAGE>  The language of explanations, else that of the environment [possible values: de, en]\n\
          \x20 -h, --help             Print help\n\
          \n\
@@ -380,7 +390,7 @@ const HELPS: [(&[&str], &str); 8] = [
          \x20 <NAME>  1956, 1985, 2008, 2013, 2023 or 2023-order\n\
          \n\
          Options:\n\
-         \x20 -q, --quiet            Leaves explanations on standard error away\n\
+         \x20 -q, --quiet            Omits explanations on standard error\n\
          \x20     --lang <LANGUAGE>  The language of explanations, else that of the environment [possible values: de, en]\n\
          \x20 -h, --help             Print help\n\
          \n\

@@ -1,10 +1,11 @@
 //! The words of the command line.
 
-use crate::help::{COMMANDS, Form, Given, PROGRAM, SAME_FILE, VERSION, Word};
+use crate::help::{COMMANDS, Form, Given, PROGRAM, SAME_FILE, UNKNOWN_CODE, VERSION, Word};
 use crate::options::{Options, options_of};
 use crate::reports::{Report, ReportForm, form_of, report_of};
 use clap::error::ErrorKind;
 use clap::{Arg, ArgAction, ArgMatches, Command, Error};
+use sl_explain::FaultCode;
 use std::alloc::{AllocError, Global};
 
 /// What is shown of an election that is counted.
@@ -44,6 +45,10 @@ pub enum Request<'a> {
     /// To write a rulebook of the library.
     Law {
         name: &'a str,
+    },
+    /// To say what the code of a fault means.
+    Explain {
+        code: FaultCode,
     },
     /// To report in a form, with the full names of a file if one is given.
     Report {
@@ -166,7 +171,12 @@ fn running<'a>(given: &ArgMatches<'a>) -> Option<Request<'a>> {
     Some(Request::Run { code, returns })
 }
 
-// What a command of the desk asks for.
+// The code that is given, if it is one.
+fn given_code(given: &ArgMatches<'_>) -> Option<FaultCode> {
+    FaultCode::of_word(given.get_str("CODE")?)
+}
+
+// What a command that does not report asks for.
 fn desk_request<'a>(command: &str, given: &ArgMatches<'a>) -> Option<Request<'a>> {
     match command {
         "count" => counting(Show::Seats, given),
@@ -179,6 +189,9 @@ fn desk_request<'a>(command: &str, given: &ArgMatches<'a>) -> Option<Request<'a>
         "run" => running(given),
         "law" => Some(Request::Law {
             name: given.get_str("NAME")?,
+        }),
+        "explain" => Some(Request::Explain {
+            code: given_code(given)?,
         }),
         _ => None,
     }
@@ -225,14 +238,25 @@ fn judged<'a>(
     }
 }
 
+// Whether a code is asked for that does not exist.
+fn asks_unknown_code(matches: &ArgMatches<'_>) -> bool {
+    match matches.subcommand() {
+        Some(("explain", given)) => given_code(given).is_none(),
+        Some(_) | None => false,
+    }
+}
+
 /// What these words ask for, of which the first is the program's name; `None` where no command is among them.
 ///
 /// # Errors
 ///
-/// A refusal, a help or the version by `clap`, a refusal of `code` with one word for its rulebook and its code file, or want of memory.
+/// A refusal, a help or the version by `clap`, a refusal of `code` with one word for its rulebook and its code file, a refusal of `explain` with a word that is no code, or out of memory.
 pub fn request_of<'a>(alloc: Global, words: &'a [String]) -> Result<Option<Asked<'a>>, Error> {
     let mut program = program(alloc, words)?;
     let matches = program.try_get_matches_from_mut(words)?;
+    if asks_unknown_code(&matches) {
+        return Err(program.error(ErrorKind::InvalidValue, UNKNOWN_CODE)?);
+    }
     let asked = asked_in(alloc, &matches)?;
     judged(&mut program, asked)
 }

@@ -7,6 +7,10 @@ pub const VERSION: &str = "1.0.0";
 pub const SAME_FILE: &str =
     "BOOK and OUT are one file, which would be emptied before it is read: write the code to another";
 
+/// Why `explain` refuses a word.
+pub const UNKNOWN_CODE: &str =
+    "there is no such code: a code is a letter and two digits, such as B15; docs/faults.md lists them";
+
 /// How a word is given to a command.
 pub enum Given {
     /// In its place, and it has to be there.
@@ -106,6 +110,12 @@ const STATUTE: Word = Word {
     help: "1956, 1985, 2008, 2013, 2023 or 2023-order",
 };
 
+const FAULT_CODE: Word = Word {
+    name: "CODE",
+    given: Given::Needed,
+    help: "The code of a fault, as an error has it in brackets: B15",
+};
+
 const JSON: Word = Word {
     name: "json",
     given: Given::Flag(&[]),
@@ -127,7 +137,7 @@ const NAMES: Word = Word {
 const QUIET: Word = Word {
     name: "quiet",
     given: Given::Letter('q'),
-    help: "Leaves explanations on standard error away",
+    help: "Omits explanations on standard error",
 };
 
 const LANGUAGE: Word = Word {
@@ -241,6 +251,18 @@ const LAW: Form = Form {
     ),
 };
 
+const EXPLAIN: Form = Form {
+    name: "explain",
+    about: "Says what the code of a fault means",
+    words: &[FAULT_CODE],
+    options: &OPTIONS,
+    more: ending!(
+        "Reads no file. Writes what happened, an example, and what to do. Each error has its code\n\
+         in brackets: `error[B15]`.",
+        "explain B15"
+    ),
+};
+
 const REPORT: Form = Form {
     name: "report",
     about: "Counts an election and writes all of it as tables that people read",
@@ -293,6 +315,6 @@ const COMPARE: Form = Form {
 };
 
 /// The commands, in the order in which the help lists them.
-pub const COMMANDS: [Form; 11] = [
-    COUNT, STEPS, STAGE, CHECK, CODE, RUN, LAW, REPORT, STAGES, TOTALS, COMPARE,
+pub const COMMANDS: [Form; 12] = [
+    COUNT, STEPS, STAGE, CHECK, CODE, RUN, LAW, EXPLAIN, REPORT, STAGES, TOTALS, COMPARE,
 ];

@@ -6,7 +6,7 @@ use sl_explain::Language;
 /// How a command speaks on standard error.
 #[derive(Clone, Copy)]
 pub struct Options {
-    /// It leaves its explanations away.
+    /// It omits its explanations.
     pub is_quiet: bool,
     /// The language that is asked for, if any is.
     pub language: Option<Language>,

@@ -3,12 +3,14 @@
 ghost use Rattle.std.specs.Prelude.{◌≡◌, IfOk, IfSome};
 ghost use Rattle.sl_stages.specs.book.Books.{book_of};
 ghost use Rattle.sl_inputs.specs.Failures.{counts, counts_after};
-ghost use Rattle.sl_desk.specs.Checking.{IsCheckOutput, check_line};
+ghost use Rattle.sl_desk.specs.Checking.{IsCheck, IsCheckOutput, check_line};
+ghost use Rattle.sl_inputs.specs.Judging.{tree_verdict};
 ghost use Rattle.sl_inputs.specs.Reading.{book_input, book_failures, ReadsBook};
 ghost use Rattle.sl_inputs.specs.Writing.{Delivers};
 
+use sl_check::CheckedBook;
 use sl_counts::Answer;
-use sl_inputs::{BookSource, DeskError, Sink, Source, Status, Verdict, read_book};
+use sl_inputs::{BookSource, DeskError, RefusedBook, Sink, Source, Status, Verdict, read_book};
 use sl_ratio::NoMemory;
 use sl_stages::Book;
 use sl_table::Text;
@@ -31,16 +33,31 @@ fn check_line(alloc: Global, book: &Book) -> Result<Vec<u8>, NoMemory>
     Ok(line.into_bytes())
 }
 
+/// What checking writes of a judged book: the line of a good one, or the line that refuses it.
+///
+/// # Errors
+///
+/// Out of memory.
+pub fn check_answer(
+    alloc: Global,
+    book: &Verdict<CheckedBook, RefusedBook<'_>>,
+) -> Result<Answer, NoMemory>
+    ensures { IfOk result (λ a. IsCheck (tree_verdict book.entry.now) a.status a.text.items) }
+{
+    match book {
+        Verdict::Good(good) => Ok(Answer::done(check_line(alloc, &good.book)?)),
+        Verdict::Refused(refused) => Ok(Answer::refused(refused.why().line(alloc)?)),
+    }
+}
+
 // What checking a book writes.
 fn answer_to<B: Source>(alloc: Global, book: &mut BookSource<'_, B>) -> Result<Answer, DeskError>
     ensures answer { IfOk result (λ a. IfSome (book_input B.remaining book.old) (λ input. IsCheckOutput input a.status a.text.items)) }
     ensures failures { counts (book_failures B.failed book.new) 0 0 0 ≡ counts_after (counts (book_failures B.failed book.old) 0 0 0) result }
     ensures book { ReadsBook B.remaining book.old book.new }
 {
-    match read_book(alloc, book)? {
-        Verdict::Good(book) => Ok(Answer::done(check_line(alloc, &book.book)?)),
-        Verdict::Refused(why) => Ok(Answer::refused(why.line(alloc)?)),
-    }
+    let read = read_book(alloc, book)?;
+    Ok(check_answer(alloc, &read.verdict)?)
 }
 
 /// Checks a rulebook: reads it, and writes the line of a good book, or the line that refuses it (docs/output.md).

@@ -3,7 +3,8 @@
 ghost use Rattle.std.specs.Prelude.{◌≡◌, IfOk, IfErr, IfSome};
 ghost use Rattle.sl_stages.specs.book.Books.{book_of};
 ghost use Rattle.sl_inputs.specs.Failures.{counts, counts_after, FailsInOne};
-ghost use Rattle.sl_desk.specs.Compiling.{IsCodeOf, IsCompilingOutput};
+ghost use Rattle.sl_desk.specs.Compiling.{IsCodeOf, IsCompiling, IsCompilingOutput};
+ghost use Rattle.sl_inputs.specs.Judging.{tree_verdict};
 ghost use Rattle.sl_inputs.specs.Reading.{book_input, book_failures, ReadsBook};
 ghost use Rattle.sl_inputs.specs.Writing.{DeliversBoth};
 
@@ -11,20 +12,26 @@ use sl_check::CheckedBook;
 use sl_code::{listing, to_bytes};
 use sl_compile::compile;
 use sl_counts::Answer;
-use sl_inputs::{BookSource, DeskError, Sink, Source, Status, Verdict, read_book, write_all};
+use sl_inputs::{
+    BookSource, DeskError, RefusedBook, Sink, Source, Status, Verdict, read_book, write_all,
+};
 use sl_ratio::NoMemory;
 use std::alloc::Global;
 
-// The bytes of a code file, and what is written after it.
+/// The bytes of a code file, and what is written after it.
 #[derive(Drop)]
-struct Compilation {
-    file: Vec<u8>,
-    answer: Answer,
+pub struct Compilation {
+    pub file: Vec<u8>,
+    pub answer: Answer,
 }
 
 impl Compilation {
-    // Writes the file, and then the answer.
-    fn deliver<F: Sink, W: Sink>(&self, file: &mut F, out: &mut W) -> Result<Status, DeskError>
+    /// Writes the file, and then the answer.
+    ///
+    /// # Errors
+    ///
+    /// `Write` where one of the sinks failed.
+    pub fn deliver<F: Sink, W: Sink>(&self, file: &mut F, out: &mut W) -> Result<Status, DeskError>
         ensures delivers { DeliversBoth (λ status bytes text. (status ≡ self.now.answer.status) × (bytes ≡ self.now.file.items) × (text ≡ self.now.answer.text.items))
             (F.failed file.old) (F.failed file.new) (F.contents file.old) (F.contents file.new) (W.contents out.old) (W.contents out.new) result }
         ensures failures { FailsInOne 0 0 (F.failed file.old) (F.failed file.new) (W.failed out.old) (W.failed out.new) result }
@@ -49,6 +56,29 @@ fn compiled(alloc: Global, book: &CheckedBook) -> Result<Compilation, NoMemory>
     Ok(Compilation { file, answer })
 }
 
+/// What compiling writes of a judged book: its code, or the line that refuses it.
+///
+/// # Errors
+///
+/// Out of memory.
+pub fn compilation_of(
+    alloc: Global,
+    book: &Verdict<CheckedBook, RefusedBook<'_>>,
+) -> Result<Compilation, NoMemory>
+    ensures { IfOk result (λ c. IsCompiling (tree_verdict book.entry.now) c.answer.status c.file.items c.answer.text.items) }
+{
+    match book {
+        Verdict::Good(good) => compiled(alloc, good),
+        Verdict::Refused(refused) => {
+            let answer = Answer::refused(refused.why().line(alloc)?);
+            Ok(Compilation {
+                file: Vec::new(alloc),
+                answer,
+            })
+        }
+    }
+}
+
 // What compiling a book writes.
 fn answer_to<B: Source>(
     alloc: Global,
@@ -59,16 +89,8 @@ fn answer_to<B: Source>(
     ensures failures { counts (book_failures B.failed book.new) 0 0 0 ≡ counts_after (counts (book_failures B.failed book.old) 0 0 0) result }
     ensures book { ReadsBook B.remaining book.old book.new }
 {
-    match read_book(alloc, book)? {
-        Verdict::Good(book) => Ok(compiled(alloc, &book)?),
-        Verdict::Refused(why) => {
-            let answer = Answer::refused(why.line(alloc)?);
-            Ok(Compilation {
-                file: Vec::new(alloc),
-                answer,
-            })
-        }
-    }
+    let read = read_book(alloc, book)?;
+    Ok(compilation_of(alloc, &read.verdict)?)
 }
 
 /// Compiles a rulebook: reads it, writes its code to `file`, and then the listing of its instructions to `out`; or writes to `out` the line that

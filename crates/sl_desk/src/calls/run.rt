@@ -1,68 +1,157 @@
 //! Running a code file: from its bytes and returns to the text of how the run ends.
 
-ghost use Rattle.std.specs.Prelude.{◌≡◌, ◌+◌, IfOk, IfErr, IfSome};
-ghost use Rattle.sl_inputs.specs.declared.limits.TheConstants.{MAX_CODE_BYTES, MAX_RETURNS_BYTES};
-ghost use Rattle.sl_inputs.specs.declared.verdict.Verdict.TheVariants as verdict;
+ghost use Rattle.std.specs.Prelude.{◌⊎◌, ◌≡◌, ◌+◌, IfOk, IfErr, IfSome};
+ghost use Rattle.sl_desk.specs.JudgedRuns.{FitsJudged, IsJudged, IsJudgedOn, IsRunAnswer, RunsInto};
+ghost use Rattle.sl_desk.specs.Running.{IsRunCode, ReadsBehindCode};
 ghost use Rattle.sl_inputs.specs.Failures.{counts, counts_after};
-ghost use Rattle.sl_desk.specs.Running.{IsRun, IsRunCode, IsCodeOutput};
 ghost use Rattle.sl_inputs.specs.Reading.{ForKnown, TakesAtMost};
-ghost use Rattle.sl_desk.specs.Running.{ReadsBehindCode};
 ghost use Rattle.sl_inputs.specs.Writing.{Delivers};
+ghost use Rattle.sl_inputs.specs.declared.limits.TheConstants.{MAX_CODE_BYTES, MAX_RETURNS_BYTES};
+ghost use Rattle.sl_machine.specs.Fits.{Fits};
 
-use sl_code_inputs::read_code;
-use sl_counts::{Answer, Nobody, Report, ended};
-use sl_inputs::{DeskError, Sink, Source, Status, Verdict, read_election};
-use sl_machine::budget;
+use crate::runs::run_text;
+use sl_code_inputs::{CodeRefusal, ReadCode, read_code};
+use sl_counts::Answer;
+use sl_inputs::{
+    DeskError, ReadReturns, RefusedElection, Sink, Source, Status, Verdict, read_election,
+};
+use sl_machine::{Ending, budget, run_unrecorded};
+use sl_ratio::NoMemory;
 use sl_stages::Returns;
 use sl_verify::Verified;
 use std::alloc::Global;
 
-// What good code comes to on good returns: it is run with the budget of its stages.
-fn outcome(alloc: Global, code: &Verified, returns: &Returns) -> Result<Answer, DeskError>
-    ensures memory { IfErr result (λ e. e ≡ DeskError.NoMemory) }
-    ensures output { IfOk result (λ a. IsCodeOutput code.now (verdict.Good returns.now) a.status a.text.items) }
-{
-    let steps = budget(code.code().stages().len(), returns);
-    let ending = Report::Seats.run(alloc, code, returns, steps)?;
-    Ok(ended(
-        Report::Seats,
-        alloc,
-        code.code(),
-        returns,
-        ending,
-        &mut Nobody,
-    )?)
+/// Good code on good returns, and how its run ends, with the budget of its stages and without its records.
+#[derive(Drop)]
+pub struct Run {
+    pub code: Verified,
+    pub returns: Returns,
+    pub ending: Ending,
 }
 
-// What good code comes to on the returns of a source.
-fn counted<S: Source>(alloc: Global, code: &Verified, returns: &mut S) -> Result<Answer, DeskError>
-    ensures answer { IfOk result (λ a. IfSome (S.remaining returns.old) (λ bytes. IsRun (verdict.Good code.now) bytes a.status a.text.items)) }
+/// What a code file and returns come to.
+#[derive(Drop)]
+pub enum JudgedRun {
+    /// The code file is refused.
+    CodeRefused(CodeRefusal),
+    /// The returns are refused, after a good code file.
+    ReturnsRefused(RefusedElection),
+    /// Both are good.
+    Ran(Run),
+}
+
+/// What a code file and returns come to, and the bytes of both as far as they were read: none of an input that is too long, and of returns that were
+/// not read.
+#[derive(Drop)]
+pub struct ReadRun {
+    pub judged: JudgedRun,
+    pub file: Vec<u8>,
+    pub returns: Vec<u8>,
+}
+
+// How the run of good code on good returns ends.
+fn ending_of(alloc: Global, code: &Verified, returns: &Returns) -> Result<Ending, DeskError>
+    ensures memory { IfErr result (λ e. e ≡ DeskError.NoMemory) }
+    ensures ending { IfOk result (RunsInto code.now returns.now) }
+    ensures fits { IfOk result (Fits code.now returns.now) }
+{
+    let steps = budget(code.code().stages().len(), returns);
+    Ok(run_unrecorded(alloc, code, returns, steps)?)
+}
+
+// What good code and the returns of a source come to.
+fn read_on<S: Source>(
+    alloc: Global,
+    code: Verified,
+    file: Vec<u8>,
+    returns: &mut S,
+) -> Result<ReadRun, DeskError>
+    ensures judged { IfOk result (λ r. IfSome (S.remaining returns.old) (λ bytes. IsJudgedOn code bytes r.judged)) }
+    ensures fits { IfOk result (λ r. FitsJudged r.judged) }
     ensures failures { counts 0 (S.failed returns.new) 0 0 ≡ counts_after (counts 0 (S.failed returns.old) 0 0) result }
     ensures limited { TakesAtMost (MAX_RETURNS_BYTES + 1) (S.remaining returns.old) (S.remaining returns.new) }
 {
-    match read_election(alloc, returns)? {
-        Verdict::Good(returns) => outcome(alloc, code, &returns),
-        Verdict::Refused(why) => Ok(Answer::refused(why.line(alloc)?)),
+    let ReadReturns { text, verdict } = read_election(alloc, returns)?;
+    match verdict {
+        Verdict::Good(returns) => {
+            let ending = ending_of(alloc, &code, &returns)?;
+            Ok(ReadRun {
+                judged: JudgedRun::Ran(Run {
+                    code,
+                    returns,
+                    ending,
+                }),
+                file,
+                returns: text,
+            })
+        }
+        Verdict::Refused(refused) => Ok(ReadRun {
+            judged: JudgedRun::ReturnsRefused(refused),
+            file,
+            returns: text,
+        }),
     }
 }
 
-// What running a code file on returns writes.
-fn answer_to<C: Source, R: Source>(
+/// Reads a code file and returns, and answers what they come to. The code is read and judged before the returns.
+///
+/// # Errors
+///
+/// `Read` where a source failed, and `NoMemory`.
+pub fn judge_run<C: Source, R: Source>(
     alloc: Global,
     code: &mut C,
     returns: &mut R,
-) -> Result<Answer, DeskError>
-    ensures answer { IfOk result (λ a. ForKnown (C.remaining code.old) (R.remaining returns.old) (λ file bytes.
-        IsRunCode file bytes a.status a.text.items)) }
+) -> Result<ReadRun, DeskError>
+    // It is what the two inputs come to, where their bytes are known.
+    ensures judged { IfOk result (λ r. ForKnown (C.remaining code.old) (R.remaining returns.old) (λ file bytes. IsJudged file bytes r.judged)) }
+    ensures fits { IfOk result (λ r. FitsJudged r.judged) }
+
+    // No call of a source failed, or that one of which the error speaks.
     ensures failures { counts 0 (R.failed returns.new) (C.failed code.new) 0
         ≡ counts_after (counts 0 (R.failed returns.old) (C.failed code.old) 0) result }
+
+    // What is taken of the inputs, the returns only after good code.
     ensures code { TakesAtMost (MAX_CODE_BYTES + 1) (C.remaining code.old) (C.remaining code.new) }
     ensures returns { ReadsBehindCode R.remaining (C.remaining code.old) returns.old returns.new result }
 {
-    match read_code(alloc, code)? {
-        Verdict::Good(code) => counted(alloc, &code, returns),
-        Verdict::Refused(why) => Ok(Answer::refused(why.line(alloc)?)),
+    let ReadCode { file, verdict } = read_code(alloc, code)?;
+    match verdict {
+        Verdict::Good(code) => read_on(alloc, code, file, returns),
+        Verdict::Refused(refused) => Ok(ReadRun {
+            judged: JudgedRun::CodeRefused(refused),
+            file,
+            returns: Vec::new(alloc),
+        }),
     }
+}
+
+/// What is written of what a code file and returns come to.
+///
+/// # Errors
+///
+/// Out of memory.
+pub fn run_answer(alloc: Global, judged: &JudgedRun) -> Result<Answer, NoMemory>
+    requires { FitsJudged judged.now }
+    // Whatever two inputs came to it, it is the output of running the one on the other.
+    ensures { IfOk result (λ a. IsRunAnswer judged.now a.status a.text.items) }
+{
+    match judged {
+        JudgedRun::CodeRefused(code) => Ok(Answer::refused(code.line(alloc)?)),
+        JudgedRun::ReturnsRefused(returns) => Ok(Answer::refused(returns.why().line(alloc)?)),
+        JudgedRun::Ran(run) => run_text(alloc, run.code.code(), &run.returns, &run.ending),
+    }
+}
+
+// Writes what a code file and returns come to.
+fn written<W: Sink>(alloc: Global, judged: &JudgedRun, out: &mut W) -> Result<Status, DeskError>
+    requires { FitsJudged judged.now }
+    ensures delivers { Delivers (IsRunAnswer judged.now) (W.contents out.old) (W.contents out.new) result }
+    ensures failures { counts 0 0 0 (W.failed out.new) ≡ counts_after (counts 0 0 0 (W.failed out.old)) result }
+    ensures error { IfErr result (λ e. (e ≡ DeskError.NoMemory) ⊎ (e ≡ DeskError.Write)) }
+{
+    let answer = run_answer(alloc, judged)?;
+    answer.deliver(out)
 }
 
 /// Runs a code file on returns: reads both, and writes the table or the legal fault with which the run of the code ends, or that it is out of
@@ -89,6 +178,8 @@ pub fn run_code<C: Source, R: Source, W: Sink>(
     ensures code { TakesAtMost (MAX_CODE_BYTES + 1) (C.remaining code.old) (C.remaining code.new) }
     ensures returns { ReadsBehindCode R.remaining (C.remaining code.old) returns.old returns.new result }
 {
-    let answer = answer_to(alloc, code, returns)?;
-    answer.deliver(out)
+    match judge_run(alloc, code, returns) {
+        Ok(read) => written(alloc, &read.judged, out),
+        Err(error) => Err(error),
+    }
 }

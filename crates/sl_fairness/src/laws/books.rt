@@ -46,7 +46,7 @@ pub fn splits_allocate()
     ensures { SplitsAllocate }
 {}
 
-/// A split with minima gives each entry of each of its scopes at least its minimum.
+/// A split with minima gives in each of its scopes an allocation by its method with the minima of the entries.
 pub fn splits_meet_the_minima()
     ensures { SplitsMeetTheMinima }
 {}

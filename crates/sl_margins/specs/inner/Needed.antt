@@ -28,17 +28,17 @@ lesser (Some x) (Some y) = Some (min x y)
 lesser (Some x) None = Some x
 lesser None y = y
 
--- another entry than i, which has a seat
-pub record IsRival (s : List ℕ) (i j : ℕ) : Type 0 where
+-- another entry than i, which has a seat beyond its minimum
+pub record IsRival (m s : List ℕ) (i j : ℕ) : Type 0 where
   pub other : j ≢ i
-  pub seated : 0 < slice_index s j
+  pub beyond : slice_index m j < slice_index s j
 
 -- with the weight w the next quotient of i is above the last one of some rival among the first n entries
-abbrev pub Overtakes : Divisor → List ℕ → List ℕ → ℕ → ℕ → ℕ → Type 0
-Overtakes method v s i n w =
-    (j : ℕ) × (j < n) × IsRival s i j × IsAbove method (slice_index s i) (last_quotient method v s j) w
+abbrev pub Overtakes : Divisor → (v m s : List ℕ) → ℕ → ℕ → ℕ → Type 0
+Overtakes method v m s i n w =
+    (j : ℕ) × (j < n) × IsRival m s i j × IsAbove method (slice_index s i) (last_quotient method v s j) w
 
 -- the least such weight; nothing where each rival's last quotient is infinite
-abbrev pub IsNeeded : Divisor → List ℕ → List ℕ → ℕ → ℕ → Option ℕ → Type 0
-IsNeeded method v s i n (Some w) = IsLeast (Overtakes method v s i n) w
-IsNeeded method v s i n None = (j : ℕ) → j < n → IsRival s i j → (last_quotient method v s j).den ≡ 0
+abbrev pub IsNeeded : Divisor → (v m s : List ℕ) → ℕ → ℕ → Option ℕ → Type 0
+IsNeeded method v m s i n (Some w) = IsLeast (Overtakes method v m s i n) w
+IsNeeded method v m s i n None = (j : ℕ) → j < n → IsRival m s i j → (last_quotient method v s j).den ≡ 0

@@ -1,6 +1,7 @@
 -- What a builder has, and what it stands for.
-use Rattle.std.specs.Prelude.{◌≡◌, ◌⊎◌, ℕ, List, [], ◌∷◌, length, Option, Some, None}
+use Rattle.std.specs.Prelude.{◌≡◌, ◌≢◌, ◌⊎◌, ℕ, List, [], ◌∷◌, length, Option, Some, None}
 use Rattle.sl_stages.specs.returns.Election.{Election}
+use Rattle.sl_returns.specs.declared.fault.FaultKind.TheVariants as fault
 use Rattle.sl_returns.specs.declared.fault.ReturnsFault.{ReturnsFault}
 use Rattle.sl_returns.specs.declared.header.Version.{Version}
 use Rattle.sl_returns.specs.Faults.{row_behind, no_memory}
@@ -33,6 +34,10 @@ pub record StandsFor (b : Building) (rs : List Record) : Type 0 where
   pub election : b.election ≡ election_of_records (behind_header rs)
   pub version : b.version ≡ told_version rs
   pub row : b.row ≡ last_row rs
+
+-- a fault has the row of the record behind so many, if it is one of a record
+abbrev pub HasRowBehind : ℕ → ReturnsFault → Type 0
+HasRowBehind records f = f.kind ≢ fault.NoMemory → f.row ≡ row_behind records
 
 -- why the last of these records is refused, none before which is: its own fault or, where it has none, want of memory
 abbrev pub RefusesLast : List Record → ReturnsFault → Type 0

@@ -1,15 +1,16 @@
 -- The election with a record more, for a record whose tests hold.
 use Rattle.std.specs.Prelude.{◌≡◌, Option, Some, None}
 use Rattle.sl_stages.specs.returns.Election.{Election, with_house, with_land, with_party, with_list, with_win, with_lot}
-use Rattle.sl_returns.specs.declared.cells.TheConstants.{KIND, LAND, PARTY, A}
+use Rattle.sl_returns.specs.declared.schema.TheConstants.{KIND, LAND, PARTY, A}
 use Rattle.sl_returns.specs.declared.header.Version.{Version}
-use Rattle.sl_returns.specs.declared.kind.Kind.{Kind}
-use Rattle.sl_returns.specs.declared.kind.Kind.TheVariants as kind
-use Rattle.sl_returns.specs.declared.fault.FaultKind.{FaultKind}
+use Rattle.sl_returns.specs.declared.schema.Kind.{Kind}
+use Rattle.sl_returns.specs.declared.schema.Kind.TheVariants as kind
+use Rattle.sl_returns.specs.declared.fault.RecordFault.{RecordFault}
 use Rattle.sl_returns.specs.declared.fault.FaultKind.TheVariants as fault
 use Rattle.sl_returns.specs.Cells.{Record, cell, number_of, place_in}
+use Rattle.sl_returns.specs.Faults.{of_record}
 use Rattle.sl_returns.specs.Headers.{version_of}
-use Rattle.sl_returns.specs.Kinds.{kind_named}
+use Rattle.sl_returns.specs.Schema.{kind_named}
 use Rattle.sl_returns.specs.Records.{is_minority, votes_of, win_of, lot_of}
 use Rattle.sl_returns.specs.Tests.{Pass, Refuse, record_tests}
 
@@ -49,6 +50,6 @@ TakesRecord None v old new r = (version_of r ≡ Some v) × (new ≡ old)
 TakesRecord (Some u) v old new r = (v ≡ u) × Pass (record_tests u old r) × (new ≡ with_record old r)
 
 -- why a record is refused
-abbrev pub RefusesRecord : Option Version → Election → Record → FaultKind → Type 0
-RefusesRecord None old r k = (version_of r ≡ None) × (k ≡ fault.Header)
-RefusesRecord (Some u) old r k = Refuse (record_tests u old r) k
+abbrev pub RefusesRecord : Option Version → Election → Record → RecordFault → Type 0
+RefusesRecord None old r f = (version_of r ≡ None) × (f ≡ of_record fault.Header)
+RefusesRecord (Some u) old r f = Refuse (record_tests u old r) f

@@ -1,4 +1,4 @@
-use Rattle.sl_fairness.proofs.Votes.{population_monotone}
+use Rattle.sl_fairness.proofs.RelativeVotes.{population_monotone}
 use Rattle.sl_fairness.proofs.laws.population_monotone.Goals as goal
 
 pub returns : goal.returns

@@ -5,7 +5,7 @@ use Rattle.sl_parse.specs.declared.fault.Cause.TheVariants.{Expected, TooDeep, T
 use Rattle.sl_stages.specs.book.Books.{book_of}
 use Rattle.sl_parse.specs.Parsing.{fault_at, limits, FaultIsAt, IsFaultOf}
 use Rattle.sl_parse.specs.inner.Reading.{read_book}
-use Rattle.sl_parse.proofs.OneTree.{within, same_book, not_stopped}
+use Rattle.sl_parse.proofs.OneTree.{within, is_within, same_book, not_stopped}
 use Rattle.sl_parse.proofs.Stands.{is_read, is_fault}
 use Rattle.sl_parse.proofs.parser.parse_spans.Goals as goal
 
@@ -16,7 +16,9 @@ is_fault_of text tokens TooManyStages at h = h
 is_fault_of text tokens After at h = h
 
 pub returns-in-Ok-clause-found : goal.returns-in-Ok-clause-found
-returns-in-Ok-clause-found c = (is_read c.args.text.now limits c.args.tokens.now (book_of c.in-Ok.book) c.in-Ok.ensures).is
+returns-in-Ok-clause-found c =
+    let h = is_read c.args.text.now limits c.args.tokens.now (book_of c.in-Ok.book) c.in-Ok.ensures in
+    (h.is, is_within _ h.within)
 
 pub returns-in-Ok-clause-only : goal.returns-in-Ok-clause-only
 returns-in-Ok-clause-only c = λ tree h fits. same_book c.args.text.now limits (book_of c.in-Ok.book) tree c.args.tokens.now c.in-Ok.ensures h (within tree.stages fits)

@@ -1,7 +1,7 @@
 -- The tests of a record, by its kind.
 use Rattle.std.proofs.Common.{Some, inl}
 use Rattle.csv.specs.Records.{fields_of}
-use Rattle.sl_returns.specs.declared.kind.Kind.TheVariants as kind
+use Rattle.sl_returns.specs.declared.schema.Kind.TheVariants as kind
 use Rattle.sl_returns.proofs.TestLemmas.{here, exit}
 use Rattle.sl_returns.proofs.Joins.{joined_by, refused_by, no_kind}
 use Rattle.sl_returns.proofs.join.join.Goals as goal
@@ -15,7 +15,7 @@ pub returns-in-None-clause-refused : goal.returns-in-None-clause-refused
 returns-in-None-clause-refused c =
     let sized = rw c.len.ensures at c.in_ok-ensure.ensures.passed in
     let named = rw c.cell.ensures at c.in-None.ensures in
-    inl (no_kind c.args.version c.args.returns.now (fields_of c.args.fields.now) named sized)
+    rw c.of_cell.ensures (inl (no_kind c.args.version c.args.returns.now (fields_of c.args.fields.now) named sized))
 
 pub returns-in-Some-House-clause-joined : goal.returns-in-Some-House-clause-joined
 returns-in-Some-House-clause-joined c =

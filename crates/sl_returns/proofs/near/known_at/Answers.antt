@@ -6,7 +6,7 @@ use Rattle.sl_returns.proofs.near.known_at.Goals as goal
 
 pub returns-then-eq-clause-passed : goal.returns-then-eq-clause-passed
 returns-then-eq-clause-passed c =
-    known_there c.args.names.now c.len.ensures.kept c.args.name.now c.args.place (c.name.ensures.name ∙ ap Some ((bytes_eq-Decides c.name.result.now c.args.name.now).0 (sym c.eq.ensures ∙ c.if-eq.true)))
+    known_there c.args.names.now c.len.ensures.kept c.args.name.now c.args.place (c.name.ensures.name ∙ ap Some ((bytes_eq-Decides c.name.result.now c.args.name.now).0 (sym c.eq.ensures ∙ c.if-eq.true))) c.args.column
 
 pub returns-then-eq-clause-number : goal.returns-then-eq-clause-number
 returns-then-eq-clause-number c =

@@ -1,7 +1,7 @@
 -- The records of the text, each taken as it is read.
-use Rattle.std.proofs.Common.{Bor, List, ℕ, ◌≡◌, ◌∙◌, ◌++◌, ◌∷◌, [], Some, true, false, sym, refl, inl, inr, ap}
+use Rattle.std.proofs.Common.{Bor, List, ℕ, ◌∙◌, ◌++◌, ◌∷◌, [], Some, sym, refl, inl}
 use Rattle.std.proofs.lemmas.Result.{err_from_is_err_and}
-use Rattle.csv.specs.Reading.{Reached, builder_config, builder_is_flexible, builder_names_headers, builder_trim, default_config, strip_bom, with_flexible, with_names_headers}
+use Rattle.csv.specs.Reading.{Reached, default_config, strip_bom}
 use Rattle.csv.specs.Records.{fields_of}
 use Rattle.csv.specs.declared.parser.State.TheVariants as st
 use Rattle.csv.proofs.ReadFacts.{rows-end, rows-more}
@@ -10,21 +10,16 @@ use Rattle.sl_returns.proofs.AllRecords.{are_records, begin_records}
 use Rattle.sl_returns.proofs.Prefixes.{answers}
 use Rattle.sl_returns.proofs.Reading.{only_stops}
 use Rattle.sl_returns.proofs.read.feed_all.Goals as goal
-use Rattle.sl_returns.proofs.read.feed_all.Goals.{After-new-fields}
-
--- the settings of the reader
-setup : (c : After-new-fields) → c.flexible.result.now ≡ with_flexible (with_names_headers c.new.result false) true
-setup c = c.flexible.ensures ∙ ap (λ b. with_flexible b true) c.has_headers.ensures
 
 pub loop-init : goal.loop-init
 unfolding Reached
 loop-init c =
-    let from = c.from_reader-reader.ensures in
+    let from = c.reader_of-reader.ensures in
     record {
-      trims = from.trim ∙ ap builder_trim (setup c) ∙ c.new.ensures.trim;
-      ready = inr (inr (from.has_headers ∙ ap builder_names_headers (setup c), from.headers));
-      config = from.config ∙ ap builder_config (setup c) ∙ c.new.ensures.config;
-      flexible = from.flexible ∙ ap builder_is_flexible (setup c);
+      trims = from.trims;
+      ready = from.ready;
+      config = from.config;
+      flexible = from.flexible;
       rows = [];
       left = strip_bom c.args.bytes.now;
       source = from.source;
@@ -58,10 +53,11 @@ returns-in_err-feed-in-Ok-true-clause-refused c =
     let read = rw c.in-Ok-true.field-0-test at (c.in-Ok-true.ensures.reads inv.trims inv.ready) in
     let fields = fields_of c.read_byte_record.new.row in
     let (left, source, reached) = rows-more (λ (s : Bor (List ℕ)). Some s.now) c.loop.reader c.read_byte_record.new.self fields default_config st.StartRecord text inv.left inv.rows inv.config inv.source inv.reached read in
+    let row = c.in_err-feed-in-Ok-true.ensures.row inv.rows inv.stands in
     let (more, all) = begin_records c.read_byte_record.new.self.state text left (inv.rows ++ fields ∷ []) reached in
     let refused = c.in_err-feed-in-Ok-true.ensures.refused inv.rows inv.stands in
     let p = err_from_is_err_and c.from_residual.result c.from_residual.ensures.1 in
-    rw (p.1, p.2) (answers (inv.rows ++ fields ∷ []) more (records_in c.args.bytes.now) _ all refused)
+    rw (p.1, p.2) (answers inv.rows fields more (records_in c.args.bytes.now) _ all refused row)
 
 -- at the end of the text the builder has taken all its records
 pub returns-in-Ok-false-clause-taken : goal.returns-in-Ok-false-clause-taken

@@ -1,4 +1,4 @@
-use Rattle.std.proofs.Common.{◌≡◌, [], ◌++◌, map, get_or, sym, ap, ◌∙◌}
+use Rattle.std.proofs.Common.{◌≡◌, IfOk, [], map, get_or, sym, ap, subst, ◌∙◌}
 use Rattle.std.proofs.lemmas.List.{get_or-map}
 use Rattle.std.proofs.lemmas.Option.{get_or_from_slice_get}
 use Rattle.sl_terms.specs.declared.shape.Shape.TheVariants as shape
@@ -7,8 +7,8 @@ use Rattle.sl_table.specs.Stages.{stage_slot, stage_text}
 use Rattle.sl_table.proofs.StageSlots.{column_length}
 use Rattle.sl_table.proofs.stage_form.stage_text.Goals as goal
 
-pub entry_lines-requires-clause-cells : goal.entry_lines-requires-clause-cells
-entry_lines-requires-clause-cells c =
+pub column_text-requires : goal.column_text-requires
+column_text-requires c =
     let e = c.args.returns.now in
     column_length e c.args.memory.now.columns c.slots.result.now (c.requires.fits.columns ∙ ap (map (cells_of e)) (sym c.slots.ensures.slots)) c.from-slot.result c.column.result.now c.column.ensures
 
@@ -23,8 +23,9 @@ returns c =
     c.from-slot.ensures
     ∙ ap (λ xs. (get_or xs stage c.index-stages-stage.result).slot) c.stages.ensures.stages
     ∙ sym (get_or-map (λ s. s.slot) code.stages stage c.index-stages-stage.result 0 c.requires.stage) in
-    c.into_bytes.ensures ∙ ap (λ d. d.bytes) c.in_ok-entry_lines.ensures
-    ∙ ap (λ d. d.bytes ++ stage_text e (get_or c.slots.result.now slot shape.One) column) c.new-text.ensures
-    ∙ ap (λ xs. stage_text e (get_or xs slot shape.One) column) c.slots.ensures.slots
+    let text : stage_text e (get_or c.slots.result.now slot shape.One) column
+    ≡ stage_text e (get_or code.slots (stage_slot code stage) shape.One) (get_or c.args.memory.now.columns (stage_slot code stage) []) =
+    ap (λ xs. stage_text e (get_or xs slot shape.One) column) c.slots.ensures.slots
     ∙ ap (λ ys. stage_text e (get_or code.slots slot shape.One) ys) (sym (get_or_from_slice_get c.args.memory.now.columns slot column [] c.column.ensures))
-    ∙ ap (λ n. stage_text e (get_or code.slots n shape.One) (get_or c.args.memory.now.columns n [])) this
+    ∙ ap (λ n. stage_text e (get_or code.slots n shape.One) (get_or c.args.memory.now.columns n [])) this in
+    subst (λ x. IfOk c.column_text.result (λ text. text.items ≡ x)) text c.column_text.ensures

@@ -1,4 +1,8 @@
+use Rattle.sl_counts.proofs.CountTexts.{column_there}
 use Rattle.sl_counts.proofs.report.Report.text.Goals as goal
 
-pub returns-in_ok-table-in-Steps : goal.returns-in_ok-table-in-Steps
-returns-in_ok-table-in-Steps c = rw c.in-Steps.is (rw c.in_ok-table-in-Steps.ensures.table at c.steps_text.ensures)
+pub returns-in-Stage : goal.returns-in-Stage
+returns-in-Stage c =
+    rw c.in-Stage.is
+    (column_there (λ v. v.items) c.args.returns.now c.args.counted.now.columns.items c.in-Stage.stage c.index-column.result.now c.index-column.result.now c.column_text.result
+    (rw c.in-Stage.is at c.requires.asked) c.index-column.ensures (rw c.as_slice.ensures.value at c.column_text.ensures))

@@ -1,10 +1,19 @@
+use Rattle.sl_counts.proofs.AnyInputs.{delivers_as, no_read}
+use Rattle.sl_desk.proofs.Order.{known_written, reads_on}
+use Rattle.sl_desk.proofs.calls.run.run_code.Goals as goal
+use Rattle.sl_desk.specs.JudgedRuns.{IsRunAnswer}
 use Rattle.sl_desk.specs.Running.{IsRunCode}
 use Rattle.sl_inputs.specs.Reading.{ForKnown}
-use Rattle.sl_counts.proofs.Delivering.{delivers_text}
-use Rattle.sl_desk.proofs.calls.run.run_code.Goals as goal
 
-pub returns-clause-delivers : goal.returns-clause-delivers
-returns-clause-delivers g c =
-    delivers_text (λ status text. ForKnown (g.C.Source.remaining c.args.code.now) (g.R.Source.remaining c.args.returns.now) (λ file bytes. IsRunCode file bytes status text))
-    c.in_ok-answer.answer.status c.in_ok-answer.answer.text.items (g.W.Sink.contents c.args.out.now) (g.W.Sink.contents c.deliver.new.out) c.deliver.result
-    c.in_ok-answer.ensures.answer c.deliver.ensures.delivers
+pub returns-in-Ok-clause-delivers : goal.returns-in-Ok-clause-delivers
+returns-in-Ok-clause-delivers g c =
+    delivers_as (IsRunAnswer c.in-Ok.read.judged)
+    (λ status text. ForKnown (g.C.Source.remaining c.args.code.now) (g.R.Source.remaining c.args.returns.now) (λ file bytes. IsRunCode file bytes status text))
+    (λ status text written.
+    known_written c.in-Ok.read.judged (g.C.Source.remaining c.args.code.now) (g.R.Source.remaining c.args.returns.now) status text c.in-Ok.ensures.judged written)
+    (g.W.Sink.contents c.args.out.now) (g.W.Sink.contents c.written.new.out) c.written.result c.written.ensures.delivers
+
+pub returns-in-Ok-clause-returns : goal.returns-in-Ok-clause-returns
+returns-in-Ok-clause-returns g c =
+    reads_on g.R.Source.remaining (g.C.Source.remaining c.args.code.now) c.args.returns.now c.judge_run.new.returns c.judge_run.result c.written.result
+    (no_read c.judge_run.result c.written.result c.written.ensures.error) c.judge_run.ensures.returns

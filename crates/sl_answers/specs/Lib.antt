@@ -1,0 +1,2 @@
+-- What answers say of counts.
+pub mod Ends

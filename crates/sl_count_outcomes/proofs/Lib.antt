@@ -1,0 +1,4 @@
+pub mod Maps
+pub mod StageColumns
+pub mod Ends
+pub mod Order

@@ -1,0 +1,41 @@
+-- What a code file and returns come to (docs/desk.md, section 4).
+use Rattle.std.specs.Prelude.{List, Some, length, ◌≡◌, ℕ}
+use Rattle.sl_code_inputs.specs.CodeFiles.{IsCodeVerdict}
+use Rattle.sl_desk.specs.Running.{IsRunCode}
+use Rattle.sl_desk.specs.declared.calls.run.JudgedRun.TheVariants.{CodeRefused, Ran, ReturnsRefused}
+use Rattle.sl_desk.specs.declared.calls.run.JudgedRun.{JudgedRun}
+use Rattle.sl_inputs.specs.Judging.{returns_refusal_of}
+use Rattle.sl_inputs.specs.Returns.{IsReturnsVerdict}
+use Rattle.sl_inputs.specs.declared.status.Status.{Status}
+use Rattle.sl_inputs.specs.declared.verdict.Verdict.TheVariants.{Good, Refused}
+use Rattle.sl_instructions.specs.Codes.{CountingCode}
+use Rattle.sl_machine.specs.Answers.{answer_of}
+use Rattle.sl_machine.specs.Fits.{Fits}
+use Rattle.sl_machine.specs.declared.machine.Ending.{Ending as Answer}
+use Rattle.sl_semantics.specs.Runs.{budget_of, ending}
+use Rattle.sl_semantics.specs.Unrecorded.{without_records}
+use Rattle.sl_stages.specs.returns.Election.{Election}
+
+-- the run of a good code on good returns, with the budget of its stages and without its records, ends so
+abbrev pub RunsInto : CountingCode → Election → Answer → Type 0
+RunsInto c e a = answer_of c e (without_records (ending c e (budget_of (length c.stages) e))) ≡ Some a
+
+-- a good code: the returns are refused, or it is run on them
+abbrev pub IsJudgedOn : CountingCode → List ℕ → JudgedRun → Type 0
+IsJudgedOn c returns (ReturnsRefused refused) = IsReturnsVerdict returns (Refused (returns_refusal_of refused))
+IsJudgedOn c returns (Ran run) = (run.code ≡ c) × IsReturnsVerdict returns (Good run.returns) × RunsInto c run.returns run.ending
+IsJudgedOn c returns (CodeRefused why) = ⊥
+
+-- the code file is refused; or it is good, and judged on the returns
+abbrev pub IsJudged : List ℕ → List ℕ → JudgedRun → Type 0
+IsJudged file returns (CodeRefused why) = IsCodeVerdict file (Refused why)
+IsJudged file returns judged = (c : CountingCode) × IsCodeVerdict file (Good c) × IsJudgedOn c returns judged
+
+-- whatever inputs came to it, its ending fits its code and its returns
+abbrev pub FitsJudged : JudgedRun → Type 0
+FitsJudged (Ran run) = Fits run.code run.returns run.ending
+FitsJudged _ = Unit {0}
+
+-- whatever two inputs came to it, this is what running the one on the other writes
+abbrev pub IsRunAnswer : JudgedRun → Status → List ℕ → Type 0
+IsRunAnswer judged ends output = (file returns : List ℕ) → IsJudged file returns judged → IsRunCode file returns ends output

@@ -1,0 +1,49 @@
+//! What the end of a run writes.
+
+ghost use Rattle.std.specs.Prelude.{◌≡◌, IfOk};
+ghost use Rattle.sl_desk.specs.Endings.{IsEndingOutput, out_of_budget};
+ghost use Rattle.sl_machine.specs.Fits.{Fits};
+
+use sl_counts::Answer;
+use sl_instructions::Code;
+use sl_machine::Ending;
+use sl_ratio::NoMemory;
+use sl_stages::Returns;
+use sl_table::{Text, fault_text, short_text, table_of};
+use std::alloc::Global;
+
+// The line of a run that needs more steps than it may take.
+fn out_of_budget(alloc: Global) -> Result<Vec<u8>, NoMemory>
+    ensures { IfOk result (λ text. text.items ≡ out_of_budget) }
+{
+    let mut text = Text::new(alloc);
+    text.word(b"out")?;
+    text.word(b"of")?;
+    text.word(b"budget")?;
+    text.end_line()?;
+    Ok(text.into_bytes())
+}
+
+/// What the end of a run of a code on returns writes: the seats, the legal fault, or that the steps ran out.
+///
+/// # Errors
+///
+/// Out of memory.
+pub(crate) fn run_text(
+    alloc: Global,
+    code: &Code,
+    returns: &Returns,
+    ending: &Ending,
+) -> Result<Answer, NoMemory>
+    requires fits { Fits code.now returns.now ending.now }
+    ensures { IfOk result (λ a. IsEndingOutput code.now returns.now ending.now a.status a.text.items) }
+{
+    match ending {
+        Ending::Done(memory) => {
+            let table = table_of(alloc, memory, returns)?;
+            Ok(Answer::done(short_text(alloc, &table, returns)?))
+        }
+        Ending::Fault(fault) => Ok(Answer::legal(fault_text(alloc, fault, returns, code)?)),
+        Ending::OutOfBudget => Ok(Answer::out_of_budget(out_of_budget(alloc)?)),
+    }
+}

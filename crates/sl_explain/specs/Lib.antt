@@ -1,0 +1,2 @@
+-- The codes of faults.
+pub mod Codes

@@ -1,0 +1,17 @@
+//! Explains why a rulebook is refused, and names of statutes and stages that do not exist: what is wrong, where, and what to do, in English or in
+//! German. Takes what was read of the rulebook, and reads nothing again. Proved: the code of each explanation is that of the fault.
+#![tactic(auto)]
+
+mod grammar;
+mod near;
+mod pieces;
+mod tests;
+mod tokens;
+mod unknown;
+mod whole;
+
+pub use grammar::explain_grammar;
+pub use grammar::limits::explain_long_book;
+pub use tests::explain_test;
+pub use tokens::explain_tokens;
+pub use unknown::{explain_unknown_stage, explain_unknown_statute};

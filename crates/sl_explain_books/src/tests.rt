@@ -1,0 +1,54 @@
+//! Explains the tests that a rulebook fails.
+
+ghost use Rattle.std.specs.Prelude.{◌≡◌, IfOk, Some};
+ghost use Rattle.sl_explain_books.specs.Codes.{test_code};
+
+mod columns;
+mod divisions;
+mod forms;
+mod names;
+mod node;
+mod numbers;
+
+use divisions::explain_option;
+use forms::{explain_shape, explain_two_splits};
+use names::{explain_seats, explain_twice, explain_unknown};
+use numbers::{
+    CAP, CAP_REMEDY, HOUSE, HOUSE_REMEDY, explain_seat_number, explain_share, explain_version,
+};
+use sl_explain::{Explanation, FaultCode, Language, Speaker};
+use sl_ratio::NoMemory;
+use sl_stages::{Book, CheckFault};
+use std::alloc::Global;
+
+/// Explains the first test that the rulebook of a text fails.
+///
+/// # Errors
+///
+/// Out of memory.
+pub fn explain_test(
+    alloc: Global,
+    language: Language,
+    text: &[u8],
+    book: &Book,
+    fault: CheckFault,
+) -> Result<Explanation, NoMemory>
+    ensures { IfOk result (λ x. x.code ≡ Some (test_code fault)) }
+{
+    let speaker = Speaker { alloc, language };
+    match fault {
+        CheckFault::Version(at) => explain_version(speaker, text, book, at),
+        CheckFault::HouseRange(at) => {
+            explain_seat_number(speaker, text, at, &HOUSE, &HOUSE_REMEDY)
+        }
+        CheckFault::PerRange(at) => explain_share(speaker, text, book, at),
+        CheckFault::StageTwice(at) => explain_twice(speaker, text, book, at),
+        CheckFault::StageUnknown(at) => explain_unknown(speaker, text, book, at),
+        CheckFault::Shape(at) => explain_shape(speaker, FaultCode::B16, text, book, at),
+        CheckFault::Unit(at) => explain_shape(speaker, FaultCode::B17, text, book, at),
+        CheckFault::TwoSplits(at) => explain_two_splits(speaker, text, at),
+        CheckFault::MethodOption(at) => explain_option(speaker, text, book, at),
+        CheckFault::CapRange(at) => explain_seat_number(speaker, text, at, &CAP, &CAP_REMEDY),
+        CheckFault::SeatsShape(at) => explain_seats(speaker, text, book, at),
+    }
+}

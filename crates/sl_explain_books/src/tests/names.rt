@@ -1,0 +1,333 @@
+//! Names of stages: one that two have, one that none has, and the one that the last clause asks for.
+
+ghost use Rattle.std.specs.Prelude.{◌≡◌, IfOk, Some};
+ghost use Rattle.sl_explain.specs.declared.code.FaultCode.TheVariants.{B14, B15, B21};
+
+use super::columns::{column_words, types_of};
+use crate::near::{columns_of_returns, help_nearest_stage, help_stages};
+use crate::pieces::{line_number, piece, token_span};
+use sl_check::Columns;
+use sl_explain::{Explanation, FaultCode, Message, Sentence, Span, Speaker};
+use sl_ratio::NoMemory;
+use sl_stages::{Base, Book, ColumnType, Shape, Stage, Unit};
+
+const TWICE: Sentence = Sentence {
+    code: FaultCode::B14,
+    english: "two stages have the name `$`; the first one stands in line $",
+    german: "zwei Stufen heißen `$`; die erste steht in Zeile $",
+};
+
+const TWICE_REMEDY: Message = Message {
+    english: "give this stage another name, and write it where this one is meant further down",
+    german: "dieser Stufe einen anderen Namen geben, und ihn auch weiter unten schreiben, wo sie gemeint ist",
+};
+
+const ITSELF: Sentence = Sentence {
+    code: FaultCode::B15,
+    english: "the stage `$` is named in its own expression",
+    german: "die Stufe `$` wird in ihrem eigenen Ausdruck genannt",
+};
+
+const LATER: Sentence = Sentence {
+    code: FaultCode::B15,
+    english: "the stage `$` is named before it is given: it stands further down, in line $",
+    german: "die Stufe `$` wird genannt, bevor sie angegeben ist: sie steht weiter unten, in Zeile $",
+};
+
+const ITSELF_REMEDY: Message = Message {
+    english: "an expression names columns of the returns, and stages above its own",
+    german: "ein Ausdruck nennt Spalten der Wahlergebnisse, und Stufen über seiner eigenen",
+};
+
+const LATER_REMEDY: Message = Message {
+    english: "an expression names stages above its own alone: change their order",
+    german: "ein Ausdruck nennt nur Stufen über seiner eigenen: die Reihenfolge ändern",
+};
+
+const UNKNOWN: Sentence = Sentence {
+    code: FaultCode::B15,
+    english: "there is no stage and no column `$`",
+    german: "es gibt keine Stufe und keine Spalte `$`",
+};
+
+const UNKNOWN_BASE: Sentence = Sentence {
+    code: FaultCode::B15,
+    english: "the last clause names the stage `$`, and there is none of that name",
+    german: "die letzte Klausel nennt die Stufe `$`, und es gibt keine dieses Namens",
+};
+
+const EARLIER: Message = Message {
+    english: "the stages above are $",
+    german: "die Stufen darüber sind $",
+};
+
+const NO_EARLIER: Message = Message {
+    english: "no stage stands above",
+    german: "darüber steht keine Stufe",
+};
+
+const FACTS: Message = Message {
+    english: "the columns of the returns are $",
+    german: "die Spalten der Wahlergebnisse sind $",
+};
+
+const SEATS: Sentence = Sentence {
+    code: FaultCode::B21,
+    english: "the last clause needs a stage with seats for each list, and `$` has $",
+    german: "die letzte Klausel braucht eine Stufe mit Sitzen je Liste, und `$` hat $",
+};
+
+const NO_SEATS: Sentence = Sentence {
+    code: FaultCode::B21,
+    english: "the last clause needs a stage with seats for each list, and `$` has none",
+    german: "die letzte Klausel braucht eine Stufe mit Sitzen je Liste, und `$` hat keine",
+};
+
+const SEATS_FITTING: Message = Message {
+    english: "stages that have seats for each list: $",
+    german: "Stufen, die Sitze je Liste haben: $",
+};
+
+const SEATS_SPLIT: Message = Message {
+    english: "distribute these seats among the lists by one more stage, `stage lists = split($, counted, webster);`, and name it: `seats lists ..`",
+    german: "diese Sitze durch eine weitere Stufe auf die Listen verteilen, `stage lists = split($, counted, webster);`, und sie nennen: `seats lists ..`",
+};
+
+const SEATS_VOTES: Message = Message {
+    english: "votes are no seats: distribute seats by votes, as in `stage lists = split(house, counted, webster);`, and name that stage: `seats lists ..`",
+    german: "Stimmen sind keine Sitze: Sitze nach Stimmen verteilen, wie in `stage lists = split(house, counted, webster);`, und diese Stufe nennen: `seats lists ..`",
+};
+
+// How many stages begin before an offset.
+fn stages_before(stages: &[Stage], at: usize) -> usize {
+    stages.iter().take_while(|stage| stage.at <= at).count()
+}
+
+/// The stages above the one in which an offset lies.
+pub fn above(stages: &[Stage], at: usize) -> &[Stage] {
+    let count = stages_before(stages, at).saturating_sub(1);
+    stages.get(..count).unwrap_or(&[])
+}
+
+/// The stage in which an offset lies.
+pub fn around(stages: &[Stage], at: usize) -> Option<&Stage> {
+    stages.get(stages_before(stages, at).saturating_sub(1))
+}
+
+/// The first stage of a name.
+pub fn named<'a>(stages: &'a [Stage], name: &[u8]) -> Option<&'a Stage> {
+    for stage in stages {
+        if stage.name.as_bytes() == name {
+            return Some(stage);
+        }
+    }
+    None
+}
+
+/// Two stages of one name, the second of them at an offset.
+pub fn explain_twice(
+    speaker: Speaker,
+    text: &[u8],
+    book: &Book,
+    at: usize,
+) -> Result<Explanation, NoMemory>
+    ensures { IfOk result (λ x. x.code ≡ Some B14) }
+{
+    let span = token_span(text, at);
+    let name = piece(text, span);
+    let first = match named(book.stages.as_slice(), name) {
+        Some(stage) => stage.at,
+        None => at,
+    };
+    let line = line_number(text, first);
+    explain_line(speaker, &TWICE, name, line, span, &TWICE_REMEDY)
+}
+
+// A sentence on a stage and the line in which it stands, with the remedy.
+fn explain_line(
+    speaker: Speaker,
+    sentence: &Sentence,
+    name: &[u8],
+    line: usize,
+    span: Span,
+    remedy: &Message,
+) -> Result<Explanation, NoMemory>
+    ensures { IfOk result (λ x. x.code ≡ Some sentence.now.code) }
+{
+    let line = line.to_string(speaker.alloc)?;
+    speaker.explains_at(sentence, &[name, line.as_bytes()], span, &[remedy])
+}
+
+// The last clause names a stage that does not exist. Asks whether a name that is near is meant, and says which stages there are.
+fn explain_base(
+    speaker: Speaker,
+    name: &[u8],
+    span: Span,
+    stages: &[Stage],
+) -> Result<Explanation, NoMemory>
+    ensures { IfOk result (λ x. x.code ≡ Some B15) }
+{
+    let mut explanation = speaker.says_at(&UNKNOWN_BASE, &[name], span)?;
+    help_nearest_stage(speaker, &mut explanation, name, stages, &[])?;
+    help_stages(speaker, &mut explanation, stages, &EARLIER, &NO_EARLIER)?;
+    Ok(explanation)
+}
+
+// Says which columns the returns have.
+fn help_columns(
+    speaker: Speaker,
+    explanation: &mut Explanation,
+    columns: &[&'static [u8]],
+) -> Result<(), NoMemory>
+    ensures { explanation.new.code ≡ explanation.old.code }
+{
+    let mut names = Vec::new(speaker.alloc);
+    for column in columns {
+        names.push(speaker.quoted(column)?)?;
+    }
+    let list = speaker.all_of(names.as_slice())?;
+    speaker.helps(explanation, &FACTS, &[list.as_slice()])
+}
+
+// A name that is none of these stages and no column. Asks whether a name that is near is meant, and says which stages stand above, and which
+// columns there are.
+fn explain_no_name(
+    speaker: Speaker,
+    name: &[u8],
+    span: Span,
+    stages: &[Stage],
+) -> Result<Explanation, NoMemory>
+    ensures { IfOk result (λ x. x.code ≡ Some B15) }
+{
+    let columns = columns_of_returns(speaker.alloc)?;
+    let mut explanation = speaker.says_at(&UNKNOWN, &[name], span)?;
+    help_nearest_stage(speaker, &mut explanation, name, stages, columns.as_slice())?;
+    help_stages(speaker, &mut explanation, stages, &EARLIER, &NO_EARLIER)?;
+    help_columns(speaker, &mut explanation, columns.as_slice())?;
+    Ok(explanation)
+}
+
+// A stage is named that stands further down, or is the one in whose expression it is named.
+fn explain_order(
+    speaker: Speaker,
+    text: &[u8],
+    stage: &Stage,
+    at: usize,
+) -> Result<Explanation, NoMemory>
+    ensures { IfOk result (λ x. x.code ≡ Some B15) }
+{
+    let name = stage.name.as_bytes();
+    let span = token_span(text, at);
+    let line = line_number(text, stage.at);
+    if stage.at < at {
+        explain_line(speaker, &ITSELF, name, line, span, &ITSELF_REMEDY)
+    } else {
+        explain_line(speaker, &LATER, name, line, span, &LATER_REMEDY)
+    }
+}
+
+/// A stage is named that does not exist, or that does not stand above.
+pub fn explain_unknown(
+    speaker: Speaker,
+    text: &[u8],
+    book: &Book,
+    at: usize,
+) -> Result<Explanation, NoMemory>
+    ensures { IfOk result (λ x. x.code ≡ Some B15) }
+{
+    let stages = book.stages.as_slice();
+    let span = token_span(text, at);
+    let name = piece(text, span);
+    if at == book.last.at {
+        return explain_base(speaker, name, span, stages);
+    }
+    match named(stages, name) {
+        Some(stage) => explain_order(speaker, text, stage, at),
+        None => explain_no_name(speaker, name, span, above(stages, at)),
+    }
+}
+
+// The names of the stages that have seats for each list, in a row; empty where there is none.
+fn fitting(speaker: Speaker, stages: &[Stage], types: &[ColumnType]) -> Result<Vec<u8>, NoMemory> {
+    let mut names = Vec::new(speaker.alloc);
+    for (stage, column) in stages.iter().zip(types) {
+        if *column == ColumnType::seats(Shape::List) {
+            names.push(speaker.quoted(stage.name.as_bytes())?)?;
+        }
+    }
+    speaker.all_of(names.as_slice())
+}
+
+// What to do about a stage that has no seats for each list: name one that has, or make one.
+fn help_seats(
+    speaker: Speaker,
+    explanation: &mut Explanation,
+    name: &[u8],
+    unit: Unit,
+    fitting: &[u8],
+) -> Result<(), NoMemory>
+    ensures { explanation.new.code ≡ explanation.old.code }
+{
+    if !fitting.is_empty() {
+        return speaker.helps(explanation, &SEATS_FITTING, &[fitting]);
+    }
+    match unit {
+        Unit::Seats => speaker.helps(explanation, &SEATS_SPLIT, &[name]),
+        Unit::Votes => speaker.helps(explanation, &SEATS_VOTES, &[]),
+    }
+}
+
+// What the column of the stage that the last clause names has.
+fn base_column(book: &Book, types: &[ColumnType]) -> Option<ColumnType> {
+    match &book.last.base {
+        Base::Stage(name) => Columns::of(book.stages.as_slice(), types).find(name),
+        Base::Winners => None,
+    }
+}
+
+// What the stage that the last clause names has.
+fn say_column<'a>(
+    speaker: Speaker,
+    name: &'a [u8],
+    words: &'a [u8],
+    span: Span,
+) -> Result<Explanation, NoMemory>
+    ensures { IfOk result (λ x. x.code ≡ Some B21) }
+{
+    speaker.says_at(&SEATS, &[name, words], span)
+}
+
+// The last clause names a stage that has this column.
+fn explain_column(
+    speaker: Speaker,
+    name: &[u8],
+    span: Span,
+    column: ColumnType,
+    fitting: &[u8],
+) -> Result<Explanation, NoMemory>
+    ensures { IfOk result (λ x. x.code ≡ Some B21) }
+{
+    let mut explanation = say_column(speaker, name, column_words(speaker, column), span)?;
+    help_seats(speaker, &mut explanation, name, column.unit, fitting)?;
+    Ok(explanation)
+}
+
+/// The last clause names a stage that has no seats for each list.
+pub fn explain_seats(
+    speaker: Speaker,
+    text: &[u8],
+    book: &Book,
+    at: usize,
+) -> Result<Explanation, NoMemory>
+    ensures { IfOk result (λ x. x.code ≡ Some B21) }
+{
+    let span = token_span(text, at);
+    let name = piece(text, span);
+    let stages = book.stages.as_slice();
+    let types = types_of(speaker.alloc, stages)?;
+    let fitting = fitting(speaker, stages, types.as_slice())?;
+    match base_column(book, types.as_slice()) {
+        Some(column) => explain_column(speaker, name, span, column, fitting.as_slice()),
+        None => speaker.says_at(&NO_SEATS, &[name], span),
+    }
+}

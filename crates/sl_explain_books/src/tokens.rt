@@ -1,0 +1,167 @@
+//! Why a text has no tokens, explained.
+
+ghost use Rattle.std.specs.Prelude.{◌≡◌, IfOk, Some};
+ghost use Rattle.sl_explain.specs.declared.code.FaultCode.TheVariants.{B04, B05, B06};
+ghost use Rattle.sl_explain_books.specs.Codes.{token_code};
+
+mod character;
+
+use crate::near::help_nearest_or;
+use crate::pieces::{piece, span_within, token_span};
+use crate::whole::explain_whole;
+use character::{explain_character, explain_in_text};
+use sl_explain::{Explanation, FaultCode, Language, Message, Sentence, Span, Speaker};
+use sl_lex::LexFault;
+use sl_ratio::{MAX_NAME_BYTES, NoMemory};
+use std::alloc::Global;
+
+const NOT_CLOSED: Sentence = Sentence {
+    code: FaultCode::B04,
+    english: "a text in quotes begins here, and is not closed on its line",
+    german: "hier beginnt ein Text in Anführungszeichen, der auf seiner Zeile nicht endet",
+};
+
+const NOT_CLOSED_REMEDY: Message = Message {
+    english: "close it with `\"` on the same line, as in `law \"My law\";`",
+    german: "ihn auf derselben Zeile mit `\"` schließen, wie in `law \"Mein Gesetz\";`",
+};
+
+const BIG_NUMBER: Sentence = Sentence {
+    code: FaultCode::B05,
+    english: "the number $ is too great: numbers end at 999,999,999",
+    german: "die Zahl $ ist zu groß: Zahlen gehen bis 999.999.999",
+};
+
+const BIG_NUMBER_REMEDY: Message = Message {
+    english: "a house and a cap have at most 4000 seats, and `n per d` at most 1000 parts",
+    german: "ein Haus und eine Obergrenze haben höchstens 4000 Sitze, und `n per d` höchstens 1000 Teile",
+};
+
+const LONG_NAME: Sentence = Sentence {
+    code: FaultCode::B06,
+    english: "the word `$` has $ characters, and a word has at most $",
+    german: "das Wort `$` hat $ Zeichen, und ein Wort hat höchstens $",
+};
+
+const LONG_NAME_REMEDY: Message = Message {
+    english: "shorten it, wherever the name stands",
+    german: "es kürzen, überall wo der Name steht",
+};
+
+// The longest keywords, which a word of more bytes may be meant for.
+const LONG_KEYWORDS: [&[u8]; 2] = [b"independents", b"population"];
+
+// How many bytes a text has after its first quote, up to one that it may not have.
+fn inner_len(rest: &[u8]) -> usize {
+    rest.iter()
+        .skip(1)
+        .take_while(|byte| matches!(**byte, 0x20..=0x7E) && **byte != b'"')
+        .count()
+}
+
+// A text in quotes that is not closed, or has a character that it may not have.
+fn explain_open(speaker: Speaker, text: &[u8], at: usize) -> Result<Explanation, NoMemory>
+    ensures { IfOk result (λ x. x.code ≡ Some B04) }
+{
+    let inner = inner_len(text.get(at..).unwrap_or(&[]));
+    let stop = at.saturating_add(inner).saturating_add(1);
+    match text.get(stop).copied() {
+        None | Some(b'\n' | b'\r') => {
+            let span = span_within(text, at, stop);
+            speaker.explains_at(&NOT_CLOSED, &[], span, &[&NOT_CLOSED_REMEDY])
+        }
+        Some(_) => explain_in_text(speaker, text, stop),
+    }
+}
+
+// A number that is too great.
+fn explain_number(speaker: Speaker, text: &[u8], at: usize) -> Result<Explanation, NoMemory>
+    ensures { IfOk result (λ x. x.code ≡ Some B05) }
+{
+    let span = token_span(text, at);
+    let number = speaker.shown(piece(text, span))?;
+    speaker.explains_at(
+        &BIG_NUMBER,
+        &[number.as_slice()],
+        span,
+        &[&BIG_NUMBER_REMEDY],
+    )
+}
+
+// That a word is too long, and how long it is.
+fn say_length(speaker: Speaker, word: &[u8], span: Span) -> Result<Explanation, NoMemory>
+    ensures { IfOk result (λ x. x.code ≡ Some B06) }
+{
+    let name = speaker.shown(word)?;
+    let length = word.len().to_string(speaker.alloc)?;
+    let most = MAX_NAME_BYTES.to_string(speaker.alloc)?;
+    let values = [name.as_slice(), length.as_bytes(), most.as_bytes()];
+    speaker.says_at(&LONG_NAME, &values, span)
+}
+
+// A word that is too long.
+fn explain_word(speaker: Speaker, text: &[u8], at: usize) -> Result<Explanation, NoMemory>
+    ensures { IfOk result (λ x. x.code ≡ Some B06) }
+{
+    let span = token_span(text, at);
+    let word = piece(text, span);
+    let mut explanation = say_length(speaker, word, span)?;
+    help_nearest_or(
+        speaker,
+        &mut explanation,
+        word,
+        &LONG_KEYWORDS,
+        &LONG_NAME_REMEDY,
+    )?;
+    Ok(explanation)
+}
+
+// What is wrong at an offset.
+fn explain_place(speaker: Speaker, text: &[u8], fault: LexFault) -> Result<Explanation, NoMemory>
+    ensures { IfOk result (λ x. x.code ≡ token_code fault) }
+{
+    match fault {
+        LexFault::BadByte(at) => explain_character(speaker, text, at),
+        LexFault::OpenString(at) => explain_open(speaker, text, at),
+        LexFault::BigNumber(at) => explain_number(speaker, text, at),
+        LexFault::LongName(at) => explain_word(speaker, text, at),
+        LexFault::NoMemory => Err(NoMemory),
+    }
+}
+
+// The code of a fault of tokens.
+fn code_of(fault: LexFault) -> Option<FaultCode>
+    ensures { result ≡ token_code fault }
+{
+    match fault {
+        LexFault::BadByte(_) => Some(FaultCode::B03),
+        LexFault::OpenString(_) => Some(FaultCode::B04),
+        LexFault::BigNumber(_) => Some(FaultCode::B05),
+        LexFault::LongName(_) => Some(FaultCode::B06),
+        LexFault::NoMemory => None,
+    }
+}
+
+/// Explains why a text has no tokens.
+///
+/// # Errors
+///
+/// Out of memory.
+pub fn explain_tokens(
+    alloc: Global,
+    language: Language,
+    text: &[u8],
+    fault: LexFault,
+) -> Result<Explanation, NoMemory>
+    ensures { IfOk result (λ x. x.code ≡ token_code fault) }
+{
+    let speaker = Speaker { alloc, language };
+    let Some(code) = code_of(fault) else {
+        return Err(NoMemory);
+    };
+    match explain_whole(speaker, text, code) {
+        Ok(None) => explain_place(speaker, text, fault),
+        Ok(Some(explanation)) => Ok(explanation),
+        Err(refusal) => Err(refusal),
+    }
+}

@@ -1,0 +1,2 @@
+-- Of which fault an explanation is.
+pub mod Codes

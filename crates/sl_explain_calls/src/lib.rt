@@ -1,0 +1,15 @@
+//! Why a command ended without what it was asked for, explained to a person: a value of what the inputs came to, and a text about its fault. Nothing is
+//! read, judged or run here. Proved: each explanation is of the fault that the value has, and there is none where it has none.
+#![tactic(auto)]
+
+mod calls;
+mod explained;
+mod opening;
+mod refusals;
+
+pub use calls::{
+    explain_check, explain_judged, explain_outcome, explain_read, explain_run, explain_verdict,
+};
+pub use explained::Explained;
+pub use opening::{explain_opening, explain_writing};
+pub use refusals::{explain_book, explain_code, explain_election};

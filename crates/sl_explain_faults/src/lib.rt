@@ -1,0 +1,13 @@
+//! Explains legal faults, refused code files and runs that take too long: what is wrong, where, and what to do, in English or in German. Proved: the
+//! code of each explanation is that of the fault.
+#![tactic(auto)]
+
+mod code_files;
+mod counts;
+mod legal;
+mod lots;
+mod words;
+
+pub use code_files::{explain_budget, explain_code_bytes, explain_code_kinds, explain_long_code};
+pub use legal::{explain_legal, say_legal};
+pub use lots::lot_records;

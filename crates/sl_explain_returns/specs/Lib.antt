@@ -1,0 +1,2 @@
+-- The codes of the faults of returns.
+pub mod Codes

@@ -1,0 +1,133 @@
+//! A record that is refused, with the text that it stands in.
+
+ghost use Rattle.std.specs.Prelude.{◌≡◌, IfOk, Some};
+
+use sl_explain::{Explanation, FaultCode, Message, Span, Speaker, line_at};
+use sl_ratio::NoMemory;
+use sl_returns::{COLUMNS, Content, KIND, Kind, RefusedReturns, cell_place, find_record};
+
+/// Refused returns, their text, and the person who is spoken to.
+#[derive(Clone, Copy)]
+pub(crate) struct Case<'a> {
+    pub(crate) speaker: Speaker,
+    pub(crate) bytes: &'a [u8],
+    pub(crate) refused: &'a RefusedReturns,
+}
+
+impl Case<'_> {
+    /// What the cell of a column holds, nothing where there is none.
+    pub(crate) fn text(&self, column: usize) -> &[u8] {
+        self.refused.cell(column)
+    }
+
+    /// The kind of the record.
+    pub(crate) fn kind(&self) -> Option<Kind> {
+        self.refused.kind()
+    }
+
+    /// What the cell of a column must hold, if the record has a kind.
+    pub(crate) fn content(&self, column: usize) -> Option<Content> {
+        let kind = self.kind()?;
+        Some(kind.content(column))
+    }
+
+    /// The column of the cell at fault, and what that cell must hold, where a cell is at fault.
+    pub(crate) fn cell_at_fault(&self) -> Option<(usize, Content)> {
+        let column = self.refused.fault.column?;
+        let content = self.content(column)?;
+        Some((column, content))
+    }
+
+    /// The number of its cells. A record that was taken has six.
+    pub(crate) fn cells(&self) -> usize {
+        if self.refused.record.is_empty() {
+            COLUMNS
+        } else {
+            self.refused.record.len()
+        }
+    }
+
+    /// The bytes of the cell of a column. Where there is none, the end of the text.
+    pub(crate) fn at(&self, column: usize) -> Span {
+        match self.refused.place(self.bytes, column) {
+            Some(place) => Span {
+                start: place.start,
+                end: place.end,
+            },
+            None => Span {
+                start: self.bytes.len(),
+                end: self.bytes.len(),
+            },
+        }
+    }
+
+    /// The bytes from the cell of a column to that of another.
+    pub(crate) fn between(&self, first: usize, last: usize) -> Span {
+        Span {
+            start: self.at(first).start,
+            end: self.at(last).end,
+        }
+    }
+
+    /// The bytes of the record, without its line end.
+    pub(crate) fn whole(&self) -> Span {
+        self.between(KIND, self.cells().saturating_sub(1))
+    }
+
+    /// The row of the first record before this one that has some cells, each by its column.
+    ///
+    /// # Errors
+    ///
+    /// Out of memory.
+    pub(crate) fn row_before(&self, cells: &[(usize, &[u8])]) -> Result<Option<u32>, NoMemory> {
+        match find_record(self.speaker.alloc, self.bytes, 0, cells)? {
+            Some(row) if row < self.refused.fault.row => Ok(Some(row)),
+            Some(_) | None => Ok(None),
+        }
+    }
+
+    /// The number of the line in which the record of a row begins.
+    pub(crate) fn line(&self, row: u32) -> usize {
+        let at = match cell_place(self.bytes, row, KIND) {
+            Some(place) => place.start,
+            None => self.bytes.len(),
+        };
+        line_at(self.bytes, at).number
+    }
+
+    /// An explanation of one sentence on some bytes, about the fault of a code.
+    ///
+    /// # Errors
+    ///
+    /// Out of memory.
+    pub(crate) fn says(
+        &self,
+        code: FaultCode,
+        message: &Message,
+        values: &[&[u8]],
+        span: Span,
+    ) -> Result<Explanation, NoMemory>
+        ensures { IfOk result (λ x. x.code ≡ Some code) }
+    {
+        self.speaker.says_at(&message.of_fault(code), values, span)
+    }
+
+    /// An explanation of one sentence on some bytes, about the fault of a code, with what to do.
+    ///
+    /// # Errors
+    ///
+    /// Out of memory.
+    pub(crate) fn explains(
+        &self,
+        code: FaultCode,
+        message: &Message,
+        values: &[&[u8]],
+        span: Span,
+        remedies: &[&Message],
+    ) -> Result<Explanation, NoMemory>
+        ensures { IfOk result (λ x. x.code ≡ Some code) }
+    {
+        self.speaker
+            .explains_at(&message.of_fault(code), values, span, remedies)
+    }
+}

@@ -1,0 +1,139 @@
+//! Files that are no returns at all.
+
+ghost use Rattle.std.specs.Prelude.{◌≡◌, IfOk, Some};
+ghost use Rattle.sl_explain.specs.declared.code.FaultCode.TheVariants.{R01};
+
+use sl_explain::{Explanation, FaultCode, Message, Span, Speaker, first_line};
+use sl_ratio::NoMemory;
+
+// What is said.
+const EMPTY: Message = Message {
+    english: "the file of the returns is empty",
+    german: "die Datei mit den Wahlergebnissen ist leer",
+};
+
+const UTF16: Message = Message {
+    english: "the file of the returns is in UTF-16, which some programs call \"Unicode\"",
+    german: "die Datei mit den Wahlergebnissen ist in UTF-16, das manche Programme „Unicode“ nennen",
+};
+
+const WORKBOOK: Message = Message {
+    english: "the file of the returns is a workbook or an archive (.xlsx, .ods, .zip), and no CSV file",
+    german: "die Datei mit den Wahlergebnissen ist eine Arbeitsmappe oder ein Archiv (.xlsx, .ods, .zip), keine CSV-Datei",
+};
+
+const CODE: Message = Message {
+    english: "the file of the returns is a code file",
+    german: "die Datei mit den Wahlergebnissen ist eine Code-Datei",
+};
+
+const BOOK: Message = Message {
+    english: "the file of the returns is a rulebook",
+    german: "die Datei mit den Wahlergebnissen ist ein Regelwerk",
+};
+
+// What to do.
+const NO_PATH: Message = Message {
+    english: "give the path of a file that begins with the line `kind,land,party,a,b,c`; maybe it was not saved",
+    german: "den Pfad einer Datei angeben, die mit der Zeile `kind,land,party,a,b,c` beginnt; vielleicht ist sie nicht gespeichert",
+};
+
+const SAVE: Message = Message {
+    english: "save it as CSV in UTF-8, with commas between the cells",
+    german: "als CSV in UTF-8 speichern, mit Kommas zwischen den Zellen",
+};
+
+const ORDER: Message = Message {
+    english: "the order is BOOK, then RETURNS, as in `seatlaw count book.law returns.csv`",
+    german: "die Reihenfolge ist BOOK, dann RETURNS, wie in `seatlaw count book.law returns.csv`",
+};
+
+const RUN: Message = Message {
+    english: "the order is CODE, then RETURNS, as in `seatlaw run book.slc returns.csv`",
+    german: "die Reihenfolge ist CODE, dann RETURNS, wie in `seatlaw run book.slc returns.csv`",
+};
+
+/// What a file is that is no text of cells, by its first bytes.
+#[derive(Clone, Copy)]
+pub(crate) enum FileKind {
+    Empty,
+    Utf16,
+    Workbook,
+    Code,
+    Book,
+}
+
+// The text after its first line.
+fn after_line(text: &[u8]) -> &[u8] {
+    match text.split_at_checked(first_line(text).len()) {
+        Some((_, rest)) => rest.trim_ascii(),
+        None => &[],
+    }
+}
+
+// Whether a text is a rulebook: after comments it begins with that word.
+fn is_book(bytes: &[u8]) -> bool {
+    let mut rest = bytes.trim_ascii();
+    for _ in 0..bytes.len() {
+        if !rest.starts_with(b"#") {
+            return rest.starts_with(b"rulebook");
+        }
+        rest = after_line(rest);
+    }
+    false
+}
+
+// Whether bytes are of a text in UTF-16.
+fn is_utf16(bytes: &[u8]) -> bool {
+    let has_mark = bytes.starts_with(b"\xFF\xFE") || bytes.starts_with(b"\xFE\xFF");
+    has_mark || bytes.iter().take(64).any(|byte| *byte == 0)
+}
+
+/// What a file is, if it is no text of cells.
+pub(crate) fn foreign_kind(bytes: &[u8]) -> Option<FileKind> {
+    if bytes.trim_ascii().is_empty() || bytes == b"\xEF\xBB\xBF".as_slice() {
+        Some(FileKind::Empty)
+    } else if bytes.starts_with(b"PK") || bytes.starts_with(b"\xD0\xCF\x11\xE0") {
+        Some(FileKind::Workbook)
+    } else if bytes.starts_with(b"SLC") {
+        Some(FileKind::Code)
+    } else if is_utf16(bytes) {
+        Some(FileKind::Utf16)
+    } else if is_book(bytes) {
+        Some(FileKind::Book)
+    } else {
+        None
+    }
+}
+
+impl FileKind {
+    // What is said of such a file, and what to do.
+    fn messages(self) -> (&'static Message, &'static Message) {
+        match self {
+            FileKind::Empty => (&EMPTY, &NO_PATH),
+            FileKind::Utf16 => (&UTF16, &SAVE),
+            FileKind::Workbook => (&WORKBOOK, &SAVE),
+            FileKind::Code => (&CODE, &RUN),
+            FileKind::Book => (&BOOK, &ORDER),
+        }
+    }
+
+    /// The explanation of such a file, at the first line of a rulebook.
+    pub(crate) fn explain(self, speaker: Speaker, bytes: &[u8]) -> Result<Explanation, NoMemory>
+        ensures { IfOk result (λ x. x.code ≡ Some R01) }
+    {
+        let (message, remedy) = self.messages();
+        let sentence = message.of_fault(FaultCode::R01);
+        match self {
+            FileKind::Book => {
+                let span = Span {
+                    start: 0,
+                    end: first_line(bytes).len(),
+                };
+                speaker.explains_at(&sentence, &[], span, &[remedy])
+            }
+            FileKind::Empty | FileKind::Utf16 | FileKind::Workbook | FileKind::Code =>
+                speaker.explains(&sentence, &[], &[remedy]),
+        }
+    }
+}

@@ -1,0 +1,267 @@
+//! Returns that do not begin with the header.
+
+ghost use Rattle.std.specs.Prelude.{◌≡◌, IfOk, Some};
+ghost use Rattle.sl_explain.specs.declared.code.FaultCode.TheVariants.{R01};
+
+use crate::case::Case;
+use crate::files::{FileKind, foreign_kind};
+use crate::quotes::explain_quote;
+use sl_explain::{Explanation, FaultCode, Message, Span, first_line};
+use sl_ratio::NoMemory;
+use sl_returns::{COLUMNS, KIND, Kind, column_name};
+
+// What is said.
+const SEP: Message = Message {
+    english: "the first line `$` is for a spreadsheet and no header",
+    german: "die erste Zeile `$` ist für eine Tabellenkalkulation und keine Kopfzeile",
+};
+
+const SEMICOLONS: Message = Message {
+    english: "the cells are separated by semicolons, as a German Excel writes them; here they are separated by commas",
+    german: "die Zellen sind durch Semikolons getrennt, wie ein deutsches Excel sie schreibt; verlangt sind Kommas",
+};
+
+const TABS: Message = Message {
+    english: "the cells are separated by tabs; here they are separated by commas",
+    german: "die Zellen sind durch Tabulatoren getrennt; verlangt sind Kommas",
+};
+
+const NO_HEADER: Message = Message {
+    english: "the first line is a record, and no header stands before it",
+    german: "die erste Zeile ist ein Datensatz; die Kopfzeile davor fehlt",
+};
+
+const COMMENT: Message = Message {
+    english: "the first line is a comment; there are none in returns",
+    german: "die erste Zeile ist ein Kommentar; Kommentare gibt es in diesen Dateien nicht",
+};
+
+const TRAILING: Message = Message {
+    english: "the header has a comma too many at its end",
+    german: "die Kopfzeile hat am Ende ein Komma zu viel",
+};
+
+const NUMBERED: Message = Message {
+    english: "the header has a column too many at its beginning, as R writes its row names",
+    german: "die Kopfzeile hat am Anfang eine Spalte zu viel, wie R Zeilennamen schreibt",
+};
+
+const SPELLING: Message = Message {
+    english: "the header has blanks or capital letters",
+    german: "die Kopfzeile hat Leerzeichen oder große Buchstaben",
+};
+
+const COUNT: Message = Message {
+    english: "the first line is no header: it has $ cell(s) in place of six",
+    german: "die erste Zeile ist keine Kopfzeile: sie hat $ Zelle(n) statt sechs",
+};
+
+const OTHER: Message = Message {
+    english: "the first line is no header: `$` stands where `$` must",
+    german: "die erste Zeile ist keine Kopfzeile: `$` steht dort, wo `$` stehen muss",
+};
+
+// What to do.
+const EXPECTED: Message = Message {
+    english: "the first line must be `kind,land,party,a,b,c`, or `kind2,land,party,a,b,c` for lists that give the names left",
+    german: "die erste Zeile muss `kind,land,party,a,b,c` sein, oder `kind2,land,party,a,b,c` für Listen mit verbliebenen Namen",
+};
+
+const REPLACE_SEMICOLONS: Message = Message {
+    english: "replace each `;` by `,` in an editor, or save from LibreOffice with the field delimiter `,`; Excel's \"CSV UTF-8\" has semicolons too",
+    german: "in einem Editor jedes `;` durch `,` ersetzen, oder aus LibreOffice mit dem Feldtrenner `,` speichern; auch Excels „CSV UTF-8“ hat Semikolons",
+};
+
+const REPLACE_TABS: Message = Message {
+    english: "replace each tab by `,` in an editor, or save as CSV with the field delimiter `,`",
+    german: "in einem Editor jeden Tabulator durch `,` ersetzen, oder als CSV mit dem Feldtrenner `,` speichern",
+};
+
+const DELETE: Message = Message {
+    english: "delete the line",
+    german: "die Zeile löschen",
+};
+
+const ADD: Message = Message {
+    english: "write `kind,land,party,a,b,c` as a line before it",
+    german: "davor die Zeile `kind,land,party,a,b,c` schreiben",
+};
+
+const SHORTEN: Message = Message {
+    english: "delete the column in every line: six cells have five commas between them",
+    german: "die Spalte in jeder Zeile löschen: Sechs Zellen haben fünf Kommas zwischen sich",
+};
+
+const NO_NAMES: Message = Message {
+    english: "delete the column in every line; in R: `write.csv(x, file, row.names = FALSE, quote = FALSE, na = \"\")`",
+    german: "die Spalte in jeder Zeile löschen; in R: `write.csv(x, file, row.names = FALSE, quote = FALSE, na = \"\")`",
+};
+
+// How often a byte stands in a line.
+fn times(line: &[u8], mark: u8) -> usize {
+    let mut number = 0usize;
+    for byte in line {
+        if *byte == mark {
+            number = number.saturating_add(1);
+        }
+    }
+    number
+}
+
+// Whether a cell is that of the header, but for blanks and capitals.
+fn is_nearly(cell: &[u8], wanted: &[u8]) -> bool {
+    cell.trim_ascii().eq_ignore_ascii_case(wanted)
+}
+
+// Whether the record is a header but for blanks and capitals.
+fn is_misspelt(case: &Case<'_>) -> bool {
+    for column in KIND..COLUMNS {
+        let cell = case.text(column);
+        if !is_nearly(cell, column_name(column)) && !(column == KIND && is_nearly(cell, b"kind2")) {
+            return false;
+        }
+    }
+    case.cells() == COLUMNS
+}
+
+// What is said of a first line that is no line of cells with commas between them, and what to do.
+fn foreign_messages(case: &Case<'_>, line: &[u8]) -> Option<(&'static Message, &'static Message)> {
+    if line.starts_with(b"sep=") || line.starts_with(b"SEP=") {
+        Some((&SEP, &DELETE))
+    } else if case.text(KIND).starts_with(b"#") {
+        Some((&COMMENT, &DELETE))
+    } else if times(line, b';') > times(line, b',') {
+        Some((&SEMICOLONS, &REPLACE_SEMICOLONS))
+    } else if times(line, b'\t') > times(line, b',') {
+        Some((&TABS, &REPLACE_TABS))
+    } else {
+        None
+    }
+}
+
+// What is said of a first line that is a record, or nearly the header, and what to do.
+fn near_messages(case: &Case<'_>) -> Option<(&'static Message, &'static Message)> {
+    let has_seven = case.cells() == 7;
+    if Kind::named(case.text(KIND).trim_ascii()).is_some() {
+        Some((&NO_HEADER, &ADD))
+    } else if has_seven && case.text(COLUMNS).is_empty() {
+        Some((&TRAILING, &SHORTEN))
+    } else if has_seven && is_nearly(case.text(1), b"kind") {
+        Some((&NUMBERED, &NO_NAMES))
+    } else if is_misspelt(case) {
+        Some((&SPELLING, &EXPECTED))
+    } else {
+        None
+    }
+}
+
+// The first column whose cell is not that of the header.
+fn first_other(case: &Case<'_>) -> usize {
+    for column in KIND..COLUMNS {
+        let cell = case.text(column);
+        if cell != column_name(column) && !(column == KIND && cell == b"kind2".as_slice()) {
+            return column;
+        }
+    }
+    KIND
+}
+
+// A first cell of the header that differs.
+fn explain_other(case: &Case<'_>) -> Result<Explanation, NoMemory>
+    ensures { IfOk result (λ x. x.code ≡ Some R01) }
+{
+    let column = first_other(case);
+    let shown = case.speaker.shown(case.text(column))?;
+    let values = [shown.as_slice(), column_name(column)];
+    case.explains(
+        FaultCode::R01,
+        &OTHER,
+        &values,
+        case.at(column),
+        &[&EXPECTED],
+    )
+}
+
+// Another number of cells than six.
+fn explain_count(case: &Case<'_>, span: Span) -> Result<Explanation, NoMemory>
+    ensures { IfOk result (λ x. x.code ≡ Some R01) }
+{
+    let count = case.speaker.number(case.cells())?;
+    case.explains(
+        FaultCode::R01,
+        &COUNT,
+        &[count.as_slice()],
+        span,
+        &[&EXPECTED],
+    )
+}
+
+// A first line of cells that is no header.
+fn explain_cells(case: &Case<'_>, span: Span) -> Result<Explanation, NoMemory>
+    ensures { IfOk result (λ x. x.code ≡ Some R01) }
+{
+    match near_messages(case) {
+        Some((sentence, remedy)) => case.explains(FaultCode::R01, sentence, &[], span, &[remedy]),
+        None if case.cells() != COLUMNS => explain_count(case, span),
+        None => explain_other(case),
+    }
+}
+
+// The line in which the record begins.
+fn first_of<'a>(case: &Case<'a>) -> (&'a [u8], Span) {
+    let start = case.at(KIND).start;
+    let line = match case.bytes.split_at_checked(start) {
+        Some((_, rest)) => first_line(rest),
+        None => &[],
+    };
+    let end = start.saturating_add(line.len());
+    (line, Span { start, end })
+}
+
+// A first line that is text and no header.
+fn explain_line(case: &Case<'_>) -> Result<Explanation, NoMemory>
+    ensures { IfOk result (λ x. x.code ≡ Some R01) }
+{
+    let (line, span) = first_of(case);
+    match foreign_messages(case, line) {
+        Some((sentence, remedy)) => {
+            let shown = case.speaker.shown(line)?;
+            let remedies = [remedy, &EXPECTED];
+            case.explains(
+                FaultCode::R01,
+                sentence,
+                &[shown.as_slice()],
+                span,
+                &remedies,
+            )
+        }
+        None => explain_cells(case, span),
+    }
+}
+
+// A text whose first record is not the header.
+fn explain_text(case: &Case<'_>) -> Result<Explanation, NoMemory>
+    ensures { IfOk result (λ x. x.code ≡ Some R01) }
+{
+    if case.refused.record.is_empty() {
+        return FileKind::Empty.explain(case.speaker, case.bytes);
+    }
+    match explain_quote(case, FaultCode::R01)? {
+        Some(explanation) => Ok(explanation),
+        None => explain_line(case),
+    }
+}
+
+/// The explanation of returns whose first record is not the header.
+///
+/// # Errors
+///
+/// Out of memory.
+pub(crate) fn explain_header(case: &Case<'_>) -> Result<Explanation, NoMemory>
+    ensures { IfOk result (λ x. x.code ≡ Some R01) }
+{
+    match foreign_kind(case.bytes) {
+        Some(kind) => kind.explain(case.speaker, case.bytes),
+        None => explain_text(case),
+    }
+}

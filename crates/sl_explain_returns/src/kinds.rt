@@ -1,0 +1,152 @@
+//! Records of no kind.
+
+ghost use Rattle.std.specs.Prelude.{◌≡◌, IfOk, Some};
+ghost use Rattle.sl_explain.specs.declared.code.FaultCode.TheVariants.{R03, R11};
+
+use crate::case::Case;
+use sl_explain::{Explanation, FaultCode, Message, nearest};
+use sl_ratio::NoMemory;
+use sl_returns::{COLUMNS, KIND, Kind};
+
+// What is said; the value is the first cell.
+const EMPTY_ROW: Message = Message {
+    english: "a row of empty cells is no record",
+    german: "eine Zeile aus leeren Zellen ist kein Datensatz",
+};
+
+const NO_KIND: Message = Message {
+    english: "the first cell is empty: it names the kind of the record",
+    german: "die erste Zelle ist leer: Sie nennt die Art des Datensatzes",
+};
+
+const AGAIN: Message = Message {
+    english: "the header stands a second time",
+    german: "die Kopfzeile steht ein zweites Mal da",
+};
+
+const COMMENT: Message = Message {
+    english: "`$` is no kind of record; there are no comments in returns",
+    german: "`$` ist keine Art von Datensatz; Kommentare gibt es in diesen Dateien nicht",
+};
+
+const OTHER: Message = Message {
+    english: "`$` is no kind of record",
+    german: "`$` ist keine Art von Datensatz",
+};
+
+// What to do.
+const DELETE_ROWS: Message = Message {
+    english: "delete the row, and those like it: a spreadsheet writes them where cells were emptied; delete rows there, not contents",
+    german: "diese und gleiche Zeilen löschen: Eine Tabellenkalkulation schreibt sie für geleerte Zellen; dort ganze Zeilen löschen",
+};
+
+const DELETE: Message = Message {
+    english: "delete the line",
+    german: "die Zeile löschen",
+};
+
+const NEAREST: Message = Message {
+    english: "did you mean `$`? The kinds are written in small letters, without blanks",
+    german: "war `$` gemeint? Die Arten stehen in kleinen Buchstaben, ohne Leerzeichen",
+};
+
+const KINDS: Message = Message {
+    english: "a record begins with `house`, `land`, `party`, `list`, `win` or `lot`; rows of sums and notes are deleted",
+    german: "ein Datensatz beginnt mit `house`, `land`, `party`, `list`, `win` oder `lot`; Summenzeilen und Notizen löschen",
+};
+
+const NO_LAND: Message = Message {
+    english: "the returns have no `land` record",
+    german: "die Datei hat keinen `land`-Datensatz",
+};
+
+const ADD_LAND: Message = Message {
+    english: "add a line for each Land before its lists: `land,NAME,,POPULATION,,`",
+    german: "für jedes Land eine Zeile vor seinen Listen einfügen: `land,NAME,,EINWOHNER,,`",
+};
+
+// Whether all cells of the record are empty.
+fn is_empty_row(case: &Case<'_>) -> bool {
+    for column in 0..COLUMNS {
+        if !case.text(column).is_empty() {
+            return false;
+        }
+    }
+    true
+}
+
+// What is said of the first cell.
+fn sentence(case: &Case<'_>) -> &'static Message {
+    let cell = case.text(KIND);
+    if is_empty_row(case) {
+        &EMPTY_ROW
+    } else if cell.is_empty() {
+        &NO_KIND
+    } else if cell == b"kind".as_slice() || cell == b"kind2".as_slice() {
+        &AGAIN
+    } else if cell.starts_with(b"#") {
+        &COMMENT
+    } else {
+        &OTHER
+    }
+}
+
+// Adds what to do with a first cell that names no kind.
+fn add_kinds(case: &Case<'_>, explanation: &mut Explanation) -> Result<(), NoMemory>
+    ensures { explanation.new.code ≡ explanation.old.code }
+{
+    let speaker = case.speaker;
+    let cell = case.text(KIND).trim_ascii();
+    match nearest(speaker.alloc, cell, &Kind::ALL.map(Kind::word))? {
+        Some(word) => speaker.helps(explanation, &NEAREST, &[word]),
+        None => speaker.helps(explanation, &KINDS, &[]),
+    }
+}
+
+// Adds what to do with the record.
+fn add_remedy(case: &Case<'_>, explanation: &mut Explanation) -> Result<(), NoMemory>
+    ensures { explanation.new.code ≡ explanation.old.code }
+{
+    let speaker = case.speaker;
+    let cell = case.text(KIND);
+    if is_empty_row(case) {
+        speaker.helps(explanation, &DELETE_ROWS, &[])
+    } else if cell.starts_with(b"kind") || cell.starts_with(b"#") {
+        speaker.helps(explanation, &DELETE, &[])
+    } else {
+        add_kinds(case, explanation)
+    }
+}
+
+// That the first cell is no kind.
+fn says_kind(case: &Case<'_>) -> Result<Explanation, NoMemory>
+    ensures { IfOk result (λ x. x.code ≡ Some R03) }
+{
+    let shown = case.speaker.shown(case.text(KIND))?;
+    let values = [shown.as_slice()];
+    case.says(FaultCode::R03, sentence(case), &values, case.at(KIND))
+}
+
+/// The explanation of a record whose first cell is no kind.
+///
+/// # Errors
+///
+/// Out of memory.
+pub(crate) fn explain_kind(case: &Case<'_>) -> Result<Explanation, NoMemory>
+    ensures { IfOk result (λ x. x.code ≡ Some R03) }
+{
+    let mut explanation = says_kind(case)?;
+    add_remedy(case, &mut explanation)?;
+    Ok(explanation)
+}
+
+/// The explanation of returns without a Land, at their last record.
+///
+/// # Errors
+///
+/// Out of memory.
+pub(crate) fn explain_no_land(case: &Case<'_>) -> Result<Explanation, NoMemory>
+    ensures { IfOk result (λ x. x.code ≡ Some R11) }
+{
+    case.explains(FaultCode::R11, &NO_LAND, &[], case.whole(), &[&ADD_LAND])
+}

@@ -1,0 +1,21 @@
+//! Explains why returns are refused: the cell or the record that is at fault, what it holds, and what to write, in English or in German. Takes
+//! what the reader of returns hands on, and the place of a cell from its scanner, so no text is split here. Proved: the code of each explanation
+//! is that of the fault.
+#![tactic(auto)]
+
+mod case;
+mod digits;
+mod faults;
+mod fields;
+mod files;
+mod form;
+mod header;
+mod kinds;
+mod letters;
+mod names;
+mod numbers;
+mod quotes;
+mod twice;
+mod unknown;
+
+pub use faults::{explain_long_returns, explain_returns};

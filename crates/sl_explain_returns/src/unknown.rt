@@ -1,0 +1,241 @@
+//! Names that no record before declares.
+
+ghost use Rattle.std.specs.Prelude.{◌≡◌, IfOk, Some};
+ghost use Rattle.sl_explain.specs.declared.code.FaultCode.TheVariants.{R07};
+
+use crate::case::Case;
+use sl_explain::{Explanation, FaultCode, Message, nearest};
+use sl_ratio::NoMemory;
+use sl_returns::{A, Content, KIND, Kind, LAND, Named, PARTY, find_record};
+use sl_stages::Returns;
+use std::alloc::Global;
+
+// What is said; the value is the name.
+const NO_LAND: Message = Message {
+    english: "no record before this one declares the Land `$`",
+    german: "kein Datensatz davor nennt das Land `$`",
+};
+
+const NO_PARTY: Message = Message {
+    english: "no record before this one declares the party `$`",
+    german: "kein Datensatz davor nennt die Partei `$`",
+};
+
+const NO_WIN: Message = Message {
+    english: "no `win` record before this one is of the constituency `$`",
+    german: "kein `win`-Datensatz davor ist vom Wahlkreis `$`",
+};
+
+// What to do.
+const NEAREST: Message = Message {
+    english: "did you mean `$`? Names are compared letter by letter",
+    german: "war `$` gemeint? Namen werden Buchstabe für Buchstabe verglichen",
+};
+
+const LATER: Message = Message {
+    english: "line $ declares it: move that record before this one, or all `land` and `party` records to the top",
+    german: "der Name steht erst in Zeile $: jenen Datensatz vor diesen stellen, oder alle `land` und `party` nach oben",
+};
+
+const IS_PARTY: Message = Message {
+    english: "`$` is a party: the Land stands in the second column, the party in the third",
+    german: "`$` ist eine Partei: Das Land steht in der zweiten Spalte, die Partei in der dritten",
+};
+
+const IS_LAND: Message = Message {
+    english: "`$` is a Land: the Land stands in the second column, the party in the third",
+    german: "`$` ist ein Land: Das Land steht in der zweiten Spalte, die Partei in der dritten",
+};
+
+const NO_SUMS: Message = Message {
+    english: "a row of sums is deleted: returns have the lists and winners alone",
+    german: "Summenzeilen löschen: die Datei hat nur Listen und Wahlkreissieger",
+};
+
+const DECLARE_LAND: Message = Message {
+    english: "if there is such a Land, declare it in a line before this one: `land,$,,POPULATION,,`",
+    german: "gibt es dieses Land, so gehört davor eine Zeile: `land,$,,EINWOHNER,,`",
+};
+
+const DECLARE_PARTY: Message = Message {
+    english: "if there is such a party, declare it in a line before this one: `party,,$,0,,`",
+    german: "gibt es diese Partei, so gehört davor eine Zeile: `party,,$,0,,`",
+};
+
+const DECLARE_WIN: Message = Message {
+    english: "a lot of `seats` names a winner: its `win` record stands before it, as `win,LAND,PARTY,$,FIRST,VALID`",
+    german: "ein Los von `seats` nennt einen Wahlkreissieger: Der `win`-Datensatz steht davor, wie `win,LAND,PARTEI,$,ERSTSTIMMEN,GÜLTIGE`",
+};
+
+// What rows of sums are called, in small letters.
+const SUMS: [&[u8]; 6] = [b"total", b"sum", b"summe", b"gesamt", b"insgesamt", b"bund"];
+
+// What is said of a name.
+fn unknown(named: Named) -> &'static Message {
+    match named {
+        Named::Land => &NO_LAND,
+        Named::Party => &NO_PARTY,
+        Named::Constituency => &NO_WIN,
+    }
+}
+
+// How a name is declared.
+fn declaration(named: Named) -> &'static Message {
+    match named {
+        Named::Land => &DECLARE_LAND,
+        Named::Party => &DECLARE_PARTY,
+        Named::Constituency => &DECLARE_WIN,
+    }
+}
+
+// The kind of record that declares a name, and the column in which it does.
+fn declaring(named: Named) -> (Kind, usize) {
+    match named {
+        Named::Land => (Kind::Land, LAND),
+        Named::Party => (Kind::Party, PARTY),
+        Named::Constituency => (Kind::Win, A),
+    }
+}
+
+// The names that returns have.
+fn names_of(alloc: Global, returns: &Returns, named: Named) -> Result<Vec<&[u8]>, NoMemory> {
+    let mut names = Vec::new(alloc);
+    match named {
+        Named::Land => {
+            for land in 0..returns.lands() {
+                names.push(returns.land_name(land))?;
+            }
+        }
+        Named::Party => {
+            for party in 0..returns.parties() {
+                names.push(returns.party_name(party))?;
+            }
+        }
+        Named::Constituency => {
+            for win in 0..returns.wins() {
+                names.push(returns.win_name(win))?;
+            }
+        }
+    }
+    Ok(names)
+}
+
+// What is said where a name stands in the column of another.
+fn exchanged(case: &Case<'_>, named: Named, name: &[u8]) -> Option<&'static Message> {
+    let before = &case.refused.before;
+    match named {
+        Named::Land if before.find_party(name).is_some() => Some(&IS_PARTY),
+        Named::Party if before.find_land(name).is_some() => Some(&IS_LAND),
+        Named::Land | Named::Party | Named::Constituency => None,
+    }
+}
+
+// Whether a row of sums is called so.
+fn is_sum(name: &[u8]) -> bool {
+    for word in SUMS {
+        if name.eq_ignore_ascii_case(word) {
+            return true;
+        }
+    }
+    false
+}
+
+// Adds a name that is near, or that a row of sums is deleted.
+fn add_nearest(
+    case: &Case<'_>,
+    named: Named,
+    name: &[u8],
+    explanation: &mut Explanation,
+) -> Result<(), NoMemory>
+    ensures { explanation.new.code ≡ explanation.old.code }
+{
+    let speaker = case.speaker;
+    if is_sum(name) {
+        return speaker.helps(explanation, &NO_SUMS, &[]);
+    }
+    let names = names_of(speaker.alloc, &case.refused.before, named)?;
+    match nearest(speaker.alloc, name, names.as_slice())? {
+        Some(near) => speaker.helps(explanation, &NEAREST, &[near]),
+        None => Ok(()),
+    }
+}
+
+// Adds what is near, and how the name is declared.
+fn add_declaration(
+    case: &Case<'_>,
+    named: Named,
+    name: &[u8],
+    explanation: &mut Explanation,
+) -> Result<(), NoMemory>
+    ensures { explanation.new.code ≡ explanation.old.code }
+{
+    add_nearest(case, named, name, explanation)?;
+    let shown = case.speaker.shown(name)?;
+    let values = [shown.as_slice()];
+    case.speaker.helps(explanation, declaration(named), &values)
+}
+
+// The row of a record after this one that declares the name.
+fn declared_later(case: &Case<'_>, named: Named, name: &[u8]) -> Result<Option<u32>, NoMemory> {
+    let (kind, column) = declaring(named);
+    let cells = [(KIND, kind.word()), (column, name)];
+    find_record(
+        case.speaker.alloc,
+        case.bytes,
+        case.refused.fault.row,
+        &cells,
+    )
+}
+
+// Adds what to do: where the name is declared too late, or in another column, or how it is declared.
+fn add_remedies(
+    case: &Case<'_>,
+    named: Named,
+    name: &[u8],
+    explanation: &mut Explanation,
+) -> Result<(), NoMemory>
+    ensures { explanation.new.code ≡ explanation.old.code }
+{
+    if let Some(row) = declared_later(case, named, name)? {
+        let line = case.speaker.number(case.line(row))?;
+        return case.speaker.helps(explanation, &LATER, &[line.as_slice()]);
+    }
+    match exchanged(case, named, name) {
+        Some(message) => case.speaker.helps(explanation, message, &[name]),
+        None => add_declaration(case, named, name, explanation),
+    }
+}
+
+/// The column at fault and what its name stands for, where the cell at fault holds a name that must be known.
+pub(crate) fn known_name_at(case: &Case<'_>) -> Option<(usize, Named)> {
+    let (column, content) = case.cell_at_fault()?;
+    match content {
+        Content::KnownName(named) | Content::KnownNameOrNone(named) => Some((column, named)),
+        Content::Kind
+        | Content::Blank
+        | Content::NewName(_)
+        | Content::StageName
+        | Content::Number(_)
+        | Content::NumberOrNone(_) => None,
+    }
+}
+
+/// The explanation of a name in a column that no record before declares.
+///
+/// # Errors
+///
+/// Out of memory.
+pub(crate) fn explain_unknown(
+    case: &Case<'_>,
+    column: usize,
+    named: Named,
+) -> Result<Explanation, NoMemory>
+    ensures { IfOk result (λ x. x.code ≡ Some R07) }
+{
+    let name = case.text(column);
+    let shown = case.speaker.shown(name)?;
+    let values = [shown.as_slice()];
+    let mut explanation = case.says(FaultCode::R07, unknown(named), &values, case.at(column))?;
+    add_remedies(case, named, name, &mut explanation)?;
+    Ok(explanation)
+}

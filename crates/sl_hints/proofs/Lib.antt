@@ -1,3 +1,0 @@
--- Lemmas of this crate.
-mod Commands
-mod Endings

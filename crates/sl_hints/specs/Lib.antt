@@ -1,2 +1,0 @@
--- What the calls of this crate answer.
-pub mod Faults

@@ -1,0 +1,2 @@
+-- What is counted by the names of the library.
+pub mod Names

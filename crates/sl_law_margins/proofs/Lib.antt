@@ -1,0 +1,3 @@
+-- The proof.
+pub mod Counts
+pub mod MissingVotes

@@ -1,0 +1,2 @@
+-- Votes missing, in a whole count.
+pub mod Counts

@@ -1,0 +1,2 @@
+-- What trees the texts of the library have.
+pub mod Texts

@@ -1,0 +1,2 @@
+-- What the commands that report answer.
+pub mod Statuses
