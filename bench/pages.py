@@ -52,7 +52,7 @@ FOREIGN = re.compile(r"^(/|~|\.\./|(.*/)?out(/|$)|.*[A-Z]{2,})|^(book\.law|own\.
 def pages():
     yield TOP / "README.md"
     yield from sorted((TOP / "docs").glob("*.md"))
-    yield from sorted((TOP / "crates" / "sl_example_rows" / "data").glob("**/*.md"))
+    yield from sorted((TOP / "crates" / "sl_test_rows" / "data" / "examples").glob("**/*.md"))
 
 
 def prose(text):

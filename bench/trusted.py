@@ -17,10 +17,12 @@ TOP = pathlib.Path(__file__).resolve().parent.parent
 CRATES = TOP / "crates"
 PAGE = TOP / "docs" / "trusted.md"
 CALLS = ["count", "steps", "stage", "show", "check_book", "code", "run_code", "law_text"]
+# The programs, with the word that the page has for each: from words to an exit status, and from a request.
+PROGRAMS = {"run": "seatlaw_count", "run_asked": "seatlaw"}
 NAMES = re.compile(r"\s*(?:ghost |pub )*use Rattle\.(\w+)\.specs\.([\w.]+)\.\{(.*)\};?$")
 MODULE = re.compile(r"\s*(?:ghost |pub )*use Rattle\.(\w+)\.specs\.([\w.]+)(?: as (\w+))?;?$")
 # Crates whose public functions promise something to whoever uses the program or the page, beside the laws.
-PROMISING = {CRATES / name for name in ("sl_inputs", "sl_code_inputs", "sl_counts", "sl_count_outcomes", "sl_desk", "sl_explain", "sl_explain_calls", "sl_law_counts", "sl_margins", "sl_report", "sl_page")}
+PROMISING = {CRATES / name for name in ("sl_inputs", "sl_code_inputs", "sl_counts", "sl_count_outcomes", "sl_desk", "sl_explain", "sl_explain_calls", "sl_law_counts", "sl_margins", "sl_report", "sl_page", "sl_outside", "sl_count_program", "sl_terminal")}
 WORD = re.compile(r"[^\W\d]\w*")
 
 
@@ -111,7 +113,7 @@ def contracts(path, which=None):
 def reached_by(path, text):
     seen, types = set(), set()
     reach(path, text, seen, types)
-    for trait, crate in (("Source", "sl_inputs"), ("Sink", "sl_inputs")):
+    for trait, crate in (("Source", "sl_inputs"), ("Sink", "sl_inputs"), ("Outside", "sl_outside")):
         if re.search(rf"\b{trait}\b", text):
             place = CRATES / crate / "src" / f"{trait.lower()}.rt"
             reach(place, blocks(place, trait), seen, types)
@@ -141,6 +143,12 @@ def page():
     for path in sorted(CRATES.glob("sl_counts/src/*.rt")) + sorted(CRATES.glob("sl_desk/src/calls/*.rt")):
         for name, text in contracts(path, CALLS):
             calls[name] = reached_by(path, text)
+    for crate in ("sl_count_program", "sl_terminal"):
+        for path in sorted(CRATES.glob(f"{crate}/src/*.rt")):
+            for name, text in contracts(path, [name for name in PROGRAMS if "ensures" in text_of(path)]):
+                if "ensures" in text:
+                    calls[PROGRAMS[name]] = reached_by(path, text)
+    columns = [*CALLS, *PROGRAMS.values()]
     laws = set()
     for path in sorted(CRATES.glob("*/src/**/*.rt")):
         for _, text in contracts(path):
@@ -152,20 +160,20 @@ def page():
     out = [
         "# What a reader has to believe",
         "",
-        "The contract of each call of `sl_desk` rests on definitions. A proof shows that the code meets them; that they say what they should",
+        "The contract of each call of the desk, and that of each program, rests on definitions. A proof shows that the code meets them; that they say what they should",
         "is for a reader to judge. This page lists the files with these definitions, call by call. It is written by `python3 bench/trusted.py`,",
         "which follows the imports. Definition lines are those that are no import, no comment and not blank. The library of the toolchain, on",
         "which the files rest too, is not listed; nor are the types and constants in `src/` that the definitions name, such as `LegalFault`,",
-        "`Divisor` and the limits, and the traits `Source` and `Sink` with their clauses, which have to be read as well.",
+        "`Divisor` and the limits, and the traits `Source`, `Sink` and `Outside` with their clauses, which have to be read as well.",
         "",
         "| call | files | definition lines |",
         "|---|---|---|",
     ]
-    out += [f"| `{name}` | {len(calls[name])} | {sum(map(definition_lines, calls[name]))} |" for name in CALLS]
-    out += [f"| all eight | {len(every)} | {sum(map(definition_lines, every))} |", "", "## The files", "", "A cross stands where the call rests on the file.", ""]
-    out += ["| file | lines | " + " | ".join(f"`{name}`" for name in CALLS) + " | what it is for |", "|---|---|" + "---|" * len(CALLS) + "---|"]
+    out += [f"| `{name}` | {len(calls[name])} | {sum(map(definition_lines, calls[name]))} |" for name in columns]
+    out += [f"| all | {len(every)} | {sum(map(definition_lines, every))} |", "", "## The files", "", "A cross stands where the call rests on the file.", ""]
+    out += ["| file | lines | " + " | ".join(f"`{name}`" for name in columns) + " | what it is for |", "|---|---|" + "---|" * len(columns) + "---|"]
     for path in sorted(every, key=by_place):
-        marks = " | ".join("x" if path in calls[name] else "" for name in CALLS)
+        marks = " | ".join("x" if path in calls[name] else "" for name in columns)
         out.append(f"| {short(path)} | {definition_lines(path)} | {marks} | {first_line(path)} |")
     idle = []
     for crate in order():

@@ -9,16 +9,18 @@ import sys
 import typing
 
 TOP = pathlib.Path(__file__).resolve().parent.parent
-EXAMPLES = TOP / "crates" / "sl_example_rows" / "data"
-ROWS = TOP / "crates" / "sl_rows" / "src"
+EXAMPLES = TOP / "crates" / "sl_test_rows" / "data" / "examples"
 sys.path.append(str(TOP / "bench"))
 import elections  # noqa: E402
+import rows as test_rows  # noqa: E402
 
 LAWS = ("1956", "1985", "2008", "2013", "2023", "2023-order")
 METHODS = ("webster", "jefferson", "adams", "hamilton", "hill", "dean")
 STAGE = re.compile(r"\bstage\s+(\w+)")
 ELECTIONS = EXAMPLES / "elections"
 LANGUAGES = ("de", "en")
+# Of each page of rows at most so many returns are counted by each of its books, and none of more bytes.
+MOST, LARGEST = 30, 200_000
 
 
 class Case(typing.NamedTuple):
@@ -77,28 +79,26 @@ def examples():
             yield from reports("@2023-order", path.read_bytes(), names)
 
 
-def literals(path):
-    """The texts in quotes of a source of tests, in order."""
-    text = path.read_text()
-    for raw, plain in re.findall(r'r#"(.*?)"#|"((?:[^"\\]|\\.)*)"', text, re.S):
-        if raw:
-            yield raw
-        else:
-            plain = re.sub(r"\\\n\s*", "", plain)
-            yield re.sub(r"\\(.)", lambda m: {"n": "\n", "t": "\t", "r": "\r", "0": "\0"}.get(m.group(1), m.group(1)), plain)
+def texts(row, suffix):
+    """The files of a row with such a name, those that several pages take among them."""
+    named = {word for call in row.calls for word in call.words}
+    shared = {path.name: path.read_bytes() for path in test_rows.ROWS.glob("*" + suffix)}
+    found = {**shared, **row.files}
+    return [bytes(found[name]) for name in sorted(named) if name in found and name.endswith(suffix)]
 
 
 def rows():
-    """The books and the returns that stand in the rows of sl_rows: each book is checked, and counts each returns of its file."""
-    for path in sorted(ROWS.glob("*.rt")):
-        texts = list(dict.fromkeys(literals(path)))
-        books = [text.encode() for text in texts if text.startswith("rulebook")]
-        files = [text.encode() for text in texts if text.startswith("kind")]
+    """The books and the returns of the rows of the tests: each book is checked, and counts each returns of its page."""
+    for page in test_rows.pages():
+        books, files = {}, {}
+        for row in test_rows.rows_of(page):
+            books.update(dict.fromkeys(texts(row, ".law")))
+            files.update(dict.fromkeys(text for text in texts(row, ".csv") if len(text) <= LARGEST))
         for book in books:
             yield Case("check", book)
             for language in LANGUAGES:
                 yield Case("explain_check", book, language=language)
-            for returns in files:
+            for returns in list(files)[:MOST]:
                 yield Case("count", book, returns)
                 yield Case("steps", book, returns)
                 for name in stages_of(book)[:2]:

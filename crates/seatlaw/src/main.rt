@@ -1,22 +1,15 @@
-//! The program: a command line over the commands of the terminal.
+//! The program: the terminal over the system.
 #![tactic(auto)]
 
-use sl_terminal::exit_status;
-use sl_words::request_of;
+use sl_inputs::ToWrite;
+use sl_outside::Host;
+use sl_terminal::{Terminal, run};
 use std::process::ExitCode;
 
 fn main(rt: HostRuntime) -> anyhow::Result<ExitCode> {
     let words: Vec<String> = std::env::args(&rt)?.collect(rt.alloc())?;
-    let status = match request_of(rt.alloc(), words.as_slice()) {
-        Ok(Some(asked)) => exit_status(&rt, asked),
-        Ok(None) => {
-            eprintln!(rt; "no command is given")?;
-            1
-        }
-        Err(error) => {
-            error.print(&rt)?;
-            if error.use_stderr() { 1 } else { 0 }
-        }
-    };
+    let (out, err) = (ToWrite::new(rt.stdout()), ToWrite::new(rt.stderr()));
+    let mut terminal = Terminal::new(rt.alloc(), Host { rt: &rt }, out, err);
+    let status = run(&mut terminal, words.as_slice());
     Ok(ExitCode::from(status))
 }

@@ -1,2 +1,3 @@
 -- The codes of faults.
 pub mod Codes
+pub mod Lines

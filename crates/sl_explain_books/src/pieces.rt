@@ -1,5 +1,9 @@
 //! Pieces of a text: where a token ends.
 
+ghost use Rattle.std.specs.Prelude.{◌≡◌};
+ghost use Rattle.sl_explain.specs.Lines.{line_number};
+ghost use Rattle.sl_explain_books.specs.Characters.{character_len, is_front};
+
 use sl_explain::{Span, line_at};
 
 /// Bytes from an offset to another, cut to those of the text.
@@ -17,26 +21,36 @@ pub fn piece(text: &[u8], span: Span) -> &[u8] {
 }
 
 /// The number of the line in which a byte stands, from 1.
-pub fn line_number(text: &[u8], at: usize) -> usize {
+pub fn line_number(text: &[u8], at: usize) -> usize
+    ensures { result ≡ line_number text.now at }
+{
     line_at(text, at).number
 }
 
-// The bytes of UTF-8 that a character has by its first byte.
-fn promised_len(first: u8) -> usize {
-    match first {
-        0xC2..=0xDF => 2,
-        0xE0..=0xEF => 3,
-        0xF0..=0xF4 => 4,
-        _ => 1,
+// Whether so many first bytes are UTF-8.
+fn is_front(rest: &[u8], count: usize) -> bool
+    ensures { result ≡ is_front rest.now count }
+{
+    match rest.get(..count) {
+        Some(bytes) => std::str::from_utf8(bytes).is_ok(),
+        None => false,
     }
 }
 
 /// How many bytes the character at the front has: 1 where no character of UTF-8 begins.
-pub fn character_len(rest: &[u8]) -> usize {
-    let length = promised_len(rest.first().copied().unwrap_or(0));
-    match rest.get(..length) {
-        Some(bytes) if std::str::from_utf8(bytes).is_ok() => length,
-        _ => 1,
+pub fn character_len(rest: &[u8]) -> usize
+    ensures { result ≡ character_len rest.now }
+{
+    if is_front(rest, 1) {
+        1
+    } else if is_front(rest, 2) {
+        2
+    } else if is_front(rest, 3) {
+        3
+    } else if is_front(rest, 4) {
+        4
+    } else {
+        1
     }
 }
 

@@ -31,6 +31,26 @@ const NO_OUTPUT: Message = Message {
     german: "die Datei `$` lässt sich nicht schreiben: $",
 };
 
+const LOST: Message = Message {
+    english: "the file `$` is no code file, and would be lost",
+    german: "die Datei `$` ist keine Codedatei und ginge verloren",
+};
+
+const LOST_BOOK: Message = Message {
+    english: "the file `$` has the bytes of the rulebook, which would be lost",
+    german: "die Datei `$` hat die Bytes des Regelwerks, das verloren ginge",
+};
+
+const FORCE: Message = Message {
+    english: "write the code to another file, or add `--force`",
+    german: "schreiben Sie den Code in eine andere Datei, oder fügen Sie `--force` hinzu",
+};
+
+const ANOTHER: Message = Message {
+    english: "write the code to another file",
+    german: "schreiben Sie den Code in eine andere Datei",
+};
+
 const LIBRARY: Message = Message {
     english: "the library has this rulebook as `@$`",
     german: "die Bibliothek hat dieses Regelwerk als `@$`",
@@ -139,5 +159,35 @@ pub fn explain_writing(
     let sentence = NO_OUTPUT.text(alloc, language, &values)?;
     let mut explanation = Explanation::new(alloc, sentence);
     explanation.remedy(PATH.text(alloc, language, &[])?)?;
+    Ok(explanation)
+}
+
+/// The bytes that writing a code file would lose.
+#[derive(Clone, Copy, PartialEq, Eq)]
+pub enum Lost {
+    /// Those of the rulebook that is compiled.
+    Rulebook,
+    /// Those of another file, which is no code file.
+    Other,
+}
+
+/// Why a code file is not written over the file at a path.
+///
+/// # Errors
+///
+/// Out of memory.
+pub fn explain_kept(
+    alloc: Global,
+    language: Language,
+    path: &str,
+    lost: Lost,
+) -> Result<Explanation, NoMemory> {
+    let (sentence, remedy) = match lost {
+        Lost::Rulebook => (LOST_BOOK, ANOTHER),
+        Lost::Other => (LOST, FORCE),
+    };
+    let sentence = sentence.text(alloc, language, &[path.as_bytes()])?;
+    let mut explanation = Explanation::new(alloc, sentence);
+    explanation.remedy(remedy.text(alloc, language, &[])?)?;
     Ok(explanation)
 }

@@ -1,5 +1,9 @@
 //! What the returns have in a scope.
 
+ghost use Rattle.std.specs.Prelude.{◌≡◌, count_by, sum};
+ghost use Rattle.sl_explain_faults.specs.Winners.{is_winner_in};
+ghost use Rattle.sl_stages.specs.returns.Facts.{is_of};
+
 use sl_ratio::NoMemory;
 use sl_stages::{Returns, Scope, Win};
 use std::alloc::Global;
@@ -75,28 +79,47 @@ pub fn majority_party(returns: &Returns, scope: Scope) -> Option<(usize, u64)> {
     None
 }
 
-// How many people live in the Länder.
-pub fn population(returns: &Returns) -> u64 {
+/// How many people live in the Länder.
+pub fn population(returns: &Returns) -> u64
+    ensures { result ≡ sum returns.now.populations }
+{
     let mut people = 0u64;
     for land in 0..returns.lands() {
-        people = people.saturating_add(u64::from(returns.population(land)));
+        people += u64::from(returns.population(land));
     }
     people
 }
 
-// How many winners there are in a scope.
-pub fn winners_in(returns: &Returns, scope: Scope) -> u64 {
+// Whether a winner is of a party.
+fn is_of(winner: Win, party: usize) -> bool
+    ensures { result ≡ is_of party winner }
+{
+    match winner.party {
+        Some(own) => own == party,
+        None => false,
+    }
+}
+
+// Whether a winner is of a scope.
+fn is_winner_in(scope: Scope, winner: Win) -> bool
+    ensures { result ≡ is_winner_in scope winner }
+{
+    match scope {
+        Scope::All => true,
+        Scope::Land(land) => winner.land == land,
+        Scope::Party(party) => is_of(winner, party),
+        Scope::List(land, party) => winner.land == land && is_of(winner, party),
+    }
+}
+
+/// How many winners there are in a scope.
+pub fn winners_in(returns: &Returns, scope: Scope) -> u64
+    ensures { result ≡ count_by (is_winner_in scope) returns.now.wins }
+{
     let mut winners = 0u64;
-    for win in 0..returns.wins() {
-        let winner = returns.win(win);
-        let is_counted = match (scope, winner.party) {
-            (Scope::All, _) => true,
-            (Scope::Land(land), _) => winner.land == land,
-            (_, Some(party)) => is_in(scope, winner.land, party),
-            (_, None) => false,
-        };
-        if is_counted {
-            winners = winners.saturating_add(1);
+    for number in 0..returns.wins() {
+        if is_winner_in(scope, returns.win(number)) {
+            winners += 1;
         }
     }
     winners

@@ -1,158 +1,254 @@
-//! Commands over files.
+//! The commands that do not report. Each judges its inputs, writes what they come to, and tells why it was not done.
 
-use crate::files::{Failure, create, open, open_book};
-use crate::reports::report;
-use crate::telling::{ReadFile, Terminal};
-use sl_desk::{check_answer, compilation_of, judge_run, law_text, run_answer};
+ghost use Rattle.std.specs.Prelude.{◌≡◌, IfErr, IfOk, IfSome};
+ghost use Rattle.sl_counts.specs.Shows.{IsShownOutput};
+ghost use Rattle.sl_desk.specs.Checking.{IsCheckOutput};
+ghost use Rattle.sl_desk.specs.Running.{IsRunCode};
+ghost use Rattle.sl_inputs.specs.Library.{IsLawOutput};
+ghost use Rattle.sl_inputs.specs.Reading.{ForKnown};
+ghost use Rattle.sl_inputs.specs.declared.status.Status.TheVariants as status;
+ghost use Rattle.sl_outside.specs.Inputs.{named_input};
+ghost use Rattle.sl_terminal.specs.Ends.{Ends, IsEarly, IsSilent};
+ghost use Rattle.sl_terminal.specs.Frames.{OnlyPrints, OnlyTells};
+ghost use Rattle.sl_terminal.specs.Requests.{IsOutputOf, IsShown};
+
+use crate::failure::Failure;
+use crate::telling::ReadFile;
+use crate::terminal::Terminal;
+use sl_counts::Answer;
+use sl_desk::{ReadRun, View, check_answer, judge_run, law_text, run_answer, show};
 use sl_explain::FaultCode;
 use sl_explain_calls::{explain_book, explain_check, explain_read, explain_run};
 use sl_explain_codes::text_about;
-use sl_inputs::{DeskError, Input, ReadBook, RefusedBook, Status, ToWrite, read_book};
-use sl_words::{Asked, Request, Show};
+use sl_inputs::{Input, ReadBook, RefusedBook, Sink, Status, read_book};
+use sl_outside::{Outside, open, open_book};
+use sl_words::{Request, Show};
 
-// What is to be shown of a count.
-fn view_of(show: Show<'_>) -> sl_desk::View<'_> {
-    match show {
-        Show::Seats => sl_desk::View::Seats,
-        Show::Steps => sl_desk::View::Steps,
-        Show::Stage(name) => sl_desk::View::Stage(name),
+impl<O: Outside, W: Sink, E: Sink> Terminal<O, W, E> {
+    // Shows what a count comes to.
+    #[tactic(auto, using(crate::proofs::Deliveries::ends_early))]
+    fn count<'a>(
+        &mut self,
+        view: View<'a>,
+        book: &'a str,
+        returns: &'a str,
+    ) -> Result<Status, Failure<'a, O::Reason>>
+        ensures ends { Ends (λ status text. ForKnown (named_input (O.bytes self.old.outside) book.now) (O.bytes self.old.outside returns.now) (λ input bytes.
+            IsShownOutput view.entry input bytes status text)) (W.contents self.old.out) (W.contents self.new.out) result }
+        ensures silent { IfOk result (λ ends. IsSilent self.old.is_quiet ends → self.new.err ≡ self.old.err) }
+    {
+        let alloc = self.alloc;
+        let mut source = open_book(&self.outside, book)?;
+        let mut file = open(&self.outside, returns, Input::Returns)?;
+        let shown = show(view, alloc, &mut source, &mut file, &mut self.out)?;
+        let files = [
+            ReadFile {
+                input: Input::Book,
+                path: book,
+                bytes: shown.read.book.as_slice(),
+            },
+            ReadFile {
+                input: Input::Returns,
+                path: returns,
+                bytes: shown.read.returns.as_slice(),
+            },
+        ];
+        let explained = explain_read(alloc, self.language, &shown.read);
+        self.tell(shown.status, &files, explained);
+        Ok(shown.status)
     }
-}
 
-fn count<'a>(
-    terminal: Terminal<'_>,
-    show: Show<'a>,
-    book: &'a str,
-    returns: &'a str,
-) -> Result<Status, Failure<'a>> {
-    let mut source = open_book(terminal.rt, book)?;
-    let mut file = open(terminal.rt, returns, Input::Returns)?;
-    let mut out = ToWrite::new(terminal.rt.stdout());
-    let alloc = terminal.alloc();
-    let shown = sl_desk::show(view_of(show), alloc, &mut source, &mut file, &mut out)?;
-    let files = [
-        ReadFile {
+    // Shows of a count what is asked for.
+    fn show_count<'a>(
+        &mut self,
+        show: Show<'a>,
+        book: &'a str,
+        returns: &'a str,
+    ) -> Result<Status, Failure<'a, O::Reason>>
+        ensures ends { Ends (λ status text. ForKnown (named_input (O.bytes self.old.outside) book.now) (O.bytes self.old.outside returns.now) (λ input bytes.
+            IsShown show.entry input bytes status text)) (W.contents self.old.out) (W.contents self.new.out) result }
+        ensures silent { IfOk result (λ ends. IsSilent self.old.is_quiet ends → self.new.err ≡ self.old.err) }
+    {
+        match show {
+            Show::Seats => self.count(View::Seats, book, returns),
+            Show::Steps => self.count(View::Steps, book, returns),
+            Show::Stage(name) => self.count(View::Stage(name), book, returns),
+        }
+    }
+
+    // Writes an answer.
+    fn write_answer<'a>(&mut self, answer: &Answer) -> Result<Status, Failure<'a, O::Reason>>
+        ensures ends { Ends (λ status text. (status ≡ answer.now.status) × (text ≡ answer.now.text.items)) (W.contents self.old.out) (W.contents self.new.out) result }
+        ensures only { OnlyPrints self.old self.new }
+    {
+        match answer.deliver(&mut self.out) {
+            Ok(status) => Ok(status),
+            Err(error) => Err(Failure::Call(error)),
+        }
+    }
+
+    // Tells why a rulebook that was read is refused, if it is.
+    pub(crate) fn tell_book(&mut self, status: Status, path: &str, read: &ReadBook<'_>)
+        ensures only { OnlyTells self.old self.new }
+        ensures silent { IsSilent self.old.is_quiet status → self.new.err ≡ self.old.err }
+    {
+        let file = ReadFile {
             input: Input::Book,
-            path: book,
-            bytes: shown.read.book.as_slice(),
-        },
-        ReadFile {
-            input: Input::Returns,
-            path: returns,
-            bytes: shown.read.returns.as_slice(),
-        },
-    ];
-    terminal.tell(&files, explain_read(alloc, terminal.language, &shown.read));
-    Ok(shown.status)
-}
-
-// Tells why a rulebook that was read is refused, if it is.
-fn tell_book(terminal: Terminal<'_>, path: &str, read: &ReadBook<'_>) {
-    let file = ReadFile {
-        input: Input::Book,
-        path,
-        bytes: read.text.as_slice(),
-    };
-    let explained = explain_check(terminal.alloc(), terminal.language, read);
-    terminal.tell(&[file], explained);
-}
-
-fn check<'a>(terminal: Terminal<'_>, book: &'a str) -> Result<Status, Failure<'a>> {
-    let alloc = terminal.alloc();
-    let read = read_book(alloc, &mut open_book(terminal.rt, book)?)?;
-    let answer = check_answer(alloc, &read.verdict)?;
-    let status = answer.deliver(&mut ToWrite::new(terminal.rt.stdout()))?;
-    tell_book(terminal, book, &read);
-    Ok(status)
-}
-
-fn code<'a>(terminal: Terminal<'_>, book: &'a str, file: &'a str) -> Result<Status, Failure<'a>> {
-    let alloc = terminal.alloc();
-    let mut source = open_book(terminal.rt, book)?;
-    let mut file = create(terminal.rt, file)?;
-    let read = read_book(alloc, &mut source)?;
-    let compilation = compilation_of(alloc, &read.verdict)?;
-    let status = compilation.deliver(&mut file, &mut ToWrite::new(terminal.rt.stdout()))?;
-    tell_book(terminal, book, &read);
-    Ok(status)
-}
-
-fn run<'a>(terminal: Terminal<'_>, code: &'a str, returns: &'a str) -> Result<Status, Failure<'a>> {
-    let alloc = terminal.alloc();
-    let mut source = open(terminal.rt, code, Input::Code)?;
-    let mut file = open(terminal.rt, returns, Input::Returns)?;
-    let read = judge_run(alloc, &mut source, &mut file)?;
-    let answer = run_answer(alloc, &read.judged)?;
-    let status = answer.deliver(&mut ToWrite::new(terminal.rt.stdout()))?;
-    let files = [
-        ReadFile {
-            input: Input::Code,
-            path: code,
-            bytes: read.file.as_slice(),
-        },
-        ReadFile {
-            input: Input::Returns,
-            path: returns,
-            bytes: read.returns.as_slice(),
-        },
-    ];
-    terminal.tell(&files, explain_run(alloc, terminal.language, &read));
-    Ok(status)
-}
-
-// Tells that the library has no statute of a name.
-fn tell_unknown(terminal: Terminal<'_>, name: &str) {
-    let file = ReadFile {
-        input: Input::Book,
-        path: name,
-        bytes: b"",
-    };
-    let refused = RefusedBook::UnknownStatute(name);
-    let explained = explain_book(terminal.alloc(), terminal.language, b"", &refused);
-    terminal.tell(&[file], explained.map(Some));
-}
-
-fn law<'a>(terminal: Terminal<'_>, name: &'a str) -> Result<Status, Failure<'a>> {
-    let status = law_text(name, &mut ToWrite::new(terminal.rt.stdout()))?;
-    if status != Status::Done {
-        tell_unknown(terminal, name);
+            path,
+            bytes: read.text.as_slice(),
+        };
+        let explained = explain_check(self.alloc, self.language, read);
+        self.tell(status, &[file], explained);
     }
-    Ok(status)
-}
 
-// Writes what there is to say of the code of a fault.
-fn explain(terminal: Terminal<'_>, code: FaultCode) -> Result<Status, DeskError> {
-    let text = text_about(terminal.alloc(), terminal.language, code)?;
-    terminal.print(text.as_slice())?;
-    Ok(Status::Done)
-}
-
-// Runs a command.
-fn ending<'a>(terminal: Terminal<'_>, request: Request<'a>) -> Result<Status, Failure<'a>> {
-    match request {
-        Request::Count {
-            show,
-            book,
-            returns,
-        } => count(terminal, show, book, returns),
-        Request::Check { book } => check(terminal, book),
-        Request::Code { book, file } => code(terminal, book, file),
-        Request::Run { code, returns } => run(terminal, code, returns),
-        Request::Law { name } => law(terminal, name),
-        Request::Explain { code } => Ok(explain(terminal, code)?),
-        Request::Report { what, form, names } => report(terminal, &what, form, names),
+    // A rulebook that is read, and what checking writes of it.
+    fn checked<'a>(&self, book: &'a str) -> Result<(ReadBook<'a>, Answer), Failure<'a, O::Reason>>
+        ensures answer { IfOk result (λ both. IfSome (named_input (O.bytes self.now.outside) book.now) (λ input. IsCheckOutput input both.1.status both.1.text.items)) }
+        ensures early { IfErr result IsEarly }
+    {
+        let mut source = open_book(&self.outside, book)?;
+        let read = read_book(self.alloc, &mut source)?;
+        let answer = check_answer(self.alloc, &read.verdict)?;
+        Ok((read, answer))
     }
-}
 
-/// Runs a command over files and standard output, and answers the exit status: 5 after an error, also where its line cannot be printed. Behind
-/// the line of a refusal, a fault or an error it explains itself on standard error.
-pub fn exit_status(rt: &HostRuntime, asked: Asked<'_>) -> u8 {
-    let terminal = Terminal::new(rt, asked.options);
-    match ending(terminal, asked.request) {
-        Ok(status) => status.number(),
-        Err(failure) => {
-            terminal.tell_failure(&failure);
-            5
+    // Checks a rulebook.
+    #[tactic(auto, using(crate::proofs::Deliveries::ends_early))]
+    fn check<'a>(&mut self, book: &'a str) -> Result<Status, Failure<'a, O::Reason>>
+        ensures ends { Ends (λ status text. IfSome (named_input (O.bytes self.old.outside) book.now) (λ input.
+            IsCheckOutput input status text)) (W.contents self.old.out) (W.contents self.new.out) result }
+        ensures silent { IfOk result (λ ends. IsSilent self.old.is_quiet ends → self.new.err ≡ self.old.err) }
+    {
+        let (read, answer) = self.checked(book)?;
+        let status = self.write_answer(&answer)?;
+        self.tell_book(status, book, &read);
+        Ok(status)
+    }
+
+    // A code file and returns that are read and judged, and what running writes of them.
+    fn judged_run<'a>(
+        &self,
+        code: &'a str,
+        returns: &'a str,
+    ) -> Result<(ReadRun, Answer), Failure<'a, O::Reason>>
+        ensures answer { IfOk result (λ both. ForKnown (O.bytes self.now.outside code.now) (O.bytes self.now.outside returns.now) (λ file bytes.
+            IsRunCode file bytes both.1.status both.1.text.items)) }
+        ensures early { IfErr result IsEarly }
+    {
+        let mut source = open(&self.outside, code, Input::Code)?;
+        let mut file = open(&self.outside, returns, Input::Returns)?;
+        let read = judge_run(self.alloc, &mut source, &mut file)?;
+        let answer = run_answer(self.alloc, &read.judged)?;
+        Ok((read, answer))
+    }
+
+    // Writes what a code file and returns come to, and tells why they were not run to a table.
+    fn finish_run<'a>(
+        &mut self,
+        read: &ReadRun,
+        answer: &Answer,
+        code: &'a str,
+        returns: &'a str,
+    ) -> Result<Status, Failure<'a, O::Reason>>
+        ensures ends { Ends (λ status text. (status ≡ answer.now.status) × (text ≡ answer.now.text.items)) (W.contents self.old.out) (W.contents self.new.out) result }
+        ensures silent { IfOk result (λ ends. IsSilent self.old.is_quiet ends → self.new.err ≡ self.old.err) }
+    {
+        let status = self.write_answer(answer)?;
+        let files = [
+            ReadFile {
+                input: Input::Code,
+                path: code,
+                bytes: read.file.as_slice(),
+            },
+            ReadFile {
+                input: Input::Returns,
+                path: returns,
+                bytes: read.returns.as_slice(),
+            },
+        ];
+        let explained = explain_run(self.alloc, self.language, read);
+        self.tell(status, &files, explained);
+        Ok(status)
+    }
+
+    // Runs a code file on returns.
+    #[tactic(auto, using(crate::proofs::Deliveries::ends_early))]
+    fn run_code<'a>(
+        &mut self,
+        code: &'a str,
+        returns: &'a str,
+    ) -> Result<Status, Failure<'a, O::Reason>>
+        ensures ends { Ends (λ status text. ForKnown (O.bytes self.old.outside code.now) (O.bytes self.old.outside returns.now) (λ file bytes.
+            IsRunCode file bytes status text)) (W.contents self.old.out) (W.contents self.new.out) result }
+        ensures silent { IfOk result (λ ends. IsSilent self.old.is_quiet ends → self.new.err ≡ self.old.err) }
+    {
+        let (read, answer) = self.judged_run(code, returns)?;
+        self.finish_run(&read, &answer, code, returns)
+    }
+
+    // Tells that the library has no statute of a name.
+    fn tell_unknown(&mut self, status: Status, name: &str)
+        ensures only { OnlyTells self.old self.new }
+        ensures silent { IsSilent self.old.is_quiet status → self.new.err ≡ self.old.err }
+    {
+        let file = ReadFile {
+            input: Input::Book,
+            path: name,
+            bytes: b"",
+        };
+        let refused = RefusedBook::UnknownStatute(name);
+        let explained = explain_book(self.alloc, self.language, b"", &refused);
+        self.tell(status, &[file], explained.map(Some));
+    }
+
+    // Writes a statute of the library.
+    fn law<'a>(&mut self, name: &'a str) -> Result<Status, Failure<'a, O::Reason>>
+        ensures ends { Ends (IsLawOutput name.now) (W.contents self.old.out) (W.contents self.new.out) result }
+        ensures silent { IfOk result (λ ends. IsSilent self.old.is_quiet ends → self.new.err ≡ self.old.err) }
+    {
+        match law_text(name, &mut self.out) {
+            Ok(status) => {
+                self.tell_unknown(status, name);
+                Ok(status)
+            }
+            Err(error) => Err(Failure::Call(error)),
+        }
+    }
+
+    // Writes what there is to say of the code of a fault.
+    #[tactic(auto, using(crate::proofs::Deliveries::ends_early))]
+    fn explain<'a>(&mut self, code: FaultCode) -> Result<Status, Failure<'a, O::Reason>>
+        ensures ends { Ends (λ ends _. ends ≡ status.Done) (W.contents self.old.out) (W.contents self.new.out) result }
+        ensures silent { IfOk result (λ ends. IsSilent self.old.is_quiet ends → self.new.err ≡ self.old.err) }
+    {
+        let text = text_about(self.alloc, self.language, code)?;
+        self.write_text(Status::Done, text.as_slice())
+    }
+
+    // Runs a command.
+    pub(crate) fn ending<'a>(
+        &mut self,
+        request: Request<'a>,
+    ) -> Result<Status, Failure<'a, O::Reason>>
+        ensures ends { Ends (IsOutputOf (O.bytes self.old.outside) request.entry) (W.contents self.old.out) (W.contents self.new.out) result }
+        ensures silent { IfOk result (λ ends. IsSilent self.old.is_quiet ends → self.new.err ≡ self.old.err) }
+    {
+        match request {
+            Request::Count {
+                show,
+                book,
+                returns,
+            } => self.show_count(show, book, returns),
+            Request::Check { book } => self.check(book),
+            Request::Code {
+                book,
+                file,
+                is_forced,
+            } => self.code(book, file, is_forced),
+            Request::Run { code, returns } => self.run_code(code, returns),
+            Request::Law { name } => self.law(name),
+            Request::Explain { code } => self.explain(code),
+            Request::Report { what, form, names } => self.report(&what, form, names),
         }
     }
 }

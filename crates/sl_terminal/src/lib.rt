@@ -1,9 +1,13 @@
-//! The commands of the program over files: what each reads and writes, and explanations on standard error.
+//! The program over what lies outside: from the words of the command line to the texts on standard output and standard error and the exit status.
 #![tactic(auto)]
 
+mod code_file;
 mod commands;
-mod files;
+mod failure;
+mod program;
 mod reports;
 mod telling;
+mod terminal;
 
-pub use commands::exit_status;
+pub use program::run;
+pub use terminal::Terminal;

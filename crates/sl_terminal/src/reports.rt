@@ -1,13 +1,18 @@
 //! The commands that report, over files: each input is read and judged once, and each rulebook is run once.
 
-use crate::files::{Failure, open, open_book};
-use crate::telling::{ReadFile, Terminal};
+ghost use Rattle.std.specs.Prelude.{⊤, ◌≡◌, IfErr, IfOk};
+ghost use Rattle.sl_terminal.specs.Ends.{Ends, IsEarly, IsSilent};
+
+use crate::failure::Failure;
+use crate::telling::ReadFile;
+use crate::terminal::Terminal;
 use sl_count_outcomes::{Outcome, Records, outcome_of};
 use sl_explain_calls::{explain_book, explain_election, explain_outcome};
 use sl_inputs::{
-    Bytes, DeskError, Input, ReadBook, ReadReturns, RefusedBook, RefusedElection, Status, Verdict,
-    read_all, read_book, read_election, refused,
+    Bytes, DeskError, Input, ReadBook, ReadReturns, RefusedBook, RefusedElection, Sink, Status,
+    Verdict, read_all, read_book, read_election, refused,
 };
+use sl_outside::{Outside, open, open_book};
 use sl_ratio::NoMemory;
 use sl_report::{
     Answer, Compared, MAX_NAMES_BYTES, Shape, Show, answer_count, compare_judged,
@@ -38,44 +43,6 @@ struct Style<'a> {
     shape: Shape,
 }
 
-// A rulebook: of the library if the word begins with `@`, else of the file at that path.
-fn book_at<'a>(terminal: Terminal<'_>, word: &'a str) -> Result<NamedBook<'a>, Failure<'a>> {
-    let read = read_book(terminal.alloc(), &mut open_book(terminal.rt, word)?)?;
-    Ok(NamedBook { word, read })
-}
-
-fn books_at<'a>(
-    terminal: Terminal<'_>,
-    words: &[&'a str],
-) -> Result<Vec<NamedBook<'a>>, Failure<'a>> {
-    let mut books: Vec<NamedBook<'a>> = Vec::new(terminal.alloc());
-    for word in words {
-        let book = book_at(terminal, *word)?;
-        if books.push(book).is_err() {
-            return Err(Failure::Call(DeskError::NoMemory));
-        }
-    }
-    Ok(books)
-}
-
-fn returns_at<'a>(terminal: Terminal<'_>, path: &'a str) -> Result<NamedReturns<'a>, Failure<'a>> {
-    let mut file = open(terminal.rt, path, Input::Returns)?;
-    let read = read_election(terminal.alloc(), &mut file)?;
-    Ok(NamedReturns { path, read })
-}
-
-fn names_at<'a>(
-    terminal: Terminal<'_>,
-    path: Option<&'a str>,
-) -> Result<Option<Bytes>, Failure<'a>> {
-    let Some(path) = path else {
-        return Ok(None);
-    };
-    let mut file = open(terminal.rt, path, Input::Names)?;
-    let names = read_all(terminal.alloc(), &mut file, Input::Names, MAX_NAMES_BYTES)?;
-    Ok(Some(names))
-}
-
 // The answer that refuses names of too many bytes, if they are.
 fn refused_names(alloc: Global, names: &Option<Bytes>) -> Result<Option<Answer>, NoMemory> {
     match names {
@@ -95,24 +62,6 @@ fn bytes_of(names: &Option<Bytes>) -> Option<&[u8]> {
     }
 }
 
-// Refuses a rulebook.
-fn refuse_book<'a>(
-    terminal: Terminal<'_>,
-    book: &NamedBook<'_>,
-    refused: &RefusedBook<'_>,
-) -> Result<Status, Failure<'a>> {
-    let (alloc, text) = (terminal.alloc(), book.read.text.as_slice());
-    terminal.print(refused.why().line(alloc)?.as_slice())?;
-    let file = ReadFile {
-        input: Input::Book,
-        path: book.word,
-        bytes: text,
-    };
-    let explained = explain_book(alloc, terminal.language, text, refused);
-    terminal.tell(&[file], explained.map(Some));
-    Ok(Status::Refused)
-}
-
 impl NamedReturns<'_> {
     fn file(&self) -> ReadFile<'_> {
         ReadFile {
@@ -121,26 +70,6 @@ impl NamedReturns<'_> {
             bytes: self.read.text.as_slice(),
         }
     }
-}
-
-// Refuses returns.
-fn refuse_returns<'a>(
-    terminal: Terminal<'_>,
-    returns: &NamedReturns<'_>,
-    refused: &RefusedElection,
-) -> Result<Status, Failure<'a>> {
-    let alloc = terminal.alloc();
-    terminal.print(refused.why().line(alloc)?.as_slice())?;
-    let bytes = returns.read.text.as_slice();
-    let explained = explain_election(alloc, terminal.language, bytes, refused);
-    terminal.tell(&[returns.file()], explained.map(Some));
-    Ok(Status::Refused)
-}
-
-// Writes an answer.
-fn deliver<'a>(terminal: Terminal<'_>, answer: &Answer) -> Result<Status, Failure<'a>> {
-    terminal.print(answer.text.as_slice())?;
-    Ok(answer.status)
 }
 
 // What a count comes to, in full or by its stages, with the names of a text; or the answer that refuses these names.
@@ -165,60 +94,6 @@ fn count_answer(
     }
 }
 
-// Counts by a good rulebook on good returns, and writes and explains what that comes to.
-fn report_outcome<'a>(
-    terminal: Terminal<'_>,
-    show: Show,
-    book: &CheckedBook,
-    returns: &NamedReturns<'_>,
-    election: &Returns,
-    names: &Option<Bytes>,
-    shape: Shape,
-) -> Result<Status, Failure<'a>> {
-    let alloc = terminal.alloc();
-    let (answer, outcome) = count_answer(alloc, show, book, election, names, shape)?;
-    let status = deliver(terminal, &answer)?;
-    if let Some(outcome) = &outcome {
-        let explained = explain_outcome(alloc, terminal.language, election, outcome);
-        terminal.tell(&[returns.file()], explained);
-    }
-    Ok(status)
-}
-
-// Counts by a good rulebook and reports.
-fn report_good<'a>(
-    terminal: Terminal<'_>,
-    show: Show,
-    book: &CheckedBook,
-    returns: &NamedReturns<'_>,
-    names: &Option<Bytes>,
-    shape: Shape,
-) -> Result<Status, Failure<'a>> {
-    match &returns.read.verdict {
-        Verdict::Good(election) => {
-            report_outcome(terminal, show, book, returns, election, names, shape)
-        }
-        Verdict::Refused(refused) => refuse_returns(terminal, returns, refused),
-    }
-}
-
-// Counts by a rulebook and reports.
-fn report_count<'a>(
-    terminal: Terminal<'_>,
-    show: Show,
-    book: &'a str,
-    returns: &'a str,
-    style: Style<'a>,
-) -> Result<Status, Failure<'a>> {
-    let book = book_at(terminal, book)?;
-    let returns = returns_at(terminal, returns)?;
-    let names = names_at(terminal, style.names)?;
-    match &book.read.verdict {
-        Verdict::Good(good) => report_good(terminal, show, good, &returns, &names, style.shape),
-        Verdict::Refused(refused) => refuse_book(terminal, &book, refused),
-    }
-}
-
 // The sums of returns, with a rulebook if one is given; or the answer that refuses the names.
 fn sums_answer(
     alloc: Global,
@@ -236,44 +111,6 @@ fn sums_answer(
             totals_answer(alloc, book, returns, &full, shape)
         }
         Err(answer) => Ok(answer),
-    }
-}
-
-// Writes the sums of returns, after a good rulebook or none.
-fn report_sums<'a>(
-    terminal: Terminal<'_>,
-    book: Option<&CheckedBook>,
-    returns: &NamedReturns<'_>,
-    names: &Option<Bytes>,
-    shape: Shape,
-) -> Result<Status, Failure<'a>> {
-    match &returns.read.verdict {
-        Verdict::Good(election) => {
-            let answer = sums_answer(terminal.alloc(), book, election, names, shape)?;
-            deliver(terminal, &answer)
-        }
-        Verdict::Refused(refused) => refuse_returns(terminal, returns, refused),
-    }
-}
-
-// Adds up returns, with a rulebook if one is given.
-fn report_totals<'a>(
-    terminal: Terminal<'_>,
-    returns: &'a str,
-    book: Option<&'a str>,
-    style: Style<'a>,
-) -> Result<Status, Failure<'a>> {
-    let returns = returns_at(terminal, returns)?;
-    let books = books_at(terminal, book.as_slice())?;
-    let names = names_at(terminal, style.names)?;
-    match books.first() {
-        Some(book) => match &book.read.verdict {
-            Verdict::Good(good) => {
-                report_sums(terminal, Some(good), &returns, &names, style.shape)
-            }
-            Verdict::Refused(refused) => refuse_book(terminal, book, refused),
-        },
-        None => report_sums(terminal, None, &returns, &names, style.shape),
     }
 }
 
@@ -332,33 +169,6 @@ fn comparison(
     )
 }
 
-// Puts rulebooks side by side. Before returns that are refused the first rulebook alone may be.
-fn report_comparison<'a>(
-    terminal: Terminal<'_>,
-    returns: &'a str,
-    books: &[&'a str],
-    style: Style<'a>,
-) -> Result<Status, Failure<'a>> {
-    let returns = returns_at(terminal, returns)?;
-    let books = books_at(terminal, books)?;
-    let names = names_at(terminal, style.names)?;
-    match &returns.read.verdict {
-        Verdict::Good(election) => match first_refused(books.as_slice()) {
-            Some((book, refused)) => refuse_book(terminal, book, refused),
-            None => {
-                let answer = comparison(terminal.alloc(), books, election, &names, style.shape)?;
-                deliver(terminal, &answer)
-            }
-        },
-        Verdict::Refused(refused) => {
-            match first_refused(books.as_slice().get(..1).unwrap_or(&[])) {
-                Some((book, refused)) => refuse_book(terminal, book, refused),
-                None => refuse_returns(terminal, &returns, refused),
-            }
-        }
-    }
-}
-
 fn shape_of(form: ReportForm) -> Shape {
     match form {
         ReportForm::Text => Shape::Text,
@@ -367,27 +177,256 @@ fn shape_of(form: ReportForm) -> Shape {
     }
 }
 
-/// Writes a report to standard output.
-pub fn report<'a>(
-    terminal: Terminal<'_>,
-    what: &Report<'a>,
-    form: ReportForm,
-    names: Option<&'a str>,
-) -> Result<Status, Failure<'a>> {
-    let style = Style {
-        names,
-        shape: shape_of(form),
-    };
-    match what {
-        Report::Count { book, returns } => {
-            report_count(terminal, Show::Report, *book, *returns, style)
+impl<O: Outside, W: Sink, E: Sink> Terminal<O, W, E> {
+    // A rulebook: of the library if the word begins with `@`, else of the file at that path.
+    fn book_at<'a>(&self, word: &'a str) -> Result<NamedBook<'a>, Failure<'a, O::Reason>>
+        ensures early { IfErr result IsEarly }
+    {
+        let read = read_book(self.alloc, &mut open_book(&self.outside, word)?)?;
+        Ok(NamedBook { word, read })
+    }
+
+    fn books_at<'a>(&self, words: &[&'a str]) -> Result<Vec<NamedBook<'a>>, Failure<'a, O::Reason>>
+        ensures early { IfErr result IsEarly }
+    {
+        let mut books: Vec<NamedBook<'a>> = Vec::new(self.alloc);
+        for word in words {
+            let book = self.book_at(*word)?;
+            if books.push(book).is_err() {
+                return Err(Failure::Call(DeskError::NoMemory));
+            }
         }
-        Report::Stages { book, returns } => {
-            report_count(terminal, Show::Stages, *book, *returns, style)
+        Ok(books)
+    }
+
+    fn returns_at<'a>(&self, path: &'a str) -> Result<NamedReturns<'a>, Failure<'a, O::Reason>>
+        ensures early { IfErr result IsEarly }
+    {
+        let mut file = open(&self.outside, path, Input::Returns)?;
+        let read = read_election(self.alloc, &mut file)?;
+        Ok(NamedReturns { path, read })
+    }
+
+    fn names_at<'a>(&self, path: Option<&'a str>) -> Result<Option<Bytes>, Failure<'a, O::Reason>>
+        ensures early { IfErr result IsEarly }
+    {
+        let Some(path) = path else {
+            return Ok(None);
+        };
+        let mut file = open(&self.outside, path, Input::Names)?;
+        let names = read_all(self.alloc, &mut file, Input::Names, MAX_NAMES_BYTES)?;
+        Ok(Some(names))
+    }
+
+    // Refuses a rulebook.
+    #[tactic(auto, using(crate::proofs::Deliveries::ends_early))]
+    fn refuse_book<'a>(
+        &mut self,
+        book: &NamedBook<'_>,
+        refused: &RefusedBook<'_>,
+    ) -> Result<Status, Failure<'a, O::Reason>>
+        ensures ends { Ends (λ _ _. ⊤) (W.contents self.old.out) (W.contents self.new.out) result }
+        ensures silent { IfOk result (λ ends. IsSilent self.old.is_quiet ends → self.new.err ≡ self.old.err) }
+    {
+        let (alloc, text) = (self.alloc, book.read.text.as_slice());
+        let line = refused.why().line(alloc)?;
+        let status = self.write_text(Status::Refused, line.as_slice())?;
+        let file = ReadFile {
+            input: Input::Book,
+            path: book.word,
+            bytes: text,
+        };
+        let explained = explain_book(alloc, self.language, text, refused);
+        self.tell(status, &[file], explained.map(Some));
+        Ok(status)
+    }
+
+    // Refuses returns.
+    #[tactic(auto, using(crate::proofs::Deliveries::ends_early))]
+    fn refuse_returns<'a>(
+        &mut self,
+        returns: &NamedReturns<'_>,
+        refused: &RefusedElection,
+    ) -> Result<Status, Failure<'a, O::Reason>>
+        ensures ends { Ends (λ _ _. ⊤) (W.contents self.old.out) (W.contents self.new.out) result }
+        ensures silent { IfOk result (λ ends. IsSilent self.old.is_quiet ends → self.new.err ≡ self.old.err) }
+    {
+        let alloc = self.alloc;
+        let line = refused.why().line(alloc)?;
+        let status = self.write_text(Status::Refused, line.as_slice())?;
+        let bytes = returns.read.text.as_slice();
+        let explained = explain_election(alloc, self.language, bytes, refused);
+        self.tell(status, &[returns.file()], explained.map(Some));
+        Ok(status)
+    }
+
+    // Counts by a good rulebook on good returns, and writes and explains what that comes to.
+    #[tactic(auto, using(crate::proofs::Deliveries::ends_early))]
+    fn report_outcome<'a>(
+        &mut self,
+        show: Show,
+        book: &CheckedBook,
+        returns: &NamedReturns<'_>,
+        election: &Returns,
+        names: &Option<Bytes>,
+        shape: Shape,
+    ) -> Result<Status, Failure<'a, O::Reason>>
+        ensures ends { Ends (λ _ _. ⊤) (W.contents self.old.out) (W.contents self.new.out) result }
+        ensures silent { IfOk result (λ ends. IsSilent self.old.is_quiet ends → self.new.err ≡ self.old.err) }
+    {
+        let alloc = self.alloc;
+        let (answer, outcome) = count_answer(alloc, show, book, election, names, shape)?;
+        let status = self.write_text(answer.status, answer.text.as_slice())?;
+        if let Some(outcome) = &outcome {
+            let explained = explain_outcome(alloc, self.language, election, outcome);
+            self.tell(status, &[returns.file()], explained);
         }
-        Report::Totals { returns, book } => report_totals(terminal, *returns, *book, style),
-        Report::Compare { returns, books } => {
-            report_comparison(terminal, *returns, books.as_slice(), style)
+        Ok(status)
+    }
+
+    // Counts by a good rulebook and reports.
+    fn report_good<'a>(
+        &mut self,
+        show: Show,
+        book: &CheckedBook,
+        returns: &NamedReturns<'_>,
+        names: &Option<Bytes>,
+        shape: Shape,
+    ) -> Result<Status, Failure<'a, O::Reason>>
+        ensures ends { Ends (λ _ _. ⊤) (W.contents self.old.out) (W.contents self.new.out) result }
+        ensures silent { IfOk result (λ ends. IsSilent self.old.is_quiet ends → self.new.err ≡ self.old.err) }
+    {
+        match &returns.read.verdict {
+            Verdict::Good(election) => {
+                self.report_outcome(show, book, returns, election, names, shape)
+            }
+            Verdict::Refused(refused) => self.refuse_returns(returns, refused),
+        }
+    }
+
+    // Counts by a rulebook and reports.
+    #[tactic(auto, using(crate::proofs::Deliveries::ends_early))]
+    fn report_count<'a>(
+        &mut self,
+        show: Show,
+        book: &'a str,
+        returns: &'a str,
+        style: Style<'a>,
+    ) -> Result<Status, Failure<'a, O::Reason>>
+        ensures ends { Ends (λ _ _. ⊤) (W.contents self.old.out) (W.contents self.new.out) result }
+        ensures silent { IfOk result (λ ends. IsSilent self.old.is_quiet ends → self.new.err ≡ self.old.err) }
+    {
+        let book = self.book_at(book)?;
+        let returns = self.returns_at(returns)?;
+        let names = self.names_at(style.names)?;
+        match &book.read.verdict {
+            Verdict::Good(good) => self.report_good(show, good, &returns, &names, style.shape),
+            Verdict::Refused(refused) => self.refuse_book(&book, refused),
+        }
+    }
+
+    // Writes the sums of returns, after a good rulebook or none.
+    #[tactic(auto, using(crate::proofs::Deliveries::ends_early))]
+    fn report_sums<'a>(
+        &mut self,
+        book: Option<&CheckedBook>,
+        returns: &NamedReturns<'_>,
+        names: &Option<Bytes>,
+        shape: Shape,
+    ) -> Result<Status, Failure<'a, O::Reason>>
+        ensures ends { Ends (λ _ _. ⊤) (W.contents self.old.out) (W.contents self.new.out) result }
+        ensures silent { IfOk result (λ ends. IsSilent self.old.is_quiet ends → self.new.err ≡ self.old.err) }
+    {
+        match &returns.read.verdict {
+            Verdict::Good(election) => {
+                let answer = sums_answer(self.alloc, book, election, names, shape)?;
+                self.write_text(answer.status, answer.text.as_slice())
+            }
+            Verdict::Refused(refused) => self.refuse_returns(returns, refused),
+        }
+    }
+
+    // Adds up returns, with a rulebook if one is given.
+    #[tactic(auto, using(crate::proofs::Deliveries::ends_early))]
+    fn report_totals<'a>(
+        &mut self,
+        returns: &'a str,
+        book: Option<&'a str>,
+        style: Style<'a>,
+    ) -> Result<Status, Failure<'a, O::Reason>>
+        ensures ends { Ends (λ _ _. ⊤) (W.contents self.old.out) (W.contents self.new.out) result }
+        ensures silent { IfOk result (λ ends. IsSilent self.old.is_quiet ends → self.new.err ≡ self.old.err) }
+    {
+        let returns = self.returns_at(returns)?;
+        let books = self.books_at(book.as_slice())?;
+        let names = self.names_at(style.names)?;
+        match books.first() {
+            Some(book) => match &book.read.verdict {
+                Verdict::Good(good) => {
+                    self.report_sums(Some(good), &returns, &names, style.shape)
+                }
+                Verdict::Refused(refused) => self.refuse_book(book, refused),
+            },
+            None => self.report_sums(None, &returns, &names, style.shape),
+        }
+    }
+
+    // Puts rulebooks side by side. Before returns that are refused the first rulebook alone may be.
+    #[tactic(auto, using(crate::proofs::Deliveries::ends_early))]
+    fn report_comparison<'a>(
+        &mut self,
+        returns: &'a str,
+        books: &[&'a str],
+        style: Style<'a>,
+    ) -> Result<Status, Failure<'a, O::Reason>>
+        ensures ends { Ends (λ _ _. ⊤) (W.contents self.old.out) (W.contents self.new.out) result }
+        ensures silent { IfOk result (λ ends. IsSilent self.old.is_quiet ends → self.new.err ≡ self.old.err) }
+    {
+        let returns = self.returns_at(returns)?;
+        let books = self.books_at(books)?;
+        let names = self.names_at(style.names)?;
+        match &returns.read.verdict {
+            Verdict::Good(election) => match first_refused(books.as_slice()) {
+                Some((book, refused)) => self.refuse_book(book, refused),
+                None => {
+                    let answer = comparison(self.alloc, books, election, &names, style.shape)?;
+                    self.write_text(answer.status, answer.text.as_slice())
+                }
+            },
+            Verdict::Refused(refused) => {
+                match first_refused(books.as_slice().get(..1).unwrap_or(&[])) {
+                    Some((book, refused)) => self.refuse_book(book, refused),
+                    None => self.refuse_returns(&returns, refused),
+                }
+            }
+        }
+    }
+
+    /// Writes a report to standard output.
+    pub(crate) fn report<'a>(
+        &mut self,
+        what: &Report<'a>,
+        form: ReportForm,
+        names: Option<&'a str>,
+    ) -> Result<Status, Failure<'a, O::Reason>>
+        ensures ends { Ends (λ _ _. ⊤) (W.contents self.old.out) (W.contents self.new.out) result }
+        ensures silent { IfOk result (λ ends. IsSilent self.old.is_quiet ends → self.new.err ≡ self.old.err) }
+    {
+        let style = Style {
+            names,
+            shape: shape_of(form),
+        };
+        match what {
+            Report::Count { book, returns } => {
+                self.report_count(Show::Report, *book, *returns, style)
+            }
+            Report::Stages { book, returns } => {
+                self.report_count(Show::Stages, *book, *returns, style)
+            }
+            Report::Totals { returns, book } => self.report_totals(*returns, *book, style),
+            Report::Compare { returns, books } => {
+                self.report_comparison(*returns, books.as_slice(), style)
+            }
         }
     }
 }

@@ -1,75 +1,32 @@
-//! What a command writes: texts on standard output, and explanations on standard error.
+//! What a command says on standard error: explanations, and the line of a failure.
 
-use crate::files::Failure;
-use sl_explain::{Explanation, Language, written};
-use sl_explain_calls::{Explained, explain_opening, explain_writing};
-use sl_inputs::{DeskError, Input, ToWrite, write_all};
+ghost use Rattle.std.specs.Prelude.{◌≡◌, true};
+ghost use Rattle.sl_terminal.specs.Ends.{IsSilent, failure_number};
+ghost use Rattle.sl_terminal.specs.Frames.{OnlyTells};
+
+use crate::failure::Failure;
+use crate::terminal::Terminal;
+use sl_explain::{Explanation, written};
+use sl_explain_calls::{Explained, Lost, explain_kept, explain_opening, explain_writing};
+use sl_inputs::{DeskError, Input, Sink, Status, write_all};
+use sl_outside::{Outside, Unopened};
 use sl_ratio::NoMemory;
-use sl_words::Options;
-use std::alloc::Global;
-
-// The variables that tell the language of messages, the first that is set and not empty before the others.
-const VARIABLES: [&str; 3] = ["LC_ALL", "LC_MESSAGES", "LANG"];
-
-// The language of the environment.
-fn language_of_environment(rt: &HostRuntime) -> Language {
-    for name in VARIABLES {
-        if let Ok(value) = std::env::var(rt, name) {
-            if value.starts_with("de") {
-                return Language::German;
-            }
-            if !value.is_empty() {
-                return Language::English;
-            }
-        }
-    }
-    Language::English
-}
+use std::fmt::Display;
 
 /// A file of a command: the input that it is, its path as the command's line has it, and what was read of it.
 #[derive(Clone, Copy)]
-pub struct ReadFile<'a> {
-    pub input: Input,
-    pub path: &'a str,
-    pub bytes: &'a [u8],
+pub(crate) struct ReadFile<'a> {
+    pub(crate) input: Input,
+    pub(crate) path: &'a str,
+    pub(crate) bytes: &'a [u8],
 }
 
-/// What a command stands on: the system, the language in which it speaks, and whether it explains nothing.
-#[derive(Clone, Copy)]
-pub struct Terminal<'a> {
-    pub rt: &'a HostRuntime,
-    pub language: Language,
-    pub is_quiet: bool,
-}
-
-impl<'a> Terminal<'a> {
-    /// The terminal of a command with these options.
-    pub fn new(rt: &'a HostRuntime, options: Options) -> Terminal<'a> {
-        Terminal {
-            rt,
-            language: match options.language {
-                Some(language) => language,
-                None => language_of_environment(rt),
-            },
-            is_quiet: options.is_quiet,
-        }
-    }
-
-    /// The memory of the system.
-    pub fn alloc(self) -> Global {
-        self.rt.alloc()
-    }
-
-    /// Writes a text to standard output.
-    pub fn print(self, text: &[u8]) -> Result<(), DeskError> {
-        match write_all(&mut ToWrite::new(self.rt.stdout()), text) {
-            Ok(()) => Ok(()),
-            Err(_) => Err(DeskError::Write),
-        }
-    }
-
+impl<O: Outside, W: Sink, E: Sink> Terminal<O, W, E> {
     // Writes an explanation, of a file if there is one. Where it cannot be written, nothing else can be said.
-    fn write(self, file: Option<ReadFile<'_>>, explanation: &Explanation) {
+    fn write(&mut self, file: Option<ReadFile<'_>>, explanation: &Explanation)
+        ensures only { OnlyTells self.old self.new }
+        ensures quiet { self.old.is_quiet ≡ true → self.new.err ≡ self.old.err }
+    {
         if self.is_quiet {
             return;
         }
@@ -77,13 +34,24 @@ impl<'a> Terminal<'a> {
             Some(file) => (Some(file.path.as_bytes()), file.bytes),
             None => (None, b"".as_slice()),
         };
-        if let Ok(text) = written(self.alloc(), self.language, path, bytes, explanation) {
-            let _ = self.rt.stderr().write_all(text.as_slice());
+        if let Ok(text) = written(self.alloc, self.language, path, bytes, explanation) {
+            let _ = write_all(&mut self.err, text.as_slice());
         }
     }
 
-    /// Tells what was explained, if anything, of that one of the files of whose input it speaks. Where there was no memory, nothing is told.
-    pub fn tell(self, files: &[ReadFile<'_>], explained: Result<Option<Explained>, NoMemory>) {
+    /// Tells why a command was not done, by what was explained, of that one of the files of whose input it speaks. Where there was no memory for it, nothing is told.
+    pub(crate) fn tell(
+        &mut self,
+        status: Status,
+        files: &[ReadFile<'_>],
+        explained: Result<Option<Explained>, NoMemory>,
+    )
+        ensures only { OnlyTells self.old self.new }
+        ensures silent { IsSilent self.old.is_quiet status → self.new.err ≡ self.old.err }
+    {
+        if status == Status::Done {
+            return;
+        }
         if let Ok(Some(told)) = explained {
             let input = told.input;
             let file = files.iter().copied().find(|file| file.input == input);
@@ -91,37 +59,73 @@ impl<'a> Terminal<'a> {
         }
     }
 
-    /// Tells what was explained, if there was memory for it, of no file.
-    pub fn tell_alone(self, explained: Result<Explanation, NoMemory>) {
+    // Tells what was explained, if there was memory for it, of no file.
+    fn tell_alone(&mut self, explained: Result<Explanation, NoMemory>)
+        ensures only { OnlyTells self.old self.new }
+    {
         if let Ok(explanation) = explained {
             self.write(None, &explanation);
         }
     }
 
-    // Tells why an input could not be opened.
-    fn tell_unopened(self, input: Input, path: &str, error: &std::io::Error) {
-        let alloc = self.alloc();
-        if let Ok(reason) = format!(in alloc; "{error}") {
+    // Writes a line, even where nothing is explained.
+    pub(crate) fn write_line(&mut self, said: &impl Display)
+        ensures only { OnlyTells self.old self.new }
+    {
+        let line = format!(in self.alloc; "{said}\n");
+        let bytes = match &line {
+            Ok(line) => line.as_bytes(),
+            Err(_) => b"out of memory\n".as_slice(), // where there is none for the line
+        };
+        let _ = write_all(&mut self.err, bytes);
+    }
+
+    // Says which input could not be opened, and why.
+    fn tell_unopened(&mut self, unopened: &Unopened<'_, O::Reason>)
+        ensures only { OnlyTells self.old self.new }
+    {
+        self.write_line(&unopened.error());
+        let (alloc, reason) = (self.alloc, &unopened.reason);
+        if let Ok(reason) = format!(in alloc; "{reason}") {
+            let (input, path) = (unopened.input, unopened.path);
             self.tell_alone(explain_opening(alloc, self.language, input, path, reason.as_str()));
         }
     }
 
-    // Tells why a file could not be made.
-    fn tell_unmade(self, path: &str, error: &std::io::Error) {
-        let alloc = self.alloc();
-        if let Ok(reason) = format!(in alloc; "{error}") {
+    // Says that a file could not be made, and why.
+    fn tell_unmade(&mut self, path: &str, reason: &O::Reason)
+        ensures only { OnlyTells self.old self.new }
+    {
+        self.write_line(&DeskError::Write);
+        let alloc = self.alloc;
+        if let Ok(reason) = format!(in alloc; "{reason}") {
             self.tell_alone(explain_writing(alloc, self.language, path, reason.as_str()));
         }
     }
 
-    /// Writes the line of a failure, and tells why a file could not be opened or made.
-    pub fn tell_failure(self, failure: &Failure<'_>) {
-        let error = failure.error();
-        let _ = eprintln!(self.rt; "{error}");
+    // Refuses to write a file, even where nothing is explained, and answers the exit status.
+    fn refuse_file(&mut self, path: &str, lost: Lost) -> u8
+        ensures number { result ≡ 1 }
+        ensures only { OnlyTells self.old self.new }
+    {
+        let told = explain_kept(self.alloc, self.language, path, lost);
+        self.is_quiet = false;
+        self.tell_alone(told);
+        1
+    }
+
+    // Says why a command did not come to its end, and answers its exit status.
+    pub(crate) fn tell_failure(&mut self, failure: &Failure<'_, O::Reason>) -> u8
+        ensures number { result ≡ failure_number failure.now }
+        ensures only { OnlyTells self.old self.new }
+    {
         match failure {
-            Failure::Unopened { input, path, error } => self.tell_unopened(*input, path, error),
-            Failure::Unmade { path, error } => self.tell_unmade(path, error),
-            Failure::Call(_) => {}
+            Failure::Unopened(unopened) => self.tell_unopened(unopened),
+            Failure::Unmade { path, reason } => self.tell_unmade(path, reason),
+            Failure::Call(error) => self.write_line(error),
+            Failure::Kept(path) => return self.refuse_file(path, Lost::Other),
+            Failure::Same(path) => return self.refuse_file(path, Lost::Rulebook),
         }
+        5
     }
 }

@@ -36,6 +36,8 @@ pub enum Request<'a> {
     Code {
         book: &'a str,
         file: &'a str,
+        /// Whatever file lies there.
+        is_forced: bool,
     },
     /// To run a code file on returns.
     Run {
@@ -66,10 +68,10 @@ pub struct Asked<'a> {
 }
 
 impl Request<'_> {
-    // Whether it would empty the rulebook that it reads.
+    // Whether it would write over the rulebook that it reads.
     fn overwrites_its_book(&self) -> bool {
         match self {
-            Request::Code { book, file } => book == file,
+            Request::Code { book, file, .. } => book == file,
             _ => false,
         }
     }
@@ -162,7 +164,11 @@ fn counting<'a>(show: Show<'a>, given: &ArgMatches<'a>) -> Option<Request<'a>> {
 fn compiling<'a>(given: &ArgMatches<'a>) -> Option<Request<'a>> {
     let book = given.get_str("BOOK")?;
     let file = given.get_str("OUT")?;
-    Some(Request::Code { book, file })
+    Some(Request::Code {
+        book,
+        file,
+        is_forced: given.get_flag("force"),
+    })
 }
 
 fn running<'a>(given: &ArgMatches<'a>) -> Option<Request<'a>> {
@@ -225,7 +231,7 @@ fn asked_in<'a>(alloc: Global, matches: &ArgMatches<'a>) -> Result<Option<Asked<
     }))
 }
 
-// The request, unless it would empty the rulebook that it reads.
+// The request, unless it would write over the rulebook that it reads.
 fn judged<'a>(
     program: &mut Command<'_>,
     asked: Option<Asked<'a>>,

@@ -5,7 +5,7 @@ pub const VERSION: &str = "1.0.0";
 
 /// Why `code` refuses one word for its rulebook and its code file.
 pub const SAME_FILE: &str =
-    "BOOK and OUT are one file, which would be emptied before it is read: write the code to another";
+    "BOOK and OUT are one file, which would be lost: write the code to another";
 
 /// Why `explain` refuses a word.
 pub const UNKNOWN_CODE: &str =
@@ -95,7 +95,7 @@ const STAGE_NAME: Word = Word {
 const OUT: Word = Word {
     name: "OUT",
     given: Given::Needed,
-    help: "The code file to write: a path, whose file is made or emptied first",
+    help: "The code file to write: a path; a file there must be empty or a code file",
 };
 
 const CODE_FILE: Word = Word {
@@ -146,8 +146,16 @@ const LANGUAGE: Word = Word {
     help: "The language of explanations, else that of the environment",
 };
 
-// The options of every command, and those of a command that reports.
+const FORCE: Word = Word {
+    name: "force",
+    given: Given::Flag(&[]),
+    help: "Write OUT whatever file it is, but for BOOK",
+};
+
+// The options of every command, of the one that writes a file, and those of a command that reports.
 const OPTIONS: [Word; 2] = [QUIET, LANGUAGE];
+
+const CODE_OPTIONS: [Word; 3] = [FORCE, QUIET, LANGUAGE];
 
 const REPORT_OPTIONS: [Word; 5] = [JSON, CSV, NAMES, QUIET, LANGUAGE];
 
@@ -219,11 +227,11 @@ const CODE: Form = Form {
     name: "code",
     about: "Compiles a rulebook to a code file and writes the listing of the code",
     words: &[BOOK, OUT],
-    options: &OPTIONS,
+    options: &CODE_OPTIONS,
     more: ending!(
         "Reads a rulebook. Writes its counting code to the file OUT, and then a line for each\n\
-         instruction. OUT is emptied before BOOK is read, so it must be another file; it stays\n\
-         empty where the rulebook is refused.",
+         instruction. OUT is written if it is not there, is empty or is a code file; else the\n\
+         command line is refused. It is left empty where the rulebook is refused.",
         "code book.law book.slc"
     ),
 };

@@ -1,2 +1,0 @@
--- The lemmas of tests of single blocks.
-pub mod Jobs

@@ -1,2 +1,0 @@
--- The job of the tests is that of a split.
-pub mod Jobs

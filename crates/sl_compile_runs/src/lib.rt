@@ -1,5 +1,0 @@
-//! Worked cases of compiled rulebooks, as tests: what their codes hold.
-#![tactic(auto)]
-
-#[cfg(test)]
-mod codes;

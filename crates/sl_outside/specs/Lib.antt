@@ -1,0 +1,2 @@
+-- What words name of the files outside.
+pub mod Inputs

@@ -1,0 +1,14 @@
+-- What a step of a command leaves as it was.
+use Rattle.std.specs.Prelude.{◌≡◌}
+use Rattle.sl_terminal.specs.declared.terminal.Terminal.{Terminal}
+
+-- it says something on standard error, or nothing
+pub record OnlyTells {O W E : Type 0} (old new : Terminal O W E) : Type 0 where
+  pub out : new.out ≡ old.out
+  pub outside : new.outside ≡ old.outside
+
+-- it writes to standard output
+pub record OnlyPrints {O W E : Type 0} (old new : Terminal O W E) : Type 0 where
+  pub outside : new.outside ≡ old.outside
+  pub err : new.err ≡ old.err
+  pub quiet : new.is_quiet ≡ old.is_quiet

@@ -1,0 +1,15 @@
+//! Runs rows: commands as they are typed, over files in memory, with what each writes to standard output and standard error and its exit status. Rows are
+//! text (docs/testing.md); so are the pages of the documentation, whose commands are run as well. Nothing here is proved but safety.
+#![tactic(auto)]
+
+mod compared;
+mod markdown;
+mod pages;
+mod rows;
+mod running;
+mod shelf;
+mod texts;
+mod unknown;
+
+pub use markdown::show_markdown;
+pub use pages::run_page;
