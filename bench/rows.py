@@ -1,7 +1,7 @@
 #!/usr/bin/env python3
 """The rows of the tests (docs/testing.md), with the built program and files on disk; or a changed output, put in place of what was wanted.
 
-  rows.py                  runs every row with crates/seatlaw/out/seatlaw, and writes each that differs
+  rows.py                  runs every row with the programs that the gate has built, and writes each that differs
   rows.py accept FILE      FILE is what the program sl_test_rows wrote: its rows replace those of the same title
 """
 import os
@@ -12,7 +12,7 @@ import sys
 import tempfile
 import typing
 
-from measure import PROGRAM
+from measure import HOME
 
 ROWS = pathlib.Path(__file__).resolve().parent.parent / "crates" / "sl_test_rows" / "data" / "rows"
 ESCAPE = re.compile(rb"\\(x[0-9a-fA-F]{2}|.)", re.DOTALL)
@@ -116,7 +116,9 @@ def pages():
 def run(row, call, folder):
     environment = {key: value for key, value in os.environ.items() if key not in ("LANG", "LC_ALL", "LC_MESSAGES")}
     environment.update(row.variables)
-    ended = subprocess.run([PROGRAM] + call.words[1:], cwd=folder, env=environment, capture_output=True)
+    name = call.words[0]
+    program = os.path.join(HOME, "crates", name, "out", name)
+    ended = subprocess.run([program] + call.words[1:], cwd=folder, env=environment, capture_output=True)
     return ended.stdout, ended.stderr, ended.returncode
 
 

@@ -4,9 +4,12 @@
 use sl_inputs::ToWrite;
 use sl_outside::Host;
 use sl_terminal::{Terminal, run};
+use std::fs::File;
 use std::process::ExitCode;
 
 fn main(rt: HostRuntime) -> anyhow::Result<ExitCode> {
+    // Where standard output is closed, the first file that is opened stands in its place: one that takes nothing, so that no file gets what was meant for it.
+    let _in_place = File::open(&rt, "/dev/null");
     let words: Vec<String> = std::env::args(&rt)?.collect(rt.alloc())?;
     let (out, err) = (ToWrite::new(rt.stdout()), ToWrite::new(rt.stderr()));
     let mut terminal = Terminal::new(rt.alloc(), Host { rt: &rt }, out, err);
