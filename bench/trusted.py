@@ -17,8 +17,8 @@ TOP = pathlib.Path(__file__).resolve().parent.parent
 CRATES = TOP / "crates"
 PAGE = TOP / "docs" / "trusted.md"
 CALLS = ["count", "steps", "stage", "show", "check_book", "code", "run_code", "law_text"]
-# The programs, with the word that the page has for each: from words to an exit status, and from a request.
-PROGRAMS = {"run": "seatlaw_count", "run_asked": "seatlaw"}
+# The crate and the call of each program, with the word that the page has for it: from words to an exit status, and from a request.
+PROGRAMS = {("sl_count_program", "run"): "seatlaw_count", ("sl_terminal", "run_asked"): "seatlaw"}
 NAMES = re.compile(r"\s*(?:ghost |pub )*use Rattle\.(\w+)\.specs\.([\w.]+)\.\{(.*)\};?$")
 MODULE = re.compile(r"\s*(?:ghost |pub )*use Rattle\.(\w+)\.specs\.([\w.]+)(?: as (\w+))?;?$")
 # Crates whose public functions promise something to whoever uses the program or the page, beside the laws.
@@ -143,11 +143,10 @@ def page():
     for path in sorted(CRATES.glob("sl_counts/src/*.rt")) + sorted(CRATES.glob("sl_desk/src/calls/*.rt")):
         for name, text in contracts(path, CALLS):
             calls[name] = reached_by(path, text)
-    for crate in ("sl_count_program", "sl_terminal"):
+    for (crate, call), program in PROGRAMS.items():
         for path in sorted(CRATES.glob(f"{crate}/src/*.rt")):
-            for name, text in contracts(path, [name for name in PROGRAMS if "ensures" in text_of(path)]):
-                if "ensures" in text:
-                    calls[PROGRAMS[name]] = reached_by(path, text)
+            for _, text in contracts(path, [call]):
+                calls[program] = reached_by(path, text)
     columns = [*CALLS, *PROGRAMS.values()]
     laws = set()
     for path in sorted(CRATES.glob("*/src/**/*.rt")):

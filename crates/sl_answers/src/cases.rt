@@ -1,9 +1,10 @@
 //! The full names of an answer, or the answer that refuses them.
 
-ghost use Rattle.std.specs.Prelude.{◌≡◌, IfErr, IfOk};
+ghost use Rattle.std.specs.Prelude.{◌≡◌, IfErr, IfOk, is_some, true};
 ghost use Rattle.sl_inputs.specs.declared.status.Status.TheVariants.{Refused};
 
 use crate::answer::Answer;
+use sl_inputs::Bytes;
 use sl_naming::FullNames;
 use sl_ratio::NoMemory;
 use std::alloc::Global;
@@ -11,13 +12,13 @@ use std::alloc::Global;
 /// Bytes of a file of names.
 pub const MAX_NAMES_BYTES: usize = 4_194_304;
 
-/// The full names of a text, or the answer that refuses them.
+/// The full names of a text, or the answer that refuses them. Where no text is given there are none.
 ///
 /// # Errors
 ///
-/// Want of memory.
+/// Out of memory.
 pub fn names_of(alloc: Global, names: Option<&[u8]>) -> Result<Result<FullNames, Answer>, NoMemory>
-    ensures { IfOk result (λ names. IfErr names (λ a. a.status ≡ Refused)) }
+    ensures { IfOk result (λ full. IfErr full (λ a. (is_some names.entry ≡ true) × (a.status ≡ Refused))) }
 {
     let Some(bytes) = names else {
         return Ok(Ok(FullNames::none(alloc)));
@@ -28,5 +29,20 @@ pub fn names_of(alloc: Global, names: Option<&[u8]>) -> Result<Result<FullNames,
     match FullNames::read(alloc, bytes)? {
         Ok(names) => Ok(Ok(names)),
         Err(row) => Ok(Err(Answer::refused_names(alloc, row)?)),
+    }
+}
+
+/// The full names of a text that was read, as `names_of` has them.
+///
+/// # Errors
+///
+/// Out of memory.
+pub fn names_in(alloc: Global, read: &Option<Bytes>) -> Result<Result<FullNames, Answer>, NoMemory>
+    ensures { IfOk result (λ full. IfErr full (λ a. (is_some read.now ≡ true) × (a.status ≡ Refused))) }
+{
+    match read {
+        None => Ok(Ok(FullNames::none(alloc))),
+        Some(Bytes::Whole(text)) => names_of(alloc, Some(text.as_slice())),
+        Some(Bytes::TooLong) => Ok(Err(Answer::names_too_long(alloc)?)),
     }
 }

@@ -9,7 +9,7 @@ mod counts;
 mod sums;
 
 pub use answer::{Answer, Shape};
-pub use cases::{MAX_NAMES_BYTES, names_of};
+pub use cases::{MAX_NAMES_BYTES, names_in, names_of};
 pub use comparison::comparison_answer;
 pub use counts::{Show, count_answer};
 pub use sums::totals_answer;

@@ -1,6 +1,6 @@
 -- How the program that counts ends (docs/output.md).
 use Rattle.std.specs.Io.KnownBytes.{Keeps}
-use Rattle.std.specs.Prelude.{Err, List, None, Ok, Option, Some, ℕ}
+use Rattle.std.specs.Prelude.{Bool, Err, List, None, Ok, Option, Some, false, true, ℕ}
 use Rattle.sl_count_program.specs.Words.{Asked, Shown, asked, seats, stage, steps}
 use Rattle.sl_count_program.specs.declared.exit.Exit.TheVariants.{Failed, NoCount, Written}
 use Rattle.sl_count_program.specs.declared.exit.Exit.{Exit}
@@ -19,6 +19,12 @@ abbrev pub exit_number : Exit → ℕ
 exit_number NoCount = 1
 exit_number (Written status) = status_number status
 exit_number (Failed error) = 5
+
+-- a line goes to standard error: all but a text that was written
+abbrev pub is_told : Exit → Bool
+is_told NoCount = true
+is_told (Written status) = false
+is_told (Failed error) = true
 
 -- what is written of what is asked for
 abbrev pub IsAskedOutput : Shown → BookInput → List ℕ → Status → List ℕ → Type 0

@@ -1,7 +1,7 @@
 //! The program, from its words to its exit status.
 
 ghost use Rattle.std.specs.Prelude.{◌≡◌, map, string_bytes};
-ghost use Rattle.sl_count_program.specs.Exits.{IsExit, exit_number};
+ghost use Rattle.sl_count_program.specs.Exits.{IsExit, exit_number, is_told};
 
 use crate::counting::counted;
 use crate::words::count_of;
@@ -34,7 +34,9 @@ impl Exit {
     }
 
     /// Whether there is a line for standard error.
-    pub fn is_told(self) -> bool {
+    pub fn is_told(self) -> bool
+        ensures { result ≡ is_told self }
+    {
         !matches!(self, Exit::Written(_))
     }
 }

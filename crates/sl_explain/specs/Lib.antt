@@ -1,3 +1,4 @@
--- The codes of faults.
+-- The codes of faults, how an explanation begins, and the lines of a text.
 pub mod Codes
+pub mod Heads
 pub mod Lines

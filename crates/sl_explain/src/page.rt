@@ -1,5 +1,9 @@
 //! How an explanation stands on the page: as compilers write theirs.
 
+ghost use Rattle.std.specs.Prelude.{◌≡◌, IfOk};
+ghost use Rattle.sl_explain.specs.Heads.{Begins, error_word, head_of};
+
+use crate::code::FaultCode;
 use crate::explanation::{Explanation, Span};
 use crate::language::{Language, Message};
 use crate::line::line_at;
@@ -7,11 +11,6 @@ use crate::parts::{append, begins_character, from, until};
 use crate::shown::{push_shown, shown_count};
 use sl_no_memory::NoMemory;
 use std::alloc::Global;
-
-const ERROR: Message = Message {
-    english: "error",
-    german: "Fehler",
-};
 
 const HELP: Message = Message {
     english: "  = help: ",
@@ -127,28 +126,35 @@ fn write_place(
     write_line(text, digits.as_bytes(), line.text, at, length)
 }
 
-// A line of its own, after what it begins with.
-fn write_sentence(text: &mut Vec<u8>, label: &[u8], sentence: &[u8]) -> Result<(), NoMemory> {
-    append(text, &[label, sentence, b"\n"])
+// The word for an error.
+fn error_word(language: Language) -> &'static [u8]
+    ensures { result.now ≡ error_word language }
+{
+    match language {
+        Language::English => b"error",
+        Language::German => b"Fehler",
+    }
 }
 
-// What is wrong, after the word for an error and the code.
-fn write_error(
-    text: &mut Vec<u8>,
-    language: Language,
-    explanation: &Explanation,
-) -> Result<(), NoMemory> {
-    append(text, &[ERROR.in_language(language).as_bytes()])?;
-    if let Some(code) = explanation.code() {
-        append(text, &[b"[", code.word().as_bytes(), b"]"])?;
+// How an explanation begins: the word for an error, and the code of the fault, if it is of one.
+fn head_of(alloc: Global, language: Language, code: Option<FaultCode>) -> Result<Vec<u8>, NoMemory>
+    ensures { IfOk result (λ text. text.items ≡ head_of language code) }
+{
+    let mut text = Vec::new(alloc);
+    text.extend_from_slice(error_word(language))?;
+    if let Some(code) = code {
+        text.extend_from_slice(b"[")?;
+        text.extend_from_slice(code.word().as_bytes())?;
+        text.extend_from_slice(b"]")?;
     }
-    write_sentence(text, b": ", explanation.sentence())
+    text.extend_from_slice(b": ")?;
+    Ok(text)
 }
 
 // The remedies, a line each.
 fn write_remedies(text: &mut Vec<u8>, label: &[u8], remedies: &[Vec<u8>]) -> Result<(), NoMemory> {
     for remedy in remedies {
-        write_sentence(text, label, remedy.as_slice())?;
+        append(text, &[label, remedy.as_slice(), b"\n"])?;
     }
     Ok(())
 }
@@ -167,21 +173,22 @@ fn write_file(
     }
 }
 
-// Adds an explanation as it is written.
-fn write_explanation(
-    text: &mut Vec<u8>,
+// What stands of an explanation behind its head.
+fn rest_of(
     alloc: Global,
     language: Language,
     path: Option<&[u8]>,
     input: &[u8],
     explanation: &Explanation,
-) -> Result<(), NoMemory> {
-    write_error(text, language, explanation)?;
+) -> Result<Vec<u8>, NoMemory> {
+    let mut text = Vec::new(alloc);
+    append(&mut text, &[explanation.sentence(), b"\n"])?;
     if let Some(path) = path {
-        write_file(text, alloc, path, input, explanation.span())?;
+        write_file(&mut text, alloc, path, input, explanation.span())?;
     }
     let label = HELP.in_language(language).as_bytes();
-    write_remedies(text, label, explanation.remedies())
+    write_remedies(&mut text, label, explanation.remedies())?;
+    Ok(text)
 }
 
 /// An explanation as it is written: the code and the sentence; the path of the file, and with a place its line and column, and the line with a mark under
@@ -196,8 +203,11 @@ pub fn written(
     path: Option<&[u8]>,
     input: &[u8],
     explanation: &Explanation,
-) -> Result<Vec<u8>, NoMemory> {
-    let mut text = Vec::new(alloc);
-    write_explanation(&mut text, alloc, language, path, input, explanation)?;
+) -> Result<Vec<u8>, NoMemory>
+    ensures { IfOk result (λ text. Begins (head_of language explanation.now.code) text.items) }
+{
+    let rest = rest_of(alloc, language, path, input, explanation)?;
+    let mut text = head_of(alloc, language, explanation.code())?;
+    text.extend_from_slice(rest.as_slice())?;
     Ok(text)
 }

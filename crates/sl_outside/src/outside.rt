@@ -1,6 +1,6 @@
 //! What lies outside a program.
 
-ghost use Rattle.std.specs.Prelude.{◌≡◌, IfErr, IfOk, IfSome, List, None, Option, ⊤, ℕ};
+ghost use Rattle.std.specs.Prelude.{◌≡◌, IfErr, IfOk, IfSome, List, None, Option, Some, [], ⊤, ℕ};
 
 use sl_inputs::{Sink, Source};
 use std::alloc::Global;
@@ -23,6 +23,9 @@ pub trait Outside {
     // That no file can be opened at a path, as far as that is known.
     ghost lacks: { Self → List ℕ → Type 0 } = { λ _ _. ⊤ };
 
+    // That the bytes of a file that is made are known, from its first on.
+    ghost tells_made: { Self → Type 0 } = { λ _. ⊥ };
+
     /// The file at a path, from its start on.
     ///
     /// # Errors
@@ -41,7 +44,8 @@ pub trait Outside {
     /// # Errors
     ///
     /// The reason why it cannot be made.
-    fn create(&mut self, path: &str) -> Result<Self::Made, Self::Reason>;
+    fn create(&mut self, path: &str) -> Result<Self::Made, Self::Reason>
+        ensures { tells_made self.old → IfOk result (λ made. Self.Made.contents made ≡ Some []) };
 
     /// Leaves what was made and written as the file at a path.
     fn close(&mut self, path: &str, made: Self::Made)

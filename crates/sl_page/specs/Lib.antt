@@ -1,3 +1,5 @@
 -- What the exports hand over.
 pub mod Handing
+pub mod Showing
 pub mod Telling
+pub mod inner

@@ -9,19 +9,52 @@ ghost use Rattle.sl_inputs.specs.Library.{IsLawOutput};
 ghost use Rattle.sl_counts.specs.Showing.{IsStageOutput};
 ghost use Rattle.sl_counts.specs.Steps.{ShowsSteps};
 ghost use Rattle.sl_page.specs.Handing.{HandsOver};
+ghost use Rattle.sl_page.specs.Showing.{AreEnds, ShowsAll};
 ghost use Rattle.sl_page.specs.Telling.{TellsCheck, TellsCount};
 
 mod compared;
+mod parts;
+mod shown;
 mod taken;
 mod told;
 
 use compared::compare_words;
+pub use parts::PartEnds;
+use shown::{hand_parts, parts_of};
 use sl_count_outcomes::{Records, judge};
 use sl_desk::{BookSource, BookText, FromRead, judge_book};
 use sl_report::{Shape, report, totals};
 use std::alloc::Global;
 use taken::{NO_MEMORY, NO_NAME, Taken, hand_answer, hand_over};
 use told::{language_of, tell_check, tell_count};
+
+/// Counts the returns by the rulebook once, and shows all that comes of it: behind one another in `out` the text of `count`, that of `steps`, what `report`
+/// and `stages` write as JSON with the full names of that file, and what the program writes to standard error, in German where the language is `de`, and
+/// else in English. Where each of the five ends stands in `ends`. A file of no bytes gives no names; refused names are in the parts of `report` and of
+/// `stages`, and change no status. Statuses as in `page_count`.
+#[unsafe(no_mangle)]
+pub extern "C" fn page_show(
+    alloc: Global,
+    language: &[u8],
+    book: &[u8],
+    returns: &[u8],
+    names: &[u8],
+    out: &mut [u8],
+    ends: &mut PartEnds,
+) -> u32
+    ensures shown { ShowsAll (text book.now) returns.now result out.new ends.new }
+    ensures within { AreEnds (length out.new) ends.new }
+{
+    let language = language_of(language);
+    *ends = PartEnds::NONE;
+    let Ok(judged) = judge(Records::Kept, alloc, BookText::Text(book), None, returns) else {
+        return NO_MEMORY;
+    };
+    match parts_of(alloc, language, &judged, book, returns, names) {
+        Ok(parts) => hand_parts(alloc, &parts, out, ends),
+        Err(_) => NO_MEMORY,
+    }
+}
 
 /// Counts the returns by the rulebook. Answers the exit status of the program, 0, 2 or 3, with what it writes in `out` and how many bytes that
 /// are in `count`; or 5 where memory ran out, and 6 where `out` is too short.

@@ -1,7 +1,8 @@
 //! Explanations, as the program writes them, handed over to the page.
 
-ghost use Rattle.std.specs.Prelude.{◌≡◌, ◌<◌, ◌≤◌, length};
+ghost use Rattle.std.specs.Prelude.{◌≡◌, ◌<◌, ◌≤◌, [], IfOk, None, length};
 ghost use Rattle.sl_inputs.specs.Statuses.{status_number};
+ghost use Rattle.sl_inputs.specs.declared.status.Status.TheVariants as status;
 ghost use Rattle.sl_page.specs.Telling.{check_status};
 ghost use Rattle.sl_report.specs.Statuses.{judged_status};
 
@@ -56,29 +57,61 @@ fn file_of<'a>(input: Input, book: &'a [u8], returns: &'a [u8]) -> (&'static [u8
     }
 }
 
-// Puts an explanation, if there is one, with the number of a status.
-fn tell(
+// What the program writes of an explanation for files `book` and `returns`, if there is one.
+fn told_text(
     alloc: Global,
     language: Language,
-    status: Status,
-    explained: Result<Option<Explained>, NoMemory>,
+    told: Option<Explained>,
     book: &[u8],
     returns: &[u8],
-    out: &mut [u8],
-    count: &mut usize,
-) -> u32
+) -> Result<Vec<u8>, NoMemory>
+    ensures { IfOk result (λ text. told ≡ None → text.items ≡ []) }
+{
+    match told {
+        None => Ok(Vec::new(alloc)),
+        Some(told) => {
+            let (path, input) = file_of(told.input, book, returns);
+            written(alloc, language, Some(path), input, &told.explanation)
+        }
+    }
+}
+
+/// What the program writes to standard error for what a rulebook and returns of these bytes come to; nothing where that is a table.
+///
+/// # Errors
+///
+/// Out of memory.
+pub(crate) fn judged_text(
+    alloc: Global,
+    language: Language,
+    judged: &Judged<'_>,
+    book: &[u8],
+    returns: &[u8],
+) -> Result<Vec<u8>, NoMemory>
+    ensures { IfOk result (λ text. judged_status judged.now ≡ status.Done → text.items ≡ []) }
+{
+    let told = explain_judged(alloc, language, judged, book, returns)?;
+    told_text(alloc, language, told, book, returns)
+}
+
+// What the program writes to standard error for a judged rulebook of this text; nothing where it is good.
+fn verdict_text(
+    alloc: Global,
+    language: Language,
+    book: &Verdict<CheckedBook, RefusedBook<'_>>,
+    text: &[u8],
+) -> Result<Vec<u8>, NoMemory> {
+    let told = explain_verdict(alloc, language, text, book)?;
+    told_text(alloc, language, told, text, b"")
+}
+
+// Puts a text with the number of a status. Where memory ran out it answers `NO_MEMORY`, and `count` is 0.
+fn tell(status: Status, text: Result<Vec<u8>, NoMemory>, out: &mut [u8], count: &mut usize) -> u32
     ensures status { result < 5 → result ≡ status_number status }
     ensures within { count.new ≤ length out.new }
 {
     *count = 0;
-    let Ok(told) = explained else {
-        return NO_MEMORY;
-    };
-    let Some(told) = told else {
-        return put(status.number(), b"", out, count);
-    };
-    let (path, input) = file_of(told.input, book, returns);
-    match written(alloc, language, Some(path), input, &told.explanation) {
+    match text {
         Ok(text) => put(status.number(), text.as_slice(), out, count),
         Err(_) => NO_MEMORY,
     }
@@ -97,17 +130,8 @@ pub(crate) fn tell_check(
     ensures status { result < 5 → result ≡ status_number (check_status book.entry.now) }
     ensures within { count.new ≤ length out.new }
 {
-    let explained = explain_verdict(alloc, language, text, book);
-    tell(
-        alloc,
-        language,
-        check_status(book),
-        explained,
-        text,
-        b"",
-        out,
-        count,
-    )
+    let text = verdict_text(alloc, language, book, text);
+    tell(check_status(book), text, out, count)
 }
 
 /// Puts the explanation of what a rulebook and returns come to, as `tell_check` does, with the status of `count`.
@@ -123,15 +147,6 @@ pub(crate) fn tell_count(
     ensures status { result < 5 → result ≡ status_number (judged_status judged.entry.now) }
     ensures within { count.new ≤ length out.new }
 {
-    let explained = explain_judged(alloc, language, judged, book, returns);
-    tell(
-        alloc,
-        language,
-        judged_status(judged),
-        explained,
-        book,
-        returns,
-        out,
-        count,
-    )
+    let text = judged_text(alloc, language, judged, book, returns);
+    tell(judged_status(judged), text, out, count)
 }

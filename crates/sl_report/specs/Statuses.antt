@@ -1,5 +1,5 @@
 -- The statuses of `report` and `stages` (docs/report.md).
-use Rattle.std.specs.Prelude.{List, None, ◌⊎◌, ◌≡◌, ℕ}
+use Rattle.std.specs.Prelude.{Bool, List, None, true, ◌⊎◌, ◌≡◌, ℕ}
 use Rattle.sl_answers.specs.Ends.{end_status}
 use Rattle.sl_count_outcomes.specs.Judged.{IsJudged}
 use Rattle.sl_count_outcomes.specs.declared.judged.Judged.TheVariants.{BookRefused, Counted, ReturnsRefused, StageUnknown}
@@ -16,7 +16,7 @@ judged_status (StageUnknown book name) = status.Refused
 judged_status (ReturnsRefused returns) = status.Refused
 judged_status (Counted counting) = end_status counting.outcome.end
 
--- the status of a command that reports: that of what its inputs come to, or that of refused names
-abbrev pub IsReportStatus : BookInput → List ℕ → Status → Type 0
-IsReportStatus input returns ends =
-    (judged : Judged) × IsJudged Kept None input returns judged × ((ends ≡ judged_status judged) ⊎ (ends ≡ status.Refused))
+-- the status of a command that reports: that of what its inputs come to, or where names are given that of refused names
+abbrev pub IsReportStatus : (is_named : Bool) → BookInput → List ℕ → Status → Type 0
+IsReportStatus is_named input returns ends =
+    (judged : Judged) × IsJudged Kept None input returns judged × ((ends ≡ judged_status judged) ⊎ ((is_named ≡ true) × (ends ≡ status.Refused)))

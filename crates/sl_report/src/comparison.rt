@@ -1,10 +1,14 @@
 //! The command that shows several rulebooks side by side: `compare`.
 
+ghost use Rattle.std.specs.Prelude.{◌⊎◌, ◌≡◌, IfErr, IfOk};
+ghost use Rattle.sl_inputs.specs.declared.status.Status.TheVariants.{Done, Refused};
+
 use sl_answers::{Answer, Shape, comparison_answer, names_of};
 use sl_count_outcomes::{End, Records, outcome_of};
 use sl_count_value::Counted;
 use sl_inputs::{BookText, Verdict, judge_book, judge_returns};
 use sl_laws::STATUTES;
+use sl_naming::FullNames;
 use sl_ratio::NoMemory;
 use sl_report_sheets::Judged;
 use sl_stages::{CheckedBook, LegalFault, Returns};
@@ -44,7 +48,8 @@ fn judged(alloc: Global, compared: Compared<'_>, returns: &Returns) -> Result<Ju
     })
 }
 
-/// Several good books on good returns, side by side. A legal fault stands in its column. Without a book the table has no column.
+/// Several good books on good returns, side by side, with the full names of a text. A legal fault stands in its column. Without a book the table has no
+/// column.
 ///
 /// # Errors
 ///
@@ -53,25 +58,25 @@ pub fn compare_judged(
     alloc: Global,
     books: Vec<Compared<'_>>,
     returns: &Returns,
-    names: Option<&[u8]>,
+    full: &FullNames,
     shape: Shape,
-) -> Result<Answer, NoMemory> {
-    let full = match names_of(alloc, names)? {
-        Ok(full) => full,
-        Err(refused) => return Ok(refused),
-    };
+) -> Result<Answer, NoMemory>
+    ensures { IfOk result (λ a. a.status ≡ Done) }
+{
     let mut all: Vec<Judged> = Vec::new(alloc);
     for compared in books {
         all.push(judged(alloc, compared, returns)?)?;
     }
-    comparison_answer(alloc, all.as_slice(), returns, &full, shape)
+    comparison_answer(alloc, all.as_slice(), returns, full, shape)
 }
 
 // The good ones of some books, or the answer that refuses the first that is not.
 fn good_books<'a>(
     alloc: Global,
     books: &[Named<'a>],
-) -> Result<Result<Vec<Compared<'a>>, Answer>, NoMemory> {
+) -> Result<Result<Vec<Compared<'a>>, Answer>, NoMemory>
+    ensures { IfOk result (λ r. IfErr r (λ a. a.status ≡ Refused)) }
+{
     let mut good: Vec<Compared<'a>> = Vec::new(alloc);
     for named in books {
         match judge_book(alloc, named.book)? {
@@ -87,8 +92,8 @@ fn good_books<'a>(
     Ok(Ok(good))
 }
 
-// Several books on good returns, side by side.
-fn compare_on(
+// Several books on good returns, side by side, with the full names of a text or the answer that refuses these.
+fn compare_named(
     alloc: Global,
     books: &[Named<'_>],
     returns: &Returns,
@@ -96,8 +101,11 @@ fn compare_on(
     shape: Shape,
 ) -> Result<Answer, NoMemory> {
     match good_books(alloc, books)? {
-        Ok(good) => compare_judged(alloc, good, returns, names, shape),
-        Err(refused) => Ok(refused),
+        Ok(good) => match names_of(alloc, names)? {
+            Ok(full) => compare_judged(alloc, good, returns, &full, shape),
+            Err(refusal) => Ok(refusal),
+        },
+        Err(refusal) => Ok(refusal),
     }
 }
 
@@ -126,7 +134,7 @@ pub fn compare(
     shape: Shape,
 ) -> Result<Answer, NoMemory> {
     match judge_returns(alloc, returns)? {
-        Verdict::Good(returns) => compare_on(alloc, books, &returns, names, shape),
+        Verdict::Good(returns) => compare_named(alloc, books, &returns, names, shape),
         Verdict::Refused(why) => {
             let answer = Answer::refused(why.why().line(alloc)?);
             refused(alloc, books, answer)
@@ -134,17 +142,19 @@ pub fn compare(
     }
 }
 
-/// The statutes of the library on good returns, side by side, each by its name behind `@`.
+/// The statutes of the library on good returns, side by side, each by its name behind `@`, with the full names of a text.
 ///
 /// # Errors
 ///
 /// Out of memory.
-pub fn compare_statutes_on(
+pub fn compare_statutes(
     alloc: Global,
     returns: &Returns,
-    names: Option<&[u8]>,
+    full: &FullNames,
     shape: Shape,
-) -> Result<Answer, NoMemory> {
+) -> Result<Answer, NoMemory>
+    ensures { IfOk result (λ a. (a.status ≡ Done) ⊎ (a.status ≡ Refused)) }
+{
     let mut words: Vec<String> = Vec::new(alloc);
     for statute in &STATUTES {
         words.push(format!(in alloc; "@{}", statute.name)?)?;
@@ -156,22 +166,8 @@ pub fn compare_statutes_on(
             book: BookText::Library(statute.name),
         })?;
     }
-    compare_on(alloc, books.as_slice(), returns, names, shape)
-}
-
-/// The statutes of the library on returns, side by side. Returns that `count` refuses are refused by the same line.
-///
-/// # Errors
-///
-/// Out of memory.
-pub fn compare_statutes(
-    alloc: Global,
-    returns: &[u8],
-    names: Option<&[u8]>,
-    shape: Shape,
-) -> Result<Answer, NoMemory> {
-    match judge_returns(alloc, returns)? {
-        Verdict::Good(returns) => compare_statutes_on(alloc, &returns, names, shape),
-        Verdict::Refused(refused) => Ok(Answer::refused(refused.why().line(alloc)?)),
+    match good_books(alloc, books.as_slice())? {
+        Ok(good) => compare_judged(alloc, good, returns, full, shape),
+        Err(refusal) => Ok(refusal),
     }
 }

@@ -1,6 +1,7 @@
 //! The commands that show one count: `report` and `stages`.
 
-ghost use Rattle.std.specs.Prelude.{◌⊎◌, ◌≡◌, IfErr, IfOk, length};
+ghost use Rattle.std.specs.Prelude.{◌≡◌, IfErr, IfOk, false, is_some, length};
+ghost use Rattle.std.specs.Result.{is_ok};
 ghost use Rattle.sl_answers.specs.Ends.{end_status};
 ghost use Rattle.sl_count_outcomes.specs.Judged.{FitsJudged};
 ghost use Rattle.sl_count_outcomes.specs.Outcomes.{FitsEnd, FitsOutcome};
@@ -59,51 +60,61 @@ pub fn answer_count(
     )
 }
 
-// The answer that shows a count with the full names of a text, or that refuses these names.
+// The answer that shows a count with the full names of a text, or that which refuses these names.
 fn named_answer(
     alloc: Global,
     show: Show,
     counting: &Counting,
-    names: Result<FullNames, Answer>,
+    names: &Result<FullNames, Answer>,
     shape: Shape,
-) -> Result<Answer, NoMemory>
+) -> Result<Result<Answer, Answer>, NoMemory>
     requires fits { FitsOutcome (book_of counting.now.book.book) counting.now.returns counting.now.outcome }
-    requires refused { IfErr names (λ a. a.status ≡ status.Refused) }
-    ensures { IfOk result (λ a. (a.status ≡ end_status counting.now.outcome.end) ⊎ (a.status ≡ status.Refused)) }
+    ensures shown { IfOk result (λ r. IfOk r (λ a. a.status ≡ end_status counting.now.outcome.end)) }
+    ensures refused { IfOk result (λ r. IfErr r (λ a. (is_ok names.now ≡ false) × (a.status ≡ status.Refused))) }
 {
     match names {
-        Ok(full) => answer_count(
+        Ok(full) => Ok(Ok(answer_count(
             alloc,
             show,
             &counting.book,
             &counting.returns,
             &counting.outcome,
-            &full,
+            full,
             shape,
-        ),
-        Err(refused) => Ok(refused),
+        )?)),
+        Err(refusal) => {
+            let line = Vec::from_slice(alloc, refusal.text.as_slice())?;
+            Ok(Err(Answer::refused(line)))
+        }
     }
 }
 
-// The answer that shows what inputs come to: the refusal of one of them, or the count.
-fn judged_answer(
+/// The answer that shows what inputs come to: the refusal of one of them, or the count with the full names of a text; or the answer that refuses
+/// these names, where they would be shown.
+///
+/// # Errors
+///
+/// Out of memory.
+pub fn answer_judged(
     alloc: Global,
     show: Show,
     judged: &Judged<'_>,
-    names: Result<FullNames, Answer>,
+    names: &Result<FullNames, Answer>,
     shape: Shape,
-) -> Result<Answer, NoMemory>
+) -> Result<Result<Answer, Answer>, NoMemory>
     requires fits { FitsJudged Kept judged.now }
-    requires refused { IfErr names (λ a. a.status ≡ status.Refused) }
-    ensures { IfOk result (λ a. (a.status ≡ judged_status judged.now) ⊎ (a.status ≡ status.Refused)) }
+    ensures shown { IfOk result (λ r. IfOk r (λ a. a.status ≡ judged_status judged.now)) }
+    ensures refused { IfOk result (λ r. IfErr r (λ a. (is_ok names.now ≡ false) × (a.status ≡ status.Refused))) }
 {
     match judged {
         Judged::Counted(counting) => named_answer(alloc, show, counting, names, shape),
-        Judged::BookRefused(book) => Ok(Answer::refused(book.why().line(alloc)?)),
-        Judged::ReturnsRefused(returns) => Ok(Answer::refused(returns.why().line(alloc)?)),
-        Judged::StageUnknown(_, name) => {
-            Ok(Answer::refused(refused(alloc, b"stage", name.as_bytes())?))
-        }
+        Judged::BookRefused(book) => Ok(Ok(Answer::refused(book.why().line(alloc)?))),
+        Judged::ReturnsRefused(returns) => Ok(Ok(Answer::refused(returns.why().line(alloc)?))),
+        Judged::StageUnknown(_, name) => Ok(Ok(Answer::refused(refused(
+            alloc,
+            b"stage",
+            name.as_bytes(),
+        )?))),
     }
 }
 
@@ -116,11 +127,14 @@ fn one_book(
     names: Option<&[u8]>,
     shape: Shape,
 ) -> Result<Answer, NoMemory>
-    ensures { IfOk result (λ a. IsReportStatus (input_of book.entry) returns.now a.status) }
+    ensures { IfOk result (λ a. IsReportStatus (is_some names.entry) (input_of book.entry) returns.now a.status) }
 {
     let names = names_of(alloc, names)?;
     let judged = judge(Records::Kept, alloc, book, None, returns)?;
-    judged_answer(alloc, show, &judged, names, shape)
+    match answer_judged(alloc, show, &judged, &names, shape)? {
+        Ok(answer) => Ok(answer),
+        Err(refusal) => Ok(refusal),
+    }
 }
 
 /// What a book comes to on returns, in full. Inputs that `count` refuses are refused by the same line, and a legal fault has its line first.
@@ -135,7 +149,7 @@ pub fn report(
     names: Option<&[u8]>,
     shape: Shape,
 ) -> Result<Answer, NoMemory>
-    ensures { IfOk result (λ a. IsReportStatus (input_of book.entry) returns.now a.status) }
+    ensures { IfOk result (λ a. IsReportStatus (is_some names.entry) (input_of book.entry) returns.now a.status) }
 {
     one_book(alloc, Show::Report, book, returns, names, shape)
 }
@@ -152,7 +166,7 @@ pub fn stages(
     names: Option<&[u8]>,
     shape: Shape,
 ) -> Result<Answer, NoMemory>
-    ensures { IfOk result (λ a. IsReportStatus (input_of book.entry) returns.now a.status) }
+    ensures { IfOk result (λ a. IsReportStatus (is_some names.entry) (input_of book.entry) returns.now a.status) }
 {
     one_book(alloc, Show::Stages, book, returns, names, shape)
 }

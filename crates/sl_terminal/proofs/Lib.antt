@@ -1,2 +1,6 @@
 mod Deliveries
 mod Exits
+mod Files
+mod Shown
+mod Summaries
+mod Tellings

@@ -1,4 +1,8 @@
--- What each request writes, what a step leaves as it was, and how the program ends.
+-- What each request writes, what is told of it, what a step leaves as it was, and how the program ends.
 pub mod Ends
+pub mod Files
 pub mod Frames
 pub mod Requests
+pub mod Sums
+pub mod Tellings
+pub mod inner

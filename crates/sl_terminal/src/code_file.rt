@@ -1,9 +1,16 @@
 //! The command that writes a code file: a file that would be missed is not written.
 
-ghost use Rattle.std.specs.Prelude.{◌≡◌, IfErr, IfOk, IfSome};
+ghost use Rattle.std.specs.Prelude.{◌≡◌, IfErr, IfOk, IfSome, Some};
+ghost use Rattle.sl_desk.specs.Compiling.{IsCompilingOutput};
+ghost use Rattle.sl_explain_calls.specs.Codes.{check_subject};
+ghost use Rattle.sl_inputs.specs.Books.{IsBookVerdict};
+ghost use Rattle.sl_inputs.specs.Judging.{tree_verdict};
 ghost use Rattle.sl_outside.specs.Inputs.{named_input};
 ghost use Rattle.sl_terminal.specs.Ends.{Ends, IsEarly, IsSilent};
+ghost use Rattle.sl_terminal.specs.Files.{HasCode};
+ghost use Rattle.sl_terminal.specs.Frames.{TellsNothing};
 ghost use Rattle.sl_terminal.specs.Requests.{IsListing};
+ghost use Rattle.sl_terminal.specs.Tellings.{IsOfBook, Says};
 
 use crate::failure::Failure;
 use crate::terminal::Terminal;
@@ -60,7 +67,9 @@ impl<O: Outside, W: Sink, E: Sink> Terminal<O, W, E> {
         path: &'a str,
         is_forced: bool,
     ) -> Result<(ReadBook<'a>, Compilation), Failure<'a, O::Reason>>
-        ensures answer { IfOk result (λ both. IfSome (named_input (O.bytes self.now.outside) book.now) (λ input. IsListing input both.1.answer.status both.1.answer.text.items)) }
+        ensures answer { IfOk result (λ both. IfSome (named_input (O.bytes self.now.outside) book.now) (λ input.
+            IsCompilingOutput input both.1.answer.status both.1.file.items both.1.answer.text.items)) }
+        ensures verdict { IfOk result (λ both. IfSome (named_input (O.bytes self.now.outside) book.now) (λ input. IsBookVerdict input (tree_verdict both.0.verdict))) }
         ensures early { IfErr result IsEarly }
     {
         let mut source = open_book(&self.outside, book)?;
@@ -78,8 +87,9 @@ impl<O: Outside, W: Sink, E: Sink> Terminal<O, W, E> {
     ) -> Result<Status, Failure<'a, O::Reason>>
         ensures ends { Ends (λ status text. (status ≡ compilation.now.answer.status) × (text ≡ compilation.now.answer.text.items))
             (W.contents self.old.out) (W.contents self.new.out) result }
-        ensures silent { IfOk result (λ _. self.new.err ≡ self.old.err) }
-        ensures quiet { IfOk result (λ _. self.new.is_quiet ≡ self.old.is_quiet) }
+        ensures untold { IfOk result (λ _. TellsNothing self.old self.new) }
+        ensures file { O.tells_made self.old.outside → IfOk result (λ status. (status ≡ compilation.now.answer.status)
+            × (O.bytes self.new.outside path.now ≡ Some compilation.now.file.items)) }
     {
         match self.outside.create(path) {
             Ok(mut file) => match compilation.deliver(&mut file, &mut self.out) {
@@ -104,6 +114,9 @@ impl<O: Outside, W: Sink, E: Sink> Terminal<O, W, E> {
         ensures ends { Ends (λ status text. (status ≡ compilation.now.answer.status) × (text ≡ compilation.now.answer.text.items))
             (W.contents self.old.out) (W.contents self.new.out) result }
         ensures silent { IfOk result (λ ends. IsSilent self.old.is_quiet ends → self.new.err ≡ self.old.err) }
+        ensures told { IfOk result (λ _. Says E.contents self.old self.new (check_subject read.now.verdict)) }
+        ensures file { O.tells_made self.old.outside → IfOk result (λ status. (status ≡ compilation.now.answer.status)
+            × (O.bytes self.new.outside path.now ≡ Some compilation.now.file.items)) }
     {
         let status = self.write_code(path, compilation)?;
         self.tell_book(status, book, read);
@@ -121,6 +134,8 @@ impl<O: Outside, W: Sink, E: Sink> Terminal<O, W, E> {
         ensures ends { Ends (λ status text. IfSome (named_input (O.bytes self.old.outside) book.now) (λ input.
             IsListing input status text)) (W.contents self.old.out) (W.contents self.new.out) result }
         ensures silent { IfOk result (λ ends. IsSilent self.old.is_quiet ends → self.new.err ≡ self.old.err) }
+        ensures told { IfOk result (λ _. IsOfBook (O.bytes self.old.outside) book.now (Says E.contents self.old self.new)) }
+        ensures file { O.tells_made self.old.outside → IfOk result (λ ends. HasCode (O.bytes self.old.outside) book.now ends (O.bytes self.new.outside path.now)) }
     {
         let (read, compilation) = self.compiled(book, path, is_forced)?;
         self.finish_code(&read, &compilation, book, path)

@@ -1,16 +1,27 @@
 //! The commands that do not report. Each judges its inputs, writes what they come to, and tells why it was not done.
 
-ghost use Rattle.std.specs.Prelude.{◌≡◌, IfErr, IfOk, IfSome};
+ghost use Rattle.std.specs.Io.KnownBytes.{Keeps};
+ghost use Rattle.std.specs.Prelude.{◌≡◌, IfErr, IfOk, IfSome, Some};
 ghost use Rattle.sl_counts.specs.Shows.{IsShownOutput};
+ghost use Rattle.sl_counts.specs.Views.{records_for, stage_of};
 ghost use Rattle.sl_desk.specs.Checking.{IsCheckOutput};
+ghost use Rattle.sl_desk.specs.JudgedRuns.{IsJudged as IsJudgedRun};
 ghost use Rattle.sl_desk.specs.Running.{IsRunCode};
+ghost use Rattle.sl_explain.specs.declared.code.FaultCode.TheVariants.{B01};
+ghost use Rattle.sl_explain_calls.specs.Codes.{check_subject, run_subject, subject};
+ghost use Rattle.sl_inputs.specs.Books.{IsBookVerdict};
+ghost use Rattle.sl_inputs.specs.Judging.{tree_verdict};
 ghost use Rattle.sl_inputs.specs.Library.{IsLawOutput};
 ghost use Rattle.sl_inputs.specs.Reading.{ForKnown};
+ghost use Rattle.sl_inputs.specs.Statuses.{status_number};
+ghost use Rattle.sl_inputs.specs.declared.status.Input.TheVariants as input;
 ghost use Rattle.sl_inputs.specs.declared.status.Status.TheVariants as status;
 ghost use Rattle.sl_outside.specs.Inputs.{named_input};
 ghost use Rattle.sl_terminal.specs.Ends.{Ends, IsEarly, IsSilent};
-ghost use Rattle.sl_terminal.specs.Frames.{OnlyPrints, OnlyTells};
+ghost use Rattle.sl_terminal.specs.Files.{LeavesCode};
+ghost use Rattle.sl_terminal.specs.Frames.{OnlyTells, TellsNothing};
 ghost use Rattle.sl_terminal.specs.Requests.{IsOutputOf, IsShown};
+ghost use Rattle.sl_terminal.specs.Tellings.{IsOfBook, IsOfCount, IsOfFault, IsOfRun, Says, shown_records, shown_stage};
 
 use crate::failure::Failure;
 use crate::telling::ReadFile;
@@ -18,7 +29,7 @@ use crate::terminal::Terminal;
 use sl_counts::Answer;
 use sl_desk::{ReadRun, View, check_answer, judge_run, law_text, run_answer, show};
 use sl_explain::FaultCode;
-use sl_explain_calls::{explain_book, explain_check, explain_read, explain_run};
+use sl_explain_calls::{explain_book, explain_run};
 use sl_explain_codes::text_about;
 use sl_inputs::{Input, ReadBook, RefusedBook, Sink, Status, read_book};
 use sl_outside::{Outside, open, open_book};
@@ -36,25 +47,13 @@ impl<O: Outside, W: Sink, E: Sink> Terminal<O, W, E> {
         ensures ends { Ends (λ status text. ForKnown (named_input (O.bytes self.old.outside) book.now) (O.bytes self.old.outside returns.now) (λ input bytes.
             IsShownOutput view.entry input bytes status text)) (W.contents self.old.out) (W.contents self.new.out) result }
         ensures silent { IfOk result (λ ends. IsSilent self.old.is_quiet ends → self.new.err ≡ self.old.err) }
+        ensures told { IfOk result (λ _. IsOfCount (O.bytes self.old.outside) (records_for view.entry) (stage_of view.entry) book.now returns.now (Says E.contents self.old self.new)) }
     {
         let alloc = self.alloc;
         let mut source = open_book(&self.outside, book)?;
         let mut file = open(&self.outside, returns, Input::Returns)?;
         let shown = show(view, alloc, &mut source, &mut file, &mut self.out)?;
-        let files = [
-            ReadFile {
-                input: Input::Book,
-                path: book,
-                bytes: shown.read.book.as_slice(),
-            },
-            ReadFile {
-                input: Input::Returns,
-                path: returns,
-                bytes: shown.read.returns.as_slice(),
-            },
-        ];
-        let explained = explain_read(alloc, self.language, &shown.read);
-        self.tell(shown.status, &files, explained);
+        self.tell_read(shown.status, book, returns, &shown.read);
         Ok(shown.status)
     }
 
@@ -68,6 +67,7 @@ impl<O: Outside, W: Sink, E: Sink> Terminal<O, W, E> {
         ensures ends { Ends (λ status text. ForKnown (named_input (O.bytes self.old.outside) book.now) (O.bytes self.old.outside returns.now) (λ input bytes.
             IsShown show.entry input bytes status text)) (W.contents self.old.out) (W.contents self.new.out) result }
         ensures silent { IfOk result (λ ends. IsSilent self.old.is_quiet ends → self.new.err ≡ self.old.err) }
+        ensures told { IfOk result (λ _. IsOfCount (O.bytes self.old.outside) (shown_records show.entry) (shown_stage show.entry) book.now returns.now (Says E.contents self.old self.new)) }
     {
         match show {
             Show::Seats => self.count(View::Seats, book, returns),
@@ -79,7 +79,8 @@ impl<O: Outside, W: Sink, E: Sink> Terminal<O, W, E> {
     // Writes an answer.
     fn write_answer<'a>(&mut self, answer: &Answer) -> Result<Status, Failure<'a, O::Reason>>
         ensures ends { Ends (λ status text. (status ≡ answer.now.status) × (text ≡ answer.now.text.items)) (W.contents self.old.out) (W.contents self.new.out) result }
-        ensures only { OnlyPrints self.old self.new }
+        ensures outside { self.new.outside ≡ self.old.outside }
+        ensures untold { TellsNothing self.old self.new }
     {
         match answer.deliver(&mut self.out) {
             Ok(status) => Ok(status),
@@ -87,23 +88,10 @@ impl<O: Outside, W: Sink, E: Sink> Terminal<O, W, E> {
         }
     }
 
-    // Tells why a rulebook that was read is refused, if it is.
-    pub(crate) fn tell_book(&mut self, status: Status, path: &str, read: &ReadBook<'_>)
-        ensures only { OnlyTells self.old self.new }
-        ensures silent { IsSilent self.old.is_quiet status → self.new.err ≡ self.old.err }
-    {
-        let file = ReadFile {
-            input: Input::Book,
-            path,
-            bytes: read.text.as_slice(),
-        };
-        let explained = explain_check(self.alloc, self.language, read);
-        self.tell(status, &[file], explained);
-    }
-
     // A rulebook that is read, and what checking writes of it.
     fn checked<'a>(&self, book: &'a str) -> Result<(ReadBook<'a>, Answer), Failure<'a, O::Reason>>
         ensures answer { IfOk result (λ both. IfSome (named_input (O.bytes self.now.outside) book.now) (λ input. IsCheckOutput input both.1.status both.1.text.items)) }
+        ensures verdict { IfOk result (λ both. IfSome (named_input (O.bytes self.now.outside) book.now) (λ input. IsBookVerdict input (tree_verdict both.0.verdict))) }
         ensures early { IfErr result IsEarly }
     {
         let mut source = open_book(&self.outside, book)?;
@@ -112,17 +100,32 @@ impl<O: Outside, W: Sink, E: Sink> Terminal<O, W, E> {
         Ok((read, answer))
     }
 
+    // Writes what checking comes to, and tells why a rulebook is refused, if it is.
+    fn finish_check<'a>(
+        &mut self,
+        read: &ReadBook<'_>,
+        answer: &Answer,
+        book: &'a str,
+    ) -> Result<Status, Failure<'a, O::Reason>>
+        ensures ends { Ends (λ status text. (status ≡ answer.now.status) × (text ≡ answer.now.text.items)) (W.contents self.old.out) (W.contents self.new.out) result }
+        ensures silent { IfOk result (λ ends. IsSilent self.old.is_quiet ends → self.new.err ≡ self.old.err) }
+        ensures told { IfOk result (λ _. Says E.contents self.old self.new (check_subject read.now.verdict)) }
+    {
+        let status = self.write_answer(answer)?;
+        self.tell_book(status, book, read);
+        Ok(status)
+    }
+
     // Checks a rulebook.
     #[tactic(auto, using(crate::proofs::Deliveries::ends_early))]
     fn check<'a>(&mut self, book: &'a str) -> Result<Status, Failure<'a, O::Reason>>
         ensures ends { Ends (λ status text. IfSome (named_input (O.bytes self.old.outside) book.now) (λ input.
             IsCheckOutput input status text)) (W.contents self.old.out) (W.contents self.new.out) result }
         ensures silent { IfOk result (λ ends. IsSilent self.old.is_quiet ends → self.new.err ≡ self.old.err) }
+        ensures told { IfOk result (λ _. IsOfBook (O.bytes self.old.outside) book.now (Says E.contents self.old self.new)) }
     {
         let (read, answer) = self.checked(book)?;
-        let status = self.write_answer(&answer)?;
-        self.tell_book(status, book, &read);
-        Ok(status)
+        self.finish_check(&read, &answer, book)
     }
 
     // A code file and returns that are read and judged, and what running writes of them.
@@ -133,6 +136,7 @@ impl<O: Outside, W: Sink, E: Sink> Terminal<O, W, E> {
     ) -> Result<(ReadRun, Answer), Failure<'a, O::Reason>>
         ensures answer { IfOk result (λ both. ForKnown (O.bytes self.now.outside code.now) (O.bytes self.now.outside returns.now) (λ file bytes.
             IsRunCode file bytes both.1.status both.1.text.items)) }
+        ensures judged { IfOk result (λ both. ForKnown (O.bytes self.now.outside code.now) (O.bytes self.now.outside returns.now) (λ file bytes. IsJudgedRun file bytes both.0.judged)) }
         ensures early { IfErr result IsEarly }
     {
         let mut source = open(&self.outside, code, Input::Code)?;
@@ -152,6 +156,7 @@ impl<O: Outside, W: Sink, E: Sink> Terminal<O, W, E> {
     ) -> Result<Status, Failure<'a, O::Reason>>
         ensures ends { Ends (λ status text. (status ≡ answer.now.status) × (text ≡ answer.now.text.items)) (W.contents self.old.out) (W.contents self.new.out) result }
         ensures silent { IfOk result (λ ends. IsSilent self.old.is_quiet ends → self.new.err ≡ self.old.err) }
+        ensures told { IfOk result (λ _. Says E.contents self.old self.new (run_subject read.now.judged)) }
     {
         let status = self.write_answer(answer)?;
         let files = [
@@ -181,6 +186,7 @@ impl<O: Outside, W: Sink, E: Sink> Terminal<O, W, E> {
         ensures ends { Ends (λ status text. ForKnown (O.bytes self.old.outside code.now) (O.bytes self.old.outside returns.now) (λ file bytes.
             IsRunCode file bytes status text)) (W.contents self.old.out) (W.contents self.new.out) result }
         ensures silent { IfOk result (λ ends. IsSilent self.old.is_quiet ends → self.new.err ≡ self.old.err) }
+        ensures told { IfOk result (λ _. IsOfRun (O.bytes self.old.outside) code.now returns.now (Says E.contents self.old self.new)) }
     {
         let (read, answer) = self.judged_run(code, returns)?;
         self.finish_run(&read, &answer, code, returns)
@@ -190,6 +196,7 @@ impl<O: Outside, W: Sink, E: Sink> Terminal<O, W, E> {
     fn tell_unknown(&mut self, status: Status, name: &str)
         ensures only { OnlyTells self.old self.new }
         ensures silent { IsSilent self.old.is_quiet status → self.new.err ≡ self.old.err }
+        ensures told { Says E.contents self.old self.new (Some (subject input.Book (Some B01))) }
     {
         let file = ReadFile {
             input: Input::Book,
@@ -198,13 +205,14 @@ impl<O: Outside, W: Sink, E: Sink> Terminal<O, W, E> {
         };
         let refused = RefusedBook::UnknownStatute(name);
         let explained = explain_book(self.alloc, self.language, b"", &refused);
-        self.tell(status, &[file], explained.map(Some));
+        self.tell_refusal(status, file, explained);
     }
 
     // Writes a statute of the library.
     fn law<'a>(&mut self, name: &'a str) -> Result<Status, Failure<'a, O::Reason>>
         ensures ends { Ends (IsLawOutput name.now) (W.contents self.old.out) (W.contents self.new.out) result }
         ensures silent { IfOk result (λ ends. IsSilent self.old.is_quiet ends → self.new.err ≡ self.old.err) }
+        ensures told { IfOk result (λ _. Says E.contents self.old self.new (Some (subject input.Book (Some B01)))) }
     {
         match law_text(name, &mut self.out) {
             Ok(status) => {
@@ -220,6 +228,7 @@ impl<O: Outside, W: Sink, E: Sink> Terminal<O, W, E> {
     fn explain<'a>(&mut self, code: FaultCode) -> Result<Status, Failure<'a, O::Reason>>
         ensures ends { Ends (λ ends _. ends ≡ status.Done) (W.contents self.old.out) (W.contents self.new.out) result }
         ensures silent { IfOk result (λ ends. IsSilent self.old.is_quiet ends → self.new.err ≡ self.old.err) }
+        ensures told { IfOk result (λ _. Keeps (E.contents self.old.err) (E.contents self.new.err)) }
     {
         let text = text_about(self.alloc, self.language, code)?;
         self.write_text(Status::Done, text.as_slice())
@@ -232,6 +241,8 @@ impl<O: Outside, W: Sink, E: Sink> Terminal<O, W, E> {
     ) -> Result<Status, Failure<'a, O::Reason>>
         ensures ends { Ends (IsOutputOf (O.bytes self.old.outside) request.entry) (W.contents self.old.out) (W.contents self.new.out) result }
         ensures silent { IfOk result (λ ends. IsSilent self.old.is_quiet ends → self.new.err ≡ self.old.err) }
+        ensures told { IfOk result (λ _. IsOfFault (O.bytes self.old.outside) request.entry (Says E.contents self.old self.new)) }
+        ensures file { O.tells_made self.old.outside → IfOk result (λ ends. LeavesCode (O.bytes self.old.outside) request.entry (O.bytes self.new.outside) (status_number ends)) }
     {
         match request {
             Request::Count {

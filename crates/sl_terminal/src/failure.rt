@@ -7,6 +7,7 @@ ghost use Rattle.sl_terminal.specs.declared.failure.Failure.TheVariants as failu
 use sl_inputs::DeskError;
 use sl_outside::Unopened;
 use sl_ratio::NoMemory;
+use std::alloc::AllocFailed;
 
 /// Why a command did not come to its end.
 #[derive(Drop)]
@@ -43,6 +44,14 @@ impl<E> From<NoMemory> for Failure<'_, E> {
     ghost from_gives = { λ _ f. f ≡ failure.Call fault.NoMemory };
 
     fn from(_error: NoMemory) -> Self {
+        Failure::Call(DeskError::NoMemory)
+    }
+}
+
+impl<E, T: Drop> From<AllocFailed<T>> for Failure<'_, E> {
+    ghost from_gives = { λ _ f. f ≡ failure.Call fault.NoMemory };
+
+    fn from(_error: AllocFailed<T>) -> Self {
         Failure::Call(DeskError::NoMemory)
     }
 }

@@ -6,6 +6,7 @@ mod commands;
 mod failure;
 mod program;
 mod reports;
+mod sums;
 mod telling;
 mod terminal;
 

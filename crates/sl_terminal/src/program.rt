@@ -1,8 +1,10 @@
 //! The program, from the words of the command line to the exit status.
 
-ghost use Rattle.std.specs.Prelude.{true, ◌≡◌, ◌≢◌};
+ghost use Rattle.std.specs.Prelude.{true, unwrap_or, ◌≡◌, ◌≢◌};
 ghost use Rattle.sl_terminal.specs.Ends.{Exits};
-ghost use Rattle.sl_terminal.specs.Requests.{IsOutputOf};
+ghost use Rattle.sl_terminal.specs.Files.{LeavesCode};
+ghost use Rattle.sl_terminal.specs.Requests.{IsHelp, IsOutputOf, IsRun};
+ghost use Rattle.sl_terminal.specs.Tellings.{IsOfFault, Tells};
 
 use crate::terminal::Terminal;
 use sl_inputs::{Sink, write_all};
@@ -15,6 +17,10 @@ impl<O: Outside, W: Sink, E: Sink> Terminal<O, W, E> {
         ensures exits { Exits (IsOutputOf (O.bytes self.old.outside) asked.entry.request) (W.contents self.old.out) (W.contents self.new.out) result }
         ensures silent { (asked.entry.options.is_quiet ≡ true) × (result ≢ 1) × (result ≢ 5) → self.new.err ≡ self.old.err }
         ensures done { result ≡ 0 → self.new.err ≡ self.old.err }
+        ensures told { (result ≢ 1) × (result ≢ 5) → IsOfFault (O.bytes self.old.outside) asked.entry.request
+            (Tells (unwrap_or asked.entry.options.language self.old.language) (E.contents self.old.err) (E.contents self.new.err)) }
+        ensures file { O.tells_made self.old.outside → (result ≢ 1) × (result ≢ 5) →
+            LeavesCode (O.bytes self.old.outside) asked.entry.request (O.bytes self.new.outside) result }
     {
         self.set_options(asked.options);
         match self.ending(asked.request) {
@@ -24,7 +30,9 @@ impl<O: Outside, W: Sink, E: Sink> Terminal<O, W, E> {
     }
 
     // Writes a help or the version to standard output, and a refusal of the words to standard error.
-    fn answer_words(&mut self, error: &clap::Error) -> u8 {
+    fn answer_words(&mut self, error: &clap::Error) -> u8
+        ensures { Exits IsHelp (W.contents self.old.out) (W.contents self.new.out) result }
+    {
         let Ok(text) = format!(in self.alloc; "{error}") else {
             return 5;
         };
@@ -41,7 +49,9 @@ impl<O: Outside, W: Sink, E: Sink> Terminal<O, W, E> {
 
 /// Runs the program with these words, of which the first is its name, and answers the exit status: 1 where the words are refused, 5 after an error, also
 /// where its line cannot be written. After the line of a refusal, a fault or an error it explains itself on standard error.
-pub fn run<O: Outside, W: Sink, E: Sink>(terminal: &mut Terminal<O, W, E>, words: &[String]) -> u8 {
+pub fn run<O: Outside, W: Sink, E: Sink>(terminal: &mut Terminal<O, W, E>, words: &[String]) -> u8
+    ensures { IsRun (O.bytes terminal.old.outside) (W.contents terminal.old.out) (W.contents terminal.new.out) result }
+{
     match request_of(terminal.alloc, words) {
         Ok(Some(asked)) => terminal.run_asked(asked),
         Ok(None) => {

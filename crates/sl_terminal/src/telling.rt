@@ -1,14 +1,20 @@
 //! What a command says on standard error: explanations, and the line of a failure.
 
-ghost use Rattle.std.specs.Prelude.{◌≡◌, true};
+ghost use Rattle.std.specs.Option.{option_map};
+ghost use Rattle.std.specs.Prelude.{◌≡◌, IfOk, Option, Some, true};
+ghost use Rattle.sl_explain_calls.specs.Codes.{Subject, check_subject, judged_subject, subject_of};
 ghost use Rattle.sl_terminal.specs.Ends.{IsSilent, failure_number};
 ghost use Rattle.sl_terminal.specs.Frames.{OnlyTells};
+ghost use Rattle.sl_terminal.specs.Tellings.{Explains, Says};
 
 use crate::failure::Failure;
 use crate::terminal::Terminal;
+use sl_count_outcomes::Read;
 use sl_explain::{Explanation, written};
-use sl_explain_calls::{Explained, Lost, explain_kept, explain_opening, explain_writing};
-use sl_inputs::{DeskError, Input, Sink, Status, write_all};
+use sl_explain_calls::{
+    Explained, Lost, explain_check, explain_kept, explain_opening, explain_read, explain_writing,
+};
+use sl_inputs::{DeskError, Input, ReadBook, Sink, Status, write_all};
 use sl_outside::{Outside, Unopened};
 use sl_ratio::NoMemory;
 use std::fmt::Display;
@@ -26,6 +32,7 @@ impl<O: Outside, W: Sink, E: Sink> Terminal<O, W, E> {
     fn write(&mut self, file: Option<ReadFile<'_>>, explanation: &Explanation)
         ensures only { OnlyTells self.old self.new }
         ensures quiet { self.old.is_quiet ≡ true → self.new.err ≡ self.old.err }
+        ensures told { Explains self.old.language explanation.now.code (E.contents self.old.err) (E.contents self.new.err) }
     {
         if self.is_quiet {
             return;
@@ -39,6 +46,36 @@ impl<O: Outside, W: Sink, E: Sink> Terminal<O, W, E> {
         }
     }
 
+    // Tells what was explained, of that one of the files of whose input it speaks.
+    fn tell_explained(&mut self, files: &[ReadFile<'_>], told: &Explained)
+        ensures only { OnlyTells self.old self.new }
+        ensures quiet { self.old.is_quiet ≡ true → self.new.err ≡ self.old.err }
+        ensures told { Says E.contents self.old self.new (Some (subject_of told.now)) }
+    {
+        let input = told.input;
+        let file = files.iter().copied().find(|file| file.input == input);
+        self.write(file, &told.explanation);
+    }
+
+    /// Tells why an input is refused, by what was explained, as `tell` does.
+    pub(crate) fn tell_refusal(
+        &mut self,
+        status: Status,
+        file: ReadFile<'_>,
+        explained: Result<Explained, NoMemory>,
+    )
+        ensures only { OnlyTells self.old self.new }
+        ensures silent { IsSilent self.old.is_quiet status → self.new.err ≡ self.old.err }
+        ensures told { (s : Subject) → IfOk explained (λ told. subject_of told ≡ s) → Says E.contents self.old self.new (Some s) }
+    {
+        if status == Status::Done {
+            return;
+        }
+        if let Ok(told) = explained {
+            self.tell_explained(&[file], &told);
+        }
+    }
+
     /// Tells why a command was not done, by what was explained, of that one of the files of whose input it speaks. Where there was no memory for it, nothing is told.
     pub(crate) fn tell(
         &mut self,
@@ -48,15 +85,51 @@ impl<O: Outside, W: Sink, E: Sink> Terminal<O, W, E> {
     )
         ensures only { OnlyTells self.old self.new }
         ensures silent { IsSilent self.old.is_quiet status → self.new.err ≡ self.old.err }
+        ensures told { (s : Option Subject) → IfOk explained (λ told. option_map subject_of told ≡ s) → Says E.contents self.old self.new s }
     {
         if status == Status::Done {
             return;
         }
         if let Ok(Some(told)) = explained {
-            let input = told.input;
-            let file = files.iter().copied().find(|file| file.input == input);
-            self.write(file, &told.explanation);
+            self.tell_explained(files, &told);
         }
+    }
+
+    /// Tells why a rulebook that was read is refused, if it is.
+    pub(crate) fn tell_book(&mut self, status: Status, path: &str, read: &ReadBook<'_>)
+        ensures only { OnlyTells self.old self.new }
+        ensures silent { IsSilent self.old.is_quiet status → self.new.err ≡ self.old.err }
+        ensures told { Says E.contents self.old self.new (check_subject read.now.verdict) }
+    {
+        let file = ReadFile {
+            input: Input::Book,
+            path,
+            bytes: read.text.as_slice(),
+        };
+        let explained = explain_check(self.alloc, self.language, read);
+        self.tell(status, &[file], explained);
+    }
+
+    /// Tells why a rulebook and returns that were read come to no table, if they don't.
+    pub(crate) fn tell_read(&mut self, status: Status, book: &str, returns: &str, read: &Read<'_>)
+        ensures only { OnlyTells self.old self.new }
+        ensures silent { IsSilent self.old.is_quiet status → self.new.err ≡ self.old.err }
+        ensures told { Says E.contents self.old self.new (judged_subject read.now.judged) }
+    {
+        let files = [
+            ReadFile {
+                input: Input::Book,
+                path: book,
+                bytes: read.book.as_slice(),
+            },
+            ReadFile {
+                input: Input::Returns,
+                path: returns,
+                bytes: read.returns.as_slice(),
+            },
+        ];
+        let explained = explain_read(self.alloc, self.language, read);
+        self.tell(status, &files, explained);
     }
 
     // Tells what was explained, if there was memory for it, of no file.

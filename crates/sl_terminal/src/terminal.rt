@@ -1,8 +1,8 @@
 //! Where a command runs.
 
-ghost use Rattle.std.specs.Prelude.{◌≡◌};
+ghost use Rattle.std.specs.Prelude.{◌≡◌, unwrap_or};
 ghost use Rattle.sl_terminal.specs.Ends.{Ends};
-ghost use Rattle.sl_terminal.specs.Frames.{OnlyPrints, OnlyTells};
+ghost use Rattle.sl_terminal.specs.Frames.{OnlyTells, TellsNothing};
 
 use crate::failure::Failure;
 use sl_explain::Language;
@@ -59,6 +59,7 @@ impl<O: Outside, W: Sink, E: Sink> Terminal<O, W, E> {
         ensures only { OnlyTells self.old self.new }
         ensures err { self.new.err ≡ self.old.err }
         ensures quiet { self.new.is_quiet ≡ options.is_quiet }
+        ensures language { self.new.language ≡ unwrap_or options.language self.old.language }
     {
         if let Some(language) = options.language {
             self.language = language;
@@ -73,7 +74,8 @@ impl<O: Outside, W: Sink, E: Sink> Terminal<O, W, E> {
         text: &[u8],
     ) -> Result<Status, Failure<'a, O::Reason>>
         ensures ends { Ends (λ ends written. (ends ≡ status) × (written ≡ text.now)) (W.contents self.old.out) (W.contents self.new.out) result }
-        ensures only { OnlyPrints self.old self.new }
+        ensures outside { self.new.outside ≡ self.old.outside }
+        ensures untold { TellsNothing self.old self.new }
     {
         match write_all(&mut self.out, text) {
             Ok(()) => Ok(status),

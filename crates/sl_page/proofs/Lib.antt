@@ -1,0 +1,3 @@
+pub mod Handed
+pub mod OneStatus
+pub mod Standing
