@@ -180,7 +180,8 @@ def judge_command(count, program, words, shim, folder):
         if (ran.status, ran.out, ran.kept) == (ample.status, ample.out, ample.kept) and ran.err in said:
             return True
         wanting = (ran.status, ran.err.lower()) in ((5, "out of memory\n"), (1, "error: out of memory\n"))
-        return wanting and ran.out == "" and (ran.kept == b"" or ran.status == 1)
+        # (the file of `code` is as it was, which is full from the run with ample memory, or was made and is empty)
+        return wanting and ran.out == "" and (ran.kept in (b"", ample.kept) or ran.status == 1)
     count.add("seatlaw " + " ".join(words), *refuse_each(run, passes))
 
 

@@ -1,12 +1,14 @@
 //! The answers that show one count: those of `report` and of `stages`.
 
 ghost use Rattle.std.specs.Prelude.{◌≡◌, IfOk};
-ghost use Rattle.sl_answers.specs.Ends.{end_status};
+ghost use Rattle.sl_answers.specs.Ends.{HoldsEnd, end_status};
+ghost use Rattle.sl_count_value.specs.Counts.{HoldsStages};
 ghost use Rattle.sl_inputs.specs.declared.status.Status.TheVariants as status;
+ghost use Rattle.sl_stages.specs.book.Books.{book_of};
 
 use crate::answer::{Answer, Shape};
 use sl_count_value::{Counted, End};
-use sl_naming::{FullNames, Naming, explanation_sheet, fault_sheet};
+use sl_naming::{FullNames, Naming, fault_sheets};
 use sl_ratio::NoMemory;
 use sl_report_sheets::{report_sheets, stage_sheets};
 use sl_results::{Setting, parts_of};
@@ -41,6 +43,7 @@ fn table_answer(
     counted: &Counted,
     shape: Shape,
 ) -> Result<Answer, NoMemory>
+    requires { HoldsStages (book_of setting.now.book.now) setting.now.returns.now counted.now.columns.items }
     ensures { IfOk result (λ a. a.status ≡ status.Done) }
 {
     let sheets = match show {
@@ -51,15 +54,16 @@ fn table_answer(
 }
 
 // The sheets of a legal fault, and who takes part.
-fn fault_sheets(
+fn all_sheets(
     alloc: Global,
     setting: &Setting<'_>,
     naming: &Naming<'_>,
     fault: &LegalFault,
 ) -> Result<Vec<Sheet>, NoMemory> {
     let mut sheets: Vec<Sheet> = Vec::new(alloc);
-    sheets.push(fault_sheet(alloc, setting.book, naming, fault)?)?;
-    sheets.push(explanation_sheet(alloc, setting.book, naming, fault)?)?;
+    for sheet in fault_sheets(alloc, setting.book, naming, fault)? {
+        sheets.push(sheet)?;
+    }
     sheets.append(&mut report_sheets(alloc, setting, naming, None)?)?;
     Ok(sheets)
 }
@@ -76,7 +80,7 @@ fn fault_answer(
 ) -> Result<Answer, NoMemory>
     ensures { IfOk result (λ a. a.status ≡ status.Legal) }
 {
-    let sheets = fault_sheets(alloc, setting, naming, fault)?;
+    let sheets = all_sheets(alloc, setting, naming, fault)?;
     let line = std::str::from_utf8(line).unwrap_or("");
     Answer::legal(alloc, show.command(), line, sheets.as_slice(), shape)
 }
@@ -96,11 +100,12 @@ pub fn count_answer(
     line: &[u8],
     shape: Shape,
 ) -> Result<Answer, NoMemory>
+    requires { HoldsEnd (book_of book.now.book) returns.now end.now }
     ensures { IfOk result (λ a. a.status ≡ end_status end.now) }
 {
     let naming = Naming { returns, full };
     let parts = parts_of(alloc, book.book.eligible.as_slice(), returns)?;
-    let setting = Setting::new(alloc, &book.book, returns, parts)?;
+    let setting = Setting::new(&book.book, returns, parts);
     match end {
         End::Counted(counted) => table_answer(alloc, show, &setting, &naming, counted, shape),
         End::Fault(fault) => fault_answer(alloc, show, &setting, &naming, fault, line, shape),

@@ -40,7 +40,8 @@ IsJudged r asked input returns (StageUnknown book name) = IsBookVerdict input (G
 IsJudged r asked input returns judged =
     (tree : BookTree) × IsBookVerdict input (Good tree) × (unknown_in asked tree ≡ None) × IsJudgedOn r tree returns judged
 
--- whatever inputs came to it: it has these records, and its outcome fits its book and its returns
+-- whatever inputs came to it: it has these records, and its outcome fits its book and its returns, and is what the one means on the other
 abbrev pub FitsJudged : Records → Judged → Type 0
-FitsJudged r (Counted c) = (c.records ≡ r) × FitsOutcome (book_of c.book.book) c.returns c.outcome
+FitsJudged r (Counted c) =
+    (c.records ≡ r) × FitsOutcome (book_of c.book.book) c.returns c.outcome × IsMeantEnd r (book_of c.book.book) c.returns c.outcome.end
 FitsJudged r _ = Unit {0}

@@ -29,12 +29,12 @@ module _ (v : List ℕ) (seats : ℕ) where
   pub share : (j : ℕ) → sum v * whole v seats j + remainder v seats j ≡ seats * get_or v j 0
   share j = let parts = div-add-mod' (seats * get_or v j 0) (sum v) in omega (arith, parts)
 
-  leading_parts : (j : ℕ) → is_leading v seats j ≡ true → (sum v < 2 * get_or v j 0) × (2 * whole v seats j ≤ seats)
+  pub leading_parts : (j : ℕ) → is_leading v seats j ≡ true → (sum v < 2 * get_or v j 0) × (2 * whole v seats j ≤ seats)
   leading_parts j e =
       let parts = and_parts (nat_lt (sum v) (2 * get_or v j 0)) (nat_le (2 * whole v seats j) seats) e in
       (ltb-true (sum v) (2 * get_or v j 0) parts.0, leb-true (2 * whole v seats j) seats parts.1)
 
-  leading_from : (j : ℕ) → sum v < 2 * get_or v j 0 → 2 * whole v seats j ≤ seats → is_leading v seats j ≡ true
+  pub leading_from : (j : ℕ) → sum v < 2 * get_or v j 0 → 2 * whole v seats j ≤ seats → is_leading v seats j ≡ true
   leading_from j more low =
       and_from (nat_lt (sum v) (2 * get_or v j 0)) (nat_le (2 * whole v seats j) seats) (lt-ltb (sum v) (2 * get_or v j 0) more) (le-leb (2 * whole v seats j) seats low)
 
@@ -51,14 +51,14 @@ whole_ordered v seats i j pos le =
 
 module _ (prefer : Bool) (v : List ℕ) (seats : ℕ) (s : List ℕ) (h : IsHamiltonAllocation prefer v seats s) where
   -- a seat is a whole one or one more
-  at_most_one : (j : ℕ) → get_or s j 0 ≤ whole v seats j + 1
+  pub at_most_one : (j : ℕ) → get_or s j 0 ≤ whole v seats j + 1
   at_most_one j =
       elim (cases_lt 0 (get_or v j 0)) [
         | inl f ↦ elim (h.shares j f) [ inl e ↦ omega (arith, e) | inr e ↦ omega (arith, e) ]
         | inr g ↦ (let z : get_or v j 0 ≡ 0 = omega arith in let e = h.outside j z in omega (arith, e))
       ]
 
-  at_least : (j : ℕ) → whole v seats j ≤ get_or s j 0
+  pub at_least : (j : ℕ) → whole v seats j ≤ get_or s j 0
   at_least j = (hamilton_in_quota prefer v seats s h j).0
 
   has_votes : (j : ℕ) → 0 < get_or s j 0 → InField v j

@@ -37,5 +37,6 @@ pub mod Exact
 pub mod Apart
 pub mod Deviating
 pub mod Renamed
+pub mod HamiltonPrinciples
 pub mod LeastDivisor
 pub mod LeastIsHamilton

@@ -13,7 +13,7 @@ part_at [] xs p l = absurd (omega arith)
 part_at (e ∷ es) xs zero l = refl
 part_at (e ∷ es) xs (suc p) l = part_at es xs p (omega arith)
 
-part_past : (entries xs : List ℕ) (p : ℕ) → length entries ≤ p → get_or (part entries xs) p 0 ≡ 0
+pub part_past : (entries xs : List ℕ) (p : ℕ) → length entries ≤ p → get_or (part entries xs) p 0 ≡ 0
 part_past [] xs p l = refl
 part_past (e ∷ es) xs zero l = absurd (omega arith)
 part_past (e ∷ es) xs (suc p) l = part_past es xs p (omega arith)

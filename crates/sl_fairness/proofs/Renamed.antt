@@ -1,5 +1,6 @@
 -- Votes multiplied by a number, and entries in another order.
 use Rattle.std.proofs.Common.{◌≡◌, ℕ, zero, suc, ◌-◌, ◌*◌, ◌<◌, ◌≤◌, List, length, get_or, map, sum, sum_by, inl, inr, arith, refl, sym, ap, subst, ◌∙◌}
+use Rattle.std.specs.Prelude.{IsPermutation}
 use Rattle.std.specs.List.{range_with_len}
 use Rattle.std.proofs.Math.Nat.{mul-le-mul_left, le_of_mul-le-mul_left}
 use Rattle.std.proofs.lemmas.Nat.{mul-lt}
@@ -118,12 +119,17 @@ in_order s =
     ext_get_or 0 (part (range_with_len 0 (length s)) s) s (length-map-range_with_len (λ i. get_or s i 0) 0 (length s))
     (λ i l. get_or-map-range_with_len (λ i. get_or s i 0) 0 (length s) i i 0 (omega (arith, l, length-map-range_with_len (λ i. get_or s i 0) 0 (length s))) (omega arith))
 
+-- in another order they have the same sum
+pub same_sum : (s order : List ℕ) (n : ℕ) → length s ≡ n → IsPermutation (range_with_len 0 n) order → sum (part order s) ≡ sum s
+same_sum s order n long perm =
+    let a : sum (part order s) ≡ sum_by (λ i. get_or s i 0) order = sum-map (λ i. get_or s i 0) order in
+    let b = sum_by-IsPermutation (λ i. get_or s i 0) (range_with_len 0 n) order perm in
+    let c : sum (part (range_with_len 0 (length s)) s) ≡ sum_by (λ i. get_or s i 0) (range_with_len 0 (length s)) = sum-map (λ i. get_or s i 0) (range_with_len 0 (length s)) in
+    let d : sum_by (λ i. get_or s i 0) (range_with_len 0 n) ≡ sum_by (λ i. get_or s i 0) (range_with_len 0 (length s)) = ap (λ n. sum_by (λ i. get_or s i 0) (range_with_len 0 n)) (sym long) in
+    let e = ap sum (in_order s) in
+    omega (arith, a, b, c, d, e)
+
 pub anonymous : Anonymous
 anonymous method v m seats s h order perm =
-    let a : sum (part order s) ≡ sum_by (λ i. get_or s i 0) order = sum-map (λ i. get_or s i 0) order in
-    let b = sum_by-IsPermutation (λ i. get_or s i 0) (range_with_len 0 (length v)) order perm in
-    let c : sum (part (range_with_len 0 (length s)) s) ≡ sum_by (λ i. get_or s i 0) (range_with_len 0 (length s)) = sum-map (λ i. get_or s i 0) (range_with_len 0 (length s)) in
-    let d : sum_by (λ i. get_or s i 0) (range_with_len 0 (length v)) ≡ sum_by (λ i. get_or s i 0) (range_with_len 0 (length s)) = ap (λ n. sum_by (λ i. get_or s i 0) (range_with_len 0 n)) (sym h.same_length) in
-    let e = ap sum (in_order s) in
-    let total = h.total in
-    subst (λ n. IsDivisorAllocation method (part order v) (part order m) n (part order s)) (omega (arith, a, b, c, d, e, total)) (coherent method v m seats s h order)
+    subst (λ n. IsDivisorAllocation method (part order v) (part order m) n (part order s)) (same_sum s order (length v) h.same_length perm ∙ h.total)
+    (coherent method v m seats s h order)

@@ -1,6 +1,6 @@
 -- No method has it all: within quota, ordered, and fair to votes that grow (Balinski and Young, Fair Representation, appendix A).
--- The law is the contract of a function of `laws`. A method is here any function that picks seats for votes and a house.
-use Rattle.std.specs.Prelude.{◌≡◌, ℕ, ◌*◌, ◌<◌, ◌≤◌, List, length, sum, slice_index}
+-- Each law is the contract of a function of `laws`. A method is here any function that picks seats for votes and a house.
+use Rattle.std.specs.Prelude.{◌≡◌, ℕ, ◌*◌, ◌<◌, ◌≤◌, List, length, sum, slice_index, slice_set}
 use Rattle.sl_stages.specs.methods.Hamilton.{whole}
 use Rattle.sl_fairness.specs.Quota.{raised_whole}
 
@@ -24,3 +24,16 @@ IsPopulationMonotone f =
 
 abbrev pub Impossibility : Type 0
 Impossibility = (f : List ℕ → ℕ → List ℕ) → StaysWithinQuota f → KeepsOrder f → IsPopulationMonotone f → ⊥
+
+-- entries i and j have what the other had
+abbrev pub exchanged : List ℕ → ℕ → ℕ → List ℕ
+exchanged xs i j = slice_set (slice_set xs i (slice_index xs j)) j (slice_index xs i)
+
+-- two entries that exchange their votes exchange their seats
+abbrev pub TreatsAlike : (List ℕ → ℕ → List ℕ) → Type 0
+TreatsAlike f =
+    (v : List ℕ) (seats i j : ℕ) → i < length v → j < length v → f (exchanged v i j) seats ≡ exchanged (f v seats) i j
+
+-- so in place of the order it is enough that entries are treated alike
+abbrev pub ImpossibilityAlike : Type 0
+ImpossibilityAlike = (f : List ℕ → ℕ → List ℕ) → StaysWithinQuota f → TreatsAlike f → IsPopulationMonotone f → ⊥

@@ -9,10 +9,11 @@ ghost use Rattle.sl_fairness.specs.Quota.{JeffersonLowerQuota, AdamsUpperQuota, 
 ghost use Rattle.sl_fairness.specs.Majorities.{JeffersonMajority, HamiltonMajority};
 ghost use Rattle.sl_fairness.specs.Growths.{GrownHouseMeets, GrowthStays, GrownByVotes, LargerHouseMeets};
 ghost use Rattle.sl_fairness.specs.Joining.{JeffersonJoins, AdamsJoins, WebsterJoins};
-ghost use Rattle.sl_fairness.specs.Impossible.{Impossibility};
+ghost use Rattle.sl_fairness.specs.Impossible.{Impossibility, ImpossibilityAlike};
 ghost use Rattle.sl_fairness.specs.ByDivisor.{WebsterByDivisor, JeffersonByDivisor, AdamsByDivisor, DeanByDivisor, HillByDivisor, DivisorBetween, SeparatedIsOnly};
 ghost use Rattle.sl_fairness.specs.NearQuota.{WebsterNearQuota, WebsterDeviation};
 ghost use Rattle.sl_fairness.specs.Principles.{Balanced, Exact, Homogeneous, Anonymous};
+ghost use Rattle.sl_fairness.specs.Principles.{HamiltonBalanced, HamiltonExact, HamiltonHomogeneous, HamiltonAnonymous};
 ghost use Rattle.sl_fairness.specs.Huntington.{HuntingtonsTests};
 ghost use Rattle.sl_fairness.specs.Optimal.{JeffersonLeastMost, AdamsMostLeast, WebsterLeastDeviations};
 ghost use Rattle.sl_fairness.specs.MethodOrder.{FavoursLarger};
@@ -98,6 +99,27 @@ pub fn anonymous()
     ensures { Anonymous }
 {}
 
+/// Under Hamilton's method, with preference for a majority or without, equal votes have seats that are at most one apart
+/// (docs/methods.md, section 3).
+pub fn hamilton_balanced()
+    ensures { HamiltonBalanced }
+{}
+
+/// Under Hamilton's method seats that are just the shares are the only allocation (docs/methods.md, section 3).
+pub fn hamilton_exact()
+    ensures { HamiltonExact }
+{}
+
+/// Under Hamilton's method votes that are all multiplied by a number have the same allocations (docs/methods.md, section 3).
+pub fn hamilton_homogeneous()
+    ensures { HamiltonHomogeneous }
+{}
+
+/// Under Hamilton's method entries in another order have their seats in that order (docs/methods.md, section 3).
+pub fn hamilton_anonymous()
+    ensures { HamiltonAnonymous }
+{}
+
 /// Jefferson's method gives no entry fewer seats than its share rounded down
 /// (Balinski and Young, Fair Representation, appendix A).
 pub fn jefferson_lower_quota()
@@ -132,6 +154,12 @@ pub fn webster_deviation()
 /// (Balinski and Young, Fair Representation, appendix A).
 pub fn impossibility()
     ensures { Impossibility }
+{}
+
+/// And none stays within quota and is population monotone that treats entries alike: two that exchange their votes exchange their seats
+/// (Balinski and Young, Fair Representation, appendix A).
+pub fn impossibility_alike()
+    ensures { ImpossibilityAlike }
 {}
 
 /// Under Jefferson's method more than half of the votes has at least half of the seats, and more than half of an odd house

@@ -1,12 +1,9 @@
 -- Published results by products, and that these seats are the only ones, by tests that compute.
 use Rattle.std.proofs.Common.{zero, suc, true, [], ◌∷◌, arith, refl}
 use Rattle.sl_ratio.specs.declared.method.Divisor.TheVariants.{Webster}
-use Rattle.sl_stages.specs.laws.Ladders.{covering_ladders}
 use Rattle.sl_stages.specs.laws.MethodLaws.{AllHaveVotes}
-use Rattle.sl_stages.proofs.methods.CoveringProofs.{covering_tops}
 use Rattle.sl_fairness_examples.specs.ByHand.{Divided2025, votes_2025, seats_2025, Quoted2005, votes_2005, Covered}
-use Rattle.sl_fairness_examples.proofs.Allocated.{divisor_only, hamilton_only_with}
-use Rattle.sl_fairness_examples.proofs.Tested.{top_by_test}
+use Rattle.sl_fairness_examples.proofs.Allocated.{divisor_only, hamilton_only_with, covering_only}
 
 pub divided_2025 : Divided2025
 divided_2025 = record {
@@ -43,9 +40,5 @@ covered = record {
   harbour = omega arith;
   hills = omega arith;
   valley = omega arith;
-  seated =
-      let first = 52000 ∷ 47000 ∷ 48000 ∷ 41000 ∷ [] in
-      let valid = 110000 ∷ 105000 ∷ 125000 ∷ 102000 ∷ [] in
-      let tops = covering_tops first valid four in
-      (tops.tops 3 (1 ∷ 1 ∷ 0 ∷ 1 ∷ [])).1 (top_by_test (covering_ladders first valid) (1 ∷ 1 ∷ 0 ∷ 1 ∷ []) tops.falling refl refl);
+  seated = covering_only (52000 ∷ 47000 ∷ 48000 ∷ 41000 ∷ []) (110000 ∷ 105000 ∷ 125000 ∷ 102000 ∷ []) (1 ∷ 1 ∷ 0 ∷ 1 ∷ []) four refl refl;
 }

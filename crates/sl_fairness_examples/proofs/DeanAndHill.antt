@@ -6,7 +6,7 @@ use Rattle.sl_fairness.specs.Joining.{Joins}
 use Rattle.sl_fairness_examples.specs.Joined.{BelowQuota, AboveQuota, LessThanHalf, JoinLoses, JoinWins, JeffersonWins, HamiltonLoses, HamiltonWins}
 use Rattle.sl_fairness_examples.proofs.Allocated.{divisor_only, hamilton_only}
 
-join : (a b c : ℕ) (rest : List ℕ) → c ≡ a + b → Joins (a ∷ b ∷ rest) (c ∷ 0 ∷ rest) 0 1
+pub join : (a b c : ℕ) (rest : List ℕ) → c ≡ a + b → Joins (a ∷ b ∷ rest) (c ∷ 0 ∷ rest) 0 1
 join a b c rest e = record {
   same_length = refl;
   apart = λ h. omega (arith, h);

@@ -15,3 +15,8 @@ pub mod WinnersAbove
 pub mod ByHand
 pub mod Sharper
 pub mod Threshold
+pub mod Growing
+pub mod Compared
+pub mod SmallTables
+pub mod NoGain
+pub mod BesideIndependent

@@ -8,12 +8,13 @@ pub no_votes : NoVotes
 no_votes = record {
   shares = none;
   none = λ method h. let e : 1 ≡ 0 = h.outside 0 refl in omega (arith, e);
+  remainders = λ prefer h. let e : 1 ≡ 0 = h.outside 0 refl in omega (arith, e);
 } where
   none : (i : ℕ) → sum (0 ∷ []) * get_or (1 ∷ []) i 0 ≡ 1 * get_or (0 ∷ []) i 0
   none zero = refl
   none (suc i) = refl
 
-sum_three : (xs : List ℕ) → length xs ≡ 3 → sum xs ≡ get_or xs 0 0 + get_or xs 1 0 + get_or xs 2 0
+pub sum_three : (xs : List ℕ) → length xs ≡ 3 → sum xs ≡ get_or xs 0 0 + get_or xs 1 0 + get_or xs 2 0
 sum_three [] e = absurd (omega arith)
 sum_three (a ∷ []) e = absurd (omega arith)
 sum_three (a ∷ b ∷ []) e = absurd (omega arith)

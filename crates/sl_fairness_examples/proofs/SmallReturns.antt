@@ -1,5 +1,5 @@
 -- Small returns: that they are returns, what a book under `keep` means on them, and what is decided in their scopes.
-use Rattle.std.proofs.Common.{◌≡◌, ℕ, ◌<◌, ◌≤◌, Bool, true, List, [], length, filter, nat_eq, sum, sum_by, arith, refl, sym, ap, subst, ◌∙◌}
+use Rattle.std.proofs.Common.{◌≡◌, ℕ, ◌+◌, ◌<◌, ◌≤◌, Bool, true, List, [], length, map, filter, nat_eq, sum, sum_by, count_by, arith, refl, sym, ap, subst, ◌∙◌}
 use Rattle.std.specs.Prelude.{codes}
 use Rattle.std.proofs.lemmas.List.Elements.{All-nil}
 use Rattle.std.proofs.lemmas.Option.{none-some, same_Some}
@@ -22,7 +22,7 @@ use Rattle.sl_stages.specs.laws.MethodLaws.{AllHaveVotes}
 use Rattle.sl_stages.specs.meaning.Columns.{IsLeaf}
 use Rattle.sl_stages.specs.meaning.Seating.{base_of, keep_table}
 use Rattle.sl_stages.specs.meaning.Tables.{SeatTable}
-use Rattle.sl_stages.specs.meaning.Means.{Known, Through, nothing_known, StagesMean, IsSeated, Means}
+use Rattle.sl_stages.specs.meaning.Means.{Known, Through, nothing_known, StagesMean, IsSeated, SameTable, Means}
 use Rattle.sl_stages.proofs.Elections.{is_with_house, is_with_land, is_with_party}
 use Rattle.sl_stages.proofs.meaning.MeaningProofs.{same_itself, at_most_one_outcome}
 use Rattle.sl_stages.proofs.methods.DivisorProofs.{divisor_tops}
@@ -30,8 +30,10 @@ use Rattle.sl_stages.proofs.methods.HamiltonProofs.{hamilton_tops}
 use Rattle.sl_stages.proofs.methods.LadderProofs.{batches}
 use Rattle.sl_stages.proofs.methods.CoveringProofs.{covering_tops}
 use Rattle.sl_stages.proofs.methods.SeatSums.{length_zeros}
+use Rattle.sl_fairness.specs.Winners.{is_single, total_seats}
 use Rattle.sl_statutes.specs.Parties.{seats_column}
 use Rattle.sl_fairness_examples.specs.VotesThatCost.{votes, winner, two_by_two, Gives}
+use Rattle.sl_fairness_examples.specs.Tables.{winner_by, independent, GivesLists}
 use Rattle.sl_fairness_examples.proofs.Tested.{settled_test, settled_by_test}
 
 -- ---- returns
@@ -64,14 +66,21 @@ nothing = record {
 pub are_votes : (n : ℕ) → n ≤ 100000000 → IsListVotes (votes n)
 are_votes n le = record { counted = omega arith; valid = le; slate = λ x none. absurd (none-some x none) }
 
-pub is_winner : (lands parties land party : ℕ) → land < lands → party < parties → IsWin lands parties (winner land party)
-is_winner lands parties land party in_lands in_parties = record {
+pub is_winner_by : (lands parties land party first valid : ℕ) → land < lands → party < parties → 1 ≤ first → first ≤ valid → valid ≤ 100000000 →
+    IsWin lands parties (winner_by land party first valid)
+is_winner_by lands parties land party first valid in_lands in_parties some most few = record {
   land = in_lands;
   party = λ p is. subst (λ p. p < parties) (same_Some party p is) in_parties;
-  least = omega arith;
-  most = omega arith;
-  valid = omega arith;
+  least = some;
+  most = most;
+  valid = few;
 }
+
+pub is_winner : (lands parties land party : ℕ) → land < lands → party < parties → IsWin lands parties (winner land party)
+is_winner lands parties land party in_lands in_parties = is_winner_by lands parties land party 1 1 in_lands in_parties (omega arith) (omega arith) (omega arith)
+
+pub is_independent : (lands parties land : ℕ) → land < lands → IsWin lands parties (independent land)
+is_independent lands parties land in_lands = record { land = in_lands; party = λ p none. absurd (none-some p none); least = omega arith; most = omega arith; valid = omega arith }
 
 pub is_two_by_two : (seats x y : ℕ) → 1 ≤ seats → seats ≤ 4000 → x ≤ 100000000 → y ≤ 100000000 → IsElection (two_by_two seats x y)
 is_two_by_two seats x y some few in_x in_y =
@@ -100,13 +109,33 @@ module _ (b : BookTree) (e : Election) (typed : is_typed b ≡ true) (is : IsEle
     have = λ u also. of_lists e u t ((at_most_one_outcome b e typed is (outcome.Table u) (outcome.Table t) also means_it).lists) ∙ have;
   }
 
-pub gives : (b : BookTree) (e : Election) → is_typed b ≡ true → IsElection e → b.last.seating ≡ seating.Keep → (k : Known) → StagesMean b e nothing_known b.stages (Through k) →
-    (base : List ℕ) → IsLeaf b e k.columns (base_of b.last) base → (seats : List ℕ) → seats_column e (keep_table b e base k.records) ≡ seats → Gives b e seats
-gives b e typed is keeps k run base is_base seats have =
-    gives_it b e typed is k run base is_base (keep_table b e base k.records) kept seats have
-  where
-    kept : IsSeated b e b.last.seating base k.records (outcome.Table (keep_table b e base k.records))
-    kept = subst (λ s. IsSeated b e s base k.records (outcome.Table (keep_table b e base k.records))) (sym keeps) refl
+  one : (u : SeatTable) → Means b e (outcome.Table u) → SameTable u t
+  one u also = at_most_one_outcome b e typed is (outcome.Table u) (outcome.Table t) also means_it
+
+  pub lists_it : (seats : List ℕ) → map (λ s. s.seats) t.lists ≡ seats → GivesLists b e seats
+  lists_it seats have = record { table = t; means = means_it; have = λ u also. ap (map (λ s. s.seats)) (one u also).lists ∙ have }
+
+  pub places_it : (u : SeatTable) → Means b e (outcome.Table u) → u.placed ≡ t.placed
+  places_it u also = (one u also).placed
+
+  pub total_it : (u : SeatTable) → Means b e (outcome.Table u) → total_seats u ≡ total_seats t
+  total_it u also =
+      ap (λ ls. sum_by (λ s. s.seats) ls + count_by is_single u.placed) (one u also).lists ∙ ap (λ ps. sum_by (λ s. s.seats) t.lists + count_by is_single ps) (one u also).placed
+
+-- by a clause that keeps the winners
+module _ (b : BookTree) (e : Election) (typed : is_typed b ≡ true) (is : IsElection e) (keeps : b.last.seating ≡ seating.Keep) (k : Known) (run : StagesMean b e nothing_known b.stages (Through k))
+    (base : List ℕ) (is_base : IsLeaf b e k.columns (base_of b.last) base) where
+  kept : IsSeated b e b.last.seating base k.records (outcome.Table (keep_table b e base k.records))
+  kept = subst (λ s. IsSeated b e s base k.records (outcome.Table (keep_table b e base k.records))) (sym keeps) refl
+
+  pub gives : (seats : List ℕ) → seats_column e (keep_table b e base k.records) ≡ seats → Gives b e seats
+  gives = gives_it b e typed is k run base is_base (keep_table b e base k.records) kept
+
+  pub gives_lists : (seats : List ℕ) → map (λ s. s.seats) (keep_table b e base k.records).lists ≡ seats → GivesLists b e seats
+  gives_lists = lists_it b e typed is k run base is_base (keep_table b e base k.records) kept
+
+  pub gives_total : (n : ℕ) → total_seats (keep_table b e base k.records) ≡ n → (t : SeatTable) → Means b e (outcome.Table t) → total_seats t ≡ n
+  gives_total n have t means = total_it b e typed is k run base is_base (keep_table b e base k.records) kept t means ∙ have
 
 -- ---- scopes
 

@@ -114,4 +114,5 @@ fewer_are_enough = record {
   ten_more = divisor_some Webster (105 ∷ 5 ∷ []) (0 ∷ 0 ∷ []) (10 ∷ 1 ∷ []) refl refl refl;
   eleven_more = divisor_only Webster (106 ∷ 5 ∷ []) (0 ∷ 0 ∷ []) (11 ∷ 0 ∷ []) refl refl refl;
   one_more = changes;
+  of_both = divisor_only Webster (96 ∷ 5 ∷ []) (0 ∷ 0 ∷ []) (10 ∷ 1 ∷ []) refl refl refl;
 }

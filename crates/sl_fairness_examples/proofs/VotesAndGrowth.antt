@@ -5,16 +5,17 @@ use Rattle.sl_ratio.specs.declared.method.Divisor.TheVariants.{Webster}
 use Rattle.sl_stages.specs.declared.fact.Fact.TheVariants as facts
 use Rattle.sl_stages.specs.methods.LeastHouse.{Meets, Serves, GrownTo, IsGrowth}
 use Rattle.sl_stages.specs.methods.Ties.{Decided}
-use Rattle.sl_stages.specs.returns.Election.{IsElection, with_list}
+use Rattle.sl_stages.specs.returns.Election.{Election, IsElection, with_list}
 use Rattle.sl_stages.specs.meaning.Results.{Column, plain}
 use Rattle.sl_stages.specs.meaning.Splits.{Seats}
-use Rattle.sl_stages.specs.meaning.Means.{nothing_known, context_of}
+use Rattle.sl_stages.specs.meaning.Means.{Known, Through, nothing_known, context_of, StagesMean}
 use Rattle.sl_stages.proofs.Elections.{is_with_list, is_with_win}
 use Rattle.sl_stages.proofs.meaning.PlainRuns.{to_means, then_plain}
 use Rattle.sl_statutes.specs.Trees.{law_of_2013, pool}
 use Rattle.sl_fairness_examples.specs.VotesThatCost.{votes, winner, Gives, with_growth, VoteCostsByGrowth}
+use Rattle.sl_fairness_examples.specs.Tables.{GivesLists}
 use Rattle.sl_fairness_examples.proofs.Allocated.{divisor_some, divisor_only}
-use Rattle.sl_fairness_examples.proofs.SmallReturns.{are_votes, is_winner, is_two_by_two, gives, undisputed}
+use Rattle.sl_fairness_examples.proofs.SmallReturns.{are_votes, is_winner, is_two_by_two, gives, gives_lists, undisputed}
 
 are_returns : IsElection with_growth
 are_returns =
@@ -140,64 +141,77 @@ module _ (at : ℕ → ℕ) where
       ) (1 ∷ 3 ∷ 2 ∷ 1 ∷ []) refl (3 ∷ 4 ∷ []) refl
 
   -- with one vote more A has one of them
-  after : Gives (law_of_2013 at) (with_list with_growth 0 0 (votes 2)) (2 ∷ 3 ∷ [])
-  after =
-      let e = with_list with_growth 0 0 (votes 2) in
-      gives (law_of_2013 at) (with_list with_growth 0 0 (votes 2)) refl (is_with_list with_growth 0 0 (votes 2) are_returns (omega arith) (omega arith) (are_votes 2 (omega arith))) refl _ (
-        plain (4 ∷ []),
-        to_means (law_of_2013 at) e (context_of nothing_known (pool at facts.Outside)) (pool at facts.Outside).expr refl (4 ∷ []) (4 ∷ [], 0 ∷ [], refl, (0 ∷ 0 ∷ [], refl, refl), refl),
+  abbrev more_votes : Election
+  more_votes = with_list with_growth 0 0 (votes 2)
+
+  are_more_votes : IsElection more_votes
+  are_more_votes = is_with_list with_growth 0 0 (votes 2) are_returns (omega arith) (omega arith) (are_votes 2 (omega arith))
+
+  abbrev after_run : (k : Known) × StagesMean (law_of_2013 at) more_votes nothing_known (law_of_2013 at).stages (Through k)
+  after_run = (
+    _,
+    (
+      plain (4 ∷ []),
+      to_means (law_of_2013 at) more_votes (context_of nothing_known (pool at facts.Outside)) (pool at facts.Outside).expr refl (4 ∷ []) (4 ∷ [], 0 ∷ [], refl, (0 ∷ 0 ∷ [], refl, refl), refl),
+      (
+        Column (3 ∷ 1 ∷ []) _,
+        then_plain _ _ _ (4 ∷ []) (_, refl, refl)
+            (then_plain _ _ _ (2 ∷ 1 ∷ []) (_, refl, refl) (record { awards = Seats (3 ∷ 1 ∷ []) ∷ []; each = (record { choice = Decided (3 ∷ 1 ∷ []); chosen = undisputed Webster (2 ∷ 1 ∷ []) (0 ∷ 0 ∷ []) (3 ∷ 1 ∷ []) refl refl refl []; is = refl }, tt); is = refl })),
         (
-          Column (3 ∷ 1 ∷ []) _,
-          then_plain _ _ _ (4 ∷ []) (_, refl, refl)
-              (then_plain _ _ _ (2 ∷ 1 ∷ []) (_, refl, refl) (record { awards = Seats (3 ∷ 1 ∷ []) ∷ []; each = (record { choice = Decided (3 ∷ 1 ∷ []); chosen = undisputed Webster (2 ∷ 1 ∷ []) (0 ∷ 0 ∷ []) (3 ∷ 1 ∷ []) refl refl refl []; is = refl }, tt); is = refl })),
+          Column (1 ∷ 2 ∷ 1 ∷ 0 ∷ []) _,
+          then_plain _ _ _ (3 ∷ 1 ∷ []) (then_plain _ _ _ (3 ∷ 1 ∷ []) (_, refl, refl) (then_plain _ _ _ (0 ∷ 0 ∷ []) (_, refl, refl) refl))
+              (then_plain _ _ _ (2 ∷ 6 ∷ 4 ∷ 1 ∷ []) (_, refl, refl)
+              (record {
+                awards = Seats (1 ∷ 2 ∷ []) ∷ Seats (1 ∷ 0 ∷ []) ∷ [];
+                each = (
+                  record { choice = Decided (1 ∷ 2 ∷ []); chosen = undisputed Webster (2 ∷ 6 ∷ []) (0 ∷ 0 ∷ []) (1 ∷ 2 ∷ []) refl refl refl []; is = refl },
+                  (record { choice = Decided (1 ∷ 0 ∷ []); chosen = undisputed Webster (4 ∷ 1 ∷ []) (0 ∷ 0 ∷ []) (1 ∷ 0 ∷ []) refl refl refl []; is = refl }, tt),
+                );
+                is = refl;
+              })),
           (
-            Column (1 ∷ 2 ∷ 1 ∷ 0 ∷ []) _,
-            then_plain _ _ _ (3 ∷ 1 ∷ []) (then_plain _ _ _ (3 ∷ 1 ∷ []) (_, refl, refl) (then_plain _ _ _ (0 ∷ 0 ∷ []) (_, refl, refl) refl))
-                (then_plain _ _ _ (2 ∷ 6 ∷ 4 ∷ 1 ∷ []) (_, refl, refl)
-                (record {
-                  awards = Seats (1 ∷ 2 ∷ []) ∷ Seats (1 ∷ 0 ∷ []) ∷ [];
-                  each = (
-                    record { choice = Decided (1 ∷ 2 ∷ []); chosen = undisputed Webster (2 ∷ 6 ∷ []) (0 ∷ 0 ∷ []) (1 ∷ 2 ∷ []) refl refl refl []; is = refl },
-                    (record { choice = Decided (1 ∷ 0 ∷ []); chosen = undisputed Webster (4 ∷ 1 ∷ []) (0 ∷ 0 ∷ []) (1 ∷ 0 ∷ []) refl refl refl []; is = refl }, tt),
-                  );
-                  is = refl;
-                })),
+            plain (2 ∷ 3 ∷ []),
+            then_plain _ _ _ (1 ∷ 2 ∷ 1 ∷ 1 ∷ []) (then_plain _ _ _ (1 ∷ 2 ∷ 1 ∷ 0 ∷ []) (_, refl, refl) (then_plain _ _ _ (0 ∷ 0 ∷ 0 ∷ 1 ∷ []) (_, refl, refl) refl)) refl,
             (
-              plain (2 ∷ 3 ∷ []),
-              then_plain _ _ _ (1 ∷ 2 ∷ 1 ∷ 1 ∷ []) (then_plain _ _ _ (1 ∷ 2 ∷ 1 ∷ 0 ∷ []) (_, refl, refl) (then_plain _ _ _ (0 ∷ 0 ∷ 0 ∷ 1 ∷ []) (_, refl, refl) refl)) refl,
+              Column (2 ∷ 3 ∷ []) _,
+              then_plain _ _ _ (4 ∷ []) (_, refl, refl)
+                  (then_plain _ _ _ (6 ∷ 7 ∷ []) (then_plain _ _ _ (2 ∷ 6 ∷ 4 ∷ 1 ∷ []) (_, refl, refl) refl)
+                  (then_plain _ _ _ (2 ∷ 3 ∷ []) (_, refl, refl)
+                  (record {
+                    awards = Seats (2 ∷ 3 ∷ []) ∷ [];
+                    each = (
+                      record { growth = GrownTo 5; least = grown_after; comes = record { choice = Decided (2 ∷ 3 ∷ []); chosen = undisputed Webster (6 ∷ 7 ∷ []) (0 ∷ 0 ∷ []) (2 ∷ 3 ∷ []) refl refl refl []; is = refl } },
+                      tt,
+                    );
+                    is = refl;
+                  }))),
               (
-                Column (2 ∷ 3 ∷ []) _,
-                then_plain _ _ _ (4 ∷ []) (_, refl, refl)
-                    (then_plain _ _ _ (6 ∷ 7 ∷ []) (then_plain _ _ _ (2 ∷ 6 ∷ 4 ∷ 1 ∷ []) (_, refl, refl) refl)
-                    (then_plain _ _ _ (2 ∷ 3 ∷ []) (_, refl, refl)
+                Column (1 ∷ 2 ∷ 1 ∷ 1 ∷ []) _,
+                then_plain _ _ _ (2 ∷ 3 ∷ []) (_, refl, refl)
+                    (then_plain _ _ _ (2 ∷ 6 ∷ 4 ∷ 1 ∷ []) (_, refl, refl)
+                    (then_plain _ _ _ (0 ∷ 0 ∷ 0 ∷ 1 ∷ []) (_, refl, refl)
                     (record {
-                      awards = Seats (2 ∷ 3 ∷ []) ∷ [];
+                      awards = Seats (1 ∷ 1 ∷ []) ∷ Seats (2 ∷ 1 ∷ []) ∷ [];
                       each = (
-                        record { growth = GrownTo 5; least = grown_after; comes = record { choice = Decided (2 ∷ 3 ∷ []); chosen = undisputed Webster (6 ∷ 7 ∷ []) (0 ∷ 0 ∷ []) (2 ∷ 3 ∷ []) refl refl refl []; is = refl } },
-                        tt,
+                        record { choice = Decided (1 ∷ 1 ∷ []); chosen = undisputed Webster (2 ∷ 4 ∷ []) (0 ∷ 0 ∷ []) (1 ∷ 1 ∷ []) refl refl refl []; is = refl },
+                        (record { choice = Decided (2 ∷ 1 ∷ []); chosen = undisputed Webster (6 ∷ 1 ∷ []) (0 ∷ 1 ∷ []) (2 ∷ 1 ∷ []) refl refl refl []; is = refl }, tt),
                       );
                       is = refl;
                     }))),
-                (
-                  Column (1 ∷ 2 ∷ 1 ∷ 1 ∷ []) _,
-                  then_plain _ _ _ (2 ∷ 3 ∷ []) (_, refl, refl)
-                      (then_plain _ _ _ (2 ∷ 6 ∷ 4 ∷ 1 ∷ []) (_, refl, refl)
-                      (then_plain _ _ _ (0 ∷ 0 ∷ 0 ∷ 1 ∷ []) (_, refl, refl)
-                      (record {
-                        awards = Seats (1 ∷ 1 ∷ []) ∷ Seats (2 ∷ 1 ∷ []) ∷ [];
-                        each = (
-                          record { choice = Decided (1 ∷ 1 ∷ []); chosen = undisputed Webster (2 ∷ 4 ∷ []) (0 ∷ 0 ∷ []) (1 ∷ 1 ∷ []) refl refl refl []; is = refl },
-                          (record { choice = Decided (2 ∷ 1 ∷ []); chosen = undisputed Webster (6 ∷ 1 ∷ []) (0 ∷ 1 ∷ []) (2 ∷ 1 ∷ []) refl refl refl []; is = refl }, tt),
-                        );
-                        is = refl;
-                      }))),
-                  refl,
-                ),
+                refl,
               ),
             ),
           ),
         ),
-      ) (1 ∷ 2 ∷ 1 ∷ 1 ∷ []) refl (2 ∷ 3 ∷ []) refl
+      ),
+    ),
+  )
+
+  after : Gives (law_of_2013 at) more_votes (2 ∷ 3 ∷ [])
+  after = gives (law_of_2013 at) more_votes refl are_more_votes refl after_run.0 after_run.1 (1 ∷ 2 ∷ 1 ∷ 1 ∷ []) refl (2 ∷ 3 ∷ []) refl
+
+  pub lists_after : GivesLists (law_of_2013 at) more_votes (1 ∷ 2 ∷ 1 ∷ 1 ∷ [])
+  lists_after = gives_lists (law_of_2013 at) more_votes refl are_more_votes refl after_run.0 after_run.1 (1 ∷ 2 ∷ 1 ∷ 1 ∷ []) refl (1 ∷ 2 ∷ 1 ∷ 1 ∷ []) refl
 
 pub vote_costs_by_growth : VoteCostsByGrowth
 vote_costs_by_growth at = record {

@@ -36,7 +36,7 @@ use Rattle.sl_fairness_examples.specs.WinnersAbove.{with_winners, NoMethodGives,
 use Rattle.sl_fairness_examples.proofs.SmallReturns.{are_votes, is_winner, is_two_by_two, means_it, gives_it, gives, undisputed, undisputed_remainders, undisputed_covering}
 use Rattle.sl_fairness_examples.proofs.VotesAndOverhang.{Chosen}
 
-are_returns : IsElection with_winners
+pub are_returns : IsElection with_winners
 are_returns =
     let parties = is_two_by_two 5 2 2 (omega arith) (omega arith) (omega arith) (omega arith) in
     let one = is_with_list _ 0 0 (votes 1) parties (omega arith) (omega arith) (are_votes 1 (omega arith)) in
@@ -48,7 +48,7 @@ are_returns =
     is_with_win _ (codes "x5") (winner 0 0) x4 refl (is_winner 2 2 0 0 (omega arith) (omega arith))
 
 -- a book of the three stages
-abbrev book : (ℕ → ℕ) → ℕ → List ℕ → ℕ → List Cond → Fact → Method → Majority → LastClause → BookTree
+abbrev pub book : (ℕ → ℕ) → ℕ → List ℕ → ℕ → List Cond → Fact → Method → Majority → LastClause → BookTree
 book at version title seats conditions told method m last = record {
   version = number at version 35;
   law = title;

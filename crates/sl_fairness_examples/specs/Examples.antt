@@ -1,5 +1,5 @@
 -- What fails, in small numbers. Each example is the contract of a function of `hamilton`, `quota`, `premises` or `joins`.
-use Rattle.std.specs.Prelude.{◌≡◌, ℕ, ◌*◌, ◌≤◌, false, List, [], ◌∷◌, sum, slice_index}
+use Rattle.std.specs.Prelude.{◌≡◌, ℕ, ◌*◌, ◌≤◌, Bool, false, List, [], ◌∷◌, sum, slice_index}
 use Rattle.sl_ratio.specs.declared.method.Divisor.{Divisor}
 use Rattle.sl_ratio.specs.declared.method.Divisor.TheVariants.{Adams, Dean, Hill, Webster, Jefferson}
 use Rattle.sl_stages.specs.methods.Field.{InField, no_minima}
@@ -107,6 +107,7 @@ pub record NamedTwice : Type 0 where
 pub record NoVotes : Type 0 where
   pub shares : (i : ℕ) → sum (0 ∷ []) * slice_index (1 ∷ []) i ≡ 1 * slice_index (0 ∷ []) i
   pub none : (method : Divisor) → ¬ Free method (0 ∷ []) 1 (1 ∷ [])
+  pub remainders : (prefer : Bool) → ¬ IsHamiltonAllocation prefer (0 ∷ []) 1 (1 ∷ [])
 
 -- the most seats for a vote are as few as they can be by these seats, which are no allocation by Jefferson's method
 pub record LeastMostByTie : Type 0 where

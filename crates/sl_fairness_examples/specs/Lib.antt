@@ -4,3 +4,6 @@ pub mod VotesThatCost
 pub mod Joined
 pub mod ByHand
 pub mod WinnersAbove
+pub mod Growing
+pub mod Measures
+pub mod Tables

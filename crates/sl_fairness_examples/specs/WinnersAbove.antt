@@ -40,3 +40,5 @@ pub record FewerAreEnough : Type 0 where
   pub ten_more : Free Webster (105 ∷ 5 ∷ []) 11 (10 ∷ 1 ∷ [])
   pub eleven_more : IsOnly (Free Webster (106 ∷ 5 ∷ []) 11) (11 ∷ 0 ∷ [])
   pub one_more : (at : ℕ → ℕ) → Changes (law_of_2023 at) at_the_threshold (votes 96) (10 ∷ 1 ∷ []) (11 ∷ 0 ∷ [])
+  -- which are no seats by the votes of both
+  pub of_both : IsOnly (Free Webster (96 ∷ 5 ∷ []) 11) (10 ∷ 1 ∷ [])

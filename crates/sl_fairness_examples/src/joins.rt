@@ -2,6 +2,7 @@
 
 ghost use Rattle.sl_fairness_examples.specs.Examples.{JeffersonByTie, AdamsByTie, WebsterLoses, WebsterWins};
 ghost use Rattle.sl_fairness_examples.specs.Joined.{JoinLoses, JoinWins, JeffersonWins, HamiltonLoses, HamiltonWins};
+ghost use Rattle.sl_fairness_examples.specs.Measures.{TwoByLot};
 
 /// Under Jefferson's method a join may lose a seat by a tie: of three seats, 1, 1 and 2 votes have one each, and 2, 0 and 2 votes
 /// have 1, 0 and 2.
@@ -49,4 +50,10 @@ pub fn hamilton_loses()
 /// And it may win one.
 pub fn hamilton_wins()
     ensures { HamiltonWins }
+{}
+
+/// By lot a join may win two seats under Jefferson's method, and lose two under Adams's: two of four equal entries have none of two seats and then both,
+/// or four of six and then two.
+pub fn two_by_lot()
+    ensures { TwoByLot }
 {}

@@ -4,6 +4,7 @@ ghost use Rattle.sl_fairness_examples.specs.Examples.{MoreVotesByLot, FewerVotes
 ghost use Rattle.sl_fairness_examples.specs.Examples.{EqualVotes, LargerHouseByTie, NamedTwice};
 ghost use Rattle.sl_fairness_examples.specs.Examples.{NoVotes, LeastMostByTie, MajorityByMinima, WebsterMajority, HalfOfEven, HouseGrows};
 ghost use Rattle.sl_fairness_examples.specs.Joined.{LessThanHalf};
+ghost use Rattle.sl_fairness_examples.specs.Measures.{OtherField, PutInPlace};
 
 /// Where first seats are infinite quotients, who alone gains votes may lose the seat by lot: 1 and 1 votes have 1 and 0 seats, and
 /// 2 and 1 votes have 0 and 1. So monotonicity, in votes as in populations, asks for a quotient that is finite.
@@ -67,7 +68,7 @@ pub fn house_grows()
     ensures { HouseGrows }
 {}
 
-/// Without votes nothing is exact: the shares are 0 whatever the seats, and one seat for nobody is no allocation.
+/// Without votes nothing is exact, and nothing deviates: the shares are 0 whatever the seats, and one seat for nobody is no allocation.
 pub fn no_votes()
     ensures { NoVotes }
 {}
@@ -81,4 +82,15 @@ pub fn least_most_by_tie()
 /// By Adams's, Dean's and Hill's methods 3 of 5 votes have 1 of 3 seats.
 pub fn less_than_half()
     ensures { LessThanHalf }
+{}
+
+/// By lot the votes do not count, but who has any does: of one seat, 1 and 0 votes have 1 and 0, and 1 and 1 votes may have 0 and 1.
+pub fn other_field()
+    ensures { OtherField }
+{}
+
+/// Another allocation of a part may be put in its place: of two seats, three equal entries have 0, 1 and 1; the first two may share their seat the other
+/// way, and then the three have 1, 0 and 1.
+pub fn put_in_place()
+    ensures { PutInPlace }
 {}

@@ -7,7 +7,7 @@ mod naming;
 mod rows;
 mod words;
 
-pub use faults::{explanation_sheet, fault_sheet, kind_word};
+pub use faults::{fault_sheets, kind_word};
 pub use full_names::FullNames;
 pub use naming::{Naming, law_name, stage_name};
 pub use rows::{Part, one_row_sheet, push_name, push_row, push_sheet, put_parts, titled};

@@ -12,8 +12,8 @@ pub struct Naming<'a> {
     pub full: &'a FullNames,
 }
 
-// A name of returns as text: all of its bytes are letters, digits and the like.
-fn text_of(name: &[u8]) -> &str {
+// A name of returns as text, whose bytes are letters, digits and the like; or another text that is UTF-8.
+pub(crate) fn text_of(name: &[u8]) -> &str {
     match std::str::from_utf8(name) {
         Ok(text) => text,
         Err(_) => "",

@@ -4,6 +4,7 @@ ghost use Rattle.std.specs.Prelude.{◌≡◌, IfErr, IfOk, false, is_some, leng
 ghost use Rattle.std.specs.Result.{is_ok};
 ghost use Rattle.sl_answers.specs.Ends.{end_status};
 ghost use Rattle.sl_count_outcomes.specs.Judged.{FitsJudged};
+ghost use Rattle.sl_count_value.specs.Counts.{IsMeantEnd};
 ghost use Rattle.sl_count_outcomes.specs.Outcomes.{FitsEnd, FitsOutcome};
 ghost use Rattle.sl_count_value.specs.declared.count.Records.TheVariants.{Kept};
 ghost use Rattle.sl_inputs.specs.Judging.{input_of};
@@ -44,6 +45,7 @@ pub fn answer_count(
     full: &FullNames,
     shape: Shape,
 ) -> Result<Answer, NoMemory>
+    requires meant { IsMeantEnd Kept (book_of book.now.book) returns.now outcome.now.end }
     requires fits { FitsOutcome (book_of book.now.book) returns.now outcome.now }
     ensures { IfOk result (λ a. a.status ≡ end_status outcome.now.end) }
 {
@@ -68,6 +70,7 @@ fn named_answer(
     names: &Result<FullNames, Answer>,
     shape: Shape,
 ) -> Result<Result<Answer, Answer>, NoMemory>
+    requires meant { IsMeantEnd Kept (book_of counting.now.book.book) counting.now.returns counting.now.outcome.end }
     requires fits { FitsOutcome (book_of counting.now.book.book) counting.now.returns counting.now.outcome }
     ensures shown { IfOk result (λ r. IfOk r (λ a. a.status ≡ end_status counting.now.outcome.end)) }
     ensures refused { IfOk result (λ r. IfErr r (λ a. (is_ok names.now ≡ false) × (a.status ≡ status.Refused))) }

@@ -5,9 +5,9 @@ use sl_naming::{
     Naming, Part, kind_word, law_name, push_row, push_sheet, put_parts, stage_name, titled,
 };
 use sl_ratio::NoMemory;
-use sl_results::{Column, Counted, seats_in_all, seats_of};
+use sl_results::{Column, Counted, open_winners, seats_in_all, seats_of};
 use sl_sheets::{Form, Head, Look, Row, Sheet};
-use sl_stages::{Book, CheckedBook, LegalFault, Placed, Returns, Table};
+use sl_stages::{Book, CheckedBook, LegalFault, Returns};
 use std::alloc::Global;
 
 /// A rulebook by the word that names it, with what it comes to: a count, or a legal fault.
@@ -32,17 +32,6 @@ const COMPARE: [Form; 2] = [
     ("party", "", Look::Hidden),
     ("party_name", "party", Look::Text(15)),
 ];
-
-// How many winners are not seated.
-fn open_winners(table: &Table) -> u64 {
-    let mut winners = 0u64;
-    for place in table.placed() {
-        if let Placed::Unseated = place {
-            winners = winners.saturating_add(1);
-        }
-    }
-    winners
-}
 
 // The column of a stage of that name.
 fn column_of<'a>(book: &Book, counted: &'a Counted, name: &[u8]) -> Option<&'a Column> {

@@ -1,5 +1,9 @@
 //! The sheets of one count.
 
+ghost use Rattle.std.specs.Prelude.{IfSome};
+ghost use Rattle.sl_count_value.specs.Counts.{HoldsStages};
+ghost use Rattle.sl_stages.specs.book.Books.{book_of};
+
 use crate::covering::covering_sheet;
 use crate::parties::{
     UNKNOWN_SEATS, lists_sheet, open_sheet, parties_sheet, seat_parts, singles_sheet,
@@ -7,11 +11,9 @@ use crate::parties::{
 use crate::scopes::{entries_sheet, scopes_sheet};
 use sl_naming::{Naming, Part, law_name, one_row_sheet, push_sheet};
 use sl_ratio::NoMemory;
-use sl_results::{
-    Counted, Distribution, Scoped, Setting, distribution_of, scopes_of, seats_in_all,
-};
+use sl_results::{Counted, Scoped, Setting, seats_in_all, stage_scopes};
 use sl_sheets::{Form, Look, Sheet};
-use sl_stages::{Book, Expr, Returns};
+use sl_stages::Book;
 use std::alloc::Global;
 
 const LAW: [Form; 5] = [
@@ -39,46 +41,20 @@ fn law_sheet(
     one_row_sheet(alloc, naming, "law", "Law", &LAW, &parts)
 }
 
-// Adds the scopes of what a stage distributes.
-fn push_distributed(
+// The scopes of all stages.
+fn all_scopes(
     alloc: Global,
-    scopes: &mut Vec<Scoped>,
-    returns: &Returns,
-    counted: &Counted,
-    stage: usize,
-    what: &Distribution,
-) -> Result<(), NoMemory> {
-    let mut found = scopes_of(alloc, returns, stage, what, counted.table.steps())?;
-    scopes.append(&mut found)?;
-    Ok(())
-}
-
-// Adds the scopes of the stage of that number, which has this expression.
-fn push_scopes(
-    alloc: Global,
-    scopes: &mut Vec<Scoped>,
     setting: &Setting<'_>,
     counted: &Counted,
-    stage: usize,
-    expr: &Expr,
-) -> Result<(), NoMemory> {
-    match distribution_of(alloc, setting, counted.columns.as_slice(), expr)? {
-        Some(what) => push_distributed(alloc, scopes, setting.returns, counted, stage, &what),
-        None => Ok(()),
+) -> Result<Vec<Scoped>, NoMemory>
+    requires { HoldsStages (book_of setting.now.book.now) setting.now.returns.now counted.now.columns.items }
+{
+    let mut scopes: Vec<Scoped> = Vec::new(alloc);
+    for stage in 0..setting.book.stages.len() {
+        let mut found = stage_scopes(alloc, setting, counted, stage)?;
+        scopes.append(&mut found)?;
     }
-}
-
-// Adds the scopes of all stages.
-fn push_all_scopes(
-    alloc: Global,
-    scopes: &mut Vec<Scoped>,
-    setting: &Setting<'_>,
-    counted: &Counted,
-) -> Result<(), NoMemory> {
-    for (number, stage) in setting.book.stages.iter().enumerate() {
-        push_scopes(alloc, scopes, setting, counted, number, &stage.expr)?;
-    }
-    Ok(())
+    Ok(scopes)
 }
 
 // Adds the sheets of these scopes.
@@ -103,9 +79,10 @@ fn push_all_scope_sheets(
     setting: &Setting<'_>,
     naming: &Naming<'_>,
     counted: &Counted,
-) -> Result<(), NoMemory> {
-    let mut scopes: Vec<Scoped> = Vec::new(alloc);
-    push_all_scopes(alloc, &mut scopes, setting, counted)?;
+) -> Result<(), NoMemory>
+    requires { HoldsStages (book_of setting.now.book.now) setting.now.returns.now counted.now.columns.items }
+{
+    let scopes = all_scopes(alloc, setting, counted)?;
     push_scope_sheets(alloc, sheets, setting.book, naming, scopes.as_slice())
 }
 
@@ -116,7 +93,9 @@ fn push_counted(
     setting: &Setting<'_>,
     naming: &Naming<'_>,
     counted: &Counted,
-) -> Result<(), NoMemory> {
+) -> Result<(), NoMemory>
+    requires { HoldsStages (book_of setting.now.book.now) setting.now.returns.now counted.now.columns.items }
+{
     let table = &counted.table;
     push_sheet(sheets, lists_sheet(alloc, naming, table))?;
     push_all_scope_sheets(alloc, sheets, setting, naming, counted)?;
@@ -136,7 +115,9 @@ pub fn report_sheets(
     setting: &Setting<'_>,
     naming: &Naming<'_>,
     counted: Option<&Counted>,
-) -> Result<Vec<Sheet>, NoMemory> {
+) -> Result<Vec<Sheet>, NoMemory>
+    requires { IfSome counted (λ c. HoldsStages (book_of setting.now.book.now) setting.now.returns.now c.now.columns.items) }
+{
     let mut sheets: Vec<Sheet> = Vec::new(alloc);
     push_sheet(&mut sheets, law_sheet(alloc, setting, naming, counted))?;
     push_sheet(&mut sheets, parties_sheet(alloc, setting, naming, counted))?;

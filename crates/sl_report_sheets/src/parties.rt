@@ -2,7 +2,7 @@
 
 use sl_naming::{Naming, Part, push_row, titled};
 use sl_ratio::NoMemory;
-use sl_results::{Counted, PartyPart, Seats, Setting, seats_of};
+use sl_results::{Counted, Seats, Setting, all_votes, seats_of};
 use sl_sheets::{Form, Look, Sheet};
 use sl_stages::{ListSeats, Placed, Table};
 use std::alloc::Global;
@@ -53,15 +53,6 @@ pub(crate) fn seat_parts(seats: Seats) -> [Part<'static>; 3] {
     ]
 }
 
-// All valid votes.
-fn valid_votes(parts: &[PartyPart]) -> u64 {
-    let mut valid = 0u64;
-    for part in parts {
-        valid = valid.saturating_add(part.votes.valid);
-    }
-    valid
-}
-
 // Adds the rows of the parties.
 fn push_parties(
     alloc: Global,
@@ -70,7 +61,7 @@ fn push_parties(
     naming: &Naming<'_>,
     counted: Option<&Counted>,
 ) -> Result<(), NoMemory> {
-    let valid = valid_votes(setting.parts.as_slice());
+    let valid = all_votes(setting.returns).valid;
     for (party, part) in setting.parts.iter().enumerate() {
         let [seats, direct, vacant] = match counted {
             Some(counted) => seat_parts(seats_of(&counted.table, setting.returns, party)),

@@ -2,9 +2,9 @@
 
 use sl_naming::{Naming, Part, push_row, push_sheet, shape_word, stage_name, titled, unit_word};
 use sl_ratio::NoMemory;
-use sl_results::{Column, Counted, Setting, item_at};
+use sl_results::{Column, Counted, Setting, entries_of, number_of, sum_of};
 use sl_sheets::{Form, Look, Sheet};
-use sl_stages::{Book, Expr, Item, Scope, Shape, Unit, Word};
+use sl_stages::{Book, Expr, Scope, Shape, Unit, Word};
 use std::alloc::Global;
 
 const STAGES: [Form; 5] = [
@@ -65,14 +65,6 @@ fn units(alloc: Global, book: &Book) -> Result<Vec<Unit>, NoMemory> {
     Ok(units)
 }
 
-fn sum_of(column: &Column) -> u64 {
-    let mut sum = 0u64;
-    for cell in &column.cells {
-        sum = sum.saturating_add(*cell);
-    }
-    sum
-}
-
 // Adds the row of a stage.
 fn push_stage(
     alloc: Global,
@@ -122,36 +114,34 @@ fn stages_sheet(
     Ok(sheet)
 }
 
-// Whether a column has a line for an entry: not for a pair of Land and party without a list.
-fn has_line(naming: &Naming<'_>, entry: Item) -> bool {
-    let returns = naming.returns;
-    match entry {
-        Item::List(land, party) => {
-            land < returns.lands() && party < returns.parties() && returns.is_list(land, party)
-        }
-        _ => true,
-    }
-}
-
-// Adds the row of an entry of a column of that shape.
-fn push_cell(
+// Adds the row of a column of one number.
+fn push_one(
     alloc: Global,
     sheet: &mut Sheet,
     stage: &str,
     naming: &Naming<'_>,
-    shape: Shape,
-    entry: Item,
-    value: u64,
+    column: &Column,
 ) -> Result<(), NoMemory> {
-    let stage = Part::Text(stage);
-    let value = Part::Number(value);
-    if let Shape::One = shape {
-        let all = Part::Text("all");
-        push_row(alloc, sheet, naming, &[stage, all, all, value])
-    } else {
-        let names = Part::Entry(entry, Scope::All);
-        push_row(alloc, sheet, naming, &[stage, names, value])
+    let all = Part::Text("all");
+    let value = Part::Number(sum_of(column));
+    let parts = [Part::Text(stage), all, all, value];
+    push_row(alloc, sheet, naming, &parts)
+}
+
+// Adds the rows of the entries of a column.
+fn push_entries(
+    alloc: Global,
+    sheet: &mut Sheet,
+    stage: &str,
+    naming: &Naming<'_>,
+    column: &Column,
+) -> Result<(), NoMemory> {
+    for entry in &entries_of(alloc, naming.returns, column.shape)? {
+        let value = Part::Number(number_of(naming.returns, column, *entry));
+        let names = Part::Entry(*entry, Scope::All);
+        push_row(alloc, sheet, naming, &[Part::Text(stage), names, value])?;
     }
+    Ok(())
 }
 
 // Adds the rows of a stage's column.
@@ -162,13 +152,12 @@ fn push_cells(
     naming: &Naming<'_>,
     column: &Column,
 ) -> Result<(), NoMemory> {
-    for (place, value) in column.cells.iter().enumerate() {
-        let entry = item_at(naming.returns, column.shape, place);
-        if has_line(naming, entry) {
-            push_cell(alloc, sheet, stage, naming, column.shape, entry, *value)?;
-        }
+    match column.shape {
+        Shape::One => push_one(alloc, sheet, stage, naming, column),
+        Shape::Party => push_entries(alloc, sheet, stage, naming, column),
+        Shape::Land => push_entries(alloc, sheet, stage, naming, column),
+        Shape::List => push_entries(alloc, sheet, stage, naming, column),
     }
-    Ok(())
 }
 
 // The column of a stage.

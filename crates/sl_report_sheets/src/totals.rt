@@ -4,10 +4,11 @@ use crate::warnings::warnings_sheet;
 use sl_naming::{Naming, Part, one_row_sheet, push_row, push_sheet, titled};
 use sl_ratio::NoMemory;
 use sl_results::{
-    PartyPart, Votes, all_votes, independents_in, land_votes, votes_short, winners_in, winners_of,
+    PartyPart, Votes, all_lists, all_people, all_votes, independents_in, lacking_votes,
+    lacking_winners, land_votes, lists_of, winners_at, winners_in, winners_of,
 };
 use sl_sheets::{Form, Look, Sheet};
-use sl_stages::{Book, Cond, Returns};
+use sl_stages::{Book, Cond};
 use std::alloc::Global;
 
 const TOTALS: [Form; 8] = [
@@ -53,36 +54,6 @@ const WINNERS: [Form; 5] = [
     ("winners", "winners", Look::Number),
 ];
 
-/// How many lists a party has.
-pub(crate) fn lists_of(returns: &Returns, party: usize) -> u64 {
-    let mut lists = 0u64;
-    if party < returns.parties() {
-        for land in 0..returns.lands() {
-            if returns.is_list(land, party) {
-                lists = lists.saturating_add(1);
-            }
-        }
-    }
-    lists
-}
-
-// How many lists there are.
-fn all_lists(returns: &Returns) -> u64 {
-    let mut lists = 0u64;
-    for party in 0..returns.parties() {
-        lists = lists.saturating_add(lists_of(returns, party));
-    }
-    lists
-}
-
-fn people(returns: &Returns) -> u64 {
-    let mut people = 0u64;
-    for land in 0..returns.lands() {
-        people = people.saturating_add(u64::from(returns.population(land)));
-    }
-    people
-}
-
 // The sums of all returns.
 fn totals_sheet(alloc: Global, naming: &Naming<'_>) -> Result<Sheet, NoMemory> {
     let returns = naming.returns;
@@ -90,7 +61,7 @@ fn totals_sheet(alloc: Global, naming: &Naming<'_>) -> Result<Sheet, NoMemory> {
     let parts = [
         Part::Number(votes.valid),
         Part::Number(votes.counted),
-        Part::Number(people(returns)),
+        Part::Number(all_people(returns)),
         Part::Number(returns.lands() as u64),
         Part::Number(returns.parties() as u64),
         Part::Number(all_lists(returns)),
@@ -98,45 +69,6 @@ fn totals_sheet(alloc: Global, naming: &Naming<'_>) -> Result<Sheet, NoMemory> {
         Part::Number(winners_of(returns, None)),
     ];
     one_row_sheet(alloc, naming, "totals", "Totals", &TOTALS, &parts)
-}
-
-// The lesser of two numbers, where there are two.
-fn lesser(found: Option<u64>, other: Option<u64>) -> Option<u64> {
-    match (found, other) {
-        (Some(found), Some(other)) => Some(found.min(other)),
-        (Some(found), None) => Some(found),
-        (None, other) => other,
-    }
-}
-
-// The votes that a party lacks for a condition on votes, where it meets none.
-fn lacking_votes(conditions: &[Cond], part: PartyPart, valid: u64) -> Option<u64> {
-    if part.met.is_some() {
-        return None;
-    }
-    let mut lacking = None;
-    for cond in conditions {
-        if let Cond::Valid { share, per } = cond {
-            let short = votes_short(share.value, *per, part.votes.valid, valid);
-            lacking = lesser(lacking, short);
-        }
-    }
-    lacking
-}
-
-// The winners that a party lacks for a condition on winners, where it meets none.
-fn lacking_winners(conditions: &[Cond], part: PartyPart) -> Option<u64> {
-    if part.met.is_some() {
-        return None;
-    }
-    let mut lacking = None;
-    for cond in conditions {
-        if let Cond::Winners { least } = cond {
-            let short = u64::from(*least).saturating_sub(part.winners);
-            lacking = lesser(lacking, Some(short));
-        }
-    }
-    lacking
 }
 
 // Adds the row of a party, of so many valid votes in all.
@@ -219,20 +151,6 @@ fn lands_sheet(alloc: Global, naming: &Naming<'_>) -> Result<Sheet, NoMemory> {
         push_land(alloc, &mut sheet, naming, land, people, votes)?;
     }
     Ok(sheet)
-}
-
-// How many winners of a party there are in a Land.
-fn winners_at(returns: &Returns, land: usize, party: usize) -> u64 {
-    let mut winners = 0u64;
-    for win in 0..returns.wins() {
-        let win = returns.win(win);
-        if let Some(of) = win.party {
-            if of == party && win.land == land {
-                winners = winners.saturating_add(1);
-            }
-        }
-    }
-    winners
 }
 
 // Adds the winners of a Land by party.

@@ -1,10 +1,9 @@
 //! Warnings of what is likely a mistake in returns.
 
 use crate::stages::stage_number;
-use crate::totals::lists_of;
 use sl_naming::{Naming, titled};
 use sl_ratio::NoMemory;
-use sl_results::{PartyPart, winners_in};
+use sl_results::{PartyPart, lists_of, winners_in};
 use sl_sheets::{Form, Look, Row, Sheet};
 use sl_stages::{Book, Cond, Lot, Returns};
 use std::alloc::{AllocError, Global};

@@ -1,6 +1,11 @@
 //! The winners of lists with more winners than seats, ranked by their shares of first votes.
 
+ghost use Rattle.std.specs.Prelude.{◌≡◌, ◌&&◌, ◌++◌, ◌∷◌, [], IfOk, OnOk, false, count_by, if◌then◌else◌, option_map, slice_get, unwrap_or};
+ghost use Rattle.sl_results.specs.Ranks.{AddsContested, AreByRank, AreContested, is_above, is_contested, is_on, rank_of, ranked_of, winners_of_list};
+ghost use Rattle.sl_results.specs.Seats.{is_seated};
+
 use crate::facts::Setting;
+use crate::votes::one_if;
 use sl_ratio::NoMemory;
 use sl_stages::{ListSeats, Placed, Returns, Table, Win};
 use std::alloc::Global;
@@ -19,7 +24,9 @@ pub struct Ranked {
 }
 
 // Whether a winner is of a list.
-fn is_on(list: ListSeats, win: Win) -> bool {
+fn is_on(list: ListSeats, win: Win) -> bool
+    ensures { result ≡ is_on list win }
+{
     match win.party {
         Some(party) => party == list.party && win.land == list.land,
         None => false,
@@ -27,41 +34,117 @@ fn is_on(list: ListSeats, win: Win) -> bool {
 }
 
 // Whether the share of the first one is greater than that of the second.
-fn is_above(first: Win, second: Win) -> bool {
-    let across = u64::from(first.first).saturating_mul(u64::from(second.valid));
-    let back = u64::from(second.first).saturating_mul(u64::from(first.valid));
-    across > back
+fn is_above(first: Win, second: Win) -> bool
+    ensures { result ≡ is_above second first }
+{
+    let across = u64::from(first.first) * u64::from(second.valid);
+    let back = u64::from(second.first) * u64::from(first.valid);
+    back < across
 }
 
-// The rank of a winner among those of a list, and how many there are.
-fn rank_of(returns: &Returns, list: ListSeats, win: Win) -> u64 {
-    let mut rank = 1u64;
-    for other in 0..returns.wins() {
-        let other = returns.win(other);
-        if is_on(list, other) && is_above(other, win) {
-            rank = rank.saturating_add(1);
-        }
+// Whether a winner is of a list and has a greater share than another.
+fn is_ahead(list: ListSeats, win: Win, other: Win) -> bool
+    ensures { result ≡ (is_on list other && is_above win other) }
+{
+    is_on(list, other) && is_above(other, win)
+}
+
+// The rank of a winner among those of a list: 1 more than those with a greater share.
+fn rank_of(returns: &Returns, list: ListSeats, win: Win) -> u64
+    ensures { result ≡ rank_of list win returns.now.wins }
+{
+    let mut ahead = 0u64;
+    for number in 0..returns.wins() {
+        ahead += one_if(is_ahead(list, win, returns.win(number)));
     }
-    rank
+    ahead.saturating_add(1)
 }
 
 // How many winners a list has.
-fn winners_on(returns: &Returns, list: ListSeats) -> u64 {
+fn winners_on(returns: &Returns, list: ListSeats) -> u64
+    ensures { result ≡ count_by (is_on list) returns.now.wins }
+{
     let mut winners = 0u64;
-    for win in 0..returns.wins() {
-        if is_on(list, returns.win(win)) {
-            winners = winners.saturating_add(1);
-        }
+    for number in 0..returns.wins() {
+        winners += one_if(is_on(list, returns.win(number)));
     }
     winners
 }
 
-// Whether the winner of that number is seated.
-fn is_seated(table: &Table, win: usize) -> bool {
-    match table.placed().get(win) {
-        Some(Placed::OnList) | Some(Placed::Single) => true,
-        _ => false,
+// Whether a winner with that place sits in the house.
+fn has_seat(place: Placed) -> bool
+    ensures { result ≡ is_seated place }
+{
+    match place {
+        Placed::OnList => true,
+        Placed::Single => true,
+        Placed::Unseated => false,
     }
+}
+
+// Whether the winner of that number is seated.
+fn is_seated(table: &Table, win: usize) -> bool
+    ensures { result ≡ unwrap_or (option_map is_seated (slice_get table.now.placed win)) false }
+{
+    match table.placed().get(win) {
+        Some(place) => has_seat(*place),
+        None => false,
+    }
+}
+
+// The winner of that number, as one of a list.
+fn ranked_of(returns: &Returns, table: &Table, list: ListSeats, number: usize, win: Win) -> Ranked
+    ensures { result ≡ ranked_of table.now returns.now list (number, win) }
+{
+    Ranked {
+        land: list.land,
+        party: list.party,
+        win: number,
+        first: win.first,
+        valid: win.valid,
+        rank: rank_of(returns, list, win),
+        seated: is_seated(table, number),
+    }
+}
+
+// Adds the winner of that number, if the list is the winner's.
+fn push_ranked(
+    winners: &mut Vec<Ranked>,
+    returns: &Returns,
+    table: &Table,
+    list: ListSeats,
+    number: usize,
+    win: Win,
+) -> Result<(), NoMemory>
+    ensures { OnOk result (winners.new.items ≡ winners.old.items ++ (if is_on list win then ranked_of table.now returns.now list (number, win) ∷ [] else [])) }
+{
+    if is_on(list, win) {
+        winners.push(ranked_of(returns, table, list, number, win))?;
+    }
+    Ok(())
+}
+
+// The winners of a list, in the order of their records.
+fn winners_of_list(
+    alloc: Global,
+    returns: &Returns,
+    table: &Table,
+    list: ListSeats,
+) -> Result<Vec<Ranked>, NoMemory>
+    ensures { IfOk result (λ winners. winners.items ≡ winners_of_list table.now returns.now list) }
+{
+    let mut winners: Vec<Ranked> = Vec::new(alloc);
+    for number in 0..returns.wins() {
+        push_ranked(
+            &mut winners,
+            returns,
+            table,
+            list,
+            number,
+            returns.win(number),
+        )?;
+    }
+    Ok(winners)
 }
 
 // The winners of a list, by rank.
@@ -70,24 +153,43 @@ fn by_rank(
     returns: &Returns,
     table: &Table,
     list: ListSeats,
-) -> Result<Vec<Ranked>, NoMemory> {
-    let mut winners: Vec<Ranked> = Vec::new(alloc);
-    for number in 0..returns.wins() {
-        let win = returns.win(number);
-        if is_on(list, win) {
-            winners.push(Ranked {
-                land: list.land,
-                party: list.party,
-                win: number,
-                first: win.first,
-                valid: win.valid,
-                rank: rank_of(returns, list, win),
-                seated: is_seated(table, number),
-            })?;
-        }
-    }
-    winners.sort_by_key(|winner| winner.rank)?;
+) -> Result<Vec<Ranked>, NoMemory>
+    ensures { IfOk result (λ winners. AreByRank (winners_of_list table.now returns.now list) winners.items) }
+{
+    let mut winners = winners_of_list(alloc, returns, table, list)?;
+    winners.sort_by_key(
+        |winner|
+            ensures { result ≡ winner.now.rank }
+        { winner.rank },
+    )?;
     Ok(winners)
+}
+
+// Whether a list of a party that takes part has more winners than seats.
+fn is_contested(setting: &Setting<'_>, list: ListSeats) -> bool
+    ensures { result ≡ is_contested setting.now.book.now.eligible.items setting.now.returns.now list }
+{
+    list.seats < winners_on(setting.returns, list)
+        && list.party < setting.returns.parties()
+        && setting.takes_part(list.party)
+}
+
+// Adds the winners of a list by rank, if the list is contested.
+fn push_contested(
+    alloc: Global,
+    winners: &mut Vec<Ranked>,
+    setting: &Setting<'_>,
+    table: &Table,
+    list: ListSeats,
+) -> Result<(), NoMemory>
+    ensures { OnOk result (AddsContested setting.now.book.now.eligible.items table.now setting.now.returns.now list winners.old.items winners.new.items) }
+{
+    if !is_contested(setting, list) {
+        return Ok(());
+    }
+    let ranked = by_rank(alloc, setting.returns, table, list)?;
+    winners.extend_from_slice(ranked.as_slice())?;
+    Ok(())
 }
 
 /// The winners of each list of a party that takes part which has more winners than seats: by list, and then by rank.
@@ -99,14 +201,12 @@ pub fn contested(
     alloc: Global,
     setting: &Setting<'_>,
     table: &Table,
-) -> Result<Vec<Ranked>, NoMemory> {
+) -> Result<Vec<Ranked>, NoMemory>
+    ensures { IfOk result (λ found. AreContested setting.now.book.now.eligible.items table.now setting.now.returns.now found.items) }
+{
     let mut winners = Vec::new(alloc);
     for list in table.lists() {
-        let is_short = list.seats < winners_on(setting.returns, *list);
-        if is_short && setting.takes_part(list.party) {
-            let ranked = by_rank(alloc, setting.returns, table, *list)?;
-            winners.extend_from_slice(ranked.as_slice())?;
-        }
+        push_contested(alloc, &mut winners, setting, table, *list)?;
     }
     Ok(winners)
 }

@@ -1,5 +1,8 @@
 //! Fractions, and their decimals.
 
+ghost use Rattle.std.specs.Prelude.{◌≡◌, ◌*◌, ◌^◌, IfSome};
+ghost use Rattle.sl_margins.specs.Decimals.{IsCut};
+
 use sl_margins::{Decimal, MAX_PLACES, cut};
 use sl_ratio::{MAX_NUMERATOR, NoMemory};
 use std::alloc::Global;
@@ -11,34 +14,31 @@ pub struct Fraction {
     pub den: u128,
 }
 
-// So many units of a place behind the point make one.
-fn units_of_one(places: u32) -> u128 {
-    let mut units = 1u128;
-    for _ in 0..places {
-        units = units.saturating_mul(10);
-    }
-    units
-}
-
 impl Fraction {
     /// So many of so many, in parts of a hundred.
-    pub fn percent(part: u64, whole: u64) -> Fraction {
+    pub fn percent(part: u64, whole: u64) -> Fraction
+        ensures { result ≡ record { num = 100 * part; den = whole } }
+    {
         Fraction {
-            num: u128::from(part).saturating_mul(100),
+            num: u128::from(part) * 100,
             den: u128::from(whole),
         }
     }
 
     /// A weight by a divisor.
-    pub fn quotient(weight: u64, divisor: Decimal) -> Fraction {
+    pub fn quotient(weight: u64, divisor: Decimal) -> Fraction
+        ensures { result ≡ record { num = weight * 10 ^ divisor.places; den = divisor.digits } }
+    {
         Fraction {
-            num: u128::from(weight).saturating_mul(units_of_one(divisor.places())),
+            num: u128::from(weight) * 10u128.pow(divisor.places()),
             den: divisor.digits(),
         }
     }
 
     /// The fraction in decimals of so many places, cut and not rounded; `None` without a denominator, or past the range of quotients.
-    pub fn decimal(&self, places: u32) -> Option<Decimal> {
+    pub fn decimal(&self, places: u32) -> Option<Decimal>
+        ensures { IfSome result (λ d. IsCut (record { num = self.now.num; den = self.now.den }) places d) }
+    {
         if self.num > MAX_NUMERATOR || self.den == 0 || places > MAX_PLACES {
             return None;
         }

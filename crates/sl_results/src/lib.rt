@@ -4,22 +4,28 @@
 
 mod columns;
 mod contests;
+mod distributed;
 mod facts;
 mod fraction;
+mod lacking;
 mod margins;
 mod parts;
 mod places;
 mod scopes;
 mod seats;
+mod totals;
 mod votes;
 
-pub use columns::{Distribution, distribution_of};
+pub use columns::sum_of;
 pub use contests::{Ranked, contested};
-pub use facts::Setting;
+pub use distributed::stage_scopes;
+pub use facts::{Setting, winners_at};
 pub use fraction::Fraction;
-pub use parts::{PartyPart, parts_of, votes_short};
-pub use places::item_at;
-pub use scopes::{Entry, Scoped, scopes_of};
+pub use lacking::{lacking_votes, lacking_winners};
+pub use parts::{PartyPart, parts_of};
+pub use places::{entries_of, number_of};
+pub use scopes::{Entry, Scoped};
 pub use seats::{Seats, seats_in_all, seats_of};
 pub use sl_count_value::{Column, Counted};
+pub use totals::{all_lists, all_people, lists_of, open_winners};
 pub use votes::{Votes, all_votes, independents_in, land_votes, winners_in, winners_of};

@@ -1,11 +1,18 @@
 //! The scopes of a stage.
 
-use crate::columns::{Distribution, number_at};
+ghost use Rattle.std.specs.Prelude.{◌≡◌, ◌++◌, ◌∷◌, [], None, Some, IfOk, OnOk, map, filter, length, slice_get, sum_by, ◌<◌};
+ghost use Rattle.std.specs.List.{zip};
+ghost use Rattle.sl_ratio.specs.declared.method.Method.TheVariants as by;
+ghost use Rattle.sl_results.specs.Places.{IsScope, items_in};
+ghost use Rattle.sl_results.specs.Scopes.{Follows, IsScoped, entry_of, is_shown, quota_entry, shown_entries, with_margins};
+ghost use Rattle.sl_results.specs.Sums.{capped};
+
+use crate::columns::Distribution;
 use crate::fraction::Fraction;
 use crate::margins::{Margins, margins_of};
-use crate::places::{is_in, item_at, scope_at, scope_count, seats_by_place};
+use crate::places::{items_in, number_of, seats_of};
 use sl_margins::Decimal;
-use sl_ratio::{Divisor, MAX_SEATS, Method, NoMemory};
+use sl_ratio::{Divisor, Method, NoMemory};
 use sl_stages::{Item, Returns, Scope, SeatStep};
 use std::alloc::Global;
 
@@ -39,171 +46,153 @@ pub struct Scoped {
     pub next: Vec<usize>,
 }
 
-// The entry at a place, without its quotient.
-fn entry_at(returns: &Returns, what: &Distribution, seats: &[u64], place: usize) -> Entry {
+// An entry without a quotient.
+fn entry_of(
+    returns: &Returns,
+    stage: usize,
+    what: &Distribution,
+    steps: &[SeatStep],
+    item: Item,
+) -> Entry
+    ensures { result ≡ entry_of returns.now stage what.now steps.now item }
+{
     let minimum = match &what.minima {
-        Some(minima) => number_at(minima, place),
+        Some(minima) => number_of(returns, minima, item),
         None => 0,
     };
     Entry {
-        item: item_at(returns, what.votes.shape, place),
-        weight: number_at(&what.votes, place),
-        seats: seats.get(place).copied().unwrap_or(0),
+        item,
+        weight: number_of(returns, &what.votes, item),
+        seats: seats_of(steps, stage, item),
         minimum,
         quotient: None,
         missing: None,
     }
 }
 
-// The entries of a scope that have a weight, seats or a minimum.
-fn entries(
-    alloc: Global,
-    returns: &Returns,
-    what: &Distribution,
-    seats: &[u64],
-    scope: Scope,
-) -> Result<Vec<Entry>, NoMemory> {
-    let mut entries: Vec<Entry> = Vec::new(alloc);
-    for place in 0..what.votes.cells.len() {
-        if is_in(scope, place, returns.parties()) {
-            let entry = entry_at(returns, what, seats, place);
-            if entry.weight > 0 || entry.seats > 0 || entry.minimum > 0 {
-                entries.push(entry)?;
-            }
-        }
-    }
-    Ok(entries)
-}
-
-// A scope of these entries, without margins.
-fn plain(
-    alloc: Global,
-    stage: usize,
-    scope: Scope,
-    what: &Distribution,
-    entries: Vec<Entry>,
-) -> Scoped {
-    let mut seats = 0u64;
-    let mut weight = 0u64;
-    for entry in &entries {
-        seats = seats.saturating_add(entry.seats);
-        weight = weight.saturating_add(entry.weight);
-    }
-    Scoped {
-        stage,
-        scope,
-        method: what.method,
-        grows: what.grows,
-        has_minima: what.minima.is_some(),
-        seats,
-        weight,
-        divisor: None,
-        quota: None,
-        entries,
-        last: Vec::new(alloc),
-        next: Vec::new(alloc),
-    }
-}
-
-fn weights(alloc: Global, entries: &[Entry]) -> Result<Vec<u64>, NoMemory> {
-    let mut weights = Vec::new(alloc);
-    for entry in entries {
-        weights.push(entry.weight)?;
-    }
-    Ok(weights)
-}
-
-// The seats of the entries, none past the limit of a scope.
-fn held(alloc: Global, entries: &[Entry]) -> Result<Vec<u32>, NoMemory> {
-    let mut held = Vec::new(alloc);
-    for entry in entries {
-        held.push(u32::try_from(entry.seats).unwrap_or(MAX_SEATS))?;
-    }
-    Ok(held)
-}
-
-// Gives each entry its quotient by the divisor, and without minima the votes that it lacks.
-fn with_quotients(entries: &mut Vec<Entry>, found: &Margins, is_plain: bool) {
-    for (number, entry) in entries.iter_mut().enumerate() {
-        entry.quotient = match found.divisor {
-            Some(divisor) => Some(Fraction::quotient(entry.weight, divisor)),
-            None => None,
-        };
-        if is_plain {
-            entry.missing = found.missing.get(number).copied().unwrap_or(None);
-        }
-    }
-}
-
-// Gives a scope of a divisor method its margins, where its seats are an allocation.
-fn with_margins(alloc: Global, scoped: &mut Scoped, method: Divisor) -> Result<(), NoMemory> {
-    let weights = weights(alloc, scoped.entries.as_slice())?;
-    let held = held(alloc, scoped.entries.as_slice())?;
-    let is_plain = !scoped.has_minima;
-    if let Some(found) = margins_of(alloc, method, weights.as_slice(), held.as_slice())? {
-        with_quotients(&mut scoped.entries, &found, is_plain);
-        scoped.divisor = found.divisor;
-        scoped.last = found.last;
-        scoped.next = found.next;
+// Adds an entry that has a weight, seats or a minimum.
+fn push_shown(entries: &mut Vec<Entry>, entry: Entry) -> Result<(), NoMemory>
+    ensures { OnOk result (entries.new.items ≡ entries.old.items ++ filter is_shown (entry ∷ [])) }
+{
+    if entry.weight > 0 || entry.seats > 0 || entry.minimum > 0 {
+        entries.push(entry)?;
     }
     Ok(())
 }
 
-// Gives a scope of largest remainders its quota, and each entry its quotient by it.
-fn with_quota(scoped: &mut Scoped) {
-    let seats = u128::from(scoped.seats);
-    let weight = u128::from(scoped.weight);
-    if seats == 0 || weight == 0 {
-        return;
-    }
-    scoped.quota = Some(Fraction {
-        num: weight,
-        den: seats,
-    });
-    for entry in scoped.entries.iter_mut() {
-        entry.quotient = Some(Fraction {
-            num: u128::from(entry.weight).saturating_mul(seats),
-            den: weight,
-        });
-    }
-}
-
-// A scope with all that is known of it.
-fn scope_with(
-    alloc: Global,
-    stage: usize,
-    scope: Scope,
-    what: &Distribution,
-    entries: Vec<Entry>,
-) -> Result<Scoped, NoMemory> {
-    let mut scoped = plain(alloc, stage, scope, what, entries);
-    match what.method {
-        Method::Divisor(method) => with_margins(alloc, &mut scoped, method)?,
-        Method::Hamilton => with_quota(&mut scoped),
-    }
-    Ok(scoped)
-}
-
-/// The scopes of a stage that have an entry, by what it distributes and by the steps that won its seats.
-///
-/// # Errors
-///
-/// Want of memory.
-pub fn scopes_of(
+/// The entries of a scope that have a weight, seats or a minimum.
+pub(crate) fn shown_entries(
     alloc: Global,
     returns: &Returns,
     stage: usize,
     what: &Distribution,
     steps: &[SeatStep],
-) -> Result<Vec<Scoped>, NoMemory> {
-    let seats = seats_by_place(alloc, returns, steps, stage, what.votes.cells.len())?;
-    let mut scopes = Vec::new(alloc);
-    for number in 0..scope_count(returns, what.seats.shape) {
-        let scope = scope_at(what.seats.shape, number);
-        let entries = entries(alloc, returns, what, seats.as_slice(), scope)?;
-        if !entries.is_empty() {
-            scopes.push(scope_with(alloc, stage, scope, what, entries)?)?;
-        }
+    items: &[Item],
+) -> Result<Vec<Entry>, NoMemory>
+    ensures { IfOk result (λ entries. entries.items ≡ shown_entries returns.now stage what.now steps.now items.now) }
+{
+    let mut entries: Vec<Entry> = Vec::new(alloc);
+    for item in items {
+        push_shown(&mut entries, entry_of(returns, stage, what, steps, *item))?;
     }
-    Ok(scopes)
+    Ok(entries)
+}
+
+/// The seats of entries, in all.
+pub(crate) fn seats_in(entries: &[Entry]) -> u64
+    ensures { result ≡ capped (sum_by (λ x. x.seats) entries.now) }
+{
+    let mut seats = 0u64;
+    for entry in entries {
+        seats = seats.saturating_add(entry.seats);
+    }
+    seats
+}
+
+/// The weight of entries, in all.
+pub(crate) fn weight_in(entries: &[Entry]) -> u64
+    ensures { result ≡ capped (sum_by (λ x. x.weight) entries.now) }
+{
+    let mut weight = 0u64;
+    for entry in entries {
+        weight = weight.saturating_add(entry.weight);
+    }
+    weight
+}
+
+// An entry with its quotient by the divisor, and with the votes that it lacks.
+fn margin_entry(entry: Entry, divisor: &Option<Decimal>, missing: Option<u64>) -> Entry
+    ensures { result ≡ with_margins divisor.now entry missing }
+{
+    let quotient = match divisor {
+        Some(divisor) => Some(Fraction::quotient(entry.weight, *divisor)),
+        None => None,
+    };
+    Entry {
+        quotient,
+        missing,
+        ..entry
+    }
+}
+
+fn entry_at(entries: &[Entry], number: usize) -> Entry
+    requires { number < length entries.now }
+    ensures { slice_get entries.now number ≡ Some result }
+{
+    entries[number]
+}
+
+// The votes that the entry of that number lacks.
+fn lack_at(lacking: &[Option<u64>], number: usize) -> Option<u64>
+    requires { number < length lacking.now }
+    ensures { slice_get lacking.now number ≡ Some result }
+{
+    lacking[number]
+}
+
+/// The entries with their quotients by the divisor, and with the votes that they lack.
+pub(crate) fn with_margins(
+    alloc: Global,
+    entries: &[Entry],
+    divisor: &Option<Decimal>,
+    lacking: &[Option<u64>],
+) -> Result<Vec<Entry>, NoMemory>
+    requires { length lacking.now ≡ length entries.now }
+    ensures { IfOk result (λ all. all.items ≡ map (λ x. with_margins divisor.now x.0 x.1) (zip entries.now lacking.now)) }
+{
+    let mut all = Vec::new(alloc);
+    for number in 0..entries.len() {
+        let missing = lack_at(lacking, number);
+        all.push(margin_entry(entry_at(entries, number), divisor, missing))?;
+    }
+    Ok(all)
+}
+
+// An entry with its quotient by the quota: its share of the seats.
+fn quota_entry(entry: Entry, seats: u64, weight: u64) -> Entry
+    ensures { result ≡ quota_entry seats weight entry }
+{
+    Entry {
+        quotient: Some(Fraction {
+            num: u128::from(entry.weight) * u128::from(seats),
+            den: u128::from(weight),
+        }),
+        ..entry
+    }
+}
+
+/// The entries with their quotients by the quota.
+pub(crate) fn with_quota(
+    alloc: Global,
+    entries: &[Entry],
+    seats: u64,
+    weight: u64,
+) -> Result<Vec<Entry>, NoMemory>
+    ensures { IfOk result (λ all. all.items ≡ map (quota_entry seats weight) entries.now) }
+{
+    let mut all = Vec::new(alloc);
+    for entry in entries {
+        all.push(quota_entry(*entry, seats, weight))?;
+    }
+    Ok(all)
 }

@@ -6,6 +6,7 @@ use Rattle.sl_ratio.specs.declared.method.Method.{Method}
 use Rattle.sl_ratio.specs.declared.method.Method.TheVariants as by
 use Rattle.sl_stages.specs.declared.book.Majority.{Majority}
 use Rattle.sl_stages.specs.declared.book.Majority.TheVariants as majority
+use Rattle.sl_stages.specs.declared.book.Seating.TheVariants as seating
 use Rattle.sl_stages.specs.declared.fact.Fact.{Fact}
 use Rattle.sl_stages.specs.declared.fact.Fact.TheVariants as facts
 use Rattle.sl_stages.specs.declared.table.ListSeats.{ListSeats}
@@ -18,10 +19,10 @@ use Rattle.sl_stages.specs.meaning.Seating.{base_of}
 use Rattle.sl_stages.specs.meaning.Means.{Through, nothing_known, StagesMean}
 use Rattle.sl_fairness.specs.Winners.{IsBase, base_seats, winners_on, IsLine}
 use Rattle.sl_fairness.proofs.Bases.{end_of, sum_of_base}
-use Rattle.sl_fairness.proofs.Winners.{keep_total}
+use Rattle.sl_fairness.proofs.Winners.{keep_seats_all, keep_total}
 use Rattle.sl_fairness.proofs.Covering.{cover_keeps_base}
 use Rattle.sl_statutes.specs.Trees.{law_of_1956, law_of_1985, law_of_2008, law_of_2013, law_of_2023, law_of_2023_order, keep, cover, shares}
-use Rattle.sl_statutes.specs.Statutes.{LastClauses, AreWellFormed, HasRoom, WinnersOf2013}
+use Rattle.sl_statutes.specs.Statutes.{LastClauses, AreWellFormed, WinnersUpTo2013, HaveTheLarger, ListsUpTo2008, HasRoom, WinnersOf2013}
 use Rattle.sl_statutes.specs.Houses.{house_of, AlwaysGrowsByOverhang, AlwaysKeepsItsSize, OverhangOf1956, OverhangOf1985, OverhangOf2008, TotalOf2023, TotalOf2023Order}
 use Rattle.sl_statutes.proofs.Shares.{lists_have, lists_share, outside_in_all, independents_in_all}
 
@@ -30,6 +31,18 @@ last_clauses at = (refl, refl, refl, refl, refl, refl)
 
 pub are_well_formed : AreWellFormed
 are_well_formed at = (refl, refl, refl, refl, refl, refl)
+
+-- ---- all winners sit
+
+pub winners_up_to_2013 : WinnersUpTo2013
+winners_up_to_2013 at =
+    (λ e t. keep_seats_all (law_of_1956 at) e t refl, λ e t. keep_seats_all (law_of_1985 at) e t refl, λ e t. keep_seats_all (law_of_2008 at) e t refl, λ e t. keep_seats_all (law_of_2013 at) e t refl)
+
+larger : (b : BookTree) → is_typed b ≡ true → b.last.seating ≡ seating.Keep → HaveTheLarger b
+larger b typed keeps e t base is is_base means = (keep_total b e base t typed is keeps is_base means).0
+
+pub lists_up_to_2008 : ListsUpTo2008
+lists_up_to_2008 at = (larger (law_of_1956 at) refl refl, larger (law_of_1985 at) refl refl, larger (law_of_2008 at) refl refl)
 
 -- ---- room for the winners
 

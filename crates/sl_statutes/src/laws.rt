@@ -1,6 +1,6 @@
 //! Laws of the six statutes, of their meaning (docs/meaning.md). Each function does nothing: its contract is the law.
 
-ghost use Rattle.sl_statutes.specs.Statutes.{LastClauses, AreWellFormed, WinnersOf2013};
+ghost use Rattle.sl_statutes.specs.Statutes.{LastClauses, AreWellFormed, WinnersUpTo2013, ListsUpTo2008, WinnersOf2013};
 ghost use Rattle.sl_statutes.specs.Houses.{OverhangOf1956, OverhangOf1985, OverhangOf2008, TotalOf2023, TotalOf2023Order};
 ghost use Rattle.sl_statutes.specs.Grown.{HouseOf2013, PartiesOf2013};
 ghost use Rattle.sl_statutes.specs.Unseated.{UnseatedOf2023};
@@ -18,6 +18,16 @@ pub fn last_clauses()
 /// Each statute is a well-formed rulebook.
 pub fn are_well_formed()
     ensures { AreWellFormed }
+{}
+
+/// By the statutes up to 2013 each constituency winner sits, on a list or as a single.
+pub fn winners_up_to_2013()
+    ensures { WinnersUpTo2013 }
+{}
+
+/// By the statutes of 1956, 1985 and 2008 each list has the larger of its base and its winners, who all sit on it.
+pub fn lists_up_to_2008()
+    ensures { ListsUpTo2008 }
 {}
 
 /// By the statute of 2013 no list of the table has fewer seats than its winners.

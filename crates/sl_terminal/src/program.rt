@@ -7,7 +7,7 @@ ghost use Rattle.sl_terminal.specs.Requests.{IsHelp, IsOutputOf, IsRun};
 ghost use Rattle.sl_terminal.specs.Tellings.{IsOfFault, Tells};
 
 use crate::terminal::Terminal;
-use sl_inputs::{Sink, write_all};
+use sl_inputs::{DeskError, Sink, write_all};
 use sl_outside::Outside;
 use sl_words::{Asked, request_of};
 
@@ -34,6 +34,7 @@ impl<O: Outside, W: Sink, E: Sink> Terminal<O, W, E> {
         ensures { Exits IsHelp (W.contents self.old.out) (W.contents self.new.out) result }
     {
         let Ok(text) = format!(in self.alloc; "{error}") else {
+            self.write_line(&DeskError::NoMemory);
             return 5;
         };
         if error.use_stderr() {

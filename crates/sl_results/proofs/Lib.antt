@@ -1,0 +1,13 @@
+pub mod Steps
+pub mod Short
+pub mod SeatSums
+pub mod Taking
+pub mod Named
+pub mod ValueSteps
+pub mod Typed
+pub mod Divided
+pub mod Fews
+pub mod ScopeSteps
+pub mod Before
+pub mod ContestSteps
+pub mod LackingSteps
