@@ -44,7 +44,7 @@ DESK_FAULTS = (
 )
 CODE = re.compile(r"`([^`]+)`")
 LINK = re.compile(r"\[([^\]]*)\]\(([^)\s]+)\)")
-SOURCES = (".rt", ".antt", ".py", ".edit", ".js", ".html", ".sh", ".c")
+SOURCES = (".rt", ".antt", ".py", ".edit", ".js", ".html", ".sh", ".c", ".h", ".R")
 # What a page may name that is no file of the repository: files that a reader makes, or that others have.
 FOREIGN = re.compile(r"^(/|~|\.\./|(.*/)?out(/|$)|.*[A-Z]{2,})|^(book\.law|own\.law|code\.slc|returns\.csv|table\.py|sweep\.py|kerg2?\.csv|names\.csv|.*\.txt|\d+\.(csv|slc))$")
 

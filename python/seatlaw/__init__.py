@@ -1,0 +1,33 @@
+"""Elections of the German Bundestag, counted by the proved calls of seatlaw.
+
+>>> import seatlaw
+>>> book = seatlaw.Rulebook.from_file("examples/first-count/book.law")
+>>> returns = seatlaw.Returns.from_file("examples/first-count/returns.csv")
+>>> seatlaw.count(book, returns)
+<Table of 5 seats: Reds 2, Blues 1, Greens 1>
+"""
+from .calls import Shown, check, compare, count, law, report, show, stage, stage_names, stages, steps, totals
+from .errors import LegalFault, Lot, OutOfMemory, Place, Refused, SeatlawError
+from .inputs import STATUTES, Land, ListVotes, Party, Returns, Rulebook, Winner
+from .reports import Comparison, Report, Totals
+from .tables import BookLine, Column, ListSeats, PartySeats, Steps, Table
+
+__all__ = [
+    "STATUTES", "BookLine", "Column", "Comparison", "Land", "LegalFault", "ListSeats", "ListVotes", "Lot", "OutOfMemory", "Party", "PartySeats",
+    "Place", "Refused", "Report", "Returns", "Rulebook", "SeatlawError", "Shown", "Steps", "Table", "Totals", "Winner", "check", "compare", "count", "law",
+    "report", "show", "stage", "stage_names", "stages", "steps", "totals",
+]
+
+# Names that need numpy, by the module that has them.
+LATER = {"many": ("Counts", "Variations"), "simulation": ("Multinomial", "Normal", "Simulation", "chunks", "draw", "simulate")}
+__all__ += [name for names in LATER.values() for name in names]
+
+
+def __getattr__(name: str):
+    """What needs numpy is brought in when it is asked for."""
+    import importlib
+
+    for module in ("many", "simulation"):
+        if name in LATER[module]:
+            return getattr(importlib.import_module("." + module, __name__), name)
+    raise AttributeError("module %r has no attribute %r" % (__name__, name))

@@ -1,0 +1,301 @@
+"""What `report`, `totals` and `compare` tell (docs/report.md): rows of their tables, with exact numbers in place of texts of digits."""
+import dataclasses
+import json
+from decimal import Decimal
+from fractions import Fraction
+from typing import Any, Dict, List, NamedTuple, Optional, Tuple, Union
+
+from .frames import Frame, frame_of
+
+
+class Law(NamedTuple):
+    law: str
+    house: int
+    seats: Optional[int]
+    direct: Optional[int]
+    vacant: Optional[int]
+
+
+class Text(NamedTuple):
+    text: str
+
+
+class PartyReport(NamedTuple):
+    """`condition` is the first one of `eligible` that the party meets, or None."""
+
+    party: str
+    party_name: str
+    valid: int
+    percent: Optional[Decimal]
+    percent_exact: Optional[Fraction]
+    counted: int
+    condition: Optional[str]
+    seats: Optional[int]
+    direct: Optional[int]
+    vacant: Optional[int]
+
+
+class ListReport(NamedTuple):
+    land: str
+    land_name: str
+    party: str
+    party_name: str
+    valid: int
+    counted: int
+    seats: int
+    direct: int
+    vacant: int
+
+
+class Scope(NamedTuple):
+    """A scope of a distribution: `divisor` has the fewest digits that one can have; `last` won the last seat, `next` has the next claim."""
+
+    stage: str
+    scope: str
+    scope_name: str
+    method: str
+    grows: bool
+    minima: bool
+    votes: int
+    seats: int
+    divisor: Optional[Decimal]
+    quota: Optional[Decimal]
+    quota_exact: Optional[Fraction]
+    last: Optional[str]
+    next: Optional[str]
+
+
+class Entry(NamedTuple):
+    """An entry of a scope; `missing` are the votes missing for one more seat."""
+
+    stage: str
+    scope: str
+    entry: str
+    entry_name: str
+    votes: int
+    quotient: Optional[Decimal]
+    quotient_exact: Optional[Fraction]
+    seats: int
+    minimum: Optional[int]
+    missing: Optional[int]
+
+
+class Covering(NamedTuple):
+    """A winner of a list with fewer seats than winners, by the rank of the share."""
+
+    land: str
+    land_name: str
+    party: str
+    party_name: str
+    constituency: str
+    constituency_name: str
+    first: int
+    valid: int
+    percent: Optional[Decimal]
+    percent_exact: Optional[Fraction]
+    rank: int
+    seated: bool
+
+
+class WinnerReport(NamedTuple):
+    constituency: str
+    constituency_name: str
+    land: str
+    land_name: str
+    party: Optional[str]
+    party_name: str
+
+
+class TotalVotes(NamedTuple):
+    valid: int
+    counted: int
+    people: int
+    lands: int
+    parties: int
+    lists: int
+    winners: int
+    independents: int
+
+
+class PartyTotals(NamedTuple):
+    """`votes_short` and `winners_short` are what the party lacks to take part."""
+
+    party: str
+    party_name: str
+    valid: int
+    percent: Optional[Decimal]
+    percent_exact: Optional[Fraction]
+    counted: int
+    lists: int
+    winners: int
+    condition: Optional[str]
+    votes_short: Optional[int]
+    winners_short: Optional[int]
+
+
+class LandTotals(NamedTuple):
+    land: str
+    land_name: str
+    people: int
+    valid: int
+    counted: int
+    winners: int
+    independents: int
+
+
+class WinnersOf(NamedTuple):
+    land: str
+    land_name: str
+    party: str
+    party_name: str
+    winners: int
+
+
+class WarningText(NamedTuple):
+    warning: str
+    text: str
+
+
+class Compared(NamedTuple):
+    """A rulebook: `open` are winners who are not seated, `differs` the first stage that differs from the first rulebook's."""
+
+    book: str
+    law: str
+    seats: Optional[int]
+    open: Optional[int]
+    differs: Optional[str]
+    fault: Optional[str]
+
+
+# The rows of each table, by its key in the JSON.
+ROWS = {
+    "law": Law, "explanation": Text, "parties": PartyReport, "lists": ListReport, "scopes": Scope, "entries": Entry, "covering": Covering,
+    "singles": WinnerReport, "open": WinnerReport, "totals": TotalVotes, "votes": PartyTotals, "lands": LandTotals, "winners": WinnersOf,
+    "warnings": WarningText, "books": Compared,
+}
+# The columns that are texts of digits in the JSON.
+DECIMALS = ("percent", "quotient", "quota", "divisor")
+FRACTIONS = ("percent_exact", "quotient_exact", "quota_exact")
+
+
+def _exact(key: str, value: Any) -> Any:
+    if value is None:
+        return None
+    if key in DECIMALS:
+        return Decimal(value)
+    if key in FRACTIONS:
+        over, under = map(int, value.split("/"))
+        return Fraction(over, under) if under else None
+    return value
+
+
+def _rows(tables: Dict[str, List[Dict[str, Any]]], key: str) -> tuple:
+    kind = ROWS[key]
+    return tuple(kind(**{name: _exact(name, value) for name, value in row.items()}) for row in tables.get(key, []))
+
+
+class _Tables:
+    """Tables whose rows are fields."""
+
+    def to_frame(self, kind: str) -> Frame:
+        """The rows of a field."""
+        return frame_of(getattr(self, kind), ROWS[kind])
+
+
+@dataclasses.dataclass(frozen=True, repr=False)
+class Report(_Tables):
+    """One count in full; `text` is the JSON of `report`."""
+
+    text: str
+    law: Tuple[Law, ...]
+    parties: Tuple[PartyReport, ...]
+    lists: Tuple[ListReport, ...]
+    scopes: Tuple[Scope, ...]
+    entries: Tuple[Entry, ...]
+    covering: Tuple[Covering, ...]
+    singles: Tuple[WinnerReport, ...]
+    open: Tuple[WinnerReport, ...]
+    explanation: Tuple[Text, ...]
+
+    @property
+    def divisors(self) -> Dict[Tuple[str, str], Optional[Decimal]]:
+        """The divisor of each scope, by the stage and the scope."""
+        return {(row.stage, row.scope): row.divisor for row in self.scopes}
+
+    def votes_missing(self, stage: str, scope: str = "all") -> Dict[str, Optional[int]]:
+        """The votes missing for one more seat, by the entry, in a scope of a stage."""
+        return {row.entry: row.missing for row in self.entries if (row.stage, row.scope) == (stage, scope)}
+
+    def __repr__(self) -> str:
+        return "<Report by %s: %s>" % (self.law[0].law, ", ".join("%s %s" % (row.party, row.seats) for row in self.parties))
+
+    def _repr_html_(self) -> str:
+        from . import pictures
+
+        return pictures.report_of(self)
+
+
+@dataclasses.dataclass(frozen=True, repr=False)
+class Totals(_Tables):
+    """The sums of returns, who takes part, and warnings of what is likely a mistake; `text` is the JSON of `totals`."""
+
+    text: str
+    totals: Tuple[TotalVotes, ...]
+    votes: Tuple[PartyTotals, ...]
+    lands: Tuple[LandTotals, ...]
+    winners: Tuple[WinnersOf, ...]
+    warnings: Tuple[WarningText, ...]
+
+    def __repr__(self) -> str:
+        return "<Totals of %d parties, %d warnings>" % (len(self.votes), len(self.warnings))
+
+
+Seats = Union[int, str, None]
+
+
+@dataclasses.dataclass(frozen=True, repr=False)
+class Comparison(_Tables):
+    """Seats by several rulebooks; `text` is the JSON of `compare`.
+
+    books    the rulebooks
+    seats    for each party, and `all`, the seats by each rulebook, by its word; the line of a fault where it gives none
+    """
+
+    text: str
+    books: Tuple[Compared, ...]
+    seats: Dict[str, Dict[str, Seats]]
+
+    def to_frame(self, kind: str = "seats") -> Frame:
+        """The rows of `books`, or of `seats` with a column for each rulebook."""
+        if kind != "seats":
+            return super().to_frame(kind)
+        import pandas
+
+        return pandas.DataFrame.from_dict(self.seats, orient="index", columns=[row.book for row in self.books])
+
+    def __repr__(self) -> str:
+        return "<Comparison of %s>" % ", ".join(row.book for row in self.books)
+
+
+def _made(kind: type, text: str) -> Any:
+    tables = json.loads(text)["tables"]
+    fields = [field.name for field in dataclasses.fields(kind)]
+    return kind(text=text, **{key: _rows(tables, key) for key in fields if key in ROWS})
+
+
+def report(text: str) -> Report:
+    return _made(Report, text)
+
+
+def totals(text: str) -> Totals:
+    return _made(Totals, text)
+
+
+def comparison(text: str) -> Comparison:
+    tables = json.loads(text)["tables"]
+    seats = {}
+    for row in tables["compare"]:
+        party = row.pop("party")
+        row.pop("party_name")
+        seats["all" if party is None else party] = row
+    return Comparison(text, _rows(tables, "books"), seats)

@@ -1,0 +1,275 @@
+"""The package over the examples: results, exceptions, inputs made of tables, frames and pictures. Run at the top of the repository by python/test."""
+import concurrent.futures
+import json
+import pathlib
+import re
+import subprocess
+import sys
+import unittest
+import xml.etree.ElementTree
+
+import seatlaw
+from seatlaw import reports
+from seatlaw._library import ask
+
+TOP = pathlib.Path(__file__).resolve().parent.parent.parent
+EXAMPLES = TOP / "crates" / "sl_test_rows" / "data" / "examples"
+ALL = sorted(EXAMPLES.glob("**/*.csv"))
+RETURNS = [seatlaw.Returns.from_file(path) for path in ALL if path.read_bytes().startswith(b"kind")]
+BOOKS = ["@" + name for name in seatlaw.STATUTES] + [seatlaw.Rulebook.from_file(path) for path in sorted(EXAMPLES.glob("**/*.law"))]
+
+
+def outcome(call, *inputs):
+    """The text of a result, or the line of an exception."""
+    try:
+        return call(*inputs).text
+    except seatlaw.SeatlawError as error:
+        return error.line
+
+
+class Results(unittest.TestCase):
+    def test_tables_have_each_line(self):
+        for book in BOOKS:
+            for returns in RETURNS:
+                try:
+                    table = seatlaw.count(book, returns)
+                except seatlaw.SeatlawError:
+                    continue
+                rows = [("total", table.total), *(("party", *row) for row in table.parties), *(("list", *row) for row in table.lists)]
+                rows += [*(("vacant", *row) for row in table.vacant)]
+                singles, unseated = [row.constituency for row in table.singles], [row.constituency for row in table.open]
+                rest = [("single" if name in singles else "open", name) for name in (row.constituency for row in returns.winners) if name in singles + unseated]
+                self.assertEqual("".join(" ".join(map(str, row)) + "\n" for row in rows + rest), table.text)
+
+    def test_steps_have_each_line(self):
+        for book in BOOKS:
+            for returns in RETURNS:
+                try:
+                    steps = seatlaw.steps(book, returns)
+                except seatlaw.SeatlawError:
+                    continue
+                rows = [("seat", *row) for row in steps.seats]
+                rows += [("bounds", *row[:4], *(["lot"] if row.lot else [])) for row in steps.bounds]
+                self.assertEqual("".join(" ".join(map(str, row)) + "\n" for row in rows) + steps.table.text, steps.text)
+                self.assertEqual(steps.table.text, seatlaw.count(book, returns).text)
+
+    def test_stages(self):
+        returns = seatlaw.Returns.from_file(EXAMPLES / "six-laws" / "returns.csv")
+        found = {column.stage: column.values for column in seatlaw.stages("@2013", returns)}
+        self.assertEqual(list(found), ["pool", "lands", "first", "floor", "upper", "lower"])
+        self.assertEqual(found["floor"], {"A": 9, "B": 3})
+        self.assertEqual(seatlaw.stage("@2013", returns, "lower")["X/A"], 6)
+        for book in BOOKS:
+            self.assertEqual(len(seatlaw.stage_names(book)), seatlaw.check(book).stages)
+
+    def test_names_of_stages_in_odd_texts(self):
+        book = seatlaw.Rulebook.from_text('rulebook 1; law "stage a = b"; house 4; eligible all; # stage c\nstage\ns=split(house, counted, webster); seats s keep;')
+        self.assertEqual(seatlaw.stage_names(book), ("s",))
+        self.assertEqual(seatlaw.check(book), (1, 4, 1, "stage a = b"))
+
+    def test_seats_of_2025(self):
+        returns = seatlaw.Returns.from_file(EXAMPLES / "elections" / "2025.csv")
+        names = (EXAMPLES / "elections" / "names.csv").read_bytes()
+        report = seatlaw.report("@2023-order", returns, names)
+        self.assertEqual({row.party: row.seats for row in report.parties}, dict(CDU=164, AFD=152, SPD=120, GRUENE=85, LINKE=64, CSU=44, SSW=1))
+        self.assertEqual(report.votes_missing("upper")["CDU"], 12422)
+        self.assertEqual(report.divisors["upper", "all"], 68100)
+        self.assertEqual(report.parties[4].party_name, "Die Linke")
+        self.assertEqual(str(report.parties[0].percent), "26.139")
+        self.assertEqual(report.parties[0].percent_exact * sum(row.valid for row in report.parties), 100 * 11196374)
+
+    def test_rows_are_those_of_the_schema(self):
+        schema = json.loads((TOP / "docs" / "report.schema.json").read_text())
+        for key, table in schema["properties"]["tables"]["properties"].items():
+            if key in reports.ROWS:
+                self.assertEqual(sorted(table["items"]["required"]), sorted(reports.ROWS[key]._fields), key)
+
+    def test_totals_and_compare(self):
+        returns = seatlaw.Returns.from_file(EXAMPLES / "covered" / "returns.csv")
+        totals = seatlaw.totals(returns, "@2023-order")
+        self.assertEqual(totals.totals[0].valid, 1000000)
+        self.assertEqual([row.warning for row in totals.warnings], ["house", "few_parties"])
+        compared = seatlaw.compare(seatlaw.Returns.from_file(EXAMPLES / "six-laws" / "returns.csv"))
+        self.assertEqual(compared.seats["B"]["@2013"], 4)
+        own = seatlaw.Rulebook.from_file(EXAMPLES / "first-count" / "book.law")
+        self.assertEqual([row.book for row in seatlaw.compare(returns, ["@2013", own]).books], ["@2013", "book"])
+
+
+class AtOnce(unittest.TestCase):
+    def test_what_is_shown_is_what_single_calls_give(self):
+        for book in BOOKS:
+            for returns in RETURNS:
+                try:
+                    shown = seatlaw.show(book, returns)
+                except seatlaw.LegalFault as fault:
+                    self.assertEqual(fault.line, outcome(seatlaw.count, book, returns))
+                    with self.assertRaises(seatlaw.LegalFault) as caught:
+                        seatlaw.report(book, returns)
+                    self.assertEqual(caught.exception.report.text, fault.report.text)
+                except seatlaw.Refused as error:
+                    self.assertEqual(error.line, outcome(seatlaw.count, book, returns))
+                else:
+                    self.assertEqual(shown.table.text, seatlaw.count(book, returns).text)
+                    self.assertEqual(shown.steps.text, seatlaw.steps(book, returns).text)
+                    self.assertEqual(shown.report.text, seatlaw.report(book, returns).text)
+                    self.assertEqual(shown.stages, seatlaw.stages(book, returns))
+        with self.assertRaises(seatlaw.Refused) as caught:
+            seatlaw.show("@2023", RETURNS[0], b"a,b,c\n")
+        self.assertEqual(caught.exception.input, "names")
+
+
+class Exceptions(unittest.TestCase):
+    def test_a_refused_rulebook(self):
+        text = seatlaw.law("2023").replace("split(upper", "split(uper")
+        with self.assertRaises(seatlaw.Refused) as caught:
+            seatlaw.check(seatlaw.Rulebook.from_text(text))
+        error = caught.exception
+        self.assertEqual((error.line, error.input, error.part, error.number, error.at), ("refused book check 5 243", "book", "check", 5, 243))
+        self.assertEqual((error.code, error.place), ("B15", (7, 21)))
+        self.assertIn("did you mean `upper`?", str(error))
+        self.assertIn("Fehler[B15]", error.explanation("de"))
+
+    def test_refused_returns_and_names(self):
+        with self.assertRaises(seatlaw.Refused) as caught:
+            seatlaw.count("@2023", seatlaw.Returns.from_text("kind;land"))
+        self.assertEqual((caught.exception.code, caught.exception.number, caught.exception.at), ("R01", 1, 1))
+        good = seatlaw.Returns.from_file(EXAMPLES / "elections" / "2025.csv")
+        for call, line, code in (
+            (lambda: seatlaw.law("2021"), "refused law 2021", "B01"), (lambda: seatlaw.stage("@2023", good, "x"), "refused stage x", "B22"),
+        ):
+            with self.assertRaises(seatlaw.Refused) as caught:
+                call()
+            self.assertEqual((caught.exception.line, caught.exception.code, caught.exception.explanation()), (line, code, ""))
+        with self.assertRaises(seatlaw.Refused) as caught:
+            seatlaw.report("@2023", good, b"a,b,c\n")
+        self.assertEqual(caught.exception.input, "names")
+
+    def test_a_tie_and_its_lots(self):
+        book, returns = (seatlaw.Rulebook.from_file(EXAMPLES / "tie" / "book.law"), seatlaw.Returns.from_file(EXAMPLES / "tie" / "returns.csv"))
+        with self.assertRaises(seatlaw.LegalFault) as caught:
+            seatlaw.count(book, returns)
+        fault = caught.exception
+        self.assertEqual((fault.stage, fault.scope, fault.kind, fault.seats, fault.code), ("council", "all", "tie", 2, "L04"))
+        self.assertEqual(fault.names, ("Town/Reds", "Town/Blues", "Town/Greens"))
+        self.assertEqual([lot.party for lot in fault.lots], ["Reds", "Blues", "Greens"])
+        drawn = seatlaw.count(book, returns.with_lots(reversed(fault.lots)))
+        self.assertEqual(drawn.seats["Greens"], seatlaw.count(book, returns.with_lots(fault.lots)).seats["Greens"] + 1)
+        with self.assertRaises(seatlaw.LegalFault) as caught:
+            seatlaw.report(book, returns)
+        self.assertEqual(caught.exception.report.parties[0].valid, 500)
+
+    def test_wrong_arguments(self):
+        returns = RETURNS[0]
+        self.assertRaises(TypeError, seatlaw.count, "2023", returns)
+        self.assertRaises(ValueError, seatlaw.compare, returns, [book for book in BOOKS if not isinstance(book, str)][:2])
+        self.assertRaises(UnicodeEncodeError, seatlaw.stage, "@2023", returns, "\ud800")
+
+
+class Inputs(unittest.TestCase):
+    def test_returns_of_their_own_tables(self):
+        for returns in RETURNS:
+            house = [int(record[3]) for record in returns.records if record[0] == "house"]
+            tables = dict(lands=returns.lands, parties=returns.parties, lists=returns.lists, winners=returns.winners, lots=returns.lots)
+            made = seatlaw.Returns.from_records(**tables, house=house[0] if house else None)
+            for book in BOOKS[::3]:
+                self.assertEqual(outcome(seatlaw.count, book, made), outcome(seatlaw.count, book, returns))
+
+    def test_returns_of_frames(self):
+        import numpy
+        import pandas
+
+        lists = pandas.DataFrame({"land": ["N", "N"], "party": ["A", "B"], "valid": [10.0, 20.0], "left": [numpy.nan, 3]})
+        made = seatlaw.Returns.from_records(lands=[{"land": "N", "people": numpy.int64(5)}], parties=pandas.DataFrame({"party": ["A", "B"]}), lists=lists)
+        self.assertEqual(made.text.splitlines()[0], "kind2,land,party,a,b,c")
+        self.assertEqual(made.text.splitlines()[-2:], ["list,N,A,10,10,", "list,N,B,20,20,3"])
+        self.assertRaises(ValueError, seatlaw.Returns.from_records, lands=[{"land": "N", "people": 1.5}], parties=[], lists=[])
+        self.assertEqual(list(made.to_frame("list").columns), ["land", "party", "valid", "counted", "left"])
+
+    def test_a_house_and_quoted_cells(self):
+        returns = seatlaw.Returns.from_text(b'\xef\xbb\xbf"kind",land,party,a,b,c\r\n\r\n"land",N,,"5",,\r\nparty,,A,0,,\r\nlist,N,A,10,10,')
+        self.assertEqual(returns.lands, (("N", 5),))
+        self.assertEqual(seatlaw.count("@2023", returns.with_house(7)).total, 7)
+
+
+class Shown(unittest.TestCase):
+    def test_the_house(self):
+        for returns in RETURNS:
+            table = seatlaw.count("@2008", returns) if outcome(seatlaw.count, "@2008", returns).startswith("total") else None
+            if table is not None:
+                root = xml.etree.ElementTree.fromstring(table.svg({"Reds": "#d4133b"}))
+                self.assertEqual(len(root.findall("{http://www.w3.org/2000/svg}circle")), table.total)
+                self.assertIn("<table>", table._repr_html_())
+
+    def test_frames(self):
+        returns = seatlaw.Returns.from_file(EXAMPLES / "covered" / "returns.csv")
+        table, report = seatlaw.count("@2023", returns), seatlaw.report("@2023", returns)
+        self.assertEqual(list(table.to_frame("vacant").columns), ["land", "party", "seats"])
+        self.assertEqual(table.to_frame("open")["constituency"].tolist(), ["Lakes"])
+        self.assertEqual(report.to_frame("covering")["seated"].tolist(), [True, True, True, False])
+        self.assertEqual(seatlaw.steps("@2023", returns).to_frame("bounds").shape[1], 5)
+        self.assertEqual(seatlaw.compare(returns).to_frame().loc["Reds", "@2023"], 4)
+        self.assertIn("covering", report._repr_html_())
+        self.assertIn("<table>", seatlaw.stage("@2023", returns, "upper")._repr_html_())
+
+
+class Threads(unittest.TestCase):
+    def test_thirty_two_at_once(self):
+        inputs = [(book, returns) for book in BOOKS for returns in RETURNS]
+        wanted = [outcome(seatlaw.count, *it) for it in inputs]
+        with concurrent.futures.ThreadPoolExecutor(32) as pool:
+            for _ in range(10):
+                self.assertEqual(list(pool.map(lambda it: outcome(seatlaw.count, *it), inputs)), wanted)
+
+    def test_no_output_grows_past_its_room(self):
+        returns = seatlaw.Returns.from_file(EXAMPLES / "elections" / "2025.csv")
+        status, data = ask("report", seatlaw.law("2023").encode(), returns.data, b"")
+        self.assertEqual((status, json.loads(data)["status"]), (0, 0))
+
+
+# Counts the largest returns while the process may have little more memory than it has, and ever more, until there is enough.
+WITHOUT_MEMORY = """
+import resource, sys
+sys.path.append(%r)
+import elections, seatlaw
+book, returns = seatlaw.Rulebook.statute("2023"), seatlaw.Returns.from_text(elections.returns(4194304))
+hard = resource.getrlimit(resource.RLIMIT_AS)[1]
+taken = int(open("/proc/self/statm").read().split()[0]) * resource.getpagesize()
+failed, fault = 0, None
+while fault is None:
+    resource.setrlimit(resource.RLIMIT_AS, (taken + (failed << 19), hard))
+    try:
+        seatlaw.count(book, returns)
+    except seatlaw.OutOfMemory as error:
+        assert isinstance(error, MemoryError)
+        failed += 1
+    except seatlaw.LegalFault as error:
+        fault = error
+resource.setrlimit(resource.RLIMIT_AS, (hard, hard))
+print(fault.kind, failed > 3)
+"""
+
+
+class Alone(unittest.TestCase):
+    def test_without_memory(self):
+        done = subprocess.run([sys.executable, "-c", WITHOUT_MEMORY % str(TOP / "bench")], stdout=subprocess.PIPE, check=True)
+        self.assertEqual(done.stdout, b"tie True\n")
+
+    def test_without_numpy_and_pandas(self):
+        code = (
+            "import sys; sys.modules.update(numpy=None, pandas=None); import seatlaw; r = seatlaw.Returns.from_file(%r); t = seatlaw.count('@2023', r)\n"
+            "assert t.total == 630\n"
+            "for call in (t.to_frame, lambda: seatlaw.simulate):\n"
+            "    try: call()\n"
+            "    except ImportError: pass\n"
+            "    else: raise AssertionError\n" % str(EXAMPLES / "elections" / "2025.csv")
+        )
+        subprocess.run([sys.executable, "-c", code], check=True)
+
+    def test_the_version_is_the_program_s(self):
+        text = (TOP / "crates" / "sl_words" / "src" / "help.rt").read_text()
+        wanted = re.search(r'VERSION: &str = "(.*)"', text)[1]
+        self.assertIn('version = "%s"' % wanted, (TOP / "python" / "pyproject.toml").read_text())
+
+
+if __name__ == "__main__":
+    unittest.main()

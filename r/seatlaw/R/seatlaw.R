@@ -1,0 +1,139 @@
+# Counts by the proved calls of seatlaw, with results as data frames (docs/library.md, section 5).
+
+# A rulebook of the library by its name, or of a file.
+law <- function(name = NULL, file = NULL) {
+  if (is.null(file)) law_text(name) else readBin(file, "raw", file.size(file))
+}
+
+# The text of a statute as bytes.
+law_text <- function(name) charToRaw(text_of(ask("law", bytes(name))))
+
+# Returns of a file.
+read_returns <- function(file) readBin(file, "raw", file.size(file))
+
+# Returns of data frames: lands (land, people), parties (party, minority), lists (land, party, valid, counted), winners (land, party,
+# constituency, first, valid), lots (land, party, stage, constituency).
+make_returns <- function(lands, parties, lists, winners = NULL, lots = NULL, house = NULL) {
+  whole <- function(x) format(x, scientific = FALSE, trim = TRUE)
+  or <- function(x, other) if (is.null(x)) other else ifelse(is.na(x), "", as.character(x))
+  rows <- c(
+    "kind,land,party,a,b,c",
+    if (!is.null(house)) sprintf("house,,,%s,,", whole(house)),
+    sprintf("land,%s,,%s,,", lands$land, whole(lands$people)),
+    sprintf("party,,%s,%d,,", parties$party, as.integer(if (is.null(parties$minority)) 0 else parties$minority)),
+    sprintf("list,%s,%s,%s,%s,", lists$land, lists$party, whole(lists$valid), whole(if (is.null(lists$counted)) lists$valid else lists$counted)),
+    if (NROW(winners)) sprintf("win,%s,%s,%s,%s,%s", winners$land, or(winners$party, ""), winners$constituency, whole(winners$first), whole(winners$valid)),
+    if (NROW(lots)) sprintf("lot,%s,%s,%s,%s,", or(lots$land, ""), or(lots$party, ""), lots$stage, or(lots$constituency, ""))
+  )
+  bytes(paste0(paste(rows, collapse = "\n"), "\n"))
+}
+
+# The seat table: its total, and data frames of parties, lists, vacant seats, and constituencies of singles and of winners without a seat.
+count <- function(book, returns) table_of(counted("count", book, returns))
+
+# Each seat with its step, the bounds of the divisors, and the seat table.
+steps <- function(book, returns) {
+  lines <- lines_of(counted("steps", book, returns))
+  kind <- sub(" .*", "", lines)
+  list(
+    seats = scoped(lines[kind == "seat"], c("entry", "number", "step", "mark")),
+    bounds = scoped(lines[kind == "bounds"], c("last", "next", "lot")),
+    table = table_of(paste(lines[!kind %in% c("seat", "bounds")], collapse = "\n"))
+  )
+}
+
+# The column of a stage.
+stage <- function(book, returns, name) {
+  words <- words_of(lines_of(counted("stage", book, returns, bytes(name))), c("entry", "value"))
+  words$value <- as.integer(words$value)
+  words
+}
+
+# The line of a good rulebook.
+check <- function(book) sub("\n$", "", text_of(ask("check", bytes(book)), function(language) told("explain_check", language, book)))
+
+# The tables of `report`, `totals` and `compare` as data frames, by jsonlite where it is there, and else as JSON.
+report <- function(book, returns, names = raw()) tables_of(counted("report", book, returns, bytes(names)))
+
+totals <- function(returns, book = raw(), names = raw()) tables_of(text_of(ask("totals", bytes(book), bytes(returns), bytes(names))))
+
+compare <- function(returns, books = paste0("@", c("1956", "1985", "2008", "2013", "2023", "2023-order")), names = raw()) {
+  tables_of(text_of(ask("compare", bytes(paste(books, collapse = "\n")), raw(), bytes(returns), bytes(names))))
+}
+
+# The lot records that returns lack at a tie, of the condition that the call raised.
+lots_lacking <- function(condition) {
+  lines <- grep("= \\w+: lot,", lines_of(condition$explanation("en")), value = TRUE)
+  cells <- strsplit(sub(".*: lot,", "", lines), ",")
+  cell <- function(i) vapply(cells, function(x) if (length(x) < i) "" else x[i], "")
+  data.frame(land = cell(1), party = cell(2), stage = cell(3), constituency = cell(4))
+}
+
+# ---- what the calls share
+
+bytes <- function(x) if (is.raw(x)) x else charToRaw(enc2utf8(paste(x, collapse = "\n")))
+
+ask <- function(name, ...) .Call(C_ask, name, list(...))
+
+told <- function(name, language, ...) ask(name, bytes(language), ...)[[2]]
+
+counted <- function(name, book, returns, ...) {
+  book <- bytes(book)
+  returns <- bytes(returns)
+  text_of(ask(name, book, returns, ...), function(language) told("explain_count", language, book, returns))
+}
+
+# The text of an answer that is done; any other one raises a condition with the line, and a function that explains it in a language.
+text_of <- function(answer, explanation = function(language) "") {
+  status <- answer[[1]]
+  if (status == 0) return(answer[[2]])
+  kind <- switch(as.character(status), "2" = "seatlaw_refused", "3" = "seatlaw_legal_fault", "5" = "seatlaw_no_memory", "seatlaw_failed")
+  line <- if (status %in% c(2, 3)) sub("\n.*$", "", answer[[2]]) else paste("the library answered", status)
+  stop(structure(
+    class = c(kind, "seatlaw_error", "error", "condition"),
+    list(message = line, call = NULL, line = line, status = status, explanation = explanation)
+  ))
+}
+
+lines_of <- function(text) strsplit(text, "\n", fixed = TRUE)[[1]]
+
+# Lines as rows of words.
+words_of <- function(lines, names) {
+  words <- strsplit(lines, " ", fixed = TRUE)
+  columns <- lapply(seq_along(names), function(i) vapply(words, function(x) x[i], ""))
+  names(columns) <- names
+  as.data.frame(columns, optional = TRUE)
+}
+
+numbers <- function(frame, names) {
+  frame[names] <- lapply(frame[names], as.integer)
+  frame
+}
+
+table_of <- function(text) {
+  lines <- lines_of(text)
+  kind <- sub(" .*", "", lines)
+  of <- function(word, names) words_of(sub("^\\S+ ", "", lines[kind == word]), names)
+  list(
+    total = as.integer(sub("total ", "", lines[kind == "total"])),
+    parties = numbers(of("party", c("party", "seats", "winners")), c("seats", "winners")),
+    lists = numbers(of("list", c("land", "party", "seats", "winners")), c("seats", "winners")),
+    vacant = numbers(of("vacant", c("land", "party", "seats")), "seats"),
+    singles = of("single", "constituency")$constituency,
+    open = of("open", "constituency")$constituency
+  )
+}
+
+# Lines with a stage and a scope, `all`, `land X`, `party P` or `list X P`, before other words.
+scoped <- function(lines, names) {
+  words <- strsplit(lines, " ", fixed = TRUE)
+  ends <- vapply(words, function(x) 2L + switch(x[3], all = 1L, land = 2L, party = 2L, list = 3L), 1L)
+  frame <- data.frame(stage = vapply(words, `[`, "", 2), scope = mapply(function(x, end) paste(x[3:end], collapse = " "), words, ends))
+  for (i in seq_along(names)) frame[[names[i]]] <- mapply(function(x, end) x[end + i], words, ends)
+  if ("mark" %in% names) frame$mark <- mapply(function(x, end) paste(x[(end + 4):length(x)], collapse = " "), words, ends)
+  if ("number" %in% names) frame <- numbers(frame, c("number", "step"))
+  if ("lot" %in% names) frame$lot <- !is.na(frame$lot)
+  frame
+}
+
+tables_of <- function(json) if (requireNamespace("jsonlite", quietly = TRUE)) jsonlite::fromJSON(json)$tables else json
