@@ -61,7 +61,7 @@ class Browser:
 class Chromium(Browser):
     name = "chromium"
 
-    def __init__(self, language, width=1200, height=900):
+    def __init__(self, language, width=1200, height=900, scheme="light"):
         super().__init__()
         self.number, self.attached, self.asked = 0, None, []
         to_child, self.out = os.pipe()
@@ -79,7 +79,11 @@ class Chromium(Browser):
         self.attached = self.call("Target.attachToTarget", targetId=target, flatten=True)["sessionId"]
         for domain in ("Page", "Runtime", "Network", "DOM"):
             self.call(domain + ".enable")
+        self.scheme(scheme)
         self.call("Page.addScriptToEvaluateOnNewDocument", source="Object.defineProperty(navigator, 'language', { get: () => %s });" % json.dumps(language))
+
+    def scheme(self, name):
+        self.call("Emulation.setEmulatedMedia", features=[{"name": "prefers-color-scheme", "value": name}])
 
     def message(self):
         while b"\0" not in self.rest:
@@ -139,7 +143,7 @@ class Chromium(Browser):
         self.press(key)
 
     def press(self, key):
-        code = {"Enter": 13, " ": 32, "ArrowRight": 39, "Tab": 9}.get(key, 0)
+        code = {"Enter": 13, " ": 32, "ArrowLeft": 37, "ArrowRight": 39, "PageUp": 33, "PageDown": 34, "Tab": 9}.get(key, 0)
         more = {"text": "\r"} if key == "Enter" else {"text": " "} if key == " " else {}
         self.call("Input.dispatchKeyEvent", type="keyDown", key=key, code=key, windowsVirtualKeyCode=code, **more)
         self.call("Input.dispatchKeyEvent", type="keyUp", key=key, code=key, windowsVirtualKeyCode=code)
@@ -167,13 +171,13 @@ class Chromium(Browser):
 class Firefox(Browser):
     name = "firefox"
 
-    def __init__(self, language, width=1200, height=900):
+    def __init__(self, language, width=1200, height=900, scheme="light"):
         super().__init__()
         self.number, self.asked = 0, []
         with socket.socket() as free:
             free.bind(("127.0.0.1", 0))
             port = free.getsockname()[1]
-        prefs = {"marionette.port": port, "intl.accept_languages": language, "browser.download.folderList": 2,
+        prefs = {"marionette.port": port, "layout.css.prefers-color-scheme.content-override": 0 if scheme == "dark" else 1, "intl.accept_languages": language, "browser.download.folderList": 2,
                  "browser.download.dir": self.downloads, "browser.download.useDownloadDir": True, "browser.download.always_ask_before_handling_new_types": False,
                  "datareporting.policy.dataSubmissionEnabled": False, "app.update.enabled": False,
                  "browser.shell.checkDefaultBrowser": False, "network.captive-portal-service.enabled": False, "network.connectivity-service.enabled": False}
@@ -240,7 +244,7 @@ class Firefox(Browser):
         self.press(key)
 
     def press(self, key):
-        value = {"Enter": "\ue007", "ArrowRight": "\ue014", "Tab": "\ue004"}.get(key, key)
+        value = {"Enter": "\ue007", "ArrowLeft": "\ue012", "ArrowRight": "\ue014", "PageUp": "\ue00e", "PageDown": "\ue00f", "Tab": "\ue004"}.get(key, key)
         actions = [{"type": "keyDown", "value": value}, {"type": "keyUp", "value": value}]
         self.call("WebDriver:PerformActions", actions=[{"type": "key", "id": "keys", "actions": actions}])
 

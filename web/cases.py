@@ -72,6 +72,7 @@ def examples():
                 yield Case("stage", book, returns, name)
             yield from reports(book, returns)
             yield from explanations(book, returns)
+            yield Case("show", book, returns)
     for law in (*LAWS, "", "1999", "2023 ", "2023\u00e4"):
         yield Case("law", name=law)
     for path in sorted(ELECTIONS.glob("20*.csv")):
@@ -109,7 +110,7 @@ def rows():
 
 # How often of a hundred random inputs each command is tried.
 COMMANDS = {
-    "count": 25, "steps": 22, "stage": 12, "check": 4, "law": 1, "report": 10, "totals": 5, "compare": 5, "explain_count": 12, "explain_check": 4,
+    "show": 10, "count": 20, "steps": 17, "stage": 12, "check": 4, "law": 1, "report": 10, "totals": 5, "compare": 5, "explain_count": 12, "explain_check": 4,
 }
 
 

@@ -56,8 +56,18 @@ def by_program(program, folder, case):
         if isinstance(data, bytes):
             with open(os.path.join(folder, name), "wb") as f:
                 f.write(data)
+    if case.command == "show":
+        return all_by_program(program, folder, case)
     done = subprocess.run([program, *words_of(case)], cwd=folder, capture_output=True, timeout=120)
     return done.returncode, done.stderr if case.command.startswith("explain_") else done.stdout
+
+
+def all_by_program(program, folder, case):
+    """What the program writes by the commands whose texts `show` hands over behind one another, and the exit status of the count."""
+    names = ["--names", "names"] if case.names else []
+    parts = (["count", "--lang", case.language], ["steps"], ["report", "--json", *names], ["stages", "--json", *names])
+    ran = [subprocess.run([program, *words, "--", "book", "returns"], cwd=folder, capture_output=True, timeout=120) for words in parts]
+    return ran[0].returncode, b"".join(one.stdout for one in ran) + ran[0].stderr
 
 
 def call_of(case, laws):
@@ -71,15 +81,16 @@ def call_of(case, laws):
         "report": [book, case.returns, case.names],
         "totals": [book, case.returns, case.names],
         "compare": ["\n".join(case.name.split()).encode(), book, case.returns, case.names],
+        "show": [book, case.returns, case.names],
     }
     command = case.command.removeprefix("explain_")
-    language = [case.language.encode()] if command != case.command else []
+    language = [case.language.encode()] if command != case.command or command == "show" else []
     return [case.command, *language, *inputs.get(command, [book, case.returns])]
 
 
 def told(case, laws):
     """The case of an explanation with the text of its book in place of a name, since the explanation names the file."""
-    if case.command.startswith("explain_") and isinstance(case.book, str):
+    if (case.command.startswith("explain_") or case.command == "show") and isinstance(case.book, str):
         return case._replace(book=laws[case.book[1:]])
     return case
 

@@ -3,14 +3,27 @@
 
 // The least and the greatest room for a text. A text that is longer than a room is asked for again with a larger one.
 const LEAST_ROOM = 1 << 20;
+// How many parts the text of `show` has, behind one another; any other call has one.
+const SHOWN_PARTS = 5;
 const MOST_ROOM = 1 << 29;
+// A memory that has grown beyond this is given back after the call, since a memory never shrinks.
+const KEPT_MEMORY = 1 << 28;
 // What a call answers where memory ran out, and where the room is too small.
 const NO_MEMORY = 5;
 const NO_ROOM = 6;
+// What the page answers for a call that failed otherwise, that was cancelled, and whose worker died twice.
+const FAILED = 8;
+const CANCELLED = 9;
+const LOST = 10;
 
 // Whether this browser has memories of 64 bits: a module of no more than such a memory.
 const hasWideMemory = () =>
   typeof WebAssembly === "object" && WebAssembly.validate(new Uint8Array([0, 97, 115, 109, 1, 0, 0, 0, 5, 3, 1, 4, 1]));
+
+class NoMemory extends Error {}
+
+// What an error comes to: memory that cannot be had, or anything else.
+const statusOf = error => (error instanceof NoMemory || (/^(Range|Internal)Error$/.test(error.name) && /memory|allocat/i.test(error.message)) ? NO_MEMORY : FAILED);
 
 class Desk {
   constructor(code) {
@@ -21,26 +34,29 @@ class Desk {
   // Room in the module's memory, with these bytes at its begin.
   room(length, bytes) {
     const at = this.calls.page_room(BigInt(Math.max(length, 1)));
-    if (!at) throw new RangeError("memory");
+    if (!at) throw new NoMemory("no room of " + length + " bytes");
     if (bytes) new Uint8Array(this.calls.memory.buffer).set(bytes, Number(at));
     return at;
   }
 
-  // One call with a room of that length for its text.
+  // One call with a room of that length for its text, and where each part of it ends.
   tried(name, inputs, length) {
+    const call = this.calls["page_" + name];
+    if (!call) throw new TypeError("the module has no call " + name);
     const taken = inputs.map(bytes => this.room(bytes.length, bytes));
     const words = inputs.flatMap((bytes, i) => [taken[i], BigInt(bytes.length)]);
     const out = this.room(length);
-    const count = this.room(8);
-    const status = this.calls["page_" + name](...words, out, BigInt(length), count);
+    const count = name === "show" ? SHOWN_PARTS : 1;
+    const places = this.room(8 * count);
+    const status = call(...words, out, BigInt(length), places);
     const memory = this.calls.memory.buffer;
-    const written = Number(new DataView(memory).getBigUint64(Number(count), true));
-    const bytes = new Uint8Array(memory).slice(Number(out), Number(out) + written);
-    for (const at of [...taken, out, count]) this.calls.page_free(at);
-    return { status, bytes };
+    const ends = Array.from({ length: count }, (_, i) => Number(new DataView(memory).getBigUint64(Number(places) + 8 * i, true)));
+    const bytes = new Uint8Array(memory).slice(Number(out), Number(out) + ends[count - 1]);
+    for (const at of [...taken, out, places]) this.calls.page_free(at);
+    return { status, bytes, ends };
   }
 
-  // What a call answers: its status and its text. After an error the module begins anew.
+  // What a call answers: its status, its text, and where its parts end. After an error, and after a call that took much memory, the module begins anew.
   call(name, inputs) {
     try {
       if (!this.calls) this.calls = new WebAssembly.Instance(this.code, {}).exports;
@@ -50,10 +66,11 @@ class Desk {
         length *= 8;
         answer = this.tried(name, inputs, length);
       }
+      if (this.calls.memory.buffer.byteLength > KEPT_MEMORY) this.calls = null;
       return answer;
     } catch (error) {
       this.calls = null;
-      return { status: NO_MEMORY, bytes: new Uint8Array(0), error: String(error) };
+      return { status: statusOf(error), bytes: new Uint8Array(0), error: String(error) };
     }
   }
 }

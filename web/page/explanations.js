@@ -18,15 +18,21 @@ const explanations = (() => {
     };
   };
 
-  // Asks why a command gives nothing to show: the answer in each language of the page.
-  const ask = async (command, ...inputs) => {
+  // The word of the page's language.
+  const word = () => LANGUAGES[language];
+
+  // Why a command gives nothing to show, in each language of the page: the text in one of them is known, and the others are asked for.
+  const completed = async (known, text, command, ...inputs) => {
     const told = [];
-    for (const word of LANGUAGES) {
-      const { bytes } = await calls.ask("explain_" + command, encoded(word), ...inputs);
-      told.push(read(decoded(bytes)));
+    for (const each of LANGUAGES) {
+      const other = each === known ? null : await calls.ask("explain_" + command, encoded(each), ...inputs);
+      told.push(read(other ? decoded(other.bytes) : text));
     }
     return told;
   };
+
+  // Asks for it in all of them.
+  const ask = (command, ...inputs) => completed(null, "", command, ...inputs);
 
   // The offsets of the begin and the end of a place in a text. A line ends at LF, at CR, or at both.
   const spanOf = (text, { line, column, width }) => {
@@ -49,5 +55,5 @@ const explanations = (() => {
     el("p", { class: "sentence" }, spoken(told.sentence)),
     told.remedies.length ? el("ul", {}, told.remedies.map(remedy => el("li", {}, spoken(remedy)))) : null);
 
-  return { ask, spanOf, spoken, part };
+  return { word, ask, completed, spanOf, spoken, part };
 })();

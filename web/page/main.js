@@ -1,235 +1,348 @@
 // The page: what is shown when, and what happens on what is pressed, dropped and chosen.
 const page = (() => {
-  const say = (key, ...words) => shown(byId("status"), t(key, ...words));
+  // ---- what is told
 
-  const winnerOf = name => state.returns.facts.wins.find(w => w.name === name) || { name, land: "", party: "", votes: 0, of: 0 };
+  let said = [];
+  const say = (key, ...words) => {
+    said = [key, ...words];
+    shown(byId("status"), key ? t(key, ...words) : null);
+    byId("cancel").hidden = key !== "counting";
+    byId("again").hidden = key !== "cancelled";
+  };
 
-  // ---- results
+  // Messages about files, each a key and its words, which stay until something else is taken.
+  const tell = problems => shown(byId("message"), problems.map(([key, ...words]) => el("p", { class: "refused", role: "alert" }, t(key, ...words))));
 
-  // What the desk answers of one rulebook.
-  const resultOf = async book => {
-    const counted = await calls.ask("count", book.bytes, state.returns.bytes);
-    const result = { book, status: counted.status, text: decoded(counted.bytes), took: counted.took };
-    if (counted.status !== 0) {
-      result.told = await explanations.ask("count", book.bytes, state.returns.bytes);
-      return result;
+  // ---- what is counted
+
+  const { shownResult } = results;
+  let showing = 0;
+
+  // Shows what was counted; what is shown later takes the place of what is under way.
+  const showResults = async () => {
+    const turn = ++showing;
+    const result = shownResult();
+    const made = result && !results.isRefused(result) ? await results.articleInTurns(result, () => turn === showing) : null;
+    if (turn !== showing) return;
+    byId("result-part").hidden = !result || results.isRefused(result);
+    results.showHead(result);
+    renewed(byId("comparison"), state.compared ? comparison.part(state.compared, state.shownId, showBook) : null);
+    renewed(byId("results"), made);
+    if (state.isOld) markOld();
+    document.body.dataset.shown = String(turn);
+  };
+
+  // Marks what stands there as that of a count before: it is not saved.
+  const markOld = () => {
+    state.isOld = true;
+    document.body.classList.add("old");
+    byId("results").setAttribute("aria-busy", "true");
+    const menu = byId("save-menu");
+    if (menu) menu.open = false;
+    for (const save of document.querySelectorAll("#save-place button")) save.disabled = true;
+    shown(byId("old-note"), state.counted ? t("oldNote", state.counted) : null);
+  };
+
+  // Counts by the rulebook that is shown, and compares all that are chosen. Nothing where a later count has begun.
+  const asked = async (books, isStill) => {
+    const given = { ...state.returns, base: state.base, changes: changes.copy(state.changes) };
+    const { bytes } = given;
+    const book = inputs.shownBook(books);
+    const result = book ? await answers.of(book, bytes) : await answers.withoutBook(state.laws[state.laws.length - 1], bytes);
+    if (!isStill()) return null;
+    const compared = books.length > 1 && result.status !== 2 ? await answers.compared(books, bytes) : null;
+    result.given = given;
+    result.sums = await sources.sumsOf(book, bytes);
+    return isStill() ? { book, result, compared } : null;
+  };
+
+  // Counts anew; a later count takes the place of one that is under way. Whatever goes wrong is told, and the count is over.
+  const recount = async () => {
+    const turn = ++state.turn;
+    try {
+      await counted(turn);
+    } catch (error) {
+      say("failedPart", String(error));
+      document.body.dataset.counted = String(turn);
     }
-    result.table = outputs.tableOf(outputs.linesOf(result.text));
-    const stepped = await calls.ask("steps", book.bytes, state.returns.bytes);
-    result.stepsText = decoded(stepped.bytes);
-    result.steps = stepped.status === 0 ? outputs.stepsOf(result.stepsText) : null;
-    return result;
   };
 
-  // What the rulebooks come to side by side, as `compare` has it; nothing where they cannot be compared.
-  const comparedOf = async books => {
-    if (books.length < 2) return null;
-    const own = books.find(book => book.word === OWN_WORD);
-    const words = encoded(books.map(book => book.word).join("\n"));
-    return outputs.tablesOf(await calls.ask("compare", words, own ? own.bytes : NO_BYTES, state.returns.bytes, NO_BYTES));
+  const counted = async turn => {
+    markOld();
+    if (!state.returns) {
+      Object.assign(state, { results: new Map(), compared: null, refusal: null, shownId: null, counted: "" });
+      markNew();
+      inputs.showReturns(null, changeCell);
+      await showResults();
+      say(null);
+      document.body.dataset.counted = String(turn);
+      return;
+    }
+    say("counting");
+    const books = inputs.chosenBooks();
+    const found = await asked(books, () => turn === state.turn);
+    if (!found || turn !== state.turn) return;
+    const id = found.book ? found.book.id : "";
+    Object.assign(state, { results: new Map([[id, found.result]]), shownId: id, compared: found.compared, counted: state.returns.name });
+    state.refusal = found.result.status === 2 && found.result.text.startsWith("refused returns") ? found.result : null;
+    await shownAll(found.result);
+    if (turn !== state.turn) return;
+    say(state.refusal ? "refusedShort" : found.book ? "counted" : "noBookChosen", state.returns.name);
+    document.body.dataset.counted = String(turn);
   };
 
-  // A legal fault; of a tie with the form in which it is drawn.
-  const legalFault = (result, line) => {
-    const fault = outputs.faultOf(line);
-    const told = result.told[language];
-    const add = records => {
-      inputs.append(records);
-      recount();
-    };
-    const form = fault.kind === "tie" ? ties.form(fault, told, add) : null;
-    return el("div", { class: "fault" },
-      el("p", { role: "alert" }, el("strong", {}, t("fault")), " (", fault.stage, ", ", steps.scopeName(fault.scope), ")"),
-      el("p", {}, el("code", {}, line)),
-      explanations.part(form ? ties.withoutRecords(told) : told),
-      form);
+  // What stands there is that of the last count.
+  const markNew = () => {
+    state.isOld = false;
+    document.body.classList.remove("old");
+    byId("results").removeAttribute("aria-busy");
   };
 
-  // A result without a table.
-  const refusal = result => {
-    const line = result.text.trimEnd();
-    if (result.status === 3) return legalFault(result, line);
-    if (result.status === 2) return el("div", { class: "refused" }, el("p", {}, el("strong", {}, t("refusedOther")), ": ", el("code", {}, line)));
-    return el("p", { class: "refused", role: "alert" }, t("noMemory"), " ", result.error || "");
+  const shownAll = async result => {
+    markNew();
+    inputs.showReturns(result, changeCell);
+    if (state.refusal || result.status !== 0) byId("giving").open = byId("giving").open || Boolean(state.refusal);
+    await pause();
+    showColours();
+    await showResults();
   };
 
-  // A table: the house, the parties, and the parts that are opened.
-  const seated = result => {
-    const detail = el("div", { class: "seat-steps", "aria-live": "polite" });
-    const choose = seat => shown(detail, steps.ofSeat(result, seat));
-    return [
-      house.picture(result.table, winnerOf, state.withPatterns, choose),
-      detail,
-      tables.parties(result, winnerOf),
-      tables.lists(result),
-      tables.others(result, winnerOf),
-      result.steps ? [margins.all(result), steps.all(result)] : null,
-      steps.columns(result),
-    ];
+  // Shows another of the chosen rulebooks in full.
+  const showBook = book => {
+    state.shown = book.id;
+    return recount();
   };
 
-  const article = result =>
-    el("article", { class: "result", "data-book": result.book.name, "aria-label": t("resultOf", result.book.title) },
-      el("h3", {}, t("resultOf", result.book.title)),
-      result.table ? seated(result) : refusal(result),
-      saving.buttons(result));
+  // ---- changes
+
+  let soon = 0;
+  const changeSoon = () => {
+    clearTimeout(soon);
+    inputs.change();
+    markOld();
+    soon = setTimeout(recount, 30);
+  };
+
+  const changeCell = (number, k, text) => {
+    const before = state.base.records[number];
+    if (before && before.cells[k] === text) state.changes.cells.delete(number + ":" + k);
+    else state.changes.cells.set(number + ":" + k, text);
+    inputs.change();
+    return recount();
+  };
+
+  const resetChanges = () => {
+    state.changes = changes.none();
+    state.reset += 1;
+    inputs.change();
+    return recount();
+  };
+
+  // ---- words and colours
 
   // The choices of colours, where that part is open.
   const showColours = () => {
     const parties = state.returns && byId("colours-part").open ? state.returns.facts.parties : [];
-    shown(byId("colours"), parties.map(party => el("label", { class: "colour" },
+    renewed(byId("colours"), parties.map(party => el("label", { class: "colour" },
       el("input", {
-        type: "color", value: colours.of(party), "aria-label": t("colourOf", names.party(party)),
-        onchange: event => {
+        type: "color", value: colours.of(party), "aria-label": t("colourOf", names.party(party)), "data-key": "colour " + party,
+        oninput: event => {
           colours.choose(party, event.target.value);
-          showResults();
+          house.recolour(byId("result-part"), state.withPatterns);
         },
-      }), " ", names.party(party))));
+      }), " ", el("bdi", {}, names.party(party)))));
   };
 
-  const pause = () => new Promise(resolve => setTimeout(resolve, 0));
-  let showing = 0;
-
-  // Shows a result after the other, so that large ones do not block the page; what is shown later takes the place of what is under way.
-  const showResults = async () => {
-    const turn = ++showing;
-    document.body.classList.toggle("with-patterns", state.withPatterns);
-    byId("result-part").hidden = !state.results.length;
-    byId("save-returns").hidden = !state.returns || !state.returns.facts.lots;
-    const place = el("div", { class: "side-by-side" });
-    shown(byId("results"), place);
-    if (state.compared) byId("results").prepend(tables.comparison(state.compared, state.results));
-    for (const result of state.results) {
-      await pause();
-      if (turn !== showing) return;
-      place.append(article(result));
-    }
-    document.body.dataset.shown = String(turn);
+  // The elections of the examples, to begin with or to compare with.
+  const showElections = () => {
+    const by = law => el("span", {}, t("electionBy", law === "2023-order" ? t("orderShort") : law));
+    renewed(byId("elections"), ELECTIONS.map(([year, law]) =>
+      el("button", { type: "button", class: "election", "data-key": "election " + year, "data-election": year, onclick: () => takeElection(year, law) },
+        el("b", {}, year), " ", by(law))));
+    renewed(byId("before"), [["", t("noBefore")], ...ELECTIONS.map(([year]) => [year, t("electionOf", year)])].map(([value, text]) =>
+      el("option", { value, selected: state.before ? state.before.name === value : value === "" }, text)));
   };
-
-  // Sums up the returns, and counts anew by each chosen rulebook; a later count takes the place of one that is under way.
-  const recount = async () => {
-    const turn = ++state.turn;
-    Object.assign(state, { results: [], compared: null, totals: [] });
-    if (state.returns) {
-      say("counting");
-      const books = inputs.chosenBooks();
-      const totals = await inputs.totalsOf(books);
-      if (turn !== state.turn) return;
-      state.totals = totals;
-      inputs.showReturns();
-      const results = [];
-      for (const book of books) {
-        results.push(await resultOf(book));
-        if (turn !== state.turn) return;
-      }
-      const compared = await comparedOf(books);
-      if (turn !== state.turn) return;
-      Object.assign(state, { results, compared });
-    }
-    inputs.showReturns();
-    await pause();
-    showColours();
-    await showResults();
-    if (turn !== state.turn) return;
-    if (state.results.length) say("counted", state.results.reduce((sum, r) => sum + r.took, 0).toFixed(1).replace(".", point()));
-    else say("ready");
-    document.body.dataset.counted = String(turn);
-  };
-
-  // ---- words
 
   const showWords = () => {
     document.documentElement.lang = language ? "en" : "de";
     document.title = t("title");
     for (const part of document.querySelectorAll("[data-t]")) shown(part, t(part.dataset.t));
-    for (const button of document.querySelectorAll("[data-language]")) {
-      button.setAttribute("aria-pressed", String(Number(button.dataset.language) === language));
-    }
+    for (const button of document.querySelectorAll("[data-language]")) button.setAttribute("aria-pressed", String(Number(button.dataset.language) === language));
     shown(byId("sum"), t("sumOf", byId("module").dataset.sum));
+    shown(byId("template-text"), TEMPLATE);
   };
 
   const showAll = () => {
     showWords();
+    say(...said);
+    showElections();
     inputs.showBooks(recount);
     inputs.showOwn();
-    inputs.showReturns();
+    showNames();
+    inputs.showReturns(shownResult(), changeCell);
     showColours();
-    showResults();
+    return showResults();
   };
 
-  // ---- what is pressed, dropped and chosen
+  const showNames = () => {
+    const file = names.file();
+    shown(byId("names-answer"), file ? [el("bdi", {}, file.name), " ", el("button", { type: "button", "data-key": "names-remove", onclick: removeNames }, t("namesRemove"))] : null);
+  };
 
-  const takeReturns = (name, bytes) => {
+  // ---- what is taken
+
+  let examples = {};
+  const exampleText = name => examples[name + ".csv"];
+
+  const takeReturns = async (name, bytes) => {
+    tell([]);
     inputs.takeReturns(name, bytes);
-    return recount();
+    await recount();
+    const result = shownResult();
+    if (state.refusal) byId("returns-answer").scrollIntoView();
+    if (!result || result.status === 2 || !result.book) return;
+    byId("giving").open = false;
+    byId("result-part").focus({ preventScroll: true });
+    byId("work").scrollIntoView();
   };
 
-  const onFile = (id, take) => byId(id).addEventListener("change", async event => {
-    const file = event.target.files[0];
-    if (file) await take(file.name, await inputs.readFile(file));
-    event.target.value = "";
-  });
+  const takeElection = (year, law) => {
+    state.chosen = new Set([law]);
+    state.shown = law;
+    state.own = null;
+    inputs.showBooks(recount);
+    inputs.showOwn();
+    return takeReturns(year + ".csv", encoded(exampleText(year)));
+  };
 
-  const takeBook = async (name, bytes) => {
-    await inputs.takeBook(name, bytes);
+  const takeBook = async (name, bytes, isFile) => {
+    tell([]);
+    await inputs.takeBook(name, bytes, isFile);
     await recount();
   };
 
-  const takeNames = (name, bytes) => {
-    const count = names.read(decoded(bytes));
-    for (const result of state.results) result.report = null;
-    showAll();
-    shown(byId("names-answer"), t("namesTaken", count));
+  const takeNames = async (name, bytes) => {
+    const why = await names.refused(bytes);
+    if (why) return ["refusedNames", name, why];
+    tell([]);
+    names.use({ name, bytes });
+    showNames();
+    await recount();
+    return null;
   };
 
-  // Takes a file by what it begins with: a rulebook, full names, or else returns.
-  const takeAny = async file => {
-    const bytes = await inputs.readFile(file);
-    const head = decoded(bytes.slice(0, 2000)).replace(/^\s*(#.*\n\s*)*/, "");
-    if (/^rulebook\b/.test(head)) await takeBook(file.name, bytes);
-    else if (/^\ufeff?(kind[,;]name\b|[^,;\r\n]*[,;][^,;\r\n]*[\r\n])/.test(head)) takeNames(file.name, bytes);
-    else await takeReturns(file.name, bytes);
+  const removeNames = () => {
+    names.use(null);
+    showNames();
+    return recount();
   };
 
-  // Files may be dropped anywhere.
+  const takers = { book: (name, bytes) => takeBook(name, bytes, true), returns: takeReturns, names: takeNames };
+
+  // Takes a file as what it is chosen for, or as what the desk knows it for. What keeps it from being taken is the answer.
+  const takeFile = async (file, kind) => {
+    if (!kind && file.size > files.MOST.returns) return ["tooLarge", file.name, grouped(file.size), grouped(files.MOST.returns)];
+    const { bytes, error } = await files.read(file, kind ? files.MOST[kind] : files.MOST.returns);
+    if (error) return ["unreadable", file.name, String(error.message || error)];
+    const known = kind || (await files.kindOf(bytes));
+    const problem = await takers[known](file.name, bytes);
+    document.body.dataset.taken = known + " " + file.name;
+    return problem || null;
+  };
+
+  // Takes files one after the other, and tells of those that could not be taken.
+  const takeFiles = async (given, kind) => {
+    const problems = [];
+    for (const file of given) {
+      const problem = await takeFile(file, kind);
+      if (problem) problems.push(problem);
+    }
+    if (problems.length) tell(problems);
+  };
+
+  const onFile = (id, kind) => byId(id).addEventListener("change", async event => {
+    try {
+      await takeFiles([...event.target.files], kind);
+    } finally {
+      event.target.value = "";
+    }
+  });
+
+  // Files may be dropped anywhere; text that is dragged is left to the browser.
   const onDrop = zone => {
+    const hasFiles = event => Boolean(event.dataTransfer) && event.dataTransfer.types.includes("Files");
     document.addEventListener("dragover", event => {
+      if (!hasFiles(event)) return;
       event.preventDefault();
       zone.classList.add("over");
     });
-    document.addEventListener("dragleave", () => zone.classList.remove("over"));
+    for (const kind of ["dragleave", "dragend", "drop"]) document.addEventListener(kind, () => zone.classList.remove("over"));
     document.addEventListener("drop", async event => {
+      if (!hasFiles(event)) return;
       event.preventDefault();
-      zone.classList.remove("over");
-      for (const file of [...event.dataTransfer.files]) await takeAny(file);
+      await takeFiles([...event.dataTransfer.files], null);
     });
   };
 
-  const listen = () => {
-    for (const button of document.querySelectorAll("[data-language]")) {
-      button.addEventListener("click", () => {
-        language = Number(button.dataset.language);
+  // Compares with an election of the examples, counted by its statute.
+  const takeBefore = async year => {
+    const law = ELECTIONS.find(([own]) => own === year);
+    state.before = null;
+    if (law) {
+      const { status, bytes } = await calls.ask("count", state.laws.find(own => own.name === law[1]).bytes, encoded(exampleText(year)));
+      const table = status === 0 ? outputs.tableOf(outputs.linesOf(decoded(bytes))) : null;
+      if (table) state.before = { name: year, total: table.total, seats: new Map(table.parties.map(p => [p.party, p.seats])) };
+    }
+    await showResults();
+  };
+
+  // ---- what is pressed
+
+  const onClick = (id, act) => byId(id).addEventListener("click", act);
+
+  const listenToInputs = () => {
+    onDrop(byId("drop"));
+    onFile("returns-file", "returns");
+    onFile("own-file", "book");
+    onFile("names-file", "names");
+    onClick("take", () => takeReturns(t("pasted"), encoded(byId("returns-text").value)));
+    onClick("clear", () => {
+      tell([]);
+      inputs.clear();
+      byId("giving").open = true;
+      recount();
+    });
+    onClick("template", saving.saveTemplate);
+    onClick("own-take", () => takeBook(state.own ? state.own.name : t("ownBook"), encoded(byId("own-text").value), false));
+    onClick("own-remove", () => {
+      inputs.removeBook();
+      recount();
+    });
+  };
+
+  const listenToChoices = () => {
+    for (const choice of document.querySelectorAll("[data-language]")) {
+      choice.addEventListener("click", () => {
+        language = Number(choice.dataset.language);
         showAll();
       });
     }
-    onDrop(byId("drop"));
-    onFile("returns-file", takeReturns);
-    byId("take").addEventListener("click", () => takeReturns(t("pasted"), encoded(byId("returns-text").value)));
-    byId("example").addEventListener("click", () => takeReturns("covered.csv", encoded(EXAMPLE)));
-    byId("clear").addEventListener("click", () => takeReturns("", new Uint8Array(0)));
-    onFile("own-file", takeBook);
-    byId("own-take").addEventListener("click", () => takeBook(state.own ? state.own.name : t("ownBook"), encoded(byId("own-text").value)));
-    byId("own-remove").addEventListener("click", () => takeBook("", new Uint8Array(0)));
-    onFile("names-file", takeNames);
+    onClick("cancel", () => {
+      state.turn += 1;
+      say("cancelled");
+      calls.cancel();
+    });
+    onClick("again", recount);
+    onClick("print", () => window.print());
     byId("patterns").addEventListener("change", event => {
       state.withPatterns = event.target.checked;
-      showResults();
+      document.body.classList.toggle("with-patterns", state.withPatterns);
+      house.recolour(byId("result-part"), state.withPatterns);
     });
+    byId("before").addEventListener("change", event => takeBefore(event.target.value));
     byId("colours-part").addEventListener("toggle", showColours);
-    byId("save-returns").addEventListener("click", saving.saveReturns);
-    byId("save-page").addEventListener("click", saving.savePage);
-    byId("print").addEventListener("click", () => window.print());
+    byId("whatif-part").addEventListener("toggle", results.showForm);
+    byId("records-part").addEventListener("toggle", () => state.returns && byId("records-part").open && records.show(changeCell));
   };
 
   const start = async () => {
@@ -239,12 +352,16 @@ const page = (() => {
       return;
     }
     try {
+      state.changes = changes.none();
+      Object.assign(results.acts, { recount, show: showResults, reset: resetChanges, change: changeSoon });
       await calls.start();
+      examples = JSON.parse(decoded(await unpacked("examples")));
       await inputs.readLaws();
-      listen();
-      showAll();
+      listenToInputs();
+      listenToChoices();
+      await showAll();
       byId("work").hidden = false;
-      say("ready");
+      say(null);
       document.body.dataset.ready = performance.now().toFixed(0);
     } catch (error) {
       byId("too-old").hidden = false;
@@ -252,7 +369,8 @@ const page = (() => {
     }
   };
 
-  return { start, ask: calls.ask, takeReturns, recount, state, saving };
+  // What a test of the page calls.
+  return { start, ask: calls.ask, takeReturns, recount, state, saving, shownResult, article: results.article, calls, Desk, statusOf, encoded, unpacked };
 })();
 
 window.page = page;

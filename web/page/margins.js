@@ -1,11 +1,5 @@
 // Of each scope the divisor, its quotients, the last seat and the next claim; of its entries the votes missing for one more seat: as `report` has them.
 const margins = (() => {
-  // The tables of a result's report, asked for once.
-  const tablesOf = result => {
-    result.report = result.report || calls.ask("report", result.book.bytes, state.returns.bytes, names.bytes()).then(outputs.tablesOf);
-    return result.report;
-  };
-
   // The divisor of a scope, or its quota.
   const divisor = (row, bounds) =>
     row.divisor !== null ? decimal(row.divisor)
@@ -13,7 +7,8 @@ const margins = (() => {
         : bounds && bounds.lot ? t("byLot") : "–";
 
   const keyOf = row => row.stage + " " + row.scope;
-  const nameOf = row => row.stage + ", " + steps.scopeName(row.scope.split(" "));
+  const scopeOf = row => row.scope.split(" ");
+  const nameOf = row => t("stageOf", row.stage, steps.scopeName(scopeOf(row)));
 
   // The scopes, with the quotients of the lines `bounds`.
   const scopes = (rows, allBounds) => {
@@ -21,7 +16,7 @@ const margins = (() => {
     const cellsOf = row => {
       const own = bounds.get(keyOf(row));
       return [
-        row.stage, steps.scopeName(row.scope.split(" ")), row.seats, { aligned: divisor(row, own) },
+        row.stage, steps.scopeName(scopeOf(row)), row.seats, { aligned: divisor(row, own) },
         own ? steps.quotient(own.last) : "–", row.last || "–", own ? steps.quotient(own.next) : "–", row.next || "–",
       ];
     };
@@ -29,32 +24,28 @@ const margins = (() => {
     return tableWith(t("bounds"), heads.map(head => t(head)), rows.map(cellsOf), { class: "bounds" });
   };
 
-  // The entries of one scope.
-  const entries = (name, rows) => {
+  // The entries of one scope. Votes are people where a stage gives seats to Länder.
+  const entries = (result, scope) => {
+    const rows = result.report.entries.filter(row => keyOf(row) === keyOf(scope));
     const withMinima = rows.some(row => row.minimum !== null);
     const number = value => (value === null ? { aligned: "–" } : value);
+    const kindOf = row => shapes.kindOf(result, row.stage, scopeOf(row), row.entry);
     const cellsOf = row => [
-      names.entry(row.entry), row.votes, { aligned: decimal(row.quotient) }, row.seats, ...(withMinima ? [number(row.minimum)] : []), number(row.missing),
+      names.entry(row.entry, kindOf(row)), row.votes, { aligned: row.quotient === null ? "–" : decimal(row.quotient) }, row.seats, ...(withMinima ? [number(row.minimum)] : []), number(row.missing),
     ];
-    const heads = ["entry", "votes", "quotient", "seats", ...(withMinima ? ["minimum"] : []), "missing"];
-    return tableWith(name, heads.map(head => t(head)), rows.map(cellsOf), { class: "missing" });
+    const weight = rows.length && kindOf(rows[0]) === "land" && scope.scope === "all" ? "people" : "votes";
+    const heads = ["entry", weight, "quotient", "seats", ...(withMinima ? ["minimum"] : []), "missing"];
+    return tableWith(nameOf(scope), heads.map(head => t(head)), rows.map(row => ({ data: { "data-entry": row.entry }, cells: cellsOf(row) })), { class: "missing" });
   };
 
-  const all = result => opened(t("bounds"), async body => {
-    const tables = await tablesOf(result);
-    if (!tables) return shown(body, t("noMemory"));
-    const place = el("div", { "aria-live": "polite" });
-    const show = () => {
-      const scope = tables.scopes[select.selectedIndex];
-      shown(place, entries(nameOf(scope), tables.entries.filter(row => keyOf(row) === keyOf(scope))));
-    };
-    const select = el("select", { onchange: show }, tables.scopes.map(row => el("option", { value: keyOf(row) }, nameOf(row))));
-    shown(body,
+  const all = result => opened("bounds", t("bounds"), body => {
+    if (!result.report) return shown(body, t("noMemory"));
+    const scopeByKey = new Map(result.report.scopes.map(row => [keyOf(row), row]));
+    return shown(body,
       el("p", { class: "note" }, t("boundsNote")),
-      scopes(tables.scopes, result.steps.bounds),
+      scopes(result.report.scopes, result.steps.bounds),
       el("p", { class: "note" }, t("missingNote")),
-      el("label", {}, t("scope"), " ", select), place);
-    if (tables.scopes.length) show();
+      chooser("bounds-scope", t("scope"), [...scopeByKey].map(([key, row]) => [key, nameOf(row)]), key => entries(result, scopeByKey.get(key))));
   }, { class: "bounds" });
 
   return { all };

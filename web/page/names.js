@@ -1,52 +1,59 @@
-// Full names and colours of parties, Länder and constituencies: from a csv file with the columns kind, name, full, colour, or with the short name and the
-// full one alone, as `--names` takes them.
+// Full names of parties, Länder and constituencies. The program reads the file of names; what the page shows are the names in the program's tables.
 const names = (() => {
+  // How parties of the Bundestag that the examples name in capitals write themselves.
+  const PROPER = { AFD: "AfD", GRUENE: "Grüne", LINKE: "Linke" };
+  // Returns that are good, for which a file of names is tried.
+  const TRIAL = "kind,land,party,a,b,c\nland,X,,1,,\n";
+  const NONE = new Uint8Array(0);
   const full = { party: new Map(), land: new Map(), win: new Map() };
-  const colours = new Map();
+  let file = null;
 
-  // Reads a file in place of what was read before, and answers how many names it has. Semicolons serve as commas.
-  const read = text => {
-    for (const map of Object.values(full)) map.clear();
-    colours.clear();
-    const commas = text.split("\n")[0].includes(";") ? text.replace(/;/g, ",") : text;
-    let count = 0;
-    for (const record of returns.recordsOf(commas)) {
-      const cells = record.cells.map(cell => cell.trim());
-      if (cells.length === 2) {
-        for (const map of Object.values(full)) map.set(...cells);
-        count += 1;
-        continue;
-      }
-      const [kind, name, long, colour] = cells;
-      if (!Object.hasOwn(full, kind) || !name) continue;
-      if (long) full[kind].set(name, long);
-      if (kind === "party" && /^#[0-9a-fA-F]{6}$/.test(colour || "")) colours.set(name, colour.toLowerCase());
-      count += 1;
+  const note = (kind, rows, key) => {
+    for (const row of rows || []) {
+      if (row[key] !== null && row[key + "_name"] && row[key + "_name"] !== row[key]) full[kind].set(row[key], row[key + "_name"]);
     }
-    return count;
   };
 
-  const of = (kind, name) => full[kind].get(name) || name;
+  // Takes the names out of tables of `totals` and of `report`.
+  const take = tables => {
+    if (!tables) return;
+    note("party", tables.votes, "party");
+    note("land", tables.lands, "land");
+    for (const key of ["singles", "open", "covering"]) note("win", tables[key], "constituency");
+  };
 
-  // The file of full names that the calls take: a short and a full one in each record.
-  const bytes = () => {
-    const quoted = cell => '"' + cell.replace(/"/g, '""') + '"';
-    const records = Object.values(full).flatMap(map => [...map].map(pair => pair.map(quoted).join(",") + "\n"));
-    return encoded(records.join(""));
+  // Tries a file: nothing where the program takes it, or else the line with which it is refused.
+  const refused = async bytes => {
+    const { status, bytes: text, error } = await calls.ask("totals", NONE, encoded(TRIAL), bytes);
+    return status === 0 ? null : decoded(text).trimEnd() || error || t("failedCall", status);
+  };
+
+  const use = given => {
+    file = given;
+    for (const map of Object.values(full)) map.clear();
+  };
+
+  const of = (kind, name) => full[kind].get(name) || (kind === "party" && PROPER[name]) || name;
+
+  // An entry of a stage: all, a list LAND/PARTY, or what the entries of that stage are, where that is known.
+  const entry = (name, kind) => {
+    const [land, party] = name.split("/");
+    if (party !== undefined) return of("land", land) + " / " + of("party", party);
+    return Object.hasOwn(full, kind) ? of(kind, name) : name;
   };
 
   return {
-    read,
-    bytes,
-    colourOf: party => colours.get(party),
+    take,
+    refused,
+    use,
+    entry,
+    file: () => file,
+    bytes: () => (file ? file.bytes : NONE),
+    count: () => full.party.size + full.land.size + full.win.size,
     party: name => of("party", name),
     land: name => of("land", name),
     win: name => of("win", name),
-    // an entry of a stage: a party, a Land, a list LAND/PARTY, or all
-    entry: name => {
-      const [land, party] = name.split("/");
-      if (party !== undefined) return of("land", land) + " / " + of("party", party);
-      return full.party.get(name) || full.land.get(name) || full.win.get(name) || name;
-    },
+    // at the picture of the house, where a long name has no room
+    short: name => (full.party.has(name) && [...full.party.get(name)].length <= 9 ? full.party.get(name) : PROPER[name] || name),
   };
 })();

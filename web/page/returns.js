@@ -45,11 +45,11 @@ const returns = (() => {
 
   // The names of the parties, the winners, and how many lots there are; cells that are no numbers count as 0.
   const factsOf = records => {
-    const facts = { parties: [], wins: [], lots: 0 };
+    const facts = { parties: [], wins: new Map(), lots: 0 };
     for (const { cells } of records.slice(1)) {
       const [kind, land, party, a, b, c] = cells;
       if (kind === "party") facts.parties.push(party);
-      else if (kind === "win") facts.wins.push({ land, party, name: a, votes: number(b), of: number(c) });
+      else if (kind === "win") facts.wins.set(a, { land, party, name: a, votes: number(b), of: number(c) });
       else if (kind === "lot") facts.lots += 1;
     }
     return facts;

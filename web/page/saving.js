@@ -1,7 +1,7 @@
 // Files that the user saves: nothing else of the page is kept.
 const saving = (() => {
-  const save = (name, type, text) => {
-    const url = URL.createObjectURL(new Blob([text], { type }));
+  const save = (name, type, content) => {
+    const url = URL.createObjectURL(content instanceof Blob ? content : new Blob([content], { type }));
     const link = el("a", { href: url, download: name });
     document.body.append(link);
     link.click();
@@ -9,9 +9,15 @@ const saving = (() => {
     setTimeout(() => URL.revokeObjectURL(url), 10000);
   };
 
-  const quoted = cell => (/[",\n]/.test(cell) ? '"' + cell.replace(/"/g, '""') + '"' : cell);
+  // A cell of a csv file. A text at whose begin a table program would look for a formula gets a quote before it.
+  const quoted = cell => {
+    const text = /^[=+@\t-]/.test(cell) && !/^-?\d+$/.test(cell) ? "'" + cell : cell;
+    return /[",\r\n]/.test(text) ? '"' + text.replace(/"/g, '""') + '"' : text;
+  };
 
-  // The seats of all lists, and of those who are on none.
+  const changeLines = result => changes.told(result.given.base, result.given.changes);
+
+  // The seats of all lists, and of those who are on none; and what was changed in the returns.
   const csvOf = result => {
     const rows = [["statute", "kind", "land", "party", "seats", "direct"]];
     const title = result.book.name;
@@ -20,50 +26,74 @@ const saving = (() => {
     for (const v of result.table.vacant) rows.push([title, "vacant", v.land, v.party, v.seats, ""]);
     for (const name of result.table.singles) rows.push([title, "single", "", name, 1, 1]);
     for (const name of result.table.open) rows.push([title, "open", "", name, 0, 0]);
+    for (const line of changeLines(result)) rows.push([title, "changed", "", line, "", ""]);
     return rows.map(row => row.map(cell => quoted(String(cell))).join(",")).join("\n") + "\n";
   };
 
   const jsonOf = result => JSON.stringify({
-    statute: result.book.name, book: result.book.text, status: result.status, text: result.text,
+    returns: result.given.name, changed: changeLines(result), statute: result.book.name, book: result.book.text, sha256: result.sums, status: result.status, text: result.text,
     table: result.table || null, seats: result.steps ? result.steps.seats : null, bounds: result.steps ? result.steps.bounds : null,
   }, null, 1);
 
-  // The page as it is shown, without its scripts and without what can be pressed.
-  const pageOf = () => {
-    const copy = document.documentElement.cloneNode(true);
-    for (const box of copy.querySelectorAll(".book input")) {
-      if (!state.chosen.has(box.value)) box.closest(".book").remove();
+  // The page as a file of its own: what is shown of a result, with all parts filled, and without scripts and what can be pressed.
+  const pageOf = async (result, articleOf) => {
+    if (result.table) await steps.fillColumns(result);
+    kept.isWhole = true;
+    let body;
+    try {
+      body = el("body", {}, byId("result-head").cloneNode(true), byId("changed").cloneNode(true), byId("warnings").cloneNode(true), byId("comparison").cloneNode(true), articleOf(result));
+    } finally {
+      kept.isWhole = false;
     }
-    for (const part of copy.querySelectorAll("script, button, input, textarea, select, .controls, meta[http-equiv]")) part.remove();
-    const policy = el("meta", { "http-equiv": "Content-Security-Policy", content: "default-src 'none'; style-src 'unsafe-inline'" });
-    copy.querySelector("head").prepend(policy);
-    for (const part of copy.querySelectorAll(".seat")) {
-      part.removeAttribute("tabindex");
-      part.setAttribute("role", "img");
+    for (const part of body.querySelectorAll("button")) part.replaceWith(...(part.matches(".show-book, .chip") ? part.childNodes : []));
+    for (const part of body.querySelectorAll("input, textarea, select, .controls, .ring")) part.remove();
+    for (const seat of body.querySelectorAll(".seat")) {
+      seat.removeAttribute("tabindex");
+      seat.setAttribute("role", "img");
     }
-    return "<!DOCTYPE html>\n" + copy.outerHTML + "\n";
+    const head = el("head", {},
+      el("meta", { charset: "utf-8" }), el("meta", { "http-equiv": "Content-Security-Policy", content: "default-src 'none'; style-src 'unsafe-inline'" }),
+      el("meta", { name: "viewport", content: "width=device-width, initial-scale=1" }), el("title", {}, document.title), document.querySelector("style").cloneNode(true));
+    return "<!DOCTYPE html>\n" + el("html", { lang: document.documentElement.lang }, head, body).outerHTML + "\n";
   };
 
-  const saveReport = async (name, result) => {
-    const { bytes } = await calls.ask("report", result.book.bytes, state.returns.bytes, names.bytes());
-    save(name + "-report.json", "application/json", bytes);
+  // The begin of the names of the files that are saved of a result.
+  const nameOf = result =>
+    "seatlaw-" + (result.book.isOwn ? "own-" : "") + result.book.name.replace(/[^\w.-]+/g, "_").slice(0, 60) + (changes.isNone(result.given.changes) ? "" : "-" + t("changedSuffix"));
+
+  // The menu of what can be saved of a result, and of the returns where they were changed or have lots.
+  const menu = (result, articleOf) => {
+    const name = nameOf(result);
+    const picture = () => byId("results").querySelector(".house");
+    const title = () => result.book.title + " · " + result.given.name;
+    const item = (key, act) => {
+      const press = async event => {
+        event.target.closest("details").open = false;
+        event.target.closest("details").firstChild.focus();
+        if (document.body.classList.contains("old")) return;
+        try {
+          await act();
+        } catch (error) {
+          shown(byId("message"), el("p", { class: "refused", role: "alert" }, t("failedPart", String(error))));
+        }
+      };
+      return el("li", {}, button(key, press, { class: "save-" + key }));
+    };
+    const items = [
+      result.table ? item("savePng", async () => save(name + ".png", "image/png", await images.pngOf(picture(), title()))) : null,
+      result.table ? item("saveSvg", () => save(name + ".svg", "image/svg+xml", images.svgOf(picture(), title()))) : null,
+      item("savePage", async () => save(name + ".html", "text/html", await pageOf(result, articleOf))),
+      item("saveTable", () => save(name + ".txt", "text/plain", result.text)),
+      result.table ? item("saveCsv", () => save(name + ".csv", "text/csv", csvOf(result))) : null,
+      result.steps ? item("saveSteps", () => save(name + "-steps.txt", "text/plain", result.stepsText)) : null,
+      result.report ? item("saveReport", () => save(name + "-report.json", "application/json", result.reportText)) : null,
+      item("saveJson", () => save(name + ".json", "application/json", jsonOf(result))),
+      result.given.facts.lots || !changes.isNone(result.given.changes) ? item("saveReturns", () => save("returns.csv", "text/csv", result.given.bytes)) : null,
+    ];
+    return el("details", { class: "menu", id: "save-menu" }, el("summary", { "data-key": "save-menu" }, t("save")), el("ul", {}, items));
   };
 
-  const button = (key, press) => el("button", { type: "button", class: "save-" + key, onclick: press }, t(key));
+  const saveTemplate = () => save("returns-template.csv", "text/csv", TEMPLATE);
 
-  // What can be saved of a result.
-  const buttons = result => {
-    const name = "seatlaw-" + result.book.name.replace(/[^\w.-]+/g, "_");
-    return el("p", { class: "controls" },
-      button("saveTable", () => save(name + ".txt", "text/plain", result.text)), " ",
-      result.steps ? [button("saveSteps", () => save(name + "-steps.txt", "text/plain", result.stepsText)), " "] : null,
-      result.table ? [button("saveCsv", () => save(name + ".csv", "text/csv", csvOf(result))), " "] : null,
-      result.table ? [button("saveReport", () => saveReport(name, result)), " "] : null,
-      button("saveJson", () => save(name + ".json", "application/json", jsonOf(result))));
-  };
-
-  const saveReturns = () => save("returns.csv", "text/csv", state.returns.bytes);
-  const savePage = () => save("seatlaw-shown.html", "text/html", pageOf());
-
-  return { buttons, saveReturns, savePage, csvOf, jsonOf, pageOf };
+  return { menu, saveTemplate, csvOf, jsonOf, pageOf };
 })();

@@ -15,61 +15,79 @@ const steps = (() => {
         : mark.startsWith("rest ") ? t("rest", mark.slice(5))
           : quotient(mark);
 
-  const rowOf = seat => [seat.stage, scopeName(seat.scope), names.entry(seat.entry), seat.number, seat.step, markName(seat.mark)];
+  const kindOf = (result, seat) => shapes.kindOf(result, seat.stage, seat.scope, seat.entry);
 
-  const table = (caption, seats) =>
-    tableWith(caption, ["stage", "scope", "entry", "number", "step", "mark"].map(key => t(key)), seats.map(rowOf), { class: "steps" });
+  const rowOf = (result, seat) => [seat.stage, scopeName(seat.scope), names.entry(seat.entry, kindOf(result, seat)), seat.number, seat.step, markName(seat.mark)];
 
-  // The steps of one seat: those of its list's seat of that number, and those of its party.
+  const table = (caption, result, seats) =>
+    tableWith(caption, ["stage", "scope", "entry", "number", "step", "mark"].map(key => t(key)), seats.map(seat => rowOf(result, seat)), { class: "steps" });
+
+  // The steps of one seat: those of its list's seat of that number, and those of its party where a stage gives seats to parties.
   const ofSeat = (result, seat) => {
     const heading = el("h4", { tabindex: "-1" }, t("seatSteps"), ": ", house.labelOf(seat));
     if (seat.single || !result.steps) return [heading, el("p", {}, t("seatNoSteps"))];
     const list = seat.land + "/" + seat.party;
     const own = result.steps.seats.filter(s => s.entry === list && s.number === seat.number);
-    const party = result.steps.seats.filter(s => s.scope[0] === "all" && s.entry === seat.party);
+    const party = result.steps.seats.filter(s => s.scope[0] === "all" && s.entry === seat.party && kindOf(result, s) === "party");
     return [
       heading,
-      own.length ? table(list + " " + seat.number, own) : el("p", {}, t("seatNoSteps")),
-      party.length ? opened(t("ofParty"), body => shown(body, table(t("ofParty"), party))) : null,
+      own.length ? table(names.entry(list) + " " + seat.number, result, own) : el("p", {}, t("seatNoSteps")),
+      party.length ? opened("party-steps", t("ofParty"), body => shown(body, table(t("ofParty"), result, party)), { class: "party-steps" }) : null,
     ];
   };
 
   // The steps of a stage's scope, which are chosen from a list.
-  const all = result => opened(t("steps"), body => {
+  const all = result => opened("all-steps", t("steps"), body => {
     const keyOf = s => s.stage + " " + s.scope.join(" ");
     const groups = new Map();
     for (const seat of result.steps.seats) {
       if (!groups.has(keyOf(seat))) groups.set(keyOf(seat), []);
       groups.get(keyOf(seat)).push(seat);
     }
-    const place = el("div", {});
-    const select = el("select", { onchange: () => shown(place, table(t("steps"), groups.get(select.value))) },
-      [...groups.keys()].map(key => el("option", { value: key }, key)));
-    shown(body, el("label", {}, t("scope"), " ", select), place);
-    if (groups.size) shown(place, table(t("steps"), groups.values().next().value));
+    const nameOf = key => t("stageOf", groups.get(key)[0].stage, scopeName(groups.get(key)[0].scope));
+    shown(body, chooser("steps-scope", t("scope"), [...groups.keys()].map(key => [key, nameOf(key)]), key => table(nameOf(key), result, groups.get(key))));
   }, { class: "all-steps" });
 
   // The names of a rulebook's stages, as its text has them.
   const stagesOf = text => [...text.replace(/#.*/g, "").matchAll(/\bstage\s+(\w+)\s*=/g)].map(match => match[1]);
 
+  const columnOf = (result, stage, answer) => {
+    const text = decoded(answer.bytes);
+    if (answer.status !== 0) return el("pre", {}, text || answer.error || "");
+    const column = outputs.columnOf(text);
+    const kind = shapes.ofColumn(result, stage, column.map(c => c.entry));
+    const entry = c => (c.entry === "all" && column.length === 1 && kind === "one" ? t("allScope") : names.entry(c.entry, kind));
+    const rows = column.map(c => ({ data: { "data-entry": c.entry }, cells: [entry(c), Number(c.value)] }));
+    return tableWith(stage, [t("entry"), { head: t("value"), kind: "number" }], rows, { class: "column" });
+  };
+
   // The values of a stage, asked for when it is chosen.
   const columns = result => {
     const stages = stagesOf(result.book.text);
     if (!stages.length) return null;
-    return opened(t("column"), body => {
-      const place = el("div", { "aria-live": "polite" });
-      const show = async () => {
-        const stage = select.value;
-        const answer = await calls.ask("stage", result.book.bytes, state.returns.bytes, encoded(stage));
-        const text = decoded(answer.bytes);
-        const rows = answer.status === 0 ? outputs.columnOf(text).map(c => [names.entry(c.entry), Number(c.value)]) : [];
-        shown(place, answer.status === 0 ? tableWith(stage, [t("entry"), t("value")], rows, { class: "column" }) : el("pre", {}, text));
-      };
-      const select = el("select", { onchange: show }, stages.map(stage => el("option", {}, stage)));
-      shown(body, el("label", {}, t("stage"), " ", select), place);
-      show();
-    }, { class: "columns" });
+    const partOf = stage => {
+      const place = el("div", { class: "one-column" });
+      const made = (result.columns || (result.columns = new Map())).get(stage);
+      const show = answer => shown(place, columnOf(result, stage, answer));
+      if (made) show(made);
+      else {
+        answers.column(result.book, result.given.bytes, stage).then(answer => {
+          result.columns.set(stage, answer);
+          show(answer);
+        });
+      }
+      return place;
+    };
+    return opened("columns", t("column"), body => shown(body, chooser("column-stage", t("stage"), stages.map(stage => [stage, stage]), partOf)), { class: "columns" });
   };
 
-  return { ofSeat, all, columns, scopeName, quotient };
+  // Asks for the columns of all stages, before the page is saved.
+  const fillColumns = async result => {
+    result.columns = result.columns || new Map();
+    for (const stage of stagesOf(result.book.text)) {
+      if (!result.columns.has(stage)) result.columns.set(stage, await answers.column(result.book, result.given.bytes, stage));
+    }
+  };
+
+  return { ofSeat, all, columns, fillColumns, scopeName, quotient };
 })();

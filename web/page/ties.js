@@ -9,8 +9,14 @@ const ties = (() => {
     return records.length === fault.names.length ? new Map(fault.names.map((name, i) => [name, records[i]])) : null;
   };
 
+  // A name as it is shown: the cells of its record tell whether it is a Land, a party, a list or a winner.
+  const nameOf = (name, record) => {
+    const [, land, party, stage] = record.split(",");
+    return stage === "seats" ? names.win(name) : names.entry(name, land && !party ? "land" : "party");
+  };
+
   // Each place has a choice among the names; a choice exchanges two names.
-  const choices = (fault, changed) => {
+  const choices = (fault, all, changed) => {
     const order = [...fault.names];
     const place = el("div", {});
     const exchange = (at, name) => {
@@ -23,7 +29,7 @@ const ties = (() => {
     const show = () => shown(place, el("ol", {}, order.map((name, at) => el("li", {},
       el("label", {}, t("drawn", at + 1), " ",
         el("select", { onchange: event => exchange(at, event.target.value) },
-          fault.names.map(other => el("option", { value: other, selected: other === name }, names.entry(other)))))))));
+          fault.names.map(other => el("option", { value: other, selected: other === name }, nameOf(other, all.get(other))))))))));
     show();
     return place;
   };
@@ -56,7 +62,7 @@ const ties = (() => {
     return el("section", { class: "tie", "aria-label": t("tie") },
       el("h4", {}, t("tie")),
       el("p", {}, t("tieHelp", fault.seats, fault.names.length)),
-      fault.names.length > MOST_CHOICES ? lines(fault, changed) : choices(fault, changed),
+      fault.names.length > MOST_CHOICES ? lines(fault, changed) : choices(fault, all, changed),
       result);
   };
 

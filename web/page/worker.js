@@ -1,14 +1,25 @@
-// The worker: takes the module once, and then answers calls, one after the other, so that a long count does not block the page.
+// The worker: takes the module once, and then answers calls, one after the other, so that a long count does not block the page. As long as it lives it holds
+// a lock of the browser's, where there are such, by which the page knows.
 let desk = null;
 
-onmessage = event => {
-  const { module, number, name, inputs } = event.data;
+const hold = lock =>
+  new Promise(resolve => {
+    const forEver = () => {
+      resolve(lock);
+      return new Promise(() => null);
+    };
+    if (navigator.locks) navigator.locks.request(lock, forEver).catch(() => resolve(null));
+    else resolve(null);
+  });
+
+onmessage = async event => {
+  const { module, lock, number, name, inputs } = event.data;
   if (module) {
-    desk = new Desk(new WebAssembly.Module(module));
-    postMessage({ ready: true });
+    desk = new Desk(module);
+    postMessage({ lock: await hold(lock) });
   } else {
     const began = performance.now();
     const answer = desk.call(name, inputs);
-    postMessage({ number, ...answer, took: performance.now() - began });
+    postMessage({ number, ...answer, took: performance.now() - began }, [answer.bytes.buffer]);
   }
 };
