@@ -40,14 +40,14 @@ def until(folder, count):
 
 
 def workers_of(process):
-    """The processes of a session that are not the first, and make chunks: those that multiprocessing has started."""
+    """The processes that make chunks for a run: those that multiprocessing has started in it."""
     found = []
     for place in pathlib.Path("/proc").glob("[0-9]*"):
         try:
-            line, session = (place / "cmdline").read_bytes(), os.getsid(int(place.name))
+            line, leader = (place / "cmdline").read_bytes(), os.getsid(int(place.name))
         except OSError:
             continue
-        if session == process.pid and int(place.name) != process.pid and b"spawn_main" in line:
+        if leader == process.pid and int(place.name) != process.pid and b"spawn_main" in line:
             found.append(int(place.name))
     return found
 
