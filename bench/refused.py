@@ -4,8 +4,8 @@ the gate.
 
     python3 bench/refused.py [--seatlaw PROGRAM] [TESTS ..]
 
-TESTS are programs of tests; without any, those of the crates sl_test_refused and sl_test_blocks are proved and built first. To a test memory is
-refused between its marks (sl_test_support src/marks.rt), to `seatlaw` from its start, and in each run to one allocation. A line says of a test that has
+TESTS are programs of tests; without any, those of the crate sl_test_calls are proved and built first. To a test memory is
+refused between its marks (src/marks.rt there), to `seatlaw` from its start, and in each run to one allocation. A line says of a test that has
 marks, or of a command, in how many runs an allocation was refused, and how many runs did not pass; of these the first follows. A command
 passes if it ends as with ample memory, with its explanation or without, or writes nothing and says on standard error that it is out of memory, with status 5, or with
 status 1 where its words are still being read. The exit status is 0 if all passed. A C compiler, `cc`, is needed.
@@ -19,7 +19,7 @@ import tempfile
 
 from measure import HOME, PROGRAM
 
-CRATES = ("sl_test_refused", "sl_test_blocks")
+CRATE = "sl_test_calls"
 LIMIT = 60
 
 BOOK = 'rulebook 1; law "t"; house 8; eligible all; stage s = split(house, counted, webster); seats s keep;'
@@ -87,7 +87,7 @@ void *realloc(void *old, size_t size) {
 
 def marks():
     """The sizes by which the marks are known."""
-    with open(os.path.join(HOME, "crates", "sl_test_support", "src", "marks.rt")) as f:
+    with open(os.path.join(HOME, "crates", CRATE, "src", "marks.rt")) as f:
         text = f.read()
     return {name.lower(): int(size.replace("_", "")) for name, size in re.findall(r"pub const (\w+): usize = ([0-9_]+);", text)}
 
@@ -198,7 +198,7 @@ def main():
     parser.add_argument("--seatlaw", default=PROGRAM)
     parser.add_argument("tests", nargs="*")
     given = parser.parse_args()
-    tests = given.tests or [build_tests(crate) for crate in CRATES]
+    tests = given.tests or [build_tests(CRATE)]
     count = Count()
     with tempfile.TemporaryDirectory() as folder:
         shim = build_shim(folder)

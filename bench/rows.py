@@ -160,18 +160,28 @@ def blocks(lines):
     return {title: "\n".join(body).rstrip("\n").split("\n") for title, body in found.items()}
 
 
+def commands(lines):
+    """What came of each command, beginning with its line."""
+    found = []
+    for line in lines:
+        if line.startswith("$"):
+            found.append([line])
+        elif found and not line.startswith("#"):
+            found[-1].append(line)
+    return found
+
+
 def accepted(text, came):
     """The text of a page, in which the commands of rows that came otherwise stand as they came."""
-    out, title = [], None
+    out, left, is_left = [], [], False
     for line in text.rstrip("\n").split("\n"):
         if line.startswith("== "):
-            title = line[3:]
-        if title in came and line[:1] in ("$", ">", "!", "?"):
-            if came[title]:
-                out.extend(part for part in came[title] if not part.startswith("#"))
-                came[title] = []
-            continue
-        out.append(line)
+            left = commands(came.get(line[3:], []))
+            is_left = bool(left)
+        if left and line.startswith("$"):
+            out.extend(left.pop(0))
+        elif not (is_left and line[:1] in (">", "!", "?")):
+            out.append(line)
     return "\n".join(out) + "\n"
 
 

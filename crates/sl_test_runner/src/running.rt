@@ -4,7 +4,7 @@ use crate::rows::{Call, Named};
 use crate::shelf::{Shelf, bytes_of};
 use sl_count_program::{Exit, run as run_counting};
 use sl_terminal::{Terminal, run};
-use sl_test_support::memory::Narrow;
+use sl_test_support::Narrow;
 use std::alloc::Global;
 use std::{fs, io};
 

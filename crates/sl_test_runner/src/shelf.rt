@@ -3,7 +3,7 @@
 use crate::rows::Named;
 use crate::unknown::Unknown;
 use sl_outside::Outside;
-use sl_test_support::memory::{Narrow, Slow};
+use sl_test_support::{Narrow, Slow};
 use std::alloc::Global;
 
 /// Files and variables in memory. Each reader gives, and each writer takes, at most `step` bytes at once.

@@ -1,6 +1,0 @@
-use Rattle.std.proofs.Common.{refl}
-use Rattle.sl_test_blocks.proofs.Jobs.{growth}
-use Rattle.sl_test_blocks.proofs.codes.lay_growth.Goals as goal
-
-pub grow_block-requires-clause-job : goal.grow_block-requires-clause-job
-grow_block-requires-clause-job c = growth _ refl refl refl refl c.args.cap refl c.requires.cap

@@ -1,6 +1,0 @@
-use Rattle.std.proofs.Common.{refl}
-use Rattle.sl_test_blocks.proofs.Jobs.{plain_split}
-use Rattle.sl_test_blocks.proofs.codes.lay_split.Goals as goal
-
-pub split_block-requires-clause-job : goal.split_block-requires-clause-job
-split_block-requires-clause-job c = plain_split _ refl refl refl refl c.args.method refl

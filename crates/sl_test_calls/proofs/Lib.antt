@@ -1,0 +1,2 @@
+-- The lemmas of tests of blocks.
+pub mod Jobs

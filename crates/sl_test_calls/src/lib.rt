@@ -1,0 +1,20 @@
+//! Calls that no row can make, as tests: calls that are refused memory; readers and writers that fail; inputs that are cut at every byte or have a
+//! byte changed; the adapters of std's readers and writers; and codes whose records no command shows.
+#![tactic(auto)]
+
+#[cfg(test)]
+mod calls;
+#[cfg(test)]
+mod codes;
+#[cfg(test)]
+mod hostile;
+#[cfg(test)]
+mod marks;
+#[cfg(test)]
+mod recorded;
+#[cfg(test)]
+mod refused;
+#[cfg(test)]
+mod rows;
+#[cfg(test)]
+mod texts;

@@ -1,5 +1,0 @@
-//! Worked cases of quotients and priority tables.
-
-mod awards;
-mod quotients;
-mod tables;

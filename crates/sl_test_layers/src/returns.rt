@@ -1,4 +1,0 @@
-//! Worked cases of returns: from records, refused ones, and kept values.
-
-mod read;
-mod stages;

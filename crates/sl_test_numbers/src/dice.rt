@@ -1,0 +1,60 @@
+//! Numbers in no order, and entries and lots of them.
+
+use crate::given::ratio;
+use sl_ratio::{Entry, NoMemory};
+use std::alloc::Global;
+
+/// Numbers in no order, for entries with so many indexes, which stand `spread` apart.
+#[derive(Clone, Copy)]
+pub struct Dice {
+    pub state: u64,
+    pub indexes: u32,
+    pub spread: u32,
+}
+
+impl Dice {
+    /// The next number.
+    pub fn roll(&mut self) -> u32 {
+        self.state = self
+            .state
+            .wrapping_mul(6_364_136_223_846_793_005)
+            .wrapping_add(1_442_695_040_888_963_407);
+        (self.state >> 40) as u32
+    }
+
+    /// An index.
+    pub fn index(&mut self) -> u32 {
+        (self.roll() % self.indexes.max(1)).wrapping_mul(self.spread)
+    }
+
+    /// An entry with the quotient 1, or with one of three.
+    pub fn entry(&mut self, one: bool) -> Entry {
+        let index = self.index();
+        let part = u128::from(self.roll() % 3) + 1;
+        Entry {
+            ratio: ratio(part, if one { part } else { 2 }),
+            index,
+        }
+    }
+
+    /// An entry with the quotient 1, or with one of many.
+    pub fn entry_of_many(&mut self, one: bool) -> Entry {
+        let alike = self.entry(true);
+        if one {
+            return alike;
+        }
+        Entry {
+            ratio: ratio(u128::from(self.roll() % 90) + 1, 7),
+            index: alike.index,
+        }
+    }
+
+    /// A lot of fewer than eight indexes.
+    pub fn lot(&mut self, alloc: Global) -> Result<Vec<u32>, NoMemory> {
+        let mut lot = Vec::new(alloc);
+        for _ in 0..self.roll() % 8 {
+            lot.push(self.index())?;
+        }
+        Ok(lot)
+    }
+}
