@@ -15,7 +15,7 @@ from contextlib import contextmanager
 from measure import HOME
 
 LIMIT = 120
-FOLDERS = ("docs", "examples")
+FOLDERS = ("docs", "examples", "tools")
 
 
 def shown(text):
