@@ -7,6 +7,10 @@ use sl_ratio::NoMemory;
 use sl_sheets::{Sheet, aligned_text, comma_text, json_text};
 use std::alloc::Global;
 
+// What a file of names holds, as the line says that refuses one.
+const NAMES_FORM: &str =
+    "each line is SHORT,FULL, two cells with a comma and no semicolon between them, in UTF-8 and not in Latin-1, without a header";
+
 /// The form of an answer.
 #[derive(Clone, Copy)]
 pub enum Shape {
@@ -101,11 +105,11 @@ impl Answer {
         }
     }
 
-    // The line that refuses the names in a record.
+    // The line that refuses the names in a record, with what such a record is.
     pub(crate) fn refused_names(alloc: Global, row: u64) -> Result<Answer, NoMemory>
         ensures { IfOk result (λ a. a.status ≡ Status.Refused) }
     {
-        let line = format!(in alloc; "refused names {row}\n")?;
+        let line = format!(in alloc; "refused names {row}: {NAMES_FORM}\n")?;
         Ok(Answer::refused(line.into_bytes()))
     }
 
@@ -113,7 +117,7 @@ impl Answer {
     pub(crate) fn names_too_long(alloc: Global) -> Result<Answer, NoMemory>
         ensures { IfOk result (λ a. a.status ≡ Status.Refused) }
     {
-        let line = String::from_str(alloc, "refused names toolong\n")?;
+        let line = String::from_str(alloc, "refused names toolong: at most 4,194,304 bytes\n")?;
         Ok(Answer::refused(line.into_bytes()))
     }
 }

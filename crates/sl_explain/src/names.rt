@@ -2,7 +2,7 @@
 
 use sl_no_memory::NoMemory;
 use std::alloc::Global;
-use strsim::generic_levenshtein;
+use strsim::generic_damerau_levenshtein;
 
 // The most edits by which a word of that many bytes is taken for a misspelt one.
 fn most_edits(length: usize) -> usize {
@@ -13,14 +13,14 @@ fn most_edits(length: usize) -> usize {
     }
 }
 
-// How many edits part a name from a word in small letters.
+// How many edits part a name from a word in small letters; two neighbours exchanged are one.
 fn edits_between(alloc: Global, small: &[u8], name: &[u8]) -> Result<usize, NoMemory> {
     let other = name.to_ascii_lowercase(alloc)?;
-    Ok(generic_levenshtein(alloc, small, other.as_slice())?)
+    Ok(generic_damerau_levenshtein(alloc, small, other.as_slice())?)
 }
 
-/// Of some names the first that the fewest edits part from a word, if they are few: one letter in a short word, two in a longer one. Letters
-/// in another case part nothing.
+/// Of some names the first that the fewest edits part from a word, if they are few: one in a short word, two in a longer one. An edit is a
+/// letter too many, too few or another one, or two neighbours exchanged. Letters in another case part nothing.
 ///
 /// # Errors
 ///

@@ -147,6 +147,22 @@ impl Speaker {
         Ok(number.to_string(self.alloc)?.into_bytes())
     }
 
+    /// So many things, as `1 cell` or `7 cells`: the message for one of them or that for more, whose value is the number.
+    ///
+    /// # Errors
+    ///
+    /// Out of memory.
+    pub fn counted(
+        self,
+        number: usize,
+        one: &Message,
+        more: &Message,
+    ) -> Result<Vec<u8>, NoMemory> {
+        let digits = self.number(number)?;
+        let message = if number == 1 { one } else { more };
+        self.text(message, &[digits.as_slice()])
+    }
+
     /// Some bytes of an input as a sentence repeats them: the first of them, without control characters.
     ///
     /// # Errors
@@ -181,18 +197,24 @@ impl Speaker {
         ensures { explanation.new.code ≡ explanation.old.code }
     {
         match nearest(self.alloc, word, names) {
-            Ok(Some(name)) => self.helps_meant(explanation, name),
+            Ok(Some(name)) => {
+                self.helps_meant(explanation, name)?;
+                Ok(true)
+            }
             Ok(None) => Ok(false),
             Err(refusal) => Err(refusal),
         }
     }
 
-    // Adds the question whether a name is meant.
-    fn helps_meant(self, explanation: &mut Explanation, name: &[u8]) -> Result<bool, NoMemory>
+    /// Adds the question whether a name is meant.
+    ///
+    /// # Errors
+    ///
+    /// Out of memory.
+    pub fn helps_meant(self, explanation: &mut Explanation, name: &[u8]) -> Result<(), NoMemory>
         ensures { explanation.new.code ≡ explanation.old.code }
     {
-        self.helps(explanation, &MEANT, &[name])?;
-        Ok(true)
+        self.helps(explanation, &MEANT, &[name])
     }
 
     /// Words in a row, with an `or` before the last.

@@ -8,6 +8,7 @@ mod contexts;
 mod going_on;
 pub mod limits;
 
+use crate::meant::{METHOD, NO_METHOD, is_droop, keyword_of, method_of};
 use crate::near::help_nearest_or;
 use crate::pieces::{line_number, piece, span_within, token_span};
 use crate::whole::explain_whole;
@@ -220,6 +221,44 @@ impl<'a> Place<'a> {
         self.speaker.says_at(&FOUND, &values, span)
     }
 
+    // Says what is meant by a word that is none of the language: a method by another name, or another word that may stand there.
+    fn help_word(
+        &self,
+        explanation: &mut Explanation,
+        word: &[u8],
+        keywords: &[&'static [u8]],
+        remedy: &Message,
+    ) -> Result<(), NoMemory>
+        ensures { explanation.new.code ≡ explanation.old.code }
+    {
+        let takes_method = keywords.contains(&b"webster".as_slice());
+        if takes_method && is_droop(word) {
+            return self.speaker.helps(explanation, &NO_METHOD, &[]);
+        }
+        match method_of(word) {
+            Some(method) if takes_method => self.speaker.helps(explanation, &METHOD, &[method]),
+            _ => self.help_keyword(explanation, word, keywords, remedy),
+        }
+    }
+
+    // Says which keyword of those that may stand there is meant by a word, or near to it.
+    fn help_keyword(
+        &self,
+        explanation: &mut Explanation,
+        word: &[u8],
+        keywords: &[&'static [u8]],
+        remedy: &Message,
+    ) -> Result<(), NoMemory>
+        ensures { explanation.new.code ≡ explanation.old.code }
+    {
+        match keyword_of(word) {
+            Some(keyword) if keywords.contains(&keyword) => {
+                self.speaker.helps_meant(explanation, keyword)
+            }
+            _ => help_nearest_or(self.speaker, explanation, word, keywords, remedy),
+        }
+    }
+
     // Says what to do about a word: write one that is near to a name, another name for a keyword, or else what may stand there.
     fn help_found(
         &self,
@@ -233,8 +272,7 @@ impl<'a> Place<'a> {
         match kind {
             Kind::Name => {
                 let keywords = words(self.speaker.alloc, self.sorts)?;
-                let names = keywords.as_slice();
-                help_nearest_or(self.speaker, explanation, word, names, remedy)
+                self.help_word(explanation, word, keywords.as_slice(), remedy)
             }
             Kind::Keyword(_) if is_name_alone(self.sorts) => {
                 self.speaker.helps(explanation, &RESERVED, &[word])

@@ -3,6 +3,7 @@
 #![tactic(auto)]
 
 mod grammar;
+mod meant;
 mod near;
 mod pieces;
 mod tests;

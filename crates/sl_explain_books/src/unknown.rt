@@ -17,8 +17,8 @@ const UNKNOWN_STATUTE: Sentence = Sentence {
 };
 
 const LIBRARY: Message = Message {
-    english: "it has $; a command that reads a rulebook takes them with `@`, as in `seatlaw count @2023 returns.csv`, and `law` without it",
-    german: "sie hat $; ein Befehl, der ein Regelwerk liest, nimmt sie mit `@`, wie in `seatlaw count @2023 returns.csv`, und `law` ohne",
+    english: "it has $; a command that reads a rulebook takes them with `@`, as in `seatlaw count @2023-order returns.csv`, and `law` without it",
+    german: "sie hat $; ein Befehl, der ein Regelwerk liest, nimmt sie mit `@`, wie in `seatlaw count @2023-order returns.csv`, und `law` ohne es",
 };
 
 const NAME_ALONE: Message = Message {
@@ -49,7 +49,7 @@ const NO_STAGE: Sentence = Sentence {
 
 const STAGES: Message = Message {
     english: "its stages are $",
-    german: "seine Stufen sind $",
+    german: "das Regelwerk hat die Stufen $",
 };
 
 const NO_STAGES: Message = Message {

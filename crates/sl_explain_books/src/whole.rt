@@ -3,7 +3,7 @@
 ghost use Rattle.std.specs.Prelude.{◌≡◌, IfOk, IfSome, Some};
 
 use crate::pieces::span_within;
-use sl_explain::{Explanation, FaultCode, Message, Speaker};
+use sl_explain::{Explanation, FaultCode, Message, Speaker, packing_of};
 use sl_ratio::NoMemory;
 
 // What a file is that is no rulebook.
@@ -20,8 +20,8 @@ static EMPTY: Other = Other {
         german: "die Datei ist leer",
     },
     remedy: Message {
-        english: "a rulebook begins with `rulebook 1;`; `seatlaw law 2023` shows a whole one",
-        german: "ein Regelwerk beginnt mit `rulebook 1;`; `seatlaw law 2023` zeigt ein ganzes",
+        english: "a rulebook begins with `rulebook 1;`; `seatlaw law 2023-order` shows a whole one",
+        german: "ein Regelwerk beginnt mit `rulebook 1;`; `seatlaw law 2023-order` zeigt ein ganzes",
     },
     shown: 0,
 };
@@ -29,11 +29,11 @@ static EMPTY: Other = Other {
 static CODE: Other = Other {
     sentence: Message {
         english: "this is a code file, and no rulebook",
-        german: "das ist eine Code-Datei und kein Regelwerk",
+        german: "das ist eine Codedatei und kein Regelwerk",
     },
     remedy: Message {
         english: "a code file is counted by `run`: `seatlaw run CODE RETURNS`",
-        german: "eine Code-Datei wird mit `run` gezählt: `seatlaw run CODE RETURNS`",
+        german: "eine Codedatei wird mit `run` gezählt: `seatlaw run CODE RETURNS`",
     },
     shown: 3,
 };
@@ -44,20 +44,20 @@ static RETURNS: Other = Other {
         german: "das sind Wahlergebnisse und kein Regelwerk",
     },
     remedy: Message {
-        english: "the rulebook comes first, then the returns: `seatlaw count @2023 returns.csv`",
-        german: "erst kommt das Regelwerk, dann die Wahlergebnisse: `seatlaw count @2023 returns.csv`",
+        english: "`totals` and `compare` take RETURNS, then BOOK, as in `seatlaw totals returns.csv @2023-order`; the other commands BOOK, then RETURNS, as in `seatlaw count @2023-order returns.csv`",
+        german: "`totals` und `compare` nehmen RETURNS, dann BOOK, wie in `seatlaw totals returns.csv @2023-order`; die anderen Befehle BOOK, dann RETURNS, wie in `seatlaw count @2023-order returns.csv`",
     },
     shown: 4,
 };
 
 static PACKED: Other = Other {
     sentence: Message {
-        english: "this is a packed file, such as a workbook or a document of a word processor, and no text",
-        german: "das ist eine gepackte Datei, etwa eine Arbeitsmappe oder ein Dokument einer Textverarbeitung, und kein Text",
+        english: "this file is compressed, such as a workbook, a document of a word processor or an archive, and no text",
+        german: "diese Datei ist komprimiert, etwa eine Arbeitsmappe, ein Dokument einer Textverarbeitung oder ein Archiv, und kein Text",
     },
     remedy: Message {
-        english: "save the rulebook as plain text, in UTF-8",
-        german: "das Regelwerk als reinen Text speichern, in UTF-8",
+        english: "unpack an archive first; save a document as plain text, in UTF-8",
+        german: "ein Archiv zuerst entpacken; ein Dokument als reinen Text speichern, in UTF-8",
     },
     shown: 2,
 };
@@ -123,7 +123,7 @@ fn what_it_is(text: &[u8]) -> Option<&'static Other> {
         Some(&CODE)
     } else if is_returns(text) {
         Some(&RETURNS)
-    } else if text.starts_with(b"PK\x03\x04") {
+    } else if packing_of(text).is_some() {
         Some(&PACKED)
     } else if is_utf16(text) {
         Some(&UTF16)

@@ -11,5 +11,5 @@ pub use calls::{
     explain_check, explain_judged, explain_outcome, explain_read, explain_run, explain_verdict,
 };
 pub use explained::Explained;
-pub use opening::{Lost, explain_kept, explain_opening, explain_writing};
+pub use opening::{Lost, explain_failure, explain_kept, explain_opening, explain_writing};
 pub use refusals::{explain_book, explain_code, explain_election};

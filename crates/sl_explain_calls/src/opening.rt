@@ -1,7 +1,7 @@
-//! Files that cannot be opened.
+//! Files that cannot be opened, read or written.
 
 use sl_explain::{Explanation, Language, Message};
-use sl_inputs::Input;
+use sl_inputs::{DeskError, Input};
 use sl_laws::law;
 use sl_ratio::NoMemory;
 use std::alloc::Global;
@@ -51,6 +51,42 @@ const ANOTHER: Message = Message {
     german: "schreiben Sie den Code in eine andere Datei",
 };
 
+// What is said of an input that was opened, and of standard output or a file that was.
+const UNREAD_BOOK: Message = Message {
+    english: "the file of the rulebook was opened, and cannot be read",
+    german: "die Datei des Regelwerks ließ sich öffnen, aber nicht lesen",
+};
+
+const UNREAD_RETURNS: Message = Message {
+    english: "the file of the returns was opened, and cannot be read",
+    german: "die Datei der Wahlergebnisse ließ sich öffnen, aber nicht lesen",
+};
+
+const UNREAD_CODE: Message = Message {
+    english: "the code file was opened, and cannot be read",
+    german: "die Codedatei ließ sich öffnen, aber nicht lesen",
+};
+
+const UNREAD_NAMES: Message = Message {
+    english: "the file of the names was opened, and cannot be read",
+    german: "die Datei der Namen ließ sich öffnen, aber nicht lesen",
+};
+
+const UNWRITTEN: Message = Message {
+    english: "what the command writes could not be written to its end",
+    german: "was der Befehl schreibt, ließ sich nicht zu Ende schreiben",
+};
+
+const FOLDER: Message = Message {
+    english: "is it a folder? Give the path of a file in it",
+    german: "ist es ein Ordner? Geben Sie den Pfad einer Datei darin an",
+};
+
+const FULL: Message = Message {
+    english: "the disk may be full, or the program that reads the output may have ended",
+    german: "vielleicht ist die Platte voll, oder das Programm, das die Ausgabe liest, ist zu Ende",
+};
+
 const LIBRARY: Message = Message {
     english: "the library has this rulebook as `@$`",
     german: "die Bibliothek hat dieses Regelwerk als `@$`",
@@ -61,9 +97,31 @@ const STANDARD_INPUT: Message = Message {
     german: "für die Standardeingabe schreiben Sie `/dev/stdin`",
 };
 
-const ORDER: Message = Message {
-    english: "the order of the words is BOOK, then RETURNS",
-    german: "die Reihenfolge der Wörter ist BOOK, dann RETURNS",
+// The order of the words; values: the path, the command twice, and the path or a rulebook.
+const BOOK_FIRST: Message = Message {
+    english: "`$` is a rulebook, and `$` takes it first: `seatlaw $ $ returns.csv`",
+    german: "`$` ist ein Regelwerk, und `$` nimmt es zuerst: `seatlaw $ $ returns.csv`",
+};
+
+const RETURNS_FIRST: Message = Message {
+    english: "`$` is a rulebook, and `$` takes the returns first: `seatlaw $ returns.csv $`",
+    german: "`$` ist ein Regelwerk, und `$` nimmt die Wahlergebnisse zuerst: `seatlaw $ returns.csv $`",
+};
+
+// Values: the command, twice.
+const BOOK_THEN_RETURNS: Message = Message {
+    english: "`$` takes the rulebook first, then the returns: `seatlaw $ @2023-order returns.csv`",
+    german: "`$` nimmt zuerst das Regelwerk, dann die Wahlergebnisse: `seatlaw $ @2023-order returns.csv`",
+};
+
+const RETURNS_THEN_BOOK: Message = Message {
+    english: "`$` takes the returns first, then the rulebook: `seatlaw $ returns.csv @2023-order`",
+    german: "`$` nimmt zuerst die Wahlergebnisse, dann das Regelwerk: `seatlaw $ returns.csv @2023-order`",
+};
+
+const NO_CODE_FILE: Message = Message {
+    english: "`$` is a rulebook, which `count` takes; `run` takes a code file, as `code` writes it",
+    german: "`$` ist ein Regelwerk, das `count` nimmt; `run` nimmt eine Codedatei, wie `code` sie schreibt",
 };
 
 const SCHEME: Message = Message {
@@ -96,12 +154,21 @@ fn unopened(input: Input) -> Message {
     }
 }
 
-// Whether the words of the command seem to stand in the wrong order.
-fn is_out_of_order(input: Input, path: &str) -> bool {
+// Whether a command takes the returns before the rulebook.
+fn takes_returns_first(command: &str) -> bool {
+    command == "totals" || command == "compare"
+}
+
+// What is said of the order of the words of a command, where they seem to stand in the wrong one.
+fn order(command: &str, input: Input, path: &str) -> Option<&'static Message> {
+    let is_first = takes_returns_first(command);
     match input {
-        Input::Book => path.ends_with(".csv"),
-        Input::Returns => path.starts_with("@"),
-        Input::Code | Input::Names => false,
+        Input::Book if path.ends_with(".csv") && is_first => Some(&RETURNS_THEN_BOOK),
+        Input::Book if path.ends_with(".csv") => Some(&BOOK_THEN_RETURNS),
+        Input::Returns if path.starts_with("@") && is_first => Some(&RETURNS_FIRST),
+        Input::Returns if path.starts_with("@") && command != "run" => Some(&BOOK_FIRST),
+        Input::Code if path.starts_with("@") => Some(&NO_CODE_FILE),
+        _ => None,
     }
 }
 
@@ -111,8 +178,6 @@ fn advice(input: Input, path: &str) -> Message {
         LIBRARY
     } else if path == "-" {
         STANDARD_INPUT
-    } else if is_out_of_order(input, path) {
-        ORDER
     } else if path.starts_with("file:") {
         SCHEME
     } else if path.starts_with("~") || path.contains("*") {
@@ -124,7 +189,23 @@ fn advice(input: Input, path: &str) -> Message {
     }
 }
 
-/// Why an input cannot be opened, with the reason that the system gives.
+// What is said of the order of the words of a command, or what to do about a path.
+fn remedy(
+    alloc: Global,
+    language: Language,
+    command: &str,
+    input: Input,
+    path: &str,
+) -> Result<Vec<u8>, NoMemory> {
+    let (word, path_bytes) = (command.as_bytes(), path.as_bytes());
+    match order(command, input, path) {
+        Some(message) if input == Input::Book => message.text(alloc, language, &[word, word]),
+        Some(message) => message.text(alloc, language, &[path_bytes, word, word, path_bytes]),
+        None => advice(input, path).text(alloc, language, &[path_bytes]),
+    }
+}
+
+/// Why an input of a command cannot be opened, with the reason that the system gives.
 ///
 /// # Errors
 ///
@@ -132,6 +213,7 @@ fn advice(input: Input, path: &str) -> Message {
 pub fn explain_opening(
     alloc: Global,
     language: Language,
+    command: &str,
     input: Input,
     path: &str,
     reason: &str,
@@ -139,9 +221,48 @@ pub fn explain_opening(
     let values = [path.as_bytes(), reason.as_bytes()];
     let sentence = unopened(input).text(alloc, language, &values)?;
     let mut explanation = Explanation::new(alloc, sentence);
-    let remedy = advice(input, path).text(alloc, language, &[path.as_bytes()])?;
-    explanation.remedy(remedy)?;
+    explanation.remedy(remedy(alloc, language, command, input, path)?)?;
     Ok(explanation)
+}
+
+// The message that says which input cannot be read.
+fn unread(input: Input) -> Message {
+    match input {
+        Input::Book => UNREAD_BOOK,
+        Input::Returns => UNREAD_RETURNS,
+        Input::Code => UNREAD_CODE,
+        Input::Names => UNREAD_NAMES,
+    }
+}
+
+// What is said, with what to do.
+fn advise(
+    alloc: Global,
+    language: Language,
+    message: Message,
+    remedy: Message,
+) -> Result<Explanation, NoMemory> {
+    let sentence = message.text(alloc, language, &[])?;
+    let mut explanation = Explanation::new(alloc, sentence);
+    explanation.remedy(remedy.text(alloc, language, &[])?)?;
+    Ok(explanation)
+}
+
+/// Why a call failed: an input that was opened and cannot be read, or an output; `None` where memory ran out.
+///
+/// # Errors
+///
+/// Out of memory.
+pub fn explain_failure(
+    alloc: Global,
+    language: Language,
+    error: DeskError,
+) -> Result<Option<Explanation>, NoMemory> {
+    match error {
+        DeskError::Read(input) => Ok(Some(advise(alloc, language, unread(input), FOLDER)?)),
+        DeskError::Write => Ok(Some(advise(alloc, language, UNWRITTEN, FULL)?)),
+        DeskError::NoMemory => Ok(None),
+    }
 }
 
 /// Why a file cannot be written, with the reason that the system gives.

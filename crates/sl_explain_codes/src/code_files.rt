@@ -13,11 +13,11 @@ pub static C01: Entry = Entry {
     code: FaultCode::C01,
     title: Message {
         english: "no code file",
-        german: "keine Code-Datei",
+        german: "keine Codedatei",
     },
     meaning: Message {
         english: "A code file begins with the letters SLC.",
-        german: "Eine Code-Datei beginnt mit den Buchstaben SLC.",
+        german: "Eine Codedatei beginnt mit den Buchstaben SLC.",
     },
     example: "refused code file 1 0",
     remedy: Message {
@@ -48,7 +48,7 @@ pub static C03: Entry = Entry {
     },
     meaning: Message {
         english: "A byte of the code file has no meaning at its place.",
-        german: "Ein Byte der Code-Datei hat an seiner Stelle keine Bedeutung.",
+        german: "Ein Byte der Codedatei hat an seiner Stelle keine Bedeutung.",
     },
     example: "refused code file 3 16",
     remedy: AGAIN,
@@ -58,11 +58,11 @@ pub static C04: Entry = Entry {
     code: FaultCode::C04,
     title: Message {
         english: "code file cut short",
-        german: "abgeschnittene Code-Datei",
+        german: "abgeschnittene Codedatei",
     },
     meaning: Message {
         english: "The code file ends where a byte is needed.",
-        german: "Die Code-Datei endet, wo ein Byte gebraucht wird.",
+        german: "Die Codedatei endet, wo ein Byte gebraucht wird.",
     },
     example: "refused code file 4 120",
     remedy: AGAIN,
@@ -76,7 +76,7 @@ pub static C05: Entry = Entry {
     },
     meaning: Message {
         english: "The code file goes on after the end of the code.",
-        german: "Die Code-Datei geht hinter dem Ende des Codes weiter.",
+        german: "Die Codedatei geht hinter dem Ende des Codes weiter.",
     },
     example: "refused code file 5 420",
     remedy: AGAIN,
@@ -198,11 +198,11 @@ pub static C14: Entry = Entry {
     code: FaultCode::C14,
     title: Message {
         english: "code file too long",
-        german: "zu lange Code-Datei",
+        german: "zu lange Codedatei",
     },
     meaning: Message {
         english: "A code file has at most 4,194,304 bytes.",
-        german: "Eine Code-Datei hat höchstens 4.194.304 Bytes.",
+        german: "Eine Codedatei hat höchstens 4.194.304 Bytes.",
     },
     example: "refused code toolong",
     remedy: Message {
@@ -219,7 +219,7 @@ pub static C15: Entry = Entry {
     },
     meaning: Message {
         english: "The run of the code file takes more steps than that of any rulebook, and was stopped.",
-        german: "Der Lauf der Code-Datei braucht mehr Schritte als der jedes Regelwerks und wurde abgebrochen.",
+        german: "Der Lauf der Codedatei braucht mehr Schritte als der jedes Regelwerks und wurde abgebrochen.",
     },
     example: "out of budget",
     remedy: Message {

@@ -83,8 +83,8 @@ pub static L05: Entry = Entry {
     },
     example: "fault upper all majority",
     remedy: Message {
-        english: "Correct returns cannot change this. Look up what the statute says, and write its rule in place of `majority refuse`.",
-        german: "Richtige Wahlergebnisse können daran nichts ändern. Nachsehen, was das Gesetz sagt, und seine Regel statt `majority refuse` schreiben.",
+        english: "Correct returns cannot change this. The statutes from 2008 on give the party further seats, up to more than half (Mehrheitsklausel), and a rulebook cannot say so. Without `majority refuse` it shows the seats before that; add the further ones by hand.",
+        german: "Richtige Wahlergebnisse können daran nichts ändern. Die Gesetze seit 2008 geben der Partei weitere Sitze, bis es mehr als die Hälfte sind (Mehrheitsklausel), und ein Regelwerk kann das nicht sagen. Ohne `majority refuse` zeigt es die Sitze davor; die weiteren zählt man von Hand dazu.",
     },
 };
 

@@ -183,9 +183,9 @@ pub static B22: Entry = Entry {
         english: "The rulebook has no stage of the name that the command `stage` was given.",
         german: "Das Regelwerk hat keine Stufe mit dem Namen, der dem Befehl `stage` gegeben wurde.",
     },
-    example: "seatlaw stage @2023 returns.csv uper",
+    example: "seatlaw stage @2023-order returns.csv uper",
     remedy: Message {
-        english: "Take one of the names after `stage` in the rulebook: `seatlaw law 2023` writes one of the library.",
-        german: "Einen der Namen hinter `stage` im Regelwerk nehmen: `seatlaw law 2023` schreibt eines der Bibliothek.",
+        english: "Take one of the names after `stage` in the rulebook: `seatlaw law 2023-order` writes one of the library.",
+        german: "Einen der Namen hinter `stage` im Regelwerk nehmen: `seatlaw law 2023-order` schreibt eines der Bibliothek.",
     },
 };

@@ -13,41 +13,41 @@ use std::alloc::Global;
 // What is said of a file that does not begin as a code file.
 const EMPTY: Message = Message {
     english: "the code file is empty",
-    german: "die Code-Datei ist leer",
+    german: "die Codedatei ist leer",
 };
 
 const BOOK: Message = Message {
     english: "this is a rulebook and no code file",
-    german: "dies ist ein Regelwerk und keine Code-Datei",
+    german: "dies ist ein Regelwerk und keine Codedatei",
 };
 
 const RETURNS: Message = Message {
     english: "these are returns and no code file",
-    german: "dies sind Wahlergebnisse und keine Code-Datei",
+    german: "dies sind Wahlergebnisse und keine Codedatei",
 };
 
 const MAGIC: Message = Message {
     english: "this is no code file: one begins with the letters SLC",
-    german: "dies ist keine Code-Datei: Eine solche beginnt mit den Buchstaben SLC",
+    german: "dies ist keine Codedatei: Eine solche beginnt mit den Buchstaben SLC",
 };
 
 // What is said of its later bytes; the value is the offset from 0.
 const VERSION: Sentence = Sentence {
     code: FaultCode::C02,
     english: "byte $ of the code file: the version of the format is not 1",
-    german: "Byte $ der Code-Datei: Die Version des Formats ist nicht 1",
+    german: "Byte $ der Codedatei: Die Version des Formats ist nicht 1",
 };
 
 const OP: Sentence = Sentence {
     code: FaultCode::C03,
     english: "byte $ of the code file has no meaning at its place",
-    german: "Byte $ der Code-Datei hat an seiner Stelle keine Bedeutung",
+    german: "Byte $ der Codedatei hat an seiner Stelle keine Bedeutung",
 };
 
 const SHORT: Sentence = Sentence {
     code: FaultCode::C04,
     english: "the code file ends too early, after $ bytes",
-    german: "die Code-Datei endet zu früh, nach $ Bytes",
+    german: "die Codedatei endet zu früh, nach $ Bytes",
 };
 
 const TRAILING: Sentence = Sentence {
@@ -59,19 +59,19 @@ const TRAILING: Sentence = Sentence {
 const LIMIT: Sentence = Sentence {
     code: FaultCode::C06,
     english: "byte $ of the code file begins a number of stages, slots or instructions that is too great",
-    german: "Byte $ der Code-Datei beginnt eine zu große Zahl von Stufen, Spalten oder Befehlen",
+    german: "Byte $ der Codedatei beginnt eine zu große Zahl von Stufen, Spalten oder Befehlen",
 };
 
 const LONG: Sentence = Sentence {
     code: FaultCode::C14,
     english: "the code file has more than 4,194,304 bytes",
-    german: "die Code-Datei hat mehr als 4.194.304 Bytes",
+    german: "die Codedatei hat mehr als 4.194.304 Bytes",
 };
 
 const BUDGET: Sentence = Sentence {
     code: FaultCode::C15,
     english: "the run of the code file takes more steps than any rulebook's does, and was stopped",
-    german: "der Lauf der Code-Datei braucht mehr Schritte als der jedes Regelwerks und wurde abgebrochen",
+    german: "der Lauf der Codedatei braucht mehr Schritte als der jedes Regelwerks und wurde abgebrochen",
 };
 
 // What the verifier refuses; the value is the number of the instruction.

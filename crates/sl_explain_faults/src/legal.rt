@@ -12,11 +12,38 @@ use sl_ratio::NoMemory;
 use sl_stages::{FaultKind, Item, LegalFault, MAX_SEATS, Returns, Scope};
 use std::alloc::Global;
 
-// What happened; values: the stage, the scope and the most seats, or for a tie the stage, the scope, the seats, the number of entries and their names.
+// What happened; values: the stage, the scope and the most seats, or for a tie the stage, the scope, the seats in words, the number of entries and their
+// names.
 const TIE: Sentence = Sentence {
     code: FaultCode::L04,
-    english: "stage `$`, $: for $ seat(s) there are $ equal claims, those of $; a lot has to decide",
-    german: "Stufe `$`, $: Um $ Sitz(e) stehen $ gleiche Ansprüche, die von $; ein Los muss entscheiden",
+    english: "stage `$`, $: for $ there are $ equal claims, those of $; a lot has to decide",
+    german: "Stufe `$`, $: Für $ gibt es $ gleiche Ansprüche, die von $; ein Los muss entscheiden",
+};
+
+// Numbers of things.
+const SEAT: Message = Message {
+    english: "$ seat",
+    german: "$ Sitz",
+};
+
+const SEATS: Message = Message {
+    english: "$ seats",
+    german: "$ Sitze",
+};
+
+const WINNER: Message = Message {
+    english: "$ winner",
+    german: "$ Wahlkreissieger",
+};
+
+const LIST: Message = Message {
+    english: "$ list",
+    german: "$ Liste",
+};
+
+const LISTS: Message = Message {
+    english: "$ lists",
+    german: "$ Listen",
 };
 
 const LIMIT: Sentence = Sentence {
@@ -61,8 +88,13 @@ const MORE_SEATS: Message = Message {
 };
 
 const WINNERS: Message = Message {
-    english: "the returns have $ winner(s) there; compare their number with the official list",
-    german: "die Wahlergebnisse haben dort $ Wahlkreissieger; ihre Zahl mit der amtlichen Liste vergleichen",
+    english: "$ winners",
+    german: "$ Wahlkreissieger",
+};
+
+const COMPARE: Message = Message {
+    english: "the returns have $ there; compare their number with the official list",
+    german: "die Wahlergebnisse haben dort $; ihre Zahl mit der amtlichen Liste vergleichen",
 };
 
 const NO_RECORD: Message = Message {
@@ -71,13 +103,13 @@ const NO_RECORD: Message = Message {
 };
 
 const NO_VOTES: Message = Message {
-    english: "the $ list(s) there have no counted votes: correct column b of their `list` records",
-    german: "die $ Liste(n) dort haben keine gezählten Stimmen: Spalte b ihrer `list`-Datensätze berichtigen",
+    english: "$ there, without counted votes: correct column b of the `list` records",
+    german: "$ dort, ohne gezählte Stimmen: Spalte b der `list`-Datensätze berichtigen",
 };
 
 const NOBODY: Message = Message {
-    english: "the $ list(s) there have $ counted votes: maybe none of their parties meets `eligible` of the rulebook; compare the valid votes (column a)",
-    german: "die $ Liste(n) dort haben $ gezählte Stimmen: Vielleicht erfüllt keine ihrer Parteien `eligible` des Regelwerks; gültige Stimmen (Spalte a) vergleichen",
+    english: "$ there, with $ counted votes in all: maybe no party of these meets `eligible` of the rulebook; compare the valid votes (column a)",
+    german: "$ dort, mit zusammen $ gezählten Stimmen: Vielleicht erfüllt keine Partei davon `eligible` des Regelwerks; gültige Stimmen (Spalte a) vergleichen",
 };
 
 const NO_PEOPLE: Message = Message {
@@ -91,8 +123,8 @@ const HALF: Message = Message {
 };
 
 const NO_RULE: Message = Message {
-    english: "correct returns cannot change this; look up what the statute says, and write its rule in place of `majority refuse`",
-    german: "richtige Wahlergebnisse können daran nichts ändern: nachsehen, was das Gesetz sagt, und seine Regel statt `majority refuse` schreiben",
+    english: "correct returns cannot change this: the statutes from 2008 on give the party further seats, up to more than half (Mehrheitsklausel), and a rulebook cannot say so; without `majority refuse` it shows the seats before that, and the further ones are added by hand",
+    german: "richtige Wahlergebnisse können daran nichts ändern: Die Gesetze seit 2008 geben der Partei weitere Sitze, bis es mehr als die Hälfte sind (Mehrheitsklausel), und ein Regelwerk kann das nicht sagen; ohne `majority refuse` zeigt es die Sitze davor, und die weiteren zählt man von Hand dazu",
 };
 
 const HEAVIEST: Message = Message {
@@ -129,7 +161,7 @@ fn add_votes(
         speaker.helps(explanation, &NO_PEOPLE, &[])?;
     }
     let sums = sums_of(returns, scope);
-    let lists = speaker.number(sums.lists as usize)?;
+    let lists = speaker.counted(sums.lists as usize, &LIST, &LISTS)?;
     let counted = speaker.number(sums.counted as usize)?;
     let values = [lists.as_slice(), counted.as_slice()];
     speaker.helps(explanation, votes_message(sums), &values)
@@ -214,8 +246,8 @@ fn add_winners(
 ) -> Result<(), NoMemory>
     ensures { explanation.new.code ≡ explanation.old.code }
 {
-    let winners = speaker.number(winners_in(returns, scope) as usize)?;
-    speaker.helps(explanation, &WINNERS, &[winners.as_slice()])?;
+    let winners = speaker.counted(winners_in(returns, scope) as usize, &WINNER, &WINNERS)?;
+    speaker.helps(explanation, &COMPARE, &[winners.as_slice()])?;
     speaker.helps(explanation, &MORE_SEATS, &[])
 }
 
@@ -278,7 +310,7 @@ fn say_claims(
     ensures { IfOk result (λ x. x.code ≡ Some L04) }
 {
     let stage = speaker.shown(stage)?;
-    let seats = speaker.number(seats as usize)?;
+    let seats = speaker.counted(seats as usize, &SEAT, &SEATS)?;
     let number = speaker.number(number)?;
     let values = [
         stage.as_slice(),

@@ -6,6 +6,16 @@ use sl_explain::{Explanation, FaultCode, Message, Span, Speaker, line_at};
 use sl_ratio::NoMemory;
 use sl_returns::{COLUMNS, Content, KIND, Kind, RefusedReturns, cell_place, find_record};
 
+const CELL: Message = Message {
+    english: "$ cell",
+    german: "$ Zelle",
+};
+
+const CELLS: Message = Message {
+    english: "$ cells",
+    german: "$ Zellen",
+};
+
 /// Refused returns, their text, and the person who is spoken to.
 #[derive(Clone, Copy)]
 pub(crate) struct Case<'a> {
@@ -45,6 +55,15 @@ impl Case<'_> {
         } else {
             self.refused.record.len()
         }
+    }
+
+    /// The number of its cells in words.
+    ///
+    /// # Errors
+    ///
+    /// Out of memory.
+    pub(crate) fn counted_cells(&self) -> Result<Vec<u8>, NoMemory> {
+        self.speaker.counted(self.cells(), &CELL, &CELLS)
     }
 
     /// The bytes of the cell of a column. Where there is none, the end of the text.

@@ -9,7 +9,7 @@ use sl_explain::{Explanation, FaultCode, Message, Span};
 use sl_ratio::NoMemory;
 use sl_returns::{A, B, C, COLUMNS, Content, KIND, Kind, LAND, PARTY, column_name};
 
-// What is said of a number of cells; the value is that number.
+// What is said of a number of cells; the value is that number in words.
 const COMMENT: Message = Message {
     english: "there are no comments in returns",
     german: "Kommentare gibt es in diesen Dateien nicht",
@@ -25,19 +25,24 @@ const TABS: Message = Message {
     german: "dieser Datensatz hat Tabulatoren statt Kommas",
 };
 
+const PIPES: Message = Message {
+    english: "this record has `|` in place of commas",
+    german: "dieser Datensatz hat `|` statt Kommas",
+};
+
 const SPLIT: Message = Message {
-    english: "the record has $ cell(s) in place of six: a comma between thousands splits a number in two",
-    german: "der Datensatz hat $ Zelle(n) statt sechs: Ein Komma zwischen Tausendern teilt eine Zahl in zwei",
+    english: "the record has $ in place of six: a comma between thousands splits a number in two",
+    german: "der Datensatz hat $ statt sechs: Ein Komma zwischen Tausendern teilt eine Zahl in zwei",
 };
 
 const TRAILING: Message = Message {
-    english: "the record has $ cell(s) in place of six: there is a comma too many at its end",
-    german: "der Datensatz hat $ Zelle(n) statt sechs: Am Ende steht ein Komma zu viel",
+    english: "the record has $ in place of six: there is a comma too many at its end",
+    german: "der Datensatz hat $ statt sechs: Am Ende steht ein Komma zu viel",
 };
 
 const MORE: Message = Message {
-    english: "the record has $ cell(s) in place of six",
-    german: "der Datensatz hat $ Zelle(n) statt sechs",
+    english: "the record has $ in place of six",
+    german: "der Datensatz hat $ statt sechs",
 };
 
 // What is said of a cell; the values are its column and the kind of the record.
@@ -93,8 +98,8 @@ const EMPTY: Message = Message {
 };
 
 const SECOND: Message = Message {
-    english: "names left on a list can be given only after the header `kind2,land,party,a,b,c`: change the header, or empty the cell",
-    german: "Verbliebene Namen einer Liste stehen nur hinter der Kopfzeile `kind2,land,party,a,b,c`: diese ändern, oder die Zelle leeren",
+    english: "the number of names left on a list can be given only after the header `kind2,land,party,a,b,c`: change the header, or empty the cell",
+    german: "wie viele Namen auf einer Liste übrig sind, steht nur hinter der Kopfzeile `kind2,land,party,a,b,c`: diese ändern, oder die Zelle leeren",
 };
 
 const LOT_FORMS: Message = Message {
@@ -133,8 +138,8 @@ const NO_FORM: Message = Message {
     german: "jeder Datensatz hat sechs Zellen, also fünf Kommas, wie `land,NAME,,EINWOHNER,,`; eine Zeile, die nichts sagt, löschen",
 };
 
-// The form of a kind.
-fn form_of(kind: Option<Kind>) -> &'static Message {
+/// The form of a kind.
+pub(crate) fn form_of_kind(kind: Option<Kind>) -> &'static Message {
     match kind {
         Some(Kind::House) => &HOUSE_FORM,
         Some(Kind::Land) => &LAND_FORM,
@@ -189,12 +194,14 @@ fn count_messages(case: &Case<'_>) -> (&'static Message, &'static Message, Span)
         (&SEMICOLONS, &REPLACE, case.whole())
     } else if is_separated_by(case, b'\t') {
         (&TABS, &REPLACE, case.whole())
+    } else if is_separated_by(case, b'|') {
+        (&PIPES, &REPLACE, case.whole())
     } else if is_trailing(case) {
         (&TRAILING, &SHORTEN, case.at(COLUMNS))
     } else if let Some(column) = split_number(case) {
         (&SPLIT, &JOIN, case.at(column))
     } else {
-        (&MORE, form_of(case.kind()), case.whole())
+        (&MORE, form_of_kind(case.kind()), case.whole())
     }
 }
 
@@ -203,7 +210,7 @@ fn explain_count(case: &Case<'_>) -> Result<Explanation, NoMemory>
     ensures { IfOk result (λ x. x.code ≡ Some R02) }
 {
     let (sentence, remedy, span) = count_messages(case);
-    let count = case.speaker.number(case.cells())?;
+    let count = case.counted_cells()?;
     case.explains(
         FaultCode::R02,
         sentence,
@@ -224,7 +231,7 @@ fn explain_filled(
 {
     let word = case.speaker.shown(case.text(KIND))?;
     let values = [column_name(column), word.as_slice()];
-    let remedies = [remedy, form_of(case.kind())];
+    let remedies = [remedy, form_of_kind(case.kind())];
     case.explains(
         FaultCode::R02,
         sentence,

@@ -3,7 +3,7 @@
 ghost use Rattle.std.specs.Prelude.{◌≡◌, IfOk, Some};
 ghost use Rattle.sl_explain.specs.declared.code.FaultCode.TheVariants.{R01};
 
-use sl_explain::{Explanation, FaultCode, Message, Span, Speaker, first_line};
+use sl_explain::{Explanation, FaultCode, Message, Span, Speaker, first_line, packing_of};
 use sl_ratio::NoMemory;
 
 // What is said.
@@ -17,14 +17,29 @@ const UTF16: Message = Message {
     german: "die Datei mit den Wahlergebnissen ist in UTF-16, das manche Programme „Unicode“ nennen",
 };
 
+const ZIPPED: Message = Message {
+    english: "the file of the returns is compressed (zip): a workbook (.xlsx, .ods) or an archive, and no CSV file",
+    german: "die Datei mit den Wahlergebnissen ist komprimiert (zip): eine Arbeitsmappe (.xlsx, .ods) oder ein Archiv, keine CSV-Datei",
+};
+
+const PACKED: Message = Message {
+    english: "the file of the returns is compressed ($)",
+    german: "die Datei mit den Wahlergebnissen ist komprimiert ($)",
+};
+
 const WORKBOOK: Message = Message {
-    english: "the file of the returns is a workbook or an archive (.xlsx, .ods, .zip), and no CSV file",
-    german: "die Datei mit den Wahlergebnissen ist eine Arbeitsmappe oder ein Archiv (.xlsx, .ods, .zip), keine CSV-Datei",
+    english: "the file of the returns is a workbook (.xls), and no CSV file",
+    german: "die Datei mit den Wahlergebnissen ist eine Arbeitsmappe (.xls), keine CSV-Datei",
+};
+
+const BINARY: Message = Message {
+    english: "the file of the returns is no text: it has a byte 0",
+    german: "die Datei mit den Wahlergebnissen ist kein Text: Sie hat ein Byte 0",
 };
 
 const CODE: Message = Message {
     english: "the file of the returns is a code file",
-    german: "die Datei mit den Wahlergebnissen ist eine Code-Datei",
+    german: "die Datei mit den Wahlergebnissen ist eine Codedatei",
 };
 
 const BOOK: Message = Message {
@@ -43,14 +58,24 @@ const SAVE: Message = Message {
     german: "als CSV in UTF-8 speichern, mit Kommas zwischen den Zellen",
 };
 
+const UNPACK: Message = Message {
+    english: "unpack it first",
+    german: "sie zuerst entpacken",
+};
+
+const SAVE_OR_UNPACK: Message = Message {
+    english: "save a workbook as CSV in UTF-8, with commas between the cells; unpack an archive first",
+    german: "eine Arbeitsmappe als CSV in UTF-8 speichern, mit Kommas zwischen den Zellen; ein Archiv zuerst entpacken",
+};
+
 const ORDER: Message = Message {
-    english: "the order is BOOK, then RETURNS, as in `seatlaw count book.law returns.csv`",
-    german: "die Reihenfolge ist BOOK, dann RETURNS, wie in `seatlaw count book.law returns.csv`",
+    english: "`totals` and `compare` take RETURNS, then BOOK, as in `seatlaw totals returns.csv book.law`; the other commands BOOK, then RETURNS",
+    german: "`totals` und `compare` nehmen RETURNS, dann BOOK, wie in `seatlaw totals returns.csv book.law`; die anderen Befehle BOOK, dann RETURNS",
 };
 
 const RUN: Message = Message {
-    english: "the order is CODE, then RETURNS, as in `seatlaw run book.slc returns.csv`",
-    german: "die Reihenfolge ist CODE, dann RETURNS, wie in `seatlaw run book.slc returns.csv`",
+    english: "a code file is counted by `run`, CODE, then RETURNS, as in `seatlaw run book.slc returns.csv`",
+    german: "eine Codedatei zählt `run`, CODE, dann RETURNS, wie in `seatlaw run book.slc returns.csv`",
 };
 
 /// What a file is that is no text of cells, by its first bytes.
@@ -58,9 +83,12 @@ const RUN: Message = Message {
 pub(crate) enum FileKind {
     Empty,
     Utf16,
+    /// Compressed so.
+    Packed(&'static str),
     Workbook,
     Code,
     Book,
+    Binary,
 }
 
 // The text after its first line.
@@ -83,22 +111,26 @@ fn is_book(bytes: &[u8]) -> bool {
     false
 }
 
-// Whether bytes are of a text in UTF-16.
+// Whether bytes are of a text in UTF-16: after a byte order mark, or with a byte 0 in one of its first two.
 fn is_utf16(bytes: &[u8]) -> bool {
     let has_mark = bytes.starts_with(b"\xFF\xFE") || bytes.starts_with(b"\xFE\xFF");
-    has_mark || bytes.iter().take(64).any(|byte| *byte == 0)
+    has_mark || bytes.iter().take(2).any(|byte| *byte == 0)
 }
 
 /// What a file is, if it is no text of cells.
 pub(crate) fn foreign_kind(bytes: &[u8]) -> Option<FileKind> {
     if bytes.trim_ascii().is_empty() || bytes == b"\xEF\xBB\xBF".as_slice() {
         Some(FileKind::Empty)
-    } else if bytes.starts_with(b"PK") || bytes.starts_with(b"\xD0\xCF\x11\xE0") {
+    } else if let Some(packing) = packing_of(bytes) {
+        Some(FileKind::Packed(packing))
+    } else if bytes.starts_with(b"\xD0\xCF\x11\xE0") {
         Some(FileKind::Workbook)
     } else if bytes.starts_with(b"SLC") {
         Some(FileKind::Code)
     } else if is_utf16(bytes) {
         Some(FileKind::Utf16)
+    } else if bytes.iter().take(64).any(|byte| *byte == 0) {
+        Some(FileKind::Binary)
     } else if is_book(bytes) {
         Some(FileKind::Book)
     } else {
@@ -112,9 +144,20 @@ impl FileKind {
         match self {
             FileKind::Empty => (&EMPTY, &NO_PATH),
             FileKind::Utf16 => (&UTF16, &SAVE),
+            FileKind::Packed("zip") => (&ZIPPED, &SAVE_OR_UNPACK),
+            FileKind::Packed(_) => (&PACKED, &UNPACK),
             FileKind::Workbook => (&WORKBOOK, &SAVE),
             FileKind::Code => (&CODE, &RUN),
             FileKind::Book => (&BOOK, &ORDER),
+            FileKind::Binary => (&BINARY, &NO_PATH),
+        }
+    }
+
+    // The value of what is said.
+    fn value(self) -> &'static [u8] {
+        match self {
+            FileKind::Packed(packing) => packing.as_bytes(),
+            _ => &[],
         }
     }
 
@@ -132,8 +175,7 @@ impl FileKind {
                 };
                 speaker.explains_at(&sentence, &[], span, &[remedy])
             }
-            FileKind::Empty | FileKind::Utf16 | FileKind::Workbook | FileKind::Code =>
-                speaker.explains(&sentence, &[], &[remedy]),
+            _ => speaker.explains(&sentence, &[self.value()], &[remedy]),
         }
     }
 }

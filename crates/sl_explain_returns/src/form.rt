@@ -17,6 +17,7 @@ pub(crate) enum Form {
     Date,
     Separated,
     Decimal,
+    Percent,
     Other,
 }
 
@@ -156,6 +157,14 @@ fn is_negative(cell: &[u8]) -> bool {
     are_signed(cell, b"-") || are_signed(cell, b"\xE2\x88\x92")
 }
 
+// Whether a cell is a number with a percent sign behind it.
+fn is_percentage(cell: &[u8]) -> bool {
+    match cell.first() {
+        Some(first) => first.is_ascii_digit() && cell.ends_with(b"%"),
+        None => false,
+    }
+}
+
 // Whether a cell stands for a missing value.
 fn is_missing(cell: &[u8]) -> bool {
     for word in MISSING {
@@ -183,6 +192,8 @@ pub(crate) fn form_of(cell: &[u8]) -> Form {
         Form::Positive
     } else if is_exponent(inner) {
         Form::Exponent
+    } else if is_percentage(inner) {
+        Form::Percent
     } else {
         form_by_groups(inner)
     }
@@ -221,6 +232,7 @@ fn meant_part(cell: &[u8]) -> Option<&[u8]> {
         | Form::Negative
         | Form::Exponent
         | Form::Date
+        | Form::Percent
         | Form::Other => None,
     }
 }

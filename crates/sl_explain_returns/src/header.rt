@@ -26,6 +26,21 @@ const TABS: Message = Message {
     german: "die Zellen sind durch Tabulatoren getrennt; verlangt sind Kommas",
 };
 
+const PIPES: Message = Message {
+    english: "the cells are separated by `|`; here they are separated by commas",
+    german: "die Zellen sind durch `|` getrennt; verlangt sind Kommas",
+};
+
+const OFFICE: Message = Message {
+    english: "this looks like a table of results of the election office, such as kerg.csv or kerg2.csv: its columns are not those of returns",
+    german: "das sieht nach einer Ergebnistabelle der Wahlleitung aus, etwa kerg.csv oder kerg2.csv: Ihre Spalten sind nicht die der Wahlergebnisse",
+};
+
+const WIDE: Message = Message {
+    english: "this looks like a table of a spreadsheet, and not like returns, which have a line for each list",
+    german: "das sieht nach einer Tabelle aus einer Tabellenkalkulation aus, und nicht nach Wahlergebnissen mit einer Zeile je Liste",
+};
+
 const NO_HEADER: Message = Message {
     english: "the first line is a record, and no header stands before it",
     german: "die erste Zeile ist ein Datensatz; die Kopfzeile davor fehlt",
@@ -52,8 +67,8 @@ const SPELLING: Message = Message {
 };
 
 const COUNT: Message = Message {
-    english: "the first line is no header: it has $ cell(s) in place of six",
-    german: "die erste Zeile ist keine Kopfzeile: sie hat $ Zelle(n) statt sechs",
+    english: "the first line is no header: it has $ in place of six",
+    german: "die erste Zeile ist keine Kopfzeile: Sie hat $ statt sechs",
 };
 
 const OTHER: Message = Message {
@@ -63,18 +78,28 @@ const OTHER: Message = Message {
 
 // What to do.
 const EXPECTED: Message = Message {
-    english: "the first line must be `kind,land,party,a,b,c`, or `kind2,land,party,a,b,c` for lists that give the names left",
-    german: "die erste Zeile muss `kind,land,party,a,b,c` sein, oder `kind2,land,party,a,b,c` für Listen mit verbliebenen Namen",
+    english: "the first line must be `kind,land,party,a,b,c`, or `kind2,land,party,a,b,c` where lists give the number of names left on them",
+    german: "die erste Zeile muss `kind,land,party,a,b,c` sein, oder `kind2,land,party,a,b,c`, wenn Listen angeben, wie viele Namen auf ihnen übrig sind",
 };
 
 const REPLACE_SEMICOLONS: Message = Message {
-    english: "replace each `;` by `,` in an editor, or save from LibreOffice with the field delimiter `,`; Excel's \"CSV UTF-8\" has semicolons too",
-    german: "in einem Editor jedes `;` durch `,` ersetzen, oder aus LibreOffice mit dem Feldtrenner `,` speichern; auch Excels „CSV UTF-8“ hat Semikolons",
+    english: "replace each `;` by `,` in an editor, or save from LibreOffice with the field delimiter `,`; Excel's \"CSV UTF-8\" has semicolons too; tables of a spreadsheet: docs/from-a-spreadsheet.md",
+    german: "in einem Editor jedes `;` durch `,` ersetzen, oder aus LibreOffice mit dem Feldtrenner `,` speichern; auch Excels „CSV UTF-8“ hat Semikolons; Tabellen einer Tabellenkalkulation: docs/from-a-spreadsheet.md",
 };
 
 const REPLACE_TABS: Message = Message {
     english: "replace each tab by `,` in an editor, or save as CSV with the field delimiter `,`",
     german: "in einem Editor jeden Tabulator durch `,` ersetzen, oder als CSV mit dem Feldtrenner `,` speichern",
+};
+
+const REPLACE_PIPES: Message = Message {
+    english: "replace each `|` by `,` in an editor, or save as CSV with the field delimiter `,`",
+    german: "in einem Editor jedes `|` durch `,` ersetzen, oder als CSV mit dem Feldtrenner `,` speichern",
+};
+
+const SHEETS: Message = Message {
+    english: "the script `tools/from-spreadsheet` makes returns from two tables, one of votes and one of winners: docs/from-a-spreadsheet.md",
+    german: "das Skript `tools/from-spreadsheet` macht Wahlergebnisse aus zwei Tabellen, einer der Stimmen und einer der Sieger: docs/from-a-spreadsheet.md",
 };
 
 const DELETE: Message = Message {
@@ -97,6 +122,26 @@ const NO_NAMES: Message = Message {
     german: "die Spalte in jeder Zeile löschen; in R: `write.csv(x, file, row.names = FALSE, quote = FALSE, na = \"\")`",
 };
 
+// Marks that separate cells in place of commas.
+const MARKS: [u8; 3] = [b';', b'\t', b'|'];
+
+// What the first cell of a table of Länder, parties or constituencies is called, in small letters.
+const HEADS: [&[u8]; 10] = [
+    b"land",
+    b"bundesland",
+    b"l\xC3\xA4nder",
+    b"l\xE4nder",
+    b"state",
+    b"partei",
+    b"party",
+    b"wahlkreis",
+    b"wkr",
+    b"nr",
+];
+
+// How many first bytes tell what a table is.
+const LOOKED_AT: usize = 2048;
+
 // How often a byte stands in a line.
 fn times(line: &[u8], mark: u8) -> usize {
     let mut number = 0usize;
@@ -113,6 +158,13 @@ fn is_nearly(cell: &[u8], wanted: &[u8]) -> bool {
     cell.trim_ascii().eq_ignore_ascii_case(wanted)
 }
 
+// Whether a first cell is that of a header of returns, or of a record.
+fn begins_returns(cell: &[u8]) -> bool {
+    is_nearly(cell, b"kind")
+        || is_nearly(cell, b"kind2")
+        || Kind::named(cell.trim_ascii()).is_some()
+}
+
 // Whether the record is a header but for blanks and capitals.
 fn is_misspelt(case: &Case<'_>) -> bool {
     for column in KIND..COLUMNS {
@@ -124,18 +176,72 @@ fn is_misspelt(case: &Case<'_>) -> bool {
     case.cells() == COLUMNS
 }
 
+// The mark that separates the cells of a line in place of commas, if one does.
+fn separator_of(line: &[u8]) -> Option<u8> {
+    let commas = times(line, b',');
+    MARKS
+        .iter()
+        .copied()
+        .find(|mark| times(line, *mark) > commas)
+}
+
+// What a line has before the first of such marks.
+fn before(line: &[u8], mark: u8) -> &[u8] {
+    for (place, byte) in line.iter().enumerate() {
+        if *byte == mark {
+            return &line[..place];
+        }
+    }
+    line
+}
+
+// Whether the first cell of a table is called so, and not that of returns.
+fn heads_table(cell: &[u8]) -> bool {
+    let name = cell.trim_ascii();
+    !begins_returns(cell) && HEADS.iter().any(|head| name.eq_ignore_ascii_case(head))
+}
+
+// Whether a text is a table of the election office: near its beginning it speaks of `Gebiet`.
+fn is_office(bytes: &[u8]) -> bool {
+    for place in 0..bytes.len().min(LOOKED_AT) {
+        if bytes[place..].starts_with(b"Gebiet") {
+            return true;
+        }
+    }
+    false
+}
+
+// What is said of a line with another mark than commas, and what to do.
+fn mark_messages(line: &[u8], mark: u8) -> (&'static Message, &'static Message) {
+    let first = before(line, mark);
+    if heads_table(first) {
+        (&WIDE, &SHEETS)
+    } else if mark == b';' && !begins_returns(first) {
+        (&SEMICOLONS, &SHEETS)
+    } else if mark == b';' {
+        (&SEMICOLONS, &REPLACE_SEMICOLONS)
+    } else if mark == b'\t' {
+        (&TABS, &REPLACE_TABS)
+    } else {
+        (&PIPES, &REPLACE_PIPES)
+    }
+}
+
 // What is said of a first line that is no line of cells with commas between them, and what to do.
 fn foreign_messages(case: &Case<'_>, line: &[u8]) -> Option<(&'static Message, &'static Message)> {
+    if is_office(case.bytes) {
+        return Some((&OFFICE, &SHEETS));
+    }
     if line.starts_with(b"sep=") || line.starts_with(b"SEP=") {
-        Some((&SEP, &DELETE))
-    } else if case.text(KIND).starts_with(b"#") {
-        Some((&COMMENT, &DELETE))
-    } else if times(line, b';') > times(line, b',') {
-        Some((&SEMICOLONS, &REPLACE_SEMICOLONS))
-    } else if times(line, b'\t') > times(line, b',') {
-        Some((&TABS, &REPLACE_TABS))
-    } else {
-        None
+        return Some((&SEP, &DELETE));
+    }
+    if case.text(KIND).starts_with(b"#") {
+        return Some((&COMMENT, &DELETE));
+    }
+    match separator_of(line) {
+        Some(mark) => Some(mark_messages(line, mark)),
+        None if heads_table(case.text(KIND)) => Some((&WIDE, &SHEETS)),
+        None => None,
     }
 }
 
@@ -186,7 +292,7 @@ fn explain_other(case: &Case<'_>) -> Result<Explanation, NoMemory>
 fn explain_count(case: &Case<'_>, span: Span) -> Result<Explanation, NoMemory>
     ensures { IfOk result (λ x. x.code ≡ Some R01) }
 {
-    let count = case.speaker.number(case.cells())?;
+    let count = case.counted_cells()?;
     case.explains(
         FaultCode::R01,
         &COUNT,

@@ -65,6 +65,46 @@ const ADD_LAND: Message = Message {
     german: "für jedes Land eine Zeile vor seinen Listen einfügen: `land,NAME,,EINWOHNER,,`",
 };
 
+// Other words for the kinds, in small letters, and the kinds that they mean.
+const WORDS: [(&[u8], &[u8]); 18] = [
+    (b"haus", b"house"),
+    (b"sitze", b"house"),
+    (b"seats", b"house"),
+    (b"bundesland", b"land"),
+    (b"state", b"land"),
+    (b"partei", b"party"),
+    (b"parteien", b"party"),
+    (b"parties", b"party"),
+    (b"liste", b"list"),
+    (b"listen", b"list"),
+    (b"landesliste", b"list"),
+    (b"sieger", b"win"),
+    (b"wahlkreis", b"win"),
+    (b"winner", b"win"),
+    (b"winners", b"win"),
+    (b"constituency", b"win"),
+    (b"los", b"lot"),
+    (b"lose", b"lot"),
+];
+
+// The kind that another word means.
+fn meant_by(cell: &[u8]) -> Option<&'static [u8]> {
+    for (word, kind) in WORDS {
+        if cell.eq_ignore_ascii_case(word) {
+            return Some(kind);
+        }
+    }
+    None
+}
+
+// The kind that a word means, or to which it is near.
+fn likely_kind(case: &Case<'_>, cell: &[u8]) -> Result<Option<&'static [u8]>, NoMemory> {
+    match meant_by(cell) {
+        Some(kind) => Ok(Some(kind)),
+        None => nearest(case.speaker.alloc, cell, &Kind::ALL.map(Kind::word)),
+    }
+}
+
 // Whether all cells of the record are empty.
 fn is_empty_row(case: &Case<'_>) -> bool {
     for column in 0..COLUMNS {
@@ -97,7 +137,7 @@ fn add_kinds(case: &Case<'_>, explanation: &mut Explanation) -> Result<(), NoMem
 {
     let speaker = case.speaker;
     let cell = case.text(KIND).trim_ascii();
-    match nearest(speaker.alloc, cell, &Kind::ALL.map(Kind::word))? {
+    match likely_kind(case, cell)? {
         Some(word) => speaker.helps(explanation, &NEAREST, &[word]),
         None => speaker.helps(explanation, &KINDS, &[]),
     }

@@ -51,6 +51,11 @@ const CHARACTER: Message = Message {
     german: "Spalte $, $: `$` hat das Zeichen `$`, das kein Name haben darf",
 };
 
+const CONTROL: Message = Message {
+    english: "column $, $: `$` has a control character, the byte $",
+    german: "Spalte $, $: `$` hat ein Steuerzeichen, das Byte $",
+};
+
 const LATIN: Message = Message {
     english: "column $, $: `$` has a letter of Latin-1 (Windows-1252), which no name may have",
     german: "Spalte $, $: `$` hat einen Buchstaben aus Latin-1 (Windows-1252), den kein Name haben darf",
@@ -165,8 +170,16 @@ fn says_character(
     if wrong == b" ".as_slice() {
         return says_name(case, column, naming, &BLANK, Vec::new(case.speaker.alloc));
     }
-    let character = case.speaker.shown(wrong)?;
-    says_name(case, column, naming, &CHARACTER, character)
+    match wrong {
+        [byte] if byte.is_ascii_control() => {
+            let number = format!(in case.speaker.alloc; "0x{byte:02x}")?;
+            says_name(case, column, naming, &CONTROL, number.into_bytes())
+        }
+        _ => {
+            let character = case.speaker.shown(wrong)?;
+            says_name(case, column, naming, &CHARACTER, character)
+        }
+    }
 }
 
 // What is wrong with the cell of a column that is not empty.

@@ -4,10 +4,12 @@ ghost use Rattle.std.specs.Prelude.{◌≡◌, IfOk, Some};
 ghost use Rattle.sl_explain.specs.declared.code.FaultCode.TheVariants.{R05, R06};
 
 use crate::case::Case;
+use crate::digits::is_number;
+use crate::fields::form_of_kind;
 use crate::form::{Form, form_of, meant};
 use sl_explain::{Explanation, FaultCode, Message, Speaker};
 use sl_ratio::NoMemory;
-use sl_returns::{B, C, Content, Quantity, column_name};
+use sl_returns::{A, B, C, Content, Quantity, column_name};
 
 // What numbers count.
 const HOUSE: Message = Message {
@@ -37,7 +39,7 @@ const COUNTED: Message = Message {
 
 const SLATE: Message = Message {
     english: "names left on the list",
-    german: "verbliebene Namen der Liste",
+    german: "übrige Namen der Liste",
 };
 
 const FIRST: Message = Message {
@@ -96,9 +98,14 @@ const DECIMAL: Message = Message {
     german: "Spalte $, $: `$` hat Nachkommastellen",
 };
 
+const PERCENT: Message = Message {
+    english: "column $, $: `$` is a percentage",
+    german: "Spalte $, $: `$` ist ein Prozentsatz",
+};
+
 const OTHER: Message = Message {
-    english: "column $, $: `$` has another character than digits",
-    german: "Spalte $, $: `$` hat ein anderes Zeichen als Ziffern",
+    english: "column $, $: `$` has another character than the digits 0 to 9",
+    german: "Spalte $, $: `$` hat ein anderes Zeichen als die Ziffern 0 bis 9",
 };
 
 // What to do.
@@ -108,13 +115,23 @@ const WRITE: Message = Message {
 };
 
 const WRITE_WHOLE: Message = Message {
-    english: "write a whole number of at most twelve digits, without any other character",
-    german: "eine ganze Zahl aus höchstens zwölf Ziffern schreiben, ohne andere Zeichen",
+    english: "write a whole number of at most twelve digits, 0 to 9, without any other character",
+    german: "eine ganze Zahl aus höchstens zwölf Ziffern schreiben, 0 bis 9, ohne andere Zeichen",
 };
 
 const WRITE_KNOWN: Message = Message {
     english: "write the number; where there are none, `0`",
     german: "die Zahl schreiben; wo es keine gibt, `0`",
+};
+
+const WRITE_COUNTED: Message = Message {
+    english: "write the counted votes, mostly the same number as in column a, `$`; with `0` the list would get no seats",
+    german: "die gezählten Stimmen schreiben, meist dieselbe Zahl wie in Spalte a, `$`; mit `0` bekäme die Liste keine Sitze",
+};
+
+const NO_PERCENT: Message = Message {
+    english: "write the number of votes, not a percentage",
+    german: "die Zahl der Stimmen schreiben, keinen Prozentsatz",
 };
 
 const WRITE_DIGITS: Message = Message {
@@ -209,27 +226,54 @@ fn form_messages(form: Form) -> (&'static Message, &'static Message) {
         Form::Date => (&DATE, &NOT_A_DATE),
         Form::Separated => (&SEPARATED, &WRITE_WHOLE),
         Form::Decimal => (&DECIMAL, &WRITE_WHOLE),
+        Form::Percent => (&PERCENT, &NO_PERCENT),
         Form::Other => (&OTHER, &WRITE_WHOLE),
     }
 }
 
-// Whether a spreadsheet's format of numbers makes such cells.
-fn is_format(form: Form) -> bool {
-    matches!(form, Form::Exponent | Form::Separated | Form::Decimal)
+// What to do about a cell of such a form in a column, with its value, where the digits are not plain.
+fn remedy_for<'a>(
+    case: &'a Case<'_>,
+    quantity: Quantity,
+    form: Form,
+    remedy: &'static Message,
+) -> (&'static Message, &'a [u8]) {
+    match (quantity, form) {
+        (Quantity::Counted, Form::Empty | Form::Missing) if is_number(case.text(A)) => {
+            (&WRITE_COUNTED, case.text(A))
+        }
+        (Quantity::Minority, Form::Other) => (&FLAG, &[]),
+        _ => (remedy, &[]),
+    }
 }
 
-// Adds the digits that are meant, or what to do where that is not plain.
+// Adds the digits that are meant, or a remedy with its value where that is not plain.
 fn add_digits(
     speaker: Speaker,
     cell: &[u8],
-    remedy: &Message,
+    remedy: (&Message, &[u8]),
     explanation: &mut Explanation,
 ) -> Result<(), NoMemory>
     ensures { explanation.new.code ≡ explanation.old.code }
 {
     match meant(speaker.alloc, cell)? {
         Some(digits) => speaker.helps(explanation, &WRITE, &[digits.as_slice()]),
-        None => speaker.helps(explanation, remedy, &[]),
+        None => speaker.helps(explanation, remedy.0, &[remedy.1]),
+    }
+}
+
+// Adds how such cells are kept out: the format of a spreadsheet, or the form of the record where letters stand in the place of a number.
+fn add_form(case: &Case<'_>, form: Form, explanation: &mut Explanation) -> Result<(), NoMemory>
+    ensures { explanation.new.code ≡ explanation.old.code }
+{
+    match form {
+        Form::Exponent | Form::Separated | Form::Decimal => {
+            case.speaker.helps(explanation, &FORMAT, &[])
+        }
+        Form::Other => case
+            .speaker
+            .helps(explanation, form_of_kind(case.kind()), &[]),
+        _ => Ok(()),
     }
 }
 
@@ -252,10 +296,9 @@ pub(crate) fn explain_number(
     let shown = case.speaker.shown(cell)?;
     let values = [column_name(column), words, shown.as_slice()];
     let mut explanation = case.says(FaultCode::R05, sentence, &values, case.at(column))?;
+    let remedy = remedy_for(case, quantity, form, remedy);
     add_digits(case.speaker, cell, remedy, &mut explanation)?;
-    if is_format(form) {
-        case.speaker.helps(&mut explanation, &FORMAT, &[])?;
-    }
+    add_form(case, form, &mut explanation)?;
     Ok(explanation)
 }
 

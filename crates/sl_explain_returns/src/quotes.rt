@@ -1,4 +1,4 @@
-//! A quote that is not closed.
+//! A quote that is not closed, or only lines later.
 
 ghost use Rattle.std.specs.Prelude.{◌≡◌, IfOk, IfSome, Some};
 
@@ -7,8 +7,8 @@ use sl_explain::{Explanation, FaultCode, Message, Span};
 use sl_ratio::NoMemory;
 
 const OPEN: Message = Message {
-    english: "this quote is not closed, so its cell goes on over the ends of lines",
-    german: "dieses Anführungszeichen ist nicht geschlossen, so läuft seine Zelle über die Zeilenenden weiter",
+    english: "this quote is not closed on its line, so its cell goes on over the ends of lines",
+    german: "dieses Anführungszeichen ist auf seiner Zeile nicht geschlossen, so läuft seine Zelle über die Zeilenenden weiter",
 };
 
 const CLOSE: Message = Message {
@@ -16,11 +16,11 @@ const CLOSE: Message = Message {
     german: "das Anführungszeichen schließen oder löschen: Namen und Zahlen brauchen keine",
 };
 
-// The quote of the last cell, where it is not closed: it then holds the rest of the text.
-fn open_quote(case: &Case<'_>) -> Option<Span> {
-    let last = case.cells().saturating_sub(1);
-    let place = case.refused.place(case.bytes, last)?;
-    if place.is_open {
+// The first byte of a cell that goes on over the end of a line, where the next quote of the file stands, or where none does to the end of the text.
+fn open_cell(case: &Case<'_>, column: usize) -> Option<Span> {
+    let place = case.refused.place(case.bytes, column)?;
+    let cell = case.bytes.get(place.start..place.end)?;
+    if place.is_open || cell.contains(&b'\n') || cell.contains(&b'\r') {
         Some(Span {
             start: place.start,
             end: place.start.saturating_add(1),
@@ -28,6 +28,16 @@ fn open_quote(case: &Case<'_>) -> Option<Span> {
     } else {
         None
     }
+}
+
+// The quote of the first cell that is not closed on its line.
+fn open_quote(case: &Case<'_>) -> Option<Span> {
+    for column in 0..case.cells() {
+        if let Some(span) = open_cell(case, column) {
+            return Some(span);
+        }
+    }
+    None
 }
 
 /// The explanation of a record in which a quote is not closed, if there is one, about the fault of a code.

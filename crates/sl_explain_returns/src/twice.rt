@@ -46,6 +46,11 @@ const FIRST: Message = Message {
     german: "Zeile $ hat das erste: eines von beiden löschen, oder einen Namen berichtigen",
 };
 
+const FIRST_HOUSE: Message = Message {
+    english: "line $ has the first one: delete one of the two",
+    german: "Zeile $ hat die erste Angabe: eine von beiden löschen",
+};
+
 const NO_SUMS: Message = Message {
     english: "rows of sums don't belong into returns: one record for each list",
     german: "Summenzeilen gehören nicht in die Datei: ein Datensatz für jede Liste",
@@ -102,10 +107,11 @@ fn name_message(named: Named) -> &'static Message {
     }
 }
 
-// Adds the line of the first record that has some cells, each by its column.
+// Adds by a message the line of the first record that has some cells, each by its column.
 fn add_first(
     case: &Case<'_>,
     cells: &[(usize, &[u8])],
+    message: &Message,
     explanation: &mut Explanation,
 ) -> Result<(), NoMemory>
     ensures { explanation.new.code ≡ explanation.old.code }
@@ -113,7 +119,7 @@ fn add_first(
     match case.row_before(cells)? {
         Some(row) => {
             let line = case.speaker.number(case.line(row))?;
-            case.speaker.helps(explanation, &FIRST, &[line.as_slice()])
+            case.speaker.helps(explanation, message, &[line.as_slice()])
         }
         None => Ok(()),
     }
@@ -127,7 +133,7 @@ fn explain_name_twice(case: &Case<'_>, column: usize, named: Named) -> Result<Ex
     let message = name_message(named);
     let mut explanation = case.says(FaultCode::R08, message, &[name], case.at(column))?;
     let cells = [(KIND, case.text(KIND)), (column, name)];
-    add_first(case, &cells, &mut explanation)?;
+    add_first(case, &cells, &FIRST, &mut explanation)?;
     Ok(explanation)
 }
 
@@ -136,7 +142,8 @@ fn explain_house_twice(case: &Case<'_>) -> Result<Explanation, NoMemory>
     ensures { IfOk result (λ x. x.code ≡ Some R08) }
 {
     let mut explanation = case.says(FaultCode::R08, &HOUSE_TWICE, &[], case.whole())?;
-    add_first(case, &[(KIND, case.text(KIND))], &mut explanation)?;
+    let cells = [(KIND, case.text(KIND))];
+    add_first(case, &cells, &FIRST_HOUSE, &mut explanation)?;
     Ok(explanation)
 }
 
@@ -148,7 +155,7 @@ fn explain_list_twice(case: &Case<'_>) -> Result<Explanation, NoMemory>
     let party = case.text(PARTY);
     let mut explanation = case.says(FaultCode::R08, &LIST_TWICE, &[party, land], case.whole())?;
     let cells = [(KIND, case.text(KIND)), (LAND, land), (PARTY, party)];
-    add_first(case, &cells, &mut explanation)?;
+    add_first(case, &cells, &FIRST, &mut explanation)?;
     case.speaker.helps(&mut explanation, &NO_SUMS, &[])?;
     Ok(explanation)
 }
@@ -165,7 +172,7 @@ fn explain_lot_twice(case: &Case<'_>) -> Result<Explanation, NoMemory>
         (A, case.text(A)),
         (B, case.text(B)),
     ];
-    add_first(case, &cells, &mut explanation)?;
+    add_first(case, &cells, &FIRST, &mut explanation)?;
     Ok(explanation)
 }
 

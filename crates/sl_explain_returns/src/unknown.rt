@@ -68,7 +68,15 @@ const DECLARE_WIN: Message = Message {
 };
 
 // What rows of sums are called, in small letters.
-const SUMS: [&[u8]; 6] = [b"total", b"sum", b"summe", b"gesamt", b"insgesamt", b"bund"];
+const SUMS: [&[u8]; 7] = [
+    b"total",
+    b"sum",
+    b"summe",
+    b"gesamt",
+    b"insgesamt",
+    b"bund",
+    b"bundesgebiet",
+];
 
 // What is said of a name.
 fn unknown(named: Named) -> &'static Message {

@@ -23,9 +23,10 @@ impl<O: Outside, W: Sink, E: Sink> Terminal<O, W, E> {
             LeavesCode (O.bytes self.old.outside) asked.entry.request (O.bytes self.new.outside) result }
     {
         self.set_options(asked.options);
+        let command = asked.request.command();
         match self.ending(asked.request) {
             Ok(status) => status.number(),
-            Err(failure) => self.tell_failure(&failure),
+            Err(failure) => self.tell_failure(command, &failure),
         }
     }
 

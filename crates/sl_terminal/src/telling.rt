@@ -12,7 +12,8 @@ use crate::terminal::Terminal;
 use sl_count_outcomes::Read;
 use sl_explain::{Explanation, written};
 use sl_explain_calls::{
-    Explained, Lost, explain_check, explain_kept, explain_opening, explain_read, explain_writing,
+    Explained, Lost, explain_check, explain_failure, explain_kept, explain_opening, explain_read,
+    explain_writing,
 };
 use sl_inputs::{DeskError, Input, ReadBook, Sink, Status, write_all};
 use sl_outside::{Outside, Unopened};
@@ -153,15 +154,16 @@ impl<O: Outside, W: Sink, E: Sink> Terminal<O, W, E> {
         let _ = write_all(&mut self.err, bytes);
     }
 
-    // Says which input could not be opened, and why.
-    fn tell_unopened(&mut self, unopened: &Unopened<'_, O::Reason>)
+    // Says which input of a command could not be opened, and why.
+    fn tell_unopened(&mut self, command: &str, unopened: &Unopened<'_, O::Reason>)
         ensures only { OnlyTells self.old self.new }
     {
         self.write_line(&unopened.error());
         let (alloc, reason) = (self.alloc, &unopened.reason);
         if let Ok(reason) = format!(in alloc; "{reason}") {
             let (input, path) = (unopened.input, unopened.path);
-            self.tell_alone(explain_opening(alloc, self.language, input, path, reason.as_str()));
+            let told = explain_opening(alloc, self.language, command, input, path, reason.as_str());
+            self.tell_alone(told);
         }
     }
 
@@ -173,6 +175,16 @@ impl<O: Outside, W: Sink, E: Sink> Terminal<O, W, E> {
         let alloc = self.alloc;
         if let Ok(reason) = format!(in alloc; "{reason}") {
             self.tell_alone(explain_writing(alloc, self.language, path, reason.as_str()));
+        }
+    }
+
+    // Says that a call failed, and where a file cannot be read or written, what may be wrong.
+    fn tell_call(&mut self, error: DeskError)
+        ensures only { OnlyTells self.old self.new }
+    {
+        self.write_line(&error);
+        if let Ok(Some(explanation)) = explain_failure(self.alloc, self.language, error) {
+            self.write(None, &explanation);
         }
     }
 
@@ -188,14 +200,14 @@ impl<O: Outside, W: Sink, E: Sink> Terminal<O, W, E> {
     }
 
     // Says why a command did not come to its end, and answers its exit status.
-    pub(crate) fn tell_failure(&mut self, failure: &Failure<'_, O::Reason>) -> u8
+    pub(crate) fn tell_failure(&mut self, command: &str, failure: &Failure<'_, O::Reason>) -> u8
         ensures number { result ≡ failure_number failure.now }
         ensures only { OnlyTells self.old self.new }
     {
         match failure {
-            Failure::Unopened(unopened) => self.tell_unopened(unopened),
+            Failure::Unopened(unopened) => self.tell_unopened(command, unopened),
             Failure::Unmade { path, reason } => self.tell_unmade(path, reason),
-            Failure::Call(error) => self.write_line(error),
+            Failure::Call(error) => self.tell_call(*error),
             Failure::Kept(path) => return self.refuse_file(path, Lost::Other),
             Failure::Same(path) => return self.refuse_file(path, Lost::Rulebook),
         }

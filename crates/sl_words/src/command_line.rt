@@ -1,6 +1,7 @@
 //! The words of the command line.
 
 use crate::help::{COMMANDS, Form, Given, PROGRAM, SAME_FILE, UNKNOWN_CODE, VERSION, Word};
+use crate::hints::hint_of;
 use crate::options::{Options, options_of};
 use crate::reports::{Report, ReportForm, form_of, report_of};
 use clap::error::ErrorKind;
@@ -68,6 +69,28 @@ pub struct Asked<'a> {
 }
 
 impl Request<'_> {
+    /// The command that asks for it.
+    pub fn command(&self) -> &'static str {
+        match self {
+            Request::Count { show, .. } => match show {
+                Show::Seats => "count",
+                Show::Steps => "steps",
+                Show::Stage(_) => "stage",
+            },
+            Request::Check { .. } => "check",
+            Request::Code { .. } => "code",
+            Request::Run { .. } => "run",
+            Request::Law { .. } => "law",
+            Request::Explain { .. } => "explain",
+            Request::Report { what, .. } => match what {
+                Report::Count { .. } => "report",
+                Report::Stages { .. } => "stages",
+                Report::Totals { .. } => "totals",
+                Report::Compare { .. } => "compare",
+            },
+        }
+    }
+
     // Whether it would write over the rulebook that it reads.
     fn overwrites_its_book(&self) -> bool {
         match self {
@@ -252,6 +275,62 @@ fn asks_unknown_code(matches: &ArgMatches<'_>) -> bool {
     }
 }
 
+// The words of a refusal, without its usage and what `clap` would try.
+fn sentence_of(text: &str) -> &str {
+    let text = text.strip_prefix("error: ").unwrap_or(text);
+    match text.split_once("\n\n") {
+        Some((sentence, _)) => sentence,
+        None => text,
+    }
+}
+
+// Whether a refusal names a command that is near.
+fn names_near(kind: ErrorKind, text: &str) -> bool {
+    kind == ErrorKind::InvalidSubcommand && text.contains("similar")
+}
+
+// A command whose usage begins with the name of the program.
+fn shown_command<'a>(alloc: Global, form: &Form) -> Result<Command<'a>, AllocError> {
+    let name = form.name;
+    let shown = format!(in alloc; "seatlaw {name}")?;
+    command_of(alloc, form)?.bin_name(shown.as_str())
+}
+
+// The command of a refusal, for its usage: the one that the words name, or the program.
+fn refusing<'a>(
+    alloc: Global,
+    words: &[String],
+    program: Command<'a>,
+) -> Result<Command<'a>, AllocError> {
+    let named = named_command(words);
+    for form in &COMMANDS {
+        if named == Some(form.name) {
+            return shown_command(alloc, form);
+        }
+    }
+    Ok(program)
+}
+
+// A refusal with what to do about it.
+fn hinted(
+    alloc: Global,
+    words: &[String],
+    program: Command<'_>,
+    error: Error,
+) -> Result<Error, AllocError> {
+    let kind = error.kind();
+    let text = format!(in alloc; "{error}")?;
+    if names_near(kind, text.as_str()) {
+        return Ok(error);
+    }
+    let Some(hint) = hint_of(alloc, words, kind)? else {
+        return Ok(error);
+    };
+    let sentence = sentence_of(text.as_str());
+    let message = format!(in alloc; "{sentence}\n\n  tip: {hint}")?;
+    refusing(alloc, words, program)?.error(kind, message.as_str())
+}
+
 /// What these words ask for, of which the first is the program's name; `None` where no command is among them.
 ///
 /// # Errors
@@ -259,7 +338,10 @@ fn asks_unknown_code(matches: &ArgMatches<'_>) -> bool {
 /// A refusal, a help or the version by `clap`, a refusal of `code` with one word for its rulebook and its code file, a refusal of `explain` with a word that is no code, or out of memory.
 pub fn request_of<'a>(alloc: Global, words: &'a [String]) -> Result<Option<Asked<'a>>, Error> {
     let mut program = program(alloc, words)?;
-    let matches = program.try_get_matches_from_mut(words)?;
+    let matches = match program.try_get_matches_from_mut(words) {
+        Ok(matches) => matches,
+        Err(error) => return Err(hinted(alloc, words, program, error)?),
+    };
     if asks_unknown_code(&matches) {
         return Err(program.error(ErrorKind::InvalidValue, UNKNOWN_CODE)?);
     }

@@ -45,9 +45,10 @@ pub struct Form {
     pub more: &'static str,
 }
 
-// The end of a help: what is read and written, an example, and the exit statuses.
+// The end of a help: what is read and written, an example, and the exit statuses that the command can have: one that counts, one that runs code, one
+// that reads and counts nothing, one that reads nothing, and the program itself.
 macro_rules! ending {
-    ($text:literal, $example:literal) => {
+    (counts, $text:literal, $example:literal) => {
         concat!(
             $text,
             "\n\nExample:\n  seatlaw ",
@@ -57,7 +58,57 @@ macro_rules! ending {
             "  1  the command line is refused; standard error says why\n",
             "  2  an input is refused; the line `refused ..` says which, why and where\n",
             "  3  a legal fault, such as a tie without a lot; the line `fault ..` names it\n",
-            "  4  the run of a code file takes too many steps: `out of budget`\n",
+            "  5  a file cannot be read or written, or memory runs out; standard error says which",
+        )
+    };
+    (runs, $text:literal, $example:literal) => {
+        concat!(
+            $text,
+            "\n\nExample:\n  seatlaw ",
+            $example,
+            "\n\nExit status:\n",
+            "  0  done\n",
+            "  1  the command line is refused; standard error says why\n",
+            "  2  an input is refused; the line `refused ..` says which, why and where\n",
+            "  3  a legal fault, such as a tie without a lot; the line `fault ..` names it\n",
+            "  4  the run of the code file takes too many steps: `out of budget`\n",
+            "  5  a file cannot be read or written, or memory runs out; standard error says which",
+        )
+    };
+    (reads, $text:literal, $example:literal) => {
+        concat!(
+            $text,
+            "\n\nExample:\n  seatlaw ",
+            $example,
+            "\n\nExit status:\n",
+            "  0  done\n",
+            "  1  the command line is refused; standard error says why\n",
+            "  2  an input is refused; the line `refused ..` says which, why and where\n",
+            "  5  a file cannot be read or written, or memory runs out; standard error says which",
+        )
+    };
+    (tells, $text:literal, $example:literal) => {
+        concat!(
+            $text,
+            "\n\nExample:\n  seatlaw ",
+            $example,
+            "\n\nExit status:\n",
+            "  0  done\n",
+            "  1  the command line is refused; standard error says why\n",
+            "  5  the output cannot be written, or memory runs out; standard error says which",
+        )
+    };
+    (all, $text:literal, $example:literal) => {
+        concat!(
+            $text,
+            "\n\nExample:\n  seatlaw ",
+            $example,
+            "\n\nExit status, of which the help of a command has its own:\n",
+            "  0  done\n",
+            "  1  the command line is refused; standard error says why\n",
+            "  2  an input is refused; the line `refused ..` says which, why and where\n",
+            "  3  a legal fault, such as a tie without a lot; the line `fault ..` names it\n",
+            "  4  of `run`: the code file takes too many steps, `out of budget`\n",
             "  5  a file cannot be read or written, or memory runs out; standard error says which",
         )
     };
@@ -166,8 +217,9 @@ pub const PROGRAM: Form = Form {
     words: &[],
     options: &[],
     more: ending!(
+        all,
         "Each command reads files and writes to standard output; `seatlaw help COMMAND` says more.",
-        "count @2023 returns.csv"
+        "count @2023-order returns.csv"
     ),
 };
 
@@ -177,10 +229,11 @@ const COUNT: Form = Form {
     words: &[BOOK, RETURNS],
     options: &OPTIONS,
     more: ending!(
+        counts,
         "Reads a rulebook and returns. Writes the seats in all, of each party and of each list,\n\
          how many of them constituency winners fill, the seats that stay vacant, and the winners\n\
          who sit by themselves or are not seated; or else the line of a legal fault.",
-        "count @2023 returns.csv"
+        "count @2023-order returns.csv"
     ),
 };
 
@@ -190,11 +243,12 @@ const STEPS: Form = Form {
     words: &[BOOK, RETURNS],
     options: &OPTIONS,
     more: ending!(
+        counts,
         "Reads a rulebook and returns. Writes a line for each seat of a distribution, with the\n\
          step in which it was won and the quotient or remainder that won it; then the bounds\n\
          between which every divisor gives just these seats; and at the end the text of `count`.\n\
          Or else the line of a legal fault.",
-        "steps @2023 returns.csv"
+        "steps @2023-order returns.csv"
     ),
 };
 
@@ -204,6 +258,7 @@ const STAGE: Form = Form {
     words: &[BOOK, RETURNS, STAGE_NAME],
     options: &OPTIONS,
     more: ending!(
+        counts,
         "Reads a rulebook and returns. Writes a line for each party, Land or list with its number\n\
          in the column of that stage, or one line for a stage that is a single number; or else\n\
          the line of a legal fault, of this stage or of another.",
@@ -217,6 +272,7 @@ const CHECK: Form = Form {
     words: &[BOOK],
     options: &OPTIONS,
     more: ending!(
+        reads,
         "Reads a rulebook. Writes its version, its house, the number of its stages and the name\n\
          of its law.",
         "check book.law"
@@ -229,6 +285,7 @@ const CODE: Form = Form {
     words: &[BOOK, OUT],
     options: &CODE_OPTIONS,
     more: ending!(
+        reads,
         "Reads a rulebook. Writes its counting code to the file OUT, and then a line for each\n\
          instruction. OUT is written if it is not there, is empty or is a code file; else the\n\
          command line is refused. It is left empty where the rulebook is refused.",
@@ -242,6 +299,7 @@ const RUN: Form = Form {
     words: &[CODE_FILE, RETURNS],
     options: &OPTIONS,
     more: ending!(
+        runs,
         "Reads a code file and returns. Writes what `count` writes for the rulebook behind the\n\
          code: its seat table, or else the line of a legal fault.",
         "run book.slc returns.csv"
@@ -254,8 +312,9 @@ const LAW: Form = Form {
     words: &[STATUTE],
     options: &OPTIONS,
     more: ending!(
+        reads,
         "Reads no file. Writes the text of the rulebook, from which one of your own may start.",
-        "law 2023"
+        "law 2023-order"
     ),
 };
 
@@ -265,6 +324,7 @@ const EXPLAIN: Form = Form {
     words: &[FAULT_CODE],
     options: &OPTIONS,
     more: ending!(
+        tells,
         "Reads no file. Writes what happened, an example, and what to do. Each error has its code\n\
          in brackets: `error[B15]`.",
         "explain B15"
@@ -277,6 +337,7 @@ const REPORT: Form = Form {
     words: &[BOOK, RETURNS],
     options: &REPORT_OPTIONS,
     more: ending!(
+        counts,
         "Reads a rulebook and returns. Writes who takes part and why; the seats of parties and\n\
          lists; for each distribution a divisor, the quotients, the last seat, the next claim and\n\
          the votes missing for one more; contested lists by share; and winners without a seat.",
@@ -290,6 +351,7 @@ const STAGES: Form = Form {
     words: &[BOOK, RETURNS],
     options: &REPORT_OPTIONS,
     more: ending!(
+        counts,
         "Reads a rulebook and returns. Writes a line for each stage with its shape, its unit and\n\
          its sum, and then the column of each.",
         "stages @2013 returns.csv"
@@ -302,9 +364,10 @@ const TOTALS: Form = Form {
     words: &[RETURNS, OPTIONAL_BOOK],
     options: &REPORT_OPTIONS,
     more: ending!(
+        reads,
         "Reads returns, and a rulebook if one is given. Writes the votes and winners in all, by\n\
          party and by Land; with a rulebook who takes part, and what the others lack for it.\n\
-         Nothing is counted, so there is no legal fault.",
+         Seats are not counted.",
         "totals returns.csv @2023-order"
     ),
 };
@@ -315,10 +378,11 @@ const COMPARE: Form = Form {
     words: &[RETURNS, BOOKS],
     options: &REPORT_OPTIONS,
     more: ending!(
+        reads,
         "Reads returns and rulebooks; without one, the six statutes of the library. Writes the\n\
          seats of each party by each of them, and the first stage in which they differ from the\n\
          first one. A legal fault stands in the column of its rulebook.",
-        "compare returns.csv @2008 @2023"
+        "compare returns.csv @2013 @2023-order"
     ),
 };
 

@@ -3,6 +3,7 @@
 
 mod command_line;
 mod help;
+mod hints;
 mod options;
 mod reports;
 

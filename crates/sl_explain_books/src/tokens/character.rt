@@ -3,6 +3,7 @@
 ghost use Rattle.std.specs.Prelude.{◌≡◌, IfOk, Some};
 ghost use Rattle.sl_explain.specs.declared.code.FaultCode.TheVariants.{B03, B04};
 
+use crate::meant::{METHOD, method_of};
 use crate::pieces::{character_len, piece, span_within};
 use sl_explain::{Explanation, FaultCode, Message, Sentence, Span, Speaker};
 use sl_ratio::NoMemory;
@@ -139,6 +140,27 @@ const TEXT_PLAIN: Message = Message {
     german: "an seiner Stelle ein Leerzeichen oder Buchstaben von A bis Z schreiben",
 };
 
+// The letters that stand just before an offset.
+fn letters_before(text: &[u8], at: usize) -> &[u8] {
+    let front = text.get(..at).unwrap_or(&[]);
+    let behind = front
+        .iter()
+        .rev()
+        .take_while(|byte| byte.is_ascii_alphabetic())
+        .count();
+    front.get(at.saturating_sub(behind)..).unwrap_or(&[])
+}
+
+// The keyword of the method whose name a character parts, as in `sainte-lague` or `d'hondt`.
+fn parted_method(text: &[u8], at: usize) -> Option<&'static [u8]> {
+    let word = letters_before(text, at);
+    match byte_at(text, at) {
+        b'\'' if word.eq_ignore_ascii_case(b"d") => method_of(b"dhondt"),
+        b'-' | b'/' => method_of(word),
+        _ => None,
+    }
+}
+
 // What to do about a character of ASCII.
 fn ascii_remedy(byte: u8, next: u8, at: usize) -> &'static Message {
     match byte {
@@ -245,6 +267,25 @@ fn byte_at(text: &[u8], at: usize) -> u8 {
     text.get(at).copied().unwrap_or(0)
 }
 
+// Says what to do about a character of ASCII at an offset.
+fn help_ascii(
+    speaker: Speaker,
+    explanation: &mut Explanation,
+    text: &[u8],
+    at: usize,
+    byte: u8,
+) -> Result<(), NoMemory>
+    ensures { explanation.new.code ≡ explanation.old.code }
+{
+    match parted_method(text, at) {
+        Some(method) => speaker.helps(explanation, &METHOD, &[method]),
+        None => {
+            let next = byte_at(text, at.saturating_add(1));
+            speaker.helps(explanation, ascii_remedy(byte, next, at), &[])
+        }
+    }
+}
+
 /// Explains the character at an offset, which no token begins with.
 pub fn explain_character(speaker: Speaker, text: &[u8], at: usize) -> Result<Explanation, NoMemory>
     ensures { IfOk result (λ x. x.code ≡ Some B03) }
@@ -258,9 +299,9 @@ pub fn explain_character(speaker: Speaker, text: &[u8], at: usize) -> Result<Exp
         byte @ 0x80.. => explain_byte(speaker, &NO_CHARACTER, byte, span, &ENCODING),
         byte @ (0..=0x1F | 0x7F) => explain_byte(speaker, &CONTROL, byte, span, &PLAIN),
         byte => {
-            let next = byte_at(text, at.saturating_add(1));
-            let remedy = ascii_remedy(byte, next, at);
-            speaker.explains_at(&UNEXPECTED, &[character], span, &[remedy])
+            let mut explanation = speaker.says_at(&UNEXPECTED, &[character], span)?;
+            help_ascii(speaker, &mut explanation, text, at, byte)?;
+            Ok(explanation)
         }
     }
 }

@@ -1,0 +1,79 @@
+//! Words of other languages and of other books for those of the language.
+
+use sl_explain::Message;
+
+/// What is said of a method by another name; the value is its keyword.
+pub const METHOD: Message = Message {
+    english: "the method is called `$`",
+    german: "das Verfahren heißt `$`",
+};
+
+/// What is said of a method that the language lacks.
+pub const NO_METHOD: Message = Message {
+    english: "the language has no quota of Droop; largest remainders by Hare's quota are `hamilton`",
+    german: "eine Droop-Quote gibt es nicht; größte Reste mit der Hare-Quote sind `hamilton`",
+};
+
+// Names of methods, in small letters, and their keywords.
+const METHODS: [(&[u8], &[u8]); 18] = [
+    (b"sainte", b"webster"),
+    (b"saintelague", b"webster"),
+    (b"sainte_lague", b"webster"),
+    (b"lague", b"webster"),
+    (b"schepers", b"webster"),
+    (b"dhondt", b"jefferson"),
+    (b"d_hondt", b"jefferson"),
+    (b"hondt", b"jefferson"),
+    (b"hagenbach", b"jefferson"),
+    (b"bischoff", b"jefferson"),
+    (b"hare", b"hamilton"),
+    (b"niemeyer", b"hamilton"),
+    (b"hare_niemeyer", b"hamilton"),
+    (b"hareniemeyer", b"hamilton"),
+    (b"vinton", b"hamilton"),
+    (b"huntington", b"hill"),
+    (b"huntingtonhill", b"hill"),
+    (b"huntington_hill", b"hill"),
+];
+
+// Other words, in small letters, and the keywords that they mean.
+const WORDS: [(&[u8], &[u8]); 13] = [
+    (b"parties", b"party"),
+    (b"partei", b"party"),
+    (b"parteien", b"party"),
+    (b"lands", b"land"),
+    (b"laender", b"land"),
+    (b"state", b"land"),
+    (b"states", b"land"),
+    (b"total", b"all"),
+    (b"alle", b"all"),
+    (b"votes", b"counted"),
+    (b"winner", b"winners"),
+    (b"sieger", b"winners"),
+    (b"minorities", b"minority"),
+];
+
+// The keyword that stands in a table for a word.
+fn found(table: &[(&[u8], &'static [u8])], word: &[u8]) -> Option<&'static [u8]> {
+    for (other, keyword) in table {
+        if word.eq_ignore_ascii_case(other) {
+            return Some(*keyword);
+        }
+    }
+    None
+}
+
+/// The keyword of a method that is called by another name, if there is one.
+pub fn method_of(word: &[u8]) -> Option<&'static [u8]> {
+    found(METHODS.as_slice(), word)
+}
+
+/// The keyword that another word means, if it does.
+pub fn keyword_of(word: &[u8]) -> Option<&'static [u8]> {
+    found(WORDS.as_slice(), word)
+}
+
+/// Whether a word names the method of Droop, which the language lacks.
+pub fn is_droop(word: &[u8]) -> bool {
+    word.eq_ignore_ascii_case(b"droop")
+}
