@@ -15,11 +15,15 @@ uint32_t page_steps(SLICE(book), SLICE(returns), TEXT);
 uint32_t page_stage(SLICE(book), SLICE(returns), SLICE(name), TEXT);
 uint32_t page_check(SLICE(book), TEXT);
 uint32_t page_law(SLICE(name), TEXT);
+uint32_t page_code(SLICE(book), char *room, size_t room_length, struct seatlaw_code_parts *ends);
+uint32_t page_run(SLICE(code), SLICE(returns), TEXT);
 uint32_t page_report(SLICE(book), SLICE(returns), SLICE(names), TEXT);
 uint32_t page_totals(SLICE(book), SLICE(returns), SLICE(names), TEXT);
 uint32_t page_compare(SLICE(words), SLICE(book), SLICE(returns), SLICE(names), TEXT);
 uint32_t page_explain_check(SLICE(language), SLICE(book), TEXT);
 uint32_t page_explain_count(SLICE(language), SLICE(book), SLICE(returns), TEXT);
+uint32_t page_explain_run(SLICE(language), SLICE(code), SLICE(returns), TEXT);
+uint32_t page_explain_code(SLICE(language), SLICE(word), TEXT);
 
 #undef SLICE
 #undef TEXT

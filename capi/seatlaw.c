@@ -14,7 +14,7 @@ struct input {
     size_t length;
 };
 
-// An export with the inputs that it takes. It fills in where its text ends, or where the five of `page_show` do.
+// An export with the inputs that it takes. It fills in where its text ends, or where the texts of `page_show` and of `page_code` do.
 typedef uint32_t (*export)(const struct input *inputs, char *room, size_t length, size_t *count);
 
 static struct input input(const char *bytes, size_t length) { return (struct input){length ? bytes : "", length}; }
@@ -32,6 +32,10 @@ static uint32_t asks_stage(const struct input *inputs, char *room, size_t length
 }
 static uint32_t asks_check(const struct input *inputs, char *room, size_t length, size_t *count) { return page_check(INPUT(0), ROOM); }
 static uint32_t asks_law(const struct input *inputs, char *room, size_t length, size_t *count) { return page_law(INPUT(0), ROOM); }
+static uint32_t asks_code(const struct input *inputs, char *room, size_t length, size_t *count) {
+    return page_code(INPUT(0), room, length, (struct seatlaw_code_parts *)count);
+}
+static uint32_t asks_run(const struct input *inputs, char *room, size_t length, size_t *count) { return page_run(INPUT(0), INPUT(1), ROOM); }
 static uint32_t asks_report(const struct input *inputs, char *room, size_t length, size_t *count) {
     return page_report(INPUT(0), INPUT(1), INPUT(2), ROOM);
 }
@@ -46,6 +50,12 @@ static uint32_t asks_explain_check(const struct input *inputs, char *room, size_
 }
 static uint32_t asks_explain_count(const struct input *inputs, char *room, size_t length, size_t *count) {
     return page_explain_count(INPUT(0), INPUT(1), INPUT(2), ROOM);
+}
+static uint32_t asks_explain_run(const struct input *inputs, char *room, size_t length, size_t *count) {
+    return page_explain_run(INPUT(0), INPUT(1), INPUT(2), ROOM);
+}
+static uint32_t asks_explain_code(const struct input *inputs, char *room, size_t length, size_t *count) {
+    return page_explain_code(INPUT(0), INPUT(1), ROOM);
 }
 
 // The answer of a text at the begin of a room, which is cut to it.
@@ -120,6 +130,18 @@ enum seatlaw_status seatlaw_law(const char *name, size_t name_length, struct sea
     return asked(asks_law, inputs, answer);
 }
 
+enum seatlaw_status seatlaw_code(const char *book, size_t book_length, struct seatlaw_text *answer, struct seatlaw_code_parts *ends) {
+    const struct input inputs[] = {input(book, book_length)};
+    *ends = (struct seatlaw_code_parts){0, 0};
+    return asked_parts(asks_code, inputs, answer, &ends->file, sizeof *ends / sizeof(size_t));
+}
+
+enum seatlaw_status seatlaw_run(const char *code, size_t code_length, const char *returns, size_t returns_length,
+                                struct seatlaw_text *answer) {
+    const struct input inputs[] = {input(code, code_length), input(returns, returns_length)};
+    return asked(asks_run, inputs, answer);
+}
+
 enum seatlaw_status seatlaw_report(const char *book, size_t book_length, const char *returns, size_t returns_length,
                                    const char *names, size_t names_length, struct seatlaw_text *answer) {
     const struct input inputs[] = {input(book, book_length), input(returns, returns_length), input(names, names_length)};
@@ -149,4 +171,16 @@ enum seatlaw_status seatlaw_explain_count(const char *language, size_t language_
                                           const char *returns, size_t returns_length, struct seatlaw_text *answer) {
     const struct input inputs[] = {input(language, language_length), input(book, book_length), input(returns, returns_length)};
     return asked(asks_explain_count, inputs, answer);
+}
+
+enum seatlaw_status seatlaw_explain_run(const char *language, size_t language_length, const char *code, size_t code_length,
+                                        const char *returns, size_t returns_length, struct seatlaw_text *answer) {
+    const struct input inputs[] = {input(language, language_length), input(code, code_length), input(returns, returns_length)};
+    return asked(asks_explain_run, inputs, answer);
+}
+
+enum seatlaw_status seatlaw_explain_code(const char *language, size_t language_length, const char *word, size_t word_length,
+                                         struct seatlaw_text *answer) {
+    const struct input inputs[] = {input(language, language_length), input(word, word_length)};
+    return asked(asks_explain_code, inputs, answer);
 }

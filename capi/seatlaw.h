@@ -23,15 +23,17 @@
 extern "C" {
 #endif
 
-/* Statuses 0, 2 and 3 are the exit statuses of the program. */
+/* Statuses 0, 2, 3 and 4 are the exit statuses of the program. */
 enum seatlaw_status {
     SEATLAW_DONE = 0,        /* the text that was asked for */
-    SEATLAW_REFUSED = 2,     /* an input is not in order; the text is one line that begins with `refused` */
+    SEATLAW_REFUSED = 2,     /* an input is not in order; the text is one line that begins with `refused`, or of an explanation what it says */
     SEATLAW_LEGAL_FAULT = 3, /* the rulebook has no table for these returns, as at a tie without a lot; one line that
                               * begins with `fault`, or of a report its JSON */
+    SEATLAW_OUT_OF_BUDGET = 4, /* of `seatlaw_run` and `seatlaw_explain_run` alone: the run needs more steps than it may take, as that of no
+                              * rulebook's code does; the line `out of budget` */
     SEATLAW_NO_MEMORY = 5,   /* malloc gave no memory */
     SEATLAW_NO_ROOM = 6,     /* the text has more than 256 MiB; no input within the limits is known to come to this */
-    SEATLAW_NO_NAME = 7,     /* the name of a stage or of a statute, or the words of `seatlaw_compare`, are no UTF-8 */
+    SEATLAW_NO_NAME = 7,     /* the name of a stage or of a statute, the code of a fault, or the words of `seatlaw_compare` are no UTF-8 */
     SEATLAW_OTHER_SHAPE = 8  /* of `seatlaw_counts` alone: the table of a row has not so many numbers as a row of seats */
 };
 
@@ -74,6 +76,19 @@ enum seatlaw_status seatlaw_check(const char *book, size_t book_length, struct s
 /* The text of the statute of that name, without an @: 1956, 1985, 2008, 2013, 2023 or 2023-order. Proved: `IsLawOutput`. */
 enum seatlaw_status seatlaw_law(const char *name, size_t name_length, struct seatlaw_text *answer);
 
+/* Where the two parts of an answer of `seatlaw_code` end. The file begins with the answer, and the listing where the file ends. */
+struct seatlaw_code_parts {
+    size_t file, listing;
+};
+
+/* Compiles a rulebook. The answer has the bytes of the code file, and behind them what `seatlaw code` writes: the listing of the code, or for a
+ * refused rulebook no file and the line that refuses it. Proved: `HandsCode`, which says `IsCompilingOutput` of both. */
+enum seatlaw_status seatlaw_code(const char *book, size_t book_length, struct seatlaw_text *answer, struct seatlaw_code_parts *ends);
+
+/* What the run of these bytes of a code file on returns comes to, as `seatlaw run` writes it. Proved: `IsRunCode`. */
+enum seatlaw_status seatlaw_run(const char *code, size_t code_length, const char *returns, size_t returns_length,
+                                struct seatlaw_text *answer);
+
 /* The JSON of `seatlaw report`; `names` is a file of full names, or no bytes. Proved: safe and ending, and of the call behind it
  * the status (`IsReportStatus`). */
 enum seatlaw_status seatlaw_report(const char *book, size_t book_length, const char *returns, size_t returns_length,
@@ -89,13 +104,23 @@ enum seatlaw_status seatlaw_compare(const char *words, size_t words_length, cons
                                     struct seatlaw_text *answer);
 
 /* Why `seatlaw_check` refuses a rulebook, in German where the language is `de` and else in English, as the program writes it to standard error
- * for a file called book; no bytes for a good one. The status is that of `seatlaw_check`. Proved: the status (`TellsCheck`). */
+ * for a file called book; no bytes for a good one. The status is that of `seatlaw_check`. Proved: the status, and when there is nothing to explain
+ * (`TellsCheck`). */
 enum seatlaw_status seatlaw_explain_check(const char *language, size_t language_length, const char *book, size_t book_length,
                                           struct seatlaw_text *answer);
 
-/* The same of `seatlaw_count`, for files called book and returns. Proved: the status (`TellsCount`). */
+/* The same of `seatlaw_count`, for files called book and returns. Proved: the same (`TellsCount`). */
 enum seatlaw_status seatlaw_explain_count(const char *language, size_t language_length, const char *book, size_t book_length,
                                           const char *returns, size_t returns_length, struct seatlaw_text *answer);
+
+/* The same of `seatlaw_run`, for files called code and returns. Proved: the same (`TellsRun`). */
+enum seatlaw_status seatlaw_explain_run(const char *language, size_t language_length, const char *code, size_t code_length,
+                                        const char *returns, size_t returns_length, struct seatlaw_text *answer);
+
+/* What the code of a fault means, such as B15, as `seatlaw explain` writes it in that language; SEATLAW_REFUSED and no bytes where there is no such
+ * code. Proved: the status, and that there are no bytes without a code (`TellsCode`). */
+enum seatlaw_status seatlaw_explain_code(const char *language, size_t language_length, const char *word, size_t word_length,
+                                         struct seatlaw_text *answer);
 
 /* Returns in which numbers are left open: a text with places, and for each place the column of its number in a row of numbers. */
 struct seatlaw_template {

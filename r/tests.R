@@ -46,11 +46,80 @@ tie <- caught(count(law(file = "examples/tie/book.law"), read_returns("examples/
 same(class(tie)[1], "seatlaw_legal_fault")
 same(lots_lacking(tie), data.frame(land = "Town", party = c("Reds", "Blues", "Greens"), stage = "council", constituency = ""))
 
+same(caught(report(law(file = "examples/tie/book.law"), read_returns("examples/tie/returns.csv")))$line, tie$line)
+
+# Code files: a run is the count of the code's rulebook.
+for (name in c("1956", "1985", "2008", "2013", "2023", "2023-order")) {
+  six <- read_returns("examples/six-laws/returns.csv")
+  same(run(code(law(name))$file, six), count(law(name), six))
+}
+compiled <- code(law("2023-order"))$file
+same(code(law("2023-order"))$listing[1], "0 at 0 0 0")
+same(rawToChar(compiled[1:3]), "SLC")
+path <- tempfile()
+writeBin(compiled, path)
+same(run(read_code(path), bund), count(law("2023-order"), bund))
+cut <- caught(run(compiled[1:9], bund))
+same(class(cut)[1], "seatlaw_refused")
+stopifnot(startsWith(cut$line, "refused code file 4 9"), grepl("C04", cut$explanation("en")), grepl("Fehler", cut$explanation("de")))
+endless <- as.raw(c(0x53, 0x4c, 0x43, 1, 0, 0, 2, 0, 0, 0, 0x2a, 0, 0, 0, 0, 9, 0, 0, 0, 0))
+same(class(caught(run(endless, bund)))[1], "seatlaw_out_of_budget")
+same(caught(run(compiled, charToRaw("kind;land\n")))$line, "refused returns 1 1")
+same(caught(code(charToRaw("rulebook")))$status, 2L)
+
+# What codes mean.
+stopifnot(startsWith(explain("l04"), "L04: "), grepl("Was tun", explain("C15", "de")))
+stopifnot(grepl("B99", tryCatch(explain("B99"), error = conditionMessage)))
+
+# All of a count at once.
+shown <- show_all(law("2023-order"), bund)
+same(shown$table, count(law("2023-order"), bund))
+same(shown$steps, steps(law("2023-order"), bund))
+same(shown$report, report(law("2023-order"), bund))
+same(caught(show_all(law("2023"), bund, "a,b,c"))$line, caught(report(law("2023"), bund, "a,b,c"))$line)
+same(class(caught(show_all(law(file = "examples/tie/book.law"), read_returns("examples/tie/returns.csv"))))[1], "seatlaw_legal_fault")
+
+# Many counts: each row is the count of its returns.
+with_votes <- function(returns, numbers) {
+  lines <- strsplit(rawToChar(returns), "\n", fixed = TRUE)[[1]]
+  is_list <- startsWith(lines, "list,")
+  cells <- strsplit(lines[is_list], ",", fixed = TRUE)
+  lines[is_list] <- mapply(function(row, number) sprintf("list,%s,%s,%d,%d,", row[2], row[3], number, number), cells, numbers)
+  lines
+}
+row_of <- function(book, returns) {
+  found <- tryCatch(count(book, returns), seatlaw_error = identity)
+  if (inherits(found, "seatlaw_error")) return(found$status)
+  both <- function(frame) as.vector(rbind(frame$seats, frame$winners))
+  c(0L, found$total, both(found$parties), both(found$lists))
+}
+set.seed(1)
+for (file in c("covered", "first-count", "six-laws", "tie")) {
+  returns <- read_returns(file.path("examples", file, "returns.csv"))
+  base <- votes(returns)$votes
+  numbers <- rbind(base, matrix(sample(c(0:3, 100 * (1:40), 100000001), 30 * length(base), replace = TRUE), nrow = 30), deparse.level = 0)
+  for (book in list(law("2023"), law("2013"), law("1956"))) {
+    found <- counts(book, returns, numbers)
+    stopifnot(is.integer(found), nrow(found) == 31)
+    for (i in seq_len(nrow(numbers))) {
+      single <- row_of(book, with_votes(returns, as.integer(numbers[i, ])))
+      same(unname(found[i, ]), c(single, rep(NA_integer_, ncol(found) - length(single))))
+    }
+  }
+}
+table <- count(law("2023-order"), bund)
+found <- counts(law("2023-order"), bund, votes(bund)$votes)
+same(colnames(found)[1:4], c("status", "total", "party CDU", "party CDU winners"))
+same(unname(found[, paste("party", table$parties$party)]), table$parties$seats)
+same(unname(found[, paste("list", table$lists$land, table$lists$party)]), table$lists$seats)
+for (wrong in list(1, rbind(votes(bund)$votes, -1), votes(bund)$votes + 0.5)) stopifnot(inherits(try(counts(law("2023"), bund, wrong), silent = TRUE), "try-error"))
+
 # The tables of reports.
 if (requireNamespace("jsonlite", quietly = TRUE)) {
   same(report(law("2023-order"), bund)$entries$missing[1], 12422L)
   same(totals(bund)$totals$parties, 7L)
   same(compare(bund)$books$book[6], "@2023-order")
+  same(shown$stages$stages$stage[2:3], c("upper", "lower"))
 } else {
   stopifnot(grepl("12422", report(law("2023-order"), bund)))
 }

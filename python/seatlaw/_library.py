@@ -3,13 +3,14 @@ import ctypes
 import ctypes.util
 import os
 import pathlib
-from typing import List, Tuple, Union
+from typing import List, Tuple, Type, Union
 
-DONE, REFUSED, LEGAL_FAULT, NO_MEMORY, NO_ROOM, NO_NAME, OTHER_SHAPE = 0, 2, 3, 5, 6, 7, 8
+DONE, REFUSED, LEGAL_FAULT, OUT_OF_BUDGET, NO_MEMORY, NO_ROOM, NO_NAME, OTHER_SHAPE = 0, 2, 3, 4, 5, 6, 7, 8
 
 # How many inputs each call takes.
 CALLS = {
-    "count": 2, "steps": 2, "stage": 3, "check": 1, "law": 1, "report": 3, "totals": 3, "compare": 4, "explain_check": 2, "explain_count": 3,
+    "count": 2, "steps": 2, "stage": 3, "check": 1, "law": 1, "run": 2, "report": 3, "totals": 3, "compare": 4, "explain_check": 2, "explain_count": 3,
+    "explain_run": 3, "explain_code": 2,
 }
 NAME = "libseatlaw.so"
 
@@ -24,6 +25,12 @@ class Parts(ctypes.Structure):
     """Where each part of what is shown ends."""
 
     _fields_ = [(name, ctypes.c_size_t) for name in ("seats", "steps", "report", "stages", "explanation")]
+
+
+class CodeParts(ctypes.Structure):
+    """Where the two parts of a compiled rulebook end."""
+
+    _fields_ = [(name, ctypes.c_size_t) for name in ("file", "listing")]
 
 
 class Template(ctypes.Structure):
@@ -54,8 +61,15 @@ def _prepared(library: ctypes.CDLL, name: str, inputs: int):
 
 _library = _opened()
 _functions = {name: _prepared(_library, name, inputs) for name, inputs in CALLS.items()}
-_show = _prepared(_library, "show", 4)
-_show.argtypes = [*_show.argtypes, ctypes.POINTER(Parts)]
+
+
+def _prepared_parts(name: str, inputs: int, parts: Type[ctypes.Structure]):
+    function = _prepared(_library, name, inputs)
+    function.argtypes = [*function.argtypes, ctypes.POINTER(parts)]
+    return function
+
+
+_show, _code = _prepared_parts("show", 4, Parts), _prepared_parts("code", 1, CodeParts)
 _free = _library.seatlaw_free
 _free.argtypes, _free.restype = [ctypes.POINTER(Text)], None
 counts = _library.seatlaw_counts
@@ -82,9 +96,17 @@ def ask(name: str, *inputs: bytes) -> Tuple[int, bytes]:
     return _answered(_functions[name], inputs)
 
 
+def _asked_parts(function, inputs: Tuple[bytes, ...], ends: ctypes.Structure) -> Tuple[int, List[bytes]]:
+    status, data = _answered(function, inputs, ends)
+    places = [0, *(getattr(ends, field[0]) for field in ends._fields_)]
+    return status, [data[begin:end] for begin, end in zip(places, places[1:])]
+
+
 def show(*inputs: bytes) -> Tuple[int, List[bytes]]:
     """What `seatlaw_show` answers: its status and its five texts."""
-    ends = Parts()
-    status, data = _answered(_show, inputs, ends)
-    places = [0, *(getattr(ends, name) for name, _ in Parts._fields_)] if status < NO_MEMORY else [0] * 6
-    return status, [data[begin:end] for begin, end in zip(places, places[1:])]
+    return _asked_parts(_show, inputs, Parts())
+
+
+def code(book: bytes) -> Tuple[int, List[bytes]]:
+    """What `seatlaw_code` answers: its status, the file and the listing."""
+    return _asked_parts(_code, (book,), CodeParts())

@@ -6,9 +6,9 @@ from typing import Callable, Dict, Iterable, Optional, Tuple, Union
 
 from . import reports, tables
 from . import _library
-from ._library import DONE, LEGAL_FAULT, NO_MEMORY, NO_NAME, REFUSED, ask
-from .errors import LegalFault, OutOfMemory, Refused, SeatlawError
-from .inputs import STATUTES, Book, Returns, rulebook
+from ._library import DONE, LEGAL_FAULT, NO_MEMORY, NO_NAME, OUT_OF_BUDGET, REFUSED, ask
+from .errors import LegalFault, OutOfBudget, OutOfMemory, Refused, SeatlawError
+from .inputs import STATUTES, Book, Code, Returns, rulebook
 
 Names = Union[str, bytes, None]  # a file of full names: records of a short name, a comma and the full one
 Explain = Callable[[str], str]
@@ -36,7 +36,7 @@ def _unexplained(language: str) -> str:
 
 
 def _refused(line: str, explain: Explain) -> Refused:
-    is_explained = line.split()[1] in ("book", "returns")
+    is_explained = line.split()[1] in ("book", "code", "returns")
     return Refused(line, explain if is_explained else _unexplained)
 
 
@@ -46,16 +46,22 @@ def _failed(status: int) -> SeatlawError:
     return SeatlawError("a name is no UTF-8" if status == NO_NAME else "the library answered %d" % status)
 
 
+def _unanswered(status: int, line: str, explain: Explain) -> SeatlawError:
+    """What is raised for a status with a line in place of a result."""
+    if status == REFUSED:
+        return _refused(line, explain)
+    return LegalFault(line, explain) if status == LEGAL_FAULT else OutOfBudget(line, explain)
+
+
 def _text(answer: Tuple[int, bytes], explain: Explain) -> str:
     """The text of an answer that is done."""
     status, data = answer
-    if status not in (DONE, REFUSED, LEGAL_FAULT):
+    if status not in (DONE, REFUSED, LEGAL_FAULT, OUT_OF_BUDGET):
         raise _failed(status)
     text = data.decode()
     if status == DONE:
         return text
-    line = text.rstrip("\n")
-    raise _refused(line, explain) if status == REFUSED else LegalFault(line, explain)
+    raise _unanswered(status, text.rstrip("\n"), explain)
 
 
 def count(book: Book, returns: Returns) -> tables.Table:
@@ -147,6 +153,42 @@ def check(book: Book) -> tables.BookLine:
 def law(name: str) -> str:
     """The text of a statute of the library."""
     return _text(ask("law", name.encode()), _unexplained)
+
+
+def code(book: Book) -> Code:
+    """The code file of a rulebook, and its listing.
+
+    >>> made = code("@2023-order")
+    >>> made
+    <Code of 3368 bytes>
+    >>> made.instructions[0]
+    Instruction(number=0, name='at', operands=(0, 0, 0))
+    """
+    data = rulebook(book).data
+    status, (file, text) = _library.code(data)
+    return Code(file, _text((status, text), _explained("check", data)))
+
+
+def run(code: Code, returns: Returns) -> tables.Table:
+    """The seat table with which the run of a code file ends. `count` has that of a rulebook's code by the rulebook itself.
+
+    >>> run(code("@2023-order"), Returns.from_file("examples/covered/returns.csv")).seats
+    {'Reds': 4, 'Blues': 6}
+    """
+    inputs = code.data, returns.data
+    return tables.Table(_text(ask("run", *inputs), _explained("run", *inputs)))
+
+
+def explain(code: str, language: str = "en") -> str:
+    """What the code of a fault means, with an example and what to do, in German for `de` and else in English.
+
+    >>> print(explain("L04").splitlines()[0])
+    L04: tie
+    """
+    status, text = ask("explain_code", language.encode(), code.encode())
+    if status == REFUSED:
+        raise ValueError("no fault has the code %r" % code)
+    return _text((status, text), _unexplained)
 
 
 def _named(names: Names) -> bytes:

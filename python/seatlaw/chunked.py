@@ -1,4 +1,5 @@
-"""Random elections counted in chunks, each into a file of its own, by whichever process or machine. Needs numpy; Parquet needs pyarrow."""
+"""Random elections counted in chunks, each into a file of its own, by whichever process or machine. Needs numpy; Parquet needs pandas, and pyarrow
+or fastparquet."""
 import functools
 import os
 import pathlib
@@ -27,7 +28,7 @@ def write(path: pathlib.Path, header: List[str], rows: Any, form: str) -> None:
     else:
         import pandas
 
-        pandas.DataFrame(rows, columns=header).to_parquet(part)
+        pandas.DataFrame(rows, columns=header).to_parquet(part, index=False)
     os.replace(part, path)
 
 

@@ -48,7 +48,7 @@ class Unexplained(SeatlawError):
         self._told: Dict[str, str] = {}
 
     def explanation(self, language: str = "en") -> str:
-        """What the program writes to standard error, in German for `de` and else in English. Files are called `book` and `returns`."""
+        """What the program writes to standard error, in German for `de` and else in English. Files are called `book`, `code` and `returns`."""
         if language not in self._told:
             self._told[language] = self._explain(language)
         return self._told[language]
@@ -70,9 +70,9 @@ class Unexplained(SeatlawError):
 class Refused(Unexplained):
     """An input is not in order.
 
-    input        which one: `book`, `returns`, `law` (the name of a statute), `stage` (the name of a stage) or `names`
-    part         of a rulebook where the fault was found: `lex`, `parse` or `check`
-    number, at   the number of the fault, and the offset in a rulebook or the record of returns, or None
+    input        which one: `book`, `code`, `returns`, `law` (the name of a statute), `stage` (the name of a stage) or `names`
+    part         where the fault was found: of a rulebook `lex`, `parse` or `check`, of a code file `file` or `verify`
+    number, at   the number of the fault, and the offset in a rulebook, the record of returns, the offset in a code file or its instruction; or None
     """
 
     def __init__(self, line: str, explain: Callable[[str], str]):
@@ -80,12 +80,16 @@ class Refused(Unexplained):
         words = line.split()
         self.input = words[1] if len(words) > 1 else ""
         numbers = [int(word) for word in words[2:] if word.isascii() and word.isdigit()]
-        self.number, self.at = numbers if self.input in ("book", "returns", "names") and len(numbers) == 2 else (None, None)
-        self.part = words[2] if self.input == "book" and self.number is not None else None
+        self.number, self.at = numbers if self.input in ("book", "code", "returns", "names") and len(numbers) == 2 else (None, None)
+        self.part = words[2] if self.input in ("book", "code") and self.number is not None else None
 
     @property
     def code(self) -> Optional[str]:
         return CODES.get(self.input) or super().code
+
+
+class OutOfBudget(Unexplained):
+    """The run of a code file needs more steps than it may take. That of no rulebook's code does."""
 
 
 class LegalFault(Unexplained):

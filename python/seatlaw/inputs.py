@@ -41,6 +41,46 @@ class Rulebook:
         return self.data.decode(errors="replace")
 
 
+@dataclasses.dataclass(frozen=True)
+class Code:
+    """The bytes of a code file (docs/code.md); `listing` is what `code` writes of a rulebook, and None of a file."""
+
+    data: bytes = dataclasses.field(repr=False)
+    listing: Optional[str] = dataclasses.field(default=None, repr=False, compare=False)
+
+    @classmethod
+    def from_file(cls, path: Union[str, "os.PathLike[str]"]) -> "Code":
+        return cls(pathlib.Path(path).read_bytes())
+
+    def to_file(self, path: Union[str, "os.PathLike[str]"]) -> None:
+        pathlib.Path(path).write_bytes(self.data)
+
+    @functools.cached_property
+    def instructions(self) -> Tuple["Instruction", ...]:
+        """The lines of the listing."""
+        if self.listing is None:
+            raise ValueError("a code file has no listing; `code` lists that of a rulebook")
+        return tuple(_instruction(*line.split()) for line in self.listing.splitlines())
+
+    def to_frame(self) -> Frame:
+        return frame_of(self.instructions, Instruction)
+
+    def __repr__(self) -> str:
+        return "<Code of %d bytes>" % len(self.data)
+
+
+class Instruction(NamedTuple):
+    """A line of a listing: the number of an instruction, its name, and its operands as numbers."""
+
+    number: int
+    name: str
+    operands: Tuple[int, ...]
+
+
+def _instruction(number: str, name: str, *operands: str) -> Instruction:
+    return Instruction(int(number), name, tuple(map(int, operands)))
+
+
 Book = Union[Rulebook, str]  # a word with @ before it names a statute
 
 

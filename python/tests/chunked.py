@@ -16,10 +16,22 @@ SCRIPT = TOP / "python" / "examples" / "cluster.py"
 DRAWS, CHUNK = 60_000, 1000
 
 
-def started(folder, workers, *more):
+# Stands in for fastparquet, which Debian 12 has not: what is to be a Parquet file becomes CSV.
+STAND_IN = '''__version__ = "2022.12.0"
+
+
+def write(path, data, **options):
+    assert not options["write_index"] and set(data.dtypes.astype(str)) == {"int16"}, options
+    data.to_csv(path, index=False)
+'''
+
+
+def started(folder, workers, *more, modules=None):
     words = [sys.executable, str(SCRIPT), *(["--workers", str(workers)] if workers else []), "--draws", str(DRAWS), "--chunk", str(CHUNK), *more]
     words += ["@2023-order", str(TOP / "examples" / "elections" / "2025.csv"), str(folder)]
-    return subprocess.Popen(words, stdout=subprocess.PIPE, stderr=subprocess.DEVNULL, text=True, start_new_session=True)
+    path = os.pathsep.join([os.environ["PYTHONPATH"], *([str(modules)] if modules else [])])
+    quiet = {"stderr": subprocess.DEVNULL, "text": True, "start_new_session": True, "env": {**os.environ, "PYTHONPATH": path}}
+    return subprocess.Popen(words, stdout=subprocess.PIPE, **quiet)
 
 
 def ended(process):
@@ -87,6 +99,13 @@ def by_scheduler(folder):
         return ended(started(folder, 0, "--scheduler", address))
 
 
+def as_parquet(folder, modules):
+    """A run that writes Parquet by a stand-in."""
+    modules.mkdir()
+    (modules / "fastparquet.py").write_text(STAND_IN)
+    return ended(started(folder, 2, "--form", "parquet", modules=modules))
+
+
 def tested():
     with tempfile.TemporaryDirectory() as name:
         top = pathlib.Path(name)
@@ -95,9 +114,9 @@ def tested():
         again = ended(started(top / "two", 1))
         (top / "two" / "chunk-000003.npy").unlink()
         less = ended(started(top / "two", 1))
-        csv = ended(started(top / "csv", 2, "--form", "csv"))[1]
-    good = made == DRAWS == csv and again == (wanted, 0) and less == (wanted, CHUNK) and all(sum == wanted for sum, _ in found.values())
-    good = good and 0 < found["stopped"][1] < DRAWS
+        csv, parquet = ended(started(top / "csv", 2, "--form", "csv")), as_parquet(top / "parquet", top / "modules")
+    good = made == DRAWS == csv[1] and again == (wanted, 0) and less == (wanted, CHUNK) and all(sum == wanted for sum, _ in found.values())
+    good = good and parquet == csv and 0 < found["stopped"][1] < DRAWS
     print("cluster: %d counts by two workers; the same checksum with %s (%d counts were left); %s" % (
-        made, ", ".join(found), found["stopped"][1], "all is well" if good else "wrong: %r" % ((wanted, made, again, less, csv, found),)))
+        made, ", ".join(found), found["stopped"][1], "all is well" if good else "wrong: %r" % ((wanted, made, again, less, csv, parquet, found),)))
     return good

@@ -14,7 +14,7 @@ import unittest
 
 HERE = pathlib.Path(__file__).resolve().parent
 TOP = HERE.parent.parent
-sys.path[:0] = [str(TOP / "bench"), str(TOP / "web")]
+sys.path[:0] = [str(TOP / "bench"), str(TOP / "web"), str(TOP / "capi" / "tests")]
 MODULES = ("seatlaw", "seatlaw.calls", "seatlaw.errors", "seatlaw.inputs", "seatlaw.many", "seatlaw.reports", "seatlaw.simulation", "seatlaw.tables")
 
 
@@ -82,14 +82,24 @@ def pages(args):
 
 def by_python(case):
     """What the call of the package answers, below its results: the status, and the bytes."""
-    import compare
-    from seatlaw._library import ask, show
+    import codes
+    from seatlaw._library import ask, code, show
 
-    name, *inputs = compare.call_of(case, LAWS)
-    if name == "show":
-        status, parts = show(*inputs)
+    name, *inputs = codes.call_of(case, LAWS)
+    if name == "code_file":
+        return compiled(*inputs)
+    if name in ("show", "code"):
+        status, parts = {"show": show, "code": code}[name](*inputs)
         return status, b"".join(parts)
     return ask(name, *inputs)
+
+
+def compiled(book):
+    """The status with which a rulebook is compiled, and the file alone."""
+    from seatlaw._library import code
+
+    status, (file, _) = code(book)
+    return status, file
 
 
 LAWS = {}
@@ -108,24 +118,26 @@ def shown_otherwise(case):
 
 def random(args):
     import cases
+    import codes
     import compare
     from seatlaw._library import ask
 
     LAWS.update({law: ask("law", law.encode())[1] for law in cases.LAWS})
-    all_cases = [compare.told(case, LAWS) for case in cases.random_cases(args.random, args.seed)]
+    counted = [compare.told(case, LAWS) for case in cases.random_cases(args.random, args.seed)]
+    all_cases = counted + list(codes.random_cases(args.random // 4, args.seed, LAWS, lambda books: [compiled(book)[1] for book in books]))
     found = [by_python(case) for case in all_cases]
 
     def one(at):
         place = os.path.join(folder, str(at))
         os.mkdir(place)
-        return compare.by_program(args.program, place, all_cases[at])
+        return codes.by_program(args.program, place, all_cases[at])
 
     with tempfile.TemporaryDirectory() as folder, concurrent.futures.ThreadPoolExecutor(os.cpu_count()) as pool:
         wanted = list(pool.map(one, range(len(all_cases))))
     wrong = [i for i in range(len(found)) if found[i] != wanted[i]]
     for i in wrong[:3]:
         print("differs: %r\n  Python      %r\n  the program %r" % (all_cases[i], found[i], wanted[i]))
-    parted = sum(map(shown_otherwise, all_cases))
+    parted = sum(map(shown_otherwise, counted))
     statuses = {status: sum(it[0] == status for it in found) for status in sorted({it[0] for it in found})}
     print("random: %d inputs, by status %s, %d differ from the program, %d of what is shown at once differ from single calls" % (
         len(found), statuses, len(wrong), parted))

@@ -5,6 +5,7 @@ import pathlib
 import re
 import subprocess
 import sys
+import tempfile
 import unittest
 import xml.etree.ElementTree
 
@@ -163,6 +164,59 @@ class Exceptions(unittest.TestCase):
         self.assertRaises(TypeError, seatlaw.count, "2023", returns)
         self.assertRaises(ValueError, seatlaw.compare, returns, [book for book in BOOKS if not isinstance(book, str)][:2])
         self.assertRaises(UnicodeEncodeError, seatlaw.stage, "@2023", returns, "\ud800")
+
+
+class Codes(unittest.TestCase):
+    def test_a_run_is_the_count_of_its_book(self):
+        for book in BOOKS:
+            code = seatlaw.code(book)
+            self.assertEqual(len(code.instructions), len(code.listing.splitlines()))
+            self.assertEqual("".join("%d %s\n" % (it.number, " ".join([it.name, *map(str, it.operands)])) for it in code.instructions), code.listing)
+            for returns in RETURNS:
+                self.assertEqual(outcome(seatlaw.run, code, returns), outcome(seatlaw.count, book, returns))
+
+    def test_files(self):
+        code = seatlaw.code("@2013")
+        with tempfile.TemporaryDirectory() as folder:
+            path = pathlib.Path(folder) / "book.slc"
+            code.to_file(path)
+            self.assertEqual(path.read_bytes(), code.data)
+            read = seatlaw.Code.from_file(path)
+        self.assertEqual(read, code)
+        self.assertRaises(ValueError, lambda: read.instructions)
+        self.assertEqual(code.to_frame().shape, (len(code.instructions), 3))
+
+    def test_refused_inputs(self):
+        with self.assertRaises(seatlaw.Refused) as caught:
+            seatlaw.code(seatlaw.Rulebook.from_text("rulebook 3;"))
+        self.assertEqual((caught.exception.input, caught.exception.line), ("book", outcome(seatlaw.check, seatlaw.Rulebook.from_text("rulebook 3;"))))
+        self.assertIn("--> book:1:", caught.exception.explanation())
+        code = seatlaw.code("@2023").data
+        for data, part, fault, at in ((b"SLC", "file", "C04", 3), (b"SLC\x02", "file", "C02", 3), (code + b"\0", "file", "C05", len(code))):
+            with self.assertRaises(seatlaw.Refused) as caught:
+                seatlaw.run(seatlaw.Code(data), RETURNS[0])
+            self.assertEqual((caught.exception.input, caught.exception.part, caught.exception.code, caught.exception.at), ("code", part, fault, at))
+        with self.assertRaises(seatlaw.Refused) as caught:
+            seatlaw.run(seatlaw.Code(code), seatlaw.Returns.from_text("kind;land"))
+        self.assertEqual((caught.exception.input, caught.exception.code, caught.exception.place), ("returns", "R01", (1, 1)))
+
+    def test_an_endless_run(self):
+        endless = seatlaw.Code(b"SLC\x01\x00\x00\x02\x00\x00\x00\x2a\x00\x00\x00\x00\x09\x00\x00\x00\x00")
+        with self.assertRaises(seatlaw.OutOfBudget) as caught:
+            seatlaw.run(endless, RETURNS[0])
+        self.assertEqual((caught.exception.line, caught.exception.code), ("out of budget", "C15"))
+
+    def test_a_fault_of_a_run(self):
+        returns = seatlaw.Returns.from_file(EXAMPLES / "tie" / "returns.csv")
+        with self.assertRaises(seatlaw.LegalFault) as caught:
+            seatlaw.run(seatlaw.code(seatlaw.Rulebook.from_file(EXAMPLES / "tie" / "book.law")), returns)
+        self.assertEqual([lot.party for lot in caught.exception.lots], ["Reds", "Blues", "Greens"])
+
+    def test_what_codes_mean(self):
+        self.assertTrue(seatlaw.explain("b15").startswith("B15: "))
+        self.assertIn("Was tun", seatlaw.explain("C15", "de"))
+        for word in ("B99", "", "B1", "\u00e4"):
+            self.assertRaises(ValueError, seatlaw.explain, word)
 
 
 class Inputs(unittest.TestCase):

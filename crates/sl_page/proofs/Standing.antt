@@ -28,6 +28,15 @@ end_of a b n m at end = let both = length-append a b in omega (arith, at, end, b
 length_of : (room text : List ℕ) (n : ℕ) → take n room ≡ text → n ≤ length room → n ≡ length text
 length_of room text n begins within = let size = length-take n room in let same = ap length begins in omega (arith, within, size, same)
 
+-- two texts behind one another, of which the second ends at m
+pub both : (room a b : List ℕ) (n m : ℕ) → take m room ≡ a ++ b → m ≤ length room → n ≡ length a → (slice_range room 0 n ≡ a) × (slice_range room n m ≡ b)
+both room a b n m begins within at =
+    let end : m ≡ n + length b = length_of room (a ++ b) m begins within ∙ sym (end_of a b n (n + length b) at refl) in
+    let first : n ≡ 0 + length a = omega (arith, at) in (
+      last room [] a 0 n (before room a b n m begins at) refl first,
+      last room a b n m begins at end,
+    )
+
 pub hold : (parts : Parts) (joined : Joined) (room : List ℕ) (n : ℕ) → IsJoined parts joined → take n room ≡ joined.text.items → n ≤ length room → Hold parts room joined.ends
 hold parts joined room n is begins within =
     let s = parts.seats.items in

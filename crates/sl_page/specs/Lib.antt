@@ -1,4 +1,5 @@
 -- What the exports hand over.
+pub mod Coding
 pub mod Handing
 pub mod Showing
 pub mod Telling

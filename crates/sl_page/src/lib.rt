@@ -1,32 +1,39 @@
 //! Counting, reports and explanations for a web page: calls over memory that the page hands in (docs/page.md).
 #![tactic(auto)]
 
-ghost use Rattle.std.specs.Prelude.{◌≤◌, length, take};
+ghost use Rattle.std.specs.Prelude.{◌≡◌, ◌≤◌, None, length, take};
 ghost use Rattle.sl_inputs.specs.Books.{text};
 ghost use Rattle.sl_desk.specs.Checking.{IsCheckOutput};
+ghost use Rattle.sl_desk.specs.Running.{IsRunCode};
+ghost use Rattle.sl_explain.specs.Codes.{code_named};
 ghost use Rattle.sl_counts.specs.Counting.{IsOutput, ShowsSeats};
 ghost use Rattle.sl_inputs.specs.Library.{IsLawOutput};
 ghost use Rattle.sl_counts.specs.Showing.{IsStageOutput};
 ghost use Rattle.sl_counts.specs.Steps.{ShowsSteps};
+ghost use Rattle.sl_page.specs.Coding.{AreCodeEnds, HandsCode};
 ghost use Rattle.sl_page.specs.Handing.{HandsOver};
 ghost use Rattle.sl_page.specs.Showing.{AreEnds, ShowsAll};
-ghost use Rattle.sl_page.specs.Telling.{TellsCheck, TellsCount};
+ghost use Rattle.sl_page.specs.Telling.{TellsCheck, TellsCode, TellsCount, TellsRun};
 
+mod coded;
 mod compared;
 mod parts;
 mod shown;
 mod taken;
 mod told;
 
+pub use coded::CodeEnds;
+use coded::hand_code;
 use compared::compare_words;
 pub use parts::PartEnds;
 use shown::{hand_parts, parts_of};
 use sl_count_outcomes::{Records, judge};
-use sl_desk::{BookSource, BookText, FromRead, judge_book};
+use sl_desk::{BookSource, BookText, FromRead, compilation_of, judge_book, judge_run, run_code};
+use sl_explain::FaultCode;
 use sl_report::{Shape, report, totals};
 use std::alloc::Global;
 use taken::{NO_MEMORY, NO_NAME, Taken, hand_answer, hand_over};
-use told::{language_of, tell_check, tell_count};
+use told::{language_of, tell_check, tell_code, tell_count, tell_run};
 
 /// Counts the returns by the rulebook once, and shows all that comes of it: behind one another in `out` the text of `count`, that of `steps`, what `report`
 /// and `stages` write as JSON with the full names of that file, and what the program writes to standard error, in German where the language is `de`, and
@@ -147,6 +154,42 @@ pub extern "C" fn page_law(alloc: Global, name: &[u8], out: &mut [u8], count: &m
     hand_over(ending, taken.text.as_slice(), out, count)
 }
 
+/// Compiles a rulebook. Answers 0, with the bytes of its code file in `out` and behind them their listing; or 2, with no bytes of a file and the line that
+/// refuses the rulebook; 5 and 6 as in `page_count`. Where each of the two ends stands in `ends`.
+#[unsafe(no_mangle)]
+pub extern "C" fn page_code(alloc: Global, book: &[u8], out: &mut [u8], ends: &mut CodeEnds) -> u32
+    ensures output { HandsCode (text book.now) result out.new ends.new }
+    ensures within { AreCodeEnds (length out.new) ends.new }
+{
+    *ends = CodeEnds::NONE;
+    let Ok(verdict) = judge_book(alloc, BookText::Text(book)) else {
+        return NO_MEMORY;
+    };
+    match compilation_of(alloc, &verdict) {
+        Ok(compilation) => hand_code(alloc, &compilation, out, ends),
+        Err(_) => NO_MEMORY,
+    }
+}
+
+/// Runs a code file on the returns. Answers the exit status of the program, 0, 2, 3 or 4, and else as `page_count` does.
+#[unsafe(no_mangle)]
+pub extern "C" fn page_run(
+    alloc: Global,
+    code: &[u8],
+    returns: &[u8],
+    out: &mut [u8],
+    count: &mut usize,
+) -> u32
+    ensures output { HandsOver (IsRunCode code.now returns.now) result (take count.new out.new) }
+    ensures within { count.new ≤ length out.new }
+{
+    let mut code = FromRead::new(code);
+    let mut returns = FromRead::new(returns);
+    let mut taken = Taken::new(alloc);
+    let ending = run_code(alloc, &mut code, &mut returns, &mut taken);
+    hand_over(ending, taken.text.as_slice(), out, count)
+}
+
 /// The JSON of `report` for these returns, with the full names of that file; a file of no bytes gives none. Statuses as in `page_count`.
 #[unsafe(no_mangle)]
 pub extern "C" fn page_report(
@@ -217,7 +260,7 @@ pub extern "C" fn page_explain_check(
     out: &mut [u8],
     count: &mut usize,
 ) -> u32
-    ensures fault { TellsCheck (text book.now) result }
+    ensures fault { TellsCheck (text book.now) result (take count.new out.new) }
     ensures within { count.new ≤ length out.new }
 {
     let language = language_of(language);
@@ -238,7 +281,7 @@ pub extern "C" fn page_explain_count(
     out: &mut [u8],
     count: &mut usize,
 ) -> u32
-    ensures fault { TellsCount (text book.now) returns.now result }
+    ensures fault { TellsCount (text book.now) returns.now result (take count.new out.new) }
     ensures within { count.new ≤ length out.new }
 {
     let language = language_of(language);
@@ -246,5 +289,50 @@ pub extern "C" fn page_explain_count(
     match judge(Records::Dropped, alloc, BookText::Text(book), None, returns) {
         Ok(judged) => tell_count(alloc, language, &judged, book, returns, out, count),
         Err(_) => NO_MEMORY,
+    }
+}
+
+/// Why `run` writes no table, as `page_explain_check` tells it, for files `code` and `returns`.
+#[unsafe(no_mangle)]
+pub extern "C" fn page_explain_run(
+    alloc: Global,
+    language: &[u8],
+    code: &[u8],
+    returns: &[u8],
+    out: &mut [u8],
+    count: &mut usize,
+) -> u32
+    ensures fault { TellsRun code.now returns.now result (take count.new out.new) }
+    ensures within { count.new ≤ length out.new }
+{
+    let language = language_of(language);
+    let mut code = FromRead::new(code);
+    let mut returns = FromRead::new(returns);
+    *count = 0;
+    match judge_run(alloc, &mut code, &mut returns) {
+        Ok(read) => tell_run(alloc, language, &read, out, count),
+        Err(_) => NO_MEMORY,
+    }
+}
+
+/// What the code of a fault means, as `explain` writes it, in a language as in `page_explain_check`: 0, or 2 and no text where the word is no code; 5 and 6
+/// as in `page_count`, 7 where the word is no UTF-8.
+#[unsafe(no_mangle)]
+pub extern "C" fn page_explain_code(
+    alloc: Global,
+    language: &[u8],
+    word: &[u8],
+    out: &mut [u8],
+    count: &mut usize,
+) -> u32
+    ensures status { TellsCode word.now result }
+    ensures none { code_named word.now ≡ None → count.new ≡ 0 }
+    ensures within { count.new ≤ length out.new }
+{
+    let language = language_of(language);
+    *count = 0;
+    match std::str::from_utf8(word) {
+        Ok(word) => tell_code(alloc, language, FaultCode::of_word(word), out, count),
+        Err(_) => NO_NAME,
     }
 }

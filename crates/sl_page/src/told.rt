@@ -1,17 +1,19 @@
 //! Explanations, as the program writes them, handed over to the page.
 
-ghost use Rattle.std.specs.Prelude.{◌≡◌, ◌<◌, ◌≤◌, [], IfOk, None, length};
+ghost use Rattle.std.specs.Prelude.{◌≡◌, ◌<◌, ◌≤◌, [], IfOk, None, length, take};
 ghost use Rattle.sl_inputs.specs.Statuses.{status_number};
 ghost use Rattle.sl_inputs.specs.declared.status.Status.TheVariants as status;
-ghost use Rattle.sl_page.specs.Telling.{check_status};
+ghost use Rattle.sl_page.specs.Telling.{Explains, check_status, ending_status, run_status, word_status};
 ghost use Rattle.sl_report.specs.Statuses.{judged_status};
 
 use crate::taken::{NO_MEMORY, put};
 use sl_check::CheckedBook;
 use sl_count_outcomes::{End, Judged};
-use sl_desk::{Input, RefusedBook, Status, Verdict};
-use sl_explain::{Language, written};
-use sl_explain_calls::{Explained, explain_judged, explain_verdict};
+use sl_desk::{Input, JudgedRun, ReadRun, RefusedBook, Status, Verdict};
+use sl_explain::{FaultCode, Language, written};
+use sl_explain_calls::{Explained, explain_judged, explain_run, explain_verdict};
+use sl_explain_codes::text_about;
+use sl_machine::Ending;
 use sl_ratio::NoMemory;
 use std::alloc::Global;
 
@@ -49,20 +51,42 @@ fn judged_status(judged: &Judged<'_>) -> Status
     }
 }
 
-// The path by which an explanation names an input, and its bytes.
-fn file_of<'a>(input: Input, book: &'a [u8], returns: &'a [u8]) -> (&'static [u8], &'a [u8]) {
-    match input {
-        Input::Returns => (b"returns", returns),
-        Input::Book | Input::Code | Input::Names => (b"book", book),
+// The status of `run`, by how the run of a good code on good returns ended.
+fn ending_status(ending: &Ending) -> Status
+    ensures { result ≡ ending_status ending.entry.now }
+{
+    match ending {
+        Ending::Done(_) => Status::Done,
+        Ending::Fault(_) => Status::Legal,
+        Ending::OutOfBudget => Status::Budget,
     }
 }
 
-// What the program writes of an explanation for files `book` and `returns`, if there is one.
+// The status of `run` on what its inputs come to.
+fn run_status(judged: &JudgedRun) -> Status
+    ensures { result ≡ run_status judged.entry.now }
+{
+    match judged {
+        JudgedRun::CodeRefused(_) | JudgedRun::ReturnsRefused(_) => Status::Refused,
+        JudgedRun::Ran(run) => ending_status(&run.ending),
+    }
+}
+
+// The path by which an explanation names an input, and its bytes: those of the returns, or those of what counts them, a rulebook or a code file.
+fn file_of<'a>(input: Input, counting: &'a [u8], returns: &'a [u8]) -> (&'static [u8], &'a [u8]) {
+    match input {
+        Input::Returns => (b"returns", returns),
+        Input::Code => (b"code", counting),
+        Input::Book | Input::Names => (b"book", counting),
+    }
+}
+
+// What the program writes of an explanation for files `returns`, and `book` or `code`, if there is one.
 fn told_text(
     alloc: Global,
     language: Language,
     told: Option<Explained>,
-    book: &[u8],
+    counting: &[u8],
     returns: &[u8],
 ) -> Result<Vec<u8>, NoMemory>
     ensures { IfOk result (λ text. told ≡ None → text.items ≡ []) }
@@ -70,7 +94,7 @@ fn told_text(
     match told {
         None => Ok(Vec::new(alloc)),
         Some(told) => {
-            let (path, input) = file_of(told.input, book, returns);
+            let (path, input) = file_of(told.input, counting, returns);
             written(alloc, language, Some(path), input, &told.explanation)
         }
     }
@@ -100,21 +124,25 @@ fn verdict_text(
     language: Language,
     book: &Verdict<CheckedBook, RefusedBook<'_>>,
     text: &[u8],
-) -> Result<Vec<u8>, NoMemory> {
+) -> Result<Vec<u8>, NoMemory>
+    ensures { IfOk result (λ told. check_status book.now ≡ status.Done → told.items ≡ []) }
+{
     let told = explain_verdict(alloc, language, text, book)?;
     told_text(alloc, language, told, text, b"")
 }
 
-// Puts a text with the number of a status. Where memory ran out it answers `NO_MEMORY`, and `count` is 0.
-fn tell(status: Status, text: Result<Vec<u8>, NoMemory>, out: &mut [u8], count: &mut usize) -> u32
-    ensures status { result < 5 → result ≡ status_number status }
-    ensures within { count.new ≤ length out.new }
+// What the program writes to standard error for what a code file and returns came to; nothing where that is a table.
+fn run_text(alloc: Global, language: Language, read: &ReadRun) -> Result<Vec<u8>, NoMemory>
+    ensures { IfOk result (λ text. run_status read.now.judged ≡ status.Done → text.items ≡ []) }
 {
-    *count = 0;
-    match text {
-        Ok(text) => put(status.number(), text.as_slice(), out, count),
-        Err(_) => NO_MEMORY,
-    }
+    let told = explain_run(alloc, language, read)?;
+    told_text(
+        alloc,
+        language,
+        told,
+        read.file.as_slice(),
+        read.returns.as_slice(),
+    )
 }
 
 /// Puts the explanation of a judged rulebook into `out` and its length into `count`, and answers the number of the status of `check`. Where memory ran
@@ -127,11 +155,14 @@ pub(crate) fn tell_check(
     out: &mut [u8],
     count: &mut usize,
 ) -> u32
-    ensures status { result < 5 → result ≡ status_number (check_status book.entry.now) }
+    ensures told { result < 5 → Explains (check_status book.entry.now) result (take count.new out.new) }
     ensures within { count.new ≤ length out.new }
 {
-    let text = verdict_text(alloc, language, book, text);
-    tell(check_status(book), text, out, count)
+    *count = 0;
+    match verdict_text(alloc, language, book, text) {
+        Ok(text) => put(check_status(book).number(), text.as_slice(), out, count),
+        Err(_) => NO_MEMORY,
+    }
 }
 
 /// Puts the explanation of what a rulebook and returns come to, as `tell_check` does, with the status of `count`.
@@ -144,9 +175,57 @@ pub(crate) fn tell_count(
     out: &mut [u8],
     count: &mut usize,
 ) -> u32
-    ensures status { result < 5 → result ≡ status_number (judged_status judged.entry.now) }
+    ensures told { result < 5 → Explains (judged_status judged.entry.now) result (take count.new out.new) }
     ensures within { count.new ≤ length out.new }
 {
-    let text = judged_text(alloc, language, judged, book, returns);
-    tell(judged_status(judged), text, out, count)
+    *count = 0;
+    match judged_text(alloc, language, judged, book, returns) {
+        Ok(text) => put(judged_status(judged).number(), text.as_slice(), out, count),
+        Err(_) => NO_MEMORY,
+    }
+}
+
+/// Puts the explanation of what a code file and returns came to, as `tell_check` does, with the status of `run`.
+pub(crate) fn tell_run(
+    alloc: Global,
+    language: Language,
+    read: &ReadRun,
+    out: &mut [u8],
+    count: &mut usize,
+) -> u32
+    ensures told { result < 5 → Explains (run_status read.now.judged) result (take count.new out.new) }
+    ensures within { count.new ≤ length out.new }
+{
+    *count = 0;
+    match run_text(alloc, language, read) {
+        Ok(text) => put(
+            run_status(&read.judged).number(),
+            text.as_slice(),
+            out,
+            count,
+        ),
+        Err(_) => NO_MEMORY,
+    }
+}
+
+/// Puts what the code of a fault means, as `tell_check` does, with the status `Done`; or nothing, with `Refused`, where there is no code.
+pub(crate) fn tell_code(
+    alloc: Global,
+    language: Language,
+    code: Option<FaultCode>,
+    out: &mut [u8],
+    count: &mut usize,
+) -> u32
+    ensures status { result < 5 → result ≡ status_number (word_status code) }
+    ensures none { code ≡ None → count.new ≡ 0 }
+    ensures within { count.new ≤ length out.new }
+{
+    *count = 0;
+    let Some(code) = code else {
+        return u32::from(Status::Refused.number());
+    };
+    match text_about(alloc, language, code) {
+        Ok(text) => put(Status::Done.number(), text.as_slice(), out, count),
+        Err(_) => NO_MEMORY,
+    }
 }

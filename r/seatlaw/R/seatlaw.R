@@ -32,8 +32,10 @@ make_returns <- function(lands, parties, lists, winners = NULL, lots = NULL, hou
 count <- function(book, returns) table_of(counted("count", book, returns))
 
 # Each seat with its step, the bounds of the divisors, and the seat table.
-steps <- function(book, returns) {
-  lines <- lines_of(counted("steps", book, returns))
+steps <- function(book, returns) steps_of(counted("steps", book, returns))
+
+steps_of <- function(text) {
+  lines <- lines_of(text)
   kind <- sub(" .*", "", lines)
   list(
     seats = scoped(lines[kind == "seat"], c("entry", "number", "step", "mark")),
@@ -61,6 +63,43 @@ compare <- function(returns, books = paste0("@", c("1956", "1985", "2008", "2013
   tables_of(text_of(ask("compare", bytes(paste(books, collapse = "\n")), raw(), bytes(returns), bytes(names))))
 }
 
+# All that comes of one count: the seat table, the steps, the tables of the report, and the columns of the stages.
+show_all <- function(book, returns, names = raw()) {
+  book <- bytes(book)
+  returns <- bytes(returns)
+  answer <- ask_parts("show", bytes("en"), book, returns, bytes(names))
+  parts <- vapply(answer[[2]], read_text, "")
+  explanation <- function(language) told("explain_count", language, book, returns)
+  seats <- text_of(list(answer[[1]], parts[1]), explanation)
+  text_of(list(if (startsWith(parts[3], "{")) 0L else 2L, parts[3])) # names that are refused
+  list(table = table_of(seats), steps = steps_of(parts[2]), report = tables_of(parts[3]), stages = tables_of(parts[4]))
+}
+
+# The bytes of a rulebook's code file, and the lines of its listing.
+code <- function(book) {
+  book <- bytes(book)
+  answer <- ask_parts("code", book)
+  listing <- text_of(list(answer[[1]], read_text(answer[[2]][[2]])), function(language) told("explain_check", language, book))
+  list(file = answer[[2]][[1]], listing = lines_of(listing))
+}
+
+# A code file.
+read_code <- function(file) readBin(file, "raw", file.size(file))
+
+# The seat table with which the run of a code file ends.
+run <- function(code, returns) {
+  code <- bytes(code)
+  returns <- bytes(returns)
+  table_of(text_of(ask("run", code, returns), function(language) told("explain_run", language, code, returns)))
+}
+
+# What the code of a fault means.
+explain <- function(code, language = "en") {
+  answer <- ask("explain_code", bytes(language), bytes(code))
+  if (answer[[1]] == 2) stop("no fault has the code ", code)
+  text_of(answer)
+}
+
 # The lot records that returns lack at a tie, of the condition that the call raised.
 lots_lacking <- function(condition) {
   lines <- grep("= \\w+: lot,", lines_of(condition$explanation("en")), value = TRUE)
@@ -75,6 +114,16 @@ bytes <- function(x) if (is.raw(x)) x else charToRaw(enc2utf8(paste(x, collapse 
 
 ask <- function(name, ...) .Call(C_ask, name, list(...))
 
+# An answer in parts, as raw vectors.
+ask_parts <- function(name, ...) .Call(C_ask_parts, name, list(...))
+
+# The text that bytes are.
+read_text <- function(data) {
+  text <- rawToChar(data)
+  Encoding(text) <- "UTF-8"
+  text
+}
+
 told <- function(name, language, ...) ask(name, bytes(language), ...)[[2]]
 
 counted <- function(name, book, returns, ...) {
@@ -87,12 +136,18 @@ counted <- function(name, book, returns, ...) {
 text_of <- function(answer, explanation = function(language) "") {
   status <- answer[[1]]
   if (status == 0) return(answer[[2]])
-  kind <- switch(as.character(status), "2" = "seatlaw_refused", "3" = "seatlaw_legal_fault", "5" = "seatlaw_no_memory", "seatlaw_failed")
-  line <- if (status %in% c(2, 3)) sub("\n.*$", "", answer[[2]]) else paste("the library answered", status)
+  kinds <- c("2" = "seatlaw_refused", "3" = "seatlaw_legal_fault", "4" = "seatlaw_out_of_budget", "5" = "seatlaw_no_memory")
+  kind <- if (status %in% names(kinds)) kinds[[as.character(status)]] else "seatlaw_failed"
+  line <- if (status %in% 2:4) line_of(answer[[2]]) else paste("the library answered", status)
   stop(structure(
     class = c(kind, "seatlaw_error", "error", "condition"),
     list(message = line, call = NULL, line = line, status = status, explanation = explanation)
   ))
+}
+
+# The line of a refusal or of a fault, which of a report stands in its JSON.
+line_of <- function(text) {
+  if (startsWith(text, "{")) sub('^.*?"fault":"([^"]*)".*\n$', "\\1", text, perl = TRUE) else sub("\n.*$", "", text)
 }
 
 lines_of <- function(text) strsplit(text, "\n", fixed = TRUE)[[1]]

@@ -1,0 +1,41 @@
+% How elections are counted, one at a time.
+\name{count}
+\alias{count}
+\alias{steps}
+\alias{stage}
+\alias{check}
+\alias{show_all}
+\title{Count an election}
+\description{Counts returns by a rulebook, and gives the seat table, the steps of its seats, or the column of a stage; or all of them by one count.}
+\usage{
+count(book, returns)
+steps(book, returns)
+stage(book, returns, name)
+check(book)
+show_all(book, returns, names = raw())
+}
+\arguments{
+  \item{book}{a rulebook: its bytes, as \code{\link{law}} gives them, or its lines.}
+  \item{returns}{returns: their bytes, as \code{\link{read_returns}} and \code{\link{make_returns}} give them, or their lines.}
+  \item{name}{the name of a stage.}
+  \item{names}{a file of full names, in the same way; none by default.}
+}
+\value{
+  \code{count} gives a list of the \code{total}, of data frames of \code{parties}, \code{lists} and \code{vacant} seats, and of the constituencies of
+  \code{singles} and of winners without a seat, \code{open}. \code{steps} gives data frames of \code{seats} and \code{bounds}, and that \code{table}.
+  \code{stage} gives a data frame of the entries and their values. \code{check} gives the line of a good rulebook. \code{show_all} gives a list of the
+  \code{table}, the \code{steps}, and, as \code{\link{report}} gives them, the \code{report} and the \code{stages}.
+
+  An input that is not in order raises a condition of the class \code{seatlaw_refused}, and returns for which the rulebook has no table one of
+  \code{seatlaw_legal_fault}; both are \code{seatlaw_error}. They have the \code{line} that says so, the \code{status}, and a function
+  \code{explanation} of the language, \code{"de"} or \code{"en"}.
+}
+\examples{
+book <- law("2023")
+votes <- make_returns(
+  lands = data.frame(land = "North", people = 900000), parties = data.frame(party = c("Reds", "Blues")),
+  lists = data.frame(land = "North", party = c("Reds", "Blues"), valid = c(300, 200)), house = 5
+)
+count(book, votes)$parties
+show_all(book, votes)$steps$bounds
+}
