@@ -24,6 +24,7 @@ EXAMPLES = pathlib.Path(__file__).resolve().parent.parent / "examples"
 LAWS = ("1956", "1985", "2008", "2013", "2023", "2023-order")
 PLACE = re.compile(rb"^ *--> (.*):(\d+):(\d+)$", re.M)
 FIRST = {"en": b"error[", "de": b"Fehler["}
+WARNING = {"en": b"warning[", "de": b"Warnung["}
 BYTES = b"\x00\t\n\r \"#';,=()-_.%0159AZaz\x7f\x80\xc3\xbc\xff\xef\xbb\xbf"
 
 
@@ -90,7 +91,7 @@ def wrong_in(program, folder, seed, books, returns):
     if quiet.stderr or told.returncode not in (0, 2, 3):
         return "status %d, and with --quiet on standard error %r" % (told.returncode, quiet.stderr)
     if told.returncode == 0:
-        return None if not told.stderr else "an explanation of nothing: %r" % told.stderr
+        return None if all(line.startswith(WARNING[language]) for line in told.stderr.splitlines()) else "an explanation of nothing: %r" % told.stderr
     if not told.stderr.startswith(FIRST[language]):
         return "no explanation of %r: %r" % (told.stdout, told.stderr)
     for path, line, column in PLACE.findall(told.stderr):

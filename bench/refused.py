@@ -176,7 +176,7 @@ def judge_command(count, program, words, shim, folder):
     ample = run(0)
 
     def passes(ran):
-        said = (ample.err, re.split(r"error(?:\[\w+\])?: ", ample.err)[0])
+        said = (ample.err, re.split(r"(?:error(?:\[\w+\])?|warning\[\w+\]): ", ample.err)[0])
         if (ran.status, ran.out, ran.kept) == (ample.status, ample.out, ample.kept) and ran.err in said:
             return True
         wanting = (ran.status, ran.err.lower()) in ((5, "out of memory\n"), (1, "error: out of memory\n"))

@@ -49,6 +49,11 @@ def words_of(case):
     return [command, *language, "--", *inputs]
 
 
+def explained(done):
+    """The explanation that a command wrote. Behind a table standard error has warnings, and explains nothing."""
+    return done.stderr if done.returncode else b""
+
+
 def by_program(program, folder, case):
     """What the program writes, and its exit status."""
     for name in ("book", "returns", "names"):
@@ -59,7 +64,7 @@ def by_program(program, folder, case):
     if case.command == "show":
         return all_by_program(program, folder, case)
     done = subprocess.run([program, *words_of(case)], cwd=folder, capture_output=True, timeout=120)
-    return done.returncode, done.stderr if case.command.startswith("explain_") else done.stdout
+    return done.returncode, explained(done) if case.command.startswith("explain_") else done.stdout
 
 
 def all_by_program(program, folder, case):
@@ -67,7 +72,7 @@ def all_by_program(program, folder, case):
     names = ["--names", "names"] if case.names else []
     parts = (["count", "--lang", case.language], ["steps"], ["report", "--json", *names], ["stages", "--json", *names])
     ran = [subprocess.run([program, *words, "--", "book", "returns"], cwd=folder, capture_output=True, timeout=120) for words in parts]
-    return ran[0].returncode, b"".join(one.stdout for one in ran) + ran[0].stderr
+    return ran[0].returncode, b"".join(one.stdout for one in ran) + explained(ran[0])
 
 
 def call_of(case, laws):

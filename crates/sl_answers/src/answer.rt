@@ -2,6 +2,7 @@
 
 ghost use Rattle.std.specs.Prelude.{◌≡◌, IfOk};
 
+use sl_explain::Language;
 use sl_inputs::Status;
 use sl_ratio::NoMemory;
 use sl_sheets::{Sheet, aligned_text, comma_text, json_text};
@@ -17,6 +18,21 @@ pub enum Shape {
     Text,
     Json,
     Comma,
+}
+
+/// How an answer is written: in a form and in a language. In JSON and in CSV only sentences are in the language.
+#[derive(Clone, Copy)]
+pub struct Style {
+    pub shape: Shape,
+    pub language: Language,
+}
+
+impl Style {
+    /// JSON in English.
+    pub const JSON: Style = Style {
+        shape: Shape::Json,
+        language: Language::English,
+    };
 }
 
 /// A text, and the status that stands for it.
@@ -52,11 +68,11 @@ impl Answer {
         alloc: Global,
         command: &str,
         sheets: &[Sheet],
-        shape: Shape,
+        style: Style,
     ) -> Result<Answer, NoMemory>
         ensures { IfOk result (λ a. a.status ≡ Status.Done) }
     {
-        Answer::of(alloc, command, Status::Done, None, sheets, shape)
+        Answer::of(alloc, command, Status::Done, None, sheets, style)
     }
 
     // The answer of a command that comes to a legal fault, told by this line, and to these sheets.
@@ -65,11 +81,11 @@ impl Answer {
         command: &str,
         line: &str,
         sheets: &[Sheet],
-        shape: Shape,
+        style: Style,
     ) -> Result<Answer, NoMemory>
         ensures { IfOk result (λ a. a.status ≡ Status.Legal) }
     {
-        Answer::of(alloc, command, Status::Legal, Some(line), sheets, shape)
+        Answer::of(alloc, command, Status::Legal, Some(line), sheets, style)
     }
 
     // The answer of a command that comes to these sheets, with the line of a legal fault, if it has one.
@@ -79,12 +95,12 @@ impl Answer {
         status: Status,
         line: Option<&str>,
         sheets: &[Sheet],
-        shape: Shape,
+        style: Style,
     ) -> Result<Answer, NoMemory>
         ensures { IfOk result (λ a. a.status ≡ status) }
     {
         let number = status.number();
-        let text = match shape {
+        let text = match style.shape {
             Shape::Text => aligned(alloc, line, sheets)?,
             Shape::Comma => comma_text(alloc, sheets)?,
             Shape::Json => json_text(alloc, command, number, line.map(without_end), sheets)?,

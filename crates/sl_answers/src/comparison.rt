@@ -3,7 +3,7 @@
 ghost use Rattle.std.specs.Prelude.{◌≡◌, IfOk};
 ghost use Rattle.sl_inputs.specs.declared.status.Status.TheVariants.{Done};
 
-use crate::answer::{Answer, Shape};
+use crate::answer::{Answer, Style};
 use sl_naming::{FullNames, Naming};
 use sl_ratio::NoMemory;
 use sl_report_sheets::{Judged, compare_sheets};
@@ -20,11 +20,15 @@ pub fn comparison_answer(
     books: &[Judged],
     returns: &Returns,
     full: &FullNames,
-    shape: Shape,
+    style: Style,
 ) -> Result<Answer, NoMemory>
     ensures { IfOk result (λ a. a.status ≡ Done) }
 {
-    let naming = Naming { returns, full };
+    let naming = Naming {
+        returns,
+        full,
+        language: style.language,
+    };
     let sheets = compare_sheets(alloc, &naming, books)?;
-    Answer::done(alloc, "compare", sheets.as_slice(), shape)
+    Answer::done(alloc, "compare", sheets.as_slice(), style)
 }

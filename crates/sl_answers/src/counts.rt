@@ -6,7 +6,7 @@ ghost use Rattle.sl_count_value.specs.Counts.{HoldsStages};
 ghost use Rattle.sl_inputs.specs.declared.status.Status.TheVariants as status;
 ghost use Rattle.sl_stages.specs.book.Books.{book_of};
 
-use crate::answer::{Answer, Shape};
+use crate::answer::{Answer, Style};
 use sl_count_value::{Counted, End};
 use sl_naming::{FullNames, Naming, fault_sheets};
 use sl_ratio::NoMemory;
@@ -41,7 +41,7 @@ fn table_answer(
     setting: &Setting<'_>,
     naming: &Naming<'_>,
     counted: &Counted,
-    shape: Shape,
+    style: Style,
 ) -> Result<Answer, NoMemory>
     requires { HoldsStages (book_of setting.now.book.now) setting.now.returns.now counted.now.columns.items }
     ensures { IfOk result (λ a. a.status ≡ status.Done) }
@@ -50,7 +50,7 @@ fn table_answer(
         Show::Report => report_sheets(alloc, setting, naming, Some(counted))?,
         Show::Stages => stage_sheets(alloc, setting, naming, counted)?,
     };
-    Answer::done(alloc, show.command(), sheets.as_slice(), shape)
+    Answer::done(alloc, show.command(), sheets.as_slice(), style)
 }
 
 // The sheets of a legal fault, and who takes part.
@@ -76,13 +76,13 @@ fn fault_answer(
     naming: &Naming<'_>,
     fault: &LegalFault,
     line: &[u8],
-    shape: Shape,
+    style: Style,
 ) -> Result<Answer, NoMemory>
     ensures { IfOk result (λ a. a.status ≡ status.Legal) }
 {
     let sheets = all_sheets(alloc, setting, naming, fault)?;
     let line = std::str::from_utf8(line).unwrap_or("");
-    Answer::legal(alloc, show.command(), line, sheets.as_slice(), shape)
+    Answer::legal(alloc, show.command(), line, sheets.as_slice(), style)
 }
 
 /// The answer that shows how the count of a good book on good returns ends; a legal fault is told by the line with which counting does.
@@ -98,16 +98,20 @@ pub fn count_answer(
     full: &FullNames,
     end: &End,
     line: &[u8],
-    shape: Shape,
+    style: Style,
 ) -> Result<Answer, NoMemory>
     requires { HoldsEnd (book_of book.now.book) returns.now end.now }
     ensures { IfOk result (λ a. a.status ≡ end_status end.now) }
 {
-    let naming = Naming { returns, full };
+    let naming = Naming {
+        returns,
+        full,
+        language: style.language,
+    };
     let parts = parts_of(alloc, book.book.eligible.as_slice(), returns)?;
     let setting = Setting::new(&book.book, returns, parts);
     match end {
-        End::Counted(counted) => table_answer(alloc, show, &setting, &naming, counted, shape),
-        End::Fault(fault) => fault_answer(alloc, show, &setting, &naming, fault, line, shape),
+        End::Counted(counted) => table_answer(alloc, show, &setting, &naming, counted, style),
+        End::Fault(fault) => fault_answer(alloc, show, &setting, &naming, fault, line, style),
     }
 }

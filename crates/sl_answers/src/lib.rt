@@ -8,7 +8,7 @@ mod comparison;
 mod counts;
 mod sums;
 
-pub use answer::{Answer, Shape};
+pub use answer::{Answer, Shape, Style};
 pub use cases::{MAX_NAMES_BYTES, names_in, names_of};
 pub use comparison::comparison_answer;
 pub use counts::{Show, count_answer};

@@ -3,7 +3,7 @@
 ghost use Rattle.std.specs.Prelude.{◌≡◌, IfOk};
 ghost use Rattle.sl_inputs.specs.declared.status.Status.TheVariants.{Done};
 
-use crate::answer::{Answer, Shape};
+use crate::answer::{Answer, Style};
 use sl_naming::{FullNames, Naming};
 use sl_ratio::NoMemory;
 use sl_report_sheets::total_sheets;
@@ -21,15 +21,19 @@ pub fn totals_answer(
     book: Option<&Book>,
     returns: &Returns,
     full: &FullNames,
-    shape: Shape,
+    style: Style,
 ) -> Result<Answer, NoMemory>
     ensures { IfOk result (λ a. a.status ≡ Done) }
 {
-    let naming = Naming { returns, full };
+    let naming = Naming {
+        returns,
+        full,
+        language: style.language,
+    };
     let parts = match book {
         Some(book) => parts_of(alloc, book.eligible.as_slice(), returns)?,
         None => parts_of(alloc, &[], returns)?,
     };
     let sheets = total_sheets(alloc, book, &naming, parts.as_slice())?;
-    Answer::done(alloc, "totals", sheets.as_slice(), shape)
+    Answer::done(alloc, "totals", sheets.as_slice(), style)
 }

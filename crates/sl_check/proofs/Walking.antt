@@ -44,7 +44,18 @@ pub stage_fails : (ss : List Stage) (ts : List ColumnType) (i : ℕ) (s : Stage)
     → first_failing (stages_tests [] (map stage_of ss)) ≡ Some f
 stage_fails ss ts i s f passed lt here fails = passed.tests ∙ stages_here (columns (take i ss) ts) ss i s lt here ∙ rw fails refl
 
--- a stage that passes leaves its column to the next
+-- a stage leaves its column to the next
+pub columns_more : (ss : List Stage) (ts : List ColumnType) (i : ℕ) (s : Stage) (t : ColumnType)
+    → columns_of [] (map stage_of ss) ≡ columns_of (columns (take i ss) ts) (map stage_of (drop i ss)) → i < length ss → length ss ≤ length ts → s ≡ get_or ss i s
+    → t ≡ type_of (columns (take i ss) ts) (tree_of s.expr)
+    → columns_of [] (map stage_of ss) ≡ columns_of (columns (take (suc i) ss) (set ts i t)) (map stage_of (drop (suc i) ss))
+columns_more ss ts i s t so_far lt room here is =
+    let cs = columns (take i ss) ts in
+    let next : columns (take (suc i) ss) (set ts i t) ≡ cs ++ stage_column cs (stage_of s) ∷ [] =
+    columns_next ss ts i s t lt room here ∙ ap (λ u. cs ++ record { name = s.name; type = u } ∷ []) is in
+    so_far ∙ ap (λ ds. columns_of cs (map stage_of ds)) (drop_here ss i s lt here) ∙ ap (λ ds. columns_of ds (map stage_of (drop (suc i) ss))) (sym next)
+
+-- so does one that passes its tests
 pub stage_passes : (ss : List Stage) (ts : List ColumnType) (i : ℕ) (s : Stage) (t : ColumnType)
     → Passed ss ts i → i < length ss → length ss ≤ length ts → s ≡ get_or ss i s
     → first_failing (stage_tests (columns (take i ss) ts) (stage_of s)) ≡ None
@@ -58,5 +69,5 @@ stage_passes ss ts i s t passed lt room here passes is =
     record {
       tests = passed.tests ∙ stages_here cs ss i s lt here ∙ ap (λ r. option_or r (first_failing (stages_tests (cs ++ stage_column cs (stage_of s) ∷ []) rest))) passes
           ∙ ap (λ ds. first_failing (stages_tests ds rest)) (sym next);
-      names = passed.names ∙ ap (λ ds. columns_of cs (map stage_of ds)) (drop_here ss i s lt here) ∙ ap (λ ds. columns_of ds rest) (sym next);
+      names = columns_more ss ts i s t passed.names lt room here is;
     }

@@ -1,2 +1,3 @@
 -- The definitions of the checker.
+pub mod Drawn
 pub mod inner

@@ -6,8 +6,10 @@ mod columns;
 pub mod laws;
 mod nodes;
 mod parts;
+mod shapes;
 mod stages;
 
 pub use checker::check;
 pub use columns::Columns;
+pub use shapes::types_of;
 pub use sl_stages::{CheckFault, CheckedBook};

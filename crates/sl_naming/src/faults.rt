@@ -2,7 +2,7 @@
 
 use crate::naming::{Naming, stage_name, text_of};
 use crate::rows::{Part, one_row_sheet, titled};
-use sl_explain::{Explanation, Language};
+use sl_explain::{Explanation, Message};
 use sl_explain_faults::explain_legal;
 use sl_ratio::NoMemory;
 use sl_sheets::{Form, Look, Row, Sheet};
@@ -10,26 +10,59 @@ use sl_stages::{Book, FaultKind, LegalFault};
 use std::alloc::Global;
 
 const FAULT: [Form; 7] = [
-    ("code", "code", Look::Text(4)),
-    ("stage", "stage", Look::Text(12)),
-    ("scope", "", Look::Hidden),
-    ("scope_name", "scope", Look::Text(28)),
-    ("kind", "kind", Look::Text(8)),
-    ("seats", "seats", Look::Number),
-    ("names", "names", Look::Text(36)),
+    ("code", "code", "Code", Look::Text(4)),
+    ("stage", "stage", "Stufe", Look::Text(12)),
+    ("scope", "", "", Look::Hidden),
+    ("scope_name", "scope", "Bereich", Look::Text(28)),
+    ("kind", "kind", "Art", Look::Text(14)),
+    ("seats", "seats", "Sitze", Look::Number),
+    ("names", "names", "Namen", Look::Text(36)),
 ];
 
-const EXPLANATION: [Form; 1] = [("text", "what happened, and what to do", Look::Text(240))];
+const EXPLANATION: [Form; 1] = [(
+    "text",
+    "what happened, and what to do",
+    "was geschah, und was zu tun ist",
+    Look::Text(240),
+)];
+
+const FAULT_TITLE: Message = Message {
+    english: "Legal fault",
+    german: "Rechtlicher Fehler",
+};
+
+const EXPLANATION_TITLE: Message = Message {
+    english: "Explanation",
+    german: "Erklärung",
+};
 
 /// The word of a kind of faults.
-pub fn kind_word(kind: &FaultKind) -> &'static str {
+pub fn kind_word(kind: &FaultKind) -> Message {
     match kind {
-        FaultKind::Limit => "limit",
-        FaultKind::Short => "short",
-        FaultKind::NoList => "nolist",
-        FaultKind::Tie { .. } => "tie",
-        FaultKind::Majority => "majority",
-        FaultKind::Cap => "cap",
+        FaultKind::Limit => Message {
+            english: "limit",
+            german: "Grenze",
+        },
+        FaultKind::Short => Message {
+            english: "short",
+            german: "zu wenig Sitze",
+        },
+        FaultKind::NoList => Message {
+            english: "nolist",
+            german: "keine Liste",
+        },
+        FaultKind::Tie { .. } => Message {
+            english: "tie",
+            german: "Gleichstand",
+        },
+        FaultKind::Majority => Message {
+            english: "majority",
+            german: "Mehrheit",
+        },
+        FaultKind::Cap => Message {
+            english: "cap",
+            german: "Obergrenze",
+        },
     }
 }
 
@@ -63,11 +96,11 @@ fn fault_sheet<'a>(
         Part::Text(stage_name(book, fault.stage)),
         Part::Scope(fault.scope),
         Part::LongScope(fault.scope),
-        Part::Text(kind_word(&fault.kind)),
+        Part::Word(kind_word(&fault.kind)),
         seats,
         names,
     ];
-    one_row_sheet(alloc, naming, "fault", "Legal fault", &FAULT, &parts)
+    one_row_sheet(alloc, naming, "fault", FAULT_TITLE, &FAULT, &parts)
 }
 
 // The names of a rulebook's stages, in order.
@@ -87,8 +120,18 @@ fn push_text(alloc: Global, sheet: &mut Sheet, text: &[u8]) -> Result<(), NoMemo
 }
 
 // The sheet of an explanation, a line for each sentence.
-fn explanation_sheet(alloc: Global, told: &Explanation) -> Result<Sheet, NoMemory> {
-    let mut sheet = titled(alloc, "explanation", "Explanation", &EXPLANATION)?;
+fn explanation_sheet(
+    alloc: Global,
+    naming: &Naming<'_>,
+    told: &Explanation,
+) -> Result<Sheet, NoMemory> {
+    let mut sheet = titled(
+        alloc,
+        naming,
+        "explanation",
+        EXPLANATION_TITLE,
+        &EXPLANATION,
+    )?;
     push_text(alloc, &mut sheet, told.sentence())?;
     for remedy in told.remedies() {
         push_text(alloc, &mut sheet, remedy.as_slice())?;
@@ -110,13 +153,13 @@ pub fn fault_sheets<'a>(
     let stages = stages_of(alloc, book)?;
     let told = explain_legal(
         alloc,
-        Language::English,
+        naming.language,
         stages.as_slice(),
         naming.returns,
         fault,
     )?;
     Ok([
         fault_sheet(alloc, book, naming, fault, &told)?,
-        explanation_sheet(alloc, &told)?,
+        explanation_sheet(alloc, naming, &told)?,
     ])
 }

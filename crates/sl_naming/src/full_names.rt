@@ -103,7 +103,7 @@ impl FullNames {
     ///
     /// # Errors
     ///
-    /// Want of memory.
+    /// Out of memory.
     pub fn read(alloc: Global, bytes: &[u8]) -> Result<Result<FullNames, u64>, NoMemory> {
         let mut names = FullNames::none(alloc);
         match names.add_all(alloc, bytes)? {

@@ -1,16 +1,24 @@
 //! The names of what returns number: short ones, and the full ones where they are given.
 
 use crate::full_names::FullNames;
+use sl_explain::{Language, Message};
 use sl_ratio::NoMemory;
 use sl_stages::{Book, Item, Returns, Scope};
 use std::alloc::Global;
 
-/// The names of returns, with full ones where they are given.
+/// The names of returns, with full ones where they are given, and the language of what is said beside them.
 #[derive(Clone, Copy)]
 pub struct Naming<'a> {
     pub returns: &'a Returns,
     pub full: &'a FullNames,
+    pub language: Language,
 }
+
+/// The word for all Länder and parties together, and for a single number.
+pub const ALL: Message = Message {
+    english: "all",
+    german: "alle",
+};
 
 // A name of returns as text, whose bytes are letters, digits and the like; or another text that is UTF-8.
 pub(crate) fn text_of(name: &[u8]) -> &str {
@@ -143,10 +151,15 @@ impl<'a> Naming<'a> {
         }
     }
 
-    /// A scope by the name that a reader sees.
-    pub fn long_scope(&self, alloc: Global, scope: Scope) -> Result<String, NoMemory> {
+    /// The name of a scope that a reader sees, in a language.
+    pub fn long_scope(
+        &self,
+        alloc: Global,
+        language: Language,
+        scope: Scope,
+    ) -> Result<String, NoMemory> {
         match scope {
-            Scope::All => owned(alloc, "all"),
+            Scope::All => owned(alloc, ALL.in_language(language)),
             Scope::Land(land) => self.long_land(alloc, land),
             Scope::Party(party) => self.long_party(alloc, party),
             Scope::List(land, party) => self.long_list(alloc, land, party),

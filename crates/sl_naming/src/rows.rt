@@ -1,7 +1,8 @@
 //! Rows by what they show, and sheets under a title.
 
 use crate::naming::{Naming, land_name, party_name, win_name};
-use crate::words::met_text;
+use crate::words::{NO, YES, condition_text};
+use sl_explain::{Language, Message};
 use sl_ratio::NoMemory;
 use sl_results::Fraction;
 use sl_sheets::{Form, Row, Sheet};
@@ -15,8 +16,10 @@ pub enum Part<'a> {
     Empty,
     /// A text.
     Text(&'a str),
+    /// A word: in English for programs, and in the language for a person.
+    Word(Message),
     /// A word in the place of a name: no short one, and this one for a reader.
-    Word(&'a str),
+    InPlace(Message),
     /// A number.
     Number(u64),
     /// A number, or an empty cell.
@@ -31,7 +34,7 @@ pub enum Part<'a> {
     Win(usize),
     /// The names of an entry, the second one as in this scope.
     Entry(Item, Scope),
-    /// The short names of entries in one cell, parted by blanks.
+    /// The short names of entries in one cell, separated by spaces.
     Entries(&'a [Item]),
     /// The short name of a scope alone.
     Scope(Scope),
@@ -79,18 +82,65 @@ fn put_fraction(alloc: Global, row: &mut Row, fraction: Fraction) -> Result<(), 
     put_own(row, fraction.text(alloc))
 }
 
-fn put_word(row: &mut Row, word: &str) -> Result<(), NoMemory> {
-    row.empty()?;
-    row.text(word)
+// Adds a word, in English for programs and in the language for a person.
+fn put_word(
+    alloc: Global,
+    row: &mut Row,
+    naming: &Naming<'_>,
+    word: Message,
+) -> Result<(), NoMemory> {
+    let key = String::from_str(alloc, word.english)?;
+    let shown = String::from_str(alloc, word.in_language(naming.language))?;
+    row.word(key, shown)
 }
 
+fn put_in_place(
+    alloc: Global,
+    row: &mut Row,
+    naming: &Naming<'_>,
+    word: Message,
+) -> Result<(), NoMemory> {
+    row.empty()?;
+    put_word(alloc, row, naming, word)
+}
+
+fn put_flag(row: &mut Row, naming: &Naming<'_>, is: bool) -> Result<(), NoMemory> {
+    let word = if is { YES } else { NO };
+    row.flag(is, word.in_language(naming.language))
+}
+
+fn put_long_scope(
+    alloc: Global,
+    row: &mut Row,
+    naming: &Naming<'_>,
+    scope: Scope,
+) -> Result<(), NoMemory> {
+    let key = naming.long_scope(alloc, Language::English, scope)?;
+    row.word(key, naming.long_scope(alloc, naming.language, scope)?)
+}
+
+fn put_condition(
+    alloc: Global,
+    row: &mut Row,
+    naming: &Naming<'_>,
+    cond: Cond,
+) -> Result<(), NoMemory> {
+    let key = condition_text(alloc, Language::English, cond)?;
+    row.word(key, condition_text(alloc, naming.language, cond)?)
+}
+
+// Adds the condition of that number among these, or an empty cell.
 fn put_met(
     alloc: Global,
     row: &mut Row,
+    naming: &Naming<'_>,
     conditions: &[Cond],
     met: Option<usize>,
 ) -> Result<(), NoMemory> {
-    row.maybe_text(met_text(alloc, conditions, met)?)
+    match met.and_then(|number| conditions.get(number)) {
+        Some(cond) => put_condition(alloc, row, naming, *cond),
+        None => row.empty(),
+    }
 }
 
 // Adds a short name and the one that a reader sees.
@@ -134,7 +184,7 @@ fn put_entries(
 ///
 /// # Errors
 ///
-/// Want of memory.
+/// Out of memory.
 pub fn push_name(text: &mut String, mark: &str, name: &str) -> Result<(), NoMemory> {
     if !text.is_empty() {
         text.push_str(mark)?;
@@ -148,18 +198,19 @@ fn put(alloc: Global, row: &mut Row, naming: &Naming<'_>, part: Part<'_>) -> Res
     match part {
         Part::Empty => row.empty(),
         Part::Text(text) => row.text(text),
-        Part::Word(word) => put_word(row, word),
+        Part::Word(word) => put_word(alloc, row, naming, word),
+        Part::InPlace(word) => put_in_place(alloc, row, naming, word),
         Part::Number(number) => row.number(number),
         Part::Known(number) => row.maybe_number(number),
-        Part::Flag(flag) => row.flag(flag),
+        Part::Flag(flag) => put_flag(row, naming, flag),
         Part::Land(land) => put_name(alloc, row, naming, land_name(naming.returns, land)),
         Part::Party(party) => put_name(alloc, row, naming, party_name(naming.returns, party)),
         Part::Win(win) => put_name(alloc, row, naming, win_name(naming.returns, win)),
         Part::Entry(entry, scope) => put_entry(alloc, row, naming, entry, scope),
         Part::Entries(entries) => put_entries(alloc, row, naming, entries),
         Part::Scope(scope) => put_own(row, naming.scope(alloc, scope)),
-        Part::LongScope(scope) => put_own(row, naming.long_scope(alloc, scope)),
-        Part::Met(conditions, met) => put_met(alloc, row, conditions, met),
+        Part::LongScope(scope) => put_long_scope(alloc, row, naming, scope),
+        Part::Met(conditions, met) => put_met(alloc, row, naming, conditions, met),
         Part::Percent(part, whole) => put_percent(alloc, row, part, whole),
         Part::Fraction(Some(fraction)) => put_fraction(alloc, row, fraction),
         Part::Fraction(None) => put_empty_pair(row),
@@ -170,7 +221,7 @@ fn put(alloc: Global, row: &mut Row, naming: &Naming<'_>, part: Part<'_>) -> Res
 ///
 /// # Errors
 ///
-/// Want of memory.
+/// Out of memory.
 pub fn put_parts(
     alloc: Global,
     row: &mut Row,
@@ -187,7 +238,7 @@ pub fn put_parts(
 ///
 /// # Errors
 ///
-/// Want of memory.
+/// Out of memory.
 pub fn push_row(
     alloc: Global,
     sheet: &mut Sheet,
@@ -203,31 +254,32 @@ pub fn push_row(
 ///
 /// # Errors
 ///
-/// Want of memory.
+/// Out of memory.
 pub fn titled(
     alloc: Global,
+    naming: &Naming<'_>,
     key: &'static str,
-    title: &str,
+    title: Message,
     forms: &[Form],
 ) -> Result<Sheet, NoMemory> {
-    let title = String::from_str(alloc, title)?;
-    Sheet::new(alloc, key, title, forms)
+    let title = String::from_str(alloc, title.in_language(naming.language))?;
+    Sheet::new(alloc, naming.language, key, title, forms)
 }
 
 /// A sheet of one row of these parts, under a title.
 ///
 /// # Errors
 ///
-/// Want of memory.
+/// Out of memory.
 pub fn one_row_sheet(
     alloc: Global,
     naming: &Naming<'_>,
     key: &'static str,
-    title: &str,
+    title: Message,
     forms: &[Form],
     parts: &[Part<'_>],
 ) -> Result<Sheet, NoMemory> {
-    let mut sheet = titled(alloc, key, title, forms)?;
+    let mut sheet = titled(alloc, naming, key, title, forms)?;
     push_row(alloc, &mut sheet, naming, parts)?;
     Ok(sheet)
 }
@@ -236,7 +288,7 @@ pub fn one_row_sheet(
 ///
 /// # Errors
 ///
-/// Want of memory.
+/// Out of memory.
 pub fn push_sheet(sheets: &mut Vec<Sheet>, sheet: Result<Sheet, NoMemory>) -> Result<(), NoMemory> {
     sheets.push(sheet?)?;
     Ok(())

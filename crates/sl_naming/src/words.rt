@@ -1,5 +1,7 @@
 //! The words of methods, conditions, shapes and units.
 
+use crate::naming::ALL;
+use sl_explain::{Language, Message};
 use sl_ratio::{Divisor, Method, NoMemory};
 use sl_stages::{Cond, Shape, Unit};
 use std::alloc::Global;
@@ -16,52 +18,84 @@ pub fn method_word(method: Method) -> &'static str {
     }
 }
 
+/// The words for a flag.
+pub(crate) const YES: Message = Message {
+    english: "yes",
+    german: "ja",
+};
+
+pub(crate) const NO: Message = Message {
+    english: "no",
+    german: "nein",
+};
+
 /// A shape, by what it has a number for.
-pub fn shape_word(shape: Shape) -> &'static str {
+pub fn shape_word(shape: Shape) -> Message {
     match shape {
-        Shape::One => "one",
-        Shape::Party => "party",
-        Shape::Land => "land",
-        Shape::List => "list",
+        Shape::One => Message {
+            english: "one",
+            german: "eine Zahl",
+        },
+        Shape::Party => Message {
+            english: "party",
+            german: "Partei",
+        },
+        Shape::Land => Message {
+            english: "land",
+            german: "Land",
+        },
+        Shape::List => Message {
+            english: "list",
+            german: "Liste",
+        },
     }
 }
 
 /// A unit.
-pub fn unit_word(unit: Unit) -> &'static str {
+pub fn unit_word(unit: Unit) -> Message {
     match unit {
-        Unit::Seats => "seats",
-        Unit::Votes => "votes",
+        Unit::Seats => Message {
+            english: "seats",
+            german: "Sitze",
+        },
+        Unit::Votes => Message {
+            english: "votes",
+            german: "Stimmen",
+        },
     }
 }
 
-// A condition in few words.
-fn condition_text(alloc: Global, cond: Cond) -> Result<String, NoMemory> {
+const SHARE: Message = Message {
+    english: "per",
+    german: "je",
+};
+
+const WINNERS: Message = Message {
+    english: "winners",
+    german: "Wahlkreise",
+};
+
+const MINORITY: Message = Message {
+    english: "minority",
+    german: "Minderheit",
+};
+
+// A condition in few words of a language.
+pub(crate) fn condition_text(
+    alloc: Global,
+    language: Language,
+    cond: Cond,
+) -> Result<String, NoMemory> {
     match cond {
         Cond::Valid { share, per } => {
-            let share = share.value;
-            Ok(format!(in alloc; "{share} per {per}")?)
+            let (share, word) = (share.value, SHARE.in_language(language));
+            Ok(format!(in alloc; "{share} {word} {per}")?)
         }
-        Cond::Winners { least } => Ok(format!(in alloc; "{least} winners")?),
-        Cond::Minority => Ok(String::from_str(alloc, "minority")?),
-        Cond::All => Ok(String::from_str(alloc, "all")?),
-    }
-}
-
-/// The condition of that number among these, if there is one.
-///
-/// # Errors
-///
-/// Want of memory.
-pub(crate) fn met_text(
-    alloc: Global,
-    conditions: &[Cond],
-    met: Option<usize>,
-) -> Result<Option<String>, NoMemory> {
-    let Some(number) = met else {
-        return Ok(None);
-    };
-    match conditions.get(number) {
-        Some(cond) => Ok(Some(condition_text(alloc, *cond)?)),
-        None => Ok(None),
+        Cond::Winners { least } => {
+            let word = WINNERS.in_language(language);
+            Ok(format!(in alloc; "{least} {word}")?)
+        }
+        Cond::Minority => Ok(String::from_str(alloc, MINORITY.in_language(language))?),
+        Cond::All => Ok(String::from_str(alloc, ALL.in_language(language))?),
     }
 }

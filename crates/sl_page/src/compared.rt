@@ -2,7 +2,7 @@
 
 use sl_desk::BookText;
 use sl_ratio::NoMemory;
-use sl_report::{Answer, Named, Shape, compare};
+use sl_report::{Answer, Named, Style, compare};
 use std::alloc::Global;
 
 // The rulebooks of words, one on each line: with `@` a statute of the library, and else the book.
@@ -35,5 +35,5 @@ pub(crate) fn compare_words(
     names: &[u8],
 ) -> Result<Answer, NoMemory> {
     let books = named_books(alloc, words, book)?;
-    compare(alloc, books.as_slice(), returns, Some(names), Shape::Json)
+    compare(alloc, books.as_slice(), returns, Some(names), Style::JSON)
 }

@@ -30,7 +30,7 @@ use shown::{hand_parts, parts_of};
 use sl_count_outcomes::{Records, judge};
 use sl_desk::{BookSource, BookText, FromRead, compilation_of, judge_book, judge_run, run_code};
 use sl_explain::FaultCode;
-use sl_report::{Shape, report, totals};
+use sl_report::{Style, report, totals};
 use std::alloc::Global;
 use taken::{NO_MEMORY, NO_NAME, Taken, hand_answer, hand_over};
 use told::{language_of, tell_check, tell_code, tell_count, tell_run};
@@ -203,7 +203,7 @@ pub extern "C" fn page_report(
     ensures { count.new ≤ length out.new }
 {
     let book = BookText::Text(book);
-    let answer = report(alloc, book, returns, Some(names), Shape::Json);
+    let answer = report(alloc, book, returns, Some(names), Style::JSON);
     hand_answer(answer, out, count)
 }
 
@@ -224,7 +224,7 @@ pub extern "C" fn page_totals(
     } else {
         Some(BookText::Text(book))
     };
-    let answer = totals(alloc, book, returns, Some(names), Shape::Json);
+    let answer = totals(alloc, book, returns, Some(names), Style::JSON);
     hand_answer(answer, out, count)
 }
 

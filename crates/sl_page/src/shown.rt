@@ -15,7 +15,7 @@ use sl_counts::{View, answer_of};
 use sl_desk::Status;
 use sl_explain::Language;
 use sl_ratio::NoMemory;
-use sl_report::{Answer, Shape, Show, answer_judged, names_of};
+use sl_report::{Answer, Show, Style, answer_judged, names_of};
 use std::alloc::Global;
 
 // The texts of `count` and of `steps`, with the status of both.
@@ -68,8 +68,8 @@ pub(crate) fn parts_of(
 {
     let tables = tables_of(alloc, judged)?;
     let names = names_of(alloc, Some(names))?;
-    let report = answer_judged(alloc, Show::Report, judged, &names, Shape::Json)?;
-    let stages = answer_judged(alloc, Show::Stages, judged, &names, Shape::Json)?;
+    let report = answer_judged(alloc, Show::Report, judged, &names, Style::JSON)?;
+    let stages = answer_judged(alloc, Show::Stages, judged, &names, Style::JSON)?;
     let explanation = judged_text(alloc, language, judged, book, returns)?;
     Ok(Parts {
         status: tables.status,

@@ -3,7 +3,7 @@
 ghost use Rattle.std.specs.Prelude.{◌⊎◌, ◌≡◌, IfErr, IfOk};
 ghost use Rattle.sl_inputs.specs.declared.status.Status.TheVariants.{Done, Refused};
 
-use sl_answers::{Answer, Shape, comparison_answer, names_of};
+use sl_answers::{Answer, Style, comparison_answer, names_of};
 use sl_count_outcomes::{End, Records, outcome_of};
 use sl_count_value::Counted;
 use sl_inputs::{BookText, Verdict, judge_book, judge_returns};
@@ -59,7 +59,7 @@ pub fn compare_judged(
     books: Vec<Compared<'_>>,
     returns: &Returns,
     full: &FullNames,
-    shape: Shape,
+    style: Style,
 ) -> Result<Answer, NoMemory>
     ensures { IfOk result (λ a. a.status ≡ Done) }
 {
@@ -67,7 +67,7 @@ pub fn compare_judged(
     for compared in books {
         all.push(judged(alloc, compared, returns)?)?;
     }
-    comparison_answer(alloc, all.as_slice(), returns, full, shape)
+    comparison_answer(alloc, all.as_slice(), returns, full, style)
 }
 
 // The good ones of some books, or the answer that refuses the first that is not.
@@ -98,11 +98,11 @@ fn compare_named(
     books: &[Named<'_>],
     returns: &Returns,
     names: Option<&[u8]>,
-    shape: Shape,
+    style: Style,
 ) -> Result<Answer, NoMemory> {
     match good_books(alloc, books)? {
         Ok(good) => match names_of(alloc, names)? {
-            Ok(full) => compare_judged(alloc, good, returns, &full, shape),
+            Ok(full) => compare_judged(alloc, good, returns, &full, style),
             Err(refusal) => Ok(refusal),
         },
         Err(refusal) => Ok(refusal),
@@ -131,10 +131,10 @@ pub fn compare(
     books: &[Named<'_>],
     returns: &[u8],
     names: Option<&[u8]>,
-    shape: Shape,
+    style: Style,
 ) -> Result<Answer, NoMemory> {
     match judge_returns(alloc, returns)? {
-        Verdict::Good(returns) => compare_named(alloc, books, &returns, names, shape),
+        Verdict::Good(returns) => compare_named(alloc, books, &returns, names, style),
         Verdict::Refused(why) => {
             let answer = Answer::refused(why.why().line(alloc)?);
             refused(alloc, books, answer)
@@ -151,7 +151,7 @@ pub fn compare_statutes(
     alloc: Global,
     returns: &Returns,
     full: &FullNames,
-    shape: Shape,
+    style: Style,
 ) -> Result<Answer, NoMemory>
     ensures { IfOk result (λ a. (a.status ≡ Done) ⊎ (a.status ≡ Refused)) }
 {
@@ -167,7 +167,7 @@ pub fn compare_statutes(
         })?;
     }
     match good_books(alloc, books.as_slice())? {
-        Ok(good) => compare_judged(alloc, good, returns, full, shape),
+        Ok(good) => compare_judged(alloc, good, returns, full, style),
         Err(refusal) => Ok(refusal),
     }
 }

@@ -12,7 +12,7 @@ ghost use Rattle.sl_inputs.specs.declared.status.Status.TheVariants as status;
 ghost use Rattle.sl_report.specs.Statuses.{IsReportStatus, judged_status};
 ghost use Rattle.sl_stages.specs.book.Books.{book_of};
 
-use sl_answers::{Answer, Shape, Show, count_answer, names_of};
+use sl_answers::{Answer, Show, Style, count_answer, names_of};
 use sl_count_outcomes::{Counting, End, Judged, Outcome, Records, judge};
 use sl_inputs::{BookText, refused};
 use sl_naming::FullNames;
@@ -43,7 +43,7 @@ pub fn answer_count(
     returns: &Returns,
     outcome: &Outcome,
     full: &FullNames,
-    shape: Shape,
+    style: Style,
 ) -> Result<Answer, NoMemory>
     requires meant { IsMeantEnd Kept (book_of book.now.book) returns.now outcome.now.end }
     requires fits { FitsOutcome (book_of book.now.book) returns.now outcome.now }
@@ -58,7 +58,7 @@ pub fn answer_count(
         full,
         &outcome.end,
         line.as_slice(),
-        shape,
+        style,
     )
 }
 
@@ -68,7 +68,7 @@ fn named_answer(
     show: Show,
     counting: &Counting,
     names: &Result<FullNames, Answer>,
-    shape: Shape,
+    style: Style,
 ) -> Result<Result<Answer, Answer>, NoMemory>
     requires meant { IsMeantEnd Kept (book_of counting.now.book.book) counting.now.returns counting.now.outcome.end }
     requires fits { FitsOutcome (book_of counting.now.book.book) counting.now.returns counting.now.outcome }
@@ -83,7 +83,7 @@ fn named_answer(
             &counting.returns,
             &counting.outcome,
             full,
-            shape,
+            style,
         )?)),
         Err(refusal) => {
             let line = Vec::from_slice(alloc, refusal.text.as_slice())?;
@@ -103,14 +103,14 @@ pub fn answer_judged(
     show: Show,
     judged: &Judged<'_>,
     names: &Result<FullNames, Answer>,
-    shape: Shape,
+    style: Style,
 ) -> Result<Result<Answer, Answer>, NoMemory>
     requires fits { FitsJudged Kept judged.now }
     ensures shown { IfOk result (λ r. IfOk r (λ a. a.status ≡ judged_status judged.now)) }
     ensures refused { IfOk result (λ r. IfErr r (λ a. (is_ok names.now ≡ false) × (a.status ≡ status.Refused))) }
 {
     match judged {
-        Judged::Counted(counting) => named_answer(alloc, show, counting, names, shape),
+        Judged::Counted(counting) => named_answer(alloc, show, counting, names, style),
         Judged::BookRefused(book) => Ok(Ok(Answer::refused(book.why().line(alloc)?))),
         Judged::ReturnsRefused(returns) => Ok(Ok(Answer::refused(returns.why().line(alloc)?))),
         Judged::StageUnknown(_, name) => Ok(Ok(Answer::refused(refused(
@@ -128,13 +128,13 @@ fn one_book(
     book: BookText<'_>,
     returns: &[u8],
     names: Option<&[u8]>,
-    shape: Shape,
+    style: Style,
 ) -> Result<Answer, NoMemory>
     ensures { IfOk result (λ a. IsReportStatus (is_some names.entry) (input_of book.entry) returns.now a.status) }
 {
     let names = names_of(alloc, names)?;
     let judged = judge(Records::Kept, alloc, book, None, returns)?;
-    match answer_judged(alloc, show, &judged, &names, shape)? {
+    match answer_judged(alloc, show, &judged, &names, style)? {
         Ok(answer) => Ok(answer),
         Err(refusal) => Ok(refusal),
     }
@@ -150,11 +150,11 @@ pub fn report(
     book: BookText<'_>,
     returns: &[u8],
     names: Option<&[u8]>,
-    shape: Shape,
+    style: Style,
 ) -> Result<Answer, NoMemory>
     ensures { IfOk result (λ a. IsReportStatus (is_some names.entry) (input_of book.entry) returns.now a.status) }
 {
-    one_book(alloc, Show::Report, book, returns, names, shape)
+    one_book(alloc, Show::Report, book, returns, names, style)
 }
 
 /// The columns of all stages of a book, as `report` refuses inputs and tells of a legal fault.
@@ -167,9 +167,9 @@ pub fn stages(
     book: BookText<'_>,
     returns: &[u8],
     names: Option<&[u8]>,
-    shape: Shape,
+    style: Style,
 ) -> Result<Answer, NoMemory>
     ensures { IfOk result (λ a. IsReportStatus (is_some names.entry) (input_of book.entry) returns.now a.status) }
 {
-    one_book(alloc, Show::Stages, book, returns, names, shape)
+    one_book(alloc, Show::Stages, book, returns, names, style)
 }

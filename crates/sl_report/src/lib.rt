@@ -8,6 +8,7 @@ mod sums;
 
 pub use comparison::{Compared, Named, compare, compare_judged, compare_statutes};
 pub use counts::{answer_count, answer_judged, report, stages};
-pub use sl_answers::{Answer, MAX_NAMES_BYTES, Shape, Show, names_in, names_of};
+pub use sl_answers::{Answer, MAX_NAMES_BYTES, Shape, Show, Style, names_in, names_of};
+pub use sl_explain::Language;
 pub use sl_naming::FullNames;
 pub use sums::{totals, totals_answer};

@@ -1,7 +1,7 @@
 //! The command that adds up returns: `totals`.
 
 pub use sl_answers::totals_answer;
-use sl_answers::{Answer, Shape, names_of};
+use sl_answers::{Answer, Style, names_of};
 use sl_inputs::{BookText, Verdict, judge_book, judge_returns};
 use sl_ratio::NoMemory;
 use sl_stages::{CheckedBook, Returns};
@@ -13,11 +13,11 @@ fn named_totals(
     book: Option<&CheckedBook>,
     returns: &Returns,
     names: Option<&[u8]>,
-    shape: Shape,
+    style: Style,
 ) -> Result<Answer, NoMemory> {
     let book = book.map(|checked| &checked.book);
     match names_of(alloc, names)? {
-        Ok(full) => totals_answer(alloc, book, returns, &full, shape),
+        Ok(full) => totals_answer(alloc, book, returns, &full, style),
         Err(refused) => Ok(refused),
     }
 }
@@ -28,10 +28,10 @@ fn good_totals(
     book: Option<&CheckedBook>,
     returns: &[u8],
     names: Option<&[u8]>,
-    shape: Shape,
+    style: Style,
 ) -> Result<Answer, NoMemory> {
     match judge_returns(alloc, returns)? {
-        Verdict::Good(returns) => named_totals(alloc, book, &returns, names, shape),
+        Verdict::Good(returns) => named_totals(alloc, book, &returns, names, style),
         Verdict::Refused(refused) => Ok(Answer::refused(refused.why().line(alloc)?)),
     }
 }
@@ -47,13 +47,13 @@ pub fn totals(
     book: Option<BookText<'_>>,
     returns: &[u8],
     names: Option<&[u8]>,
-    shape: Shape,
+    style: Style,
 ) -> Result<Answer, NoMemory> {
     let Some(text) = book else {
-        return good_totals(alloc, None, returns, names, shape);
+        return good_totals(alloc, None, returns, names, style);
     };
     match judge_book(alloc, text)? {
-        Verdict::Good(checked) => good_totals(alloc, Some(&checked), returns, names, shape),
+        Verdict::Good(checked) => good_totals(alloc, Some(&checked), returns, names, style),
         Verdict::Refused(refused) => Ok(Answer::refused(refused.why().line(alloc)?)),
     }
 }

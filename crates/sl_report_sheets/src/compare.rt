@@ -1,8 +1,9 @@
 //! The sheets of several rulebooks, side by side.
 
 use crate::stages::stage_number;
+use crate::titles;
 use sl_naming::{
-    Naming, Part, kind_word, law_name, push_row, push_sheet, put_parts, stage_name, titled,
+    ALL, Naming, Part, kind_word, law_name, push_row, push_sheet, put_parts, stage_name, titled,
 };
 use sl_ratio::NoMemory;
 use sl_results::{Column, Counted, open_winners, seats_in_all, seats_of};
@@ -20,17 +21,17 @@ pub struct Judged {
 }
 
 const BOOKS: [Form; 6] = [
-    ("book", "book", Look::Text(20)),
-    ("law", "law", Look::Text(40)),
-    ("seats", "seats", Look::Number),
-    ("open", "not seated", Look::Number),
-    ("differs", "differs from", Look::Text(12)),
-    ("fault", "fault", Look::Text(8)),
+    ("book", "book", "Regelwerk", Look::Text(20)),
+    ("law", "law", "Gesetz", Look::Text(40)),
+    ("seats", "seats", "Sitze", Look::Number),
+    ("open", "not seated", "ohne Sitz", Look::Number),
+    ("differs", "differs from", "anders ab", Look::Text(12)),
+    ("fault", "fault", "Fehler", Look::Text(14)),
 ];
 
 const COMPARE: [Form; 2] = [
-    ("party", "", Look::Hidden),
-    ("party_name", "party", Look::Text(15)),
+    ("party", "", "", Look::Hidden),
+    ("party_name", "party", "Partei", Look::Text(15)),
 ];
 
 // The column of a stage of that name.
@@ -66,7 +67,7 @@ fn first_difference<'a>(left: &'a Judged, right: &Judged) -> Option<&'a str> {
 // The kind of the fault to which a book comes.
 fn fault_part(judged: &Judged) -> Part<'static> {
     match &judged.fault {
-        Some(fault) => Part::Text(kind_word(&fault.kind)),
+        Some(fault) => Part::Word(kind_word(&fault.kind)),
         None => Part::Empty,
     }
 }
@@ -130,7 +131,7 @@ fn push_books(
 
 // A line for each book.
 fn books_sheet(alloc: Global, naming: &Naming<'_>, books: &[Judged]) -> Result<Sheet, NoMemory> {
-    let mut sheet = titled(alloc, "books", "Rulebooks", &BOOKS)?;
+    let mut sheet = titled(alloc, naming, "books", titles::RULEBOOKS, &BOOKS)?;
     push_books(alloc, &mut sheet, naming, books)?;
     Ok(sheet)
 }
@@ -156,7 +157,7 @@ fn put_compared(
 ) -> Result<(), NoMemory> {
     let name = match party {
         Some(party) => Part::Party(party),
-        None => Part::Word("all"),
+        None => Part::InPlace(ALL),
     };
     put_parts(alloc, row, naming, &[name])?;
     for judged in books {
@@ -205,7 +206,7 @@ fn push_heads(alloc: Global, sheet: &mut Sheet, books: &[Judged]) -> Result<(), 
 
 // The parties in rows, with a column for each book.
 fn seats_sheet(alloc: Global, naming: &Naming<'_>, books: &[Judged]) -> Result<Sheet, NoMemory> {
-    let mut sheet = titled(alloc, "compare", "Seats by rulebook", &COMPARE)?;
+    let mut sheet = titled(alloc, naming, "compare", titles::COMPARED, &COMPARE)?;
     push_heads(alloc, &mut sheet, books)?;
     push_rows(alloc, &mut sheet, naming, books)?;
     Ok(sheet)
@@ -215,7 +216,7 @@ fn seats_sheet(alloc: Global, naming: &Naming<'_>, books: &[Judged]) -> Result<S
 ///
 /// # Errors
 ///
-/// Want of memory.
+/// Out of memory.
 pub fn compare_sheets(
     alloc: Global,
     naming: &Naming<'_>,

@@ -9,6 +9,7 @@ use crate::parties::{
     UNKNOWN_SEATS, lists_sheet, open_sheet, parties_sheet, seat_parts, singles_sheet,
 };
 use crate::scopes::{entries_sheet, scopes_sheet};
+use crate::titles;
 use sl_naming::{Naming, Part, law_name, one_row_sheet, push_sheet};
 use sl_ratio::NoMemory;
 use sl_results::{Counted, Scoped, Setting, seats_in_all, stage_scopes};
@@ -17,11 +18,11 @@ use sl_stages::Book;
 use std::alloc::Global;
 
 const LAW: [Form; 5] = [
-    ("law", "law", Look::Text(60)),
-    ("house", "house", Look::Number),
-    ("seats", "seats", Look::Number),
-    ("direct", "direct", Look::Number),
-    ("vacant", "vacant", Look::Number),
+    ("law", "law", "Gesetz", Look::Text(60)),
+    ("house", "house", "Hausgröße", Look::Number),
+    ("seats", "seats", "Sitze", Look::Number),
+    ("direct", "direct", "direkt", Look::Number),
+    ("vacant", "vacant", "unbesetzt", Look::Number),
 ];
 
 // The law, the house from which it starts, and the seats in all.
@@ -38,7 +39,7 @@ fn law_sheet(
         None => UNKNOWN_SEATS,
     };
     let parts = [law, house, seats, direct, vacant];
-    one_row_sheet(alloc, naming, "law", "Law", &LAW, &parts)
+    one_row_sheet(alloc, naming, "law", titles::LAW, &LAW, &parts)
 }
 
 // The scopes of all stages.
@@ -109,7 +110,7 @@ fn push_counted(
 ///
 /// # Errors
 ///
-/// Want of memory.
+/// Out of memory.
 pub fn report_sheets(
     alloc: Global,
     setting: &Setting<'_>,

@@ -1,5 +1,6 @@
 //! The sheet of contested lists: their winners by rank.
 
+use crate::titles;
 use sl_naming::{Naming, Part, push_row, titled};
 use sl_ratio::NoMemory;
 use sl_results::{Ranked, Setting, contested};
@@ -8,18 +9,23 @@ use sl_stages::{Seating, Table};
 use std::alloc::Global;
 
 const COVERING: [Form; 12] = [
-    ("land", "", Look::Hidden),
-    ("land_name", "Land", Look::Text(20)),
-    ("party", "", Look::Hidden),
-    ("party_name", "party", Look::Text(14)),
-    ("constituency", "", Look::Hidden),
-    ("constituency_name", "constituency", Look::Text(22)),
-    ("first", "first", Look::Number),
-    ("valid", "valid", Look::Number),
-    ("percent", "percent", Look::Number),
-    ("percent_exact", "", Look::Hidden),
-    ("rank", "rank", Look::Number),
-    ("seated", "seated", Look::Text(6)),
+    ("land", "", "", Look::Hidden),
+    ("land_name", "Land", "Land", Look::Text(20)),
+    ("party", "", "", Look::Hidden),
+    ("party_name", "party", "Partei", Look::Text(14)),
+    ("constituency", "", "", Look::Hidden),
+    (
+        "constituency_name",
+        "constituency",
+        "Wahlkreis",
+        Look::Text(22),
+    ),
+    ("first", "first", "Erststimmen", Look::Number),
+    ("valid", "valid", "gültig", Look::Number),
+    ("percent", "percent", "Prozent", Look::Number),
+    ("percent_exact", "", "", Look::Hidden),
+    ("rank", "rank", "Rang", Look::Number),
+    ("seated", "seated", "Sitz", Look::Text(6)),
 ];
 
 // Adds the row of a winner.
@@ -73,8 +79,7 @@ pub(crate) fn covering_sheet(
     naming: &Naming<'_>,
     table: &Table,
 ) -> Result<Sheet, NoMemory> {
-    let title = "Winners of lists with fewer seats, by share";
-    let mut sheet = titled(alloc, "covering", title, &COVERING)?;
+    let mut sheet = titled(alloc, naming, "covering", titles::COVERED, &COVERING)?;
     push_winners(alloc, &mut sheet, setting, naming, table)?;
     Ok(sheet)
 }

@@ -7,6 +7,7 @@ mod covering;
 mod parties;
 mod scopes;
 mod stages;
+mod titles;
 mod totals;
 mod warnings;
 

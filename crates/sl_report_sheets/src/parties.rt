@@ -1,5 +1,7 @@
 //! The sheets of parties and of lists, and of the winners who sit by themselves or not at all.
 
+use crate::titles;
+use sl_explain::Message;
 use sl_naming::{Naming, Part, push_row, titled};
 use sl_ratio::NoMemory;
 use sl_results::{Counted, Seats, Setting, all_votes, seats_of};
@@ -8,37 +10,47 @@ use sl_stages::{ListSeats, Placed, Table};
 use std::alloc::Global;
 
 const PARTIES: [Form; 10] = [
-    ("party", "", Look::Hidden),
-    ("party_name", "party", Look::Text(24)),
-    ("valid", "valid", Look::Number),
-    ("percent", "percent", Look::Number),
-    ("percent_exact", "", Look::Hidden),
-    ("counted", "counted", Look::Number),
-    ("condition", "takes part by", Look::Text(14)),
-    ("seats", "seats", Look::Number),
-    ("direct", "direct", Look::Number),
-    ("vacant", "vacant", Look::Number),
+    ("party", "", "", Look::Hidden),
+    ("party_name", "party", "Partei", Look::Text(24)),
+    ("valid", "valid", "gültig", Look::Number),
+    ("percent", "percent", "Prozent", Look::Number),
+    ("percent_exact", "", "", Look::Hidden),
+    ("counted", "counted", "zählend", Look::Number),
+    (
+        "condition",
+        "takes part by",
+        "nimmt teil durch",
+        Look::Text(14),
+    ),
+    ("seats", "seats", "Sitze", Look::Number),
+    ("direct", "direct", "direkt", Look::Number),
+    ("vacant", "vacant", "unbesetzt", Look::Number),
 ];
 
 const LISTS: [Form; 9] = [
-    ("land", "", Look::Hidden),
-    ("land_name", "Land", Look::Text(28)),
-    ("party", "", Look::Hidden),
-    ("party_name", "party", Look::Text(28)),
-    ("valid", "", Look::Hidden),
-    ("counted", "counted", Look::Number),
-    ("seats", "seats", Look::Number),
-    ("direct", "direct", Look::Number),
-    ("vacant", "vacant", Look::Number),
+    ("land", "", "", Look::Hidden),
+    ("land_name", "Land", "Land", Look::Text(28)),
+    ("party", "", "", Look::Hidden),
+    ("party_name", "party", "Partei", Look::Text(28)),
+    ("valid", "", "", Look::Hidden),
+    ("counted", "counted", "zählend", Look::Number),
+    ("seats", "seats", "Sitze", Look::Number),
+    ("direct", "direct", "direkt", Look::Number),
+    ("vacant", "vacant", "unbesetzt", Look::Number),
 ];
 
 const WINNERS: [Form; 6] = [
-    ("constituency", "", Look::Hidden),
-    ("constituency_name", "constituency", Look::Text(40)),
-    ("land", "", Look::Hidden),
-    ("land_name", "Land", Look::Text(26)),
-    ("party", "", Look::Hidden),
-    ("party_name", "party", Look::Text(26)),
+    ("constituency", "", "", Look::Hidden),
+    (
+        "constituency_name",
+        "constituency",
+        "Wahlkreis",
+        Look::Text(40),
+    ),
+    ("land", "", "", Look::Hidden),
+    ("land_name", "Land", "Land", Look::Text(26)),
+    ("party", "", "", Look::Hidden),
+    ("party_name", "party", "Partei", Look::Text(26)),
 ];
 
 /// The cells of seats where no table is known.
@@ -89,7 +101,7 @@ pub(crate) fn parties_sheet(
     naming: &Naming<'_>,
     counted: Option<&Counted>,
 ) -> Result<Sheet, NoMemory> {
-    let mut sheet = titled(alloc, "parties", "Parties", &PARTIES)?;
+    let mut sheet = titled(alloc, naming, "parties", titles::PARTIES, &PARTIES)?;
     push_parties(alloc, &mut sheet, setting, naming, counted)?;
     Ok(sheet)
 }
@@ -127,7 +139,7 @@ pub(crate) fn lists_sheet(
     naming: &Naming<'_>,
     table: &Table,
 ) -> Result<Sheet, NoMemory> {
-    let mut sheet = titled(alloc, "lists", "Lists", &LISTS)?;
+    let mut sheet = titled(alloc, naming, "lists", titles::LISTS, &LISTS)?;
     for list in table.lists() {
         push_list(alloc, &mut sheet, naming, *list)?;
     }
@@ -147,7 +159,7 @@ fn push_winner(
     let win = naming.returns.win(number);
     let party = match win.party {
         Some(party) => Part::Party(party),
-        None => Part::Word("-"),
+        None => Part::InPlace(titles::NO_PARTY),
     };
     let parts = [Part::Win(number), Part::Land(win.land), party];
     push_row(alloc, sheet, naming, &parts)
@@ -159,10 +171,10 @@ fn placed_sheet(
     naming: &Naming<'_>,
     table: &Table,
     key: &'static str,
-    title: &str,
+    title: Message,
     wanted: Placed,
 ) -> Result<Sheet, NoMemory> {
-    let mut sheet = titled(alloc, key, title, &WINNERS)?;
+    let mut sheet = titled(alloc, naming, key, title, &WINNERS)?;
     for (number, place) in table.placed().iter().enumerate() {
         if *place == wanted {
             push_winner(alloc, &mut sheet, naming, number)?;
@@ -182,7 +194,7 @@ pub(crate) fn singles_sheet(
         naming,
         table,
         "singles",
-        "Winners who sit by themselves",
+        titles::SINGLES,
         Placed::Single,
     )
 }
@@ -193,12 +205,5 @@ pub(crate) fn open_sheet(
     naming: &Naming<'_>,
     table: &Table,
 ) -> Result<Sheet, NoMemory> {
-    placed_sheet(
-        alloc,
-        naming,
-        table,
-        "open",
-        "Constituencies whose winners are not seated",
-        Placed::Unseated,
-    )
+    placed_sheet(alloc, naming, table, "open", titles::OPEN, Placed::Unseated)
 }

@@ -1,5 +1,6 @@
 //! The sheets of scopes: a line for each, and the entries of each.
 
+use crate::titles;
 use sl_naming::{Naming, Part, method_word, push_name, push_row, put_parts, stage_name, titled};
 use sl_ratio::NoMemory;
 use sl_results::{Entry, Scoped};
@@ -8,32 +9,32 @@ use sl_stages::{Book, Scope};
 use std::alloc::Global;
 
 const SCOPES: [Form; 13] = [
-    ("stage", "stage", Look::Text(10)),
-    ("scope", "", Look::Hidden),
-    ("scope_name", "scope", Look::Text(20)),
-    ("method", "method", Look::Text(9)),
-    ("grows", "", Look::Hidden),
-    ("minima", "", Look::Hidden),
-    ("votes", "", Look::Hidden),
-    ("seats", "seats", Look::Number),
-    ("divisor", "divisor", Look::Number),
-    ("quota", "quota", Look::Number),
-    ("quota_exact", "", Look::Hidden),
-    ("last", "last seat", Look::Text(14)),
-    ("next", "next claim", Look::Text(14)),
+    ("stage", "stage", "Stufe", Look::Text(10)),
+    ("scope", "", "", Look::Hidden),
+    ("scope_name", "scope", "Bereich", Look::Text(20)),
+    ("method", "method", "Verfahren", Look::Text(9)),
+    ("grows", "", "", Look::Hidden),
+    ("minima", "", "", Look::Hidden),
+    ("votes", "", "", Look::Hidden),
+    ("seats", "seats", "Sitze", Look::Number),
+    ("divisor", "divisor", "Divisor", Look::Number),
+    ("quota", "quota", "Quote", Look::Number),
+    ("quota_exact", "", "", Look::Hidden),
+    ("last", "last seat", "letzter Sitz", Look::Text(14)),
+    ("next", "next claim", "nächster Anspruch", Look::Text(14)),
 ];
 
 const ENTRIES: [Form; 10] = [
-    ("stage", "", Look::Hidden),
-    ("scope", "", Look::Hidden),
-    ("entry", "", Look::Hidden),
-    ("entry_name", "entry", Look::Text(36)),
-    ("votes", "votes", Look::Number),
-    ("quotient", "quotient", Look::Number),
-    ("quotient_exact", "", Look::Hidden),
-    ("seats", "seats", Look::Number),
-    ("minimum", "minimum", Look::Number),
-    ("missing", "votes missing", Look::Number),
+    ("stage", "", "", Look::Hidden),
+    ("scope", "", "", Look::Hidden),
+    ("entry", "", "", Look::Hidden),
+    ("entry_name", "entry", "Eintrag", Look::Text(36)),
+    ("votes", "votes", "Stimmen", Look::Number),
+    ("quotient", "quotient", "Quotient", Look::Number),
+    ("quotient_exact", "", "", Look::Hidden),
+    ("seats", "seats", "Sitze", Look::Number),
+    ("minimum", "minimum", "Minimum", Look::Number),
+    ("missing", "votes missing", "Stimmen fehlen", Look::Number),
 ];
 
 // Adds the names of the entries of these numbers to a text, parted by commas.
@@ -121,7 +122,7 @@ pub(crate) fn scopes_sheet(
     naming: &Naming<'_>,
     scopes: &[Scoped],
 ) -> Result<Sheet, NoMemory> {
-    let mut sheet = titled(alloc, "scopes", "Distributions", &SCOPES)?;
+    let mut sheet = titled(alloc, naming, "scopes", titles::DISTRIBUTIONS, &SCOPES)?;
     for scoped in scopes {
         push_scope(alloc, &mut sheet, book, naming, scoped)?;
     }
@@ -162,8 +163,9 @@ fn entries_title(
     naming: &Naming<'_>,
     scope: Scope,
 ) -> Result<String, NoMemory> {
-    let scope = naming.long_scope(alloc, scope)?;
-    Ok(format!(in alloc; "Stage {stage}, {scope}")?)
+    let word = titles::STAGE.in_language(naming.language);
+    let scope = naming.long_scope(alloc, naming.language, scope)?;
+    Ok(format!(in alloc; "{word} {stage}, {scope}")?)
 }
 
 /// The entries of a scope.
@@ -175,7 +177,7 @@ pub(crate) fn entries_sheet(
 ) -> Result<Sheet, NoMemory> {
     let stage = stage_name(book, scoped.stage);
     let title = entries_title(alloc, stage, naming, scoped.scope)?;
-    let mut sheet = Sheet::new(alloc, "entries", title, &ENTRIES)?;
+    let mut sheet = Sheet::new(alloc, naming.language, "entries", title, &ENTRIES)?;
     for entry in &scoped.entries {
         push_entry(alloc, &mut sheet, stage, naming, scoped, *entry)?;
     }

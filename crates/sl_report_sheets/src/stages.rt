@@ -1,25 +1,29 @@
 //! The sheets of all stages: a line for each, and its column.
 
-use sl_naming::{Naming, Part, push_row, push_sheet, shape_word, stage_name, titled, unit_word};
+use crate::titles;
+use sl_check::types_of;
+use sl_naming::{
+    ALL, Naming, Part, push_row, push_sheet, shape_word, stage_name, titled, unit_word,
+};
 use sl_ratio::NoMemory;
 use sl_results::{Column, Counted, Setting, entries_of, number_of, sum_of};
 use sl_sheets::{Form, Look, Sheet};
-use sl_stages::{Book, Expr, Scope, Shape, Unit, Word};
+use sl_stages::{Book, ColumnType, Scope, Shape, Unit};
 use std::alloc::Global;
 
 const STAGES: [Form; 5] = [
-    ("number", "number", Look::Number),
-    ("stage", "stage", Look::Text(12)),
-    ("shape", "shape", Look::Text(6)),
-    ("unit", "unit", Look::Text(6)),
-    ("sum", "sum", Look::Number),
+    ("number", "number", "Nummer", Look::Number),
+    ("stage", "stage", "Stufe", Look::Text(12)),
+    ("shape", "shape", "Form", Look::Text(9)),
+    ("unit", "unit", "Einheit", Look::Text(8)),
+    ("sum", "sum", "Summe", Look::Number),
 ];
 
 const CELLS: [Form; 4] = [
-    ("stage", "", Look::Hidden),
-    ("entry", "", Look::Hidden),
-    ("entry_name", "entry", Look::Text(60)),
-    ("value", "value", Look::Number),
+    ("stage", "", "", Look::Hidden),
+    ("entry", "", "", Look::Hidden),
+    ("entry_name", "entry", "Eintrag", Look::Text(60)),
+    ("value", "value", "Wert", Look::Number),
 ];
 
 /// The number of the stage of that name, if there is one.
@@ -30,39 +34,6 @@ pub(crate) fn stage_number(book: &Book, name: &[u8]) -> Option<usize> {
         }
     }
     None
-}
-
-// The unit of an earlier stage.
-fn named_unit(book: &Book, units: &[Unit], name: &Word) -> Unit {
-    match stage_number(book, name.as_bytes()) {
-        Some(number) => unit_at(units, number),
-        None => Unit::Seats,
-    }
-}
-
-fn unit_at(units: &[Unit], number: usize) -> Unit {
-    units.get(number).copied().unwrap_or(Unit::Seats)
-}
-
-// The unit of an expression, by those of the stages before.
-fn unit_of(book: &Book, units: &[Unit], expr: &Expr) -> Unit {
-    match expr {
-        Expr::Fact { fact, .. } => fact.column_type().unit,
-        Expr::Name { name, .. } => named_unit(book, units, name),
-        Expr::Sum { of, .. } => unit_of(book, units, of),
-        Expr::Pair { left, .. } => unit_of(book, units, left),
-        Expr::Split { .. } | Expr::Grow { .. } => Unit::Seats,
-    }
-}
-
-// The units of the stages.
-fn units(alloc: Global, book: &Book) -> Result<Vec<Unit>, NoMemory> {
-    let mut units: Vec<Unit> = Vec::new(alloc);
-    for stage in &book.stages {
-        let unit = unit_of(book, units.as_slice(), &stage.expr);
-        units.push(unit)?;
-    }
-    Ok(units)
 }
 
 // Adds the row of a stage.
@@ -78,24 +49,24 @@ fn push_stage(
     let parts = [
         Part::Number((number as u64).saturating_add(1)),
         Part::Text(stage_name(book, number)),
-        Part::Text(shape_word(column.shape)),
-        Part::Text(unit_word(unit)),
+        Part::Word(shape_word(column.shape)),
+        Part::Word(unit_word(unit)),
         Part::Number(sum_of(column)),
     ];
     push_row(alloc, sheet, naming, &parts)
 }
 
-// Adds the rows of the stages, which have these units.
+// Adds the rows of the stages, whose columns have these types.
 fn push_stages(
     alloc: Global,
     sheet: &mut Sheet,
     book: &Book,
     naming: &Naming<'_>,
-    units: &[Unit],
+    types: &[ColumnType],
     columns: &[Column],
 ) -> Result<(), NoMemory> {
     for (number, column) in columns.iter().enumerate() {
-        let unit = unit_at(units, number);
+        let unit = types.get(number).map_or(Unit::Seats, |of| of.unit);
         push_stage(alloc, sheet, book, naming, number, unit, column)?;
     }
     Ok(())
@@ -108,9 +79,9 @@ fn stages_sheet(
     naming: &Naming<'_>,
     columns: &[Column],
 ) -> Result<Sheet, NoMemory> {
-    let mut sheet = titled(alloc, "stages", "Stages", &STAGES)?;
-    let units = units(alloc, book)?;
-    push_stages(alloc, &mut sheet, book, naming, units.as_slice(), columns)?;
+    let mut sheet = titled(alloc, naming, "stages", titles::STAGES, &STAGES)?;
+    let types = types_of(book.stages.as_slice());
+    push_stages(alloc, &mut sheet, book, naming, &types, columns)?;
     Ok(sheet)
 }
 
@@ -122,7 +93,7 @@ fn push_one(
     naming: &Naming<'_>,
     column: &Column,
 ) -> Result<(), NoMemory> {
-    let all = Part::Text("all");
+    let all = Part::Word(ALL);
     let value = Part::Number(sum_of(column));
     let parts = [Part::Text(stage), all, all, value];
     push_row(alloc, sheet, naming, &parts)
@@ -167,8 +138,9 @@ fn cells_sheet(
     naming: &Naming<'_>,
     column: &Column,
 ) -> Result<Sheet, NoMemory> {
-    let title = format!(in alloc; "Stage {stage}")?;
-    let mut sheet = Sheet::new(alloc, "cells", title, &CELLS)?;
+    let word = titles::STAGE.in_language(naming.language);
+    let title = format!(in alloc; "{word} {stage}")?;
+    let mut sheet = Sheet::new(alloc, naming.language, "cells", title, &CELLS)?;
     push_cells(alloc, &mut sheet, stage, naming, column)?;
     Ok(sheet)
 }
@@ -177,7 +149,7 @@ fn cells_sheet(
 ///
 /// # Errors
 ///
-/// Want of memory.
+/// Out of memory.
 pub fn stage_sheets(
     alloc: Global,
     setting: &Setting<'_>,

@@ -1,5 +1,6 @@
 //! The sheets of the totals of returns.
 
+use crate::titles;
 use crate::warnings::warnings_sheet;
 use sl_naming::{Naming, Part, one_row_sheet, push_row, push_sheet, titled};
 use sl_ratio::NoMemory;
@@ -12,46 +13,56 @@ use sl_stages::{Book, Cond};
 use std::alloc::Global;
 
 const TOTALS: [Form; 8] = [
-    ("valid", "valid", Look::Number),
-    ("counted", "counted", Look::Number),
-    ("people", "people", Look::Number),
-    ("lands", "Länder", Look::Number),
-    ("parties", "parties", Look::Number),
-    ("lists", "lists", Look::Number),
-    ("winners", "winners", Look::Number),
-    ("independents", "without party", Look::Number),
+    ("valid", "valid", "gültig", Look::Number),
+    ("counted", "counted", "zählend", Look::Number),
+    ("people", "people", "Einwohner", Look::Number),
+    ("lands", "Länder", "Länder", Look::Number),
+    ("parties", "parties", "Parteien", Look::Number),
+    ("lists", "lists", "Listen", Look::Number),
+    ("winners", "winners", "Wahlkreise", Look::Number),
+    ("independents", "without party", "ohne Partei", Look::Number),
 ];
 
 const VOTES: [Form; 11] = [
-    ("party", "", Look::Hidden),
-    ("party_name", "party", Look::Text(24)),
-    ("valid", "valid", Look::Number),
-    ("percent", "percent", Look::Number),
-    ("percent_exact", "", Look::Hidden),
-    ("counted", "counted", Look::Number),
-    ("lists", "", Look::Hidden),
-    ("winners", "winners", Look::Number),
-    ("condition", "takes part by", Look::Text(14)),
-    ("votes_short", "lacks votes", Look::Number),
-    ("winners_short", "winners", Look::Number),
+    ("party", "", "", Look::Hidden),
+    ("party_name", "party", "Partei", Look::Text(24)),
+    ("valid", "valid", "gültig", Look::Number),
+    ("percent", "percent", "Prozent", Look::Number),
+    ("percent_exact", "", "", Look::Hidden),
+    ("counted", "counted", "zählend", Look::Number),
+    ("lists", "", "", Look::Hidden),
+    ("winners", "winners", "Wahlkreise", Look::Number),
+    (
+        "condition",
+        "takes part by",
+        "nimmt teil durch",
+        Look::Text(14),
+    ),
+    ("votes_short", "lacks votes", "Stimmen fehlen", Look::Number),
+    (
+        "winners_short",
+        "lacks winners",
+        "Wahlkreise fehlen",
+        Look::Number,
+    ),
 ];
 
 const LANDS: [Form; 7] = [
-    ("land", "", Look::Hidden),
-    ("land_name", "Land", Look::Text(30)),
-    ("people", "people", Look::Number),
-    ("valid", "valid", Look::Number),
-    ("counted", "counted", Look::Number),
-    ("winners", "winners", Look::Number),
-    ("independents", "without party", Look::Number),
+    ("land", "", "", Look::Hidden),
+    ("land_name", "Land", "Land", Look::Text(30)),
+    ("people", "people", "Einwohner", Look::Number),
+    ("valid", "valid", "gültig", Look::Number),
+    ("counted", "counted", "zählend", Look::Number),
+    ("winners", "winners", "Wahlkreise", Look::Number),
+    ("independents", "without party", "ohne Partei", Look::Number),
 ];
 
 const WINNERS: [Form; 5] = [
-    ("land", "", Look::Hidden),
-    ("land_name", "Land", Look::Text(34)),
-    ("party", "", Look::Hidden),
-    ("party_name", "party", Look::Text(34)),
-    ("winners", "winners", Look::Number),
+    ("land", "", "", Look::Hidden),
+    ("land_name", "Land", "Land", Look::Text(34)),
+    ("party", "", "", Look::Hidden),
+    ("party_name", "party", "Partei", Look::Text(34)),
+    ("winners", "winners", "Wahlkreise", Look::Number),
 ];
 
 // The sums of all returns.
@@ -68,7 +79,7 @@ fn totals_sheet(alloc: Global, naming: &Naming<'_>) -> Result<Sheet, NoMemory> {
         Part::Number(returns.wins() as u64),
         Part::Number(winners_of(returns, None)),
     ];
-    one_row_sheet(alloc, naming, "totals", "Totals", &TOTALS, &parts)
+    one_row_sheet(alloc, naming, "totals", titles::TOTALS, &TOTALS, &parts)
 }
 
 // Adds the row of a party, of so many valid votes in all.
@@ -117,7 +128,7 @@ fn votes_sheet(
     naming: &Naming<'_>,
     parts: &[PartyPart],
 ) -> Result<Sheet, NoMemory> {
-    let mut sheet = titled(alloc, "votes", "Parties", &VOTES)?;
+    let mut sheet = titled(alloc, naming, "votes", titles::PARTIES, &VOTES)?;
     push_parties(alloc, &mut sheet, conditions, naming, parts)?;
     Ok(sheet)
 }
@@ -144,7 +155,7 @@ fn push_land(
 
 // The people, the votes and the winners of the Länder.
 fn lands_sheet(alloc: Global, naming: &Naming<'_>) -> Result<Sheet, NoMemory> {
-    let mut sheet = titled(alloc, "lands", "Länder", &LANDS)?;
+    let mut sheet = titled(alloc, naming, "lands", titles::LANDS, &LANDS)?;
     for land in 0..naming.returns.lands() {
         let people = naming.returns.population(land);
         let votes = land_votes(naming.returns, land);
@@ -172,7 +183,7 @@ fn push_winners(
 
 // The winners by Land and party.
 fn winners_sheet(alloc: Global, naming: &Naming<'_>) -> Result<Sheet, NoMemory> {
-    let mut sheet = titled(alloc, "winners", "Winners", &WINNERS)?;
+    let mut sheet = titled(alloc, naming, "winners", titles::WINNERS, &WINNERS)?;
     for land in 0..naming.returns.lands() {
         push_winners(alloc, &mut sheet, naming, land)?;
     }
@@ -195,14 +206,14 @@ fn push_sheets(
     push_sheet(sheets, votes_sheet(alloc, conditions, naming, parts))?;
     push_sheet(sheets, lands_sheet(alloc, naming))?;
     push_sheet(sheets, winners_sheet(alloc, naming))?;
-    push_sheet(sheets, warnings_sheet(alloc, book, naming, parts))
+    push_sheet(sheets, warnings_sheet(alloc, book, naming))
 }
 
 /// The sheets of the totals: of all returns, by party, by Land, the winners by both, and warnings. With a book, who takes part by it.
 ///
 /// # Errors
 ///
-/// Want of memory.
+/// Out of memory.
 pub fn total_sheets(
     alloc: Global,
     book: Option<&Book>,

@@ -9,22 +9,39 @@ pub enum Cell {
     Empty,
     Text(String),
     Number(u64),
-    Flag(bool),
+    /// A word: as programs know it, and as a person reads it.
+    Word { key: String, shown: String },
+    /// A flag, and the word for it that a person reads.
+    Flag { is: bool, shown: &'static str },
 }
 
 impl Cell {
-    /// What a reader sees of the cell.
+    /// What a program reads of the cell, whatever the language.
     ///
     /// # Errors
     ///
-    /// Want of memory.
-    pub fn text(&self, alloc: Global) -> Result<String, NoMemory> {
+    /// Out of memory.
+    pub fn key(&self, alloc: Global) -> Result<String, NoMemory> {
+        match self {
+            Cell::Word { key, .. } => Ok(String::from_str(alloc, key.as_str())?),
+            Cell::Flag { is: true, .. } => Ok(String::from_str(alloc, "yes")?),
+            Cell::Flag { is: false, .. } => Ok(String::from_str(alloc, "no")?),
+            Cell::Empty | Cell::Text(_) | Cell::Number(_) => self.shown(alloc),
+        }
+    }
+
+    /// What a person reads of the cell.
+    ///
+    /// # Errors
+    ///
+    /// Out of memory.
+    pub fn shown(&self, alloc: Global) -> Result<String, NoMemory> {
         match self {
             Cell::Empty => Ok(String::new(alloc)),
             Cell::Text(text) => Ok(String::from_str(alloc, text.as_str())?),
             Cell::Number(number) => Ok(number.to_string(alloc)?),
-            Cell::Flag(true) => Ok(String::from_str(alloc, "yes")?),
-            Cell::Flag(false) => Ok(String::from_str(alloc, "no")?),
+            Cell::Word { shown, .. } => Ok(String::from_str(alloc, shown.as_str())?),
+            Cell::Flag { shown, .. } => Ok(String::from_str(alloc, shown)?),
         }
     }
 }

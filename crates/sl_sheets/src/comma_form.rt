@@ -54,7 +54,7 @@ fn put_heads(out: &mut String, key: &str, heads: &[Head]) -> Result<(), NoMemory
 }
 
 fn put_value(alloc: Global, out: &mut String, cell: &Cell) -> Result<(), NoMemory> {
-    let text = cell.text(alloc)?;
+    let text = cell.key(alloc)?;
     put_next(out, text.as_str())
 }
 
@@ -101,7 +101,7 @@ fn put_sheet(
 ///
 /// # Errors
 ///
-/// Want of memory.
+/// Out of memory.
 pub fn comma_text(alloc: Global, sheets: &[Sheet]) -> Result<String, NoMemory> {
     let mut out = String::new(alloc);
     for (number, sheet) in sheets.iter().enumerate() {

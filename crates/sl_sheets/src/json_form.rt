@@ -15,7 +15,8 @@ fn cell_value(alloc: Global, cell: &Cell) -> Result<Value, NoMemory> {
         Cell::Empty => Ok(Value::Null),
         Cell::Text(text) => text_value(alloc, text.as_str()),
         Cell::Number(number) => Ok(Value::Number(Number::from(*number))),
-        Cell::Flag(flag) => Ok(Value::Bool(*flag)),
+        Cell::Word { key, .. } => text_value(alloc, key.as_str()),
+        Cell::Flag { is, .. } => Ok(Value::Bool(*is)),
     }
 }
 
@@ -105,7 +106,7 @@ fn line_of(alloc: Global, value: &Value) -> Result<String, NoMemory> {
 ///
 /// # Errors
 ///
-/// Want of memory.
+/// Out of memory.
 pub fn json_text(
     alloc: Global,
     command: &str,

@@ -1,6 +1,7 @@
 //! Sheets: a key, a title, the heads of the columns, and rows.
 
 use crate::cell::Cell;
+use sl_explain::{Language, Message};
 use sl_no_memory::NoMemory;
 use std::alloc::Global;
 
@@ -15,8 +16,8 @@ pub enum Look {
     Number,
 }
 
-/// A column of a kind of sheets: its key, its title and its look.
-pub type Form = (&'static str, &'static str, Look);
+/// A column of a kind of sheets: its key, its title in English and in German, and its look.
+pub type Form = (&'static str, &'static str, &'static str, Look);
 
 /// The head of a column: the key of its cells in CSV and in JSON, its title in text, and its look.
 #[derive(Drop)]
@@ -40,7 +41,7 @@ impl Head {
     ///
     /// # Errors
     ///
-    /// Want of memory.
+    /// Out of memory.
     pub fn new(alloc: Global, key: &str, title: &str, look: Look) -> Result<Head, NoMemory> {
         Ok(Head {
             key: String::from_str(alloc, key)?,
@@ -51,19 +52,21 @@ impl Head {
 }
 
 impl Sheet {
-    /// A sheet without rows.
+    /// A sheet without rows, whose columns have their titles in a language.
     ///
     /// # Errors
     ///
-    /// Want of memory.
+    /// Out of memory.
     pub fn new(
         alloc: Global,
+        language: Language,
         key: &'static str,
         title: String,
         forms: &[Form],
     ) -> Result<Sheet, NoMemory> {
         let mut heads = Vec::new(alloc);
-        for (key, title, look) in forms {
+        for (key, english, german, look) in forms {
+            let title = Message { english, german }.in_language(language);
             heads.push(Head::new(alloc, key, title, *look)?)?;
         }
         Ok(Sheet {
@@ -78,7 +81,7 @@ impl Sheet {
     ///
     /// # Errors
     ///
-    /// Want of memory.
+    /// Out of memory.
     pub fn push(&mut self, row: Row) -> Result<(), NoMemory> {
         let Row { cells, .. } = row;
         self.rows.push(cells)?;
@@ -111,7 +114,7 @@ impl Row {
     ///
     /// # Errors
     ///
-    /// Want of memory.
+    /// Out of memory.
     pub fn text(&mut self, text: &str) -> Result<(), NoMemory> {
         let text = String::from_str(self.alloc, text)?;
         self.push(Cell::Text(text))
@@ -121,28 +124,16 @@ impl Row {
     ///
     /// # Errors
     ///
-    /// Want of memory.
+    /// Out of memory.
     pub fn own(&mut self, text: String) -> Result<(), NoMemory> {
         self.push(Cell::Text(text))
-    }
-
-    /// Adds a text, or an empty cell.
-    ///
-    /// # Errors
-    ///
-    /// Want of memory.
-    pub fn maybe_text(&mut self, text: Option<String>) -> Result<(), NoMemory> {
-        match text {
-            Some(text) => self.push(Cell::Text(text)),
-            None => self.push(Cell::Empty),
-        }
     }
 
     /// Adds a number.
     ///
     /// # Errors
     ///
-    /// Want of memory.
+    /// Out of memory.
     pub fn number(&mut self, number: u64) -> Result<(), NoMemory> {
         self.push(Cell::Number(number))
     }
@@ -151,7 +142,7 @@ impl Row {
     ///
     /// # Errors
     ///
-    /// Want of memory.
+    /// Out of memory.
     pub fn maybe_number(&mut self, number: Option<u64>) -> Result<(), NoMemory> {
         match number {
             Some(number) => self.push(Cell::Number(number)),
@@ -159,20 +150,29 @@ impl Row {
         }
     }
 
-    /// Adds a flag.
+    /// Adds a word, as programs know it and as a person reads it.
     ///
     /// # Errors
     ///
-    /// Want of memory.
-    pub fn flag(&mut self, flag: bool) -> Result<(), NoMemory> {
-        self.push(Cell::Flag(flag))
+    /// Out of memory.
+    pub fn word(&mut self, key: String, shown: String) -> Result<(), NoMemory> {
+        self.push(Cell::Word { key, shown })
+    }
+
+    /// Adds a flag, with the word for it that a person reads.
+    ///
+    /// # Errors
+    ///
+    /// Out of memory.
+    pub fn flag(&mut self, is: bool, shown: &'static str) -> Result<(), NoMemory> {
+        self.push(Cell::Flag { is, shown })
     }
 
     /// Adds an empty cell.
     ///
     /// # Errors
     ///
-    /// Want of memory.
+    /// Out of memory.
     pub fn empty(&mut self) -> Result<(), NoMemory> {
         self.push(Cell::Empty)
     }

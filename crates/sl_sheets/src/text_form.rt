@@ -39,7 +39,7 @@ fn limited(alloc: Global, text: &str, most: usize) -> Result<String, NoMemory> {
 
 // What is shown of a cell.
 fn shown(alloc: Global, look: Look, cell: &Cell) -> Result<String, NoMemory> {
-    let text = cell.text(alloc)?;
+    let text = cell.shown(alloc)?;
     match look {
         Look::Text(most) => limited(alloc, text.as_str(), most),
         Look::Hidden | Look::Number => Ok(text),
@@ -201,7 +201,7 @@ fn put_sheet(alloc: Global, out: &mut String, sheet: &Sheet) -> Result<(), NoMem
 ///
 /// # Errors
 ///
-/// Want of memory.
+/// Out of memory.
 pub fn aligned_text(alloc: Global, sheets: &[Sheet]) -> Result<String, NoMemory> {
     let mut out = String::new(alloc);
     for sheet in sheets {

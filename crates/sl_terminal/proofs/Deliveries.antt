@@ -42,7 +42,7 @@ ends_early IsText old (Unmade path reason) early = Keeps-refl old
 ends_early IsText old (Kept path) early = Keeps-refl old
 ends_early IsText old (Same path) early = Keeps-refl old
 
-keeps_nothing : (old new : Option (List ℕ)) → Keeps old new → Appends old new []
+pub keeps_nothing : (old new : Option (List ℕ)) → Keeps old new → Appends old new []
 keeps_nothing None new h = tt
 keeps_nothing (Some xs) None h = h
 keeps_nothing (Some xs) (Some ys) h = h ∙ sym (append-nil xs)

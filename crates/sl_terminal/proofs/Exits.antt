@@ -1,6 +1,8 @@
 -- The exit status after a failure.
-use Rattle.std.proofs.Common.{Err, List, Option, inl, inr, ◌≡◌, ◌≢◌, ℕ}
+use Rattle.std.proofs.Common.{Err, List, Option, arith, inl, inr, refl, ◌≡◌, ◌≢◌, ℕ}
 use Rattle.sl_inputs.specs.declared.status.DeskError.TheVariants.{NoMemory}
+use Rattle.sl_inputs.specs.Statuses.{status_number}
+use Rattle.sl_inputs.specs.declared.status.Status.TheVariants as status
 use Rattle.sl_inputs.specs.declared.status.Status.{Status}
 use Rattle.sl_terminal.specs.Ends.{Ends, Exits, failure_number}
 use Rattle.sl_terminal.specs.declared.failure.Failure.TheVariants.{Call, Kept, Same, Unmade, Unopened}
@@ -21,3 +23,17 @@ no_failure (Unopened unopened) number is other = other.1 is
 no_failure (Unmade path reason) number is other = other.1 is
 no_failure (Kept path) number is other = other.0 is
 no_failure (Same path) number is other = other.0 is
+
+pub not_zero : {E : Type 0} (f : Failure E) (number : ℕ) → number ≡ failure_number f → number ≡ 0 → ⊥
+not_zero (Call error) number is zero = omega (arith, is, zero)
+not_zero (Unopened unopened) number is zero = omega (arith, is, zero)
+not_zero (Unmade path reason) number is zero = omega (arith, is, zero)
+not_zero (Kept path) number is zero = omega (arith, is, zero)
+not_zero (Same path) number is zero = omega (arith, is, zero)
+
+-- the status of the exit status 0
+pub is_done : (s : Status) (number : ℕ) → number ≡ status_number s → number ≡ 0 → s ≡ status.Done
+is_done status.Done number is zero = refl
+is_done status.Refused number is zero = absurd (omega (arith, is, zero))
+is_done status.Legal number is zero = absurd (omega (arith, is, zero))
+is_done status.Budget number is zero = absurd (omega (arith, is, zero))

@@ -4,7 +4,6 @@ use Rattle.sl_answers.specs.declared.answer.Answer.{Answer}
 use Rattle.sl_count_outcomes.specs.Judged.{IsJudged}
 use Rattle.sl_count_outcomes.specs.declared.judged.Judged.{Judged}
 use Rattle.sl_count_value.specs.declared.count.Records.TheVariants.{Kept}
-use Rattle.sl_explain_calls.specs.Codes.{Subject, judged_subject}
 use Rattle.sl_inputs.specs.Books.{BookInput}
 use Rattle.sl_inputs.specs.Reading.{ForKnown}
 use Rattle.sl_inputs.specs.declared.status.Status.TheVariants as status
@@ -13,6 +12,7 @@ use Rattle.sl_outside.specs.Inputs.{named_input}
 use Rattle.sl_report.specs.Statuses.{IsReportStatus, judged_status}
 use Rattle.sl_terminal.specs.Tellings.{IsOfReport}
 use Rattle.sl_terminal.specs.inner.Reports.{IsShownBy, SaysBy}
+use Rattle.sl_terminal.specs.Said.{Said, judged_said}
 
 module _ (is_named : Bool) (judged : Judged) where
   -- the status
@@ -26,9 +26,9 @@ module _ (is_named : Bool) (judged : Judged) where
   shown_by (Some input) (Some bytes) (Err answer) ends is shown refused by = (judged, is, inr (refused.0, by ∙ refused.1))
 
   -- what is told
-  pub told_by : (bytes : List ℕ → Option (List ℕ)) (book returns : List ℕ) (answer : Result Answer Answer) (Says : Option Subject → Type 0)
+  pub told_by : (bytes : List ℕ → Option (List ℕ)) (book returns : List ℕ) (answer : Result Answer Answer) (Says : Said → Type 0)
       → ForKnown (named_input bytes book) (bytes returns) (λ input known. IsJudged Kept None input known judged)
-      → IfErr answer (λ a. (is_named ≡ true) × (a.status ≡ status.Refused)) → SaysBy answer (judged_subject judged) Says
+      → IfErr answer (λ a. (is_named ≡ true) × (a.status ≡ status.Refused)) → SaysBy answer (judged_said judged) Says
       → IsOfReport bytes book returns is_named Says
   told_by bytes book returns (Ok answer) Says is refused says = inl (judged, is, says)
   told_by bytes book returns (Err answer) Says is refused says = inr (refused.0, says)

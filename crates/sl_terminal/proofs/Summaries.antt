@@ -4,7 +4,7 @@ use Rattle.std.proofs.Math.ListN.{get_or-map}
 use Rattle.std.proofs.lemmas.List.{length-map}
 use Rattle.std.proofs.lemmas.Option.{get_or_from_slice_get, slice_get_within}
 use Rattle.std.proofs.lemmas.List.Elements.{All-map, All-nil, All-push}
-use Rattle.sl_explain_calls.specs.Codes.{Subject, book_code, election_code, subject}
+use Rattle.sl_explain_calls.specs.Codes.{book_code, election_code, subject}
 use Rattle.sl_inputs.specs.Judging.{election_verdict, tree_verdict}
 use Rattle.sl_inputs.specs.declared.refused_book.RefusedBook.{RefusedBook}
 use Rattle.sl_inputs.specs.declared.refused_election.RefusedElection.{RefusedElection}
@@ -15,9 +15,10 @@ use Rattle.sl_inputs.specs.declared.verdict.Verdict.{Verdict}
 use Rattle.sl_stages.specs.book.Books.{book_of}
 use Rattle.sl_stages.specs.declared.checked.CheckedBook.{CheckedBook}
 use Rattle.sl_stages.specs.returns.Election.{Election}
-use Rattle.sl_terminal.specs.Sums.{AreJudged, IsGoodBook, IsOfSums, IsSummary, IsVerdictOn}
+use Rattle.sl_terminal.specs.Sums.{AreJudged, IsGoodBook, IsOfComparison, IsOfSums, IsSummary, IsVerdictOn}
 use Rattle.sl_terminal.specs.declared.sums.NamedBook.{NamedBook}
-use Rattle.sl_terminal.specs.inner.Verdicts.{IsDoneOrRefused, IsEndBy, IsEndOfAll, IsEndOn, IsGood, IsOfBoth, IsOfElection, IsOfOneOf}
+use Rattle.sl_terminal.specs.inner.Verdicts.{IsDoneOrRefused, IsEndBy, IsEndOfAll, IsEndOn, IsGood, IsOfBoth, IsOfCompared, IsOfElection, IsOfOneOf, IsOfTable}
+use Rattle.sl_terminal.specs.Said.{Said, fault}
 
 module _ (bytes : List ℕ → Option (List ℕ)) (returns : List ℕ) (w : Verdict Election RefusedElection) (judged : AreJudged (bytes returns) (election_verdict w)) where
   good_by : (word : List ℕ) (v : Verdict CheckedBook RefusedBook) → IsVerdictOn bytes word (tree_verdict v) → IsGood v → IsGoodBook bytes word
@@ -48,7 +49,7 @@ module _ (bytes : List ℕ → Option (List ℕ)) (returns : List ℕ) (w : Verd
       )
   summed_all books on ends (inr refused) = inr refused
 
-  module _ (Says : Option Subject → Type 0) where
+  module _ (Says : Said → Type 0) where
     pub of_election : (words : List (List ℕ)) → IsOfElection w Says → IsOfSums bytes returns words Says
     of_election words (inl none) = inl none
     of_election words (inr (refused, same, says)) =
@@ -59,7 +60,7 @@ module _ (bytes : List ℕ → Option (List ℕ)) (returns : List ℕ) (w : Verd
         )
 
     of_book : (words : List (List ℕ)) (k : ℕ) (word : List ℕ) → k < length words → get_or words k word ≡ word → (v : Verdict CheckedBook RefusedBook)
-        → IsVerdictOn bytes word (tree_verdict v) → (refused : RefusedBook) → v ≡ Refused refused → Says (Some (subject input.Book (book_code refused)))
+        → IsVerdictOn bytes word (tree_verdict v) → (refused : RefusedBook) → v ≡ Refused refused → Says (fault (subject input.Book (book_code refused)))
         → IsOfSums bytes returns words Says
     of_book words k word lt at v on refused same says =
         inr (
@@ -81,6 +82,11 @@ module _ (bytes : List ℕ → Option (List ℕ)) (returns : List ℕ) (w : Verd
         of_book (map word books) k b.word.now (subst (λ n. k < n) (sym (length-map books word)) lt) (get_or-map word books k b ∙ ap word at) b.read.verdict
         (subst (λ (b : NamedBook). IsVerdictOn bytes b.word.now (tree_verdict b.read.verdict)) at (on k b lt)) refused same says
 
+    pub of_compared : (books : List NamedBook) → All (λ (b : NamedBook). IsVerdictOn bytes b.word.now (tree_verdict b.read.verdict)) books → IsOfCompared books w Says
+        → IsOfComparison bytes returns (map (λ (b : NamedBook). b.word.now) books) Says
+    of_compared books on (inl of) = inl (of_one books on of)
+    of_compared books on (inr (e, same, says)) = inr (e, subst (λ w. AreJudged (bytes returns) (election_verdict w)) same judged, says)
+
 -- a good rulebook
 pub end_by : (book : Verdict CheckedBook RefusedBook) (returns : Verdict Election RefusedElection) (good : CheckedBook) → book ≡ Good good → (ends : Status)
     → IsEndOn returns ends → IsEndBy book returns ends
@@ -96,3 +102,9 @@ end_of_all books returns e is good ends (inr refused) = inr refused
 -- the first of several is one of them
 pub contains_first : (books : List NamedBook) (b : NamedBook) → Some b ≡ slice_get books 0 → Contains books b
 contains_first books b is = (0, slice_get_within books 0 b (sym is), get_or_from_slice_get books 0 b b (sym is))
+
+-- what is told of a table
+pub of_table : (books : List NamedBook) (returns : Verdict Election RefusedElection) (e : Election) → returns ≡ Good e → (Says : Said → Type 0) → IsOfTable e Says
+    → IsOfCompared books returns Says
+of_table books returns e is Says (inl says) = inl (inl (inl says))
+of_table books returns e is Says (inr says) = inr (e, is, says)

@@ -3,6 +3,7 @@ pub mod Ends
 pub mod Files
 pub mod Frames
 pub mod Requests
+pub mod Said
 pub mod Sums
 pub mod Tellings
 pub mod inner

@@ -16,6 +16,8 @@ use Rattle.sl_inputs.specs.declared.verdict.Verdict.{Verdict}
 use Rattle.sl_outside.specs.Inputs.{named_input}
 use Rattle.sl_stages.specs.book.Trees.{BookTree}
 use Rattle.sl_stages.specs.returns.Election.{Election}
+use Rattle.sl_terminal.specs.Said.{Said, fault, nothing, warned}
+use Rattle.sl_warnings.specs.Warnings.{warnings_of}
 
 -- what the rulebook that a word names comes to, where its bytes are known
 abbrev pub IsVerdictOn : (List ℕ → Option (List ℕ)) → List ℕ → Verdict BookTree BookRefusal → Type 0
@@ -44,9 +46,14 @@ abbrev pub AreRefused : Option (List ℕ) → Subject → Type 0
 AreRefused known s = (refused : RefusedElection) × AreJudged known (Refused (returns_refusal_of refused)) × (s ≡ subject input.Returns (election_code refused))
 
 -- what is told: nothing, or of the returns or of a rulebook that are refused
-abbrev pub IsOfSums : (List ℕ → Option (List ℕ)) → List ℕ → List (List ℕ) → (Option Subject → Type 0) → Type 0
+abbrev pub IsOfSums : (List ℕ → Option (List ℕ)) → List ℕ → List (List ℕ) → (Said → Type 0) → Type 0
 IsOfSums bytes returns books Says =
-    Says None ⊎ ((s : Subject) × (AreRefused (bytes returns) s ⊎ Any (IsRefusedBook bytes s) books) × Says (Some s))
+    Says nothing ⊎ ((s : Subject) × (AreRefused (bytes returns) s ⊎ Any (IsRefusedBook bytes s) books) × Says (fault s))
+
+-- of rulebooks side by side: the same, or warnings of good returns
+abbrev pub IsOfComparison : (List ℕ → Option (List ℕ)) → List ℕ → List (List ℕ) → (Said → Type 0) → Type 0
+IsOfComparison bytes returns books Says =
+    IsOfSums bytes returns books Says ⊎ ((e : Election) × AreJudged (bytes returns) (Good e) × Says (warned (warnings_of None e)))
 
 -- the word of a rulebook that is given, if one is
 abbrev pub given_word : Option (List ℕ) → List (List ℕ)

@@ -10,7 +10,8 @@ ghost use Rattle.sl_terminal.specs.Ends.{Ends, IsEarly, IsSilent};
 ghost use Rattle.sl_terminal.specs.Files.{HasCode};
 ghost use Rattle.sl_terminal.specs.Frames.{TellsNothing};
 ghost use Rattle.sl_terminal.specs.Requests.{IsListing};
-ghost use Rattle.sl_terminal.specs.Tellings.{IsOfBook, Says};
+ghost use Rattle.sl_terminal.specs.Said.{Says, said_of};
+ghost use Rattle.sl_terminal.specs.Tellings.{IsOfBook};
 
 use crate::failure::Failure;
 use crate::terminal::Terminal;
@@ -114,7 +115,7 @@ impl<O: Outside, W: Sink, E: Sink> Terminal<O, W, E> {
         ensures ends { Ends (λ status text. (status ≡ compilation.now.answer.status) × (text ≡ compilation.now.answer.text.items))
             (W.contents self.old.out) (W.contents self.new.out) result }
         ensures silent { IfOk result (λ ends. IsSilent self.old.is_quiet ends → self.new.err ≡ self.old.err) }
-        ensures told { IfOk result (λ _. Says E.contents self.old self.new (check_subject read.now.verdict)) }
+        ensures told { IfOk result (λ _. Says E.contents self.old self.new (said_of (check_subject read.now.verdict))) }
         ensures file { O.tells_made self.old.outside → IfOk result (λ status. (status ≡ compilation.now.answer.status)
             × (O.bytes self.new.outside path.now ≡ Some compilation.now.file.items)) }
     {

@@ -1,7 +1,7 @@
 //! The commands that do not report. Each judges its inputs, writes what they come to, and tells why it was not done.
 
 ghost use Rattle.std.specs.Io.KnownBytes.{Keeps};
-ghost use Rattle.std.specs.Prelude.{◌≡◌, IfErr, IfOk, IfSome, Some};
+ghost use Rattle.std.specs.Prelude.{◌≡◌, IfErr, IfOk, IfSome, Some, false, true};
 ghost use Rattle.sl_counts.specs.Shows.{IsShownOutput};
 ghost use Rattle.sl_counts.specs.Views.{records_for, stage_of};
 ghost use Rattle.sl_desk.specs.Checking.{IsCheckOutput};
@@ -21,7 +21,8 @@ ghost use Rattle.sl_terminal.specs.Ends.{Ends, IsEarly, IsSilent};
 ghost use Rattle.sl_terminal.specs.Files.{LeavesCode};
 ghost use Rattle.sl_terminal.specs.Frames.{OnlyTells, TellsNothing};
 ghost use Rattle.sl_terminal.specs.Requests.{IsOutputOf, IsShown};
-ghost use Rattle.sl_terminal.specs.Tellings.{IsOfBook, IsOfCount, IsOfFault, IsOfRun, Says, shown_records, shown_stage};
+ghost use Rattle.sl_terminal.specs.Said.{OnlyWarns, Says, fault, said_of};
+ghost use Rattle.sl_terminal.specs.Tellings.{IsOfBook, IsOfCount, IsOfFault, IsOfRun, shown_records, shown_stage, warns};
 
 use crate::failure::Failure;
 use crate::telling::ReadFile;
@@ -46,7 +47,8 @@ impl<O: Outside, W: Sink, E: Sink> Terminal<O, W, E> {
     ) -> Result<Status, Failure<'a, O::Reason>>
         ensures ends { Ends (λ status text. ForKnown (named_input (O.bytes self.old.outside) book.now) (O.bytes self.old.outside returns.now) (λ input bytes.
             IsShownOutput view.entry input bytes status text)) (W.contents self.old.out) (W.contents self.new.out) result }
-        ensures silent { IfOk result (λ ends. IsSilent self.old.is_quiet ends → self.new.err ≡ self.old.err) }
+        ensures quiet { IfOk result (λ _. self.old.is_quiet ≡ true → self.new.err ≡ self.old.err) }
+        ensures done { IfOk result (λ ends. ends ≡ status.Done → OnlyWarns E.contents self.old self.new) }
         ensures told { IfOk result (λ _. IsOfCount (O.bytes self.old.outside) (records_for view.entry) (stage_of view.entry) book.now returns.now (Says E.contents self.old self.new)) }
     {
         let alloc = self.alloc;
@@ -66,7 +68,8 @@ impl<O: Outside, W: Sink, E: Sink> Terminal<O, W, E> {
     ) -> Result<Status, Failure<'a, O::Reason>>
         ensures ends { Ends (λ status text. ForKnown (named_input (O.bytes self.old.outside) book.now) (O.bytes self.old.outside returns.now) (λ input bytes.
             IsShown show.entry input bytes status text)) (W.contents self.old.out) (W.contents self.new.out) result }
-        ensures silent { IfOk result (λ ends. IsSilent self.old.is_quiet ends → self.new.err ≡ self.old.err) }
+        ensures quiet { IfOk result (λ _. self.old.is_quiet ≡ true → self.new.err ≡ self.old.err) }
+        ensures done { IfOk result (λ ends. ends ≡ status.Done → OnlyWarns E.contents self.old self.new) }
         ensures told { IfOk result (λ _. IsOfCount (O.bytes self.old.outside) (shown_records show.entry) (shown_stage show.entry) book.now returns.now (Says E.contents self.old self.new)) }
     {
         match show {
@@ -109,7 +112,7 @@ impl<O: Outside, W: Sink, E: Sink> Terminal<O, W, E> {
     ) -> Result<Status, Failure<'a, O::Reason>>
         ensures ends { Ends (λ status text. (status ≡ answer.now.status) × (text ≡ answer.now.text.items)) (W.contents self.old.out) (W.contents self.new.out) result }
         ensures silent { IfOk result (λ ends. IsSilent self.old.is_quiet ends → self.new.err ≡ self.old.err) }
-        ensures told { IfOk result (λ _. Says E.contents self.old self.new (check_subject read.now.verdict)) }
+        ensures told { IfOk result (λ _. Says E.contents self.old self.new (said_of (check_subject read.now.verdict))) }
     {
         let status = self.write_answer(answer)?;
         self.tell_book(status, book, read);
@@ -156,7 +159,7 @@ impl<O: Outside, W: Sink, E: Sink> Terminal<O, W, E> {
     ) -> Result<Status, Failure<'a, O::Reason>>
         ensures ends { Ends (λ status text. (status ≡ answer.now.status) × (text ≡ answer.now.text.items)) (W.contents self.old.out) (W.contents self.new.out) result }
         ensures silent { IfOk result (λ ends. IsSilent self.old.is_quiet ends → self.new.err ≡ self.old.err) }
-        ensures told { IfOk result (λ _. Says E.contents self.old self.new (run_subject read.now.judged)) }
+        ensures told { IfOk result (λ _. Says E.contents self.old self.new (said_of (run_subject read.now.judged))) }
     {
         let status = self.write_answer(answer)?;
         let files = [
@@ -196,7 +199,7 @@ impl<O: Outside, W: Sink, E: Sink> Terminal<O, W, E> {
     fn tell_unknown(&mut self, status: Status, name: &str)
         ensures only { OnlyTells self.old self.new }
         ensures silent { IsSilent self.old.is_quiet status → self.new.err ≡ self.old.err }
-        ensures told { Says E.contents self.old self.new (Some (subject input.Book (Some B01))) }
+        ensures told { Says E.contents self.old self.new (fault (subject input.Book (Some B01))) }
     {
         let file = ReadFile {
             input: Input::Book,
@@ -212,7 +215,7 @@ impl<O: Outside, W: Sink, E: Sink> Terminal<O, W, E> {
     fn law<'a>(&mut self, name: &'a str) -> Result<Status, Failure<'a, O::Reason>>
         ensures ends { Ends (IsLawOutput name.now) (W.contents self.old.out) (W.contents self.new.out) result }
         ensures silent { IfOk result (λ ends. IsSilent self.old.is_quiet ends → self.new.err ≡ self.old.err) }
-        ensures told { IfOk result (λ _. Says E.contents self.old self.new (Some (subject input.Book (Some B01)))) }
+        ensures told { IfOk result (λ _. Says E.contents self.old self.new (fault (subject input.Book (Some B01)))) }
     {
         match law_text(name, &mut self.out) {
             Ok(status) => {
@@ -240,7 +243,9 @@ impl<O: Outside, W: Sink, E: Sink> Terminal<O, W, E> {
         request: Request<'a>,
     ) -> Result<Status, Failure<'a, O::Reason>>
         ensures ends { Ends (IsOutputOf (O.bytes self.old.outside) request.entry) (W.contents self.old.out) (W.contents self.new.out) result }
-        ensures silent { IfOk result (λ ends. IsSilent self.old.is_quiet ends → self.new.err ≡ self.old.err) }
+        ensures quiet { IfOk result (λ _. self.old.is_quiet ≡ true → self.new.err ≡ self.old.err) }
+        ensures done { IfOk result (λ ends. ends ≡ status.Done → OnlyWarns E.contents self.old self.new) }
+        ensures still { warns request.entry ≡ false → IfOk result (λ ends. ends ≡ status.Done → self.new.err ≡ self.old.err) }
         ensures told { IfOk result (λ _. IsOfFault (O.bytes self.old.outside) request.entry (Says E.contents self.old self.new)) }
         ensures file { O.tells_made self.old.outside → IfOk result (λ ends. LeavesCode (O.bytes self.old.outside) request.entry (O.bytes self.new.outside) (status_number ends)) }
     {

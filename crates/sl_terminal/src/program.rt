@@ -1,10 +1,12 @@
 //! The program, from the words of the command line to the exit status.
 
-ghost use Rattle.std.specs.Prelude.{true, unwrap_or, ◌≡◌, ◌≢◌};
+ghost use Rattle.std.specs.Prelude.{List, false, true, unwrap_or, ◌≡◌, ◌≢◌};
 ghost use Rattle.sl_terminal.specs.Ends.{Exits};
 ghost use Rattle.sl_terminal.specs.Files.{LeavesCode};
 ghost use Rattle.sl_terminal.specs.Requests.{IsHelp, IsOutputOf, IsRun};
-ghost use Rattle.sl_terminal.specs.Tellings.{IsOfFault, Tells};
+ghost use Rattle.sl_terminal.specs.Said.{Tells, Warns};
+ghost use Rattle.sl_terminal.specs.Tellings.{IsOfFault, warns};
+ghost use Rattle.sl_warnings.specs.declared.warning.Warning.{Warning};
 
 use crate::terminal::Terminal;
 use sl_inputs::{DeskError, Sink, write_all};
@@ -12,11 +14,13 @@ use sl_outside::Outside;
 use sl_words::{Asked, request_of};
 
 impl<O: Outside, W: Sink, E: Sink> Terminal<O, W, E> {
-    /// Runs the command that is asked for, and answers the exit status. After the line of a refusal, a fault or an error it explains itself on standard error.
+    /// Runs the command that is asked for, and answers the exit status. After the line of a refusal, a fault or an error it explains
+    /// itself on standard error; after a count it warns there of what is likely a mistake.
     pub fn run_asked(&mut self, asked: Asked<'_>) -> u8
         ensures exits { Exits (IsOutputOf (O.bytes self.old.outside) asked.entry.request) (W.contents self.old.out) (W.contents self.new.out) result }
         ensures silent { (asked.entry.options.is_quiet ≡ true) × (result ≢ 1) × (result ≢ 5) → self.new.err ≡ self.old.err }
-        ensures done { result ≡ 0 → self.new.err ≡ self.old.err }
+        ensures still { (result ≡ 0) × (warns asked.entry.request ≡ false) → self.new.err ≡ self.old.err }
+        ensures done { result ≡ 0 → (ws : List Warning) × Warns (unwrap_or asked.entry.options.language self.old.language) ws (E.contents self.old.err) (E.contents self.new.err) }
         ensures told { (result ≢ 1) × (result ≢ 5) → IsOfFault (O.bytes self.old.outside) asked.entry.request
             (Tells (unwrap_or asked.entry.options.language self.old.language) (E.contents self.old.err) (E.contents self.new.err)) }
         ensures file { O.tells_made self.old.outside → (result ≢ 1) × (result ≢ 5) →

@@ -1,16 +1,16 @@
 //! The commands that report, over files: each input is read and judged once, and each rulebook is run once.
 
-ghost use Rattle.std.specs.Prelude.{◌≡◌, IfErr, IfOk, None, is_some, true};
+ghost use Rattle.std.specs.Prelude.{◌≡◌, IfErr, IfOk, None, false, is_some, true};
 ghost use Rattle.sl_count_outcomes.specs.Judged.{FitsJudged, IsJudged};
 ghost use Rattle.sl_count_value.specs.declared.count.Records.TheVariants.{Kept};
-ghost use Rattle.sl_explain_calls.specs.Codes.{judged_subject};
 ghost use Rattle.sl_inputs.specs.Reading.{ForKnown};
 ghost use Rattle.sl_inputs.specs.declared.status.Status.TheVariants as status;
 ghost use Rattle.sl_outside.specs.Inputs.{named_input};
 ghost use Rattle.sl_report.specs.Statuses.{judged_status};
-ghost use Rattle.sl_terminal.specs.Ends.{Ends, IsEarly, IsSilent};
+ghost use Rattle.sl_terminal.specs.Ends.{Ends, IsEarly};
 ghost use Rattle.sl_terminal.specs.Requests.{IsReportEnd, IsReportOf};
-ghost use Rattle.sl_terminal.specs.Tellings.{IsOfReport, IsOfWhat, Says};
+ghost use Rattle.sl_terminal.specs.Said.{OnlyWarns, Says, judged_said};
+ghost use Rattle.sl_terminal.specs.Tellings.{IsOfReport, IsOfWhat, warns_of};
 ghost use Rattle.sl_terminal.specs.inner.Reports.{IsShownBy, SaysBy};
 
 use crate::failure::Failure;
@@ -18,14 +18,14 @@ use crate::terminal::Terminal;
 use sl_count_outcomes::{Read, Records, judge_read};
 use sl_inputs::{Input, Sink, Status, read_all};
 use sl_outside::{Outside, open, open_book};
-use sl_report::{Answer, FullNames, MAX_NAMES_BYTES, Shape, Show, answer_judged, names_in};
+use sl_report::{Answer, FullNames, MAX_NAMES_BYTES, Shape, Show, Style, answer_judged, names_in};
 use sl_words::{Report, ReportForm};
 
-// How a report is written: with the names of a file, if one is given, and in a form.
+// How a report is written: with the names of a file, if one is given, in a form and in a language.
 #[derive(Clone, Copy)]
-pub(crate) struct Style<'a> {
+pub(crate) struct Writing<'a> {
     pub(crate) names: Option<&'a str>,
-    pub(crate) shape: Shape,
+    pub(crate) style: Style,
 }
 
 fn shape_of(form: ReportForm) -> Shape {
@@ -77,17 +77,17 @@ impl<O: Outside, W: Sink, E: Sink> Terminal<O, W, E> {
         show: Show,
         book: &'a str,
         returns: &'a str,
-        style: Style<'a>,
+        writing: Writing<'a>,
     ) -> Result<(Read<'a>, Result<Answer, Answer>), Failure<'a, O::Reason>>
         ensures judged { IfOk result (λ both. ForKnown (named_input (O.bytes self.now.outside) book.now) (O.bytes self.now.outside returns.now) (λ input bytes.
             IsJudged Kept None input bytes both.0.judged)) }
         ensures shown { IfOk result (λ both. IfOk both.1 (λ a. a.status ≡ judged_status both.0.judged)) }
-        ensures refused { IfOk result (λ both. IfErr both.1 (λ a. (is_some style.entry.names ≡ true) × (a.status ≡ status.Refused))) }
+        ensures refused { IfOk result (λ both. IfErr both.1 (λ a. (is_some writing.entry.names ≡ true) × (a.status ≡ status.Refused))) }
         ensures early { IfErr result IsEarly }
     {
         let read = self.judged_at(book, returns)?;
-        let names = self.full_names(style.names)?;
-        let answer = answer_judged(self.alloc, show, &read.judged, &names, style.shape)?;
+        let names = self.full_names(writing.names)?;
+        let answer = answer_judged(self.alloc, show, &read.judged, &names, writing.style)?;
         Ok((read, answer))
     }
 
@@ -100,8 +100,9 @@ impl<O: Outside, W: Sink, E: Sink> Terminal<O, W, E> {
         returns: &'a str,
     ) -> Result<Status, Failure<'a, O::Reason>>
         ensures ends { Ends (λ ends _. IsShownBy answer.now ends) (W.contents self.old.out) (W.contents self.new.out) result }
-        ensures silent { IfOk result (λ ends. IsSilent self.old.is_quiet ends → self.new.err ≡ self.old.err) }
-        ensures told { IfOk result (λ _. SaysBy answer.now (judged_subject read.now.judged) (Says E.contents self.old self.new)) }
+        ensures quiet { IfOk result (λ _. self.old.is_quiet ≡ true → self.new.err ≡ self.old.err) }
+        ensures done { IfOk result (λ ends. ends ≡ status.Done → OnlyWarns E.contents self.old self.new) }
+        ensures told { IfOk result (λ _. SaysBy answer.now (judged_said read.now.judged) (Says E.contents self.old self.new)) }
     {
         match answer {
             Ok(answer) => {
@@ -120,14 +121,15 @@ impl<O: Outside, W: Sink, E: Sink> Terminal<O, W, E> {
         show: Show,
         book: &'a str,
         returns: &'a str,
-        style: Style<'a>,
+        writing: Writing<'a>,
     ) -> Result<Status, Failure<'a, O::Reason>>
-        ensures ends { Ends (λ ends _. IsReportOf (O.bytes self.old.outside) book.now returns.now (is_some style.entry.names) ends)
+        ensures ends { Ends (λ ends _. IsReportOf (O.bytes self.old.outside) book.now returns.now (is_some writing.entry.names) ends)
             (W.contents self.old.out) (W.contents self.new.out) result }
-        ensures silent { IfOk result (λ ends. IsSilent self.old.is_quiet ends → self.new.err ≡ self.old.err) }
-        ensures told { IfOk result (λ _. IsOfReport (O.bytes self.old.outside) book.now returns.now (is_some style.entry.names) (Says E.contents self.old self.new)) }
+        ensures quiet { IfOk result (λ _. self.old.is_quiet ≡ true → self.new.err ≡ self.old.err) }
+        ensures done { IfOk result (λ ends. ends ≡ status.Done → OnlyWarns E.contents self.old self.new) }
+        ensures told { IfOk result (λ _. IsOfReport (O.bytes self.old.outside) book.now returns.now (is_some writing.entry.names) (Says E.contents self.old self.new)) }
     {
-        let (read, answer) = self.reported(show, book, returns, style)?;
+        let (read, answer) = self.reported(show, book, returns, writing)?;
         self.finish_report(&read, &answer, book, returns)
     }
 
@@ -139,23 +141,28 @@ impl<O: Outside, W: Sink, E: Sink> Terminal<O, W, E> {
         names: Option<&'a str>,
     ) -> Result<Status, Failure<'a, O::Reason>>
         ensures ends { Ends (λ ends _. IsReportEnd (O.bytes self.old.outside) what.now (is_some names.entry) ends) (W.contents self.old.out) (W.contents self.new.out) result }
-        ensures silent { IfOk result (λ ends. IsSilent self.old.is_quiet ends → self.new.err ≡ self.old.err) }
+        ensures quiet { IfOk result (λ _. self.old.is_quiet ≡ true → self.new.err ≡ self.old.err) }
+        ensures done { IfOk result (λ ends. ends ≡ status.Done → OnlyWarns E.contents self.old self.new) }
+        ensures still { warns_of what.now ≡ false → IfOk result (λ ends. ends ≡ status.Done → self.new.err ≡ self.old.err) }
         ensures told { IfOk result (λ _. IsOfWhat (O.bytes self.old.outside) what.now (is_some names.entry) (Says E.contents self.old self.new)) }
     {
-        let style = Style {
+        let writing = Writing {
             names,
-            shape: shape_of(form),
+            style: Style {
+                shape: shape_of(form),
+                language: self.language,
+            },
         };
         match what {
             Report::Count { book, returns } => {
-                self.report_count(Show::Report, *book, *returns, style)
+                self.report_count(Show::Report, *book, *returns, writing)
             }
             Report::Stages { book, returns } => {
-                self.report_count(Show::Stages, *book, *returns, style)
+                self.report_count(Show::Stages, *book, *returns, writing)
             }
-            Report::Totals { returns, book } => self.report_totals(*returns, *book, style),
+            Report::Totals { returns, book } => self.report_totals(*returns, *book, writing),
             Report::Compare { returns, books } => {
-                self.report_comparison(*returns, books.as_slice(), style)
+                self.report_comparison(*returns, books.as_slice(), writing)
             }
         }
     }

@@ -1,19 +1,20 @@
 //! The commands that report of several rulebooks or of none: the sums of returns, and rulebooks side by side. Each input is read and judged once.
 
 ghost use Rattle.std.specs.Option.{option_map};
-ghost use Rattle.std.specs.Prelude.{◌≡◌, All, Contains, IfErr, IfOk, IfSome, None, Some, map};
+ghost use Rattle.std.specs.Prelude.{◌≡◌, All, Contains, IfErr, IfOk, IfSome, None, map, true};
 ghost use Rattle.sl_explain_calls.specs.Codes.{book_code, election_code, subject};
 ghost use Rattle.sl_inputs.specs.Judging.{election_verdict, tree_verdict};
 ghost use Rattle.sl_inputs.specs.declared.status.Input.TheVariants as input;
 ghost use Rattle.sl_inputs.specs.declared.status.Status.TheVariants as status;
 ghost use Rattle.sl_inputs.specs.declared.verdict.Verdict.TheVariants.{Refused};
 ghost use Rattle.sl_terminal.specs.Ends.{Ends, IsEarly, IsSilent};
-ghost use Rattle.sl_terminal.specs.Sums.{AreJudged, IsOfSums, IsSummary, IsVerdictOn, given_word};
-ghost use Rattle.sl_terminal.specs.Tellings.{Says};
-ghost use Rattle.sl_terminal.specs.inner.Verdicts.{IsDoneOrRefused, IsEndBy, IsEndOfAll, IsEndOn, IsGood, IsOfBoth, IsOfElection, IsOfOneOf};
+ghost use Rattle.sl_terminal.specs.Sums.{AreJudged, IsOfComparison, IsOfSums, IsSummary, IsVerdictOn, given_word};
+ghost use Rattle.sl_terminal.specs.Frames.{TellsNothing};
+ghost use Rattle.sl_terminal.specs.Said.{OnlyWarns, Says, fault};
+ghost use Rattle.sl_terminal.specs.inner.Verdicts.{IsDoneOrRefused, IsEndBy, IsEndOfAll, IsEndOn, IsGood, IsOfBoth, IsOfCompared, IsOfElection, IsOfOneOf, IsOfTable};
 
 use crate::failure::Failure;
-use crate::reports::Style;
+use crate::reports::Writing;
 use crate::telling::ReadFile;
 use crate::terminal::Terminal;
 use sl_explain_calls::{explain_book, explain_election};
@@ -24,7 +25,7 @@ use sl_inputs::{
 use sl_outside::{Outside, open, open_book};
 use sl_ratio::NoMemory;
 use sl_report::{
-    Answer, Compared, FullNames, Shape, compare_judged, compare_statutes, totals_answer,
+    Answer, Compared, FullNames, Style, compare_judged, compare_statutes, totals_answer,
 };
 use sl_stages::{CheckedBook, Returns};
 use std::alloc::Global;
@@ -84,14 +85,14 @@ fn comparison(
     books: Vec<NamedBook<'_>>,
     returns: &Returns,
     full: &FullNames,
-    shape: Shape,
+    style: Style,
 ) -> Result<Answer, NoMemory>
     ensures { IfOk result (λ a. IsDoneOrRefused a.status) }
 {
     if books.is_empty() {
-        return compare_statutes(alloc, returns, full, shape);
+        return compare_statutes(alloc, returns, full, style);
     }
-    compare_judged(alloc, good_books(alloc, books)?, returns, full, shape)
+    compare_judged(alloc, good_books(alloc, books)?, returns, full, style)
 }
 
 impl<O: Outside, W: Sink, E: Sink> Terminal<O, W, E> {
@@ -135,7 +136,7 @@ impl<O: Outside, W: Sink, E: Sink> Terminal<O, W, E> {
     ) -> Result<Status, Failure<'a, O::Reason>>
         ensures ends { Ends (λ ends _. ends ≡ status.Refused) (W.contents self.old.out) (W.contents self.new.out) result }
         ensures silent { IfOk result (λ ends. IsSilent self.old.is_quiet ends → self.new.err ≡ self.old.err) }
-        ensures told { IfOk result (λ _. Says E.contents self.old self.new (Some (subject input.Book (book_code refused.now)))) }
+        ensures told { IfOk result (λ _. Says E.contents self.old self.new (fault (subject input.Book (book_code refused.now)))) }
     {
         let (alloc, text) = (self.alloc, book.read.text.as_slice());
         let line = refused.why().line(alloc)?;
@@ -159,7 +160,7 @@ impl<O: Outside, W: Sink, E: Sink> Terminal<O, W, E> {
     ) -> Result<Status, Failure<'a, O::Reason>>
         ensures ends { Ends (λ ends _. ends ≡ status.Refused) (W.contents self.old.out) (W.contents self.new.out) result }
         ensures silent { IfOk result (λ ends. IsSilent self.old.is_quiet ends → self.new.err ≡ self.old.err) }
-        ensures told { IfOk result (λ _. Says E.contents self.old self.new (Some (subject input.Returns (election_code refused.now)))) }
+        ensures told { IfOk result (λ _. Says E.contents self.old self.new (fault (subject input.Returns (election_code refused.now)))) }
     {
         let (alloc, text) = (self.alloc, returns.read.text.as_slice());
         let line = refused.why().line(alloc)?;
@@ -181,7 +182,7 @@ impl<O: Outside, W: Sink, E: Sink> Terminal<O, W, E> {
         book: Option<&CheckedBook>,
         election: &Returns,
         names: Result<FullNames, Answer>,
-        shape: Shape,
+        style: Style,
     ) -> Result<Status, Failure<'a, O::Reason>>
         ensures ends { Ends (λ ends _. IsDoneOrRefused ends) (W.contents self.old.out) (W.contents self.new.out) result }
         ensures untold { IfOk result (λ _. self.new.err ≡ self.old.err) }
@@ -189,7 +190,7 @@ impl<O: Outside, W: Sink, E: Sink> Terminal<O, W, E> {
         match names {
             Ok(full) => {
                 let book = book.map(|checked| &checked.book);
-                let answer = totals_answer(self.alloc, book, election, &full, shape)?;
+                let answer = totals_answer(self.alloc, book, election, &full, style)?;
                 self.write_text(answer.status, answer.text.as_slice())
             }
             Err(refusal) => self.write_text(Status::Refused, refusal.text.as_slice()),
@@ -202,14 +203,14 @@ impl<O: Outside, W: Sink, E: Sink> Terminal<O, W, E> {
         book: Option<&CheckedBook>,
         returns: &NamedReturns<'_>,
         names: Result<FullNames, Answer>,
-        shape: Shape,
+        style: Style,
     ) -> Result<Status, Failure<'a, O::Reason>>
         ensures ends { Ends (λ ends _. IsEndOn returns.now.read.verdict ends) (W.contents self.old.out) (W.contents self.new.out) result }
         ensures silent { IfOk result (λ ends. IsSilent self.old.is_quiet ends → self.new.err ≡ self.old.err) }
         ensures told { IfOk result (λ _. IsOfElection returns.now.read.verdict (Says E.contents self.old self.new)) }
     {
         match &returns.read.verdict {
-            Verdict::Good(election) => self.write_sums(book, election, names, shape),
+            Verdict::Good(election) => self.write_sums(book, election, names, style),
             Verdict::Refused(refused) => self.refuse_returns(returns, refused),
         }
     }
@@ -220,14 +221,14 @@ impl<O: Outside, W: Sink, E: Sink> Terminal<O, W, E> {
         book: &NamedBook<'_>,
         returns: &NamedReturns<'_>,
         names: Result<FullNames, Answer>,
-        shape: Shape,
+        style: Style,
     ) -> Result<Status, Failure<'a, O::Reason>>
         ensures ends { Ends (λ ends _. IsEndBy book.now.read.verdict returns.now.read.verdict ends) (W.contents self.old.out) (W.contents self.new.out) result }
         ensures silent { IfOk result (λ ends. IsSilent self.old.is_quiet ends → self.new.err ≡ self.old.err) }
         ensures told { IfOk result (λ _. IsOfBoth book.now.read.verdict returns.now.read.verdict (Says E.contents self.old self.new)) }
     {
         match &book.read.verdict {
-            Verdict::Good(good) => self.sum_up(Some(good), returns, names, shape),
+            Verdict::Good(good) => self.sum_up(Some(good), returns, names, style),
             Verdict::Refused(refused) => self.refuse_book(book, refused),
         }
     }
@@ -238,7 +239,7 @@ impl<O: Outside, W: Sink, E: Sink> Terminal<O, W, E> {
         &mut self,
         returns: &'a str,
         book: Option<&'a str>,
-        style: Style<'a>,
+        writing: Writing<'a>,
     ) -> Result<Status, Failure<'a, O::Reason>>
         ensures ends { Ends (λ ends _. IsSummary (O.bytes self.old.outside) returns.now (given_word (option_map (λ word. word.now) book.entry)) ends)
             (W.contents self.old.out) (W.contents self.new.out) result }
@@ -250,12 +251,12 @@ impl<O: Outside, W: Sink, E: Sink> Terminal<O, W, E> {
         match book {
             Some(word) => {
                 let book = self.book_at(word)?;
-                let names = self.full_names(style.names)?;
-                self.sum_up_by(&book, &returns, names, style.shape)
+                let names = self.full_names(writing.names)?;
+                self.sum_up_by(&book, &returns, names, writing.style)
             }
             None => {
-                let names = self.full_names(style.names)?;
-                self.sum_up(None, &returns, names, style.shape)
+                let names = self.full_names(writing.names)?;
+                self.sum_up(None, &returns, names, writing.style)
             }
         }
     }
@@ -267,18 +268,37 @@ impl<O: Outside, W: Sink, E: Sink> Terminal<O, W, E> {
         books: Vec<NamedBook<'_>>,
         election: &Returns,
         names: Result<FullNames, Answer>,
-        shape: Shape,
+        style: Style,
     ) -> Result<Status, Failure<'a, O::Reason>>
         ensures ends { Ends (λ ends _. IsDoneOrRefused ends) (W.contents self.old.out) (W.contents self.new.out) result }
-        ensures untold { IfOk result (λ _. self.new.err ≡ self.old.err) }
+        ensures untold { IfOk result (λ _. TellsNothing self.old self.new) }
     {
         match names {
             Ok(full) => {
-                let answer = comparison(self.alloc, books, election, &full, shape)?;
+                let answer = comparison(self.alloc, books, election, &full, style)?;
                 self.write_text(answer.status, answer.text.as_slice())
             }
             Err(refusal) => self.write_text(Status::Refused, refusal.text.as_slice()),
         }
+    }
+
+    // Writes rulebooks side by side, and warns of the returns; or the refusal of the names.
+    fn finish_comparison<'a>(
+        &mut self,
+        books: Vec<NamedBook<'_>>,
+        election: &Returns,
+        names: Result<FullNames, Answer>,
+        style: Style,
+    ) -> Result<Status, Failure<'a, O::Reason>>
+        ensures ends { Ends (λ ends _. IsDoneOrRefused ends) (W.contents self.old.out) (W.contents self.new.out) result }
+        ensures quiet { IfOk result (λ _. self.old.is_quiet ≡ true → self.new.err ≡ self.old.err) }
+        ensures told { IfOk result (λ _. IsOfTable election.now (Says E.contents self.old self.new)) }
+    {
+        let status = self.write_comparison(books, election, names, style)?;
+        if status == Status::Done {
+            self.warn(None, election);
+        }
+        Ok(status)
     }
 
     // Refuses the first of some rulebooks, if it is refused, and else the returns.
@@ -306,16 +326,17 @@ impl<O: Outside, W: Sink, E: Sink> Terminal<O, W, E> {
         books: Vec<NamedBook<'_>>,
         returns: &NamedReturns<'_>,
         names: Result<FullNames, Answer>,
-        shape: Shape,
+        style: Style,
     ) -> Result<Status, Failure<'a, O::Reason>>
         ensures ends { Ends (λ ends _. IsEndOfAll books.entry.items returns.now.read.verdict ends) (W.contents self.old.out) (W.contents self.new.out) result }
-        ensures silent { IfOk result (λ ends. IsSilent self.old.is_quiet ends → self.new.err ≡ self.old.err) }
-        ensures told { IfOk result (λ _. IsOfOneOf books.entry.items returns.now.read.verdict (Says E.contents self.old self.new)) }
+        ensures quiet { IfOk result (λ _. self.old.is_quiet ≡ true → self.new.err ≡ self.old.err) }
+        ensures done { IfOk result (λ ends. ends ≡ status.Done → OnlyWarns E.contents self.old self.new) }
+        ensures told { IfOk result (λ _. IsOfCompared books.entry.items returns.now.read.verdict (Says E.contents self.old self.new)) }
     {
         match &returns.read.verdict {
             Verdict::Good(election) => match first_refused(books.as_slice()) {
                 Some((book, refused)) => self.refuse_book(book, refused),
-                None => self.write_comparison(books, election, names, shape),
+                None => self.finish_comparison(books, election, names, style),
             },
             Verdict::Refused(refused) => {
                 self.refuse_comparison(books.as_slice(), returns, refused)
@@ -329,16 +350,17 @@ impl<O: Outside, W: Sink, E: Sink> Terminal<O, W, E> {
         &mut self,
         returns: &'a str,
         books: &[&'a str],
-        style: Style<'a>,
+        writing: Writing<'a>,
     ) -> Result<Status, Failure<'a, O::Reason>>
         ensures ends { Ends (λ ends _. IsSummary (O.bytes self.old.outside) returns.now (map (λ word. word.now) books.now) ends)
             (W.contents self.old.out) (W.contents self.new.out) result }
-        ensures silent { IfOk result (λ ends. IsSilent self.old.is_quiet ends → self.new.err ≡ self.old.err) }
-        ensures told { IfOk result (λ _. IsOfSums (O.bytes self.old.outside) returns.now (map (λ word. word.now) books.now) (Says E.contents self.old self.new)) }
+        ensures quiet { IfOk result (λ _. self.old.is_quiet ≡ true → self.new.err ≡ self.old.err) }
+        ensures done { IfOk result (λ ends. ends ≡ status.Done → OnlyWarns E.contents self.old self.new) }
+        ensures told { IfOk result (λ _. IsOfComparison (O.bytes self.old.outside) returns.now (map (λ word. word.now) books.now) (Says E.contents self.old self.new)) }
     {
         let returns = self.returns_at(returns)?;
         let books = self.books_at(books)?;
-        let names = self.full_names(style.names)?;
-        self.compare(books, &returns, names, style.shape)
+        let names = self.full_names(writing.names)?;
+        self.compare(books, &returns, names, writing.style)
     }
 }

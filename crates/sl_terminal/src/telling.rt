@@ -1,16 +1,20 @@
 //! What a command says on standard error: explanations, and the line of a failure.
 
 ghost use Rattle.std.specs.Option.{option_map};
-ghost use Rattle.std.specs.Prelude.{◌≡◌, IfOk, Option, Some, true};
+ghost use Rattle.std.specs.Prelude.{◌≡◌, IfOk, MatchOption, Option, Some, true};
 ghost use Rattle.sl_explain_calls.specs.Codes.{Subject, check_subject, judged_subject, subject_of};
 ghost use Rattle.sl_terminal.specs.Ends.{IsSilent, failure_number};
 ghost use Rattle.sl_terminal.specs.Frames.{OnlyTells};
-ghost use Rattle.sl_terminal.specs.Tellings.{Explains, Says};
+ghost use Rattle.sl_inputs.specs.declared.status.Status.TheVariants.{Done};
+ghost use Rattle.sl_stages.specs.book.Books.{book_of};
+ghost use Rattle.sl_terminal.specs.Said.{Explains, OnlyWarns, Says, fault, judged_said, said_of, warned};
+ghost use Rattle.sl_warnings.specs.Heads.{AreWritten};
+ghost use Rattle.sl_warnings.specs.Warnings.{warnings_of};
 
 use crate::failure::Failure;
 use crate::terminal::Terminal;
-use sl_count_outcomes::Read;
-use sl_explain::{Explanation, written};
+use sl_count_outcomes::{Counting, End, Judged, Read};
+use sl_explain::{Explanation, Language, written};
 use sl_explain_calls::{
     Explained, Lost, explain_check, explain_failure, explain_kept, explain_opening, explain_read,
     explain_writing,
@@ -18,6 +22,9 @@ use sl_explain_calls::{
 use sl_inputs::{DeskError, Input, ReadBook, Sink, Status, write_all};
 use sl_outside::{Outside, Unopened};
 use sl_ratio::NoMemory;
+use sl_stages::{Book, Returns};
+use sl_warnings::warnings_of;
+use std::alloc::Global;
 use std::fmt::Display;
 
 /// A file of a command: the input that it is, its path as the command's line has it, and what was read of it.
@@ -26,6 +33,35 @@ pub(crate) struct ReadFile<'a> {
     pub(crate) input: Input,
     pub(crate) path: &'a str,
     pub(crate) bytes: &'a [u8],
+}
+
+// The count to which inputs came, if it has a table.
+fn counted<'a>(judged: &'a Judged<'_>) -> Option<&'a Counting>
+    ensures { MatchOption result (judged_said judged.now ≡ said_of (judged_subject judged.now))
+        (λ c. judged_said judged.now ≡ warned (warnings_of (Some (book_of c.now.book.book)) c.now.returns)) }
+{
+    match judged {
+        Judged::Counted(counting) => match &counting.outcome.end {
+            End::Counted(_) => Some(counting),
+            End::Fault(_) => None,
+        },
+        Judged::BookRefused(_) => None,
+        Judged::StageUnknown(_, _) => None,
+        Judged::ReturnsRefused(_) => None,
+    }
+}
+
+// What is likely a mistake, as lines.
+fn warnings_text(
+    alloc: Global,
+    language: Language,
+    book: Option<&Book>,
+    returns: &Returns,
+) -> Result<Vec<u8>, NoMemory>
+    ensures { IfOk result (λ text. AreWritten language (warnings_of (option_map (λ b. book_of b.now) book.entry) returns.now) text.items) }
+{
+    let warnings = warnings_of(alloc, book, returns)?;
+    sl_warnings::written(alloc, language, returns, warnings.as_slice())
 }
 
 impl<O: Outside, W: Sink, E: Sink> Terminal<O, W, E> {
@@ -51,7 +87,7 @@ impl<O: Outside, W: Sink, E: Sink> Terminal<O, W, E> {
     fn tell_explained(&mut self, files: &[ReadFile<'_>], told: &Explained)
         ensures only { OnlyTells self.old self.new }
         ensures quiet { self.old.is_quiet ≡ true → self.new.err ≡ self.old.err }
-        ensures told { Says E.contents self.old self.new (Some (subject_of told.now)) }
+        ensures told { Says E.contents self.old self.new (fault (subject_of told.now)) }
     {
         let input = told.input;
         let file = files.iter().copied().find(|file| file.input == input);
@@ -67,7 +103,7 @@ impl<O: Outside, W: Sink, E: Sink> Terminal<O, W, E> {
     )
         ensures only { OnlyTells self.old self.new }
         ensures silent { IsSilent self.old.is_quiet status → self.new.err ≡ self.old.err }
-        ensures told { (s : Subject) → IfOk explained (λ told. subject_of told ≡ s) → Says E.contents self.old self.new (Some s) }
+        ensures told { (s : Subject) → IfOk explained (λ told. subject_of told ≡ s) → Says E.contents self.old self.new (fault s) }
     {
         if status == Status::Done {
             return;
@@ -86,7 +122,7 @@ impl<O: Outside, W: Sink, E: Sink> Terminal<O, W, E> {
     )
         ensures only { OnlyTells self.old self.new }
         ensures silent { IsSilent self.old.is_quiet status → self.new.err ≡ self.old.err }
-        ensures told { (s : Option Subject) → IfOk explained (λ told. option_map subject_of told ≡ s) → Says E.contents self.old self.new s }
+        ensures told { (s : Option Subject) → IfOk explained (λ told. option_map subject_of told ≡ s) → Says E.contents self.old self.new (said_of s) }
     {
         if status == Status::Done {
             return;
@@ -100,7 +136,7 @@ impl<O: Outside, W: Sink, E: Sink> Terminal<O, W, E> {
     pub(crate) fn tell_book(&mut self, status: Status, path: &str, read: &ReadBook<'_>)
         ensures only { OnlyTells self.old self.new }
         ensures silent { IsSilent self.old.is_quiet status → self.new.err ≡ self.old.err }
-        ensures told { Says E.contents self.old self.new (check_subject read.now.verdict) }
+        ensures told { Says E.contents self.old self.new (said_of (check_subject read.now.verdict)) }
     {
         let file = ReadFile {
             input: Input::Book,
@@ -111,11 +147,25 @@ impl<O: Outside, W: Sink, E: Sink> Terminal<O, W, E> {
         self.tell(status, &[file], explained);
     }
 
-    /// Tells why a rulebook and returns that were read come to no table, if they don't.
-    pub(crate) fn tell_read(&mut self, status: Status, book: &str, returns: &str, read: &Read<'_>)
+    /// Warns of what is likely a mistake in returns, and with a rulebook in the two together. Where there was no memory for it, nothing is said.
+    pub(crate) fn warn(&mut self, book: Option<&Book>, returns: &Returns)
+        ensures only { OnlyTells self.old self.new }
+        ensures quiet { self.old.is_quiet ≡ true → self.new.err ≡ self.old.err }
+        ensures told { Says E.contents self.old self.new (warned (warnings_of (option_map (λ b. book_of b.now) book.entry) returns.now)) }
+    {
+        if self.is_quiet {
+            return;
+        }
+        if let Ok(text) = warnings_text(self.alloc, self.language, book, returns) {
+            let _ = write_all(&mut self.err, text.as_slice());
+        }
+    }
+
+    // Tells why a rulebook and returns that were read come to no table.
+    fn tell_fault(&mut self, status: Status, book: &str, returns: &str, read: &Read<'_>)
         ensures only { OnlyTells self.old self.new }
         ensures silent { IsSilent self.old.is_quiet status → self.new.err ≡ self.old.err }
-        ensures told { Says E.contents self.old self.new (judged_subject read.now.judged) }
+        ensures told { Says E.contents self.old self.new (said_of (judged_subject read.now.judged)) }
     {
         let files = [
             ReadFile {
@@ -131,6 +181,19 @@ impl<O: Outside, W: Sink, E: Sink> Terminal<O, W, E> {
         ];
         let explained = explain_read(self.alloc, self.language, read);
         self.tell(status, &files, explained);
+    }
+
+    /// Warns of a rulebook and returns that came to a table, or tells why they came to none.
+    pub(crate) fn tell_read(&mut self, status: Status, book: &str, returns: &str, read: &Read<'_>)
+        ensures only { OnlyTells self.old self.new }
+        ensures quiet { self.old.is_quiet ≡ true → self.new.err ≡ self.old.err }
+        ensures done { status ≡ Done → OnlyWarns E.contents self.old self.new }
+        ensures told { Says E.contents self.old self.new (judged_said read.now.judged) }
+    {
+        match counted(&read.judged) {
+            Some(counting) => self.warn(Some(&counting.book.book), &counting.returns),
+            None => self.tell_fault(status, book, returns, read),
+        }
     }
 
     // Tells what was explained, if there was memory for it, of no file.

@@ -1,6 +1,6 @@
 -- The end of a command over several inputs that were judged, and of which refusal is told.
-use Rattle.std.specs.Prelude.{All, Contains, List, None, Option, Some, ◌≡◌, ◌⊎◌}
-use Rattle.sl_explain_calls.specs.Codes.{Subject, book_code, election_code, subject}
+use Rattle.std.specs.Prelude.{All, Contains, List, None, ◌≡◌, ◌⊎◌}
+use Rattle.sl_explain_calls.specs.Codes.{book_code, election_code, subject}
 use Rattle.sl_inputs.specs.declared.refused_book.RefusedBook.{RefusedBook}
 use Rattle.sl_inputs.specs.declared.refused_election.RefusedElection.{RefusedElection}
 use Rattle.sl_inputs.specs.declared.status.Input.TheVariants as input
@@ -10,7 +10,9 @@ use Rattle.sl_inputs.specs.declared.verdict.Verdict.TheVariants.{Good, Refused}
 use Rattle.sl_inputs.specs.declared.verdict.Verdict.{Verdict}
 use Rattle.sl_stages.specs.declared.checked.CheckedBook.{CheckedBook}
 use Rattle.sl_stages.specs.returns.Election.{Election}
+use Rattle.sl_terminal.specs.Said.{Said, fault, nothing, warned}
 use Rattle.sl_terminal.specs.declared.sums.NamedBook.{NamedBook}
+use Rattle.sl_warnings.specs.Warnings.{warnings_of}
 
 abbrev pub IsDoneOrRefused : Status → Type 0
 IsDoneOrRefused ends = (ends ≡ status.Done) ⊎ (ends ≡ status.Refused)
@@ -30,17 +32,25 @@ abbrev pub IsEndOfAll : List NamedBook → Verdict Election RefusedElection → 
 IsEndOfAll books returns ends = ((ends ≡ status.Done) × IsGood returns × All (λ b. IsGood b.read.verdict) books) ⊎ (ends ≡ status.Refused)
 
 -- nothing is told, or of the returns that are refused
-abbrev pub IsOfElection : Verdict Election RefusedElection → (Option Subject → Type 0) → Type 0
+abbrev pub IsOfElection : Verdict Election RefusedElection → (Said → Type 0) → Type 0
 IsOfElection returns Says =
-    Says None ⊎ ((refused : RefusedElection) × (returns ≡ Refused refused) × Says (Some (subject input.Returns (election_code refused))))
+    Says nothing ⊎ ((refused : RefusedElection) × (returns ≡ Refused refused) × Says (fault (subject input.Returns (election_code refused))))
 
 -- or of the rulebook
-abbrev pub IsOfBoth : Verdict CheckedBook RefusedBook → Verdict Election RefusedElection → (Option Subject → Type 0) → Type 0
+abbrev pub IsOfBoth : Verdict CheckedBook RefusedBook → Verdict Election RefusedElection → (Said → Type 0) → Type 0
 IsOfBoth book returns Says =
-    IsOfElection returns Says ⊎ ((refused : RefusedBook) × (book ≡ Refused refused) × Says (Some (subject input.Book (book_code refused))))
+    IsOfElection returns Says ⊎ ((refused : RefusedBook) × (book ≡ Refused refused) × Says (fault (subject input.Book (book_code refused))))
 
 -- or of one of several
-abbrev pub IsOfOneOf : List NamedBook → Verdict Election RefusedElection → (Option Subject → Type 0) → Type 0
+abbrev pub IsOfOneOf : List NamedBook → Verdict Election RefusedElection → (Said → Type 0) → Type 0
 IsOfOneOf books returns Says =
     IsOfElection returns Says
-    ⊎ ((b : NamedBook) × (refused : RefusedBook) × Contains books b × (b.read.verdict ≡ Refused refused) × Says (Some (subject input.Book (book_code refused))))
+    ⊎ ((b : NamedBook) × (refused : RefusedBook) × Contains books b × (b.read.verdict ≡ Refused refused) × Says (fault (subject input.Book (book_code refused))))
+
+-- nothing is told of a table, or warnings of the returns
+abbrev pub IsOfTable : Election → (Said → Type 0) → Type 0
+IsOfTable e Says = Says nothing ⊎ Says (warned (warnings_of None e))
+
+-- or warnings of good returns
+abbrev pub IsOfCompared : List NamedBook → Verdict Election RefusedElection → (Said → Type 0) → Type 0
+IsOfCompared books returns Says = IsOfOneOf books returns Says ⊎ ((e : Election) × (returns ≡ Good e) × Says (warned (warnings_of None e)))

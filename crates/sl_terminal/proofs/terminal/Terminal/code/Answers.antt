@@ -8,7 +8,8 @@ use Rattle.sl_terminal.proofs.Tellings.{ok_wider}
 use Rattle.sl_terminal.proofs.terminal.Terminal.code.Goals as goal
 use Rattle.sl_terminal.specs.Files.{HasCode}
 use Rattle.sl_terminal.specs.Requests.{IsListing}
-use Rattle.sl_terminal.specs.Tellings.{IsOfBook, Says}
+use Rattle.sl_terminal.specs.Said.{Says, said_of}
+use Rattle.sl_terminal.specs.Tellings.{IsOfBook}
 
 pub returns-clause-ends : goal.returns-clause-ends
 returns-clause-ends g c =
@@ -21,7 +22,7 @@ returns-clause-ends g c =
 pub returns-clause-told : goal.returns-clause-told
 returns-clause-told g c =
     let says = Says g.E.Sink.contents c.args.self.now c.finish_code.new.self in
-    ok_wider (λ (ends : Status). says (check_subject c.in_ok-read.read.verdict))
+    ok_wider (λ (ends : Status). says (said_of (check_subject c.in_ok-read.read.verdict)))
     (λ (ends : Status). IsOfBook (g.O.Outside.bytes c.args.self.now.outside) c.args.book.now says) c.finish_code.result
     (λ ends told. (c.in_ok-read.read.verdict, c.in_ok-read.ensures.verdict, told)) c.finish_code.ensures.told
 

@@ -1,12 +1,12 @@
 use Rattle.std.proofs.Common.{Bor, List, map, subst, ℕ}
 use Rattle.sl_inputs.specs.declared.status.Status.{Status}
 use Rattle.sl_terminal.proofs.Deliveries.{ends_wider}
-use Rattle.sl_terminal.proofs.Summaries.{of_one, summed_all}
+use Rattle.sl_terminal.proofs.Summaries.{of_compared, summed_all}
 use Rattle.sl_terminal.proofs.Tellings.{ok_wider}
 use Rattle.sl_terminal.proofs.terminal.Terminal.report_comparison.Goals as goal
-use Rattle.sl_terminal.specs.Sums.{IsOfSums, IsSummary}
-use Rattle.sl_terminal.specs.Tellings.{Says}
-use Rattle.sl_terminal.specs.inner.Verdicts.{IsEndOfAll, IsOfOneOf}
+use Rattle.sl_terminal.specs.Sums.{IsOfComparison, IsSummary}
+use Rattle.sl_terminal.specs.Said.{Says}
+use Rattle.sl_terminal.specs.inner.Verdicts.{IsEndOfAll, IsOfCompared}
 
 pub returns-clause-ends : goal.returns-clause-ends
 returns-clause-ends g c =
@@ -30,11 +30,11 @@ returns-clause-told g c =
     let returns = c.in_ok-returns.returns.read.verdict in
     let books = c.in_ok-books.books.items in
     let says = Says g.E.Sink.contents c.args.self.now c.compare.new.self in
-    ok_wider (λ (ends : Status). IsOfOneOf books returns says)
-    (λ (ends : Status). IsOfSums bytes path (map (λ (word : Bor (List ℕ)). word.now) c.args.books.now) says) c.compare.result
+    ok_wider (λ (ends : Status). IsOfCompared books returns says)
+    (λ (ends : Status). IsOfComparison bytes path (map (λ (word : Bor (List ℕ)). word.now) c.args.books.now) says) c.compare.result
     (
     λ ends of.
-    subst (λ words. IsOfSums bytes path words says) c.in_ok-books.ensures.words
-    (of_one bytes path returns c.in_ok-returns.ensures.returns says books c.in_ok-books.ensures.books of)
+    subst (λ words. IsOfComparison bytes path words says) c.in_ok-books.ensures.words
+    (of_compared bytes path returns c.in_ok-returns.ensures.returns says books c.in_ok-books.ensures.books of)
     )
     c.compare.ensures.told

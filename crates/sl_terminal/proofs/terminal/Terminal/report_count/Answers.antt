@@ -1,5 +1,4 @@
 use Rattle.std.proofs.Common.{is_some}
-use Rattle.sl_explain_calls.specs.Codes.{judged_subject}
 use Rattle.sl_inputs.specs.declared.status.Status.{Status}
 use Rattle.sl_outside.specs.Inputs.{named_input}
 use Rattle.sl_terminal.proofs.Deliveries.{ends_wider}
@@ -7,13 +6,14 @@ use Rattle.sl_terminal.proofs.Shown.{shown_by, told_by}
 use Rattle.sl_terminal.proofs.Tellings.{ok_wider}
 use Rattle.sl_terminal.proofs.terminal.Terminal.report_count.Goals as goal
 use Rattle.sl_terminal.specs.Requests.{IsReportOf}
-use Rattle.sl_terminal.specs.Tellings.{IsOfReport, Says}
+use Rattle.sl_terminal.specs.Said.{Says, judged_said}
+use Rattle.sl_terminal.specs.Tellings.{IsOfReport}
 use Rattle.sl_terminal.specs.inner.Reports.{IsShownBy, SaysBy}
 
 pub returns-clause-ends : goal.returns-clause-ends
 returns-clause-ends g c =
     let bytes = g.O.Outside.bytes c.args.self.now.outside in
-    let named = is_some c.args.style.names in
+    let named = is_some c.args.writing.names in
     let reported = c.in_ok-read.ensures in
     ends_wider (λ ends text. IsShownBy c.in_ok-read.answer ends) (λ ends text. IsReportOf bytes c.args.book.now c.args.returns.now named ends)
     (g.W.Sink.contents c.args.self.now.out) (g.W.Sink.contents c.finish_report.new.self.out) c.finish_report.result
@@ -27,10 +27,10 @@ returns-clause-ends g c =
 pub returns-clause-told : goal.returns-clause-told
 returns-clause-told g c =
     let bytes = g.O.Outside.bytes c.args.self.now.outside in
-    let named = is_some c.args.style.names in
+    let named = is_some c.args.writing.names in
     let reported = c.in_ok-read.ensures in
     let says = Says g.E.Sink.contents c.args.self.now c.finish_report.new.self in
-    ok_wider (λ (ends : Status). SaysBy c.in_ok-read.answer (judged_subject c.in_ok-read.read.judged) says)
+    ok_wider (λ (ends : Status). SaysBy c.in_ok-read.answer (judged_said c.in_ok-read.read.judged) says)
     (λ (ends : Status). IsOfReport bytes c.args.book.now c.args.returns.now named says) c.finish_report.result
     (
     λ ends told.

@@ -7,7 +7,7 @@ use Rattle.sl_terminal.proofs.Tellings.{ok_wider}
 use Rattle.sl_terminal.proofs.terminal.Terminal.report_totals.Goals as goal
 use Rattle.sl_terminal.specs.Ends.{Ends}
 use Rattle.sl_terminal.specs.Sums.{IsOfSums, IsSummary, given_word}
-use Rattle.sl_terminal.specs.Tellings.{Says}
+use Rattle.sl_terminal.specs.Said.{Says}
 use Rattle.sl_terminal.specs.inner.Verdicts.{IsEndBy, IsOfBoth, IsOfElection}
 
 pub returns-in-Some-clause-ends : goal.returns-in-Some-clause-ends

@@ -1,11 +1,12 @@
 use Rattle.std.proofs.Common.{subst, sym, unwrap_or}
 use Rattle.sl_inputs.specs.Statuses.{status_number}
-use Rattle.sl_terminal.proofs.Exits.{exits_failure, no_failure}
+use Rattle.sl_terminal.proofs.Exits.{exits_failure, is_done, no_failure, not_zero}
 use Rattle.sl_terminal.proofs.terminal.Terminal.run_asked.Goals as goal
 use Rattle.sl_terminal.specs.Ends.{Exits}
 use Rattle.sl_terminal.specs.Files.{LeavesCode}
 use Rattle.sl_terminal.specs.Requests.{IsOutputOf}
-use Rattle.sl_terminal.specs.Tellings.{IsOfFault, Tells}
+use Rattle.sl_terminal.specs.Said.{Tells, Warns}
+use Rattle.sl_terminal.specs.Tellings.{IsOfFault}
 
 pub returns-in-Err-clause-exits : goal.returns-in-Err-clause-exits
 returns-in-Err-clause-exits g c =
@@ -44,3 +45,14 @@ returns-in-Ok-clause-file g c tells other =
     let file = c.in-Ok.ensures.file (subst g.O.Outside.tells_made (sym c.set_options.ensures.only.outside) tells) in
     let first = subst (λ o. LeavesCode (bytes o) request after (status_number c.in-Ok.status)) c.set_options.ensures.only.outside file in
     subst (λ n. LeavesCode (bytes c.args.self.now.outside) request after n) (sym c.number.ensures) first
+
+pub returns-in-Err-clause-done : goal.returns-in-Err-clause-done
+returns-in-Err-clause-done g c zero = absurd (not_zero c.in-Err.failure c.tell_failure.result c.tell_failure.ensures.number zero)
+
+pub returns-in-Ok-clause-done : goal.returns-in-Ok-clause-done
+returns-in-Ok-clause-done g c zero =
+    let contents = g.E.Sink.contents in
+    let warns = c.in-Ok.ensures.done (is_done c.in-Ok.status c.number.result c.number.ensures zero) in
+    let told = contents c.ending.new.self.err in
+    let first = subst (λ l. Warns l warns.0 (contents c.set_options.new.self.err) told) c.set_options.ensures.language warns.1 in
+    (warns.0, subst (λ e. Warns (unwrap_or c.args.asked.options.language c.args.self.now.language) warns.0 (contents e) told) c.set_options.ensures.err first)

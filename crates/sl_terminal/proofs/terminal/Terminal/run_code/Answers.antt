@@ -5,7 +5,8 @@ use Rattle.sl_explain_calls.specs.Codes.{run_subject}
 use Rattle.sl_terminal.proofs.Deliveries.{ends_answer}
 use Rattle.sl_terminal.proofs.Tellings.{ok_wider}
 use Rattle.sl_terminal.proofs.terminal.Terminal.run_code.Goals as goal
-use Rattle.sl_terminal.specs.Tellings.{IsOfRun, Says}
+use Rattle.sl_terminal.specs.Said.{Says, said_of}
+use Rattle.sl_terminal.specs.Tellings.{IsOfRun}
 
 pub returns-clause-ends : goal.returns-clause-ends
 returns-clause-ends g c =
@@ -17,6 +18,6 @@ returns-clause-ends g c =
 pub returns-clause-told : goal.returns-clause-told
 returns-clause-told g c =
     let says = Says g.E.Sink.contents c.args.self.now c.finish_run.new.self in
-    ok_wider (λ (ends : Status). says (run_subject c.in_ok-read.read.judged))
+    ok_wider (λ (ends : Status). says (said_of (run_subject c.in_ok-read.read.judged)))
     (λ (ends : Status). IsOfRun (g.O.Outside.bytes c.args.self.now.outside) c.args.code.now c.args.returns.now says) c.finish_run.result
     (λ ends told. (c.in_ok-read.read.judged, c.in_ok-read.ensures.judged, told)) c.finish_run.ensures.told
