@@ -77,6 +77,7 @@ def words_of(line):
 def take(row, marker, rest):
     """Takes a line of a row."""
     if marker == "file":
+        row.files.pop(rest, None)  # one of the page's files, which the row has in its own way: its lines go to the last
         row.files[rest] = bytearray()
     elif marker[:1] == "|":
         add(list(row.files.values())[-1], marker[1:], rest)
