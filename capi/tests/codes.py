@@ -111,7 +111,8 @@ def hostile(count, seed, compiled):
     codes = [code for code in compiled(books) if code]
     codes += [it[:rng.randrange(len(it))] for it in codes] + [spoilt(rng, it) for it in codes] + [2 * codes[0], CODE, *[ENDLESS] * 9, *ODD]
     books += [b"", b"\0", b"(" * 65_536, b"\n" * 65_537] + [made.spoilt(it) for it in books]
-    returns += [b"", b"\0", cases.largest(), b"kind,land,party,a,b,c\n" + b"\n" * 4_194_304] + [made.spoilt(it) for it in returns]
+    # (not the largest returns: a code that does not end takes more than a minute on them, which is its budget of steps)
+    returns += [b"", b"\0", b"kind,land,party,a,b,c\n" + b"\n" * 4_194_304] + [made.spoilt(it) for it in returns]
     for _ in range(count):
         yield case_of(rng, books, codes, returns)
     for word in WORDS:
