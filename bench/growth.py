@@ -6,13 +6,16 @@
 Needs valgrind, whose tool callgrind counts the instructions of the processor: the same number at every run. Writes a table for each size,
 in millions of instructions. PROGRAM is crates/seatlaw/out/seatlaw where none is named.
 """
-import os
+import pathlib
 import re
 import subprocess
 import sys
 import tempfile
 
-from measure import PROGRAM, write
+from measure import write
+
+sys.path.append(str(pathlib.Path(__file__).resolve().parents[1] / "tools"))
+from repository import PROGRAM  # noqa: E402
 
 HEAD = "kind,land,party,a,b,c"
 BOOK = 'rulebook 1; law "growth"; house %d; eligible all;\nstage s = split(%s);\nseats s keep;\n'

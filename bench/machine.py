@@ -3,15 +3,17 @@
 
     python3 bench/machine.py [RUNS]
 
-The code is the loop `at 0 0 0`, `set 0 1`, `add 1 0`, `jmp 0` of crates/sl_bench, which `cd crates/sl_bench; rt run` proves and builds.
+The code is the loop `at 0 0 0`, `set 0 1`, `add 1 0`, `jmp 0` of crates/sl_test_bench, which `cd crates/sl_test_bench; rt run` proves and builds.
 """
 import os
+import pathlib
 import subprocess
 import sys
 
-from measure import HOME
+sys.path.append(str(pathlib.Path(__file__).resolve().parents[1] / "tools"))
+from repository import CRATES  # noqa: E402
 
-PROGRAM = os.path.join(HOME, "crates", "sl_bench", "out", "sl_bench")
+PROGRAM = CRATES / "sl_test_bench" / "out" / "sl_test_bench"
 STEPS = 200_000_000
 
 

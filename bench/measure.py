@@ -1,10 +1,13 @@
 """How long a command of seatlaw takes, and how much memory."""
 import os
+import pathlib
 import subprocess
+import sys
 import time
 
-HOME = os.path.dirname(os.path.dirname(os.path.abspath(__file__)))
-PROGRAM = os.path.join(HOME, "crates", "seatlaw", "out", "seatlaw")
+sys.path.append(str(pathlib.Path(__file__).resolve().parents[1] / "tools"))
+from repository import PROGRAM  # noqa: E402
+
 MAX_BOOK = 65536
 MAX_RETURNS = 4194304
 

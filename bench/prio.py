@@ -6,7 +6,7 @@
 `award` is a take and a put, `count` these and the number of peers, `cover` the question whether a lot names all peers, and `draw` the
 taking of the peer that a lot draws with a put. The numbers of entries, of peers, of the lot's names and of seats vary one at a time,
 while the others are held, and in the last table those of peers and names together. The lot names the greatest index first, so that the
-peers' stand last in it. `cd crates/sl_bench; rt run` proves and builds the program.
+peers' stand last in it. `cd crates/sl_test_bench; rt run` proves and builds the program.
 """
 import os
 import subprocess

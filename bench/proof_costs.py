@@ -18,7 +18,9 @@ import subprocess
 import sys
 import time
 
-CRATES = pathlib.Path(__file__).resolve().parent.parent / "crates"
+sys.path.append(str(pathlib.Path(__file__).resolve().parents[1] / "tools"))
+from repository import CRATES  # noqa: E402
+
 # The modules that the prover makes of a function.
 PARTS = (
     "Answers|Carried[-\\d]*|Code|Given|Goals|Invariants|Kinds[-\\d]*|Layout|Lts|Met|Mir|Named|Proof|Reads|Statement|Symbol|Tie|"

@@ -1,4 +1,4 @@
-// The exports of the proved library (crates/sl_page/src/lib.rt), as C sees them: a slice is an address, which is never NULL, and a length.
+// The exports of the proved library (crates/sl_page_calls/src/lib.rt), as C sees them: a slice is an address, which is never NULL, and a length.
 #ifndef SEATLAW_EXPORTS_H
 #define SEATLAW_EXPORTS_H
 

@@ -8,13 +8,14 @@ import re
 import sys
 import typing
 
-TOP = pathlib.Path(__file__).resolve().parent.parent
-EXAMPLES = TOP / "crates" / "sl_test_rows" / "data" / "examples"
-sys.path.append(str(TOP / "bench"))
+sys.path.append(str(pathlib.Path(__file__).resolve().parents[1] / "tools"))
+from repository import EXAMPLES, TOP, statutes  # noqa: E402
+
+sys.path += [str(TOP / "check"), str(TOP / "bench")]
 import elections  # noqa: E402
 import rows as test_rows  # noqa: E402
 
-LAWS = ("1956", "1985", "2008", "2013", "2023", "2023-order")
+LAWS = statutes()
 METHODS = ("webster", "jefferson", "adams", "hamilton", "hill", "dean")
 STAGE = re.compile(r"\bstage\s+(\w+)")
 ELECTIONS = EXAMPLES / "elections"

@@ -14,7 +14,9 @@ import re
 import sys
 import zlib
 
-TOP = pathlib.Path(__file__).resolve().parent.parent
+sys.path.append(str(pathlib.Path(__file__).resolve().parents[1] / "tools"))
+from repository import TOP  # noqa: E402
+
 PAGE = TOP / "web" / "page"
 ELECTIONS = TOP / "examples" / "elections"
 MOST = 1_500_000  # bytes of the file
@@ -83,7 +85,7 @@ def policy(script, style):
 
 def version():
     """The version of the program, which is made of the same sources."""
-    return re.search(r'VERSION: &str = "([^"]+)"', (TOP / "crates" / "sl_words" / "src" / "help.rt").read_text())[1]
+    return re.search(r'VERSION: &str = "([^"]+)"', (TOP / "crates" / "sl_terminal_words" / "src" / "help.rt").read_text())[1]
 
 
 def examples():

@@ -8,8 +8,7 @@ import random
 import subprocess
 import sys
 
-TOP = pathlib.Path(__file__).resolve().parent.parent.parent
-sys.path[:0] = [str(TOP / "web"), str(TOP / "bench")]
+sys.path.insert(0, str(pathlib.Path(__file__).resolve().parents[2] / "web"))
 import cases  # noqa: E402
 import compare  # noqa: E402
 import rows as test_rows  # noqa: E402

@@ -11,7 +11,9 @@ import sys
 import tempfile
 import time
 
-TOP = pathlib.Path(__file__).resolve().parent.parent.parent
+sys.path.append(str(pathlib.Path(__file__).resolve().parents[2] / "tools"))
+from repository import TOP  # noqa: E402
+
 SCRIPT = TOP / "python" / "examples" / "cluster.py"
 DRAWS, CHUNK = 60_000, 1000
 

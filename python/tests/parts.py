@@ -12,9 +12,10 @@ import sys
 import tempfile
 import unittest
 
-HERE = pathlib.Path(__file__).resolve().parent
-TOP = HERE.parent.parent
-sys.path[:0] = [str(TOP / "bench"), str(TOP / "web"), str(TOP / "capi" / "tests")]
+sys.path.append(str(pathlib.Path(__file__).resolve().parents[2] / "tools"))
+from repository import EXAMPLES, TOP  # noqa: E402
+
+sys.path[:0] = [str(TOP / "check"), str(TOP / "web"), str(TOP / "capi" / "tests")]
 MODULES = ("seatlaw", "seatlaw.calls", "seatlaw.errors", "seatlaw.inputs", "seatlaw.many", "seatlaw.reports", "seatlaw.simulation", "seatlaw.tables")
 
 
@@ -32,7 +33,7 @@ def copy_of_top():
     """A folder with what the pages' scripts read, and room for what they write."""
     before = os.getcwd()
     with tempfile.TemporaryDirectory() as name:
-        os.symlink(TOP / "crates" / "sl_test_rows" / "data" / "examples", os.path.join(name, "examples"))
+        os.symlink(EXAMPLES, os.path.join(name, "examples"))
         os.makedirs(os.path.join(name, "docs", "simulations"))
         os.chdir(name)
         try:

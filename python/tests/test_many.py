@@ -1,16 +1,18 @@
 """Many counts: a matrix is counted as each of its rows is alone, by any number of threads; what is drawn is drawn again."""
 import contextlib
 import io
-import pathlib
 import random
 import unittest
 
 import numpy
 
+import pathlib
 import seatlaw
+import sys
 
-TOP = pathlib.Path(__file__).resolve().parent.parent.parent
-EXAMPLES = TOP / "crates" / "sl_test_rows" / "data" / "examples"
+sys.path.append(str(pathlib.Path(__file__).resolve().parents[2] / "tools"))
+from repository import EXAMPLES  # noqa: E402
+
 TEXT = "kind,land,party,a,b,c\nhouse,,,%d,,\n"
 
 

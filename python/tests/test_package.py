@@ -10,11 +10,11 @@ import unittest
 import xml.etree.ElementTree
 
 import seatlaw
+sys.path.append(str(pathlib.Path(__file__).resolve().parents[2] / "tools"))
+from repository import EXAMPLES, TOP  # noqa: E402
 from seatlaw import reports
 from seatlaw._library import ask
 
-TOP = pathlib.Path(__file__).resolve().parent.parent.parent
-EXAMPLES = TOP / "crates" / "sl_test_rows" / "data" / "examples"
 ALL = sorted(EXAMPLES.glob("**/*.csv"))
 RETURNS = [seatlaw.Returns.from_file(path) for path in ALL if path.read_bytes().startswith(b"kind")]
 BOOKS = ["@" + name for name in seatlaw.STATUTES] + [seatlaw.Rulebook.from_file(path) for path in sorted(EXAMPLES.glob("**/*.law"))]
@@ -320,7 +320,7 @@ class Alone(unittest.TestCase):
         subprocess.run([sys.executable, "-c", code], check=True)
 
     def test_the_version_is_the_program_s(self):
-        text = (TOP / "crates" / "sl_words" / "src" / "help.rt").read_text()
+        text = (TOP / "crates" / "sl_terminal_words" / "src" / "help.rt").read_text()
         wanted = re.search(r'VERSION: &str = "(.*)"', text)[1]
         self.assertIn('version = "%s"' % wanted, (TOP / "python" / "pyproject.toml").read_text())
 

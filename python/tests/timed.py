@@ -9,8 +9,11 @@ import time
 import numpy
 
 import seatlaw
+import sys
 
-TOP = pathlib.Path(__file__).resolve().parent.parent.parent
+sys.path.append(str(pathlib.Path(__file__).resolve().parents[2] / "tools"))
+from repository import TOP  # noqa: E402
+
 PEOPLE = dict(SH=29, MV=16, HH=18, NI=81, HB=7, BB=25, ST=22, BE=36, NW=181, SN=41, HE=63, TH=21, RP=41, BY=133, BW=112, SL=10)
 SHARES = dict(CDU=28.5, CSU=37, AFD=20.8, SPD=16.4, GRUENE=11.6, LINKE=8.8, BSW=5.0, FDP=4.3, FW=1.5, TIER=1.0, SSW=4.0)
 HOUSE = 630

@@ -1,9 +1,11 @@
 //! The program: the terminal over the system.
+//!
+//! Stands on `sl_terminal_commands`; nothing stands on it. Proved: nothing of its own; its few lines run `sl_terminal_commands` over the system.
 #![tactic(auto)]
 
-use sl_inputs::ToWrite;
-use sl_outside::Host;
-use sl_terminal::{Terminal, run};
+use sl_count_inputs::ToWrite;
+use sl_terminal_commands::{Terminal, run};
+use sl_terminal_count::Host;
 use std::fs::File;
 use std::process::ExitCode;
 

@@ -1,10 +1,11 @@
-//! The program that counts: `count`, `steps` and `stage` as the program seatlaw has them, without options and without explanations. It stands
-//! on the calls that count and no more, so the script seatlaw builds it first.
+//! The program that counts: `count`, `steps` and `stage` as the program seatlaw has them, without options and without explanations. The script
+//! seatlaw builds it first.
+//!
+//! Stands on `sl_terminal_count`; nothing stands on it. Proved: nothing of its own; its few lines run `sl_terminal_count` over the system.
 #![tactic(auto)]
 
-use sl_count_program::run;
-use sl_inputs::ToWrite;
-use sl_outside::Host;
+use sl_count_inputs::ToWrite;
+use sl_terminal_count::{Host, run};
 use std::process::ExitCode;
 
 fn main(rt: HostRuntime) -> anyhow::Result<ExitCode> {

@@ -3,10 +3,10 @@ use Rattle.std.proofs.Common.{◌≡◌, ℕ, Bool, true, false, cond, List, [],
 use Rattle.std.specs.Prelude.{unwrap_or}
 use Rattle.sl_stages.specs.declared.book.Cond.{Cond}
 use Rattle.sl_stages.specs.declared.book.Cond.TheVariants as condition
-use Rattle.sl_instructions.specs.declared.instr.Instr.TheVariants.{Zero}
-use Rattle.sl_plans.specs.Trees.{Tree, Line, Then}
-use Rattle.sl_pieces.specs.facts.Trees.{nothing, condition_tree, conditions_tree, eligible_tree}
-use Rattle.sl_pieces.specs.exprs.Slots.{fact_slots}
+use Rattle.sl_code_instructions.specs.declared.instr.Instr.TheVariants.{Zero}
+use Rattle.sl_compile_plans.specs.Trees.{Tree, Line, Then}
+use Rattle.sl_compile_pieces.specs.facts.Trees.{nothing, condition_tree, conditions_tree, eligible_tree}
+use Rattle.sl_compile_pieces.specs.exprs.Slots.{fact_slots}
 use Rattle.sl_blocks.specs.declared.easiest.Share.{Share}
 use Rattle.sl_blocks.specs.declared.easiest.Easiest.{Easiest}
 use Rattle.sl_blocks.specs.inner.Few.{share_in, winners_in, minority_in, all_in, few_of, votes_of, per_of}

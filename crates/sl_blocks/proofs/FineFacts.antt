@@ -4,20 +4,20 @@ use Rattle.std.specs.Prelude.{nat_lt}
 use Rattle.std.proofs.lemmas.Bool.{eqb-true, lt-ltb}
 use Rattle.sl_stages.specs.declared.fact.Fact.{Fact}
 use Rattle.sl_stages.specs.declared.fact.Fact.TheVariants as facts
-use Rattle.sl_terms.specs.declared.shape.Shape.{Shape}
+use Rattle.sl_base_terms.specs.declared.shape.Shape.{Shape}
 use Rattle.sl_stages.specs.declared.book.Cond.{Cond}
 use Rattle.sl_stages.specs.declared.book.Cond.TheVariants as condition
-use Rattle.sl_instructions.specs.declared.instr.Instr.TheVariants.{Zero}
-use Rattle.sl_instructions.specs.Codes.{CountingCode}
+use Rattle.sl_code_instructions.specs.declared.instr.Instr.TheVariants.{Zero}
+use Rattle.sl_code_instructions.specs.Codes.{CountingCode}
 use Rattle.sl_verify.specs.declared.needs.TheConstants.{LAST_CLAUSE}
 use Rattle.sl_verify.specs.Kinds.{start_kinds}
 use Rattle.sl_verify.specs.Needs.{Context}
 use Rattle.sl_verify.proofs.Passing.{both_hold}
-use Rattle.sl_plans.specs.Trees.{Tree, Line}
-use Rattle.sl_plans.specs.Fine.{is_fine, judged_by, kinds_along}
-use Rattle.sl_pieces.specs.facts.Trees.{conditions_tree, condition_tree, eligible_tree, fact_tree}
-use Rattle.sl_pieces.specs.exprs.Slots.{fact_slots}
-use Rattle.sl_plans.proofs.Renaming.{Renaming, renamed, Renames, renamed_is_fine}
+use Rattle.sl_compile_plans.specs.Trees.{Tree, Line}
+use Rattle.sl_compile_plans.specs.Fine.{is_fine, judged_by, kinds_along}
+use Rattle.sl_compile_pieces.specs.facts.Trees.{conditions_tree, condition_tree, eligible_tree, fact_tree}
+use Rattle.sl_compile_pieces.specs.exprs.Slots.{fact_slots}
+use Rattle.sl_compile_plans.proofs.Renaming.{Renaming, renamed, Renames, renamed_is_fine}
 use Rattle.sl_blocks.specs.Facts.{fact_shapes, closing_shapes, HasFirstSlots}
 use Rattle.sl_blocks.proofs.Standing.{IsFineIn}
 
@@ -88,7 +88,7 @@ module _ (code : CountingCode) (slots : HasFirstSlots code) where
   condition_fine condition.Minority = first_fine (condition_tree fact_slots condition.Minority) refl refl
   condition_fine condition.All = first_fine (condition_tree fact_slots condition.All) refl refl
 
-  -- behind it nothing is known
+  -- after it nothing is known
   nothing_known : (c : Cond) → kinds_along start_kinds (condition_tree fact_slots c) ≡ start_kinds
   nothing_known (condition.Valid share per) = refl
   nothing_known _ = refl

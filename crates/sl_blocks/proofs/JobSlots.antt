@@ -7,22 +7,22 @@ use Rattle.std.proofs.lemmas.Option.{get_or_from_slice_get}
 use Rattle.std.proofs.lemmas.List.FromFn.{length-map-range_with_len, get_or-map-range_with_len}
 use Rattle.sl_ratio.specs.declared.method.Method.{Method}
 use Rattle.sl_ratio.specs.declared.method.Method.TheVariants as by
-use Rattle.sl_terms.specs.declared.shape.Shape.{Shape}
-use Rattle.sl_terms.specs.declared.shape.Shape.TheVariants as shape
+use Rattle.sl_base_terms.specs.declared.shape.Shape.{Shape}
+use Rattle.sl_base_terms.specs.declared.shape.Shape.TheVariants as shape
 use Rattle.sl_stages.specs.returns.Election.{Election}
 use Rattle.sl_stages.specs.laws.OneLaws.{FitsMethod}
-use Rattle.sl_instructions.specs.declared.code.CodeStage.{CodeStage}
-use Rattle.sl_instructions.specs.Codes.{CountingCode}
+use Rattle.sl_code_instructions.specs.declared.code.CodeStage.{CodeStage}
+use Rattle.sl_code_instructions.specs.Codes.{CountingCode}
 use Rattle.sl_verify.specs.declared.needs.TheConstants.{LAST_CLAUSE}
-use Rattle.sl_semantics.specs.State.{State}
-use Rattle.sl_semantics.specs.Places.{cells_of}
-use Rattle.sl_semantics.specs.Memories.{column_of}
-use Rattle.sl_semantics.specs.Effects.{name_of}
-use Rattle.sl_pieces.specs.declared.form.Form.{Form}
-use Rattle.sl_pieces.specs.scopes.Forms.{amounts_of, votes_of}
-use Rattle.sl_pieces.specs.columns.Columns.{HoldsColumn}
-use Rattle.sl_pieces.specs.seats.Slots.{HasSlots}
-use Rattle.sl_pieces.specs.nodes.Scopes.{HoldsMinima, HoldsArguments}
+use Rattle.sl_code_semantics.specs.State.{State}
+use Rattle.sl_code_semantics.specs.Places.{cells_of}
+use Rattle.sl_code_semantics.specs.Memories.{column_of}
+use Rattle.sl_code_semantics.specs.Effects.{name_of}
+use Rattle.sl_compile_pieces.specs.declared.form.Form.{Form}
+use Rattle.sl_compile_pieces.specs.scopes.Forms.{amounts_of, votes_of}
+use Rattle.sl_compile_pieces.specs.columns.Columns.{HoldsColumn}
+use Rattle.sl_compile_pieces.specs.seats.Slots.{HasSlots}
+use Rattle.sl_compile_pieces.specs.nodes.Scopes.{HoldsMinima, HoldsArguments}
 use Rattle.sl_blocks.specs.declared.job.Job.{Job}
 use Rattle.sl_blocks.specs.inner.Jobs.{slots_of, IsJob, TakesMinima, HasJob, HasWeights, name_in}
 

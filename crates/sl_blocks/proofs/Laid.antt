@@ -1,17 +1,17 @@
 -- Blocks as they are laid out: their plans, put together from those of their parts.
 use Rattle.std.proofs.Common.{◌≡◌, ℕ, List, [], ◌∷◌, length, None, Some, unwrap_or, Result, Ok, Err, IfOk, refl, subst}
-use Rattle.sl_terms.specs.declared.shape.Shape.{Shape}
-use Rattle.sl_instructions.specs.declared.instr.Instr.{Instr}
-use Rattle.sl_instructions.specs.declared.instr.Instr.TheVariants.{Set, Mov, Get, Zero, Table}
-use Rattle.sl_instructions.specs.declared.operand.EndFault.TheVariants as end
-use Rattle.sl_instructions.specs.declared.operand.Ranking.TheVariants as ranking
-use Rattle.sl_plans.specs.declared.plan.Test.TheVariants as test
-use Rattle.sl_plans.specs.Trees.{Tree, Line, Then, If}
-use Rattle.sl_pieces.specs.declared.form.Form.{Form}
-use Rattle.sl_pieces.specs.scopes.Forms.{table_of, scopes_plan}
-use Rattle.sl_pieces.specs.declared.registers.TheConstants as reg
-use Rattle.sl_pieces.specs.seats.Trees.{not_over, ranking_of, tied}
-use Rattle.sl_pieces.specs.nodes.Trees.{within_limit, take_house}
+use Rattle.sl_base_terms.specs.declared.shape.Shape.{Shape}
+use Rattle.sl_code_instructions.specs.declared.instr.Instr.{Instr}
+use Rattle.sl_code_instructions.specs.declared.instr.Instr.TheVariants.{Set, Mov, Get, Zero, Table}
+use Rattle.sl_code_instructions.specs.declared.operand.EndFault.TheVariants as end
+use Rattle.sl_code_instructions.specs.declared.operand.Ranking.TheVariants as ranking
+use Rattle.sl_compile_plans.specs.declared.plan.Test.TheVariants as test
+use Rattle.sl_compile_plans.specs.Trees.{Tree, Line, Then, If}
+use Rattle.sl_compile_pieces.specs.declared.form.Form.{Form}
+use Rattle.sl_compile_pieces.specs.scopes.Forms.{table_of, scopes_plan}
+use Rattle.sl_compile_pieces.specs.declared.registers.TheConstants as reg
+use Rattle.sl_compile_pieces.specs.seats.Trees.{not_over, ranking_of, tied}
+use Rattle.sl_compile_pieces.specs.nodes.Trees.{within_limit, take_house}
 use Rattle.sl_blocks.specs.declared.job.Job.{Job}
 use Rattle.sl_blocks.specs.declared.blanks.Block.{Block}
 use Rattle.sl_blocks.specs.inner.Jobs.{IsJob}

@@ -4,25 +4,25 @@ use Rattle.std.proofs.lemmas.Option.{none-some}
 use Rattle.sl_ratio.specs.declared.method.Divisor.{Divisor}
 use Rattle.sl_ratio.specs.declared.method.Method.{Method}
 use Rattle.sl_ratio.specs.declared.limits.TheConstants.{MAX_SEATS}
-use Rattle.sl_terms.specs.declared.shape.Shape.{Shape}
-use Rattle.sl_terms.specs.declared.shape.Shape.TheVariants as shape
-use Rattle.sl_instructions.specs.declared.code.CodeStage.{CodeStage}
-use Rattle.sl_instructions.specs.declared.instr.Instr.{Instr}
-use Rattle.sl_instructions.specs.Codes.{CountingCode}
-use Rattle.sl_semantics.specs.Runs.{share_of}
-use Rattle.sl_plans.specs.Laid.{laid}
-use Rattle.sl_pieces.specs.declared.form.Form.{Form}
-use Rattle.sl_pieces.specs.scopes.Forms.{amounts_of}
-use Rattle.sl_pieces.specs.nodes.Trees.{split_tree, grow_tree}
-use Rattle.sl_pieces.specs.nodes.Nodes.{HasResult, EndsWith}
-use Rattle.sl_pieces.proofs.nodes.Nodes.{splits_achieve, growths_achieve}
+use Rattle.sl_base_terms.specs.declared.shape.Shape.{Shape}
+use Rattle.sl_base_terms.specs.declared.shape.Shape.TheVariants as shape
+use Rattle.sl_code_instructions.specs.declared.code.CodeStage.{CodeStage}
+use Rattle.sl_code_instructions.specs.declared.instr.Instr.{Instr}
+use Rattle.sl_code_instructions.specs.Codes.{CountingCode}
+use Rattle.sl_code_semantics.specs.Runs.{share_of}
+use Rattle.sl_compile_plans.specs.Laid.{laid}
+use Rattle.sl_compile_pieces.specs.declared.form.Form.{Form}
+use Rattle.sl_compile_pieces.specs.scopes.Forms.{amounts_of}
+use Rattle.sl_compile_pieces.specs.nodes.Trees.{split_tree, grow_tree}
+use Rattle.sl_compile_pieces.specs.nodes.Nodes.{HasResult, EndsWith}
+use Rattle.sl_compile_pieces.proofs.nodes.Nodes.{splits_achieve, growths_achieve}
 use Rattle.sl_blocks.specs.declared.job.Job.{Job}
 use Rattle.sl_blocks.specs.declared.blocks.TheConstants.{MAX_BLOCK_INSTRS}
 use Rattle.sl_blocks.specs.inner.Jobs.{slots_of, IsJob, TakesMinima, HasJob, HasWeights, SplitMeans, GrowthMeans, IsResultBlock}
-use Rattle.sl_pieces.proofs.judged.Roles.{HasShapes}
-use Rattle.sl_plans.proofs.Modest.{size_at_most, within_share}
-use Rattle.sl_pieces.proofs.judged.Splits.{split_fine, split_ranged, split_modest}
-use Rattle.sl_pieces.proofs.judged.Growths.{growth_fine, growth_ranged, growth_modest}
+use Rattle.sl_compile_pieces.proofs.judged.Roles.{HasShapes}
+use Rattle.sl_compile_plans.proofs.Modest.{size_at_most, within_share}
+use Rattle.sl_compile_pieces.proofs.judged.Splits.{split_fine, split_ranged, split_modest}
+use Rattle.sl_compile_pieces.proofs.judged.Growths.{growth_fine, growth_ranged, growth_modest}
 use Rattle.sl_blocks.proofs.Standing.{MakesBlock, MakesPlan, is_block}
 use Rattle.sl_blocks.proofs.JobSlots.{has_slots}
 use Rattle.sl_blocks.proofs.Meaning.{split_means, growth_means}
@@ -81,7 +81,7 @@ module _ (shapes : List Shape) (f : Form) (j : Job) (job : IsJob shapes f j) whe
     achieves = λ code e state has is weights. growth_means shapes f j code job has e is state weights growths_achieve d slot cap there one few;
   }
 
-  -- the instructions of its plan behind a declaration are the block of a split
+  -- the instructions of its plan after a declaration are the block of a split
   pub is_split_block : (method : Method) → TakesMinima method j.minima → (before after : List Instr) →
       after ≡ before ++ laid (length before) (split_tree f (slots_of j) method j.majority) → IsResultBlock shapes f j (SplitMeans f j method) before after
   is_split_block method takes before after is = is_block share_of MAX_BLOCK_INSTRS _ _ _ _ (split_tree f (slots_of j) method j.majority) (split_makes method takes) before after is

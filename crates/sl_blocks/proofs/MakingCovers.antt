@@ -4,26 +4,26 @@ use Rattle.std.specs.Prelude.{slice_index, slice_index_or}
 use Rattle.std.specs.List.{range_with_len}
 use Rattle.std.proofs.lemmas.Option.{get_or_from_slice_get}
 use Rattle.std.proofs.lemmas.List.FromFn.{get_or-map-range_with_len}
-use Rattle.sl_terms.specs.declared.shape.Shape.{Shape}
-use Rattle.sl_terms.specs.declared.shape.Shape.TheVariants as shape
+use Rattle.sl_base_terms.specs.declared.shape.Shape.{Shape}
+use Rattle.sl_base_terms.specs.declared.shape.Shape.TheVariants as shape
 use Rattle.sl_stages.specs.returns.Election.{Election, lands_of, parties_of}
-use Rattle.sl_instructions.specs.declared.instr.Instr.{Instr}
-use Rattle.sl_instructions.specs.Codes.{CountingCode}
-use Rattle.sl_semantics.specs.State.{State}
-use Rattle.sl_semantics.specs.Runs.{share_of}
-use Rattle.sl_semantics.specs.Places.{cells_of}
-use Rattle.sl_semantics.specs.Memories.{column_of}
-use Rattle.sl_plans.specs.Laid.{laid}
-use Rattle.sl_pieces.specs.covers.Trees.{CoverSlots, cover_tree}
-use Rattle.sl_pieces.specs.covers.Covering.{HasCoverSlots, BeginsCovering, AreCovered, EndsInTie}
-use Rattle.sl_pieces.proofs.covers.Covering.{coverings_achieve}
+use Rattle.sl_code_instructions.specs.declared.instr.Instr.{Instr}
+use Rattle.sl_code_instructions.specs.Codes.{CountingCode}
+use Rattle.sl_code_semantics.specs.State.{State}
+use Rattle.sl_code_semantics.specs.Runs.{share_of}
+use Rattle.sl_code_semantics.specs.Places.{cells_of}
+use Rattle.sl_code_semantics.specs.Memories.{column_of}
+use Rattle.sl_compile_plans.specs.Laid.{laid}
+use Rattle.sl_compile_pieces.specs.covers.Trees.{CoverSlots, cover_tree}
+use Rattle.sl_compile_pieces.specs.covers.Covering.{HasCoverSlots, BeginsCovering, AreCovered, EndsInTie}
+use Rattle.sl_compile_pieces.proofs.covers.Covering.{coverings_achieve}
 use Rattle.sl_blocks.specs.declared.blocks.TheConstants.{MAX_BLOCK_INSTRS}
 use Rattle.sl_blocks.specs.Blocks.{HasSlotsOf}
 use Rattle.sl_blocks.specs.inner.Covers.{IsCoverJob, flagged, BeginsCover, IsCoverBlock}
-use Rattle.sl_pieces.proofs.judged.Covers.{HasCoverShapes, cover_fine}
-use Rattle.sl_plans.proofs.Modest.{size_at_most, within_share}
-use Rattle.sl_plans.proofs.ProperTrees.{small_ranged}
-use Rattle.sl_pieces.proofs.judged.SmallPlans.{judged_modest, cover_judged}
+use Rattle.sl_compile_pieces.proofs.judged.Covers.{HasCoverShapes, cover_fine}
+use Rattle.sl_compile_plans.proofs.Modest.{size_at_most, within_share}
+use Rattle.sl_compile_plans.proofs.ProperTrees.{small_ranged}
+use Rattle.sl_compile_pieces.proofs.judged.SmallPlans.{judged_modest, cover_judged}
 use Rattle.sl_blocks.proofs.Standing.{MakesBlock, MakesPlan, is_block}
 
 module _ (shapes : List Shape) (x : CoverSlots) (job : IsCoverJob shapes x) where
@@ -63,7 +63,7 @@ module _ (shapes : List Shape) (x : CoverSlots) (job : IsCoverJob shapes x) wher
         coverings_achieve code e x (flagged x state) (column_of code e state x.base) state is (has_slots code has) (begins_covering code has e state begins);
   }
 
--- the instructions of its plan behind a declaration are the block of a covering
+-- the instructions of its plan after a declaration are the block of a covering
 pub is_cover_block : (shapes : List Shape) (x : CoverSlots) → IsCoverJob shapes x → (before after : List Instr) →
     after ≡ before ++ laid (length before) (cover_tree x) → IsCoverBlock shapes x before after
 is_cover_block shapes x job before after is = is_block share_of MAX_BLOCK_INSTRS _ _ _ _ (cover_tree x) (cover_makes shapes x job) before after is

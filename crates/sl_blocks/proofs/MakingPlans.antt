@@ -5,28 +5,28 @@ use Rattle.sl_stages.specs.declared.fact.Fact.{Fact}
 use Rattle.sl_stages.specs.declared.book.Axis.{Axis}
 use Rattle.sl_stages.specs.declared.book.Cond.{Cond}
 use Rattle.sl_stages.specs.declared.book.Pairing.{Pairing}
-use Rattle.sl_terms.specs.declared.shape.Shape.{Shape}
+use Rattle.sl_base_terms.specs.declared.shape.Shape.{Shape}
 use Rattle.sl_stages.specs.book.Limits.{condition_numbers}
 use Rattle.sl_stages.specs.book.Typing.{can_sum}
-use Rattle.sl_instructions.specs.declared.instr.Instr.{Instr}
-use Rattle.sl_instructions.specs.declared.instr.Instr.TheVariants.{Input}
-use Rattle.sl_instructions.specs.declared.operand.Input.TheVariants as input
-use Rattle.sl_instructions.specs.Codes.{CountingCode}
-use Rattle.sl_plans.specs.Trees.{Tree, Line}
-use Rattle.sl_pieces.specs.columns.Trees.{copy_tree, pair_tree, sum_tree}
-use Rattle.sl_pieces.specs.facts.Trees.{eligible_tree, fact_tree}
-use Rattle.sl_pieces.specs.declared.slots.TheConstants.{NAMES_LEFT as names_left}
-use Rattle.sl_pieces.specs.exprs.Slots.{fact_slots}
-use Rattle.sl_pieces.specs.closing.Trees.{place_kept}
+use Rattle.sl_code_instructions.specs.declared.instr.Instr.{Instr}
+use Rattle.sl_code_instructions.specs.declared.instr.Instr.TheVariants.{Input}
+use Rattle.sl_code_instructions.specs.declared.operand.Input.TheVariants as input
+use Rattle.sl_code_instructions.specs.Codes.{CountingCode}
+use Rattle.sl_compile_plans.specs.Trees.{Tree, Line}
+use Rattle.sl_compile_pieces.specs.columns.Trees.{copy_tree, pair_tree, sum_tree}
+use Rattle.sl_compile_pieces.specs.facts.Trees.{eligible_tree, fact_tree}
+use Rattle.sl_compile_pieces.specs.declared.slots.TheConstants.{NAMES_LEFT as names_left}
+use Rattle.sl_compile_pieces.specs.exprs.Slots.{fact_slots}
+use Rattle.sl_compile_pieces.specs.closing.Trees.{place_kept}
 use Rattle.sl_blocks.specs.Facts.{HasFirstSlots}
 use Rattle.sl_blocks.specs.inner.Few.{AreSmall}
 use Rattle.sl_blocks.specs.inner.Layout.{IsLaid}
 use Rattle.sl_blocks.specs.PlanBlocks.{AreBlocks, HasCopy, HasPair, HasSum}
-use Rattle.sl_pieces.proofs.judged.Columns.{copy_fine, pair_fine, sum_fine}
+use Rattle.sl_compile_pieces.proofs.judged.Columns.{copy_fine, pair_fine, sum_fine}
 use Rattle.sl_blocks.proofs.FineFacts.{first_fine, eligible_fine, fact_fine}
-use Rattle.sl_plans.proofs.ProperLists.{Fits}
-use Rattle.sl_plans.proofs.ProperTrees.{small_ranged}
-use Rattle.sl_pieces.proofs.judged.SmallPlans.{copy_judged, pair_judged, sum_judged, eligible_ranged, fact_ranged}
+use Rattle.sl_compile_plans.proofs.ProperLists.{Fits}
+use Rattle.sl_compile_plans.proofs.ProperTrees.{small_ranged}
+use Rattle.sl_compile_pieces.proofs.judged.SmallPlans.{copy_judged, pair_judged, sum_judged, eligible_ranged, fact_ranged}
 use Rattle.sl_blocks.proofs.Standing.{MakesPlan, is_plan_block}
 
 -- what is laid out of a plan is its block

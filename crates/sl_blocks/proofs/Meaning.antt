@@ -4,22 +4,22 @@ use Rattle.std.specs.Prelude.{option_map}
 use Rattle.sl_ratio.specs.declared.limits.TheConstants.{MAX_SEATS}
 use Rattle.sl_ratio.specs.declared.method.Divisor.{Divisor}
 use Rattle.sl_ratio.specs.declared.method.Method.{Method}
-use Rattle.sl_terms.specs.declared.shape.Shape.{Shape}
-use Rattle.sl_terms.specs.declared.shape.Shape.TheVariants as shape
+use Rattle.sl_base_terms.specs.declared.shape.Shape.{Shape}
+use Rattle.sl_base_terms.specs.declared.shape.Shape.TheVariants as shape
 use Rattle.sl_stages.specs.returns.Election.{Election, IsElection}
 use Rattle.sl_stages.specs.meaning.Results.{ExprResult}
-use Rattle.sl_instructions.specs.declared.code.CodeStage.{CodeStage}
-use Rattle.sl_instructions.specs.Codes.{CountingCode}
-use Rattle.sl_semantics.specs.State.{State, End}
-use Rattle.sl_semantics.specs.Memories.{column_of}
-use Rattle.sl_plans.specs.Achieves.{Achieves}
-use Rattle.sl_plans.proofs.Rules.{achieves_more}
-use Rattle.sl_pieces.specs.declared.form.Form.{Form}
-use Rattle.sl_pieces.specs.scopes.Forms.{amounts_of}
-use Rattle.sl_pieces.specs.seats.Slots.{Slots}
-use Rattle.sl_pieces.specs.nodes.Trees.{split_tree, grow_tree}
-use Rattle.sl_pieces.specs.nodes.Scopes.{HoldsArguments}
-use Rattle.sl_pieces.specs.nodes.Nodes.{HasResult, EndsWith, SplitsAchieve, GrowthsAchieve}
+use Rattle.sl_code_instructions.specs.declared.code.CodeStage.{CodeStage}
+use Rattle.sl_code_instructions.specs.Codes.{CountingCode}
+use Rattle.sl_code_semantics.specs.State.{State, End}
+use Rattle.sl_code_semantics.specs.Memories.{column_of}
+use Rattle.sl_compile_plans.specs.Achieves.{Achieves}
+use Rattle.sl_compile_plans.proofs.Rules.{achieves_more}
+use Rattle.sl_compile_pieces.specs.declared.form.Form.{Form}
+use Rattle.sl_compile_pieces.specs.scopes.Forms.{amounts_of}
+use Rattle.sl_compile_pieces.specs.seats.Slots.{Slots}
+use Rattle.sl_compile_pieces.specs.nodes.Trees.{split_tree, grow_tree}
+use Rattle.sl_compile_pieces.specs.nodes.Scopes.{HoldsArguments}
+use Rattle.sl_compile_pieces.specs.nodes.Nodes.{HasResult, EndsWith, SplitsAchieve, GrowthsAchieve}
 use Rattle.sl_blocks.specs.declared.job.Job.{Job}
 use Rattle.sl_blocks.specs.inner.Jobs.{slots_of, IsJob, TakesMinima, HasJob, HasWeights, name_in, SplitMeans, GrowthMeans}
 use Rattle.sl_blocks.proofs.JobSlots.{has_slots, holds_arguments, fits_method}

@@ -1,34 +1,34 @@
--- A plan behind a declaration is a block, where it is fine, in its time and achieves what it is asked for.
+-- A plan after a declaration is a block, where it is fine, in its time and achieves what it is asked for.
 use Rattle.std.proofs.Common.{◌≡◌, ℕ, zero, suc, ◌+◌, ◌<◌, ◌≤◌, true, List, ◌∷◌, ◌++◌, length, Option, None, Some, slice_get, refl, ap, subst, ◌∙◌, inl, inr, arith, length-append}
 use Rattle.std.proofs.lemmas.List.Elements.{All-from_recursion}
 use Rattle.std.proofs.lemmas.Option.{none-some, same_Some}
 use Rattle.sl_stages.specs.returns.Election.{Election, IsElection}
-use Rattle.sl_instructions.specs.declared.code.TheConstants.{MAX_INSTRS}
-use Rattle.sl_instructions.specs.declared.instr.Instr.{Instr}
-use Rattle.sl_instructions.specs.declared.instr.Instr.TheVariants.{At}
-use Rattle.sl_instructions.specs.declared.kinds.Kinds.{Kinds}
-use Rattle.sl_instructions.specs.Codes.{CountingCode}
-use Rattle.sl_instructions.specs.Proper.{IsInRange}
-use Rattle.sl_instructions.specs.Rows.{target_of}
-use Rattle.sl_instructions.specs.Standing.{HasAt}
+use Rattle.sl_code_instructions.specs.declared.code.TheConstants.{MAX_INSTRS}
+use Rattle.sl_code_instructions.specs.declared.instr.Instr.{Instr}
+use Rattle.sl_code_instructions.specs.declared.instr.Instr.TheVariants.{At}
+use Rattle.sl_code_instructions.specs.declared.kinds.Kinds.{Kinds}
+use Rattle.sl_code_instructions.specs.Codes.{CountingCode}
+use Rattle.sl_code_instructions.specs.Proper.{IsInRange}
+use Rattle.sl_code_instructions.specs.Rows.{target_of}
+use Rattle.sl_code_instructions.specs.Standing.{HasAt}
 use Rattle.sl_verify.specs.Kinds.{start_kinds}
 use Rattle.sl_verify.specs.Pieces.{JumpsWithin}
 use Rattle.sl_verify.specs.WellKinded.{context_of}
 use Rattle.sl_verify.proofs.PieceFacts.{nothing_asked}
-use Rattle.sl_semantics.specs.State.{State, End}
-use Rattle.sl_semantics.proofs.runs.Coming.{wider, ends_wider}
-use Rattle.sl_plans.specs.Trees.{Tree, size_of, flat}
-use Rattle.sl_plans.specs.Meaning.{Course, Onward, Final, Unsaid, does, cost}
-use Rattle.sl_plans.specs.Achieves.{Meets, Achieves, Reaches}
-use Rattle.sl_plans.specs.Laid.{laid}
-use Rattle.sl_plans.specs.Fine.{ArePassed, is_fine, judged_by, kinds_along}
-use Rattle.sl_plans.proofs.Places.{length-flat}
-use Rattle.sl_plans.proofs.LaidPlans.{plan_stands, laid_is_followed}
-use Rattle.sl_plans.proofs.Kinded.{fine_plans_pass}
-use Rattle.sl_plans.proofs.Targets.{plans_jump_within}
+use Rattle.sl_code_semantics.specs.State.{State, End}
+use Rattle.sl_code_semantics.proofs.runs.Coming.{wider, ends_wider}
+use Rattle.sl_compile_plans.specs.Trees.{Tree, size_of, flat}
+use Rattle.sl_compile_plans.specs.Meaning.{Course, Onward, Final, Unsaid, does, cost}
+use Rattle.sl_compile_plans.specs.Achieves.{Meets, Achieves, Reaches}
+use Rattle.sl_compile_plans.specs.Laid.{laid}
+use Rattle.sl_compile_plans.specs.Fine.{ArePassed, is_fine, judged_by, kinds_along}
+use Rattle.sl_compile_plans.proofs.Places.{length-flat}
+use Rattle.sl_compile_plans.proofs.LaidPlans.{plan_stands, laid_is_followed}
+use Rattle.sl_compile_plans.proofs.Kinded.{fine_plans_pass}
+use Rattle.sl_compile_plans.proofs.Targets.{plans_jump_within}
 use Rattle.sl_blocks.specs.Blocks.{PassesOn, IsBlock}
 use Rattle.sl_blocks.specs.PlanBlocks.{IsSaid, IsPlanBlock}
-use Rattle.sl_plans.proofs.ProperTrees.{IsRanged, laid_in_range, plain_is_quiet}
+use Rattle.sl_compile_plans.proofs.ProperTrees.{IsRanged, laid_in_range, plain_is_quiet}
 
 -- with the slots and the stages of the code, where nothing is known
 abbrev pub IsFineIn : CountingCode → Tree → Type 0

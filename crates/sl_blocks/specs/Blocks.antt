@@ -1,28 +1,28 @@
--- What a block of counting code is: it stands behind the code before it, passes the verifier's tests wherever its slots and its stage are, and
+-- What a block of counting code is: it stands after the code before it, passes the verifier's tests wherever its slots and its stage are, and
 -- does in its time what it is asked for (docs/blocks.md, section 5).
 use Rattle.std.specs.Prelude.{◌≡◌, ℕ, ◌≤◌, true, List, ◌∷◌, ◌++◌, All, Option, Some, length, slice_get}
-use Rattle.sl_terms.specs.declared.shape.Shape.{Shape}
+use Rattle.sl_base_terms.specs.declared.shape.Shape.{Shape}
 use Rattle.sl_stages.specs.returns.Election.{Election, IsElection}
-use Rattle.sl_instructions.specs.declared.code.TheConstants.{MAX_INSTRS}
-use Rattle.sl_instructions.specs.declared.instr.Instr.{Instr}
-use Rattle.sl_instructions.specs.declared.instr.Instr.TheVariants.{At}
-use Rattle.sl_instructions.specs.declared.kinds.Kinds.{Kinds}
-use Rattle.sl_instructions.specs.Codes.{CountingCode}
-use Rattle.sl_instructions.specs.Proper.{IsInRange}
-use Rattle.sl_instructions.specs.Standing.{HasAt}
+use Rattle.sl_code_instructions.specs.declared.code.TheConstants.{MAX_INSTRS}
+use Rattle.sl_code_instructions.specs.declared.instr.Instr.{Instr}
+use Rattle.sl_code_instructions.specs.declared.instr.Instr.TheVariants.{At}
+use Rattle.sl_code_instructions.specs.declared.kinds.Kinds.{Kinds}
+use Rattle.sl_code_instructions.specs.Codes.{CountingCode}
+use Rattle.sl_code_instructions.specs.Proper.{IsInRange}
+use Rattle.sl_code_instructions.specs.Standing.{HasAt}
 use Rattle.sl_verify.specs.Kinds.{start_kinds}
 use Rattle.sl_verify.specs.Pieces.{comes_after, are_passed, JumpsWithin}
 use Rattle.sl_verify.specs.WellKinded.{context_of}
-use Rattle.sl_semantics.specs.State.{State, End}
-use Rattle.sl_semantics.specs.Runs.{share_of}
-use Rattle.sl_plans.specs.Achieves.{Reaches}
+use Rattle.sl_code_semantics.specs.State.{State, End}
+use Rattle.sl_code_semantics.specs.Runs.{share_of}
+use Rattle.sl_compile_plans.specs.Achieves.{Reaches}
 use Rattle.sl_blocks.specs.declared.blocks.TheConstants.{MAX_BLOCK_INSTRS}
 
 -- each of these slots is one of the code's, with its shape
 abbrev pub HasSlotsOf : List Shape → CountingCode → Type 0
 HasSlotsOf shapes code = (slot : ℕ) (s : Shape) → slice_get shapes slot ≡ Some s → slice_get code.slots slot ≡ Some s
 
--- where these kinds come to them the instructions pass the verifier's tests, and some kinds come to the place behind
+-- where these kinds come to them the instructions pass the verifier's tests, and some kinds come to the place after
 pub record PassesOn (code : CountingCode) (comes : Option Kinds) (is : List Instr) : Type 0 where
   pub passed : are_passed (context_of code) comes is ≡ true
   pub kinds : Kinds

@@ -2,13 +2,13 @@
 use Rattle.std.specs.Prelude.{ℕ, List, [], ◌∷◌, ◌++◌, map}
 use Rattle.sl_stages.specs.declared.fact.TheConstants.{FACTS}
 use Rattle.sl_stages.specs.declared.book.Cond.{Cond}
-use Rattle.sl_terms.specs.declared.shape.Shape.{Shape}
-use Rattle.sl_terms.specs.declared.shape.Shape.TheVariants as shape
+use Rattle.sl_base_terms.specs.declared.shape.Shape.{Shape}
+use Rattle.sl_base_terms.specs.declared.shape.Shape.TheVariants as shape
 use Rattle.sl_stages.specs.book.Typing.{fact_type}
-use Rattle.sl_instructions.specs.Codes.{CountingCode}
-use Rattle.sl_plans.specs.Trees.{Tree}
-use Rattle.sl_pieces.specs.facts.Trees.{eligible_tree, fact_tree}
-use Rattle.sl_pieces.specs.exprs.Slots.{fact_slots}
+use Rattle.sl_code_instructions.specs.Codes.{CountingCode}
+use Rattle.sl_compile_plans.specs.Trees.{Tree}
+use Rattle.sl_compile_pieces.specs.facts.Trees.{eligible_tree, fact_tree}
+use Rattle.sl_compile_pieces.specs.exprs.Slots.{fact_slots}
 use Rattle.sl_blocks.specs.Blocks.{HasSlotsOf}
 
 -- the eligible parties, facts, and two columns to work in; three columns of lists for the last clause
@@ -22,7 +22,7 @@ closing_shapes = shape.List ∷ (shape.List ∷ (shape.List ∷ []))
 abbrev pub HasFirstSlots : CountingCode → Type 0
 HasFirstSlots code = HasSlotsOf (fact_shapes ++ closing_shapes) code
 
--- those that come behind the eligible parties
+-- those that come after the eligible parties
 abbrev pub other_facts : ℕ → List Tree
 other_facts house = map (fact_tree fact_slots house) FACTS
 

@@ -1,14 +1,14 @@
 -- Blocks of plans: each does what its plan says, in the plan's cost (docs/blocks.md, section 7). A compiler builds on them.
 use Rattle.std.specs.Prelude.{◌≡◌, ℕ, ◌+◌, ◌≤◌, List, [], ◌∷◌, length, Some, slice_get}
 use Rattle.sl_stages.specs.declared.book.Axis.{Axis}
-use Rattle.sl_terms.specs.declared.shape.Shape.{Shape}
-use Rattle.sl_instructions.specs.declared.code.TheConstants.{MAX_INSTRS}
-use Rattle.sl_instructions.specs.declared.instr.Instr.{Instr}
-use Rattle.sl_instructions.specs.Codes.{CountingCode}
-use Rattle.sl_plans.specs.Trees.{Tree, size_of}
-use Rattle.sl_plans.specs.Meaning.{Course, Onward, Final, Unsaid, does, cost}
-use Rattle.sl_plans.specs.Laid.{size_all}
-use Rattle.sl_pieces.specs.columns.Trees.{summed}
+use Rattle.sl_base_terms.specs.declared.shape.Shape.{Shape}
+use Rattle.sl_code_instructions.specs.declared.code.TheConstants.{MAX_INSTRS}
+use Rattle.sl_code_instructions.specs.declared.instr.Instr.{Instr}
+use Rattle.sl_code_instructions.specs.Codes.{CountingCode}
+use Rattle.sl_compile_plans.specs.Trees.{Tree, size_of}
+use Rattle.sl_compile_plans.specs.Meaning.{Course, Onward, Final, Unsaid, does, cost}
+use Rattle.sl_compile_plans.specs.Laid.{size_all}
+use Rattle.sl_compile_pieces.specs.columns.Trees.{summed}
 use Rattle.sl_blocks.specs.declared.blocks.TheConstants.{MAX_BLOCK_INSTRS}
 use Rattle.sl_blocks.specs.Blocks.{IsBlock}
 
@@ -26,17 +26,17 @@ IsPlanBlock Stands tree before after =
     IsBlock (λ e. cost e tree + 1) (size_of tree + 1) Stands (λ code e s. IsSaid (does code e tree s)) (λ code e s t. does code e tree s ≡ Onward t)
     (λ code e s x. does code e tree s ≡ Final x) before after
 
--- ---- blocks one behind the other
+-- ---- blocks one after the other
 
 abbrev pub InRow : (CountingCode → Type 0) → List Tree → List Instr → List Instr → Type 0
 InRow Stands [] before after = after ≡ before
 InRow Stands (t ∷ ts) before after = (mid : List Instr) × IsPlanBlock Stands t before mid × InRow Stands ts mid after
 
--- the code after is the code before with the blocks of these plans behind it
+-- the code after is the code before with the blocks of these plans after it
 pub record AreBlocks (Stands : CountingCode → Type 0) (ts : List Tree) (before after : List Instr) : Type 0 where
   pub row : InRow Stands ts before after
 
--- so many instructions may stand behind a code that these plans have room
+-- so many instructions may stand after a code that these plans have room
 abbrev pub HasRoom : List Tree → List Instr → Type 0
 HasRoom ts before = length before + size_all ts + MAX_BLOCK_INSTRS ≤ MAX_INSTRS
 

@@ -1,6 +1,6 @@
 //! Seats by batches of peers.
 
-/// So many turns, at most the bound, each of which may begin a batch and gives out a seat of it. The register of ones is 1 in each turn.
+/// So many turns, at most the bound, each of which may begin a batch and distributes a seat of it. The register of ones is 1 in each turn.
 macro_rules! batches {
     ($turns:expr, $bound:expr, $begin:expr, $seat:expr) => {
         &Plan::Then(

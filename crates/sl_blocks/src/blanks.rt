@@ -1,16 +1,16 @@
 //! The instructions that are given to the plans of a block: those that name its slots, its stage, its form or its method.
 
 ghost use Rattle.std.specs.Prelude.{◌≡◌};
-ghost use Rattle.sl_pieces.specs.scopes.Forms.{table_of, kind_of};
+ghost use Rattle.sl_compile_pieces.specs.scopes.Forms.{table_of, kind_of};
 ghost use Rattle.sl_blocks.specs.inner.Given.{minimum_of, divisor_of, given_of};
-ghost use Rattle.sl_pieces.specs.seats.Trees.{ranking_of};
+ghost use Rattle.sl_compile_pieces.specs.seats.Trees.{ranking_of};
 
 use crate::form::{kind_of, table_of};
 use crate::job::Job;
-use sl_instructions::{EndFault, Instr, Ranking, Rounding};
-use sl_pieces::Form;
-use sl_pieces::registers::{AMOUNT, BASE, FIRST_PASSING, HELD, LEFT, NUMBER, STEP, WEIGHT};
-use sl_plans::Part;
+use sl_code_instructions::{EndFault, Instr, Ranking, Rounding};
+use sl_compile_pieces::Form;
+use sl_compile_pieces::registers::{AMOUNT, BASE, FIRST_PASSING, HELD, LEFT, NUMBER, STEP, WEIGHT};
+use sl_compile_plans::Part;
 use sl_ratio::{Divisor, Method};
 
 /// A split or a growth as it is laid out.

@@ -1,8 +1,8 @@
 //! The block of a covering.
 
 ghost use Rattle.std.specs.Prelude.{◌≡◌, ◌+◌, ◌≤◌, [], ◌∷◌, IfOk, OnErr, vec_len};
-ghost use Rattle.sl_plans.specs.inner.Layout.{tree_of};
-ghost use Rattle.sl_pieces.specs.covers.Trees.{CoverSlots, cover_contested, cover_tree};
+ghost use Rattle.sl_compile_plans.specs.inner.Layout.{tree_of};
+ghost use Rattle.sl_compile_pieces.specs.covers.Trees.{CoverSlots, cover_contested, cover_tree};
 ghost use Rattle.sl_blocks.specs.Blocks.{HasSlotsOf};
 ghost use Rattle.sl_blocks.specs.inner.Covers.{cover_given, cover_slots, IsCoverBlock, IsCoverJob};
 ghost use Rattle.sl_blocks.specs.PlanBlocks.{AreBlocks};
@@ -11,13 +11,13 @@ use crate::awards::{COUNT_LEFT, COUNT_STEP, LESS_LEFT, WHOLE_BATCH, draw_seats};
 use crate::batches::batches;
 use crate::blocks::MAX_BLOCK_INSTRS;
 use crate::entries::NOTHING;
-use sl_instructions::{Entries, Instr, MAX_INSTRS, Ranking, ScopeKind};
-use sl_pieces::registers::{
+use sl_code_instructions::{Entries, Instr, MAX_INSTRS, Ranking, ScopeKind};
+use sl_compile_pieces::registers::{
     AMOUNT, BASE, FIRST_PASSING, IN_BATCH, LEFT, NEEDED, PEERS, SECOND_PASSING, TOTAL, TURNS,
     WEIGHT,
 };
-use sl_plans::Part::Fixed;
-use sl_plans::{Bound, Cursor, ONES, Part, Plan, Test, lay};
+use sl_compile_plans::Part::Fixed;
+use sl_compile_plans::{Bound, Cursor, ONES, Part, Plan, Test, lay};
 use sl_ratio::NoMemory;
 use sl_stages::Shape;
 use sl_verify::LAST_CLAUSE;
@@ -230,7 +230,7 @@ fn cover_contested() -> &'static Plan<'static>
 }
 
 /// Appends the block of a covering (docs/blocks.md, section 6), which places each winner, or ends the run with the first
-/// tie. It is the plan of `sl_pieces` behind a declaration. The numbers of the lists stand in the first scratch slot by list.
+/// tie. It is the plan of `sl_compile_pieces` after a declaration. The numbers of the lists stand in the first scratch slot by list.
 ///
 /// `base` is the slot of the seats of the lists, `eligible` that of the eligible parties, 1 for such a party and 0 for others. They and the
 /// scratch slot are among the slots given and have their shapes; the code has room for a block.

@@ -1,22 +1,22 @@
 //! The block of the eligible parties (docs/compiler.md, section 2).
 
 ghost use Rattle.std.specs.Prelude.{◌≡◌, [], ◌∷◌, Bool, List, IfOk, OnErr, cond};
-ghost use Rattle.sl_instructions.specs.declared.instr.Instr.{Instr as SpecInstr};
-ghost use Rattle.sl_plans.specs.inner.Layout.{tree_of};
-ghost use Rattle.sl_plans.specs.Trees.{Then};
-ghost use Rattle.sl_pieces.specs.facts.Trees.{eligible_tree};
-ghost use Rattle.sl_pieces.specs.exprs.Slots.{fact_slots};
+ghost use Rattle.sl_code_instructions.specs.declared.instr.Instr.{Instr as SpecInstr};
+ghost use Rattle.sl_compile_plans.specs.inner.Layout.{tree_of};
+ghost use Rattle.sl_compile_plans.specs.Trees.{Then};
+ghost use Rattle.sl_compile_pieces.specs.facts.Trees.{eligible_tree};
+ghost use Rattle.sl_compile_pieces.specs.exprs.Slots.{fact_slots};
 ghost use Rattle.sl_blocks.specs.Facts.{HasFirstSlots};
 ghost use Rattle.sl_blocks.specs.PlanBlocks.{AreBlocks, HasRoom};
 ghost use Rattle.sl_blocks.specs.inner.Few.{AreSmall, few_of, given_of};
 
 use crate::easiest::Easiest;
 use crate::entries::NOTHING;
-use sl_instructions::{Input, Instr};
-use sl_pieces::registers::{CELL, OTHER, OWN, TOTAL};
-use sl_pieces::slots::{ELIGIBLE, NUMBERS, VOTES};
-use sl_plans::Part::{Fixed, Given};
-use sl_plans::{Cursor, ONES, Plan, Test, lay};
+use sl_code_instructions::{Input, Instr};
+use sl_compile_pieces::registers::{CELL, OTHER, OWN, TOTAL};
+use sl_compile_pieces::slots::{ELIGIBLE, NUMBERS, VOTES};
+use sl_compile_plans::Part::{Fixed, Given};
+use sl_compile_plans::{Cursor, ONES, Plan, Test, lay};
 use sl_ratio::NoMemory;
 
 /// One more in the column's cell at the cursors.
@@ -117,7 +117,7 @@ const MINORITIES: &Plan<'static> = &Plan::Then(
 
 const EVERYONE: &Plan<'static> = &Plan::Each(Cursor::Party, LET_IN);
 
-/// The plan, and behind it the rest; or the rest alone.
+/// The plan, and after it the rest; or the rest alone.
 fn before<'a>(is_there: bool, plan: &'a Plan<'a>, rest: &'a Plan<'a>) -> Plan<'a>
     ensures { (given : List SpecInstr) → tree_of given result ≡ cond is_there (Then (tree_of given plan.now) (tree_of given rest.now)) (tree_of given rest.now) }
 {
@@ -128,7 +128,7 @@ fn before<'a>(is_there: bool, plan: &'a Plan<'a>, rest: &'a Plan<'a>) -> Plan<'a
     }
 }
 
-/// The instructions of the blanks: the share of the votes, what it is parted by, and the winners. Those of conditions that are not there
+/// The instructions of the blanks: the share of the votes, what it is separated by, and the winners. Those of conditions that are not there
 /// are not laid out.
 fn given_of(few: &Easiest) -> [Instr; 3]
     ensures { result ≡ given_of few.now }

@@ -1,18 +1,18 @@
 //! The first seats of each entry, and how it enters the table.
 
 ghost use Rattle.std.specs.Prelude.{◌≡◌, IsSome};
-ghost use Rattle.sl_plans.specs.inner.Layout.{tree_of};
+ghost use Rattle.sl_compile_plans.specs.inner.Layout.{tree_of};
 ghost use Rattle.sl_blocks.specs.inner.Given.{given_of};
 ghost use Rattle.sl_blocks.specs.inner.LayoutParts.{fill_entries, fill_outside};
 
 use crate::blanks::{Block, ENTER_BASE, GET_MINIMUM, GET_WEIGHT, GIVE, STORE_BASE, TABLE, WEIGH};
 use crate::entries::{NOTHING, by_party, each_entry};
-use sl_instructions::Instr;
-use sl_pieces::registers::{
+use sl_code_instructions::Instr;
+use sl_compile_pieces::registers::{
     AMOUNT, BASE, FIRST_PASSING, LEFT, NUMBER, SECOND_PASSING, STEP, TOTAL, TURNS, WEIGHT,
 };
-use sl_plans::Part::Fixed;
-use sl_plans::{Bound, Cursor, ONES, Plan, Test};
+use sl_compile_plans::Part::Fixed;
+use sl_compile_plans::{Bound, Cursor, ONES, Plan, Test};
 use sl_ratio::{MAX_SEATS, Method};
 use sl_stages::Majority;
 

@@ -1,13 +1,13 @@
 //! The forms of splits and growths: what the entries are, and in which scopes.
 
 ghost use Rattle.std.specs.Prelude.{◌≡◌};
-ghost use Rattle.sl_pieces.specs.declared.form.Form.{Form as SpecForm};
-ghost use Rattle.sl_pieces.specs.scopes.Forms.{table_of, kind_of};
+ghost use Rattle.sl_compile_pieces.specs.declared.form.Form.{Form as SpecForm};
+ghost use Rattle.sl_compile_pieces.specs.scopes.Forms.{table_of, kind_of};
 ghost use Rattle.sl_blocks.specs.inner.Jobs.{IsJob};
 
 use crate::job::Job;
-use sl_instructions::{Entries, ScopeKind};
-use sl_pieces::Form;
+use sl_code_instructions::{Entries, ScopeKind};
+use sl_compile_pieces::Form;
 use sl_stages::Shape;
 
 /// The form by the shapes of the amounts and of the votes.

@@ -1,13 +1,12 @@
 //! The block of a growth.
 
 ghost use Rattle.std.specs.Prelude.{◌≡◌, ◌+◌, ◌<◌, ◌≤◌, IfOk, OnErr, vec_len, IsSome, unwrap_or};
-ghost use Rattle.sl_plans.specs.inner.Layout.{tree_of};
-ghost use Rattle.sl_plans.specs.Trees.{size_of};
+ghost use Rattle.sl_compile_plans.specs.inner.Layout.{tree_of};
+ghost use Rattle.sl_compile_plans.specs.Trees.{size_of};
 ghost use Rattle.sl_blocks.specs.inner.Given.{given_of};
-ghost use Rattle.sl_blocks.specs.inner.Jobs.{IsGrowthBlock, IsGrowthJob};
+ghost use Rattle.sl_blocks.specs.inner.Jobs.{IsGrowthBlock, IsGrowthJob, IsGrowthPlan};
 ghost use Rattle.sl_blocks.specs.inner.Layout.{IsLaid};
 ghost use Rattle.sl_blocks.specs.inner.LayoutParts.{all_with, found_with, house_with, growth_all};
-ghost use Rattle.sl_blocks.specs.inner.Jobs.{IsGrowthPlan};
 
 use crate::blanks::Block;
 use crate::blocks::{MAX_BLOCK_INSTRS, lay_block};
@@ -16,13 +15,13 @@ use crate::form::form_of;
 use crate::houses::{CLEAR_SEARCH, TAKE_HOUSE, WITHIN_CAP, search_batches, search_entries};
 use crate::job::Job;
 use crate::sums::{lay_sums_with, some_votes};
-use sl_instructions::{Instr, MAX_INSTRS};
-use sl_plans::Plan;
+use sl_code_instructions::{Instr, MAX_INSTRS};
+use sl_compile_plans::Plan;
 use sl_ratio::{Divisor, Method, NoMemory};
 use sl_stages::Shape;
 
 /// Appends the block of a growth by a divisor method up to a cap of seats (docs/blocks.md, section 5), which leaves the entries'
-/// seats in the slot of the result, or ends the run with the growth's fault. It is the plan of `sl_pieces` behind a declaration.
+/// seats in the slot of the result, or ends the run with the growth's fault. It is the plan of `sl_compile_pieces` after a declaration.
 ///
 /// The slots of the job are among those given and have the shapes of a growth: one amount, and minima; the cap is within the limit; the
 /// code has room for a block.
@@ -68,7 +67,7 @@ pub fn lay_growth_with(
     lay_house_with(code, block, &filled)
 }
 
-/// The same, of which this comes behind the house of each scope.
+/// The same, of which this comes after the house of each scope.
 fn lay_house_with(code: &mut Vec<Instr>, block: &Block, rest: &Plan<'_>) -> Result<(), NoMemory>
     requires { vec_len code.old + size_of (all_with block.now (house_with block.now (unwrap_or block.now.cap 0) (tree_of (given_of block.now) rest.now))) < MAX_INSTRS }
     ensures ok { IfOk result (λ _. IsLaid (all_with block.now (house_with block.now (unwrap_or block.now.cap 0) (tree_of (given_of block.now) rest.now))) (vec_len code.old) code.old.items code.new.items) }

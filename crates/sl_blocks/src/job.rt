@@ -7,7 +7,7 @@ use sl_stages::Majority;
 pub struct Job {
     /// The number of the stage.
     pub stage: u8,
-    /// The slot of the seats to give out.
+    /// The slot of the seats to distribute.
     pub amount: u8,
     /// The slot of the votes.
     pub weights: u8,

@@ -1,20 +1,20 @@
 //! The blocks of the last clause beside a covering (docs/compiler.md, section 6).
 
 ghost use Rattle.std.specs.Prelude.{◌≡◌, [], ◌∷◌, IfOk, OnErr};
-ghost use Rattle.sl_instructions.specs.declared.instr.Instr.TheVariants.{Input as Reads};
-ghost use Rattle.sl_instructions.specs.declared.operand.Input.TheVariants as input;
-ghost use Rattle.sl_plans.specs.Trees.{Line};
-ghost use Rattle.sl_pieces.specs.closing.Trees.{place_kept};
-ghost use Rattle.sl_pieces.specs.declared.slots.TheConstants.{NAMES_LEFT as names_left};
+ghost use Rattle.sl_code_instructions.specs.declared.instr.Instr.TheVariants.{Input as Reads};
+ghost use Rattle.sl_code_instructions.specs.declared.operand.Input.TheVariants as input;
+ghost use Rattle.sl_compile_plans.specs.Trees.{Line};
+ghost use Rattle.sl_compile_pieces.specs.closing.Trees.{place_kept};
+ghost use Rattle.sl_compile_pieces.specs.declared.slots.TheConstants.{NAMES_LEFT as names_left};
 ghost use Rattle.sl_blocks.specs.Facts.{HasFirstSlots};
 ghost use Rattle.sl_blocks.specs.PlanBlocks.{AreBlocks, HasRoom};
 
 use crate::facts::by_winner;
-use sl_instructions::{Input, Instr};
-use sl_pieces::registers::OTHER;
-use sl_pieces::slots::{ELIGIBLE, NAMES_LEFT};
-use sl_plans::Part::Fixed;
-use sl_plans::{Cursor, Plan, Test, lay};
+use sl_code_instructions::{Input, Instr};
+use sl_compile_pieces::registers::OTHER;
+use sl_compile_pieces::slots::{ELIGIBLE, NAMES_LEFT};
+use sl_compile_plans::Part::Fixed;
+use sl_compile_plans::{Cursor, Plan, Test, lay};
 use sl_ratio::NoMemory;
 
 /// Every winner of an eligible party with a list in the Land sits on it, and every other one as a single.

@@ -1,13 +1,12 @@
 //! The block of a split.
 
 ghost use Rattle.std.specs.Prelude.{◌≡◌, ◌+◌, ◌<◌, ◌≤◌, IfOk, OnErr, vec_len};
-ghost use Rattle.sl_plans.specs.inner.Layout.{tree_of};
-ghost use Rattle.sl_plans.specs.Trees.{size_of};
+ghost use Rattle.sl_compile_plans.specs.inner.Layout.{tree_of};
+ghost use Rattle.sl_compile_plans.specs.Trees.{size_of};
 ghost use Rattle.sl_blocks.specs.inner.Given.{given_of};
-ghost use Rattle.sl_blocks.specs.inner.Jobs.{IsSplitBlock, IsSplitJob};
+ghost use Rattle.sl_blocks.specs.inner.Jobs.{IsSplitBlock, IsSplitJob, IsSplitPlan};
 ghost use Rattle.sl_blocks.specs.inner.Layout.{IsLaid};
 ghost use Rattle.sl_blocks.specs.inner.LayoutParts.{split_all};
-ghost use Rattle.sl_blocks.specs.inner.Jobs.{IsSplitPlan};
 
 use crate::blanks::Block;
 use crate::blocks::{MAX_BLOCK_INSTRS, lay_block};
@@ -15,13 +14,13 @@ use crate::fills::{CLEAR_TABLE, fill_entries};
 use crate::form::form_of;
 use crate::job::Job;
 use crate::sums::{REFUSES_SEATS, lay_sums_with};
-use sl_instructions::{Instr, MAX_INSTRS};
-use sl_plans::Plan;
+use sl_code_instructions::{Instr, MAX_INSTRS};
+use sl_compile_plans::Plan;
 use sl_ratio::{Method, NoMemory};
 use sl_stages::Shape;
 
 /// Appends the block of a split by a method (docs/blocks.md, section 5), which leaves the entries' seats in the slot of the
-/// result, or ends the run with the split's fault. It is the plan of `sl_pieces` behind a declaration.
+/// result, or ends the run with the split's fault. It is the plan of `sl_compile_pieces` after a declaration.
 ///
 /// The slots of the job are among those given and have the shapes of a split; Hamilton's method takes no minima; the
 /// code has room for a block.

@@ -1,8 +1,8 @@
 //! The sums of a scope, and the seats that are refused by them.
 
 ghost use Rattle.std.specs.Prelude.{◌≡◌, ◌+◌, ◌<◌, IfOk, OnErr, vec_len};
-ghost use Rattle.sl_plans.specs.inner.Layout.{tree_of};
-ghost use Rattle.sl_plans.specs.Trees.{size_of};
+ghost use Rattle.sl_compile_plans.specs.inner.Layout.{tree_of};
+ghost use Rattle.sl_compile_plans.specs.Trees.{size_of};
 ghost use Rattle.sl_blocks.specs.declared.blanks.Block.{Block as SpecBlock};
 ghost use Rattle.sl_blocks.specs.inner.Given.{given_of};
 ghost use Rattle.sl_blocks.specs.inner.Layout.{IsLaid};
@@ -11,10 +11,10 @@ ghost use Rattle.sl_blocks.specs.inner.LayoutParts.{all_with, sum_entries, sums_
 use crate::blanks::{Block, GET_MINIMUM, GET_WEIGHT, NO_LIST, SHORT};
 use crate::entries::{NOTHING, by_party, each_entry};
 use crate::scopes::{START_SCOPE, lay_scopes};
-use sl_instructions::{Instr, MAX_INSTRS};
-use sl_pieces::registers::{AMOUNT, BASE, NEEDED, TOTAL, WEIGHT};
-use sl_plans::Part::Fixed;
-use sl_plans::{Cursor, Plan, Test};
+use sl_code_instructions::{Instr, MAX_INSTRS};
+use sl_compile_pieces::registers::{AMOUNT, BASE, NEEDED, TOTAL, WEIGHT};
+use sl_compile_plans::Part::Fixed;
+use sl_compile_plans::{Cursor, Plan, Test};
 use sl_ratio::NoMemory;
 
 const CLEAR_SUMS: &Plan<'static> = &Plan::Line(&[
@@ -44,7 +44,7 @@ fn sum_entries(block: &Block) -> Plan<'static>
     }
 }
 
-/// Appends a block with this plan behind the amount and the sums of each of its scopes.
+/// Appends a block with this plan after the amount and the sums of each of its scopes.
 pub fn lay_sums_with(code: &mut Vec<Instr>, block: &Block, rest: &Plan<'_>) -> Result<(), NoMemory>
     requires { vec_len code.old + size_of (all_with block.now (sums_with block.now (tree_of (given_of block.now) rest.now))) < MAX_INSTRS }
     ensures ok { IfOk result (λ _. IsLaid (all_with block.now (sums_with block.now (tree_of (given_of block.now) rest.now))) (vec_len code.old) code.old.items code.new.items) }

@@ -6,8 +6,8 @@ use Rattle.sl_stages.specs.declared.book.ColumnType.{ColumnType}
 use Rattle.sl_stages.specs.declared.book.Unit.TheVariants as unit
 use Rattle.sl_stages.specs.book.Trees.{ExprTree}
 use Rattle.sl_stages.specs.book.Typing.{Column, column, type_of, expr_tests}
-use Rattle.sl_terms.proofs.Tests.{fails_in_row}
-use Rattle.sl_terms.specs.Tests.{Test, first_failing, Judges}
+use Rattle.sl_base_terms.proofs.Tests.{fails_in_row}
+use Rattle.sl_base_terms.specs.Tests.{Test, first_failing, Judges}
 
 -- the first two lists may be taken together
 pub fails_behind : (a b c : List (Test CheckFault)) → first_failing (a ++ (b ++ c)) ≡ option_or (first_failing (a ++ b)) (first_failing c)
@@ -24,7 +24,7 @@ pub judges_behind : {A : Type 0} (r : Result A CheckFault) (front own all : List
 judges_behind (Ok z) front own all x y parts holds e h = (parts ∙ rw holds h.0, h.1 ∙ e)
 judges_behind (Err f) front own all x y parts holds e h = parts ∙ rw holds h
 
--- what three expressions fail, they fail with any tests behind them
+-- what three expressions fail, they fail with any tests after them
 pub fails_three : (cs : List Column) (a b c : ExprTree) (own : List (Test CheckFault)) (f : CheckFault) → first_failing (expr_tests cs a ++ (expr_tests cs b ++ expr_tests cs c)) ≡ Some f
     → first_failing (expr_tests cs a ++ (expr_tests cs b ++ (expr_tests cs c ++ own))) ≡ Some f
 fails_three cs a b c own f fails = fails_behind_three (expr_tests cs a) (expr_tests cs b) (expr_tests cs c) own ∙ rw fails refl

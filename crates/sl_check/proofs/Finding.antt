@@ -6,10 +6,10 @@ use Rattle.std.specs.List.{list_any}
 use Rattle.sl_stages.specs.declared.check_fault.CheckFault.TheVariants.{StageUnknown}
 use Rattle.sl_stages.specs.declared.book.Stage.{Stage}
 use Rattle.sl_stages.specs.declared.book.ColumnType.{ColumnType}
-use Rattle.sl_terms.specs.Tests.{test}
+use Rattle.sl_base_terms.specs.Tests.{test}
 use Rattle.sl_stages.specs.book.Typing.{Column, is_named, type_or_one}
 use Rattle.sl_check.specs.inner.Known.{columns}
-use Rattle.sl_terms.specs.Tests.{Judges}
+use Rattle.sl_base_terms.specs.Tests.{Judges}
 
 -- a column of another name is passed over
 pub find-drop : (n : List ℕ) (ss : List Stage) (ts : List ColumnType) (i : ℕ) (s : Stage)

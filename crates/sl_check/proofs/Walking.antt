@@ -7,10 +7,10 @@ use Rattle.sl_stages.specs.declared.check_fault.CheckFault.{CheckFault}
 use Rattle.sl_stages.specs.declared.book.Stage.{Stage}
 use Rattle.sl_stages.specs.declared.book.ColumnType.{ColumnType}
 use Rattle.sl_stages.specs.book.Trees.{tree_of, stage_of}
-use Rattle.sl_terms.specs.Tests.{first_failing}
+use Rattle.sl_base_terms.specs.Tests.{first_failing}
 use Rattle.sl_stages.specs.book.Typing.{Column, stage_column, columns_of, type_of, stage_tests, stages_tests}
 use Rattle.sl_check.specs.inner.Known.{columns}
-use Rattle.sl_terms.proofs.Tests.{fails_in_row}
+use Rattle.sl_base_terms.proofs.Tests.{fails_in_row}
 
 -- the first i stages pass, and have the columns of the first i types
 pub record Passed (ss : List Stage) (ts : List ColumnType) (i : ℕ) : Type 0 where
@@ -29,7 +29,7 @@ columns_next (x ∷ ss) (y ∷ ts) (suc i) s t lt room here = ap (λ cs. record 
 drop_here : (ss : List Stage) (i : ℕ) (s : Stage) → i < length ss → s ≡ get_or ss i s → drop i ss ≡ s ∷ drop (suc i) ss
 drop_here ss i s lt here = rw (← here) at (drop-cons ss i s lt)
 
--- the tests of the rest are those of the stage that comes next, and of those behind it
+-- the tests of the rest are those of the stage that comes next, and of those after it
 stages_here : (cs : List Column) (ss : List Stage) (i : ℕ) (s : Stage) → i < length ss → s ≡ get_or ss i s
     → first_failing (stages_tests cs (map stage_of (drop i ss)))
     ≡ option_or (first_failing (stage_tests cs (stage_of s))) (first_failing (stages_tests (cs ++ stage_column cs (stage_of s) ∷ []) (map stage_of (drop (suc i) ss))))

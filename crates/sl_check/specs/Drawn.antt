@@ -1,11 +1,11 @@
--- Among which entries seats are given out, and a lot decides (docs/language.md, section 2).
+-- Among which entries seats are distributed, and a lot decides (docs/language.md, section 2).
 use Rattle.std.specs.Prelude.{List, None, Option, Some}
 use Rattle.std.specs.Option.{option_or}
 use Rattle.sl_stages.specs.book.Trees.{ExprTree, fact, grow, name, pair, split, sum}
 use Rattle.sl_stages.specs.book.Typing.{Column, type_of}
-use Rattle.sl_terms.specs.declared.shape.Shape.{Shape}
+use Rattle.sl_base_terms.specs.declared.shape.Shape.{Shape}
 
--- the shape of the votes by which the split or the growth in an expression gives out seats, if it has one
+-- the shape of the votes by which the split or the growth in an expression distributes seats, if it has one
 abbrev pub given_shape : List Column → ExprTree → Option Shape
 given_shape cs (fact at told) = None
 given_shape cs (name at n) = None

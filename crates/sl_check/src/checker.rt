@@ -3,7 +3,7 @@
 ghost use Rattle.std.specs.Prelude.{◌≡◌, [], ◌∷◌, Some, IfOk, IfErr, IsTrue, IsOk, ◌↔◌};
 ghost use Rattle.sl_stages.specs.book.Books.{book_of};
 ghost use Rattle.sl_stages.specs.book.Typing.{version_tests, condition_tests, tests_of, check_fault, is_typed};
-ghost use Rattle.sl_terms.specs.Tests.{Judges};
+ghost use Rattle.sl_base_terms.specs.Tests.{Judges};
 
 use crate::columns::Columns;
 use crate::nodes::{is_seat_number, test};
@@ -44,7 +44,7 @@ fn check_conditions(conditions: &[Cond]) -> Result<(), CheckFault>
     Ok(())
 }
 
-#[tactic(auto, using(sl_terms::proofs::Tests::fails_in_row))]
+#[tactic(auto, using(sl_base_terms::proofs::Tests::fails_in_row))]
 fn check_book(book: &Book) -> Result<(), CheckFault>
     ensures { Judges result (tests_of (book_of book.now)) tt }
 {

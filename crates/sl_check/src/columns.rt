@@ -4,7 +4,7 @@ ghost use Rattle.std.specs.Prelude.{◌≡◌, ◌≤◌, find, option_map, leng
 ghost use Rattle.std.specs.List.{list_any};
 ghost use Rattle.sl_stages.specs.book.Typing.{is_named, type_or_one, name_tests, expr_tests, type_of};
 ghost use Rattle.sl_stages.specs.book.Trees.{tree_of};
-ghost use Rattle.sl_terms.specs.Tests.{Judges};
+ghost use Rattle.sl_base_terms.specs.Tests.{Judges};
 ghost use Rattle.sl_check.specs.inner.Known.{columns};
 
 use crate::nodes::{grow_type, pair_type, split_from_type, split_type, sum_type};
@@ -63,7 +63,7 @@ impl<'a> Columns<'a> {
 
     /// The types of two expressions.
     #[cycle(expr)]
-    #[tactic(auto, using(sl_terms::proofs::Tests::fails_in_row))]
+    #[tactic(auto, using(sl_base_terms::proofs::Tests::fails_in_row))]
     fn both(&self, left: &Expr, right: &Expr) -> Result<(ColumnType, ColumnType), CheckFault>
         ensures { let known = columns self.now.stages.now self.now.types.now
             in let l = tree_of left.now
@@ -94,7 +94,7 @@ impl<'a> Columns<'a> {
 
     /// The type of an expression.
     #[cycle(expr)]
-    #[tactic(auto, using(sl_terms::proofs::Tests::fails_in_row, crate::proofs::Failing::fails_behind))]
+    #[tactic(auto, using(sl_base_terms::proofs::Tests::fails_in_row, crate::proofs::Failing::fails_behind))]
     pub fn expr_type(&self, expr: &Expr) -> Result<ColumnType, CheckFault>
         ensures { let known = columns self.now.stages.now self.now.types.now
             in Judges result (expr_tests known (tree_of expr.now)) (type_of known (tree_of expr.now)) }

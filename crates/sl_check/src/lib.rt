@@ -1,4 +1,7 @@
 //! The checker of rulebooks: which of them are well formed, and what is wrong with any other.
+//!
+//! Stands on `sl_stages`; used by the rooms count, explain and report. Proved: a rulebook is typed, or the fault is that of the first test that
+//! fails.
 #![tactic(auto)]
 
 mod checker;

@@ -1,13 +1,11 @@
 //! What a node gives, by the types of its arguments.
 
 ghost use Rattle.std.specs.Prelude.{◌≡◌, ◌&&◌, [], ◌∷◌};
-ghost use Rattle.sl_terms.specs.declared.shape.Shape.TheVariants as shape;
+ghost use Rattle.sl_base_terms.specs.declared.shape.Shape.TheVariants as shape;
 ghost use Rattle.sl_stages.specs.declared.book.Unit.TheVariants as unit;
-ghost use Rattle.sl_terms.specs.Tests.{test};
-ghost use Rattle.sl_stages.specs.book.Typing.{column, same_unit, shape_over, can_sum, can_split, is_hamilton, is_prefer, is_seat_number};
-ghost use Rattle.sl_terms.specs.Shapes.{same_shape};
-ghost use Rattle.sl_terms.specs.Tests.{Judges};
-ghost use Rattle.sl_stages.specs.book.Typing.{sum_tests, pair_tests, share_from_tests, split_tests, split_from_tests, grow_tests};
+ghost use Rattle.sl_base_terms.specs.Tests.{test, Judges};
+ghost use Rattle.sl_stages.specs.book.Typing.{column, same_unit, shape_over, can_sum, can_split, is_hamilton, is_prefer, is_seat_number, sum_tests, pair_tests, share_from_tests, split_tests, split_from_tests, grow_tests};
+ghost use Rattle.sl_base_terms.specs.Shapes.{same_shape};
 
 use sl_ratio::Method;
 use sl_stages::{Axis, CheckFault, ColumnType, MAX_SEATS, Majority, Number, Shape, Unit};

@@ -1,4 +1,4 @@
-//! The types of expressions whose tests hold, and the shape of the entries to which a stage gives out seats.
+//! The types of expressions whose tests hold, and the shape of the entries to which a stage distributes seats.
 
 ghost use Rattle.std.specs.Prelude.{◌≡◌, ◌≤◌, [], length, map};
 ghost use Rattle.sl_check.specs.Drawn.{given_shape};
@@ -31,7 +31,7 @@ impl Columns<'_> {
         }
     }
 
-    /// The shape of the entries to which the split or the growth in an expression gives out seats, if it has one.
+    /// The shape of the entries to which the split or the growth in an expression distributes seats, if it has one.
     pub fn given_shape(&self, expr: &Expr) -> Option<Shape>
         ensures { result ≡ given_shape (columns self.now.stages.now self.now.types.now) (tree_of expr.now) }
     {
@@ -47,7 +47,7 @@ impl Columns<'_> {
     }
 }
 
-/// The types of the columns of stages whose tests hold, in order; what stands behind them is of no stage.
+/// The types of the columns of stages whose tests hold, in order; what stands after them is of no stage.
 pub fn types_of(stages: &[Stage]) -> [ColumnType; MAX_STAGES]
     requires { length stages.now ≤ MAX_STAGES }
     ensures { columns stages.now result ≡ columns_of [] (map stage_of stages.now) }

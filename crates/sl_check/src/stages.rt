@@ -3,9 +3,8 @@
 ghost use Rattle.std.specs.Prelude.{◌≡◌, ◌≤◌, [], ◌∷◌, map, length, Some, None, MatchResult, IsTrue};
 ghost use Rattle.sl_stages.specs.book.Trees.{tree_of, stage_of};
 ghost use Rattle.sl_stages.specs.book.Limits.{parts_of, is_within_limits};
-ghost use Rattle.sl_terms.specs.Tests.{first_failing};
+ghost use Rattle.sl_base_terms.specs.Tests.{first_failing, Judges};
 ghost use Rattle.sl_stages.specs.book.Typing.{type_of, stage_tests, stages_tests, columns_of, base_tests};
-ghost use Rattle.sl_terms.specs.Tests.{Judges};
 ghost use Rattle.sl_check.specs.inner.Known.{columns};
 
 use crate::columns::Columns;
@@ -43,7 +42,7 @@ impl<'a> Columns<'a> {
     }
 }
 
-/// The types of the stages' columns, in order; what stands behind them is of no stage.
+/// The types of the stages' columns, in order; what stands after them is of no stage.
 pub fn stage_types(stages: &[Stage]) -> Result<[ColumnType; MAX_STAGES], CheckFault>
     requires { IsTrue (is_within_limits (map stage_of stages.now)) }
     ensures { let trees = map stage_of stages.now

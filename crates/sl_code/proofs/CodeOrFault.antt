@@ -5,26 +5,26 @@ use Rattle.std.proofs.lemmas.Bool.{and_parts, and_from, eqb-true, false≢true, 
 use Rattle.std.proofs.lemmas.Bool.Decides.{leb_tells}
 use Rattle.std.proofs.lemmas.List.Concat.{flat_map_single}
 use Rattle.sl_ratio.specs.declared.names.TheConstants.{MAX_NAME_BYTES}
-use Rattle.sl_terms.specs.declared.shape.TheConstants.{SHAPES}
-use Rattle.sl_terms.specs.declared.shape.Shape.{Shape}
-use Rattle.sl_terms.specs.declared.shape.Shape.TheVariants as shapes
-use Rattle.sl_terms.specs.declared.limits.TheConstants.{MAX_STAGES}
-use Rattle.sl_terms.specs.Shapes.{shape_number}
-use Rattle.sl_terms.specs.Words.{is_letter, is_word}
-use Rattle.sl_instructions.specs.declared.code.TheConstants.{MAX_SLOTS, MAX_INSTRS}
+use Rattle.sl_base_terms.specs.declared.shape.TheConstants.{SHAPES}
+use Rattle.sl_base_terms.specs.declared.shape.Shape.{Shape}
+use Rattle.sl_base_terms.specs.declared.shape.Shape.TheVariants as shapes
+use Rattle.sl_base_terms.specs.declared.limits.TheConstants.{MAX_STAGES}
+use Rattle.sl_base_terms.specs.Shapes.{shape_number}
+use Rattle.sl_base_terms.specs.Words.{is_letter, is_word}
+use Rattle.sl_code_instructions.specs.declared.code.TheConstants.{MAX_SLOTS, MAX_INSTRS}
 use Rattle.sl_code.specs.declared.fault.Cause.TheVariants as causes
 use Rattle.sl_code.specs.declared.fault.Cause.{Cause}
 use Rattle.sl_code.specs.declared.fault.CodeFault.{CodeFault}
 use Rattle.sl_code.specs.declared.fault.CodeFault.TheVariants as faults
 use Rattle.sl_code.specs.declared.fault.Refusal.TheVariants as refusals
 use Rattle.sl_code.specs.declared.fault.Stop.{Stop}
-use Rattle.sl_instructions.specs.declared.parts.Operand.TheVariants as o
-use Rattle.sl_instructions.specs.Codes.{CountingCode}
-use Rattle.sl_instructions.specs.Proper.{IsStage}
+use Rattle.sl_code_instructions.specs.declared.parts.Operand.TheVariants as o
+use Rattle.sl_code_instructions.specs.Codes.{CountingCode}
+use Rattle.sl_code_instructions.specs.Proper.{IsStage}
 use Rattle.sl_code.specs.Faults.{FailsOpening, FailsCount, FailsLongCount, cut, above, FailsList, in_count, in_element, FailsStage, in_length, behind_length, FailsShape, FailsInstr, FailsInstrs, FailsFile, in_opening, IsAny, IsFault, shape_bytes, one_byte, letters, is_byte, is_at_most, is_name_length, is_name_byte, name_tests, fault_of, stop_at}
 use Rattle.sl_code.specs.Laws.{IsByte, CodeOrFault}
 use Rattle.sl_code.specs.Operands.{four_bytes, is_any, is_shape}
-use Rattle.sl_instructions.specs.Proper.{IsInRange, IsProper}
+use Rattle.sl_code_instructions.specs.Proper.{IsInRange, IsProper}
 use Rattle.sl_code.specs.Reading.{IsReading}
 use Rattle.sl_code.specs.Spelling.{instr_bytes, stage_bytes, opening, stages_part, slots_part, instrs_part}
 use Rattle.sl_code.proofs.Determined.{StandsList}

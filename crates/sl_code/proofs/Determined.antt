@@ -32,7 +32,7 @@ from_one wrong (test ∷ tests) (x ∷ rest) a b f g =
 pub tests_one : (wrong : List ℕ → Stop) (tests : List (ℕ → Bool)) (here : List ℕ) (a b : Stop) → FailsTests wrong tests here a → FailsTests wrong tests here b → a ≡ b
 tests_one wrong tests here a b f g = from_one wrong tests here a b f.fails g.fails
 
--- what fails behind a byte that passes
+-- what fails after a byte that passes
 pub passed : (wrong : List ℕ → Stop) (test : ℕ → Bool) (tests : List (ℕ → Bool)) (x : ℕ) (rest : List ℕ) (stop : Stop) → IsTrue (test x)
     → FailsTests wrong (test ∷ tests) (x ∷ rest) stop → FailsTests wrong tests rest stop
 passed wrong test tests x rest stop passes failing =
@@ -84,12 +84,12 @@ module _ {X : Type 0} (f : X → List ℕ) (Is : X → Type 0) (Fails : List ℕ
   element_one n here a b first second =
       fail_one first.before second.before here first.rest second.rest a b first.are second.are first.stand second.stand first.fails second.fails
 
--- ---- one part behind another
+-- ---- one part after another
 
 abbrev pub Both : (Stands Then : List ℕ → List ℕ → Type 0) → List ℕ → List ℕ → Type 0
 Both Stands Then here rest = (mid : List ℕ) × Stands here mid × Then mid rest
 
--- a part fails, or it stands and what is behind it fails
+-- a part fails, or it stands and what is after it fails
 abbrev pub Sequence : (Stands : List ℕ → List ℕ → Type 0) (Fails Behind : List ℕ → Stop → Type 0) → List ℕ → Stop → Type 0
 Sequence Stands Fails Behind here stop = Fails here stop ⊎ ((rest : List ℕ) × Stands here rest × Behind rest stop)
 

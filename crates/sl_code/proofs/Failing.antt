@@ -2,9 +2,9 @@
 use Rattle.std.proofs.Common.{◌≡◌, ℕ, Bool, List, [], ◌∷◌, ◌++◌, IsTrue, MatchBool, refl, sym, subst}
 use Rattle.sl_code.specs.declared.fault.Cause.TheVariants as causes
 use Rattle.sl_code.specs.declared.fault.Stop.{Stop}
-use Rattle.sl_instructions.specs.declared.kinds.Cursors.{Cursors}
-use Rattle.sl_instructions.specs.declared.operand.ScopeKind.{ScopeKind}
-use Rattle.sl_instructions.specs.Numbers.{scope_number, cursors_number}
+use Rattle.sl_code_instructions.specs.declared.kinds.Cursors.{Cursors}
+use Rattle.sl_code_instructions.specs.declared.operand.ScopeKind.{ScopeKind}
+use Rattle.sl_code_instructions.specs.Numbers.{scope_number, cursors_number}
 use Rattle.sl_code.specs.Operands.{is_any, is_below, is_scope, two_bytes}
 use Rattle.sl_code.specs.Faults.{FailsFrom, FailsTests, stop_at}
 use Rattle.sl_code.specs.Reading.{Ends, FailsAhead}
@@ -26,7 +26,7 @@ pub later : (test : ℕ → Bool) (tests : List (ℕ → Bool)) (b : ℕ) (old h
 later test tests b old here stop old_is failing passes =
     record { fails = λ more. pass (stop_at causes.Op) test (tests ++ more) b old here stop old_is passes (failing.fails more) }
 
--- two bytes behind one another
+-- two bytes one after another
 pub later_two : (test next : ℕ → Bool) (tests : List (ℕ → Bool)) (a b : ℕ) (old here : List ℕ) (stop : Stop) → old ≡ a ∷ b ∷ here → FailsAhead tests here stop → IsTrue (test a) → IsTrue (next b)
     → FailsAhead (test ∷ next ∷ tests) old stop
 later_two test next tests a b old here stop old_is failing first second =
@@ -37,7 +37,7 @@ unfolding two_bytes
 later_registers tests n old here stop old_is failing =
     later_two is_any is_any tests _ _ old here stop old_is failing refl refl
 
--- tests that are failed, with more of them behind
+-- tests that are failed, with more of them after
 pub more_two : (test next : ℕ → Bool) (tests : List (ℕ → Bool)) (here : List ℕ) (stop : Stop) → FailsAhead (test ∷ next ∷ []) here stop → FailsAhead (test ∷ next ∷ tests) here stop
 more_two test next tests here stop failing = record { fails = λ more. failing.fails (tests ++ more) }
 

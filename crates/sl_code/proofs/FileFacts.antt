@@ -4,19 +4,19 @@ use Rattle.std.specs.Int.{w32, from_le_bytes}
 use Rattle.std.specs.List.{All}
 use Rattle.std.proofs.lemmas.Nat.{from_le_bytes-to_le_bytes_4}
 use Rattle.std.proofs.lemmas.List.Concat.{flat_map_single}
-use Rattle.sl_terms.specs.declared.limits.TheConstants.{MAX_STAGES}
-use Rattle.sl_terms.specs.declared.shape.Shape.{Shape}
-use Rattle.sl_instructions.specs.declared.code.TheConstants.{MAX_SLOTS, MAX_INSTRS}
-use Rattle.sl_instructions.specs.declared.code.CodeStage.{CodeStage}
+use Rattle.sl_base_terms.specs.declared.limits.TheConstants.{MAX_STAGES}
+use Rattle.sl_base_terms.specs.declared.shape.Shape.{Shape}
+use Rattle.sl_code_instructions.specs.declared.code.TheConstants.{MAX_SLOTS, MAX_INSTRS}
+use Rattle.sl_code_instructions.specs.declared.code.CodeStage.{CodeStage}
 use Rattle.sl_code.specs.declared.fault.Cause.TheVariants as causes
 use Rattle.sl_code.specs.declared.fault.CodeFault.{CodeFault}
 use Rattle.sl_code.specs.declared.fault.Stop.{Stop}
-use Rattle.sl_instructions.specs.declared.instr.Instr.{Instr}
-use Rattle.sl_instructions.specs.Codes.{CountingCode, IsCode}
-use Rattle.sl_terms.specs.Shapes.{shape_number}
+use Rattle.sl_code_instructions.specs.declared.instr.Instr.{Instr}
+use Rattle.sl_code_instructions.specs.Codes.{CountingCode, IsCode}
+use Rattle.sl_base_terms.specs.Shapes.{shape_number}
 use Rattle.sl_code.specs.Operands.{four_bytes}
 use Rattle.sl_code.specs.Spelling.{instr_bytes, stage_bytes, opening, stages_part, slots_part, instrs_part, spelling_of}
-use Rattle.sl_instructions.specs.Proper.{IsStage}
+use Rattle.sl_code_instructions.specs.Proper.{IsStage}
 use Rattle.sl_code.specs.Faults.{FailsTests, FailsOpening, FailsCount, FailsLongCount, cut, above, FailsStage, FailsStages, FailsShape, FailsSlots, FailsInstr, FailsInstrs, FailsFile, in_opening, in_stages, in_slots, in_instrs, behind, IsAny, IsFault, fault_of, shape_bytes, one_byte, letters, is_byte, is_at_most, stop_at}
 use Rattle.sl_code.proofs.Determined.{OneWay, tests_one, StandsList, list_way, Both, Sequence, sequence}
 use Rattle.sl_code.proofs.Fronts.{head, tail, front_same, back_same}
@@ -132,7 +132,7 @@ instrs_stand instrs rest few =
 
 -- ---- files
 
--- nothing stands behind a code
+-- nothing stands after a code
 abbrev StandsEnd : List ℕ → List ℕ → Type 0
 StandsEnd here rest = (here ≡ []) × (rest ≡ [])
 
@@ -185,7 +185,7 @@ pub in_parts : (c : CountingCode) → spelling_of c ≡ opening ++ (stages_part 
 in_parts c =
     sym (append-nil (spelling_of c)) ∙ append_assoc (opening ++ stages_part c.stages ++ slots_part c.slots) (instrs_part c.instrs) [] ∙ nested c.stages c.slots (instrs_part c.instrs ++ [])
 
--- nothing is left behind the parts
+-- nothing is left after the parts
 pub parts_whole : (c : CountingCode) (bytes a b d rest : List ℕ) → bytes ≡ opening ++ a → a ≡ stages_part c.stages ++ b → b ≡ slots_part c.slots ++ d → d ≡ instrs_part c.instrs ++ rest → length rest ≤ 0 → bytes ≡ spelling_of c
 parts_whole c bytes a b d [] opened staged slotted coded none =
     opened ∙ ap (λ t. opening ++ t) (staged ∙ ap (λ t. stages_part c.stages ++ t) (slotted ∙ ap (λ t. slots_part c.slots ++ t) coded)) ∙ sym (in_parts c)

@@ -10,7 +10,7 @@ tail x y xs ys e = cc
 pub no_front : {X : Type 0} (x : X) (xs : List X) → x ∷ xs ≡ [] → ⊥
 no_front x xs e = cc
 
--- behind fronts of one length
+-- after fronts of one length
 pub back_same : {X : Type 0} (xs ys r s : List X) → length xs ≡ length ys → xs ++ r ≡ ys ++ s → r ≡ s
 back_same [] [] r s long e = e
 back_same [] (y ∷ ys) r s long e = absurd (omega (arith, long))

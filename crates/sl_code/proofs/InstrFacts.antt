@@ -2,11 +2,11 @@
 use Rattle.std.proofs.Common.{◌≡◌, ℕ, Bool, List, [], ◌∷◌, ◌++◌, length, map, flat_map, refl, sym, ap, subst, ◌∙◌}
 use Rattle.sl_code.specs.declared.fault.Cause.TheVariants as causes
 use Rattle.sl_code.specs.declared.fault.Stop.{Stop}
-use Rattle.sl_instructions.specs.declared.instr.Instr.{Instr}
-use Rattle.sl_instructions.specs.declared.instr.Instr.TheVariants.{Set}
-use Rattle.sl_instructions.specs.declared.parts.Operand.{Operand}
-use Rattle.sl_instructions.specs.declared.parts.Operand.TheVariants as o
-use Rattle.sl_instructions.specs.Rows.{opcode_of, operands_of}
+use Rattle.sl_code_instructions.specs.declared.instr.Instr.{Instr}
+use Rattle.sl_code_instructions.specs.declared.instr.Instr.TheVariants.{Set}
+use Rattle.sl_code_instructions.specs.declared.parts.Operand.{Operand}
+use Rattle.sl_code_instructions.specs.declared.parts.Operand.TheVariants as o
+use Rattle.sl_code_instructions.specs.Rows.{opcode_of, operands_of}
 use Rattle.sl_code.specs.Operands.{bytes_of, tests_of, two_bytes, four_bytes, eight_bytes, is_any}
 use Rattle.sl_code.specs.Spelling.{instr_bytes}
 use Rattle.sl_code.specs.Faults.{FailsTests, FailsInstr, missing, meaningless, in_operands, instr_tests, stop_at, IsAny}

@@ -6,24 +6,24 @@ use Rattle.std.specs.List.{All, AllByRecursion}
 use Rattle.std.proofs.lemmas.List.Elements.{All-head, All-tail}
 use Rattle.std.proofs.lemmas.List.Concat.{flat_map_single}
 use Rattle.std.proofs.lemmas.Nat.{from_le_bytes-to_le_bytes_2, from_le_bytes-to_le_bytes_4, from_le_bytes-to_le_bytes_8}
-use Rattle.sl_terms.specs.declared.shape.TheConstants.{SHAPES}
-use Rattle.sl_terms.specs.declared.shape.Shape.{Shape}
-use Rattle.sl_terms.specs.declared.shape.Shape.TheVariants as shapes
-use Rattle.sl_instructions.specs.declared.code.CodeStage.{CodeStage}
+use Rattle.sl_base_terms.specs.declared.shape.TheConstants.{SHAPES}
+use Rattle.sl_base_terms.specs.declared.shape.Shape.{Shape}
+use Rattle.sl_base_terms.specs.declared.shape.Shape.TheVariants as shapes
+use Rattle.sl_code_instructions.specs.declared.code.CodeStage.{CodeStage}
 use Rattle.sl_code.specs.declared.fault.CodeFault.{CodeFault}
 use Rattle.sl_code.specs.declared.fault.CodeFault.TheVariants as faults
-use Rattle.sl_instructions.specs.declared.instr.Instr.{Instr}
-use Rattle.sl_instructions.specs.declared.parts.Operand.{Operand}
-use Rattle.sl_instructions.specs.declared.parts.Operand.TheVariants as o
-use Rattle.sl_instructions.specs.Codes.{CountingCode}
-use Rattle.sl_terms.specs.Shapes.{shape_number}
-use Rattle.sl_instructions.specs.Rows.{opcode_of, operands_of}
+use Rattle.sl_code_instructions.specs.declared.instr.Instr.{Instr}
+use Rattle.sl_code_instructions.specs.declared.parts.Operand.{Operand}
+use Rattle.sl_code_instructions.specs.declared.parts.Operand.TheVariants as o
+use Rattle.sl_code_instructions.specs.Codes.{CountingCode}
+use Rattle.sl_base_terms.specs.Shapes.{shape_number}
+use Rattle.sl_code_instructions.specs.Rows.{opcode_of, operands_of}
 use Rattle.sl_code.specs.Operands.{bytes_of, two_bytes, four_bytes, eight_bytes}
-use Rattle.sl_instructions.specs.Numbers.{value_of}
+use Rattle.sl_code_instructions.specs.Numbers.{value_of}
 use Rattle.sl_code.specs.Spelling.{instr_bytes, stage_bytes, opening, stages_part, slots_part, instrs_part, spelling_of}
-use Rattle.sl_instructions.specs.Proper.{IsStage}
+use Rattle.sl_code_instructions.specs.Proper.{IsStage}
 use Rattle.sl_code.specs.Faults.{IsAny, shape_bytes}
-use Rattle.sl_instructions.specs.Proper.{FitsBytes, IsInRange, IsProper}
+use Rattle.sl_code_instructions.specs.Proper.{FitsBytes, IsInRange, IsProper}
 use Rattle.sl_code.specs.Reading.{IsReading}
 use Rattle.sl_code.proofs.FileFacts.{in_parts, four_same, spelling_none}
 use Rattle.sl_code.proofs.Fronts.{head, tail, front_same, back_same}

@@ -8,9 +8,9 @@ use Rattle.std.proofs.lemmas.List.FromFn.{get_or-range_with_len}
 use Rattle.std.proofs.lemmas.Result.{IfErr-weaker}
 use Rattle.sl_code.specs.declared.fault.Cause.TheVariants as causes
 use Rattle.sl_code.specs.declared.fault.Stop.{Stop}
-use Rattle.sl_instructions.specs.declared.instr.Instr.{Instr}
-use Rattle.sl_instructions.specs.declared.instr.Instr.TheVariants.{Set, Wland}
-use Rattle.sl_instructions.specs.Rows.{opcode_of}
+use Rattle.sl_code_instructions.specs.declared.instr.Instr.{Instr}
+use Rattle.sl_code_instructions.specs.declared.instr.Instr.TheVariants.{Set, Wland}
+use Rattle.sl_code_instructions.specs.Rows.{opcode_of}
 use Rattle.sl_code.specs.Faults.{FailsTests, FailsInstr, meaningless, in_operands, IsOperation, instr_tests, stop_at}
 use Rattle.sl_code.specs.Reading.{FailsAhead}
 use Rattle.sl_code.proofs.Fronts.{head, tail}

@@ -57,7 +57,7 @@ joined [] more (b ∷ front) back p q = absurd p
 joined (test ∷ tests) more [] back p q = absurd p
 joined (test ∷ tests) more (b ∷ front) back p q = (p.0, p.1, joined tests more front back p.2 q)
 
--- only what is behind them fails
+-- only what is after them fails
 module _ (wrong : List ℕ → Stop) where
   pub fails_over : (tests more : List (ℕ → Bool)) (front rest : List ℕ) (stop : Stop) → Passes IsAny tests front → FailsTests wrong more rest stop → FailsTests wrong (tests ++ more) (front ++ rest) stop
   fails_over [] more [] rest stop p f = f
@@ -71,7 +71,7 @@ module _ (wrong : List ℕ → Stop) where
   none_fails (test ∷ tests) [] rest stop p f = absurd p
   none_fails (test ∷ tests) (b ∷ front) rest stop p f = none_fails tests front rest stop p.2 (passed wrong test tests b (front ++ rest) stop p.0 f)
 
--- the bytes that pass the first tests, and those behind them
+-- the bytes that pass the first tests, and those after them
 pub record Parted (tests more : List (ℕ → Bool)) (bytes : List ℕ) : Type 0 where
   pub front : List ℕ
   pub back : List ℕ

@@ -4,19 +4,19 @@ use Rattle.std.specs.Result.{IfErr}
 use Rattle.std.specs.List.{All}
 use Rattle.std.proofs.lemmas.List.Concat.{flat_map-append}
 use Rattle.std.proofs.lemmas.Result.{IfErr-weaker}
-use Rattle.sl_terms.specs.declared.limits.TheConstants.{MAX_STAGES}
-use Rattle.sl_terms.specs.declared.shape.Shape.{Shape}
-use Rattle.sl_instructions.specs.declared.code.TheConstants.{MAX_SLOTS, MAX_INSTRS}
-use Rattle.sl_instructions.specs.declared.code.CodeStage.{CodeStage}
+use Rattle.sl_base_terms.specs.declared.limits.TheConstants.{MAX_STAGES}
+use Rattle.sl_base_terms.specs.declared.shape.Shape.{Shape}
+use Rattle.sl_code_instructions.specs.declared.code.TheConstants.{MAX_SLOTS, MAX_INSTRS}
+use Rattle.sl_code_instructions.specs.declared.code.CodeStage.{CodeStage}
 use Rattle.sl_code.specs.declared.fault.Cause.TheVariants as causes
 use Rattle.sl_code.specs.declared.fault.Refusal.{Refusal}
 use Rattle.sl_code.specs.declared.fault.Refusal.TheVariants as refusals
 use Rattle.sl_code.specs.declared.fault.Stop.{Stop}
-use Rattle.sl_instructions.specs.declared.instr.Instr.{Instr}
-use Rattle.sl_instructions.specs.Codes.{CountingCode}
+use Rattle.sl_code_instructions.specs.declared.instr.Instr.{Instr}
+use Rattle.sl_code_instructions.specs.Codes.{CountingCode}
 use Rattle.sl_code.specs.Operands.{is_any, four_bytes}
 use Rattle.sl_code.specs.Spelling.{opening, stages_part, slots_part, instrs_part, spelling_of}
-use Rattle.sl_instructions.specs.Proper.{IsStage}
+use Rattle.sl_code_instructions.specs.Proper.{IsStage}
 use Rattle.sl_code.specs.Faults.{FailsTests, FailsLongCount, cut, above, FailsElement, FailsList, in_element, FailsStages, FailsSlots, FailsInstrs, FailsFile, in_stages, in_slots, in_instrs, behind, IsAny, stop_at}
 use Rattle.sl_code.specs.Reading.{FailsAhead, Refuses}
 

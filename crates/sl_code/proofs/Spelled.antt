@@ -14,23 +14,23 @@ use Rattle.sl_ratio.specs.declared.method.Divisor.TheVariants as divisors
 use Rattle.sl_ratio.specs.Quotient.{method_number}
 use Rattle.sl_code.specs.declared.fault.Cause.TheVariants as causes
 use Rattle.sl_code.specs.declared.fault.Stop.{Stop}
-use Rattle.sl_instructions.specs.declared.instr.Instr.{Instr}
-use Rattle.sl_instructions.specs.declared.instr.Instr.TheVariants.{Set, Wland}
-use Rattle.sl_instructions.specs.declared.operand.TheConstants.{ENTRY_KINDS, RANKINGS, SCOPE_KINDS, INPUTS, END_FAULTS, ROUNDINGS}
-use Rattle.sl_instructions.specs.declared.operand.EndFault.TheVariants as faults
-use Rattle.sl_instructions.specs.declared.operand.Entries.TheVariants as entries
-use Rattle.sl_instructions.specs.declared.operand.Input.TheVariants as inputs
-use Rattle.sl_instructions.specs.declared.operand.Ranking.TheVariants as rankings
-use Rattle.sl_instructions.specs.declared.operand.Rounding.TheVariants as roundings
-use Rattle.sl_instructions.specs.declared.operand.ScopeKind.TheVariants as scopes
-use Rattle.sl_instructions.specs.declared.parts.Operand.{Operand}
-use Rattle.sl_instructions.specs.declared.parts.Operand.TheVariants as o
+use Rattle.sl_code_instructions.specs.declared.instr.Instr.{Instr}
+use Rattle.sl_code_instructions.specs.declared.instr.Instr.TheVariants.{Set, Wland}
+use Rattle.sl_code_instructions.specs.declared.operand.TheConstants.{ENTRY_KINDS, RANKINGS, SCOPE_KINDS, INPUTS, END_FAULTS, ROUNDINGS}
+use Rattle.sl_code_instructions.specs.declared.operand.EndFault.TheVariants as faults
+use Rattle.sl_code_instructions.specs.declared.operand.Entries.TheVariants as entries
+use Rattle.sl_code_instructions.specs.declared.operand.Input.TheVariants as inputs
+use Rattle.sl_code_instructions.specs.declared.operand.Ranking.TheVariants as rankings
+use Rattle.sl_code_instructions.specs.declared.operand.Rounding.TheVariants as roundings
+use Rattle.sl_code_instructions.specs.declared.operand.ScopeKind.TheVariants as scopes
+use Rattle.sl_code_instructions.specs.declared.parts.Operand.{Operand}
+use Rattle.sl_code_instructions.specs.declared.parts.Operand.TheVariants as o
 use Rattle.sl_code.specs.Faults.{FailsInstr, missing, meaningless, in_operands, stop_at}
 use Rattle.sl_code.specs.Laws.{IsByte}
-use Rattle.sl_instructions.specs.Numbers.{scope_number, entries_number, ranking_number, input_number, rounding_number, fault_number, cursors_number, table_number}
+use Rattle.sl_code_instructions.specs.Numbers.{scope_number, entries_number, ranking_number, input_number, rounding_number, fault_number, cursors_number, table_number}
 use Rattle.sl_code.specs.Operands.{bytes_of, tests_of, two_bytes, four_bytes, eight_bytes, is_any, is_below, is_number, is_scope, is_entries, is_ranking, is_input, is_method, is_rounding, is_end_fault}
-use Rattle.sl_instructions.specs.Proper.{FitsBytes, IsInRange}
-use Rattle.sl_instructions.specs.Rows.{opcode_of, operands_of}
+use Rattle.sl_code_instructions.specs.Proper.{FitsBytes, IsInRange}
+use Rattle.sl_code_instructions.specs.Rows.{opcode_of, operands_of}
 use Rattle.sl_code.specs.Spelling.{instr_bytes}
 use Rattle.sl_code.proofs.Found.{found_in}
 use Rattle.sl_code.proofs.Operations.{none_known}

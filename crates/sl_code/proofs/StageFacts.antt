@@ -3,16 +3,16 @@ use Rattle.std.proofs.Common.{◌≡◌, ℕ, ◌&&◌, List, [], ◌∷◌, ◌
 use Rattle.std.specs.List.{list_all}
 use Rattle.std.proofs.lemmas.Bool.{and_parts, and_from, false≢true}
 use Rattle.sl_ratio.specs.declared.names.TheConstants.{MAX_NAME_BYTES}
-use Rattle.sl_terms.specs.declared.shape.Shape.{Shape}
-use Rattle.sl_terms.specs.declared.shape.Shape.TheVariants as shapes
-use Rattle.sl_terms.specs.Words.{is_letter, is_word}
-use Rattle.sl_instructions.specs.declared.code.CodeStage.{CodeStage}
+use Rattle.sl_base_terms.specs.declared.shape.Shape.{Shape}
+use Rattle.sl_base_terms.specs.declared.shape.Shape.TheVariants as shapes
+use Rattle.sl_base_terms.specs.Words.{is_letter, is_word}
+use Rattle.sl_code_instructions.specs.declared.code.CodeStage.{CodeStage}
 use Rattle.sl_code.specs.declared.fault.Cause.TheVariants as causes
 use Rattle.sl_code.specs.declared.fault.Stop.{Stop}
-use Rattle.sl_terms.specs.Shapes.{shape_number}
+use Rattle.sl_base_terms.specs.Shapes.{shape_number}
 use Rattle.sl_code.specs.Operands.{is_any, is_shape}
 use Rattle.sl_code.specs.Spelling.{stage_bytes}
-use Rattle.sl_instructions.specs.Proper.{IsStage}
+use Rattle.sl_code_instructions.specs.Proper.{IsStage}
 use Rattle.sl_code.specs.Faults.{FailsTests, FailsStage, in_length, behind_length, FailsShape, IsAny, shape_bytes, is_name_length, is_name_byte, name_tests, stop_at}
 use Rattle.sl_code.proofs.Determined.{tests_one}
 use Rattle.sl_code.proofs.Fronts.{head, tail, back_same}

@@ -37,7 +37,7 @@ module _ {X : Type 0} (f : X → List ℕ) (Is : X → Type 0) (Fails : List ℕ
   abbrev AllOrFault : ℕ → List ℕ → Type 0
   AllOrFault n here = TakenAll f Is n here ⊎ ((stop : Stop) × FailsElement f Is Fails n here stop)
 
-  -- behind the first element
+  -- after the first element
   more : (n : ℕ) (here : List ℕ) (t : Taken f Is here) → AllOrFault n t.rest → AllOrFault (suc n) here
   more n here t (inl all) =
       inl (record {

@@ -3,28 +3,28 @@ use Rattle.std.proofs.Common.{◌≡◌, ℕ, ◌+◌, ◌*◌, Bool, true, fals
 use Rattle.sl_ratio.specs.declared.method.TheConstants.{DIVISORS}
 use Rattle.sl_ratio.specs.declared.method.Divisor.{Divisor}
 use Rattle.sl_ratio.specs.declared.method.Divisor.TheVariants as divisors
-use Rattle.sl_instructions.specs.declared.instr.Instr.{Instr}
-use Rattle.sl_instructions.specs.declared.instr.Instr.TheVariants.{Set, Mov, Add, Sub, Mul, Div, Rem, Max, Jmp, Jz, Jlt, Jnl, Get, Store, Zero, Input, House, Wparty, Wland, Fparty, Nparty, Fland, Nland, Fwin, Nwin, Table, Prio, Rest, Lead, Share, Peers, Take, Lot, Takelot, Emit, Given, Fault, Tie, Seat, Single, Halt, At, Haltv, Weigh}
-use Rattle.sl_instructions.specs.declared.kinds.Cursors.{Cursors}
-use Rattle.sl_instructions.specs.declared.kinds.TableState.{TableState}
-use Rattle.sl_instructions.specs.declared.operand.TheConstants.{ENTRY_KINDS, RANKINGS, SCOPE_KINDS, INPUTS, END_FAULTS, ROUNDINGS}
-use Rattle.sl_instructions.specs.declared.operand.EndFault.{EndFault}
-use Rattle.sl_instructions.specs.declared.operand.EndFault.TheVariants as faults
-use Rattle.sl_instructions.specs.declared.operand.Entries.{Entries}
-use Rattle.sl_instructions.specs.declared.operand.Entries.TheVariants as entries
-use Rattle.sl_instructions.specs.declared.operand.Input.{Input as InputColumn}
-use Rattle.sl_instructions.specs.declared.operand.Input.TheVariants as inputs
-use Rattle.sl_instructions.specs.declared.operand.Ranking.{Ranking}
-use Rattle.sl_instructions.specs.declared.operand.Ranking.TheVariants as rankings
-use Rattle.sl_instructions.specs.declared.operand.Rounding.{Rounding}
-use Rattle.sl_instructions.specs.declared.operand.Rounding.TheVariants as roundings
-use Rattle.sl_instructions.specs.declared.operand.ScopeKind.{ScopeKind}
-use Rattle.sl_instructions.specs.declared.operand.ScopeKind.TheVariants as scopes
+use Rattle.sl_code_instructions.specs.declared.instr.Instr.{Instr}
+use Rattle.sl_code_instructions.specs.declared.instr.Instr.TheVariants.{Set, Mov, Add, Sub, Mul, Div, Rem, Max, Jmp, Jz, Jlt, Jnl, Get, Store, Zero, Input, House, Wparty, Wland, Fparty, Nparty, Fland, Nland, Fwin, Nwin, Table, Prio, Rest, Lead, Share, Peers, Take, Lot, Takelot, Emit, Given, Fault, Tie, Seat, Single, Halt, At, Haltv, Weigh}
+use Rattle.sl_code_instructions.specs.declared.kinds.Cursors.{Cursors}
+use Rattle.sl_code_instructions.specs.declared.kinds.TableState.{TableState}
+use Rattle.sl_code_instructions.specs.declared.operand.TheConstants.{ENTRY_KINDS, RANKINGS, SCOPE_KINDS, INPUTS, END_FAULTS, ROUNDINGS}
+use Rattle.sl_code_instructions.specs.declared.operand.EndFault.{EndFault}
+use Rattle.sl_code_instructions.specs.declared.operand.EndFault.TheVariants as faults
+use Rattle.sl_code_instructions.specs.declared.operand.Entries.{Entries}
+use Rattle.sl_code_instructions.specs.declared.operand.Entries.TheVariants as entries
+use Rattle.sl_code_instructions.specs.declared.operand.Input.{Input as InputColumn}
+use Rattle.sl_code_instructions.specs.declared.operand.Input.TheVariants as inputs
+use Rattle.sl_code_instructions.specs.declared.operand.Ranking.{Ranking}
+use Rattle.sl_code_instructions.specs.declared.operand.Ranking.TheVariants as rankings
+use Rattle.sl_code_instructions.specs.declared.operand.Rounding.{Rounding}
+use Rattle.sl_code_instructions.specs.declared.operand.Rounding.TheVariants as roundings
+use Rattle.sl_code_instructions.specs.declared.operand.ScopeKind.{ScopeKind}
+use Rattle.sl_code_instructions.specs.declared.operand.ScopeKind.TheVariants as scopes
 use Rattle.sl_ratio.specs.Quotient.{method_number}
-use Rattle.sl_instructions.specs.Numbers.{scope_number, entries_number, ranking_number, input_number, rounding_number, fault_number, cursors_number, table_number, flag}
-use Rattle.sl_instructions.specs.Rows.{opcode_of, operands_of}
+use Rattle.sl_code_instructions.specs.Numbers.{scope_number, entries_number, ranking_number, input_number, rounding_number, fault_number, cursors_number, table_number, flag}
+use Rattle.sl_code_instructions.specs.Rows.{opcode_of, operands_of}
 use Rattle.sl_code.specs.Operands.{is_below, is_scope, is_entries, is_ranking, is_input, is_method, is_rounding, is_end_fault}
-use Rattle.sl_instructions.specs.Numbers.{value_of}
+use Rattle.sl_code_instructions.specs.Numbers.{value_of}
 
 -- ---- the value of a number; its own number passes and gives it back
 

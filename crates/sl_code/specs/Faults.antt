@@ -1,21 +1,21 @@
 -- Which fault bytes have that spell no code (docs/code.md, section 1).
 use Rattle.std.specs.Prelude.{◌≡◌, ℕ, zero, suc, ◌-◌, ◌<◌, ◌≤◌, ◌^◌, Bool, ◌||◌, ◌&&◌, List, [], ◌∷◌, ◌++◌, length, flat_map, replicate, All, IsTrue, MatchBool, ◌⊎◌, nat_eq, nat_le, nat_lt}
 use Rattle.sl_ratio.specs.declared.names.TheConstants.{MAX_NAME_BYTES}
-use Rattle.sl_terms.specs.declared.limits.TheConstants.{MAX_STAGES}
-use Rattle.sl_terms.specs.declared.shape.Shape.{Shape}
-use Rattle.sl_terms.specs.Words.{is_letter, is_digit}
-use Rattle.sl_instructions.specs.declared.code.TheConstants.{MAX_SLOTS, MAX_INSTRS}
-use Rattle.sl_instructions.specs.declared.code.CodeStage.{CodeStage}
+use Rattle.sl_base_terms.specs.declared.limits.TheConstants.{MAX_STAGES}
+use Rattle.sl_base_terms.specs.declared.shape.Shape.{Shape}
+use Rattle.sl_base_terms.specs.Words.{is_letter, is_digit}
+use Rattle.sl_code_instructions.specs.declared.code.TheConstants.{MAX_SLOTS, MAX_INSTRS}
+use Rattle.sl_code_instructions.specs.declared.code.CodeStage.{CodeStage}
 use Rattle.sl_code.specs.declared.fault.Cause.{Cause}
 use Rattle.sl_code.specs.declared.fault.Cause.TheVariants as causes
 use Rattle.sl_code.specs.declared.fault.Stop.{Stop}
 use Rattle.sl_code.specs.declared.fault.CodeFault.{CodeFault}
 use Rattle.sl_code.specs.declared.fault.CodeFault.TheVariants as faults
-use Rattle.sl_instructions.specs.declared.instr.Instr.{Instr}
-use Rattle.sl_instructions.specs.Codes.{CountingCode, IsCode}
-use Rattle.sl_instructions.specs.Proper.{IsStage}
-use Rattle.sl_terms.specs.Shapes.{shape_number}
-use Rattle.sl_instructions.specs.Rows.{opcode_of, operands_of}
+use Rattle.sl_code_instructions.specs.declared.instr.Instr.{Instr}
+use Rattle.sl_code_instructions.specs.Codes.{CountingCode, IsCode}
+use Rattle.sl_code_instructions.specs.Proper.{IsStage}
+use Rattle.sl_base_terms.specs.Shapes.{shape_number}
+use Rattle.sl_code_instructions.specs.Rows.{opcode_of, operands_of}
 use Rattle.sl_code.specs.Operands.{tests_of, four_bytes, is_any, is_shape}
 use Rattle.sl_code.specs.Spelling.{instr_bytes, stage_bytes, opening, stages_part, slots_part, spelling_of}
 
@@ -64,7 +64,7 @@ pub data FailsLongCount (most : ℕ) (here : List ℕ) (stop : Stop) : Type 0 wh
   cut : length here < 4 → stop ≡ stop_at causes.Short [] → FailsLongCount most here stop
   above : (n : ℕ) (rest : List ℕ) → here ≡ four_bytes n ++ rest → n < 2 ^ 32 → most < n → stop ≡ stop_at causes.Limit here → FailsLongCount most here stop
 
--- Fewer elements than n stand here, and what stands behind them is no element.
+-- Fewer elements than n stand here, and what stands after them is no element.
 pub record FailsElement {X : Type 0} (bytes_of : X → List ℕ) (Is : X → Type 0) (Fails : List ℕ → Stop → Type 0) (n : ℕ) (here : List ℕ) (stop : Stop) : Type 0 where
   pub before : List X
   pub are : All Is before

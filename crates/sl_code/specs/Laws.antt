@@ -1,14 +1,14 @@
 -- What the definitions of code files imply.
 use Rattle.std.specs.Prelude.{◌≡◌, ◌≢◌, ℕ, ◌<◌, List, All, Result, Ok, Err, ◌⊎◌}
-use Rattle.sl_terms.specs.declared.limits.TheConstants.{MAX_STAGES}
-use Rattle.sl_instructions.specs.declared.code.TheConstants.{MAX_SLOTS, MAX_INSTRS}
+use Rattle.sl_base_terms.specs.declared.limits.TheConstants.{MAX_STAGES}
+use Rattle.sl_code_instructions.specs.declared.code.TheConstants.{MAX_SLOTS, MAX_INSTRS}
 use Rattle.sl_code.specs.declared.fault.CodeFault.{CodeFault}
 use Rattle.sl_code.specs.declared.fault.CodeFault.TheVariants as faults
-use Rattle.sl_instructions.specs.Codes.{CountingCode, IsCode}
+use Rattle.sl_code_instructions.specs.Codes.{CountingCode, IsCode}
 use Rattle.sl_code.specs.Spelling.{spelling_of}
-use Rattle.sl_instructions.specs.Proper.{IsStage}
+use Rattle.sl_code_instructions.specs.Proper.{IsStage}
 use Rattle.sl_code.specs.Faults.{IsFault}
-use Rattle.sl_instructions.specs.Proper.{IsProper}
+use Rattle.sl_code_instructions.specs.Proper.{IsProper}
 use Rattle.sl_code.specs.Reading.{IsReading}
 
 abbrev pub Limits : Type 0

@@ -1,18 +1,18 @@
 -- What reading a file, an instruction or an element gives.
 use Rattle.std.specs.Prelude.{◌≡◌, ℕ, Bool, ◌||◌, List, [], ◌++◌, flat_map, nat_eq, nat_le, ◌&&◌, length, IsTrue, Result, Ok, Err}
-use Rattle.sl_terms.specs.Words.{is_word}
+use Rattle.sl_base_terms.specs.Words.{is_word}
 use Rattle.sl_code.specs.declared.fault.Cause.TheVariants as causes
 use Rattle.sl_code.specs.declared.fault.Stop.{Stop}
 use Rattle.sl_code.specs.declared.fault.CodeFault.{CodeFault}
 use Rattle.sl_code.specs.declared.fault.Refusal.{Refusal}
 use Rattle.sl_code.specs.declared.fault.Refusal.TheVariants as refusals
-use Rattle.sl_instructions.specs.declared.instr.Instr.{Instr}
-use Rattle.sl_instructions.specs.Codes.{CountingCode}
-use Rattle.sl_instructions.specs.Rows.{opcode_of, operands_of}
+use Rattle.sl_code_instructions.specs.declared.instr.Instr.{Instr}
+use Rattle.sl_code_instructions.specs.Codes.{CountingCode}
+use Rattle.sl_code_instructions.specs.Rows.{opcode_of, operands_of}
 use Rattle.sl_code.specs.Operands.{bytes_of}
 use Rattle.sl_code.specs.Spelling.{spelling_of}
 use Rattle.sl_code.specs.Faults.{FailsTests, stop_at, IsRefusal}
-use Rattle.sl_instructions.specs.Proper.{IsInRange, IsProper}
+use Rattle.sl_code_instructions.specs.Proper.{IsInRange, IsProper}
 
 -- what reading may answer for these bytes: a proper code that they spell; else their fault, or that memory ran out
 abbrev pub IsReading : List ℕ → Result CountingCode CodeFault → Type 0
@@ -29,7 +29,7 @@ pub record Ends (here : List ℕ) (stop : Stop) : Type 0 where
   pub none : here ≡ []
   pub is : stop ≡ stop_at causes.Short []
 
--- the first bytes fail these tests, whatever is asked of those behind
+-- the first bytes fail these tests, whatever is asked of those after
 pub record FailsAhead (tests : List (ℕ → Bool)) (here : List ℕ) (stop : Stop) : Type 0 where
   pub fails : (more : List (ℕ → Bool)) → FailsTests (stop_at causes.Op) (tests ++ more) here stop
 

@@ -1,11 +1,11 @@
 -- How a code is spelled in bytes (docs/code.md, section 1).
 use Rattle.std.specs.Prelude.{ℕ, List, [], ◌∷◌, ◌++◌, length, map, flat_map}
-use Rattle.sl_terms.specs.declared.shape.Shape.{Shape}
-use Rattle.sl_instructions.specs.declared.code.CodeStage.{CodeStage}
-use Rattle.sl_instructions.specs.declared.instr.Instr.{Instr}
-use Rattle.sl_instructions.specs.Codes.{CountingCode}
-use Rattle.sl_terms.specs.Shapes.{shape_number}
-use Rattle.sl_instructions.specs.Rows.{opcode_of, operands_of}
+use Rattle.sl_base_terms.specs.declared.shape.Shape.{Shape}
+use Rattle.sl_code_instructions.specs.declared.code.CodeStage.{CodeStage}
+use Rattle.sl_code_instructions.specs.declared.instr.Instr.{Instr}
+use Rattle.sl_code_instructions.specs.Codes.{CountingCode}
+use Rattle.sl_base_terms.specs.Shapes.{shape_number}
+use Rattle.sl_code_instructions.specs.Rows.{opcode_of, operands_of}
 use Rattle.sl_code.specs.Operands.{bytes_of, four_bytes}
 
 -- an instruction: its operation and its operands

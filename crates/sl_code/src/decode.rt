@@ -1,17 +1,17 @@
 //! Reads an instruction.
 
 ghost use Rattle.std.specs.Prelude.{◌≡◌, ◌∷◌, ◌++◌, [], IsTrue, IfOk, IfErr};
-ghost use Rattle.sl_instructions.specs.Numbers.{scope_number};
+ghost use Rattle.sl_code_instructions.specs.Numbers.{scope_number};
 ghost use Rattle.sl_code.specs.Operands.{is_any, is_below, is_scope, is_entries, is_ranking, is_input, is_method, is_rounding, is_end_fault};
 ghost use Rattle.sl_code.specs.Spelling.{instr_bytes};
-ghost use Rattle.sl_instructions.specs.declared.instr.Instr.TheVariants as instrs;
+ghost use Rattle.sl_code_instructions.specs.declared.instr.Instr.TheVariants as instrs;
 ghost use Rattle.sl_code.specs.Faults.{FailsInstr, instr_tests};
-ghost use Rattle.sl_instructions.specs.Proper.{IsInRange};
+ghost use Rattle.sl_code_instructions.specs.Proper.{IsInRange};
 ghost use Rattle.sl_code.specs.Reading.{FailsAhead, Reads, is_binary, is_column, is_jump, is_branch, is_unary, is_scoped};
 
 use crate::fault::{Cause, Stop};
 use crate::reader::Reader;
-use sl_instructions::{Instr, Kinds, ScopeKind};
+use sl_code_instructions::{Instr, Kinds, ScopeKind};
 
 impl<'a> Reader<'a> {
     pub fn instr(&mut self) -> Result<Instr, Stop>

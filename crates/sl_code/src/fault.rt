@@ -28,7 +28,7 @@ pub enum CodeFault {
 }
 
 impl CodeFault {
-    // The text before the offset, the offset, and the text behind it. Want of memory has none.
+    // The text before the offset, the offset, and the text after it. Out of memory has none.
     fn words(self) -> Option<(&'static str, usize, &'static str)> {
         match self {
             CodeFault::Magic(at) => Some(("the file does not begin like a code file at ", at, "")),

@@ -2,21 +2,20 @@
 
 ghost use Rattle.std.specs.Prelude.{◌≡◌, ◌∷◌, ◌++◌, ◌<◌, ◌≤◌, ◌^◌, [], length, flat_map, map, All, IsTrue, IfOk, IfErr, OnOk};
 ghost use Rattle.std.specs.List.{list_all};
-ghost use Rattle.sl_terms.specs.declared.limits.TheConstants.{MAX_STAGES as most_stages};
-ghost use Rattle.sl_terms.specs.Words.{is_letter};
-ghost use Rattle.sl_instructions.specs.declared.code.TheConstants.{MAX_SLOTS as most_slots, MAX_INSTRS as most_instrs};
+ghost use Rattle.sl_base_terms.specs.declared.limits.TheConstants.{MAX_STAGES as most_stages};
+ghost use Rattle.sl_base_terms.specs.Words.{is_letter};
+ghost use Rattle.sl_code_instructions.specs.declared.code.TheConstants.{MAX_SLOTS as most_slots, MAX_INSTRS as most_instrs};
 ghost use Rattle.sl_code.specs.declared.fault.Cause.TheVariants as causes;
-ghost use Rattle.sl_terms.specs.Shapes.{shape_number};
+ghost use Rattle.sl_base_terms.specs.Shapes.{shape_number};
 ghost use Rattle.sl_code.specs.Operands.{four_bytes};
 ghost use Rattle.sl_code.specs.Spelling.{opening, instr_bytes, stage_bytes, stages_part, slots_part, instrs_part, spelling_of};
-ghost use Rattle.sl_instructions.specs.Proper.{IsStage};
+ghost use Rattle.sl_code_instructions.specs.Proper.{IsStage, IsInRange, IsProper};
 ghost use Rattle.sl_code.specs.Faults.{FailsTests, FailsOpening, FailsCount, FailsLongCount, FailsElement, FailsStage, FailsStages, FailsShape, FailsSlots, FailsInstr, FailsInstrs, FailsFile, IsAny, shape_bytes, is_byte, is_name_length, is_name_byte, name_tests, fault_of, stop_at};
-ghost use Rattle.sl_instructions.specs.Proper.{IsInRange, IsProper};
 ghost use Rattle.sl_code.specs.Reading.{FailsAhead, IsReading, Refuses, IsName};
 
 use crate::fault::{Cause, CodeFault, Refusal, Stop};
 use crate::reader::Reader;
-use sl_instructions::{Code, CodeStage, Instr, MAX_INSTRS, MAX_SLOTS};
+use sl_code_instructions::{Code, CodeStage, Instr, MAX_INSTRS, MAX_SLOTS};
 use sl_ratio::MAX_NAME_BYTES;
 use sl_stages::{MAX_STAGES, Shape, Word};
 use std::alloc::Global;

@@ -5,15 +5,11 @@ ghost use Rattle.std.specs.Fmt.{decimal};
 ghost use Rattle.sl_code.specs.Listing.{operand_word, line_of, listing_of};
 
 use crate::append::{extend, push};
-use sl_instructions::{Code, Instr, Operand};
+use sl_code_instructions::{Code, Instr, Operand};
 use sl_ratio::NoMemory;
 use std::alloc::Global;
 
 /// The listing of a code: a line for each instruction, with its number, its name and its operands (docs/code.md, section 3).
-///
-/// # Errors
-///
-/// Want of memory.
 pub fn listing(alloc: Global, code: &Code) -> Result<Vec<u8>, NoMemory>
     ensures { IfOk result (λ text. text.items ≡ listing_of code.now) }
 {

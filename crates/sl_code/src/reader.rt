@@ -2,14 +2,14 @@
 
 ghost use Rattle.std.specs.Prelude.{◌≡◌, ◌+◌, ◌<◌, ◌≤◌, ◌^◌, ◌∷◌, ◌++◌, [], length, IsTrue, IfOk, IfErr};
 ghost use Rattle.sl_code.specs.declared.fault.Cause.TheVariants as causes;
-ghost use Rattle.sl_instructions.specs.declared.parts.Operand.TheVariants as operands;
+ghost use Rattle.sl_code_instructions.specs.declared.parts.Operand.TheVariants as operands;
 ghost use Rattle.sl_code.specs.Operands.{two_bytes, four_bytes, eight_bytes, is_any, tests_of};
 ghost use Rattle.sl_code.specs.Faults.{FailsTests, stop_at};
 ghost use Rattle.sl_code.specs.Reading.{Ends, FailsAhead};
 
 use crate::fault::{Cause, Stop};
 use crate::number::FromNumber;
-use sl_instructions::Registers;
+use sl_code_instructions::Registers;
 use std::marker::Model;
 
 /// The bytes that are still to be read.

@@ -1,12 +1,12 @@
 //! Writes a code as bytes.
 
 ghost use Rattle.std.specs.Prelude.{◌≡◌, ◌∷◌, ◌++◌, flat_map, map, IfOk, OnOk};
-ghost use Rattle.sl_terms.specs.Shapes.{shape_number};
+ghost use Rattle.sl_base_terms.specs.Shapes.{shape_number};
 ghost use Rattle.sl_code.specs.Operands.{bytes_of};
 ghost use Rattle.sl_code.specs.Spelling.{opening, instr_bytes, stage_bytes, stages_part, slots_part, instrs_part, spelling_of};
 
 use crate::append::{extend, extend_eight, extend_four, extend_two, push};
-use sl_instructions::{Code, CodeStage, Instr, Operand, TableState};
+use sl_code_instructions::{Code, CodeStage, Instr, Operand, TableState};
 use sl_ratio::NoMemory;
 use sl_stages::Shape;
 use std::alloc::Global;
@@ -15,10 +15,6 @@ use std::alloc::Global;
 pub(crate) const OPENING: [u8; 4] = *b"SLC\x01";
 
 /// The spelling of a code (docs/code.md, section 1). Each code has one (`laws::one_code`).
-///
-/// # Errors
-///
-/// Want of memory.
 pub fn to_bytes(alloc: Global, code: &Code) -> Result<Vec<u8>, NoMemory>
     ensures { IfOk result (λ bytes. bytes.items ≡ spelling_of code.now) }
 {

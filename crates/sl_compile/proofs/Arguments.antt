@@ -5,14 +5,14 @@ use Rattle.sl_stages.specs.declared.book.Expr.{Expr}
 use Rattle.sl_stages.specs.book.Trees.{ExprTree, tree_of}
 use Rattle.sl_stages.specs.book.Limits.{depth_of}
 use Rattle.sl_stages.specs.book.Typing.{Column, type_of}
-use Rattle.sl_instructions.specs.declared.instr.Instr.{Instr}
-use Rattle.sl_instructions.specs.Codes.{CountingCode}
-use Rattle.sl_plans.specs.Trees.{Tree}
-use Rattle.sl_pieces.specs.columns.Trees.{copy_tree}
-use Rattle.sl_pieces.specs.exprs.Slots.{passing, StandsOn}
-use Rattle.sl_pieces.specs.exprs.Pieces.{slot_of, pieces}
-use Rattle.sl_pieces.proofs.exprs.Places.{slot_stands}
-use Rattle.sl_books.proofs.Rows.{no_blocks}
+use Rattle.sl_code_instructions.specs.declared.instr.Instr.{Instr}
+use Rattle.sl_code_instructions.specs.Codes.{CountingCode}
+use Rattle.sl_compile_plans.specs.Trees.{Tree}
+use Rattle.sl_compile_pieces.specs.columns.Trees.{copy_tree}
+use Rattle.sl_compile_pieces.specs.exprs.Slots.{passing, StandsOn}
+use Rattle.sl_compile_pieces.specs.exprs.Pieces.{slot_of, pieces}
+use Rattle.sl_compile_pieces.proofs.exprs.Places.{slot_stands}
+use Rattle.sl_compile.proofs.rulebooks.Rows.{no_blocks}
 use Rattle.sl_blocks.specs.PlanBlocks.{AreBlocks, HasRoom}
 use Rattle.sl_compile.specs.inner.Earlier.{Fits}
 use Rattle.sl_compile.proofs.Places.{blocks_as, blocks_behind, blocks_where, room_as, room_first, room_rest}
@@ -80,7 +80,7 @@ module _ (types : List Column) {x y : ExprTree} {of : ColumnType} (is : x ≡ y)
 
 -- ---- two arguments, and what is by their types
 
--- the two fit, one a level on, and are less deep; the expression has what their types give, and behind their plans stand those that their types give
+-- the two fit, one a level on, and are less deep; the expression has what their types give, and after their plans stand those that their types give
 pub record Over (types : List Column) (stage level : ℕ) (x l r : ExprTree) (has : ColumnType → ColumnType → ColumnType) (rest : ColumnType → ColumnType → List Tree) : Type 0 where
   pub left : Fits types level l
   pub right : Fits types (level + 1) r

@@ -4,19 +4,19 @@ use Rattle.std.specs.Global.{Box}
 use Rattle.sl_stages.specs.declared.book.Pairing.{Pairing}
 use Rattle.sl_stages.specs.declared.book.Axis.{Axis}
 use Rattle.sl_stages.specs.declared.book.Axis.TheVariants as axis
-use Rattle.sl_terms.specs.declared.shape.Shape.{Shape}
+use Rattle.sl_base_terms.specs.declared.shape.Shape.{Shape}
 use Rattle.sl_stages.specs.declared.book.ColumnType.{ColumnType}
 use Rattle.sl_stages.specs.declared.book.Expr.{Expr, Sum, Pair}
 use Rattle.sl_stages.specs.book.Limits.{depth_of}
 use Rattle.sl_stages.specs.book.Trees.{ExprTree, tree_of, sum, pair}
 use Rattle.sl_stages.specs.book.Typing.{Column, column, shape_over, can_sum, type_of, expr_tests, sum_tests}
-use Rattle.sl_terms.proofs.Tests.{pass_parts, head_holds}
-use Rattle.sl_instructions.specs.declared.instr.Instr.{Instr}
-use Rattle.sl_instructions.specs.Codes.{CountingCode}
-use Rattle.sl_plans.specs.Trees.{Tree}
-use Rattle.sl_pieces.specs.columns.Trees.{sum_tree, pair_tree, summed}
-use Rattle.sl_pieces.specs.exprs.Slots.{passing, StandsOn}
-use Rattle.sl_pieces.specs.exprs.Pieces.{slot_of, pieces}
+use Rattle.sl_base_terms.proofs.Tests.{pass_parts, head_holds}
+use Rattle.sl_code_instructions.specs.declared.instr.Instr.{Instr}
+use Rattle.sl_code_instructions.specs.Codes.{CountingCode}
+use Rattle.sl_compile_plans.specs.Trees.{Tree}
+use Rattle.sl_compile_pieces.specs.columns.Trees.{sum_tree, pair_tree, summed}
+use Rattle.sl_compile_pieces.specs.exprs.Slots.{passing, StandsOn}
+use Rattle.sl_compile_pieces.specs.exprs.Pieces.{slot_of, pieces}
 use Rattle.sl_blocks.specs.PlanBlocks.{AreBlocks, HasRoom}
 use Rattle.sl_compile.specs.inner.Earlier.{Fits}
 use Rattle.sl_compile.proofs.Arguments.{Over, slot_on, first_room, own_room, own_blocks, has_as}

@@ -4,36 +4,36 @@ use Rattle.std.proofs.lemmas.List.{length-map}
 use Rattle.sl_stages.specs.declared.book.Cond.{Cond}
 use Rattle.sl_stages.specs.declared.book.Book.{Book}
 use Rattle.sl_stages.specs.declared.book.Stage.{Stage}
-use Rattle.sl_terms.specs.declared.shape.Shape.{Shape}
+use Rattle.sl_base_terms.specs.declared.shape.Shape.{Shape}
 use Rattle.sl_stages.specs.declared.book.ColumnType.{ColumnType}
-use Rattle.sl_terms.specs.declared.limits.TheConstants.{MAX_STAGES}
+use Rattle.sl_base_terms.specs.declared.limits.TheConstants.{MAX_STAGES}
 use Rattle.sl_stages.specs.book.Trees.{BookTree, stage_of}
 use Rattle.sl_stages.specs.book.Books.{book_of}
 use Rattle.sl_stages.specs.book.Limits.{is_within_limits}
-use Rattle.sl_terms.specs.Tests.{first_failing}
+use Rattle.sl_base_terms.specs.Tests.{first_failing}
 use Rattle.sl_stages.specs.book.Typing.{Column, columns_of, base_tests, is_typed}
-use Rattle.sl_instructions.specs.declared.code.CodeStage.{CodeStage}
-use Rattle.sl_instructions.specs.declared.instr.Instr.{Instr}
-use Rattle.sl_instructions.specs.Codes.{CountingCode}
-use Rattle.sl_instructions.specs.Proper.{IsStage}
-use Rattle.sl_instructions.specs.Proper.{IsProper}
-use Rattle.sl_plans.specs.Trees.{Tree}
-use Rattle.sl_pieces.specs.closing.Trees.{last_pieces, halting}
-use Rattle.sl_pieces.specs.exprs.Stages.{stages_pieces}
-use Rattle.sl_pieces.proofs.closing.Closings.{closings_achieve}
+use Rattle.sl_code_instructions.specs.declared.code.CodeStage.{CodeStage}
+use Rattle.sl_code_instructions.specs.declared.instr.Instr.{Instr}
+use Rattle.sl_code_instructions.specs.Codes.{CountingCode}
+use Rattle.sl_code_instructions.specs.Proper.{IsStage}
+use Rattle.sl_code_instructions.specs.Proper.{IsProper}
+use Rattle.sl_compile_plans.specs.Trees.{Tree}
+use Rattle.sl_compile_pieces.specs.closing.Trees.{last_pieces, halting}
+use Rattle.sl_compile_pieces.specs.exprs.Stages.{stages_pieces}
+use Rattle.sl_compile_pieces.proofs.closing.Closings.{closings_achieve}
 use Rattle.sl_blocks.specs.Facts.{HasFirstSlots}
 use Rattle.sl_blocks.specs.PlanBlocks.{AreBlocks, HasRoom}
-use Rattle.sl_books.specs.Codes.{facts_pieces, book_pieces, code_stages, book_code, HasSoFar, AreBookInstrs}
-use Rattle.sl_books.specs.Conditions.{SayTheSame}
-use Rattle.sl_books.specs.Compiled.{IsCompiled}
-use Rattle.sl_books.specs.Laws.{CanCompile}
-use Rattle.sl_books.proofs.Rows.{blocks_then, blocks_in}
-use Rattle.sl_books.proofs.Sizes.{few_stages, books_fit}
-use Rattle.sl_books.proofs.Proper.{books_are_proper}
-use Rattle.sl_books.proofs.Books.{books_are_compiled_by}
-use Rattle.sl_books.proofs.Costs.{books_cost}
-use Rattle.sl_books.proofs.KindsOfBooks.{books_are_kinded}
-use Rattle.sl_books.proofs.Slots.{has_first}
+use Rattle.sl_compile.specs.Codes.{facts_pieces, book_pieces, code_stages, book_code, HasSoFar, AreBookInstrs}
+use Rattle.sl_compile.specs.Conditions.{SayTheSame}
+use Rattle.sl_compile.specs.Compiled.{IsCompiled}
+use Rattle.sl_compile.specs.Laws.{CanCompile}
+use Rattle.sl_compile.proofs.rulebooks.Rows.{blocks_then, blocks_in}
+use Rattle.sl_compile.proofs.rulebooks.Sizes.{few_stages, books_fit}
+use Rattle.sl_compile.proofs.rulebooks.Proper.{books_are_proper}
+use Rattle.sl_compile.proofs.rulebooks.Books.{books_are_compiled_by}
+use Rattle.sl_compile.proofs.rulebooks.Costs.{books_cost}
+use Rattle.sl_compile.proofs.rulebooks.KindsOfBooks.{books_are_kinded}
+use Rattle.sl_compile.proofs.rulebooks.Slots.{has_first}
 use Rattle.sl_verify.specs.WellKinded.{IsWellKinded}
 use Rattle.sl_compile.specs.inner.Codes.{IsCodeOf}
 use Rattle.sl_compile.specs.inner.Slots.{low_shapes}
@@ -52,7 +52,7 @@ book_facts_room few k can before empty =
     (facts_room (facts_pieces few (book_of k)) (stages_pieces [] 0 (map stage_of k.stages.items)) (last_pieces (columns_of [] (map stage_of k.stages.items)) k.last)
     (book_room few (book_of k) can))
 
--- the blocks of its facts, of its stages and of its last clause, one behind the other
+-- the blocks of its facts, of its stages and of its last clause, one after the other
 module _ (few : List Cond) (k : Book) (can : CanCompile few (book_of k)) (before x : List Instr) (empty : before ≡ [])
     (first : AreBlocks HasFirstSlots (facts_pieces few (book_of k)) before x) where
   abbrev facts : List Tree

@@ -8,13 +8,13 @@ use Rattle.std.proofs.lemmas.List.Elements.{All-nil, All-cons, All-append}
 use Rattle.sl_stages.specs.declared.book.Cond.{Cond}
 use Rattle.sl_stages.specs.declared.book.Cond.TheVariants as condition
 use Rattle.sl_stages.specs.declared.check_fault.CheckFault.TheVariants as fault
-use Rattle.sl_terms.specs.Tests.{first_failing}
+use Rattle.sl_base_terms.specs.Tests.{first_failing}
 use Rattle.sl_stages.specs.book.Typing.{condition_tests}
-use Rattle.sl_terms.proofs.Tests.{head_holds}
+use Rattle.sl_base_terms.proofs.Tests.{head_holds}
 use Rattle.sl_stages.specs.returns.Election.{Election}
 use Rattle.sl_stages.specs.returns.Facts.{meets, is_eligible, valid_votes, all_valid_votes}
-use Rattle.sl_pieces.specs.facts.Laws.{IsShare}
-use Rattle.sl_books.specs.Conditions.{SayTheSame}
+use Rattle.sl_compile_pieces.specs.facts.Laws.{IsShare}
+use Rattle.sl_compile.specs.Conditions.{SayTheSame}
 use Rattle.sl_blocks.specs.declared.easiest.Share.{Share}
 use Rattle.sl_blocks.specs.declared.easiest.Easiest.{Easiest}
 use Rattle.sl_blocks.specs.inner.Few.{share_condition, share_in, winners_in, minority_in, all_in, few_of}

@@ -6,32 +6,32 @@ use Rattle.sl_ratio.specs.declared.method.Method.{Method}
 use Rattle.sl_ratio.specs.declared.method.Method.TheVariants as by
 use Rattle.sl_ratio.specs.declared.limits.TheConstants.{MAX_SEATS}
 use Rattle.sl_stages.specs.declared.book.Majority.{Majority}
-use Rattle.sl_terms.specs.declared.shape.Shape.{Shape}
-use Rattle.sl_terms.specs.declared.shape.Shape.TheVariants as shape
+use Rattle.sl_base_terms.specs.declared.shape.Shape.{Shape}
+use Rattle.sl_base_terms.specs.declared.shape.Shape.TheVariants as shape
 use Rattle.sl_stages.specs.declared.limits.TheConstants.{MAX_DEPTH}
-use Rattle.sl_terms.specs.declared.limits.TheConstants.{MAX_STAGES}
+use Rattle.sl_base_terms.specs.declared.limits.TheConstants.{MAX_STAGES}
 use Rattle.sl_stages.specs.book.Typing.{can_split}
-use Rattle.sl_instructions.specs.declared.code.CodeStage.{CodeStage}
-use Rattle.sl_instructions.specs.declared.instr.Instr.{Instr}
-use Rattle.sl_instructions.specs.Codes.{CountingCode}
-use Rattle.sl_plans.specs.Trees.{Tree}
-use Rattle.sl_pieces.specs.declared.form.Form.{Form}
-use Rattle.sl_pieces.specs.scopes.Forms.{amounts_of, votes_of}
-use Rattle.sl_pieces.specs.seats.Slots.{Slots}
-use Rattle.sl_pieces.specs.nodes.Trees.{split_tree, grow_tree}
-use Rattle.sl_books.proofs.Slots.{passing_there as passing_in_book, fact_there}
+use Rattle.sl_code_instructions.specs.declared.code.CodeStage.{CodeStage}
+use Rattle.sl_code_instructions.specs.declared.instr.Instr.{Instr}
+use Rattle.sl_code_instructions.specs.Codes.{CountingCode}
+use Rattle.sl_compile_plans.specs.Trees.{Tree}
+use Rattle.sl_compile_pieces.specs.declared.form.Form.{Form}
+use Rattle.sl_compile_pieces.specs.scopes.Forms.{amounts_of, votes_of}
+use Rattle.sl_compile_pieces.specs.seats.Slots.{Slots}
+use Rattle.sl_compile_pieces.specs.nodes.Trees.{split_tree, grow_tree}
+use Rattle.sl_compile.proofs.rulebooks.Slots.{passing_there as passing_in_book, fact_there}
 use Rattle.sl_blocks.specs.declared.job.Job.{Job}
 use Rattle.sl_blocks.specs.inner.Jobs.{slots_of, IsJob, TakesMinima, IsSplitJob, IsGrowthJob, HasJob}
-use Rattle.sl_pieces.specs.declared.arguments.Arguments.{Arguments}
-use Rattle.sl_pieces.specs.exprs.Slots.{passing, StandsOn, OfFact, InPassing}
-use Rattle.sl_pieces.specs.exprs.Pieces.{form_by, node_slots, split_piece, grow_piece}
-use Rattle.sl_pieces.proofs.exprs.Places.{stands_apart, amounts_stand_apart}
+use Rattle.sl_compile_pieces.specs.declared.arguments.Arguments.{Arguments}
+use Rattle.sl_compile_pieces.specs.exprs.Slots.{passing, StandsOn, OfFact, InPassing}
+use Rattle.sl_compile_pieces.specs.exprs.Pieces.{form_by, node_slots, split_piece, grow_piece}
+use Rattle.sl_compile_pieces.proofs.exprs.Places.{stands_apart, amounts_stand_apart}
 use Rattle.sl_compile.specs.inner.Slots.{low_shapes}
 use Rattle.sl_compile.specs.inner.Nodes.{AreArguments, MayHave}
 use Rattle.sl_blocks.specs.PlanBlocks.{AreBlocks}
 use Rattle.sl_blocks.specs.inner.Jobs.{IsSplitPlan, IsGrowthPlan}
-use Rattle.sl_books.specs.Codes.{HasSoFar}
-use Rattle.sl_books.proofs.Rows.{no_blocks, blocks_in}
+use Rattle.sl_compile.specs.Codes.{HasSoFar}
+use Rattle.sl_compile.proofs.rulebooks.Rows.{no_blocks, blocks_in}
 
 -- ---- slots
 

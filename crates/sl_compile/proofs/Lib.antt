@@ -1,4 +1,5 @@
 -- The lemmas of the compiler.
+pub mod rulebooks
 pub mod Places
 pub mod Easier
 pub mod Levels

@@ -1,14 +1,14 @@
--- Blocks one behind the other: under another name, behind others, and their room.
+-- Blocks one after the other: under another name, after others, and their room.
 use Rattle.std.proofs.Math.ListN.{drop_of_length-le}
 use Rattle.std.proofs.Math.Seq.{drop-cons}
 use Rattle.std.proofs.Common.{◌≡◌, ℕ, suc, ◌+◌, ◌<◌, ◌≤◌, List, [], ◌∷◌, ◌++◌, length, map, drop, get_or, add-one, Result, Ok, Err, IfOk, refl, sym, ap, ◌∙◌, subst, arith, append_assoc}
 use Rattle.std.proofs.lemmas.List.{append-nil}
-use Rattle.sl_instructions.specs.declared.instr.Instr.{Instr}
-use Rattle.sl_instructions.specs.Codes.{CountingCode}
-use Rattle.sl_plans.specs.Trees.{Tree}
-use Rattle.sl_plans.specs.Laid.{size_all}
+use Rattle.sl_code_instructions.specs.declared.instr.Instr.{Instr}
+use Rattle.sl_code_instructions.specs.Codes.{CountingCode}
+use Rattle.sl_compile_plans.specs.Trees.{Tree}
+use Rattle.sl_compile_plans.specs.Laid.{size_all}
 use Rattle.sl_blocks.specs.PlanBlocks.{AreBlocks, HasRoom}
-use Rattle.sl_books.proofs.Rows.{blocks_then, blocks_in, blocks_longer}
+use Rattle.sl_compile.proofs.rulebooks.Rows.{blocks_then, blocks_in, blocks_longer}
 
 -- ---- where a call succeeded
 
@@ -23,7 +23,7 @@ pub blocks_where : {R E : Type 0} (r : Result R E) (S T : CountingCode → Type 
 blocks_where (Ok v) S T more a x y h = blocks_in more h
 blocks_where (Err e) S T more a x y h = h
 
--- behind others
+-- after others
 pub blocks_behind : {R E : Type 0} (r : Result R E) (S T : CountingCode → Type 0) → ((code : CountingCode) → T code → S code) → (a b : List Tree) (x y z : List Instr)
     → AreBlocks T a x y → IfOk r (λ _. AreBlocks S b y z) → IfOk r (λ _. AreBlocks T (a ++ b) x z)
 blocks_behind (Ok v) S T more a b x y z first second = blocks_then first (blocks_in more second)

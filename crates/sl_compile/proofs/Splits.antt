@@ -8,27 +8,27 @@ use Rattle.sl_ratio.specs.declared.method.Method.{Method}
 use Rattle.sl_ratio.specs.declared.method.Method.TheVariants as kind
 use Rattle.sl_stages.specs.declared.book.Majority.{Majority}
 use Rattle.sl_stages.specs.declared.book.Number.{Number}
-use Rattle.sl_terms.specs.declared.shape.Shape.{Shape}
+use Rattle.sl_base_terms.specs.declared.shape.Shape.{Shape}
 use Rattle.sl_stages.specs.declared.book.Unit.TheVariants as unit
 use Rattle.sl_stages.specs.declared.book.ColumnType.{ColumnType}
 use Rattle.sl_stages.specs.declared.book.Expr.{Expr, Split, Grow}
 use Rattle.sl_stages.specs.book.Limits.{depth_of}
 use Rattle.sl_stages.specs.book.Trees.{ExprTree, tree_of, split, without, atleast, grow}
 use Rattle.sl_stages.specs.book.Typing.{Column, column, type_of, can_split}
-use Rattle.sl_instructions.specs.declared.instr.Instr.{Instr}
-use Rattle.sl_instructions.specs.Codes.{CountingCode}
-use Rattle.sl_plans.specs.Trees.{Tree}
-use Rattle.sl_pieces.specs.declared.arguments.Arguments.{Arguments}
-use Rattle.sl_pieces.specs.exprs.Slots.{StandsOn}
-use Rattle.sl_pieces.specs.exprs.Pieces.{slot_of, arguments_at, pieces, split_piece, grow_piece}
-use Rattle.sl_pieces.proofs.exprs.Places.{slot_stands}
+use Rattle.sl_code_instructions.specs.declared.instr.Instr.{Instr}
+use Rattle.sl_code_instructions.specs.Codes.{CountingCode}
+use Rattle.sl_compile_plans.specs.Trees.{Tree}
+use Rattle.sl_compile_pieces.specs.declared.arguments.Arguments.{Arguments}
+use Rattle.sl_compile_pieces.specs.exprs.Slots.{StandsOn}
+use Rattle.sl_compile_pieces.specs.exprs.Pieces.{slot_of, arguments_at, pieces, split_piece, grow_piece}
+use Rattle.sl_compile_pieces.proofs.exprs.Places.{slot_stands}
 use Rattle.sl_blocks.specs.PlanBlocks.{AreBlocks, HasRoom}
 use Rattle.sl_compile.specs.inner.Earlier.{Fits, FitsMinima, FitsGrowth}
 use Rattle.sl_compile.specs.inner.Nodes.{AreArguments, MayHave}
 use Rattle.sl_compile.proofs.Arguments.{Over, first_room, rest_room, rest_blocks}
 use Rattle.sl_compile.proofs.Levels.{low, split_fits, split_from_fits, grow_fits}
 use Rattle.sl_compile.proofs.Places.{blocks_behind, room_rest}
-use Rattle.sl_books.proofs.Rows.{no_blocks}
+use Rattle.sl_compile.proofs.rulebooks.Rows.{no_blocks}
 
 -- ---- the tree of a split, without minima and with them, and of a growth
 
@@ -65,7 +65,7 @@ MinimaFit types level x (Some m) = Fits types (level + 2) (tree_of m.value) × (
 abbrev pub seats_by : ColumnType → ColumnType → ColumnType
 seats_by of by = column by.shape unit.Seats
 
--- the plans behind those of seats and votes
+-- the plans after those of seats and votes
 abbrev pub then_own : List Column → ℕ → ℕ → Option (Box Expr) → (Shape → Shape → List Tree) → ColumnType → ColumnType → List Tree
 then_own types stage level minima own of by = minima_plans types stage level minima ++ own of.shape by.shape
 
@@ -169,7 +169,7 @@ pub arguments_are : {a b c d : ℕ} {m n : Option ℕ} → a ≡ c → b ≡ d �
     → ◌≡◌ {A = Arguments} (record { amounts = a; votes = b; minima = m }) (record { amounts = c; votes = d; minima = n })
 arguments_are p q r = λ i. record { amounts = p i; votes = q i; minima = r i }
 
--- ---- minima behind seats and votes, and the own plan behind these
+-- ---- minima after seats and votes, and the own plan after these
 
 pub can_as : {of by s v : ColumnType} → (of ≡ s) × (by ≡ v) → can_split s.shape v.shape ≡ true → can_split of.shape by.shape ≡ true
 can_as {of} {by} {s} {v} have can =

@@ -10,25 +10,25 @@ use Rattle.sl_stages.specs.declared.book.Base.{Base}
 use Rattle.sl_stages.specs.declared.book.Base.TheVariants as base
 use Rattle.sl_stages.specs.declared.book.ColumnType.{ColumnType}
 use Rattle.sl_stages.specs.declared.book.Pairing.{Pairing}
-use Rattle.sl_terms.specs.declared.shape.Shape.{Shape}
-use Rattle.sl_terms.specs.declared.shape.Shape.TheVariants as shape
+use Rattle.sl_base_terms.specs.declared.shape.Shape.{Shape}
+use Rattle.sl_base_terms.specs.declared.shape.Shape.TheVariants as shape
 use Rattle.sl_stages.specs.declared.limits.TheConstants.{MAX_DEPTH}
-use Rattle.sl_terms.specs.Tests.{first_failing}
+use Rattle.sl_base_terms.specs.Tests.{first_failing}
 use Rattle.sl_stages.specs.book.Trees.{ExprTree, name}
 use Rattle.sl_stages.specs.book.Typing.{Column, is_named, type_or_one, type_of, shape_over, base_tests}
-use Rattle.sl_terms.specs.Shapes.{same_shape}
-use Rattle.sl_terms.proofs.Shapes.{same_shape_is}
-use Rattle.sl_terms.proofs.Tests.{head_holds}
-use Rattle.sl_instructions.specs.declared.instr.Instr.{Instr}
-use Rattle.sl_instructions.specs.Codes.{CountingCode}
-use Rattle.sl_pieces.specs.columns.Trees.{pair_tree, sum_tree}
-use Rattle.sl_pieces.specs.exprs.Slots.{passing, StandsOn, stage_slot, HasBookSlots}
-use Rattle.sl_pieces.proofs.exprs.Places.{stands_there}
-use Rattle.sl_pieces.specs.closing.Trees.{base_slot}
+use Rattle.sl_base_terms.specs.Shapes.{same_shape}
+use Rattle.sl_base_terms.proofs.Shapes.{same_shape_is}
+use Rattle.sl_base_terms.proofs.Tests.{head_holds}
+use Rattle.sl_code_instructions.specs.declared.instr.Instr.{Instr}
+use Rattle.sl_code_instructions.specs.Codes.{CountingCode}
+use Rattle.sl_compile_pieces.specs.columns.Trees.{pair_tree, sum_tree}
+use Rattle.sl_compile_pieces.specs.exprs.Slots.{passing, StandsOn, stage_slot, HasBookSlots}
+use Rattle.sl_compile_pieces.proofs.exprs.Places.{stands_there}
+use Rattle.sl_compile_pieces.specs.closing.Trees.{base_slot}
 use Rattle.sl_blocks.specs.PlanBlocks.{AreBlocks, HasCopy, HasPair, HasSum}
-use Rattle.sl_books.specs.Codes.{HasSoFar}
-use Rattle.sl_books.proofs.Rows.{blocks_in}
-use Rattle.sl_books.proofs.Slots.{has_book_slots, has_none}
+use Rattle.sl_compile.specs.Codes.{HasSoFar}
+use Rattle.sl_compile.proofs.rulebooks.Rows.{blocks_in}
+use Rattle.sl_compile.proofs.rulebooks.Slots.{has_book_slots, has_none}
 use Rattle.sl_compile.specs.inner.Earlier.{Fits}
 use Rattle.sl_compile.proofs.Arms.{summed_is}
 

@@ -9,31 +9,31 @@ use Rattle.std.proofs.lemmas.List.{length-map}
 use Rattle.std.proofs.Math.Seq.{drop-cons}
 use Rattle.std.proofs.lemmas.Bool.{leb-true}
 use Rattle.sl_stages.specs.declared.book.Stage.{Stage}
-use Rattle.sl_terms.specs.declared.shape.Shape.TheVariants as shape
+use Rattle.sl_base_terms.specs.declared.shape.Shape.TheVariants as shape
 use Rattle.sl_stages.specs.declared.book.Unit.TheVariants as unit
 use Rattle.sl_stages.specs.declared.book.ColumnType.{ColumnType}
 use Rattle.sl_stages.specs.declared.limits.TheConstants.{MAX_DEPTH}
-use Rattle.sl_terms.specs.declared.limits.TheConstants.{MAX_STAGES}
+use Rattle.sl_base_terms.specs.declared.limits.TheConstants.{MAX_STAGES}
 use Rattle.sl_stages.specs.book.Trees.{StageTree, tree_of, stage_of}
-use Rattle.sl_terms.specs.Tests.{first_failing}
+use Rattle.sl_base_terms.specs.Tests.{first_failing}
 use Rattle.sl_stages.specs.book.Limits.{is_within_stage, is_within_limits, depth_of}
 use Rattle.sl_stages.specs.book.Typing.{Column, column, is_named, type_or_one, type_of, stage_column, columns_of, stage_tests, stages_tests, splits_in}
-use Rattle.sl_terms.proofs.Tests.{pass_parts, head_holds}
-use Rattle.sl_instructions.specs.declared.instr.Instr.{Instr}
-use Rattle.sl_instructions.specs.Codes.{CountingCode}
-use Rattle.sl_plans.specs.Trees.{Tree}
-use Rattle.sl_pieces.specs.columns.Trees.{copy_tree}
-use Rattle.sl_pieces.specs.declared.slots.TheConstants.{LEVELS}
-use Rattle.sl_pieces.specs.exprs.Slots.{stage_slot}
-use Rattle.sl_pieces.specs.exprs.Pieces.{slot_of, pieces}
-use Rattle.sl_pieces.proofs.exprs.Places.{stands_there}
-use Rattle.sl_pieces.specs.exprs.Stages.{stage_pieces, stages_pieces}
-use Rattle.sl_pieces.proofs.exprs.StageRules.{last_there}
+use Rattle.sl_base_terms.proofs.Tests.{pass_parts, head_holds}
+use Rattle.sl_code_instructions.specs.declared.instr.Instr.{Instr}
+use Rattle.sl_code_instructions.specs.Codes.{CountingCode}
+use Rattle.sl_compile_plans.specs.Trees.{Tree}
+use Rattle.sl_compile_pieces.specs.columns.Trees.{copy_tree}
+use Rattle.sl_compile_pieces.specs.declared.slots.TheConstants.{LEVELS}
+use Rattle.sl_compile_pieces.specs.exprs.Slots.{stage_slot}
+use Rattle.sl_compile_pieces.specs.exprs.Pieces.{slot_of, pieces}
+use Rattle.sl_compile_pieces.proofs.exprs.Places.{stands_there}
+use Rattle.sl_compile_pieces.specs.exprs.Stages.{stage_pieces, stages_pieces}
+use Rattle.sl_compile_pieces.proofs.exprs.StageRules.{last_there}
 use Rattle.sl_blocks.specs.PlanBlocks.{AreBlocks, HasRoom, HasCopy}
 use Rattle.sl_compile.specs.inner.Earlier.{columns, Fits}
-use Rattle.sl_books.specs.Codes.{HasSoFar}
-use Rattle.sl_books.proofs.Rows.{blocks_then, blocks_in}
-use Rattle.sl_books.proofs.Slots.{has_book_slots, has_fewer}
+use Rattle.sl_compile.specs.Codes.{HasSoFar}
+use Rattle.sl_compile.proofs.rulebooks.Rows.{blocks_then, blocks_in}
+use Rattle.sl_compile.proofs.rulebooks.Slots.{has_book_slots, has_fewer}
 use Rattle.sl_compile.proofs.Places.{room_first, room_rest, room_as}
 use Rattle.sl_compile.proofs.Arguments.{slot_on}
 use Rattle.std.proofs.Common.{append_assoc, subst, length-take}
@@ -135,7 +135,7 @@ module _ (types : List Column) (k : ℕ) (s : StageTree) (of : ColumnType) (from
   same : copy_tree of.shape from to ∷ [] ≡ own
   same = copy_as of (type_of types s.expr) k (slot_of types 0 s.expr) from to is first second
 
-  -- there is room for the copy behind it, and then the stage is done
+  -- there is room for the copy after it, and then the stage is done
   pub copy_room : HasRoom (stage_pieces types k s) x → HasRoom (copy_tree of.shape from to ∷ []) y
   copy_room room = room_as (copy_tree of.shape from to ∷ []) own y same (room_rest (pieces types k 0 s.expr) own x y room blocks)
 
@@ -167,7 +167,7 @@ few_stages ss within = rw (← length-map ss stage_of) (leb-true _ _ (first_so _
 enough : (depth splits : ℕ) → depth ≤ MAX_DEPTH → splits ≤ 1 → 0 + depth + splits ≤ LEVELS
 enough depth splits deep few = omega arith
 
--- where the blocks of the first i stages stand behind a start
+-- where the blocks of the first i stages stand after a start
 pub record LaidFirst (ss : List Stage) (ts : List ColumnType) (i : ℕ) (start code : List Instr) : Type 0 where
   pub within : list_all is_within_stage (map stage_of (drop i ss)) ≡ true
   pub tests : first_failing (stages_tests (columns (take i ss) ts) (map stage_of (drop i ss))) ≡ None

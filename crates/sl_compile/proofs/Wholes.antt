@@ -3,17 +3,17 @@ use Rattle.std.proofs.Common.{◌≡◌, ℕ, ◌<◌, ◌≤◌, ◌^◌, List,
 use Rattle.std.specs.List.{AllByRecursion}
 use Rattle.std.proofs.lemmas.List.Elements.{All-from_recursion}
 use Rattle.sl_stages.specs.declared.book.Stage.{Stage}
-use Rattle.sl_terms.specs.declared.shape.Shape.{Shape}
+use Rattle.sl_base_terms.specs.declared.shape.Shape.{Shape}
 use Rattle.sl_stages.specs.declared.book.ColumnType.{ColumnType}
 use Rattle.sl_stages.specs.book.Trees.{BookTree, stage_of}
 use Rattle.sl_stages.specs.book.Limits.{condition_numbers}
-use Rattle.sl_terms.specs.Tests.{first_failing}
+use Rattle.sl_base_terms.specs.Tests.{first_failing}
 use Rattle.sl_stages.specs.book.Typing.{Column, columns_of, version_tests, condition_tests, stages_tests, base_tests, tests_of, is_typed}
-use Rattle.sl_terms.proofs.Tests.{no_fault, pass_parts, head_holds}
-use Rattle.sl_instructions.specs.declared.instr.Instr.{Instr}
-use Rattle.sl_instructions.specs.Codes.{CountingCode}
-use Rattle.sl_plans.specs.Trees.{Tree}
-use Rattle.sl_books.specs.Codes.{book_slots, passing_shapes}
+use Rattle.sl_base_terms.proofs.Tests.{no_fault, pass_parts, head_holds}
+use Rattle.sl_code_instructions.specs.declared.instr.Instr.{Instr}
+use Rattle.sl_code_instructions.specs.Codes.{CountingCode}
+use Rattle.sl_compile_plans.specs.Trees.{Tree}
+use Rattle.sl_compile.specs.Codes.{book_slots, passing_shapes}
 use Rattle.sl_blocks.specs.declared.easiest.Share.{Share}
 use Rattle.sl_blocks.specs.declared.easiest.Easiest.{Easiest}
 use Rattle.sl_blocks.specs.Facts.{fact_shapes, closing_shapes}

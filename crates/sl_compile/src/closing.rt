@@ -1,11 +1,11 @@
 //! The blocks of a rulebook's last clause (docs/compiler.md, section 6).
 
 ghost use Rattle.std.specs.Prelude.{◌≡◌, [], None, IfOk};
-ghost use Rattle.sl_terms.specs.Tests.{first_failing};
+ghost use Rattle.sl_base_terms.specs.Tests.{first_failing};
 ghost use Rattle.sl_stages.specs.book.Typing.{base_tests};
-ghost use Rattle.sl_pieces.specs.closing.Trees.{base_slot, seating_pieces, vacant_pieces, last_pieces, halting};
+ghost use Rattle.sl_compile_pieces.specs.closing.Trees.{base_slot, seating_pieces, vacant_pieces, last_pieces, halting};
 ghost use Rattle.sl_blocks.specs.PlanBlocks.{AreBlocks, HasRoom};
-ghost use Rattle.sl_books.specs.Codes.{HasSoFar};
+ghost use Rattle.sl_compile.specs.Codes.{HasSoFar};
 ghost use Rattle.sl_compile.specs.inner.Nodes.{HasBase};
 ghost use Rattle.sl_compile.specs.inner.Slots.{low_shapes};
 ghost use Rattle.sl_compile.specs.inner.Earlier.{columns};
@@ -13,8 +13,8 @@ ghost use Rattle.sl_compile.specs.inner.Earlier.{columns};
 use crate::earlier::Earlier;
 use crate::slots::{FINAL_SEATS, WINNERS};
 use sl_blocks::{copy_block, cover_block, names_block, pair_block, placing_block};
-use sl_instructions::Instr;
-use sl_pieces::slots::{ELIGIBLE, NAMES_LEFT, PAIR_NUMBERS, VACANT_SEATS};
+use sl_code_instructions::Instr;
+use sl_compile_pieces::slots::{ELIGIBLE, NAMES_LEFT, PAIR_NUMBERS, VACANT_SEATS};
 use sl_ratio::NoMemory;
 use sl_stages::{Base, LastClause, Pairing, Seating, Shape};
 

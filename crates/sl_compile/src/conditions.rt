@@ -1,11 +1,11 @@
 //! Few conditions that say what all of a rulebook's say (docs/compiler.md, section 7).
 
 ghost use Rattle.std.specs.Prelude.{◌≡◌, ◌||◌, ℕ, None};
-ghost use Rattle.sl_terms.specs.Tests.{first_failing};
+ghost use Rattle.sl_base_terms.specs.Tests.{first_failing};
 ghost use Rattle.sl_stages.specs.book.Typing.{condition_tests};
 ghost use Rattle.sl_stages.specs.returns.Election.{Election};
 ghost use Rattle.sl_stages.specs.returns.Facts.{meets, is_eligible};
-ghost use Rattle.sl_books.specs.Conditions.{SayTheSame};
+ghost use Rattle.sl_compile.specs.Conditions.{SayTheSame};
 ghost use Rattle.sl_blocks.specs.inner.Few.{few_of, AreSmall};
 ghost use Rattle.sl_compile.specs.inner.Weakest.{is_met, IsFair, IsFairIn, IsFairShare, IsSmallIn};
 

@@ -2,9 +2,9 @@
 
 ghost use Rattle.std.specs.Prelude.{◌≡◌, ◌≤◌, length, find, position, unwrap_or};
 ghost use Rattle.std.specs.Str.{bytes_eq};
-ghost use Rattle.sl_terms.specs.declared.limits.TheConstants.{MAX_STAGES};
+ghost use Rattle.sl_base_terms.specs.declared.limits.TheConstants.{MAX_STAGES};
 ghost use Rattle.sl_stages.specs.book.Typing.{is_named, type_or_one};
-ghost use Rattle.sl_pieces.specs.exprs.Slots.{stage_slot};
+ghost use Rattle.sl_compile_pieces.specs.exprs.Slots.{stage_slot};
 ghost use Rattle.sl_compile.specs.inner.Earlier.{columns};
 
 use crate::slots::stage_slot;

@@ -1,11 +1,11 @@
 //! The blocks of expressions (docs/compiler.md, section 4).
 
 ghost use Rattle.std.specs.Prelude.{◌≡◌, ◌+◌, ◌<◌, ◌≤◌, ◌++◌, List, IfOk};
-ghost use Rattle.sl_terms.specs.declared.limits.TheConstants.{MAX_STAGES};
+ghost use Rattle.sl_base_terms.specs.declared.limits.TheConstants.{MAX_STAGES};
 ghost use Rattle.sl_stages.specs.book.Typing.{Column, type_of};
 ghost use Rattle.sl_stages.specs.book.Trees.{tree_of};
-ghost use Rattle.sl_pieces.specs.exprs.Pieces.{pieces, slot_of};
-ghost use Rattle.sl_books.specs.Codes.{HasSoFar};
+ghost use Rattle.sl_compile_pieces.specs.exprs.Pieces.{pieces, slot_of};
+ghost use Rattle.sl_compile.specs.Codes.{HasSoFar};
 ghost use Rattle.sl_blocks.specs.PlanBlocks.{AreBlocks, HasRoom};
 ghost use Rattle.sl_compile.specs.inner.Slots.{low_shapes};
 ghost use Rattle.sl_compile.specs.inner.Earlier.{columns, Fits};
@@ -13,8 +13,8 @@ ghost use Rattle.sl_compile.specs.inner.Earlier.{columns, Fits};
 use crate::earlier::Earlier;
 use crate::nodes::{copy, pair, sum};
 use crate::slots::{fact_slot, passing};
-use sl_instructions::Instr;
-use sl_pieces::Arguments;
+use sl_code_instructions::Instr;
+use sl_compile_pieces::Arguments;
 use sl_ratio::NoMemory;
 use sl_stages::{ColumnType, Expr, MAX_DEPTH, Shape};
 

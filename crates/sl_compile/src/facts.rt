@@ -1,14 +1,14 @@
 //! The blocks of the columns that a rulebook can name (docs/compiler.md, section 2).
 
 ghost use Rattle.std.specs.Prelude.{[], ◌∷◌, map, IfOk};
-ghost use Rattle.sl_pieces.specs.facts.Trees.{fact_tree};
-ghost use Rattle.sl_pieces.specs.exprs.Slots.{fact_slots};
+ghost use Rattle.sl_compile_pieces.specs.facts.Trees.{fact_tree};
+ghost use Rattle.sl_compile_pieces.specs.exprs.Slots.{fact_slots};
 ghost use Rattle.sl_blocks.specs.Facts.{HasFirstSlots, all_facts};
 ghost use Rattle.sl_blocks.specs.PlanBlocks.{AreBlocks, HasRoom};
 ghost use Rattle.sl_blocks.specs.inner.Few.{AreSmall, few_of};
 
 use sl_blocks::{Easiest, eligible_block, fact_block};
-use sl_instructions::Instr;
+use sl_code_instructions::Instr;
 use sl_ratio::NoMemory;
 use sl_stages::{FACTS, Fact};
 
@@ -20,7 +20,7 @@ fn lay_fact(code: &mut Vec<Instr>, fact: &Fact, house: u32) -> Result<(), NoMemo
     fact_block(code, *fact, house)
 }
 
-/// Appends the blocks of facts, one behind the other.
+/// Appends the blocks of facts, one after the other.
 fn lay_each(code: &mut Vec<Instr>, facts: &[Fact], house: u32) -> Result<(), NoMemory>
     requires { HasRoom (map (fact_tree fact_slots house) facts.now) code.old.items }
     ensures { IfOk result (λ _. AreBlocks HasFirstSlots (map (fact_tree fact_slots house) facts.now) code.old.items code.new.items) }

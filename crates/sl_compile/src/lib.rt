@@ -1,4 +1,6 @@
-//! The compiler: from a checked rulebook to counting code that the verifier accepts.
+//! The compiler: from a checked rulebook to counting code that the verifier accepts, and the laws of such code.
+//!
+//! Stands on `sl_blocks`; used by the room count. Proved: the code counts as the rulebook means.
 #![tactic(auto)]
 
 mod closing;
@@ -7,6 +9,7 @@ mod conditions;
 mod earlier;
 mod exprs;
 mod facts;
+pub mod laws;
 mod naming;
 mod nodes;
 mod slots;

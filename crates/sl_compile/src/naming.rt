@@ -2,11 +2,11 @@
 
 ghost use Rattle.std.specs.Prelude.{◌≡◌, ◌≤◌, All, length, map, IfOk};
 ghost use Rattle.sl_stages.specs.book.Trees.{stage_of};
-ghost use Rattle.sl_instructions.specs.Proper.{IsStage};
-ghost use Rattle.sl_books.specs.Codes.{code_stages};
+ghost use Rattle.sl_code_instructions.specs.Proper.{IsStage};
+ghost use Rattle.sl_compile.specs.Codes.{code_stages};
 
 use crate::slots::stage_slot;
-use sl_instructions::CodeStage;
+use sl_code_instructions::CodeStage;
 use sl_ratio::NoMemory;
 use sl_stages::{MAX_STAGES, Stage, Word};
 use std::alloc::Global;

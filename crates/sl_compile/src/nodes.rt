@@ -2,22 +2,22 @@
 //! column in the passing one of its shape, and says what the column has.
 
 ghost use Rattle.std.specs.Prelude.{◌≡◌, ◌+◌, ◌≤◌, [], ◌∷◌, true, IfOk, IsSome};
-ghost use Rattle.sl_terms.specs.declared.shape.Shape.TheVariants as shape;
+ghost use Rattle.sl_base_terms.specs.declared.shape.Shape.TheVariants as shape;
 ghost use Rattle.sl_stages.specs.declared.book.Unit.TheVariants as unit;
 ghost use Rattle.sl_stages.specs.book.Typing.{can_split, can_sum, column, shape_over};
 ghost use Rattle.sl_blocks.specs.inner.Jobs.{slots_of};
 ghost use Rattle.sl_blocks.specs.PlanBlocks.{AreBlocks, HasCopy, HasRoom};
-ghost use Rattle.sl_pieces.specs.columns.Trees.{copy_tree, pair_tree, sum_tree};
-ghost use Rattle.sl_pieces.specs.exprs.Pieces.{node_slots, split_piece, grow_piece};
-ghost use Rattle.sl_pieces.specs.exprs.Slots.{passing, StandsOn};
-ghost use Rattle.sl_books.specs.Codes.{HasSoFar};
+ghost use Rattle.sl_compile_pieces.specs.columns.Trees.{copy_tree, pair_tree, sum_tree};
+ghost use Rattle.sl_compile_pieces.specs.exprs.Pieces.{node_slots, split_piece, grow_piece};
+ghost use Rattle.sl_compile_pieces.specs.exprs.Slots.{passing, StandsOn};
+ghost use Rattle.sl_compile.specs.Codes.{HasSoFar};
 ghost use Rattle.sl_compile.specs.inner.Nodes.{AreArguments, MayHave};
 
 use crate::exprs::Site;
 use crate::slots::passing;
 use sl_blocks::{Job, copy_block, grow_block, pair_block, split_block, sum_block};
-use sl_instructions::Instr;
-use sl_pieces::Arguments;
+use sl_code_instructions::Instr;
+use sl_compile_pieces::Arguments;
 use sl_ratio::{Method, NoMemory};
 use sl_stages::{Axis, ColumnType, MAX_DEPTH, MAX_SEATS, Majority, Pairing, Shape};
 

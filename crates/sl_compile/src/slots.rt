@@ -1,10 +1,10 @@
 //! The slots of a compiled rulebook (docs/compiler.md, section 3).
 
 ghost use Rattle.std.specs.Prelude.{◌≡◌, ◌<◌, ◌≤◌, ◌++◌, IfOk, map};
-ghost use Rattle.sl_pieces.specs.exprs.Slots.{fact_slots, passing, stage_slot};
+ghost use Rattle.sl_compile_pieces.specs.exprs.Slots.{fact_slots, passing, stage_slot};
 ghost use Rattle.sl_compile.specs.inner.Slots.{low_shapes};
 
-use sl_pieces::slots::{FIRST_FACT, FIRST_PASSING_SLOT, FIRST_STAGE_SLOT, LEVELS};
+use sl_compile_pieces::slots::{FIRST_FACT, FIRST_PASSING_SLOT, FIRST_STAGE_SLOT, LEVELS};
 use sl_ratio::NoMemory;
 use sl_stages::Shape::{Land, List, One, Party};
 use sl_stages::{ColumnType, FACTS, Fact, MAX_DEPTH, MAX_STAGES, Shape};
@@ -18,11 +18,11 @@ pub const FINAL_SEATS: u8 = FIRST_PASSING_SLOT + 3;
 /// The shapes of the passing columns of a level.
 const LEVEL: [Shape; 4] = [One, Party, Land, List];
 
-/// Those of the slots behind the facts: two to work in, and three for the last clause.
+/// Those of the slots after the facts: two to work in, and three for the last clause.
 const BEHIND_FACTS: [Shape; 5] = [List, Party, List, List, List];
 
 /// The column of a fact.
-#[tactic(auto, using(sl_pieces::proofs::exprs::Places::fact_low))]
+#[tactic(auto, using(sl_compile_pieces::proofs::exprs::Places::fact_low))]
 pub fn fact_slot(fact: Fact) -> u8
     ensures { result ≡ fact_slots.of fact }
 {
@@ -30,7 +30,7 @@ pub fn fact_slot(fact: Fact) -> u8
 }
 
 /// The passing column of that shape on that level.
-#[tactic(auto, using(sl_pieces::proofs::exprs::Places::number_few))]
+#[tactic(auto, using(sl_compile_pieces::proofs::exprs::Places::number_few))]
 pub fn passing(level: u8, shape: Shape) -> u8
     requires { level ≤ MAX_DEPTH }
     ensures { result ≡ passing level shape }

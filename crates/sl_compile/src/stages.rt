@@ -3,10 +3,10 @@
 ghost use Rattle.std.specs.Prelude.{◌≡◌, ◌+◌, [], ◌∷◌, ◌++◌, length, map, None, IfOk, IsTrue};
 ghost use Rattle.sl_stages.specs.book.Trees.{tree_of, stage_of};
 ghost use Rattle.sl_stages.specs.book.Limits.{is_within_limits};
-ghost use Rattle.sl_terms.specs.Tests.{first_failing};
+ghost use Rattle.sl_base_terms.specs.Tests.{first_failing};
 ghost use Rattle.sl_stages.specs.book.Typing.{type_of, stage_column, stages_tests, columns_of};
-ghost use Rattle.sl_pieces.specs.exprs.Stages.{stage_pieces, stages_pieces};
-ghost use Rattle.sl_books.specs.Codes.{HasSoFar};
+ghost use Rattle.sl_compile_pieces.specs.exprs.Stages.{stage_pieces, stages_pieces};
+ghost use Rattle.sl_compile.specs.Codes.{HasSoFar};
 ghost use Rattle.sl_blocks.specs.PlanBlocks.{AreBlocks, HasRoom};
 ghost use Rattle.sl_compile.specs.inner.Slots.{low_shapes};
 ghost use Rattle.sl_compile.specs.inner.Earlier.{columns, Fits};
@@ -15,7 +15,7 @@ use crate::earlier::Earlier;
 use crate::exprs::{Site, column_slot};
 use crate::slots::stage_slot;
 use sl_blocks::copy_block;
-use sl_instructions::Instr;
+use sl_code_instructions::Instr;
 use sl_ratio::NoMemory;
 use sl_stages::{ColumnType, MAX_STAGES, Shape, Stage};
 
@@ -42,7 +42,7 @@ fn lay_stage(code: &mut Vec<Instr>, site: &Site<'_>, stage: &Stage) -> Result<Co
     Ok(of)
 }
 
-/// Appends the blocks of the stages, and says what the column of each has; what stands behind them is of no stage.
+/// Appends the blocks of the stages, and says what the column of each has; what stands after them is of no stage.
 ///
 /// # Errors
 /// No memory was found.

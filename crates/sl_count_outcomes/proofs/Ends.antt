@@ -1,27 +1,27 @@
 -- The end of a run of a book's code on returns: what the book comes to.
 use Rattle.std.proofs.Common.{◌≡◌, ◌≢◌, ℕ, true, Option, Some, sym, ap, subst, ◌∙◌, length}
 use Rattle.std.proofs.lemmas.Option.{same_Some}
-use Rattle.sl_books.specs.Compiled.{ComesTo, IsCompiled, ending_by}
+use Rattle.sl_compile.specs.Compiled.{ComesTo, IsCompiled, ending_by}
 use Rattle.sl_count_outcomes.proofs.StageColumns.{all_long, each_stage, holds_stages}
 use Rattle.sl_count_outcomes.specs.Outcomes.{FitsEnd, FitsOutcome}
 use Rattle.sl_count_outcomes.specs.inner.Held.{EndsAs, Holds, recorded}
-use Rattle.sl_count_value.specs.Counts.{IsMeantEnd}
-use Rattle.sl_count_value.specs.declared.count.Counted.{Counted as Kept}
-use Rattle.sl_count_value.specs.declared.count.End.TheVariants as end
-use Rattle.sl_count_value.specs.declared.count.End.{End as Ends}
-use Rattle.sl_count_value.specs.declared.count.Records.TheVariants.{Dropped, Kept as WithRecords}
-use Rattle.sl_count_value.specs.declared.count.Records.{Records}
-use Rattle.sl_instructions.specs.Codes.{CountingCode}
+use Rattle.sl_stages.specs.meaning.Counts.{IsMeantEnd}
+use Rattle.sl_stages.specs.declared.count.Counted.{Counted as Kept}
+use Rattle.sl_stages.specs.declared.count.End.TheVariants as end
+use Rattle.sl_stages.specs.declared.count.End.{End as Ends}
+use Rattle.sl_stages.specs.declared.count.Records.TheVariants.{Dropped, Kept as WithRecords}
+use Rattle.sl_stages.specs.declared.count.Records.{Records}
+use Rattle.sl_code_instructions.specs.Codes.{CountingCode}
 use Rattle.sl_machine.specs.Answers.{answer_of}
 use Rattle.sl_machine.specs.Fits.{Fits}
 use Rattle.sl_machine.specs.declared.machine.Ending.TheVariants as answer
 use Rattle.sl_machine.specs.declared.machine.Ending.{Ending as Answer}
-use Rattle.sl_semantics.specs.Fits.{FitsRecords}
-use Rattle.sl_semantics.specs.Memories.{Held, held_of}
-use Rattle.sl_semantics.specs.Runs.{Ended}
-use Rattle.sl_semantics.specs.State.{End, Faulted, Halted, State}
-use Rattle.sl_semantics.specs.Tables.{held_table}
-use Rattle.sl_semantics.specs.Unrecorded.{unrecorded}
+use Rattle.sl_code_semantics.specs.Fits.{FitsRecords}
+use Rattle.sl_code_semantics.specs.Memories.{Held, held_of}
+use Rattle.sl_code_semantics.specs.Runs.{Ended}
+use Rattle.sl_code_semantics.specs.State.{End, Faulted, Halted, State}
+use Rattle.sl_code_semantics.specs.Tables.{held_table}
+use Rattle.sl_code_semantics.specs.Unrecorded.{unrecorded}
 use Rattle.sl_stages.proofs.meaning.MeaningProofs.{any_order, some_outcome, table-sym}
 use Rattle.sl_stages.specs.book.Trees.{BookTree}
 use Rattle.sl_stages.specs.book.Typing.{is_typed}

@@ -5,16 +5,16 @@ use Rattle.sl_count_outcomes.specs.Reading.{IsNoGoodBook, ReadsAfter}
 use Rattle.sl_count_outcomes.specs.declared.judged.Judged.TheVariants.{BookRefused, Counted, ReturnsRefused, StageUnknown}
 use Rattle.sl_count_outcomes.specs.declared.judged.Judged.{Judged}
 use Rattle.sl_count_outcomes.specs.declared.reading.Read.{Read}
-use Rattle.sl_count_value.specs.declared.count.Records.{Records}
-use Rattle.sl_inputs.specs.Books.{BookInput, IsBookVerdict}
-use Rattle.sl_inputs.specs.Failures.{Counts, counts, counts_after}
-use Rattle.sl_inputs.specs.Reading.{ForKnown, ReadsBehind, TakesAtMost}
-use Rattle.sl_inputs.specs.declared.limits.TheConstants.{MAX_RETURNS_BYTES}
-use Rattle.sl_inputs.specs.declared.status.DeskError.TheVariants as fault
-use Rattle.sl_inputs.specs.declared.status.DeskError.{DeskError}
-use Rattle.sl_inputs.specs.declared.status.Input.TheVariants.{Book, Code, Names, Returns}
-use Rattle.sl_inputs.specs.declared.status.Input.{Input}
-use Rattle.sl_inputs.specs.declared.verdict.Verdict.TheVariants.{Good}
+use Rattle.sl_stages.specs.declared.count.Records.{Records}
+use Rattle.sl_count_inputs.specs.Books.{BookInput, IsBookVerdict}
+use Rattle.sl_count_inputs.specs.Failures.{Counts, counts, counts_after}
+use Rattle.sl_count_inputs.specs.Reading.{ForKnown, ReadsBehind, TakesAtMost}
+use Rattle.sl_count_inputs.specs.declared.limits.TheConstants.{MAX_RETURNS_BYTES}
+use Rattle.sl_count_inputs.specs.declared.status.DeskError.TheVariants as fault
+use Rattle.sl_count_inputs.specs.declared.status.DeskError.{DeskError}
+use Rattle.sl_count_inputs.specs.declared.status.Input.TheVariants.{Book, Code, Names, Returns}
+use Rattle.sl_count_inputs.specs.declared.status.Input.{Input}
+use Rattle.sl_count_inputs.specs.declared.verdict.Verdict.TheVariants.{Good}
 use Rattle.sl_stages.specs.book.Trees.{BookTree}
 
 -- ---- returns that are read after a good input

@@ -2,27 +2,27 @@
 use Rattle.std.proofs.Common.{◌≡◌, ℕ, ◌<◌, All, List, [], Option, Some, length, map, get_or, slice_get, sym, ap, ◌∙◌, arith}
 use Rattle.std.proofs.lemmas.List.{get_or-map, length-map}
 use Rattle.std.proofs.lemmas.Option.{get_or_from_slice_get, slice_get-get_or, slice_get_within}
-use Rattle.sl_books.proofs.Known.{columns_long, known_long}
-use Rattle.sl_books.proofs.Outcomes.{as_long}
-use Rattle.sl_books.proofs.StageColumns.{StageStands, code_stages_long, slot_held, stage_shape, stage_stands}
-use Rattle.sl_books.specs.Compiled.{HasStageColumns, IsCompiled, ending_by}
+use Rattle.sl_compile.proofs.rulebooks.Known.{columns_long, known_long}
+use Rattle.sl_compile.proofs.rulebooks.Outcomes.{as_long}
+use Rattle.sl_compile.proofs.rulebooks.StageColumns.{StageStands, code_stages_long, slot_held, stage_shape, stage_stands}
+use Rattle.sl_compile.specs.Compiled.{HasStageColumns, IsCompiled, ending_by}
 use Rattle.sl_count_outcomes.proofs.Maps.{map_twice, maps_same}
 use Rattle.sl_count_outcomes.specs.Outcomes.{IsLong}
 use Rattle.sl_count_outcomes.specs.inner.Held.{Cells, HasSlots, held_column, plain}
-use Rattle.sl_count_value.specs.Counts.{HoldsStages}
-use Rattle.sl_count_value.specs.declared.count.Column.{Column}
-use Rattle.sl_instructions.specs.Codes.{CountingCode}
-use Rattle.sl_instructions.specs.declared.code.CodeStage.{CodeStage}
-use Rattle.sl_semantics.specs.Memories.{Held, column_of, held_of}
-use Rattle.sl_semantics.specs.Places.{cells_of}
-use Rattle.sl_semantics.specs.Runs.{Ended}
-use Rattle.sl_semantics.specs.State.{Halted, State}
+use Rattle.sl_stages.specs.meaning.Counts.{HoldsStages}
+use Rattle.sl_stages.specs.declared.count.Column.{Column}
+use Rattle.sl_code_instructions.specs.Codes.{CountingCode}
+use Rattle.sl_code_instructions.specs.declared.code.CodeStage.{CodeStage}
+use Rattle.sl_code_semantics.specs.Memories.{Held, column_of, held_of}
+use Rattle.sl_code_semantics.specs.Places.{cells_of}
+use Rattle.sl_code_semantics.specs.Runs.{Ended}
+use Rattle.sl_code_semantics.specs.State.{Halted, State}
 use Rattle.sl_stages.specs.book.Trees.{BookTree}
 use Rattle.sl_stages.specs.book.Typing.{Column as TypedColumn, columns_of}
 use Rattle.sl_stages.specs.meaning.Columns.{NamedColumn}
 use Rattle.sl_stages.specs.returns.Election.{Election, IsElection}
 use Rattle.sl_table.proofs.StageSlots.{column_length}
-use Rattle.sl_terms.specs.declared.shape.Shape.TheVariants as shape
+use Rattle.sl_base_terms.specs.declared.shape.Shape.TheVariants as shape
 
 module _ (b : BookTree) (c : CountingCode) (is : IsCompiled b c) where
   -- as many types as stages of the code

@@ -3,14 +3,14 @@ use Rattle.std.specs.Prelude.{List, None, Option, Some, if◌then◌else◌, is_
 use Rattle.sl_count_outcomes.specs.declared.counting.Counting.{Counting}
 use Rattle.sl_count_outcomes.specs.declared.judged.Judged.TheVariants.{BookRefused, Counted, ReturnsRefused, StageUnknown}
 use Rattle.sl_count_outcomes.specs.declared.judged.Judged.{Judged}
-use Rattle.sl_count_value.specs.Counts.{IsMeantEnd}
+use Rattle.sl_stages.specs.meaning.Counts.{IsMeantEnd}
 use Rattle.sl_count_outcomes.specs.Outcomes.{FitsOutcome}
-use Rattle.sl_count_value.specs.declared.count.Records.{Records}
-use Rattle.sl_inputs.specs.Books.{BookInput, IsBookVerdict}
-use Rattle.sl_inputs.specs.Judging.{refusal_of, returns_refusal_of}
-use Rattle.sl_inputs.specs.Returns.{IsReturnsVerdict}
-use Rattle.sl_inputs.specs.StageNames.{stage_number}
-use Rattle.sl_inputs.specs.declared.verdict.Verdict.TheVariants.{Good, Refused}
+use Rattle.sl_stages.specs.declared.count.Records.{Records}
+use Rattle.sl_count_inputs.specs.Books.{BookInput, IsBookVerdict}
+use Rattle.sl_count_inputs.specs.Judging.{refusal_of, returns_refusal_of}
+use Rattle.sl_count_inputs.specs.Returns.{IsReturnsVerdict}
+use Rattle.sl_count_inputs.specs.StageNames.{stage_number}
+use Rattle.sl_count_inputs.specs.declared.verdict.Verdict.TheVariants.{Good, Refused}
 use Rattle.sl_stages.specs.book.Books.{book_of}
 use Rattle.sl_stages.specs.book.Trees.{BookTree}
 use Rattle.sl_stages.specs.returns.Election.{Election}

@@ -1,11 +1,11 @@
 -- What is taken of returns after a rulebook (docs/output.md, section 3).
 use Rattle.std.specs.Prelude.{List, None, Option, Result, ◌≡◌, ℕ}
 use Rattle.sl_count_outcomes.specs.Judged.{unknown_in}
-use Rattle.sl_inputs.specs.Books.{BookInput, IsBookVerdict}
-use Rattle.sl_inputs.specs.Reading.{ReadsBehind}
-use Rattle.sl_inputs.specs.declared.status.DeskError.{DeskError}
-use Rattle.sl_inputs.specs.declared.status.Input.TheVariants as input
-use Rattle.sl_inputs.specs.declared.verdict.Verdict.TheVariants.{Good}
+use Rattle.sl_count_inputs.specs.Books.{BookInput, IsBookVerdict}
+use Rattle.sl_count_inputs.specs.Reading.{ReadsBehind}
+use Rattle.sl_count_inputs.specs.declared.status.DeskError.{DeskError}
+use Rattle.sl_count_inputs.specs.declared.status.Input.TheVariants as input
+use Rattle.sl_count_inputs.specs.declared.verdict.Verdict.TheVariants.{Good}
 use Rattle.sl_stages.specs.book.Trees.{BookTree}
 
 -- no tree that has what is asked for makes the input a good book

@@ -1,14 +1,13 @@
 //! The columns of the stages in what the run of a code holds.
 
 ghost use Rattle.std.specs.Prelude.{◌≡◌, ◌<◌, IfOk, length, map};
-ghost use Rattle.sl_semantics.specs.Fits.{FitsMemory};
+ghost use Rattle.sl_code_semantics.specs.Fits.{FitsMemory};
 ghost use Rattle.sl_count_outcomes.specs.inner.Held.{HasSlots, held_column, plain};
 
-use sl_count_value::Column;
-use sl_instructions::Code;
+use sl_code_instructions::Code;
 use sl_machine::Memory;
 use sl_ratio::NoMemory;
-use sl_stages::Returns;
+use sl_stages::{Column, Returns};
 use std::alloc::Global;
 
 // The column in a slot.
@@ -32,10 +31,6 @@ fn column_in(
 }
 
 /// The columns of the stages of a code, in their order.
-///
-/// # Errors
-///
-/// Out of memory.
 pub(crate) fn columns_of(
     alloc: Global,
     code: &Code,

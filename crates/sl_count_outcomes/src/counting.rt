@@ -2,8 +2,7 @@
 
 use crate::outcome::Outcome;
 use sl_check::CheckedBook;
-use sl_count_value::Records;
-use sl_stages::Returns;
+use sl_stages::{Records, Returns};
 
 /// A good rulebook on good returns, and what it comes to on them.
 #[derive(Drop)]

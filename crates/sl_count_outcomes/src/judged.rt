@@ -3,18 +3,17 @@
 ghost use Rattle.std.specs.Prelude.{◌≡◌, IfOk, option_map};
 ghost use Rattle.sl_count_outcomes.specs.Judged.{FitsJudged, IsCounting, IsJudged, IsJudgedOn, unknown_in};
 ghost use Rattle.sl_count_outcomes.specs.declared.judged.Judged.TheVariants as judged;
-ghost use Rattle.sl_inputs.specs.Judging.{input_of};
+ghost use Rattle.sl_count_inputs.specs.Judging.{input_of};
 ghost use Rattle.sl_stages.specs.book.Books.{book_of};
 
 use crate::counting::Counting;
 use crate::outcome::outcome_of;
 use sl_check::CheckedBook;
-use sl_count_value::Records;
-use sl_inputs::{
+use sl_count_inputs::{
     BookText, RefusedBook, RefusedElection, Verdict, judge_book, judge_returns, stage_number,
 };
 use sl_ratio::NoMemory;
-use sl_stages::{Book, Returns};
+use sl_stages::{Book, Records, Returns};
 use std::alloc::Global;
 
 /// What a rulebook and returns come to.
@@ -41,10 +40,6 @@ pub(crate) fn unknown<'a>(book: &Book, stage: Option<&'a str>) -> Option<&'a str
 }
 
 /// A good rulebook on good returns, with what it comes to on them.
-///
-/// # Errors
-///
-/// Out of memory.
 pub(crate) fn counting_of(
     records: Records,
     alloc: Global,
@@ -80,10 +75,6 @@ fn judge_on<'a>(
 }
 
 /// What a rulebook and returns come to. The rulebook is judged first, then the name of a stage, if one is asked for, and then the returns.
-///
-/// # Errors
-///
-/// Out of memory.
 pub fn judge<'a>(
     records: Records,
     alloc: Global,

@@ -1,5 +1,10 @@
-//! What a rulebook and returns come to, as one value: which of them is refused and why, or the count of the one on the other. One call makes it of bytes,
-//! one of readers. Stands on the inputs and the compiler; every text, table and explanation is a view of it.
+//! What a rulebook and returns come to, as one value: which of them is refused and why, or the count of the one on the other. One call makes it of
+//! bytes, one of readers.
+//!
+//! Stands on `sl_count_inputs`, `sl_compile` and `sl_table`; used by the rooms count and report. Proved: the value is the outcome which the rulebook
+//! means on the returns, or the first refusal.
+//!
+//! Where an error is `NoMemory` alone, memory ran out, and nothing else is wrong.
 #![tactic(auto)]
 
 mod columns;
@@ -12,4 +17,4 @@ pub use counting::Counting;
 pub use judged::{Judged, judge};
 pub use outcome::{Outcome, outcome_of};
 pub use reading::{Read, judge_read};
-pub use sl_count_value::{Column, Counted, End, Records};
+pub use sl_stages::{Column, Counted, End, Records};

@@ -1,12 +1,12 @@
 //! What a rulebook comes to on returns: its code is run with its budget.
 
 ghost use Rattle.std.specs.Prelude.{◌≡◌, ◌≢◌, IfOk, Some, length};
-ghost use Rattle.sl_count_value.specs.Counts.{IsMeantEnd};
+ghost use Rattle.sl_stages.specs.meaning.Counts.{IsMeantEnd};
 ghost use Rattle.sl_machine.specs.Answers.{answer_of};
 ghost use Rattle.sl_machine.specs.Fits.{Fits};
 ghost use Rattle.sl_machine.specs.declared.machine.Ending.TheVariants as answer;
-ghost use Rattle.sl_semantics.specs.Fits.{FitsMemory};
-ghost use Rattle.sl_semantics.specs.Runs.{budget_of, ending};
+ghost use Rattle.sl_code_semantics.specs.Fits.{FitsMemory};
+ghost use Rattle.sl_code_semantics.specs.Runs.{budget_of, ending};
 ghost use Rattle.sl_stages.specs.book.Books.{book_of};
 ghost use Rattle.sl_stages.specs.returns.Election.{IsElection};
 ghost use Rattle.sl_count_outcomes.specs.Outcomes.{FitsOutcome};
@@ -14,12 +14,11 @@ ghost use Rattle.sl_count_outcomes.specs.inner.Held.{EndsAs, HasSlots, Holds, re
 
 use crate::columns::columns_of;
 use sl_check::CheckedBook;
+use sl_code_instructions::Code;
 use sl_compile::compile;
-use sl_count_value::{Counted, End, Records};
-use sl_instructions::Code;
 use sl_machine::{Ending, Memory, budget, run, run_unrecorded};
 use sl_ratio::NoMemory;
-use sl_stages::{Book, Returns};
+use sl_stages::{Book, Counted, End, Records, Returns};
 use sl_table::into_table;
 use sl_verify::Verified;
 use std::alloc::Global;
@@ -89,10 +88,6 @@ fn end_of(alloc: Global, code: &Code, returns: &Returns, ending: Ending) -> Resu
 }
 
 /// What a rulebook comes to on returns: the table and the columns that it means, or the legal fault that it means.
-///
-/// # Errors
-///
-/// Out of memory.
 pub fn outcome_of(
     records: Records,
     alloc: Global,

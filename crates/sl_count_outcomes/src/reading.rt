@@ -4,19 +4,18 @@ ghost use Rattle.std.specs.Prelude.{◌≡◌, ◌+◌, IfErr, IfOk, IfSome, opt
 ghost use Rattle.sl_count_outcomes.specs.Judged.{FitsJudged, IsCounting, IsJudged, IsJudgedOn};
 ghost use Rattle.sl_count_outcomes.specs.declared.judged.Judged.TheVariants as judged;
 ghost use Rattle.sl_count_outcomes.specs.Reading.{ReadsAfter};
-ghost use Rattle.sl_inputs.specs.Failures.{counts, counts_after};
-ghost use Rattle.sl_inputs.specs.Reading.{ForKnown, ReadsBook, TakesAtMost, book_failures, book_input};
-ghost use Rattle.sl_inputs.specs.declared.limits.TheConstants.{MAX_RETURNS_BYTES};
+ghost use Rattle.sl_count_inputs.specs.Failures.{counts, counts_after};
+ghost use Rattle.sl_count_inputs.specs.Reading.{ForKnown, ReadsBook, TakesAtMost, book_failures, book_input};
+ghost use Rattle.sl_count_inputs.specs.declared.limits.TheConstants.{MAX_RETURNS_BYTES};
 ghost use Rattle.sl_stages.specs.book.Books.{book_of};
 
 use crate::counting::Counting;
 use crate::judged::{Judged, counting_of, unknown};
 use sl_check::CheckedBook;
-use sl_count_value::Records;
-use sl_inputs::{
+use sl_count_inputs::{
     BookSource, DeskError, ReadBook, ReadReturns, Source, Verdict, read_book, read_election,
 };
-use sl_stages::Returns;
+use sl_stages::{Records, Returns};
 use std::alloc::Global;
 
 /// What a rulebook and returns come to, and the bytes of both as far as they were read: none of a rulebook of the library, of an input that is too long

@@ -4,19 +4,19 @@ use Rattle.std.specs.List.{All}
 use Rattle.std.proofs.lemmas.Bool.{cases_lt}
 use Rattle.sl_code.specs.declared.fault.CodeFault.{CodeFault}
 use Rattle.sl_code.specs.declared.fault.CodeFault.TheVariants as file
-use Rattle.sl_instructions.specs.Codes.{CountingCode}
+use Rattle.sl_code_instructions.specs.Codes.{CountingCode}
 use Rattle.sl_code.specs.Faults.{IsFault}
 use Rattle.sl_code.specs.Laws.{IsByte, CodeOrFault, OneCode, OneFault, SpellingOrFault}
 use Rattle.sl_code.specs.Reading.{IsReading}
 use Rattle.sl_verify.specs.declared.fault.VerifyFault.{VerifyFault}
 use Rattle.sl_verify.specs.Faults.{verify_fault}
 use Rattle.sl_verify.specs.WellKinded.{IsWellKinded}
-use Rattle.sl_inputs.specs.declared.limits.TheConstants.{MAX_CODE_BYTES}
-use Rattle.sl_code_inputs.specs.declared.refusal.CodeRefusal.{CodeRefusal}
-use Rattle.sl_code_inputs.specs.declared.refusal.CodeRefusal.TheVariants as code
-use Rattle.sl_inputs.specs.declared.verdict.Verdict.{Verdict}
-use Rattle.sl_inputs.specs.declared.verdict.Verdict.TheVariants.{Good, Refused}
-use Rattle.sl_code_inputs.specs.CodeFiles.{IsCodeVerdict}
+use Rattle.sl_count_inputs.specs.declared.limits.TheConstants.{MAX_CODE_BYTES}
+use Rattle.sl_count_code_files.specs.declared.refusal.CodeRefusal.{CodeRefusal}
+use Rattle.sl_count_code_files.specs.declared.refusal.CodeRefusal.TheVariants as code
+use Rattle.sl_count_inputs.specs.declared.verdict.Verdict.{Verdict}
+use Rattle.sl_count_inputs.specs.declared.verdict.Verdict.TheVariants.{Good, Refused}
+use Rattle.sl_count_code_files.specs.CodeFiles.{IsCodeVerdict}
 use Rattle.sl_desk.specs.Laws.{OneCodeVerdict, NoOtherCodeVerdict}
 
 -- what the layers below say of code files

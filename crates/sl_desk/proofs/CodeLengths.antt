@@ -5,20 +5,20 @@ use Rattle.std.proofs.lemmas.List.{length-map}
 use Rattle.std.proofs.lemmas.List.Elements.{All-tail}
 use Rattle.std.proofs.lemmas.Bool.{and_parts, false≢true}
 use Rattle.sl_ratio.specs.declared.names.TheConstants.{MAX_NAME_BYTES}
-use Rattle.sl_terms.specs.Words.{is_word, is_letter, is_digit}
-use Rattle.sl_instructions.specs.declared.code.CodeStage.{CodeStage}
-use Rattle.sl_instructions.specs.declared.instr.Instr.{Instr}
-use Rattle.sl_instructions.specs.declared.instr.Instr.TheVariants as instr
-use Rattle.sl_instructions.specs.declared.parts.Operand.{Operand}
-use Rattle.sl_instructions.specs.declared.parts.Operand.TheVariants as o
-use Rattle.sl_instructions.specs.Codes.{CountingCode}
-use Rattle.sl_instructions.specs.Proper.{IsStage}
-use Rattle.sl_terms.specs.Shapes.{shape_number}
+use Rattle.sl_base_terms.specs.Words.{is_word, is_letter, is_digit}
+use Rattle.sl_code_instructions.specs.declared.code.CodeStage.{CodeStage}
+use Rattle.sl_code_instructions.specs.declared.instr.Instr.{Instr}
+use Rattle.sl_code_instructions.specs.declared.instr.Instr.TheVariants as instr
+use Rattle.sl_code_instructions.specs.declared.parts.Operand.{Operand}
+use Rattle.sl_code_instructions.specs.declared.parts.Operand.TheVariants as o
+use Rattle.sl_code_instructions.specs.Codes.{CountingCode}
+use Rattle.sl_code_instructions.specs.Proper.{IsStage}
+use Rattle.sl_base_terms.specs.Shapes.{shape_number}
 use Rattle.sl_code.specs.Operands.{bytes_of, two_bytes, four_bytes, eight_bytes}
-use Rattle.sl_instructions.specs.Proper.{IsProper}
-use Rattle.sl_instructions.specs.Rows.{operands_of}
+use Rattle.sl_code_instructions.specs.Proper.{IsProper}
+use Rattle.sl_code_instructions.specs.Rows.{operands_of}
 use Rattle.sl_code.specs.Spelling.{instr_bytes, stage_bytes, opening, stages_part, slots_part, instrs_part, spelling_of}
-use Rattle.sl_inputs.specs.declared.limits.TheConstants.{MAX_CODE_BYTES}
+use Rattle.sl_count_inputs.specs.declared.limits.TheConstants.{MAX_CODE_BYTES}
 
 -- ---- lists of pieces
 
@@ -78,7 +78,7 @@ stages_long (s ∷ stages) words =
 
 -- ---- files
 
--- four parts, one behind the other
+-- four parts, one after the other
 parts_long : (a b c d : List ℕ) → length (a ++ b ++ c ++ d) ≡ length a + length b + length c + length d
 parts_long a b c d = omega (arith, length-append (a ++ b ++ c) d, length-append (a ++ b) c, length-append a b)
 

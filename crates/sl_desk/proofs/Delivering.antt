@@ -1,10 +1,10 @@
--- Two texts that are delivered, one behind the other.
+-- Two texts that are delivered, one after the other.
 use Rattle.std.proofs.Common.{◌≡◌, Result, Ok, Err, Option, List, ℕ, IfErr, ap, ◌∙◌, inl, inr}
-use Rattle.sl_inputs.specs.declared.status.Status.{Status}
-use Rattle.sl_inputs.specs.declared.status.DeskError.{DeskError}
-use Rattle.sl_inputs.specs.declared.status.DeskError.TheVariants.{Read, Write, NoMemory}
-use Rattle.sl_inputs.specs.Failures.{Counts, counts, counts_after, FailsInOne}
-use Rattle.sl_inputs.specs.Writing.{DeliversBoth}
+use Rattle.sl_count_inputs.specs.declared.status.Status.{Status}
+use Rattle.sl_count_inputs.specs.declared.status.DeskError.{DeskError}
+use Rattle.sl_count_inputs.specs.declared.status.DeskError.TheVariants.{Read, Write, NoMemory}
+use Rattle.sl_count_inputs.specs.Failures.{Counts, counts, counts_after, FailsInOne}
+use Rattle.sl_count_inputs.specs.Writing.{DeliversBoth}
 
 -- these texts, with that status
 abbrev pub Are : Status → List ℕ → List ℕ → Status → List ℕ → List ℕ → Type 0

@@ -18,26 +18,26 @@ use Rattle.sl_stages.specs.book.Trees.{BookTree}
 use Rattle.sl_stages.specs.book.Limits.{is_within_limits}
 use Rattle.sl_stages.specs.book.Typing.{check_fault, is_typed}
 use Rattle.sl_stages.specs.returns.Election.{Election}
-use Rattle.sl_inputs.specs.declared.refusal.BookRefusal.{BookRefusal}
-use Rattle.sl_inputs.specs.declared.refusal.BookRefusal.TheVariants.{UnknownLaw, TooLong, Tokens, Grammar, Test}
-use Rattle.sl_inputs.specs.declared.refusal.ReturnsRefusal.{ReturnsRefusal}
-use Rattle.sl_inputs.specs.declared.refusal.ReturnsRefusal.TheVariants as returns
-use Rattle.sl_counts.specs.declared.report.Report.{Report}
-use Rattle.sl_counts.specs.declared.report.Report.TheVariants.{Stage}
-use Rattle.sl_inputs.specs.declared.status.Status.{Status}
-use Rattle.sl_inputs.specs.declared.verdict.Verdict.{Verdict}
-use Rattle.sl_inputs.specs.declared.verdict.Verdict.TheVariants.{Good, Refused}
-use Rattle.sl_inputs.specs.Books.{BookInput, HasTokens, HasTree, library, text, IsTextVerdict, IsLawVerdict, IsBookVerdict, book_line}
-use Rattle.sl_inputs.specs.Library.{unknown_law}
-use Rattle.sl_inputs.specs.Returns.{IsReturnsVerdict}
+use Rattle.sl_count_inputs.specs.declared.refusal.BookRefusal.{BookRefusal}
+use Rattle.sl_count_inputs.specs.declared.refusal.BookRefusal.TheVariants.{UnknownLaw, TooLong, Tokens, Grammar, Test}
+use Rattle.sl_count_inputs.specs.declared.refusal.ReturnsRefusal.{ReturnsRefusal}
+use Rattle.sl_count_inputs.specs.declared.refusal.ReturnsRefusal.TheVariants as returns
+use Rattle.sl_count_calls.specs.declared.report.Report.{Report}
+use Rattle.sl_count_calls.specs.declared.report.Report.TheVariants.{Stage}
+use Rattle.sl_count_inputs.specs.declared.status.Status.{Status}
+use Rattle.sl_count_inputs.specs.declared.verdict.Verdict.{Verdict}
+use Rattle.sl_count_inputs.specs.declared.verdict.Verdict.TheVariants.{Good, Refused}
+use Rattle.sl_count_inputs.specs.Books.{BookInput, HasTokens, HasTree, library, text, IsTextVerdict, IsLawVerdict, IsBookVerdict, book_line}
+use Rattle.sl_count_inputs.specs.Library.{unknown_law}
+use Rattle.sl_count_inputs.specs.Returns.{IsReturnsVerdict}
 use Rattle.sl_desk.specs.Checking.{IsCheck}
-use Rattle.sl_counts.specs.Counting.{IsTreeOutput, IsCount}
-use Rattle.sl_counts.specs.Showing.{IsNumbered, IsStage}
-use Rattle.sl_inputs.specs.StageNames.{stage_number}
+use Rattle.sl_count_calls.specs.Counting.{IsTreeOutput, IsCount}
+use Rattle.sl_count_calls.specs.Showing.{IsNumbered, IsStage}
+use Rattle.sl_count_inputs.specs.StageNames.{stage_number}
 use Rattle.sl_desk.specs.Laws.{HasOneOutput, HasOneStage, HasOneCheck}
 use Rattle.sl_returns.proofs.ReadElections.{read_is}
-use Rattle.sl_counts.proofs.OneMeaning.{one_good_output}
-use Rattle.sl_counts.specs.Reports.{IsReported}
+use Rattle.sl_count_calls.proofs.OneMeaning.{one_good_output}
+use Rattle.sl_count_calls.specs.Reports.{IsReported}
 
 -- what the layers below say
 pub record LowerLaws : Type 0 where

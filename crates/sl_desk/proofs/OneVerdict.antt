@@ -15,15 +15,15 @@ use Rattle.sl_stages.specs.declared.check_fault.CheckFault.{CheckFault}
 use Rattle.sl_stages.specs.book.Trees.{BookTree}
 use Rattle.sl_stages.specs.book.Typing.{check_fault}
 use Rattle.sl_stages.specs.returns.Election.{Election}
-use Rattle.sl_inputs.specs.declared.limits.TheConstants.{MAX_BOOK_BYTES, MAX_RETURNS_BYTES}
-use Rattle.sl_inputs.specs.declared.refusal.BookRefusal.{BookRefusal}
-use Rattle.sl_inputs.specs.declared.refusal.BookRefusal.TheVariants.{TooLong, Tokens, Grammar, Test}
-use Rattle.sl_inputs.specs.declared.refusal.ReturnsRefusal.{ReturnsRefusal}
-use Rattle.sl_inputs.specs.declared.refusal.ReturnsRefusal.TheVariants as returns
-use Rattle.sl_inputs.specs.declared.verdict.Verdict.{Verdict}
-use Rattle.sl_inputs.specs.declared.verdict.Verdict.TheVariants.{Good, Refused}
-use Rattle.sl_inputs.specs.Books.{HasTokens, HasTree, IsTextVerdict}
-use Rattle.sl_inputs.specs.Returns.{IsReturnsVerdict}
+use Rattle.sl_count_inputs.specs.declared.limits.TheConstants.{MAX_BOOK_BYTES, MAX_RETURNS_BYTES}
+use Rattle.sl_count_inputs.specs.declared.refusal.BookRefusal.{BookRefusal}
+use Rattle.sl_count_inputs.specs.declared.refusal.BookRefusal.TheVariants.{TooLong, Tokens, Grammar, Test}
+use Rattle.sl_count_inputs.specs.declared.refusal.ReturnsRefusal.{ReturnsRefusal}
+use Rattle.sl_count_inputs.specs.declared.refusal.ReturnsRefusal.TheVariants as returns
+use Rattle.sl_count_inputs.specs.declared.verdict.Verdict.{Verdict}
+use Rattle.sl_count_inputs.specs.declared.verdict.Verdict.TheVariants.{Good, Refused}
+use Rattle.sl_count_inputs.specs.Books.{HasTokens, HasTree, IsTextVerdict}
+use Rattle.sl_count_inputs.specs.Returns.{IsReturnsVerdict}
 use Rattle.sl_desk.specs.Laws.{OneBookVerdict, OneReturnsVerdict}
 use Rattle.sl_desk.proofs.OneOutput.{LowerLaws, one_text_verdict, one_returns_verdict}
 

@@ -1,9 +1,9 @@
 -- The code file is judged before the returns are read.
 use Rattle.std.proofs.Common.{◌≡◌, ℕ, ◌+◌, List, Option, Some, None, IfSome, IfOk, Result, Ok, Err, length, subst}
-use Rattle.sl_code_inputs.specs.CodeFiles.{IsCodeVerdict, code_line}
-use Rattle.sl_code_inputs.specs.declared.refusal.CodeRefusal.{CodeRefusal}
+use Rattle.sl_count_code_files.specs.CodeFiles.{IsCodeVerdict, code_line}
+use Rattle.sl_count_code_files.specs.declared.refusal.CodeRefusal.{CodeRefusal}
 use Rattle.sl_count_outcomes.proofs.Order.{reads_after}
-use Rattle.sl_counts.specs.declared.answer.Answer.{Answer}
+use Rattle.sl_count_calls.specs.declared.answer.Answer.{Answer}
 use Rattle.sl_desk.proofs.RunOutputs.{run_output}
 use Rattle.sl_desk.specs.Endings.{IsEndingOutput}
 use Rattle.sl_desk.specs.JudgedRuns.{IsJudged, IsJudgedOn, IsRunAnswer}
@@ -12,20 +12,20 @@ use Rattle.sl_desk.specs.declared.calls.run.JudgedRun.TheVariants as judged
 use Rattle.sl_desk.specs.declared.calls.run.JudgedRun.{JudgedRun}
 use Rattle.sl_desk.specs.declared.calls.run.ReadRun.{ReadRun}
 use Rattle.sl_desk.specs.declared.calls.run.Run.{Run}
-use Rattle.sl_inputs.specs.Failures.{counts, counts_after}
-use Rattle.sl_inputs.specs.Reading.{ForKnown, TakesAtMost}
-use Rattle.sl_inputs.specs.Returns.{IsReturnsVerdict, returns_line}
-use Rattle.sl_inputs.specs.declared.limits.TheConstants.{MAX_RETURNS_BYTES}
-use Rattle.sl_inputs.specs.declared.refusal.ReturnsRefusal.{ReturnsRefusal}
-use Rattle.sl_inputs.specs.declared.status.DeskError.TheVariants as fault
-use Rattle.sl_inputs.specs.declared.status.DeskError.{DeskError}
-use Rattle.sl_inputs.specs.declared.status.Input.TheVariants.{Code, Returns}
-use Rattle.sl_inputs.specs.declared.status.Input.{Input}
-use Rattle.sl_inputs.specs.declared.status.Status.TheVariants as status
-use Rattle.sl_inputs.specs.declared.status.Status.{Status}
-use Rattle.sl_inputs.specs.declared.verdict.Verdict.TheVariants.{Good, Refused}
-use Rattle.sl_instructions.specs.Codes.{CountingCode}
-use Rattle.sl_semantics.specs.Runs.{budget_of, ending}
+use Rattle.sl_count_inputs.specs.Failures.{counts, counts_after}
+use Rattle.sl_count_inputs.specs.Reading.{ForKnown, TakesAtMost}
+use Rattle.sl_count_inputs.specs.Returns.{IsReturnsVerdict, returns_line}
+use Rattle.sl_count_inputs.specs.declared.limits.TheConstants.{MAX_RETURNS_BYTES}
+use Rattle.sl_count_inputs.specs.declared.refusal.ReturnsRefusal.{ReturnsRefusal}
+use Rattle.sl_count_inputs.specs.declared.status.DeskError.TheVariants as fault
+use Rattle.sl_count_inputs.specs.declared.status.DeskError.{DeskError}
+use Rattle.sl_count_inputs.specs.declared.status.Input.TheVariants.{Code, Returns}
+use Rattle.sl_count_inputs.specs.declared.status.Input.{Input}
+use Rattle.sl_count_inputs.specs.declared.status.Status.TheVariants as status
+use Rattle.sl_count_inputs.specs.declared.status.Status.{Status}
+use Rattle.sl_count_inputs.specs.declared.verdict.Verdict.TheVariants.{Good, Refused}
+use Rattle.sl_code_instructions.specs.Codes.{CountingCode}
+use Rattle.sl_code_semantics.specs.Runs.{budget_of, ending}
 
 good_code : (known : Option (List ℕ)) (c : CountingCode) → IfSome known (λ bytes. IsCodeVerdict bytes (Good c)) → IfSome known (λ bytes. IsNoGoodCode bytes → ⊥)
 good_code None c good = tt
@@ -91,7 +91,7 @@ more_some : {A : Type 0} (P Q : A → Type 0) (known : Option A) → ((a : A) �
 more_some P Q None more h = tt
 more_some P Q (Some a) more h = more a h
 
--- a later failure to write, or for want of memory, changes nothing of what was read
+-- a later failure to write, or for lack of memory, changes nothing of what was read
 pub reads_on : {R X Y : Type 0} (remaining : R → Option (List ℕ)) (file : Option (List ℕ)) (old new : R) (r : Result X DeskError) (s : Result Y DeskError)
     → ((i : Input) → s ≡ Err (fault.Read i) → r ≡ Err (fault.Read i)) → ReadsBehindCode remaining file old new r → ReadsBehindCode remaining file old new s
 reads_on remaining file old new r s same h = record {

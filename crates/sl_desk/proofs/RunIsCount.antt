@@ -3,44 +3,44 @@ use Rattle.std.proofs.Common.{◌≡◌, ◌≢◌, ℕ, true, List, length, Opt
 use Rattle.sl_stages.specs.book.Trees.{BookTree}
 use Rattle.sl_stages.specs.book.Typing.{is_typed}
 use Rattle.sl_stages.specs.returns.Election.{Election, IsElection}
-use Rattle.sl_instructions.specs.Codes.{CountingCode}
+use Rattle.sl_code_instructions.specs.Codes.{CountingCode}
 use Rattle.sl_code.specs.Spelling.{spelling_of}
 use Rattle.sl_machine.specs.declared.machine.Ending.{Ending as Answer}
 use Rattle.sl_machine.specs.declared.machine.Ending.TheVariants as answer
 use Rattle.sl_machine.specs.Answers.{answer_of}
-use Rattle.sl_semantics.specs.Laws.{NeverStuck}
-use Rattle.sl_semantics.specs.Memories.{Held, held_of}
-use Rattle.sl_semantics.specs.Runs.{Ending, Ended, OutOfBudget, Stuck, budget_of, ending}
-use Rattle.sl_semantics.specs.State.{End, Halted, Faulted}
-use Rattle.sl_semantics.specs.Tables.{held_table}
-use Rattle.sl_semantics.specs.Unrecorded.{unrecorded, without_records}
-use Rattle.sl_books.specs.Compiled.{IsCompiled, ending_by}
-use Rattle.sl_books.proofs.StageColumns.{code_stages_long}
+use Rattle.sl_code_semantics.specs.Laws.{NeverStuck}
+use Rattle.sl_code_semantics.specs.Memories.{Held, held_of}
+use Rattle.sl_code_semantics.specs.Runs.{Ending, Ended, OutOfBudget, Stuck, budget_of, ending}
+use Rattle.sl_code_semantics.specs.State.{End, Halted, Faulted}
+use Rattle.sl_code_semantics.specs.Tables.{held_table}
+use Rattle.sl_code_semantics.specs.Unrecorded.{unrecorded, without_records}
+use Rattle.sl_compile.specs.Compiled.{IsCompiled, ending_by}
+use Rattle.sl_compile.proofs.rulebooks.StageColumns.{code_stages_long}
 use Rattle.sl_returns.specs.Returns.{records_in}
 use Rattle.sl_returns.proofs.ReadElections.{read_is}
-use Rattle.sl_code_inputs.specs.declared.refusal.CodeRefusal.{CodeRefusal}
-use Rattle.sl_inputs.specs.declared.refusal.ReturnsRefusal.{ReturnsRefusal}
-use Rattle.sl_inputs.specs.declared.status.Status.{Status}
-use Rattle.sl_inputs.specs.declared.status.Status.TheVariants as status
-use Rattle.sl_inputs.specs.declared.verdict.Verdict.{Verdict}
-use Rattle.sl_inputs.specs.declared.verdict.Verdict.TheVariants.{Good, Refused}
+use Rattle.sl_count_code_files.specs.declared.refusal.CodeRefusal.{CodeRefusal}
+use Rattle.sl_count_inputs.specs.declared.refusal.ReturnsRefusal.{ReturnsRefusal}
+use Rattle.sl_count_inputs.specs.declared.status.Status.{Status}
+use Rattle.sl_count_inputs.specs.declared.status.Status.TheVariants as status
+use Rattle.sl_count_inputs.specs.declared.verdict.Verdict.{Verdict}
+use Rattle.sl_count_inputs.specs.declared.verdict.Verdict.TheVariants.{Good, Refused}
 use Rattle.sl_count_outcomes.proofs.Ends.{fault_is_meant, table_is_meant}
 use Rattle.sl_count_outcomes.specs.Outcomes.{code_names}
-use Rattle.sl_count_value.specs.declared.count.Records.TheVariants.{Kept}
+use Rattle.sl_stages.specs.declared.count.Records.TheVariants.{Kept}
 use Rattle.sl_desk.specs.Endings.{IsRunOutput, out_of_budget}
 use Rattle.sl_desk.specs.Laws.{OneCodeVerdict, NoOtherCodeVerdict, OneRun, HasOneRun, RunsItsCode, RunIsCount}
-use Rattle.sl_counts.specs.Counting.{IsTreeOutput, IsCount}
-use Rattle.sl_code_inputs.specs.CodeFiles.{IsCodeVerdict, code_line}
+use Rattle.sl_count_calls.specs.Counting.{IsTreeOutput, IsCount}
+use Rattle.sl_count_code_files.specs.CodeFiles.{IsCodeVerdict, code_line}
 use Rattle.sl_desk.specs.Running.{IsCodeOutput, IsRun, IsRunCode}
-use Rattle.sl_texts.specs.Faults.{fault_text}
-use Rattle.sl_texts.specs.Short.{short_text}
+use Rattle.sl_count_texts.specs.Faults.{fault_text}
+use Rattle.sl_count_texts.specs.Short.{short_text}
 use Rattle.sl_verify.specs.WellKinded.{IsWellKinded}
-use Rattle.sl_inputs.specs.Returns.{IsReturnsVerdict, returns_line}
+use Rattle.sl_count_inputs.specs.Returns.{IsReturnsVerdict, returns_line}
 use Rattle.sl_desk.proofs.CodeLengths.{file_fits}
 use Rattle.sl_desk.proofs.OneOutput.{one_returns_verdict}
 use Rattle.sl_desk.proofs.OneVerdict.{one_returns}
 use Rattle.sl_stages.proofs.meaning.MeaningProofs.{some_outcome}
-use Rattle.sl_counts.specs.Counting.{ShowsSeats}
+use Rattle.sl_count_calls.specs.Counting.{ShowsSeats}
 
 module _ (no_other : NoOtherCodeVerdict) where
   pub runs_its_code : RunsItsCode

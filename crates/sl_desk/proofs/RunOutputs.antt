@@ -1,18 +1,18 @@
 -- What the end of a run without its records writes is what the end of the run writes.
 use Rattle.std.proofs.Common.{◌≡◌, ℕ, List, None, Some, refl, subst, sym, ◌∙◌}
 use Rattle.std.proofs.lemmas.Option.{same_Some}
-use Rattle.sl_counts.proofs.OneMeaning.{same_short}
+use Rattle.sl_count_calls.proofs.OneMeaning.{same_short}
 use Rattle.sl_desk.specs.Endings.{IsEndingOutput, IsRunOutput}
-use Rattle.sl_inputs.specs.declared.status.Status.{Status}
-use Rattle.sl_instructions.specs.Codes.{CountingCode}
+use Rattle.sl_count_inputs.specs.declared.status.Status.{Status}
+use Rattle.sl_code_instructions.specs.Codes.{CountingCode}
 use Rattle.sl_machine.specs.Answers.{answer_of}
 use Rattle.sl_machine.specs.declared.machine.Ending.TheVariants as answer
 use Rattle.sl_machine.specs.declared.machine.Ending.{Ending as Answer}
-use Rattle.sl_semantics.specs.Memories.{Held, held_of}
-use Rattle.sl_semantics.specs.Runs.{Ended, Ending, OutOfBudget, Stuck}
-use Rattle.sl_semantics.specs.State.{Faulted, Halted}
-use Rattle.sl_semantics.specs.Tables.{held_table}
-use Rattle.sl_semantics.specs.Unrecorded.{unrecorded, without_records}
+use Rattle.sl_code_semantics.specs.Memories.{Held, held_of}
+use Rattle.sl_code_semantics.specs.Runs.{Ended, Ending, OutOfBudget, Stuck}
+use Rattle.sl_code_semantics.specs.State.{Faulted, Halted}
+use Rattle.sl_code_semantics.specs.Tables.{held_table}
+use Rattle.sl_code_semantics.specs.Unrecorded.{unrecorded, without_records}
 use Rattle.sl_stages.specs.returns.Election.{Election}
 
 none_or_some : (a : Answer) → None ≡ Some a → ⊥

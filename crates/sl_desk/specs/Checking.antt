@@ -1,14 +1,14 @@
 -- What checking a rulebook writes (docs/output.md).
 use Rattle.std.specs.Fmt.{decimal}
 use Rattle.std.specs.Prelude.{List, codes, length, ◌∷◌, ◌≡◌, ℕ, []}
-use Rattle.sl_inputs.specs.Books.{BookInput, IsBookVerdict, book_line}
-use Rattle.sl_inputs.specs.declared.refusal.BookRefusal.{BookRefusal}
-use Rattle.sl_inputs.specs.declared.status.Status.TheVariants as status
-use Rattle.sl_inputs.specs.declared.status.Status.{Status}
-use Rattle.sl_inputs.specs.declared.verdict.Verdict.TheVariants.{Good, Refused}
-use Rattle.sl_inputs.specs.declared.verdict.Verdict.{Verdict}
+use Rattle.sl_count_inputs.specs.Books.{BookInput, IsBookVerdict, book_line}
+use Rattle.sl_count_inputs.specs.declared.refusal.BookRefusal.{BookRefusal}
+use Rattle.sl_count_inputs.specs.declared.status.Status.TheVariants as status
+use Rattle.sl_count_inputs.specs.declared.status.Status.{Status}
+use Rattle.sl_count_inputs.specs.declared.verdict.Verdict.TheVariants.{Good, Refused}
+use Rattle.sl_count_inputs.specs.declared.verdict.Verdict.{Verdict}
 use Rattle.sl_stages.specs.book.Trees.{BookTree}
-use Rattle.sl_texts.specs.Lines.{line}
+use Rattle.sl_count_texts.specs.Lines.{line}
 
 -- the line of a good book: its version, its house, how many stages it has, and the text of its law
 abbrev pub check_line : BookTree → List ℕ

@@ -1,16 +1,16 @@
 -- What compiling a rulebook writes, to the file and to the output (docs/output.md).
 use Rattle.std.specs.Prelude.{List, ◌≡◌, ℕ, []}
-use Rattle.sl_books.specs.Compiled.{IsCompiled}
-use Rattle.sl_instructions.specs.Codes.{CountingCode}
+use Rattle.sl_compile.specs.Compiled.{IsCompiled}
+use Rattle.sl_code_instructions.specs.Codes.{CountingCode}
 use Rattle.sl_code.specs.Listing.{listing_of}
-use Rattle.sl_instructions.specs.Proper.{IsProper}
+use Rattle.sl_code_instructions.specs.Proper.{IsProper}
 use Rattle.sl_code.specs.Spelling.{spelling_of}
-use Rattle.sl_inputs.specs.Books.{BookInput, IsBookVerdict, book_line}
-use Rattle.sl_inputs.specs.declared.refusal.BookRefusal.{BookRefusal}
-use Rattle.sl_inputs.specs.declared.status.Status.TheVariants as status
-use Rattle.sl_inputs.specs.declared.status.Status.{Status}
-use Rattle.sl_inputs.specs.declared.verdict.Verdict.TheVariants.{Good, Refused}
-use Rattle.sl_inputs.specs.declared.verdict.Verdict.{Verdict}
+use Rattle.sl_count_inputs.specs.Books.{BookInput, IsBookVerdict, book_line}
+use Rattle.sl_count_inputs.specs.declared.refusal.BookRefusal.{BookRefusal}
+use Rattle.sl_count_inputs.specs.declared.status.Status.TheVariants as status
+use Rattle.sl_count_inputs.specs.declared.status.Status.{Status}
+use Rattle.sl_count_inputs.specs.declared.verdict.Verdict.TheVariants.{Good, Refused}
+use Rattle.sl_count_inputs.specs.declared.verdict.Verdict.{Verdict}
 use Rattle.sl_stages.specs.book.Trees.{BookTree}
 use Rattle.sl_verify.specs.WellKinded.{IsWellKinded}
 

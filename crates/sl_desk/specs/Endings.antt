@@ -1,16 +1,16 @@
 -- What the end of the run of a counting code writes (docs/output.md, sections 1 and 2).
 use Rattle.std.specs.Prelude.{List, None, Option, Some, [], codes, ◌∷◌, ◌≡◌, ℕ}
 use Rattle.sl_count_outcomes.specs.Outcomes.{code_names}
-use Rattle.sl_inputs.specs.declared.status.Status.TheVariants as status
-use Rattle.sl_inputs.specs.declared.status.Status.{Status}
-use Rattle.sl_instructions.specs.Codes.{CountingCode}
+use Rattle.sl_count_inputs.specs.declared.status.Status.TheVariants as status
+use Rattle.sl_count_inputs.specs.declared.status.Status.{Status}
+use Rattle.sl_code_instructions.specs.Codes.{CountingCode}
 use Rattle.sl_machine.specs.declared.machine.Ending.TheVariants as answer
 use Rattle.sl_machine.specs.declared.machine.Ending.{Ending as Answer}
-use Rattle.sl_semantics.specs.Tables.{held_table}
+use Rattle.sl_code_semantics.specs.Tables.{held_table}
 use Rattle.sl_stages.specs.returns.Election.{Election}
-use Rattle.sl_texts.specs.Faults.{fault_text}
-use Rattle.sl_texts.specs.Lines.{line}
-use Rattle.sl_texts.specs.Short.{short_text}
+use Rattle.sl_count_texts.specs.Faults.{fault_text}
+use Rattle.sl_count_texts.specs.Lines.{line}
+use Rattle.sl_count_texts.specs.Short.{short_text}
 
 -- the line of a run that needs more steps than it may take
 abbrev pub out_of_budget : List ℕ

@@ -1,19 +1,19 @@
 -- What a code file and returns come to (docs/desk.md, section 4).
 use Rattle.std.specs.Prelude.{List, Some, length, ◌≡◌, ℕ}
-use Rattle.sl_code_inputs.specs.CodeFiles.{IsCodeVerdict}
+use Rattle.sl_count_code_files.specs.CodeFiles.{IsCodeVerdict}
 use Rattle.sl_desk.specs.Running.{IsRunCode}
 use Rattle.sl_desk.specs.declared.calls.run.JudgedRun.TheVariants.{CodeRefused, Ran, ReturnsRefused}
 use Rattle.sl_desk.specs.declared.calls.run.JudgedRun.{JudgedRun}
-use Rattle.sl_inputs.specs.Judging.{returns_refusal_of}
-use Rattle.sl_inputs.specs.Returns.{IsReturnsVerdict}
-use Rattle.sl_inputs.specs.declared.status.Status.{Status}
-use Rattle.sl_inputs.specs.declared.verdict.Verdict.TheVariants.{Good, Refused}
-use Rattle.sl_instructions.specs.Codes.{CountingCode}
+use Rattle.sl_count_inputs.specs.Judging.{returns_refusal_of}
+use Rattle.sl_count_inputs.specs.Returns.{IsReturnsVerdict}
+use Rattle.sl_count_inputs.specs.declared.status.Status.{Status}
+use Rattle.sl_count_inputs.specs.declared.verdict.Verdict.TheVariants.{Good, Refused}
+use Rattle.sl_code_instructions.specs.Codes.{CountingCode}
 use Rattle.sl_machine.specs.Answers.{answer_of}
 use Rattle.sl_machine.specs.Fits.{Fits}
 use Rattle.sl_machine.specs.declared.machine.Ending.{Ending as Answer}
-use Rattle.sl_semantics.specs.Runs.{budget_of, ending}
-use Rattle.sl_semantics.specs.Unrecorded.{without_records}
+use Rattle.sl_code_semantics.specs.Runs.{budget_of, ending}
+use Rattle.sl_code_semantics.specs.Unrecorded.{without_records}
 use Rattle.sl_stages.specs.returns.Election.{Election}
 
 -- the run of a good code on good returns, with the budget of its stages and without its records, ends so

@@ -1,28 +1,28 @@
 -- The laws of verdicts, and of what is written.
 use Rattle.std.specs.Prelude.{◌≡◌, ◌↔◌, ℕ, true, List, All}
-use Rattle.sl_instructions.specs.Codes.{CountingCode}
+use Rattle.sl_code_instructions.specs.Codes.{CountingCode}
 use Rattle.sl_code.specs.Laws.{IsByte}
-use Rattle.sl_instructions.specs.Proper.{IsProper}
+use Rattle.sl_code_instructions.specs.Proper.{IsProper}
 use Rattle.sl_code.specs.Spelling.{spelling_of}
 use Rattle.sl_stages.specs.book.Trees.{BookTree}
 use Rattle.sl_stages.specs.book.Typing.{is_typed}
 use Rattle.sl_stages.specs.laws.OneLaws.{ExactlyOne}
 use Rattle.sl_verify.specs.WellKinded.{IsWellKinded}
-use Rattle.sl_code_inputs.specs.declared.refusal.CodeRefusal.{CodeRefusal}
-use Rattle.sl_counts.specs.declared.report.Report.{Report}
-use Rattle.sl_inputs.specs.declared.status.Status.{Status}
-use Rattle.sl_inputs.specs.declared.verdict.Verdict.{Verdict}
-use Rattle.sl_inputs.specs.declared.verdict.Verdict.TheVariants.{Good}
-use Rattle.sl_inputs.specs.Books.{BookInput, IsTextVerdict}
-use Rattle.sl_code_inputs.specs.CodeFiles.{IsCodeVerdict}
-use Rattle.sl_inputs.specs.Returns.{IsReturnsVerdict}
+use Rattle.sl_count_code_files.specs.declared.refusal.CodeRefusal.{CodeRefusal}
+use Rattle.sl_count_calls.specs.declared.report.Report.{Report}
+use Rattle.sl_count_inputs.specs.declared.status.Status.{Status}
+use Rattle.sl_count_inputs.specs.declared.verdict.Verdict.{Verdict}
+use Rattle.sl_count_inputs.specs.declared.verdict.Verdict.TheVariants.{Good}
+use Rattle.sl_count_inputs.specs.Books.{BookInput, IsTextVerdict}
+use Rattle.sl_count_code_files.specs.CodeFiles.{IsCodeVerdict}
+use Rattle.sl_count_inputs.specs.Returns.{IsReturnsVerdict}
 use Rattle.sl_desk.specs.Checking.{IsCheckOutput}
 use Rattle.sl_desk.specs.Compiling.{IsCodeOf}
-use Rattle.sl_counts.specs.Counting.{IsCount, IsOutput}
+use Rattle.sl_count_calls.specs.Counting.{IsCount, IsOutput}
 use Rattle.sl_desk.specs.Running.{IsRun, IsRunCode}
-use Rattle.sl_counts.specs.Showing.{IsStageOutput}
-use Rattle.sl_counts.specs.Reports.{IsReported}
-use Rattle.sl_counts.specs.Counting.{ShowsSeats}
+use Rattle.sl_count_calls.specs.Showing.{IsStageOutput}
+use Rattle.sl_count_calls.specs.Reports.{IsReported}
+use Rattle.sl_count_calls.specs.Counting.{ShowsSeats}
 
 -- each text of a book comes to exactly one verdict
 abbrev pub OneBookVerdict : Type 0

@@ -1,21 +1,21 @@
 -- What running a code file writes, and what it reads (docs/output.md).
 use Rattle.std.specs.Prelude.{List, Option, Result, length, ◌≡◌, ℕ}
-use Rattle.sl_instructions.specs.Codes.{CountingCode}
-use Rattle.sl_code_inputs.specs.CodeFiles.{IsCodeVerdict, code_line}
+use Rattle.sl_code_instructions.specs.Codes.{CountingCode}
+use Rattle.sl_count_code_files.specs.CodeFiles.{IsCodeVerdict, code_line}
 use Rattle.sl_desk.specs.Endings.{IsRunOutput}
-use Rattle.sl_inputs.specs.Reading.{ReadsBehind}
-use Rattle.sl_inputs.specs.Returns.{IsReturnsVerdict, returns_line}
-use Rattle.sl_code_inputs.specs.declared.refusal.CodeRefusal.{CodeRefusal}
-use Rattle.sl_inputs.specs.declared.refusal.ReturnsRefusal.{ReturnsRefusal}
-use Rattle.sl_inputs.specs.declared.status.DeskError.{DeskError}
-use Rattle.sl_inputs.specs.declared.status.Input.TheVariants as input
-use Rattle.sl_inputs.specs.declared.status.Status.TheVariants as status
-use Rattle.sl_inputs.specs.declared.status.Status.{Status}
-use Rattle.sl_inputs.specs.declared.verdict.Verdict.TheVariants as verdict
-use Rattle.sl_inputs.specs.declared.verdict.Verdict.TheVariants.{Good, Refused}
-use Rattle.sl_inputs.specs.declared.verdict.Verdict.{Verdict}
+use Rattle.sl_count_inputs.specs.Reading.{ReadsBehind}
+use Rattle.sl_count_inputs.specs.Returns.{IsReturnsVerdict, returns_line}
+use Rattle.sl_count_code_files.specs.declared.refusal.CodeRefusal.{CodeRefusal}
+use Rattle.sl_count_inputs.specs.declared.refusal.ReturnsRefusal.{ReturnsRefusal}
+use Rattle.sl_count_inputs.specs.declared.status.DeskError.{DeskError}
+use Rattle.sl_count_inputs.specs.declared.status.Input.TheVariants as input
+use Rattle.sl_count_inputs.specs.declared.status.Status.TheVariants as status
+use Rattle.sl_count_inputs.specs.declared.status.Status.{Status}
+use Rattle.sl_count_inputs.specs.declared.verdict.Verdict.TheVariants as verdict
+use Rattle.sl_count_inputs.specs.declared.verdict.Verdict.TheVariants.{Good, Refused}
+use Rattle.sl_count_inputs.specs.declared.verdict.Verdict.{Verdict}
 use Rattle.sl_machine.specs.Answers.{answer_of}
-use Rattle.sl_semantics.specs.Runs.{budget_of, ending}
+use Rattle.sl_code_semantics.specs.Runs.{budget_of, ending}
 use Rattle.sl_stages.specs.returns.Election.{Election}
 
 -- well-kinded code on judged returns: its run, with the budget of its stages

@@ -1,7 +1,7 @@
 //! Laws of verdicts, and of what is written.
 
 ghost use Rattle.std.specs.Prelude.{◌≡◌};
-ghost use Rattle.sl_inputs.specs.declared.limits.TheConstants.{MAX_BOOK_BYTES, MAX_CODE_BYTES, MAX_RETURNS_BYTES};
+ghost use Rattle.sl_count_inputs.specs.declared.limits.TheConstants.{MAX_BOOK_BYTES, MAX_CODE_BYTES, MAX_RETURNS_BYTES};
 ghost use Rattle.sl_desk.specs.Laws.{OneBookVerdict, OneReturnsVerdict, OneCodeVerdict, NoOtherCodeVerdict, HasOneOutput, HasOneStage, HasOneCheck, OneRun, HasOneRun, RunsItsCode, RunIsCount};
 
 /// How many bytes a book, a code file and returns may have.
@@ -82,7 +82,7 @@ pub fn runs_have_one_output()
     ensures no_other { HasOneRun }
 {
     code_files_have_one_verdict();
-    sl_semantics::laws::never_stuck();
+    sl_code_semantics::laws::never_stuck();
 }
 
 /// Running the file of a code writes how the run of that code ends; and of a code that counts as a book means, what counting by the book writes.

@@ -4,8 +4,8 @@ ghost use Rattle.std.specs.Prelude.{◌≡◌, IfOk};
 ghost use Rattle.sl_desk.specs.Endings.{IsEndingOutput, out_of_budget};
 ghost use Rattle.sl_machine.specs.Fits.{Fits};
 
-use sl_counts::Answer;
-use sl_instructions::Code;
+use sl_code_instructions::Code;
+use sl_count_calls::Answer;
 use sl_machine::Ending;
 use sl_ratio::NoMemory;
 use sl_stages::Returns;
@@ -25,10 +25,6 @@ fn out_of_budget(alloc: Global) -> Result<Vec<u8>, NoMemory>
 }
 
 /// What the end of a run of a code on returns writes: the seats, the legal fault, or that the steps ran out.
-///
-/// # Errors
-///
-/// Out of memory.
 pub(crate) fn run_text(
     alloc: Global,
     code: &Code,

@@ -1,7 +1,7 @@
 -- The code of each fault of a rulebook (docs/faults.md). Out of memory is no fault of a rulebook, and has none.
 use Rattle.std.specs.Prelude.{Option, Some, None}
-use Rattle.sl_explain.specs.declared.code.FaultCode.{FaultCode}
-use Rattle.sl_explain.specs.declared.code.FaultCode.TheVariants.{B03, B04, B05, B06, B07, B08, B09, B10, B11, B12, B13, B14, B15, B16, B17, B18, B19, B20, B21}
+use Rattle.sl_explain_texts.specs.declared.code.FaultCode.{FaultCode}
+use Rattle.sl_explain_texts.specs.declared.code.FaultCode.TheVariants.{B03, B04, B05, B06, B07, B08, B09, B10, B11, B12, B13, B14, B15, B16, B17, B18, B19, B20, B21}
 use Rattle.sl_lex.specs.declared.fault.LexFault.{LexFault}
 use Rattle.sl_lex.specs.declared.fault.LexFault.TheVariants as tokens
 use Rattle.sl_parse.specs.declared.fault.ParseFault.{ParseFault}

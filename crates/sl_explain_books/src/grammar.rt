@@ -1,7 +1,7 @@
 //! Why tokens are no rulebook, explained.
 
 ghost use Rattle.std.specs.Prelude.{◌≡◌, IfOk, Some};
-ghost use Rattle.sl_explain.specs.declared.code.FaultCode.TheVariants.{B07, B10};
+ghost use Rattle.sl_explain_texts.specs.declared.code.FaultCode.TheVariants.{B07, B10};
 ghost use Rattle.sl_explain_books.specs.Codes.{grammar_code};
 
 mod contexts;
@@ -15,7 +15,7 @@ use crate::whole::explain_whole;
 use contexts::remedy;
 use going_on::{expected, listed, words};
 use limits::{explain_depth, explain_no_room, explain_stages};
-use sl_explain::{Explanation, FaultCode, Language, Message, Sentence, Span, Speaker};
+use sl_explain_texts::{Explanation, FaultCode, Language, Message, Sentence, Span, Speaker};
 use sl_lex::{Keyword, Kind, Mark, Token};
 use sl_parse::{ParseFault, Sort};
 use sl_ratio::NoMemory;
@@ -393,10 +393,6 @@ fn code_of(fault: ParseFault) -> Option<FaultCode>
 }
 
 /// Explains why the tokens of a text are no rulebook.
-///
-/// # Errors
-///
-/// Out of memory.
 pub fn explain_grammar(
     alloc: Global,
     language: Language,

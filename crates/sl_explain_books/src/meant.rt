@@ -1,6 +1,6 @@
 //! Words of other languages and of other books for those of the language.
 
-use sl_explain::Message;
+use sl_explain_texts::Message;
 
 /// What is said of a method by another name; the value is its keyword.
 pub const METHOD: Message = Message {

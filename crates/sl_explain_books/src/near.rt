@@ -2,17 +2,13 @@
 
 ghost use Rattle.std.specs.Prelude.{◌≡◌};
 
-use sl_explain::{Explanation, Message, Speaker};
+use sl_explain_texts::{Explanation, Message, Speaker};
 use sl_parse::fact_keyword;
 use sl_ratio::NoMemory;
 use sl_stages::{FACTS, Stage};
 use std::alloc::Global;
 
 /// The columns of the returns, as an expression names them.
-///
-/// # Errors
-///
-/// Out of memory.
 pub fn columns_of_returns(alloc: Global) -> Result<Vec<&'static [u8]>, NoMemory> {
     let mut columns = Vec::new(alloc);
     for fact in &FACTS {
@@ -22,10 +18,6 @@ pub fn columns_of_returns(alloc: Global) -> Result<Vec<&'static [u8]>, NoMemory>
 }
 
 /// Adds the question whether a name is meant that is near to a word, and where none is near, what else to do.
-///
-/// # Errors
-///
-/// Out of memory.
 pub fn help_nearest_or(
     speaker: Speaker,
     explanation: &mut Explanation,
@@ -43,10 +35,6 @@ pub fn help_nearest_or(
 }
 
 /// Adds the question whether a name that is near to a word is meant: that of one of the stages, or one of some others.
-///
-/// # Errors
-///
-/// Out of memory.
 pub fn help_nearest_stage(
     speaker: Speaker,
     explanation: &mut Explanation,
@@ -75,10 +63,6 @@ fn listed_stages(speaker: Speaker, stages: &[Stage]) -> Result<Vec<u8>, NoMemory
 }
 
 /// Adds a sentence with the names of stages, or where there are none, another one.
-///
-/// # Errors
-///
-/// Out of memory.
 pub fn help_stages(
     speaker: Speaker,
     explanation: &mut Explanation,

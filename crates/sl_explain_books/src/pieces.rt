@@ -1,10 +1,10 @@
 //! Pieces of a text: where a token ends.
 
 ghost use Rattle.std.specs.Prelude.{◌≡◌};
-ghost use Rattle.sl_explain.specs.Lines.{line_number};
+ghost use Rattle.sl_explain_texts.specs.Lines.{line_number};
 ghost use Rattle.sl_explain_books.specs.Characters.{character_len, is_front};
 
-use sl_explain::{Span, line_at};
+use sl_explain_texts::{Span, line_at};
 
 /// Bytes from an offset to another, cut to those of the text.
 pub fn span_within(text: &[u8], start: usize, end: usize) -> Span {

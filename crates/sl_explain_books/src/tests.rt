@@ -16,16 +16,12 @@ use names::{explain_seats, explain_twice, explain_unknown};
 use numbers::{
     CAP, CAP_REMEDY, HOUSE, HOUSE_REMEDY, explain_seat_number, explain_share, explain_version,
 };
-use sl_explain::{Explanation, FaultCode, Language, Speaker};
+use sl_explain_texts::{Explanation, FaultCode, Language, Speaker};
 use sl_ratio::NoMemory;
 use sl_stages::{Book, CheckFault};
 use std::alloc::Global;
 
 /// Explains the first test that the rulebook of a text fails.
-///
-/// # Errors
-///
-/// Out of memory.
 pub fn explain_test(
     alloc: Global,
     language: Language,

@@ -1,7 +1,7 @@
 //! Why a text has no tokens, explained.
 
 ghost use Rattle.std.specs.Prelude.{◌≡◌, IfOk, Some};
-ghost use Rattle.sl_explain.specs.declared.code.FaultCode.TheVariants.{B04, B05, B06};
+ghost use Rattle.sl_explain_texts.specs.declared.code.FaultCode.TheVariants.{B04, B05, B06};
 ghost use Rattle.sl_explain_books.specs.Codes.{token_code};
 
 mod character;
@@ -10,7 +10,7 @@ use crate::near::help_nearest_or;
 use crate::pieces::{piece, span_within, token_span};
 use crate::whole::explain_whole;
 use character::{explain_character, explain_in_text};
-use sl_explain::{Explanation, FaultCode, Language, Message, Sentence, Span, Speaker};
+use sl_explain_texts::{Explanation, FaultCode, Language, Message, Sentence, Span, Speaker};
 use sl_lex::LexFault;
 use sl_ratio::{MAX_NAME_BYTES, NoMemory};
 use std::alloc::Global;
@@ -143,10 +143,6 @@ fn code_of(fault: LexFault) -> Option<FaultCode>
 }
 
 /// Explains why a text has no tokens.
-///
-/// # Errors
-///
-/// Out of memory.
 pub fn explain_tokens(
     alloc: Global,
     language: Language,

@@ -1,10 +1,10 @@
 //! Explains unknown names on the command line: a statute the library lacks, a stage the rulebook does not define.
 
 ghost use Rattle.std.specs.Prelude.{◌≡◌, IfOk, Some};
-ghost use Rattle.sl_explain.specs.declared.code.FaultCode.TheVariants.{B01, B22};
+ghost use Rattle.sl_explain_texts.specs.declared.code.FaultCode.TheVariants.{B01, B22};
 
 use crate::near::{columns_of_returns, help_nearest_stage, help_stages};
-use sl_explain::{Explanation, FaultCode, Language, Message, Sentence, Speaker};
+use sl_explain_texts::{Explanation, FaultCode, Language, Message, Sentence, Speaker};
 use sl_laws::{ELECTIONS, STATUTES, law};
 use sl_ratio::NoMemory;
 use sl_stages::{Book, Stage};
@@ -168,10 +168,6 @@ fn say_unknown(speaker: Speaker, sentence: &Sentence, name: &str) -> Result<Expl
 }
 
 /// Explains a name of no statute of the library, as it stands after `@` or `law`.
-///
-/// # Errors
-///
-/// Out of memory.
 pub fn explain_unknown_statute(
     alloc: Global,
     language: Language,
@@ -208,10 +204,6 @@ fn help_stage(
 }
 
 /// Explains a name of no stage of a rulebook.
-///
-/// # Errors
-///
-/// Out of memory.
 pub fn explain_unknown_stage(
     alloc: Global,
     language: Language,

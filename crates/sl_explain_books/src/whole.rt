@@ -3,7 +3,7 @@
 ghost use Rattle.std.specs.Prelude.{◌≡◌, IfOk, IfSome, Some};
 
 use crate::pieces::span_within;
-use sl_explain::{Explanation, FaultCode, Message, Speaker, packing_of};
+use sl_explain_texts::{Explanation, FaultCode, Message, Speaker, packing_of};
 use sl_ratio::NoMemory;
 
 // What a file is that is no rulebook.

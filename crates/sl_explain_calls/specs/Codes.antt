@@ -1,28 +1,28 @@
 -- Of what an explanation is: the input of whose file it speaks, and the code of the fault that a value has (docs/faults.md). Out of memory is no fault of
 -- an input, and has no code.
 use Rattle.std.specs.Prelude.{None, Option, Some}
-use Rattle.sl_code_inputs.specs.declared.refusal.CodeRefusal.TheVariants as file
-use Rattle.sl_code_inputs.specs.declared.refusal.CodeRefusal.{CodeRefusal}
+use Rattle.sl_count_code_files.specs.declared.refusal.CodeRefusal.TheVariants as file
+use Rattle.sl_count_code_files.specs.declared.refusal.CodeRefusal.{CodeRefusal}
 use Rattle.sl_count_outcomes.specs.declared.judged.Judged.TheVariants as judged
 use Rattle.sl_count_outcomes.specs.declared.judged.Judged.{Judged}
-use Rattle.sl_count_value.specs.declared.count.End.TheVariants as ends
-use Rattle.sl_count_value.specs.declared.count.End.{End}
+use Rattle.sl_stages.specs.declared.count.End.TheVariants as ends
+use Rattle.sl_stages.specs.declared.count.End.{End}
 use Rattle.sl_desk.specs.declared.calls.run.JudgedRun.TheVariants as runs
 use Rattle.sl_desk.specs.declared.calls.run.JudgedRun.{JudgedRun}
-use Rattle.sl_explain.specs.declared.code.FaultCode.TheVariants.{B01, B02, B22, C14, C15, R12}
-use Rattle.sl_explain.specs.declared.code.FaultCode.{FaultCode}
+use Rattle.sl_explain_texts.specs.declared.code.FaultCode.TheVariants.{B01, B02, B22, C14, C15, R12}
+use Rattle.sl_explain_texts.specs.declared.code.FaultCode.{FaultCode}
 use Rattle.sl_explain_books.specs.Codes.{grammar_code, test_code, token_code}
 use Rattle.sl_explain_calls.specs.declared.explained.Explained.{Explained}
 use Rattle.sl_explain_faults.specs.Codes.{file_code, legal_code, verifier_code}
 use Rattle.sl_explain_returns.specs.Codes.{returns_code}
-use Rattle.sl_inputs.specs.declared.refused_book.RefusedBook.TheVariants as book
-use Rattle.sl_inputs.specs.declared.refused_book.RefusedBook.{RefusedBook}
-use Rattle.sl_inputs.specs.declared.refused_election.RefusedElection.TheVariants as election
-use Rattle.sl_inputs.specs.declared.refused_election.RefusedElection.{RefusedElection}
-use Rattle.sl_inputs.specs.declared.status.Input.TheVariants as input
-use Rattle.sl_inputs.specs.declared.status.Input.{Input}
-use Rattle.sl_inputs.specs.declared.verdict.Verdict.TheVariants as verdict
-use Rattle.sl_inputs.specs.declared.verdict.Verdict.{Verdict}
+use Rattle.sl_count_inputs.specs.declared.refused_book.RefusedBook.TheVariants as book
+use Rattle.sl_count_inputs.specs.declared.refused_book.RefusedBook.{RefusedBook}
+use Rattle.sl_count_inputs.specs.declared.refused_election.RefusedElection.TheVariants as election
+use Rattle.sl_count_inputs.specs.declared.refused_election.RefusedElection.{RefusedElection}
+use Rattle.sl_count_inputs.specs.declared.status.Input.TheVariants as input
+use Rattle.sl_count_inputs.specs.declared.status.Input.{Input}
+use Rattle.sl_count_inputs.specs.declared.verdict.Verdict.TheVariants as verdict
+use Rattle.sl_count_inputs.specs.declared.verdict.Verdict.{Verdict}
 use Rattle.sl_machine.specs.declared.machine.Ending.TheVariants as ending
 use Rattle.sl_machine.specs.declared.machine.Ending.{Ending}
 use Rattle.sl_stages.specs.declared.checked.CheckedBook.{CheckedBook}

@@ -2,19 +2,19 @@
 
 ghost use Rattle.std.specs.Prelude.{◌≡◌, IfOk, Some, option_map};
 ghost use Rattle.sl_explain_calls.specs.Codes.{check_subject, end_subject, ending_subject, judged_subject, run_subject, subject, subject_of};
-ghost use Rattle.sl_explain.specs.declared.code.FaultCode.TheVariants.{B22, C15};
+ghost use Rattle.sl_explain_texts.specs.declared.code.FaultCode.TheVariants.{B22, C15};
 ghost use Rattle.sl_explain_faults.specs.Codes.{legal_code};
-ghost use Rattle.sl_inputs.specs.declared.status.Input.TheVariants as input;
+ghost use Rattle.sl_count_inputs.specs.declared.status.Input.TheVariants as input;
 
 use crate::explained::Explained;
 use crate::refusals::{explain_book, explain_code, explain_election};
+use sl_code_instructions::Code;
+use sl_count_inputs::{Input, ReadBook, RefusedBook, Verdict};
 use sl_count_outcomes::{End, Judged, Outcome, Read};
 use sl_desk::{JudgedRun, ReadRun, Run};
-use sl_explain::Language;
 use sl_explain_books::explain_unknown_stage;
 use sl_explain_faults::{explain_budget, explain_legal};
-use sl_inputs::{Input, ReadBook, RefusedBook, Verdict};
-use sl_instructions::Code;
+use sl_explain_texts::Language;
 use sl_machine::Ending;
 use sl_ratio::NoMemory;
 use sl_stages::{Book, CheckedBook, LegalFault, Returns};
@@ -62,10 +62,6 @@ fn explain_stage(
 }
 
 /// Why a judged rulebook of this text is refused, or `None` where it is good.
-///
-/// # Errors
-///
-/// Out of memory.
 pub fn explain_verdict(
     alloc: Global,
     language: Language,
@@ -84,10 +80,6 @@ pub fn explain_verdict(
 }
 
 /// Why a rulebook that was read is refused, or `None` where it is good.
-///
-/// # Errors
-///
-/// Out of memory.
 pub fn explain_check(
     alloc: Global,
     language: Language,
@@ -99,10 +91,6 @@ pub fn explain_check(
 }
 
 /// Why a count on returns came to no table, or `None` where it came to one.
-///
-/// # Errors
-///
-/// Out of memory.
 pub fn explain_outcome(
     alloc: Global,
     language: Language,
@@ -121,10 +109,6 @@ pub fn explain_outcome(
 }
 
 /// Why a rulebook and returns of these texts come to no table, or `None` where they come to one.
-///
-/// # Errors
-///
-/// Out of memory.
 pub fn explain_judged(
     alloc: Global,
     language: Language,
@@ -153,10 +137,6 @@ pub fn explain_judged(
 }
 
 /// Why a rulebook and returns that were read came to no table, or `None` where they came to one.
-///
-/// # Errors
-///
-/// Out of memory.
 pub fn explain_read(
     alloc: Global,
     language: Language,
@@ -202,10 +182,6 @@ fn explain_ending(
 }
 
 /// Why the run of a code file on returns came to no table, or `None` where it came to one.
-///
-/// # Errors
-///
-/// Out of memory.
 pub fn explain_run(
     alloc: Global,
     language: Language,

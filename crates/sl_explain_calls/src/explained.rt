@@ -1,7 +1,7 @@
 //! What is explained.
 
-use sl_explain::Explanation;
-use sl_inputs::Input;
+use sl_count_inputs::Input;
+use sl_explain_texts::Explanation;
 
 /// What is said of a fault, and the input of whose file it speaks.
 #[derive(Drop)]

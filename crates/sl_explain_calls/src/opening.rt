@@ -1,7 +1,7 @@
 //! Files that cannot be opened, read or written.
 
-use sl_explain::{Explanation, Language, Message};
-use sl_inputs::{DeskError, Input};
+use sl_count_inputs::{DeskError, Input};
+use sl_explain_texts::{Explanation, Language, Message};
 use sl_laws::law;
 use sl_ratio::NoMemory;
 use std::alloc::Global;
@@ -206,10 +206,6 @@ fn remedy(
 }
 
 /// Why an input of a command cannot be opened, with the reason that the system gives.
-///
-/// # Errors
-///
-/// Out of memory.
 pub fn explain_opening(
     alloc: Global,
     language: Language,
@@ -249,10 +245,6 @@ fn advise(
 }
 
 /// Why a call failed: an input that was opened and cannot be read, or an output; `None` where memory ran out.
-///
-/// # Errors
-///
-/// Out of memory.
 pub fn explain_failure(
     alloc: Global,
     language: Language,
@@ -266,10 +258,6 @@ pub fn explain_failure(
 }
 
 /// Why a file cannot be written, with the reason that the system gives.
-///
-/// # Errors
-///
-/// Out of memory.
 pub fn explain_writing(
     alloc: Global,
     language: Language,
@@ -293,10 +281,6 @@ pub enum Lost {
 }
 
 /// Why a code file is not written over the file at a path.
-///
-/// # Errors
-///
-/// Out of memory.
 pub fn explain_kept(
     alloc: Global,
     language: Language,

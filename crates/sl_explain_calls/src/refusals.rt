@@ -2,17 +2,17 @@
 
 ghost use Rattle.std.specs.Prelude.{◌≡◌, IfOk};
 ghost use Rattle.sl_explain_calls.specs.Codes.{book_code, election_code, refused_code, subject, subject_of};
-ghost use Rattle.sl_inputs.specs.declared.status.Input.TheVariants as input;
+ghost use Rattle.sl_count_inputs.specs.declared.status.Input.TheVariants as input;
 
 use crate::explained::Explained;
-use sl_code_inputs::CodeRefusal;
-use sl_explain::{Explanation, Language};
+use sl_count_code_files::CodeRefusal;
+use sl_count_inputs::{Input, RefusedBook, RefusedElection};
 use sl_explain_books::{
     explain_grammar, explain_long_book, explain_test, explain_tokens, explain_unknown_statute,
 };
 use sl_explain_faults::{explain_code_bytes, explain_code_kinds, explain_long_code};
 use sl_explain_returns::{explain_long_returns, explain_returns};
-use sl_inputs::{Input, RefusedBook, RefusedElection};
+use sl_explain_texts::{Explanation, Language};
 use sl_ratio::NoMemory;
 use std::alloc::Global;
 
@@ -37,10 +37,6 @@ fn about_book(
 }
 
 /// Why a rulebook of this text is refused. The text of a name without a statute is empty.
-///
-/// # Errors
-///
-/// Out of memory.
 pub fn explain_book(
     alloc: Global,
     language: Language,
@@ -71,10 +67,6 @@ fn about_election(
 }
 
 /// Why returns of these bytes are refused.
-///
-/// # Errors
-///
-/// Out of memory.
 pub fn explain_election(
     alloc: Global,
     language: Language,
@@ -106,10 +98,6 @@ fn about_code(
 }
 
 /// Why a code file of these bytes is refused.
-///
-/// # Errors
-///
-/// Out of memory.
 pub fn explain_code(
     alloc: Global,
     language: Language,

@@ -1,7 +1,7 @@
 //! Faults of code files, and of their runs.
 
 use crate::table::Entry;
-use sl_explain::{FaultCode, Message};
+use sl_explain_texts::{FaultCode, Message};
 
 // What to do about a file that was changed on its way.
 const AGAIN: Message = Message {

@@ -1,7 +1,7 @@
 //! Legal faults.
 
 use crate::table::Entry;
-use sl_explain::{FaultCode, Message};
+use sl_explain_texts::{FaultCode, Message};
 
 pub static L01: Entry = Entry {
     code: FaultCode::L01,

@@ -1,7 +1,7 @@
 //! Faults of returns.
 
 use crate::table::Entry;
-use sl_explain::{FaultCode, Message};
+use sl_explain_texts::{FaultCode, Message};
 
 pub static R01: Entry = Entry {
     code: FaultCode::R01,

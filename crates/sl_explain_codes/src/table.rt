@@ -3,8 +3,8 @@
 ghost use Rattle.std.specs.Prelude.{◌≡◌};
 
 use crate::{code_files, legal, returns, tests, texts};
-use sl_explain::{FaultCode, Language, Message, append};
-use sl_no_memory::NoMemory;
+use sl_base_no_memory::NoMemory;
+use sl_explain_texts::{FaultCode, Language, Message, append};
 use std::alloc::Global;
 
 /// What is to be said of a code: a title, what it means, an example of a line that has the fault or of the line that tells of it, and what to do.
@@ -90,10 +90,6 @@ pub fn entry_of(code: FaultCode) -> &'static Entry
 }
 
 /// What is to be said of a code, as a text: its title, what it means, an example, and what to do.
-///
-/// # Errors
-///
-/// Out of memory.
 pub fn text_about(alloc: Global, language: Language, code: FaultCode) -> Result<Vec<u8>, NoMemory> {
     let entry = entry_of(code);
     let say = |message: &Message| message.in_language(language).as_bytes();

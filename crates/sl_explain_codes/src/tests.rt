@@ -1,7 +1,7 @@
 //! Faults of rulebooks that are not well formed.
 
 use crate::table::Entry;
-use sl_explain::{FaultCode, Message};
+use sl_explain_texts::{FaultCode, Message};
 
 pub static B11: Entry = Entry {
     code: FaultCode::B11,

@@ -1,7 +1,7 @@
 //! Faults of the tokens and of the grammar of a rulebook, its length, and names on the command line.
 
 use crate::table::Entry;
-use sl_explain::{FaultCode, Message};
+use sl_explain_texts::{FaultCode, Message};
 
 pub static B01: Entry = Entry {
     code: FaultCode::B01,

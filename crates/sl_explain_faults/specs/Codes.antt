@@ -1,7 +1,7 @@
 -- The code of each legal fault, and of each fault of a code file (docs/faults.md). Out of memory is no fault of a file, and has none.
 use Rattle.std.specs.Prelude.{Option, Some, None}
-use Rattle.sl_explain.specs.declared.code.FaultCode.{FaultCode}
-use Rattle.sl_explain.specs.declared.code.FaultCode.TheVariants.{L01, L02, L03, L04, L05, L06, C01, C02, C03, C04, C05, C06, C07, C08, C09, C10, C11, C12, C13}
+use Rattle.sl_explain_texts.specs.declared.code.FaultCode.{FaultCode}
+use Rattle.sl_explain_texts.specs.declared.code.FaultCode.TheVariants.{L01, L02, L03, L04, L05, L06, C01, C02, C03, C04, C05, C06, C07, C08, C09, C10, C11, C12, C13}
 use Rattle.sl_code.specs.declared.fault.CodeFault.{CodeFault}
 use Rattle.sl_code.specs.declared.fault.CodeFault.TheVariants as files
 use Rattle.sl_stages.specs.declared.fault.FaultKind.{FaultKind}

@@ -1,11 +1,13 @@
 //! Explains code files that are refused, and runs that take too long.
 
 ghost use Rattle.std.specs.Prelude.{◌≡◌, IfOk, Some};
-ghost use Rattle.sl_explain.specs.declared.code.FaultCode.TheVariants.{C14, C15};
+ghost use Rattle.sl_explain_texts.specs.declared.code.FaultCode.TheVariants.{C14, C15};
 ghost use Rattle.sl_explain_faults.specs.Codes.{file_code, verifier_code};
 
 use sl_code::CodeFault;
-use sl_explain::{Explanation, FaultCode, Language, Message, Sentence, Span, Speaker, first_line};
+use sl_explain_texts::{
+    Explanation, FaultCode, Language, Message, Sentence, Span, Speaker, first_line,
+};
 use sl_ratio::NoMemory;
 use sl_verify::VerifyFault;
 use std::alloc::Global;
@@ -177,10 +179,6 @@ fn explain_at(speaker: Speaker, sentence: &Sentence, at: usize) -> Result<Explan
 }
 
 /// Explains the fault that bytes have as a code file.
-///
-/// # Errors
-///
-/// Out of memory.
 pub fn explain_code_bytes(
     alloc: Global,
     language: Language,
@@ -203,10 +201,6 @@ pub fn explain_code_bytes(
 }
 
 /// Explains the fault that the verifier finds in a code.
-///
-/// # Errors
-///
-/// Out of memory.
 pub fn explain_code_kinds(
     alloc: Global,
     language: Language,
@@ -227,10 +221,6 @@ pub fn explain_code_kinds(
 }
 
 /// Explains a code file that is longer than it may be.
-///
-/// # Errors
-///
-/// Out of memory.
 pub fn explain_long_code(alloc: Global, language: Language) -> Result<Explanation, NoMemory>
     ensures { IfOk result (λ x. x.code ≡ Some C14) }
 {
@@ -239,10 +229,6 @@ pub fn explain_long_code(alloc: Global, language: Language) -> Result<Explanatio
 }
 
 /// Explains a run that takes more steps than it may.
-///
-/// # Errors
-///
-/// Out of memory.
 pub fn explain_budget(alloc: Global, language: Language) -> Result<Explanation, NoMemory>
     ensures { IfOk result (λ x. x.code ≡ Some C15) }
 {

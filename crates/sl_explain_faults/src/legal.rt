@@ -1,13 +1,13 @@
 //! Explains legal faults.
 
 ghost use Rattle.std.specs.Prelude.{◌≡◌, IfOk, Some};
-ghost use Rattle.sl_explain.specs.declared.code.FaultCode.TheVariants.{L04};
+ghost use Rattle.sl_explain_texts.specs.declared.code.FaultCode.TheVariants.{L04};
 ghost use Rattle.sl_explain_faults.specs.Codes.{legal_code};
 
 use crate::counts::{Burden, Sums, heaviest, majority_party, population, sums_of, winners_in};
 use crate::lots::add_lots;
 use crate::words::{item_words, party_name, scope_words, stage_name};
-use sl_explain::{Explanation, FaultCode, Language, Message, Sentence, Speaker};
+use sl_explain_texts::{Explanation, FaultCode, Language, Message, Sentence, Speaker};
 use sl_ratio::NoMemory;
 use sl_stages::{FaultKind, Item, LegalFault, MAX_SEATS, Returns, Scope};
 use std::alloc::Global;
@@ -346,10 +346,6 @@ fn say_tie(
 }
 
 /// What a legal fault is, of a rulebook with stages of these names, in their order, on the returns: the first sentence of its explanation alone.
-///
-/// # Errors
-///
-/// Out of memory.
 pub fn say_legal(
     alloc: Global,
     language: Language,
@@ -375,10 +371,6 @@ pub fn say_legal(
 }
 
 /// Explains a legal fault of a rulebook with stages of these names, in their order, on the returns.
-///
-/// # Errors
-///
-/// Out of memory.
 pub fn explain_legal(
     alloc: Global,
     language: Language,

@@ -3,7 +3,7 @@
 ghost use Rattle.std.specs.Prelude.{◌≡◌};
 
 use crate::words::{item_words, land_name, party_name, stage_name, stage_words, win_name};
-use sl_explain::{Explanation, Message, Speaker, nearest};
+use sl_explain_texts::{Explanation, Message, Speaker, nearest};
 use sl_ratio::NoMemory;
 use sl_stages::{FaultKind, Item, LegalFault, Lot, Returns};
 use std::alloc::Global;
@@ -168,10 +168,6 @@ fn records(
 
 /// The records of returns that decide a tie of a rulebook with stages of these names, one for each of the tied, in their order; none for
 /// another fault. In the returns they stand in the order of the lot.
-///
-/// # Errors
-///
-/// Out of memory.
 pub fn lot_records(
     alloc: Global,
     stages: &[&[u8]],

@@ -1,6 +1,6 @@
 //! The names of what a legal fault speaks of.
 
-use sl_explain::{Message, Speaker, append};
+use sl_explain_texts::{Message, Speaker, append};
 use sl_ratio::NoMemory;
 use sl_stages::{Item, Returns, Scope};
 

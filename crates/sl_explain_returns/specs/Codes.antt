@@ -1,7 +1,7 @@
 -- The code of each fault of returns (docs/faults.md): R, and the number of the fault. Out of memory is no fault of returns, and has none.
 use Rattle.std.specs.Prelude.{Option, Some, None}
-use Rattle.sl_explain.specs.declared.code.FaultCode.{FaultCode}
-use Rattle.sl_explain.specs.declared.code.FaultCode.TheVariants.{R01, R02, R03, R04, R05, R06, R07, R08, R09, R10, R11}
+use Rattle.sl_explain_texts.specs.declared.code.FaultCode.{FaultCode}
+use Rattle.sl_explain_texts.specs.declared.code.FaultCode.TheVariants.{R01, R02, R03, R04, R05, R06, R07, R08, R09, R10, R11}
 use Rattle.sl_returns.specs.declared.fault.FaultKind.{FaultKind}
 use Rattle.sl_returns.specs.declared.fault.FaultKind.TheVariants.{Header, Fields, Kind, Name, Number, Range, Unknown, Twice, Counted, TooMany, NoLand, NoMemory}
 

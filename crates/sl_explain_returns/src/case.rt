@@ -2,9 +2,10 @@
 
 ghost use Rattle.std.specs.Prelude.{◌≡◌, IfOk, Some};
 
-use sl_explain::{Explanation, FaultCode, Message, Span, Speaker, line_at};
+use sl_explain_texts::{Explanation, FaultCode, Message, Span, Speaker, line_at};
 use sl_ratio::NoMemory;
-use sl_returns::{COLUMNS, Content, KIND, Kind, RefusedReturns, cell_place, find_record};
+use sl_returns::{COLUMNS, Content, KIND, Kind, RecordAtFault, cell_place, find_record};
+use sl_stages::Returns;
 
 const CELL: Message = Message {
     english: "$ cell",
@@ -16,12 +17,13 @@ const CELLS: Message = Message {
     german: "$ Zellen",
 };
 
-/// Refused returns, their text, and the person who is spoken to.
+/// A refused record, the text that it stands in with the returns of all its records that were taken, and the person who is spoken to.
 #[derive(Clone, Copy)]
 pub(crate) struct Case<'a> {
     pub(crate) speaker: Speaker,
     pub(crate) bytes: &'a [u8],
-    pub(crate) refused: &'a RefusedReturns,
+    pub(crate) refused: RecordAtFault<'a>,
+    pub(crate) taken: &'a Returns,
 }
 
 impl Case<'_> {
@@ -58,10 +60,6 @@ impl Case<'_> {
     }
 
     /// The number of its cells in words.
-    ///
-    /// # Errors
-    ///
-    /// Out of memory.
     pub(crate) fn counted_cells(&self) -> Result<Vec<u8>, NoMemory> {
         self.speaker.counted(self.cells(), &CELL, &CELLS)
     }
@@ -94,10 +92,6 @@ impl Case<'_> {
     }
 
     /// The row of the first record before this one that has some cells, each by its column.
-    ///
-    /// # Errors
-    ///
-    /// Out of memory.
     pub(crate) fn row_before(&self, cells: &[(usize, &[u8])]) -> Result<Option<u32>, NoMemory> {
         match find_record(self.speaker.alloc, self.bytes, 0, cells)? {
             Some(row) if row < self.refused.fault.row => Ok(Some(row)),
@@ -115,10 +109,6 @@ impl Case<'_> {
     }
 
     /// An explanation of one sentence on some bytes, about the fault of a code.
-    ///
-    /// # Errors
-    ///
-    /// Out of memory.
     pub(crate) fn says(
         &self,
         code: FaultCode,
@@ -132,10 +122,6 @@ impl Case<'_> {
     }
 
     /// An explanation of one sentence on some bytes, about the fault of a code, with what to do.
-    ///
-    /// # Errors
-    ///
-    /// Out of memory.
     pub(crate) fn explains(
         &self,
         code: FaultCode,

@@ -1,11 +1,12 @@
 //! The explanation of a fault of returns.
 
 ghost use Rattle.std.specs.Prelude.{◌≡◌, IfOk, IfSome, None, Some};
-ghost use Rattle.sl_explain.specs.declared.code.FaultCode.TheVariants.{R04, R05, R06, R07, R12};
+ghost use Rattle.sl_explain_texts.specs.declared.code.FaultCode.TheVariants.{R04, R05, R06, R07, R12};
 ghost use Rattle.sl_explain_returns.specs.Codes.{returns_code};
 
 use crate::case::Case;
 use crate::fields::explain_fields;
+use crate::further::add_further;
 use crate::header::explain_header;
 use crate::kinds::{explain_kind, explain_no_land};
 use crate::names::{explain_name, naming_at};
@@ -13,7 +14,7 @@ use crate::numbers::{explain_first, explain_number, explain_range, quantity_at};
 use crate::quotes::explain_quote;
 use crate::twice::{explain_counted, explain_too_many, explain_twice};
 use crate::unknown::{explain_unknown, known_name_at};
-use sl_explain::{Explanation, FaultCode, Language, Message, Sentence, Speaker};
+use sl_explain_texts::{Explanation, FaultCode, Language, Message, Sentence, Speaker};
 use sl_ratio::NoMemory;
 use sl_returns::{FaultKind, RefusedReturns, ReturnsFault};
 use std::alloc::Global;
@@ -157,11 +158,18 @@ fn explain_open_quote(case: &Case<'_>, kind: FaultKind) -> Result<Option<Explana
     }
 }
 
-/// The explanation of why the returns in these bytes are refused.
-///
-/// # Errors
-///
-/// Out of memory.
+// A record that is refused.
+pub(crate) fn explain_record(case: &Case<'_>) -> Result<Explanation, NoMemory>
+    ensures { IfOk result (λ x. x.code ≡ returns_code case.now.refused.fault.kind) }
+{
+    let fault = case.refused.fault;
+    match explain_open_quote(case, fault.kind)? {
+        Some(explanation) => Ok(explanation),
+        None => explain_fault(case, fault),
+    }
+}
+
+/// The explanation of why the returns in these bytes are refused: of the first record that is, and in a line each of the further ones.
 pub fn explain_returns(
     alloc: Global,
     language: Language,
@@ -170,23 +178,18 @@ pub fn explain_returns(
 ) -> Result<Explanation, NoMemory>
     ensures { IfOk result (λ x. x.code ≡ returns_code refused.now.fault.kind) }
 {
-    let fault = refused.fault;
     let case = Case {
         speaker: Speaker { alloc, language },
         bytes,
-        refused,
+        refused: refused.first(),
+        taken: &refused.taken,
     };
-    match explain_open_quote(&case, fault.kind)? {
-        Some(explanation) => Ok(explanation),
-        None => explain_fault(&case, fault),
-    }
+    let mut explanation = explain_record(&case)?;
+    add_further(&case, refused, &mut explanation)?;
+    Ok(explanation)
 }
 
 /// The explanation of returns that are longer than they may be.
-///
-/// # Errors
-///
-/// Out of memory.
 pub fn explain_long_returns(alloc: Global, language: Language) -> Result<Explanation, NoMemory>
     ensures { IfOk result (λ x. x.code ≡ Some R12) }
 {

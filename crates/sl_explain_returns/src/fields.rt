@@ -1,11 +1,11 @@
 //! Records with too many or too few cells, and cells that are filled or empty against their kind.
 
 ghost use Rattle.std.specs.Prelude.{◌≡◌, IfOk, Some};
-ghost use Rattle.sl_explain.specs.declared.code.FaultCode.TheVariants.{R02};
+ghost use Rattle.sl_explain_texts.specs.declared.code.FaultCode.TheVariants.{R02};
 
 use crate::case::Case;
 use crate::digits::are_digits;
-use sl_explain::{Explanation, FaultCode, Message, Span};
+use sl_explain_texts::{Explanation, FaultCode, Message, Span};
 use sl_ratio::NoMemory;
 use sl_returns::{A, B, C, COLUMNS, Content, KIND, Kind, LAND, PARTY, column_name};
 
@@ -278,10 +278,6 @@ fn explain_cell(case: &Case<'_>, column: usize) -> Result<Explanation, NoMemory>
 }
 
 /// The explanation of a record with the wrong number of cells, or of a cell that is filled or empty against its kind.
-///
-/// # Errors
-///
-/// Out of memory.
 pub(crate) fn explain_fields(
     case: &Case<'_>,
     column: Option<usize>,

@@ -1,9 +1,9 @@
 //! Files that are no returns at all.
 
 ghost use Rattle.std.specs.Prelude.{◌≡◌, IfOk, Some};
-ghost use Rattle.sl_explain.specs.declared.code.FaultCode.TheVariants.{R01};
+ghost use Rattle.sl_explain_texts.specs.declared.code.FaultCode.TheVariants.{R01};
 
-use sl_explain::{Explanation, FaultCode, Message, Span, Speaker, first_line, packing_of};
+use sl_explain_texts::{Explanation, FaultCode, Message, Span, Speaker, first_line, packing_of};
 use sl_ratio::NoMemory;
 
 // What is said.

@@ -157,7 +157,7 @@ fn is_negative(cell: &[u8]) -> bool {
     are_signed(cell, b"-") || are_signed(cell, b"\xE2\x88\x92")
 }
 
-// Whether a cell is a number with a percent sign behind it.
+// Whether a cell is a number with a percent sign after it.
 fn is_percentage(cell: &[u8]) -> bool {
     match cell.first() {
         Some(first) => first.is_ascii_digit() && cell.ends_with(b"%"),
@@ -238,10 +238,6 @@ fn meant_part(cell: &[u8]) -> Option<&[u8]> {
 }
 
 /// The digits that a cell was likely meant for, where that is plain.
-///
-/// # Errors
-///
-/// Out of memory.
 pub(crate) fn meant(alloc: Global, cell: &[u8]) -> Result<Option<Vec<u8>>, NoMemory> {
     let Some(part) = meant_part(cell) else {
         return Ok(None);

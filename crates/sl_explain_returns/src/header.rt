@@ -1,12 +1,12 @@
 //! Returns that do not begin with the header.
 
 ghost use Rattle.std.specs.Prelude.{◌≡◌, IfOk, Some};
-ghost use Rattle.sl_explain.specs.declared.code.FaultCode.TheVariants.{R01};
+ghost use Rattle.sl_explain_texts.specs.declared.code.FaultCode.TheVariants.{R01};
 
 use crate::case::Case;
 use crate::files::{FileKind, foreign_kind};
 use crate::quotes::explain_quote;
-use sl_explain::{Explanation, FaultCode, Message, Span, first_line};
+use sl_explain_texts::{Explanation, FaultCode, Message, Span, first_line};
 use sl_ratio::NoMemory;
 use sl_returns::{COLUMNS, KIND, Kind, column_name};
 
@@ -359,10 +359,6 @@ fn explain_text(case: &Case<'_>) -> Result<Explanation, NoMemory>
 }
 
 /// The explanation of returns whose first record is not the header.
-///
-/// # Errors
-///
-/// Out of memory.
 pub(crate) fn explain_header(case: &Case<'_>) -> Result<Explanation, NoMemory>
     ensures { IfOk result (λ x. x.code ≡ Some R01) }
 {

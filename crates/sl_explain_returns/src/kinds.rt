@@ -1,10 +1,10 @@
 //! Records of no kind.
 
 ghost use Rattle.std.specs.Prelude.{◌≡◌, IfOk, Some};
-ghost use Rattle.sl_explain.specs.declared.code.FaultCode.TheVariants.{R03, R11};
+ghost use Rattle.sl_explain_texts.specs.declared.code.FaultCode.TheVariants.{R03, R11};
 
 use crate::case::Case;
-use sl_explain::{Explanation, FaultCode, Message, nearest};
+use sl_explain_texts::{Explanation, FaultCode, Message, nearest};
 use sl_ratio::NoMemory;
 use sl_returns::{COLUMNS, KIND, Kind};
 
@@ -168,10 +168,6 @@ fn says_kind(case: &Case<'_>) -> Result<Explanation, NoMemory>
 }
 
 /// The explanation of a record whose first cell is no kind.
-///
-/// # Errors
-///
-/// Out of memory.
 pub(crate) fn explain_kind(case: &Case<'_>) -> Result<Explanation, NoMemory>
     ensures { IfOk result (λ x. x.code ≡ Some R03) }
 {
@@ -181,10 +177,6 @@ pub(crate) fn explain_kind(case: &Case<'_>) -> Result<Explanation, NoMemory>
 }
 
 /// The explanation of returns without a Land, at their last record.
-///
-/// # Errors
-///
-/// Out of memory.
 pub(crate) fn explain_no_land(case: &Case<'_>) -> Result<Explanation, NoMemory>
     ensures { IfOk result (λ x. x.code ≡ Some R11) }
 {

@@ -1,6 +1,6 @@
 //! Names in letters that a name may have.
 
-use sl_explain::append;
+use sl_explain_texts::append;
 use sl_ratio::{MAX_NAME_BYTES, NoMemory, spelling_fault};
 use std::alloc::Global;
 
@@ -100,10 +100,6 @@ fn trim_hyphens(name: &mut Vec<u8>) {
 }
 
 /// A name for that of a cell: its umlauts in two letters, `-` for a blank, at most twelve bytes.
-///
-/// # Errors
-///
-/// Out of memory.
 pub(crate) fn name_for(alloc: Global, cell: &[u8]) -> Result<Option<Vec<u8>>, NoMemory> {
     let mut name = in_letters(alloc, cell.trim_ascii())?;
     name.truncate(MAX_NAME_BYTES);

@@ -1,11 +1,11 @@
 //! Cells that are no names.
 
 ghost use Rattle.std.specs.Prelude.{◌≡◌, IfOk, Some};
-ghost use Rattle.sl_explain.specs.declared.code.FaultCode.TheVariants.{R04};
+ghost use Rattle.sl_explain_texts.specs.declared.code.FaultCode.TheVariants.{R04};
 
 use crate::case::Case;
 use crate::letters::{name_for, wrong_character};
-use sl_explain::{Explanation, FaultCode, Message};
+use sl_explain_texts::{Explanation, FaultCode, Message};
 use sl_ratio::{MAX_NAME_BYTES, NoMemory};
 use sl_returns::{Content, Named, column_name};
 
@@ -226,10 +226,6 @@ fn explain_spelling(case: &Case<'_>, column: usize, naming: Naming) -> Result<Ex
 }
 
 /// The explanation of a cell of a column that is no name.
-///
-/// # Errors
-///
-/// Out of memory.
 pub(crate) fn explain_name(
     case: &Case<'_>,
     column: usize,

@@ -1,13 +1,13 @@
 //! Cells that hold no number, or one out of its range.
 
 ghost use Rattle.std.specs.Prelude.{◌≡◌, IfOk, Some};
-ghost use Rattle.sl_explain.specs.declared.code.FaultCode.TheVariants.{R05, R06};
+ghost use Rattle.sl_explain_texts.specs.declared.code.FaultCode.TheVariants.{R05, R06};
 
 use crate::case::Case;
 use crate::digits::is_number;
 use crate::fields::form_of_kind;
 use crate::form::{Form, form_of, meant};
-use sl_explain::{Explanation, FaultCode, Message, Speaker};
+use sl_explain_texts::{Explanation, FaultCode, Message, Speaker};
 use sl_ratio::NoMemory;
 use sl_returns::{A, B, C, Content, Quantity, column_name};
 
@@ -278,10 +278,6 @@ fn add_form(case: &Case<'_>, form: Form, explanation: &mut Explanation) -> Resul
 }
 
 /// The explanation of a cell of a column that is no number.
-///
-/// # Errors
-///
-/// Out of memory.
 pub(crate) fn explain_number(
     case: &Case<'_>,
     column: usize,
@@ -318,10 +314,6 @@ fn range_remedy(quantity: Quantity, cell: &[u8]) -> &'static Message {
 }
 
 /// The explanation of a cell of a column whose number is out of its range.
-///
-/// # Errors
-///
-/// Out of memory.
 pub(crate) fn explain_range(
     case: &Case<'_>,
     column: usize,
@@ -346,10 +338,6 @@ pub(crate) fn explain_range(
 }
 
 /// The explanation of a winner with more first votes than there are.
-///
-/// # Errors
-///
-/// Out of memory.
 pub(crate) fn explain_first(case: &Case<'_>) -> Result<Explanation, NoMemory>
     ensures { IfOk result (λ x. x.code ≡ Some R06) }
 {

@@ -3,7 +3,7 @@
 ghost use Rattle.std.specs.Prelude.{◌≡◌, IfOk, IfSome, Some};
 
 use crate::case::Case;
-use sl_explain::{Explanation, FaultCode, Message, Span};
+use sl_explain_texts::{Explanation, FaultCode, Message, Span};
 use sl_ratio::NoMemory;
 
 const OPEN: Message = Message {
@@ -41,10 +41,6 @@ fn open_quote(case: &Case<'_>) -> Option<Span> {
 }
 
 /// The explanation of a record in which a quote is not closed, if there is one, about the fault of a code.
-///
-/// # Errors
-///
-/// Out of memory.
 pub(crate) fn explain_quote(
     case: &Case<'_>,
     code: FaultCode,

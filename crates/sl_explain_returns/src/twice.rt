@@ -1,10 +1,10 @@
 //! What a record before has given, and what is more than there may be.
 
 ghost use Rattle.std.specs.Prelude.{◌≡◌, IfOk, Some};
-ghost use Rattle.sl_explain.specs.declared.code.FaultCode.TheVariants.{R08, R09, R10};
+ghost use Rattle.sl_explain_texts.specs.declared.code.FaultCode.TheVariants.{R08, R09, R10};
 
 use crate::case::Case;
-use sl_explain::{Explanation, FaultCode, Message};
+use sl_explain_texts::{Explanation, FaultCode, Message};
 use sl_ratio::NoMemory;
 use sl_returns::{A, B, Content, KIND, Kind, LAND, Named, PARTY};
 use sl_stages::{MAX_LANDS, MAX_LOTS, MAX_PARTIES, MAX_WINS};
@@ -190,10 +190,6 @@ fn explain_record_twice(case: &Case<'_>) -> Result<Explanation, NoMemory>
 }
 
 /// The explanation of what is given a second time: the name of a column, or the record.
-///
-/// # Errors
-///
-/// Out of memory.
 pub(crate) fn explain_twice(case: &Case<'_>, column: Option<usize>) -> Result<Explanation, NoMemory>
     ensures { IfOk result (λ x. x.code ≡ Some R08) }
 {
@@ -207,10 +203,6 @@ pub(crate) fn explain_twice(case: &Case<'_>, column: Option<usize>) -> Result<Ex
 }
 
 /// The explanation of more counted votes than valid ones.
-///
-/// # Errors
-///
-/// Out of memory.
 pub(crate) fn explain_counted(case: &Case<'_>) -> Result<Explanation, NoMemory>
     ensures { IfOk result (λ x. x.code ≡ Some R09) }
 {
@@ -226,22 +218,18 @@ pub(crate) fn explain_counted(case: &Case<'_>) -> Result<Explanation, NoMemory>
 
 // What is said of one record more than there may be, what to do, how many there are, and how many there may be.
 fn limit_of(case: &Case<'_>) -> (&'static Message, &'static Message, usize, usize) {
-    let before = &case.refused.before;
+    let before = case.refused.before;
     match case.kind() {
-        Some(Kind::Land) => (&LANDS, &FEWER, before.lands(), MAX_LANDS),
-        Some(Kind::Party) => (&PARTIES, &FEWER, before.parties(), MAX_PARTIES),
-        Some(Kind::Win) => (&WINS, &FEWER, before.wins(), MAX_WINS),
+        Some(Kind::Land) => (&LANDS, &FEWER, before.lands, MAX_LANDS),
+        Some(Kind::Party) => (&PARTIES, &FEWER, before.parties, MAX_PARTIES),
+        Some(Kind::Win) => (&WINS, &FEWER, before.wins, MAX_WINS),
         Some(Kind::House | Kind::List | Kind::Lot) | None => {
-            (&LOTS, &FEWER_LOTS, before.lots().len(), MAX_LOTS)
+            (&LOTS, &FEWER_LOTS, before.lots, MAX_LOTS)
         }
     }
 }
 
 /// The explanation of more records of a kind than there may be.
-///
-/// # Errors
-///
-/// Out of memory.
 pub(crate) fn explain_too_many(case: &Case<'_>) -> Result<Explanation, NoMemory>
     ensures { IfOk result (λ x. x.code ≡ Some R10) }
 {

@@ -1,12 +1,12 @@
 //! Names that no record before declares.
 
 ghost use Rattle.std.specs.Prelude.{◌≡◌, IfOk, Some};
-ghost use Rattle.sl_explain.specs.declared.code.FaultCode.TheVariants.{R07};
+ghost use Rattle.sl_explain_texts.specs.declared.code.FaultCode.TheVariants.{R07};
 
 use crate::case::Case;
-use sl_explain::{Explanation, FaultCode, Message, nearest};
+use sl_explain_texts::{Explanation, FaultCode, Message, nearest};
 use sl_ratio::NoMemory;
-use sl_returns::{A, Content, KIND, Kind, LAND, Named, PARTY, find_record};
+use sl_returns::{A, Before, Content, KIND, Kind, LAND, Named, PARTY, find_record};
 use sl_stages::Returns;
 use std::alloc::Global;
 
@@ -105,22 +105,27 @@ fn declaring(named: Named) -> (Kind, usize) {
     }
 }
 
-// The names that returns have.
-fn names_of(alloc: Global, returns: &Returns, named: Named) -> Result<Vec<&[u8]>, NoMemory> {
+// The names that the records before have, of those that returns have.
+fn names_of(
+    alloc: Global,
+    returns: &Returns,
+    before: Before,
+    named: Named,
+) -> Result<Vec<&[u8]>, NoMemory> {
     let mut names = Vec::new(alloc);
     match named {
         Named::Land => {
-            for land in 0..returns.lands() {
+            for land in 0..before.lands.min(returns.lands()) {
                 names.push(returns.land_name(land))?;
             }
         }
         Named::Party => {
-            for party in 0..returns.parties() {
+            for party in 0..before.parties.min(returns.parties()) {
                 names.push(returns.party_name(party))?;
             }
         }
         Named::Constituency => {
-            for win in 0..returns.wins() {
+            for win in 0..before.wins.min(returns.wins()) {
                 names.push(returns.win_name(win))?;
             }
         }
@@ -128,12 +133,17 @@ fn names_of(alloc: Global, returns: &Returns, named: Named) -> Result<Vec<&[u8]>
     Ok(names)
 }
 
+// Whether a name has one of the first numbers.
+fn is_among(number: Option<usize>, first: usize) -> bool {
+    matches!(number, Some(number) if number < first)
+}
+
 // What is said where a name stands in the column of another.
 fn exchanged(case: &Case<'_>, named: Named, name: &[u8]) -> Option<&'static Message> {
-    let before = &case.refused.before;
+    let before = case.refused.before;
     match named {
-        Named::Land if before.find_party(name).is_some() => Some(&IS_PARTY),
-        Named::Party if before.find_land(name).is_some() => Some(&IS_LAND),
+        Named::Land if is_among(case.taken.find_party(name), before.parties) => Some(&IS_PARTY),
+        Named::Party if is_among(case.taken.find_land(name), before.lands) => Some(&IS_LAND),
         Named::Land | Named::Party | Named::Constituency => None,
     }
 }
@@ -161,7 +171,7 @@ fn add_nearest(
     if is_sum(name) {
         return speaker.helps(explanation, &NO_SUMS, &[]);
     }
-    let names = names_of(speaker.alloc, &case.refused.before, named)?;
+    let names = names_of(speaker.alloc, case.taken, case.refused.before, named)?;
     match nearest(speaker.alloc, name, names.as_slice())? {
         Some(near) => speaker.helps(explanation, &NEAREST, &[near]),
         None => Ok(()),
@@ -229,10 +239,6 @@ pub(crate) fn known_name_at(case: &Case<'_>) -> Option<(usize, Named)> {
 }
 
 /// The explanation of a name in a column that no record before declares.
-///
-/// # Errors
-///
-/// Out of memory.
 pub(crate) fn explain_unknown(
     case: &Case<'_>,
     column: usize,

@@ -1,9 +1,14 @@
-//! Laws of votes missing in a count (docs/margins.md). Each function does nothing: its contract is the law.
+//! The laws of votes missing and of divisors. Each function does nothing: its contract is the law.
 
-ghost use Rattle.sl_law_margins.specs.Counts.{MissingIn2023};
+ghost use Rattle.sl_law_margins.specs.Laws.{DivisorsBetween, EnoughStaysEnough};
 
-/// By the statutes of 2023, with the order of 2024 or without it, a party whose list gains as many votes as the party lacks among the parties, or
-/// more, has more seats in the table.
-pub fn missing_in_2023()
-    ensures { MissingIn2023 }
+/// By Adams's, Webster's or Jefferson's method, claims that are apart have a decimal number of twelve places between them: `divisor` answers
+/// nothing only at a tie, or where the seats are no allocation.
+pub fn divisors_between()
+    ensures { DivisorsBetween }
+{}
+
+/// Where so many further votes are enough for one more seat, more are too (docs/margins.md, section 1).
+pub fn enough_stays_enough()
+    ensures { EnoughStaysEnough }
 {}

@@ -1,4 +1,4 @@
--- The rulebooks of the library: each name, and the text behind it (docs/laws.md).
+-- The rulebooks of the library: each name, and the text after it (docs/laws.md).
 use Rattle.std.specs.Prelude.{ℕ, List, [], ◌∷◌, ◌++◌, Option, option_map, codes, flat_map, find}
 use Rattle.std.specs.Str.{bytes_eq}
 
@@ -87,7 +87,7 @@ book_2013 =
     ∷ keep
     ∷ []
 
--- what the two books of 2023 have behind the title and before the eligible parties, and behind these
+-- what the two books of 2023 have after the title and before the eligible parties, and after these
 abbrev pub book_2023_with : List ℕ → List ℕ → List (List ℕ)
 book_2023_with title eligible =
     codes "rulebook 1;"

@@ -88,7 +88,7 @@ comment_front (b ∷ bytes) n hash e =
       is = refl;
     }
 
--- at a quote, with the bytes behind it
+-- at a quote, with the bytes after it
 pub text_front : (here behind : List ℕ) (n : ℕ) → BeginsWith (λ b. b ≡ 34) here → behind ≡ drop 1 here → n ≡ prefix_len is_text_byte behind → QuoteAt behind n → IsFront here (Some kinds.Text) (n + 2)
 text_front [] behind n h is e at = absurd h
 text_front (b ∷ bytes) behind n quote is e at =

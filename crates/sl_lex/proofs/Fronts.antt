@@ -72,7 +72,7 @@ longest_text inner rest h = longest text 34 (inner ++ 34 ∷ []) rest (refl, inn
 abbrev pub QuoteAt : List ℕ → ℕ → Type 0
 QuoteAt bytes n = (n < length bytes) × (get_or bytes n 0 ≡ 34)
 
--- the bytes behind a quote, up to the next quote
+-- the bytes after a quote, up to the next quote
 pub longest_quoted : (behind : List ℕ) (n : ℕ) → n ≡ prefix_len is_text_byte behind → QuoteAt behind n → IsLongest text (take (n + 2) (34 ∷ behind)) (drop (n + 2) (34 ∷ behind))
 longest_quoted behind n e at =
     let inner : List ℕ = take n behind in
@@ -101,7 +101,7 @@ not_open behind unclosed f (c ∷ bytes) rest h e =
     let form : f ≡ text = one_form f text 34 (rw same at (first_byte f c bytes h)) refl in
     unclosed (closed behind bytes rest (rw (same, form) at h) cc)
 
--- no piece begins at a quote behind which no quote ends the bytes of a text
+-- no piece begins at a quote after which no quote ends the bytes of a text
 pub begins_none_open : (behind : List ℕ) → ¬ QuoteAt behind (prefix_len is_text_byte behind) → BeginsNone (34 ∷ behind)
 begins_none_open behind unclosed = λ f piece rest h e. not_open behind unclosed f piece rest h e
 

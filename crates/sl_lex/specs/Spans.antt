@@ -25,7 +25,7 @@ pub record IsSpan (at : ℕ) (source : List ℕ) (token : Token) : Type 0 where
   pub inside : token.end ≤ length source
   pub spelled : IsSpelled token.kind (slice_range source token.start token.end)
 
--- tokens that stand in the text one behind the other, at that offset or later
+-- tokens that stand in the text one after the other, at that offset or later
 abbrev pub AreSpans : ℕ → List ℕ → List Token → Type 0
 AreSpans at source [] = Unit {0}
 AreSpans at source (t ∷ ts) = IsSpan at source t × AreSpans t.end source ts

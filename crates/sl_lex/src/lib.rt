@@ -1,4 +1,6 @@
 //! Tokens: a rulebook's bytes cut into words, numbers, texts and marks.
+//!
+//! Stands on `sl_ratio`; used by the room book. Proved: a text has exactly the tokens of the definition, or exactly one fault.
 #![tactic(auto)]
 
 mod fault;

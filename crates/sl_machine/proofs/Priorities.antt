@@ -23,10 +23,10 @@ use Rattle.sl_prio.specs.inner.Marks.{IsPassed}
 use Rattle.sl_machine.specs.declared.priority.TableKind.{TableKind}
 use Rattle.sl_machine.specs.declared.priority.PriorityTable.TheInside.{Inside}
 use Rattle.sl_machine.specs.declared.priority.Taken.{Taken}
-use Rattle.sl_semantics.specs.State.{State, PriorityTable}
-use Rattle.sl_semantics.specs.Places.{at_entry}
-use Rattle.sl_semantics.specs.Effects.{Goes, Jumps, given, takes, mark_of, with_entry}
-use Rattle.sl_semantics.specs.Safe.{entries_in}
+use Rattle.sl_code_semantics.specs.State.{State, PriorityTable}
+use Rattle.sl_code_semantics.specs.Places.{at_entry}
+use Rattle.sl_code_semantics.specs.Effects.{Goes, Jumps, given, takes, mark_of, with_entry}
+use Rattle.sl_code_semantics.specs.Safe.{entries_in}
 use Rattle.sl_machine.specs.inner.Lots.{LotTable}
 use Rattle.sl_machine.specs.inner.Tables.{FitsMark, HasMarks, HasPassed, table_in}
 

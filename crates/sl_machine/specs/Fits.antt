@@ -1,8 +1,8 @@
 -- What a run answers fits the code and the returns (docs/machine.md, section 6).
 use Rattle.std.specs.Prelude.{length}
 use Rattle.sl_stages.specs.returns.Election.{Election}
-use Rattle.sl_instructions.specs.Codes.{CountingCode}
-use Rattle.sl_semantics.specs.Fits.{FitsMemory, FitsFault}
+use Rattle.sl_code_instructions.specs.Codes.{CountingCode}
+use Rattle.sl_code_semantics.specs.Fits.{FitsMemory, FitsFault}
 use Rattle.sl_machine.specs.declared.machine.Ending.{Ending as Answer}
 use Rattle.sl_machine.specs.declared.machine.Ending.TheVariants as answer
 

@@ -2,7 +2,7 @@
 
 ghost use Rattle.std.specs.Prelude.{◌≡◌, ◌<◌, ◌+◌, ◌-◌, ◌*◌, ◌/◌, ◌%◌, ◌==◌, min, max, nat_lt, if◌then◌else◌};
 ghost use Rattle.sl_verify.specs.declared.known.TheConstants.{REGISTERS};
-ghost use Rattle.sl_semantics.specs.Effects.{Goes, Jumps, sets, most, where_positive};
+ghost use Rattle.sl_code_semantics.specs.Effects.{Goes, Jumps, sets, most, where_positive};
 ghost use Rattle.sl_machine.specs.inner.Stores.{state_of, sizes_of, effect_of, IsTo};
 
 use crate::step::Effect;

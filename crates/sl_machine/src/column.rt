@@ -3,11 +3,11 @@
 ghost use Rattle.std.specs.Prelude.{◌≡◌, ◌<◌, ◌≤◌, [], OnOk, OnErr, length, map, replicate, set, slice_index};
 ghost use Rattle.std.specs.List.{range_with_len};
 ghost use Rattle.sl_verify.specs.Needs.{input_shape};
-ghost use Rattle.sl_semantics.specs.Places.{cells_of};
-ghost use Rattle.sl_semantics.specs.Effects.{input_of};
+ghost use Rattle.sl_code_semantics.specs.Places.{cells_of};
+ghost use Rattle.sl_code_semantics.specs.Effects.{input_of};
 
 use crate::columns::read_input;
-use sl_instructions::Input;
+use sl_code_instructions::Input;
 use sl_ratio::{MAX_LANDS, MAX_PARTIES, NoMemory};
 use sl_stages::Returns;
 use std::alloc::Global;
@@ -82,10 +82,6 @@ impl Column {
     }
 
     /// Puts a number at a place.
-    ///
-    /// # Errors
-    ///
-    /// Want of memory.
     pub(crate) fn put(&mut self, place: usize, number: u64) -> Result<(), NoMemory>
         requires { place < length self.old }
         ensures put { OnOk result (self.new ≡ set self.old place number) }
@@ -106,10 +102,6 @@ impl Column {
     }
 
     /// Makes it a column of the returns.
-    ///
-    /// # Errors
-    ///
-    /// Want of memory.
     pub(crate) fn read(&mut self, returns: &Returns, input: Input) -> Result<(), NoMemory>
         requires { length self.old ≡ cells_of returns.now (input_shape input) }
         ensures read { OnOk result (self.new ≡ map (input_of returns.now input) (range_with_len 0 (cells_of returns.now (input_shape input)))) }

@@ -4,21 +4,21 @@ ghost use Rattle.std.specs.Prelude.{◌≡◌, ◌<◌, ℕ, Option, Some, IsSom
 ghost use Rattle.std.specs.List.{range_with_len};
 ghost use Rattle.sl_verify.specs.declared.known.TheConstants.{REGISTERS};
 ghost use Rattle.sl_verify.specs.Needs.{input_shape};
-ghost use Rattle.sl_instructions.specs.Codes.{CountingCode};
-ghost use Rattle.sl_instructions.specs.declared.instr.Instr.TheVariants as instr;
+ghost use Rattle.sl_code_instructions.specs.Codes.{CountingCode};
+ghost use Rattle.sl_code_instructions.specs.declared.instr.Instr.TheVariants as instr;
 ghost use Rattle.sl_stages.specs.declared.returns.ListVotes.{ListVotes};
 ghost use Rattle.sl_stages.specs.returns.Election.{IsElection, parties_of};
 ghost use Rattle.sl_stages.specs.returns.Votes.{slate_in};
-ghost use Rattle.sl_semantics.specs.State.{with_column};
-ghost use Rattle.sl_semantics.specs.Places.{cells_of};
-ghost use Rattle.sl_semantics.specs.Effects.{Goes, effect, input_of, names_or_most};
-ghost use Rattle.sl_semantics.specs.Safe.{IsInRange};
-ghost use Rattle.sl_semantics.specs.Seen.{place_at};
+ghost use Rattle.sl_code_semantics.specs.State.{with_column};
+ghost use Rattle.sl_code_semantics.specs.Places.{cells_of};
+ghost use Rattle.sl_code_semantics.specs.Effects.{Goes, effect, input_of, names_or_most};
+ghost use Rattle.sl_code_semantics.specs.Safe.{IsInRange};
+ghost use Rattle.sl_code_semantics.specs.Seen.{place_at};
 ghost use Rattle.sl_machine.specs.inner.Stores.{state_of, columns_of, sizes_of, sizes_for, effect_of};
 
 use crate::step::Effect;
 use crate::store::Store;
-use sl_instructions::{Code, Input};
+use sl_code_instructions::{Code, Input};
 use sl_ratio::NoMemory;
 use sl_stages::Returns;
 
@@ -106,10 +106,6 @@ impl Store {
     }
 
     /// Sets a column's cell to a register.
-    ///
-    /// # Errors
-    ///
-    /// Want of memory.
     pub(crate) fn store_cell(
         &mut self,
         code: &Code,
@@ -143,10 +139,6 @@ impl Store {
     }
 
     /// Makes a column one of the returns'.
-    ///
-    /// # Errors
-    ///
-    /// Want of memory.
     pub(crate) fn input_column(
         &mut self,
         returns: &Returns,

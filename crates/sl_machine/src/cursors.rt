@@ -2,17 +2,17 @@
 
 ghost use Rattle.std.specs.Prelude.{◌≡◌, ◌<◌, ◌+◌, ◌*◌, Some, IsSome, if◌then◌else◌};
 ghost use Rattle.sl_verify.specs.declared.known.TheConstants.{REGISTERS};
-ghost use Rattle.sl_instructions.specs.Codes.{CountingCode};
-ghost use Rattle.sl_instructions.specs.declared.instr.Instr.TheVariants as instr;
+ghost use Rattle.sl_code_instructions.specs.Codes.{CountingCode};
+ghost use Rattle.sl_code_instructions.specs.declared.instr.Instr.TheVariants as instr;
 ghost use Rattle.sl_stages.specs.returns.Election.{IsElection, lands_of, parties_of, wins_of, has_list};
-ghost use Rattle.sl_semantics.specs.Places.{both, cells_of, cell_at, index_at, scope_at, item_of, at_entry};
-ghost use Rattle.sl_semantics.specs.Effects.{Goes, Jumps, effect, given, with_party, with_land, with_win, winner_at, first_of, next_of, to_party};
-ghost use Rattle.sl_semantics.specs.Safe.{IsInRange, entries_in};
+ghost use Rattle.sl_code_semantics.specs.Places.{both, cells_of, cell_at, index_at, scope_at, item_of, at_entry};
+ghost use Rattle.sl_code_semantics.specs.Effects.{Goes, Jumps, effect, given, with_party, with_land, with_win, winner_at, first_of, next_of, to_party};
+ghost use Rattle.sl_code_semantics.specs.Safe.{IsInRange, entries_in};
 ghost use Rattle.sl_machine.specs.inner.Stores.{state_of, sizes_of, effect_of, IsTo};
 
 use crate::step::Effect;
 use crate::store::Store;
-use sl_instructions::{Entries, ScopeKind};
+use sl_code_instructions::{Entries, ScopeKind};
 use sl_stages::{Item, Returns, Scope, Shape};
 
 /// The item that an entry of the table of that number is.

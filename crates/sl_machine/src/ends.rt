@@ -5,20 +5,20 @@ ghost use Rattle.std.specs.Option.{option_and_then};
 ghost use Rattle.sl_verify.specs.declared.known.TheConstants.{REGISTERS};
 ghost use Rattle.sl_verify.specs.Needs.{has_stage};
 ghost use Rattle.sl_verify.specs.WellKinded.{context_of};
-ghost use Rattle.sl_instructions.specs.Codes.{CountingCode};
-ghost use Rattle.sl_instructions.specs.declared.instr.Instr.TheVariants as instr;
+ghost use Rattle.sl_code_instructions.specs.Codes.{CountingCode};
+ghost use Rattle.sl_code_instructions.specs.declared.instr.Instr.TheVariants as instr;
 ghost use Rattle.sl_prio.specs.Prio.{top};
 ghost use Rattle.sl_stages.specs.returns.Election.{Election, IsElection, wins_of};
-ghost use Rattle.sl_semantics.specs.State.{State, Halted, with_place};
-ghost use Rattle.sl_semantics.specs.Places.{scope_at};
-ghost use Rattle.sl_semantics.specs.Effects.{Goes, Ends, effect, given, faults, kind_of};
-ghost use Rattle.sl_semantics.specs.Safe.{IsInRange};
+ghost use Rattle.sl_code_semantics.specs.State.{State, Halted, with_place};
+ghost use Rattle.sl_code_semantics.specs.Places.{scope_at};
+ghost use Rattle.sl_code_semantics.specs.Effects.{Goes, Ends, effect, given, faults, kind_of};
+ghost use Rattle.sl_code_semantics.specs.Safe.{IsInRange};
 ghost use Rattle.sl_machine.specs.inner.Stores.{state_of, sizes_of, effect_of, end_with};
 
 use crate::records::stage_number;
 use crate::step::{Effect, End};
 use crate::store::Store;
-use sl_instructions::{Code, EndFault, ScopeKind};
+use sl_code_instructions::{Code, EndFault, ScopeKind};
 use sl_ratio::NoMemory;
 use sl_stages::{FaultKind, Items, LegalFault, Placed, Returns};
 

@@ -1,4 +1,8 @@
 //! The counting machine.
+//!
+//! Stands on `sl_code_semantics`; used by the rooms count and test. Proved: a run ends as the semantics say.
+//!
+//! Where an error is `NoMemory` alone, memory ran out, and nothing else is wrong.
 #![tactic(auto)]
 
 mod arithmetic;
@@ -22,4 +26,4 @@ mod way;
 
 pub use machine::{Ending, budget, run, run_unrecorded};
 pub use memory::Memory;
-pub use sl_semantics::STEPS_EACH;
+pub use sl_code_semantics::STEPS_EACH;

@@ -6,11 +6,11 @@ ghost use Rattle.sl_stages.specs.returns.Election.{IsElection, IsLot, lands_of, 
 ghost use Rattle.std.specs.Str.{bytes_eq};
 ghost use Rattle.sl_stages.specs.meaning.Lots.{is_winner_of};
 ghost use Rattle.sl_stages.specs.meaning.Scopes.{place};
-ghost use Rattle.sl_semantics.specs.Drawn.{given_in};
+ghost use Rattle.sl_code_semantics.specs.Drawn.{given_in};
 ghost use Rattle.sl_machine.specs.inner.Lots.{lot_in, with_lot, stage_lots, lots_for};
 
 use crate::store::append;
-use sl_instructions::{Code, Entries};
+use sl_code_instructions::{Code, Entries};
 use sl_ratio::NoMemory;
 use sl_stages::{Lot, Returns};
 use std::alloc::Global;
@@ -33,7 +33,7 @@ impl Model for StageLot {
     ghost view = { λ l. record { party = l.party.items; land = l.land.items; list = l.list.items; win = l.win.items } };
 }
 
-/// The lots of the stages, and behind them the lot of the last clause.
+/// The lots of the stages, and after them the lot of the last clause.
 #[derive(Drop)]
 pub(crate) struct Lots {
     stages: Vec<StageLot>,
@@ -129,10 +129,6 @@ impl StageLot {
 
 impl Lots {
     /// The lots of a code's stages.
-    ///
-    /// # Errors
-    ///
-    /// Want of memory.
     pub(crate) fn of(alloc: Global, code: &Code, returns: &Returns) -> Result<Lots, NoMemory>
         ensures { IfOk result (λ lots. lots ≡ lots_for code.now returns.now) }
     {
@@ -147,7 +143,7 @@ impl Lots {
         Ok(Lots { stages })
     }
 
-    /// The lot of a stage, or of the last clause behind all stages, in a table of such entries.
+    /// The lot of a stage, or of the last clause after all stages, in a table of such entries.
     pub(crate) fn lot(&self, stage: usize, entries: Entries) -> &[u32]
         requires { stage < length self.now }
         ensures { option_map (lot_in entries) (slice_get self.now stage) ≡ Some result.now }

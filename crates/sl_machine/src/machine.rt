@@ -3,15 +3,15 @@
 ghost use Rattle.std.specs.Prelude.{◌≡◌, ◌<◌, ◌≤◌, ◌⊎◌, Some, length, slice_get, IfOk, IfSome, IfNone, ◌+◌, ◌*◌};
 ghost use Rattle.sl_ratio.specs.declared.limits.TheConstants.{MAX_SEATS as most_seats, MAX_LANDS, MAX_PARTIES};
 ghost use Rattle.sl_stages.specs.declared.limits.TheConstants.{MAX_WINS};
-ghost use Rattle.sl_terms.specs.declared.limits.TheConstants.{MAX_STAGES};
-ghost use Rattle.sl_semantics.specs.Agrees.{IsSafe};
+ghost use Rattle.sl_base_terms.specs.declared.limits.TheConstants.{MAX_STAGES};
+ghost use Rattle.sl_code_semantics.specs.Agrees.{IsSafe};
 ghost use Rattle.sl_machine.specs.Answers.{answer_of};
 ghost use Rattle.sl_machine.specs.Fits.{Fits};
 ghost use Rattle.sl_machine.specs.inner.Leading.{EndsAt, EndsWith, ending_with, FitsWith};
 ghost use Rattle.sl_machine.specs.inner.UnderWay.{IsUnderWay, GoesOn, IsOut, EndsFirst};
 ghost use Rattle.sl_machine.specs.inner.Recording.{state_by, ending_by};
-ghost use Rattle.sl_semantics.specs.Runs.{run, ending, share_of, budget_of};
-ghost use Rattle.sl_semantics.specs.Unrecorded.{without_records};
+ghost use Rattle.sl_code_semantics.specs.Runs.{run, ending, share_of, budget_of};
+ghost use Rattle.sl_code_semantics.specs.Unrecorded.{without_records};
 ghost use Rattle.sl_machine.specs.inner.Stores.{state_of, sizes_of, sizes_for};
 ghost use Rattle.sl_machine.specs.inner.Ways.{IsWay};
 
@@ -20,9 +20,9 @@ use crate::memory::Memory;
 use crate::step::{Drops, Effect, End, Keeps, Recording};
 use crate::store::Store;
 use crate::way::{Standing, Way, first_of};
-use sl_instructions::{Code, Instr};
+use sl_code_instructions::{Code, Instr};
+use sl_code_semantics::STEPS_EACH;
 use sl_ratio::NoMemory;
-use sl_semantics::STEPS_EACH;
 use sl_stages::{LegalFault, MAX_SEATS, Returns};
 use sl_verify::Verified;
 use std::alloc::Global;
@@ -168,10 +168,6 @@ fn run_with<R: Recording>(
 }
 
 /// Runs accepted code on returns, for at most so many steps (docs/machine.md, section 4).
-///
-/// # Errors
-///
-/// Want of memory.
 pub fn run(
     alloc: Global,
     code: &Verified,
@@ -185,10 +181,6 @@ pub fn run(
 }
 
 /// Runs accepted code on returns as `run` does, but keeps no seat steps and no weights.
-///
-/// # Errors
-///
-/// Want of memory.
 pub fn run_unrecorded(
     alloc: Global,
     code: &Verified,

@@ -3,8 +3,8 @@
 ghost use Rattle.std.specs.Prelude.{◌≡◌, ◌<◌, Some, IsSome, slice_get, length};
 ghost use Rattle.std.specs.Option.{ForSome};
 ghost use Rattle.sl_stages.specs.returns.Election.{Election};
-ghost use Rattle.sl_instructions.specs.Codes.{CountingCode};
-ghost use Rattle.sl_semantics.specs.Memories.{held_of};
+ghost use Rattle.sl_code_instructions.specs.Codes.{CountingCode};
+ghost use Rattle.sl_code_semantics.specs.Memories.{held_of};
 ghost use Rattle.sl_machine.specs.inner.Leaving.{held_with, HasVacancy};
 ghost use Rattle.sl_machine.specs.inner.Stores.{state_of, sizes_of, sizes_for};
 
@@ -32,7 +32,7 @@ pub struct Memory {
 }
 
 impl Model for Memory {
-    ghost use Rattle.sl_semantics.specs.Memories.{Held};
+    ghost use Rattle.sl_code_semantics.specs.Memories.{Held};
 
     ghost Value = { Held };
 

@@ -2,22 +2,22 @@
 
 ghost use Rattle.std.specs.Prelude.{◌≡◌, ◌<◌, All, Some, None, [], List, IsSome, IfOk, OnOk, length, map, drop, slice_get, option_map, if◌then◌else◌};
 ghost use Rattle.std.specs.Option.{ForSome, option_and_then};
-ghost use Rattle.sl_instructions.specs.declared.operand.Ranking.TheVariants as ranking;
+ghost use Rattle.sl_code_instructions.specs.declared.operand.Ranking.TheVariants as ranking;
 ghost use Rattle.sl_prio.specs.Prio.{top, peers, is_covered};
 ghost use Rattle.sl_prio.specs.Lot.{drawn};
 ghost use Rattle.sl_machine.specs.inner.Lots.{lot_in};
 ghost use Rattle.sl_stages.specs.returns.Election.{Election};
-ghost use Rattle.sl_semantics.specs.State.{State};
-ghost use Rattle.sl_semantics.specs.Places.{at_entry, item_of};
-ghost use Rattle.sl_semantics.specs.Effects.{Goes, Jumps, given, takes, mark_of, with_entry};
-ghost use Rattle.sl_semantics.specs.Safe.{entries_in};
+ghost use Rattle.sl_code_semantics.specs.State.{State};
+ghost use Rattle.sl_code_semantics.specs.Places.{at_entry, item_of};
+ghost use Rattle.sl_code_semantics.specs.Effects.{Goes, Jumps, given, takes, mark_of, with_entry};
+ghost use Rattle.sl_code_semantics.specs.Safe.{entries_in};
 ghost use Rattle.sl_machine.specs.inner.Tables.{FitsMark};
 
 use crate::cursors::item_of;
 use crate::draws::Draws;
 use crate::lots::Lots;
 use crate::store::append;
-use sl_instructions::{Entries, Ranking};
+use sl_code_instructions::{Entries, Ranking};
 use sl_prio::AwardTable;
 use sl_ratio::{Entry, NoMemory, Ratio};
 use sl_stages::{Item, Mark, Returns};
@@ -133,10 +133,6 @@ impl PriorityTable {
     }
 
     /// Enters an entry.
-    ///
-    /// # Errors
-    ///
-    /// Want of memory.
     pub(crate) fn enter(&mut self, entry: Entry) -> Result<(), NoMemory>
         requires { ForSome self.old.on (λ t. FitsMark t.ranking entry.ratio) }
         ensures entered { OnOk result (self.new.on ≡ option_map (with_entry entry) self.old.on) }
@@ -204,10 +200,6 @@ impl PriorityTable {
     }
 
     /// Takes the peers, and answers their items, from the greatest on.
-    ///
-    /// # Errors
-    ///
-    /// Want of memory.
     pub(crate) fn take_peers(
         &mut self,
         alloc: Global,

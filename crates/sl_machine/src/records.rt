@@ -4,17 +4,17 @@ ghost use Rattle.std.specs.Prelude.{◌≡◌, ◌<◌, Some, IsTrue, IsSome, If
 ghost use Rattle.sl_verify.specs.declared.known.TheConstants.{REGISTERS};
 ghost use Rattle.sl_verify.specs.Needs.{has_stage};
 ghost use Rattle.sl_verify.specs.WellKinded.{context_of};
-ghost use Rattle.sl_instructions.specs.declared.instr.Instr.TheVariants as instr;
-ghost use Rattle.sl_semantics.specs.Places.{scope_at};
-ghost use Rattle.sl_semantics.specs.Effects.{effect, stage_of};
-ghost use Rattle.sl_semantics.specs.Safe.{IsInRange};
-ghost use Rattle.sl_semantics.specs.Seen.{item_at};
+ghost use Rattle.sl_code_instructions.specs.declared.instr.Instr.TheVariants as instr;
+ghost use Rattle.sl_code_semantics.specs.Places.{scope_at};
+ghost use Rattle.sl_code_semantics.specs.Effects.{effect, stage_of};
+ghost use Rattle.sl_code_semantics.specs.Safe.{IsInRange};
+ghost use Rattle.sl_code_semantics.specs.Seen.{item_at};
 ghost use Rattle.sl_machine.specs.inner.Stores.{state_of, sizes_of, effect_of};
 
 use crate::cursors::item_of;
 use crate::step::Effect;
 use crate::store::{Store, append};
-use sl_instructions::{Code, Rounding, ScopeKind};
+use sl_code_instructions::{Code, Rounding, ScopeKind};
 use sl_ratio::{MAX_WEIGHT, NoMemory};
 use sl_stages::{Item, Mark, Returns, SeatStep, Weight};
 use sl_verify::LAST_CLAUSE;

@@ -1,20 +1,20 @@
 //! One step of a run.
 
 ghost use Rattle.std.specs.Prelude.{◌≡◌, IsTrue, IfOk, IfSome, IfNone};
-ghost use Rattle.sl_instructions.specs.Rows.{target_of};
+ghost use Rattle.sl_code_instructions.specs.Rows.{target_of};
 ghost use Rattle.sl_verify.specs.Needs.{has_columns};
 ghost use Rattle.sl_verify.specs.WellKinded.{context_of};
-ghost use Rattle.sl_semantics.specs.Effects.{Ends, effect};
+ghost use Rattle.sl_code_semantics.specs.Effects.{Ends, effect};
 ghost use Rattle.sl_stages.specs.returns.Election.{IsElection};
 ghost use Rattle.sl_machine.specs.inner.Recording.{state_by, left_by};
 ghost use Rattle.sl_machine.specs.declared.step.Records.{Records};
-ghost use Rattle.sl_semantics.specs.Safe.{MayStep};
+ghost use Rattle.sl_code_semantics.specs.Safe.{MayStep};
 ghost use Rattle.sl_machine.specs.inner.Leading.{ends_run};
 ghost use Rattle.sl_machine.specs.inner.Stores.{state_of, sizes_of, sizes_for, effect_of, IsTo, end_with};
 
 use crate::ends::{halt, halt_with_vacant};
 use crate::store::Store;
-use sl_instructions::{Code, Instr};
+use sl_code_instructions::{Code, Instr};
 use sl_ratio::NoMemory;
 use sl_stages::{LegalFault, Returns};
 
@@ -73,10 +73,6 @@ impl Recording for Drops {
 
 impl Store {
     /// Makes one step, but for an instruction that ends the run: then it does nothing, and answers `None`.
-    ///
-    /// # Errors
-    ///
-    /// Want of memory.
     pub(crate) fn step<R: Recording>(
         &mut self,
         code: &Code,
@@ -158,10 +154,6 @@ impl Store {
     }
 
     /// The end that an instruction gives the run.
-    ///
-    /// # Errors
-    ///
-    /// Want of memory.
     pub(crate) fn end(
         &mut self,
         code: &Code,

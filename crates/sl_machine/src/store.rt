@@ -2,8 +2,8 @@
 
 ghost use Rattle.std.specs.Prelude.{◌≡◌, ◌≤◌, ◌++◌, ◌∷◌, [], map, replicate, IfOk, OnOk};
 ghost use Rattle.sl_stages.specs.returns.Election.{IsElection};
-ghost use Rattle.sl_semantics.specs.State.{start};
-ghost use Rattle.sl_semantics.specs.Places.{cells_of};
+ghost use Rattle.sl_code_semantics.specs.State.{start};
+ghost use Rattle.sl_code_semantics.specs.Places.{cells_of};
 ghost use Rattle.sl_machine.specs.inner.Stores.{state_of, sizes_of, sizes_for};
 
 use crate::cell_cursors::CellCursors;
@@ -11,7 +11,7 @@ use crate::column::{Column, MOST_CELLS};
 use crate::cursor::Cursor;
 use crate::lots::Lots;
 use crate::priority::PriorityTable;
-use sl_instructions::Code;
+use sl_code_instructions::Code;
 use sl_ratio::{NoMemory, Ratio};
 use sl_stages::{Mark, Placed, Returns, SeatStep, Shape, Weight};
 use sl_verify::REGISTERS;
@@ -84,10 +84,6 @@ fn unseated(alloc: Global, wins: usize) -> Result<Vec<Placed>, NoMemory>
 
 impl Store {
     /// The state at the start of a run.
-    ///
-    /// # Errors
-    ///
-    /// Want of memory.
     pub(crate) fn start(alloc: Global, code: &Code, returns: &Returns) -> Result<Store, NoMemory>
         ensures state { IfOk result (λ store. state_of store ≡ start) }
         ensures election { IfOk result (λ store. IsElection returns.now) }

@@ -7,17 +7,17 @@ ghost use Rattle.sl_ratio.specs.declared.limits.TheConstants.{MAX_WEIGHT, MAX_SE
 ghost use Rattle.sl_verify.specs.declared.known.TheConstants.{REGISTERS};
 ghost use Rattle.sl_verify.specs.Needs.{has_stage};
 ghost use Rattle.sl_verify.specs.WellKinded.{context_of};
-ghost use Rattle.sl_instructions.specs.Codes.{CountingCode};
-ghost use Rattle.sl_instructions.specs.declared.instr.Instr.TheVariants as instr;
-ghost use Rattle.sl_instructions.specs.declared.operand.Ranking.TheVariants as ranking;
+ghost use Rattle.sl_code_instructions.specs.Codes.{CountingCode};
+ghost use Rattle.sl_code_instructions.specs.declared.instr.Instr.TheVariants as instr;
+ghost use Rattle.sl_code_instructions.specs.declared.operand.Ranking.TheVariants as ranking;
 ghost use Rattle.sl_prio.specs.Prio.{top};
 ghost use Rattle.sl_stages.specs.returns.Election.{Election, IsElection};
-ghost use Rattle.sl_semantics.specs.Places.{at_entry};
-ghost use Rattle.sl_semantics.specs.Effects.{Goes, effect, given, name_of, winner_at};
-ghost use Rattle.sl_semantics.specs.Drawn.{lot_of};
-ghost use Rattle.sl_semantics.specs.Safe.{IsInRange, entries_in};
+ghost use Rattle.sl_code_semantics.specs.Places.{at_entry};
+ghost use Rattle.sl_code_semantics.specs.Effects.{Goes, effect, given, name_of, winner_at};
+ghost use Rattle.sl_code_semantics.specs.Drawn.{lot_of};
+ghost use Rattle.sl_code_semantics.specs.Safe.{IsInRange, entries_in};
 ghost use Rattle.sl_machine.specs.inner.Lots.{lots_for};
-ghost use Rattle.sl_semantics.specs.Seen.{entry_at, puts_in};
+ghost use Rattle.sl_code_semantics.specs.Seen.{entry_at, puts_in};
 ghost use Rattle.sl_machine.specs.inner.Stores.{state_of, sizes_of, effect_of, IsTo};
 ghost use Rattle.sl_machine.specs.inner.Tables.{FitsMark};
 
@@ -25,7 +25,7 @@ use crate::priority::Taken;
 use crate::records::stage_number;
 use crate::step::Effect;
 use crate::store::Store;
-use sl_instructions::{Code, Entries, Ranking};
+use sl_code_instructions::{Code, Entries, Ranking};
 use sl_ratio::{Divisor, Entry, MAX_SEATS, MAX_WEIGHT, NoMemory, Ratio};
 use sl_stages::Returns;
 

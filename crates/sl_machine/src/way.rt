@@ -5,7 +5,7 @@ ghost use Rattle.sl_machine.specs.inner.Ways.{is_idle, standing_from, IsWay};
 
 use crate::step::{Recording, Records};
 use crate::store::append;
-use sl_instructions::{Code, Instr};
+use sl_code_instructions::{Code, Instr};
 use sl_ratio::NoMemory;
 use std::alloc::Global;
 
@@ -53,7 +53,7 @@ fn add<R: Recording>(
     Ok(())
 }
 
-// Those behind so many.
+// Those after so many.
 fn behind(standing: &[Standing], count: usize) -> &[Standing]
     requires { count ≤ length standing.now }
     ensures { result.now ≡ drop count standing.now }
@@ -71,10 +71,6 @@ pub(crate) fn first_of(ahead: &[Standing]) -> (&Standing, &[Standing])
 
 impl Way {
     /// The way of a run through a code.
-    ///
-    /// # Errors
-    ///
-    /// Want of memory.
     pub(crate) fn of<R: Recording>(alloc: Global, code: &Code) -> Result<Way, NoMemory>
         ensures { IfOk result (IsWay R.records code.now) }
     {

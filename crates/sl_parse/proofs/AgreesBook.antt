@@ -22,7 +22,7 @@ use Rattle.sl_parse.proofs.ReadsBook.{condition-shorter, AreWithin}
 use Rattle.sl_parse.proofs.Agrees.{Agrees, then_agrees, agreed, Any, one_agrees, taken_agrees}
 use Rattle.sl_parse.proofs.AgreesExpr.{Fits, agrees_expr}
 
--- behind a loop stands a token with which it doesn't go on
+-- after a loop stands a token with which it doesn't go on
 abbrev pub Stops : Kind → List Token → Type 0
 Stops k here = (t : Token) × (rest : List Token) × (here ≡ t ∷ rest) × (same_kind t.kind k ≡ false)
 

@@ -93,7 +93,7 @@ module _ (text : List ℕ) where
   below m k q e rest (inl h) = inl (omega arith)
   below m k q e rest (inr h) = inr (omega arith)
 
-  -- the two arguments are the first that is read behind such a first token
+  -- the two arguments are the first that is read after such a first token
   late_two : (d p : ℕ) (form : Form) (t : Token) (mid there : List Token) → IsTrue (has_two form) → Late TooDeep mid there (read_two (read_expr text d) p mid) → Late TooDeep mid there (read_form text (read_expr text d) p (Some form) t mid)
   unfolding read_form read_pair read_division read_split read_grow
   late_two d p (forms.Pair pairing) t mid there two h = late_first _ _ h

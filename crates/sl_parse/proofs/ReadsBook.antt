@@ -256,7 +256,7 @@ module _ (text : List ℕ) (l : Limits) where
   abbrev pub InBook : List Token → Cause → List Token → Type 0
   InBook here c there = (h : HeadTree) × (b : List Token) × IsHead text h here b × InStages l.stages b c there
 
-  -- a book and nothing behind it
+  -- a book and nothing after it
   pub record BookRead (ts : List Token) (b : BookTree) : Type 0 where
     pub is : IsBook text b ts []
     pub within : AreWithin l l.stages b.stages

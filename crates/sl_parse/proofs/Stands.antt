@@ -67,7 +67,7 @@ limit-ends : (k : Kind) (p : ℕ) (t : Token) → LimitMove (ends_by k p t)
 unfolding LimitMove
 limit-ends k p t = limit-cond (is_some (this k t)) _ _ tt tt
 
--- the longer of two fronts goes on with a token that stands behind the shorter
+-- the longer of two fronts goes on with a token that stands after the shorter
 pub record Longer (front before behind : List Token) : Type 0 where
   pub t : Token
   pub mid : List Token

@@ -10,7 +10,7 @@ use Rattle.sl_lex.specs.declared.token.Kind.{Kind}
 use Rattle.sl_lex.specs.declared.token.Kind.TheVariants as kinds
 use Rattle.sl_lex.specs.declared.token.Token.{Token}
 use Rattle.sl_ratio.specs.declared.limits.TheConstants.{MAX_NUMBER}
-use Rattle.sl_terms.specs.declared.limits.TheConstants.{MAX_STAGES}
+use Rattle.sl_base_terms.specs.declared.limits.TheConstants.{MAX_STAGES}
 use Rattle.sl_stages.specs.declared.book.Number.{Number}
 use Rattle.sl_stages.specs.declared.book.Cond.{Cond}
 use Rattle.sl_stages.specs.declared.book.Cond.TheVariants as conditions
@@ -34,7 +34,7 @@ abbrev takes_all : (ℕ → Bool) → List Token → Bool
 takes_all test tokens = list_all (λ t. takes test t.kind) tokens
 
 module _ (test : ℕ → Bool) where
-  -- If the test takes the numbers of all tokens from the part's first on, it takes these numbers, and those of the tokens behind it.
+  -- If the test takes the numbers of all tokens from the part's first on, it takes these numbers, and those of the tokens after it.
   record Takes (numbers : List ℕ) (part : Part) : Type 0 where
     told : (here after : List Token) → part here after → takes_all test here ≡ true → (list_all test numbers ≡ true) × (takes_all test after ≡ true)
 
@@ -65,7 +65,7 @@ module _ (test : ℕ → Bool) where
         (and_from (test n.value) true taken refl, k.1);
   }
 
-  -- ---- one part behind another
+  -- ---- one part after another
 
   -- two parts with numbers
   two : {ns ms : List ℕ} {p q : Part} → Takes ns p → Takes ms q → Takes (ns ++ ms) (p ▸ q)

@@ -53,7 +53,7 @@ abbrev pub ToExpr : List ℕ → (levels before : ℕ) → Part
 ToExpr text zero before here there = (before ≡ 0) × (here ≡ there)
 ToExpr text (suc levels) before here there = (m : ℕ) × (k : ℕ) × (before ≡ m + k) × (ToArgument text m ▸ ToExpr text levels k) here there
 
--- from the first token of a book up to that behind so many stages
+-- from the first token of a book up to that after so many stages
 abbrev pub PastStages : List ℕ → ℕ → Part
 PastStages text n here there = (h : HeadTree) × (ss : List StageTree) × (length ss ≡ n) × (IsHead text h ▸ AreStages text ss) here there
 

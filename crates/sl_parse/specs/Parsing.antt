@@ -2,7 +2,7 @@
 use Rattle.std.specs.Prelude.{◌≡◌, ℕ, List, [], ◌∷◌, length, Result, Ok, Err, IsTrue}
 use Rattle.sl_lex.specs.declared.token.Token.{Token}
 use Rattle.sl_stages.specs.declared.limits.TheConstants.{MAX_DEPTH, MAX_PARTS}
-use Rattle.sl_terms.specs.declared.limits.TheConstants.{MAX_STAGES}
+use Rattle.sl_base_terms.specs.declared.limits.TheConstants.{MAX_STAGES}
 use Rattle.sl_stages.specs.declared.book.Book.{Book}
 use Rattle.sl_stages.specs.book.Trees.{BookTree}
 use Rattle.sl_stages.specs.book.Books.{book_of}
@@ -40,7 +40,7 @@ fault_at After at = faults.After at
 abbrev pub FaultIsAt : (text : List ℕ) → List Token → Cause → ℕ → Type 0
 FaultIsAt text tokens cause at = (rest : List Token) × IsFault text limits tokens cause rest × (at ≡ offset (length text) rest)
 
--- want of memory, or the fault of the tokens
+-- out of memory, or the fault of the tokens
 abbrev pub IsFaultOf : (text : List ℕ) → List Token → ParseFault → Type 0
 IsFaultOf text tokens (faults.Expected at) = FaultIsAt text tokens Expected at
 IsFaultOf text tokens (faults.TooDeep at) = FaultIsAt text tokens TooDeep at

@@ -67,10 +67,6 @@ fn examples_of(alloc: Global, sorts: &[Sort]) -> Result<Vec<Token>, NoMemory>
 }
 
 /// Whether a book begins with tokens of these sorts, or is as short as they are.
-///
-/// # Errors
-///
-/// Out of memory.
 pub fn begins_book(alloc: Global, sorts: &[Sort]) -> Result<bool, NoMemory>
     ensures { IfOk result (λ begins. IsTrue begins ↔ AreBeginning sorts.now) }
 {

@@ -12,10 +12,10 @@ use sl_lex::{Keyword, Mark};
 use sl_ratio::Method;
 use sl_stages::{Expr, Pairing};
 
-/// What was read, the parts that are left, and the token behind it.
+/// What was read, the parts that are left, and the token after it.
 type Read<T> = Result<(T, u32, usize), Stop>;
 
-/// What is given out, by which votes and by which method.
+/// What is distributed, by which votes and by which method.
 #[derive(Drop)]
 pub(crate) struct Division {
     pub seats: Box<Expr>,

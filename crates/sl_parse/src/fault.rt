@@ -25,7 +25,7 @@ pub enum ParseFault {
 }
 
 impl ParseFault {
-    // The text before the offset, the offset, and the text behind it. Want of memory has none.
+    // The text before the offset, the offset, and the text after it. Out of memory has none.
     fn words(self) -> Option<(&'static str, usize, &'static str)> {
         match self {
             ParseFault::Expected(at) => Some(("no book goes on like this at ", at, "")),
@@ -68,7 +68,7 @@ pub enum Cause {
     TooDeep,
     /// It begins one stage too many.
     TooManyStages,
-    /// It stands behind a whole book.
+    /// It stands after a whole book.
     After,
 }
 

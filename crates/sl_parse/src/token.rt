@@ -1,4 +1,4 @@
-//! Reading one token. Each function takes the number of a token, counted from 0, and hands back that of the one behind
+//! Reading one token. Each function takes the number of a token, counted from 0, and hands back that of the one after
 //! what it read.
 
 ghost use Rattle.std.specs.Prelude.{◌≡◌, ◌+◌, ◌<◌, ◌^◌, [], ◌∷◌, drop, length, MatchOption};

@@ -28,7 +28,7 @@ inserted_first : (x : Entry) (xs : List Entry) → All (AtMost entry_cmp x) xs �
 inserted_first x [] most = refl
 inserted_first x (y ∷ ys) most = rw (not_gt (entry_cmp y x) (All-head (AtMost entry_cmp x) y ys most)) refl
 
--- an entry that is taken as the top leaves the ranking behind it
+-- an entry that is taken as the top leaves the ranking after it
 pub ranked_behind : (x : Entry) (xs ys : List Entry) → top xs ≡ Some x → IsPermutation xs (x ∷ ys) → ranked xs ≡ x ∷ ranked ys
 ranked_behind x xs ys first h =
     let most = (greatest-Some entry_cmp entry_order xs x first).1 in

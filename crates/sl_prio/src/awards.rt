@@ -64,7 +64,7 @@ impl AwardTable {
     ///
     /// # Errors
     ///
-    /// Want of memory. The table is then unchanged.
+    /// Out of memory. The table is then unchanged.
     pub fn put(&mut self, entry: Entry) -> Result<(), NoMemory>
         ensures added { OnOk result (IsPermutation (entry ∷ self.old) self.new) }
         ensures unchanged { OnErr result (self.new ≡ self.old) }

@@ -1,4 +1,6 @@
 //! Priority tables: entries of a scope, of which the greatest and those with its quotient are found.
+//!
+//! Stands on `sl_ratio`; used by the rooms code and test. Proved: what a table answers is that of the entries that it holds.
 #![tactic(auto)]
 
 mod awards;

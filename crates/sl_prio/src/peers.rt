@@ -115,7 +115,7 @@ fn count_peers(entries: &[Entry]) -> usize
     }
 }
 
-// The peers that are left in a heap of those before, of which one with an index is gone. Where it was the only one, they are counted anew.
+// The peers that are left in a heap of those before, of which one with an index is gone. Where it was the only one, they are counted again.
 pub(crate) fn peers_left(
     entries: &[Entry],
     marks: &mut [bool],

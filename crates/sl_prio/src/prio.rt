@@ -33,7 +33,7 @@ pub struct Prio {
     entries: Vec<Entry>,
     // the peers, the top among them
     counted: Counted,
-    // by index, as far as they reach: the peers' indexes have marks, and another may have one that a peer left behind
+    // by index, as far as they reach: the peers' indexes have marks, and another may have one that a peer left after
     marks: Vec<bool>,
     // by index, as far as they reach: where the peers stand, or stood before they rose
     places: Vec<u16>,
@@ -76,7 +76,7 @@ impl Prio {
     ///
     /// # Errors
     ///
-    /// Want of memory. The table is then unchanged.
+    /// Out of memory. The table is then unchanged.
     pub fn put(&mut self, entry: Entry) -> Result<(), NoMemory>
         ensures added { OnOk result (IsPermutation (entry ∷ self.old) self.new) }
         ensures unchanged { OnErr result (self.new ≡ self.old) }
@@ -282,7 +282,7 @@ impl Prio {
             lot,
             passed,
         );
-        // behind the last of the peers come others
+        // after the last of the peers come others
         let passed = if self.counted.count > 1 {
             named.name
         } else {

@@ -41,7 +41,7 @@ name_fault list name =
     if nat_le list.limit (length list.names) then Some Full else
     None)
 
--- e refuses the name: the first fault that applies, or, where none does, want of memory
+-- e refuses the name: the first fault that applies, or, where none does, out of memory
 abbrev pub Refuses : NameList → List ℕ → NameFault → Type 0
 Refuses list name e = (name_fault list name ≡ Some e) ⊎ ((name_fault list name ≡ None) × (e ≡ NoMemory))
 

@@ -1,4 +1,6 @@
 //! Quotients as ratios of whole numbers, the methods of apportionment, the bounds of an allocation, and lists of names.
+//!
+//! Stands on `sl_base_no_memory`; used by the rooms base and book. Proved: the order is that of quotients, and a list of names has each once.
 #![tactic(auto)]
 
 mod bound;
@@ -19,4 +21,4 @@ pub use names::{MAX_NAME_BYTES, NameFault, Names, spelling_fault};
 pub use ratio::{MAX_DENOMINATOR, MAX_NUMERATOR, Ratio};
 pub use remainder::hare;
 pub use signpost::{Adams, Dean, Hill, Jefferson, Signpost, Webster};
-pub use sl_no_memory::NoMemory;
+pub use sl_base_no_memory::NoMemory;

@@ -38,7 +38,7 @@ impl Divisor {
     }
 }
 
-/// A method that gives out the seats of a scope: by divisors, or by largest remainders.
+/// A method that distributes the seats of a scope: by divisors, or by largest remainders.
 #[derive(Clone, Copy)]
 pub enum Method {
     Divisor(Divisor),

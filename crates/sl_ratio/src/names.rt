@@ -81,7 +81,7 @@ pub fn spelling_fault(name: &[u8]) -> Option<NameFault>
     }
 }
 
-// So many names have room from the first on, if there may be so many: an index that grows is made anew each time.
+// So many names have room from the first on, if there may be so many: an index that grows is made again each time.
 const FIRST_ROOM: usize = 512;
 
 /// A list of names, each once, at most as many as its limit. A name is found by its bytes, and its number is its place.

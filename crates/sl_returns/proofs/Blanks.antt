@@ -10,7 +10,7 @@ use Rattle.sl_returns.specs.Cells.{Record, cell}
 use Rattle.sl_returns.specs.Schema.{contents, content_of}
 use Rattle.sl_returns.specs.Tests.{Tests, Pass, FailBy, blanks, blanks_from, empty_tests}
 use Rattle.sl_returns.proofs.TestLemmas.{passes, fails}
-use Rattle.sl_terms.specs.Tests.{first_failing}
+use Rattle.sl_base_terms.specs.Tests.{first_failing}
 
 five : (k : Kind) → length (contents k) ≡ 5
 five kind.House = refl

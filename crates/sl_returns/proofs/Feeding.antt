@@ -12,7 +12,7 @@ use Rattle.sl_returns.specs.declared.header.Version.{Version}
 use Rattle.sl_returns.specs.Cells.{Record}
 use Rattle.sl_returns.specs.Headers.{version_of}
 use Rattle.sl_returns.specs.Records.{election_of_records}
-use Rattle.sl_terms.specs.Tests.{first_failing}
+use Rattle.sl_base_terms.specs.Tests.{first_failing}
 use Rattle.sl_returns.specs.Tests.{Pass, FailBy, record_tests}
 use Rattle.sl_returns.specs.inner.Joining.{with_record, TakesRecord, RefusesRecord}
 use Rattle.sl_returns.specs.Returns.{fault_behind, first_fault, refusal_under, refusal_of}
@@ -40,7 +40,7 @@ unmapped f (Some x) h = absurd (none-some (f x) (sym h))
 
 -- ---- one record more
 
-first_fault-push : (v : Version) (before rest : List Record) (r : Record) → first_fault v before (rest ++ r ∷ []) ≡ option_or (first_fault v before rest) (fault_behind v (before ++ rest) r)
+pub first_fault-push : (v : Version) (before rest : List Record) (r : Record) → first_fault v before (rest ++ r ∷ []) ≡ option_or (first_fault v before rest) (fault_behind v (before ++ rest) r)
 first_fault-push v before [] r = or_none (fault_behind v before r) ∙ ap (λ b. fault_behind v b r) (sym (append-nil before))
 first_fault-push v before (x ∷ rest) r =
     let more = first_fault-push v (before ++ x ∷ []) rest r ∙ ap (λ b. option_or (first_fault v (before ++ x ∷ []) rest) (fault_behind v b r)) (append_assoc before (x ∷ []) rest) in
@@ -55,7 +55,7 @@ good_from v before (x ∷ rest) good h =
     let next = (grows before x good v (record { none = passed })).good in
     subst IsGood (append_assoc before (x ∷ []) rest) (good_from v (before ++ x ∷ []) rest next more)
 
--- records behind a header, none of which is refused
+-- records after a header, none of which is refused
 pub record Sound (h : Record) (rest : List Record) : Type 0 where
   pub version : Version
   pub header : version_of h ≡ Some version
@@ -73,17 +73,17 @@ refusal_push h rest r is =
     let behind = first_fault-push is.version [] rest r ∙ ap (λ o. option_or o (fault_behind is.version rest r)) is.none in
     ap (λ o. refusal_under o (rest ++ r ∷ [])) is.header ∙ behind
 
--- the row behind a row
-abbrev row_after : ℕ → ℕ
+-- the row after a row
+abbrev pub row_after : ℕ → ℕ
 row_after row = min (row + 1) (2 ^ 32 - 1)
 
-rows_go : (rest : List Record) (r : Record) (row : ℕ) → row ≡ row_behind (length rest) → row_after row ≡ row_behind (length (rest ++ r ∷ []))
+pub rows_go : (rest : List Record) (r : Record) (row : ℕ) → row ≡ row_behind (length rest) → row_after row ≡ row_behind (length (rest ++ r ∷ []))
 rows_go rest r row h = omega (arith, h, length_push rest r)
 
 -- ---- a record that is taken
 
 -- the builder with a record more
-abbrev after : Building → Version → Election → Building
+abbrev pub after : Building → Version → Election → Building
 after b v e = record { election = e; version = Some v; row = row_after b.row; fault = b.fault }
 
 taken_first : (b : Building) (r : Record) (v : Version) (e : Election) → StandsFor b [] → TakesRecord None v b.election e r → StandsFor (after b v e) (r ∷ [])
@@ -95,7 +95,7 @@ taken_first b r v e s t = record {
   row = ap row_after s.row;
 }
 
--- behind records none of which is refused, a record that passes its tests is not refused either
+-- after records none of which is refused, a record that passes its tests is not refused either
 not_refused : (b : Building) (h : Record) (rest : List Record) (r : Record) (is : Sound h rest) → StandsFor b (h ∷ rest) → Pass (record_tests is.version b.election r) → refusal_of ((h ∷ rest) ++ r ∷ []) ≡ None
 not_refused b h rest r is s passed =
     let here : Pass (record_tests is.version (election_of_records rest) r) = subst (λ x. Pass (record_tests is.version x r)) s.election passed in
@@ -146,7 +146,7 @@ refused b (h ∷ rest) r k s refuses =
 
 -- ---- the row of a fault
 
-row_is : (row : ℕ) (k : FaultKind) → k ≢ fault.NoMemory → row_told row k ≡ row
+pub row_is : (row : ℕ) (k : FaultKind) → k ≢ fault.NoMemory → row_told row k ≡ row
 row_is row fault.Header h = refl
 row_is row fault.Fields h = refl
 row_is row fault.Kind h = refl

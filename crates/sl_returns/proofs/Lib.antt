@@ -13,9 +13,12 @@ pub mod Sorting
 pub mod PassedTests
 pub mod Steps
 pub mod Feeding
+pub mod Refusals
+pub mod Sifting
+pub mod Kept
+pub mod Answered
 pub mod Accepted
 pub mod AllRecords
-pub mod Prefixes
 pub mod Reading
 pub mod ReadElections
 pub mod Scans

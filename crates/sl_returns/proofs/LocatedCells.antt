@@ -21,7 +21,7 @@ held_after act.EndRecord cells c = map_push (λ x. x.holds) cells c
 held_after act.Skip cells c = refl
 held_after act.Copy cells c = refl
 
--- no record is left behind the end
+-- no record is left after the end
 none_left : (n : ℕ) → records_from default_config n st.StartRecord [] ≡ []
 unfolding records_from next_record
 none_left zero = refl

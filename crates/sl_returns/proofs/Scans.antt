@@ -142,7 +142,7 @@ module _ (text : List ℕ) (row column : ℕ) (s : Scan) (at : ℕ) (is : IsScan
   pub none_between : ends_at_end (machine_state s.state) ≡ false → None ≡ place_in text row column
   none_between outside = sym (ended ∙ ap (λ b. place_among (get_or (if b then (is.cells ++ last ∷ []) ∷ [] else []) s.records []) column) outside)
 
--- before the first byte behind a byte order mark
+-- before the first byte after a byte order mark
 pub scanned_none : (text : List ℕ) (records column : ℕ) → drop (mark_length text) text ≡ strip_bom text → IsScanning text (records + 1) column (record_begun state.StartRecord records (mark_length text)) (mark_length text)
 scanned_none text records column rest = record {
   cells = [];

@@ -1,14 +1,15 @@
 -- Lists of tests, one after the other, and what they say of a record that passes them.
-use Rattle.std.proofs.Common.{◌≡◌, Bool, true, false, [], ◌++◌, Some, refl, sym, subst, inl, inr, ◌∙◌, Result, Ok, Err, IfErr, OnOk, IsOk}
+use Rattle.std.proofs.Common.{◌≡◌, Bool, true, false, [], ◌++◌, Some, refl, sym, ap, subst, inl, inr, ◌∙◌, Result, Ok, Err, IfErr, OnOk, IsOk}
 use Rattle.std.specs.Result.{IsErrAnd}
 use Rattle.std.proofs.lemmas.Bool.{false≢true}
 use Rattle.std.proofs.lemmas.Option.{none-some}
 use Rattle.sl_returns.specs.declared.fault.RecordFault.{RecordFault}
 use Rattle.sl_returns.specs.declared.fault.FaultKind.TheVariants as fault
-use Rattle.sl_terms.specs.Tests.{first_failing}
-use Rattle.sl_terms.proofs.Tests.{fails_in_row, fails_first, pass_parts}
+use Rattle.sl_base_terms.specs.Tests.{first_failing}
+use Rattle.sl_base_terms.proofs.Tests.{fails_in_row, fails_first, pass_parts}
 use Rattle.sl_returns.specs.Faults.{of_record}
 use Rattle.sl_returns.specs.Tests.{Tests, one_test, Pass, FailBy, Refuse}
+use Rattle.sl_returns.specs.inner.Joining.{OwnFault}
 
 -- where the first tests hold, the others decide
 pub passes : (ts us : Tests) → Pass ts → first_failing (ts ++ us) ≡ first_failing us
@@ -22,7 +23,7 @@ fails ts us k h = fails_first ts us k h.first
 pub nothing : Pass []
 nothing = record { none = refl }
 
--- tests behind tests that hold
+-- tests after tests that hold
 pub both : {ts us : Tests} → Pass ts → Pass us → Pass (ts ++ us)
 both {ts} {us} h more = record { none = passes ts us h ∙ more.none }
 
@@ -42,7 +43,7 @@ pub refusing : {X : Type 0} {ts : Tests} {k : RecordFault} (r : Result X RecordF
 refusing (Ok x) h f = absurd h
 refusing {X} {ts} (Err e) h f = subst (λ k. FailBy ts k) (sym h) f
 
--- where every test holds, the returns refuse a record only for want of memory
+-- where every test holds, the returns refuse a record only for lack of memory
 pub wanting : {ts : Tests} (r : Result (Unit {0}) RecordFault) → Pass ts → IfErr r (λ k. k ≡ of_record fault.NoMemory) → IfErr r (Refuse ts)
 wanting (Ok u) h e = tt
 wanting (Err k) h e = inr (h, e)
@@ -69,3 +70,18 @@ pub holds : (b : Bool) (k : RecordFault) → Pass (one_test b k) → b ≡ true
 unfolding one_test
 holds true k h = refl
 holds false k h = absurd (none-some k (sym h.none))
+
+-- where nothing was changed, nothing is, whatever the answer
+pub unchanged : {T Q : Type 0} (r : Result T RecordFault) → Q → OwnFault r Q
+unchanged (Ok u) q = tt
+unchanged (Err k) q = λ own. q
+
+-- out of memory is no fault of the record
+pub wants : {T : Type 0} (Q : Type 0) (r : Result T RecordFault) → IfErr r (λ k. k ≡ of_record fault.NoMemory) → OwnFault r Q
+wants Q (Ok u) h = tt
+wants Q (Err k) h = λ own. absurd (own (ap (λ (f : RecordFault). f.kind) h))
+
+-- the same, where a `?` hands that on
+pub hands_on : {T : Type 0} {k : RecordFault} (Q : Type 0) (r : Result T RecordFault) → IsErrAnd r (λ e. e ≡ k) → k ≡ of_record fault.NoMemory → OwnFault r Q
+hands_on Q (Ok u) h is = absurd h
+hands_on Q (Err e) h is = λ own. absurd (own (ap (λ (f : RecordFault). f.kind) (h ∙ is)))

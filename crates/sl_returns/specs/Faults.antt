@@ -20,7 +20,7 @@ fault_number TooMany = 10
 fault_number NoLand = 11
 fault_number NoMemory = 12
 
--- the row that a fault of a record tells: the record's, but for want of memory, which is of no record
+-- the row that a fault of a record tells: the record's, but for lack of memory, which is of no record
 abbrev pub row_told : ℕ → FaultKind → ℕ
 row_told row Header = row
 row_told row Fields = row
@@ -51,6 +51,6 @@ fault_at row f = record { row = row_told row f.kind; column = f.column; kind = f
 abbrev pub no_memory : ReturnsFault
 no_memory = record { row = 0; column = None; kind = NoMemory }
 
--- the row of the record behind so many others. A row has 32 bits: one that is past them is told as the greatest
+-- the row of the record after so many others. A row has 32 bits: one that is past them is told as the greatest
 abbrev pub row_behind : ℕ → ℕ
 row_behind records = min (records + 1) (2 ^ 32 - 1)

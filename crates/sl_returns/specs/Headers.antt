@@ -7,7 +7,7 @@ use Rattle.sl_returns.specs.declared.header.Version.TheVariants as version
 use Rattle.sl_returns.specs.Cells.{Record}
 use Rattle.sl_returns.specs.Schema.{column_names}
 
--- the header that begins with a word: the names of the columns behind it
+-- the header that begins with a word: the names of the columns after it
 abbrev pub header : List ℕ → Record
 header word = word ∷ drop 1 column_names
 

@@ -1,13 +1,16 @@
 -- What the definitions of returns imply. Each law is the contract of a function of `laws`.
-use Rattle.std.specs.Prelude.{◌≡◌, ℕ, List, Some, Ok, map, slice_get, sum_by}
+use Rattle.std.specs.Prelude.{[], ◌≡◌, ◌∷◌, ℕ, List, None, Some, Ok, map, option_map, slice_get, sum_by}
 use Rattle.sl_stages.specs.returns.Election.{Election}
 use Rattle.sl_stages.specs.returns.Facts.{valid_votes}
 use Rattle.sl_returns.specs.declared.cells.TheConstants.{MAX_DIGITS}
+use Rattle.sl_returns.specs.declared.header.Version.{Version}
 use Rattle.sl_returns.specs.declared.schema.TheConstants.{A}
 use Rattle.sl_returns.specs.declared.schema.Kind.TheVariants as kind
 use Rattle.sl_returns.specs.Cells.{Record, cell, number_of}
 use Rattle.sl_returns.specs.Records.{of_kind, of_party}
-use Rattle.sl_returns.specs.Returns.{behind_header, records_in, returns_of}
+use Rattle.sl_returns.specs.Further.{refused_of, taken_from}
+use Rattle.sl_returns.specs.Headers.{version_of}
+use Rattle.sl_returns.specs.Returns.{behind_header, records_in, refusal_of, returns_of}
 use Rattle.sl_returns.specs.Places.{located_in}
 
 abbrev pub Limits : Type 0
@@ -22,3 +25,11 @@ ValidVotesAreTold =
 -- the cells of a text hold what the `csv` crate reads, each in its record
 abbrev pub CellsHoldRecords : Type 0
 CellsHoldRecords = (text : List ℕ) → map (map (λ c. c.holds)) (located_in text) ≡ records_in text
+
+-- the first of all records that are refused is the one for which the returns are
+abbrev pub FirstIsTheFault : Type 0
+FirstIsTheFault = (rs : List Record) → refusal_of rs ≡ option_map (λ x. x.fault) (slice_get (refused_of rs) 0)
+
+-- the records that are taken, in a file of their own, are none of them refused
+abbrev pub OthersAreTaken : Type 0
+OthersAreTaken = (v : Version) (h : Record) (rest : List Record) → version_of h ≡ Some v → refusal_of (h ∷ taken_from v [] rest) ≡ None

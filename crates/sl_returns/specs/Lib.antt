@@ -5,6 +5,7 @@ pub mod Headers
 pub mod Tests
 pub mod Records
 pub mod Returns
+pub mod Further
 pub mod Places
 pub mod Laws
 pub mod inner

@@ -35,7 +35,7 @@ cells_after act.EndRecord cells c = cells ++ c ∷ []
 cells_after act.Skip cells c = cells
 cells_after act.Copy cells c = cells
 
--- where the cell under way begins after an action at an offset: behind it, where it ended a cell, or where the machine stands between records
+-- where the cell under way begins after an action at an offset: after it, where it ended a cell, or where the machine stands between records
 abbrev pub start_after : Action → State → ℕ → ℕ → ℕ
 start_after act.EndField s start at = at + 1
 start_after act.EndRecord s start at = at + 1

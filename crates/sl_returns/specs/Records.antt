@@ -1,4 +1,4 @@
--- What an election is, read off the records behind the header (docs/returns.md, section 4).
+-- What an election is, read off the records after the header (docs/returns.md, section 4).
 use Rattle.std.specs.Prelude.{ℕ, ◌-◌, Bool, List, ◌++◌, length, map, filter, find, replicate, Option, None, option_map, nat_eq, ◌&&◌, slice_get}
 use Rattle.std.specs.Str.{bytes_eq}
 use Rattle.sl_ratio.specs.declared.limits.TheConstants.{MAX_PARTIES}

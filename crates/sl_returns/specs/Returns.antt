@@ -11,20 +11,20 @@ use Rattle.sl_returns.specs.declared.refused.RefusedReturns.{RefusedReturns}
 use Rattle.sl_returns.specs.Faults.{fault_at, of_record, row_behind}
 use Rattle.sl_returns.specs.Cells.{Record}
 use Rattle.sl_returns.specs.Headers.{version_of}
-use Rattle.sl_terms.specs.Tests.{first_failing}
+use Rattle.sl_base_terms.specs.Tests.{first_failing}
 use Rattle.sl_returns.specs.Tests.{record_tests}
 use Rattle.sl_returns.specs.Records.{land_names, election_of_records}
 
--- what is wrong with a record behind the header and behind those records
+-- what is wrong with a record after the header and after those records
 abbrev pub fault_behind : Version → List Record → Record → Option ReturnsFault
 fault_behind v before r = option_map (fault_at (row_behind (length before + 1))) (first_failing (record_tests v (election_of_records before) r))
 
--- the fault of the first record that fails its tests, of records behind the header and behind those before them
+-- the fault of the first record that fails its tests, of records after the header and after those before them
 abbrev pub first_fault : Version → List Record → List Record → Option ReturnsFault
 first_fault v before [] = None
 first_fault v before (r ∷ rest) = option_or (fault_behind v before r) (first_fault v (before ++ r ∷ []) rest)
 
--- the fault of a first record that is the header of that version, and of those behind it
+-- the fault of a first record that is the header of that version, and of those after it
 abbrev pub refusal_under : Option Version → List Record → Option ReturnsFault
 refusal_under None rest = Some (fault_at (row_behind 0) (of_record fault.Header))
 refusal_under (Some v) rest = first_fault v [] rest
@@ -39,7 +39,7 @@ abbrev pub lack_of : List Record → Option ReturnsFault
 lack_of [] = Some (fault_at (row_behind 0) (of_record fault.Header))
 lack_of (r ∷ rest) = if nat_eq (length (land_names rest)) 0 then Some (fault_at (row_behind (length rest)) (of_record fault.NoLand)) else None
 
--- the records behind the header
+-- the records after the header
 abbrev pub behind_header : List Record → List Record
 behind_header [] = []
 behind_header (r ∷ rest) = rest

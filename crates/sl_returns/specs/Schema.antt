@@ -34,7 +34,7 @@ kind_named word = find (λ k. bytes_eq word (word_of k)) kinds
 
 -- ---- cells
 
--- what the cells of a record hold, behind the first
+-- what the cells of a record hold, after the first
 abbrev pub contents : Kind → List Content
 contents kind.House = content.Blank ∷ content.Blank ∷ content.Number quantity.House ∷ content.Blank ∷ content.Blank ∷ []
 contents kind.Land = content.NewName named.Land ∷ content.Blank ∷ content.Number quantity.Population ∷ content.Blank ∷ content.Blank ∷ []

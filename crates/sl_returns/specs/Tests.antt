@@ -1,4 +1,4 @@
--- The tests of a record behind the header, against the election that the records before it give, in their order
+-- The tests of a record after the header, against the election that the records before it give, in their order
 -- (docs/returns.md, section 5). A test of a cell has its column in its fault.
 use Rattle.std.specs.Prelude.{◌≡◌, ◌⊎◌, ◌+◌, ℕ, Bool, true, false, not, ◌&&◌, ◌||◌, List, [], ◌∷◌, ◌++◌, length, Option, Some, None, is_none, is_some, nat_eq, nat_le, nat_lt, codes, if◌then◌else◌}
 use Rattle.std.specs.List.{list_any}
@@ -7,7 +7,7 @@ use Rattle.sl_ratio.specs.Names.{is_name}
 use Rattle.sl_ratio.specs.declared.limits.TheConstants.{MAX_LANDS, MAX_PARTIES}
 use Rattle.sl_stages.specs.declared.limits.TheConstants.{MAX_WINS, MAX_LOTS}
 use Rattle.sl_stages.specs.declared.returns.Lot.{Lot}
-use Rattle.sl_terms.specs.Tests.{Test, first_failing}
+use Rattle.sl_base_terms.specs.Tests.{Test, first_failing}
 use Rattle.sl_stages.specs.returns.Election.{Election, lands_of, parties_of, wins_of, has_list}
 use Rattle.sl_returns.specs.declared.schema.TheConstants.{COLUMNS, KIND, LAND, PARTY, A, B, C}
 use Rattle.sl_returns.specs.declared.schema.Kind.{Kind}
@@ -101,7 +101,7 @@ abbrev pub tests_from : Election → Record → ℕ → List Content → Tests
 tests_from e r column [] = []
 tests_from e r column (holds ∷ rest) = content_tests e holds column (cell r column) ++ tests_from e r (column + 1) rest
 
--- those behind the first
+-- those after the first
 abbrev pub cell_tests : Election → Kind → Record → Tests
 cell_tests e k r = tests_from e r LAND (contents k)
 

@@ -1,17 +1,19 @@
 //! Returns, built record by record.
 
-ghost use Rattle.std.specs.Prelude.{◌≡◌, ◌++◌, ◌∷◌, [], List, None, Some, OnOk, IfOk, IfErr, IfSome, Ok, Err, length};
+ghost use Rattle.std.specs.Prelude.{◌≡◌, ◌++◌, ◌∷◌, [], List, None, Some, OnOk, IfOk, IfErr, IfSome, Ok, Err, is_some, length};
 ghost use Rattle.csv.specs.Records.{fields_of};
 ghost use Rattle.sl_returns.specs.Cells.{Record};
 ghost use Rattle.sl_returns.specs.inner.Indexed.{index_of};
-ghost use Rattle.sl_returns.specs.inner.Joining.{TakesRecord, RefusesRecord};
+ghost use Rattle.sl_returns.specs.inner.Joining.{OwnFault, TakesRecord, RefusesRecord};
 
 use crate::fault::{FaultKind, RecordFault, ReturnsFault};
 use crate::header::Version;
 use crate::index::Index;
 use crate::join::join;
 use crate::near::Near;
+use crate::refused::Before;
 use csv::ByteRecord;
+use sl_ratio::NoMemory;
 use sl_stages::Returns;
 use std::alloc::Global;
 use std::marker::Model;
@@ -46,6 +48,7 @@ impl Model for ReturnsBuilder {
 
 impl ReturnsBuilder {
     ghost use Rattle.sl_returns.specs.inner.Building.{Building, HasRowBehind, StandsFor, RefusesLast};
+    ghost use Rattle.sl_returns.specs.inner.Sifting.{HasSifted, Sifts};
     ghost use Rattle.sl_returns.specs.Returns.{returns_of};
 
     /// A builder that has taken no record. Takes no memory.
@@ -66,7 +69,7 @@ impl ReturnsBuilder {
     ///
     /// # Errors
     ///
-    /// The record is no header where it must be, or the first test that it fails; or want of memory. The builder has
+    /// The record is no header where it must be, or the first test that it fails; or out of memory. The builder has
     /// then failed: it answers the same from then on.
     pub fn feed(&mut self, fields: &ByteRecord) -> Result<(), ReturnsFault>
         ensures taken { (rs : List Record) → StandsFor self.old rs → OnOk result (StandsFor self.new (rs ++ fields_of fields.now ∷ [])) }
@@ -99,6 +102,51 @@ impl ReturnsBuilder {
                 Err(fault)
             }
         }
+    }
+
+    // Takes the next record, or leaves it out as if it were not there, and answers its fault. The builder goes on then.
+    //
+    // Out of memory, or the builder has failed.
+    pub(crate) fn offer(&mut self, fields: &ByteRecord) -> Result<Option<ReturnsFault>, NoMemory>
+        ensures { (rs : List Record) → HasSifted self.old rs → IfOk result (Sifts self.new rs (fields_of fields.now)) }
+    {
+        if self.fault.is_some() {
+            return Err(NoMemory);
+        }
+        let row = self.row.saturating_add(1);
+        match take(
+            &mut self.returns,
+            &mut self.index,
+            &mut self.near,
+            self.version,
+            fields,
+        ) {
+            Ok(version) => {
+                self.version = Some(version);
+                self.row = row;
+                Ok(None)
+            }
+            Err(why) if why.kind == FaultKind::NoMemory => {
+                self.fault = Some(ReturnsFault::at(row, why));
+                Err(NoMemory)
+            }
+            Err(why) => {
+                self.row = row;
+                Ok(Some(ReturnsFault::at(row, why)))
+            }
+        }
+    }
+
+    // Whether the first record was a header.
+    pub(crate) fn has_header(&self) -> bool
+        ensures { result ≡ is_some self.now.version }
+    {
+        self.version.is_some()
+    }
+
+    // What the records have that were taken.
+    pub(crate) fn before(&self) -> Before {
+        Before::of(&self.returns)
     }
 
     /// The returns that the records give.
@@ -152,6 +200,7 @@ fn take(
     ensures taken { IfOk result (λ v. TakesRecord version v returns.old returns.new (fields_of fields.now)) }
     ensures index { OnOk result (index.new ≡ index_of returns.new) }
     ensures refused { IfErr result (RefusesRecord version returns.old (fields_of fields.now)) }
+    ensures unchanged { OwnFault result ((returns.new ≡ returns.old) × (index.new ≡ index.old)) }
 {
     match version {
         None => Version::of(fields).ok_or(FaultKind::Header.of_record()),

@@ -7,7 +7,7 @@ ghost use Rattle.sl_stages.specs.returns.Election.{lands_of, parties_of, has_lis
 ghost use Rattle.sl_returns.specs.Faults.{of_record};
 ghost use Rattle.sl_returns.specs.Tests.{Pass, Refuse, fills_list, house_tests, land_tests, party_tests, list_tests, win_tests, lot_tests, record_tests};
 ghost use Rattle.sl_returns.specs.inner.Indexed.{index_of};
-ghost use Rattle.sl_returns.specs.inner.Joining.{with_house_of, with_land_of, with_party_of, with_list_of, with_win_of, with_lot_of, with_record};
+ghost use Rattle.sl_returns.specs.inner.Joining.{with_house_of, with_land_of, with_party_of, with_list_of, with_win_of, with_lot_of, with_record, OwnFault};
 
 use crate::cells::{
     blanks, cell, ensure, ensure_cell, known_name, known_or_none, new_name, number, number_or_none,
@@ -35,6 +35,7 @@ fn kept(answer: Result<(), NoMemory>) -> Result<(), RecordFault>
 fn join_house(returns: &mut Returns, fields: &ByteRecord) -> Result<(), RecordFault>
     ensures joined { OnOk result (Pass (house_tests returns.old (fields_of fields.now)) × (returns.new ≡ with_house_of returns.old (fields_of fields.now))) }
     ensures refused { IfErr result (Refuse (house_tests returns.old (fields_of fields.now))) }
+    ensures unchanged { OwnFault result (returns.new ≡ returns.old) }
 {
     blanks(Kind::House, fields)?;
     let seats = number(A, cell(fields, A), Quantity::House)?;
@@ -54,6 +55,7 @@ fn join_land(
     ensures joined { OnOk result (Pass (land_tests returns.old (fields_of fields.now)) × (returns.new ≡ with_land_of returns.old (fields_of fields.now))) }
     ensures index { OnOk result (index.new ≡ index_of returns.new) }
     ensures refused { IfErr result (Refuse (land_tests returns.old (fields_of fields.now))) }
+    ensures unchanged { OwnFault result ((returns.new ≡ returns.old) × (index.new ≡ index.old)) }
 {
     blanks(Kind::Land, fields)?;
     let name = cell(fields, LAND);
@@ -75,6 +77,7 @@ fn join_party(
     ensures joined { OnOk result (Pass (party_tests returns.old (fields_of fields.now)) × (returns.new ≡ with_party_of returns.old (fields_of fields.now))) }
     ensures index { OnOk result (index.new ≡ index_of returns.new) }
     ensures refused { IfErr result (Refuse (party_tests returns.old (fields_of fields.now))) }
+    ensures unchanged { OwnFault result ((returns.new ≡ returns.old) × (index.new ≡ index.old)) }
 {
     blanks(Kind::Party, fields)?;
     let name = cell(fields, PARTY);
@@ -125,6 +128,7 @@ fn join_list(
     requires index { index.now ≡ index_of returns.old }
     ensures joined { OnOk result (Pass (list_tests version returns.old (fields_of fields.now)) × (returns.new ≡ with_list_of returns.old (fields_of fields.now))) }
     ensures refused { IfErr result (Refuse (list_tests version returns.old (fields_of fields.now))) }
+    ensures unchanged { OwnFault result (returns.new ≡ returns.old) }
 {
     ensure_cell(fills_list(version, fields), FaultKind::Fields, C)?;
     let land_name = cell(fields, LAND);
@@ -156,6 +160,7 @@ fn join_win(
     ensures joined { OnOk result (Pass (win_tests returns.old (fields_of fields.now)) × (returns.new ≡ with_win_of returns.old (fields_of fields.now))) }
     ensures index { OnOk result (index.new ≡ index_of returns.new) }
     ensures refused { IfErr result (Refuse (win_tests returns.old (fields_of fields.now))) }
+    ensures unchanged { OwnFault result ((returns.new ≡ returns.old) × (index.new ≡ index.old)) }
 {
     let land_name = cell(fields, LAND);
     let land = known_name(LAND, land_name, index.lands.find(land_name))?;
@@ -182,6 +187,7 @@ fn join_lot(
     ensures joined { OnOk result (Pass (lot_tests returns.old (fields_of fields.now)) × (returns.new ≡ with_lot_of returns.old (fields_of fields.now))) }
     ensures index { OnOk result (index.new ≡ index_of returns.new) }
     ensures refused { IfErr result (Refuse (lot_tests returns.old (fields_of fields.now))) }
+    ensures unchanged { OwnFault result ((returns.new ≡ returns.old) × (index.new ≡ index.old)) }
 {
     let lot = ToldLot::read(index, fields)?;
     ensure(!index.lots.contains(&lot), FaultKind::Twice)?;
@@ -190,12 +196,12 @@ fn join_lot(
     kept(index.lots.add(&lot))
 }
 
-/// Joins a record behind a header of that version to the returns, and its name or its lot to their index. `near` is
+/// Joins a record after a header of that version to the returns, and its name or its lot to their index. `near` is
 /// where a list mostly stands.
 ///
 /// # Errors
 ///
-/// The fault of the first test that the record fails; or, where it passes, want of memory.
+/// The fault of the first test that the record fails; or, where it passes, out of memory.
 pub(crate) fn join(
     returns: &mut Returns,
     index: &mut Index,
@@ -207,6 +213,7 @@ pub(crate) fn join(
     ensures joined { OnOk result (Pass (record_tests version returns.old (fields_of fields.now)) × (returns.new ≡ with_record returns.old (fields_of fields.now))) }
     ensures index { OnOk result (index.new ≡ index_of returns.new) }
     ensures refused { IfErr result (Refuse (record_tests version returns.old (fields_of fields.now))) }
+    ensures unchanged { OwnFault result ((returns.new ≡ returns.old) × (index.new ≡ index.old)) }
 {
     ensure(fields.len() == COLUMNS, FaultKind::Fields)?;
     match Kind::named(cell(fields, KIND)) {

@@ -1,6 +1,6 @@
 //! Laws of returns, over their definitions alone. Each function does nothing: its contract is the law.
 
-ghost use Rattle.sl_returns.specs.Laws.{CellsHoldRecords, Limits, ValidVotesAreTold};
+ghost use Rattle.sl_returns.specs.Laws.{CellsHoldRecords, FirstIsTheFault, Limits, OthersAreTaken, ValidVotesAreTold};
 
 /// The greatest number of digits in a number.
 pub fn limits()
@@ -15,4 +15,14 @@ pub fn valid_votes_are_told()
 /// The cells of a text, whose places `cell_place` answers, hold what the `csv` crate reads: record by record, and cell by cell.
 pub fn cells_hold_records()
     ensures { CellsHoldRecords }
+{}
+
+/// Of all records that are refused, each left out for those after it, the first is the one for which the returns are.
+pub fn first_is_the_fault()
+    ensures { FirstIsTheFault }
+{}
+
+/// The records of returns that are taken, in a file of their own, are none of them refused.
+pub fn others_are_taken()
+    ensures { OthersAreTaken }
 {}

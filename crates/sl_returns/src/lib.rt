@@ -1,4 +1,8 @@
 //! The returns of an election, read from records of comma-separated cells.
+//!
+//! Stands on `sl_stages`; used by the rooms count and explain. Proved: the election that the records tell, or the first fault.
+//!
+//! Where an error is `NoMemory` alone, memory ran out, and nothing else is wrong.
 #![tactic(auto)]
 
 mod builder;
@@ -14,6 +18,7 @@ mod places;
 mod read;
 mod refused;
 mod schema;
+mod sieve;
 mod told;
 
 pub use builder::ReturnsBuilder;
@@ -21,7 +26,7 @@ pub use cells::MAX_DIGITS;
 pub use fault::{FaultKind, RecordFault, ReturnsFault};
 pub use places::{Place, cell_place};
 pub use read::{read_or_refuse, read_returns};
-pub use refused::{RefusedReturns, find_record};
+pub use refused::{Before, MAX_FURTHER, RecordAtFault, RefusedRecord, RefusedReturns, find_record};
 pub use schema::{
     A, B, C, COLUMNS, Content, KIND, Kind, LAND, Named, PARTY, Quantity, column_name,
 };

@@ -9,7 +9,7 @@ use crate::fault::RecordFault;
 use crate::schema::{LAND, PARTY};
 use sl_ratio::Names;
 
-// Where the next list mostly stands: in the Land of the last one, at the party behind it.
+// Where the next list mostly stands: in the Land of the last one, at the party after it.
 #[derive(Clone, Copy)]
 pub(crate) struct Near {
     land: usize,
@@ -22,7 +22,7 @@ impl Near {
         Near { land: 0, party: 0 }
     }
 
-    // Where the list behind this one mostly stands.
+    // Where the list after this one mostly stands.
     pub(crate) fn behind(land: usize, party: usize) -> Near {
         Near {
             land,

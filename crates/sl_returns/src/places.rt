@@ -6,7 +6,7 @@ ghost use Rattle.csv.specs.Reading.{default_config, strip_bom};
 ghost use Rattle.sl_returns.specs.Places.{is_quoted, mark_length, place_in};
 ghost use Rattle.sl_returns.specs.inner.Scanning.{machine_state, machine_action};
 
-/// Where a cell stands in a text: the offset of its first byte, that behind its last, and whether a quote in it is open at the end of the text.
+/// Where a cell stands in a text: the offset of its first byte, that after its last, and whether a quote in it is open at the end of the text.
 #[derive(Clone, Copy, Debug, PartialEq, Eq)]
 pub struct Place {
     pub start: usize,
@@ -60,7 +60,7 @@ fn start_field(byte: u8) -> (State, Action)
 }
 
 impl State {
-    // The state behind a byte, and what the byte does.
+    // The state after a byte, and what the byte does.
     fn step(self, byte: u8) -> (State, Action)
         ensures state { machine_state result.0 ≡ (step default_config (machine_state self) byte).0 }
         ensures action { machine_action result.1 ≡ (step default_config (machine_state self) byte).1 }

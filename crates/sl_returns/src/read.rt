@@ -1,24 +1,28 @@
 //! Returns from bytes.
 
-ghost use Rattle.std.specs.Prelude.{[], ◌≡◌, ◌⊎◌, IfOk, IfErr, List, Ok, OnOk, Err, Some, true};
-ghost use Rattle.csv.specs.Reading.{default_config, error_kind, is_flexible, Ready, reader_config, reader_state, reader_trim, source_of, stops_reader, strip_bom};
+ghost use Rattle.std.specs.Prelude.{[], ◌≡◌, ◌⊎◌, IfOk, IfErr, List, Ok, Err, Some, true};
+ghost use Rattle.csv.specs.Reading.{default_config, is_flexible, Ready, reader_config, reader_state, reader_trim, source_of, strip_bom};
 ghost use Rattle.csv.specs.declared.parser.State.TheVariants as st;
 ghost use Rattle.csv.specs.declared.reader.Trim.TheVariants as trim;
 ghost use Rattle.csv.specs.Records.{fields_of};
 ghost use Rattle.sl_returns.specs.inner.Building.{StandsFor};
+ghost use Rattle.sl_returns.specs.inner.Sifting.{IsSifted};
 ghost use Rattle.sl_returns.specs.inner.Texts.{left_of};
 ghost use Rattle.sl_returns.specs.Cells.{Record};
 ghost use Rattle.sl_returns.specs.Faults.{no_memory};
-ghost use Rattle.sl_returns.specs.Returns.{AreRefused, IsRefusedRecord, records_in, returns_of};
+ghost use Rattle.sl_returns.specs.Further.{HasFurther};
+ghost use Rattle.sl_returns.specs.Returns.{AreRefused, records_in, returns_of};
 
 use crate::builder::ReturnsBuilder;
 use crate::fault::{FaultKind, ReturnsFault};
-use crate::refused::RefusedReturns;
-use csv::{ByteRecord, ErrorKind, Reader, ReaderBuilder};
+use crate::refused::{RefusedRecord, RefusedReturns};
+use crate::sieve::{Refusals, sift_all};
+use csv::{ByteRecord, Reader, ReaderBuilder};
 use sl_stages::Returns;
 use std::alloc::Global;
 
-/// The returns that the records of a text give, or what an explanation needs of the record for which they are refused.
+/// The returns that the records of a text give, or what an explanation needs of the records for which they are refused: of the first, and of the
+/// further ones, where each that is refused is left out for those after it.
 ///
 /// # Errors
 ///
@@ -26,17 +30,16 @@ use std::alloc::Global;
 pub fn read_or_refuse(alloc: Global, bytes: &[u8]) -> Result<Returns, RefusedReturns>
     ensures ok { IfOk result (λ r. returns_of (records_in bytes.now) ≡ Ok r) }
     ensures err { IfErr result (λ r. (r.fault ≡ no_memory) ⊎ AreRefused (records_in bytes.now) r) }
+    ensures further { IfErr result (λ r. (r.fault ≡ no_memory) ⊎ HasFurther (records_in bytes.now) r) }
 {
     let mut builder = ReturnsBuilder::new(alloc);
-    let mut record = ByteRecord::new(alloc);
-    let fed = feed_all(alloc, bytes, &mut builder, &mut record);
-    match fed {
-        Ok(()) => finish(alloc, builder),
-        Err(fault) => Err(RefusedReturns {
-            fault,
-            record,
-            before: builder.into_returns(),
-        }),
+    let mut refusals = Refusals::new(alloc);
+    match sift_all(alloc, bytes, &mut builder, &mut refusals) {
+        Ok(()) => finish(alloc, builder, refusals),
+        Err(_) => {
+            let fault = ReturnsFault::at(0, FaultKind::NoMemory.of_record());
+            Err(refused_whole(alloc, builder, fault))
+        }
     }
 }
 
@@ -55,20 +58,82 @@ pub fn read_returns(alloc: Global, bytes: &[u8]) -> Result<Returns, ReturnsFault
     }
 }
 
+// Returns that are refused for no record of theirs.
+fn refused_whole(alloc: Global, builder: ReturnsBuilder, fault: ReturnsFault) -> RefusedReturns
+    ensures fault { result.fault ≡ fault }
+    ensures fields { fields_of result.record ≡ [] }
+    ensures further { result.further.items ≡ [] }
+    ensures more { result.more ≡ 0 }
+{
+    let before = builder.before();
+    RefusedReturns {
+        fault,
+        record: ByteRecord::new(alloc),
+        before,
+        further: Vec::new(alloc),
+        more: 0,
+        taken: builder.into_returns(),
+    }
+}
+
 // The returns of a builder that has taken the last record, or what they lack.
-fn finish(alloc: Global, builder: ReturnsBuilder) -> Result<Returns, RefusedReturns>
+fn finish_taken(alloc: Global, builder: ReturnsBuilder) -> Result<Returns, RefusedReturns>
     ensures ok { (rs : List Record) → StandsFor builder rs → IfOk result (λ r. returns_of rs ≡ Ok r) }
     ensures err { (rs : List Record) → StandsFor builder rs → IfErr result (AreRefused rs) }
+    ensures further { IfErr result (λ r. r.further.items ≡ []) }
+    ensures more { IfErr result (λ r. r.more ≡ 0) }
 {
-    let checked = builder.check();
-    let returns = builder.into_returns();
-    match checked {
-        Ok(()) => Ok(returns),
-        Err(fault) => Err(RefusedReturns {
-            fault,
-            record: ByteRecord::new(alloc),
-            before: returns,
-        }),
+    match builder.check() {
+        Ok(()) => Ok(builder.into_returns()),
+        Err(fault) => Err(refused_whole(alloc, builder, fault)),
+    }
+}
+
+// Returns of which a record is refused.
+fn refused_for(
+    builder: ReturnsBuilder,
+    first: RefusedRecord,
+    further: Vec<RefusedRecord>,
+    more: u64,
+) -> RefusedReturns
+    ensures fault { result.fault ≡ first.fault }
+    ensures fields { result.record ≡ first.record }
+    ensures further { result.further ≡ further }
+    ensures more { result.more ≡ more }
+{
+    let RefusedRecord {
+        fault,
+        record: fields,
+        before,
+    } = first;
+    RefusedReturns {
+        fault,
+        record: fields,
+        before,
+        further,
+        more,
+        taken: builder.into_returns(),
+    }
+}
+
+// The returns of a builder, unless a record is refused; or what they lack.
+fn finish(
+    alloc: Global,
+    builder: ReturnsBuilder,
+    refusals: Refusals,
+) -> Result<Returns, RefusedReturns>
+    ensures ok { (rs : List Record) → IsSifted builder refusals rs → IfOk result (λ r. returns_of rs ≡ Ok r) }
+    ensures err { (rs : List Record) → IsSifted builder refusals rs → IfErr result (AreRefused rs) }
+    ensures further { (rs : List Record) → IsSifted builder refusals rs → IfErr result (HasFurther rs) }
+{
+    let Refusals {
+        first,
+        further,
+        more,
+    } = refusals;
+    match first {
+        None => finish_taken(alloc, builder),
+        Some(first) => Err(refused_for(builder, first, further, more)),
     }
 }
 
@@ -85,40 +150,4 @@ pub(crate) fn reader_of(alloc: Global, bytes: &[u8]) -> Reader<&[u8]>
         .has_headers(false)
         .flexible(true)
         .from_reader(alloc, bytes)
-}
-
-// Feeds a builder that has taken no record those of a text, up to one that it refuses. Each is read into `fields` in its turn.
-fn feed_all(
-    alloc: Global,
-    bytes: &[u8],
-    builder: &mut ReturnsBuilder,
-    fields: &mut ByteRecord,
-) -> Result<(), ReturnsFault>
-    requires { StandsFor builder.old [] }
-    ensures taken { OnOk result (StandsFor builder.new (records_in bytes.now)) }
-    ensures refused { IfErr result (λ f. (f ≡ no_memory) ⊎ ((returns_of (records_in bytes.now) ≡ Err f) × IsRefusedRecord (records_in bytes.now) f (fields_of fields.new))) }
-{
-    let mut reader = reader_of(alloc, bytes);
-    // no text in memory has so many records
-    for _ in 0..u64::MAX {
-        match reader.read_byte_record(fields) {
-            Ok(true) => builder.feed(fields)?,
-            Ok(false) => return Ok(()),
-            Err(error) => return Err(stopped(error)),
-        }
-    }
-    Err(ReturnsFault::at(0, FaultKind::NoMemory.of_record()))
-}
-
-// What it means that the reader of a text in memory stopped: it wanted memory, since such a text is always read.
-fn stopped(error: csv::Error) -> ReturnsFault
-    requires { stops_reader (error_kind error) ≡ true }
-    ensures { result ≡ no_memory }
-{
-    match error.into_kind() {
-        ErrorKind::OutOfMemory | ErrorKind::Io(_) => {
-            ReturnsFault::at(0, FaultKind::NoMemory.of_record())
-        }
-        _ => unreachable!(),
-    }
 }

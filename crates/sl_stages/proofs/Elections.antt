@@ -14,7 +14,7 @@ use Rattle.sl_stages.specs.declared.returns.Win.{Win}
 use Rattle.sl_stages.specs.declared.returns.Lot.{Lot}
 use Rattle.sl_stages.specs.returns.Votes.{IsListVotes, valid_in, counted_in}
 use Rattle.sl_stages.specs.returns.Election.{Election, IsElection, IsWin, IsLot, IsCell, EndsBefore, with_house, with_land, with_party, with_list, with_win, with_slate, with_lot, list_at}
-use Rattle.sl_terms.proofs.Tests.{neither}
+use Rattle.sl_base_terms.proofs.Tests.{neither}
 
 -- a name that may join a list is well spelled
 pub is_spelled : (list : NameList) (name : List ℕ) → name_fault list name ≡ None → spelling_fault name ≡ None

@@ -10,3 +10,4 @@ pub mod Expressions
 pub mod Seating
 pub mod PlainBooks
 pub mod Means
+pub mod Counts

@@ -7,8 +7,8 @@ ghost use Rattle.sl_stages.specs.book.Typing.{column, shape_over};
 ghost use Rattle.sl_stages.specs.book.Limits.{is_within_limits, book_numbers, are_small};
 
 use crate::fact::Fact;
+use sl_base_terms::{Shape, Word};
 use sl_ratio::Method;
-use sl_terms::{Shape, Word};
 
 /// What the numbers of a column count.
 #[derive(Clone, Copy, PartialEq, Eq)]
@@ -119,7 +119,7 @@ pub enum Expr {
         left: Box<Expr>,
         right: Box<Expr>,
     },
-    /// Seats given out by votes; with minima, every entry has at least its own.
+    /// Seats distributed by votes; with minima, every entry has at least its own.
     Split {
         at: usize,
         seats: Box<Expr>,
@@ -128,7 +128,7 @@ pub enum Expr {
         minima: Option<Box<Expr>>,
         majority: Majority,
     },
-    /// Seats given out by votes, more of them until every entry has its minimum.
+    /// Seats distributed by votes, more of them until every entry has its minimum.
     Grow {
         at: usize,
         seats: Box<Expr>,

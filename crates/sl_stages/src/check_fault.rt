@@ -31,7 +31,7 @@ pub enum CheckFault {
 }
 
 impl CheckFault {
-    // The text before the number, the number, and the text behind it.
+    // The text before the number, the number, and the text after it.
     fn words(self) -> (&'static str, usize, &'static str) {
         match self {
             CheckFault::Version(at) => ("no such version of the language at ", at, ""),

@@ -4,7 +4,7 @@ ghost use Rattle.std.specs.Prelude.{◌≡◌};
 ghost use Rattle.sl_stages.specs.book.Typing.{fact_number, fact_type};
 
 use crate::book::ColumnType;
-use sl_terms::Shape;
+use sl_base_terms::Shape;
 
 /// A column that no stage computes.
 #[derive(Clone, Copy, Debug)]

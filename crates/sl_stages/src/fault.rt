@@ -4,7 +4,7 @@ ghost use Rattle.std.specs.Prelude.{◌≡◌};
 
 use std::marker::Model;
 
-/// One of the parts in which a stage gives out seats: a single one, or one for each Land, party or list. Pairs have the Land first.
+/// One of the parts in which a stage distributes seats: a single one, or one for each Land, party or list. Pairs have the Land first.
 #[derive(Clone, Copy, PartialEq, Eq)]
 pub enum Scope {
     All,
@@ -56,7 +56,7 @@ impl Items {
 /// Why a scope of a stage has no seats.
 #[derive(Drop)]
 pub enum FaultKind {
-    /// More than `MAX_SEATS` seats are to be given out.
+    /// More than `MAX_SEATS` seats are to be distributed.
     Limit,
     /// The minima sum to more than the seats.
     Short,

@@ -12,7 +12,7 @@ use std::marker::Model;
 /// Land, party, winner and lot, so it takes no memory of its own.
 #[derive(Drop)]
 pub struct Label {
-    // the name, and zeros behind it
+    // the name, and zeros after it
     bytes: [u8; MAX_NAME_BYTES],
     length: u8,
 }

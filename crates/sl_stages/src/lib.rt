@@ -1,10 +1,13 @@
 //! What a rulebook, returns and an outcome are, and what a rulebook means.
+//!
+//! Stands on `sl_base_terms`; used by the rooms law, book, returns and code. Proved: a rulebook means exactly one outcome on returns.
 #![tactic(auto)]
 
 mod book;
 mod cell;
 mod check_fault;
 mod checked;
+mod count;
 mod fact;
 mod fault;
 mod label;
@@ -19,6 +22,7 @@ pub use book::{
 };
 pub use check_fault::CheckFault;
 pub use checked::CheckedBook;
+pub use count::{Column, Counted, End, Records};
 pub use fact::{FACTS, Fact};
 pub use fault::{FaultKind, Item, Items, LegalFault, Scope};
 pub use label::Label;
@@ -27,5 +31,5 @@ pub use limits::{
     MAX_SLATE, MAX_STAGES, MAX_VOTES, MAX_WINS,
 };
 pub use returns::{ListVotes, Lot, Returns, Win};
-pub use sl_terms::{SHAPES, Shape, Word};
+pub use sl_base_terms::{SHAPES, Shape, Word};
 pub use table::{ListSeats, Mark, Outcome, Placed, SeatStep, Table, Weight};

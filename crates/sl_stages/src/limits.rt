@@ -1,7 +1,7 @@
 //! The limits of rulebooks and returns. Each stands once, for code and definitions alike (docs/limits.md).
 
+pub use sl_base_terms::MAX_STAGES;
 pub use sl_ratio::{MAX_LANDS, MAX_NUMBER, MAX_PARTIES, MAX_SEATS, MAX_VOTES};
-pub use sl_terms::MAX_STAGES;
 
 /// Levels of a stage's expression, the whole being the first.
 pub const MAX_DEPTH: u32 = 16;

@@ -3,8 +3,8 @@ use Rattle.std.proofs.Common.{◌≡◌, ℕ, ◌+◌, ◌<◌, ◌≤◌, Bool,
 use Rattle.std.specs.List.{flat_map, filter, range_with_len}
 use Rattle.std.proofs.lemmas.List.{map-id, flat_map_more}
 use Rattle.std.proofs.lemmas.List.FromFn.{length-range_with_len, get_or-range_with_len}
-use Rattle.sl_texts.specs.Lines.{Draft, with_lines}
-use Rattle.sl_texts.proofs.LineLoops.{lines_more, lines_all}
+use Rattle.sl_count_texts.specs.Lines.{Draft, with_lines}
+use Rattle.sl_count_texts.proofs.LineLoops.{lines_more, lines_all}
 use Rattle.sl_table.proofs.Pieces.{kept_more, kept_same}
 
 module _ (f : ℕ → List ℕ) (d : Draft) where

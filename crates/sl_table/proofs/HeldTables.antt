@@ -5,9 +5,9 @@ use Rattle.std.proofs.lemmas.List.Elements.{All-nil, All-head, All-tail, All-app
 use Rattle.std.proofs.lemmas.List.FromFn.{length-range_with_len, get_or-range_with_len}
 use Rattle.sl_stages.specs.returns.Election.{Election, lands_of, parties_of, has_list}
 use Rattle.sl_stages.specs.returns.Facts.{lands, parties, each_list}
-use Rattle.sl_semantics.specs.Memories.{Held}
-use Rattle.sl_semantics.specs.Tables.{held_line}
-use Rattle.sl_texts.specs.inner.Fits.{IsOf}
+use Rattle.sl_code_semantics.specs.Memories.{Held}
+use Rattle.sl_code_semantics.specs.Tables.{held_line}
+use Rattle.sl_count_texts.specs.inner.Fits.{IsOf}
 
 -- what holds of each element of each piece
 All-flat_map : {X Y : Type 0} (P : Y → Type 0) (f : X → List Y) (xs : List X) → All (λ x. All P (f x)) xs → All P (flat_map f xs)

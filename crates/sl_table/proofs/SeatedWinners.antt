@@ -12,7 +12,7 @@ use Rattle.sl_stages.specs.returns.Election.{Election, IsElection, IsWin, lands_
 use Rattle.sl_stages.specs.returns.Facts.{is_in, is_of, by_list}
 use Rattle.sl_stages.specs.meaning.Seating.{is_on, placed_on}
 use Rattle.sl_stages.proofs.meaning.PlacedWinners.{count_each}
-use Rattle.sl_texts.proofs.PartyWinners.{is_at, always, never}
+use Rattle.sl_count_texts.proofs.PartyWinners.{is_at, always, never}
 use Rattle.sl_table.specs.inner.Places.{list_place}
 use Rattle.sl_table.proofs.Cells.{by_list_as}
 

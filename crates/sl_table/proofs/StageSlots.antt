@@ -2,10 +2,10 @@
 use Rattle.std.proofs.Common.{◌≡◌, ℕ, ◌<◌, List, Some, length, map, get_or, slice_get, sym, ap, ◌∙◌, arith}
 use Rattle.std.proofs.lemmas.List.{get_or-map, length-map}
 use Rattle.std.proofs.lemmas.Option.{get_or_from_slice_get, slice_get_within}
-use Rattle.sl_terms.specs.declared.shape.Shape.{Shape}
-use Rattle.sl_terms.specs.declared.shape.Shape.TheVariants as shape
+use Rattle.sl_base_terms.specs.declared.shape.Shape.{Shape}
+use Rattle.sl_base_terms.specs.declared.shape.Shape.TheVariants as shape
 use Rattle.sl_stages.specs.returns.Election.{Election}
-use Rattle.sl_semantics.specs.Places.{cells_of}
+use Rattle.sl_code_semantics.specs.Places.{cells_of}
 
 pub column_length : (e : Election) (columns : List (List ℕ)) (slots : List Shape) → map length columns ≡ map (cells_of e) slots
     → (slot : ℕ) (column : List ℕ) → slice_get columns slot ≡ Some column → length column ≡ cells_of e (get_or slots slot shape.One)

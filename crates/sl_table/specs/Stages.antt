@@ -1,15 +1,15 @@
 -- The text of a stage's column (docs/output.md, section 1).
 use Rattle.std.specs.Prelude.{ℕ, List, [], ◌∷◌, map, flat_map, filter, codes, slice_index, slice_index_or}
 use Rattle.std.specs.Fmt.{decimal}
-use Rattle.sl_terms.specs.declared.shape.Shape.{Shape}
-use Rattle.sl_terms.specs.declared.shape.Shape.TheVariants as shape
+use Rattle.sl_base_terms.specs.declared.shape.Shape.{Shape}
+use Rattle.sl_base_terms.specs.declared.shape.Shape.TheVariants as shape
 use Rattle.sl_stages.specs.returns.Election.{Election, has_list}
 use Rattle.sl_stages.specs.returns.Facts.{lands, parties, list_cell}
-use Rattle.sl_instructions.specs.Codes.{CountingCode}
-use Rattle.sl_semantics.specs.Memories.{Held}
-use Rattle.sl_texts.specs.Faults.{list_word}
-use Rattle.sl_texts.specs.Lines.{line}
-use Rattle.sl_texts.specs.Short.{land_word, party_word}
+use Rattle.sl_code_instructions.specs.Codes.{CountingCode}
+use Rattle.sl_code_semantics.specs.Memories.{Held}
+use Rattle.sl_count_texts.specs.Faults.{list_word}
+use Rattle.sl_count_texts.specs.Lines.{line}
+use Rattle.sl_count_texts.specs.Short.{land_word, party_word}
 
 -- the line of an entry: its word and its value
 abbrev pub entry_line : List ℕ → ℕ → List ℕ

@@ -3,24 +3,20 @@
 ghost use Rattle.std.specs.Prelude.{◌≡◌, ◌<◌, ◌*◌, false, IfOk, OnOk, length, flat_map};
 ghost use Rattle.sl_stages.specs.returns.Election.{lands_of, parties_of};
 ghost use Rattle.sl_stages.specs.returns.Facts.{lands, parties};
-ghost use Rattle.sl_semantics.specs.Fits.{FitsMemory};
-ghost use Rattle.sl_semantics.specs.Places.{cells_of};
-ghost use Rattle.sl_texts.specs.Faults.{list_word};
-ghost use Rattle.sl_texts.specs.Lines.{with_lines};
+ghost use Rattle.sl_code_semantics.specs.Fits.{FitsMemory};
+ghost use Rattle.sl_code_semantics.specs.Places.{cells_of};
+ghost use Rattle.sl_count_texts.specs.Faults.{list_word};
+ghost use Rattle.sl_count_texts.specs.Lines.{with_lines};
 ghost use Rattle.sl_table.specs.Stages.{entry_line, party_entry, land_entry, land_lists, stage_text, stage_slot, held_stage_text};
 
-use sl_instructions::Code;
+use sl_code_instructions::Code;
+use sl_count_texts::Text;
 use sl_machine::Memory;
 use sl_ratio::NoMemory;
 use sl_stages::{Returns, Shape};
-use sl_texts::Text;
 use std::alloc::Global;
 
 /// The text of a stage's column, in what a run holds that fits the code and the returns (docs/output.md, section 1).
-///
-/// # Errors
-///
-/// Want of memory.
 pub fn stage_text(
     alloc: Global,
     memory: &Memory,
@@ -38,10 +34,6 @@ pub fn stage_text(
 }
 
 /// The text of a column of that shape (docs/output.md, section 1).
-///
-/// # Errors
-///
-/// Want of memory.
 pub fn column_text(
     alloc: Global,
     shape: Shape,

@@ -5,9 +5,9 @@ ghost use Rattle.std.specs.Option.{ForSome};
 ghost use Rattle.sl_stages.specs.returns.Election.{lands_of, parties_of, has_list};
 ghost use Rattle.sl_stages.specs.returns.Facts.{parties, each_list, by_list};
 ghost use Rattle.sl_stages.specs.meaning.Seating.{placed_on};
-ghost use Rattle.sl_semantics.specs.Tables.{held_line, held_table};
+ghost use Rattle.sl_code_semantics.specs.Tables.{held_line, held_table};
 ghost use Rattle.sl_table.specs.inner.Held.{FitsHeld};
-ghost use Rattle.sl_texts.specs.inner.Fits.{Fits};
+ghost use Rattle.sl_count_texts.specs.inner.Fits.{Fits};
 ghost use Rattle.sl_table.specs.inner.Places.{list_place};
 
 use sl_machine::Memory;
@@ -16,10 +16,6 @@ use sl_stages::{ListSeats, Placed, Returns, Table, Win};
 use std::alloc::Global;
 
 /// The seat table of what a run holds that fits the returns (docs/machine.md, section 1).
-///
-/// # Errors
-///
-/// Want of memory.
 pub fn table_of(alloc: Global, memory: &Memory, returns: &Returns) -> Result<Table, NoMemory>
     requires { FitsHeld memory.now returns.now }
     ensures table { IfOk result (λ table. table ≡ held_table returns.now memory.now) }
@@ -33,10 +29,6 @@ pub fn table_of(alloc: Global, memory: &Memory, returns: &Returns) -> Result<Tab
 }
 
 /// The same table, which takes over the records of what the run holds. They are many, and so not copied; what else is held is let go.
-///
-/// # Errors
-///
-/// Want of memory.
 pub fn into_table(alloc: Global, memory: Memory, returns: &Returns) -> Result<Table, NoMemory>
     requires { FitsHeld memory returns.now }
     ensures table { IfOk result (λ table. table ≡ held_table returns.now memory) }

@@ -36,10 +36,6 @@ pub fn compiled(alloc: Global, text: &[u8]) -> Result<Verified, &'static str> {
 }
 
 /// How a run ends that has as many steps as its budget.
-///
-/// # Errors
-///
-/// Want of memory.
 pub fn ending(alloc: Global, code: &Verified, returns: &Returns) -> Result<Ending, NoMemory>
     ensures { IfOk result (Fits code.now returns.now) }
 {

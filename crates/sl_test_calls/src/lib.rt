@@ -1,5 +1,9 @@
 //! Calls that no row can make, as tests: calls that are refused memory; readers and writers that fail; inputs that are cut at every byte or have a
 //! byte changed; the adapters of std's readers and writers; and codes whose records no command shows.
+//!
+//! Stands on `sl_test_support` and `sl_desk`; nothing stands on it. Nothing is proved but safety.
+//!
+//! Where an error is `NoMemory` alone, memory ran out, and nothing else is wrong.
 #![tactic(auto)]
 
 #[cfg(test)]

@@ -1,4 +1,4 @@
-//! Marks between which a test may be refused memory: bench/refused.py knows them by the size of the room that they ask for.
+//! Marks between which a test may be refused memory: check/refused.py knows them by the size of the room that they ask for.
 
 use std::alloc::{AllocError, Global};
 

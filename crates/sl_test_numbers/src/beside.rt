@@ -89,10 +89,6 @@ impl Both {
 }
 
 /// Whether a table answers as a list does, in so many calls in no order.
-///
-/// # Errors
-///
-/// Want of memory.
 pub fn are_drawn_alike(
     alloc: Global,
     calls: u32,
@@ -148,10 +144,6 @@ impl Beside {
 }
 
 /// Whether the two are alike in so many calls in no order, with entries of one quotient or of many.
-///
-/// # Errors
-///
-/// Want of memory.
 pub fn are_awarded_alike(
     alloc: Global,
     calls: u32,

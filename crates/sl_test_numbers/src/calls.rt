@@ -174,7 +174,7 @@ impl Kept {
     ///
     /// # Errors
     ///
-    /// A line that is no call, and want of memory.
+    /// A line that is no call, and out of memory.
     pub fn answer(&mut self, alloc: Global, line: &str) -> anyhow::Result<String> {
         let (call, rest) = line.split_once(' ').unwrap_or((line, ""));
         if matches!(call, "name" | "find" | "spelled") {

@@ -1,6 +1,6 @@
 //! Quotients in decimals.
 
-use sl_margins::{MAX_PLACES, cut};
+use sl_law_margins::{MAX_PLACES, cut};
 use sl_ratio::{MAX_NUMERATOR, NoMemory};
 use std::alloc::Global;
 

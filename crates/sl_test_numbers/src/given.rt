@@ -46,7 +46,7 @@ impl Given {
     ///
     /// # Errors
     ///
-    /// A word that is none of these, and want of memory.
+    /// A word that is none of these, and out of memory.
     pub fn of(alloc: Global, words: &str) -> anyhow::Result<Given> {
         let mut given = Given {
             ratios: Vec::new(alloc),

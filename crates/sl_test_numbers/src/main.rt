@@ -1,5 +1,9 @@
-//! Worked calls, written line by line: margins, and then quotients, names and priority tables by the lines of standard input, each behind its call;
+//! Worked calls, written line by line: margins, and then quotients, names and priority tables by the lines of standard input, each after its call;
 //! and tables in many calls in no order, beside lists of the same entries.
+//!
+//! Stands on `sl_law_margins` and `sl_prio`; nothing stands on it. Nothing is proved but safety.
+//!
+//! Where an error is `NoMemory` alone, memory ran out, and nothing else is wrong.
 #![tactic(auto)]
 
 mod beside;

@@ -2,7 +2,7 @@
 //! tie; minima; decimals.
 
 use crate::decimals;
-use sl_margins::{
+use sl_law_margins::{
     are_within, divisor, is_allocation, is_allocation_with_minima, is_swing_within, last_seats,
     next_claims, swing, votes_missing, votes_missing_with_minima, votes_to_spare,
 };
@@ -137,7 +137,7 @@ fn show_quotient(rt: &HostRuntime, votes: u128, divisor: u128, places: u32) -> a
 ///
 /// # Errors
 ///
-/// Want of memory, and those of the output.
+/// Out of memory, and those of the output.
 pub fn show_all(rt: &HostRuntime) -> anyhow::Result<()> {
     show(rt, Divisor::Webster, &HOUSE_VOTES, &HOUSE_SEATS)?;
     show(rt, Divisor::Webster, &TIED_VOTES, &TIED_SEATS)?;

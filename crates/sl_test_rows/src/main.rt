@@ -1,4 +1,6 @@
 //! The rows of the tests, and the pages of the documentation that show commands.
+//!
+//! Stands on `sl_test_runner`; nothing stands on it. Nothing is proved but safety.
 #![tactic(auto)]
 
 use sl_test_runner::{run_page, show_markdown};

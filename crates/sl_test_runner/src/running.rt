@@ -2,8 +2,8 @@
 
 use crate::rows::{Call, Named};
 use crate::shelf::{Shelf, bytes_of};
-use sl_count_program::{Exit, run as run_counting};
-use sl_terminal::{Terminal, run};
+use sl_terminal_commands::{Terminal, run};
+use sl_terminal_count::{Exit, run as run_counting};
 use sl_test_support::Narrow;
 use std::alloc::Global;
 use std::{fs, io};
@@ -103,10 +103,6 @@ pub(crate) fn counts_as_wanted(alloc: Global, files: &[Named], call: &Call, step
 }
 
 /// Adds the files that words name in a folder, where there are none of these names yet.
-///
-/// # Errors
-///
-/// Out of memory.
 pub(crate) fn add_files(
     rt: &HostRuntime,
     files: &mut Vec<Named>,

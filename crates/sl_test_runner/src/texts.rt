@@ -45,10 +45,6 @@ fn take(bytes: &mut Vec<u8>, escape: Escape, byte: u8) -> Result<Escape, AllocEr
 }
 
 /// Adds the bytes of a text with escapes, and answers whether it ends in a single backslash.
-///
-/// # Errors
-///
-/// Out of memory.
 pub(crate) fn add_text(bytes: &mut Vec<u8>, text: &str) -> Result<bool, AllocError> {
     let mut escape = Escape::Outside;
     for byte in text.as_bytes() {
@@ -58,10 +54,6 @@ pub(crate) fn add_text(bytes: &mut Vec<u8>, text: &str) -> Result<bool, AllocErr
 }
 
 /// Adds the line of a text with escapes: a line feed ends it, unless a single backslash does.
-///
-/// # Errors
-///
-/// Out of memory.
 pub(crate) fn add_line(bytes: &mut Vec<u8>, text: &str) -> Result<(), AllocError> {
     if !add_text(bytes, text)? {
         bytes.push(b'\n')?;
@@ -98,10 +90,6 @@ fn push_line(text: &mut String, line: &[u8]) -> Result<(), AllocError> {
 }
 
 /// Adds bytes as a row writes them: each line after a marker and a blank.
-///
-/// # Errors
-///
-/// Out of memory.
 pub(crate) fn push_lines(text: &mut String, marker: &str, bytes: &[u8]) -> Result<(), AllocError> {
     let mut lines = bytes.split(|byte| *byte == b'\n').peekable();
     while let Some(line) = lines.next() {

@@ -1,9 +1,13 @@
 //! A source and a sink over memory that go in small steps, and fail at a call of one's choice. Their bytes are known.
+//!
+//! Stands on `sl_count_inputs`; used by the room test. Proved: the bytes that a source still has, and those that a sink has taken.
+//!
+//! Where an error is `NoMemory` alone, memory ran out, and nothing else is wrong.
 #![tactic(auto)]
 
 ghost use Rattle.std.specs.Prelude.{Some};
 
-use sl_inputs::{Failed, Sink, Source};
+use sl_count_inputs::{Failed, Sink, Source};
 use std::alloc::{AllocError, Global};
 
 /// A source of known bytes: at most `step` bytes a call, and the call numbered `fails_at`, from 1, fails.
@@ -73,10 +77,6 @@ impl Narrow {
     }
 
     /// A sink that takes whole pieces and does not fail, and takes no memory for so many bytes.
-    ///
-    /// # Errors
-    ///
-    /// Want of memory.
     pub fn with_room(alloc: Global, room: usize) -> Result<Narrow, AllocError> {
         Ok(Narrow {
             taken: Vec::with_capacity(alloc, room)?,

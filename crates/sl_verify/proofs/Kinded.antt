@@ -2,19 +2,19 @@
 use Rattle.std.proofs.Common.{◌≡◌, ◌↔◌, ℕ, zero, suc, List, [], ◌∷◌, ◌++◌, Option, Some, None, length, refl, ◌∙◌, sym, ap, subst}
 use Rattle.std.specs.Prelude.{slice_get, IsTrue}
 use Rattle.std.proofs.lemmas.Bool.{and_parts}
-use Rattle.sl_instructions.specs.Codes.{CountingCode}
-use Rattle.sl_instructions.specs.Rows.{target_of}
-use Rattle.sl_instructions.specs.declared.instr.Instr.{Instr}
-use Rattle.sl_instructions.specs.declared.kinds.Kinds.{Kinds}
+use Rattle.sl_code_instructions.specs.Codes.{CountingCode}
+use Rattle.sl_code_instructions.specs.Rows.{target_of}
+use Rattle.sl_code_instructions.specs.declared.instr.Instr.{Instr}
+use Rattle.sl_code_instructions.specs.declared.kinds.Kinds.{Kinds}
 use Rattle.sl_verify.specs.declared.fault.VerifyFault.TheVariants as fault
 use Rattle.sl_verify.specs.Kinds.{start_kinds}
 use Rattle.sl_verify.specs.Needs.{has_registers, has_columns, has_kinds, has_table, has_needs}
 use Rattle.sl_verify.specs.Leaves.{behind, carried}
 use Rattle.sl_verify.specs.WellKinded.{declared_by, context_of, leads_well, has_stage_slots, coming, IsKinded, IsWellKinded}
 use Rattle.sl_verify.specs.Pieces.{kinds_here, comes_next, comes_after, meets, has_own, is_passed, are_passed}
-use Rattle.sl_terms.specs.Tests.{test, first_failing}
+use Rattle.sl_base_terms.specs.Tests.{test, first_failing}
 use Rattle.sl_verify.specs.Faults.{coming_tests, need_tests, jump_tests, own_tests, instr_tests, pass_tests, end_tests, verify_fault}
-use Rattle.sl_terms.proofs.Tests.{pass_parts, pass_join}
+use Rattle.sl_base_terms.proofs.Tests.{pass_parts, pass_join}
 use Rattle.sl_verify.proofs.Passing.{both_hold, one_holds, one_passes, four_hold, four_pass, coming_meets, meets_coming, meets_stands, stands_meets, jump_leads, leads_jump, nothing_comes, nothing_ends}
 
 module _ (code : CountingCode) where

@@ -2,14 +2,14 @@
 use Rattle.std.proofs.Common.{◌≡◌, ℕ, Bool, true, false, ◌&&◌, List, [], ◌∷◌, ◌++◌, Option, Some, None, Result, Ok, Err, refl, ◌∙◌}
 use Rattle.std.specs.Prelude.{IsTrue}
 use Rattle.std.specs.Option.{option_map_or}
-use Rattle.sl_instructions.specs.Codes.{CountingCode}
-use Rattle.sl_instructions.specs.declared.kinds.Kinds.{Kinds}
+use Rattle.sl_code_instructions.specs.Codes.{CountingCode}
+use Rattle.sl_code_instructions.specs.declared.kinds.Kinds.{Kinds}
 use Rattle.sl_verify.specs.declared.fault.VerifyFault.{VerifyFault}
 use Rattle.sl_verify.specs.Kinds.{implies}
 use Rattle.sl_verify.specs.WellKinded.{declared_at, context_of, leads_well, Stands}
 use Rattle.sl_verify.specs.Pieces.{kinds_here, meets}
-use Rattle.sl_terms.specs.Tests.{Test, test, first_failing, Judges}
-use Rattle.sl_terms.proofs.Tests.{fails_in_row, pass_join}
+use Rattle.sl_base_terms.specs.Tests.{Test, test, first_failing, Judges}
+use Rattle.sl_base_terms.proofs.Tests.{fails_in_row, pass_join}
 use Rattle.sl_verify.specs.Faults.{coming_tests, landing_tests, jump_tests, end_tests}
 
 pub both_hold : (a b : Bool) → IsTrue a → IsTrue b → IsTrue (a && b)
@@ -23,7 +23,7 @@ pub fails_or_passes : (o : Option VerifyFault) (f : VerifyFault) → o ≡ Some 
 fails_or_passes None f h p = cc
 fails_or_passes (Some g) f h p = cc
 
--- a list of tests behind one whose tests hold
+-- a list of tests after one whose tests hold
 pub judges_behind : (a b : List (Test VerifyFault)) (r : Result (Unit {0}) VerifyFault) → first_failing a ≡ None → Judges r b tt → Judges r (a ++ b) tt
 judges_behind a b (Ok x) none judged = (pass_join a b none judged.0, judged.1)
 judges_behind a b (Err f) none judged = fails_in_row a b ∙ rw none judged

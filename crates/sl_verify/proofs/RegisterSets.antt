@@ -6,7 +6,7 @@ use Rattle.std.proofs.lemmas.Bool.{eqb-true, eqb-false, eq-eqb, ltb-true, lt-ltb
 use Rattle.std.proofs.lemmas.Nat.{and_le_r}
 use Rattle.std.proofs.lemmas.Nat.Bits.{bit_at_or, bit_at_and, bit_at_not, bit_at-pow_same, bit_at-pow_other, bit_at-lt, same_from_bits_below}
 use Rattle.std.proofs.Math.Pow.{pow-lt}
-use Rattle.sl_instructions.specs.declared.kinds.Registers.{Registers}
+use Rattle.sl_code_instructions.specs.declared.kinds.Registers.{Registers}
 use Rattle.sl_verify.specs.Kinds.{is_register, contains, with_register, includes}
 
 -- ---- one register more or less

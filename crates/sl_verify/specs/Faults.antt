@@ -1,10 +1,10 @@
 -- What keeps a code from being well kinded: each test in its order, and the fault that it gives (docs/verifier.md, section 4).
 use Rattle.std.specs.Prelude.{ℕ, suc, ◌-◌, false, List, [], ◌∷◌, ◌++◌, length, Option, Some, None}
-use Rattle.sl_terms.specs.Tests.{Test, test, first_failing}
-use Rattle.sl_instructions.specs.Codes.{CountingCode}
-use Rattle.sl_instructions.specs.Rows.{target_of}
-use Rattle.sl_instructions.specs.declared.instr.Instr.{Instr}
-use Rattle.sl_instructions.specs.declared.kinds.Kinds.{Kinds}
+use Rattle.sl_base_terms.specs.Tests.{Test, test, first_failing}
+use Rattle.sl_code_instructions.specs.Codes.{CountingCode}
+use Rattle.sl_code_instructions.specs.Rows.{target_of}
+use Rattle.sl_code_instructions.specs.declared.instr.Instr.{Instr}
+use Rattle.sl_code_instructions.specs.declared.kinds.Kinds.{Kinds}
 use Rattle.sl_verify.specs.declared.fault.VerifyFault.{VerifyFault}
 use Rattle.sl_verify.specs.declared.fault.VerifyFault.TheVariants as fault
 use Rattle.sl_verify.specs.Kinds.{start_kinds, implies}

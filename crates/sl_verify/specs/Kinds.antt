@@ -1,14 +1,14 @@
 -- What is known of the machine's state at a place of a code, and what implies what (docs/verifier.md, section 1).
 use Rattle.std.specs.Prelude.{ℕ, ◌^◌, Bool, true, false, not, ◌&&◌, ◌||◌, ◌==◌, nat_lt, bit_and, bit_or, Option, Some, None}
 use Rattle.std.specs.Int.{w16, bit_at, bit_not}
-use Rattle.sl_instructions.specs.declared.kinds.Registers.{Registers}
-use Rattle.sl_instructions.specs.declared.kinds.Cursors.{Cursors}
-use Rattle.sl_instructions.specs.declared.kinds.TableState.{TableState}
-use Rattle.sl_instructions.specs.declared.kinds.Kinds.{Kinds}
-use Rattle.sl_instructions.specs.declared.operand.Entries.{Entries}
-use Rattle.sl_instructions.specs.declared.operand.Entries.TheVariants as entries
-use Rattle.sl_instructions.specs.declared.operand.Ranking.{Ranking}
-use Rattle.sl_instructions.specs.declared.operand.Ranking.TheVariants as ranking
+use Rattle.sl_code_instructions.specs.declared.kinds.Registers.{Registers}
+use Rattle.sl_code_instructions.specs.declared.kinds.Cursors.{Cursors}
+use Rattle.sl_code_instructions.specs.declared.kinds.TableState.{TableState}
+use Rattle.sl_code_instructions.specs.declared.kinds.Kinds.{Kinds}
+use Rattle.sl_code_instructions.specs.declared.operand.Entries.{Entries}
+use Rattle.sl_code_instructions.specs.declared.operand.Entries.TheVariants as entries
+use Rattle.sl_code_instructions.specs.declared.operand.Ranking.{Ranking}
+use Rattle.sl_code_instructions.specs.declared.operand.Ranking.TheVariants as ranking
 use Rattle.sl_verify.specs.declared.known.TheConstants.{REGISTERS}
 
 -- ---- registers

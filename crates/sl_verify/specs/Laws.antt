@@ -1,11 +1,11 @@
 -- What the definitions of the verifier imply for pieces of code.
 use Rattle.std.specs.Prelude.{◌≡◌, ◌↔◌, ℕ, ◌+◌, ◌≤◌, ◌&&◌, List, ◌++◌, length, Option, Some, None, slice_get, option_and_then, IsTrue}
-use Rattle.sl_terms.specs.Tests.{first_failing}
-use Rattle.sl_terms.specs.declared.shape.Shape.{Shape}
-use Rattle.sl_instructions.specs.Codes.{CountingCode}
-use Rattle.sl_instructions.specs.Standing.{HasAt}
-use Rattle.sl_instructions.specs.declared.instr.Instr.{Instr}
-use Rattle.sl_instructions.specs.declared.kinds.Kinds.{Kinds}
+use Rattle.sl_base_terms.specs.Tests.{first_failing}
+use Rattle.sl_base_terms.specs.declared.shape.Shape.{Shape}
+use Rattle.sl_code_instructions.specs.Codes.{CountingCode}
+use Rattle.sl_code_instructions.specs.Standing.{HasAt}
+use Rattle.sl_code_instructions.specs.declared.instr.Instr.{Instr}
+use Rattle.sl_code_instructions.specs.declared.kinds.Kinds.{Kinds}
 use Rattle.sl_verify.specs.declared.known.TheConstants.{REGISTERS}
 use Rattle.sl_verify.specs.declared.needs.TheConstants.{LAST_CLAUSE}
 use Rattle.sl_verify.specs.Kinds.{start_kinds, implies}

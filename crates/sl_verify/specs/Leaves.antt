@@ -1,11 +1,11 @@
 -- What is known after an instruction, and where it jumps to (docs/verifier.md, section 2).
 use Rattle.std.specs.Prelude.{Bool, true, false, ◌&&◌, ◌||◌, nat_lt, Option, Some, None, if◌then◌else◌}
-use Rattle.sl_instructions.specs.declared.instr.Instr.{Instr}
-use Rattle.sl_instructions.specs.declared.instr.Instr.TheVariants as op
-use Rattle.sl_instructions.specs.declared.kinds.Registers.{Registers}
-use Rattle.sl_instructions.specs.declared.kinds.Cursors.{Cursors}
-use Rattle.sl_instructions.specs.declared.kinds.TableState.{TableState}
-use Rattle.sl_instructions.specs.declared.kinds.Kinds.{Kinds}
+use Rattle.sl_code_instructions.specs.declared.instr.Instr.{Instr}
+use Rattle.sl_code_instructions.specs.declared.instr.Instr.TheVariants as op
+use Rattle.sl_code_instructions.specs.declared.kinds.Registers.{Registers}
+use Rattle.sl_code_instructions.specs.declared.kinds.Cursors.{Cursors}
+use Rattle.sl_code_instructions.specs.declared.kinds.TableState.{TableState}
+use Rattle.sl_code_instructions.specs.declared.kinds.Kinds.{Kinds}
 use Rattle.sl_verify.specs.Kinds.{contains, with_register, join}
 use Rattle.sl_verify.specs.Needs.{table_cursors}
 
@@ -20,7 +20,7 @@ ends (op.Halt k) = true
 ends (op.Haltv k v) = true
 ends _ = false
 
--- the registers that are positive behind an instruction
+-- the registers that are positive after an instruction
 abbrev pub positive_behind : Registers → Instr → Registers
 positive_behind rs (op.Set r x) = with_register (nat_lt 0 x) r rs
 positive_behind rs (op.Mov r s) = with_register (contains rs s) r rs
@@ -44,7 +44,7 @@ with_land b c = record c { land = b }
 abbrev pub with_win : Bool → Cursors → Cursors
 with_win b c = record c { win = b }
 
--- the cursors that are set behind it
+-- the cursors that are set after it
 abbrev pub cursors_behind : Kinds → Instr → Cursors
 cursors_behind k (op.Wparty t) = with_party true k.cursors
 cursors_behind k op.Wland = with_land true k.cursors
@@ -63,7 +63,7 @@ abbrev pub with_ready : Bool → Option TableState → Option TableState
 with_ready b None = None
 with_ready b (Some t) = Some (record t { ready = b })
 
--- what is known of the table behind it
+-- what is known of the table after it
 abbrev pub table_behind : Option TableState → Instr → Option TableState
 table_behind table (op.Table e o) = Some (record { entries = e; ranking = o; ready = false })
 table_behind table (op.Peers r t) = with_ready true table
@@ -71,7 +71,7 @@ table_behind table op.Take = with_ready false table
 table_behind table (op.Takelot n) = with_ready false table
 table_behind table _ = table
 
--- the kinds behind an instruction with these before it, if the run goes on to the next
+-- the kinds after an instruction with these before it, if the run goes on to the next
 abbrev pub behind : Kinds → Instr → Option Kinds
 behind k i =
     if ends i then None

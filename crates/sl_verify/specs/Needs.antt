@@ -1,23 +1,23 @@
 -- What an instruction needs (docs/verifier.md, section 2).
 use Rattle.std.specs.Prelude.{ℕ, Bool, true, false, not, ◌&&◌, ◌||◌, ◌==◌, nat_lt, List, [], ◌∷◌, ◌++◌, map, Option, Some, None, is_some}
 use Rattle.std.specs.Option.{option_map_or}
-use Rattle.sl_terms.specs.declared.shape.Shape.{Shape}
-use Rattle.sl_terms.specs.declared.shape.Shape.TheVariants as shape
-use Rattle.sl_terms.specs.Shapes.{same_shape}
-use Rattle.sl_instructions.specs.Rows.{registers_of, slots_of, stages_of}
-use Rattle.sl_instructions.specs.declared.instr.Instr.{Instr}
-use Rattle.sl_instructions.specs.declared.instr.Instr.TheVariants as op
-use Rattle.sl_instructions.specs.declared.kinds.Cursors.{Cursors}
-use Rattle.sl_instructions.specs.declared.kinds.TableState.{TableState}
-use Rattle.sl_instructions.specs.declared.kinds.Kinds.{Kinds}
-use Rattle.sl_instructions.specs.declared.operand.Input.{Input}
-use Rattle.sl_instructions.specs.declared.operand.Input.TheVariants as input
-use Rattle.sl_instructions.specs.declared.operand.ScopeKind.{ScopeKind}
-use Rattle.sl_instructions.specs.declared.operand.ScopeKind.TheVariants as scope
-use Rattle.sl_instructions.specs.declared.operand.Entries.{Entries}
-use Rattle.sl_instructions.specs.declared.operand.Entries.TheVariants as entries
-use Rattle.sl_instructions.specs.declared.operand.Ranking.{Ranking}
-use Rattle.sl_instructions.specs.declared.operand.Ranking.TheVariants as ranking
+use Rattle.sl_base_terms.specs.declared.shape.Shape.{Shape}
+use Rattle.sl_base_terms.specs.declared.shape.Shape.TheVariants as shape
+use Rattle.sl_base_terms.specs.Shapes.{same_shape}
+use Rattle.sl_code_instructions.specs.Rows.{registers_of, slots_of, stages_of}
+use Rattle.sl_code_instructions.specs.declared.instr.Instr.{Instr}
+use Rattle.sl_code_instructions.specs.declared.instr.Instr.TheVariants as op
+use Rattle.sl_code_instructions.specs.declared.kinds.Cursors.{Cursors}
+use Rattle.sl_code_instructions.specs.declared.kinds.TableState.{TableState}
+use Rattle.sl_code_instructions.specs.declared.kinds.Kinds.{Kinds}
+use Rattle.sl_code_instructions.specs.declared.operand.Input.{Input}
+use Rattle.sl_code_instructions.specs.declared.operand.Input.TheVariants as input
+use Rattle.sl_code_instructions.specs.declared.operand.ScopeKind.{ScopeKind}
+use Rattle.sl_code_instructions.specs.declared.operand.ScopeKind.TheVariants as scope
+use Rattle.sl_code_instructions.specs.declared.operand.Entries.{Entries}
+use Rattle.sl_code_instructions.specs.declared.operand.Entries.TheVariants as entries
+use Rattle.sl_code_instructions.specs.declared.operand.Ranking.{Ranking}
+use Rattle.sl_code_instructions.specs.declared.operand.Ranking.TheVariants as ranking
 use Rattle.sl_verify.specs.declared.needs.TheConstants.{LAST_CLAUSE}
 use Rattle.sl_verify.specs.Kinds.{is_register, contains, no_cursors, party_cursor, land_cursor, list_cursors, win_cursor, covers, same_entries, same_ranking}
 

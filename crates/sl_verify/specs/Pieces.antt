@@ -1,9 +1,9 @@
 -- The kinds that come along a list of instructions, and whether its instructions pass, wherever it stands (docs/verifier.md, section 3).
 use Rattle.std.specs.Prelude.{◌≡◌, ℕ, ◌+◌, ◌-◌, ◌<◌, ◌≤◌, Bool, true, false, ◌&&◌, nat_le, List, [], ◌∷◌, length, Option, Some, None, slice_get, option_and_then, if◌then◌else◌}
-use Rattle.sl_terms.specs.declared.shape.Shape.{Shape}
-use Rattle.sl_instructions.specs.Rows.{target_of}
-use Rattle.sl_instructions.specs.declared.instr.Instr.{Instr}
-use Rattle.sl_instructions.specs.declared.kinds.Kinds.{Kinds}
+use Rattle.sl_base_terms.specs.declared.shape.Shape.{Shape}
+use Rattle.sl_code_instructions.specs.Rows.{target_of}
+use Rattle.sl_code_instructions.specs.declared.instr.Instr.{Instr}
+use Rattle.sl_code_instructions.specs.declared.kinds.Kinds.{Kinds}
 use Rattle.sl_verify.specs.Kinds.{start_kinds, implies}
 use Rattle.sl_verify.specs.Needs.{Context, has_needs}
 use Rattle.sl_verify.specs.Leaves.{behind, carried}

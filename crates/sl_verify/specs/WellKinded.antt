@@ -2,11 +2,11 @@
 use Rattle.std.specs.Prelude.{◌≡◌, ℕ, zero, suc, Bool, true, false, List, length, Option, Some, None, slice_get, option_and_then, IsTrue}
 use Rattle.std.specs.List.{list_all}
 use Rattle.std.specs.Option.{option_map_or}
-use Rattle.sl_instructions.specs.Codes.{CountingCode}
-use Rattle.sl_instructions.specs.Rows.{target_of}
-use Rattle.sl_instructions.specs.declared.instr.Instr.{Instr}
-use Rattle.sl_instructions.specs.declared.instr.Instr.TheVariants as op
-use Rattle.sl_instructions.specs.declared.kinds.Kinds.{Kinds}
+use Rattle.sl_code_instructions.specs.Codes.{CountingCode}
+use Rattle.sl_code_instructions.specs.Rows.{target_of}
+use Rattle.sl_code_instructions.specs.declared.instr.Instr.{Instr}
+use Rattle.sl_code_instructions.specs.declared.instr.Instr.TheVariants as op
+use Rattle.sl_code_instructions.specs.declared.kinds.Kinds.{Kinds}
 use Rattle.sl_verify.specs.Kinds.{start_kinds, implies}
 use Rattle.sl_verify.specs.Needs.{Context, has_slot, has_needs}
 use Rattle.sl_verify.specs.Leaves.{behind, carried}
@@ -50,7 +50,7 @@ pub record IsKinded (code : CountingCode) (comes : Option Kinds) (k : Kinds) (i 
   pub needs : IsTrue (has_needs (context_of code) k i)
   pub leads : IsTrue (leads_well (context_of code) (carried k i) (target_of i))
 
--- each instruction can be given kinds, and behind the last one nothing comes
+-- each instruction can be given kinds, and after the last one nothing comes
 pub record IsWellKinded (code : CountingCode) : Type 0 where
   pub kinds : ℕ → Kinds
   pub stages : IsTrue (has_stage_slots code)

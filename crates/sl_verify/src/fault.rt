@@ -18,12 +18,12 @@ pub enum VerifyFault {
     TableKind(usize),
     /// It goes on to what it does not imply, or is never reached.
     Meet(usize),
-    /// Nothing stands behind it.
+    /// Nothing stands after it.
     RunsOff(usize),
 }
 
 impl VerifyFault {
-    // The text before the number, the number, and the text behind it.
+    // The text before the number, the number, and the text after it.
     fn words(self) -> (&'static str, usize, &'static str) {
         match self {
             VerifyFault::Jump(at) => (

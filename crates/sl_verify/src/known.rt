@@ -3,7 +3,7 @@
 ghost use Rattle.std.specs.Prelude.{◌≡◌, IsTrue};
 ghost use Rattle.sl_verify.specs.Kinds.{is_register, contains, with_register, includes, join, covers, same_entries, same_ranking, fits_table, implies};
 
-use sl_instructions::{Cursors, Entries, Kinds, Ranking, Registers, TableState};
+use sl_code_instructions::{Cursors, Entries, Kinds, Ranking, Registers, TableState};
 
 /// Registers of the machine.
 pub const REGISTERS: u8 = 16;

@@ -1,8 +1,8 @@
 //! What the definitions of the verifier imply.
 
 ghost use Rattle.std.specs.Prelude.{◌≡◌, ◌↔◌, ℕ, ◌<◌, ◌^◌, Bool, ◌==◌, if◌then◌else◌, IsTrue, None};
-ghost use Rattle.sl_instructions.specs.Codes.{CountingCode};
-ghost use Rattle.sl_instructions.specs.declared.kinds.Registers.{Registers};
+ghost use Rattle.sl_code_instructions.specs.Codes.{CountingCode};
+ghost use Rattle.sl_code_instructions.specs.declared.kinds.Registers.{Registers};
 ghost use Rattle.sl_verify.specs.Kinds.{is_register, contains, with_register, includes};
 ghost use Rattle.sl_verify.specs.WellKinded.{IsWellKinded};
 ghost use Rattle.sl_verify.specs.Faults.{verify_fault};

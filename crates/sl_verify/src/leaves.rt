@@ -6,7 +6,7 @@ ghost use Rattle.sl_verify.specs.Leaves.{ends, positive_behind, cursors_behind, 
 
 use crate::known::{contains, join, with_register};
 use crate::needs::table_cursors;
-use sl_instructions::{Cursors, Instr, Kinds, Registers, TableState};
+use sl_code_instructions::{Cursors, Instr, Kinds, Registers, TableState};
 
 /// Whether the run never goes on to the next instruction.
 fn ends(instr: Instr) -> bool
@@ -18,7 +18,7 @@ fn ends(instr: Instr) -> bool
     )
 }
 
-/// The registers that are positive behind the instruction.
+/// The registers that are positive after the instruction.
 fn positive_behind(positive: Registers, instr: Instr) -> Registers
     requires { IsTrue (has_registers instr) }
     ensures { result ≡ positive_behind positive instr }
@@ -47,7 +47,7 @@ fn positive_behind(positive: Registers, instr: Instr) -> Registers
     }
 }
 
-/// The cursors that are set behind the instruction.
+/// The cursors that are set after the instruction.
 pub fn cursors_behind(kinds: Kinds, instr: Instr) -> Cursors
     ensures { result ≡ cursors_behind kinds instr }
 {
@@ -74,7 +74,7 @@ pub fn with_ready(ready: bool, table: Option<TableState>) -> Option<TableState>
     table.map(|table| TableState { ready, ..table })
 }
 
-/// What is known of the table behind the instruction.
+/// What is known of the table after the instruction.
 pub fn table_behind(table: Option<TableState>, instr: Instr) -> Option<TableState>
     ensures { result ≡ table_behind table instr }
 {
@@ -90,7 +90,7 @@ pub fn table_behind(table: Option<TableState>, instr: Instr) -> Option<TableStat
     }
 }
 
-/// The kinds behind the instruction, if the run goes on to the next.
+/// The kinds after the instruction, if the run goes on to the next.
 pub fn behind(kinds: Kinds, instr: Instr) -> Option<Kinds>
     requires { IsTrue (has_registers instr) }
     ensures { result ≡ behind kinds instr }

@@ -1,4 +1,6 @@
 //! The verifier of counting code: which codes never get stuck, and what is wrong with any other.
+//!
+//! Stands on `sl_code_instructions`; used by the rooms code and explain. Proved: accepted are just the codes that are well kinded.
 #![tactic(auto)]
 
 mod fault;

@@ -5,19 +5,19 @@ ghost use Rattle.std.specs.List.{list_all};
 ghost use Rattle.std.specs.Option.{option_map_or};
 ghost use Rattle.sl_verify.specs.Kinds.{contains, is_register};
 ghost use Rattle.sl_verify.specs.WellKinded.{context_of};
-ghost use Rattle.sl_terms.specs.Shapes.{same_shape};
-ghost use Rattle.sl_instructions.specs.declared.instr.Instr.{Instr};
-ghost use Rattle.sl_instructions.specs.Rows.{operands_of, register_in, slot_in, stage_in};
+ghost use Rattle.sl_base_terms.specs.Shapes.{same_shape};
+ghost use Rattle.sl_code_instructions.specs.declared.instr.Instr.{Instr};
+ghost use Rattle.sl_code_instructions.specs.Rows.{operands_of, register_in, slot_in, stage_in};
 ghost use Rattle.sl_verify.specs.Needs.{has_registers, has_slot, has_column, has_stage, input_shape, needed_shape, suits, has_columns, needed_positive, shape_cursors, scope_cursors, entry_cursors, slot_cursors, table_cursors, needed_cursors, has_kinds, takes_entry, takes_share, points_at, has_table};
 
 use crate::known::{
     LAND_CURSOR, LIST_CURSORS, NO_CURSORS, PARTY_CURSOR, WIN_CURSOR, contains, covers, is_register,
     same_entries, same_ranking,
 };
-use sl_instructions::{
+use sl_base_terms::Shape;
+use sl_code_instructions::{
     Code, Cursors, Entries, Input, Instr, Kinds, Operand, Operands, Ranking, ScopeKind, TableState,
 };
-use sl_terms::Shape;
 
 /// The stage number that stands for the last clause.
 pub const LAST_CLAUSE: u8 = 255;

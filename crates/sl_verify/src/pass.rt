@@ -5,15 +5,14 @@ ghost use Rattle.sl_verify.specs.Kinds.{start_kinds};
 ghost use Rattle.sl_verify.specs.Needs.{has_registers};
 ghost use Rattle.sl_verify.specs.Pieces.{kinds_here, comes_next, comes_after};
 ghost use Rattle.sl_verify.specs.WellKinded.{declared_by, declared_at, has_stage_slots};
-ghost use Rattle.sl_terms.specs.Tests.{test};
+ghost use Rattle.sl_base_terms.specs.Tests.{test, Judges};
 ghost use Rattle.sl_verify.specs.Faults.{coming_tests, need_tests, landing_tests, jump_tests, own_tests, instr_tests, end_tests, pass_tests, verify_tests};
-ghost use Rattle.sl_terms.specs.Tests.{Judges};
 
 use crate::fault::VerifyFault;
 use crate::known::{START, implies};
 use crate::leaves::{behind, carried};
 use crate::needs::{has_columns, has_kinds, has_registers, has_slot, has_table};
-use sl_instructions::{Code, Instr, Kinds};
+use sl_code_instructions::{Code, Instr, Kinds};
 
 /// Refuses with a fault what fails a test.
 fn test(holds: bool, otherwise: VerifyFault) -> Result<(), VerifyFault>
@@ -114,7 +113,7 @@ fn check_own(code: &Code, place: usize, kinds: Kinds, instr: Instr) -> Result<()
 }
 
 /// The kinds after an instruction, where these come to it.
-#[tactic(auto, using(sl_terms::proofs::Tests::fails_in_row))]
+#[tactic(auto, using(sl_base_terms::proofs::Tests::fails_in_row))]
 fn check_instr(
     code: &Code,
     place: usize,
@@ -158,7 +157,7 @@ fn has_stage_slots(code: &Code) -> bool
 }
 
 /// The tests of a whole code.
-#[tactic(auto, using(sl_terms::proofs::Tests::fails_in_row))]
+#[tactic(auto, using(sl_base_terms::proofs::Tests::fails_in_row))]
 pub fn check_code(code: &Code) -> Result<(), VerifyFault>
     ensures { Judges result (verify_tests code.now) tt }
 {

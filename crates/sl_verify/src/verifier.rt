@@ -6,7 +6,7 @@ ghost use Rattle.sl_verify.specs.Faults.{verify_fault};
 
 use crate::fault::VerifyFault;
 use crate::pass::check_code;
-use sl_instructions::Code;
+use sl_code_instructions::Code;
 use std::marker::Model;
 
 /// A code that is well kinded (docs/verifier.md, section 3).
@@ -16,7 +16,7 @@ pub struct Verified {
 }
 
 impl Model for Verified {
-    ghost use Rattle.sl_instructions.specs.Codes.{CountingCode};
+    ghost use Rattle.sl_code_instructions.specs.Codes.{CountingCode};
     ghost use Rattle.sl_verify.specs.WellKinded.{IsWellKinded};
 
     ghost Value = { CountingCode };

@@ -1,18 +1,18 @@
 -- A covering as a block: the caller's conditions, and what the block does (docs/blocks.md, section 6).
 use Rattle.std.specs.Prelude.{◌≡◌, ◌≢◌, ℕ, ◌<◌, Bool, List, [], ◌∷◌, Some, nat_eq, slice_get, slice_index, slice_index_or}
-use Rattle.sl_terms.specs.declared.shape.Shape.{Shape}
-use Rattle.sl_terms.specs.declared.shape.Shape.TheVariants as shape
+use Rattle.sl_base_terms.specs.declared.shape.Shape.{Shape}
+use Rattle.sl_base_terms.specs.declared.shape.Shape.TheVariants as shape
 use Rattle.sl_stages.specs.declared.table.Placed.TheVariants as placed
 use Rattle.sl_stages.specs.returns.Election.{Election, parties_of}
-use Rattle.sl_instructions.specs.declared.instr.Instr.{Instr}
-use Rattle.sl_instructions.specs.declared.instr.Instr.TheVariants.{Get, Zero, Store}
-use Rattle.sl_semantics.specs.State.{State}
-use Rattle.sl_semantics.specs.Effects.{one_if}
-use Rattle.sl_semantics.specs.Memories.{column_of}
-use Rattle.sl_plans.specs.Trees.{Tree, Then}
-use Rattle.sl_pieces.specs.declared.registers.TheConstants as reg
-use Rattle.sl_pieces.specs.covers.Trees.{CoverSlots, place_singles, count_winners, number_contested, seat_uncontested}
-use Rattle.sl_pieces.specs.covers.Covering.{AreCovered, EndsInTie}
+use Rattle.sl_code_instructions.specs.declared.instr.Instr.{Instr}
+use Rattle.sl_code_instructions.specs.declared.instr.Instr.TheVariants.{Get, Zero, Store}
+use Rattle.sl_code_semantics.specs.State.{State}
+use Rattle.sl_code_semantics.specs.Effects.{one_if}
+use Rattle.sl_code_semantics.specs.Memories.{column_of}
+use Rattle.sl_compile_plans.specs.Trees.{Tree, Then}
+use Rattle.sl_compile_pieces.specs.declared.registers.TheConstants as reg
+use Rattle.sl_compile_pieces.specs.covers.Trees.{CoverSlots, place_singles, count_winners, number_contested, seat_uncontested}
+use Rattle.sl_compile_pieces.specs.covers.Covering.{AreCovered, EndsInTie}
 use Rattle.sl_blocks.specs.Blocks.{HasSlotsOf, IsShareBlock}
 
 -- among slots of these shapes those of the covering are there, and the one that it writes is not that of the seats

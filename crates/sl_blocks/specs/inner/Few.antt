@@ -3,9 +3,9 @@ use Rattle.std.specs.Prelude.{ℕ, ◌<◌, ◌^◌, Bool, true, false, List, []
 use Rattle.sl_stages.specs.declared.book.Cond.{Cond}
 use Rattle.sl_stages.specs.declared.book.Cond.TheVariants as condition
 use Rattle.sl_stages.specs.book.Limits.{condition_numbers}
-use Rattle.sl_instructions.specs.declared.instr.Instr.{Instr}
-use Rattle.sl_instructions.specs.declared.instr.Instr.TheVariants.{Set}
-use Rattle.sl_pieces.specs.declared.registers.TheConstants.{OTHER as number}
+use Rattle.sl_code_instructions.specs.declared.instr.Instr.{Instr}
+use Rattle.sl_code_instructions.specs.declared.instr.Instr.TheVariants.{Set}
+use Rattle.sl_compile_pieces.specs.declared.registers.TheConstants.{OTHER as number}
 use Rattle.sl_blocks.specs.declared.easiest.Share.{Share}
 use Rattle.sl_blocks.specs.declared.easiest.Easiest.{Easiest}
 

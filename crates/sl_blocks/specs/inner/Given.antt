@@ -4,15 +4,15 @@ use Rattle.sl_ratio.specs.declared.method.Divisor.{Divisor}
 use Rattle.sl_ratio.specs.declared.method.Divisor.TheVariants as divisor
 use Rattle.sl_ratio.specs.declared.method.Method.{Method}
 use Rattle.sl_ratio.specs.declared.method.Method.TheVariants as by
-use Rattle.sl_instructions.specs.declared.instr.Instr.{Instr}
-use Rattle.sl_instructions.specs.declared.instr.Instr.TheVariants.{Set, Get, Store, Zero, Table, Prio, Emit, Given, Fault, Tie, Takelot, Weigh}
-use Rattle.sl_instructions.specs.declared.operand.EndFault.TheVariants as end
-use Rattle.sl_instructions.specs.declared.operand.Ranking.TheVariants as ranking
-use Rattle.sl_instructions.specs.declared.operand.Rounding.TheVariants as rounding
-use Rattle.sl_instructions.specs.Numbers.{rounding_of}
-use Rattle.sl_pieces.specs.scopes.Forms.{table_of, kind_of}
-use Rattle.sl_pieces.specs.declared.registers.TheConstants as reg
-use Rattle.sl_pieces.specs.seats.Trees.{ranking_of}
+use Rattle.sl_code_instructions.specs.declared.instr.Instr.{Instr}
+use Rattle.sl_code_instructions.specs.declared.instr.Instr.TheVariants.{Set, Get, Store, Zero, Table, Prio, Emit, Given, Fault, Tie, Takelot, Weigh}
+use Rattle.sl_code_instructions.specs.declared.operand.EndFault.TheVariants as end
+use Rattle.sl_code_instructions.specs.declared.operand.Ranking.TheVariants as ranking
+use Rattle.sl_code_instructions.specs.declared.operand.Rounding.TheVariants as rounding
+use Rattle.sl_code_instructions.specs.Numbers.{rounding_of}
+use Rattle.sl_compile_pieces.specs.scopes.Forms.{table_of, kind_of}
+use Rattle.sl_compile_pieces.specs.declared.registers.TheConstants as reg
+use Rattle.sl_compile_pieces.specs.seats.Trees.{ranking_of}
 use Rattle.sl_blocks.specs.declared.blanks.Block.{Block}
 
 -- the minimum of an entry, or 0

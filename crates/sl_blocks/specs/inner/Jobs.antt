@@ -4,23 +4,23 @@ use Rattle.sl_ratio.specs.declared.limits.TheConstants.{MAX_SEATS}
 use Rattle.sl_ratio.specs.declared.method.Divisor.{Divisor}
 use Rattle.sl_ratio.specs.declared.method.Method.{Method}
 use Rattle.sl_ratio.specs.declared.method.Method.TheVariants as by
-use Rattle.sl_terms.specs.declared.shape.Shape.{Shape}
-use Rattle.sl_terms.specs.declared.shape.Shape.TheVariants as shape
-use Rattle.sl_terms.specs.declared.limits.TheConstants.{MAX_STAGES}
+use Rattle.sl_base_terms.specs.declared.shape.Shape.{Shape}
+use Rattle.sl_base_terms.specs.declared.shape.Shape.TheVariants as shape
+use Rattle.sl_base_terms.specs.declared.limits.TheConstants.{MAX_STAGES}
 use Rattle.sl_stages.specs.returns.Election.{Election}
 use Rattle.sl_stages.specs.meaning.Results.{ExprResult}
 use Rattle.sl_stages.specs.meaning.Expressions.{IsSplit, IsGrown}
-use Rattle.sl_instructions.specs.declared.instr.Instr.{Instr}
-use Rattle.sl_instructions.specs.declared.code.CodeStage.{CodeStage}
-use Rattle.sl_instructions.specs.Codes.{CountingCode}
-use Rattle.sl_semantics.specs.State.{State}
-use Rattle.sl_semantics.specs.Memories.{column_of}
-use Rattle.sl_pieces.specs.declared.form.Form.{Form}
-use Rattle.sl_pieces.specs.scopes.Forms.{amounts_of, votes_of}
-use Rattle.sl_pieces.specs.seats.Slots.{Slots}
-use Rattle.sl_pieces.specs.nodes.Scopes.{AreWeights, stand}
-use Rattle.sl_pieces.specs.nodes.Nodes.{HasResult, EndsWith}
-use Rattle.sl_pieces.specs.nodes.Trees.{split_tree, grow_tree}
+use Rattle.sl_code_instructions.specs.declared.instr.Instr.{Instr}
+use Rattle.sl_code_instructions.specs.declared.code.CodeStage.{CodeStage}
+use Rattle.sl_code_instructions.specs.Codes.{CountingCode}
+use Rattle.sl_code_semantics.specs.State.{State}
+use Rattle.sl_code_semantics.specs.Memories.{column_of}
+use Rattle.sl_compile_pieces.specs.declared.form.Form.{Form}
+use Rattle.sl_compile_pieces.specs.scopes.Forms.{amounts_of, votes_of}
+use Rattle.sl_compile_pieces.specs.seats.Slots.{Slots}
+use Rattle.sl_compile_pieces.specs.nodes.Scopes.{AreWeights, stand}
+use Rattle.sl_compile_pieces.specs.nodes.Nodes.{HasResult, EndsWith}
+use Rattle.sl_compile_pieces.specs.nodes.Trees.{split_tree, grow_tree}
 use Rattle.sl_blocks.specs.PlanBlocks.{AreBlocks}
 use Rattle.sl_blocks.specs.declared.job.Job.{Job}
 use Rattle.sl_blocks.specs.Blocks.{HasSlotsOf, IsShareBlock}

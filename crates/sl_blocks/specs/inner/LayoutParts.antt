@@ -1,19 +1,19 @@
 -- The plans of blocks in parts, as the program puts them together: what only bodies and proofs cite.
 use Rattle.std.specs.Prelude.{ℕ, [], ◌∷◌, Option, None, Some}
-use Rattle.sl_instructions.specs.declared.instr.Instr.TheVariants.{Set, Mov, Add, Get, Table}
-use Rattle.sl_instructions.specs.declared.operand.EndFault.TheVariants as end
-use Rattle.sl_instructions.specs.declared.operand.Ranking.TheVariants as ranking
-use Rattle.sl_plans.specs.declared.plan.Test.TheVariants as test
-use Rattle.sl_plans.specs.declared.plan.Bound.TheVariants as bound
-use Rattle.sl_plans.specs.Trees.{Tree, Line, Then, If, Each}
-use Rattle.sl_pieces.specs.declared.form.Form.{Form}
-use Rattle.sl_pieces.specs.scopes.Forms.{entries_plan, table_of}
-use Rattle.sl_pieces.specs.declared.registers.TheConstants as reg
-use Rattle.sl_pieces.specs.awards.Trees.{batches, whole_batch, counted_seat, count_step, drawn_seats, awards}
-use Rattle.sl_pieces.specs.seats.Slots.{Slots}
-use Rattle.sl_pieces.specs.seats.Trees.{nothing, most_seats, faulty, not_over, add_minimum, sums, refuses_seats, base_of, outside_base, enter_of, enter_quotient}
-use Rattle.sl_pieces.specs.seats.Trees.{fill_entry, fill, ranking_of, tied, seat, again_of, refuse}
-use Rattle.sl_pieces.specs.nodes.Trees.{shared, search_entry, search_batch, search_seat, take_house}
+use Rattle.sl_code_instructions.specs.declared.instr.Instr.TheVariants.{Set, Mov, Add, Get, Table}
+use Rattle.sl_code_instructions.specs.declared.operand.EndFault.TheVariants as end
+use Rattle.sl_code_instructions.specs.declared.operand.Ranking.TheVariants as ranking
+use Rattle.sl_compile_plans.specs.declared.plan.Test.TheVariants as test
+use Rattle.sl_compile_plans.specs.declared.plan.Bound.TheVariants as bound
+use Rattle.sl_compile_plans.specs.Trees.{Tree, Line, Then, If, Each}
+use Rattle.sl_compile_pieces.specs.declared.form.Form.{Form}
+use Rattle.sl_compile_pieces.specs.scopes.Forms.{entries_plan, table_of}
+use Rattle.sl_compile_pieces.specs.declared.registers.TheConstants as reg
+use Rattle.sl_compile_pieces.specs.awards.Trees.{batches, whole_batch, counted_seat, count_step, drawn_seats, awards}
+use Rattle.sl_compile_pieces.specs.seats.Slots.{Slots}
+use Rattle.sl_compile_pieces.specs.seats.Trees.{nothing, most_seats, faulty, not_over, add_minimum, sums, refuses_seats, base_of, outside_base, enter_of, enter_quotient}
+use Rattle.sl_compile_pieces.specs.seats.Trees.{fill_entry, fill, ranking_of, tied, seat, again_of, refuse}
+use Rattle.sl_compile_pieces.specs.nodes.Trees.{shared, search_entry, search_batch, search_seat, take_house}
 use Rattle.sl_blocks.specs.declared.blanks.Block.{Block}
 use Rattle.sl_blocks.specs.inner.Jobs.{slots_of}
 use Rattle.sl_blocks.specs.inner.Given.{divisor_of}
@@ -98,18 +98,18 @@ rest_with b last = Then (Then count_left (Then (whole_batches b) last)) (refuse_
 abbrev pub rest_in : Block → Tree
 rest_in b = Then (awards b.job.stage (bound.AtMost most_seats) (tied (form_in b) (slots_in b)) (seat_in b)) (refuse_in b)
 
--- a scope with this behind its amount and its sums
+-- a scope with this after its amount and its sums
 abbrev pub sums_with : Block → Tree → Tree
 sums_with b rest = Then (Line (Get reg.AMOUNT (slots_in b).amounts ∷ [])) (Then (sums (form_in b) (slots_in b)) rest)
 
--- a scope of a split with this behind the first seats
+-- a scope of a split with this after the first seats
 abbrev pub split_with : Block → Tree → Tree
 split_with b rest =
     let f = form_in b in
     let x = slots_in b in
     sums_with b (Then (refuses_seats f x) (Then (fill f x (ranking_of b.method) (base_of b.method x) (enter_of f x b.method b.job.majority)) rest))
 
--- a scope of a growth with this search, and with this behind the house that it finds
+-- a scope of a growth with this search, and with this after the house that it finds
 abbrev pub found_with : Block → ℕ → Tree → Tree → Tree
 found_with b cap searched rest =
     let f = form_in b in
@@ -120,7 +120,7 @@ found_with b cap searched rest =
 abbrev pub house_with : Block → ℕ → Tree → Tree
 house_with b cap rest = found_with b cap (search_in b cap) rest
 
--- a scope of a growth with this behind the first seats
+-- a scope of a growth with this after the first seats
 abbrev pub growth_with : Block → ℕ → Tree → Tree
 growth_with b cap rest =
     let f = form_in b in

@@ -2,10 +2,10 @@
 use Rattle.std.specs.Prelude.{◌≡◌, List}
 use Rattle.sl_stages.specs.declared.book.Cond.{Cond}
 use Rattle.sl_stages.specs.book.Trees.{BookTree}
-use Rattle.sl_instructions.specs.declared.instr.Instr.{Instr}
-use Rattle.sl_instructions.specs.Codes.{CountingCode}
-use Rattle.sl_books.specs.Conditions.{SayTheSame}
-use Rattle.sl_books.specs.Codes.{book_code, AreBookInstrs}
+use Rattle.sl_code_instructions.specs.declared.instr.Instr.{Instr}
+use Rattle.sl_code_instructions.specs.Codes.{CountingCode}
+use Rattle.sl_compile.specs.Conditions.{SayTheSame}
+use Rattle.sl_compile.specs.Codes.{book_code, AreBookInstrs}
 
 -- it is the book's for a few conditions that say what all of the book's say
 pub record IsCodeOf (b : BookTree) (c : CountingCode) : Type 0 where

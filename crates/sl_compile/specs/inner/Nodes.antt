@@ -2,13 +2,13 @@
 use Rattle.std.specs.Prelude.{◌≡◌, ℕ, ◌+◌, ◌≤◌, [], Option, Some, slice_get}
 use Rattle.sl_ratio.specs.declared.method.Method.{Method}
 use Rattle.sl_ratio.specs.declared.method.Method.TheVariants as by
-use Rattle.sl_terms.specs.declared.shape.Shape.{Shape}
-use Rattle.sl_terms.specs.declared.shape.Shape.TheVariants as shape
-use Rattle.sl_instructions.specs.Codes.{CountingCode}
+use Rattle.sl_base_terms.specs.declared.shape.Shape.{Shape}
+use Rattle.sl_base_terms.specs.declared.shape.Shape.TheVariants as shape
+use Rattle.sl_code_instructions.specs.Codes.{CountingCode}
 use Rattle.sl_stages.specs.declared.limits.TheConstants.{MAX_DEPTH}
-use Rattle.sl_pieces.specs.declared.arguments.Arguments.{Arguments}
-use Rattle.sl_pieces.specs.exprs.Slots.{StandsOn}
-use Rattle.sl_books.specs.Codes.{HasSoFar}
+use Rattle.sl_compile_pieces.specs.declared.arguments.Arguments.{Arguments}
+use Rattle.sl_compile_pieces.specs.exprs.Slots.{StandsOn}
+use Rattle.sl_compile.specs.Codes.{HasSoFar}
 
 -- the arguments of a split or a growth are on one level after the other: seats, votes, and minima if there are any
 pub record AreArguments (level : ℕ) (s v : Shape) (from : Arguments) : Type 0 where

@@ -2,15 +2,17 @@
 
 ghost use Rattle.std.specs.Prelude.{◌≡◌, IfOk, IfSome};
 ghost use Rattle.sl_stages.specs.book.Books.{book_of};
-ghost use Rattle.sl_inputs.specs.Failures.{counts, counts_after};
+ghost use Rattle.sl_count_inputs.specs.Failures.{counts, counts_after};
 ghost use Rattle.sl_desk.specs.Checking.{IsCheck, IsCheckOutput, check_line};
-ghost use Rattle.sl_inputs.specs.Judging.{tree_verdict};
-ghost use Rattle.sl_inputs.specs.Reading.{book_input, book_failures, ReadsBook};
-ghost use Rattle.sl_inputs.specs.Writing.{Delivers};
+ghost use Rattle.sl_count_inputs.specs.Judging.{tree_verdict};
+ghost use Rattle.sl_count_inputs.specs.Reading.{book_input, book_failures, ReadsBook};
+ghost use Rattle.sl_count_inputs.specs.Writing.{Delivers};
 
 use sl_check::CheckedBook;
-use sl_counts::Answer;
-use sl_inputs::{BookSource, DeskError, RefusedBook, Sink, Source, Status, Verdict, read_book};
+use sl_count_calls::Answer;
+use sl_count_inputs::{
+    BookSource, DeskError, RefusedBook, Sink, Source, Status, Verdict, read_book,
+};
 use sl_ratio::NoMemory;
 use sl_stages::Book;
 use sl_table::Text;
@@ -34,10 +36,6 @@ fn check_line(alloc: Global, book: &Book) -> Result<Vec<u8>, NoMemory>
 }
 
 /// What checking writes of a judged book: the line of a good one, or the line that refuses it.
-///
-/// # Errors
-///
-/// Out of memory.
 pub fn check_answer(
     alloc: Global,
     book: &Verdict<CheckedBook, RefusedBook<'_>>,

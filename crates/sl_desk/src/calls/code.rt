@@ -2,17 +2,17 @@
 
 ghost use Rattle.std.specs.Prelude.{◌≡◌, IfOk, IfErr, IfSome};
 ghost use Rattle.sl_stages.specs.book.Books.{book_of};
-ghost use Rattle.sl_inputs.specs.Failures.{counts, counts_after, FailsInOne};
+ghost use Rattle.sl_count_inputs.specs.Failures.{counts, counts_after, FailsInOne};
 ghost use Rattle.sl_desk.specs.Compiling.{IsCodeOf, IsCompiling, IsCompilingOutput};
-ghost use Rattle.sl_inputs.specs.Judging.{tree_verdict};
-ghost use Rattle.sl_inputs.specs.Reading.{book_input, book_failures, ReadsBook};
-ghost use Rattle.sl_inputs.specs.Writing.{DeliversBoth};
+ghost use Rattle.sl_count_inputs.specs.Judging.{tree_verdict};
+ghost use Rattle.sl_count_inputs.specs.Reading.{book_input, book_failures, ReadsBook};
+ghost use Rattle.sl_count_inputs.specs.Writing.{DeliversBoth};
 
 use sl_check::CheckedBook;
 use sl_code::{listing, to_bytes};
 use sl_compile::compile;
-use sl_counts::Answer;
-use sl_inputs::{
+use sl_count_calls::Answer;
+use sl_count_inputs::{
     BookSource, DeskError, RefusedBook, Sink, Source, Status, Verdict, read_book, write_all,
 };
 use sl_ratio::NoMemory;
@@ -57,10 +57,6 @@ fn compiled(alloc: Global, book: &CheckedBook) -> Result<Compilation, NoMemory>
 }
 
 /// What compiling writes of a judged book: its code, or the line that refuses it.
-///
-/// # Errors
-///
-/// Out of memory.
 pub fn compilation_of(
     alloc: Global,
     book: &Verdict<CheckedBook, RefusedBook<'_>>,

@@ -1,12 +1,11 @@
 //! The text of a rulebook of the library.
 
 ghost use Rattle.std.specs.Prelude.{◌≡◌, IfErr};
-ghost use Rattle.sl_inputs.specs.Failures.{counts, counts_after, failures_after};
-ghost use Rattle.sl_inputs.specs.Library.{IsLawOutput};
-ghost use Rattle.sl_inputs.specs.Library.{unknown_law};
-ghost use Rattle.sl_inputs.specs.Writing.{Delivers, Writes};
+ghost use Rattle.sl_count_inputs.specs.Failures.{counts, counts_after, failures_after};
+ghost use Rattle.sl_count_inputs.specs.Library.{IsLawOutput, unknown_law};
+ghost use Rattle.sl_count_inputs.specs.Writing.{Delivers, Writes};
 
-use sl_inputs::{DeskError, Failed, Sink, Status, write_all};
+use sl_count_inputs::{DeskError, Failed, Sink, Status, write_all};
 use sl_laws::law;
 
 // Writes the line that refuses a name, without memory.

@@ -3,16 +3,16 @@
 ghost use Rattle.std.specs.Prelude.{◌⊎◌, ◌≡◌, ◌+◌, IfOk, IfErr, IfSome};
 ghost use Rattle.sl_desk.specs.JudgedRuns.{FitsJudged, IsJudged, IsJudgedOn, IsRunAnswer, RunsInto};
 ghost use Rattle.sl_desk.specs.Running.{IsRunCode, ReadsBehindCode};
-ghost use Rattle.sl_inputs.specs.Failures.{counts, counts_after};
-ghost use Rattle.sl_inputs.specs.Reading.{ForKnown, TakesAtMost};
-ghost use Rattle.sl_inputs.specs.Writing.{Delivers};
-ghost use Rattle.sl_inputs.specs.declared.limits.TheConstants.{MAX_CODE_BYTES, MAX_RETURNS_BYTES};
+ghost use Rattle.sl_count_inputs.specs.Failures.{counts, counts_after};
+ghost use Rattle.sl_count_inputs.specs.Reading.{ForKnown, TakesAtMost};
+ghost use Rattle.sl_count_inputs.specs.Writing.{Delivers};
+ghost use Rattle.sl_count_inputs.specs.declared.limits.TheConstants.{MAX_CODE_BYTES, MAX_RETURNS_BYTES};
 ghost use Rattle.sl_machine.specs.Fits.{Fits};
 
 use crate::runs::run_text;
-use sl_code_inputs::{CodeRefusal, ReadCode, read_code};
-use sl_counts::Answer;
-use sl_inputs::{
+use sl_count_calls::Answer;
+use sl_count_code_files::{CodeRefusal, ReadCode, read_code};
+use sl_count_inputs::{
     DeskError, ReadReturns, RefusedElection, Sink, Source, Status, Verdict, read_election,
 };
 use sl_machine::{Ending, budget, run_unrecorded};
@@ -127,10 +127,6 @@ pub fn judge_run<C: Source, R: Source>(
 }
 
 /// What is written of what a code file and returns come to.
-///
-/// # Errors
-///
-/// Out of memory.
 pub fn run_answer(alloc: Global, judged: &JudgedRun) -> Result<Answer, NoMemory>
     requires { FitsJudged judged.now }
     // Whatever two inputs came to it, it is the output of running the one on the other.

@@ -1,6 +1,6 @@
 //! What to write at a place, by what may stand there.
 
-use sl_explain::Message;
+use sl_explain_texts::Message;
 use sl_lex::{Keyword, Mark};
 use sl_parse::Sort;
 

@@ -1,7 +1,7 @@
 //! What may stand at a place of a rulebook: the tokens with which a book may go on there.
 
 use crate::pieces::{piece, span_within};
-use sl_explain::{Message, Speaker};
+use sl_explain_texts::{Message, Speaker};
 use sl_lex::{KEYWORDS, Mark, Token};
 use sl_parse::{Sort, begins_book};
 use sl_ratio::NoMemory;

@@ -1,10 +1,10 @@
 //! Books that are too long, and expressions and stages that are too many.
 
 ghost use Rattle.std.specs.Prelude.{◌≡◌, IfOk, Some};
-ghost use Rattle.sl_explain.specs.declared.code.FaultCode.TheVariants.{B02, B07, B08, B09};
+ghost use Rattle.sl_explain_texts.specs.declared.code.FaultCode.TheVariants.{B02, B07, B08, B09};
 
 use crate::pieces::token_span;
-use sl_explain::{Explanation, FaultCode, Language, Message, Sentence, Span, Speaker};
+use sl_explain_texts::{Explanation, FaultCode, Language, Message, Sentence, Span, Speaker};
 use sl_lex::{Keyword, Kind, Mark, Token};
 use sl_ratio::NoMemory;
 use sl_stages::{MAX_DEPTH, MAX_PARTS, MAX_STAGES};
@@ -56,10 +56,6 @@ const STAGES_REMEDY: Message = Message {
 };
 
 /// Explains a book that has too many bytes.
-///
-/// # Errors
-///
-/// Out of memory.
 pub fn explain_long_book(alloc: Global, language: Language) -> Result<Explanation, NoMemory>
     ensures { IfOk result (λ x. x.code ≡ Some B02) }
 {

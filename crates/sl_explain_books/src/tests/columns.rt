@@ -1,7 +1,7 @@
 //! What the columns of stages and of expressions have.
 
 use sl_check::Columns;
-use sl_explain::{Message, Speaker};
+use sl_explain_texts::{Message, Speaker};
 use sl_ratio::NoMemory;
 use sl_stages::{ColumnType, Shape, Stage, Unit};
 use std::alloc::Global;

@@ -1,12 +1,12 @@
 //! Explains splits and growths with mismatched arguments, or with an option that their method does not take.
 
 ghost use Rattle.std.specs.Prelude.{◌≡◌, IfOk, Some};
-ghost use Rattle.sl_explain.specs.declared.code.FaultCode.TheVariants.{B19};
+ghost use Rattle.sl_explain_texts.specs.declared.code.FaultCode.TheVariants.{B19};
 
 use super::forms::{explain_arguments, explain_unfit, node_in, sums_to};
 use super::node::{Division, Node};
 use crate::pieces::token_span;
-use sl_explain::{Explanation, FaultCode, Message, Sentence, Span, Speaker};
+use sl_explain_texts::{Explanation, FaultCode, Message, Sentence, Span, Speaker};
 use sl_parse::method_keyword;
 use sl_ratio::{Method, NoMemory};
 use sl_stages::{Book, ColumnType, Shape, Unit};

@@ -1,7 +1,7 @@
 //! Explains forms with mismatched arguments, and a stage with more than one split or growth.
 
 ghost use Rattle.std.specs.Prelude.{◌≡◌, IfOk, Some};
-ghost use Rattle.sl_explain.specs.declared.code.FaultCode.TheVariants.{B18};
+ghost use Rattle.sl_explain_texts.specs.declared.code.FaultCode.TheVariants.{B18};
 
 use super::columns::{column_words, types_of};
 use super::divisions::explain_division;
@@ -9,7 +9,7 @@ use super::names::{above, around, named};
 use super::node::{Node, node_at};
 use crate::pieces::{line_number, piece, token_span};
 use sl_check::Columns;
-use sl_explain::{Explanation, FaultCode, Message, Sentence, Span, Speaker};
+use sl_explain_texts::{Explanation, FaultCode, Message, Sentence, Span, Speaker};
 use sl_parse::{axis_keyword, pairing_keyword};
 use sl_ratio::NoMemory;
 use sl_stages::{Axis, Book, ColumnType, Shape, Stage};

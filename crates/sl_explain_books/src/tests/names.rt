@@ -1,13 +1,13 @@
 //! Names of stages: one that two have, one that none has, and the one that the last clause asks for.
 
 ghost use Rattle.std.specs.Prelude.{◌≡◌, IfOk, Some};
-ghost use Rattle.sl_explain.specs.declared.code.FaultCode.TheVariants.{B14, B15, B21};
+ghost use Rattle.sl_explain_texts.specs.declared.code.FaultCode.TheVariants.{B14, B15, B21};
 
 use super::columns::{column_words, types_of};
 use crate::near::{columns_of_returns, help_nearest_stage, help_stages};
 use crate::pieces::{line_number, piece, token_span};
 use sl_check::Columns;
-use sl_explain::{Explanation, FaultCode, Message, Sentence, Span, Speaker};
+use sl_explain_texts::{Explanation, FaultCode, Message, Sentence, Span, Speaker};
 use sl_ratio::NoMemory;
 use sl_stages::{Base, Book, ColumnType, Shape, Stage, Unit};
 

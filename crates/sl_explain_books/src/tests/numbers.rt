@@ -1,10 +1,10 @@
 //! Numbers that are out of their range: the version, the house, a threshold, the cap of a growth.
 
 ghost use Rattle.std.specs.Prelude.{◌≡◌, IfOk, Some};
-ghost use Rattle.sl_explain.specs.declared.code.FaultCode.TheVariants.{B11, B13};
+ghost use Rattle.sl_explain_texts.specs.declared.code.FaultCode.TheVariants.{B11, B13};
 
 use crate::pieces::{piece, token_span};
-use sl_explain::{Explanation, FaultCode, Message, Sentence, Span, Speaker};
+use sl_explain_texts::{Explanation, FaultCode, Message, Sentence, Span, Speaker};
 use sl_ratio::NoMemory;
 use sl_stages::{Book, Cond, MAX_PER, MAX_SEATS};
 

@@ -1,11 +1,11 @@
 //! Characters that begin no token, and those that a text in quotes may not have.
 
 ghost use Rattle.std.specs.Prelude.{◌≡◌, IfOk, Some};
-ghost use Rattle.sl_explain.specs.declared.code.FaultCode.TheVariants.{B03, B04};
+ghost use Rattle.sl_explain_texts.specs.declared.code.FaultCode.TheVariants.{B03, B04};
 
 use crate::meant::{METHOD, method_of};
 use crate::pieces::{character_len, piece, span_within};
-use sl_explain::{Explanation, FaultCode, Message, Sentence, Span, Speaker};
+use sl_explain_texts::{Explanation, FaultCode, Message, Sentence, Span, Speaker};
 use sl_ratio::NoMemory;
 
 const UNEXPECTED: Sentence = Sentence {

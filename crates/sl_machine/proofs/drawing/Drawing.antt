@@ -7,9 +7,9 @@ use Rattle.sl_prio.specs.Prio.{top}
 use Rattle.sl_stages.specs.declared.fault.Item.{Item}
 use Rattle.sl_stages.specs.declared.fault.Scope.{Scope}
 use Rattle.sl_stages.specs.returns.Election.{Election}
-use Rattle.sl_semantics.specs.Drawn.{lot_of}
-use Rattle.sl_semantics.specs.State.{PriorityTable}
-use Rattle.sl_semantics.specs.Effects.{Effect, NoCase, given, where_positive}
+use Rattle.sl_code_semantics.specs.Drawn.{lot_of}
+use Rattle.sl_code_semantics.specs.State.{PriorityTable}
+use Rattle.sl_code_semantics.specs.Effects.{Effect, NoCase, given, where_positive}
 
 given_some : (o : Option Entry) (x : Effect) → IsSome o → given o (λ first. x) ≡ x
 given_some None x h = cc

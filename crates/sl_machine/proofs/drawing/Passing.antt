@@ -14,15 +14,15 @@ use Rattle.sl_prio.specs.inner.Marks.{IsPassed}
 use Rattle.sl_prio.proofs.LawProofs.{order_is_free}
 use Rattle.sl_prio.proofs.PeerCounts.{passed}
 use Rattle.sl_stages.specs.returns.Election.{Election}
-use Rattle.sl_instructions.specs.declared.code.CodeStage.{CodeStage}
-use Rattle.sl_instructions.specs.declared.operand.Entries.{Entries}
-use Rattle.sl_instructions.specs.declared.operand.Entries.TheVariants as entries
-use Rattle.sl_instructions.specs.Codes.{CountingCode}
+use Rattle.sl_code_instructions.specs.declared.code.CodeStage.{CodeStage}
+use Rattle.sl_code_instructions.specs.declared.operand.Entries.{Entries}
+use Rattle.sl_code_instructions.specs.declared.operand.Entries.TheVariants as entries
+use Rattle.sl_code_instructions.specs.Codes.{CountingCode}
 use Rattle.sl_verify.specs.declared.needs.TheConstants.{LAST_CLAUSE}
 use Rattle.sl_machine.specs.declared.priority.TableKind.{TableKind}
-use Rattle.sl_semantics.specs.Drawn.{lot_of}
-use Rattle.sl_semantics.specs.Effects.{Effect, Goes, Jumps, given, stage_of, name_of}
-use Rattle.sl_semantics.specs.State.{PriorityTable, State}
+use Rattle.sl_code_semantics.specs.Drawn.{lot_of}
+use Rattle.sl_code_semantics.specs.Effects.{Effect, Goes, Jumps, given, stage_of, name_of}
+use Rattle.sl_code_semantics.specs.State.{PriorityTable, State}
 use Rattle.sl_machine.specs.inner.Lots.{LotTable, StageLots, lot_in, lots_for, stage_lots}
 use Rattle.sl_machine.proofs.Priorities.{table_with}
 use Rattle.sl_machine.proofs.drawing.Drawing.{topped}
@@ -58,7 +58,7 @@ behind : (o : Option Entry) (entry : Entry) → option_map_or (λ first. is_lt (
 behind None entry h = cc
 behind (Some first) entry h = (first, refl, less (compare entry.ratio first.ratio) h)
 
--- an entry that is behind the top joins no peers
+-- an entry that is after the top joins no peers
 pub behind_passed : (xs : List Entry) → All (λ x. FitsRatio x.ratio) xs → (entry : Entry) → FitsRatio entry.ratio
     → option_map_or (λ first. is_lt (compare entry.ratio first.ratio)) (top xs) false ≡ true → peers (entry ∷ xs) ≡ peers xs
 behind_passed xs ratios entry fits h = let w = behind (top xs) entry h in passed xs ratios w.0 w.1 entry fits w.2

@@ -16,9 +16,9 @@ use Rattle.sl_prio.proofs.Rankings.{ranked-permutation}
 use Rattle.sl_stages.specs.declared.fault.Item.{Item}
 use Rattle.sl_stages.specs.returns.Election.{Election}
 use Rattle.sl_machine.specs.declared.priority.TableKind.{TableKind}
-use Rattle.sl_semantics.specs.State.{PriorityTable}
-use Rattle.sl_semantics.specs.Places.{item_of}
-use Rattle.sl_semantics.specs.Safe.{entries_in}
+use Rattle.sl_code_semantics.specs.State.{PriorityTable}
+use Rattle.sl_code_semantics.specs.Places.{item_of}
+use Rattle.sl_code_semantics.specs.Safe.{entries_in}
 use Rattle.sl_machine.proofs.Priorities.{alike, table_with}
 
 top_of : (xs : List Entry) (first : Option Entry) → top xs ≡ first → 0 < length (ranked xs) → IsSome first

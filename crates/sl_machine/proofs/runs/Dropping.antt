@@ -1,28 +1,28 @@
 -- An instruction reads no records: in a state without them it does what it does, but for those.
 use Rattle.std.proofs.Common.{◌≡◌, ◌≢◌, sym, ℕ, zero, suc, Bool, true, false, Option, Some, None, min, if◌then◌else◌, refl, ap, rules}
-use Rattle.sl_terms.specs.declared.shape.Shape.{Shape}
-use Rattle.sl_terms.specs.declared.shape.Shape.TheVariants as shape
+use Rattle.sl_base_terms.specs.declared.shape.Shape.{Shape}
+use Rattle.sl_base_terms.specs.declared.shape.Shape.TheVariants as shape
 use Rattle.sl_stages.specs.declared.fault.Scope.{Scope}
 use Rattle.sl_ratio.specs.declared.limits.TheConstants.{MAX_WEIGHT}
 use Rattle.sl_stages.specs.declared.table.Mark.{Mark}
 use Rattle.sl_stages.specs.declared.table.Mark.TheVariants as mark
 use Rattle.sl_stages.specs.returns.Election.{Election}
-use Rattle.sl_instructions.specs.declared.instr.Instr.{Instr}
-use Rattle.sl_instructions.specs.declared.instr.Instr.TheVariants as instr
-use Rattle.sl_instructions.specs.declared.operand.Entries.{Entries}
-use Rattle.sl_instructions.specs.declared.operand.Entries.TheVariants as entries
-use Rattle.sl_instructions.specs.declared.operand.Rounding.{Rounding}
-use Rattle.sl_instructions.specs.declared.operand.ScopeKind.{ScopeKind}
-use Rattle.sl_instructions.specs.declared.operand.ScopeKind.TheVariants as kind
-use Rattle.sl_instructions.specs.Codes.{CountingCode}
-use Rattle.sl_instructions.specs.Numbers.{divisor_of}
+use Rattle.sl_code_instructions.specs.declared.instr.Instr.{Instr}
+use Rattle.sl_code_instructions.specs.declared.instr.Instr.TheVariants as instr
+use Rattle.sl_code_instructions.specs.declared.operand.Entries.{Entries}
+use Rattle.sl_code_instructions.specs.declared.operand.Entries.TheVariants as entries
+use Rattle.sl_code_instructions.specs.declared.operand.Rounding.{Rounding}
+use Rattle.sl_code_instructions.specs.declared.operand.ScopeKind.{ScopeKind}
+use Rattle.sl_code_instructions.specs.declared.operand.ScopeKind.TheVariants as kind
+use Rattle.sl_code_instructions.specs.Codes.{CountingCode}
+use Rattle.sl_code_instructions.specs.Numbers.{divisor_of}
 use Rattle.sl_machine.specs.declared.step.Records.{Records}
 use Rattle.sl_machine.specs.declared.step.Records.TheVariants as records
-use Rattle.sl_semantics.specs.State.{State, PriorityTable}
-use Rattle.sl_semantics.specs.Places.{cell_at, index_at, at_entry, item_of, scope_at}
-use Rattle.sl_semantics.specs.Effects.{Effect, Goes, Jumps, NoCase, with_step, with_weight, stage_of, effect, given, where_positive, to_party, first_of, seat_winner, sets_house, counts_peers}
-use Rattle.sl_semantics.specs.Effects as machine
-use Rattle.sl_semantics.specs.Unrecorded.{unrecorded}
+use Rattle.sl_code_semantics.specs.State.{State, PriorityTable}
+use Rattle.sl_code_semantics.specs.Places.{cell_at, index_at, at_entry, item_of, scope_at}
+use Rattle.sl_code_semantics.specs.Effects.{Effect, Goes, Jumps, NoCase, with_step, with_weight, stage_of, effect, given, where_positive, to_party, first_of, seat_winner, sets_house, counts_peers}
+use Rattle.sl_code_semantics.specs.Effects as machine
+use Rattle.sl_code_semantics.specs.Unrecorded.{unrecorded}
 use Rattle.sl_machine.specs.inner.Recording.{unrecorded_effect, state_by, left_by}
 use Rattle.sl_machine.specs.inner.Ways.{is_idle}
 

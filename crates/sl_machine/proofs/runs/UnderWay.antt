@@ -3,11 +3,11 @@ use Rattle.std.proofs.Common.{◌≡◌, ◌⊎◌, inl, inr, ◌<◌, ◌≤◌
 use Rattle.std.proofs.lemmas.List.{length-drop}
 use Rattle.std.proofs.lemmas.Nat.{mul-le}
 use Rattle.sl_stages.specs.returns.Election.{Election}
-use Rattle.sl_instructions.specs.Codes.{CountingCode}
-use Rattle.sl_instructions.specs.declared.instr.Instr.{Instr}
-use Rattle.sl_semantics.specs.Agrees.{IsSafe}
-use Rattle.sl_semantics.specs.Runs.{run}
-use Rattle.sl_semantics.specs.State.{State}
+use Rattle.sl_code_instructions.specs.Codes.{CountingCode}
+use Rattle.sl_code_instructions.specs.declared.instr.Instr.{Instr}
+use Rattle.sl_code_semantics.specs.Agrees.{IsSafe}
+use Rattle.sl_code_semantics.specs.Runs.{run}
+use Rattle.sl_code_semantics.specs.State.{State}
 use Rattle.sl_machine.specs.declared.clock.Clock.{Clock}
 use Rattle.sl_machine.specs.declared.step.Records.{Records}
 use Rattle.sl_machine.specs.declared.store.Store.{Store}

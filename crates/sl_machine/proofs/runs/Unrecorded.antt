@@ -2,18 +2,18 @@
 use Rattle.std.proofs.Common.{◌≡◌, ℕ, zero, suc, ◌+◌, Bool, true, false, ◌||◌, [], length, Option, Some, None, slice_get, if◌then◌else◌, refl, sym, ap, ◌∙◌}
 use Rattle.std.proofs.lemmas.List.Elements.{All-nil}
 use Rattle.sl_stages.specs.returns.Election.{Election}
-use Rattle.sl_instructions.specs.declared.instr.Instr.{Instr}
-use Rattle.sl_instructions.specs.Codes.{CountingCode}
-use Rattle.sl_instructions.specs.Rows.{target_of}
+use Rattle.sl_code_instructions.specs.declared.instr.Instr.{Instr}
+use Rattle.sl_code_instructions.specs.Codes.{CountingCode}
+use Rattle.sl_code_instructions.specs.Rows.{target_of}
 use Rattle.sl_machine.specs.declared.step.Records.{Records}
 use Rattle.sl_machine.specs.declared.step.Records.TheVariants as records
-use Rattle.sl_semantics.specs.State.{State, End, Halted, Faulted, start}
-use Rattle.sl_semantics.specs.Agrees.{IsSafe}
-use Rattle.sl_semantics.specs.Effects.{Effect, Goes, Jumps, Ends, NoCase, effect}
-use Rattle.sl_semantics.specs.Fits.{FitsEnd, FitsRecords, FitsStep, FitsWeight}
-use Rattle.sl_semantics.specs.Runs.{Ending, Ended, Stuck, follow, after_step, step_of, run}
-use Rattle.sl_semantics.specs.Unrecorded.{unrecorded, unrecorded_end, without_records}
-use Rattle.sl_semantics.specs.Frames.{records_step, records_weight}
+use Rattle.sl_code_semantics.specs.State.{State, End, Halted, Faulted, start}
+use Rattle.sl_code_semantics.specs.Agrees.{IsSafe}
+use Rattle.sl_code_semantics.specs.Effects.{Effect, Goes, Jumps, Ends, NoCase, effect}
+use Rattle.sl_code_semantics.specs.Fits.{FitsEnd, FitsRecords, FitsStep, FitsWeight}
+use Rattle.sl_code_semantics.specs.Runs.{Ending, Ended, Stuck, follow, after_step, step_of, run}
+use Rattle.sl_code_semantics.specs.Unrecorded.{unrecorded, unrecorded_end, without_records}
+use Rattle.sl_code_semantics.specs.Frames.{records_step, records_weight}
 use Rattle.sl_machine.specs.inner.Recording.{unrecorded_effect, state_by, effect_by, ending_by, left_by}
 use Rattle.sl_machine.proofs.runs.Dropping.{drops}
 

@@ -3,10 +3,10 @@ use Rattle.std.proofs.Common.{◌≡◌, ◌<◌, ◌≤◌, ◌+◌, ◌-◌, �
 use Rattle.std.proofs.lemmas.List.{length-append, length-take-le, take-append-drop, drop-drop}
 use Rattle.std.proofs.Math.Seq.{drop-append_seam, take-suc}
 use Rattle.sl_stages.specs.returns.Election.{Election}
-use Rattle.sl_instructions.specs.Codes.{CountingCode}
-use Rattle.sl_instructions.specs.declared.instr.Instr.{Instr}
-use Rattle.sl_semantics.specs.Agrees.{IsSafe}
-use Rattle.sl_semantics.specs.State.{State}
+use Rattle.sl_code_instructions.specs.Codes.{CountingCode}
+use Rattle.sl_code_instructions.specs.declared.instr.Instr.{Instr}
+use Rattle.sl_code_semantics.specs.Agrees.{IsSafe}
+use Rattle.sl_code_semantics.specs.State.{State}
 use Rattle.sl_machine.specs.declared.step.Records.{Records}
 use Rattle.sl_machine.specs.declared.way.Standing.{Standing}
 use Rattle.sl_machine.specs.inner.Leading.{LeadsTo}
@@ -65,7 +65,7 @@ module _ (k : Records) where
 
 -- ---- the next one from a place on
 
--- from place p and state s the run comes straight to a place, to state t, where this one stands; behind it stand the others
+-- from place p and state s the run comes straight to a place, to state t, where this one stands; after it stand the others
 pub record ComesTo (k : Records) (c : CountingCode) (e : Election) (p : ℕ) (s : State) (here : Standing) (others : List Standing) (t : State) : Type 0 where
   pub stands : slice_get c.instrs here.place ≡ Some here.instr
   pub behind : others ≡ standing_from k (here.place + 1) (drop (here.place + 1) c.instrs)

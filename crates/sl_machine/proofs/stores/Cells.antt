@@ -4,8 +4,8 @@ use Rattle.std.specs.Option.{option_and_then}
 use Rattle.std.proofs.lemmas.Grind.{common_steps}
 use Rattle.std.proofs.lemmas.List.{get_or-map, length-map, map-set, set-get_or}
 use Rattle.std.proofs.lemmas.Option.{slice_get_within, get_or_from_slice_get}
-use Rattle.sl_semantics.specs.State.{State}
-use Rattle.sl_semantics.specs.Effects.{Effect, given}
+use Rattle.sl_code_semantics.specs.State.{State}
+use Rattle.sl_code_semantics.specs.Effects.{Effect, given}
 
 -- the cell that is told of a place in a slot's column
 abbrev pub cell_in : List (List ℕ) → ℕ → ℕ → ℕ
@@ -32,7 +32,7 @@ cell_set : (css : List (List ℕ)) (k p v : ℕ) (q r : ℕ) → k < length css 
     → cell_in (set css k (set (get_or css k []) p v)) q r ≡ (if (q == k) && (r == p) then v else cell_in css q r)
 cell_set css k p v q r h g = grind (arith, common_steps)
 
--- what is found behind two options
+-- what is found after two options
 pub found_behind : {A B : Type 0} (o : Option A) (f : A → Option B) (y : B) (go : B → Effect) → option_and_then f o ≡ Some y → given o (λ x. given (f x) go) ≡ go y
 found_behind None f y go h = cc
 found_behind (Some x) f y go h = rw h refl

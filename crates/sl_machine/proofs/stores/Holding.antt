@@ -4,14 +4,14 @@ use Rattle.std.specs.List.{range_with_len}
 use Rattle.std.proofs.lemmas.List.{length-map, get_or-map, length-replicate}
 use Rattle.std.proofs.lemmas.List.FromFn.{fill_by_all, length-map-range_with_len, get_or-map-range_with_len}
 use Rattle.std.proofs.lemmas.Option.{slice_get_within, slice_get-get_or}
-use Rattle.sl_terms.specs.declared.shape.Shape.TheVariants as shape
+use Rattle.sl_base_terms.specs.declared.shape.Shape.TheVariants as shape
 use Rattle.sl_stages.specs.returns.Election.{Election, lands_of, parties_of, wins_of}
-use Rattle.sl_instructions.specs.Codes.{CountingCode}
-use Rattle.sl_semantics.specs.State.{State}
-use Rattle.sl_semantics.specs.Places.{cells_of}
-use Rattle.sl_semantics.specs.Memories.{column_of, vacant_of, held_of}
-use Rattle.sl_semantics.specs.Fits.{FitsHalt, FitsMemory}
-use Rattle.sl_semantics.proofs.effects.Storing.{column_long}
+use Rattle.sl_code_instructions.specs.Codes.{CountingCode}
+use Rattle.sl_code_semantics.specs.State.{State}
+use Rattle.sl_code_semantics.specs.Places.{cells_of}
+use Rattle.sl_code_semantics.specs.Memories.{column_of, vacant_of, held_of}
+use Rattle.sl_code_semantics.specs.Fits.{FitsHalt, FitsMemory}
+use Rattle.sl_code_semantics.proofs.effects.Storing.{column_long}
 
 module _ (c : CountingCode) (e : Election) (s : State) where
   pub column_lengths : map length (map (column_of c e s) (range_with_len 0 (length c.slots))) ≡ map (cells_of e) c.slots

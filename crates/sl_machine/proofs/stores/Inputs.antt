@@ -6,11 +6,11 @@ use Rattle.std.proofs.lemmas.List.{get_or_past}
 use Rattle.std.proofs.lemmas.List.FromFn.{get_or-map-range_with_len, length-map-range_with_len}
 use Rattle.std.proofs.lemmas.Bool.{cases_Bool, ltb-true, ltb-false}
 use Rattle.sl_stages.specs.returns.Election.{Election, IsElection}
-use Rattle.sl_instructions.specs.declared.operand.Input.{Input}
-use Rattle.sl_instructions.specs.declared.operand.Input.TheVariants as input
+use Rattle.sl_code_instructions.specs.declared.operand.Input.{Input}
+use Rattle.sl_code_instructions.specs.declared.operand.Input.TheVariants as input
 use Rattle.sl_verify.specs.Needs.{input_shape}
-use Rattle.sl_semantics.specs.Places.{cells_of}
-use Rattle.sl_semantics.specs.Effects.{input_of, one_if}
+use Rattle.sl_code_semantics.specs.Places.{cells_of}
+use Rattle.sl_code_semantics.specs.Effects.{input_of, one_if}
 
 none_past : (n p x : ℕ) → n ≤ p → (if nat_lt p n then x else 0) ≡ 0
 none_past n p x h = grind (arith, nat_tests)

@@ -3,15 +3,15 @@ use Rattle.std.proofs.Common.{◌≡◌, ℕ, ◌<◌, List, [], length, map, ge
 use Rattle.std.specs.List.{range_with_len}
 use Rattle.std.proofs.lemmas.List.{length-map, get_or-map}
 use Rattle.std.proofs.lemmas.List.FromFn.{fill_by_all}
-use Rattle.sl_terms.specs.declared.shape.Shape.TheVariants as shape
+use Rattle.sl_base_terms.specs.declared.shape.Shape.TheVariants as shape
 use Rattle.sl_stages.specs.declared.table.Placed.TheVariants as placed
 use Rattle.sl_stages.specs.returns.Election.{Election, wins_of}
-use Rattle.sl_instructions.specs.Codes.{CountingCode}
+use Rattle.sl_code_instructions.specs.Codes.{CountingCode}
 use Rattle.sl_machine.specs.declared.store.Store.{Store}
-use Rattle.sl_semantics.specs.Places.{cells_of}
+use Rattle.sl_code_semantics.specs.Places.{cells_of}
 use Rattle.sl_machine.specs.inner.Stores.{Sizes, state_of, columns_of, sizes_of, sizes_for}
 use Rattle.sl_machine.specs.declared.memory.Vacant.TheVariants as vacant
-use Rattle.sl_semantics.specs.Memories.{column_of, held_of}
+use Rattle.sl_code_semantics.specs.Memories.{column_of, held_of}
 use Rattle.sl_machine.specs.inner.Leaving.{held_with}
 
 module _ (c : CountingCode) (e : Election) (s : Store) (sizes : sizes_of s ≡ sizes_for c e) where

@@ -2,15 +2,15 @@
 use Rattle.std.proofs.Common.{◌≡◌, ℕ, zero, suc, List, [], ◌∷◌, length, map, get_or, replicate, Option, None, refl, arith}
 use Rattle.std.proofs.lemmas.Grind.{common_steps}
 use Rattle.std.proofs.lemmas.List.{length-replicate}
-use Rattle.sl_terms.specs.declared.shape.Shape.{Shape}
+use Rattle.sl_base_terms.specs.declared.shape.Shape.{Shape}
 use Rattle.sl_stages.specs.declared.table.Mark.{Mark}
 use Rattle.sl_stages.specs.declared.table.Placed.{Placed}
 use Rattle.sl_stages.specs.declared.table.SeatStep.{SeatStep}
 use Rattle.sl_stages.specs.declared.table.Weight.{Weight}
 use Rattle.sl_stages.specs.declared.table.Placed.TheVariants as placed
 use Rattle.sl_stages.specs.returns.Election.{Election}
-use Rattle.sl_semantics.specs.State.{State, PriorityTable, start}
-use Rattle.sl_semantics.specs.Places.{cells_of}
+use Rattle.sl_code_semantics.specs.State.{State, PriorityTable, start}
+use Rattle.sl_code_semantics.specs.Places.{cells_of}
 
 pub same_at : {A : Type 0} (n : ℕ) (x : A) (p : ℕ) → get_or (replicate n x) p x ≡ x
 same_at n x p = grind (arith, common_steps)

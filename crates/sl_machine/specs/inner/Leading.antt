@@ -2,15 +2,15 @@
 use Rattle.std.specs.Prelude.{◌≡◌, ◌-◌, ℕ, suc, Bool, true, false, Option, Some, None, IsTrue, slice_get}
 use Rattle.std.specs.Option.{ForSome}
 use Rattle.sl_stages.specs.returns.Election.{Election}
-use Rattle.sl_instructions.specs.Codes.{CountingCode}
-use Rattle.sl_instructions.specs.declared.instr.Instr.{Instr}
-use Rattle.sl_instructions.specs.declared.instr.Instr.TheVariants as op
+use Rattle.sl_code_instructions.specs.Codes.{CountingCode}
+use Rattle.sl_code_instructions.specs.declared.instr.Instr.{Instr}
+use Rattle.sl_code_instructions.specs.declared.instr.Instr.TheVariants as op
 use Rattle.sl_machine.specs.declared.step.End.{End}
 use Rattle.sl_machine.specs.declared.step.Records.{Records}
-use Rattle.sl_semantics.specs.State.{State}
-use Rattle.sl_semantics.specs.Agrees.{IsSafe}
-use Rattle.sl_semantics.specs.Fits.{FitsEnd}
-use Rattle.sl_semantics.specs.Runs.{Ending, Ended, OutOfBudget, run}
+use Rattle.sl_code_semantics.specs.State.{State}
+use Rattle.sl_code_semantics.specs.Agrees.{IsSafe}
+use Rattle.sl_code_semantics.specs.Fits.{FitsEnd}
+use Rattle.sl_code_semantics.specs.Runs.{Ending, Ended, OutOfBudget, run}
 use Rattle.sl_machine.specs.inner.Recording.{state_by, ending_by}
 use Rattle.sl_machine.specs.inner.Stores.{end_with}
 

@@ -4,11 +4,11 @@ use Rattle.std.specs.Option.{option_map, option_to_list}
 use Rattle.sl_stages.specs.declared.returns.Lot.{Lot}
 use Rattle.sl_stages.specs.returns.Election.{Election}
 use Rattle.sl_stages.specs.meaning.Scopes.{place}
-use Rattle.sl_instructions.specs.Codes.{CountingCode}
-use Rattle.sl_instructions.specs.declared.operand.Entries.{Entries}
-use Rattle.sl_instructions.specs.declared.operand.Entries.TheVariants as entries
-use Rattle.sl_semantics.specs.Drawn.{given_in, lot_of}
-use Rattle.sl_semantics.specs.State.{PriorityTable}
+use Rattle.sl_code_instructions.specs.Codes.{CountingCode}
+use Rattle.sl_code_instructions.specs.declared.operand.Entries.{Entries}
+use Rattle.sl_code_instructions.specs.declared.operand.Entries.TheVariants as entries
+use Rattle.sl_code_semantics.specs.Drawn.{given_in, lot_of}
+use Rattle.sl_code_semantics.specs.State.{PriorityTable}
 
 -- the lot of a stage, in a table of parties, of Länder, of lists, of winners
 pub record StageLots : Type 0 where
@@ -36,7 +36,7 @@ with_lot e l s = record {
 abbrev pub stage_lots : Election → List ℕ → StageLots
 stage_lots e name = record { party = lot_of e entries.Party name; land = lot_of e entries.Land name; list = lot_of e entries.List name; win = lot_of e entries.Win name }
 
--- those of the stages, and behind them those of the last clause
+-- those of the stages, and after them those of the last clause
 abbrev pub lots_for : CountingCode → Election → List StageLots
 lots_for c e = map (λ stage. stage_lots e stage.name) c.stages ++ stage_lots e (codes "seats") ∷ []
 

@@ -3,7 +3,7 @@ use Rattle.std.specs.Prelude.{◌<◌, ℕ, List, [], length, slice_index_or}
 use Rattle.sl_machine.specs.declared.memory.Memory.TheInside.{Inside}
 use Rattle.sl_machine.specs.declared.memory.Vacant.{Vacant}
 use Rattle.sl_machine.specs.declared.memory.Vacant.TheVariants as vacant
-use Rattle.sl_semantics.specs.Memories.{Held}
+use Rattle.sl_code_semantics.specs.Memories.{Held}
 
 abbrev pub columns_in : Inside → List (List ℕ)
 columns_in m = m.columns.items

@@ -1,8 +1,8 @@
 -- What the cursors of the party and the Land stand at, and the cells of columns there.
 use Rattle.std.specs.Prelude.{ℕ, ◌+◌, ◌*◌, Option, Some}
-use Rattle.sl_terms.specs.declared.shape.Shape.{Shape}
-use Rattle.sl_terms.specs.declared.shape.Shape.TheVariants as shape
-use Rattle.sl_semantics.specs.Places.{both}
+use Rattle.sl_base_terms.specs.declared.shape.Shape.{Shape}
+use Rattle.sl_base_terms.specs.declared.shape.Shape.TheVariants as shape
+use Rattle.sl_code_semantics.specs.Places.{both}
 
 -- each is set or unset; how many parties there are is how many lists a Land's row has
 pub record Position : Type 0 where

@@ -1,13 +1,13 @@
 -- What a run that keeps what it records, or drops it, leaves of states, effects and endings.
 use Rattle.std.specs.Prelude.{◌||◌, if◌then◌else◌}
-use Rattle.sl_instructions.specs.declared.instr.Instr.{Instr}
+use Rattle.sl_code_instructions.specs.declared.instr.Instr.{Instr}
 use Rattle.sl_machine.specs.declared.step.Records.{Records}
 use Rattle.sl_machine.specs.declared.step.Records.TheVariants as records
-use Rattle.sl_semantics.specs.State.{State}
-use Rattle.sl_semantics.specs.Effects.{Effect, Goes, Jumps, Ends, NoCase}
-use Rattle.sl_semantics.specs.Runs.{Ending}
-use Rattle.sl_semantics.specs.Unrecorded.{unrecorded, unrecorded_end, without_records}
-use Rattle.sl_semantics.specs.Frames.{records_step, records_weight}
+use Rattle.sl_code_semantics.specs.State.{State}
+use Rattle.sl_code_semantics.specs.Effects.{Effect, Goes, Jumps, Ends, NoCase}
+use Rattle.sl_code_semantics.specs.Runs.{Ending}
+use Rattle.sl_code_semantics.specs.Unrecorded.{unrecorded, unrecorded_end, without_records}
+use Rattle.sl_code_semantics.specs.Frames.{records_step, records_weight}
 
 abbrev pub unrecorded_effect : Effect → Effect
 unrecorded_effect (Goes s) = Goes (unrecorded s)

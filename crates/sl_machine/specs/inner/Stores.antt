@@ -2,15 +2,15 @@
 use Rattle.std.specs.Prelude.{◌≡◌, ℕ, List, [], length, map, slice_index, slice_index_or}
 use Rattle.sl_stages.specs.declared.table.Placed.TheVariants as placed
 use Rattle.sl_stages.specs.returns.Election.{Election, parties_of, wins_of}
-use Rattle.sl_instructions.specs.Codes.{CountingCode}
+use Rattle.sl_code_instructions.specs.Codes.{CountingCode}
 use Rattle.sl_machine.specs.declared.step.End.{End as Answer}
 use Rattle.sl_machine.specs.declared.step.End.TheVariants as end
 use Rattle.sl_machine.specs.declared.step.Effect.{Effect as Move}
 use Rattle.sl_machine.specs.declared.step.Effect.TheVariants as move
 use Rattle.sl_machine.specs.declared.store.Store.{Store}
-use Rattle.sl_semantics.specs.State.{State, End, Halted, Faulted}
-use Rattle.sl_semantics.specs.Places.{cells_of}
-use Rattle.sl_semantics.specs.Effects.{Effect, Goes, Jumps}
+use Rattle.sl_code_semantics.specs.State.{State, End, Halted, Faulted}
+use Rattle.sl_code_semantics.specs.Places.{cells_of}
+use Rattle.sl_code_semantics.specs.Effects.{Effect, Goes, Jumps}
 use Rattle.sl_machine.specs.inner.Lots.{StageLots, lots_for}
 
 -- the columns, each as the list of its numbers

@@ -2,13 +2,13 @@
 use Rattle.std.specs.Prelude.{◌≤◌, ◌^◌, Option, All, slice_get}
 use Rattle.std.specs.Option.{option_map, ForSome}
 use Rattle.sl_ratio.specs.Quotient.{Quotient}
-use Rattle.sl_instructions.specs.declared.operand.Ranking.{Ranking}
-use Rattle.sl_instructions.specs.declared.operand.Ranking.TheVariants as ranking
+use Rattle.sl_code_instructions.specs.declared.operand.Ranking.{Ranking}
+use Rattle.sl_code_instructions.specs.declared.operand.Ranking.TheVariants as ranking
 use Rattle.sl_prio.specs.Prio.{peers}
 use Rattle.sl_prio.specs.Ranking.{ranked}
 use Rattle.sl_prio.specs.inner.Marks.{IsPassed}
 use Rattle.sl_machine.specs.declared.priority.PriorityTable.TheInside.{Inside}
-use Rattle.sl_semantics.specs.State.{PriorityTable}
+use Rattle.sl_code_semantics.specs.State.{PriorityTable}
 use Rattle.sl_machine.specs.inner.Lots.{lot_in}
 
 abbrev pub table_in : Inside → Option PriorityTable

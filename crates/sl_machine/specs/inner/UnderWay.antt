@@ -1,10 +1,10 @@
 -- A run on its way through a code.
 use Rattle.std.specs.Prelude.{◌≡◌, ◌<◌, ◌≤◌, ◌+◌, ◌*◌, ◌-◌, ℕ, suc, List, [], ◌∷◌, Some, IsTrue, drop, length, slice_get}
 use Rattle.sl_stages.specs.returns.Election.{Election}
-use Rattle.sl_instructions.specs.Codes.{CountingCode}
-use Rattle.sl_semantics.specs.Agrees.{IsSafe}
-use Rattle.sl_semantics.specs.Runs.{Ending, OutOfBudget, run}
-use Rattle.sl_semantics.specs.State.{State}
+use Rattle.sl_code_instructions.specs.Codes.{CountingCode}
+use Rattle.sl_code_semantics.specs.Agrees.{IsSafe}
+use Rattle.sl_code_semantics.specs.Runs.{Ending, OutOfBudget, run}
+use Rattle.sl_code_semantics.specs.State.{State}
 use Rattle.sl_machine.specs.declared.clock.Clock.{Clock}
 use Rattle.sl_machine.specs.declared.step.Records.{Records}
 use Rattle.sl_machine.specs.declared.way.Standing.{Standing}
@@ -16,7 +16,7 @@ use Rattle.sl_machine.specs.inner.Ways.{standing_from}
 abbrev pub steps_left : Clock → ℕ → ℕ
 steps_left clock place = clock.left - (place - clock.since)
 
--- a run has come straight to a place where this one stands, and behind it the others; what it is to go on from there is safe
+-- a run has come straight to a place where this one stands, and after it the others; what it is to go on from there is safe
 pub record IsHere (k : Records) (c : CountingCode) (e : Election) (clock : Clock) (here : Standing) (others : List Standing) (s : State) : Type 0 where
   pub stands : slice_get c.instrs here.place ≡ Some here.instr
   pub behind : others ≡ standing_from k (here.place + 1) (drop (here.place + 1) c.instrs)

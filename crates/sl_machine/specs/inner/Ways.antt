@@ -1,9 +1,9 @@
 -- The way of a run through a code: the instructions that do something, each with its place.
 use Rattle.std.specs.Prelude.{◌≡◌, ◌<◌, ◌+◌, ◌||◌, ℕ, Bool, true, false, List, [], ◌∷◌, length, take, slice_index, if◌then◌else◌}
-use Rattle.sl_instructions.specs.Codes.{CountingCode}
-use Rattle.sl_instructions.specs.declared.instr.Instr.{Instr}
-use Rattle.sl_instructions.specs.declared.instr.Instr.TheVariants as op
-use Rattle.sl_semantics.specs.Frames.{records_step, records_weight}
+use Rattle.sl_code_instructions.specs.Codes.{CountingCode}
+use Rattle.sl_code_instructions.specs.declared.instr.Instr.{Instr}
+use Rattle.sl_code_instructions.specs.declared.instr.Instr.TheVariants as op
+use Rattle.sl_code_semantics.specs.Frames.{records_step, records_weight}
 use Rattle.sl_machine.specs.declared.step.Records.{Records}
 use Rattle.sl_machine.specs.declared.step.Records.TheVariants as records
 use Rattle.sl_machine.specs.declared.way.Standing.{Standing}

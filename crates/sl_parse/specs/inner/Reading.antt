@@ -1,4 +1,4 @@
--- Reading from the front, as the parser does: what is read with the tokens behind it, or why and where it stops.
+-- Reading from the front, as the parser does: what is read with the tokens after it, or why and where it stops.
 use Rattle.std.specs.Prelude.{◌≡◌, ℕ, zero, suc, ◌+◌, ◌-◌, Bool, false, ◌&&◌, List, [], ◌∷◌, length, Option, Some, None, Result, Ok, Err, if◌then◌else◌, drop, slice_range, codes}
 use Rattle.std.specs.Str.{bytes_eq}
 use Rattle.sl_ratio.specs.declared.method.Method.{Method}
@@ -149,7 +149,7 @@ read_pair argument pairing at parts ts = do
   c ← taken (kinds.Mark marks.Close) x.2
   Ok (pair at pairing x.0.0 x.0.1, x.1, c)
 
--- what is given out, by which votes and by which method
+-- what is distributed, by which votes and by which method
 abbrev pub DivisionTree : Type 0
 DivisionTree = ExprTree × ExprTree × Method
 
@@ -199,7 +199,7 @@ read_grow argument at parts ts = do
   c ← taken (kinds.Mark marks.Close) j.1
   Ok (grow at d.0.0 d.0.1 d.0.2 e.0 n.0 j.0, e.1, c)
 
--- an expression of that form, behind its first token
+-- an expression of that form, after its first token
 unfoldable pub read_form : List ℕ → Reader → ℕ → Option Form → Token → List Token → ReadExpr
 read_form text argument parts (Some (forms.Fact told)) t rest = Ok (fact t.start told, parts, rest)
 read_form text argument parts (Some forms.Name) t rest = Ok (name t.start (bytes_of text t), parts, rest)
@@ -242,7 +242,7 @@ read_stages text limits (suc n) ts = if is_next (kinds.Keyword keywords.Stage) t
   ss ← read_stages text limits n s.1
   Ok (s.0 ∷ ss.0, ss.1)) else Ok ([], ts)
 
--- ---- what stands before the stages, and behind them
+-- ---- what stands before the stages, and after them
 
 unfoldable pub read_valid : List Token → Read (Cond × List Token)
 read_valid ts = do

@@ -35,10 +35,10 @@ pub record StandsFor (b : Building) (rs : List Record) : Type 0 where
   pub version : b.version ≡ told_version rs
   pub row : b.row ≡ last_row rs
 
--- a fault has the row of the record behind so many, if it is one of a record
+-- a fault has the row of the record after so many, if it is one of a record
 abbrev pub HasRowBehind : ℕ → ReturnsFault → Type 0
 HasRowBehind records f = f.kind ≢ fault.NoMemory → f.row ≡ row_behind records
 
--- why the last of these records is refused, none before which is: its own fault or, where it has none, want of memory
+-- why the last of these records is refused, none before which is: its own fault or, where it has none, out of memory
 abbrev pub RefusesLast : List Record → ReturnsFault → Type 0
 RefusesLast rs f = (refusal_of rs ≡ Some f) ⊎ ((refusal_of rs ≡ None) × (f ≡ no_memory))

@@ -1,5 +1,5 @@
 -- The election with a record more, for a record whose tests hold.
-use Rattle.std.specs.Prelude.{◌≡◌, Option, Some, None}
+use Rattle.std.specs.Prelude.{◌≡◌, ◌≢◌, IfErr, Option, Result, Some, None}
 use Rattle.sl_stages.specs.returns.Election.{Election, with_house, with_land, with_party, with_list, with_win, with_lot}
 use Rattle.sl_returns.specs.declared.schema.TheConstants.{KIND, LAND, PARTY, A}
 use Rattle.sl_returns.specs.declared.header.Version.{Version}
@@ -53,3 +53,7 @@ TakesRecord (Some u) v old new r = (v ≡ u) × Pass (record_tests u old r) × (
 abbrev pub RefusesRecord : Option Version → Election → Record → RecordFault → Type 0
 RefusesRecord None old r f = (version_of r ≡ None) × (f ≡ of_record fault.Header)
 RefusesRecord (Some u) old r f = Refuse (record_tests u old r) f
+
+-- what holds where a record is refused for a fault of its own, and not for lack of memory
+abbrev pub OwnFault : {T : Type 0} → Result T RecordFault → Type 0 → Type 0
+OwnFault answer P = IfErr answer (λ f. f.kind ≢ fault.NoMemory → P)

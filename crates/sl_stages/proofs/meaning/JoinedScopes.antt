@@ -14,7 +14,7 @@ use Rattle.sl_stages.specs.meaning.Splits.{Award, Seats, Refused, awarded}
 use Rattle.sl_stages.specs.meaning.Results.{ExprResult, Column, Fault, Stand, fault_at, fault_of, amount_of, first_over, joined}
 
 module _ (e : Election) (at : Stand) (amounts : List ℕ) where
-  -- no scope has more seats to give out than the limit
+  -- no scope has more seats to distribute than the limit
   pub none_over : (groups : List Group) → Every (λ g. amount_of e at amounts g ≤ MAX_SEATS) groups → first_over e at amounts groups ≡ None
   none_over [] all = refl
   none_over (g ∷ groups) all =

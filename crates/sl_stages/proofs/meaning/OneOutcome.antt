@@ -16,7 +16,7 @@ use Rattle.sl_stages.specs.declared.table.Outcome.{Outcome}
 use Rattle.sl_stages.specs.declared.table.Outcome.TheVariants as outcome
 use Rattle.sl_stages.specs.book.Trees.{StageTree, BookTree}
 use Rattle.sl_stages.specs.returns.Election.{Election, IsElection, IsWin}
-use Rattle.sl_terms.specs.Tests.{first_failing, test}
+use Rattle.sl_base_terms.specs.Tests.{first_failing, test}
 use Rattle.sl_stages.specs.book.Typing.{is_seat_number, columns_of, stage_column, base_tests, tests_of, version_tests, condition_tests, stages_tests, is_typed}
 use Rattle.sl_stages.specs.meaning.Columns.{IsLeaf}
 use Rattle.sl_stages.specs.meaning.Seating.{base_of}
@@ -32,7 +32,7 @@ use Rattle.sl_stages.specs.laws.OneLaws.{ExactlyOne, OneStagesResult, OneSeating
 use Rattle.sl_stages.proofs.methods.CoveringProofs.{coverings}
 use Rattle.sl_stages.proofs.meaning.ExactlyOne.{one_equal, one_zip}
 use Rattle.sl_stages.proofs.meaning.OneAward.{mentions_distinct}
-use Rattle.sl_terms.proofs.Tests.{no_fault, head_holds, pass_parts}
+use Rattle.sl_base_terms.proofs.Tests.{no_fault, head_holds, pass_parts}
 use Rattle.sl_stages.proofs.meaning.OneResult.{SameNames, one_column, one_run}
 use Rattle.sl_stages.proofs.meaning.Members.{all_and_one}
 
@@ -101,7 +101,7 @@ module _ (b : BookTree) (e : Election) where
         only = λ o h. end.only o (subst (λ c. IsSeated b e b.last.seating c k.records o) (column.only h.base h.is_base) h.seated);
       }
 
-  -- ---- what is known behind the stages
+  -- ---- what is known after the stages
 
   through : (k : Known) (ss : List StageTree) (end : Known) → SameNames k.types k.columns → StagesMean b e k ss (Through end) → SameNames end.types end.columns × (end.types ≡ columns_of k.types ss)
   through k [] end names run = let same : end ≡ k = cc in (subst (λ j. SameNames j.types j.columns) (sym same) names, ap (λ j. j.types) same)

@@ -10,14 +10,14 @@ use Rattle.sl_ratio.specs.declared.method.Divisor.{Divisor}
 use Rattle.sl_ratio.specs.declared.method.Method.{Method}
 use Rattle.sl_ratio.specs.declared.method.Method.TheVariants as by
 use Rattle.sl_stages.specs.declared.book.Majority.{Majority}
-use Rattle.sl_terms.specs.declared.shape.Shape.{Shape}
-use Rattle.sl_terms.specs.declared.shape.Shape.TheVariants as shape
+use Rattle.sl_base_terms.specs.declared.shape.Shape.{Shape}
+use Rattle.sl_base_terms.specs.declared.shape.Shape.TheVariants as shape
 use Rattle.sl_stages.specs.declared.fault.FaultKind.TheVariants as fault
 use Rattle.sl_stages.specs.book.Trees.{ExprTree, fact, name, sum as sum_tree, pair, split, without, atleast, grow, StageTree, BookTree}
 use Rattle.sl_stages.specs.returns.Election.{Election}
-use Rattle.sl_terms.specs.Tests.{first_failing}
+use Rattle.sl_base_terms.specs.Tests.{first_failing}
 use Rattle.sl_stages.specs.book.Typing.{Column as TypedColumn, expr_tests, stages_tests, is_named, is_hamilton, is_prefer, stage_column}
-use Rattle.sl_terms.proofs.Tests.{head_holds, pass_parts}
+use Rattle.sl_base_terms.proofs.Tests.{head_holds, pass_parts}
 use Rattle.sl_stages.specs.meaning.Columns.{NamedColumn, is_column_of, sum_over, pair_of}
 use Rattle.sl_stages.specs.meaning.Scopes.{Group, cells, place, scopes}
 use Rattle.sl_stages.specs.meaning.Records.{Records}

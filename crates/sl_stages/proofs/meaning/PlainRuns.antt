@@ -16,7 +16,7 @@ behind_nothing : (q : ExprResult) → behind no_records q ≡ q
 behind_nothing (Column c records) = refl
 behind_nothing (Fault f) = refl
 
--- behind a plain column
+-- after a plain column
 after : (First : ExprResult → Type 0) (Next : List ℕ → ExprResult → Type 0) (r : ExprResult) (h : Then First Next r) (xs : List ℕ) → h.first ≡ plain xs → Next xs r
 after First Next r h xs same =
     let on = subst (λ p. Continues Next p r) same h.goes_on in

@@ -10,8 +10,8 @@ use Rattle.std.proofs.lemmas.Map.Keys.{IsDistinct-IsPermutation}
 use Rattle.sl_ratio.specs.declared.method.Method.{Method}
 use Rattle.sl_ratio.specs.declared.method.Method.TheVariants as by
 use Rattle.sl_stages.specs.declared.book.Majority.{Majority}
-use Rattle.sl_terms.specs.declared.shape.Shape.{Shape}
-use Rattle.sl_terms.specs.declared.shape.Shape.TheVariants as shape
+use Rattle.sl_base_terms.specs.declared.shape.Shape.{Shape}
+use Rattle.sl_base_terms.specs.declared.shape.Shape.TheVariants as shape
 use Rattle.sl_stages.specs.declared.book.Seating.{Seating}
 use Rattle.sl_stages.specs.declared.book.Seating.TheVariants as seating
 use Rattle.sl_stages.specs.declared.fault.FaultKind.TheVariants as fault
@@ -26,7 +26,7 @@ use Rattle.sl_stages.specs.meaning.Tables.{SeatTable}
 use Rattle.sl_stages.specs.book.Trees.{ExprTree, fact, name, sum, pair, split, without, atleast, grow, StageTree, BookTree}
 use Rattle.sl_stages.specs.returns.Election.{Election}
 use Rattle.sl_stages.specs.returns.Facts.{lists_of}
-use Rattle.sl_terms.specs.Tests.{first_failing}
+use Rattle.sl_base_terms.specs.Tests.{first_failing}
 use Rattle.sl_stages.specs.book.Typing.{splits_in, tests_of, stages_tests, expr_tests}
 use Rattle.sl_stages.specs.meaning.Scopes.{Group, scopes}
 use Rattle.sl_stages.specs.meaning.Records.{Records, no_records, both_records}
@@ -40,7 +40,7 @@ use Rattle.sl_stages.proofs.meaning.CoveredWinners.{table_without_faults}
 use Rattle.sl_stages.proofs.meaning.DistinctLists.{every_weaker, every_append, distinct_nil, distinct_append}
 use Rattle.sl_stages.proofs.meaning.ScopeRecords.{item_flips, scopes_differ, entries_once, AtScope, Once}
 use Rattle.sl_stages.proofs.meaning.StageRecords.{split_at, growth_at, OfStage, of_stage, all_apart}
-use Rattle.sl_terms.proofs.Tests.{no_fault, head_holds, pass_parts}
+use Rattle.sl_base_terms.proofs.Tests.{no_fault, head_holds, pass_parts}
 use Rattle.sl_stages.proofs.meaning.OneOutcome.{goes_through, typed_parts}
 
 -- ---- results whose records come from so many splits and growths of a stage

@@ -9,15 +9,15 @@ use Rattle.sl_ratio.specs.declared.method.Method.{Method}
 use Rattle.sl_ratio.specs.declared.method.Method.TheVariants as by
 use Rattle.sl_ratio.specs.declared.limits.TheConstants.{MAX_SEATS}
 use Rattle.sl_stages.specs.declared.book.Majority.{Majority}
-use Rattle.sl_terms.specs.declared.shape.Shape.{Shape}
-use Rattle.sl_terms.specs.declared.shape.Shape.TheVariants as shape
+use Rattle.sl_base_terms.specs.declared.shape.Shape.{Shape}
+use Rattle.sl_base_terms.specs.declared.shape.Shape.TheVariants as shape
 use Rattle.sl_stages.specs.declared.book.Unit.TheVariants as unit
 use Rattle.sl_stages.specs.declared.book.ColumnType.{ColumnType}
 use Rattle.sl_stages.specs.book.Trees.{ExprTree, fact, name, sum, pair, split, without, atleast, grow, StageTree, BookTree}
 use Rattle.sl_stages.specs.returns.Election.{Election, IsElection}
-use Rattle.sl_terms.specs.Tests.{first_failing}
+use Rattle.sl_base_terms.specs.Tests.{first_failing}
 use Rattle.sl_stages.specs.book.Typing.{Column as TypedColumn, type_of, fact_type, type_or_one, column, tests_of, version_tests, expr_tests, stages_tests, is_named, same_unit, can_split, stage_column}
-use Rattle.sl_terms.specs.Shapes.{same_shape}
+use Rattle.sl_base_terms.specs.Shapes.{same_shape}
 use Rattle.sl_stages.specs.meaning.Columns.{NamedColumn, is_column_of, sum_over, pair_of}
 use Rattle.sl_stages.specs.meaning.Scopes.{cells}
 use Rattle.sl_stages.specs.meaning.Lots.{stage_lot}
@@ -27,8 +27,8 @@ use Rattle.sl_stages.specs.meaning.Expressions.{minima_at, IsSplitIn, split_reco
 use Rattle.sl_stages.specs.meaning.Means.{Known, nothing_known, Through, context_of, with_stage, StagesMean}
 use Rattle.sl_stages.specs.laws.ColumnLaws.{FitsType, IsTypedAs, TypedExpressions, TypedStages}
 use Rattle.sl_stages.proofs.Units.{same_unit_is}
-use Rattle.sl_terms.proofs.Shapes.{same_shape_is}
-use Rattle.sl_terms.proofs.Tests.{no_fault, head_holds, pass_parts}
+use Rattle.sl_base_terms.proofs.Shapes.{same_shape_is}
+use Rattle.sl_base_terms.proofs.Tests.{no_fault, head_holds, pass_parts}
 use Rattle.sl_stages.proofs.meaning.OneOutcome.{goes_through, typed_parts}
 use Rattle.sl_stages.proofs.meaning.Members.{all_and_one}
 use Rattle.sl_stages.proofs.meaning.TypedColumns.{fact_typed, sum_typed, pair_typed}

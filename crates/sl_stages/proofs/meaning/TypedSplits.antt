@@ -8,8 +8,8 @@ use Rattle.sl_ratio.specs.declared.method.Method.{Method}
 use Rattle.sl_ratio.specs.declared.method.Method.TheVariants as by
 use Rattle.sl_ratio.specs.declared.limits.TheConstants.{MAX_SEATS}
 use Rattle.sl_stages.specs.declared.book.Majority.{Majority}
-use Rattle.sl_terms.specs.declared.shape.Shape.{Shape}
-use Rattle.sl_terms.specs.declared.shape.Shape.TheVariants as shape
+use Rattle.sl_base_terms.specs.declared.shape.Shape.{Shape}
+use Rattle.sl_base_terms.specs.declared.shape.Shape.TheVariants as shape
 use Rattle.sl_stages.specs.declared.book.Unit.TheVariants as unit
 use Rattle.sl_stages.specs.declared.fault.FaultKind.{FaultKind}
 use Rattle.sl_stages.specs.declared.fault.FaultKind.TheVariants as fault
@@ -19,7 +19,7 @@ use Rattle.sl_stages.specs.declared.fault.LegalFault.{LegalFault}
 use Rattle.sl_stages.specs.returns.Election.{Election, has_list}
 use Rattle.sl_stages.specs.returns.Facts.{lands, parties}
 use Rattle.sl_stages.specs.book.Typing.{column}
-use Rattle.sl_terms.specs.Shapes.{same_shape}
+use Rattle.sl_base_terms.specs.Shapes.{same_shape}
 use Rattle.sl_stages.specs.methods.LeastHouse.{Growth, GrownTo, EmptyField, AboveCap, IsGrowth}
 use Rattle.sl_stages.specs.methods.Ties.{Choice, Decided, Tied, IsChoice}
 use Rattle.sl_stages.specs.meaning.Scopes.{same_item, lists_in_land, lists_of_party, Group, scopes, told_of, pair_column}

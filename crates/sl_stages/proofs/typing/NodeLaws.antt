@@ -6,21 +6,21 @@ use Rattle.sl_ratio.specs.declared.method.Divisor.{Divisor as DivisorMethod}
 use Rattle.sl_ratio.specs.declared.method.Method.{Method}
 use Rattle.sl_ratio.specs.declared.method.Method.TheVariants.{Divisor, Hamilton}
 use Rattle.sl_ratio.specs.declared.limits.TheConstants.{MAX_SEATS}
-use Rattle.sl_terms.specs.declared.shape.Shape.{Shape}
-use Rattle.sl_terms.specs.declared.shape.Shape.TheVariants as shape
+use Rattle.sl_base_terms.specs.declared.shape.Shape.{Shape}
+use Rattle.sl_base_terms.specs.declared.shape.Shape.TheVariants as shape
 use Rattle.sl_stages.specs.declared.book.Unit.TheVariants as unit
 use Rattle.sl_stages.specs.declared.book.Axis.{Axis}
 use Rattle.sl_stages.specs.declared.book.Majority.{Majority}
 use Rattle.sl_stages.specs.declared.book.Majority.TheVariants as majority
 use Rattle.sl_stages.specs.declared.book.Number.{Number}
 use Rattle.sl_stages.specs.declared.book.ColumnType.{ColumnType}
-use Rattle.sl_terms.specs.Tests.{first_failing}
+use Rattle.sl_base_terms.specs.Tests.{first_failing}
 use Rattle.sl_stages.specs.book.Typing.{column, shape_over, can_split, is_prefer, is_hamilton, is_seat_number}
-use Rattle.sl_terms.specs.Shapes.{same_shape}
+use Rattle.sl_base_terms.specs.Shapes.{same_shape}
 use Rattle.sl_stages.specs.book.HasType.{Sums, Splits, IsSplitType, IsSplitFromType}
 use Rattle.sl_stages.specs.book.Typing.{sum_tests, pair_tests, split_tests, split_from_tests, share_from_tests, grow_tests}
 use Rattle.sl_stages.proofs.Units.{same_unit_is, same_unit_self}
-use Rattle.sl_terms.proofs.Shapes.{same_shape_is, same_shape_self}
+use Rattle.sl_base_terms.proofs.Shapes.{same_shape_is, same_shape_self}
 use Rattle.sl_stages.proofs.typing.TestLists.{all_hold, hold_all, can_sum_is, sums_to, can_split_is, splits_can, preferred_is, preferred_can, not_preferred_is, not_preferred_can}
 
 -- two columns of one shape and one unit are of one type

@@ -2,17 +2,17 @@
 use Rattle.std.proofs.Common.{◌≡◌, ◌≢◌, List, [], ◌∷◌, ◌++◌, Some, None, true, false, not, ◌||◌, if◌then◌else◌, refl}
 use Rattle.sl_ratio.specs.declared.method.Method.{Method}
 use Rattle.sl_ratio.specs.declared.method.Method.TheVariants.{Divisor, Hamilton}
-use Rattle.sl_terms.specs.declared.shape.Shape.{Shape}
-use Rattle.sl_terms.specs.declared.shape.Shape.TheVariants as shape
+use Rattle.sl_base_terms.specs.declared.shape.Shape.{Shape}
+use Rattle.sl_base_terms.specs.declared.shape.Shape.TheVariants as shape
 use Rattle.sl_stages.specs.declared.book.Axis.{Axis}
 use Rattle.sl_stages.specs.declared.book.Axis.TheVariants as axis
 use Rattle.sl_stages.specs.declared.book.Majority.{Majority}
 use Rattle.sl_stages.specs.declared.book.Majority.TheVariants as majority
 use Rattle.sl_stages.specs.declared.check_fault.CheckFault.{CheckFault}
-use Rattle.sl_terms.specs.Tests.{Test, first_failing}
+use Rattle.sl_base_terms.specs.Tests.{Test, first_failing}
 use Rattle.sl_stages.specs.book.Typing.{shape_over, can_sum, can_split, is_prefer, is_hamilton}
 use Rattle.sl_stages.specs.book.HasType.{Sums, Splits}
-use Rattle.sl_terms.proofs.Tests.{pass_parts, pass_join}
+use Rattle.sl_base_terms.proofs.Tests.{pass_parts, pass_join}
 
 -- ---- lists
 

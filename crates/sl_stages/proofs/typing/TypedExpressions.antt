@@ -2,17 +2,17 @@
 use Rattle.std.proofs.Common.{◌≡◌, ℕ, ◌||◌, List, [], ◌∷◌, Bool, cond, false, Option, Some, None, true, find, is_some, option_map, refl, ◌∙◌, sym}
 use Rattle.std.proofs.Common.{rules}
 use Rattle.std.specs.List.{list_any}
-use Rattle.sl_terms.specs.declared.shape.Shape.TheVariants as shape
+use Rattle.sl_base_terms.specs.declared.shape.Shape.TheVariants as shape
 use Rattle.sl_stages.specs.declared.book.Unit.TheVariants as unit
 use Rattle.sl_stages.specs.declared.book.ColumnType.{ColumnType}
 use Rattle.sl_stages.specs.book.Trees.{ExprTree, fact, name, sum, pair, split, without, atleast, grow}
-use Rattle.sl_terms.specs.Tests.{first_failing}
+use Rattle.sl_base_terms.specs.Tests.{first_failing}
 use Rattle.sl_stages.specs.book.Typing.{Column, column, type_or_one, is_named, expr_tests, type_of}
 use Rattle.sl_stages.specs.book.Typing.{name_tests}
 use Rattle.sl_stages.specs.book.Typing.{sum_tests, pair_tests, split_tests, split_from_tests, grow_tests}
 use Rattle.sl_stages.specs.book.HasType.{HasType, IsStageType}
 use Rattle.sl_stages.specs.laws.BookLaws.{TypesByTests}
-use Rattle.sl_terms.proofs.Tests.{pass_parts, pass_join}
+use Rattle.sl_base_terms.proofs.Tests.{pass_parts, pass_join}
 use Rattle.sl_stages.proofs.typing.TestLists.{pass_parts3, pass_join3, pass_parts4, pass_join4, all_hold, hold_all}
 use Rattle.sl_stages.proofs.typing.NodeLaws.{sum_typed, sum_has, pair_typed, pair_has, split_typed, split_has, split_from_typed, split_from_has, grow_typed, grow_has}
 

@@ -4,8 +4,8 @@ use Rattle.sl_ratio.specs.declared.method.Divisor.{Divisor as DivisorMethod}
 use Rattle.sl_ratio.specs.declared.method.Method.{Method}
 use Rattle.sl_ratio.specs.declared.method.Method.TheVariants.{Divisor, Hamilton}
 use Rattle.sl_ratio.specs.declared.limits.TheConstants.{MAX_SEATS}
-use Rattle.sl_terms.specs.declared.shape.Shape.{Shape}
-use Rattle.sl_terms.specs.declared.shape.Shape.TheVariants as shape
+use Rattle.sl_base_terms.specs.declared.shape.Shape.{Shape}
+use Rattle.sl_base_terms.specs.declared.shape.Shape.TheVariants as shape
 use Rattle.sl_stages.specs.declared.book.Unit.TheVariants as unit
 use Rattle.sl_stages.specs.declared.book.Axis.{Axis}
 use Rattle.sl_stages.specs.declared.book.Axis.TheVariants as axis
@@ -24,7 +24,7 @@ Sums shape.Party axis.All shape.One = Unit {0}
 Sums shape.Land axis.All shape.One = Unit {0}
 Sums _ _ _ = ⊥
 
--- seats of the first shape are given out by votes of the second: all at once, for each party, or for each Land
+-- seats of the first shape are distributed by votes of the second: all at once, for each party, or for each Land
 abbrev pub Splits : Shape → Shape → Type 0
 Splits shape.One shape.Party = Unit {0}
 Splits shape.One shape.Land = Unit {0}

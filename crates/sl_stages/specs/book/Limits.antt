@@ -3,7 +3,7 @@ use Rattle.std.specs.Prelude.{ℕ, ◌+◌, Bool, ◌&&◌, List, [], ◌∷◌,
 use Rattle.std.specs.List.{list_all}
 use Rattle.sl_ratio.specs.declared.limits.TheConstants.{MAX_NUMBER}
 use Rattle.sl_stages.specs.declared.limits.TheConstants.{MAX_DEPTH, MAX_PARTS}
-use Rattle.sl_terms.specs.declared.limits.TheConstants.{MAX_STAGES}
+use Rattle.sl_base_terms.specs.declared.limits.TheConstants.{MAX_STAGES}
 use Rattle.sl_stages.specs.declared.book.Cond.{Cond}
 use Rattle.sl_stages.specs.declared.book.Cond.TheVariants as conditions
 use Rattle.sl_stages.specs.book.Trees.{ExprTree, fact, name, sum, pair, split, without, atleast, grow, StageTree, BookTree}

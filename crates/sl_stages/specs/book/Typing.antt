@@ -5,8 +5,8 @@ use Rattle.sl_ratio.specs.declared.method.Method.{Method}
 use Rattle.sl_ratio.specs.declared.method.Method.TheVariants.{Divisor, Hamilton}
 use Rattle.sl_ratio.specs.declared.limits.TheConstants.{MAX_SEATS}
 use Rattle.sl_stages.specs.declared.limits.TheConstants.{MAX_PER}
-use Rattle.sl_terms.specs.declared.shape.Shape.{Shape}
-use Rattle.sl_terms.specs.declared.shape.Shape.TheVariants as shape
+use Rattle.sl_base_terms.specs.declared.shape.Shape.{Shape}
+use Rattle.sl_base_terms.specs.declared.shape.Shape.TheVariants as shape
 use Rattle.sl_stages.specs.declared.book.Unit.{Unit as Units}
 use Rattle.sl_stages.specs.declared.book.Unit.TheVariants as unit
 use Rattle.sl_stages.specs.declared.book.Axis.{Axis}
@@ -23,10 +23,10 @@ use Rattle.sl_stages.specs.declared.check_fault.CheckFault.{CheckFault}
 use Rattle.sl_stages.specs.declared.fact.Fact.{Fact}
 use Rattle.sl_stages.specs.declared.fact.Fact.TheVariants as facts
 use Rattle.sl_stages.specs.declared.check_fault.CheckFault.TheVariants as fault
-use Rattle.sl_terms.specs.Tests.{Test, test, first_failing}
+use Rattle.sl_base_terms.specs.Tests.{Test, test, first_failing}
 use Rattle.sl_stages.specs.book.Trees.{ExprTree, fact, name, sum, pair, split, without, atleast, grow, StageTree, BookTree}
 use Rattle.std.specs.Str.{bytes_eq}
-use Rattle.sl_terms.specs.Shapes.{same_shape}
+use Rattle.sl_base_terms.specs.Shapes.{same_shape}
 
 -- ---- columns
 

@@ -2,14 +2,14 @@
 use Rattle.std.specs.Prelude.{◌≡◌, ℕ, ◌*◌, ◌<◌, ◌≤◌, true, false, List, length, None}
 use Rattle.std.specs.List.{All, AllZip}
 use Rattle.sl_ratio.specs.declared.limits.TheConstants.{MAX_SEATS, MAX_LANDS, MAX_PARTIES, MAX_VOTES}
-use Rattle.sl_terms.specs.declared.shape.Shape.{Shape}
-use Rattle.sl_terms.specs.declared.shape.Shape.TheVariants as shape
+use Rattle.sl_base_terms.specs.declared.shape.Shape.{Shape}
+use Rattle.sl_base_terms.specs.declared.shape.Shape.TheVariants as shape
 use Rattle.sl_stages.specs.declared.book.Unit.{Unit as Units}
 use Rattle.sl_stages.specs.declared.book.Unit.TheVariants as unit
 use Rattle.sl_stages.specs.declared.book.ColumnType.{ColumnType}
 use Rattle.sl_stages.specs.book.Trees.{ExprTree, BookTree}
 use Rattle.sl_stages.specs.returns.Election.{Election, IsElection, lands_of, parties_of, has_list}
-use Rattle.sl_terms.specs.Tests.{first_failing}
+use Rattle.sl_base_terms.specs.Tests.{first_failing}
 use Rattle.sl_stages.specs.book.Typing.{Column as TypedColumn, type_of, expr_tests, is_typed}
 use Rattle.sl_stages.specs.returns.Facts.{list_cell}
 use Rattle.sl_stages.specs.meaning.Columns.{NamedColumn}
@@ -51,7 +51,7 @@ pub record IsTypedAs (e : Election) (t : TypedColumn) (c : NamedColumn) : Type 0
   pub name : t.name ≡ c.name
   pub type : FitsType e t.type c.values
 
--- behind columns of their types, a well-formed expression is a column of its type
+-- after columns of their types, a well-formed expression is a column of its type
 abbrev pub TypedExpressions : Type 0
 TypedExpressions =
     (b : BookTree) (e : Election) (c : Context) (x : ExprTree) (values : List ℕ) (records : Records) →

@@ -2,7 +2,7 @@
 use Rattle.std.specs.Prelude.{◌≡◌}
 use Rattle.sl_ratio.specs.declared.limits.TheConstants.{MAX_NUMBER, MAX_SEATS, MAX_PARTIES, MAX_LANDS, MAX_VOTES}
 use Rattle.sl_stages.specs.declared.limits.TheConstants.{MAX_DEPTH, MAX_PARTS, MAX_PER, MAX_WINS, MAX_LOTS, MAX_SLATE}
-use Rattle.sl_terms.specs.declared.limits.TheConstants.{MAX_STAGES}
+use Rattle.sl_base_terms.specs.declared.limits.TheConstants.{MAX_STAGES}
 
 pub record Limits : Type 0 where
   pub stages : MAX_STAGES ≡ 32

@@ -5,8 +5,8 @@ use Rattle.sl_ratio.specs.declared.method.Divisor.{Divisor}
 use Rattle.sl_ratio.specs.declared.method.Method.{Method}
 use Rattle.sl_ratio.specs.declared.method.Method.TheVariants as by
 use Rattle.sl_stages.specs.declared.book.Majority.{Majority}
-use Rattle.sl_terms.specs.declared.shape.Shape.{Shape}
-use Rattle.sl_terms.specs.declared.shape.Shape.TheVariants as shape
+use Rattle.sl_base_terms.specs.declared.shape.Shape.{Shape}
+use Rattle.sl_base_terms.specs.declared.shape.Shape.TheVariants as shape
 use Rattle.sl_stages.specs.book.Trees.{ExprTree, fact, name, sum, pair, split, without, atleast, grow, BookTree}
 use Rattle.sl_stages.specs.returns.Election.{Election}
 use Rattle.sl_stages.specs.book.Typing.{Column as TypedColumn, type_of, is_prefer}

@@ -21,7 +21,7 @@ use Rattle.sl_stages.specs.meaning.Seating.{keep_table, IsSeating, tie_of, cover
 
 -- ---- stages
 
--- what is known behind some stages: their columns, with their types, and the records of their seats
+-- what is known after some stages: their columns, with their types, and the records of their seats
 pub record Known : Type 0 where
   pub types : List TypedColumn
   pub columns : List NamedColumn
@@ -34,7 +34,7 @@ nothing_known = record { types = []; columns = []; records = no_records }
 abbrev pub context_of : Known → StageTree → Context
 context_of k s = record { stage = length k.columns; name = s.name; types = k.types; columns = k.columns }
 
--- what is known behind that stage too
+-- what is known after that stage too
 abbrev pub with_stage : Known → StageTree → List ℕ → Records → Known
 with_stage k s values records = record {
   types = k.types ++ stage_column k.types s ∷ [];
@@ -71,7 +71,7 @@ abbrev pub IsSeated : BookTree → Election → Seating → List ℕ → Records
 IsSeated b e seating.Keep base records o = o ≡ outcome.Table (keep_table b e base records)
 IsSeated b e seating.Cover base records o = IsCovered b e base records o
 
--- the last clause, behind the stages
+-- the last clause, after the stages
 pub record IsEnd (b : BookTree) (e : Election) (k : Known) (o : Outcome) : Type 0 where
   pub base : List ℕ
   pub is_base : IsLeaf b e k.columns (base_of b.last) base

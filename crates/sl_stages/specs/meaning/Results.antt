@@ -3,7 +3,7 @@
 use Rattle.std.specs.Prelude.{◌≡◌, ℕ, List, Option, Some, None, MatchOption, option_map, unwrap_or, flat_map, filter_map, find, nat_lt, slice_get, slice_index}
 use Rattle.std.specs.List.{zip, AllZip}
 use Rattle.sl_ratio.specs.declared.limits.TheConstants.{MAX_SEATS}
-use Rattle.sl_terms.specs.declared.shape.Shape.{Shape}
+use Rattle.sl_base_terms.specs.declared.shape.Shape.{Shape}
 use Rattle.sl_stages.specs.declared.fault.Scope.{Scope}
 use Rattle.sl_stages.specs.declared.fault.FaultKind.{FaultKind}
 use Rattle.sl_stages.specs.declared.fault.FaultKind.TheVariants as fault
@@ -59,7 +59,7 @@ module _ (e : Election) (at : Stand) (amounts : List ℕ) where
   abbrev pub amount_of : Group → ℕ
   amount_of g = slice_index amounts g.amount_place
 
-  -- the first scope that has more seats to give out than the limit
+  -- the first scope that has more seats to distribute than the limit
   abbrev pub first_over : List Group → Option Group
   first_over groups = find (λ g. nat_lt MAX_SEATS (amount_of g)) groups
 

@@ -1,7 +1,7 @@
--- The scopes of a split: in each of them an amount of seats is given out among entries (docs/meaning.md, section 4).
+-- The scopes of a split: in each of them an amount of seats is distributed among entries (docs/meaning.md, section 4).
 use Rattle.std.specs.Prelude.{ℕ, ◌+◌, ◌*◌, Bool, false, ◌&&◌, List, [], ◌∷◌, map, filter, nat_eq, slice_index, unwrap_or, option_map, find}
-use Rattle.sl_terms.specs.declared.shape.Shape.{Shape}
-use Rattle.sl_terms.specs.declared.shape.Shape.TheVariants as shape
+use Rattle.sl_base_terms.specs.declared.shape.Shape.{Shape}
+use Rattle.sl_base_terms.specs.declared.shape.Shape.TheVariants as shape
 use Rattle.sl_stages.specs.declared.fault.Scope.{Scope}
 use Rattle.sl_stages.specs.declared.fault.Scope.TheVariants as scope
 use Rattle.sl_stages.specs.declared.fault.Item.{Item}
@@ -55,7 +55,7 @@ pub record Group : Type 0 where
   pub amount_place : ℕ
   pub entries : List Item
 
--- the scopes in which amounts of one shape are given out among entries of another, in order: one scope for all entries; for each party
+-- the scopes in which amounts of one shape are distributed among entries of another, in order: one scope for all entries; for each party
 -- one of its lists; for each Land one of the lists in it
 abbrev pub scopes : Election → Shape → Shape → List Group
 scopes e shape.One votes = record { scope = scope.All; amount_place = 0; entries = entries_of e votes } ∷ []

@@ -57,7 +57,7 @@ pub record IsChosen (X : List ℕ → Type 0) (lot : List ℕ) (entries : List I
 
 -- ---- a split of seats among entries of weights v, with minima m (0 where none are written)
 
--- what refuses the seats before any is given out: the minima need more of them; or the field is empty, and there are more than the
+-- what refuses the seats before any is distributed: the minima need more of them; or the field is empty, and there are more than the
 -- minima need
 abbrev pub refusal : List ℕ → List ℕ → ℕ → Option FaultKind
 refusal v m seats =

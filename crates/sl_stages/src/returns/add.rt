@@ -70,7 +70,7 @@ impl Returns {
     ///
     /// # Errors
     ///
-    /// Where memory is wanting. The returns are then unchanged.
+    /// Out of memory. The returns are then unchanged.
     pub fn add_land(&mut self, name: &[u8], population: u32) -> Result<(), NoMemory>
         requires name { name_fault (record { limit = MAX_LANDS; names = self.old.land_names }) name.now ≡ None }
         requires population { population ≤ MAX_VOTES }
@@ -91,7 +91,7 @@ impl Returns {
     ///
     /// # Errors
     ///
-    /// Where memory is wanting. The returns are then unchanged.
+    /// Out of memory. The returns are then unchanged.
     pub fn add_party(&mut self, name: &[u8], minority: bool) -> Result<(), NoMemory>
         requires { name_fault (record { limit = MAX_PARTIES; names = self.old.party_names }) name.now ≡ None }
         ensures added { OnOk result (self.new ≡ with_party self.old name.now minority) }
@@ -140,7 +140,7 @@ impl Returns {
     ///
     /// # Errors
     ///
-    /// Where memory is wanting. The returns are then unchanged.
+    /// Out of memory. The returns are then unchanged.
     pub fn add_win(
         &mut self,
         land: usize,
@@ -191,7 +191,7 @@ impl Returns {
     ///
     /// # Errors
     ///
-    /// Where memory is wanting. The returns are then unchanged.
+    /// Out of memory. The returns are then unchanged.
     pub fn add_lot(
         &mut self,
         land: Option<usize>,

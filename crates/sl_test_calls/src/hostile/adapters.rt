@@ -166,7 +166,7 @@ fn readers_of_returns(rt: HostRuntime) {
     }
 }
 
-// Readers that stop behind the end of what they read.
+// Readers that stop after the end of what they read.
 const NEVER: Stops = Stops {
     book: FIRST_BOOK.len() as u64 + 2,
     returns: FIRST_RETURNS.len() as u64 + 2,

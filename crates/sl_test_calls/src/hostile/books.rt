@@ -74,7 +74,7 @@ fn assert_refusal(
     Ok(())
 }
 
-// The length of a book without what stands behind its last semicolon.
+// The length of a book without what stands after its last semicolon.
 fn length(book: &[u8]) -> usize {
     let mut length = 0;
     for (place, byte) in book.iter().enumerate() {

@@ -1,4 +1,4 @@
-//! One election under five laws of the library: what is written where the returns end behind each of their records.
+//! One election under five laws of the library: what is written where the returns end after each of their records.
 
 use crate::calls::Call;
 use crate::hostile::rows::Row;

@@ -13,7 +13,7 @@ use std::test::Fail;
 struct Head {
     // Records that are ended by a line feed.
     records: usize,
-    // Commas in the record behind them.
+    // Commas in the record after them.
     commas: u32,
     // Whether that has any byte, and whether its last cell has.
     begun: bool,
@@ -68,7 +68,7 @@ fn text_of(row: &Row, records: usize) -> &'static str {
     }
 }
 
-// What is written for the returns before a cut, where the byte behind it is this one.
+// What is written for the returns before a cut, where the byte after it is this one.
 fn text_before(
     alloc: Global,
     row: &Row,

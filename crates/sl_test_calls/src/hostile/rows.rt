@@ -1,8 +1,8 @@
-//! Counts of worked elections: their books, their returns, and what is written where the returns end behind each of their records.
+//! Counts of worked elections: their books, their returns, and what is written where the returns end after each of their records.
 
 use crate::calls::Call;
 
-/// A call, its book, its returns, and what it writes where they end behind a record, for each from the header on.
+/// A call, its book, its returns, and what it writes where they end after a record, for each from the header on.
 #[derive(Clone, Copy)]
 pub struct Row {
     pub call: Call,

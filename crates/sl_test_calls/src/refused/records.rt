@@ -99,7 +99,7 @@ fn feed_all(
     true
 }
 
-// The returns that the records give, or want of memory, which a builder that was refused it answers in the end too.
+// The returns that the records give, or out of memory, which a builder that was refused it answers in the end too.
 fn fed(rt: &impl Abort, alloc: Global, records: &[ByteRecord]) -> Result<Returns, ReturnsFault> {
     let mut builder = ReturnsBuilder::new(alloc);
     let are_taken = feed_all(rt, alloc, &mut builder, records);

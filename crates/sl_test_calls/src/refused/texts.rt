@@ -1,9 +1,9 @@
 //! Seat tables of what runs hold, and their texts.
 
 ghost use Rattle.std.specs.Prelude.{length};
-ghost use Rattle.sl_semantics.specs.Fits.{FitsFault, FitsMemory, FitsRecords};
+ghost use Rattle.sl_code_semantics.specs.Fits.{FitsFault, FitsMemory, FitsRecords};
 ghost use Rattle.sl_table.specs.inner.Held.{FitsHeld};
-ghost use Rattle.sl_texts.specs.inner.Fits.{Fits};
+ghost use Rattle.sl_count_texts.specs.inner.Fits.{Fits};
 
 use crate::calls::{Pace, told};
 use crate::codes::{compiled, ending};

@@ -1,9 +1,9 @@
 use Rattle.std.proofs.Common.{[], ◌∷◌, ap}
-use Rattle.sl_instructions.specs.declared.instr.Instr.{Instr}
-use Rattle.sl_instructions.specs.declared.instr.Instr.TheVariants.{Get, Store}
-use Rattle.sl_plans.specs.Trees.{Line}
-use Rattle.sl_pieces.specs.columns.Trees.{cells_plan, pair_tree}
-use Rattle.sl_pieces.specs.declared.registers.TheConstants as reg
+use Rattle.sl_code_instructions.specs.declared.instr.Instr.{Instr}
+use Rattle.sl_code_instructions.specs.declared.instr.Instr.TheVariants.{Get, Store}
+use Rattle.sl_compile_plans.specs.Trees.{Line}
+use Rattle.sl_compile_pieces.specs.columns.Trees.{cells_plan, pair_tree}
+use Rattle.sl_compile_pieces.specs.declared.registers.TheConstants as reg
 use Rattle.sl_blocks.proofs.Laid.{laid_as}
 use Rattle.sl_blocks.proofs.MakingPlans.{made, pair_makes}
 use Rattle.sl_blocks.proofs.columns.pair_block.Goals as goal

@@ -1,4 +1,4 @@
-use Rattle.sl_pieces.specs.columns.Trees.{sum_tree}
+use Rattle.sl_compile_pieces.specs.columns.Trees.{sum_tree}
 use Rattle.sl_blocks.proofs.Laid.{laid_as}
 use Rattle.sl_blocks.proofs.MakingPlans.{made, sum_makes}
 use Rattle.sl_blocks.proofs.columns.sum_block.Goals as goal

@@ -1,7 +1,7 @@
 use Rattle.std.proofs.Common.{◌+◌, ◌<◌, vec_len, length, sym, ap, subst, arith}
-use Rattle.sl_instructions.specs.declared.code.TheConstants.{MAX_INSTRS}
-use Rattle.sl_plans.specs.Trees.{Tree, size_of}
-use Rattle.sl_pieces.specs.covers.Trees.{cover_tree}
+use Rattle.sl_code_instructions.specs.declared.code.TheConstants.{MAX_INSTRS}
+use Rattle.sl_compile_plans.specs.Trees.{Tree, size_of}
+use Rattle.sl_compile_pieces.specs.covers.Trees.{cover_tree}
 use Rattle.sl_blocks.specs.inner.Covers.{cover_slots, cover_with}
 use Rattle.sl_blocks.proofs.Laid.{laid_as, laid_at}
 use Rattle.sl_blocks.proofs.LaidBlocks.{cover_stands, cover_planned}

@@ -1,8 +1,8 @@
 use Rattle.std.proofs.Common.{◌+◌, ◌<◌, vec_len, sym, subst, arith}
-use Rattle.sl_instructions.specs.declared.code.TheConstants.{MAX_INSTRS}
-use Rattle.sl_plans.specs.Trees.{Tree, size_of}
-use Rattle.sl_pieces.specs.facts.Trees.{fact_tree}
-use Rattle.sl_pieces.specs.exprs.Slots.{fact_slots}
+use Rattle.sl_code_instructions.specs.declared.code.TheConstants.{MAX_INSTRS}
+use Rattle.sl_compile_plans.specs.Trees.{Tree, size_of}
+use Rattle.sl_compile_pieces.specs.facts.Trees.{fact_tree}
+use Rattle.sl_compile_pieces.specs.exprs.Slots.{fact_slots}
 use Rattle.sl_blocks.proofs.Laid.{laid_as}
 use Rattle.sl_blocks.proofs.MakingPlans.{made, fact_makes}
 use Rattle.sl_blocks.proofs.facts.fact_block.Goals as goal

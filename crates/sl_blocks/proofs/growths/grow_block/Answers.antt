@@ -1,8 +1,8 @@
 use Rattle.std.proofs.Common.{vec_len, arith}
-use Rattle.sl_pieces.specs.nodes.Trees.{grow_tree}
+use Rattle.sl_compile_pieces.specs.nodes.Trees.{grow_tree}
 use Rattle.sl_blocks.specs.inner.Jobs.{slots_of}
-use Rattle.sl_plans.proofs.Modest.{size_at_most}
-use Rattle.sl_pieces.proofs.judged.Growths.{growth_modest}
+use Rattle.sl_compile_plans.proofs.Modest.{size_at_most}
+use Rattle.sl_compile_pieces.proofs.judged.Growths.{growth_modest}
 use Rattle.sl_blocks.proofs.Laid.{form_laid}
 use Rattle.sl_blocks.proofs.LaidBlocks.{growth_stands, growth_planned}
 use Rattle.sl_blocks.proofs.growths.grow_block.Goals as goal

@@ -1,8 +1,8 @@
 use Rattle.std.proofs.Common.{List, [], ◌∷◌, vec_len, ap, ◌∙◌}
-use Rattle.sl_instructions.specs.declared.instr.Instr.{Instr}
-use Rattle.sl_plans.specs.declared.plan.Part.TheVariants as part
-use Rattle.sl_plans.specs.inner.Layout.{filled, tree_of}
-use Rattle.sl_plans.specs.Trees.{Tree, Line, Then}
+use Rattle.sl_code_instructions.specs.declared.instr.Instr.{Instr}
+use Rattle.sl_compile_plans.specs.declared.plan.Part.TheVariants as part
+use Rattle.sl_compile_plans.specs.inner.Layout.{filled, tree_of}
+use Rattle.sl_compile_plans.specs.Trees.{Tree, Line, Then}
 use Rattle.sl_blocks.specs.inner.Given.{given_of}
 use Rattle.sl_blocks.specs.inner.LayoutParts.{all_with}
 use Rattle.sl_blocks.proofs.Laid.{laid_as, all_as}

@@ -1,6 +1,6 @@
 use Rattle.std.proofs.Common.{◌≡◌, ◌≤◌, Some, [], map, length, arith, rules, add-one}
 use Rattle.sl_stages.specs.book.Trees.{stage_of}
-use Rattle.sl_terms.specs.Tests.{first_failing}
+use Rattle.sl_base_terms.specs.Tests.{first_failing}
 use Rattle.sl_stages.specs.book.Typing.{stages_tests}
 use Rattle.sl_check.proofs.Within.{parts_within, stages_within}
 use Rattle.sl_check.proofs.Walking.{stage_fails, stage_passes}

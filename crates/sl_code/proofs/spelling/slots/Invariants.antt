@@ -1,5 +1,5 @@
 use Rattle.std.proofs.Common.{◌≡◌, ◌++◌, map, take}
-use Rattle.sl_terms.specs.Shapes.{shape_number}
+use Rattle.sl_base_terms.specs.Shapes.{shape_number}
 use Rattle.sl_code.proofs.spelling.slots.Given as goal
 
 abbrev pub invariant-loop-shape : goal.invariant-loop-shape

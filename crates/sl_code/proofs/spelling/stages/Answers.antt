@@ -1,5 +1,5 @@
 use Rattle.std.proofs.Common.{◌++◌, ap, ◌∙◌}
-use Rattle.sl_instructions.specs.declared.code.CodeStage.{CodeStage}
+use Rattle.sl_code_instructions.specs.declared.code.CodeStage.{CodeStage}
 use Rattle.sl_code.specs.Spelling.{stage_bytes}
 use Rattle.sl_code.proofs.Numbered.{more_written}
 use Rattle.sl_code.proofs.spelling.stages.Goals as goal

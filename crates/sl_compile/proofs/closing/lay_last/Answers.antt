@@ -1,9 +1,9 @@
 use Rattle.std.proofs.Common.{ℕ, [], ◌++◌, slice_get, ap, ◌∙◌, arith}
-use Rattle.sl_instructions.specs.Codes.{CountingCode}
-use Rattle.sl_pieces.specs.closing.Trees.{seating_pieces, vacant_pieces}
-use Rattle.sl_books.specs.Codes.{HasSoFar}
-use Rattle.sl_books.proofs.Rows.{blocks_in}
-use Rattle.sl_books.proofs.Slots.{has_book_slots}
+use Rattle.sl_code_instructions.specs.Codes.{CountingCode}
+use Rattle.sl_compile_pieces.specs.closing.Trees.{seating_pieces, vacant_pieces}
+use Rattle.sl_compile.specs.Codes.{HasSoFar}
+use Rattle.sl_compile.proofs.rulebooks.Rows.{blocks_in}
+use Rattle.sl_compile.proofs.rulebooks.Slots.{has_book_slots}
 use Rattle.sl_compile.specs.inner.Earlier.{columns}
 use Rattle.sl_compile.specs.inner.Nodes.{HasBase}
 use Rattle.sl_compile.proofs.Places.{blocks_as, blocks_behind}

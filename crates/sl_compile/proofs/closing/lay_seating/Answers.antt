@@ -1,17 +1,17 @@
 use Rattle.std.proofs.Common.{[], ◌∷◌, subst, sym, ap, arith}
 use Rattle.sl_stages.specs.declared.fact.Fact.TheVariants as facts
 use Rattle.sl_stages.specs.declared.book.Pairing.TheVariants as pairings
-use Rattle.sl_terms.specs.declared.shape.Shape.TheVariants as shape
-use Rattle.sl_instructions.specs.Codes.{CountingCode}
-use Rattle.sl_pieces.specs.columns.Trees.{copy_tree, pair_tree}
-use Rattle.sl_pieces.specs.covers.Trees.{cover_tree}
-use Rattle.sl_pieces.specs.exprs.Slots.{winners_slot}
-use Rattle.sl_pieces.specs.closing.Trees.{final_seats, place_kept, cover_slots, seating_pieces}
+use Rattle.sl_base_terms.specs.declared.shape.Shape.TheVariants as shape
+use Rattle.sl_code_instructions.specs.Codes.{CountingCode}
+use Rattle.sl_compile_pieces.specs.columns.Trees.{copy_tree, pair_tree}
+use Rattle.sl_compile_pieces.specs.covers.Trees.{cover_tree}
+use Rattle.sl_compile_pieces.specs.exprs.Slots.{winners_slot}
+use Rattle.sl_compile_pieces.specs.closing.Trees.{final_seats, place_kept, cover_slots, seating_pieces}
 use Rattle.sl_blocks.specs.Blocks.{HasSlotsOf}
 use Rattle.sl_blocks.specs.Facts.{HasFirstSlots}
 use Rattle.sl_blocks.specs.PlanBlocks.{HasCopy, HasPair}
-use Rattle.sl_books.proofs.Rows.{blocks_in}
-use Rattle.sl_books.proofs.Slots.{has_book_slots, has_first}
+use Rattle.sl_compile.proofs.rulebooks.Rows.{blocks_in}
+use Rattle.sl_compile.proofs.rulebooks.Slots.{has_book_slots, has_first}
 use Rattle.sl_compile.specs.inner.Nodes.{HasBase}
 use Rattle.sl_compile.proofs.Places.{blocks_as, blocks_behind}
 use Rattle.sl_compile.proofs.closing.lay_seating.Goals as goal

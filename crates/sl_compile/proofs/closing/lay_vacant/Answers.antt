@@ -1,19 +1,19 @@
 use Rattle.std.proofs.Common.{[], ◌∷◌, sym, ap, subst, arith}
 use Rattle.sl_stages.specs.declared.fact.Fact.TheVariants as facts
 use Rattle.sl_stages.specs.declared.book.Pairing.TheVariants as pairings
-use Rattle.sl_terms.specs.declared.shape.Shape.TheVariants as shape
-use Rattle.sl_instructions.specs.declared.instr.Instr.TheVariants.{Input}
-use Rattle.sl_instructions.specs.declared.operand.Input.TheVariants as input
-use Rattle.sl_instructions.specs.Codes.{CountingCode}
-use Rattle.sl_plans.specs.Trees.{Line}
-use Rattle.sl_pieces.specs.columns.Trees.{pair_tree}
-use Rattle.sl_pieces.specs.declared.slots.TheConstants.{NAMES_LEFT as names_left, VACANT_SEATS as vacant_seats}
-use Rattle.sl_pieces.specs.exprs.Slots.{winners_slot}
-use Rattle.sl_pieces.specs.closing.Trees.{final_seats, vacant_pieces}
+use Rattle.sl_base_terms.specs.declared.shape.Shape.TheVariants as shape
+use Rattle.sl_code_instructions.specs.declared.instr.Instr.TheVariants.{Input}
+use Rattle.sl_code_instructions.specs.declared.operand.Input.TheVariants as input
+use Rattle.sl_code_instructions.specs.Codes.{CountingCode}
+use Rattle.sl_compile_plans.specs.Trees.{Line}
+use Rattle.sl_compile_pieces.specs.columns.Trees.{pair_tree}
+use Rattle.sl_compile_pieces.specs.declared.slots.TheConstants.{NAMES_LEFT as names_left, VACANT_SEATS as vacant_seats}
+use Rattle.sl_compile_pieces.specs.exprs.Slots.{winners_slot}
+use Rattle.sl_compile_pieces.specs.closing.Trees.{final_seats, vacant_pieces}
 use Rattle.sl_blocks.specs.PlanBlocks.{AreBlocks, HasPair}
-use Rattle.sl_books.specs.Codes.{HasSoFar}
-use Rattle.sl_books.proofs.Rows.{no_blocks, blocks_then, blocks_in}
-use Rattle.sl_books.proofs.Slots.{has_book_slots, has_first}
+use Rattle.sl_compile.specs.Codes.{HasSoFar}
+use Rattle.sl_compile.proofs.rulebooks.Rows.{no_blocks, blocks_then, blocks_in}
+use Rattle.sl_compile.proofs.rulebooks.Slots.{has_book_slots, has_first}
 use Rattle.sl_compile.proofs.Places.{blocks_as, blocks_behind}
 use Rattle.sl_compile.proofs.closing.lay_vacant.Goals as goal
 

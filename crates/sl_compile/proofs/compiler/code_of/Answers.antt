@@ -3,8 +3,8 @@ use Rattle.sl_stages.specs.declared.book.Stage.{Stage}
 use Rattle.sl_stages.specs.book.Books.{book_of}
 use Rattle.sl_stages.specs.book.Trees.{stage_of}
 use Rattle.sl_blocks.specs.inner.Few.{few_of}
-use Rattle.sl_books.specs.Codes.{code_stages, book_code}
-use Rattle.sl_books.specs.Laws.{CanCompile}
+use Rattle.sl_compile.specs.Codes.{code_stages, book_code}
+use Rattle.sl_compile.specs.Laws.{CanCompile}
 use Rattle.sl_compile.proofs.Wholes.{passes}
 use Rattle.sl_compile.proofs.Books.{book_can, code_is, code_proper}
 use Rattle.sl_compile.proofs.compiler.code_of.Goals.{In_ok-stages}

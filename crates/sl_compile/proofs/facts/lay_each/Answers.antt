@@ -1,8 +1,8 @@
 use Rattle.std.proofs.Common.{[], map, arith}
-use Rattle.sl_pieces.specs.facts.Trees.{fact_tree}
-use Rattle.sl_pieces.specs.exprs.Slots.{fact_slots}
+use Rattle.sl_compile_pieces.specs.facts.Trees.{fact_tree}
+use Rattle.sl_compile_pieces.specs.exprs.Slots.{fact_slots}
 use Rattle.sl_blocks.specs.Facts.{HasFirstSlots}
-use Rattle.sl_books.proofs.Rows.{no_blocks}
+use Rattle.sl_compile.proofs.rulebooks.Rows.{no_blocks}
 use Rattle.sl_compile.proofs.Places.{some_first, item_room, item_next, items_all}
 use Rattle.sl_compile.proofs.facts.lay_each.Goals as goal
 

@@ -1,7 +1,7 @@
 -- The blocks of the facts so far stand, and those of the others are to come.
 use Rattle.std.proofs.Common.{map, drop}
-use Rattle.sl_pieces.specs.facts.Trees.{fact_tree}
-use Rattle.sl_pieces.specs.exprs.Slots.{fact_slots}
+use Rattle.sl_compile_pieces.specs.facts.Trees.{fact_tree}
+use Rattle.sl_compile_pieces.specs.exprs.Slots.{fact_slots}
 use Rattle.sl_blocks.specs.Facts.{HasFirstSlots}
 use Rattle.sl_compile.proofs.Places.{BlocksSome}
 use Rattle.sl_compile.proofs.facts.lay_each.Given as goal

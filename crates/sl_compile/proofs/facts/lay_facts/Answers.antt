@@ -1,6 +1,6 @@
 use Rattle.std.proofs.Common.{[], ◌∷◌}
-use Rattle.sl_pieces.specs.facts.Trees.{eligible_tree}
-use Rattle.sl_pieces.specs.exprs.Slots.{fact_slots}
+use Rattle.sl_compile_pieces.specs.facts.Trees.{eligible_tree}
+use Rattle.sl_compile_pieces.specs.exprs.Slots.{fact_slots}
 use Rattle.sl_blocks.specs.Facts.{HasFirstSlots, other_facts}
 use Rattle.sl_blocks.specs.inner.Few.{few_of}
 use Rattle.sl_compile.proofs.Places.{room_first, room_rest, blocks_behind}

@@ -1,5 +1,5 @@
 use Rattle.std.proofs.Common.{ℕ, [], ◌∷◌, subst}
-use Rattle.sl_pieces.specs.columns.Trees.{copy_tree}
+use Rattle.sl_compile_pieces.specs.columns.Trees.{copy_tree}
 use Rattle.sl_blocks.specs.PlanBlocks.{AreBlocks, HasCopy}
 use Rattle.sl_compile.proofs.nodes.copy.Goals as goal
 

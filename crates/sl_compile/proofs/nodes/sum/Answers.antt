@@ -1,5 +1,5 @@
 use Rattle.std.proofs.Common.{ap, ◌∙◌}
-use Rattle.sl_pieces.specs.exprs.Slots.{passing}
+use Rattle.sl_compile_pieces.specs.exprs.Slots.{passing}
 use Rattle.sl_compile.proofs.Stands.{sum_stands}
 use Rattle.sl_compile.proofs.nodes.sum.Goals as goal
 

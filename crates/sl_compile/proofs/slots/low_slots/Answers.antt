@@ -1,7 +1,7 @@
 use Rattle.std.proofs.Common.{◌≡◌, suc, ◌+◌, ◌-◌, ◌++◌, append_assoc, flat_map, sym, ap, ◌∙◌, arith}
 use Rattle.std.specs.List.{range_with_len}
-use Rattle.sl_pieces.specs.declared.slots.TheConstants.{LEVELS}
-use Rattle.sl_books.specs.Codes.{level_shapes}
+use Rattle.sl_compile_pieces.specs.declared.slots.TheConstants.{LEVELS}
+use Rattle.sl_compile.specs.Codes.{level_shapes}
 use Rattle.sl_compile.proofs.slots.low_slots.Goals as goal
 
 pub loop-level-preserved : goal.loop-level-preserved

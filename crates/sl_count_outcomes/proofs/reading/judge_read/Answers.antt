@@ -1,7 +1,7 @@
 use Rattle.std.proofs.Common.{option_map, sym}
 use Rattle.sl_count_outcomes.proofs.Order.{judged_known, reads_after_good}
 use Rattle.sl_count_outcomes.proofs.reading.judge_read.Goals as goal
-use Rattle.sl_inputs.specs.Reading.{book_input}
+use Rattle.sl_count_inputs.specs.Reading.{book_input}
 use Rattle.sl_stages.specs.book.Books.{book_of}
 
 pub returns-in-None-clause-judged : goal.returns-in-None-clause-judged

@@ -2,8 +2,8 @@
 use Rattle.std.proofs.Common.{◌≡◌, length, arith}
 use Rattle.std.proofs.lemmas.List.FromFn.{fill_by_all}
 use Rattle.sl_verify.specs.Needs.{input_shape}
-use Rattle.sl_semantics.specs.Places.{cells_of}
-use Rattle.sl_semantics.specs.Effects.{input_of}
+use Rattle.sl_code_semantics.specs.Places.{cells_of}
+use Rattle.sl_code_semantics.specs.Effects.{input_of}
 use Rattle.sl_machine.proofs.columns.read_input.Goals as goal
 
 pub returns : goal.returns

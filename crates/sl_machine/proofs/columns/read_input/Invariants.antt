@@ -1,6 +1,6 @@
 -- The cells before the place are the column's.
 use Rattle.std.proofs.Common.{◌≡◌, ℕ, ◌<◌, get_or}
-use Rattle.sl_semantics.specs.Effects.{input_of}
+use Rattle.sl_code_semantics.specs.Effects.{input_of}
 use Rattle.sl_machine.proofs.columns.read_input.Given as goal
 
 abbrev pub invariant-loop-place : goal.invariant-loop-place

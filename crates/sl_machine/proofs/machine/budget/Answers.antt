@@ -1,7 +1,7 @@
 -- The shares of the greatest number of stages fit.
 use Rattle.std.proofs.Common.{rules, ◌+◌, ◌*◌, ◌^◌, ◌<◌, ◌≤◌, arith}
 use Rattle.std.proofs.lemmas.Nat.{mul-le}
-use Rattle.sl_terms.specs.declared.limits.TheConstants.{MAX_STAGES}
+use Rattle.sl_base_terms.specs.declared.limits.TheConstants.{MAX_STAGES}
 use Rattle.sl_machine.proofs.machine.budget.Goals as goal
 
 pub overflow_mul-result : goal.overflow_mul-result

@@ -2,7 +2,7 @@
 use Rattle.std.proofs.Common.{◌≡◌}
 use Rattle.std.proofs.lemmas.Option.{slice_get_within}
 use Rattle.std.proofs.lemmas.Result.{IfOk-weaker}
-use Rattle.sl_semantics.specs.Effects.{Ends, effect}
+use Rattle.sl_code_semantics.specs.Effects.{Ends, effect}
 use Rattle.sl_machine.specs.inner.Leading.{EndsWith}
 use Rattle.sl_machine.specs.inner.Stores.{state_of, end_with}
 use Rattle.sl_machine.proofs.runs.Leading.{may_here, columns_here, ends_with}

@@ -3,7 +3,7 @@ use Rattle.std.proofs.Common.{rules, ◌+◌, ◌*◌, ◌^◌, ◌<◌, ◌≤�
 use Rattle.std.proofs.lemmas.Nat.{mul-le}
 use Rattle.sl_ratio.specs.declared.limits.TheConstants.{MAX_SEATS, MAX_LANDS, MAX_PARTIES}
 use Rattle.sl_stages.specs.declared.limits.TheConstants.{MAX_WINS}
-use Rattle.sl_semantics.specs.declared.budget.TheConstants.{STEPS_EACH}
+use Rattle.sl_code_semantics.specs.declared.budget.TheConstants.{STEPS_EACH}
 use Rattle.sl_machine.proofs.machine.share.Goals as goal
 
 pub overflow_mul-result-3 : goal.overflow_mul-result-3

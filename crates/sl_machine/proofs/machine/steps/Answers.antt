@@ -1,6 +1,6 @@
 -- The run begins, and where it goes on no further it has ended, or its steps have run out.
 use Rattle.std.proofs.Common.{◌≡◌, ℕ, suc, ◌-◌, List, sym, ap, subst, ◌∙◌}
-use Rattle.sl_semantics.specs.Runs.{run}
+use Rattle.sl_code_semantics.specs.Runs.{run}
 use Rattle.sl_machine.specs.declared.store.Store.{Store}
 use Rattle.sl_machine.specs.declared.way.Standing.{Standing}
 use Rattle.sl_machine.specs.inner.Recording.{ending_by}

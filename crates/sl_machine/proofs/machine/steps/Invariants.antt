@@ -1,6 +1,6 @@
 -- The run is on its way, and ends as it would have.
 use Rattle.std.proofs.Common.{◌≡◌}
-use Rattle.sl_semantics.specs.Runs.{run}
+use Rattle.sl_code_semantics.specs.Runs.{run}
 use Rattle.sl_machine.specs.inner.Recording.{ending_by}
 use Rattle.sl_machine.specs.inner.Stores.{state_of, sizes_of, sizes_for}
 use Rattle.sl_machine.specs.inner.UnderWay.{IsUnderWay, rest_of, work}

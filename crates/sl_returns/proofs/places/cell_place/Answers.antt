@@ -1,4 +1,4 @@
--- The scan begins behind a byte order mark.
+-- The scan begins after a byte order mark.
 use Rattle.std.proofs.Common.{◌≡◌, ◌+◌, arith}
 use Rattle.sl_returns.proofs.Scans.{scanned_none}
 use Rattle.sl_returns.proofs.places.cell_place.Goals as goal

@@ -5,7 +5,7 @@ use Rattle.sl_stages.specs.declared.table.ListSeats.{ListSeats}
 use Rattle.sl_stages.specs.returns.Election.{has_list, lands_of, parties_of}
 use Rattle.sl_stages.specs.meaning.Seating.{placed_on}
 use Rattle.sl_stages.proofs.meaning.ListPlaces.{length_by_list, by_list_at}
-use Rattle.sl_semantics.specs.Tables.{held_line}
+use Rattle.sl_code_semantics.specs.Tables.{held_line}
 use Rattle.sl_table.proofs.Pieces.{kept_more, kept_same}
 use Rattle.sl_table.proofs.tables.push_lists.Goals as goal
 use Rattle.sl_table.proofs.tables.push_lists.Goals.{then-is_list+in-Ok, else-is_list}

@@ -1,7 +1,7 @@
 use Rattle.std.proofs.Common.{◌≡◌, ◌++◌, map}
 use Rattle.std.specs.List.{filter, range_with_len}
 use Rattle.sl_stages.specs.returns.Election.{has_list}
-use Rattle.sl_semantics.specs.Tables.{held_line}
+use Rattle.sl_code_semantics.specs.Tables.{held_line}
 use Rattle.sl_table.proofs.tables.push_lists.Given as goal
 
 abbrev pub invariant-loop-party : goal.invariant-loop-party

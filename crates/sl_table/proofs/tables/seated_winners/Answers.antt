@@ -6,9 +6,9 @@ use Rattle.std.proofs.lemmas.Slice.Zip.{length-zip}
 use Rattle.sl_stages.specs.declared.returns.Win.{Win}
 use Rattle.sl_stages.specs.declared.table.Placed.{Placed}
 use Rattle.sl_stages.specs.returns.Election.{lands_of, parties_of}
-use Rattle.sl_texts.proofs.Counting.{sums_none, counts_one, counts_no, counts_all, count_le}
-use Rattle.sl_texts.proofs.Winners.{in_zip, pair_here}
-use Rattle.sl_texts.proofs.PartyWinners.{is_at}
+use Rattle.sl_count_texts.proofs.Counting.{sums_none, counts_one, counts_no, counts_all, count_le}
+use Rattle.sl_count_texts.proofs.Winners.{in_zip, pair_here}
+use Rattle.sl_count_texts.proofs.PartyWinners.{is_at}
 use Rattle.sl_table.proofs.SeatedWinners.{counts_at, seated_winners_as}
 use Rattle.sl_table.proofs.tables.seated_winners.Goals as goal
 use Rattle.sl_table.proofs.tables.seated_winners.Goals.{in-Some, in_default-list_place}

@@ -1,4 +1,4 @@
--- The column is not among those behind it: it is the first of the rest.
+-- The column is not among those after it: it is the first of the rest.
 use Rattle.std.proofs.Common.{◌≡◌, find, drop}
 use Rattle.sl_stages.specs.book.Typing.{is_named}
 use Rattle.sl_check.specs.inner.Known.{columns}

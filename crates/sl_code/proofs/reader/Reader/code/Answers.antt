@@ -1,6 +1,6 @@
 use Rattle.std.proofs.Common.{[], ap, sym, ◌∙◌, arith, rules}
 use Rattle.std.proofs.lemmas.Result.{err_from_is_err_and}
-use Rattle.sl_instructions.specs.Codes.{CountingCode}
+use Rattle.sl_code_instructions.specs.Codes.{CountingCode}
 use Rattle.sl_code.specs.Spelling.{spelling_of}
 use Rattle.sl_code.proofs.FileFacts.{parts_whole}
 use Rattle.sl_code.proofs.Pieces.{file_in_stages, file_in_slots, file_in_instrs, file_behind}

@@ -1,11 +1,11 @@
 use Rattle.std.proofs.Common.{◌≡◌, List, [], ◌∷◌, ◌++◌, length, length-append, sym, ap, subst, arith}
 use Rattle.std.specs.List.{All}
 use Rattle.std.proofs.lemmas.List.Elements.{All-push}
-use Rattle.sl_instructions.specs.declared.instr.Instr.{Instr}
+use Rattle.sl_code_instructions.specs.declared.instr.Instr.{Instr}
 use Rattle.std.proofs.lemmas.Result.{err_from_is_err_and}
 use Rattle.sl_code.specs.Spelling.{instr_bytes}
 use Rattle.sl_code.specs.Faults.{IsAny, FailsInstr}
-use Rattle.sl_instructions.specs.Proper.{IsInRange}
+use Rattle.sl_code_instructions.specs.Proper.{IsInRange}
 use Rattle.sl_code.proofs.Pieces.{element_stands, element_stops, all_any}
 use Rattle.sl_code.proofs.reader.Reader.instr_list.Goals as goal
 

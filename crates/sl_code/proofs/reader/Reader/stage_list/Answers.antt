@@ -2,9 +2,9 @@ use Rattle.std.proofs.Common.{arith, ap, sym, subst, length, length-append, List
 use Rattle.std.proofs.lemmas.Result.{err_from_is_err_and}
 use Rattle.std.specs.List.{All}
 use Rattle.std.proofs.lemmas.List.Elements.{All-push}
-use Rattle.sl_instructions.specs.declared.code.CodeStage.{CodeStage}
+use Rattle.sl_code_instructions.specs.declared.code.CodeStage.{CodeStage}
 use Rattle.sl_code.specs.Spelling.{stage_bytes}
-use Rattle.sl_instructions.specs.Proper.{IsStage}
+use Rattle.sl_code_instructions.specs.Proper.{IsStage}
 use Rattle.sl_code.specs.Faults.{FailsStage}
 use Rattle.sl_code.proofs.Pieces.{refuse_element, element_stands}
 use Rattle.sl_code.proofs.reader.Reader.stage_list.Goals as goal

@@ -1,5 +1,5 @@
 use Rattle.std.proofs.Common.{◌∙◌, ap, sym}
-use Rattle.sl_pieces.specs.exprs.Slots.{stage_slot}
+use Rattle.sl_compile_pieces.specs.exprs.Slots.{stage_slot}
 use Rattle.sl_compile.proofs.Walks.{found_slot, lost_slot}
 use Rattle.sl_compile.proofs.Found.{found_type, lost_type}
 use Rattle.sl_compile.proofs.earlier.Earlier.column.Goals as goal

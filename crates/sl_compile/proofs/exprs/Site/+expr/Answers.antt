@@ -3,13 +3,13 @@ use Rattle.std.proofs.lemmas.Result.{IfOk-from_err}
 use Rattle.sl_stages.specs.book.Trees.{tree_of}
 use Rattle.sl_stages.specs.book.Typing.{type_of}
 use Rattle.std.specs.Prelude.{[], IfOk, option_map}
-use Rattle.sl_pieces.specs.exprs.Pieces.{slot_of, split_piece, grow_piece}
+use Rattle.sl_compile_pieces.specs.exprs.Pieces.{slot_of, split_piece, grow_piece}
 use Rattle.sl_blocks.specs.PlanBlocks.{AreBlocks, HasRoom}
-use Rattle.sl_books.specs.Codes.{HasSoFar}
+use Rattle.sl_compile.specs.Codes.{HasSoFar}
 use Rattle.sl_compile.specs.inner.Earlier.{columns}
 use Rattle.sl_compile.specs.inner.Nodes.{MayHave}
 use Rattle.sl_compile.proofs.Levels.{low}
-use Rattle.sl_books.proofs.Rows.{blocks_then}
+use Rattle.sl_compile.proofs.rulebooks.Rows.{blocks_then}
 use Rattle.sl_compile.proofs.Places.{room_first, room_rest}
 use Rattle.sl_compile.proofs.Stands.{fewer, name_there, copy_there}
 use Rattle.sl_compile.proofs.Arguments.{slot_at, none_blocks, slot_on, copy_room, copy_has, copy_blocks, both_asks, both_falls, rest_room, rest_blocks, has_both}

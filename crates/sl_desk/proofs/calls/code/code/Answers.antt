@@ -1,6 +1,6 @@
 use Rattle.std.proofs.Common.{IfSome}
 use Rattle.sl_desk.specs.Compiling.{IsCompilingOutput}
-use Rattle.sl_inputs.specs.Reading.{book_input}
+use Rattle.sl_count_inputs.specs.Reading.{book_input}
 use Rattle.sl_desk.proofs.Delivering.{delivers_texts}
 use Rattle.sl_desk.proofs.calls.code.code.Goals as goal
 

@@ -1,5 +1,5 @@
 use Rattle.std.proofs.Common.{[], ◌∷◌, ◌++◌, codes}
-use Rattle.sl_inputs.proofs.Writing.{writes_both, fails_first}
+use Rattle.sl_count_inputs.proofs.Writing.{writes_both, fails_first}
 use Rattle.sl_desk.proofs.calls.law.write_refusal.Goals as goal
 
 pub returns-in_err-write_all-clause-written : goal.returns-in_err-write_all-clause-written

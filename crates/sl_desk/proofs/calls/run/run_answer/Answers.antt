@@ -2,8 +2,8 @@ use Rattle.std.proofs.Common.{ap, subst, ◌∙◌}
 use Rattle.sl_desk.proofs.Order.{answers_run, refused_file, refused_returns}
 use Rattle.sl_desk.proofs.calls.run.run_answer.Goals as goal
 use Rattle.sl_desk.specs.JudgedRuns.{IsJudged}
-use Rattle.sl_inputs.specs.Judging.{returns_refusal_of}
-use Rattle.sl_inputs.specs.Returns.{returns_line}
+use Rattle.sl_count_inputs.specs.Judging.{returns_refusal_of}
+use Rattle.sl_count_inputs.specs.Returns.{returns_line}
 
 pub returns-in_ok-line-in-CodeRefused : goal.returns-in_ok-line-in-CodeRefused
 returns-in_ok-line-in-CodeRefused c =

@@ -1,9 +1,9 @@
-use Rattle.sl_counts.proofs.AnyInputs.{delivers_as, no_read}
+use Rattle.sl_count_calls.proofs.AnyInputs.{delivers_as, no_read}
 use Rattle.sl_desk.proofs.Order.{known_written, reads_on}
 use Rattle.sl_desk.proofs.calls.run.run_code.Goals as goal
 use Rattle.sl_desk.specs.JudgedRuns.{IsRunAnswer}
 use Rattle.sl_desk.specs.Running.{IsRunCode}
-use Rattle.sl_inputs.specs.Reading.{ForKnown}
+use Rattle.sl_count_inputs.specs.Reading.{ForKnown}
 
 pub returns-in-Ok-clause-delivers : goal.returns-in-Ok-clause-delivers
 returns-in-Ok-clause-delivers g c =

@@ -1,4 +1,4 @@
-use Rattle.sl_counts.proofs.Delivering.{delivers_text}
+use Rattle.sl_count_calls.proofs.Delivering.{delivers_text}
 use Rattle.sl_desk.proofs.calls.run.written.Goals as goal
 use Rattle.sl_desk.specs.JudgedRuns.{IsRunAnswer}
 

@@ -1,4 +1,4 @@
--- The peers are the same where the entry is behind them.
+-- The peers are the same where the entry is after them.
 use Rattle.std.proofs.Common.{◌∷◌, List, sym, subst, ◌∙◌}
 use Rattle.std.proofs.lemmas.List.Elements.{All-head, All-tail}
 use Rattle.sl_ratio.specs.declared.entry.Entry.{Entry}

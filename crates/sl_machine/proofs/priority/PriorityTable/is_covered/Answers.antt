@@ -1,7 +1,7 @@
 use Rattle.std.proofs.Common.{ap, ◌∙◌}
 use Rattle.std.specs.Prelude.{if◌then◌else◌}
 use Rattle.sl_prio.specs.Prio.{is_covered}
-use Rattle.sl_semantics.specs.Effects.{Goes, Jumps}
+use Rattle.sl_code_semantics.specs.Effects.{Goes, Jumps}
 use Rattle.sl_machine.specs.inner.Lots.{LotTable}
 use Rattle.sl_machine.proofs.Priorities.{covered_is, same_kept, same_on}
 use Rattle.sl_machine.proofs.drawing.Passing.{its_lot}

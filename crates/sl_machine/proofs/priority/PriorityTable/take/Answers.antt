@@ -4,7 +4,7 @@ use Rattle.std.specs.Option.{option_and_then}
 use Rattle.sl_ratio.specs.declared.entry.Entry.{Entry}
 use Rattle.sl_ratio.specs.Quotient.{FitsRatio}
 use Rattle.sl_prio.specs.Prio.{peers, top}
-use Rattle.sl_semantics.specs.State.{PriorityTable}
+use Rattle.sl_code_semantics.specs.State.{PriorityTable}
 use Rattle.sl_machine.specs.inner.Tables.{FitsMark}
 use Rattle.sl_machine.specs.inner.Lots.{LotTable}
 use Rattle.sl_machine.proofs.Priorities.{alike, top_there, taken_fits, taken_is, taken_within}

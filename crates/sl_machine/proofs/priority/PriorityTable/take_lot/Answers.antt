@@ -6,7 +6,7 @@ use Rattle.sl_ratio.specs.Quotient.{FitsRatio}
 use Rattle.sl_prio.specs.declared.prio.Drawn.{Drawn}
 use Rattle.sl_prio.specs.Prio.{peers, top}
 use Rattle.sl_prio.specs.Lot.{drawn}
-use Rattle.sl_semantics.specs.Effects.{takes}
+use Rattle.sl_code_semantics.specs.Effects.{takes}
 use Rattle.sl_machine.specs.inner.Lots.{LotTable, lot_in}
 use Rattle.sl_machine.specs.inner.Tables.{FitsMark}
 use Rattle.sl_machine.proofs.Priorities.{alike, top_there, drawn_there, taken_fits, taken_is, taken_within}

@@ -6,8 +6,8 @@ use Rattle.sl_ratio.specs.Quotient.{FitsRatio}
 use Rattle.sl_prio.specs.Prio.{peers}
 use Rattle.sl_stages.specs.declared.fault.Item.{Item}
 use Rattle.sl_machine.specs.declared.priority.TableKind.{TableKind}
-use Rattle.sl_semantics.specs.Places.{item_of}
-use Rattle.sl_semantics.specs.Safe.{entries_in}
+use Rattle.sl_code_semantics.specs.Places.{item_of}
+use Rattle.sl_code_semantics.specs.Safe.{entries_in}
 use Rattle.sl_machine.specs.inner.Tables.{FitsMark}
 use Rattle.sl_machine.specs.inner.Lots.{LotTable}
 use Rattle.sl_prio.proofs.LawProofs.{order_is_free}

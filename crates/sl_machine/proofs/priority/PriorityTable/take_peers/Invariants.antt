@@ -2,8 +2,8 @@
 use Rattle.std.proofs.Common.{◌≡◌, ◌<◌, All, Some, map, take, drop}
 use Rattle.sl_ratio.specs.Quotient.{FitsRatio}
 use Rattle.sl_prio.specs.Ranking.{ranked}
-use Rattle.sl_semantics.specs.Places.{item_of}
-use Rattle.sl_semantics.specs.Safe.{entries_in}
+use Rattle.sl_code_semantics.specs.Places.{item_of}
+use Rattle.sl_code_semantics.specs.Safe.{entries_in}
 use Rattle.sl_machine.specs.inner.Tables.{FitsMark}
 use Rattle.sl_machine.proofs.priority.PriorityTable.take_peers.Given as goal
 

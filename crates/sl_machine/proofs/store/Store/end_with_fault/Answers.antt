@@ -1,7 +1,7 @@
 -- The fault is of its kind.
 use Rattle.std.proofs.Common.{ap, ◌∙◌}
 use Rattle.sl_stages.specs.declared.fault.FaultKind.{FaultKind}
-use Rattle.sl_semantics.specs.Effects.{faults}
+use Rattle.sl_code_semantics.specs.Effects.{faults}
 use Rattle.sl_machine.specs.inner.Stores.{state_of}
 use Rattle.sl_machine.proofs.store.Store.end_with_fault.Goals as goal
 

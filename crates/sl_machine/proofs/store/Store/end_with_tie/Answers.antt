@@ -5,13 +5,13 @@ use Rattle.sl_stages.specs.declared.fault.FaultKind.TheVariants as fault
 use Rattle.sl_stages.specs.declared.fault.Item.{Item}
 use Rattle.sl_stages.specs.declared.fault.Scope.{Scope}
 use Rattle.sl_stages.specs.returns.Election.{Election}
-use Rattle.sl_instructions.specs.declared.operand.ScopeKind.{ScopeKind}
-use Rattle.sl_instructions.specs.declared.operand.ScopeKind.TheVariants as kind
-use Rattle.sl_instructions.specs.Codes.{CountingCode}
+use Rattle.sl_code_instructions.specs.declared.operand.ScopeKind.{ScopeKind}
+use Rattle.sl_code_instructions.specs.declared.operand.ScopeKind.TheVariants as kind
+use Rattle.sl_code_instructions.specs.Codes.{CountingCode}
 use Rattle.sl_prio.specs.Prio.{peers}
-use Rattle.sl_semantics.specs.State.{State, PriorityTable}
-use Rattle.sl_semantics.specs.Places.{item_of, scope_at}
-use Rattle.sl_semantics.specs.Effects.{faults}
+use Rattle.sl_code_semantics.specs.State.{State, PriorityTable}
+use Rattle.sl_code_semantics.specs.Places.{item_of, scope_at}
+use Rattle.sl_code_semantics.specs.Effects.{faults}
 use Rattle.sl_machine.specs.inner.Stores.{state_of}
 use Rattle.sl_machine.proofs.drawing.Drawing.{said_there}
 use Rattle.sl_machine.proofs.store.Store.end_with_tie.Goals as goal

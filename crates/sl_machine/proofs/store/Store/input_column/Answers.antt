@@ -1,7 +1,7 @@
 -- The column is one of the returns', as long as before.
 use Rattle.std.proofs.Common.{ℕ, List, length, ap, ◌∙◌}
-use Rattle.sl_semantics.specs.State.{with_column}
-use Rattle.sl_semantics.specs.Effects.{Goes, input_of}
+use Rattle.sl_code_semantics.specs.State.{with_column}
+use Rattle.sl_code_semantics.specs.Effects.{Goes, input_of}
 use Rattle.sl_machine.specs.inner.Stores.{state_of}
 use Rattle.sl_machine.proofs.stores.Cells.{same_columns, column_of_width, widths_kept, column_written}
 use Rattle.sl_machine.proofs.stores.Inputs.{input_at}

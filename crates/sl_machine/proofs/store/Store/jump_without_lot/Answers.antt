@@ -1,7 +1,7 @@
 -- The stage's lot, by the stage's name.
 use Rattle.std.proofs.Common.{Bool, List, slice_get, sym, ap, ◌∙◌}
 use Rattle.std.specs.Prelude.{if◌then◌else◌}
-use Rattle.sl_semantics.specs.Effects.{Goes, Jumps, name_of}
+use Rattle.sl_code_semantics.specs.Effects.{Goes, Jumps, name_of}
 use Rattle.sl_machine.specs.inner.Lots.{LotTable, StageLots}
 use Rattle.sl_machine.specs.inner.Stores.{state_of}
 use Rattle.sl_machine.proofs.drawing.Passing.{covers_by_name, stage_lot}

@@ -1,6 +1,6 @@
 -- The cursor is set, at a winner.
 use Rattle.std.proofs.Common.{ap}
-use Rattle.sl_semantics.specs.Effects.{Goes}
+use Rattle.sl_code_semantics.specs.Effects.{Goes}
 use Rattle.sl_machine.proofs.store.Store.seat_as_single.Goals as goal
 
 pub returns-clause-follows : goal.returns-clause-follows

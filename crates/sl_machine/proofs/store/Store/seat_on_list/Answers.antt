@@ -1,6 +1,6 @@
 -- The cursor is set, at a winner whose list is there.
 use Rattle.std.proofs.Common.{ap, sym, ◌∙◌}
-use Rattle.sl_semantics.specs.Effects.{Goes}
+use Rattle.sl_code_semantics.specs.Effects.{Goes}
 use Rattle.sl_machine.proofs.store.Store.seat_on_list.Goals as goal
 
 pub returns-then-is_list-clause-follows : goal.returns-then-is_list-clause-follows

@@ -1,7 +1,7 @@
 -- The instructions whose methods see less than the whole code and the returns.
 use Rattle.std.proofs.Common.{sym, ◌∙◌}
-use Rattle.sl_semantics.specs.Effects.{stage_of}
-use Rattle.sl_semantics.specs.Places.{scope_at, index_at, item_of}
+use Rattle.sl_code_semantics.specs.Effects.{stage_of}
+use Rattle.sl_code_semantics.specs.Places.{scope_at, index_at, item_of}
 use Rattle.sl_machine.specs.inner.Stores.{state_of}
 use Rattle.sl_machine.proofs.drawing.Drawing.{entry_there}
 use Rattle.sl_machine.proofs.runs.Dropping.{weighed}

@@ -1,8 +1,8 @@
 -- The cell that is written, in a column as long as before.
 use Rattle.std.proofs.Common.{ℕ, List, length, slice_get, sym, ap, ◌∙◌}
-use Rattle.sl_semantics.specs.State.{with_cell}
-use Rattle.sl_semantics.specs.Places.{cell_at}
-use Rattle.sl_semantics.specs.Effects.{Goes}
+use Rattle.sl_code_semantics.specs.State.{with_cell}
+use Rattle.sl_code_semantics.specs.Places.{cell_at}
+use Rattle.sl_code_semantics.specs.Effects.{Goes}
 use Rattle.sl_machine.specs.inner.Stores.{state_of, Sizes}
 use Rattle.sl_machine.proofs.stores.Cells.{found_behind, same_columns, place_in_column, widths_kept, cells_written}
 use Rattle.sl_machine.proofs.store.Store.store_cell.Goals as goal

@@ -1,7 +1,7 @@
 -- The peer that the stage's lot draws is taken.
 use Rattle.std.proofs.Common.{List, slice_get, sym, ap, ◌∙◌}
 use Rattle.sl_prio.specs.Lot.{drawn}
-use Rattle.sl_semantics.specs.Effects.{name_of, takes}
+use Rattle.sl_code_semantics.specs.Effects.{name_of, takes}
 use Rattle.sl_machine.specs.inner.Lots.{StageLots}
 use Rattle.sl_machine.specs.inner.Stores.{state_of}
 use Rattle.sl_machine.proofs.drawing.Drawing.{topped}

@@ -1,8 +1,8 @@
 -- The column is one of zeros, as long as before.
 use Rattle.std.proofs.Common.{◌<◌, ℕ, List, length, ap, ◌∙◌, arith}
 use Rattle.std.proofs.lemmas.List.{length-map, length-replicate}
-use Rattle.sl_semantics.specs.State.{with_column}
-use Rattle.sl_semantics.specs.Effects.{Goes}
+use Rattle.sl_code_semantics.specs.State.{with_column}
+use Rattle.sl_code_semantics.specs.Effects.{Goes}
 use Rattle.sl_machine.specs.inner.Stores.{state_of}
 use Rattle.sl_machine.proofs.stores.Cells.{same_columns, widths_kept, column_written}
 use Rattle.sl_machine.proofs.stores.Starting.{same_at}

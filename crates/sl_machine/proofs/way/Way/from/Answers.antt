@@ -1,4 +1,4 @@
--- They are those behind as many as stand before the place.
+-- They are those after as many as stand before the place.
 use Rattle.std.proofs.Common.{◌≡◌, ◌<◌, ℕ, length, drop, ap, ◌∙◌, arith}
 use Rattle.std.proofs.lemmas.Grind.{get_or_default_zero}
 use Rattle.sl_machine.specs.inner.Ways.{standing_before}

@@ -1,8 +1,8 @@
 -- One more of the code's instructions.
 use Rattle.std.proofs.Common.{◌≡◌, ◌<◌, ◌+◌, ℕ, suc, List, [], ◌∷◌, ◌++◌, length, get_or, take, sym, ap, ◌∙◌, arith}
 use Rattle.std.proofs.lemmas.List.{length-append}
-use Rattle.sl_instructions.specs.declared.instr.Instr.{Instr}
-use Rattle.sl_instructions.specs.declared.instr.Instr.TheVariants.{Set}
+use Rattle.sl_code_instructions.specs.declared.instr.Instr.{Instr}
+use Rattle.sl_code_instructions.specs.declared.instr.Instr.TheVariants.{Set}
 use Rattle.sl_machine.specs.declared.way.Standing.{Standing}
 use Rattle.sl_machine.specs.inner.Ways.{standing_from, standing_before}
 use Rattle.sl_machine.proofs.runs.Ways.{standing_next, numbers_on}

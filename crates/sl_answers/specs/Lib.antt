@@ -1,2 +1,0 @@
--- What answers say of counts.
-pub mod Ends

@@ -1,5 +1,0 @@
-use Rattle.sl_books.proofs.KindsOfBooks.{books_are_kinded}
-use Rattle.sl_books.proofs.laws.books_are_kinded.Goals as goal
-
-pub returns : goal.returns
-returns c = books_are_kinded

@@ -1,5 +1,0 @@
-use Rattle.sl_books.proofs.Sizes.{books_are_short}
-use Rattle.sl_books.proofs.laws.books_are_short.Goals as goal
-
-pub returns : goal.returns
-returns c = books_are_short

@@ -1,4 +1,0 @@
-//! The counting code of a whole rulebook, and what it comes to.
-#![tactic(auto)]
-
-pub mod laws;

@@ -1,0 +1,27 @@
+use Rattle.std.proofs.Common.{map, codes, ap, sym, ◌∷◌, ◌++◌, ◌∙◌}
+use Rattle.std.proofs.lemmas.Result.{IfOk-equal}
+use Rattle.sl_count_texts.specs.Bounds.{lot_words}
+use Rattle.sl_count_texts.specs.Faults.{stage_word, scope_words}
+use Rattle.sl_count_texts.specs.Lines.{ratio_word, with_word, with_words, with_end}
+use Rattle.sl_count_texts.proofs.Words.{words_append, line_behind}
+use Rattle.sl_count_texts.proofs.bounds_form.pair_line.Goals as goal
+
+pub returns : goal.returns
+returns c =
+    let e = c.args.returns.now in
+    let w = c.args.weight.now in
+    let d = c.args.text.now in
+    let stage = stage_word (map (λ s. s.name) c.args.code.now.stages) w.stage in
+    let scope = scope_words e w.scope in
+    let last = ratio_word c.args.pair.0 in
+    let next = ratio_word c.args.pair.1 in
+    let lot = lot_words c.args.pair.0 c.args.pair.1 in
+    IfOk-equal c.end_line.result _ _ _ c.end_line.ensures.ended
+    (ap with_end (c.in_ok-lot_words.ensures
+    ∙ ap (λ t. with_words t lot) (c.in_ok-ratio-2.ensures.added
+    ∙ ap (λ t. with_word t next) (c.in_ok-ratio.ensures.added
+    ∙ ap (λ t. with_word t last) (c.in_ok-scope_words.ensures
+    ∙ ap (λ t. with_words t scope) (c.in_ok-stage_word.ensures
+    ∙ ap (λ t. with_word t stage) c.in_ok-word.ensures.added))))
+    ∙ sym (words_append (with_word (with_word d (codes "bounds")) stage) scope (last ∷ next ∷ lot)))
+    ∙ line_behind d (codes "bounds") (stage ∷ scope ++ (last ∷ next ∷ lot)) c.requires.begun)

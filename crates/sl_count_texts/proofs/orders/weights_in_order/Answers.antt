@@ -1,0 +1,14 @@
+use Rattle.std.proofs.Common.{◌≡◌, map, rules, ◌∙◌}
+use Rattle.std.proofs.lemmas.Iterator.{YieldsList-from_slice}
+use Rattle.std.proofs.lemmas.Iterator.Consumers.{map_from_collect}
+use Rattle.std.proofs.lemmas.Result.{IfOk-at_ok}
+use Rattle.sl_count_texts.specs.Orders.{weight_key}
+use Rattle.sl_count_texts.proofs.KeyOrder.{references_in_order}
+use Rattle.sl_count_texts.proofs.orders.weights_in_order.Goals as goal
+
+pub returns : goal.returns
+returns c =
+    let weights = c.args.table.now.weights in
+    references_in_order weight_key weights c.in_ok-weights.weights.items _
+    (IfOk-at_ok (λ v. map (λ s. s.now) v.items ≡ weights) c.in_ok-weights.was (map_from_collect c.collect.result c.collect.ensures.ran (YieldsList-from_slice weights (c.iter.ensures.rest ∙ c.weights.ensures))))
+    c.in_ok-sort_by_key.ensures.sorted c.in_ok-sort_by_key.ensures.stable (λ f a r g h. search rules)

@@ -1,0 +1,20 @@
+//! Texts of lines, and those of tables and of legal faults.
+//!
+//! Stands on `sl_code_semantics`; used by the room count. Proved: the bytes of each text.
+//!
+//! Where an error is `NoMemory` alone, memory ran out, and nothing else is wrong.
+#![tactic(auto)]
+
+mod bounds_form;
+mod fault_form;
+pub mod laws;
+mod line;
+mod orders;
+mod party_counts;
+mod short_form;
+mod steps_form;
+
+pub use fault_form::fault_text;
+pub use line::Text;
+pub use short_form::short_text;
+pub use steps_form::steps_text;

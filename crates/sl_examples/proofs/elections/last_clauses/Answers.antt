@@ -1,5 +1,0 @@
-use Rattle.sl_examples.proofs.MeaningExamples.{last_clauses}
-use Rattle.sl_examples.proofs.elections.last_clauses.Goals as goal
-
-pub returns : goal.returns
-returns c = last_clauses

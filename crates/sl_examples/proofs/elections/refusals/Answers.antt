@@ -1,5 +1,0 @@
-use Rattle.sl_examples.proofs.MeaningExamples.{refusals}
-use Rattle.sl_examples.proofs.elections.refusals.Goals as goal
-
-pub returns : goal.returns
-returns c = refusals

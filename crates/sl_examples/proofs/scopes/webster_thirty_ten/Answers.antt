@@ -1,5 +1,0 @@
-use Rattle.sl_examples.proofs.WorkedExamples.{webster_thirty_ten}
-use Rattle.sl_examples.proofs.scopes.webster_thirty_ten.Goals as goal
-
-pub returns : goal.returns
-returns c = webster_thirty_ten

@@ -1,0 +1,29 @@
+//! Explanations for people: a sentence with the code of the fault, the place in a file, the line that stands there with a mark, and what to do, in
+//! English or in German.
+//!
+//! Stands on `sl_base_no_memory`; used by the rooms explain, report and terminal. Proved: an explanation begins with its code.
+//!
+//! Where an error is `NoMemory` alone, memory ran out, and nothing else is wrong.
+#![tactic(auto)]
+
+mod code;
+mod explanation;
+mod language;
+mod line;
+mod names;
+mod packed;
+mod page;
+mod parts;
+mod shown;
+mod speaker;
+
+pub use code::{CODES, FaultCode};
+pub use explanation::{Explanation, Span};
+pub use language::{Language, Message, Sentence};
+pub use line::{Line, line_at};
+pub use names::nearest;
+pub use packed::packing_of;
+pub use page::written;
+pub use parts::{append, first_line};
+pub use shown::push_shown;
+pub use speaker::Speaker;

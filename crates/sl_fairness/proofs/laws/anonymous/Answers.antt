@@ -1,5 +1,0 @@
-use Rattle.sl_fairness.proofs.Renamed.{anonymous}
-use Rattle.sl_fairness.proofs.laws.anonymous.Goals as goal
-
-pub returns : goal.returns
-returns c = anonymous

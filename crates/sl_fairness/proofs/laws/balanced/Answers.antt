@@ -1,5 +1,0 @@
-use Rattle.sl_fairness.proofs.NearQuota.{balanced}
-use Rattle.sl_fairness.proofs.laws.balanced.Goals as goal
-
-pub returns : goal.returns
-returns c = balanced

@@ -1,5 +1,0 @@
-use Rattle.sl_fairness.proofs.Winners.{keep_total}
-use Rattle.sl_fairness.proofs.laws.books.keep_total.Goals as goal
-
-pub returns : goal.returns
-returns c = keep_total

@@ -1,5 +1,0 @@
-use Rattle.sl_fairness.proofs.Parts.{coherent}
-use Rattle.sl_fairness.proofs.laws.coherent.Goals as goal
-
-pub returns : goal.returns
-returns c = coherent

@@ -1,5 +1,0 @@
-use Rattle.sl_fairness.proofs.MeanRounding.{dean_by_divisor}
-use Rattle.sl_fairness.proofs.laws.dean_by_divisor.Goals as goal
-
-pub returns : goal.returns
-returns c = dean_by_divisor

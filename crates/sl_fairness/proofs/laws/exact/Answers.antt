@@ -1,5 +1,0 @@
-use Rattle.sl_fairness.proofs.Exact.{exact}
-use Rattle.sl_fairness.proofs.laws.exact.Goals as goal
-
-pub returns : goal.returns
-returns c = exact

@@ -1,5 +1,0 @@
-use Rattle.sl_fairness.proofs.Votes.{first_seats_by_lot}
-use Rattle.sl_fairness.proofs.laws.first_seats_by_lot.Goals as goal
-
-pub returns : goal.returns
-returns c = first_seats_by_lot

@@ -1,5 +1,0 @@
-use Rattle.sl_fairness.proofs.Quota.{hamilton_in_quota}
-use Rattle.sl_fairness.proofs.laws.hamilton_in_quota.Goals as goal
-
-pub returns : goal.returns
-returns c = hamilton_in_quota

@@ -1,5 +1,0 @@
-use Rattle.sl_fairness.proofs.HamiltonVotes.{hamilton_votes}
-use Rattle.sl_fairness.proofs.laws.hamilton_votes.Goals as goal
-
-pub returns : goal.returns
-returns c = hamilton_votes

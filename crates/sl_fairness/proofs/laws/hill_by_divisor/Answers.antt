@@ -1,5 +1,0 @@
-use Rattle.sl_fairness.proofs.MeanRounding.{hill_by_divisor}
-use Rattle.sl_fairness.proofs.laws.hill_by_divisor.Goals as goal
-
-pub returns : goal.returns
-returns c = hill_by_divisor

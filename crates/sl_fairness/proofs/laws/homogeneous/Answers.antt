@@ -1,5 +1,0 @@
-use Rattle.sl_fairness.proofs.Renamed.{homogeneous}
-use Rattle.sl_fairness.proofs.laws.homogeneous.Goals as goal
-
-pub returns : goal.returns
-returns c = homogeneous

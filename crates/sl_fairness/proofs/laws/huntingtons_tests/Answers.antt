@@ -1,5 +1,0 @@
-use Rattle.sl_fairness.proofs.Huntington.{huntingtons_tests}
-use Rattle.sl_fairness.proofs.laws.huntingtons_tests.Goals as goal
-
-pub returns : goal.returns
-returns c = huntingtons_tests

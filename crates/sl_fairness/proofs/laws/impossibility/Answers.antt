@@ -1,5 +1,0 @@
-use Rattle.sl_fairness.proofs.Impossible.{impossibility}
-use Rattle.sl_fairness.proofs.laws.impossibility.Goals as goal
-
-pub returns : goal.returns
-returns c = impossibility

@@ -1,5 +1,0 @@
-use Rattle.sl_fairness.proofs.Joining.{jefferson_joins}
-use Rattle.sl_fairness.proofs.laws.jefferson_joins.Goals as goal
-
-pub returns : goal.returns
-returns c = jefferson_joins

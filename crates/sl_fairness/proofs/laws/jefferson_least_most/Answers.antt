@@ -1,5 +1,0 @@
-use Rattle.sl_fairness.proofs.Optimal.{jefferson_least_most}
-use Rattle.sl_fairness.proofs.laws.jefferson_least_most.Goals as goal
-
-pub returns : goal.returns
-returns c = jefferson_least_most

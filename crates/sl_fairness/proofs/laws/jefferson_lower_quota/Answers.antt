@@ -1,5 +1,0 @@
-use Rattle.sl_fairness.proofs.Quota.{jefferson_lower_quota}
-use Rattle.sl_fairness.proofs.laws.jefferson_lower_quota.Goals as goal
-
-pub returns : goal.returns
-returns c = jefferson_lower_quota

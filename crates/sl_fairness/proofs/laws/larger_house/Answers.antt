@@ -1,5 +1,0 @@
-use Rattle.sl_fairness.proofs.Larger.{larger_house}
-use Rattle.sl_fairness.proofs.laws.larger_house.Goals as goal
-
-pub returns : goal.returns
-returns c = larger_house

@@ -1,5 +1,0 @@
-use Rattle.sl_fairness.proofs.LeastDivisor.{least_divisor_decides}
-use Rattle.sl_fairness.proofs.laws.least_divisor_decides.Goals as goal
-
-pub returns : goal.returns
-returns c = least_divisor_decides

@@ -1,5 +1,0 @@
-use Rattle.sl_fairness.proofs.RelativeVotes.{population_monotone}
-use Rattle.sl_fairness.proofs.laws.population_monotone.Goals as goal
-
-pub returns : goal.returns
-returns c = population_monotone

@@ -1,5 +1,0 @@
-use Rattle.sl_fairness.proofs.RelativeVotes.{same_factor}
-use Rattle.sl_fairness.proofs.laws.same_factor.Goals as goal
-
-pub returns : goal.returns
-returns c = same_factor

@@ -1,5 +1,0 @@
-use Rattle.sl_fairness.proofs.Votes.{votes_monotone}
-use Rattle.sl_fairness.proofs.laws.votes_monotone.Goals as goal
-
-pub returns : goal.returns
-returns c = votes_monotone

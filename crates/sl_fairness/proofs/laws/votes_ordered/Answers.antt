@@ -1,5 +1,0 @@
-use Rattle.sl_fairness.proofs.Votes.{votes_ordered}
-use Rattle.sl_fairness.proofs.laws.votes_ordered.Goals as goal
-
-pub returns : goal.returns
-returns c = votes_ordered

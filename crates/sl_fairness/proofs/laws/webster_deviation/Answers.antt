@@ -1,5 +1,0 @@
-use Rattle.sl_fairness.proofs.Deviating.{webster_deviation}
-use Rattle.sl_fairness.proofs.laws.webster_deviation.Goals as goal
-
-pub returns : goal.returns
-returns c = webster_deviation

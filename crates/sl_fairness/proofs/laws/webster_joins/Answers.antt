@@ -1,5 +1,0 @@
-use Rattle.sl_fairness.proofs.WebsterJoining.{webster_joins}
-use Rattle.sl_fairness.proofs.laws.webster_joins.Goals as goal
-
-pub returns : goal.returns
-returns c = webster_joins

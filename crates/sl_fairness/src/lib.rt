@@ -1,5 +1,0 @@
-//! Fairness: how allocations answer to a change of votes, of seats and of entries, and what rulebooks keep by their meaning. All is proved of
-//! the definitions of `sl_stages` alone.
-#![tactic(auto)]
-
-pub mod laws;

@@ -1,5 +1,0 @@
-use Rattle.sl_fairness_examples.proofs.ByHand.{divided_2025}
-use Rattle.sl_fairness_examples.proofs.by_hand.divided_2025.Goals as goal
-
-pub returns : goal.returns
-returns c = divided_2025

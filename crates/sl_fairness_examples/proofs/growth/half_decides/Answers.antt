@@ -1,5 +1,0 @@
-use Rattle.sl_fairness_examples.proofs.Growing.{half_decides}
-use Rattle.sl_fairness_examples.proofs.growth.half_decides.Goals as goal
-
-pub returns : goal.returns
-returns c = half_decides

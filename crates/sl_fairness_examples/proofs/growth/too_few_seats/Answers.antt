@@ -1,5 +1,0 @@
-use Rattle.sl_fairness_examples.proofs.Growing.{too_few_seats}
-use Rattle.sl_fairness_examples.proofs.growth.too_few_seats.Goals as goal
-
-pub returns : goal.returns
-returns c = too_few_seats

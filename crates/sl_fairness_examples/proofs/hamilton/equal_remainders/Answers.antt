@@ -1,5 +1,0 @@
-use Rattle.sl_fairness_examples.proofs.Compared.{equal_remainders}
-use Rattle.sl_fairness_examples.proofs.hamilton.equal_remainders.Goals as goal
-
-pub returns : goal.returns
-returns c = equal_remainders

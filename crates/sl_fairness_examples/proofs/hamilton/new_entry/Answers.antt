@@ -1,5 +1,0 @@
-use Rattle.sl_fairness_examples.proofs.Remainders.{new_entry}
-use Rattle.sl_fairness_examples.proofs.hamilton.new_entry.Goals as goal
-
-pub returns : goal.returns
-returns c = new_entry

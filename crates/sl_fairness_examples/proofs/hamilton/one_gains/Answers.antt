@@ -1,5 +1,0 @@
-use Rattle.sl_fairness_examples.proofs.Compared.{one_gains}
-use Rattle.sl_fairness_examples.proofs.hamilton.one_gains.Goals as goal
-
-pub returns : goal.returns
-returns c = one_gains

@@ -1,5 +1,0 @@
-use Rattle.sl_fairness_examples.proofs.Compared.{preferred_deviates}
-use Rattle.sl_fairness_examples.proofs.hamilton.preferred_deviates.Goals as goal
-
-pub returns : goal.returns
-returns c = preferred_deviates

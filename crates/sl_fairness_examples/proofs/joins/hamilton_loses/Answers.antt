@@ -1,5 +1,0 @@
-use Rattle.sl_fairness_examples.proofs.DeanAndHill.{hamilton_loses}
-use Rattle.sl_fairness_examples.proofs.joins.hamilton_loses.Goals as goal
-
-pub returns : goal.returns
-returns c = hamilton_loses

@@ -1,5 +1,0 @@
-use Rattle.sl_fairness_examples.proofs.Compared.{two_by_lot}
-use Rattle.sl_fairness_examples.proofs.joins.two_by_lot.Goals as goal
-
-pub returns : goal.returns
-returns c = two_by_lot

@@ -1,5 +1,0 @@
-use Rattle.sl_fairness_examples.proofs.Joined.{webster_loses}
-use Rattle.sl_fairness_examples.proofs.joins.webster_loses.Goals as goal
-
-pub returns : goal.returns
-returns c = webster_loses

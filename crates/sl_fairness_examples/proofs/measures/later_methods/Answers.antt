@@ -1,5 +1,0 @@
-use Rattle.sl_fairness_examples.proofs.Compared.{later_methods}
-use Rattle.sl_fairness_examples.proofs.measures.later_methods.Goals as goal
-
-pub returns : goal.returns
-returns c = later_methods

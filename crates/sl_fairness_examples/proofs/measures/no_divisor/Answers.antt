@@ -1,5 +1,0 @@
-use Rattle.sl_fairness_examples.proofs.Compared.{no_divisor}
-use Rattle.sl_fairness_examples.proofs.measures.no_divisor.Goals as goal
-
-pub returns : goal.returns
-returns c = no_divisor

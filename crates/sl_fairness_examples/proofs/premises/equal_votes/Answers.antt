@@ -1,5 +1,0 @@
-use Rattle.sl_fairness_examples.proofs.EqualVotes.{equal_votes}
-use Rattle.sl_fairness_examples.proofs.premises.equal_votes.Goals as goal
-
-pub returns : goal.returns
-returns c = equal_votes

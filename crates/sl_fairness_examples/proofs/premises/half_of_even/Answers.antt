@@ -1,5 +1,0 @@
-use Rattle.sl_fairness_examples.proofs.MissingPremises.{half_of_even}
-use Rattle.sl_fairness_examples.proofs.premises.half_of_even.Goals as goal
-
-pub returns : goal.returns
-returns c = half_of_even

@@ -1,5 +1,0 @@
-use Rattle.sl_fairness_examples.proofs.MissingPremises.{more_votes_by_lot}
-use Rattle.sl_fairness_examples.proofs.premises.more_votes_by_lot.Goals as goal
-
-pub returns : goal.returns
-returns c = more_votes_by_lot

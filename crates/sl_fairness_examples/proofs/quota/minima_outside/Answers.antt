@@ -1,5 +1,0 @@
-use Rattle.sl_fairness_examples.proofs.OutsideQuota.{minima_outside}
-use Rattle.sl_fairness_examples.proofs.quota.minima_outside.Goals as goal
-
-pub returns : goal.returns
-returns c = minima_outside

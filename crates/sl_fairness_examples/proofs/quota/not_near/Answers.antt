@@ -1,5 +1,0 @@
-use Rattle.sl_fairness_examples.proofs.Compared.{not_near}
-use Rattle.sl_fairness_examples.proofs.quota.not_near.Goals as goal
-
-pub returns : goal.returns
-returns c = not_near

@@ -1,5 +1,0 @@
-use Rattle.sl_fairness_examples.proofs.OutsideQuota.{webster_above}
-use Rattle.sl_fairness_examples.proofs.quota.webster_above.Goals as goal
-
-pub returns : goal.returns
-returns c = webster_above

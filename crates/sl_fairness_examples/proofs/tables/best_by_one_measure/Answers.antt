@@ -1,5 +1,0 @@
-use Rattle.sl_fairness_examples.proofs.SmallTables.{best_by_one_measure}
-use Rattle.sl_fairness_examples.proofs.tables.best_by_one_measure.Goals as goal
-
-pub returns : goal.returns
-returns c = best_by_one_measure

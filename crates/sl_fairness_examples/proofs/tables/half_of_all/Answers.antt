@@ -1,5 +1,0 @@
-use Rattle.sl_fairness_examples.proofs.SmallTables.{half_of_all}
-use Rattle.sl_fairness_examples.proofs.tables.half_of_all.Goals as goal
-
-pub returns : goal.returns
-returns c = half_of_all

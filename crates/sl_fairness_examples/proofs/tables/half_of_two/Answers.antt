@@ -1,5 +1,0 @@
-use Rattle.sl_fairness_examples.proofs.BesideIndependent.{half_of_two}
-use Rattle.sl_fairness_examples.proofs.tables.half_of_two.Goals as goal
-
-pub returns : goal.returns
-returns c = half_of_two

@@ -1,5 +1,0 @@
-use Rattle.sl_fairness_examples.proofs.NoGain.{no_seat_gained}
-use Rattle.sl_fairness_examples.proofs.tables.no_seat_gained.Goals as goal
-
-pub returns : goal.returns
-returns c = no_seat_gained

@@ -1,5 +1,0 @@
-use Rattle.sl_fairness_examples.proofs.SmallTables.{winners_among_lists}
-use Rattle.sl_fairness_examples.proofs.tables.winners_among_lists.Goals as goal
-
-pub returns : goal.returns
-returns c = winners_among_lists

@@ -1,5 +1,0 @@
-use Rattle.sl_fairness_examples.proofs.Threshold.{fewer_are_enough}
-use Rattle.sl_fairness_examples.proofs.votes.fewer_are_enough.Goals as goal
-
-pub returns : goal.returns
-returns c = fewer_are_enough

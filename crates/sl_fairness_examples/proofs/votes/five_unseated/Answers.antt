@@ -1,5 +1,0 @@
-use Rattle.sl_fairness_examples.proofs.WinnersAbove.{five_unseated}
-use Rattle.sl_fairness_examples.proofs.votes.five_unseated.Goals as goal
-
-pub returns : goal.returns
-returns c = five_unseated

@@ -1,5 +1,0 @@
-use Rattle.sl_fairness_examples.proofs.VotesAndGrowth.{vote_costs_by_growth}
-use Rattle.sl_fairness_examples.proofs.votes.vote_costs_by_growth.Goals as goal
-
-pub returns : goal.returns
-returns c = vote_costs_by_growth

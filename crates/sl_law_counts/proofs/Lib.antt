@@ -1,2 +1,0 @@
--- The proof.
-pub mod Names

@@ -1,2 +1,0 @@
--- What is counted by the names of the library.
-pub mod Names

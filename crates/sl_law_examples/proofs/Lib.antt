@@ -1,0 +1,27 @@
+-- The proofs of the examples, by tests that compute.
+pub mod SettledTests
+pub mod WorkedExamples
+pub mod MeaningExamples
+pub mod ScopeExamples
+pub mod LawExample
+pub mod Tested
+pub mod Allocated
+pub mod Remainders
+pub mod OutsideQuota
+pub mod MissingPremises
+pub mod EqualVotes
+pub mod Joined
+pub mod SmallReturns
+pub mod VotesAndOverhang
+pub mod VotesAndGrowth
+pub mod DeanAndHill
+pub mod RealHouses
+pub mod WinnersAbove
+pub mod ByHand
+pub mod Sharper
+pub mod Threshold
+pub mod Growing
+pub mod Compared
+pub mod SmallTables
+pub mod NoGain
+pub mod BesideIndependent

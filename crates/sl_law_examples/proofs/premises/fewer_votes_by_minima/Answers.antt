@@ -1,0 +1,5 @@
+use Rattle.sl_law_examples.proofs.MissingPremises.{fewer_votes_by_minima}
+use Rattle.sl_law_examples.proofs.premises.fewer_votes_by_minima.Goals as goal
+
+pub returns : goal.returns
+returns c = fewer_votes_by_minima

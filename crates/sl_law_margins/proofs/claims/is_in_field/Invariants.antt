@@ -1,0 +1,6 @@
+-- those of the entries so far that have no votes have no seat
+use Rattle.std.proofs.Common.{◌≡◌, ◌<◌, ℕ, get_or}
+use Rattle.sl_law_margins.proofs.claims.is_in_field.Given as goal
+
+abbrev pub invariant-loop-entry : goal.invariant-loop-entry
+invariant-loop-entry l = (i : ℕ) → i < l.entry → get_or l.weights i 0 ≡ 0 → get_or l.seats i 0 ≡ 0

@@ -1,3 +1,0 @@
--- The texts, cut and read by functions that compute.
-pub mod Cutting
-pub mod Texts

@@ -1,5 +1,0 @@
-use Rattle.sl_law_trees.proofs.Texts.{texts_have_the_trees}
-use Rattle.sl_law_trees.proofs.laws.texts_have_the_trees.Goals as goal
-
-pub returns : goal.returns
-returns c = texts_have_the_trees

@@ -1,2 +1,0 @@
--- What trees the texts of the library have.
-pub mod Texts

@@ -1,4 +1,0 @@
-//! The texts of the library have the trees of its statutes.
-#![tactic(auto)]
-
-pub mod laws;

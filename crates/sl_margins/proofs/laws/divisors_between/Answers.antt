@@ -1,5 +1,0 @@
-use Rattle.sl_margins.proofs.BetweenClaims.{divisors_between}
-use Rattle.sl_margins.proofs.laws.divisors_between.Goals as goal
-
-pub returns : goal.returns
-returns c = divisors_between

@@ -1,2 +1,0 @@
--- What words name of the files outside.
-pub mod Inputs

@@ -1,0 +1,4 @@
+pub mod Handed
+pub mod OneStatus
+pub mod Standing
+pub mod Untold

@@ -1,5 +1,0 @@
-use Rattle.sl_pieces.proofs.arenas.MethodArenas.{covering_arenas}
-use Rattle.sl_pieces.proofs.laws.arenas.covering_arenas.Goals as goal
-
-pub returns : goal.returns
-returns c = covering_arenas

@@ -1,5 +1,0 @@
-use Rattle.sl_pieces.proofs.arenas.TableEffects.{waiting_again}
-use Rattle.sl_pieces.proofs.laws.arenas.waiting_again.Goals as goal
-
-pub returns : goal.returns
-returns c = waiting_again

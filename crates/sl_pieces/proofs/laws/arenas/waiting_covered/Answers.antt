@@ -1,5 +1,0 @@
-use Rattle.sl_pieces.proofs.arenas.Lots.{waiting_covered}
-use Rattle.sl_pieces.proofs.laws.arenas.waiting_covered.Goals as goal
-
-pub returns : goal.returns
-returns c = waiting_covered

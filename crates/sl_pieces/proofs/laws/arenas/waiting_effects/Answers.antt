@@ -1,5 +1,0 @@
-use Rattle.sl_pieces.proofs.arenas.TableEffects.{waiting_effects}
-use Rattle.sl_pieces.proofs.laws.arenas.waiting_effects.Goals as goal
-
-pub returns : goal.returns
-returns c = waiting_effects

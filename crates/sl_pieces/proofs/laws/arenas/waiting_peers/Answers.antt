@@ -1,5 +1,0 @@
-use Rattle.sl_pieces.proofs.arenas.Peers.{waiting_peers}
-use Rattle.sl_pieces.proofs.laws.arenas.waiting_peers.Goals as goal
-
-pub returns : goal.returns
-returns c = waiting_peers

@@ -1,5 +1,0 @@
-use Rattle.sl_pieces.proofs.arenas.Turns.{waiting_turns}
-use Rattle.sl_pieces.proofs.laws.arenas.waiting_turns.Goals as goal
-
-pub returns : goal.returns
-returns c = waiting_turns

@@ -1,5 +1,0 @@
-use Rattle.sl_pieces.proofs.closing.Closings.{closings_achieve}
-use Rattle.sl_pieces.proofs.laws.closing.closings_achieve.Goals as goal
-
-pub returns : goal.returns
-returns c = closings_achieve

@@ -1,5 +1,0 @@
-use Rattle.sl_pieces.proofs.columns.Writing.{pairs_are_taken}
-use Rattle.sl_pieces.proofs.laws.columns.pairs_are_taken.Goals as goal
-
-pub returns : goal.returns
-returns c = pairs_are_taken

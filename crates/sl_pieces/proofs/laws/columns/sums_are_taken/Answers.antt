@@ -1,5 +1,0 @@
-use Rattle.sl_pieces.proofs.columns.Sums.{sums_are_taken}
-use Rattle.sl_pieces.proofs.laws.columns.sums_are_taken.Goals as goal
-
-pub returns : goal.returns
-returns c = sums_are_taken

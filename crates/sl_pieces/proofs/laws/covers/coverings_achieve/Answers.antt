@@ -1,5 +1,0 @@
-use Rattle.sl_pieces.proofs.covers.Covering.{coverings_achieve}
-use Rattle.sl_pieces.proofs.laws.covers.coverings_achieve.Goals as goal
-
-pub returns : goal.returns
-returns c = coverings_achieve

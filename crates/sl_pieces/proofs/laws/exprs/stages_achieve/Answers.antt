@@ -1,5 +1,0 @@
-use Rattle.sl_pieces.proofs.exprs.Stages.{stages_achieve}
-use Rattle.sl_pieces.proofs.laws.exprs.stages_achieve.Goals as goal
-
-pub returns : goal.returns
-returns c = stages_achieve

@@ -1,5 +1,0 @@
-use Rattle.sl_pieces.proofs.facts.Eligible.{eligible_are_told}
-use Rattle.sl_pieces.proofs.laws.facts.eligible_are_told.Goals as goal
-
-pub returns : goal.returns
-returns c = eligible_are_told

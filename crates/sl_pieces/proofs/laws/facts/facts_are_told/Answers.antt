@@ -1,5 +1,0 @@
-use Rattle.sl_pieces.proofs.facts.Facts.{facts_are_told}
-use Rattle.sl_pieces.proofs.laws.facts.facts_are_told.Goals as goal
-
-pub returns : goal.returns
-returns c = facts_are_told

@@ -1,5 +1,0 @@
-use Rattle.sl_pieces.proofs.nodes.Nodes.{splits_achieve}
-use Rattle.sl_pieces.proofs.laws.nodes.splits_achieve.Goals as goal
-
-pub returns : goal.returns
-returns c = splits_achieve

@@ -1,5 +1,0 @@
-use Rattle.sl_pieces.proofs.scopes.Sums.{entries_are_summed}
-use Rattle.sl_pieces.proofs.laws.scopes.entries_are_summed.Goals as goal
-
-pub returns : goal.returns
-returns c = entries_are_summed

@@ -1,5 +1,0 @@
-use Rattle.sl_pieces.proofs.scopes.Scopes.{scopes_apart}
-use Rattle.sl_pieces.proofs.laws.scopes.scopes_apart.Goals as goal
-
-pub returns : goal.returns
-returns c = scopes_apart

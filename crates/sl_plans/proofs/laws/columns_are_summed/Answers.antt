@@ -1,5 +1,0 @@
-use Rattle.sl_plans.proofs.Sums.{columns_are_summed}
-use Rattle.sl_plans.proofs.laws.columns_are_summed.Goals as goal
-
-pub returns : goal.returns
-returns c = columns_are_summed

@@ -1,5 +1,0 @@
-use Rattle.sl_plans.proofs.Targets.{plans_jump_within}
-use Rattle.sl_plans.proofs.laws.plans_jump_within.Goals as goal
-
-pub returns : goal.returns
-returns c = plans_jump_within

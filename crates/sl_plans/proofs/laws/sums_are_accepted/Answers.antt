@@ -1,5 +1,0 @@
-use Rattle.sl_plans.proofs.Sums.{sums_are_accepted}
-use Rattle.sl_plans.proofs.laws.sums_are_accepted.Goals as goal
-
-pub returns : goal.returns
-returns c = sums_are_accepted

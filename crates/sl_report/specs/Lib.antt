@@ -1,2 +1,0 @@
--- What the commands that report answer.
-pub mod Statuses

@@ -1,0 +1,26 @@
+-- What `report` and `stages` answer: their status, and their tables (docs/report.md).
+use Rattle.std.specs.Prelude.{Bool, List, None, [], true, ◌⊎◌, ◌≡◌, ℕ}
+use Rattle.sl_count_inputs.specs.Books.{BookInput}
+use Rattle.sl_count_inputs.specs.declared.status.Status.TheVariants as status
+use Rattle.sl_count_inputs.specs.declared.status.Status.{Status}
+use Rattle.sl_count_outcomes.specs.Judged.{IsJudged}
+use Rattle.sl_count_outcomes.specs.declared.judged.Judged.TheVariants.{BookRefused, Counted, ReturnsRefused, StageUnknown}
+use Rattle.sl_count_outcomes.specs.declared.judged.Judged.{Judged}
+use Rattle.sl_report_commands.specs.Statuses.{judged_status}
+use Rattle.sl_report_forms.specs.Tables.{Table}
+use Rattle.sl_report_tables.specs.Reports.{Shows}
+use Rattle.sl_report_tables.specs.declared.counts.Show.{Show}
+use Rattle.sl_stages.specs.declared.count.Records.TheVariants.{Kept}
+
+-- the tables that show what inputs come to: those of the count, and none where one of them is refused
+abbrev pub ShowsJudged : Show → Judged → List Table → Type 0
+ShowsJudged show (BookRefused book) tables = tables ≡ []
+ShowsJudged show (StageUnknown book name) tables = tables ≡ []
+ShowsJudged show (ReturnsRefused returns) tables = tables ≡ []
+ShowsJudged show (Counted counting) tables = Shows counting.book.book counting.returns show counting.outcome.end tables
+
+-- its status and its tables: those of what its inputs come to, or where names are given, of refused names the status and no table
+abbrev pub IsReport : Show → (is_named : Bool) → BookInput → List ℕ → Status → List Table → Type 0
+IsReport show is_named input returns ends tables =
+    (judged : Judged) × IsJudged Kept None input returns judged
+    × (((ends ≡ judged_status judged) × ShowsJudged show judged tables) ⊎ ((is_named ≡ true) × (ends ≡ status.Refused) × (tables ≡ [])))

@@ -1,0 +1,166 @@
+//! The commands that show one count: `report` and `stages`.
+
+ghost use Rattle.std.specs.Prelude.{◌≡◌, [], IfErr, IfOk, false, is_some, length, map};
+ghost use Rattle.std.specs.Result.{is_ok};
+ghost use Rattle.sl_report_forms.specs.Tables.{table_of};
+ghost use Rattle.sl_report_tables.specs.Ends.{end_status};
+ghost use Rattle.sl_report_tables.specs.Reports.{Shows};
+ghost use Rattle.sl_count_outcomes.specs.Judged.{FitsJudged};
+ghost use Rattle.sl_stages.specs.meaning.Counts.{IsMeantEnd};
+ghost use Rattle.sl_count_outcomes.specs.Outcomes.{FitsEnd, FitsOutcome};
+ghost use Rattle.sl_stages.specs.declared.count.Records.TheVariants.{Kept};
+ghost use Rattle.sl_count_inputs.specs.Judging.{input_of};
+ghost use Rattle.sl_count_inputs.specs.declared.status.Status.TheVariants as status;
+ghost use Rattle.sl_report_commands.specs.Reports.{IsReport, ShowsJudged};
+ghost use Rattle.sl_report_commands.specs.Statuses.{judged_status};
+ghost use Rattle.sl_stages.specs.book.Books.{book_of};
+
+use sl_count_inputs::{BookText, refused};
+use sl_count_outcomes::{Counting, End, Judged, Outcome, Records, judge};
+use sl_ratio::NoMemory;
+use sl_report_tables::{Answer, FullNames, Show, Style, count_answer, names_of};
+use sl_stages::{CheckedBook, Returns};
+use sl_table::fault_text;
+use std::alloc::Global;
+
+// The line with which counting tells how a count ends: that of a legal fault, and none of a table.
+fn line_of(alloc: Global, returns: &Returns, outcome: &Outcome) -> Result<Vec<u8>, NoMemory>
+    requires fits { FitsEnd (length outcome.now.code.stages) returns.now outcome.now.end }
+{
+    match &outcome.end {
+        End::Counted(_) => Ok(Vec::new(alloc)),
+        End::Fault(fault) => fault_text(alloc, fault, returns, outcome.code.code()),
+    }
+}
+
+/// The answer that shows what a good book comes to on good returns, by a count that kept its records.
+pub fn answer_count(
+    alloc: Global,
+    show: Show,
+    book: &CheckedBook,
+    returns: &Returns,
+    outcome: &Outcome,
+    full: &FullNames,
+    style: Style,
+) -> Result<Answer, NoMemory>
+    requires meant { IsMeantEnd Kept (book_of book.now.book) returns.now outcome.now.end }
+    requires fits { FitsOutcome (book_of book.now.book) returns.now outcome.now }
+    ensures status { IfOk result (λ a. a.status ≡ end_status outcome.now.end) }
+    ensures shows { IfOk result (λ a. Shows book.now.book returns.now show outcome.now.end (map table_of a.sheets.items)) }
+{
+    let line = line_of(alloc, returns, outcome)?;
+    count_answer(
+        alloc,
+        show,
+        book,
+        returns,
+        full,
+        &outcome.end,
+        line.as_slice(),
+        style,
+    )
+}
+
+// The answer that shows a count with the full names of a text, or that which refuses these names.
+fn named_answer(
+    alloc: Global,
+    show: Show,
+    counting: &Counting,
+    names: &Result<FullNames, Answer>,
+    style: Style,
+) -> Result<Result<Answer, Answer>, NoMemory>
+    requires meant { IsMeantEnd Kept (book_of counting.now.book.book) counting.now.returns counting.now.outcome.end }
+    requires fits { FitsOutcome (book_of counting.now.book.book) counting.now.returns counting.now.outcome }
+    ensures shown { IfOk result (λ r. IfOk r (λ a. a.status ≡ end_status counting.now.outcome.end)) }
+    ensures tables { IfOk result (λ r. IfOk r (λ a. Shows counting.now.book.book counting.now.returns show counting.now.outcome.end (map table_of a.sheets.items))) }
+    ensures refused { IfOk result (λ r. IfErr r (λ a. (is_ok names.now ≡ false) × (a.status ≡ status.Refused) × (map table_of a.sheets.items ≡ []))) }
+{
+    match names {
+        Ok(full) => Ok(Ok(answer_count(
+            alloc,
+            show,
+            &counting.book,
+            &counting.returns,
+            &counting.outcome,
+            full,
+            style,
+        )?)),
+        Err(refusal) => {
+            let line = Vec::from_slice(alloc, refusal.text.as_slice())?;
+            Ok(Err(Answer::refused(alloc, line)))
+        }
+    }
+}
+
+/// The answer that shows what inputs come to: the refusal of one of them, or the count with the full names of a text; or the answer that refuses
+/// these names, where they would be shown.
+pub fn answer_judged(
+    alloc: Global,
+    show: Show,
+    judged: &Judged<'_>,
+    names: &Result<FullNames, Answer>,
+    style: Style,
+) -> Result<Result<Answer, Answer>, NoMemory>
+    requires fits { FitsJudged Kept judged.now }
+    ensures shown { IfOk result (λ r. IfOk r (λ a. a.status ≡ judged_status judged.now)) }
+    ensures tables { IfOk result (λ r. IfOk r (λ a. ShowsJudged show judged.now (map table_of a.sheets.items))) }
+    ensures refused { IfOk result (λ r. IfErr r (λ a. (is_ok names.now ≡ false) × (a.status ≡ status.Refused) × (map table_of a.sheets.items ≡ []))) }
+{
+    match judged {
+        Judged::Counted(counting) => named_answer(alloc, show, counting, names, style),
+        Judged::BookRefused(book) => Ok(Ok(Answer::refused(alloc, book.why().line(alloc)?))),
+        Judged::ReturnsRefused(returns) => Ok(Ok(Answer::refused(
+            alloc,
+            returns.why().line(alloc)?,
+        ))),
+        Judged::StageUnknown(_, name) => Ok(Ok(Answer::refused(
+            alloc,
+            refused(alloc, b"stage", name.as_bytes())?,
+        ))),
+    }
+}
+
+// What a command on one book answers.
+fn one_book(
+    alloc: Global,
+    show: Show,
+    book: BookText<'_>,
+    returns: &[u8],
+    names: Option<&[u8]>,
+    style: Style,
+) -> Result<Answer, NoMemory>
+    ensures { IfOk result (λ a. IsReport show (is_some names.entry) (input_of book.entry) returns.now a.status (map table_of a.sheets.items)) }
+{
+    let names = names_of(alloc, names)?;
+    let judged = judge(Records::Kept, alloc, book, None, returns)?;
+    match answer_judged(alloc, show, &judged, &names, style)? {
+        Ok(answer) => Ok(answer),
+        Err(refusal) => Ok(refusal),
+    }
+}
+
+/// What a book comes to on returns, in full. Inputs that `count` refuses are refused by the same line, and a legal fault has its line first.
+pub fn report(
+    alloc: Global,
+    book: BookText<'_>,
+    returns: &[u8],
+    names: Option<&[u8]>,
+    style: Style,
+) -> Result<Answer, NoMemory>
+    ensures { IfOk result (λ a. IsReport Show.Report (is_some names.entry) (input_of book.entry) returns.now a.status (map table_of a.sheets.items)) }
+{
+    one_book(alloc, Show::Report, book, returns, names, style)
+}
+
+/// The columns of all stages of a book, as `report` refuses inputs and tells of a legal fault.
+pub fn stages(
+    alloc: Global,
+    book: BookText<'_>,
+    returns: &[u8],
+    names: Option<&[u8]>,
+    style: Style,
+) -> Result<Answer, NoMemory>
+    ensures { IfOk result (λ a. IsReport Show.Stages (is_some names.entry) (input_of book.entry) returns.now a.status (map table_of a.sheets.items)) }
+{
+    one_book(alloc, Show::Stages, book, returns, names, style)
+}

@@ -1,0 +1,20 @@
+//! The commands that report, from bytes or from what they come to: of one count, of all stages, of several rulebooks side by side, and of the totals
+//! of returns. Each input is judged once, and each book is run once.
+//!
+//! Stands on `sl_report_tables` and `sl_count_outcomes`; used by the rooms terminal and page. Proved: the status and the
+//! tables are those of what the inputs come to.
+//!
+//! Where an error is `NoMemory` alone, memory ran out, and nothing else is wrong.
+#![tactic(auto)]
+
+mod comparison;
+mod counts;
+mod sums;
+
+pub use comparison::{Compared, Named, compare, compare_judged, compare_statutes};
+pub use counts::{answer_count, answer_judged, report, stages};
+pub use sl_explain_texts::Language;
+pub use sl_report_tables::{
+    Answer, FullNames, MAX_NAMES_BYTES, Shape, Show, Style, names_in, names_of,
+};
+pub use sums::{totals, totals_answer};

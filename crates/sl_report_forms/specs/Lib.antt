@@ -1,0 +1,3 @@
+-- What stands in the cells of sheets.
+pub mod Cells
+pub mod Tables

@@ -1,0 +1,39 @@
+//! The cells of a sheet.
+
+use sl_base_no_memory::NoMemory;
+use std::alloc::Global;
+
+/// A cell. A decimal number or a fraction is a text, so that no reader makes a float of it.
+#[derive(Drop)]
+pub enum Cell {
+    Empty,
+    Text(String),
+    Number(u64),
+    /// A word: as programs know it, and as a person reads it.
+    Word { key: String, shown: String },
+    /// A flag, and the word for it that a person reads.
+    Flag { is: bool, shown: &'static str },
+}
+
+impl Cell {
+    /// What a program reads of the cell, whatever the language.
+    pub fn key(&self, alloc: Global) -> Result<String, NoMemory> {
+        match self {
+            Cell::Word { key, .. } => Ok(String::from_str(alloc, key.as_str())?),
+            Cell::Flag { is: true, .. } => Ok(String::from_str(alloc, "yes")?),
+            Cell::Flag { is: false, .. } => Ok(String::from_str(alloc, "no")?),
+            Cell::Empty | Cell::Text(_) | Cell::Number(_) => self.shown(alloc),
+        }
+    }
+
+    /// What a person reads of the cell.
+    pub fn shown(&self, alloc: Global) -> Result<String, NoMemory> {
+        match self {
+            Cell::Empty => Ok(String::new(alloc)),
+            Cell::Text(text) => Ok(String::from_str(alloc, text.as_str())?),
+            Cell::Number(number) => Ok(number.to_string(alloc)?),
+            Cell::Word { shown, .. } => Ok(String::from_str(alloc, shown.as_str())?),
+            Cell::Flag { shown, .. } => Ok(String::from_str(alloc, shown)?),
+        }
+    }
+}

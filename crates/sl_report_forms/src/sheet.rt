@@ -1,0 +1,182 @@
+//! Sheets: a key, a title, the heads of the columns, and rows.
+
+ghost use Rattle.std.specs.Prelude.{◌≡◌, ◌++◌, ◌∷◌, [], IfOk, OnOk, map, string_bytes};
+ghost use Rattle.sl_report_forms.specs.Cells.{a_flag, a_number, a_text, content_of, known, nothing};
+ghost use Rattle.sl_report_forms.specs.Tables.{blank_table, contents_of, table_of, with_columns, with_rows};
+
+use crate::cell::Cell;
+use sl_base_no_memory::NoMemory;
+use sl_explain_texts::{Language, Message};
+use std::alloc::Global;
+
+/// How a column looks in aligned text.
+#[derive(Clone, Copy)]
+pub enum Look {
+    /// It is left out.
+    Hidden,
+    /// At the left, and cut to so many columns of a terminal.
+    Text(usize),
+    /// At the right.
+    Number,
+}
+
+/// A column of a kind of sheets: its key, its title in English and in German, and its look.
+pub type Form = (&'static str, &'static str, &'static str, Look);
+
+/// The head of a column: the key of its cells in CSV and in JSON, its title in text, and its look.
+#[derive(Drop)]
+pub struct Head {
+    pub key: String,
+    pub title: String,
+    pub look: Look,
+}
+
+/// A sheet. Sheets of one key have the same columns: they are one table, of which text shows each sheet under its title.
+#[derive(Drop)]
+pub struct Sheet {
+    pub key: &'static str,
+    pub title: String,
+    pub heads: Vec<Head>,
+    pub rows: Vec<Vec<Cell>>,
+}
+
+impl Head {
+    /// The head of a column.
+    pub fn new(alloc: Global, key: &str, title: &str, look: Look) -> Result<Head, NoMemory>
+        ensures { IfOk result (λ h. string_bytes h.key ≡ key.now) }
+    {
+        Ok(Head {
+            key: String::from_str(alloc, key)?,
+            title: String::from_str(alloc, title)?,
+            look,
+        })
+    }
+}
+
+// The heads of columns of these forms, with their titles in a language.
+fn heads_of(alloc: Global, language: Language, forms: &[Form]) -> Result<Vec<Head>, NoMemory>
+    ensures { IfOk result (λ heads. map (λ h. string_bytes h.key) heads.items ≡ map (λ f. f.0.now) forms.now) }
+{
+    let mut heads = Vec::new(alloc);
+    for (key, english, german, look) in forms {
+        let title = Message { english, german }.in_language(language);
+        heads.push(Head::new(alloc, key, title, *look)?)?;
+    }
+    Ok(heads)
+}
+
+impl Sheet {
+    /// A sheet without rows, whose columns have their titles in a language.
+    pub fn new(
+        alloc: Global,
+        language: Language,
+        key: &'static str,
+        title: String,
+        forms: &[Form],
+    ) -> Result<Sheet, NoMemory>
+        ensures { IfOk result (λ s. table_of s ≡ blank_table key.now (map (λ f. f.0.now) forms.now)) }
+    {
+        Ok(Sheet {
+            key,
+            title,
+            heads: heads_of(alloc, language, forms)?,
+            rows: Vec::new(alloc),
+        })
+    }
+
+    /// Adds a column.
+    pub fn push_head(&mut self, head: Head) -> Result<(), NoMemory>
+        ensures { OnOk result (table_of self.new ≡ with_columns (table_of self.old) (string_bytes head.key ∷ [])) }
+    {
+        self.heads.push(head)?;
+        Ok(())
+    }
+
+    /// Adds a row.
+    pub fn push(&mut self, row: Row) -> Result<(), NoMemory>
+        ensures { OnOk result (table_of self.new ≡ with_rows (table_of self.old) (contents_of row.cells.items ∷ [])) }
+    {
+        let Row { cells, .. } = row;
+        self.rows.push(cells)?;
+        Ok(())
+    }
+}
+
+/// A row that is filled from left to right.
+#[derive(Drop)]
+pub struct Row {
+    alloc: Global,
+    cells: Vec<Cell>,
+}
+
+impl Row {
+    /// A row without a cell. Takes no memory.
+    pub fn new(alloc: Global) -> Row
+        ensures { contents_of result.cells.items ≡ [] }
+    {
+        Row {
+            alloc,
+            cells: Vec::new(alloc),
+        }
+    }
+
+    fn push(&mut self, cell: Cell) -> Result<(), NoMemory>
+        ensures { OnOk result (contents_of self.new.cells.items ≡ contents_of self.old.cells.items ++ content_of cell ∷ []) }
+    {
+        self.cells.push(cell)?;
+        Ok(())
+    }
+
+    /// Adds a text.
+    pub fn text(&mut self, text: &str) -> Result<(), NoMemory>
+        ensures { OnOk result (contents_of self.new.cells.items ≡ contents_of self.old.cells.items ++ a_text ∷ []) }
+    {
+        let text = String::from_str(self.alloc, text)?;
+        self.push(Cell::Text(text))
+    }
+
+    /// Adds a text that is given away.
+    pub fn own(&mut self, text: String) -> Result<(), NoMemory>
+        ensures { OnOk result (contents_of self.new.cells.items ≡ contents_of self.old.cells.items ++ a_text ∷ []) }
+    {
+        self.push(Cell::Text(text))
+    }
+
+    /// Adds a number.
+    pub fn number(&mut self, number: u64) -> Result<(), NoMemory>
+        ensures { OnOk result (contents_of self.new.cells.items ≡ contents_of self.old.cells.items ++ a_number number ∷ []) }
+    {
+        self.push(Cell::Number(number))
+    }
+
+    /// Adds a number, or an empty cell.
+    pub fn maybe_number(&mut self, number: Option<u64>) -> Result<(), NoMemory>
+        ensures { OnOk result (contents_of self.new.cells.items ≡ contents_of self.old.cells.items ++ known number ∷ []) }
+    {
+        match number {
+            Some(number) => self.push(Cell::Number(number)),
+            None => self.push(Cell::Empty),
+        }
+    }
+
+    /// Adds a word, as programs know it and as a person reads it.
+    pub fn word(&mut self, key: String, shown: String) -> Result<(), NoMemory>
+        ensures { OnOk result (contents_of self.new.cells.items ≡ contents_of self.old.cells.items ++ a_text ∷ []) }
+    {
+        self.push(Cell::Word { key, shown })
+    }
+
+    /// Adds a flag, with the word for it that a person reads.
+    pub fn flag(&mut self, is: bool, shown: &'static str) -> Result<(), NoMemory>
+        ensures { OnOk result (contents_of self.new.cells.items ≡ contents_of self.old.cells.items ++ a_flag is ∷ []) }
+    {
+        self.push(Cell::Flag { is, shown })
+    }
+
+    /// Adds an empty cell.
+    pub fn empty(&mut self) -> Result<(), NoMemory>
+        ensures { OnOk result (contents_of self.new.cells.items ≡ contents_of self.old.cells.items ++ nothing ∷ []) }
+    {
+        self.push(Cell::Empty)
+    }
+}

@@ -1,0 +1,6 @@
+use Rattle.sl_stages.specs.meaning.Scopes.{lists_in_land}
+use Rattle.sl_report_results.proofs.Steps.{pieces_more}
+use Rattle.sl_report_results.proofs.places.all_lists.Goals as goal
+
+pub loop-land-preserved : goal.loop-land-preserved
+loop-land-preserved c = pieces_more (lists_in_land c.args.returns.now) c.loop-land.land _ _ c.loop-land.invariant c.in_ok-push_lists_in.ensures

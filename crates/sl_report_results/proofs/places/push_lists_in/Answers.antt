@@ -1,0 +1,9 @@
+use Rattle.sl_stages.specs.declared.fault.Item.TheVariants as item
+use Rattle.sl_stages.specs.returns.Election.{has_list}
+use Rattle.sl_report_results.proofs.Steps.{filtered_behind}
+use Rattle.sl_report_results.proofs.places.push_lists_in.Goals as goal
+
+pub loop-party-preserved : goal.loop-party-preserved
+loop-party-preserved c =
+    filtered_behind (λ party. item.List c.args.land party) (has_list c.args.returns.now c.args.land) c.loop-party.party c.args.items.now.items _ _ c.is_list.result c.loop-party.invariant
+    c.in_ok-push_if.ensures c.is_list.ensures

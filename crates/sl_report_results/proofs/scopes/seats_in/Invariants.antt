@@ -1,0 +1,7 @@
+use Rattle.std.proofs.Common.{◌≡◌, take}
+use Rattle.std.specs.Prelude.{sum_by}
+use Rattle.sl_report_results.specs.Sums.{capped}
+use Rattle.sl_report_results.proofs.scopes.seats_in.Given as goal
+
+abbrev pub invariant-loop-entry : goal.invariant-loop-entry
+invariant-loop-entry l = l.seats ≡ capped (sum_by (λ x. x.seats) (take l.entry-index l.entries))

@@ -1,0 +1,8 @@
+-- Fractions that can be written in decimals.
+use Rattle.std.specs.Prelude.{ℕ, Bool, ◌&&◌, nat_le, nat_lt}
+use Rattle.sl_law_margins.specs.declared.decimal.TheConstants.{MAX_PLACES}
+use Rattle.sl_ratio.specs.declared.ratio.TheConstants.{MAX_NUMERATOR}
+
+-- a fraction has a denominator, and is in the range of quotients
+abbrev pub has_decimals : (num den places : ℕ) → Bool
+has_decimals num den places = nat_le num MAX_NUMERATOR && (nat_lt 0 den && nat_le places MAX_PLACES)

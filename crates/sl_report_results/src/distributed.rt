@@ -1,0 +1,249 @@
+//! The scopes of a stage of a count.
+
+ghost use Rattle.std.specs.Prelude.{◌≡◌, ◌<◌, IfOk, OnOk, get_or, length, is_some, sum_by};
+ghost use Rattle.sl_report_results.specs.Sums.{capped};
+ghost use Rattle.sl_stages.specs.meaning.Counts.{HoldsStages};
+ghost use Rattle.sl_ratio.specs.declared.method.Method.TheVariants as by;
+ghost use Rattle.sl_report_results.specs.Places.{IsScope, items_in};
+ghost use Rattle.sl_report_results.specs.Scopes.{Adds, AreMargins, AreScopes, Follows, HasMargins, HasNone, HasQuota, IsAllocated, IsHead, IsScoped, held_of, shown_entries, weights_of};
+ghost use Rattle.sl_report_results.specs.StageScopes.{AreStageScopes};
+ghost use Rattle.sl_stages.specs.book.Books.{book_of};
+ghost use Rattle.sl_stages.specs.book.Trees.{tree_of};
+ghost use Rattle.sl_stages.specs.declared.book.Stage.{Stage};
+
+use crate::columns::{Distribution, distribution_of};
+use crate::facts::Setting;
+use crate::fraction::Fraction;
+use crate::margins::{Margins, margins_of};
+use crate::places::{items_in, scope_at, scope_count};
+use crate::scopes::{Entry, Scoped, seats_in, shown_entries, weight_in, with_margins, with_quota};
+use sl_ratio::{Divisor, Method, NoMemory};
+use sl_stages::{Counted, Returns, Scope, SeatStep};
+use std::alloc::Global;
+
+// A scope without a divisor and a quota.
+fn plain(
+    alloc: Global,
+    stage: usize,
+    scope: Scope,
+    what: &Distribution,
+    entries: &[Entry],
+) -> Result<Scoped, NoMemory>
+    ensures head { IfOk result (IsHead stage what.now scope entries.now) }
+    ensures none { IfOk result (HasNone entries.now) }
+{
+    Ok(Scoped {
+        stage,
+        scope,
+        method: what.method,
+        grows: what.grows,
+        has_minima: what.minima.is_some(),
+        seats: seats_in(entries),
+        weight: weight_in(entries),
+        divisor: None,
+        quota: None,
+        entries: Vec::from_slice(alloc, entries)?,
+        last: Vec::new(alloc),
+        next: Vec::new(alloc),
+    })
+}
+
+// A scope with the margins of its seats.
+fn with_found(
+    alloc: Global,
+    stage: usize,
+    scope: Scope,
+    what: &Distribution,
+    entries: &[Entry],
+    found: Margins,
+    method: Divisor,
+) -> Result<Scoped, NoMemory>
+    requires allocated { IsAllocated method entries.now }
+    requires margins { AreMargins method (is_some what.now.minima) (weights_of entries.now) (held_of entries.now) found.divisor found.last.items found.next.items found.missing.items }
+    ensures head { IfOk result (IsHead stage what.now scope entries.now) }
+    ensures margins { IfOk result (HasMargins method (is_some what.now.minima) entries.now) }
+{
+    let all = with_margins(alloc, entries, &found.divisor, found.missing.as_slice())?;
+    Ok(Scoped {
+        stage,
+        scope,
+        method: what.method,
+        grows: what.grows,
+        has_minima: what.minima.is_some(),
+        seats: seats_in(entries),
+        weight: weight_in(entries),
+        divisor: found.divisor,
+        quota: None,
+        entries: all,
+        last: found.last,
+        next: found.next,
+    })
+}
+
+// A scope of a divisor method, with its margins where its seats are an allocation.
+fn divided(
+    alloc: Global,
+    stage: usize,
+    scope: Scope,
+    what: &Distribution,
+    entries: &[Entry],
+    method: Divisor,
+) -> Result<Scoped, NoMemory>
+    requires { what.now.method ≡ by.Divisor method }
+    ensures { IfOk result (IsScoped stage what.now scope entries.now) }
+{
+    let weight = weight_in(entries);
+    match margins_of(alloc, method, entries, weight, what.minima.is_some())? {
+        Some(found) => with_found(alloc, stage, scope, what, entries, found, method),
+        None => plain(alloc, stage, scope, what, entries),
+    }
+}
+
+// A scope with its quota.
+fn with_shares(
+    alloc: Global,
+    stage: usize,
+    scope: Scope,
+    what: &Distribution,
+    entries: &[Entry],
+    seats: u64,
+    weight: u64,
+) -> Result<Scoped, NoMemory>
+    requires seats { seats ≡ capped (sum_by (λ x. x.seats) entries.now) }
+    requires weight { weight ≡ capped (sum_by (λ x. x.weight) entries.now) }
+    requires some_seats { 0 < seats }
+    requires some_weight { 0 < weight }
+    ensures head { IfOk result (IsHead stage what.now scope entries.now) }
+    ensures quota { IfOk result (HasQuota entries.now) }
+{
+    let all = with_quota(alloc, entries, seats, weight)?;
+    Ok(Scoped {
+        stage,
+        scope,
+        method: what.method,
+        grows: what.grows,
+        has_minima: what.minima.is_some(),
+        seats,
+        weight,
+        divisor: None,
+        quota: Some(Fraction {
+            num: u128::from(weight),
+            den: u128::from(seats),
+        }),
+        entries: all,
+        last: Vec::new(alloc),
+        next: Vec::new(alloc),
+    })
+}
+
+// A scope of largest remainders, with its quota where it has seats and votes.
+fn shared(
+    alloc: Global,
+    stage: usize,
+    scope: Scope,
+    what: &Distribution,
+    entries: &[Entry],
+) -> Result<Scoped, NoMemory>
+    requires { what.now.method ≡ by.Hamilton }
+    ensures { IfOk result (IsScoped stage what.now scope entries.now) }
+{
+    let seats = seats_in(entries);
+    let weight = weight_in(entries);
+    if seats > 0 && weight > 0 {
+        with_shares(alloc, stage, scope, what, entries, seats, weight)
+    } else {
+        plain(alloc, stage, scope, what, entries)
+    }
+}
+
+// A scope with all that is known of it.
+fn scoped(
+    alloc: Global,
+    stage: usize,
+    scope: Scope,
+    what: &Distribution,
+    entries: &[Entry],
+) -> Result<Scoped, NoMemory>
+    ensures { IfOk result (IsScoped stage what.now scope entries.now) }
+{
+    match what.method {
+        Method::Divisor(method) => divided(alloc, stage, scope, what, entries, method),
+        Method::Hamilton => shared(alloc, stage, scope, what, entries),
+    }
+}
+
+// Adds a scope of these entries, if there is one.
+fn push_some(
+    alloc: Global,
+    scopes: &mut Vec<Scoped>,
+    stage: usize,
+    what: &Distribution,
+    scope: Scope,
+    entries: &[Entry],
+) -> Result<(), NoMemory>
+    ensures { OnOk result (Adds stage what.now scope entries.now scopes.old.items scopes.new.items) }
+{
+    let count = entries.len();
+    if count == 0 {
+        return Ok(());
+    }
+    let scoped = scoped(alloc, stage, scope, what, entries)?;
+    scopes.push(scoped)?;
+    Ok(())
+}
+
+// Adds a scope, if it has an entry.
+fn push_scope(
+    alloc: Global,
+    scopes: &mut Vec<Scoped>,
+    returns: &Returns,
+    stage: usize,
+    what: &Distribution,
+    steps: &[SeatStep],
+    scope: Scope,
+) -> Result<(), NoMemory>
+    requires { IsScope returns.now scope }
+    ensures { OnOk result (Adds stage what.now scope (shown_entries returns.now stage what.now steps.now (items_in returns.now what.now.votes.shape scope)) scopes.old.items scopes.new.items) }
+{
+    let items = items_in(alloc, returns, what.votes.shape, scope)?;
+    let entries = shown_entries(alloc, returns, stage, what, steps, items.as_slice())?;
+    push_some(alloc, scopes, stage, what, scope, entries.as_slice())
+}
+
+// The scopes of a stage that have an entry, by what it distributes and by the steps that won its seats.
+fn scopes_of(
+    alloc: Global,
+    returns: &Returns,
+    stage: usize,
+    what: &Distribution,
+    steps: &[SeatStep],
+) -> Result<Vec<Scoped>, NoMemory>
+    ensures { IfOk result (λ found. AreScopes returns.now stage what.now steps.now found.items) }
+{
+    let mut scopes = Vec::new(alloc);
+    for number in 0..scope_count(returns, what.seats.shape) {
+        let scope = scope_at(what.seats.shape, number);
+        push_scope(alloc, &mut scopes, returns, stage, what, steps, scope)?;
+    }
+    Ok(scopes)
+}
+
+/// The scopes of a stage of a count: those of its split or its growth that have an entry, and none where it has neither.
+pub fn stage_scopes(
+    alloc: Global,
+    setting: &Setting<'_>,
+    counted: &Counted,
+    stage: usize,
+) -> Result<Vec<Scoped>, NoMemory>
+    requires counted { HoldsStages (book_of setting.now.book.now) setting.now.returns.now counted.now.columns.items }
+    requires stage { stage < length setting.now.book.now.stages.items }
+    ensures { IfOk result (λ found. (d : Stage) → AreStageScopes (book_of setting.now.book.now) setting.now.returns.now setting.now.book.now.stages.items counted.now.columns.items
+        counted.now.table.steps stage (tree_of (get_or setting.now.book.now.stages.items stage d).expr) found.items) }
+{
+    let earlier = &counted.columns.as_slice()[..stage];
+    let expr = &setting.book.stages[stage].expr;
+    match distribution_of(alloc, setting, earlier, expr)? {
+        Some(what) => scopes_of(alloc, setting.returns, stage, &what, counted.table.steps()),
+        None => Ok(Vec::new(alloc)),
+    }
+}

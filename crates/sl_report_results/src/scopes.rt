@@ -1,0 +1,198 @@
+//! The scopes of a stage.
+
+ghost use Rattle.std.specs.Prelude.{◌≡◌, ◌++◌, ◌∷◌, [], None, Some, IfOk, OnOk, map, filter, length, slice_get, sum_by, ◌<◌};
+ghost use Rattle.std.specs.List.{zip};
+ghost use Rattle.sl_ratio.specs.declared.method.Method.TheVariants as by;
+ghost use Rattle.sl_report_results.specs.Places.{IsScope, items_in};
+ghost use Rattle.sl_report_results.specs.Scopes.{Follows, IsScoped, entry_of, is_shown, quota_entry, shown_entries, with_margins};
+ghost use Rattle.sl_report_results.specs.Sums.{capped};
+
+use crate::columns::Distribution;
+use crate::fraction::Fraction;
+use crate::margins::{Margins, margins_of};
+use crate::places::{items_in, number_of, seats_of};
+use sl_law_margins::Decimal;
+use sl_ratio::{Divisor, Method, NoMemory};
+use sl_stages::{Item, Returns, Scope, SeatStep};
+use std::alloc::Global;
+
+/// An entry of a scope: its weight in votes or people, its seats, its minimum, its quotient by the divisor or the quota, and the votes that it
+/// lacks for one more seat, where a number is known.
+#[derive(Clone, Copy)]
+pub struct Entry {
+    pub item: Item,
+    pub weight: u64,
+    pub seats: u64,
+    pub minimum: u64,
+    pub quotient: Option<Fraction>,
+    pub missing: Option<u64>,
+}
+
+/// A scope of a split or a growth: what it distributes by which method, the divisor or the quota, the entries that have a weight, seats or a minimum,
+/// and the numbers of those that won the last seat and of those with the next claim.
+#[derive(Drop)]
+pub struct Scoped {
+    pub stage: usize,
+    pub scope: Scope,
+    pub method: Method,
+    pub grows: bool,
+    pub has_minima: bool,
+    pub seats: u64,
+    pub weight: u64,
+    pub divisor: Option<Decimal>,
+    pub quota: Option<Fraction>,
+    pub entries: Vec<Entry>,
+    pub last: Vec<usize>,
+    pub next: Vec<usize>,
+}
+
+// An entry without a quotient.
+fn entry_of(
+    returns: &Returns,
+    stage: usize,
+    what: &Distribution,
+    steps: &[SeatStep],
+    item: Item,
+) -> Entry
+    ensures { result ≡ entry_of returns.now stage what.now steps.now item }
+{
+    let minimum = match &what.minima {
+        Some(minima) => number_of(returns, minima, item),
+        None => 0,
+    };
+    Entry {
+        item,
+        weight: number_of(returns, &what.votes, item),
+        seats: seats_of(steps, stage, item),
+        minimum,
+        quotient: None,
+        missing: None,
+    }
+}
+
+// Adds an entry that has a weight, seats or a minimum.
+fn push_shown(entries: &mut Vec<Entry>, entry: Entry) -> Result<(), NoMemory>
+    ensures { OnOk result (entries.new.items ≡ entries.old.items ++ filter is_shown (entry ∷ [])) }
+{
+    if entry.weight > 0 || entry.seats > 0 || entry.minimum > 0 {
+        entries.push(entry)?;
+    }
+    Ok(())
+}
+
+/// The entries of a scope that have a weight, seats or a minimum.
+pub(crate) fn shown_entries(
+    alloc: Global,
+    returns: &Returns,
+    stage: usize,
+    what: &Distribution,
+    steps: &[SeatStep],
+    items: &[Item],
+) -> Result<Vec<Entry>, NoMemory>
+    ensures { IfOk result (λ entries. entries.items ≡ shown_entries returns.now stage what.now steps.now items.now) }
+{
+    let mut entries: Vec<Entry> = Vec::new(alloc);
+    for item in items {
+        push_shown(&mut entries, entry_of(returns, stage, what, steps, *item))?;
+    }
+    Ok(entries)
+}
+
+/// The seats of entries, in all.
+pub(crate) fn seats_in(entries: &[Entry]) -> u64
+    ensures { result ≡ capped (sum_by (λ x. x.seats) entries.now) }
+{
+    let mut seats = 0u64;
+    for entry in entries {
+        seats = seats.saturating_add(entry.seats);
+    }
+    seats
+}
+
+/// The weight of entries, in all.
+pub(crate) fn weight_in(entries: &[Entry]) -> u64
+    ensures { result ≡ capped (sum_by (λ x. x.weight) entries.now) }
+{
+    let mut weight = 0u64;
+    for entry in entries {
+        weight = weight.saturating_add(entry.weight);
+    }
+    weight
+}
+
+// An entry with its quotient by the divisor, and with the votes that it lacks.
+fn margin_entry(entry: Entry, divisor: &Option<Decimal>, missing: Option<u64>) -> Entry
+    ensures { result ≡ with_margins divisor.now entry missing }
+{
+    let quotient = match divisor {
+        Some(divisor) => Some(Fraction::quotient(entry.weight, *divisor)),
+        None => None,
+    };
+    Entry {
+        quotient,
+        missing,
+        ..entry
+    }
+}
+
+fn entry_at(entries: &[Entry], number: usize) -> Entry
+    requires { number < length entries.now }
+    ensures { slice_get entries.now number ≡ Some result }
+{
+    entries[number]
+}
+
+// The votes that the entry of that number lacks.
+fn lack_at(lacking: &[Option<u64>], number: usize) -> Option<u64>
+    requires { number < length lacking.now }
+    ensures { slice_get lacking.now number ≡ Some result }
+{
+    lacking[number]
+}
+
+/// The entries with their quotients by the divisor, and with the votes that they lack.
+pub(crate) fn with_margins(
+    alloc: Global,
+    entries: &[Entry],
+    divisor: &Option<Decimal>,
+    lacking: &[Option<u64>],
+) -> Result<Vec<Entry>, NoMemory>
+    requires { length lacking.now ≡ length entries.now }
+    ensures { IfOk result (λ all. all.items ≡ map (λ x. with_margins divisor.now x.0 x.1) (zip entries.now lacking.now)) }
+{
+    let mut all = Vec::new(alloc);
+    for number in 0..entries.len() {
+        let missing = lack_at(lacking, number);
+        all.push(margin_entry(entry_at(entries, number), divisor, missing))?;
+    }
+    Ok(all)
+}
+
+// An entry with its quotient by the quota: its share of the seats.
+fn quota_entry(entry: Entry, seats: u64, weight: u64) -> Entry
+    ensures { result ≡ quota_entry seats weight entry }
+{
+    Entry {
+        quotient: Some(Fraction {
+            num: u128::from(entry.weight) * u128::from(seats),
+            den: u128::from(weight),
+        }),
+        ..entry
+    }
+}
+
+/// The entries with their quotients by the quota.
+pub(crate) fn with_quota(
+    alloc: Global,
+    entries: &[Entry],
+    seats: u64,
+    weight: u64,
+) -> Result<Vec<Entry>, NoMemory>
+    ensures { IfOk result (λ all. all.items ≡ map (quota_entry seats weight) entries.now) }
+{
+    let mut all = Vec::new(alloc);
+    for entry in entries {
+        all.push(quota_entry(*entry, seats, weight))?;
+    }
+    Ok(all)
+}

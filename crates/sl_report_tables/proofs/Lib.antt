@@ -1,0 +1,4 @@
+pub mod MoreRows
+pub mod MoreTables
+pub mod GrowingTables
+pub mod VotesRows

@@ -1,0 +1,17 @@
+use Rattle.std.proofs.Common.{ap, map, refl, ◌∙◌, ◌++◌, ◌∷◌, []}
+use Rattle.sl_report_forms.specs.Tables.{table_of}
+use Rattle.sl_report_tables.specs.Compare.{compare_table}
+use Rattle.sl_report_tables.proofs.MoreTables.{table_pushed}
+use Rattle.sl_report_tables.proofs.compare.compare_sheets.Goals as goal
+
+pub returns : goal.returns
+returns c =
+    let lines = table_of c.in_ok-books_sheet.field-0 in
+    record {
+      lines = lines;
+      lines_are = c.in_ok-books_sheet.ensures;
+      tables_are =
+          table_pushed _ _ c.in_ok-seats_sheet.field-0 (compare_table c.args.naming.now.returns.now c.args.books.now) c.in_ok-push-2.ensures.items c.in_ok-seats_sheet.ensures
+          ∙ ap (λ v. v ++ compare_table c.args.naming.now.returns.now c.args.books.now ∷ []) (
+          table_pushed _ _ c.in_ok-books_sheet.field-0 lines c.in_ok-push.ensures.items refl ∙ ap (λ v. map table_of v ++ lines ∷ []) c.new-sheets.ensures.items);
+    }

@@ -1,0 +1,29 @@
+use Rattle.std.proofs.Common.{ap, append_assoc, map, ◌∙◌, ◌++◌, ◌∷◌, []}
+use Rattle.sl_report_forms.specs.Tables.{table_of}
+use Rattle.sl_report_tables.specs.Parties.{lists_table}
+use Rattle.sl_report_tables.specs.Reports.{winner_tables}
+use Rattle.sl_report_tables.specs.Scopes.{scope_tables}
+use Rattle.sl_report_tables.proofs.MoreTables.{table_pushed}
+use Rattle.sl_report_tables.proofs.counted.push_counted.Goals as goal
+
+pub returns : goal.returns
+returns c =
+    let e = c.args.setting.now.returns.now in
+    let before = map table_of c.args.sheets.now.items in
+    let lists = lists_table e c.args.counted.now.table in
+    let scopes = scope_tables c.in_ok-scopes.scopes.items in
+    let winners = c.in_ok-push_winner_sheets.ensures in
+    record {
+      scopes = c.in_ok-scopes.scopes.items;
+      all = c.in_ok-scopes.ensures;
+      ranked = winners.0;
+      covered = winners.1;
+      added =
+          winners.2
+          ∙ ap (λ v. v ++ winner_tables e c.args.counted.now.table winners.0) (
+          c.in_ok-push_scope_sheets.ensures
+          ∙ ap (λ xs. map table_of c.push.new.self.items ++ scope_tables xs) c.as_slice.ensures.value
+          ∙ ap (λ v. v ++ scopes) (table_pushed _ _ c.in_ok-lists_sheet.field-0 lists c.in_ok-push.ensures.items c.in_ok-lists_sheet.ensures)
+          ∙ append_assoc before (lists ∷ []) scopes)
+          ∙ append_assoc before (lists ∷ scopes) (winner_tables e c.args.counted.now.table winners.0);
+    }

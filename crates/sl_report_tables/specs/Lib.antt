@@ -1,0 +1,10 @@
+-- What the tables of reports are: the cells of their rows, the tables themselves, and which of them each command shows.
+pub mod Parts
+pub mod Parties
+pub mod Scopes
+pub mod Stages
+pub mod Faults
+pub mod Totals
+pub mod Compare
+pub mod Reports
+pub mod Ends

@@ -1,0 +1,135 @@
+-- The tables of the law, of the parties and their lists, and of winners (docs/report.md).
+use Rattle.std.specs.List.{position, zip}
+use Rattle.std.specs.Prelude.{◌≡◌, ℕ, Bool, true, false, ◌&&◌, ◌||◌, List, [], ◌∷◌, ◌++◌, Option, Some, None, codes, filter, map, nat_lt, option_map, unwrap_or}
+use Rattle.sl_report_forms.specs.Cells.{Content, a_flag, a_number, a_text, nothing}
+use Rattle.sl_report_forms.specs.Tables.{Table}
+use Rattle.sl_report_results.specs.Parts.{votes_of}
+use Rattle.sl_report_results.specs.Ranks.{AreContested}
+use Rattle.sl_report_results.specs.Seats.{all_seats, is_open, is_single, party_seats}
+use Rattle.sl_report_results.specs.declared.contests.Ranked.{Ranked}
+use Rattle.sl_report_results.specs.declared.seats.Seats.{Seats}
+use Rattle.sl_report_tables.specs.Parts.{a_name, condition_cell, percent_cells}
+use Rattle.sl_stages.specs.declared.book.Book.{Book}
+use Rattle.sl_stages.specs.declared.book.Cond.{Cond}
+use Rattle.sl_stages.specs.declared.book.Seating.TheVariants as seating
+use Rattle.sl_stages.specs.declared.book.Seating.{Seating}
+use Rattle.sl_stages.specs.declared.returns.Win.{Win}
+use Rattle.sl_stages.specs.declared.table.ListSeats.{ListSeats}
+use Rattle.sl_stages.specs.declared.table.Placed.TheVariants as placed
+use Rattle.sl_stages.specs.declared.table.Placed.{Placed}
+use Rattle.sl_stages.specs.meaning.Tables.{SeatTable}
+use Rattle.sl_stages.specs.returns.Election.{Election, lands_of, list_at, parties_of}
+use Rattle.sl_stages.specs.returns.Facts.{all_valid_votes, meets, parties}
+use Rattle.sl_stages.specs.returns.Votes.{counted_in, valid_in}
+
+-- seats, where a table is known
+abbrev pub seat_cells : Option Seats → List Content
+seat_cells None = nothing ∷ nothing ∷ nothing ∷ []
+seat_cells (Some s) = a_number s.seats ∷ a_number s.direct ∷ a_number s.vacant ∷ []
+
+-- ---- the law
+
+-- the house of the returns, or else that of the book
+abbrev pub house_of : Book → Election → ℕ
+house_of b e = unwrap_or e.house b.house.value
+
+abbrev pub law_table : ℕ → Option SeatTable → Table
+law_table house t = record {
+  key = codes "law";
+  columns = codes "law" ∷ codes "house" ∷ codes "seats" ∷ codes "direct" ∷ codes "vacant" ∷ [];
+  rows = (a_text ∷ a_number house ∷ seat_cells (option_map all_seats t)) ∷ [];
+}
+
+-- ---- parties
+
+abbrev pub party_row : List Cond → Election → Option SeatTable → ℕ → List Content
+party_row conditions e t party =
+    a_name
+    ++ a_number (votes_of e party).valid ∷ percent_cells (votes_of e party).valid (all_valid_votes e)
+    ++ a_number (votes_of e party).counted ∷ condition_cell conditions (position (meets e party) conditions)
+    ∷ seat_cells (option_map (λ t. party_seats t e party) t)
+
+abbrev pub parties_table : List Cond → Election → Option SeatTable → Table
+parties_table conditions e t = record {
+  key = codes "parties";
+  columns = codes "party" ∷ codes "party_name" ∷ codes "valid" ∷ codes "percent" ∷ codes "percent_exact" ∷ codes "counted" ∷ codes "condition"
+      ∷ codes "seats" ∷ codes "direct" ∷ codes "vacant" ∷ [];
+  rows = map (party_row conditions e t) (parties e);
+}
+
+-- ---- lists
+
+abbrev pub list_row : Election → ListSeats → List Content
+list_row e l =
+    a_name ++ a_name
+    ++ a_number (valid_in (list_at e l.land l.party)) ∷ a_number (counted_in (list_at e l.land l.party))
+    ∷ a_number l.seats ∷ a_number l.direct ∷ a_number l.vacant ∷ []
+
+-- a list of the election that has votes or seats
+abbrev pub is_shown_list : Election → ListSeats → Bool
+is_shown_list e l =
+    (nat_lt l.land (lands_of e) && nat_lt l.party (parties_of e)) && (nat_lt 0 (valid_in (list_at e l.land l.party)) || nat_lt 0 l.seats)
+
+abbrev pub lists_table : Election → SeatTable → Table
+lists_table e t = record {
+  key = codes "lists";
+  columns = codes "land" ∷ codes "land_name" ∷ codes "party" ∷ codes "party_name" ∷ codes "valid" ∷ codes "counted" ∷ codes "seats"
+      ∷ codes "direct" ∷ codes "vacant" ∷ [];
+  rows = map (list_row e) (filter (is_shown_list e) t.lists);
+}
+
+-- ---- winners
+
+-- the names of the party, or a word where there is none
+abbrev pub party_cells : Option ℕ → List Content
+party_cells None = nothing ∷ a_text ∷ []
+party_cells (Some party) = a_name
+
+-- the constituency, the Land, and the party
+abbrev pub winner_row : Win → List Content
+winner_row w = a_name ++ a_name ++ party_cells w.party
+
+abbrev pub is_on_list : Placed → Bool
+is_on_list placed.OnList = true
+is_on_list placed.Single = false
+is_on_list placed.Unseated = false
+
+abbrev pub has_place : Placed → Placed → Bool
+has_place placed.Single place = is_single place
+has_place placed.OnList place = is_on_list place
+has_place placed.Unseated place = is_open place
+
+-- the winners who have such places
+abbrev pub placed_table : List ℕ → (Placed → Bool) → Election → SeatTable → Table
+placed_table name has e t = record {
+  key = name;
+  columns = codes "constituency" ∷ codes "constituency_name" ∷ codes "land" ∷ codes "land_name" ∷ codes "party" ∷ codes "party_name" ∷ [];
+  rows = map (λ x. winner_row x.0) (filter (λ x. has x.1) (zip e.wins t.placed));
+}
+
+abbrev pub singles_table : Election → SeatTable → Table
+singles_table e t = placed_table (codes "singles") is_single e t
+
+abbrev pub open_table : Election → SeatTable → Table
+open_table e t = placed_table (codes "open") is_open e t
+
+-- ---- contested lists
+
+-- the winners of contested lists, where they are covered
+abbrev pub AreCovered : Seating → List Cond → SeatTable → Election → List Ranked → Type 0
+AreCovered seating.Cover conditions t e ws = AreContested conditions t e ws
+AreCovered seating.Keep conditions t e ws = ws ≡ []
+
+abbrev pub ranked_row : Ranked → List Content
+ranked_row w =
+    a_name ++ a_name ++ a_name
+    ++ a_number w.first ∷ a_number w.valid ∷ percent_cells w.first w.valid
+    ++ a_number w.rank ∷ a_flag w.seated ∷ []
+
+abbrev pub covering_table : List Ranked → Table
+covering_table ws = record {
+  key = codes "covering";
+  columns = codes "land" ∷ codes "land_name" ∷ codes "party" ∷ codes "party_name" ∷ codes "constituency" ∷ codes "constituency_name" ∷ codes "first"
+      ∷ codes "valid" ∷ codes "percent" ∷ codes "percent_exact" ∷ codes "rank" ∷ codes "seated" ∷ [];
+  rows = map ranked_row ws;
+}

@@ -1,0 +1,47 @@
+-- What stands in the cells of the parts of which rows are made (docs/report.md).
+use Rattle.std.specs.Prelude.{ℕ, ◌*◌, List, [], ◌∷◌, Option, Some, None, is_some, option_and_then, slice_get, if◌then◌else◌}
+use Rattle.sl_report_forms.specs.Cells.{Content, a_flag, a_number, a_text, known, nothing}
+use Rattle.sl_report_results.specs.Fractions.{has_decimals}
+use Rattle.sl_report_results.specs.declared.fraction.Fraction.{Fraction}
+use Rattle.sl_report_tables.specs.declared.rows.Part.TheVariants as part
+use Rattle.sl_report_tables.specs.declared.rows.Part.{Part}
+use Rattle.sl_stages.specs.declared.book.Cond.{Cond}
+
+-- a short name, and the one that a reader sees
+abbrev pub a_name : List Content
+a_name = a_text ∷ a_text ∷ []
+
+abbrev pub two_empty : List Content
+two_empty = nothing ∷ nothing ∷ []
+
+-- so many of so many in percent: in decimals and exact, where there are decimals
+abbrev pub percent_cells : ℕ → ℕ → List Content
+percent_cells of_them all = if has_decimals (100 * of_them) all 3 then a_name else two_empty
+
+-- a fraction, where there is one: in decimals, where there are some, and exact
+abbrev pub fraction_cells : Option Fraction → List Content
+fraction_cells None = two_empty
+fraction_cells (Some f) = (if has_decimals f.num f.den 4 then a_text else nothing) ∷ a_text ∷ []
+
+-- the condition of that number, where there is one
+abbrev pub condition_cell : List Cond → Option ℕ → Content
+condition_cell conditions met = if is_some (option_and_then (slice_get conditions) met) then a_text else nothing
+
+abbrev pub cells_of : Part → List Content
+cells_of part.Empty = nothing ∷ []
+cells_of (part.Text words) = a_text ∷ []
+cells_of (part.Word words) = a_text ∷ []
+cells_of (part.InPlace words) = nothing ∷ a_text ∷ []
+cells_of (part.Number n) = a_number n ∷ []
+cells_of (part.Known n) = known n ∷ []
+cells_of (part.Flag is) = a_flag is ∷ []
+cells_of (part.Land land) = a_name
+cells_of (part.Party party) = a_name
+cells_of (part.Win win) = a_name
+cells_of (part.Entry item scope) = a_name
+cells_of (part.Entries items) = a_text ∷ []
+cells_of (part.Scope scope) = a_text ∷ []
+cells_of (part.LongScope scope) = a_text ∷ []
+cells_of (part.Met conditions met) = condition_cell conditions.now met ∷ []
+cells_of (part.Percent of_them all) = percent_cells of_them all
+cells_of (part.Fraction fraction) = fraction_cells fraction

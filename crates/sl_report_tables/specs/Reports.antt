@@ -1,0 +1,69 @@
+-- Which tables each command shows (docs/report.md).
+use Rattle.std.specs.List.{AllZip, range_with_len}
+use Rattle.std.specs.Prelude.{◌≡◌, ℕ, List, [], ◌∷◌, ◌++◌, Option, None, Some, flat_map, get_or, length}
+use Rattle.sl_report_forms.specs.Tables.{Table}
+use Rattle.sl_report_results.specs.StageScopes.{AreStageScopes}
+use Rattle.sl_report_results.specs.declared.contests.Ranked.{Ranked}
+use Rattle.sl_report_results.specs.declared.scopes.Scoped.{Scoped}
+use Rattle.sl_report_tables.specs.Faults.{AreFaultTables}
+use Rattle.sl_report_tables.specs.Parties.{AreCovered, covering_table, house_of, law_table, lists_table, open_table, parties_table, singles_table}
+use Rattle.sl_report_tables.specs.Scopes.{scope_tables}
+use Rattle.sl_report_tables.specs.Stages.{stage_tables}
+use Rattle.sl_report_tables.specs.declared.counts.Show.TheVariants as show
+use Rattle.sl_report_tables.specs.declared.counts.Show.{Show}
+use Rattle.sl_stages.specs.book.Books.{book_of}
+use Rattle.sl_stages.specs.book.Trees.{tree_of}
+use Rattle.sl_stages.specs.declared.book.Book.{Book}
+use Rattle.sl_stages.specs.declared.book.Stage.{Stage}
+use Rattle.sl_stages.specs.declared.count.Counted.{Counted}
+use Rattle.sl_stages.specs.declared.count.End.TheVariants as end
+use Rattle.sl_stages.specs.declared.count.End.{End}
+use Rattle.sl_stages.specs.declared.fault.LegalFault.{LegalFault}
+use Rattle.sl_stages.specs.meaning.Tables.{SeatTable}
+use Rattle.sl_stages.specs.returns.Election.{Election}
+
+-- contested lists, and the winners who sit by themselves or not at all
+abbrev pub winner_tables : Election → SeatTable → List Ranked → List Table
+winner_tables e t ranked = covering_table ranked ∷ singles_table e t ∷ open_table e t ∷ []
+
+module _ (b : Book) (e : Election) where
+  -- ---- report
+
+  -- the scopes of the stage of that number
+  abbrev pub AreScopesOf : Counted → ℕ → List Scoped → Type 0
+  AreScopesOf c n found =
+      (d : Stage) → AreStageScopes (book_of b) e b.stages.items c.columns.items c.table.steps n (tree_of (get_or b.stages.items n d).expr) found
+
+  -- the scopes of all stages, stage by stage
+  abbrev pub AreAllScopes : Counted → List Scoped → Type 0
+  AreAllScopes c scopes =
+      (each : List (List Scoped)) × AllZip (AreScopesOf c) (range_with_len 0 (length b.stages.items)) each × (scopes ≡ flat_map (λ found. found) each)
+
+  -- the law and the parties, with their seats where a table is known
+  abbrev pub first_tables : Option SeatTable → List Table
+  first_tables t = law_table (house_of b e) t ∷ parties_table b.eligible.items e t ∷ []
+
+  -- the lists, the scopes of all stages with their entries, and those of winners, after other tables
+  pub record AddsCounted (c : Counted) (before after : List Table) : Type 0 where
+    pub scopes : List Scoped
+    pub all : AreAllScopes c scopes
+    pub ranked : List Ranked
+    pub covered : AreCovered b.last.seating b.eligible.items c.table e ranked
+    pub added : after ≡ before ++ ((lists_table e c.table ∷ scope_tables scopes) ++ winner_tables e c.table ranked)
+
+  abbrev pub IsCountReport : Counted → List Table → Type 0
+  IsCountReport c tables = AddsCounted c (first_tables (Some c.table)) tables
+
+  -- ---- a legal fault
+
+  -- a fault with its explanation, and who takes part
+  abbrev pub IsFaultReport : LegalFault → List Table → Type 0
+  IsFaultReport f tables = (told : List Table) × AreFaultTables f told × (tables ≡ told ++ first_tables None)
+
+  -- ---- what a command shows of how a count ends
+
+  abbrev pub Shows : Show → End → List Table → Type 0
+  Shows show.Report (end.Counted c) tables = IsCountReport c tables
+  Shows show.Stages (end.Counted c) tables = tables ≡ stage_tables e c.columns.items
+  Shows show.Report (end.Fault f) tables = IsFaultReport f tables
+  Shows show.Stages (end.Fault f) tables = IsFaultReport f tables

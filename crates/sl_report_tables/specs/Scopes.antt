@@ -1,0 +1,50 @@
+-- The tables of scopes, and of the entries of each (docs/report.md).
+use Rattle.std.specs.Prelude.{ℕ, Bool, List, [], ◌∷◌, ◌++◌, codes, is_some, map, if◌then◌else◌}
+use Rattle.sl_report_forms.specs.Cells.{Content, a_flag, a_number, a_text, known, nothing}
+use Rattle.sl_report_forms.specs.Tables.{Table}
+use Rattle.sl_report_results.specs.declared.scopes.Entry.{Entry}
+use Rattle.sl_report_results.specs.declared.scopes.Scoped.{Scoped}
+use Rattle.sl_report_tables.specs.Parts.{a_name, fraction_cells}
+
+-- the names of some entries in one cell, where there are some
+abbrev pub names_cell : List ℕ → Content
+names_cell [] = nothing
+names_cell (number ∷ numbers) = a_text
+
+-- the divisor and the quota, and who won the last seat and has the next claim
+abbrev pub margin_cells : Scoped → List Content
+margin_cells s =
+    (if is_some s.divisor then a_text else nothing) ∷ fraction_cells s.quota
+    ++ names_cell s.last.items ∷ names_cell s.next.items ∷ []
+
+-- the stage, the scope by its short name and as a reader sees it, the method, and the numbers
+abbrev pub scope_row : Scoped → List Content
+scope_row s =
+    a_text ∷ a_text ∷ a_text ∷ a_text
+    ∷ a_flag s.grows ∷ a_flag s.has_minima ∷ a_number s.weight ∷ a_number s.seats ∷ margin_cells s
+
+abbrev pub scopes_table : List Scoped → Table
+scopes_table scopes = record {
+  key = codes "scopes";
+  columns = codes "stage" ∷ codes "scope" ∷ codes "scope_name" ∷ codes "method" ∷ codes "grows" ∷ codes "minima" ∷ codes "votes" ∷ codes "seats"
+      ∷ codes "divisor" ∷ codes "quota" ∷ codes "quota_exact" ∷ codes "last" ∷ codes "next" ∷ [];
+  rows = map scope_row scopes;
+}
+
+abbrev pub entry_row : Bool → Entry → List Content
+entry_row has_minima x =
+    a_text ∷ a_text ∷ a_name
+    ++ a_number x.weight ∷ fraction_cells x.quotient
+    ++ a_number x.seats ∷ (if has_minima then a_number x.minimum else nothing) ∷ known x.missing ∷ []
+
+abbrev pub entries_table : Scoped → Table
+entries_table s = record {
+  key = codes "entries";
+  columns = codes "stage" ∷ codes "scope" ∷ codes "entry" ∷ codes "entry_name" ∷ codes "votes" ∷ codes "quotient" ∷ codes "quotient_exact"
+      ∷ codes "seats" ∷ codes "minimum" ∷ codes "missing" ∷ [];
+  rows = map (entry_row s.has_minima) s.entries.items;
+}
+
+-- a line for each scope, and then the entries of each
+abbrev pub scope_tables : List Scoped → List Table
+scope_tables scopes = scopes_table scopes ∷ map entries_table scopes

@@ -1,0 +1,113 @@
+-- The tables of the totals of returns (docs/report.md).
+use Rattle.std.specs.List.{AllZip}
+use Rattle.std.specs.Prelude.{◌≡◌, ℕ, List, [], ◌∷◌, ◌++◌, Option, None, Some, codes, count_by, filter, flat_map, length, map, nat_lt, option_map, slice_index, sum_by}
+use Rattle.sl_report_forms.specs.Cells.{Content, a_number, a_text, known}
+use Rattle.sl_report_forms.specs.Tables.{Table}
+use Rattle.sl_report_results.specs.Cells.{is_won}
+use Rattle.sl_report_results.specs.Lacking.{AreVotesFor, AreWinnersFor, Lacks}
+use Rattle.sl_report_results.specs.Parts.{part_of}
+use Rattle.sl_report_results.specs.Sums.{capped, is_alone_in, is_with, land_sum, lists_of, sum_in_all}
+use Rattle.sl_report_results.specs.declared.parts.PartyPart.{PartyPart}
+use Rattle.sl_report_tables.specs.Parts.{a_name, condition_cell, percent_cells}
+use Rattle.sl_report_warnings.specs.Warnings.{warnings_of}
+use Rattle.sl_report_warnings.specs.declared.warning.Warning.{Warning}
+use Rattle.sl_stages.specs.book.Books.{book_of}
+use Rattle.sl_stages.specs.declared.book.Book.{Book}
+use Rattle.sl_stages.specs.declared.book.Cond.{Cond}
+use Rattle.sl_stages.specs.returns.Election.{Election, lands_of, parties_of}
+use Rattle.sl_stages.specs.returns.Facts.{all_valid_votes, is_in, lands, parties}
+use Rattle.sl_stages.specs.returns.Votes.{counted_in, valid_in}
+
+abbrev pub totals_table : Election → Table
+totals_table e = record {
+  key = codes "totals";
+  columns = codes "valid" ∷ codes "counted" ∷ codes "people" ∷ codes "lands" ∷ codes "parties" ∷ codes "lists" ∷ codes "winners" ∷ codes "independents" ∷ [];
+  rows = (
+      a_number (all_valid_votes e) ∷ a_number (sum_in_all counted_in e)
+      ∷ a_number (capped (sum_by (slice_index e.populations) (lands e)))
+      ∷ a_number (lands_of e) ∷ a_number (parties_of e) ∷ a_number (capped (sum_by (lists_of e) (parties e)))
+      ∷ a_number (length e.wins) ∷ a_number (count_by (is_with None) e.wins) ∷ []) ∷ [];
+}
+
+-- ---- parties
+
+-- a party, by what it has, with the votes and the winners that it lacks
+abbrev pub votes_row : List Cond → Election → ℕ → PartyPart → Option ℕ → Option ℕ → List Content
+votes_row conditions e party has votes winners =
+    a_name
+    ++ a_number has.votes.valid ∷ percent_cells has.votes.valid (all_valid_votes e)
+    ++ a_number has.votes.counted ∷ a_number (lists_of e party) ∷ a_number has.winners
+    ∷ condition_cell conditions has.met ∷ known votes ∷ known winners ∷ []
+
+-- the row has what the party has, and what it lacks for the nearest condition on votes and on winners
+pub record IsVotesRow (conditions : List Cond) (e : Election) (party : ℕ) (row : List Content) : Type 0 where
+  pub votes : Option ℕ
+  pub winners : Option ℕ
+  pub lacks_votes : Lacks (AreVotesFor (part_of conditions e party).votes.valid (all_valid_votes e)) conditions (part_of conditions e party).met votes
+  pub lacks_winners : Lacks (AreWinnersFor (part_of conditions e party).winners) conditions (part_of conditions e party).met winners
+  pub row_is : row ≡ votes_row conditions e party (part_of conditions e party) votes winners
+
+pub record IsVotesTable (conditions : List Cond) (e : Election) (t : Table) : Type 0 where
+  pub key : t.key ≡ codes "votes"
+  pub columns : t.columns ≡ codes "party" ∷ codes "party_name" ∷ codes "valid" ∷ codes "percent" ∷ codes "percent_exact" ∷ codes "counted" ∷ codes "lists"
+      ∷ codes "winners" ∷ codes "condition" ∷ codes "votes_short" ∷ codes "winners_short" ∷ []
+  pub rows : AllZip (IsVotesRow conditions e) (parties e) t.rows
+
+-- ---- Länder
+
+abbrev pub land_row : Election → ℕ → List Content
+land_row e land =
+    a_name
+    ++ a_number (slice_index e.populations land) ∷ a_number (land_sum valid_in e land) ∷ a_number (land_sum counted_in e land)
+    ∷ a_number (count_by (is_in land) e.wins) ∷ a_number (count_by (is_alone_in land) e.wins) ∷ []
+
+abbrev pub lands_table : Election → Table
+lands_table e = record {
+  key = codes "lands";
+  columns = codes "land" ∷ codes "land_name" ∷ codes "people" ∷ codes "valid" ∷ codes "counted" ∷ codes "winners" ∷ codes "independents" ∷ [];
+  rows = map (land_row e) (lands e);
+}
+
+-- ---- winners by Land and party
+
+abbrev pub won_at : Election → ℕ → ℕ → ℕ
+won_at e land party = count_by (is_won land party) e.wins
+
+abbrev pub won_row : Election → ℕ → ℕ → List Content
+won_row e land party = a_name ++ a_name ++ a_number (won_at e land party) ∷ []
+
+-- the parties that have winners in a Land
+abbrev pub won_rows : Election → ℕ → List (List Content)
+won_rows e land = map (won_row e land) (filter (λ party. nat_lt 0 (won_at e land party)) (parties e))
+
+abbrev pub winners_table : Election → Table
+winners_table e = record {
+  key = codes "winners";
+  columns = codes "land" ∷ codes "land_name" ∷ codes "party" ∷ codes "party_name" ∷ codes "winners" ∷ [];
+  rows = flat_map (won_rows e) (lands e);
+}
+
+-- ---- warnings
+
+-- its kind, and its sentence
+abbrev pub warning_row : Warning → List Content
+warning_row w = a_text ∷ a_text ∷ []
+
+abbrev pub warnings_table : List Warning → Table
+warnings_table warnings = record {
+  key = codes "warnings";
+  columns = codes "warning" ∷ codes "text" ∷ [];
+  rows = map warning_row warnings;
+}
+
+-- ---- all of them
+
+-- the conditions of a book, and none without one
+abbrev pub conditions_of : Option Book → List Cond
+conditions_of None = []
+conditions_of (Some b) = b.eligible.items
+
+pub record AreTotals (b : Option Book) (e : Election) (tables : List Table) : Type 0 where
+  pub votes : Table
+  pub votes_are : IsVotesTable (conditions_of b) e votes
+  pub tables_are : tables ≡ totals_table e ∷ votes ∷ lands_table e ∷ winners_table e ∷ warnings_table (warnings_of (option_map book_of b) e) ∷ []

@@ -1,0 +1,163 @@
+//! The sheets of one count.
+
+ghost use Rattle.std.specs.Prelude.{◌≡◌, ◌++◌, IfOk, List, OnOk, map, option_map};
+ghost use Rattle.sl_report_forms.specs.Tables.{table_of};
+ghost use Rattle.sl_report_results.specs.Seats.{all_seats};
+ghost use Rattle.sl_report_results.specs.declared.contests.Ranked.{Ranked};
+ghost use Rattle.sl_report_tables.specs.Parties.{AreCovered, house_of, law_table};
+ghost use Rattle.sl_report_tables.specs.Reports.{AddsCounted, AreAllScopes, IsCountReport, first_tables, winner_tables};
+ghost use Rattle.sl_report_tables.specs.Scopes.{scope_tables};
+ghost use Rattle.sl_stages.specs.book.Books.{book_of};
+ghost use Rattle.sl_stages.specs.meaning.Counts.{HoldsStages};
+
+use crate::covering::covering_sheet;
+use crate::naming::{Naming, law_name};
+use crate::parties::{lists_sheet, open_sheet, parties_sheet, seat_parts, singles_sheet};
+use crate::rows::{Part, one_row_sheet};
+use crate::scopes::{entries_sheet, scopes_sheet};
+use crate::titles;
+use sl_ratio::NoMemory;
+use sl_report_forms::{Form, Look, Sheet};
+use sl_report_results::{Counted, Scoped, Seats, Setting, seats_in_all, stage_scopes};
+use sl_stages::{Book, Table};
+use std::alloc::Global;
+
+const LAW: [Form; 5] = [
+    ("law", "law", "Gesetz", Look::Text(60)),
+    ("house", "house", "Hausgröße", Look::Number),
+    ("seats", "seats", "Sitze", Look::Number),
+    ("direct", "direct", "direkt", Look::Number),
+    ("vacant", "vacant", "unbesetzt", Look::Number),
+];
+
+// The seats in all, where a table is known.
+fn seats_in(table: Option<&Table>) -> Option<Seats>
+    ensures { result ≡ option_map (λ t. all_seats t.now) table.entry }
+{
+    match table {
+        Some(table) => Some(seats_in_all(table)),
+        None => None,
+    }
+}
+
+// The law, the house from which it starts, and the seats in all.
+fn law_sheet(
+    alloc: Global,
+    setting: &Setting<'_>,
+    naming: &Naming<'_>,
+    table: Option<&Table>,
+) -> Result<Sheet, NoMemory>
+    ensures { IfOk result (λ s. table_of s ≡ law_table (house_of setting.now.book.now setting.now.returns.now) (option_map (λ t. t.now) table.entry)) }
+{
+    let [seats, direct, vacant] = seat_parts(seats_in(table));
+    let parts = [
+        Part::Text(law_name(setting.book)),
+        Part::Number(setting.house()),
+        seats,
+        direct,
+        vacant,
+    ];
+    one_row_sheet(alloc, naming, "law", titles::LAW, &LAW, &parts)
+}
+
+// The scopes of all stages.
+fn all_scopes(
+    alloc: Global,
+    setting: &Setting<'_>,
+    counted: &Counted,
+) -> Result<Vec<Scoped>, NoMemory>
+    requires { HoldsStages (book_of setting.now.book.now) setting.now.returns.now counted.now.columns.items }
+    ensures { IfOk result (λ scopes. AreAllScopes setting.now.book.now setting.now.returns.now counted.now scopes.items) }
+{
+    let mut scopes: Vec<Scoped> = Vec::new(alloc);
+    for stage in 0..setting.book.stages.len() {
+        let mut found = stage_scopes(alloc, setting, counted, stage)?;
+        scopes.append(&mut found)?;
+    }
+    Ok(scopes)
+}
+
+// Adds the sheets of these scopes.
+fn push_scope_sheets(
+    alloc: Global,
+    sheets: &mut Vec<Sheet>,
+    book: &Book,
+    naming: &Naming<'_>,
+    scopes: &[Scoped],
+) -> Result<(), NoMemory>
+    ensures { OnOk result (map table_of sheets.new.items ≡ map table_of sheets.old.items ++ scope_tables scopes.now) }
+{
+    sheets.push(scopes_sheet(alloc, book, naming, scopes)?)?;
+    for scoped in scopes {
+        sheets.push(entries_sheet(alloc, book, naming, scoped)?)?;
+    }
+    Ok(())
+}
+
+// Adds the sheets of contested lists, and of the winners who sit by themselves or not at all.
+fn push_winner_sheets(
+    alloc: Global,
+    sheets: &mut Vec<Sheet>,
+    setting: &Setting<'_>,
+    naming: &Naming<'_>,
+    table: &Table,
+) -> Result<(), NoMemory>
+    ensures { OnOk result ((ranked : List Ranked)
+        × AreCovered setting.now.book.now.last.seating setting.now.book.now.eligible.items table.now setting.now.returns.now ranked
+        × (map table_of sheets.new.items ≡ map table_of sheets.old.items ++ winner_tables setting.now.returns.now table.now ranked)) }
+{
+    sheets.push(covering_sheet(alloc, setting, naming, table)?)?;
+    sheets.push(singles_sheet(alloc, setting.returns, naming, table)?)?;
+    sheets.push(open_sheet(alloc, setting.returns, naming, table)?)?;
+    Ok(())
+}
+
+// Adds the sheets that only a count with a table has.
+fn push_counted(
+    alloc: Global,
+    sheets: &mut Vec<Sheet>,
+    setting: &Setting<'_>,
+    naming: &Naming<'_>,
+    counted: &Counted,
+) -> Result<(), NoMemory>
+    requires { HoldsStages (book_of setting.now.book.now) setting.now.returns.now counted.now.columns.items }
+    ensures { OnOk result (AddsCounted setting.now.book.now setting.now.returns.now counted.now (map table_of sheets.old.items) (map table_of sheets.new.items)) }
+{
+    let table = &counted.table;
+    sheets.push(lists_sheet(alloc, setting.returns, naming, table)?)?;
+    let scopes = all_scopes(alloc, setting, counted)?;
+    push_scope_sheets(alloc, sheets, setting.book, naming, scopes.as_slice())?;
+    push_winner_sheets(alloc, sheets, setting, naming, table)?;
+    Ok(())
+}
+
+/// The law, and the parties with who takes part; with their seats where a table is known.
+pub(crate) fn first_sheets(
+    alloc: Global,
+    setting: &Setting<'_>,
+    naming: &Naming<'_>,
+    table: Option<&Table>,
+) -> Result<Vec<Sheet>, NoMemory>
+    ensures { IfOk result (λ sheets. map table_of sheets.items ≡ first_tables setting.now.book.now setting.now.returns.now (option_map (λ t. t.now) table.entry)) }
+{
+    let mut sheets: Vec<Sheet> = Vec::new(alloc);
+    sheets.push(law_sheet(alloc, setting, naming, table)?)?;
+    sheets.push(parties_sheet(alloc, setting, naming, table)?)?;
+    Ok(sheets)
+}
+
+/// The sheets of one count: the law; the parties, and who takes part; the lists; the scopes and their entries; contested lists; winners who sit by
+/// themselves, and who are not seated.
+pub(crate) fn report_sheets(
+    alloc: Global,
+    setting: &Setting<'_>,
+    naming: &Naming<'_>,
+    counted: &Counted,
+) -> Result<Vec<Sheet>, NoMemory>
+    requires { HoldsStages (book_of setting.now.book.now) setting.now.returns.now counted.now.columns.items }
+    ensures { IfOk result (λ sheets. IsCountReport setting.now.book.now setting.now.returns.now counted.now (map table_of sheets.items)) }
+{
+    let mut sheets = first_sheets(alloc, setting, naming, Some(&counted.table))?;
+    push_counted(alloc, &mut sheets, setting, naming, counted)?;
+    Ok(sheets)
+}

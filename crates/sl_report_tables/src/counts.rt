@@ -1,0 +1,118 @@
+//! The answers that show one count: those of `report` and of `stages`.
+
+ghost use Rattle.std.specs.Prelude.{◌≡◌, IfOk, map};
+ghost use Rattle.sl_report_forms.specs.Tables.{table_of};
+ghost use Rattle.sl_report_tables.specs.Reports.{IsFaultReport, Shows};
+ghost use Rattle.sl_report_tables.specs.Ends.{HoldsEnd, end_status};
+ghost use Rattle.sl_stages.specs.book.Books.{book_of};
+
+use crate::answer::{Answer, Style};
+use crate::counted::{first_sheets, report_sheets};
+use crate::faults::fault_sheets;
+use crate::full_names::FullNames;
+use crate::naming::Naming;
+use crate::stages::stage_sheets;
+use sl_ratio::NoMemory;
+use sl_report_forms::Sheet;
+use sl_report_results::{Setting, parts_of};
+use sl_stages::{CheckedBook, End, LegalFault, Returns};
+use std::alloc::Global;
+
+/// What a command shows of a count.
+#[derive(Clone, Copy)]
+pub enum Show {
+    /// All of it, as `report` does.
+    Report,
+    /// The columns of all stages, as `stages` does.
+    Stages,
+}
+
+impl Show {
+    fn command(self) -> &'static str {
+        match self {
+            Show::Report => "report",
+            Show::Stages => "stages",
+        }
+    }
+}
+
+// The sheets of a legal fault, and who takes part.
+fn sheets_of_fault(
+    alloc: Global,
+    setting: &Setting<'_>,
+    naming: &Naming<'_>,
+    fault: &LegalFault,
+) -> Result<Vec<Sheet>, NoMemory>
+    ensures { IfOk result (λ sheets. IsFaultReport setting.now.book.now setting.now.returns.now fault.now (map table_of sheets.items)) }
+{
+    let mut sheets = fault_sheets(alloc, setting.book, naming, fault)?;
+    let mut first = first_sheets(alloc, setting, naming, None)?;
+    sheets.append(&mut first)?;
+    Ok(sheets)
+}
+
+// The sheets that show how a count ends.
+fn sheets_of(
+    alloc: Global,
+    show: Show,
+    setting: &Setting<'_>,
+    naming: &Naming<'_>,
+    end: &End,
+) -> Result<Vec<Sheet>, NoMemory>
+    requires held { HoldsEnd (book_of setting.now.book.now) setting.now.returns.now end.now }
+    requires named { naming.now.returns.now ≡ setting.now.returns.now }
+    ensures { IfOk result (λ sheets. Shows setting.now.book.now setting.now.returns.now show end.now (map table_of sheets.items)) }
+{
+    match (show, end) {
+        (Show::Report, End::Counted(counted)) => report_sheets(alloc, setting, naming, counted),
+        (Show::Stages, End::Counted(counted)) => stage_sheets(alloc, setting, naming, counted),
+        (_, End::Fault(fault)) => sheets_of_fault(alloc, setting, naming, fault),
+    }
+}
+
+// The answer of a command with these sheets; a legal fault is told by this line.
+fn answer_of(
+    alloc: Global,
+    show: Show,
+    end: &End,
+    line: &[u8],
+    sheets: Vec<Sheet>,
+    style: Style,
+) -> Result<Answer, NoMemory>
+    ensures status { IfOk result (λ a. a.status ≡ end_status end.now) }
+    ensures sheets { IfOk result (λ a. a.sheets.items ≡ sheets.items) }
+{
+    match end {
+        End::Counted(_) => Answer::done(alloc, show.command(), sheets, style),
+        End::Fault(_) => {
+            let line = std::str::from_utf8(line).unwrap_or("");
+            Answer::legal(alloc, show.command(), line, sheets, style)
+        }
+    }
+}
+
+/// The answer that shows how the count of a good book on good returns ends; a legal fault is told by the line with which counting does.
+pub fn count_answer(
+    alloc: Global,
+    show: Show,
+    book: &CheckedBook,
+    returns: &Returns,
+    full: &FullNames,
+    end: &End,
+    line: &[u8],
+    style: Style,
+) -> Result<Answer, NoMemory>
+    requires { HoldsEnd (book_of book.now.book) returns.now end.now }
+    ensures status { IfOk result (λ a. a.status ≡ end_status end.now) }
+    ensures shows { IfOk result (λ a. Shows book.now.book returns.now show end.now (map table_of a.sheets.items)) }
+{
+    let naming = Naming {
+        returns,
+        full,
+        language: style.language,
+    };
+    let parts = parts_of(alloc, book.book.eligible.as_slice(), returns)?;
+    let setting = Setting::new(&book.book, returns, parts);
+    let sheets = sheets_of(alloc, show, &setting, &naming, end)?;
+    answer_of(alloc, show, end, line, sheets, style)
+}

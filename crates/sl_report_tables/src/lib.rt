@@ -1,0 +1,36 @@
+//! The tables of reports, and what the commands that report answer: sheets of one count, of the totals of returns with their warnings, of all stages,
+//! and of several rulebooks side by side; the names and words in them; and answers, which are sheets in one of three forms with a status.
+//!
+//! Stands on `sl_count_inputs`, `sl_report_warnings`, `sl_report_forms` and `sl_explain_faults`; used by the room report. Proved: the status of an
+//! answer, which tables it has, and what stands in the cells of each.
+//!
+//! Where an error is `NoMemory` alone, memory ran out, and nothing else is wrong.
+#![tactic(auto)]
+
+mod answer;
+mod cases;
+mod compare;
+mod comparison;
+mod counted;
+mod counts;
+mod covering;
+mod faults;
+mod full_names;
+mod naming;
+mod parties;
+mod rows;
+mod scopes;
+mod stages;
+mod sums;
+mod titles;
+mod totals;
+mod warnings;
+mod words;
+
+pub use answer::{Answer, Shape, Style};
+pub use cases::{MAX_NAMES_BYTES, names_in, names_of};
+pub use compare::Judged;
+pub use comparison::comparison_answer;
+pub use counts::{Show, count_answer};
+pub use full_names::FullNames;
+pub use sums::totals_answer;

@@ -1,0 +1,216 @@
+//! The sheets of scopes: a line for each, and the entries of each.
+
+ghost use Rattle.std.specs.Prelude.{◌≡◌, ◌++◌, ◌∷◌, [], IfOk, OnOk, if◌then◌else◌, is_some};
+ghost use Rattle.sl_report_forms.specs.Cells.{a_number, a_text, nothing};
+ghost use Rattle.sl_report_forms.specs.Tables.{contents_of, table_of, with_rows};
+ghost use Rattle.sl_report_tables.specs.Parts.{cells_of, fraction_cells};
+ghost use Rattle.sl_report_tables.specs.Scopes.{entries_table, entry_row, margin_cells, names_cell, scope_row, scopes_table};
+
+use crate::naming::{Naming, stage_name};
+use crate::rows::{Part, push_name, push_row, put_parts, titled};
+use crate::titles;
+use crate::words::method_word;
+use sl_ratio::NoMemory;
+use sl_report_forms::{Form, Look, Row, Sheet};
+use sl_report_results::{Entry, Scoped};
+use sl_stages::{Book, Scope};
+use std::alloc::Global;
+
+const SCOPES: [Form; 13] = [
+    ("stage", "stage", "Stufe", Look::Text(10)),
+    ("scope", "", "", Look::Hidden),
+    ("scope_name", "scope", "Bereich", Look::Text(20)),
+    ("method", "method", "Verfahren", Look::Text(9)),
+    ("grows", "", "", Look::Hidden),
+    ("minima", "", "", Look::Hidden),
+    ("votes", "", "", Look::Hidden),
+    ("seats", "seats", "Sitze", Look::Number),
+    ("divisor", "divisor", "Divisor", Look::Number),
+    ("quota", "quota", "Quote", Look::Number),
+    ("quota_exact", "", "", Look::Hidden),
+    ("last", "last seat", "letzter Sitz", Look::Text(14)),
+    ("next", "next claim", "nächster Anspruch", Look::Text(14)),
+];
+
+const ENTRIES: [Form; 10] = [
+    ("stage", "", "", Look::Hidden),
+    ("scope", "", "", Look::Hidden),
+    ("entry", "", "", Look::Hidden),
+    ("entry_name", "entry", "Eintrag", Look::Text(36)),
+    ("votes", "votes", "Stimmen", Look::Number),
+    ("quotient", "quotient", "Quotient", Look::Number),
+    ("quotient_exact", "", "", Look::Hidden),
+    ("seats", "seats", "Sitze", Look::Number),
+    ("minimum", "minimum", "Minimum", Look::Number),
+    ("missing", "votes missing", "Stimmen fehlen", Look::Number),
+];
+
+// Adds the names of the entries of these numbers to a text, separated by commas.
+fn push_names(
+    alloc: Global,
+    text: &mut String,
+    naming: &Naming<'_>,
+    scoped: &Scoped,
+    numbers: &[usize],
+) -> Result<(), NoMemory> {
+    for number in numbers {
+        if let Some(entry) = scoped.entries.get(*number) {
+            let name = naming.long_entry(alloc, scoped.scope, entry.item)?;
+            push_name(text, ", ", name.as_str())?;
+        }
+    }
+    Ok(())
+}
+
+// Adds a cell with the names of the entries of these numbers, an empty one for none.
+fn put_names(
+    alloc: Global,
+    row: &mut Row,
+    naming: &Naming<'_>,
+    scoped: &Scoped,
+    numbers: &[usize],
+) -> Result<(), NoMemory>
+    ensures { OnOk result (contents_of row.new.cells.items ≡ contents_of row.old.cells.items ++ names_cell numbers.now ∷ []) }
+{
+    if numbers.is_empty() {
+        return row.empty();
+    }
+    let mut text = String::new(alloc);
+    push_names(alloc, &mut text, naming, scoped, numbers)?;
+    row.own(text)
+}
+
+// Adds the divisor of a scope, if there is one.
+fn put_divisor(alloc: Global, row: &mut Row, scoped: &Scoped) -> Result<(), NoMemory>
+    ensures { OnOk result (contents_of row.new.cells.items ≡ contents_of row.old.cells.items ++ (if is_some scoped.now.divisor then a_text else nothing) ∷ []) }
+{
+    match &scoped.divisor {
+        Some(divisor) => row.own(divisor.text(alloc)?),
+        None => row.empty(),
+    }
+}
+
+// Adds the divisor or the quota of a scope, and who won the last seat and has the next claim.
+fn put_margins(
+    alloc: Global,
+    row: &mut Row,
+    naming: &Naming<'_>,
+    scoped: &Scoped,
+) -> Result<(), NoMemory>
+    ensures { OnOk result (contents_of row.new.cells.items ≡ contents_of row.old.cells.items ++ margin_cells scoped.now) }
+{
+    put_divisor(alloc, row, scoped)?;
+    put_parts(alloc, row, naming, &[Part::Fraction(scoped.quota)])?;
+    put_names(alloc, row, naming, scoped, scoped.last.as_slice())?;
+    put_names(alloc, row, naming, scoped, scoped.next.as_slice())
+}
+
+// Adds the row of a scope.
+fn push_scope(
+    alloc: Global,
+    sheet: &mut Sheet,
+    book: &Book,
+    naming: &Naming<'_>,
+    scoped: &Scoped,
+) -> Result<(), NoMemory>
+    ensures { OnOk result (table_of sheet.new ≡ with_rows (table_of sheet.old) (scope_row scoped.now ∷ [])) }
+{
+    let parts = [
+        Part::Text(stage_name(book, scoped.stage)),
+        Part::Scope(scoped.scope),
+        Part::LongScope(scoped.scope),
+        Part::Text(method_word(scoped.method)),
+        Part::Flag(scoped.grows),
+        Part::Flag(scoped.has_minima),
+        Part::Number(scoped.weight),
+        Part::Number(scoped.seats),
+    ];
+    let mut row = Row::new(alloc);
+    put_parts(alloc, &mut row, naming, &parts)?;
+    put_margins(alloc, &mut row, naming, scoped)?;
+    sheet.push(row)
+}
+
+/// A line for each scope.
+#[tactic(auto, using(crate::proofs::MoreRows::rows_next))]
+pub(crate) fn scopes_sheet(
+    alloc: Global,
+    book: &Book,
+    naming: &Naming<'_>,
+    scopes: &[Scoped],
+) -> Result<Sheet, NoMemory>
+    ensures { IfOk result (λ s. table_of s ≡ scopes_table scopes.now) }
+{
+    let mut sheet = titled(alloc, naming, "scopes", titles::DISTRIBUTIONS, &SCOPES)?;
+    for scoped in scopes {
+        push_scope(alloc, &mut sheet, book, naming, scoped)?;
+    }
+    Ok(sheet)
+}
+
+// The minimum of an entry, where there are some.
+fn minimum_part(has_minima: bool, minimum: u64) -> Part<'static>
+    ensures { cells_of result ≡ (if has_minima then a_number minimum else nothing) ∷ [] }
+{
+    if has_minima {
+        Part::Number(minimum)
+    } else {
+        Part::Empty
+    }
+}
+
+// Adds the row of an entry of a scope.
+fn push_entry(
+    alloc: Global,
+    sheet: &mut Sheet,
+    stage: &str,
+    naming: &Naming<'_>,
+    scoped: &Scoped,
+    entry: Entry,
+) -> Result<(), NoMemory>
+    ensures { OnOk result (table_of sheet.new ≡ with_rows (table_of sheet.old) (entry_row scoped.now.has_minima entry ∷ [])) }
+{
+    let minimum = minimum_part(scoped.has_minima, entry.minimum);
+    let parts = [
+        Part::Text(stage),
+        Part::Scope(scoped.scope),
+        Part::Entry(entry.item, scoped.scope),
+        Part::Number(entry.weight),
+        Part::Fraction(entry.quotient),
+        Part::Number(entry.seats),
+        minimum,
+        Part::Known(entry.missing),
+    ];
+    push_row(alloc, sheet, naming, &parts)
+}
+
+// The title of a scope's entries.
+fn entries_title(
+    alloc: Global,
+    stage: &str,
+    naming: &Naming<'_>,
+    scope: Scope,
+) -> Result<String, NoMemory> {
+    let word = titles::STAGE.in_language(naming.language);
+    let scope = naming.long_scope(alloc, naming.language, scope)?;
+    Ok(format!(in alloc; "{word} {stage}, {scope}")?)
+}
+
+/// The entries of a scope.
+#[tactic(auto, using(crate::proofs::MoreRows::rows_next))]
+pub(crate) fn entries_sheet(
+    alloc: Global,
+    book: &Book,
+    naming: &Naming<'_>,
+    scoped: &Scoped,
+) -> Result<Sheet, NoMemory>
+    ensures { IfOk result (λ s. table_of s ≡ entries_table scoped.now) }
+{
+    let stage = stage_name(book, scoped.stage);
+    let title = entries_title(alloc, stage, naming, scoped.scope)?;
+    let mut sheet = Sheet::new(alloc, naming.language, "entries", title, &ENTRIES)?;
+    for entry in &scoped.entries {
+        push_entry(alloc, &mut sheet, stage, naming, scoped, *entry)?;
+    }
+    Ok(sheet)
+}

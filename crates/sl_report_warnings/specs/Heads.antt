@@ -1,0 +1,33 @@
+-- How a warning is written (docs/returns.md, section 7).
+use Rattle.std.specs.Prelude.{List, [], codes, ◌++◌, ◌∷◌, ◌≡◌, ℕ}
+use Rattle.sl_explain_texts.specs.Heads.{Begins}
+use Rattle.sl_explain_texts.specs.declared.language.Language.TheVariants.{English, German}
+use Rattle.sl_explain_texts.specs.declared.language.Language.{Language}
+use Rattle.sl_report_warnings.specs.declared.warning.Warning.TheVariants.{EqualPeople, FewParties, LandWithoutWinners, LotOfNoEntry, LotUnused, NothingCounted, OtherHouse, SeveralParties, WinnersBesideLists, WinnersWithoutList}
+use Rattle.sl_report_warnings.specs.declared.warning.Warning.{Warning}
+
+-- the word for a kind of warnings
+abbrev pub key_of : Warning → List ℕ
+key_of EqualPeople = codes "people"
+key_of (LandWithoutWinners land) = codes "land_without_winners"
+key_of (WinnersWithoutList party winners) = codes "winners_without_list"
+key_of (WinnersBesideLists land party winners) = codes "winners_beside_lists"
+key_of (NothingCounted party lists) = codes "nothing_counted"
+key_of (SeveralParties party) = codes "several_parties"
+key_of (LotUnused lot) = codes "lot_unused"
+key_of (LotOfNoEntry lot) = codes "lot_of_no_entry"
+key_of (OtherHouse returns book) = codes "house"
+key_of (FewParties parties) = codes "few_parties"
+
+abbrev pub warning_word : Language → List ℕ
+warning_word English = codes "warning"
+warning_word German = codes "Warnung"
+
+-- the word for a warning, and the kind in brackets, as `warning[people]: `
+abbrev pub head_of : Language → Warning → List ℕ
+head_of language w = ((warning_word language ++ codes "[") ++ key_of w) ++ codes "]: "
+
+-- warnings as they are written: of each in turn a text that begins with its head
+abbrev pub AreWritten : Language → List Warning → List ℕ → Type 0
+AreWritten language [] text = text ≡ []
+AreWritten language (w ∷ ws) text = (first rest : List ℕ) × Begins (head_of language w) first × AreWritten language ws rest × (text ≡ first ++ rest)

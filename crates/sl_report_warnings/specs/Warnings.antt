@@ -1,0 +1,155 @@
+-- What is likely a mistake in returns, and in a rulebook and returns together (docs/returns.md, section 7).
+use Rattle.std.specs.List.{list_all, list_any, range_with_len}
+use Rattle.std.specs.Option.{ForSome}
+use Rattle.std.specs.Prelude.{Bool, List, None, Option, Some, [], codes, count_by, false, flat_map, if◌then◌else◌, is_some, length, nat_eq, nat_le, not, slice_get, slice_index, slice_index_or, true, ◌&&◌, ◌++◌, ◌∷◌, ℕ}
+use Rattle.std.specs.Str.{bytes_eq, str_eq_ignore_ascii_case}
+use Rattle.sl_check.specs.Drawn.{given_shape}
+use Rattle.sl_report_results.specs.Cells.{is_won}
+use Rattle.sl_report_results.specs.Sums.{lists_of}
+use Rattle.sl_stages.specs.book.Trees.{BookTree, StageTree}
+use Rattle.sl_stages.specs.book.Typing.{Column, columns_of}
+use Rattle.sl_stages.specs.declared.book.Cond.TheVariants as condition
+use Rattle.sl_stages.specs.declared.book.Cond.{Cond}
+use Rattle.sl_stages.specs.declared.book.Seating.TheVariants.{Cover, Keep}
+use Rattle.sl_stages.specs.declared.book.Seating.{Seating}
+use Rattle.sl_stages.specs.declared.returns.ListVotes.{ListVotes}
+use Rattle.sl_stages.specs.declared.returns.Lot.{Lot}
+use Rattle.sl_stages.specs.meaning.Lots.{given_entry, given_winner}
+use Rattle.sl_stages.specs.returns.Election.{Election, has_list, lands_of, list_at, parties_of, wins_of}
+use Rattle.sl_stages.specs.returns.Facts.{is_in, is_of, lands, parties}
+use Rattle.sl_stages.specs.returns.Votes.{counted_in, valid_in}
+use Rattle.sl_base_terms.specs.declared.shape.Shape.{Shape}
+use Rattle.sl_report_warnings.specs.declared.warning.Warning.TheVariants.{EqualPeople, FewParties, LandWithoutWinners, LotOfNoEntry, LotUnused, NothingCounted, OtherHouse, SeveralParties, WinnersBesideLists, WinnersWithoutList}
+use Rattle.sl_report_warnings.specs.declared.warning.Warning.{Warning}
+
+-- a warning where something holds, and none elsewhere
+abbrev pub warned : Bool → Warning → List Warning
+warned holds w = if holds then w ∷ [] else []
+
+-- ---- of the returns alone
+
+-- several Länder, all with as many people as the first
+abbrev pub are_alike : Election → Bool
+are_alike e = nat_le 2 (lands_of e) && list_all (nat_eq (slice_index e.populations 0)) e.populations
+
+abbrev pub of_people : Election → List Warning
+of_people e = warned (are_alike e) EqualPeople
+
+-- a Land without winners, where there are some
+abbrev pub has_none : Election → ℕ → Bool
+has_none e land = nat_le 1 (wins_of e) && nat_eq (count_by (is_in land) e.wins) 0
+
+abbrev pub of_land : Election → ℕ → List Warning
+of_land e land = warned (has_none e land) (LandWithoutWinners land)
+
+-- the winners of a party in a Land in which it has no list
+abbrev pub winners_beside : Election → ℕ → ℕ → ℕ
+winners_beside e party land = if has_list e land party then 0 else count_by (is_won land party) e.wins
+
+abbrev pub of_place : Election → ℕ → ℕ → List Warning
+of_place e party land = warned (nat_le 1 (winners_beside e party land)) (WinnersBesideLists land party (winners_beside e party land))
+
+-- of a party with winners: that it has no list, or in which Länder with winners it has none
+abbrev pub of_winners : Election → ℕ → List Warning
+of_winners e party =
+    if nat_eq (count_by (is_of party) e.wins) 0
+    then []
+    else (if nat_eq (lists_of e party) 0 then WinnersWithoutList party (count_by (is_of party) e.wins) ∷ [] else flat_map (of_place e party) (lands e))
+
+-- a list of which no valid vote is counted
+abbrev pub counts_none : Option ListVotes → Bool
+counts_none list = nat_le 1 (valid_in list) && nat_eq (counted_in list) 0
+
+abbrev pub uncounted_lists : Election → ℕ → ℕ
+uncounted_lists e party = count_by (λ land. counts_none (list_at e land party)) (lands e)
+
+abbrev pub of_counted : Election → ℕ → List Warning
+of_counted e party = warned (nat_le 1 (uncounted_lists e party)) (NothingCounted party (uncounted_lists e party))
+
+-- the names, in capital or in small letters, under which the votes of several parties are told
+abbrev pub names_of_many : List (List ℕ)
+names_of_many =
+    codes "Sonstige" ∷ codes "Sonst" ∷ codes "Andere" ∷ codes "Uebrige" ∷ codes "Weitere" ∷ codes "Rest" ∷ codes "Others" ∷ codes "Other"
+    ∷ codes "Sonstige_Parteien" ∷ codes "Andere_Parteien" ∷ codes "Uebrige_Parteien" ∷ codes "Other_parties" ∷ []
+
+abbrev pub is_many : List ℕ → Bool
+is_many name = list_any (str_eq_ignore_ascii_case name) names_of_many
+
+abbrev pub has_name_of_many : Option (List ℕ) → Bool
+has_name_of_many None = false
+has_name_of_many (Some name) = is_many name
+
+abbrev pub of_name : Election → ℕ → List Warning
+of_name e party = warned (has_name_of_many (slice_get e.party_names party)) (SeveralParties party)
+
+abbrev pub of_party : Election → ℕ → List Warning
+of_party e party = (of_winners e party ++ of_counted e party) ++ of_name e party
+
+abbrev pub of_returns : Election → List Warning
+of_returns e = (of_people e ++ flat_map (of_land e) (lands e)) ++ flat_map (of_party e) (parties e)
+
+-- ---- of a rulebook and returns
+
+-- the shape of the entries to which the stage of that name distributes seats, if there is such a stage and it distributes any
+abbrev pub shape_named : List Column → List ℕ → List StageTree → Option Shape
+shape_named columns name [] = None
+shape_named columns name (s ∷ ss) = if bytes_eq name s.name then given_shape columns s.expr else shape_named columns name ss
+
+-- the lot names an entry of such a column
+abbrev pub names_entry : Option Shape → Lot → Bool
+names_entry None l = false
+names_entry (Some shape) l = is_some (given_entry shape l)
+
+abbrev pub covers : Seating → Bool
+covers Cover = true
+covers Keep = false
+
+abbrev pub is_last : Lot → Bool
+is_last l = bytes_eq l.stage (codes "seats")
+
+-- a condition on votes
+abbrev pub is_threshold : Cond → Bool
+is_threshold (condition.Valid share per) = true
+is_threshold (condition.Winners least) = false
+is_threshold condition.Minority = false
+is_threshold condition.All = false
+
+module _ (b : BookTree) where
+  -- the shape at the stage that a lot names
+  abbrev pub lot_shape : Lot → Option Shape
+  lot_shape l = shape_named (columns_of [] b.stages) l.stage b.stages
+
+  -- the rulebook may draw a lot there: among winners where it covers them, or at a stage that distributes seats
+  abbrev pub has_place : Lot → Bool
+  has_place l = if is_last l then covers b.last.seating else is_some (lot_shape l)
+
+  -- the lot names one of those among whom it would be drawn
+  abbrev pub has_entry : Election → Lot → Bool
+  has_entry e l = if is_last l then is_some (given_winner e l) else names_entry (lot_shape l) l
+
+  abbrev pub of_lot : Election → ℕ → Lot → List Warning
+  of_lot e number l = if has_place l then warned (not (has_entry e l)) (LotOfNoEntry number) else LotUnused number ∷ []
+
+  -- of the lot of that number
+  abbrev pub of_numbered : Election → ℕ → List Warning
+  of_numbered e number = of_some (slice_get e.lots number) where
+    of_some : Option Lot → List Warning
+    of_some None = []
+    of_some (Some l) = of_lot e number l
+
+  -- another house than the rulebook's
+  abbrev pub of_house : Option ℕ → List Warning
+  of_house None = []
+  of_house (Some house) = warned (not (nat_eq house b.house.value)) (OtherHouse house b.house.value)
+
+  -- fewer than ten parties, of which one must have a share of the votes
+  abbrev pub are_few : Election → Bool
+  are_few e = not (nat_le 10 (parties_of e)) && list_any is_threshold b.eligible
+
+  abbrev pub of_book : Election → List Warning
+  of_book e = (flat_map (of_numbered e) (range_with_len 0 (length e.lots)) ++ of_house e.house) ++ warned (are_few e) (FewParties (parties_of e))
+
+-- of the returns, and with a rulebook of both
+abbrev pub warnings_of : Option BookTree → Election → List Warning
+warnings_of None e = of_returns e
+warnings_of (Some b) e = of_returns e ++ of_book b e

@@ -1,0 +1,224 @@
+//! Warnings of returns alone.
+
+ghost use Rattle.std.specs.List.{list_all};
+ghost use Rattle.std.specs.Prelude.{◌≡◌, ◌<◌, ◌++◌, OnOk, flat_map, nat_eq, slice_get};
+ghost use Rattle.std.specs.Str.{str_eq_ignore_ascii_case};
+ghost use Rattle.sl_report_results.specs.Sums.{one_if};
+ghost use Rattle.sl_stages.specs.returns.Election.{lands_of, list_at, parties_of};
+ghost use Rattle.sl_stages.specs.returns.Facts.{lands, parties};
+ghost use Rattle.sl_report_warnings.specs.Warnings.{are_alike, counts_none, has_name_of_many, has_none, is_many, of_land, of_party, of_place, of_returns, of_winners, uncounted_lists, warned, winners_beside};
+
+use crate::warning::Warning;
+use sl_ratio::NoMemory;
+use sl_report_results::{lists_of, winners_at, winners_in, winners_of};
+use sl_stages::Returns;
+
+/// Adds a warning where something holds.
+pub(crate) fn warn(found: &mut Vec<Warning>, holds: bool, warning: Warning) -> Result<(), NoMemory>
+    ensures { OnOk result (found.new.items ≡ found.old.items ++ warned holds warning) }
+{
+    if holds {
+        found.push(warning)?;
+    }
+    Ok(())
+}
+
+// Whether all Länder have so many people.
+fn have_all(returns: &Returns, people: u32) -> bool
+    ensures { result ≡ list_all (nat_eq people) returns.now.populations }
+{
+    for land in 0..returns.lands() {
+        if people != returns.population(land) {
+            return false;
+        }
+    }
+    true
+}
+
+// Whether there are several Länder, all with as many people as the first.
+fn are_alike(returns: &Returns) -> bool
+    ensures { result ≡ are_alike returns.now }
+{
+    returns.lands() >= 2 && have_all(returns, returns.population(0))
+}
+
+// Whether a Land has no winners, where there are some.
+fn has_none(returns: &Returns, land: usize) -> bool
+    ensures { result ≡ has_none returns.now land }
+{
+    returns.wins() >= 1 && winners_in(returns, land) == 0
+}
+
+// Warns of a Land without winners.
+fn warn_of_land(found: &mut Vec<Warning>, returns: &Returns, land: usize) -> Result<(), NoMemory>
+    ensures { OnOk result (found.new.items ≡ found.old.items ++ of_land returns.now land) }
+{
+    let has_none = has_none(returns, land);
+    warn(found, has_none, Warning::LandWithoutWinners { land })
+}
+
+fn warn_of_lands(found: &mut Vec<Warning>, returns: &Returns) -> Result<(), NoMemory>
+    ensures { OnOk result (found.new.items ≡ found.old.items ++ flat_map (of_land returns.now) (lands returns.now)) }
+{
+    for land in 0..returns.lands() {
+        warn_of_land(found, returns, land)?;
+    }
+    Ok(())
+}
+
+// The winners of a party in a Land in which it has no list.
+fn winners_beside(returns: &Returns, party: usize, land: usize) -> u64
+    requires land { land < lands_of returns.now }
+    requires party { party < parties_of returns.now }
+    ensures { result ≡ winners_beside returns.now party land }
+{
+    if returns.is_list(land, party) {
+        0
+    } else {
+        winners_at(returns, land, party)
+    }
+}
+
+// Warns of the winners of a party in a Land in which it has no list.
+fn warn_of_place(
+    found: &mut Vec<Warning>,
+    returns: &Returns,
+    party: usize,
+    land: usize,
+) -> Result<(), NoMemory>
+    requires land { land < lands_of returns.now }
+    requires party { party < parties_of returns.now }
+    ensures { OnOk result (found.new.items ≡ found.old.items ++ of_place returns.now party land) }
+{
+    let winners = winners_beside(returns, party, land);
+    let warning = Warning::WinnersBesideLists {
+        land,
+        party,
+        winners,
+    };
+    warn(found, winners >= 1, warning)
+}
+
+fn warn_of_places(found: &mut Vec<Warning>, returns: &Returns, party: usize) -> Result<(), NoMemory>
+    requires { party < parties_of returns.now }
+    ensures { OnOk result (found.new.items ≡ found.old.items ++ flat_map (of_place returns.now party) (lands returns.now)) }
+{
+    for land in 0..returns.lands() {
+        warn_of_place(found, returns, party, land)?;
+    }
+    Ok(())
+}
+
+// Warns of the winners of a party beside its lists.
+fn warn_of_winners(
+    found: &mut Vec<Warning>,
+    returns: &Returns,
+    party: usize,
+) -> Result<(), NoMemory>
+    requires { party < parties_of returns.now }
+    ensures { OnOk result (found.new.items ≡ found.old.items ++ of_winners returns.now party) }
+{
+    let winners = winners_of(returns, Some(party));
+    if winners == 0 {
+        return Ok(());
+    }
+    if lists_of(returns, party) == 0 {
+        found.push(Warning::WinnersWithoutList { party, winners })?;
+        return Ok(());
+    }
+    warn_of_places(found, returns, party)
+}
+
+// Whether a party has a list in a Land of which no valid vote is counted.
+fn counts_none(returns: &Returns, party: usize, land: usize) -> bool
+    requires land { land < lands_of returns.now }
+    requires party { party < parties_of returns.now }
+    ensures { result ≡ counts_none (list_at returns.now land party) }
+{
+    returns.valid(land, party) >= 1 && returns.counted(land, party) == 0
+}
+
+// 1 where it is so, and 0 elsewhere.
+fn one_if(is: bool) -> u64
+    ensures { result ≡ one_if is }
+{
+    if is { 1 } else { 0 }
+}
+
+// How many lists of a party have valid votes of which none is counted.
+fn uncounted_lists(returns: &Returns, party: usize) -> u64
+    requires { party < parties_of returns.now }
+    ensures { result ≡ uncounted_lists returns.now party }
+{
+    let mut lists = 0u64;
+    for land in 0..returns.lands() {
+        lists += one_if(counts_none(returns, party, land));
+    }
+    lists
+}
+
+// Whether a name is a word, in capital or in small letters.
+fn is_word(name: &[u8], word: &str) -> bool
+    ensures { result ≡ str_eq_ignore_ascii_case name.now word.now }
+{
+    name.eq_ignore_ascii_case(word.as_bytes())
+}
+
+// Whether a name says that it stands for several parties.
+fn is_many(name: &[u8]) -> bool
+    ensures { result ≡ is_many name.now }
+{
+    is_word(name, "Sonstige")
+        || is_word(name, "Sonst")
+        || is_word(name, "Andere")
+        || is_word(name, "Uebrige")
+        || is_word(name, "Weitere")
+        || is_word(name, "Rest")
+        || is_word(name, "Others")
+        || is_word(name, "Other")
+        || is_word(name, "Sonstige_Parteien")
+        || is_word(name, "Andere_Parteien")
+        || is_word(name, "Uebrige_Parteien")
+        || is_word(name, "Other_parties")
+}
+
+// Whether the name of a party says that it stands for several.
+fn has_name_of_many(returns: &Returns, party: usize) -> bool
+    requires { party < parties_of returns.now }
+    ensures { result ≡ has_name_of_many (slice_get returns.now.party_names party) }
+{
+    is_many(returns.party_name(party))
+}
+
+// Warns of what is likely a mistake of a party.
+#[tactic(auto, using(std::proofs::Common::append_assoc))]
+fn warn_of_party(found: &mut Vec<Warning>, returns: &Returns, party: usize) -> Result<(), NoMemory>
+    requires { party < parties_of returns.now }
+    ensures { OnOk result (found.new.items ≡ found.old.items ++ of_party returns.now party) }
+{
+    warn_of_winners(found, returns, party)?;
+    let lists = uncounted_lists(returns, party);
+    warn(found, lists >= 1, Warning::NothingCounted { party, lists })?;
+    let is_many = has_name_of_many(returns, party);
+    warn(found, is_many, Warning::SeveralParties { party })
+}
+
+// Warns of what is likely a mistake of a party, for each.
+fn warn_of_parties(found: &mut Vec<Warning>, returns: &Returns) -> Result<(), NoMemory>
+    ensures { OnOk result (found.new.items ≡ found.old.items ++ flat_map (of_party returns.now) (parties returns.now)) }
+{
+    for party in 0..returns.parties() {
+        warn_of_party(found, returns, party)?;
+    }
+    Ok(())
+}
+
+/// Adds the warnings of returns alone.
+#[tactic(auto, using(std::proofs::Common::append_assoc))]
+pub(crate) fn warn_of_returns(found: &mut Vec<Warning>, returns: &Returns) -> Result<(), NoMemory>
+    ensures { OnOk result (found.new.items ≡ found.old.items ++ of_returns returns.now) }
+{
+    warn(found, are_alike(returns), Warning::EqualPeople)?;
+    warn_of_lands(found, returns)?;
+    warn_of_parties(found, returns)
+}

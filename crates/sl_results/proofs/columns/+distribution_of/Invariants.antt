@@ -1,7 +1,0 @@
--- Each call goes down the tree.
-use Rattle.sl_stages.specs.book.Limits.{depth_of}
-use Rattle.sl_stages.specs.book.Trees.{tree_of}
-use Rattle.sl_results.proofs.columns.+distribution_of.Given as goal
-
-abbrev pub decreases-distribution_of : goal.decreases-distribution_of
-decreases-distribution_of l = depth_of (tree_of l.expr.now)

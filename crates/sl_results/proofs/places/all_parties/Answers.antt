@@ -1,7 +1,0 @@
-use Rattle.std.proofs.Common.{refl}
-use Rattle.sl_stages.specs.declared.fault.Item.TheVariants as item
-use Rattle.sl_results.proofs.Steps.{mapped_more}
-use Rattle.sl_results.proofs.places.all_parties.Goals as goal
-
-pub loop-party-preserved : goal.loop-party-preserved
-loop-party-preserved c = mapped_more (λ party. item.Party party) c.loop-party.party _ _ _ c.loop-party.invariant c.in_ok-push.ensures.items refl

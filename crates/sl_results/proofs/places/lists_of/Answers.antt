@@ -1,9 +1,0 @@
-use Rattle.sl_stages.specs.declared.fault.Item.TheVariants as item
-use Rattle.sl_stages.specs.returns.Election.{has_list}
-use Rattle.sl_results.proofs.Steps.{filtered_more}
-use Rattle.sl_results.proofs.places.lists_of.Goals as goal
-
-pub loop-land-preserved : goal.loop-land-preserved
-loop-land-preserved c =
-    filtered_more (λ land. item.List land c.args.party) (λ land. has_list c.args.returns.now land c.args.party) c.loop-land.land _ _ c.is_list.result c.loop-land.invariant
-    c.in_ok-push_if.ensures c.is_list.ensures

@@ -1,7 +1,0 @@
-use Rattle.std.proofs.Common.{◌≡◌, take}
-use Rattle.std.specs.Prelude.{sum_by}
-use Rattle.sl_results.specs.Sums.{capped}
-use Rattle.sl_results.proofs.scopes.seats_in.Given as goal
-
-abbrev pub invariant-loop-entry : goal.invariant-loop-entry
-invariant-loop-entry l = l.seats ≡ capped (sum_by (λ x. x.seats) (take l.entry-index l.entries))

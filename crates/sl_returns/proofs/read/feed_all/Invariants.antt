@@ -1,8 +1,0 @@
--- The records read so far are those that the builder has taken.
-use Rattle.std.proofs.Common.{Some}
-use Rattle.csv.specs.Reading.{strip_bom}
-use Rattle.sl_returns.proofs.Reading.{IsReading}
-use Rattle.sl_returns.proofs.read.feed_all.Given as goal
-
-abbrev pub invariant-loop : goal.invariant-loop
-invariant-loop l = IsReading (λ s. Some s.now) l.reader l.builder (strip_bom l.fn.bytes)

@@ -1,5 +1,0 @@
-use Rattle.sl_statutes.proofs.Majorities.{majority_of_2023}
-use Rattle.sl_statutes.proofs.laws.majority_of_2023.Goals as goal
-
-pub returns : goal.returns
-returns c = majority_of_2023

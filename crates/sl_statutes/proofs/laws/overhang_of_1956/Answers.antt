@@ -1,5 +1,0 @@
-use Rattle.sl_statutes.proofs.Statutes.{overhang_of_1956}
-use Rattle.sl_statutes.proofs.laws.overhang_of_1956.Goals as goal
-
-pub returns : goal.returns
-returns c = overhang_of_1956

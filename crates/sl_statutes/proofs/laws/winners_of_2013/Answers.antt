@@ -1,5 +1,0 @@
-use Rattle.sl_statutes.proofs.Statutes.{winners_of_2013}
-use Rattle.sl_statutes.proofs.laws.winners_of_2013.Goals as goal
-
-pub returns : goal.returns
-returns c = winners_of_2013

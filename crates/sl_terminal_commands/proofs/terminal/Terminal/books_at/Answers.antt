@@ -1,0 +1,24 @@
+use Rattle.std.proofs.Common.{All, Bor, List, [], ap, map, subst, sym, take, ◌++◌, ◌∙◌, ◌∷◌, ℕ}
+use Rattle.std.proofs.lemmas.List.{map-append, map_more}
+use Rattle.std.proofs.lemmas.List.Elements.{All-push}
+use Rattle.sl_count_inputs.specs.Judging.{tree_verdict}
+use Rattle.sl_terminal_commands.specs.Sums.{IsVerdictOn}
+use Rattle.sl_terminal_commands.specs.declared.sums.NamedBook.{NamedBook}
+use Rattle.sl_terminal_commands.proofs.terminal.Terminal.books_at.Goals as goal
+
+pub loop-word-preserved : goal.loop-word-preserved
+loop-word-preserved g c =
+    let bytes = g.O.Outside.bytes c.args.self.now.outside in
+    let word = λ (b : NamedBook). b.word.now in
+    let given = λ (w : Bor (List ℕ)). w.now in
+    let IsRead = λ (b : NamedBook). IsVerdictOn bytes b.word.now (tree_verdict b.read.verdict) in
+    let items = c.in_ok-push.ensures.items in
+    let called = c.in_ok-book.ensures.book.0 in
+    let old = c.loop-word.books.items in
+    let book = c.in_ok-book.book in (
+      ap (map word) items ∙ map-append word old (book ∷ []) ∙ ap (λ l. l ++ word book ∷ []) c.loop-word.invariant.0
+          ∙ ap (λ w. map given (take c.loop-word.word-index c.args.words.now) ++ w ∷ []) called
+          ∙ sym (map_more given c.args.words.now c.loop-word.word-index record { ref_ptr = (0, 0); now = [] } c.loop-word-test.true),
+      subst (All IsRead) (sym items)
+          (All-push IsRead old book c.loop-word.invariant.1 (subst (λ w. IsVerdictOn bytes w (tree_verdict book.read.verdict)) (sym called) c.in_ok-book.ensures.book.1)),
+    )

@@ -1,0 +1,40 @@
+use Rattle.std.proofs.Common.{Bor, List, map, subst, ℕ}
+use Rattle.sl_count_inputs.specs.declared.status.Status.{Status}
+use Rattle.sl_terminal_commands.proofs.Deliveries.{ends_wider}
+use Rattle.sl_terminal_commands.proofs.Summaries.{of_compared, summed_all}
+use Rattle.sl_terminal_commands.proofs.Tellings.{ok_wider}
+use Rattle.sl_terminal_commands.proofs.terminal.Terminal.report_comparison.Goals as goal
+use Rattle.sl_terminal_commands.specs.Sums.{IsOfComparison, IsSummary}
+use Rattle.sl_terminal_commands.specs.Said.{Says}
+use Rattle.sl_terminal_commands.specs.inner.Verdicts.{IsEndOfAll, IsOfCompared}
+
+pub returns-clause-ends : goal.returns-clause-ends
+returns-clause-ends g c =
+    let bytes = g.O.Outside.bytes c.args.self.now.outside in
+    let path = c.args.returns.now in
+    let returns = c.in_ok-returns.returns.read.verdict in
+    let books = c.in_ok-books.books.items in
+    ends_wider (λ ends text. IsEndOfAll books returns ends) (λ ends text. IsSummary bytes path (map (λ (word : Bor (List ℕ)). word.now) c.args.books.now) ends)
+    (g.W.Sink.contents c.args.self.now.out) (g.W.Sink.contents c.compare.new.self.out) c.compare.result
+    (
+    λ ends text is.
+    subst (λ words. IsSummary bytes path words ends) c.in_ok-books.ensures.words
+    (summed_all bytes path returns c.in_ok-returns.ensures.returns books c.in_ok-books.ensures.books ends is)
+    )
+    c.compare.ensures.ends
+
+pub returns-clause-told : goal.returns-clause-told
+returns-clause-told g c =
+    let bytes = g.O.Outside.bytes c.args.self.now.outside in
+    let path = c.args.returns.now in
+    let returns = c.in_ok-returns.returns.read.verdict in
+    let books = c.in_ok-books.books.items in
+    let says = Says g.E.Sink.contents c.args.self.now c.compare.new.self in
+    ok_wider (λ (ends : Status). IsOfCompared books returns says)
+    (λ (ends : Status). IsOfComparison bytes path (map (λ (word : Bor (List ℕ)). word.now) c.args.books.now) says) c.compare.result
+    (
+    λ ends of.
+    subst (λ words. IsOfComparison bytes path words says) c.in_ok-books.ensures.words
+    (of_compared bytes path returns c.in_ok-returns.ensures.returns says books c.in_ok-books.ensures.books of)
+    )
+    c.compare.ensures.told

@@ -1,0 +1,50 @@
+use Rattle.std.specs.Option.{option_map}
+use Rattle.std.proofs.Common.{Bor, IfOk, List, [], subst, sym, ◌∷◌, ℕ}
+use Rattle.sl_count_inputs.specs.declared.status.Status.{Status}
+use Rattle.sl_terminal_commands.proofs.Deliveries.{ends_wider}
+use Rattle.sl_terminal_commands.proofs.Summaries.{of_both, of_election, summed_by}
+use Rattle.sl_terminal_commands.proofs.Tellings.{ok_wider}
+use Rattle.sl_terminal_commands.proofs.terminal.Terminal.report_totals.Goals as goal
+use Rattle.sl_terminal_commands.specs.Ends.{Ends}
+use Rattle.sl_terminal_commands.specs.Sums.{IsOfSums, IsSummary, given_word}
+use Rattle.sl_terminal_commands.specs.Said.{Says}
+use Rattle.sl_terminal_commands.specs.inner.Verdicts.{IsEndBy, IsOfBoth, IsOfElection}
+
+pub returns-in-Some-clause-ends : goal.returns-in-Some-clause-ends
+returns-in-Some-clause-ends g c =
+    let bytes = g.O.Outside.bytes c.args.self.now.outside in
+    let path = c.args.returns.now in
+    let returns = c.in_ok-returns.returns.read.verdict in
+    let book = c.in_ok-book-in-Some.book.read.verdict in
+    let word = c.in-Some.word.now in
+    let old = g.W.Sink.contents c.args.self.now.out in
+    let new = g.W.Sink.contents c.sum_up_by.new.self.out in
+    let ends =
+    ends_wider (λ ends text. IsEndBy book returns ends) (λ ends text. IsSummary bytes path (word ∷ []) ends) old new c.sum_up_by.result
+    (λ ends text is. summed_by bytes path returns c.in_ok-returns.ensures.returns word book c.in_ok-book-in-Some.ensures.book.1 ends is) c.sum_up_by.ensures.ends in
+    subst (λ given. Ends (λ ends text. IsSummary bytes path (given_word (option_map (λ (word : Bor (List ℕ)). word.now) given)) ends) old new c.sum_up_by.result)
+    (sym c.in-Some.is) ends
+
+pub returns-in-Some-clause-told : goal.returns-in-Some-clause-told
+returns-in-Some-clause-told g c =
+    let bytes = g.O.Outside.bytes c.args.self.now.outside in
+    let path = c.args.returns.now in
+    let returns = c.in_ok-returns.returns.read.verdict in
+    let book = c.in_ok-book-in-Some.book.read.verdict in
+    let word = c.in-Some.word.now in
+    let says = Says g.E.Sink.contents c.args.self.now c.sum_up_by.new.self in
+    let told =
+    ok_wider (λ (ends : Status). IsOfBoth book returns says) (λ (ends : Status). IsOfSums bytes path (word ∷ []) says) c.sum_up_by.result
+    (λ ends of. of_both bytes path returns c.in_ok-returns.ensures.returns says word book c.in_ok-book-in-Some.ensures.book.1 of) c.sum_up_by.ensures.told in
+    subst (λ given. IfOk c.sum_up_by.result (λ ends. IsOfSums bytes path (given_word (option_map (λ (word : Bor (List ℕ)). word.now) given)) says))
+    (sym c.in-Some.is) told
+
+pub returns-clause-told : goal.returns-clause-told
+returns-clause-told g c =
+    let bytes = g.O.Outside.bytes c.args.self.now.outside in
+    let path = c.args.returns.now in
+    let returns = c.in_ok-returns.returns.read.verdict in
+    let says = Says g.E.Sink.contents c.args.self.now c.sum_up.new.self in
+    let words = given_word (option_map (λ (word : Bor (List ℕ)). word.now) c.args.book) in
+    ok_wider (λ (ends : Status). IsOfElection returns says) (λ (ends : Status). IsOfSums bytes path words says) c.sum_up.result
+    (λ ends of. of_election bytes path returns c.in_ok-returns.ensures.returns says words of) c.sum_up.ensures.told

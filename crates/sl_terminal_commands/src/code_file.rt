@@ -1,0 +1,144 @@
+//! The command that writes a code file: a file that would be missed is not written.
+
+ghost use Rattle.std.specs.Prelude.{◌≡◌, IfErr, IfOk, IfSome, Some};
+ghost use Rattle.sl_desk.specs.Compiling.{IsCompilingOutput};
+ghost use Rattle.sl_explain_calls.specs.Codes.{check_subject};
+ghost use Rattle.sl_count_inputs.specs.Books.{IsBookVerdict};
+ghost use Rattle.sl_count_inputs.specs.Judging.{tree_verdict};
+ghost use Rattle.sl_terminal_count.specs.Inputs.{named_input};
+ghost use Rattle.sl_terminal_commands.specs.Ends.{Ends, IsEarly, IsSilent};
+ghost use Rattle.sl_terminal_commands.specs.Files.{HasCode};
+ghost use Rattle.sl_terminal_commands.specs.Frames.{TellsNothing};
+ghost use Rattle.sl_terminal_commands.specs.Requests.{IsListing};
+ghost use Rattle.sl_terminal_commands.specs.Said.{Says, said_of};
+ghost use Rattle.sl_terminal_commands.specs.Tellings.{IsOfBook};
+
+use crate::failure::Failure;
+use crate::terminal::Terminal;
+use sl_count_inputs::{Bytes, Input, MAX_CODE_BYTES, ReadBook, Sink, Status, read_all, read_book};
+use sl_desk::{Compilation, compilation_of};
+use sl_terminal_count::{Outside, open_book};
+
+// How each code file begins.
+const OPENING: &[u8] = b"SLC\x01";
+
+// Whether a file of these bytes may be lost: it is empty or a code file.
+fn may_be_lost(bytes: &Bytes) -> bool {
+    match bytes {
+        Bytes::Whole(bytes) => bytes.is_empty() || bytes.as_slice().starts_with(OPENING),
+        Bytes::TooLong => false,
+    }
+}
+
+// Whether they are those of a rulebook, which may be the same file under another name.
+fn are_of_book(bytes: &Bytes, book: &[u8]) -> bool {
+    match bytes {
+        Bytes::Whole(bytes) => !book.is_empty() && bytes.as_slice() == book,
+        Bytes::TooLong => false,
+    }
+}
+
+impl<O: Outside, W: Sink, E: Sink> Terminal<O, W, E> {
+    // Looks at the file that lies where the code of a rulebook is to be written.
+    fn look_at<'a>(
+        &self,
+        path: &'a str,
+        book: &[u8],
+        is_forced: bool,
+    ) -> Result<(), Failure<'a, O::Reason>>
+        ensures early { IfErr result IsEarly }
+    {
+        let Some(mut file) = self.outside.file_at(path) else {
+            return Ok(());
+        };
+        let bytes = read_all(self.alloc, &mut file, Input::Code, MAX_CODE_BYTES)?;
+        if are_of_book(&bytes, book) {
+            Err(Failure::Same(path))
+        } else if is_forced || may_be_lost(&bytes) {
+            Ok(())
+        } else {
+            Err(Failure::Kept(path))
+        }
+    }
+
+    // A rulebook that is read, and what compiling writes of it, if the file at a path may be lost.
+    fn compiled<'a>(
+        &self,
+        book: &'a str,
+        path: &'a str,
+        is_forced: bool,
+    ) -> Result<(ReadBook<'a>, Compilation), Failure<'a, O::Reason>>
+        ensures answer { IfOk result (λ both. IfSome (named_input (O.bytes self.now.outside) book.now) (λ input.
+            IsCompilingOutput input both.1.answer.status both.1.file.items both.1.answer.text.items)) }
+        ensures verdict { IfOk result (λ both. IfSome (named_input (O.bytes self.now.outside) book.now) (λ input. IsBookVerdict input (tree_verdict both.0.verdict))) }
+        ensures early { IfErr result IsEarly }
+    {
+        let mut source = open_book(&self.outside, book)?;
+        let read = read_book(self.alloc, &mut source)?;
+        let compilation = compilation_of(self.alloc, &read.verdict)?;
+        self.look_at(path, read.text.as_slice(), is_forced)?;
+        Ok((read, compilation))
+    }
+
+    // Writes the file of a code, and then its listing to standard output; of a refused rulebook an empty file, and then the refusal.
+    fn write_code<'a>(
+        &mut self,
+        path: &'a str,
+        compilation: &Compilation,
+    ) -> Result<Status, Failure<'a, O::Reason>>
+        ensures ends { Ends (λ status text. (status ≡ compilation.now.answer.status) × (text ≡ compilation.now.answer.text.items))
+            (W.contents self.old.out) (W.contents self.new.out) result }
+        ensures untold { IfOk result (λ _. TellsNothing self.old self.new) }
+        ensures file { O.tells_made self.old.outside → IfOk result (λ status. (status ≡ compilation.now.answer.status)
+            × (O.bytes self.new.outside path.now ≡ Some compilation.now.file.items)) }
+    {
+        match self.outside.create(path) {
+            Ok(mut file) => match compilation.deliver(&mut file, &mut self.out) {
+                Ok(status) => {
+                    self.outside.close(path, file);
+                    Ok(status)
+                }
+                Err(error) => Err(Failure::Call(error)),
+            },
+            Err(reason) => Err(Failure::Unmade { path, reason }),
+        }
+    }
+
+    // Writes what compiling writes of a rulebook, and tells why it is refused, if it is.
+    fn finish_code<'a>(
+        &mut self,
+        read: &ReadBook<'_>,
+        compilation: &Compilation,
+        book: &str,
+        path: &'a str,
+    ) -> Result<Status, Failure<'a, O::Reason>>
+        ensures ends { Ends (λ status text. (status ≡ compilation.now.answer.status) × (text ≡ compilation.now.answer.text.items))
+            (W.contents self.old.out) (W.contents self.new.out) result }
+        ensures silent { IfOk result (λ ends. IsSilent self.old.is_quiet ends → self.new.err ≡ self.old.err) }
+        ensures told { IfOk result (λ _. Says E.contents self.old self.new (said_of (check_subject read.now.verdict))) }
+        ensures file { O.tells_made self.old.outside → IfOk result (λ status. (status ≡ compilation.now.answer.status)
+            × (O.bytes self.new.outside path.now ≡ Some compilation.now.file.items)) }
+    {
+        let status = self.write_code(path, compilation)?;
+        self.tell_book(status, book, read);
+        Ok(status)
+    }
+
+    // Compiles a rulebook. Where it is refused, the file is left empty.
+    #[tactic(auto, using(crate::proofs::Deliveries::ends_early))]
+    pub(crate) fn code<'a>(
+        &mut self,
+        book: &'a str,
+        path: &'a str,
+        is_forced: bool,
+    ) -> Result<Status, Failure<'a, O::Reason>>
+        ensures ends { Ends (λ status text. IfSome (named_input (O.bytes self.old.outside) book.now) (λ input.
+            IsListing input status text)) (W.contents self.old.out) (W.contents self.new.out) result }
+        ensures silent { IfOk result (λ ends. IsSilent self.old.is_quiet ends → self.new.err ≡ self.old.err) }
+        ensures told { IfOk result (λ _. IsOfBook (O.bytes self.old.outside) book.now (Says E.contents self.old self.new)) }
+        ensures file { O.tells_made self.old.outside → IfOk result (λ ends. HasCode (O.bytes self.old.outside) book.now ends (O.bytes self.new.outside path.now)) }
+    {
+        let (read, compilation) = self.compiled(book, path, is_forced)?;
+        self.finish_code(&read, &compilation, book, path)
+    }
+}

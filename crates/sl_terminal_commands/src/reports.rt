@@ -1,0 +1,171 @@
+//! The commands that report, over files: each input is read and judged once, and each rulebook is run once.
+
+ghost use Rattle.std.specs.Prelude.{◌≡◌, IfErr, IfOk, None, false, is_some, true};
+ghost use Rattle.sl_count_outcomes.specs.Judged.{FitsJudged, IsJudged};
+ghost use Rattle.sl_stages.specs.declared.count.Records.TheVariants.{Kept};
+ghost use Rattle.sl_count_inputs.specs.Reading.{ForKnown};
+ghost use Rattle.sl_count_inputs.specs.declared.status.Status.TheVariants as status;
+ghost use Rattle.sl_terminal_count.specs.Inputs.{named_input};
+ghost use Rattle.sl_report_commands.specs.Statuses.{judged_status};
+ghost use Rattle.sl_terminal_commands.specs.Ends.{Ends, IsEarly};
+ghost use Rattle.sl_terminal_commands.specs.Requests.{IsReportEnd, IsReportOf};
+ghost use Rattle.sl_terminal_commands.specs.Said.{OnlyWarns, Says, judged_said};
+ghost use Rattle.sl_terminal_commands.specs.Tellings.{IsOfReport, IsOfWhat, warns_of};
+ghost use Rattle.sl_terminal_commands.specs.inner.Reports.{IsShownBy, SaysBy};
+
+use crate::failure::Failure;
+use crate::terminal::Terminal;
+use sl_count_inputs::{Input, Sink, Status, read_all};
+use sl_count_outcomes::{Read, Records, judge_read};
+use sl_report_commands::{
+    Answer, FullNames, MAX_NAMES_BYTES, Shape, Show, Style, answer_judged, names_in,
+};
+use sl_terminal_count::{Outside, open, open_book};
+use sl_terminal_words::{Report, ReportForm};
+
+// How a report is written: with the names of a file, if one is given, in a form and in a language.
+#[derive(Clone, Copy)]
+pub(crate) struct Writing<'a> {
+    pub(crate) names: Option<&'a str>,
+    pub(crate) style: Style,
+}
+
+fn shape_of(form: ReportForm) -> Shape {
+    match form {
+        ReportForm::Text => Shape::Text,
+        ReportForm::Json => Shape::Json,
+        ReportForm::Comma => Shape::Comma,
+    }
+}
+
+impl<O: Outside, W: Sink, E: Sink> Terminal<O, W, E> {
+    // The full names of a file, if one is given, or the answer that refuses them.
+    pub(crate) fn full_names<'a>(
+        &self,
+        path: Option<&'a str>,
+    ) -> Result<Result<FullNames, Answer>, Failure<'a, O::Reason>>
+        ensures refused { IfOk result (λ full. IfErr full (λ a. (is_some path.entry ≡ true) × (a.status ≡ status.Refused))) }
+        ensures early { IfErr result IsEarly }
+    {
+        let read = match path {
+            Some(path) => {
+                let mut file = open(&self.outside, path, Input::Names)?;
+                Some(read_all(self.alloc, &mut file, Input::Names, MAX_NAMES_BYTES)?)
+            }
+            None => None,
+        };
+        Ok(names_in(self.alloc, &read)?)
+    }
+
+    // What a rulebook and returns come to, with the records of a count.
+    fn judged_at<'a>(
+        &self,
+        book: &'a str,
+        returns: &'a str,
+    ) -> Result<Read<'a>, Failure<'a, O::Reason>>
+        ensures judged { IfOk result (λ read. ForKnown (named_input (O.bytes self.now.outside) book.now) (O.bytes self.now.outside returns.now) (λ input bytes.
+            IsJudged Kept None input bytes read.judged)) }
+        ensures fits { IfOk result (λ read. FitsJudged Kept read.judged) }
+        ensures early { IfErr result IsEarly }
+    {
+        let mut source = open_book(&self.outside, book)?;
+        let mut file = open(&self.outside, returns, Input::Returns)?;
+        Ok(judge_read(Records::Kept, self.alloc, &mut source, None, &mut file)?)
+    }
+
+    // What a rulebook and returns come to, and the answer that shows it, or that refuses the names.
+    fn reported<'a>(
+        &self,
+        show: Show,
+        book: &'a str,
+        returns: &'a str,
+        writing: Writing<'a>,
+    ) -> Result<(Read<'a>, Result<Answer, Answer>), Failure<'a, O::Reason>>
+        ensures judged { IfOk result (λ both. ForKnown (named_input (O.bytes self.now.outside) book.now) (O.bytes self.now.outside returns.now) (λ input bytes.
+            IsJudged Kept None input bytes both.0.judged)) }
+        ensures shown { IfOk result (λ both. IfOk both.1 (λ a. a.status ≡ judged_status both.0.judged)) }
+        ensures refused { IfOk result (λ both. IfErr both.1 (λ a. (is_some writing.entry.names ≡ true) × (a.status ≡ status.Refused))) }
+        ensures early { IfErr result IsEarly }
+    {
+        let read = self.judged_at(book, returns)?;
+        let names = self.full_names(writing.names)?;
+        let answer = answer_judged(self.alloc, show, &read.judged, &names, writing.style)?;
+        Ok((read, answer))
+    }
+
+    // Writes what is reported of a rulebook and returns, and tells why they come to no table, if they don't; or writes the refusal of the names.
+    fn finish_report<'a>(
+        &mut self,
+        read: &Read<'_>,
+        answer: &Result<Answer, Answer>,
+        book: &'a str,
+        returns: &'a str,
+    ) -> Result<Status, Failure<'a, O::Reason>>
+        ensures ends { Ends (λ ends _. IsShownBy answer.now ends) (W.contents self.old.out) (W.contents self.new.out) result }
+        ensures quiet { IfOk result (λ _. self.old.is_quiet ≡ true → self.new.err ≡ self.old.err) }
+        ensures done { IfOk result (λ ends. ends ≡ status.Done → OnlyWarns E.contents self.old self.new) }
+        ensures told { IfOk result (λ _. SaysBy answer.now (judged_said read.now.judged) (Says E.contents self.old self.new)) }
+    {
+        match answer {
+            Ok(answer) => {
+                let status = self.write_text(answer.status, answer.text.as_slice())?;
+                self.tell_read(status, book, returns, read);
+                Ok(status)
+            }
+            Err(refusal) => self.write_text(refusal.status, refusal.text.as_slice()),
+        }
+    }
+
+    // Counts by a rulebook and reports.
+    #[tactic(auto, using(crate::proofs::Deliveries::ends_early))]
+    fn report_count<'a>(
+        &mut self,
+        show: Show,
+        book: &'a str,
+        returns: &'a str,
+        writing: Writing<'a>,
+    ) -> Result<Status, Failure<'a, O::Reason>>
+        ensures ends { Ends (λ ends _. IsReportOf (O.bytes self.old.outside) book.now returns.now (is_some writing.entry.names) ends)
+            (W.contents self.old.out) (W.contents self.new.out) result }
+        ensures quiet { IfOk result (λ _. self.old.is_quiet ≡ true → self.new.err ≡ self.old.err) }
+        ensures done { IfOk result (λ ends. ends ≡ status.Done → OnlyWarns E.contents self.old self.new) }
+        ensures told { IfOk result (λ _. IsOfReport (O.bytes self.old.outside) book.now returns.now (is_some writing.entry.names) (Says E.contents self.old self.new)) }
+    {
+        let (read, answer) = self.reported(show, book, returns, writing)?;
+        self.finish_report(&read, &answer, book, returns)
+    }
+
+    /// Writes a report to standard output.
+    pub(crate) fn report<'a>(
+        &mut self,
+        what: &Report<'a>,
+        form: ReportForm,
+        names: Option<&'a str>,
+    ) -> Result<Status, Failure<'a, O::Reason>>
+        ensures ends { Ends (λ ends _. IsReportEnd (O.bytes self.old.outside) what.now (is_some names.entry) ends) (W.contents self.old.out) (W.contents self.new.out) result }
+        ensures quiet { IfOk result (λ _. self.old.is_quiet ≡ true → self.new.err ≡ self.old.err) }
+        ensures done { IfOk result (λ ends. ends ≡ status.Done → OnlyWarns E.contents self.old self.new) }
+        ensures still { warns_of what.now ≡ false → IfOk result (λ ends. ends ≡ status.Done → self.new.err ≡ self.old.err) }
+        ensures told { IfOk result (λ _. IsOfWhat (O.bytes self.old.outside) what.now (is_some names.entry) (Says E.contents self.old self.new)) }
+    {
+        let writing = Writing {
+            names,
+            style: Style {
+                shape: shape_of(form),
+                language: self.language,
+            },
+        };
+        match what {
+            Report::Count { book, returns } => {
+                self.report_count(Show::Report, *book, *returns, writing)
+            }
+            Report::Stages { book, returns } => {
+                self.report_count(Show::Stages, *book, *returns, writing)
+            }
+            Report::Totals { returns, book } => self.report_totals(*returns, *book, writing),
+            Report::Compare { returns, books } => {
+                self.report_comparison(*returns, books.as_slice(), writing)
+            }
+        }
+    }
+}

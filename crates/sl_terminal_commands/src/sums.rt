@@ -1,0 +1,366 @@
+//! The commands that report of several rulebooks or of none: the sums of returns, and rulebooks side by side. Each input is read and judged once.
+
+ghost use Rattle.std.specs.Option.{option_map};
+ghost use Rattle.std.specs.Prelude.{◌≡◌, All, Contains, IfErr, IfOk, IfSome, None, map, true};
+ghost use Rattle.sl_explain_calls.specs.Codes.{book_code, election_code, subject};
+ghost use Rattle.sl_count_inputs.specs.Judging.{election_verdict, tree_verdict};
+ghost use Rattle.sl_count_inputs.specs.declared.status.Input.TheVariants as input;
+ghost use Rattle.sl_count_inputs.specs.declared.status.Status.TheVariants as status;
+ghost use Rattle.sl_count_inputs.specs.declared.verdict.Verdict.TheVariants.{Refused};
+ghost use Rattle.sl_terminal_commands.specs.Ends.{Ends, IsEarly, IsSilent};
+ghost use Rattle.sl_terminal_commands.specs.Sums.{AreJudged, IsOfComparison, IsOfSums, IsSummary, IsVerdictOn, given_word};
+ghost use Rattle.sl_terminal_commands.specs.Frames.{TellsNothing};
+ghost use Rattle.sl_terminal_commands.specs.Said.{OnlyWarns, Says, fault};
+ghost use Rattle.sl_terminal_commands.specs.inner.Verdicts.{IsDoneOrRefused, IsEndBy, IsEndOfAll, IsEndOn, IsGood, IsOfBoth, IsOfCompared, IsOfElection, IsOfOneOf, IsOfTable};
+
+use crate::failure::Failure;
+use crate::reports::Writing;
+use crate::telling::ReadFile;
+use crate::terminal::Terminal;
+use sl_count_inputs::{
+    Input, ReadBook, ReadReturns, RefusedBook, RefusedElection, Sink, Status, Verdict, read_book,
+    read_election,
+};
+use sl_explain_calls::{explain_book, explain_election};
+use sl_ratio::NoMemory;
+use sl_report_commands::{
+    Answer, Compared, FullNames, Style, compare_judged, compare_statutes, totals_answer,
+};
+use sl_stages::{CheckedBook, Returns};
+use sl_terminal_count::{Outside, open, open_book};
+use std::alloc::Global;
+
+// A rulebook that was read, with the word that names it.
+#[derive(Drop)]
+struct NamedBook<'a> {
+    word: &'a str,
+    read: ReadBook<'a>,
+}
+
+// Returns that were read, with their path.
+#[derive(Drop)]
+struct NamedReturns<'a> {
+    path: &'a str,
+    read: ReadReturns,
+}
+
+// The first of some rulebooks that is refused.
+fn first_refused<'a, 'b>(
+    books: &'a [NamedBook<'b>],
+) -> Option<(&'a NamedBook<'b>, &'a RefusedBook<'b>)>
+    ensures good { result ≡ None → All (λ b. IsGood b.read.verdict) books.now }
+    ensures refused { IfSome result (λ both. Contains books.now both.0.now × (both.0.now.read.verdict ≡ Refused both.1.now)) }
+{
+    for book in books {
+        if let Verdict::Refused(refused) = &book.read.verdict {
+            return Some((book, refused));
+        }
+    }
+    None
+}
+
+// The rulebook of a verdict, if it is good.
+fn good_book(verdict: Verdict<CheckedBook, RefusedBook<'_>>) -> Option<CheckedBook> {
+    match verdict {
+        Verdict::Good(book) => Some(book),
+        Verdict::Refused(_) => None,
+    }
+}
+
+// The good ones of some rulebooks.
+fn good_books(alloc: Global, books: Vec<NamedBook<'_>>) -> Result<Vec<Compared<'_>>, NoMemory> {
+    let mut good: Vec<Compared<'_>> = Vec::new(alloc);
+    for named in books {
+        let NamedBook { word, read } = named;
+        if let Some(book) = good_book(read.verdict) {
+            good.push(Compared { word, book })?;
+        }
+    }
+    Ok(good)
+}
+
+// Good rulebooks on good returns, side by side; the statutes of the library where none is given.
+fn comparison(
+    alloc: Global,
+    books: Vec<NamedBook<'_>>,
+    returns: &Returns,
+    full: &FullNames,
+    style: Style,
+) -> Result<Answer, NoMemory>
+    ensures { IfOk result (λ a. IsDoneOrRefused a.status) }
+{
+    if books.is_empty() {
+        return compare_statutes(alloc, returns, full, style);
+    }
+    compare_judged(alloc, good_books(alloc, books)?, returns, full, style)
+}
+
+impl<O: Outside, W: Sink, E: Sink> Terminal<O, W, E> {
+    // A rulebook: of the library if the word begins with `@`, else of the file at that path.
+    fn book_at<'a>(&self, word: &'a str) -> Result<NamedBook<'a>, Failure<'a, O::Reason>>
+        ensures book { IfOk result (λ b. (b.word.now ≡ word.now) × IsVerdictOn (O.bytes self.now.outside) word.now (tree_verdict b.read.verdict)) }
+        ensures early { IfErr result IsEarly }
+    {
+        let read = read_book(self.alloc, &mut open_book(&self.outside, word)?)?;
+        Ok(NamedBook { word, read })
+    }
+
+    fn books_at<'a>(&self, words: &[&'a str]) -> Result<Vec<NamedBook<'a>>, Failure<'a, O::Reason>>
+        ensures words { IfOk result (λ books. map (λ b. b.word.now) books.items ≡ map (λ word. word.now) words.now) }
+        ensures books { IfOk result (λ books. All (λ b. IsVerdictOn (O.bytes self.now.outside) b.word.now (tree_verdict b.read.verdict)) books.items) }
+        ensures early { IfErr result IsEarly }
+    {
+        let mut books: Vec<NamedBook<'a>> = Vec::new(self.alloc);
+        for word in words {
+            let book = self.book_at(*word)?;
+            books.push(book)?;
+        }
+        Ok(books)
+    }
+
+    fn returns_at<'a>(&self, path: &'a str) -> Result<NamedReturns<'a>, Failure<'a, O::Reason>>
+        ensures returns { IfOk result (λ r. AreJudged (O.bytes self.now.outside path.now) (election_verdict r.read.verdict)) }
+        ensures early { IfErr result IsEarly }
+    {
+        let mut file = open(&self.outside, path, Input::Returns)?;
+        let read = read_election(self.alloc, &mut file)?;
+        Ok(NamedReturns { path, read })
+    }
+
+    // Refuses a rulebook.
+    #[tactic(auto, using(crate::proofs::Deliveries::ends_early))]
+    fn refuse_book<'a>(
+        &mut self,
+        book: &NamedBook<'_>,
+        refused: &RefusedBook<'_>,
+    ) -> Result<Status, Failure<'a, O::Reason>>
+        ensures ends { Ends (λ ends _. ends ≡ status.Refused) (W.contents self.old.out) (W.contents self.new.out) result }
+        ensures silent { IfOk result (λ ends. IsSilent self.old.is_quiet ends → self.new.err ≡ self.old.err) }
+        ensures told { IfOk result (λ _. Says E.contents self.old self.new (fault (subject input.Book (book_code refused.now)))) }
+    {
+        let (alloc, text) = (self.alloc, book.read.text.as_slice());
+        let line = refused.why().line(alloc)?;
+        let status = self.write_text(Status::Refused, line.as_slice())?;
+        let file = ReadFile {
+            input: Input::Book,
+            path: book.word,
+            bytes: text,
+        };
+        let explained = explain_book(alloc, self.language, text, refused);
+        self.tell_refusal(status, file, explained);
+        Ok(status)
+    }
+
+    // Refuses returns.
+    #[tactic(auto, using(crate::proofs::Deliveries::ends_early))]
+    fn refuse_returns<'a>(
+        &mut self,
+        returns: &NamedReturns<'_>,
+        refused: &RefusedElection,
+    ) -> Result<Status, Failure<'a, O::Reason>>
+        ensures ends { Ends (λ ends _. ends ≡ status.Refused) (W.contents self.old.out) (W.contents self.new.out) result }
+        ensures silent { IfOk result (λ ends. IsSilent self.old.is_quiet ends → self.new.err ≡ self.old.err) }
+        ensures told { IfOk result (λ _. Says E.contents self.old self.new (fault (subject input.Returns (election_code refused.now)))) }
+    {
+        let (alloc, text) = (self.alloc, returns.read.text.as_slice());
+        let line = refused.why().line(alloc)?;
+        let status = self.write_text(Status::Refused, line.as_slice())?;
+        let file = ReadFile {
+            input: Input::Returns,
+            path: returns.path,
+            bytes: text,
+        };
+        let explained = explain_election(alloc, self.language, text, refused);
+        self.tell_refusal(status, file, explained);
+        Ok(status)
+    }
+
+    // Writes the sums of good returns, after a good rulebook or none, with full names; or the refusal of these.
+    #[tactic(auto, using(crate::proofs::Deliveries::ends_early))]
+    fn write_sums<'a>(
+        &mut self,
+        book: Option<&CheckedBook>,
+        election: &Returns,
+        names: Result<FullNames, Answer>,
+        style: Style,
+    ) -> Result<Status, Failure<'a, O::Reason>>
+        ensures ends { Ends (λ ends _. IsDoneOrRefused ends) (W.contents self.old.out) (W.contents self.new.out) result }
+        ensures untold { IfOk result (λ _. self.new.err ≡ self.old.err) }
+    {
+        match names {
+            Ok(full) => {
+                let book = book.map(|checked| &checked.book);
+                let answer = totals_answer(self.alloc, book, election, &full, style)?;
+                self.write_text(answer.status, answer.text.as_slice())
+            }
+            Err(refusal) => self.write_text(Status::Refused, refusal.text.as_slice()),
+        }
+    }
+
+    // Writes the sums of returns, after a good rulebook or none, or refuses the returns.
+    fn sum_up<'a>(
+        &mut self,
+        book: Option<&CheckedBook>,
+        returns: &NamedReturns<'_>,
+        names: Result<FullNames, Answer>,
+        style: Style,
+    ) -> Result<Status, Failure<'a, O::Reason>>
+        ensures ends { Ends (λ ends _. IsEndOn returns.now.read.verdict ends) (W.contents self.old.out) (W.contents self.new.out) result }
+        ensures silent { IfOk result (λ ends. IsSilent self.old.is_quiet ends → self.new.err ≡ self.old.err) }
+        ensures told { IfOk result (λ _. IsOfElection returns.now.read.verdict (Says E.contents self.old self.new)) }
+    {
+        match &returns.read.verdict {
+            Verdict::Good(election) => self.write_sums(book, election, names, style),
+            Verdict::Refused(refused) => self.refuse_returns(returns, refused),
+        }
+    }
+
+    // Adds up returns, by a rulebook that was read.
+    fn sum_up_by<'a>(
+        &mut self,
+        book: &NamedBook<'_>,
+        returns: &NamedReturns<'_>,
+        names: Result<FullNames, Answer>,
+        style: Style,
+    ) -> Result<Status, Failure<'a, O::Reason>>
+        ensures ends { Ends (λ ends _. IsEndBy book.now.read.verdict returns.now.read.verdict ends) (W.contents self.old.out) (W.contents self.new.out) result }
+        ensures silent { IfOk result (λ ends. IsSilent self.old.is_quiet ends → self.new.err ≡ self.old.err) }
+        ensures told { IfOk result (λ _. IsOfBoth book.now.read.verdict returns.now.read.verdict (Says E.contents self.old self.new)) }
+    {
+        match &book.read.verdict {
+            Verdict::Good(good) => self.sum_up(Some(good), returns, names, style),
+            Verdict::Refused(refused) => self.refuse_book(book, refused),
+        }
+    }
+
+    /// Adds up returns, with a rulebook if one is given.
+    #[tactic(auto, using(crate::proofs::Deliveries::ends_early))]
+    pub(crate) fn report_totals<'a>(
+        &mut self,
+        returns: &'a str,
+        book: Option<&'a str>,
+        writing: Writing<'a>,
+    ) -> Result<Status, Failure<'a, O::Reason>>
+        ensures ends { Ends (λ ends _. IsSummary (O.bytes self.old.outside) returns.now (given_word (option_map (λ word. word.now) book.entry)) ends)
+            (W.contents self.old.out) (W.contents self.new.out) result }
+        ensures silent { IfOk result (λ ends. IsSilent self.old.is_quiet ends → self.new.err ≡ self.old.err) }
+        ensures told { IfOk result (λ _. IsOfSums (O.bytes self.old.outside) returns.now (given_word (option_map (λ word. word.now) book.entry))
+            (Says E.contents self.old self.new)) }
+    {
+        let returns = self.returns_at(returns)?;
+        match book {
+            Some(word) => {
+                let book = self.book_at(word)?;
+                let names = self.full_names(writing.names)?;
+                self.sum_up_by(&book, &returns, names, writing.style)
+            }
+            None => {
+                let names = self.full_names(writing.names)?;
+                self.sum_up(None, &returns, names, writing.style)
+            }
+        }
+    }
+
+    // Writes good rulebooks on good returns side by side, with full names; or the refusal of these.
+    #[tactic(auto, using(crate::proofs::Deliveries::ends_early))]
+    fn write_comparison<'a>(
+        &mut self,
+        books: Vec<NamedBook<'_>>,
+        election: &Returns,
+        names: Result<FullNames, Answer>,
+        style: Style,
+    ) -> Result<Status, Failure<'a, O::Reason>>
+        ensures ends { Ends (λ ends _. IsDoneOrRefused ends) (W.contents self.old.out) (W.contents self.new.out) result }
+        ensures untold { IfOk result (λ _. TellsNothing self.old self.new) }
+    {
+        match names {
+            Ok(full) => {
+                let answer = comparison(self.alloc, books, election, &full, style)?;
+                self.write_text(answer.status, answer.text.as_slice())
+            }
+            Err(refusal) => self.write_text(Status::Refused, refusal.text.as_slice()),
+        }
+    }
+
+    // Writes rulebooks side by side, and warns of the returns; or the refusal of the names.
+    fn finish_comparison<'a>(
+        &mut self,
+        books: Vec<NamedBook<'_>>,
+        election: &Returns,
+        names: Result<FullNames, Answer>,
+        style: Style,
+    ) -> Result<Status, Failure<'a, O::Reason>>
+        ensures ends { Ends (λ ends _. IsDoneOrRefused ends) (W.contents self.old.out) (W.contents self.new.out) result }
+        ensures quiet { IfOk result (λ _. self.old.is_quiet ≡ true → self.new.err ≡ self.old.err) }
+        ensures told { IfOk result (λ _. IsOfTable election.now (Says E.contents self.old self.new)) }
+    {
+        let status = self.write_comparison(books, election, names, style)?;
+        if status == Status::Done {
+            self.warn(None, election);
+        }
+        Ok(status)
+    }
+
+    // Refuses the first of some rulebooks, if it is refused, and else the returns.
+    fn refuse_comparison<'a>(
+        &mut self,
+        books: &[NamedBook<'_>],
+        returns: &NamedReturns<'_>,
+        refused: &RefusedElection,
+    ) -> Result<Status, Failure<'a, O::Reason>>
+        ensures ends { Ends (λ ends _. ends ≡ status.Refused) (W.contents self.old.out) (W.contents self.new.out) result }
+        ensures silent { IfOk result (λ ends. IsSilent self.old.is_quiet ends → self.new.err ≡ self.old.err) }
+        ensures told { IfOk result (λ _. IsOfOneOf books.now (Refused refused.now) (Says E.contents self.old self.new)) }
+    {
+        if let Some(first) = books.first()
+            && let Verdict::Refused(why) = &first.read.verdict
+        {
+            return self.refuse_book(first, why);
+        }
+        self.refuse_returns(returns, refused)
+    }
+
+    // Puts rulebooks side by side, or refuses one of them or the returns. Before returns that are refused the first rulebook alone may be.
+    fn compare<'a>(
+        &mut self,
+        books: Vec<NamedBook<'_>>,
+        returns: &NamedReturns<'_>,
+        names: Result<FullNames, Answer>,
+        style: Style,
+    ) -> Result<Status, Failure<'a, O::Reason>>
+        ensures ends { Ends (λ ends _. IsEndOfAll books.entry.items returns.now.read.verdict ends) (W.contents self.old.out) (W.contents self.new.out) result }
+        ensures quiet { IfOk result (λ _. self.old.is_quiet ≡ true → self.new.err ≡ self.old.err) }
+        ensures done { IfOk result (λ ends. ends ≡ status.Done → OnlyWarns E.contents self.old self.new) }
+        ensures told { IfOk result (λ _. IsOfCompared books.entry.items returns.now.read.verdict (Says E.contents self.old self.new)) }
+    {
+        match &returns.read.verdict {
+            Verdict::Good(election) => match first_refused(books.as_slice()) {
+                Some((book, refused)) => self.refuse_book(book, refused),
+                None => self.finish_comparison(books, election, names, style),
+            },
+            Verdict::Refused(refused) => {
+                self.refuse_comparison(books.as_slice(), returns, refused)
+            }
+        }
+    }
+
+    /// Puts the rulebooks of some words side by side, or those of the library where there are none.
+    #[tactic(auto, using(crate::proofs::Deliveries::ends_early))]
+    pub(crate) fn report_comparison<'a>(
+        &mut self,
+        returns: &'a str,
+        books: &[&'a str],
+        writing: Writing<'a>,
+    ) -> Result<Status, Failure<'a, O::Reason>>
+        ensures ends { Ends (λ ends _. IsSummary (O.bytes self.old.outside) returns.now (map (λ word. word.now) books.now) ends)
+            (W.contents self.old.out) (W.contents self.new.out) result }
+        ensures quiet { IfOk result (λ _. self.old.is_quiet ≡ true → self.new.err ≡ self.old.err) }
+        ensures done { IfOk result (λ ends. ends ≡ status.Done → OnlyWarns E.contents self.old self.new) }
+        ensures told { IfOk result (λ _. IsOfComparison (O.bytes self.old.outside) returns.now (map (λ word. word.now) books.now) (Says E.contents self.old self.new)) }
+    {
+        let returns = self.returns_at(returns)?;
+        let books = self.books_at(books)?;
+        let names = self.full_names(writing.names)?;
+        self.compare(books, &returns, names, writing.style)
+    }
+}

@@ -1,0 +1,16 @@
+//! The command line of the program: its words, what they ask for, and the help.
+//!
+//! Stands on `sl_explain_texts`; used by the room terminal. Only tested: which request the words ask for, and the help.
+//!
+//! Where an error is `NoMemory` alone, memory ran out, and nothing else is wrong.
+#![tactic(auto)]
+
+mod command_line;
+mod help;
+mod hints;
+mod options;
+mod reports;
+
+pub use command_line::{Asked, Request, Show, request_of};
+pub use options::Options;
+pub use reports::{Report, ReportForm};

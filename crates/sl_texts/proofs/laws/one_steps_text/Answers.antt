@@ -1,5 +1,0 @@
-use Rattle.sl_texts.proofs.AnyOrder.{one_steps_text}
-use Rattle.sl_texts.proofs.laws.one_steps_text.Goals as goal
-
-pub returns : goal.returns
-returns c = one_steps_text

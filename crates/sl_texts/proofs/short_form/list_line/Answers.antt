@@ -1,7 +1,0 @@
-use Rattle.std.proofs.Common.{rules, append_assoc}
-use Rattle.std.proofs.lemmas.Option.{get_or_from_slice_get}
-use Rattle.std.proofs.lemmas.Result.{IfOk-equal}
-use Rattle.sl_texts.proofs.short_form.list_line.Goals as goal
-
-pub returns : goal.returns
-returns c = search (rules, IfOk-equal, append_assoc, get_or_from_slice_get)

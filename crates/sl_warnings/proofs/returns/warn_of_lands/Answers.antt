@@ -1,6 +1,0 @@
-use Rattle.sl_warnings.proofs.Pieces.{pieces_behind}
-use Rattle.sl_warnings.proofs.returns.warn_of_lands.Goals as goal
-use Rattle.sl_warnings.specs.Warnings.{of_land}
-
-pub loop-land-preserved : goal.loop-land-preserved
-loop-land-preserved c = pieces_behind (of_land c.args.returns.now) c.loop-land.land _ _ _ c.loop-land.invariant c.in_ok-warn_of_land.ensures
