@@ -5,7 +5,7 @@
 
 crates.txt has the crates in groups by room, the rooms in the order of ROOMS, and in each group the lowest first. A crate is named
 sl_ROOM_THING of its room, but for those of KEPT and the programs. The head comment of its src/lib.rt, or src/main.rt, says on which crates it
-stands and which rooms use it. The map has it in the table of its room, with those on which it stands. Named are the nearest crates, without
+stands and which rooms use it: those of the crates that name it and reach it by no other way, and further ones that name it. The map has it in the table of its room, with those on which it stands. Named are the nearest crates, without
 those that are reached by way of others. A line is written for each thing that is wrong; the exit status is 0 if nothing is.
 """
 import pathlib
@@ -50,18 +50,20 @@ class Listed:
         return [used for used in self.own[name] if not any(used in self.below(other) for other in self.own[name])]
 
     def users(self, name):
-        """The rooms of the crates whose nearest it is."""
-        rooms = {self.rooms[user] for user in self.uses if name in self.nearest(user)}
-        return [room for room in ROOMS if room in rooms]
+        """The rooms of the crates whose nearest it is, and those of all that use it."""
+        nearest = {self.rooms[user] for user in self.uses if name in self.nearest(user)}
+        every = {self.rooms[user] for user in self.uses if name in self.own[user]}
+        return [room for room in ROOMS if room in nearest], [room for room in ROOMS if room in every]
 
 
 def series(words):
     return words[0] if len(words) == 1 else ", ".join(words[:-1]) + " and " + words[-1]
 
 
-def place(listed, name):
-    """What the head of a crate has to say of its place."""
-    nearest, rooms = ["`%s`" % used for used in listed.nearest(name)], listed.users(name)
+def place(listed, name, said=""):
+    """What the head of a crate has to say of its place: of the rooms that use it those of the nearest users, and others if it says so."""
+    nearest, (rooms, every) = ["`%s`" % used for used in listed.nearest(name)], listed.users(name)
+    rooms = [room for room in every if room in rooms or re.search(r"used by the rooms? [^.]*\b%s\b" % room, said)]
     stands = "Stands on %s; " % (series(nearest) if nearest else "no other crate")
     return stands + ("used by the room%s %s." % ("s" * (len(rooms) > 1), series(rooms)) if rooms else "nothing stands on it.")
 
@@ -97,7 +99,8 @@ def wrong_names(listed):
 
 def wrong_heads(listed):
     for name in listed.uses:
-        wanted, said = place(listed, name), head(name)
+        said = head(name)
+        wanted = place(listed, name, said or "")
         if said is None:
             yield "crates/%s: no src/lib.rt and no src/main.rt" % name
         elif wanted not in said:

@@ -71,12 +71,21 @@ def fits(value, schema, where):
         return [f"{where}: {value!r} is no {kinds}"]
     if "enum" in schema and value not in schema["enum"]:
         return [f"{where}: {value!r} is not among {schema['enum']}"]
+    if "const" in schema and value != schema["const"]:
+        return [f"{where}: {value!r} is not {schema['const']}"]
+    if isinstance(value, (dict, list)) and not schema.get("minItems", 0) <= len(value) <= schema.get("maxProperties", len(value)):
+        return [f"{where}: has {len(value)} members"]
     if "minimum" in schema and isinstance(value, int) and value < schema["minimum"]:
         return [f"{where}: {value!r} is too small"]
     if "pattern" in schema and isinstance(value, str) and not re.search(schema["pattern"], value):
         return [f"{where}: {value!r} has another form"]
     wrong = []
+    for each in schema.get("allOf", []):
+        if not fits(value, each["if"], where):
+            wrong += fits(value, each["then"], where)
     if isinstance(value, dict):
+        allowed = schema.get("propertyNames", {}).get("enum", value)
+        wrong += [f"{where}: {name} is no name for it" for name in value if name not in allowed]
         known = schema.get("properties", {})
         wrong += [f"{where}: {name} is missing" for name in schema.get("required", []) if name not in value]
         for name, member in value.items():
@@ -110,12 +119,12 @@ def forms(*words):
     status_json, text_json = run(*words, "--json")
     status_csv, text_csv = run(*words, "--csv")
     check(status == status_json == status_csv, f"{line}: statuses differ")
-    if refused:
-        check(text == text_json == text_csv, f"{line}: refusals differ")
-        return status, text, None
     report = json.loads(text_json)
     for wrong in fits(report, SCHEMA, line)[:5]:
         check(False, wrong)
+    if refused:
+        check(text == text_csv == report["fault"] + "\n", f"{line}: refusals differ")
+        return status, text, None
     check(report["command"] == words[0] and report["status"] == status, f"{line}: command or status")
     tables = {}
     for row in csv.reader(io.StringIO(text_csv)):
@@ -136,6 +145,8 @@ def shown(value):
         return ""
     if isinstance(value, bool):
         return "yes" if value else "no"
+    if isinstance(value, list):
+        return " ".join(value)
     return str(value)
 
 

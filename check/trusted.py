@@ -22,8 +22,8 @@ CALLS = ["count", "steps", "stage", "show", "check_book", "code", "run_code", "l
 # page has for it. `stages` rests on the files of `report`.
 OTHERS = {
     ("sl_report_commands", "report"): "report",
-    ("sl_report_tables", "totals_answer"): "totals",
-    ("sl_report_commands", "compare_judged"): "compare",
+    ("sl_report_commands", "totals"): "totals",
+    ("sl_report_commands", "compare"): "compare",
     ("sl_terminal_count", "run"): "seatlaw_count",
     ("sl_terminal_commands", "run_asked"): "seatlaw",
 }

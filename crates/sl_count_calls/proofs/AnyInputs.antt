@@ -1,6 +1,7 @@
 -- What is shown of what inputs come to is what is shown of the inputs.
 use Rattle.std.proofs.Common.{◌≡◌, ◌⊎◌, ℕ, Err, IfErr, IfOk, IfSome, List, None, Ok, Option, Result, Some, if◌then◌else◌, inl, inr, is_some, refl, sym, ap, subst, ◌∙◌}
-use Rattle.sl_count_outcomes.specs.Judged.{FitsJudged, IsCounting, IsJudged, unknown_in}
+use Rattle.sl_count_outcomes.specs.Fitting.{FitsJudged}
+use Rattle.sl_count_outcomes.specs.Judged.{IsCounting, IsJudged, unknown_in}
 use Rattle.sl_count_outcomes.specs.Reading.{IsNoGoodBook as IsNone, ReadsAfter}
 use Rattle.sl_count_outcomes.specs.declared.counting.Counting.{Counting}
 use Rattle.sl_count_outcomes.specs.declared.judged.Judged.TheVariants as judged
@@ -11,7 +12,8 @@ use Rattle.sl_stages.specs.meaning.Counts.{IsMeantEnd}
 use Rattle.sl_count_calls.specs.Showing.{IsNoBookWith, IsNumbered, unknown_stage}
 use Rattle.sl_count_calls.specs.declared.answer.Answer.{Answer}
 use Rattle.sl_count_calls.specs.Shows.{IsShownOutput, ReadsBehindShown}
-use Rattle.sl_count_calls.specs.Views.{IsAnswerOf, IsFor, IsNumberedOn, IsShownOn, Suits, records_for, stage_of}
+use Rattle.sl_count_calls.specs.Suiting.{IsFor, Suits}
+use Rattle.sl_count_calls.specs.Views.{IsAnswerOf, IsNumberedOn, IsShownOn, records_for, stage_of}
 use Rattle.sl_count_calls.specs.declared.view.View.TheVariants.{Seats, Stage, Steps}
 use Rattle.sl_count_calls.specs.declared.view.View.{View}
 use Rattle.sl_count_calls.specs.inner.Texts.{IsMeant}

@@ -4,4 +4,5 @@ pub mod Showing
 pub mod Reports
 pub mod Shows
 pub mod Views
+pub mod Suiting
 pub mod inner

@@ -1,6 +1,6 @@
 -- What is shown of what inputs come to, by what is asked for (docs/output.md).
 use Rattle.std.specs.Prelude.{List, None, Option, Some, ◌≡◌, ℕ}
-use Rattle.sl_count_outcomes.specs.Judged.{FitsJudged, IsJudged}
+use Rattle.sl_count_outcomes.specs.Judged.{IsJudged}
 use Rattle.sl_count_outcomes.specs.declared.judged.Judged.{Judged}
 use Rattle.sl_stages.specs.declared.count.Records.TheVariants.{Dropped, Kept}
 use Rattle.sl_stages.specs.declared.count.Records.{Records}
@@ -27,15 +27,6 @@ records_for _ = Dropped
 abbrev pub stage_of : View → Option (List ℕ)
 stage_of (Stage name) = Some name.now
 stage_of _ = None
-
--- records that do for it: steps are shown where they are kept
-abbrev pub Suits : View → Records → Type 0
-Suits Steps r = r ≡ Kept
-Suits _ r = Unit {0}
-
--- it was made with such records
-abbrev pub IsFor : View → Judged → Type 0
-IsFor view judged = (r : Records) × Suits view r × FitsJudged r judged
 
 -- ---- a good book on good returns
 

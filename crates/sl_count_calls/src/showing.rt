@@ -3,7 +3,8 @@
 ghost use Rattle.std.specs.Prelude.{◌⊎◌, ◌≡◌, IfErr, IfOk};
 ghost use Rattle.sl_count_outcomes.specs.Judged.{IsJudged};
 ghost use Rattle.sl_count_calls.specs.Shows.{IsShownOutput, ReadsBehindShown, status_in};
-ghost use Rattle.sl_count_calls.specs.Views.{IsAnswerOf, IsFor, records_for, stage_of};
+ghost use Rattle.sl_count_calls.specs.Suiting.{IsFor};
+ghost use Rattle.sl_count_calls.specs.Views.{IsAnswerOf, records_for, stage_of};
 ghost use Rattle.sl_count_inputs.specs.Failures.{counts, counts_after};
 ghost use Rattle.sl_count_inputs.specs.Reading.{ForKnown, ReadsBook, book_failures, book_input};
 ghost use Rattle.sl_count_inputs.specs.Writing.{Delivers};

@@ -37,14 +37,21 @@ pub enum Input {
     Names,
 }
 
+impl Input {
+    /// Its word, as messages and formats have it.
+    pub fn word(self) -> &'static str {
+        match self {
+            Input::Book => "book",
+            Input::Returns => "returns",
+            Input::Code => "code",
+            Input::Names => "names",
+        }
+    }
+}
+
 impl fmt::Display for Input {
     fn fmt<W: fmt::Write>(&self, f: &mut fmt::Formatter<W>) -> fmt::Result {
-        match self {
-            Input::Book => write!(f, "book"),
-            Input::Returns => write!(f, "returns"),
-            Input::Code => write!(f, "code"),
-            Input::Names => write!(f, "names"),
-        }
+        f.write_str(self.word())
     }
 }
 

@@ -4,7 +4,6 @@ use Rattle.sl_count_outcomes.specs.declared.counting.Counting.{Counting}
 use Rattle.sl_count_outcomes.specs.declared.judged.Judged.TheVariants.{BookRefused, Counted, ReturnsRefused, StageUnknown}
 use Rattle.sl_count_outcomes.specs.declared.judged.Judged.{Judged}
 use Rattle.sl_stages.specs.meaning.Counts.{IsMeantEnd}
-use Rattle.sl_count_outcomes.specs.Outcomes.{FitsOutcome}
 use Rattle.sl_stages.specs.declared.count.Records.{Records}
 use Rattle.sl_count_inputs.specs.Books.{BookInput, IsBookVerdict}
 use Rattle.sl_count_inputs.specs.Judging.{refusal_of, returns_refusal_of}
@@ -39,9 +38,3 @@ IsJudged r asked input returns (BookRefused book) = IsBookVerdict input (Refused
 IsJudged r asked input returns (StageUnknown book name) = IsBookVerdict input (Good (book_of book.book)) × (unknown_in asked (book_of book.book) ≡ Some name.now)
 IsJudged r asked input returns judged =
     (tree : BookTree) × IsBookVerdict input (Good tree) × (unknown_in asked tree ≡ None) × IsJudgedOn r tree returns judged
-
--- whatever inputs came to it: it has these records, and its outcome fits its book and its returns, and is what the one means on the other
-abbrev pub FitsJudged : Records → Judged → Type 0
-FitsJudged r (Counted c) =
-    (c.records ≡ r) × FitsOutcome (book_of c.book.book) c.returns c.outcome × IsMeantEnd r (book_of c.book.book) c.returns c.outcome.end
-FitsJudged r _ = Unit {0}

@@ -1,5 +1,6 @@
 -- What inputs come to.
 pub mod Outcomes
 pub mod Judged
+pub mod Fitting
 pub mod Reading
 pub mod inner

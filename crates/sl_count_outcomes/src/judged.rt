@@ -1,7 +1,8 @@
 //! What two inputs come to, as a value.
 
 ghost use Rattle.std.specs.Prelude.{◌≡◌, IfOk, option_map};
-ghost use Rattle.sl_count_outcomes.specs.Judged.{FitsJudged, IsCounting, IsJudged, IsJudgedOn, unknown_in};
+ghost use Rattle.sl_count_outcomes.specs.Fitting.{FitsJudged};
+ghost use Rattle.sl_count_outcomes.specs.Judged.{IsCounting, IsJudged, IsJudgedOn, unknown_in};
 ghost use Rattle.sl_count_outcomes.specs.declared.judged.Judged.TheVariants as judged;
 ghost use Rattle.sl_count_inputs.specs.Judging.{input_of};
 ghost use Rattle.sl_stages.specs.book.Books.{book_of};

@@ -1,7 +1,8 @@
 //! What two inputs come to that are read.
 
 ghost use Rattle.std.specs.Prelude.{◌≡◌, ◌+◌, IfErr, IfOk, IfSome, option_map};
-ghost use Rattle.sl_count_outcomes.specs.Judged.{FitsJudged, IsCounting, IsJudged, IsJudgedOn};
+ghost use Rattle.sl_count_outcomes.specs.Fitting.{FitsJudged};
+ghost use Rattle.sl_count_outcomes.specs.Judged.{IsCounting, IsJudged, IsJudgedOn};
 ghost use Rattle.sl_count_outcomes.specs.declared.judged.Judged.TheVariants as judged;
 ghost use Rattle.sl_count_outcomes.specs.Reading.{ReadsAfter};
 ghost use Rattle.sl_count_inputs.specs.Failures.{counts, counts_after};

@@ -14,4 +14,3 @@ mod words;
 
 pub use code_files::{explain_budget, explain_code_bytes, explain_code_kinds, explain_long_code};
 pub use legal::{explain_legal, say_legal};
-pub use lots::lot_records;

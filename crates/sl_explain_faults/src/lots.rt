@@ -166,25 +166,6 @@ fn records(
     Ok(records)
 }
 
-/// The records of returns that decide a tie of a rulebook with stages of these names, one for each of the tied, in their order; none for
-/// another fault. In the returns they stand in the order of the lot.
-pub fn lot_records(
-    alloc: Global,
-    stages: &[&[u8]],
-    returns: &Returns,
-    fault: &LegalFault,
-) -> Result<Vec<Vec<u8>>, NoMemory> {
-    let stage = stage_name(stages, fault.stage);
-    match &fault.kind {
-        FaultKind::Tie { names, .. } => records(alloc, returns, stage, names.as_slice()),
-        FaultKind::Limit
-        | FaultKind::Short
-        | FaultKind::NoList
-        | FaultKind::Majority
-        | FaultKind::Cap => Ok(Vec::new(alloc)),
-    }
-}
-
 // Adds the records of the lots that decide a tie of these items.
 fn add_records(
     speaker: Speaker,
@@ -197,7 +178,7 @@ fn add_records(
 {
     speaker.helps(explanation, &DRAW, &[])?;
     for record in records(speaker.alloc, returns, stage, items)? {
-        explanation.remedy(record)?;
+        explanation.record(record)?;
     }
     Ok(())
 }

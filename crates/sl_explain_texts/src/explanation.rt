@@ -13,15 +13,33 @@ pub struct Span {
     pub end: usize,
 }
 
+/// What to do.
+#[derive(Drop)]
+pub enum Remedy {
+    /// A sentence.
+    Sentence(Vec<u8>),
+    /// A record that may be added to the returns.
+    Record(Vec<u8>),
+}
+
+impl Remedy {
+    /// The sentence, or the record.
+    pub fn text(&self) -> &[u8] {
+        match self {
+            Remedy::Sentence(text) | Remedy::Record(text) => text.as_slice(),
+        }
+    }
+}
+
 /// An explanation: the code of the fault that it is about, a sentence on what is wrong, the bytes of the input that it speaks of, if it speaks of
-/// any, sentences on what to do, and lines on what else there is to say of the input. An explanation of no fault of an input, as of a file that
-/// cannot be opened, has no code.
+/// any, what to do, and lines on what else there is to say of the input. An explanation of no fault of an input, as of a file that cannot be opened,
+/// has no code.
 #[derive(Drop)]
 pub struct Explanation {
     code: Option<FaultCode>,
     sentence: Vec<u8>,
     span: Option<Span>,
-    remedies: Vec<Vec<u8>>,
+    remedies: Vec<Remedy>,
     lines: Vec<Vec<u8>>,
 }
 
@@ -59,11 +77,19 @@ impl Explanation {
         }
     }
 
-    /// Adds what to do.
+    /// Adds a sentence on what to do.
     pub fn remedy(&mut self, text: Vec<u8>) -> Result<(), NoMemory>
         ensures { self.new.code ≡ self.old.code }
     {
-        self.remedies.push(text)?;
+        self.remedies.push(Remedy::Sentence(text))?;
+        Ok(())
+    }
+
+    /// Adds a record that may be added to the returns.
+    pub fn record(&mut self, text: Vec<u8>) -> Result<(), NoMemory>
+        ensures { self.new.code ≡ self.old.code }
+    {
+        self.remedies.push(Remedy::Record(text))?;
         Ok(())
     }
 
@@ -93,7 +119,7 @@ impl Explanation {
     }
 
     /// What to do.
-    pub fn remedies(&self) -> &[Vec<u8>] {
+    pub fn remedies(&self) -> &[Remedy] {
         self.remedies.as_slice()
     }
 

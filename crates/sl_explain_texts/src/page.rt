@@ -4,7 +4,7 @@ ghost use Rattle.std.specs.Prelude.{◌≡◌, IfOk};
 ghost use Rattle.sl_explain_texts.specs.Heads.{Begins, error_word, head_of};
 
 use crate::code::FaultCode;
-use crate::explanation::{Explanation, Span};
+use crate::explanation::{Explanation, Remedy, Span};
 use crate::language::{Language, Message};
 use crate::line::line_at;
 use crate::parts::{append, begins_character, from, until};
@@ -151,10 +151,17 @@ fn head_of(alloc: Global, language: Language, code: Option<FaultCode>) -> Result
     Ok(text)
 }
 
-// Sentences, a line each behind a label.
-fn write_lines(text: &mut Vec<u8>, label: &[u8], sentences: &[Vec<u8>]) -> Result<(), NoMemory> {
-    for sentence in sentences {
-        append(text, &[label, sentence.as_slice(), b"\n"])?;
+// What to do, a line each behind a label.
+fn write_remedies(text: &mut Vec<u8>, label: &[u8], remedies: &[Remedy]) -> Result<(), NoMemory> {
+    for remedy in remedies {
+        append(text, &[label, remedy.text(), b"\n"])?;
+    }
+    Ok(())
+}
+
+fn write_lines(text: &mut Vec<u8>, lines: &[Vec<u8>]) -> Result<(), NoMemory> {
+    for line in lines {
+        append(text, &[line.as_slice(), b"\n"])?;
     }
     Ok(())
 }
@@ -187,8 +194,8 @@ fn rest_of(
         write_file(&mut text, alloc, path, input, explanation.span())?;
     }
     let label = HELP.in_language(language).as_bytes();
-    write_lines(&mut text, label, explanation.remedies())?;
-    write_lines(&mut text, b"", explanation.lines())?;
+    write_remedies(&mut text, label, explanation.remedies())?;
+    write_lines(&mut text, explanation.lines())?;
     Ok(text)
 }
 

@@ -13,14 +13,15 @@ pub record AreEnds (room : ℕ) (ends : PartEnds) : Type 0 where
   pub steps : ends.seats ≤ ends.steps
   pub report : ends.steps ≤ ends.report
   pub stages : ends.report ≤ ends.stages
-  pub explanation : ends.stages ≤ ends.explanation
+  pub totals : ends.stages ≤ ends.totals
+  pub explanation : ends.totals ≤ ends.explanation
   pub within : ends.explanation ≤ room
 
 -- what is shown with a status: the texts of `count` and of `steps` with it, and no explanation of a table
 pub record AreShown (input : BookInput) (returns : List ℕ) (ends : Status) (room : List ℕ) (at : PartEnds) : Type 0 where
   pub seats : IsOutput ShowsSeats input returns ends (slice_range room 0 at.seats)
   pub steps : IsOutput ShowsSteps input returns ends (slice_range room at.seats at.steps)
-  pub explanation : ends ≡ status.Done → slice_range room at.stages at.explanation ≡ []
+  pub explanation : ends ≡ status.Done → slice_range room at.totals at.explanation ≡ []
 
 -- a number below 5 is that of a status, and what is shown with it was put into the room
 abbrev pub ShowsAll : BookInput → List ℕ → ℕ → List ℕ → PartEnds → Type 0

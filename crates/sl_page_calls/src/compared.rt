@@ -2,7 +2,7 @@
 
 use sl_desk::BookText;
 use sl_ratio::NoMemory;
-use sl_report_commands::{Answer, Named, Style, compare};
+use sl_report_commands::{Named, Style, Written, compare};
 use std::alloc::Global;
 
 // The rulebooks of words, one on each line: with `@` a statute of the library, and else the book.
@@ -22,14 +22,15 @@ fn named_books<'a>(
     Ok(books)
 }
 
-/// What comparing the returns by the rulebooks of these words answers, as JSON.
+/// What comparing the returns by the rulebooks of these words writes.
 pub(crate) fn compare_words(
     alloc: Global,
+    style: Style,
     words: &str,
     book: &[u8],
     returns: &[u8],
     names: &[u8],
-) -> Result<Answer, NoMemory> {
+) -> Result<Written, NoMemory> {
     let books = named_books(alloc, words, book)?;
-    compare(alloc, books.as_slice(), returns, Some(names), Style::JSON)
+    compare(alloc, books.as_slice(), returns, Some(names), style)
 }

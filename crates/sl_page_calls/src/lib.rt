@@ -1,6 +1,6 @@
 //! Counting, reports and explanations for a web page: calls over memory that the page hands in (docs/page.md).
 //!
-//! Stands on `sl_report_commands`, `sl_explain_calls` and `sl_explain_codes`; nothing stands on it. Proved: what each call hands over; of reports and
+//! Stands on `sl_report_commands` and `sl_explain_codes`; nothing stands on it. Proved: what each call hands over; of reports and
 //! explanations, their status and the code of the fault.
 //!
 //! Where an error is `NoMemory` alone, memory ran out, and nothing else is wrong.
@@ -35,15 +35,15 @@ use shown::{hand_parts, parts_of};
 use sl_count_outcomes::{Records, judge};
 use sl_desk::{BookSource, BookText, FromRead, compilation_of, judge_book, judge_run, run_code};
 use sl_explain_texts::FaultCode;
-use sl_report_commands::{Style, report, totals};
+use sl_report_commands::{Style, Texts, report, totals};
 use std::alloc::Global;
-use taken::{NO_MEMORY, NO_NAME, Taken, hand_answer, hand_over};
+use taken::{NO_MEMORY, NO_NAME, Taken, hand_over, hand_written};
 use told::{language_of, tell_check, tell_code, tell_count, tell_run};
 
-/// Counts the returns by the rulebook once, and shows all that comes of it: one after another in `out` the text of `count`, that of `steps`, what `report`
-/// and `stages` write as JSON with the full names of that file, and what the program writes to standard error, in German where the language is `de`, and
-/// else in English. Where each of the five ends stands in `ends`. A file of no bytes gives no names; refused names are in the parts of `report` and of
-/// `stages`, and change no status. Statuses as in `page_count`.
+/// Counts the returns by the rulebook once, and shows all that comes of it: one after another in `out` the text of `count`, that of `steps`, what `report`,
+/// `stages` and `totals` write as JSON with the full names of that file, and what the program writes to standard error of a fault, in German where the
+/// language is `de`, and else in English. Where each of the six ends stands in `ends`. A file of no bytes gives no names; refused names are in the parts
+/// of JSON, and change no status. Statuses as in `page_count`.
 #[unsafe(no_mangle)]
 pub extern "C" fn page_show(
     alloc: Global,
@@ -62,7 +62,7 @@ pub extern "C" fn page_show(
     let Ok(judged) = judge(Records::Kept, alloc, BookText::Text(book), None, returns) else {
         return NO_MEMORY;
     };
-    match parts_of(alloc, language, &judged, book, returns, names) {
+    match parts_of(alloc, language, &judged, Texts { book, returns }, names) {
         Ok(parts) => hand_parts(alloc, &parts, out, ends),
         Err(_) => NO_MEMORY,
     }
@@ -195,10 +195,12 @@ pub extern "C" fn page_run(
     hand_over(ending, taken.text.as_slice(), out, count)
 }
 
-/// The JSON of `report` for these returns, with the full names of that file; a file of no bytes gives none. Statuses as in `page_count`.
+/// The JSON of `report` for these returns in a language, as `page_show` has it, with the full names of that file; a file of no bytes gives none.
+/// Statuses as in `page_count`.
 #[unsafe(no_mangle)]
 pub extern "C" fn page_report(
     alloc: Global,
+    language: &[u8],
     book: &[u8],
     returns: &[u8],
     names: &[u8],
@@ -207,15 +209,16 @@ pub extern "C" fn page_report(
 ) -> u32
     ensures { count.new ≤ length out.new }
 {
-    let book = BookText::Text(book);
-    let answer = report(alloc, book, returns, Some(names), Style::JSON);
-    hand_answer(answer, out, count)
+    let style = Style::json(language_of(language));
+    let written = report(alloc, BookText::Text(book), returns, Some(names), style);
+    hand_written(written, out, count)
 }
 
-/// The JSON of `totals` for these returns, with a book if it has bytes, and names as in `page_report`.
+/// The JSON of `totals` for these returns, with a book if it has bytes; language and names as in `page_report`.
 #[unsafe(no_mangle)]
 pub extern "C" fn page_totals(
     alloc: Global,
+    language: &[u8],
     book: &[u8],
     returns: &[u8],
     names: &[u8],
@@ -229,15 +232,16 @@ pub extern "C" fn page_totals(
     } else {
         Some(BookText::Text(book))
     };
-    let answer = totals(alloc, book, returns, Some(names), Style::JSON);
-    hand_answer(answer, out, count)
+    let style = Style::json(language_of(language));
+    hand_written(totals(alloc, book, returns, Some(names), style), out, count)
 }
 
 /// The JSON of `compare` for these returns by rulebooks, whose words stand on a line each: a word with `@` is that of a statute of the library, and
-/// any other one that of the book. Names as in `page_report`; 7 where the words are no UTF-8.
+/// any other one that of the book. Language and names as in `page_report`; 7 where the words are no UTF-8.
 #[unsafe(no_mangle)]
 pub extern "C" fn page_compare(
     alloc: Global,
+    language: &[u8],
     words: &[u8],
     book: &[u8],
     returns: &[u8],
@@ -251,8 +255,9 @@ pub extern "C" fn page_compare(
     let Ok(words) = std::str::from_utf8(words) else {
         return NO_NAME;
     };
-    let answer = compare_words(alloc, words, book, returns, names);
-    hand_answer(answer, out, count)
+    let style = Style::json(language_of(language));
+    let written = compare_words(alloc, style, words, book, returns, names);
+    hand_written(written, out, count)
 }
 
 /// Why `check` refuses a rulebook, explained in German where the language is `de`, and else in English: the number of the status of `check`, and

@@ -16,6 +16,8 @@ pub struct PartEnds {
     pub report: usize,
     /// What `stages` writes as JSON.
     pub stages: usize,
+    /// What `totals` writes of the two as JSON.
+    pub totals: usize,
     /// Why there is no table.
     pub explanation: usize,
 }
@@ -27,6 +29,7 @@ impl PartEnds {
         steps: 0,
         report: 0,
         stages: 0,
+        totals: 0,
         explanation: 0,
     };
 }
@@ -39,6 +42,7 @@ pub(crate) struct Parts {
     pub steps: Vec<u8>,
     pub report: Vec<u8>,
     pub stages: Vec<u8>,
+    pub totals: Vec<u8>,
     pub explanation: Vec<u8>,
 }
 
@@ -65,12 +69,15 @@ impl Parts {
         let report = text.len();
         text.extend_from_slice(self.stages.as_slice())?;
         let stages = text.len();
+        text.extend_from_slice(self.totals.as_slice())?;
+        let totals = text.len();
         text.extend_from_slice(self.explanation.as_slice())?;
         let ends = PartEnds {
             seats,
             steps,
             report,
             stages,
+            totals,
             explanation: text.len(),
         };
         Ok(Joined { text, ends })

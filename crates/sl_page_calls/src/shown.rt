@@ -1,7 +1,7 @@
 //! All that is shown of a rulebook on returns: views of what they came to, handed over to the page.
 
 ghost use Rattle.std.specs.Prelude.{◌≡◌, ◌<◌, IfOk, length};
-ghost use Rattle.sl_count_outcomes.specs.Judged.{FitsJudged};
+ghost use Rattle.sl_count_outcomes.specs.Fitting.{FitsJudged};
 ghost use Rattle.sl_stages.specs.declared.count.Records.TheVariants.{Kept};
 ghost use Rattle.sl_count_inputs.specs.Statuses.{status_number};
 ghost use Rattle.sl_page_calls.specs.Showing.{AreEnds};
@@ -9,13 +9,17 @@ ghost use Rattle.sl_page_calls.specs.inner.Parts.{ArePartsOf, AreTablesOf, Hold}
 
 use crate::parts::{PartEnds, Parts};
 use crate::taken::{NO_MEMORY, put};
-use crate::told::judged_text;
+use crate::told::explanation_text;
 use sl_count_calls::{View, answer_of};
 use sl_count_outcomes::Judged;
-use sl_desk::Status;
+use sl_desk::{MAX_RETURNS_BYTES, Status};
+use sl_explain_calls::{Explained, explain_judged};
 use sl_explain_texts::Language;
 use sl_ratio::NoMemory;
-use sl_report_commands::{Answer, Show, Style, answer_judged, names_of};
+use sl_report_commands::{
+    Answer, DigestedInput, Shape, Show, Texts, Told, answer_judged, digested, digested_returns,
+    names_of, push_digested, text_of, told_of, totals_judged,
+};
 use std::alloc::Global;
 
 // The texts of `count` and of `steps`, with the status of both.
@@ -42,21 +46,84 @@ fn tables_of(alloc: Global, judged: &Judged<'_>) -> Result<Tables, NoMemory>
     })
 }
 
-// The text of an answer that shows what inputs come to, or that refuses the names.
-fn text_of(answer: Result<Answer, Answer>) -> Vec<u8> {
+// What is said in JSON beside the tables of what inputs came to.
+#[derive(Clone, Copy)]
+struct Beside<'a> {
+    inputs: &'a [DigestedInput],
+    told: Option<Told<'a>>,
+}
+
+// The JSON of the answer of a command, or of the one that refuses the names, whose line says why.
+fn json_of(
+    alloc: Global,
+    command: &'static str,
+    answer: &Result<Answer, Answer>,
+    beside: Beside<'_>,
+) -> Result<Vec<u8>, NoMemory> {
     match answer {
-        Ok(answer) => answer.text,
-        Err(refusal) => refusal.text,
+        Ok(answer) => text_of(
+            alloc,
+            command,
+            Shape::Json,
+            answer,
+            beside.inputs,
+            beside.told,
+        ),
+        Err(refusal) => text_of(alloc, command, Shape::Json, refusal, beside.inputs, None),
     }
 }
 
-/// The parts for what a rulebook and returns of these bytes came to, with the full names of that file.
+// What is said beside the totals: the digests of both inputs as far as they have bytes, and of a refusal why. A legal fault is none of theirs.
+fn beside_totals<'a>(
+    inputs: &'a [DigestedInput],
+    answer: &Result<Answer, Answer>,
+    told: Option<Told<'a>>,
+) -> Beside<'a> {
+    let is_refusal = match answer {
+        Ok(answer) => answer.status == Status::Refused,
+        Err(_) => true,
+    };
+    Beside {
+        inputs,
+        told: if is_refusal { told } else { None },
+    }
+}
+
+// The digest of returns that are not judged, if they are not too long.
+fn digested_unjudged(returns: &[u8]) -> Option<DigestedInput> {
+    if returns.len() > MAX_RETURNS_BYTES {
+        None
+    } else {
+        digested_returns(returns, None)
+    }
+}
+
+// The digests of the inputs of totals, which read the returns also after a refused rulebook.
+fn digested_totals(
+    alloc: Global,
+    judged: &Judged<'_>,
+    texts: Texts<'_>,
+) -> Result<Vec<DigestedInput>, NoMemory> {
+    let mut inputs = digested(alloc, judged, texts)?;
+    if let Judged::BookRefused(_) = judged {
+        push_digested(&mut inputs, digested_unjudged(texts.returns))?;
+    }
+    Ok(inputs)
+}
+
+// What is told of an explanation of a fault of one of these texts.
+fn told_of_texts<'a>(explained: &'a Option<Explained>, texts: Texts<'a>) -> Option<Told<'a>> {
+    explained
+        .as_ref()
+        .map(|explained| told_of(explained, texts.of(explained.input)))
+}
+
+/// The parts for what a rulebook and returns of these texts came to, with the full names of that file.
 pub(crate) fn parts_of(
     alloc: Global,
     language: Language,
     judged: &Judged<'_>,
-    book: &[u8],
-    returns: &[u8],
+    texts: Texts<'_>,
     names: &[u8],
 ) -> Result<Parts, NoMemory>
     requires { FitsJudged Kept judged.now }
@@ -64,16 +131,25 @@ pub(crate) fn parts_of(
 {
     let tables = tables_of(alloc, judged)?;
     let names = names_of(alloc, Some(names))?;
-    let report = answer_judged(alloc, Show::Report, judged, &names, Style::JSON)?;
-    let stages = answer_judged(alloc, Show::Stages, judged, &names, Style::JSON)?;
-    let explanation = judged_text(alloc, language, judged, book, returns)?;
+    let inputs = digested(alloc, judged, texts)?;
+    let explained = explain_judged(alloc, language, judged, texts.book, texts.returns)?;
+    let beside = Beside {
+        inputs: inputs.as_slice(),
+        told: told_of_texts(&explained, texts),
+    };
+    let report = answer_judged(alloc, Show::Report, judged, &names, language)?;
+    let stages = answer_judged(alloc, Show::Stages, judged, &names, language)?;
+    let totals = totals_judged(alloc, judged, &names, language)?;
+    let summed = digested_totals(alloc, judged, texts)?;
+    let also = beside_totals(summed.as_slice(), &totals, beside.told);
     Ok(Parts {
         status: tables.status,
         seats: tables.seats,
         steps: tables.steps,
-        report: text_of(report),
-        stages: text_of(stages),
-        explanation,
+        report: json_of(alloc, "report", &report, beside)?,
+        stages: json_of(alloc, "stages", &stages, beside)?,
+        totals: json_of(alloc, "totals", &totals, also)?,
+        explanation: explanation_text(alloc, language, judged, &explained, texts)?,
     })
 }
 

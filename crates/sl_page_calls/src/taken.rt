@@ -5,7 +5,7 @@ ghost use Rattle.sl_count_inputs.specs.Statuses.{status_number};
 
 use sl_desk::{DeskError, Failed, Sink, Status};
 use sl_ratio::NoMemory;
-use sl_report_commands::Answer;
+use sl_report_commands::Written;
 use std::alloc::Global;
 
 /// What an export answers where memory ran out.
@@ -89,17 +89,20 @@ pub(crate) fn hand_over(
     put(status.number(), written, out, count)
 }
 
-/// Puts what a report answers, with its status. Where memory ran out it answers `NO_MEMORY`, and `count` is 0.
-pub(crate) fn hand_answer(
-    answer: Result<Answer, NoMemory>,
+/// Puts what a command that reports writes, with its status. Where memory ran out it answers `NO_MEMORY`, and `count` is 0.
+pub(crate) fn hand_written(
+    written: Result<Written, NoMemory>,
     out: &mut [u8],
     count: &mut usize,
 ) -> u32
     ensures { count.new ≤ length out.new }
 {
     *count = 0;
-    match answer {
-        Ok(answer) => put(answer.status.number(), answer.text.as_slice(), out, count),
+    match written {
+        Ok(written) => {
+            let status = written.answer.status.number();
+            put(status, written.text.as_slice(), out, count)
+        }
         Err(_) => NO_MEMORY,
     }
 }

@@ -1,6 +1,7 @@
 //! Explanations, as the program writes them, handed over to the page.
 
-ghost use Rattle.std.specs.Prelude.{◌≡◌, ◌<◌, ◌≤◌, [], IfOk, None, length, take};
+ghost use Rattle.std.specs.Prelude.{◌≡◌, ◌<◌, ◌≤◌, [], IfOk, None, length, option_map, take};
+ghost use Rattle.sl_explain_calls.specs.Codes.{judged_subject, subject_of};
 ghost use Rattle.sl_count_inputs.specs.Statuses.{status_number};
 ghost use Rattle.sl_count_inputs.specs.declared.status.Status.TheVariants as status;
 ghost use Rattle.sl_page_calls.specs.Telling.{Explains, check_status, ending_status, run_status, word_status};
@@ -15,6 +16,7 @@ use sl_explain_codes::text_about;
 use sl_explain_texts::{FaultCode, Language, written};
 use sl_machine::Ending;
 use sl_ratio::NoMemory;
+use sl_report_commands::Texts;
 use std::alloc::Global;
 
 /// The language of a word: German for `de`, and English for any other.
@@ -85,11 +87,11 @@ fn file_of<'a>(input: Input, counting: &'a [u8], returns: &'a [u8]) -> (&'static
 fn told_text(
     alloc: Global,
     language: Language,
-    told: Option<Explained>,
+    told: &Option<Explained>,
     counting: &[u8],
     returns: &[u8],
 ) -> Result<Vec<u8>, NoMemory>
-    ensures { IfOk result (λ text. told ≡ None → text.items ≡ []) }
+    ensures { IfOk result (λ text. told.now ≡ None → text.items ≡ []) }
 {
     match told {
         None => Ok(Vec::new(alloc)),
@@ -100,18 +102,31 @@ fn told_text(
     }
 }
 
-/// What the program writes to standard error for what a rulebook and returns of these bytes come to; nothing where that is a table.
-pub(crate) fn judged_text(
+/// What the program writes to standard error of what was explained of a rulebook and returns of these texts; nothing where they come to a table.
+pub(crate) fn explanation_text(
     alloc: Global,
     language: Language,
     judged: &Judged<'_>,
-    book: &[u8],
-    returns: &[u8],
+    explained: &Option<Explained>,
+    texts: Texts<'_>,
+) -> Result<Vec<u8>, NoMemory>
+    requires { option_map subject_of explained.now ≡ judged_subject judged.now }
+    ensures { IfOk result (λ text. judged_status judged.now ≡ status.Done → text.items ≡ []) }
+{
+    told_text(alloc, language, explained, texts.book, texts.returns)
+}
+
+// What the program writes to standard error for what a rulebook and returns of these bytes come to.
+fn judged_text(
+    alloc: Global,
+    language: Language,
+    judged: &Judged<'_>,
+    texts: Texts<'_>,
 ) -> Result<Vec<u8>, NoMemory>
     ensures { IfOk result (λ text. judged_status judged.now ≡ status.Done → text.items ≡ []) }
 {
-    let told = explain_judged(alloc, language, judged, book, returns)?;
-    told_text(alloc, language, told, book, returns)
+    let explained = explain_judged(alloc, language, judged, texts.book, texts.returns)?;
+    explanation_text(alloc, language, judged, &explained, texts)
 }
 
 // What the program writes to standard error for a judged rulebook of this text; nothing where it is good.
@@ -124,7 +139,7 @@ fn verdict_text(
     ensures { IfOk result (λ told. check_status book.now ≡ status.Done → told.items ≡ []) }
 {
     let told = explain_verdict(alloc, language, text, book)?;
-    told_text(alloc, language, told, text, b"")
+    told_text(alloc, language, &told, text, b"")
 }
 
 // What the program writes to standard error for what a code file and returns came to; nothing where that is a table.
@@ -133,7 +148,7 @@ fn run_text(alloc: Global, language: Language, read: &ReadRun) -> Result<Vec<u8>
 {
     let told = explain_run(alloc, language, read)?;
     let file = read.file.as_slice();
-    let text = told_text(alloc, language, told, file, read.returns.as_slice())?;
+    let text = told_text(alloc, language, &told, file, read.returns.as_slice())?;
     Ok(text)
 }
 
@@ -171,7 +186,7 @@ pub(crate) fn tell_count(
     ensures within { count.new ≤ length out.new }
 {
     *count = 0;
-    match judged_text(alloc, language, judged, book, returns) {
+    match judged_text(alloc, language, judged, Texts { book, returns }) {
         Ok(text) => put(judged_status(judged).number(), text.as_slice(), out, count),
         Err(_) => NO_MEMORY,
     }

@@ -2,3 +2,5 @@
 pub mod Statuses
 pub mod Reports
 pub mod Compared
+pub mod Summaries
+pub mod inner

@@ -5,7 +5,7 @@ ghost use Rattle.std.specs.Result.{is_ok};
 ghost use Rattle.sl_report_forms.specs.Tables.{table_of};
 ghost use Rattle.sl_report_tables.specs.Ends.{end_status};
 ghost use Rattle.sl_report_tables.specs.Reports.{Shows};
-ghost use Rattle.sl_count_outcomes.specs.Judged.{FitsJudged};
+ghost use Rattle.sl_count_outcomes.specs.Fitting.{FitsJudged};
 ghost use Rattle.sl_stages.specs.meaning.Counts.{IsMeantEnd};
 ghost use Rattle.sl_count_outcomes.specs.Outcomes.{FitsEnd, FitsOutcome};
 ghost use Rattle.sl_stages.specs.declared.count.Records.TheVariants.{Kept};
@@ -13,12 +13,15 @@ ghost use Rattle.sl_count_inputs.specs.Judging.{input_of};
 ghost use Rattle.sl_count_inputs.specs.declared.status.Status.TheVariants as status;
 ghost use Rattle.sl_report_commands.specs.Reports.{IsReport, ShowsJudged};
 ghost use Rattle.sl_report_commands.specs.Statuses.{judged_status};
+ghost use Rattle.sl_report_commands.specs.Summaries.{IsRefusal};
 ghost use Rattle.sl_stages.specs.book.Books.{book_of};
 
+use crate::written::{Style, Texts, Written, bytes_of, judged_text};
 use sl_count_inputs::{BookText, refused};
 use sl_count_outcomes::{Counting, End, Judged, Outcome, Records, judge};
+use sl_explain_texts::Language;
 use sl_ratio::NoMemory;
-use sl_report_tables::{Answer, FullNames, Show, Style, count_answer, names_of};
+use sl_report_tables::{Answer, FullNames, Show, count_answer, names_of};
 use sl_stages::{CheckedBook, Returns};
 use sl_table::fault_text;
 use std::alloc::Global;
@@ -41,7 +44,7 @@ pub fn answer_count(
     returns: &Returns,
     outcome: &Outcome,
     full: &FullNames,
-    style: Style,
+    language: Language,
 ) -> Result<Answer, NoMemory>
     requires meant { IsMeantEnd Kept (book_of book.now.book) returns.now outcome.now.end }
     requires fits { FitsOutcome (book_of book.now.book) returns.now outcome.now }
@@ -56,9 +59,27 @@ pub fn answer_count(
         returns,
         full,
         &outcome.end,
-        line.as_slice(),
-        style,
+        line,
+        language,
     )
+}
+
+/// The same refusal once more.
+pub(crate) fn again(alloc: Global, refusal: &Answer) -> Result<Answer, NoMemory>
+    ensures { IfOk result (λ a. IsRefusal a.status (map table_of a.sheets.items)) }
+{
+    let line = Vec::from_slice(alloc, refusal.line.as_slice())?;
+    Ok(Answer::refused(alloc, line))
+}
+
+/// The line that refuses inputs; of a count none.
+pub(crate) fn refusal_line(alloc: Global, judged: &Judged<'_>) -> Result<Vec<u8>, NoMemory> {
+    match judged {
+        Judged::BookRefused(book) => book.why().line(alloc),
+        Judged::ReturnsRefused(returns) => returns.why().line(alloc),
+        Judged::StageUnknown(_, name) => refused(alloc, b"stage", name.as_bytes()),
+        Judged::Counted(_) => Ok(Vec::new(alloc)),
+    }
 }
 
 // The answer that shows a count with the full names of a text, or that which refuses these names.
@@ -67,7 +88,7 @@ fn named_answer(
     show: Show,
     counting: &Counting,
     names: &Result<FullNames, Answer>,
-    style: Style,
+    language: Language,
 ) -> Result<Result<Answer, Answer>, NoMemory>
     requires meant { IsMeantEnd Kept (book_of counting.now.book.book) counting.now.returns counting.now.outcome.end }
     requires fits { FitsOutcome (book_of counting.now.book.book) counting.now.returns counting.now.outcome }
@@ -83,12 +104,9 @@ fn named_answer(
             &counting.returns,
             &counting.outcome,
             full,
-            style,
+            language,
         )?)),
-        Err(refusal) => {
-            let line = Vec::from_slice(alloc, refusal.text.as_slice())?;
-            Ok(Err(Answer::refused(alloc, line)))
-        }
+        Err(refusal) => Ok(Err(again(alloc, refusal)?)),
     }
 }
 
@@ -99,7 +117,7 @@ pub fn answer_judged(
     show: Show,
     judged: &Judged<'_>,
     names: &Result<FullNames, Answer>,
-    style: Style,
+    language: Language,
 ) -> Result<Result<Answer, Answer>, NoMemory>
     requires fits { FitsJudged Kept judged.now }
     ensures shown { IfOk result (λ r. IfOk r (λ a. a.status ≡ judged_status judged.now)) }
@@ -107,20 +125,14 @@ pub fn answer_judged(
     ensures refused { IfOk result (λ r. IfErr r (λ a. (is_ok names.now ≡ false) × (a.status ≡ status.Refused) × (map table_of a.sheets.items ≡ []))) }
 {
     match judged {
-        Judged::Counted(counting) => named_answer(alloc, show, counting, names, style),
-        Judged::BookRefused(book) => Ok(Ok(Answer::refused(alloc, book.why().line(alloc)?))),
-        Judged::ReturnsRefused(returns) => Ok(Ok(Answer::refused(
-            alloc,
-            returns.why().line(alloc)?,
-        ))),
-        Judged::StageUnknown(_, name) => Ok(Ok(Answer::refused(
-            alloc,
-            refused(alloc, b"stage", name.as_bytes())?,
-        ))),
+        Judged::Counted(counting) => named_answer(alloc, show, counting, names, language),
+        Judged::BookRefused(_) | Judged::StageUnknown(_, _) | Judged::ReturnsRefused(_) => {
+            Ok(Ok(Answer::refused(alloc, refusal_line(alloc, judged)?)))
+        }
     }
 }
 
-// What a command on one book answers.
+// What a command on one book answers, and its text.
 fn one_book(
     alloc: Global,
     show: Show,
@@ -128,14 +140,20 @@ fn one_book(
     returns: &[u8],
     names: Option<&[u8]>,
     style: Style,
-) -> Result<Answer, NoMemory>
-    ensures { IfOk result (λ a. IsReport show (is_some names.entry) (input_of book.entry) returns.now a.status (map table_of a.sheets.items)) }
+) -> Result<Written, NoMemory>
+    ensures { IfOk result (λ w. IsReport show (is_some names.entry) (input_of book.entry) returns.now w.answer.status (map table_of w.answer.sheets.items)) }
 {
     let names = names_of(alloc, names)?;
     let judged = judge(Records::Kept, alloc, book, None, returns)?;
-    match answer_judged(alloc, show, &judged, &names, style)? {
-        Ok(answer) => Ok(answer),
-        Err(refusal) => Ok(refusal),
+    let answer = answer_judged(alloc, show, &judged, &names, style.language)?;
+    let texts = Texts {
+        book: bytes_of(book),
+        returns,
+    };
+    let text = judged_text(alloc, show, &answer, &judged, texts, style)?;
+    match answer {
+        Ok(answer) => Ok(Written { answer, text }),
+        Err(answer) => Ok(Written { answer, text }),
     }
 }
 
@@ -146,8 +164,8 @@ pub fn report(
     returns: &[u8],
     names: Option<&[u8]>,
     style: Style,
-) -> Result<Answer, NoMemory>
-    ensures { IfOk result (λ a. IsReport Show.Report (is_some names.entry) (input_of book.entry) returns.now a.status (map table_of a.sheets.items)) }
+) -> Result<Written, NoMemory>
+    ensures { IfOk result (λ w. IsReport Show.Report (is_some names.entry) (input_of book.entry) returns.now w.answer.status (map table_of w.answer.sheets.items)) }
 {
     one_book(alloc, Show::Report, book, returns, names, style)
 }
@@ -159,8 +177,8 @@ pub fn stages(
     returns: &[u8],
     names: Option<&[u8]>,
     style: Style,
-) -> Result<Answer, NoMemory>
-    ensures { IfOk result (λ a. IsReport Show.Stages (is_some names.entry) (input_of book.entry) returns.now a.status (map table_of a.sheets.items)) }
+) -> Result<Written, NoMemory>
+    ensures { IfOk result (λ w. IsReport Show.Stages (is_some names.entry) (input_of book.entry) returns.now w.answer.status (map table_of w.answer.sheets.items)) }
 {
     one_book(alloc, Show::Stages, book, returns, names, style)
 }

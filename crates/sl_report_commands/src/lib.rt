@@ -1,7 +1,7 @@
 //! The commands that report, from bytes or from what they come to: of one count, of all stages, of several rulebooks side by side, and of the totals
 //! of returns. Each input is judged once, and each book is run once.
 //!
-//! Stands on `sl_report_tables` and `sl_count_outcomes`; used by the rooms terminal and page. Proved: the status and the
+//! Stands on `sl_report_tables` and `sl_explain_calls`; used by the rooms terminal and page. Proved: the status and the
 //! tables are those of what the inputs come to.
 //!
 //! Where an error is `NoMemory` alone, memory ran out, and nothing else is wrong.
@@ -10,11 +10,15 @@
 mod comparison;
 mod counts;
 mod sums;
+mod written;
 
 pub use comparison::{Compared, Named, compare, compare_judged, compare_statutes};
 pub use counts::{answer_count, answer_judged, report, stages};
 pub use sl_explain_texts::Language;
-pub use sl_report_tables::{
-    Answer, FullNames, MAX_NAMES_BYTES, Shape, Show, Style, names_in, names_of,
+pub use sl_report_forms::{DigestedInput, Told};
+pub use sl_report_tables::{Answer, FullNames, MAX_NAMES_BYTES, Shape, Show, names_in, names_of};
+pub use sums::{BookVerdict, ReturnsVerdict, totals, totals_answer, totals_judged};
+pub use written::{
+    Style, Texts, Written, bytes_of, digested, digested_book, digested_returns, judged_text,
+    push_digested, refusal_of, text_of, told_of,
 };
-pub use sums::{totals, totals_answer};

@@ -1,55 +1,199 @@
 //! The command that adds up returns: `totals`.
 
-use sl_count_inputs::{BookText, Verdict, judge_book, judge_returns};
+ghost use Rattle.std.specs.Prelude.{◌≡◌, IfErr, IfOk, false, is_some, map, option_map};
+ghost use Rattle.std.specs.Result.{is_ok};
+ghost use Rattle.sl_count_inputs.specs.Judging.{input_of};
+ghost use Rattle.sl_report_commands.specs.Summaries.{IsRefusal, IsTotals, IsTotalsOfJudged};
+ghost use Rattle.sl_report_commands.specs.inner.Answered.{IsJudgedBook, IsNamedTotals, IsTotalsBy, IsTotalsOn};
+ghost use Rattle.sl_report_forms.specs.Tables.{table_of};
+
+use crate::counts::{again, refusal_line};
+use crate::written::{
+    Reason, Reasoned, Style, Texts, Written, bytes_of, digested_book, digested_returns,
+    push_digested, refusal_of, text_of,
+};
+use sl_count_inputs::{BookText, RefusedBook, RefusedElection, Verdict, judge_book, judge_returns};
+use sl_count_outcomes::Judged;
+use sl_explain_texts::Language;
 use sl_ratio::NoMemory;
+use sl_report_forms::DigestedInput;
 pub use sl_report_tables::totals_answer;
-use sl_report_tables::{Answer, Style, names_of};
-use sl_stages::{CheckedBook, Returns};
+use sl_report_tables::{Answer, FullNames, names_of};
+use sl_stages::{Book, CheckedBook, Returns};
 use std::alloc::Global;
 
-// The totals of good returns, with a good book if one is given.
+/// What a rulebook comes to.
+pub type BookVerdict<'a> = Verdict<CheckedBook, RefusedBook<'a>>;
+
+/// What returns come to.
+pub type ReturnsVerdict = Verdict<Returns, RefusedElection>;
+
+// The totals of good returns, with a good book if one is given, and with the full names of a text; or the answer that refuses these.
 fn named_totals(
     alloc: Global,
-    book: Option<&CheckedBook>,
+    book: Option<&Book>,
     returns: &Returns,
     names: Option<&[u8]>,
-    style: Style,
-) -> Result<Answer, NoMemory> {
-    let book = book.map(|checked| &checked.book);
+    language: Language,
+) -> Result<Answer, NoMemory>
+    ensures { IfOk result (λ a. IsNamedTotals (is_some names.entry) (option_map (λ b. b.now) book.entry) returns.now a.status (map table_of a.sheets.items)) }
+{
     match names_of(alloc, names)? {
-        Ok(full) => totals_answer(alloc, book, returns, &full, style),
+        Ok(full) => Ok(totals_answer(alloc, book, returns, &full, language)?),
         Err(refused) => Ok(refused),
     }
 }
 
-// The totals of returns, with a good book if one is given.
-fn good_totals(
+// The totals of returns of these bytes, with a good book if one is given.
+fn totals_on<'a>(
     alloc: Global,
-    book: Option<&CheckedBook>,
-    returns: &[u8],
+    book: Option<&Book>,
+    returns: &ReturnsVerdict,
+    bytes: &'a [u8],
     names: Option<&[u8]>,
-    style: Style,
-) -> Result<Answer, NoMemory> {
-    match judge_returns(alloc, returns)? {
-        Verdict::Good(returns) => named_totals(alloc, book, &returns, names, style),
-        Verdict::Refused(refused) => Ok(Answer::refused(alloc, refused.why().line(alloc)?)),
+    language: Language,
+) -> Result<Reasoned<'a>, NoMemory>
+    ensures { IfOk result (λ r. IsTotalsOn (is_some names.entry) (option_map (λ b. b.now) book.entry) returns.now r.answer.status (map table_of r.answer.sheets.items)) }
+{
+    match returns {
+        Verdict::Good(returns) => Ok(Reasoned {
+            answer: named_totals(alloc, book, returns, names, language)?,
+            reason: None,
+        }),
+        Verdict::Refused(refused) => Reasoned::refused_returns(alloc, language, bytes, refused),
     }
 }
 
-/// The totals of returns, and with a book who takes part by it. Inputs that `count` refuses are refused by the same line; nothing is counted, so
-/// there is no legal fault.
+// The totals of returns, with a book if one is given, of these texts.
+fn totals_by<'a>(
+    alloc: Global,
+    book: &Option<BookVerdict<'_>>,
+    returns: &ReturnsVerdict,
+    texts: Texts<'a>,
+    names: Option<&[u8]>,
+    language: Language,
+) -> Result<Reasoned<'a>, NoMemory>
+    ensures { IfOk result (λ r. IsTotalsBy (is_some names.entry) book.now returns.now r.answer.status (map table_of r.answer.sheets.items)) }
+{
+    match book {
+        None => totals_on(alloc, None, returns, texts.returns, names, language),
+        Some(Verdict::Good(checked)) => {
+            totals_on(
+                alloc,
+                Some(&checked.book),
+                returns,
+                texts.returns,
+                names,
+                language,
+            )
+        }
+        Some(Verdict::Refused(refused)) => {
+            Reasoned::refused_book(alloc, language, texts.book, refused)
+        }
+    }
+}
+
+/// The totals of what inputs of a count come to: of good ones with the full names of a text, or the answer that refuses these; else that which refuses
+/// one of them.
+pub fn totals_judged(
+    alloc: Global,
+    judged: &Judged<'_>,
+    names: &Result<FullNames, Answer>,
+    language: Language,
+) -> Result<Result<Answer, Answer>, NoMemory>
+    ensures shown { IfOk result (λ r. IfOk r (λ a. IsTotalsOfJudged judged.now a.status (map table_of a.sheets.items))) }
+    ensures refused { IfOk result (λ r. IfErr r (λ a. (is_ok names.now ≡ false) × IsRefusal a.status (map table_of a.sheets.items))) }
+{
+    match judged {
+        Judged::Counted(counting) => match names {
+            Ok(full) => {
+                let book = Some(&counting.book.book);
+                Ok(Ok(totals_answer(alloc, book, &counting.returns, full, language)?))
+            }
+            Err(refusal) => Ok(Err(again(alloc, refusal)?)),
+        },
+        Judged::BookRefused(_) | Judged::StageUnknown(_, _) | Judged::ReturnsRefused(_) => {
+            Ok(Ok(Answer::refused(alloc, refusal_line(alloc, judged)?)))
+        }
+    }
+}
+
+// The digests of a book, if one is given, and of returns, as far as they have bytes.
+fn digested_totals(
+    alloc: Global,
+    book: Option<&BookVerdict<'_>>,
+    returns: &ReturnsVerdict,
+    texts: Texts<'_>,
+) -> Result<Vec<DigestedInput>, NoMemory> {
+    let mut inputs = Vec::new(alloc);
+    if let Some(verdict) = book {
+        push_digested(
+            &mut inputs,
+            digested_book(None, texts.book, refusal_of(verdict)),
+        )?;
+    }
+    push_digested(
+        &mut inputs,
+        digested_returns(texts.returns, refusal_of(returns)),
+    )?;
+    Ok(inputs)
+}
+
+// What a book comes to, if one is given.
+fn judged_book<'a>(
+    alloc: Global,
+    book: Option<BookText<'a>>,
+) -> Result<Option<BookVerdict<'a>>, NoMemory>
+    ensures { IfOk result (λ v. IsJudgedBook (option_map input_of book.entry) v) }
+{
+    match book {
+        Some(book) => Ok(Some(judge_book(alloc, book)?)),
+        None => Ok(None),
+    }
+}
+
+// The bytes of a book, if one is given, and of returns.
+fn texts_of<'a>(book: Option<BookText<'a>>, returns: &'a [u8]) -> Texts<'a> {
+    match book {
+        Some(book) => Texts {
+            book: bytes_of(book),
+            returns,
+        },
+        None => Texts { book: b"", returns },
+    }
+}
+
+/// The totals of returns, and with a book who takes part by it. Inputs that `count` refuses are refused by the same line, a book before returns;
+/// nothing is counted, so there is no legal fault.
 pub fn totals(
     alloc: Global,
     book: Option<BookText<'_>>,
     returns: &[u8],
     names: Option<&[u8]>,
     style: Style,
-) -> Result<Answer, NoMemory> {
-    let Some(text) = book else {
-        return good_totals(alloc, None, returns, names, style);
-    };
-    match judge_book(alloc, text)? {
-        Verdict::Good(checked) => good_totals(alloc, Some(&checked), returns, names, style),
-        Verdict::Refused(refused) => Ok(Answer::refused(alloc, refused.why().line(alloc)?)),
-    }
+) -> Result<Written, NoMemory>
+    ensures { IfOk result (λ w. IsTotals (is_some names.entry) (option_map input_of book.entry) returns.now w.answer.status (map table_of w.answer.sheets.items)) }
+{
+    let texts = texts_of(book, returns);
+    let book = judged_book(alloc, book)?;
+    let returns = judge_returns(alloc, returns)?;
+    let inputs = digested_totals(alloc, book.as_ref(), &returns, texts)?;
+    let Reasoned { answer, reason } = totals_by(
+        alloc,
+        &book,
+        &returns,
+        texts,
+        names,
+        style.language,
+    )?;
+    let told = reason.as_ref().map(Reason::told);
+    let text = text_of(
+        alloc,
+        "totals",
+        style.shape,
+        &answer,
+        inputs.as_slice(),
+        told,
+    )?;
+    Ok(Written { answer, text })
 }

@@ -15,6 +15,7 @@ content_of (cell.Text words) = a_text
 content_of (cell.Number n) = a_number n
 content_of (cell.Word key shown) = a_text
 content_of (cell.Flag is shown) = a_flag is
+content_of (cell.Names keys shown) = a_text
 
 -- a number, and nothing where none is known
 abbrev pub known : Option ℕ → Content

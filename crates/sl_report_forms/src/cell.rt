@@ -13,6 +13,20 @@ pub enum Cell {
     Word { key: String, shown: String },
     /// A flag, and the word for it that a person reads.
     Flag { is: bool, shown: &'static str },
+    /// Names, at least one: each as programs know it, and all as a person reads them.
+    Names { keys: Vec<String>, shown: String },
+}
+
+// Names separated by blanks, as none of them has one.
+fn listed(alloc: Global, names: &[String]) -> Result<String, NoMemory> {
+    let mut text = String::new(alloc);
+    for name in names {
+        if !text.is_empty() {
+            text.push(' ')?;
+        }
+        text.push_str(name.as_str())?;
+    }
+    Ok(text)
 }
 
 impl Cell {
@@ -22,6 +36,7 @@ impl Cell {
             Cell::Word { key, .. } => Ok(String::from_str(alloc, key.as_str())?),
             Cell::Flag { is: true, .. } => Ok(String::from_str(alloc, "yes")?),
             Cell::Flag { is: false, .. } => Ok(String::from_str(alloc, "no")?),
+            Cell::Names { keys, .. } => listed(alloc, keys.as_slice()),
             Cell::Empty | Cell::Text(_) | Cell::Number(_) => self.shown(alloc),
         }
     }
@@ -32,7 +47,9 @@ impl Cell {
             Cell::Empty => Ok(String::new(alloc)),
             Cell::Text(text) => Ok(String::from_str(alloc, text.as_str())?),
             Cell::Number(number) => Ok(number.to_string(alloc)?),
-            Cell::Word { shown, .. } => Ok(String::from_str(alloc, shown.as_str())?),
+            Cell::Word { shown, .. } | Cell::Names { shown, .. } => {
+                Ok(String::from_str(alloc, shown.as_str())?)
+            }
             Cell::Flag { shown, .. } => Ok(String::from_str(alloc, shown)?),
         }
     }

@@ -1,13 +1,20 @@
 //! Sheets as JSON: an object for each row, in one array for each key.
 
 use crate::cell::Cell;
+use crate::heading::Heading;
+use crate::json_heading::put_heading;
+use crate::json_values::text_value;
 use crate::sheet::{Head, Sheet};
 use serde_json::{Map, Number, Value, push, put};
 use sl_base_no_memory::NoMemory;
 use std::alloc::Global;
 
-fn text_value(alloc: Global, text: &str) -> Result<Value, NoMemory> {
-    Ok(Value::String(String::from_str(alloc, text)?))
+fn names_value(alloc: Global, names: &[String]) -> Result<Value, NoMemory> {
+    let mut values: Vec<Value> = Vec::new(alloc);
+    for name in names {
+        push(&mut values, text_value(alloc, name.as_str())?)?;
+    }
+    Ok(Value::Array(values))
 }
 
 fn cell_value(alloc: Global, cell: &Cell) -> Result<Value, NoMemory> {
@@ -17,6 +24,7 @@ fn cell_value(alloc: Global, cell: &Cell) -> Result<Value, NoMemory> {
         Cell::Number(number) => Ok(Value::Number(Number::from(*number))),
         Cell::Word { key, .. } => text_value(alloc, key.as_str()),
         Cell::Flag { is, .. } => Ok(Value::Bool(*is)),
+        Cell::Names { keys, .. } => names_value(alloc, keys.as_slice()),
     }
 }
 
@@ -63,38 +71,6 @@ fn tables(alloc: Global, sheets: &[Sheet]) -> Result<Value, NoMemory> {
     Ok(Value::Object(tables))
 }
 
-// A text, or null.
-fn maybe_text(alloc: Global, text: Option<&str>) -> Result<Value, NoMemory> {
-    match text {
-        Some(text) => text_value(alloc, text),
-        None => Ok(Value::Null),
-    }
-}
-
-fn put_text(
-    alloc: Global,
-    members: &mut Map<String, Value>,
-    key: &str,
-    text: Option<&str>,
-) -> Result<(), NoMemory> {
-    put(members, alloc, key, maybe_text(alloc, text)?)?;
-    Ok(())
-}
-
-// Adds the command, its status and its fault.
-fn put_ending(
-    alloc: Global,
-    members: &mut Map<String, Value>,
-    command: &str,
-    status: u8,
-    line: Option<&str>,
-) -> Result<(), NoMemory> {
-    put_text(alloc, members, "command", Some(command))?;
-    let status = Value::Number(Number::from(status));
-    put(members, alloc, "status", status)?;
-    put_text(alloc, members, "fault", line)
-}
-
 // The text of a value, as a line.
 fn line_of(alloc: Global, value: &Value) -> Result<String, NoMemory> {
     let mut text = value.to_string(alloc)?;
@@ -102,16 +78,17 @@ fn line_of(alloc: Global, value: &Value) -> Result<String, NoMemory> {
     Ok(text)
 }
 
-/// Sheets as the JSON of a command that ends with a status, and with a line of a legal fault if it has one (docs/report.schema.json).
+/// Sheets as the JSON of a command that ends with a status, and with the line of a refusal or of a legal fault, without its end, if it has one
+/// (docs/report.schema.json).
 pub fn json_text(
     alloc: Global,
-    command: &str,
+    heading: &Heading<'_>,
     status: u8,
     line: Option<&str>,
     sheets: &[Sheet],
 ) -> Result<String, NoMemory> {
     let mut members = Map::new(alloc);
-    put_ending(alloc, &mut members, command, status, line)?;
+    put_heading(alloc, &mut members, heading, status, line)?;
     put(&mut members, alloc, "tables", tables(alloc, sheets)?)?;
     line_of(alloc, &Value::Object(members))
 }

@@ -1,18 +1,23 @@
 //! Sheets of rows, and their forms: aligned text, comma-separated values, and JSON.
 //!
-//! Stands on `sl_explain_texts`; used by the room report. Proved: what stands in the cells of each row. Only tested: the three forms.
+//! Stands on `sl_explain_texts`; used by the room report. Proved: what stands in the cells of each row, and the digest of
+//! an input. Only tested: the three forms.
 //!
 //! Where an error is `NoMemory` alone, memory ran out, and nothing else is wrong.
 #![tactic(auto)]
 
 mod cell;
 mod comma_form;
+mod heading;
 mod json_form;
+mod json_heading;
+mod json_values;
 mod sheet;
 mod text_form;
 
 pub use cell::Cell;
 pub use comma_form::comma_text;
+pub use heading::{DigestedInput, Heading, Told};
 pub use json_form::json_text;
 pub use sheet::{Form, Head, Look, Row, Sheet};
 pub use text_form::aligned_text;

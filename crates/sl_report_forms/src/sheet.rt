@@ -173,6 +173,13 @@ impl Row {
         self.push(Cell::Flag { is, shown })
     }
 
+    /// Adds names, at least one: each as programs know it, and all as a person reads them.
+    pub fn names(&mut self, keys: Vec<String>, shown: String) -> Result<(), NoMemory>
+        ensures { OnOk result (contents_of self.new.cells.items ≡ contents_of self.old.cells.items ++ a_text ∷ []) }
+    {
+        self.push(Cell::Names { keys, shown })
+    }
+
     /// Adds an empty cell.
     pub fn empty(&mut self) -> Result<(), NoMemory>
         ensures { OnOk result (contents_of self.new.cells.items ≡ contents_of self.old.cells.items ++ nothing ∷ []) }

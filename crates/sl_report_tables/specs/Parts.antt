@@ -6,6 +6,8 @@ use Rattle.sl_report_results.specs.declared.fraction.Fraction.{Fraction}
 use Rattle.sl_report_tables.specs.declared.rows.Part.TheVariants as part
 use Rattle.sl_report_tables.specs.declared.rows.Part.{Part}
 use Rattle.sl_stages.specs.declared.book.Cond.{Cond}
+use Rattle.sl_stages.specs.declared.fault.Item.TheVariants as item
+use Rattle.sl_stages.specs.declared.fault.Item.{Item}
 
 -- a short name, and the one that a reader sees
 abbrev pub a_name : List Content
@@ -27,6 +29,13 @@ fraction_cells (Some f) = (if has_decimals f.num f.den 4 then a_text else nothin
 abbrev pub condition_cell : List Cond → Option ℕ → Content
 condition_cell conditions met = if is_some (option_and_then (slice_get conditions) met) then a_text else nothing
 
+-- the Land and the party of an entry, each where it has one; a winner has neither
+abbrev pub sides_of : Item → List Content
+sides_of (item.Party party) = nothing ∷ a_text ∷ []
+sides_of (item.Land land) = a_text ∷ nothing ∷ []
+sides_of (item.List land party) = a_name
+sides_of (item.Win win) = two_empty
+
 abbrev pub cells_of : Part → List Content
 cells_of part.Empty = nothing ∷ []
 cells_of (part.Text words) = a_text ∷ []
@@ -39,6 +48,7 @@ cells_of (part.Land land) = a_name
 cells_of (part.Party party) = a_name
 cells_of (part.Win win) = a_name
 cells_of (part.Entry item scope) = a_name
+cells_of (part.Sides item) = sides_of item
 cells_of (part.Entries items) = a_text ∷ []
 cells_of (part.Scope scope) = a_text ∷ []
 cells_of (part.LongScope scope) = a_text ∷ []

@@ -4,7 +4,7 @@ use Rattle.sl_report_forms.specs.Cells.{Content, a_flag, a_number, a_text, known
 use Rattle.sl_report_forms.specs.Tables.{Table}
 use Rattle.sl_report_results.specs.declared.scopes.Entry.{Entry}
 use Rattle.sl_report_results.specs.declared.scopes.Scoped.{Scoped}
-use Rattle.sl_report_tables.specs.Parts.{a_name, fraction_cells}
+use Rattle.sl_report_tables.specs.Parts.{a_name, fraction_cells, sides_of}
 
 -- the names of some entries in one cell, where there are some
 abbrev pub names_cell : List ℕ → Content
@@ -31,16 +31,17 @@ scopes_table scopes = record {
   rows = map scope_row scopes;
 }
 
+-- the stage, the scope, the names of the entry, its Land and its party, and the numbers
 abbrev pub entry_row : Bool → Entry → List Content
 entry_row has_minima x =
-    a_text ∷ a_text ∷ a_name
+    a_text ∷ a_text ∷ a_name ++ sides_of x.item
     ++ a_number x.weight ∷ fraction_cells x.quotient
     ++ a_number x.seats ∷ (if has_minima then a_number x.minimum else nothing) ∷ known x.missing ∷ []
 
 abbrev pub entries_table : Scoped → Table
 entries_table s = record {
   key = codes "entries";
-  columns = codes "stage" ∷ codes "scope" ∷ codes "entry" ∷ codes "entry_name" ∷ codes "votes" ∷ codes "quotient" ∷ codes "quotient_exact"
+  columns = codes "stage" ∷ codes "scope" ∷ codes "entry" ∷ codes "entry_name" ∷ codes "land" ∷ codes "party" ∷ codes "votes" ∷ codes "quotient" ∷ codes "quotient_exact"
       ∷ codes "seats" ∷ codes "minimum" ∷ codes "missing" ∷ [];
   rows = map (entry_row s.has_minima) s.entries.items;
 }

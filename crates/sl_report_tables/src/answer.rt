@@ -1,18 +1,17 @@
-//! What a command that reports answers: a text in one of the forms, and a status.
+//! What a command that reports answers: sheets with a status, and their text in one of the forms.
 
 ghost use Rattle.std.specs.Prelude.{◌≡◌, [], IfOk};
 
 use sl_count_inputs::Status;
-use sl_explain_texts::Language;
 use sl_ratio::NoMemory;
-use sl_report_forms::{Sheet, aligned_text, comma_text, json_text};
+use sl_report_forms::{Heading, Sheet, aligned_text, comma_text, json_text};
 use std::alloc::Global;
 
 // What a file of names holds, as the line says that refuses one.
 const NAMES_FORM: &str =
     "each line is SHORT,FULL, two cells with a comma and no semicolon between them, in UTF-8 and not in Latin-1, without a header";
 
-/// The form of an answer.
+/// The form of an answer's text.
 #[derive(Clone, Copy)]
 pub enum Shape {
     Text,
@@ -20,114 +19,44 @@ pub enum Shape {
     Comma,
 }
 
-/// How an answer is written: in a form and in a language. In JSON and in CSV only sentences are in the language.
-#[derive(Clone, Copy)]
-pub struct Style {
-    pub shape: Shape,
-    pub language: Language,
-}
-
-impl Style {
-    /// JSON in English.
-    pub const JSON: Style = Style {
-        shape: Shape::Json,
-        language: Language::English,
-    };
-}
-
-/// The sheets that a command shows, their text in a form, and the status that stands for them. A refusal is a line, without sheets.
+/// The sheets that a command shows, the status that stands for them, and the line of a refusal or of a legal fault, with its end; no bytes where
+/// there is neither. A refusal has no sheets.
 #[derive(Drop)]
 pub struct Answer {
     pub status: Status,
+    pub line: Vec<u8>,
     pub sheets: Vec<Sheet>,
-    pub text: Vec<u8>,
 }
 
-// The line of a legal fault without its end.
-fn without_end(line: &str) -> &str {
-    match line.strip_suffix('\n') {
-        Some(line) => line,
-        None => line,
-    }
-}
-
-// Sheets as aligned text, after the line of a legal fault, if there is one.
-fn aligned(alloc: Global, line: Option<&str>, sheets: &[Sheet]) -> Result<String, NoMemory> {
-    let text = aligned_text(alloc, sheets)?;
-    let Some(line) = line else {
-        return Ok(text);
-    };
-    let mut all = String::from_str(alloc, line)?;
-    all.push('\n')?;
-    all.push_str(text.as_str())?;
-    Ok(all)
-}
-
-// The text of sheets in a form.
-fn text_of(
-    alloc: Global,
-    command: &str,
-    status: Status,
-    line: Option<&str>,
-    sheets: &[Sheet],
-    shape: Shape,
-) -> Result<String, NoMemory> {
-    match shape {
-        Shape::Text => aligned(alloc, line, sheets),
-        Shape::Comma => comma_text(alloc, sheets),
-        Shape::Json => {
-            let line = line.map(without_end);
-            json_text(alloc, command, status.number(), line, sheets)
-        }
-    }
+// A line without its end, if it has bytes.
+fn without_end(line: &[u8]) -> Option<&str> {
+    let line = std::str::from_utf8(line).unwrap_or("");
+    line.strip_suffix('\n')
 }
 
 impl Answer {
     // The answer of a command that comes to these sheets.
-    pub(crate) fn done(
-        alloc: Global,
-        command: &str,
-        sheets: Vec<Sheet>,
-        style: Style,
-    ) -> Result<Answer, NoMemory>
-        ensures status { IfOk result (λ a. a.status ≡ Status.Done) }
-        ensures sheets { IfOk result (λ a. a.sheets.items ≡ sheets.items) }
+    pub(crate) fn done(alloc: Global, sheets: Vec<Sheet>) -> Answer
+        ensures status { result.status ≡ Status.Done }
+        ensures sheets { result.sheets.items ≡ sheets.items }
     {
-        Answer::of(alloc, command, Status::Done, None, sheets, style)
+        Answer {
+            status: Status::Done,
+            line: Vec::new(alloc),
+            sheets,
+        }
     }
 
     // The answer of a command that comes to a legal fault, told by this line, and to these sheets.
-    pub(crate) fn legal(
-        alloc: Global,
-        command: &str,
-        line: &str,
-        sheets: Vec<Sheet>,
-        style: Style,
-    ) -> Result<Answer, NoMemory>
-        ensures status { IfOk result (λ a. a.status ≡ Status.Legal) }
-        ensures sheets { IfOk result (λ a. a.sheets.items ≡ sheets.items) }
+    pub(crate) fn legal(line: Vec<u8>, sheets: Vec<Sheet>) -> Answer
+        ensures status { result.status ≡ Status.Legal }
+        ensures sheets { result.sheets.items ≡ sheets.items }
     {
-        Answer::of(alloc, command, Status::Legal, Some(line), sheets, style)
-    }
-
-    // The answer of a command that comes to these sheets, with the line of a legal fault, if it has one.
-    fn of(
-        alloc: Global,
-        command: &str,
-        status: Status,
-        line: Option<&str>,
-        sheets: Vec<Sheet>,
-        style: Style,
-    ) -> Result<Answer, NoMemory>
-        ensures status { IfOk result (λ a. a.status ≡ status) }
-        ensures sheets { IfOk result (λ a. a.sheets.items ≡ sheets.items) }
-    {
-        let text = text_of(alloc, command, status, line, sheets.as_slice(), style.shape)?;
-        Ok(Answer {
-            status,
+        Answer {
+            status: Status::Legal,
+            line,
             sheets,
-            text: text.into_bytes(),
-        })
+        }
     }
 
     /// The answer that refuses an input by a line.
@@ -137,14 +66,14 @@ impl Answer {
     {
         Answer {
             status: Status::Refused,
+            line,
             sheets: Vec::new(alloc),
-            text: line,
         }
     }
 
     // The line that refuses the names in a record, with what such a record is.
     pub(crate) fn refused_names(alloc: Global, row: u64) -> Result<Answer, NoMemory>
-        ensures { IfOk result (λ a. a.status ≡ Status.Refused) }
+        ensures { IfOk result (λ a. (a.status ≡ Status.Refused) × (a.sheets.items ≡ [])) }
     {
         let line = format!(in alloc; "refused names {row}: {NAMES_FORM}\n")?;
         Ok(Answer::refused(alloc, line.into_bytes()))
@@ -152,9 +81,44 @@ impl Answer {
 
     // The line that refuses names of too many bytes.
     pub(crate) fn names_too_long(alloc: Global) -> Result<Answer, NoMemory>
-        ensures { IfOk result (λ a. a.status ≡ Status.Refused) }
+        ensures { IfOk result (λ a. (a.status ≡ Status.Refused) × (a.sheets.items ≡ [])) }
     {
         let line = String::from_str(alloc, "refused names toolong: at most 4,194,304 bytes\n")?;
         Ok(Answer::refused(alloc, line.into_bytes()))
+    }
+
+    // The sheets as aligned text, after the line of a legal fault, if there is one, and an empty line.
+    fn aligned(&self, alloc: Global) -> Result<Vec<u8>, NoMemory> {
+        let sheets = aligned_text(alloc, self.sheets.as_slice())?;
+        if self.line.is_empty() {
+            return Ok(sheets.into_bytes());
+        }
+        let mut text = Vec::from_slice(alloc, self.line.as_slice())?;
+        text.push(b'\n')?;
+        text.extend_from_slice(sheets.as_bytes())?;
+        Ok(text)
+    }
+
+    fn json(&self, alloc: Global, heading: &Heading<'_>) -> Result<Vec<u8>, NoMemory> {
+        let line = without_end(self.line.as_slice());
+        let sheets = self.sheets.as_slice();
+        Ok(json_text(alloc, heading, self.status.number(), line, sheets)?.into_bytes())
+    }
+
+    /// Its text in a form. A refusal is its line alone, but in JSON. What a heading says beside the tables stands in JSON alone.
+    pub fn text(
+        &self,
+        alloc: Global,
+        shape: Shape,
+        heading: &Heading<'_>,
+    ) -> Result<Vec<u8>, NoMemory> {
+        match (shape, self.status) {
+            (Shape::Json, _) => self.json(alloc, heading),
+            (Shape::Text | Shape::Comma, Status::Refused) => {
+                Ok(Vec::from_slice(alloc, self.line.as_slice())?)
+            }
+            (Shape::Comma, _) => Ok(comma_text(alloc, self.sheets.as_slice())?.into_bytes()),
+            (Shape::Text, _) => self.aligned(alloc),
+        }
     }
 }

@@ -5,10 +5,11 @@ ghost use Rattle.sl_count_inputs.specs.declared.status.Status.TheVariants.{Done}
 ghost use Rattle.sl_report_forms.specs.Tables.{table_of};
 ghost use Rattle.sl_report_tables.specs.Compare.{AreComparison};
 
-use crate::answer::{Answer, Style};
+use crate::answer::Answer;
 use crate::compare::{Judged, compare_sheets};
 use crate::full_names::FullNames;
 use crate::naming::Naming;
+use sl_explain_texts::Language;
 use sl_ratio::NoMemory;
 use sl_stages::Returns;
 use std::alloc::Global;
@@ -19,7 +20,7 @@ pub fn comparison_answer(
     books: &[Judged],
     returns: &Returns,
     full: &FullNames,
-    style: Style,
+    language: Language,
 ) -> Result<Answer, NoMemory>
     ensures status { IfOk result (λ a. a.status ≡ Done) }
     ensures shows { IfOk result (λ a. AreComparison returns.now books.now (map table_of a.sheets.items)) }
@@ -27,8 +28,8 @@ pub fn comparison_answer(
     let naming = Naming {
         returns,
         full,
-        language: style.language,
+        language,
     };
     let sheets = compare_sheets(alloc, &naming, books)?;
-    Answer::done(alloc, "compare", sheets, style)
+    Ok(Answer::done(alloc, sheets))
 }

@@ -6,12 +6,13 @@ ghost use Rattle.sl_report_tables.specs.Reports.{IsFaultReport, Shows};
 ghost use Rattle.sl_report_tables.specs.Ends.{HoldsEnd, end_status};
 ghost use Rattle.sl_stages.specs.book.Books.{book_of};
 
-use crate::answer::{Answer, Style};
+use crate::answer::Answer;
 use crate::counted::{first_sheets, report_sheets};
 use crate::faults::fault_sheets;
 use crate::full_names::FullNames;
 use crate::naming::Naming;
 use crate::stages::stage_sheets;
+use sl_explain_texts::Language;
 use sl_ratio::NoMemory;
 use sl_report_forms::Sheet;
 use sl_report_results::{Setting, parts_of};
@@ -28,7 +29,8 @@ pub enum Show {
 }
 
 impl Show {
-    fn command(self) -> &'static str {
+    /// The command.
+    pub fn command(self) -> &'static str {
         match self {
             Show::Report => "report",
             Show::Stages => "stages",
@@ -70,24 +72,14 @@ fn sheets_of(
     }
 }
 
-// The answer of a command with these sheets; a legal fault is told by this line.
-fn answer_of(
-    alloc: Global,
-    show: Show,
-    end: &End,
-    line: &[u8],
-    sheets: Vec<Sheet>,
-    style: Style,
-) -> Result<Answer, NoMemory>
-    ensures status { IfOk result (λ a. a.status ≡ end_status end.now) }
-    ensures sheets { IfOk result (λ a. a.sheets.items ≡ sheets.items) }
+// The answer with these sheets; a legal fault is told by this line.
+fn answer_of(alloc: Global, end: &End, line: Vec<u8>, sheets: Vec<Sheet>) -> Answer
+    ensures status { result.status ≡ end_status end.now }
+    ensures sheets { result.sheets.items ≡ sheets.items }
 {
     match end {
-        End::Counted(_) => Answer::done(alloc, show.command(), sheets, style),
-        End::Fault(_) => {
-            let line = std::str::from_utf8(line).unwrap_or("");
-            Answer::legal(alloc, show.command(), line, sheets, style)
-        }
+        End::Counted(_) => Answer::done(alloc, sheets),
+        End::Fault(_) => Answer::legal(line, sheets),
     }
 }
 
@@ -99,8 +91,8 @@ pub fn count_answer(
     returns: &Returns,
     full: &FullNames,
     end: &End,
-    line: &[u8],
-    style: Style,
+    line: Vec<u8>,
+    language: Language,
 ) -> Result<Answer, NoMemory>
     requires { HoldsEnd (book_of book.now.book) returns.now end.now }
     ensures status { IfOk result (λ a. a.status ≡ end_status end.now) }
@@ -109,10 +101,10 @@ pub fn count_answer(
     let naming = Naming {
         returns,
         full,
-        language: style.language,
+        language,
     };
     let parts = parts_of(alloc, book.book.eligible.as_slice(), returns)?;
     let setting = Setting::new(&book.book, returns, parts);
     let sheets = sheets_of(alloc, show, &setting, &naming, end)?;
-    answer_of(alloc, show, end, line, sheets, style)
+    Ok(answer_of(alloc, end, line, sheets))
 }

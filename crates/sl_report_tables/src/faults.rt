@@ -154,7 +154,7 @@ fn explanation_sheet(
     )?;
     push_text(alloc, &mut sheet, told.sentence())?;
     for remedy in told.remedies() {
-        push_text(alloc, &mut sheet, remedy.as_slice())?;
+        push_text(alloc, &mut sheet, remedy.text())?;
     }
     Ok(sheet)
 }

@@ -27,7 +27,7 @@ mod totals;
 mod warnings;
 mod words;
 
-pub use answer::{Answer, Shape, Style};
+pub use answer::{Answer, Shape};
 pub use cases::{MAX_NAMES_BYTES, names_in, names_of};
 pub use compare::Judged;
 pub use comparison::comparison_answer;

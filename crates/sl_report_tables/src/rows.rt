@@ -4,7 +4,7 @@ ghost use Rattle.std.specs.Prelude.{◌≡◌, ◌*◌, ◌++◌, ◌∷◌, [],
 ghost use Rattle.sl_report_forms.specs.Cells.{a_flag, a_text, nothing};
 ghost use Rattle.sl_report_forms.specs.Tables.{blank_table, contents_of, table_of, with_rows};
 ghost use Rattle.sl_report_results.specs.Fractions.{has_decimals};
-ghost use Rattle.sl_report_tables.specs.Parts.{a_name, cells_of, condition_cell, fraction_cells, percent_cells, two_empty};
+ghost use Rattle.sl_report_tables.specs.Parts.{a_name, cells_of, condition_cell, fraction_cells, percent_cells, sides_of, two_empty};
 
 use crate::naming::{Naming, land_name, party_name, win_name};
 use crate::words::{NO, YES, condition_text};
@@ -40,6 +40,8 @@ pub enum Part<'a> {
     Win(usize),
     /// The names of an entry, the second one as in this scope.
     Entry(Item, Scope),
+    /// The short names of the Land and of the party of an entry, each where it has one.
+    Sides(Item),
     /// The short names of entries in one cell, separated by spaces.
     Entries(&'a [Item]),
     /// The short name of a scope alone.
@@ -190,6 +192,28 @@ fn put_entry(
     put_own(row, naming.long_entry(alloc, scope, entry))
 }
 
+// Adds the short names of the Land and of the party of an entry, an empty cell for what it has not.
+fn put_sides(row: &mut Row, naming: &Naming<'_>, entry: Item) -> Result<(), NoMemory>
+    ensures { OnOk result (contents_of row.new.cells.items ≡ contents_of row.old.cells.items ++ sides_of entry) }
+{
+    let returns = naming.returns;
+    match entry {
+        Item::Party(party) => {
+            row.empty()?;
+            row.text(party_name(returns, party))
+        }
+        Item::Land(land) => {
+            row.text(land_name(returns, land))?;
+            row.empty()
+        }
+        Item::List(land, party) => {
+            row.text(land_name(returns, land))?;
+            row.text(party_name(returns, party))
+        }
+        Item::Win(_) => put_empty_pair(row),
+    }
+}
+
 // Adds the short names of entries in one cell.
 fn put_entries(
     alloc: Global,
@@ -232,6 +256,7 @@ fn put(alloc: Global, row: &mut Row, naming: &Naming<'_>, part: Part<'_>) -> Res
         Part::Party(party) => put_name(alloc, row, naming, party_name(naming.returns, party)),
         Part::Win(win) => put_name(alloc, row, naming, win_name(naming.returns, win)),
         Part::Entry(entry, scope) => put_entry(alloc, row, naming, entry, scope),
+        Part::Sides(entry) => put_sides(row, naming, entry),
         Part::Entries(entries) => put_entries(alloc, row, naming, entries),
         Part::Scope(scope) => put_own(row, naming.scope(alloc, scope)),
         Part::LongScope(scope) => put_long_scope(alloc, row, naming, scope),

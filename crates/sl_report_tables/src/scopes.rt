@@ -3,7 +3,7 @@
 ghost use Rattle.std.specs.Prelude.{◌≡◌, ◌++◌, ◌∷◌, [], IfOk, OnOk, if◌then◌else◌, is_some};
 ghost use Rattle.sl_report_forms.specs.Cells.{a_number, a_text, nothing};
 ghost use Rattle.sl_report_forms.specs.Tables.{contents_of, table_of, with_rows};
-ghost use Rattle.sl_report_tables.specs.Parts.{cells_of, fraction_cells};
+ghost use Rattle.sl_report_tables.specs.Parts.{cells_of, fraction_cells, sides_of};
 ghost use Rattle.sl_report_tables.specs.Scopes.{entries_table, entry_row, margin_cells, names_cell, scope_row, scopes_table};
 
 use crate::naming::{Naming, stage_name};
@@ -32,11 +32,13 @@ const SCOPES: [Form; 13] = [
     ("next", "next claim", "nächster Anspruch", Look::Text(14)),
 ];
 
-const ENTRIES: [Form; 10] = [
+const ENTRIES: [Form; 12] = [
     ("stage", "", "", Look::Hidden),
     ("scope", "", "", Look::Hidden),
     ("entry", "", "", Look::Hidden),
     ("entry_name", "entry", "Eintrag", Look::Text(36)),
+    ("land", "", "", Look::Hidden),
+    ("party", "", "", Look::Hidden),
     ("votes", "votes", "Stimmen", Look::Number),
     ("quotient", "quotient", "Quotient", Look::Number),
     ("quotient_exact", "", "", Look::Hidden),
@@ -45,21 +47,37 @@ const ENTRIES: [Form; 10] = [
     ("missing", "votes missing", "Stimmen fehlen", Look::Number),
 ];
 
-// Adds the names of the entries of these numbers to a text, separated by commas.
-fn push_names(
+// The short names of the entries of these numbers.
+fn short_names(
     alloc: Global,
-    text: &mut String,
     naming: &Naming<'_>,
     scoped: &Scoped,
     numbers: &[usize],
-) -> Result<(), NoMemory> {
+) -> Result<Vec<String>, NoMemory> {
+    let mut names = Vec::new(alloc);
+    for number in numbers {
+        if let Some(entry) = scoped.entries.get(*number) {
+            names.push(naming.entry(alloc, entry.item)?)?;
+        }
+    }
+    Ok(names)
+}
+
+// The names of the entries of these numbers that a reader sees, separated by commas.
+fn long_names(
+    alloc: Global,
+    naming: &Naming<'_>,
+    scoped: &Scoped,
+    numbers: &[usize],
+) -> Result<String, NoMemory> {
+    let mut text = String::new(alloc);
     for number in numbers {
         if let Some(entry) = scoped.entries.get(*number) {
             let name = naming.long_entry(alloc, scoped.scope, entry.item)?;
-            push_name(text, ", ", name.as_str())?;
+            push_name(&mut text, ", ", name.as_str())?;
         }
     }
-    Ok(())
+    Ok(text)
 }
 
 // Adds a cell with the names of the entries of these numbers, an empty one for none.
@@ -75,9 +93,8 @@ fn put_names(
     if numbers.is_empty() {
         return row.empty();
     }
-    let mut text = String::new(alloc);
-    push_names(alloc, &mut text, naming, scoped, numbers)?;
-    row.own(text)
+    let short = short_names(alloc, naming, scoped, numbers)?;
+    row.names(short, long_names(alloc, naming, scoped, numbers)?)
 }
 
 // Adds the divisor of a scope, if there is one.
@@ -175,6 +192,7 @@ fn push_entry(
         Part::Text(stage),
         Part::Scope(scoped.scope),
         Part::Entry(entry.item, scoped.scope),
+        Part::Sides(entry.item),
         Part::Number(entry.weight),
         Part::Fraction(entry.quotient),
         Part::Number(entry.seats),

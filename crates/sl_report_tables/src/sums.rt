@@ -5,10 +5,11 @@ ghost use Rattle.sl_count_inputs.specs.declared.status.Status.TheVariants.{Done}
 ghost use Rattle.sl_report_forms.specs.Tables.{table_of};
 ghost use Rattle.sl_report_tables.specs.Totals.{AreTotals};
 
-use crate::answer::{Answer, Style};
+use crate::answer::Answer;
 use crate::full_names::FullNames;
 use crate::naming::Naming;
 use crate::totals::total_sheets;
+use sl_explain_texts::Language;
 use sl_ratio::NoMemory;
 use sl_stages::{Book, Returns};
 use std::alloc::Global;
@@ -19,7 +20,7 @@ pub fn totals_answer(
     book: Option<&Book>,
     returns: &Returns,
     full: &FullNames,
-    style: Style,
+    language: Language,
 ) -> Result<Answer, NoMemory>
     ensures status { IfOk result (λ a. a.status ≡ Done) }
     ensures shows { IfOk result (λ a. AreTotals (option_map (λ b. b.now) book.entry) returns.now (map table_of a.sheets.items)) }
@@ -27,8 +28,8 @@ pub fn totals_answer(
     let naming = Naming {
         returns,
         full,
-        language: style.language,
+        language,
     };
     let sheets = total_sheets(alloc, book, &naming)?;
-    Answer::done(alloc, "totals", sheets, style)
+    Ok(Answer::done(alloc, sheets))
 }

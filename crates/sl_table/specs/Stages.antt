@@ -1,12 +1,10 @@
 -- The text of a stage's column (docs/output.md, section 1).
-use Rattle.std.specs.Prelude.{ℕ, List, [], ◌∷◌, map, flat_map, filter, codes, slice_index, slice_index_or}
+use Rattle.std.specs.Prelude.{ℕ, List, [], ◌∷◌, flat_map, filter, codes, slice_index}
 use Rattle.std.specs.Fmt.{decimal}
 use Rattle.sl_base_terms.specs.declared.shape.Shape.{Shape}
 use Rattle.sl_base_terms.specs.declared.shape.Shape.TheVariants as shape
 use Rattle.sl_stages.specs.returns.Election.{Election, has_list}
 use Rattle.sl_stages.specs.returns.Facts.{lands, parties, list_cell}
-use Rattle.sl_code_instructions.specs.Codes.{CountingCode}
-use Rattle.sl_code_semantics.specs.Memories.{Held}
 use Rattle.sl_count_texts.specs.Faults.{list_word}
 use Rattle.sl_count_texts.specs.Lines.{line}
 use Rattle.sl_count_texts.specs.Short.{land_word, party_word}
@@ -35,13 +33,3 @@ stage_text e shape.One column = entry_line (codes "all") (slice_index column 0)
 stage_text e shape.Party column = flat_map (party_entry e column) (parties e)
 stage_text e shape.Land column = flat_map (land_entry e column) (lands e)
 stage_text e shape.List column = flat_map (land_lists e column) (lands e)
-
--- ---- what a run of a code holds
-
--- the slot of a stage's column
-abbrev pub stage_slot : CountingCode → ℕ → ℕ
-stage_slot c stage = slice_index (map (λ s. s.slot) c.stages) stage
-
--- the text of the column of a stage's slot
-abbrev pub held_stage_text : CountingCode → Election → Held → ℕ → List ℕ
-held_stage_text c e h stage = stage_text e (slice_index_or c.slots (stage_slot c stage) shape.One) (slice_index_or h.columns (stage_slot c stage) [])

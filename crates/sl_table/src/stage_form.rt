@@ -7,7 +7,8 @@ ghost use Rattle.sl_code_semantics.specs.Fits.{FitsMemory};
 ghost use Rattle.sl_code_semantics.specs.Places.{cells_of};
 ghost use Rattle.sl_count_texts.specs.Faults.{list_word};
 ghost use Rattle.sl_count_texts.specs.Lines.{with_lines};
-ghost use Rattle.sl_table.specs.Stages.{entry_line, party_entry, land_entry, land_lists, stage_text, stage_slot, held_stage_text};
+ghost use Rattle.sl_table.specs.HeldStages.{stage_slot, held_stage_text};
+ghost use Rattle.sl_table.specs.Stages.{entry_line, party_entry, land_entry, land_lists, stage_text};
 
 use sl_code_instructions::Code;
 use sl_count_texts::Text;

@@ -9,9 +9,9 @@ ghost use Rattle.sl_terminal_commands.specs.Tellings.{IsOfFault, warns};
 ghost use Rattle.sl_report_warnings.specs.declared.warning.Warning.{Warning};
 
 use crate::terminal::Terminal;
-use sl_count_inputs::{DeskError, Sink, write_all};
+use sl_count_inputs::{Sink, write_all};
 use sl_terminal_count::Outside;
-use sl_terminal_words::{Asked, request_of};
+use sl_terminal_words::{Answer, Asked, request_of};
 
 impl<O: Outside, W: Sink, E: Sink> Terminal<O, W, E> {
     /// Runs the command that is asked for, and answers the exit status. After the line of a refusal, a fault or an error it explains
@@ -35,18 +35,14 @@ impl<O: Outside, W: Sink, E: Sink> Terminal<O, W, E> {
     }
 
     // Writes a help or the version to standard output, and a refusal of the words to standard error.
-    fn answer_words(&mut self, error: &clap::Error) -> u8
+    fn answer_words(&mut self, answer: &Answer) -> u8
         ensures { Exits IsHelp (W.contents self.old.out) (W.contents self.new.out) result }
     {
-        let Ok(text) = format!(in self.alloc; "{error}") else {
-            self.write_line(&DeskError::NoMemory);
-            return 5;
-        };
-        if error.use_stderr() {
-            let _ = write_all(&mut self.err, text.as_bytes());
+        if answer.is_refusal() {
+            let _ = write_all(&mut self.err, answer.text());
             return 1;
         }
-        match write_all(&mut self.out, text.as_bytes()) {
+        match write_all(&mut self.out, answer.text()) {
             Ok(()) => 0,
             Err(_) => 5,
         }
@@ -58,12 +54,8 @@ impl<O: Outside, W: Sink, E: Sink> Terminal<O, W, E> {
 pub fn run<O: Outside, W: Sink, E: Sink>(terminal: &mut Terminal<O, W, E>, words: &[String]) -> u8
     ensures { IsRun (O.bytes terminal.old.outside) (W.contents terminal.old.out) (W.contents terminal.new.out) result }
 {
-    match request_of(terminal.alloc, words) {
-        Ok(Some(asked)) => terminal.run_asked(asked),
-        Ok(None) => {
-            terminal.write_line(&"no command is given");
-            1
-        }
-        Err(error) => terminal.answer_words(&error),
+    match request_of(terminal.alloc, terminal.language, words) {
+        Ok(asked) => terminal.run_asked(asked),
+        Err(answer) => terminal.answer_words(&answer),
     }
 }

@@ -1,7 +1,8 @@
 //! The commands that report, over files: each input is read and judged once, and each rulebook is run once.
 
 ghost use Rattle.std.specs.Prelude.{◌≡◌, IfErr, IfOk, None, false, is_some, true};
-ghost use Rattle.sl_count_outcomes.specs.Judged.{FitsJudged, IsJudged};
+ghost use Rattle.sl_count_outcomes.specs.Fitting.{FitsJudged};
+ghost use Rattle.sl_count_outcomes.specs.Judged.{IsJudged};
 ghost use Rattle.sl_stages.specs.declared.count.Records.TheVariants.{Kept};
 ghost use Rattle.sl_count_inputs.specs.Reading.{ForKnown};
 ghost use Rattle.sl_count_inputs.specs.declared.status.Status.TheVariants as status;
@@ -15,10 +16,11 @@ ghost use Rattle.sl_terminal_commands.specs.inner.Reports.{IsShownBy, SaysBy};
 
 use crate::failure::Failure;
 use crate::terminal::Terminal;
-use sl_count_inputs::{Input, Sink, Status, read_all};
+use sl_count_inputs::{BookText, Input, Sink, Status, read_all};
 use sl_count_outcomes::{Read, Records, judge_read};
 use sl_report_commands::{
-    Answer, FullNames, MAX_NAMES_BYTES, Shape, Show, Style, answer_judged, names_in,
+    Answer, FullNames, MAX_NAMES_BYTES, Shape, Show, Style, Texts, answer_judged, bytes_of,
+    judged_text, names_in,
 };
 use sl_terminal_count::{Outside, open, open_book};
 use sl_terminal_words::{Report, ReportForm};
@@ -35,6 +37,22 @@ fn shape_of(form: ReportForm) -> Shape {
         ReportForm::Text => Shape::Text,
         ReportForm::Json => Shape::Json,
         ReportForm::Comma => Shape::Comma,
+    }
+}
+
+// The bytes of the rulebook of a word: those of the library's after `@`, and else those that were read.
+pub(crate) fn book_bytes<'a>(word: &'a str, read: &'a [u8]) -> &'a [u8] {
+    match word.strip_prefix('@') {
+        Some(name) => bytes_of(BookText::Library(name)),
+        None => read,
+    }
+}
+
+// The bytes of a rulebook and of returns that were read.
+fn texts_of<'a>(word: &'a str, read: &'a Read<'_>) -> Texts<'a> {
+    Texts {
+        book: book_bytes(word, read.book.as_slice()),
+        returns: read.returns.as_slice(),
     }
 }
 
@@ -89,15 +107,17 @@ impl<O: Outside, W: Sink, E: Sink> Terminal<O, W, E> {
     {
         let read = self.judged_at(book, returns)?;
         let names = self.full_names(writing.names)?;
-        let answer = answer_judged(self.alloc, show, &read.judged, &names, writing.style)?;
+        let language = writing.style.language;
+        let answer = answer_judged(self.alloc, show, &read.judged, &names, language)?;
         Ok((read, answer))
     }
 
-    // Writes what is reported of a rulebook and returns, and tells why they come to no table, if they don't; or writes the refusal of the names.
+    // Writes the text that reports of a rulebook and returns, and tells why they come to no table, if they don't; or writes the refusal of the names.
     fn finish_report<'a>(
         &mut self,
         read: &Read<'_>,
         answer: &Result<Answer, Answer>,
+        text: &[u8],
         book: &'a str,
         returns: &'a str,
     ) -> Result<Status, Failure<'a, O::Reason>>
@@ -108,11 +128,11 @@ impl<O: Outside, W: Sink, E: Sink> Terminal<O, W, E> {
     {
         match answer {
             Ok(answer) => {
-                let status = self.write_text(answer.status, answer.text.as_slice())?;
+                let status = self.write_text(answer.status, text)?;
                 self.tell_read(status, book, returns, read);
                 Ok(status)
             }
-            Err(refusal) => self.write_text(refusal.status, refusal.text.as_slice()),
+            Err(refusal) => self.write_text(refusal.status, text),
         }
     }
 
@@ -132,7 +152,16 @@ impl<O: Outside, W: Sink, E: Sink> Terminal<O, W, E> {
         ensures told { IfOk result (λ _. IsOfReport (O.bytes self.old.outside) book.now returns.now (is_some writing.entry.names) (Says E.contents self.old self.new)) }
     {
         let (read, answer) = self.reported(show, book, returns, writing)?;
-        self.finish_report(&read, &answer, book, returns)
+        let texts = texts_of(book, &read);
+        let text = judged_text(
+            self.alloc,
+            show,
+            &answer,
+            &read.judged,
+            texts,
+            writing.style,
+        )?;
+        self.finish_report(&read, &answer, text.as_slice(), book, returns)
     }
 
     /// Writes a report to standard output.

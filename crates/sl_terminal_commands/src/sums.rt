@@ -14,6 +14,7 @@ ghost use Rattle.sl_terminal_commands.specs.Said.{OnlyWarns, Says, fault};
 ghost use Rattle.sl_terminal_commands.specs.inner.Verdicts.{IsDoneOrRefused, IsEndBy, IsEndOfAll, IsEndOn, IsGood, IsOfBoth, IsOfCompared, IsOfElection, IsOfOneOf, IsOfTable};
 
 use crate::failure::Failure;
+use crate::manner::{Manner, called_inputs, inputs_of};
 use crate::reports::Writing;
 use crate::telling::ReadFile;
 use crate::terminal::Terminal;
@@ -24,24 +25,24 @@ use sl_count_inputs::{
 use sl_explain_calls::{explain_book, explain_election};
 use sl_ratio::NoMemory;
 use sl_report_commands::{
-    Answer, Compared, FullNames, Style, compare_judged, compare_statutes, totals_answer,
+    Answer, Compared, FullNames, Language, compare_judged, compare_statutes, totals_answer,
 };
 use sl_stages::{CheckedBook, Returns};
 use sl_terminal_count::{Outside, open, open_book};
 use std::alloc::Global;
 
-// A rulebook that was read, with the word that names it.
+/// A rulebook that was read, with the word that names it.
 #[derive(Drop)]
-struct NamedBook<'a> {
-    word: &'a str,
-    read: ReadBook<'a>,
+pub(crate) struct NamedBook<'a> {
+    pub(crate) word: &'a str,
+    pub(crate) read: ReadBook<'a>,
 }
 
-// Returns that were read, with their path.
+/// Returns that were read, with their path.
 #[derive(Drop)]
-struct NamedReturns<'a> {
-    path: &'a str,
-    read: ReadReturns,
+pub(crate) struct NamedReturns<'a> {
+    pub(crate) path: &'a str,
+    pub(crate) read: ReadReturns,
 }
 
 // The first of some rulebooks that is refused.
@@ -85,14 +86,14 @@ fn comparison(
     books: Vec<NamedBook<'_>>,
     returns: &Returns,
     full: &FullNames,
-    style: Style,
+    language: Language,
 ) -> Result<Answer, NoMemory>
     ensures { IfOk result (λ a. IsDoneOrRefused a.status) }
 {
     if books.is_empty() {
-        return compare_statutes(alloc, returns, full, style);
+        return compare_statutes(alloc, returns, full, language);
     }
-    compare_judged(alloc, good_books(alloc, books)?, returns, full, style)
+    compare_judged(alloc, good_books(alloc, books)?, returns, full, language)
 }
 
 impl<O: Outside, W: Sink, E: Sink> Terminal<O, W, E> {
@@ -133,20 +134,22 @@ impl<O: Outside, W: Sink, E: Sink> Terminal<O, W, E> {
         &mut self,
         book: &NamedBook<'_>,
         refused: &RefusedBook<'_>,
+        manner: Manner<'_>,
     ) -> Result<Status, Failure<'a, O::Reason>>
         ensures ends { Ends (λ ends _. ends ≡ status.Refused) (W.contents self.old.out) (W.contents self.new.out) result }
         ensures silent { IfOk result (λ ends. IsSilent self.old.is_quiet ends → self.new.err ≡ self.old.err) }
         ensures told { IfOk result (λ _. Says E.contents self.old self.new (fault (subject input.Book (book_code refused.now)))) }
     {
-        let (alloc, text) = (self.alloc, book.read.text.as_slice());
+        let (alloc, bytes) = (self.alloc, book.read.text.as_slice());
         let line = refused.why().line(alloc)?;
-        let status = self.write_text(Status::Refused, line.as_slice())?;
+        let explained = explain_book(alloc, self.language, bytes, refused);
+        let text = manner.refusal(alloc, line, &explained, bytes)?;
+        let status = self.write_text(Status::Refused, text.as_slice())?;
         let file = ReadFile {
             input: Input::Book,
             path: book.word,
-            bytes: text,
+            bytes,
         };
-        let explained = explain_book(alloc, self.language, text, refused);
         self.tell_refusal(status, file, explained);
         Ok(status)
     }
@@ -157,20 +160,22 @@ impl<O: Outside, W: Sink, E: Sink> Terminal<O, W, E> {
         &mut self,
         returns: &NamedReturns<'_>,
         refused: &RefusedElection,
+        manner: Manner<'_>,
     ) -> Result<Status, Failure<'a, O::Reason>>
         ensures ends { Ends (λ ends _. ends ≡ status.Refused) (W.contents self.old.out) (W.contents self.new.out) result }
         ensures silent { IfOk result (λ ends. IsSilent self.old.is_quiet ends → self.new.err ≡ self.old.err) }
         ensures told { IfOk result (λ _. Says E.contents self.old self.new (fault (subject input.Returns (election_code refused.now)))) }
     {
-        let (alloc, text) = (self.alloc, returns.read.text.as_slice());
+        let (alloc, bytes) = (self.alloc, returns.read.text.as_slice());
         let line = refused.why().line(alloc)?;
-        let status = self.write_text(Status::Refused, line.as_slice())?;
+        let explained = explain_election(alloc, self.language, bytes, refused);
+        let text = manner.refusal(alloc, line, &explained, bytes)?;
+        let status = self.write_text(Status::Refused, text.as_slice())?;
         let file = ReadFile {
             input: Input::Returns,
             path: returns.path,
-            bytes: text,
+            bytes,
         };
-        let explained = explain_election(alloc, self.language, text, refused);
         self.tell_refusal(status, file, explained);
         Ok(status)
     }
@@ -182,7 +187,7 @@ impl<O: Outside, W: Sink, E: Sink> Terminal<O, W, E> {
         book: Option<&CheckedBook>,
         election: &Returns,
         names: Result<FullNames, Answer>,
-        style: Style,
+        manner: Manner<'_>,
     ) -> Result<Status, Failure<'a, O::Reason>>
         ensures ends { Ends (λ ends _. IsDoneOrRefused ends) (W.contents self.old.out) (W.contents self.new.out) result }
         ensures untold { IfOk result (λ _. self.new.err ≡ self.old.err) }
@@ -190,10 +195,15 @@ impl<O: Outside, W: Sink, E: Sink> Terminal<O, W, E> {
         match names {
             Ok(full) => {
                 let book = book.map(|checked| &checked.book);
-                let answer = totals_answer(self.alloc, book, election, &full, style)?;
-                self.write_text(answer.status, answer.text.as_slice())
+                let language = manner.style.language;
+                let answer = totals_answer(self.alloc, book, election, &full, language)?;
+                let text = manner.text(self.alloc, &answer)?;
+                self.write_text(answer.status, text.as_slice())
             }
-            Err(refusal) => self.write_text(Status::Refused, refusal.text.as_slice()),
+            Err(refusal) => {
+                let text = manner.text(self.alloc, &refusal)?;
+                self.write_text(Status::Refused, text.as_slice())
+            }
         }
     }
 
@@ -203,15 +213,15 @@ impl<O: Outside, W: Sink, E: Sink> Terminal<O, W, E> {
         book: Option<&CheckedBook>,
         returns: &NamedReturns<'_>,
         names: Result<FullNames, Answer>,
-        style: Style,
+        manner: Manner<'_>,
     ) -> Result<Status, Failure<'a, O::Reason>>
         ensures ends { Ends (λ ends _. IsEndOn returns.now.read.verdict ends) (W.contents self.old.out) (W.contents self.new.out) result }
         ensures silent { IfOk result (λ ends. IsSilent self.old.is_quiet ends → self.new.err ≡ self.old.err) }
         ensures told { IfOk result (λ _. IsOfElection returns.now.read.verdict (Says E.contents self.old self.new)) }
     {
         match &returns.read.verdict {
-            Verdict::Good(election) => self.write_sums(book, election, names, style),
-            Verdict::Refused(refused) => self.refuse_returns(returns, refused),
+            Verdict::Good(election) => self.write_sums(book, election, names, manner),
+            Verdict::Refused(refused) => self.refuse_returns(returns, refused, manner),
         }
     }
 
@@ -221,15 +231,15 @@ impl<O: Outside, W: Sink, E: Sink> Terminal<O, W, E> {
         book: &NamedBook<'_>,
         returns: &NamedReturns<'_>,
         names: Result<FullNames, Answer>,
-        style: Style,
+        manner: Manner<'_>,
     ) -> Result<Status, Failure<'a, O::Reason>>
         ensures ends { Ends (λ ends _. IsEndBy book.now.read.verdict returns.now.read.verdict ends) (W.contents self.old.out) (W.contents self.new.out) result }
         ensures silent { IfOk result (λ ends. IsSilent self.old.is_quiet ends → self.new.err ≡ self.old.err) }
         ensures told { IfOk result (λ _. IsOfBoth book.now.read.verdict returns.now.read.verdict (Says E.contents self.old self.new)) }
     {
         match &book.read.verdict {
-            Verdict::Good(good) => self.sum_up(Some(good), returns, names, style),
-            Verdict::Refused(refused) => self.refuse_book(book, refused),
+            Verdict::Good(good) => self.sum_up(Some(good), returns, names, manner),
+            Verdict::Refused(refused) => self.refuse_book(book, refused, manner),
         }
     }
 
@@ -252,11 +262,15 @@ impl<O: Outside, W: Sink, E: Sink> Terminal<O, W, E> {
             Some(word) => {
                 let book = self.book_at(word)?;
                 let names = self.full_names(writing.names)?;
-                self.sum_up_by(&book, &returns, names, writing.style)
+                let inputs = inputs_of(self.alloc, Some(&book), &returns, writing.style)?;
+                let manner = Manner::new("totals", writing.style, inputs.as_slice());
+                self.sum_up_by(&book, &returns, names, manner)
             }
             None => {
                 let names = self.full_names(writing.names)?;
-                self.sum_up(None, &returns, names, writing.style)
+                let inputs = inputs_of(self.alloc, None, &returns, writing.style)?;
+                let manner = Manner::new("totals", writing.style, inputs.as_slice());
+                self.sum_up(None, &returns, names, manner)
             }
         }
     }
@@ -268,17 +282,22 @@ impl<O: Outside, W: Sink, E: Sink> Terminal<O, W, E> {
         books: Vec<NamedBook<'_>>,
         election: &Returns,
         names: Result<FullNames, Answer>,
-        style: Style,
+        manner: Manner<'_>,
     ) -> Result<Status, Failure<'a, O::Reason>>
         ensures ends { Ends (λ ends _. IsDoneOrRefused ends) (W.contents self.old.out) (W.contents self.new.out) result }
         ensures untold { IfOk result (λ _. TellsNothing self.old self.new) }
     {
         match names {
             Ok(full) => {
-                let answer = comparison(self.alloc, books, election, &full, style)?;
-                self.write_text(answer.status, answer.text.as_slice())
+                let language = manner.style.language;
+                let answer = comparison(self.alloc, books, election, &full, language)?;
+                let text = manner.text(self.alloc, &answer)?;
+                self.write_text(answer.status, text.as_slice())
             }
-            Err(refusal) => self.write_text(Status::Refused, refusal.text.as_slice()),
+            Err(refusal) => {
+                let text = manner.text(self.alloc, &refusal)?;
+                self.write_text(Status::Refused, text.as_slice())
+            }
         }
     }
 
@@ -288,13 +307,13 @@ impl<O: Outside, W: Sink, E: Sink> Terminal<O, W, E> {
         books: Vec<NamedBook<'_>>,
         election: &Returns,
         names: Result<FullNames, Answer>,
-        style: Style,
+        manner: Manner<'_>,
     ) -> Result<Status, Failure<'a, O::Reason>>
         ensures ends { Ends (λ ends _. IsDoneOrRefused ends) (W.contents self.old.out) (W.contents self.new.out) result }
         ensures quiet { IfOk result (λ _. self.old.is_quiet ≡ true → self.new.err ≡ self.old.err) }
         ensures told { IfOk result (λ _. IsOfTable election.now (Says E.contents self.old self.new)) }
     {
-        let status = self.write_comparison(books, election, names, style)?;
+        let status = self.write_comparison(books, election, names, manner)?;
         if status == Status::Done {
             self.warn(None, election);
         }
@@ -307,6 +326,7 @@ impl<O: Outside, W: Sink, E: Sink> Terminal<O, W, E> {
         books: &[NamedBook<'_>],
         returns: &NamedReturns<'_>,
         refused: &RefusedElection,
+        manner: Manner<'_>,
     ) -> Result<Status, Failure<'a, O::Reason>>
         ensures ends { Ends (λ ends _. ends ≡ status.Refused) (W.contents self.old.out) (W.contents self.new.out) result }
         ensures silent { IfOk result (λ ends. IsSilent self.old.is_quiet ends → self.new.err ≡ self.old.err) }
@@ -315,9 +335,9 @@ impl<O: Outside, W: Sink, E: Sink> Terminal<O, W, E> {
         if let Some(first) = books.first()
             && let Verdict::Refused(why) = &first.read.verdict
         {
-            return self.refuse_book(first, why);
+            return self.refuse_book(first, why, manner);
         }
-        self.refuse_returns(returns, refused)
+        self.refuse_returns(returns, refused, manner)
     }
 
     // Puts rulebooks side by side, or refuses one of them or the returns. Before returns that are refused the first rulebook alone may be.
@@ -326,7 +346,7 @@ impl<O: Outside, W: Sink, E: Sink> Terminal<O, W, E> {
         books: Vec<NamedBook<'_>>,
         returns: &NamedReturns<'_>,
         names: Result<FullNames, Answer>,
-        style: Style,
+        manner: Manner<'_>,
     ) -> Result<Status, Failure<'a, O::Reason>>
         ensures ends { Ends (λ ends _. IsEndOfAll books.entry.items returns.now.read.verdict ends) (W.contents self.old.out) (W.contents self.new.out) result }
         ensures quiet { IfOk result (λ _. self.old.is_quiet ≡ true → self.new.err ≡ self.old.err) }
@@ -335,11 +355,11 @@ impl<O: Outside, W: Sink, E: Sink> Terminal<O, W, E> {
     {
         match &returns.read.verdict {
             Verdict::Good(election) => match first_refused(books.as_slice()) {
-                Some((book, refused)) => self.refuse_book(book, refused),
-                None => self.finish_comparison(books, election, names, style),
+                Some((book, refused)) => self.refuse_book(book, refused, manner),
+                None => self.finish_comparison(books, election, names, manner),
             },
             Verdict::Refused(refused) => {
-                self.refuse_comparison(books.as_slice(), returns, refused)
+                self.refuse_comparison(books.as_slice(), returns, refused, manner)
             }
         }
     }
@@ -361,6 +381,8 @@ impl<O: Outside, W: Sink, E: Sink> Terminal<O, W, E> {
         let returns = self.returns_at(returns)?;
         let books = self.books_at(books)?;
         let names = self.full_names(writing.names)?;
-        self.compare(books, &returns, names, writing.style)
+        let inputs = called_inputs(self.alloc, books.as_slice(), &returns, writing.style)?;
+        let manner = Manner::new("compare", writing.style, inputs.as_slice());
+        self.compare(books, &returns, names, manner)
     }
 }

@@ -24,6 +24,7 @@ use sl_ratio::NoMemory;
 use sl_report_warnings::warnings_of;
 use sl_stages::{Book, Returns};
 use sl_terminal_count::{Outside, Unopened};
+use sl_terminal_words::reason_in;
 use std::alloc::Global;
 use std::fmt::Display;
 
@@ -217,14 +218,19 @@ impl<O: Outside, W: Sink, E: Sink> Terminal<O, W, E> {
         let _ = write_all(&mut self.err, bytes);
     }
 
+    // A reason of the system in the language of the terminal.
+    fn reason(&self, reason: &O::Reason) -> Result<String, NoMemory> {
+        let text = format!(in self.alloc; "{reason}")?;
+        Ok(reason_in(self.alloc, self.language, text.as_str())?)
+    }
+
     // Says which input of a command could not be opened, and why.
     fn tell_unopened(&mut self, command: &str, unopened: &Unopened<'_, O::Reason>)
         ensures only { OnlyTells self.old self.new }
     {
         self.write_line(&unopened.error());
-        let (alloc, reason) = (self.alloc, &unopened.reason);
-        if let Ok(reason) = format!(in alloc; "{reason}") {
-            let (input, path) = (unopened.input, unopened.path);
+        if let Ok(reason) = self.reason(&unopened.reason) {
+            let (alloc, input, path) = (self.alloc, unopened.input, unopened.path);
             let told = explain_opening(alloc, self.language, command, input, path, reason.as_str());
             self.tell_alone(told);
         }
@@ -235,9 +241,8 @@ impl<O: Outside, W: Sink, E: Sink> Terminal<O, W, E> {
         ensures only { OnlyTells self.old self.new }
     {
         self.write_line(&DeskError::Write);
-        let alloc = self.alloc;
-        if let Ok(reason) = format!(in alloc; "{reason}") {
-            self.tell_alone(explain_writing(alloc, self.language, path, reason.as_str()));
+        if let Ok(reason) = self.reason(reason) {
+            self.tell_alone(explain_writing(self.alloc, self.language, path, reason.as_str()));
         }
     }
 

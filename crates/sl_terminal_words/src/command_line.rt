@@ -1,13 +1,31 @@
 //! The words of the command line.
 
-use crate::help::{COMMANDS, Form, Given, PROGRAM, SAME_FILE, UNKNOWN_CODE, VERSION, Word};
-use crate::hints::hint_of;
-use crate::options::{Options, options_of};
+use crate::answers::{Answer, answer_to, refuse};
+use crate::help::{COMMANDS, Form, PROGRAM, command_of};
+use crate::options::{Options, language_in, options_of};
 use crate::reports::{Report, ReportForm, form_of, report_of};
-use clap::error::ErrorKind;
-use clap::{Arg, ArgAction, ArgMatches, Command, Error};
-use sl_explain_texts::FaultCode;
+use crate::words::{Given, Word};
+use clap::{Arg, ArgAction, ArgMatches, Command};
+use sl_base_no_memory::NoMemory;
+use sl_explain_texts::{FaultCode, Language, Message, VERSION};
 use std::alloc::{AllocError, Global};
+
+// Why `code` refuses one word for its rulebook and its code file.
+const SAME_FILE: Message = Message {
+    english: "BOOK and OUT are one file, which would be lost: write the code to another",
+    german: "BOOK und OUT sind eine Datei, die verloren ginge: schreiben Sie den Code in eine andere",
+};
+
+// Why `explain` refuses a word.
+const UNKNOWN_CODE: Message = Message {
+    english: "there is no such code: a code is a letter and two digits, such as B15; docs/faults.md lists them",
+    german: "es gibt keinen solchen Code: ein Code ist ein Buchstabe und zwei Ziffern, wie B15; docs/faults.md nennt alle",
+};
+
+const NO_COMMAND: Message = Message {
+    english: "no command is given",
+    german: "es ist kein Befehl angegeben",
+};
 
 /// What is shown of an election that is counted.
 #[derive(Clone, Copy)]
@@ -106,14 +124,16 @@ fn named<'a>(arg: Arg<'a>, word: &Word, action: ArgAction) -> Arg<'a> {
 }
 
 // A word of a command, with its help.
-fn arg_of<'a>(alloc: Global, word: &Word) -> Result<Arg<'a>, AllocError> {
-    let arg = Arg::new(alloc, word.name).help(word.help);
+fn arg_of<'a>(alloc: Global, language: Language, word: &Word) -> Result<Arg<'a>, AllocError> {
+    let arg = Arg::new(alloc, word.name).help(word.help.in_language(language));
     match word.given {
         Given::Flag(against) => named(arg, word, ArgAction::SetTrue).conflicts_with_all(against),
         Given::Letter(letter) => Ok(named(arg, word, ArgAction::SetTrue).short(letter)),
-        Given::Value(value) => Ok(named(arg, word, ArgAction::Set).value_name(value)),
+        Given::Value(value) => {
+            Ok(named(arg, word, ArgAction::Set).value_name(value.in_language(language)))
+        }
         Given::Choice(value, values) => {
-            let arg = named(arg, word, ArgAction::Set).value_name(value);
+            let arg = named(arg, word, ArgAction::Set).value_name(value.in_language(language));
             Ok(arg.value_parser(values))
         }
         Given::Repeated => Ok(arg.action(ArgAction::Append).num_args(0..)),
@@ -125,19 +145,18 @@ fn arg_of<'a>(alloc: Global, word: &Word) -> Result<Arg<'a>, AllocError> {
 // The command with one more word.
 fn with_word<'a>(
     alloc: Global,
+    language: Language,
     command: Command<'a>,
     word: &Word,
 ) -> Result<Command<'a>, AllocError> {
-    command.arg(arg_of(alloc, word)?)
+    command.arg(arg_of(alloc, language, word)?)
 }
 
-// A command with its words and its help.
-fn command_of<'a>(alloc: Global, form: &Form) -> Result<Command<'a>, AllocError> {
-    let mut command = Command::new(alloc, form.name)
-        .about(form.about)
-        .after_help(form.more);
+// A command with its words and its help, but for the end of that.
+fn command<'a>(alloc: Global, language: Language, form: &Form) -> Result<Command<'a>, AllocError> {
+    let mut command = Command::new(alloc, form.name).about(form.about.in_language(language));
     for word in form.words.iter().chain(form.options) {
-        command = with_word(alloc, command, word)?;
+        command = with_word(alloc, language, command, word)?;
     }
     Ok(command)
 }
@@ -145,30 +164,25 @@ fn command_of<'a>(alloc: Global, form: &Form) -> Result<Command<'a>, AllocError>
 // The program with one more command.
 fn with_command<'a>(
     alloc: Global,
+    language: Language,
     program: Command<'a>,
     form: &Form,
 ) -> Result<Command<'a>, AllocError> {
-    program.subcommand(command_of(alloc, form)?)
-}
-
-// The command that the words name, if they name one.
-fn named_command(words: &[String]) -> Option<&str> {
-    let word = words.get(1)?.as_str();
-    if COMMANDS.iter().any(|form| form.name == word) {
-        Some(word)
-    } else {
-        None
-    }
+    program.subcommand(command(alloc, language, form)?)
 }
 
 // The program with the command that the words name, since the others have no part in what that one reads and says; with all commands where they
 // name none.
-fn program<'a>(alloc: Global, words: &[String]) -> Result<Command<'a>, AllocError> {
-    let named = named_command(words);
-    let mut program = command_of(alloc, &PROGRAM)?;
+fn program<'a>(
+    alloc: Global,
+    language: Language,
+    words: &[String],
+) -> Result<Command<'a>, AllocError> {
+    let named = command_of(words).map(|form| form.name);
+    let mut program = command(alloc, language, &PROGRAM)?;
     for form in &COMMANDS {
         if named.is_none() || named == Some(form.name) {
-            program = with_command(alloc, program, form)?;
+            program = with_command(alloc, language, program, form)?;
         }
     }
     Ok(program.version(VERSION).subcommand_required(true))
@@ -254,97 +268,52 @@ fn asked_in<'a>(alloc: Global, matches: &ArgMatches<'a>) -> Result<Option<Asked<
     }))
 }
 
-// The request, unless it would write over the rulebook that it reads.
-fn judged<'a>(
-    program: &mut Command<'_>,
-    asked: Option<Asked<'a>>,
-) -> Result<Option<Asked<'a>>, Error> {
-    match asked {
-        Some(asked) if asked.request.overwrites_its_book() => {
-            Err(program.error(ErrorKind::ArgumentConflict, SAME_FILE)?)
-        }
-        asked => Ok(asked),
-    }
-}
-
-// Whether a code is asked for that does not exist.
-fn asks_unknown_code(matches: &ArgMatches<'_>) -> bool {
+// Why words are refused that `clap` takes and that ask for nothing.
+fn unasked(matches: &ArgMatches<'_>) -> &'static Message {
     match matches.subcommand() {
-        Some(("explain", given)) => given_code(given).is_none(),
-        Some(_) | None => false,
+        Some(("explain", _)) => &UNKNOWN_CODE,
+        Some(_) | None => &NO_COMMAND,
     }
 }
 
-// The words of a refusal, without its usage and what `clap` would try.
-fn sentence_of(text: &str) -> &str {
-    let text = text.strip_prefix("error: ").unwrap_or(text);
-    match text.split_once("\n\n") {
-        Some((sentence, _)) => sentence,
-        None => text,
-    }
-}
-
-// Whether a refusal names a command that is near.
-fn names_near(kind: ErrorKind, text: &str) -> bool {
-    kind == ErrorKind::InvalidSubcommand && text.contains("similar")
-}
-
-// A command whose usage begins with the name of the program.
-fn shown_command<'a>(alloc: Global, form: &Form) -> Result<Command<'a>, AllocError> {
-    let name = form.name;
-    let shown = format!(in alloc; "seatlaw {name}")?;
-    command_of(alloc, form)?.bin_name(shown.as_str())
-}
-
-// The command of a refusal, for its usage: the one that the words name, or the program.
-fn refusing<'a>(
+// What words ask for, or what is said of them.
+fn read<'a>(
     alloc: Global,
-    words: &[String],
-    program: Command<'a>,
-) -> Result<Command<'a>, AllocError> {
-    let named = named_command(words);
-    for form in &COMMANDS {
-        if named == Some(form.name) {
-            return shown_command(alloc, form);
-        }
-    }
-    Ok(program)
-}
-
-// A refusal with what to do about it.
-fn hinted(
-    alloc: Global,
-    words: &[String],
-    program: Command<'_>,
-    error: Error,
-) -> Result<Error, AllocError> {
-    let kind = error.kind();
-    let text = format!(in alloc; "{error}")?;
-    if names_near(kind, text.as_str()) {
-        return Ok(error);
-    }
-    let Some(hint) = hint_of(alloc, words, kind)? else {
-        return Ok(error);
+    language: Language,
+    words: &'a [String],
+) -> Result<Result<Asked<'a>, Answer>, NoMemory> {
+    let mut program = program(alloc, language, words)?;
+    let matches = match program.try_get_matches_from_mut(words) {
+        Ok(matches) => matches,
+        Err(error) => return Ok(Err(answer_to(alloc, language, words, &mut program, &error)?)),
     };
-    let sentence = sentence_of(text.as_str());
-    let message = format!(in alloc; "{sentence}\n\n  tip: {hint}")?;
-    refusing(alloc, words, program)?.error(kind, message.as_str())
+    match asked_in(alloc, &matches)? {
+        Some(asked) if asked.request.overwrites_its_book() => Ok(Err(refuse(
+            alloc,
+            language,
+            &mut program,
+            &SAME_FILE,
+        )?)),
+        Some(asked) => Ok(Ok(asked)),
+        None => Ok(Err(refuse(alloc, language, &mut program, unasked(&matches))?)),
+    }
 }
 
-/// What these words ask for, of which the first is the program's name; `None` where no command is among them.
+/// What these words ask for, of which the first is the program's name, or what is said of them: in the language that `--lang` names among them, else
+/// in this one.
 ///
 /// # Errors
 ///
-/// A refusal, a help or the version by `clap`, a refusal of `code` with one word for its rulebook and its code file, a refusal of `explain` with a word that is no code, or out of memory.
-pub fn request_of<'a>(alloc: Global, words: &'a [String]) -> Result<Option<Asked<'a>>, Error> {
-    let mut program = program(alloc, words)?;
-    let matches = match program.try_get_matches_from_mut(words) {
-        Ok(matches) => matches,
-        Err(error) => return Err(hinted(alloc, words, program, error)?),
-    };
-    if asks_unknown_code(&matches) {
-        return Err(program.error(ErrorKind::InvalidValue, UNKNOWN_CODE)?);
+/// A help, the version, a refusal by `clap`, a refusal of `code` with one word for its rulebook and its code file, a refusal of `explain` with a word
+/// that is no code, or out of memory.
+pub fn request_of<'a>(
+    alloc: Global,
+    language: Language,
+    words: &'a [String],
+) -> Result<Asked<'a>, Answer> {
+    let language = language_in(words).unwrap_or(language);
+    match read(alloc, language, words) {
+        Ok(read) => read,
+        Err(NoMemory) => Err(Answer::NoMemory(language)),
     }
-    let asked = asked_in(alloc, &matches)?;
-    judged(&mut program, asked)
 }

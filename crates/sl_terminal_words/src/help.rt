@@ -1,392 +1,291 @@
 //! The commands as a table: of each its words and options, what it reads and writes, an example, and the exit statuses.
 
-/// The program's name and version, as `--version` gives them.
-pub const VERSION: &str = "1.0.0";
+use crate::statuses::{ALL, COUNTS, READS, RUNS, TELLS};
+use crate::words::{
+    BOOK, BOOKS, CODE_FILE, CODE_OPTIONS, FAULT_CODE, OPTIONAL_BOOK, OPTIONS, OUT, REPORT_OPTIONS,
+    RETURNS, STAGE_NAME, STATUTE, Word,
+};
+use sl_explain_texts::Message;
 
-/// Why `code` refuses one word for its rulebook and its code file.
-pub const SAME_FILE: &str =
-    "BOOK and OUT are one file, which would be lost: write the code to another";
-
-/// Why `explain` refuses a word.
-pub const UNKNOWN_CODE: &str =
-    "there is no such code: a code is a letter and two digits, such as B15; docs/faults.md lists them";
-
-/// How a word is given to a command.
-pub enum Given {
-    /// In its place, and it has to be there.
-    Needed,
-    /// In its place, or left out.
-    Optional,
-    /// In its place, any number of times.
-    Repeated,
-    /// By its name, and not beside these.
-    Flag(&'static [&'static str]),
-    /// By its name or by a letter.
-    Letter(char),
-    /// By its name, with a value that the help calls so.
-    Value(&'static str),
-    /// By its name, with one of these values.
-    Choice(&'static str, &'static [&'static str]),
-}
-
-/// A word of a command: its name, how it is given, and what it stands for.
-pub struct Word {
-    pub name: &'static str,
-    pub given: Given,
-    pub help: &'static str,
-}
-
-/// A command: its name, what it does in a line, its words, its options, and the end of its help.
+/// A command: its name, what it does in a line, its words, its options, what it reads and writes, an example, and its exit statuses.
+#[derive(Clone, Copy)]
 pub struct Form {
     pub name: &'static str,
-    pub about: &'static str,
+    pub about: Message,
     pub words: &'static [Word],
     pub options: &'static [Word],
-    pub more: &'static str,
+    pub more: Message,
+    pub example: &'static str,
+    pub statuses: &'static [Message],
 }
-
-// The end of a help: what is read and written, an example, and the exit statuses that the command can have: one that counts, one that runs code, one
-// that reads and counts nothing, one that reads nothing, and the program itself.
-macro_rules! ending {
-    (counts, $text:literal, $example:literal) => {
-        concat!(
-            $text,
-            "\n\nExample:\n  seatlaw ",
-            $example,
-            "\n\nExit status:\n",
-            "  0  done\n",
-            "  1  the command line is refused; standard error says why\n",
-            "  2  an input is refused; the line `refused ..` says which, why and where\n",
-            "  3  a legal fault, such as a tie without a lot; the line `fault ..` names it\n",
-            "  5  a file cannot be read or written, or memory runs out; standard error says which",
-        )
-    };
-    (runs, $text:literal, $example:literal) => {
-        concat!(
-            $text,
-            "\n\nExample:\n  seatlaw ",
-            $example,
-            "\n\nExit status:\n",
-            "  0  done\n",
-            "  1  the command line is refused; standard error says why\n",
-            "  2  an input is refused; the line `refused ..` says which, why and where\n",
-            "  3  a legal fault, such as a tie without a lot; the line `fault ..` names it\n",
-            "  4  the run of the code file takes too many steps: `out of budget`\n",
-            "  5  a file cannot be read or written, or memory runs out; standard error says which",
-        )
-    };
-    (reads, $text:literal, $example:literal) => {
-        concat!(
-            $text,
-            "\n\nExample:\n  seatlaw ",
-            $example,
-            "\n\nExit status:\n",
-            "  0  done\n",
-            "  1  the command line is refused; standard error says why\n",
-            "  2  an input is refused; the line `refused ..` says which, why and where\n",
-            "  5  a file cannot be read or written, or memory runs out; standard error says which",
-        )
-    };
-    (tells, $text:literal, $example:literal) => {
-        concat!(
-            $text,
-            "\n\nExample:\n  seatlaw ",
-            $example,
-            "\n\nExit status:\n",
-            "  0  done\n",
-            "  1  the command line is refused; standard error says why\n",
-            "  5  the output cannot be written, or memory runs out; standard error says which",
-        )
-    };
-    (all, $text:literal, $example:literal) => {
-        concat!(
-            $text,
-            "\n\nExample:\n  seatlaw ",
-            $example,
-            "\n\nExit status, of which the help of a command has its own:\n",
-            "  0  done\n",
-            "  1  the command line is refused; standard error says why\n",
-            "  2  an input is refused; the line `refused ..` says which, why and where\n",
-            "  3  a legal fault, such as a tie without a lot; the line `fault ..` names it\n",
-            "  4  of `run`: the code file takes too many steps, `out of budget`\n",
-            "  5  a file cannot be read or written, or memory runs out; standard error says which",
-        )
-    };
-}
-
-const BOOK: Word = Word {
-    name: "BOOK",
-    given: Given::Needed,
-    help: "The rulebook: a path, or @NAME for one of the library",
-};
-
-const OPTIONAL_BOOK: Word = Word {
-    given: Given::Optional,
-    ..BOOK
-};
-
-const BOOKS: Word = Word {
-    name: "BOOK",
-    given: Given::Repeated,
-    help: "Rulebooks: paths, or @NAME for one of the library",
-};
-
-const RETURNS: Word = Word {
-    name: "RETURNS",
-    given: Given::Needed,
-    help: "The returns, the numbers of an election: the path of a CSV file",
-};
-
-const STAGE_NAME: Word = Word {
-    name: "NAME",
-    given: Given::Needed,
-    help: "The name of a stage of the rulebook: the word after `stage`",
-};
-
-const OUT: Word = Word {
-    name: "OUT",
-    given: Given::Needed,
-    help: "The code file to write: a path; a file there must be empty or a code file",
-};
-
-const CODE_FILE: Word = Word {
-    name: "CODE",
-    given: Given::Needed,
-    help: "The code file, as `code` writes it: a path",
-};
-
-const STATUTE: Word = Word {
-    name: "NAME",
-    given: Given::Needed,
-    help: "1956, 1985, 2008, 2013, 2023 or 2023-order",
-};
-
-const FAULT_CODE: Word = Word {
-    name: "CODE",
-    given: Given::Needed,
-    help: "The code of a fault, as an error has it in brackets: B15",
-};
-
-const JSON: Word = Word {
-    name: "json",
-    given: Given::Flag(&[]),
-    help: "Write JSON (docs/report.md)",
-};
-
-const CSV: Word = Word {
-    name: "csv",
-    given: Given::Flag(&["json"]),
-    help: "Write comma-separated values",
-};
-
-const NAMES: Word = Word {
-    name: "names",
-    given: Given::Value("FILE"),
-    help: "Full names: the path of a CSV file of short and full ones",
-};
-
-const QUIET: Word = Word {
-    name: "quiet",
-    given: Given::Letter('q'),
-    help: "Omits explanations on standard error",
-};
-
-const LANGUAGE: Word = Word {
-    name: "lang",
-    given: Given::Choice("LANGUAGE", &["de", "en"]),
-    help: "The language of explanations, else that of the environment",
-};
-
-const FORCE: Word = Word {
-    name: "force",
-    given: Given::Flag(&[]),
-    help: "Write OUT whatever file it is, but for BOOK",
-};
-
-// The options of every command, of the one that writes a file, and those of a command that reports.
-const OPTIONS: [Word; 2] = [QUIET, LANGUAGE];
-
-const CODE_OPTIONS: [Word; 3] = [FORCE, QUIET, LANGUAGE];
-
-const REPORT_OPTIONS: [Word; 5] = [JSON, CSV, NAMES, QUIET, LANGUAGE];
 
 /// The program itself, whose words are the commands.
 pub const PROGRAM: Form = Form {
     name: "seatlaw",
-    about: "Seat tables of the Bundestag by a rulebook and returns",
+    about: Message {
+        english: "Seat tables of the Bundestag by a rulebook and returns",
+        german: "Sitztabellen des Bundestags nach einem Regelwerk und Wahlergebnissen",
+    },
     words: &[],
     options: &[],
-    more: ending!(
-        all,
-        "Each command reads files and writes to standard output; `seatlaw help COMMAND` says more.",
-        "count @2023-order returns.csv"
-    ),
+    more: Message {
+        english: "Each command reads files and writes to standard output; `seatlaw help COMMAND` says more.",
+        german: "Jeder Befehl liest Dateien und schreibt auf die Standardausgabe; mehr sagt `seatlaw help BEFEHL`.",
+    },
+    example: "count @2023-order returns.csv",
+    statuses: &ALL,
 };
 
 const COUNT: Form = Form {
     name: "count",
-    about: "Counts an election and writes its seat table",
+    about: Message {
+        english: "Counts an election and writes its seat table",
+        german: "Zählt eine Wahl aus und schreibt ihre Sitztabelle",
+    },
     words: &[BOOK, RETURNS],
     options: &OPTIONS,
-    more: ending!(
-        counts,
-        "Reads a rulebook and returns. Writes the seats in all, of each party and of each list,\n\
-         how many of them constituency winners fill, the seats that stay vacant, and the winners\n\
-         who sit by themselves or are not seated; or else the line of a legal fault.",
-        "count @2023-order returns.csv"
-    ),
+    more: Message {
+        english: "Reads a rulebook and returns. Writes the seats in all, of each party and of each list,\n\
+                  how many of them constituency winners fill, the seats that stay vacant, and the winners\n\
+                  who sit by themselves or are not seated; or else the line of a legal fault.",
+        german: "Liest ein Regelwerk und Wahlergebnisse. Schreibt die Sitze insgesamt, die jeder Partei und\n\
+                 jeder Liste, wie viele davon Wahlkreissieger besetzen, die Sitze, die unbesetzt bleiben,\n\
+                 und die Sieger, die ohne Liste sitzen oder keinen Sitz haben; oder aber die Zeile eines\n\
+                 rechtlichen Fehlers.",
+    },
+    example: "count @2023-order returns.csv",
+    statuses: &COUNTS,
 };
 
 const STEPS: Form = Form {
     name: "steps",
-    about: "Counts an election and writes the step that won each seat, then its seat table",
+    about: Message {
+        english: "Counts an election and writes the step that won each seat, then its seat table",
+        german: "Zählt eine Wahl aus und schreibt zu jedem Sitz den Schritt, der ihn brachte, dann die Sitztabelle",
+    },
     words: &[BOOK, RETURNS],
     options: &OPTIONS,
-    more: ending!(
-        counts,
-        "Reads a rulebook and returns. Writes a line for each seat of a distribution, with the\n\
-         step in which it was won and the quotient or remainder that won it; then the bounds\n\
-         between which every divisor gives just these seats; and at the end the text of `count`.\n\
-         Or else the line of a legal fault.",
-        "steps @2023-order returns.csv"
-    ),
+    more: Message {
+        english: "Reads a rulebook and returns. Writes a line for each seat of a distribution, with the\n\
+                  step in which it was won and the quotient or remainder that won it; then the bounds\n\
+                  between which every divisor gives just these seats; and at the end the text of `count`.\n\
+                  Or else the line of a legal fault.",
+        german: "Liest ein Regelwerk und Wahlergebnisse. Schreibt für jeden Sitz einer Verteilung eine Zeile\n\
+                 mit dem Schritt, in dem er gewonnen wurde, und der Höchstzahl oder dem Bruchteil, der ihn\n\
+                 brachte; dann die Grenzen, zwischen denen jeder Divisor genau diese Sitze ergibt; und am\n\
+                 Ende den Text von `count`. Oder aber die Zeile eines rechtlichen Fehlers.",
+    },
+    example: "steps @2023-order returns.csv",
+    statuses: &COUNTS,
 };
 
 const STAGE: Form = Form {
     name: "stage",
-    about: "Counts an election and writes the numbers of one stage",
+    about: Message {
+        english: "Counts an election and writes the numbers of one stage",
+        german: "Zählt eine Wahl aus und schreibt die Zahlen einer Stufe",
+    },
     words: &[BOOK, RETURNS, STAGE_NAME],
     options: &OPTIONS,
-    more: ending!(
-        counts,
-        "Reads a rulebook and returns. Writes a line for each party, Land or list with its number\n\
-         in the column of that stage, or one line for a stage that is a single number; or else\n\
-         the line of a legal fault, of this stage or of another.",
-        "stage @2013 returns.csv floor"
-    ),
+    more: Message {
+        english: "Reads a rulebook and returns. Writes a line for each party, Land or list with its number\n\
+                  in the column of that stage, or one line for a stage that is a single number; or else\n\
+                  the line of a legal fault, of this stage or of another.",
+        german: "Liest ein Regelwerk und Wahlergebnisse. Schreibt für jede Partei, jedes Land oder jede\n\
+                 Liste eine Zeile mit der Zahl in der Spalte dieser Stufe, oder eine Zeile für eine Stufe,\n\
+                 die eine einzige Zahl ist; oder aber die Zeile eines rechtlichen Fehlers, dieser Stufe\n\
+                 oder einer anderen.",
+    },
+    example: "stage @2013 returns.csv floor",
+    statuses: &COUNTS,
 };
 
 const CHECK: Form = Form {
     name: "check",
-    about: "Checks a rulebook and writes a line about it",
+    about: Message {
+        english: "Checks a rulebook and writes a line about it",
+        german: "Prüft ein Regelwerk und schreibt eine Zeile darüber",
+    },
     words: &[BOOK],
     options: &OPTIONS,
-    more: ending!(
-        reads,
-        "Reads a rulebook. Writes its version, its house, the number of its stages and the name\n\
-         of its law.",
-        "check book.law"
-    ),
+    more: Message {
+        english: "Reads a rulebook. Writes its version, its house, the number of its stages and the name\n\
+                  of its law.",
+        german: "Liest ein Regelwerk. Schreibt seine Version, sein Haus, die Zahl seiner Stufen und den\n\
+                 Namen seines Gesetzes.",
+    },
+    example: "check book.law",
+    statuses: &READS,
 };
 
 const CODE: Form = Form {
     name: "code",
-    about: "Compiles a rulebook to a code file and writes the listing of the code",
+    about: Message {
+        english: "Compiles a rulebook to a code file and writes the listing of the code",
+        german: "Übersetzt ein Regelwerk in eine Codedatei und listet den Code auf",
+    },
     words: &[BOOK, OUT],
     options: &CODE_OPTIONS,
-    more: ending!(
-        reads,
-        "Reads a rulebook. Writes its counting code to the file OUT, and then a line for each\n\
-         instruction. OUT is written if it is not there, is empty or is a code file; else the\n\
-         command line is refused. It is left empty where the rulebook is refused.",
-        "code book.law book.slc"
-    ),
+    more: Message {
+        english: "Reads a rulebook. Writes its counting code to the file OUT, and then a line for each\n\
+                  instruction. OUT is written if it is not there, is empty or is a code file; else the\n\
+                  command line is refused. It is left empty where the rulebook is refused.",
+        german: "Liest ein Regelwerk. Schreibt seinen Zählcode in die Datei OUT, und dann eine Zeile für\n\
+                 jeden Befehl des Codes. OUT wird geschrieben, wenn es fehlt, leer ist oder eine Codedatei\n\
+                 ist; sonst wird die Befehlszeile abgelehnt. Wird das Regelwerk abgelehnt, bleibt OUT leer.",
+    },
+    example: "code book.law book.slc",
+    statuses: &READS,
 };
 
 const RUN: Form = Form {
     name: "run",
-    about: "Runs a code file on returns and writes the seat table",
+    about: Message {
+        english: "Runs a code file on returns and writes the seat table",
+        german: "Wendet eine Codedatei auf Wahlergebnisse an und schreibt die Sitztabelle",
+    },
     words: &[CODE_FILE, RETURNS],
     options: &OPTIONS,
-    more: ending!(
-        runs,
-        "Reads a code file and returns. Writes what `count` writes for the rulebook behind the\n\
-         code: its seat table, or else the line of a legal fault.",
-        "run book.slc returns.csv"
-    ),
+    more: Message {
+        english: "Reads a code file and returns. Writes what `count` writes for the rulebook behind the\n\
+                  code: its seat table, or else the line of a legal fault.",
+        german: "Liest eine Codedatei und Wahlergebnisse. Schreibt, was `count` für das Regelwerk schreibt,\n\
+                 aus dem der Code stammt: die Sitztabelle, oder aber die Zeile eines rechtlichen Fehlers.",
+    },
+    example: "run book.slc returns.csv",
+    statuses: &RUNS,
 };
 
 const LAW: Form = Form {
     name: "law",
-    about: "Writes a rulebook of the library",
+    about: Message {
+        english: "Writes a rulebook of the library",
+        german: "Schreibt ein Regelwerk der Bibliothek",
+    },
     words: &[STATUTE],
     options: &OPTIONS,
-    more: ending!(
-        reads,
-        "Reads no file. Writes the text of the rulebook, from which one of your own may start.",
-        "law 2023-order"
-    ),
+    more: Message {
+        english: "Reads no file. Writes the text of the rulebook, from which one of your own may start.",
+        german: "Liest keine Datei. Schreibt den Text des Regelwerks, mit dem ein eigenes beginnen kann.",
+    },
+    example: "law 2023-order",
+    statuses: &READS,
 };
 
 const EXPLAIN: Form = Form {
     name: "explain",
-    about: "Says what the code of a fault means",
+    about: Message {
+        english: "Says what the code of a fault means",
+        german: "Sagt, was der Code eines Fehlers bedeutet",
+    },
     words: &[FAULT_CODE],
     options: &OPTIONS,
-    more: ending!(
-        tells,
-        "Reads no file. Writes what happened, an example, and what to do. Each error has its code\n\
-         in brackets: `error[B15]`.",
-        "explain B15"
-    ),
+    more: Message {
+        english: "Reads no file. Writes what happened, an example, and what to do. Each error has its code\n\
+                  in brackets: `error[B15]`.",
+        german: "Liest keine Datei. Schreibt, was geschehen ist, ein Beispiel, und was zu tun ist. Jeder\n\
+                 Fehler nennt seinen Code in Klammern: `Fehler[B15]`.",
+    },
+    example: "explain B15",
+    statuses: &TELLS,
 };
 
 const REPORT: Form = Form {
     name: "report",
-    about: "Counts an election and writes all of it as tables that people read",
+    about: Message {
+        english: "Counts an election and writes all of it as tables that people read",
+        german: "Zählt eine Wahl aus und schreibt alles daran in Tabellen zum Lesen",
+    },
     words: &[BOOK, RETURNS],
     options: &REPORT_OPTIONS,
-    more: ending!(
-        counts,
-        "Reads a rulebook and returns. Writes who takes part and why; the seats of parties and\n\
-         lists; for each distribution a divisor, the quotients, the last seat, the next claim and\n\
-         the votes missing for one more; contested lists by share; and winners without a seat.",
-        "report @2023-order returns.csv"
-    ),
+    more: Message {
+        english: "Reads a rulebook and returns. Writes who takes part and why; the seats of parties and\n\
+                  lists; for each distribution a divisor, the quotients, the last seat, the next claim and\n\
+                  the votes missing for one more; contested lists by share; and winners without a seat.",
+        german: "Liest ein Regelwerk und Wahlergebnisse. Schreibt, wer teilnimmt und warum; die Sitze der\n\
+                 Parteien und Listen; für jede Verteilung einen Divisor, die Höchstzahlen, den letzten\n\
+                 Sitz, den nächsten Anspruch und die Stimmen, die für einen weiteren fehlen; die Sieger\n\
+                 von Listen mit weniger Sitzen, nach Anteil; und die Sieger ohne Sitz.",
+    },
+    example: "report @2023-order returns.csv",
+    statuses: &COUNTS,
 };
 
 const STAGES: Form = Form {
     name: "stages",
-    about: "Counts an election and writes the numbers of all stages",
+    about: Message {
+        english: "Counts an election and writes the numbers of all stages",
+        german: "Zählt eine Wahl aus und schreibt die Zahlen aller Stufen",
+    },
     words: &[BOOK, RETURNS],
     options: &REPORT_OPTIONS,
-    more: ending!(
-        counts,
-        "Reads a rulebook and returns. Writes a line for each stage with its shape, its unit and\n\
-         its sum, and then the column of each.",
-        "stages @2013 returns.csv"
-    ),
+    more: Message {
+        english: "Reads a rulebook and returns. Writes a line for each stage with its shape, its unit and\n\
+                  its sum, and then the column of each.",
+        german: "Liest ein Regelwerk und Wahlergebnisse. Schreibt für jede Stufe eine Zeile mit ihrer Form,\n\
+                 ihrer Einheit und ihrer Summe, und dann die Spalte jeder Stufe.",
+    },
+    example: "stages @2013 returns.csv",
+    statuses: &COUNTS,
 };
 
 const TOTALS: Form = Form {
     name: "totals",
-    about: "Writes the sums of returns, and warnings of what is likely a mistake",
+    about: Message {
+        english: "Writes the sums of returns, and warnings of what is likely a mistake",
+        german: "Schreibt die Summen von Wahlergebnissen und warnt vor wahrscheinlichen Fehlern",
+    },
     words: &[RETURNS, OPTIONAL_BOOK],
     options: &REPORT_OPTIONS,
-    more: ending!(
-        reads,
-        "Reads returns, and a rulebook if one is given. Writes the votes and winners in all, by\n\
-         party and by Land; with a rulebook who takes part, and what the others lack for it.\n\
-         Seats are not counted.",
-        "totals returns.csv @2023-order"
-    ),
+    more: Message {
+        english: "Reads returns, and a rulebook if one is given. Writes the votes and winners in all, by\n\
+                  party and by Land; with a rulebook who takes part, and what the others lack for it.\n\
+                  Seats are not counted.",
+        german: "Liest Wahlergebnisse, und ein Regelwerk, wenn eines angegeben ist. Schreibt die Stimmen und\n\
+                 die Wahlkreissieger insgesamt, nach Parteien und nach Ländern; mit einem Regelwerk auch,\n\
+                 wer teilnimmt, und was den anderen dazu fehlt. Sitze werden nicht verteilt.",
+    },
+    example: "totals returns.csv @2023-order",
+    statuses: &READS,
 };
 
 const COMPARE: Form = Form {
     name: "compare",
-    about: "Counts an election by several rulebooks and writes the seats side by side",
+    about: Message {
+        english: "Counts an election by several rulebooks and writes the seats side by side",
+        german: "Zählt eine Wahl nach mehreren Regelwerken aus und schreibt die Sitze nebeneinander",
+    },
     words: &[RETURNS, BOOKS],
     options: &REPORT_OPTIONS,
-    more: ending!(
-        reads,
-        "Reads returns and rulebooks; without one, the six statutes of the library. Writes the\n\
-         seats of each party by each of them, and the first stage in which they differ from the\n\
-         first one. A legal fault stands in the column of its rulebook.",
-        "compare returns.csv @2013 @2023-order"
-    ),
+    more: Message {
+        english: "Reads returns and rulebooks; without one, the six statutes of the library. Writes the\n\
+                  seats of each party by each of them, and the first stage in which they differ from the\n\
+                  first one. A legal fault stands in the column of its rulebook.",
+        german: "Liest Wahlergebnisse und Regelwerke; ohne Regelwerk die sechs Gesetze der Bibliothek.\n\
+                 Schreibt die Sitze jeder Partei nach jedem davon, und die erste Stufe, in der ein\n\
+                 Regelwerk vom ersten abweicht. Ein rechtlicher Fehler steht in der Spalte seines\n\
+                 Regelwerks.",
+    },
+    example: "compare returns.csv @2013 @2023-order",
+    statuses: &READS,
 };
 
 /// The commands, in the order in which the help lists them.
 pub const COMMANDS: [Form; 12] = [
     COUNT, STEPS, STAGE, CHECK, CODE, RUN, LAW, EXPLAIN, REPORT, STAGES, TOTALS, COMPARE,
 ];
+
+/// The command that a word names.
+pub(crate) fn named(word: &str) -> Option<Form> {
+    for form in &COMMANDS {
+        if form.name == word {
+            return Some(*form);
+        }
+    }
+    None
+}
+
+/// The command that the words begin with, if they begin with one.
+pub(crate) fn command_of(words: &[String]) -> Option<Form> {
+    named(words.get(1)?.as_str())
+}

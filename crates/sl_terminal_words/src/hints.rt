@@ -1,8 +1,10 @@
 //! What to do about words that are refused: a command or an option that is meant, or an example.
 
-use crate::help::COMMANDS;
+use crate::help::command_of;
 use clap::error::ErrorKind;
-use std::alloc::{AllocError, Global};
+use sl_base_no_memory::NoMemory;
+use sl_explain_texts::{Language, Message};
+use std::alloc::Global;
 
 // Words that are taken for commands, and the commands.
 const MEANT: [(&str, &str); 20] = [
@@ -28,27 +30,55 @@ const MEANT: [(&str, &str); 20] = [
     ("error", "explain"),
 ];
 
-const VERSION: &str = "`seatlaw --version` writes the version";
+const CALLED: Message = Message {
+    english: "the command is called '$'",
+    german: "der Befehl heißt '$'",
+};
 
-const ALL: &str =
-    "the commands are count, steps, stage, check, code, run, law, explain, report, stages, totals and compare";
+const VERSION: Message = Message {
+    english: "`seatlaw --version` writes the version",
+    german: "`seatlaw --version` schreibt die Version",
+};
 
-const COMMAND_FIRST: &str =
-    "the command comes first, as in `seatlaw count @2023-order returns.csv`";
+const ALL: Message = Message {
+    english: "the commands are count, steps, stage, check, code, run, law, explain, report, stages, totals and compare",
+    german: "die Befehle sind count, steps, stage, check, code, run, law, explain, report, stages, totals und compare",
+};
 
-const OPTION_BEHIND: &str =
-    "an option stands behind its command, as in `seatlaw count @2023-order returns.csv --lang de`";
+const COMMAND_FIRST: Message = Message {
+    english: "the command comes first, as in `seatlaw count @2023-order returns.csv`",
+    german: "der Befehl steht vorne, wie in `seatlaw count @2023-order returns.csv`",
+};
 
-const REPORTS: &str =
-    "`--json`, `--csv` and `--names` are options of report, stages, totals and compare";
+const OPTION_BEHIND: Message = Message {
+    english: "an option stands behind its command, as in `seatlaw count @2023-order returns.csv --lang de`",
+    german: "eine Option steht hinter ihrem Befehl, wie in `seatlaw count @2023-order returns.csv --lang de`",
+};
 
-const CODE_ALONE: &str = "`--force` is an option of code";
+const REPORTS: Message = Message {
+    english: "`--json`, `--csv` and `--names` are options of report, stages, totals and compare",
+    german: "`--json`, `--csv` und `--names` sind Optionen von report, stages, totals und compare",
+};
 
-const REDIRECT: &str =
-    "a command writes to standard output: add `> FILE` to write a file, and `--json` or `--csv` to report, stages, totals or compare for another form";
+const CODE_ALONE: Message = Message {
+    english: "`--force` is an option of code",
+    german: "`--force` ist eine Option von code",
+};
 
-const STAGE: &str =
-    "NAME is a stage of the rulebook, as in `seatlaw stage @2013 returns.csv floor`; `seatlaw stages @2013 returns.csv` writes all of them";
+const REDIRECT: Message = Message {
+    english: "a command writes to standard output: add `> FILE` to write a file, and `--json` or `--csv` to report, stages, totals or compare for another form",
+    german: "ein Befehl schreibt auf die Standardausgabe: `> DATEI` dahinter schreibt eine Datei, und `--json` oder `--csv` geben report, stages, totals und compare eine andere Form",
+};
+
+const STAGE: Message = Message {
+    english: "NAME is a stage of the rulebook, as in `seatlaw stage @2013 returns.csv floor`; `seatlaw stages @2013 returns.csv` writes all of them",
+    german: "NAME ist eine Stufe des Regelwerks, wie in `seatlaw stage @2013 returns.csv floor`; `seatlaw stages @2013 returns.csv` schreibt alle Stufen",
+};
+
+const EXAMPLE: Message = Message {
+    english: "for example `seatlaw $`",
+    german: "zum Beispiel `seatlaw $`",
+};
 
 // The command that is meant by a word, in small letters.
 fn meant_by(word: &str) -> Option<&'static str> {
@@ -66,76 +96,57 @@ fn is_input(word: &str) -> bool {
 }
 
 // What to do about a word that is no command, to which none is near.
-fn about_command(alloc: Global, word: &str) -> Result<String, AllocError> {
+fn about_command(alloc: Global, language: Language, word: &str) -> Result<Vec<u8>, NoMemory> {
     if word == "version" {
-        return String::from_str(alloc, VERSION);
+        return VERSION.text(alloc, language, &[]);
     }
     if is_input(word) {
-        return String::from_str(alloc, COMMAND_FIRST);
+        return COMMAND_FIRST.text(alloc, language, &[]);
     }
     match meant_by(word) {
-        Some(command) => format!(in alloc; "the command is called '{command}'"),
-        None => String::from_str(alloc, ALL),
+        Some(command) => CALLED.text(alloc, language, &[command.as_bytes()]),
+        None => ALL.text(alloc, language, &[]),
     }
 }
 
 // What is said of an option that its command lacks.
-fn about_option(word: &str) -> Option<&'static str> {
+fn about_option(word: &str) -> Option<&'static Message> {
     let name = match word.split_once("=") {
         Some((name, _)) => name,
         None => word,
     };
     match name {
-        "--json" | "--csv" | "--names" => Some(REPORTS),
-        "--force" => Some(CODE_ALONE),
-        "--output" | "--out" | "--format" | "-o" => Some(REDIRECT),
-        "-v" => Some(VERSION),
+        "--json" | "--csv" | "--names" => Some(&REPORTS),
+        "--force" => Some(&CODE_ALONE),
+        "--output" | "--out" | "--format" | "-o" => Some(&REDIRECT),
+        "-v" => Some(&VERSION),
         _ => None,
     }
 }
 
 // What to do about an option among the words: it stands before the command, or another command has it.
-fn about_options(words: &[String]) -> Option<&'static str> {
+fn about_options(words: &[String]) -> Option<&'static Message> {
     let first = words.get(1)?.as_str();
     if first.starts_with("-") {
         return match first {
-            "-v" => Some(VERSION),
-            _ => Some(OPTION_BEHIND),
+            "-v" => Some(&VERSION),
+            _ => Some(&OPTION_BEHIND),
         };
     }
     words.iter().find_map(|word| about_option(word.as_str()))
 }
 
-// The example in the end of a help.
-fn example_in(more: &'static str) -> &'static str {
-    match more.split_once("Example:\n  ") {
-        Some((_, rest)) => match rest.split_once("\n") {
-            Some((example, _)) => example,
-            None => rest,
-        },
-        None => more,
-    }
-}
-
-// The example of a command's help.
-fn example_of(command: &str) -> Option<&'static str> {
-    for form in &COMMANDS {
-        if form.name == command {
-            return Some(example_in(form.more));
-        }
-    }
-    None
-}
-
 // What to do where a word of a command is missing.
-fn about_missing(alloc: Global, command: &str) -> Result<Option<String>, AllocError> {
-    if command == "stage" {
-        return Ok(Some(String::from_str(alloc, STAGE)?));
-    }
-    match example_of(command) {
-        Some(example) => Ok(Some(format!(in alloc; "for example `{example}`")?)),
-        None => Ok(None),
-    }
+fn about_missing(
+    alloc: Global,
+    language: Language,
+    words: &[String],
+) -> Result<Option<Vec<u8>>, NoMemory> {
+    Ok(match command_of(words) {
+        Some(form) if form.name == "stage" => Some(STAGE.text(alloc, language, &[])?),
+        Some(form) => Some(EXAMPLE.text(alloc, language, &[form.example.as_bytes()])?),
+        None => None,
+    })
 }
 
 // The word that should be a command: the first, or the one after `help`.
@@ -150,15 +161,17 @@ fn command_word(words: &[String]) -> &str {
 /// What to do about words that are refused for a reason of this kind, if more can be said than the refusal says.
 pub(crate) fn hint_of(
     alloc: Global,
+    language: Language,
     words: &[String],
     kind: ErrorKind,
-) -> Result<Option<String>, AllocError> {
-    let word = command_word(words);
+) -> Result<Option<Vec<u8>>, NoMemory> {
     match kind {
-        ErrorKind::InvalidSubcommand => Ok(Some(about_command(alloc, word)?)),
-        ErrorKind::MissingRequiredArgument => about_missing(alloc, word),
+        ErrorKind::InvalidSubcommand => {
+            Ok(Some(about_command(alloc, language, command_word(words))?))
+        }
+        ErrorKind::MissingRequiredArgument => about_missing(alloc, language, words),
         ErrorKind::UnknownArgument => match about_options(words) {
-            Some(text) => Ok(Some(String::from_str(alloc, text)?)),
+            Some(message) => Ok(Some(message.text(alloc, language, &[])?)),
             None => Ok(None),
         },
         _ => Ok(None),

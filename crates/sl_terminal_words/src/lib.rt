@@ -5,12 +5,20 @@
 //! Where an error is `NoMemory` alone, memory ran out, and nothing else is wrong.
 #![tactic(auto)]
 
+mod answers;
 mod command_line;
 mod help;
 mod hints;
 mod options;
+mod page;
+mod refusals;
 mod reports;
+mod statuses;
+mod system;
+mod words;
 
+pub use answers::Answer;
 pub use command_line::{Asked, Request, Show, request_of};
 pub use options::Options;
 pub use reports::{Report, ReportForm};
+pub use system::reason_in;

@@ -12,14 +12,38 @@ pub struct Options {
     pub language: Option<Language>,
 }
 
+// The language that a value of `--lang` asks for, if it is one.
+fn language_of(value: &str) -> Option<Language> {
+    match value {
+        "de" => Some(Language::German),
+        "en" => Some(Language::English),
+        _ => None,
+    }
+}
+
 /// The options that are given to a command.
 pub(crate) fn options_of(given: &ArgMatches<'_>) -> Options {
     Options {
         is_quiet: given.get_flag("quiet"),
-        language: match given.get_str("lang") {
-            Some("de") => Some(Language::German),
-            Some(_) => Some(Language::English),
-            None => None,
-        },
+        language: language_of(given.get_str("lang").unwrap_or("")),
     }
+}
+
+/// The language that `--lang` asks for among words that may be refused, wherever it stands there; of several the first.
+pub(crate) fn language_in(words: &[String]) -> Option<Language> {
+    let mut before = "";
+    for word in words {
+        let word = word.as_str();
+        let value = match word.strip_prefix("--lang=") {
+            Some(value) => value,
+            None if before == "--lang" => word,
+            None => "",
+        };
+        let language = language_of(value);
+        if language.is_some() {
+            return language;
+        }
+        before = word;
+    }
+    None
 }

@@ -1,5 +1,5 @@
 //! Calls that no row can make, as tests: calls that are refused memory; readers and writers that fail; inputs that are cut at every byte or have a
-//! byte changed; the adapters of std's readers and writers; and codes whose records no command shows.
+//! byte changed; the adapters of std's readers and writers; and what no command shows, such as the order in which a run records seats.
 //!
 //! Stands on `sl_test_support` and `sl_desk`; nothing stands on it. Nothing is proved but safety.
 //!
@@ -9,11 +9,15 @@
 #[cfg(test)]
 mod calls;
 #[cfg(test)]
+mod cells;
+#[cfg(test)]
 mod codes;
 #[cfg(test)]
 mod hostile;
 #[cfg(test)]
 mod marks;
+#[cfg(test)]
+mod ordered;
 #[cfg(test)]
 mod recorded;
 #[cfg(test)]

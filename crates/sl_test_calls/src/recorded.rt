@@ -7,7 +7,7 @@ use sl_code::from_bytes;
 use sl_machine::{Ending, Memory, budget, run};
 use sl_ratio::Divisor;
 use sl_returns::{ReturnsFault, read_returns};
-use sl_stages::{Item, Scope, Weight};
+use sl_stages::{Item, Scope, Shape, Weight};
 use sl_verify::{Verified, verify};
 use std::alloc::Global;
 use std::test::Fail;
@@ -52,8 +52,8 @@ const THREE_LISTS: &str =
 const THREE_SEATS: &str =
     "kind,land,party,a,b,c\nhouse,,,3,,\nland,X,,100,,\nparty,,A,0,,\nparty,,B,0,,\nlist,X,A,60,60,\nlist,X,B,30,30,\n";
 
-// The code of a file that the verifier accepts.
-fn accepted(alloc: Global, file: &[u8]) -> Result<Verified, Fail> {
+/// The code of a file that the verifier accepts.
+pub fn accepted(alloc: Global, file: &[u8]) -> Result<Verified, Fail> {
     match verify(from_bytes(alloc, file)?) {
         Ok(code) => Ok(code),
         Err((_, fault)) => Err(fault.into()),
@@ -130,6 +130,36 @@ fn records_weights(alloc: Global) -> Result<bool, Fail> {
 #[test]
 fn weights(rt: HostRuntime) -> Result<(), Fail> {
     assert!(rt; records_weights(rt.alloc())?);
+    Ok(())
+}
+
+// Whether the run of the code that halts at once records no seat, no vacant seat and no weight.
+fn records_nothing(alloc: Global) -> Result<bool, Fail> {
+    match ending(alloc, &accepted(alloc, HALT.as_bytes())?, ONE_LIST, 1)? {
+        Ending::Done(memory) => Ok(
+            memory.base() == [0].as_slice()
+                && memory.vacant() == [0].as_slice()
+                && memory.steps().is_empty()
+                && memory.weights().is_empty(),
+        ),
+        _ => Ok(false),
+    }
+}
+
+#[test]
+fn a_code_that_halts_at_once(rt: HostRuntime) -> Result<(), Fail> {
+    assert!(rt; records_nothing(rt.alloc())?);
+    Ok(())
+}
+
+// Whether a code of one slot and one instruction is given back as it was accepted.
+fn is_given_back(verified: Verified) -> bool {
+    verified.code().instrs().len() == 1 && verified.into_code().slots() == [Shape::List].as_slice()
+}
+
+#[test]
+fn an_accepted_code(rt: HostRuntime) -> Result<(), Fail> {
+    assert!(rt; is_given_back(accepted(rt.alloc(), HALT.as_bytes())?));
     Ok(())
 }
 

@@ -30,12 +30,13 @@ pub record ArePartsOf (judged : Judged) (parts : Parts) : Type 0 where
 
 -- parts one after another, and where they end
 pub record IsJoined (parts : Parts) (joined : Joined) : Type 0 where
-  pub text : joined.text.items ≡ parts.seats.items ++ parts.steps.items ++ parts.report.items ++ parts.stages.items ++ parts.explanation.items
+  pub text : joined.text.items ≡ parts.seats.items ++ parts.steps.items ++ parts.report.items ++ parts.stages.items ++ parts.totals.items ++ parts.explanation.items
   pub seats : joined.ends.seats ≡ length parts.seats.items
   pub steps : joined.ends.steps ≡ joined.ends.seats + length parts.steps.items
   pub report : joined.ends.report ≡ joined.ends.steps + length parts.report.items
   pub stages : joined.ends.stages ≡ joined.ends.report + length parts.stages.items
-  pub explanation : joined.ends.explanation ≡ joined.ends.stages + length parts.explanation.items
+  pub totals : joined.ends.totals ≡ joined.ends.stages + length parts.totals.items
+  pub explanation : joined.ends.explanation ≡ joined.ends.totals + length parts.explanation.items
 
 -- a room holds parts that end there
 pub record Hold (parts : Parts) (room : List ℕ) (at : PartEnds) : Type 0 where
@@ -43,4 +44,5 @@ pub record Hold (parts : Parts) (room : List ℕ) (at : PartEnds) : Type 0 where
   pub steps : slice_range room at.seats at.steps ≡ parts.steps.items
   pub report : slice_range room at.steps at.report ≡ parts.report.items
   pub stages : slice_range room at.report at.stages ≡ parts.stages.items
-  pub explanation : slice_range room at.stages at.explanation ≡ parts.explanation.items
+  pub totals : slice_range room at.stages at.totals ≡ parts.totals.items
+  pub explanation : slice_range room at.totals at.explanation ≡ parts.explanation.items

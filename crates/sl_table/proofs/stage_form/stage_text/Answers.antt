@@ -3,7 +3,8 @@ use Rattle.std.proofs.lemmas.List.{get_or-map}
 use Rattle.std.proofs.lemmas.Option.{get_or_from_slice_get}
 use Rattle.sl_base_terms.specs.declared.shape.Shape.TheVariants as shape
 use Rattle.sl_code_semantics.specs.Places.{cells_of}
-use Rattle.sl_table.specs.Stages.{stage_slot, stage_text}
+use Rattle.sl_table.specs.HeldStages.{stage_slot}
+use Rattle.sl_table.specs.Stages.{stage_text}
 use Rattle.sl_table.proofs.StageSlots.{column_length}
 use Rattle.sl_table.proofs.stage_form.stage_text.Goals as goal
 

@@ -1,0 +1,8 @@
+use Rattle.std.proofs.Common.{take}
+use Rattle.std.specs.List.{AllZip}
+use Rattle.sl_report_commands.specs.Summaries.{IsGoodNamed}
+use Rattle.sl_report_commands.proofs.comparison.good_books.Given as goal
+
+-- those before are good
+abbrev pub invariant-loop-named : goal.invariant-loop-named
+invariant-loop-named l = AllZip IsGoodNamed (take l.named-index l.books) l.good.items

@@ -1,0 +1,54 @@
+-- What `totals` and `compare` answer, by what their inputs come to.
+use Rattle.std.specs.List.{AllZip}
+use Rattle.std.specs.Prelude.{Any, Bool, List, None, Option, Some, true, ◌⊎◌, ◌≡◌}
+use Rattle.sl_count_inputs.specs.Books.{BookInput, IsBookVerdict}
+use Rattle.sl_count_inputs.specs.Judging.{input_of, tree_verdict}
+use Rattle.sl_count_inputs.specs.declared.refused_book.RefusedBook.{RefusedBook}
+use Rattle.sl_count_inputs.specs.declared.refused_election.RefusedElection.{RefusedElection}
+use Rattle.sl_count_inputs.specs.declared.status.Status.TheVariants as status
+use Rattle.sl_count_inputs.specs.declared.status.Status.{Status}
+use Rattle.sl_count_inputs.specs.declared.verdict.Verdict.TheVariants.{Good, Refused}
+use Rattle.sl_count_inputs.specs.declared.verdict.Verdict.{Verdict}
+use Rattle.sl_report_commands.specs.Compared.{ShowsCompared}
+use Rattle.sl_report_commands.specs.Summaries.{IsGoodNamed, IsRefusal, IsRefusedBook}
+use Rattle.sl_report_commands.specs.declared.comparison.Compared.{Compared}
+use Rattle.sl_report_commands.specs.declared.comparison.Named.{Named}
+use Rattle.sl_report_forms.specs.Tables.{Table}
+use Rattle.sl_report_tables.specs.Totals.{AreTotals}
+use Rattle.sl_stages.specs.declared.book.Book.{Book}
+use Rattle.sl_stages.specs.declared.checked.CheckedBook.{CheckedBook}
+use Rattle.sl_stages.specs.returns.Election.{Election}
+
+-- what a rulebook comes to, if one is given
+abbrev pub IsJudgedBook : Option BookInput → Option (Verdict CheckedBook RefusedBook) → Type 0
+IsJudgedBook None None = Unit {0}
+IsJudgedBook (Some input) (Some verdict) = IsBookVerdict input (tree_verdict verdict)
+IsJudgedBook None (Some verdict) = ⊥
+IsJudgedBook (Some input) None = ⊥
+
+-- the totals; or a refusal of the names, where some are given
+abbrev pub IsNamedTotals : Bool → Option Book → Election → Status → List Table → Type 0
+IsNamedTotals is_named book e ends tables = ((ends ≡ status.Done) × AreTotals book e tables) ⊎ ((is_named ≡ true) × IsRefusal ends tables)
+
+abbrev pub IsTotalsOn : Bool → Option Book → Verdict Election RefusedElection → Status → List Table → Type 0
+IsTotalsOn is_named book (Good e) = IsNamedTotals is_named book e
+IsTotalsOn is_named book (Refused why) = IsRefusal
+
+abbrev pub IsTotalsBy : Bool → Option (Verdict CheckedBook RefusedBook) → Verdict Election RefusedElection → Status → List Table → Type 0
+IsTotalsBy is_named None = IsTotalsOn is_named None
+IsTotalsBy is_named (Some (Good checked)) = IsTotalsOn is_named (Some checked.book)
+IsTotalsBy is_named (Some (Refused why)) = λ returns. IsRefusal
+
+-- rulebooks side by side; or a refusal of the names, where some are given
+abbrev pub IsNamedComparison : Bool → List Compared → Election → Status → List Table → Type 0
+IsNamedComparison is_named books e ends tables = ((ends ≡ status.Done) × ShowsCompared e books tables) ⊎ ((is_named ≡ true) × IsRefusal ends tables)
+
+-- good rulebooks, or a refusal of one of them
+abbrev pub IsComparisonOn : Bool → List Named → Election → Status → List Table → Type 0
+IsComparisonOn is_named named e ends tables =
+    ((books : List Compared) × AllZip IsGoodNamed named books × IsNamedComparison is_named books e ends tables)
+    ⊎ (IsRefusal ends tables × Any (λ n. IsRefusedBook (input_of n.book)) named)
+
+abbrev pub IsComparisonBy : Bool → List Named → Verdict Election RefusedElection → Status → List Table → Type 0
+IsComparisonBy is_named named (Good e) = IsComparisonOn is_named named e
+IsComparisonBy is_named named (Refused why) = IsRefusal

@@ -1,0 +1,181 @@
+//! What is said of words that ask for no command: a help, the version, or why they are refused.
+
+use crate::help::{Form, PROGRAM, command_of, named};
+use crate::hints::hint_of;
+use crate::page::{ending_of, page_of, usage_of};
+use crate::refusals::{TIP, refusal, sentence_in, tips_in};
+use clap::error::ErrorKind;
+use clap::{Command, Error};
+use sl_base_no_memory::NoMemory;
+use sl_explain_texts::{Language, Message, append};
+use std::alloc::{AllocError, Global};
+
+const NO_MEMORY: Message = Message {
+    english: "error: out of memory\n",
+    german: "Fehler: der Speicher reicht nicht\n",
+};
+
+/// What is said of words that ask for no command.
+#[derive(Drop)]
+pub enum Answer {
+    /// A help, or the version.
+    Shown(Vec<u8>),
+    /// Why they are refused.
+    Refused(Vec<u8>),
+    /// Memory ran out while they were read.
+    NoMemory(Language),
+}
+
+impl Answer {
+    /// Its text.
+    pub fn text(&self) -> &[u8] {
+        match self {
+            Answer::Shown(text) => text.as_slice(),
+            Answer::Refused(text) => text.as_slice(),
+            Answer::NoMemory(language) => NO_MEMORY.in_language(*language).as_bytes(),
+        }
+    }
+
+    /// Whether the text is for standard error.
+    pub fn is_refusal(&self) -> bool {
+        !matches!(self, Answer::Shown(_))
+    }
+}
+
+// The command of whose help words ask: the one that they begin with, or the one after `help`, or the program; `None` for that of `help` itself.
+fn helped(words: &[String]) -> Option<Form> {
+    let first = words.get(1).map_or("", |word| word.as_str());
+    match words.get(2) {
+        Some(word) if first == "help" => named(word.as_str()),
+        _ => Some(command_of(words).unwrap_or(PROGRAM)),
+    }
+}
+
+// A help: in English the page of `clap`, and its end.
+fn help(
+    alloc: Global,
+    language: Language,
+    words: &[String],
+    page: String,
+) -> Result<Answer, NoMemory> {
+    let form = helped(words);
+    let mut text = match language {
+        Language::English => page,
+        Language::German => page_of(alloc, language, &form.unwrap_or(PROGRAM))?,
+    };
+    if let Some(form) = form {
+        text.push_str(ending_of(alloc, language, &form)?.as_str())?;
+    }
+    Ok(Answer::Shown(text.into_bytes()))
+}
+
+// How the program is called: in English as `clap` says it, with the name by which it was called.
+fn usage_of_program(
+    alloc: Global,
+    language: Language,
+    program: &mut Command<'_>,
+) -> Result<String, AllocError> {
+    match language {
+        Language::English => program.render_usage(),
+        Language::German => usage_of(alloc, language, &PROGRAM),
+    }
+}
+
+// How the command is called that words begin with, or the program.
+fn usage(
+    alloc: Global,
+    language: Language,
+    words: &[String],
+    program: &mut Command<'_>,
+) -> Result<String, AllocError> {
+    match command_of(words) {
+        Some(form) => usage_of(alloc, language, &form),
+        None => usage_of_program(alloc, language, program),
+    }
+}
+
+/// A refusal with a sentence of this program.
+pub(crate) fn refuse(
+    alloc: Global,
+    language: Language,
+    program: &mut Command<'_>,
+    sentence: &Message,
+) -> Result<Answer, NoMemory> {
+    let usage = usage_of_program(alloc, language, program)?;
+    let sentence = sentence.in_language(language).as_bytes();
+    let text = refusal(alloc, language, sentence, &[], usage.as_bytes())?;
+    Ok(Answer::Refused(text))
+}
+
+// The words of a refusal, without its usage and what `clap` would try.
+fn sentence_of(text: &str) -> &str {
+    let text = text.strip_prefix("error: ").unwrap_or(text);
+    match text.split_once("\n\n") {
+        Some((sentence, _)) => sentence,
+        None => text,
+    }
+}
+
+// Whether a refusal names a command that is near.
+fn names_near(kind: ErrorKind, text: &str) -> bool {
+    kind == ErrorKind::InvalidSubcommand && text.contains("similar")
+}
+
+// What to do about words that `clap` refuses, with an empty line before it: what this program says of them, or else what `clap` would try.
+fn tips(
+    alloc: Global,
+    language: Language,
+    words: &[String],
+    kind: ErrorKind,
+    text: &str,
+) -> Result<Option<Vec<u8>>, NoMemory> {
+    if !names_near(kind, text) {
+        if let Some(hint) = hint_of(alloc, language, words, kind)? {
+            let mut tips = Vec::from_slice(alloc, b"\n")?;
+            let line = TIP.text(alloc, language, &[hint.as_slice()])?;
+            append(&mut tips, &[line.as_slice()])?;
+            return Ok(Some(tips));
+        }
+    }
+    match language {
+        Language::English => Ok(None),
+        Language::German => Ok(Some(tips_in(alloc, language, text)?)),
+    }
+}
+
+// A refusal by `clap`: its own English text, if there is nothing to add.
+fn refuse_by(
+    alloc: Global,
+    language: Language,
+    words: &[String],
+    program: &mut Command<'_>,
+    error: &Error,
+) -> Result<Answer, NoMemory> {
+    let text = format!(in alloc; "{error}")?;
+    let Some(tips) = tips(alloc, language, words, error.kind(), text.as_str())? else {
+        return Ok(Answer::Refused(text.into_bytes()));
+    };
+    let sentence = sentence_in(alloc, language, sentence_of(text.as_str()))?;
+    let usage = usage(alloc, language, words, program)?;
+    let (sentence, tips) = (sentence.as_slice(), tips.as_slice());
+    let text = refusal(alloc, language, sentence, tips, usage.as_bytes())?;
+    Ok(Answer::Refused(text))
+}
+
+/// What is said where `clap` gives no matches of words.
+pub(crate) fn answer_to(
+    alloc: Global,
+    language: Language,
+    words: &[String],
+    program: &mut Command<'_>,
+    error: &Error,
+) -> Result<Answer, NoMemory> {
+    match error.kind() {
+        ErrorKind::OutOfMemory => Err(NoMemory),
+        ErrorKind::DisplayVersion => {
+            Ok(Answer::Shown(format!(in alloc; "{error}")?.into_bytes()))
+        }
+        ErrorKind::DisplayHelp => help(alloc, language, words, format!(in alloc; "{error}")?),
+        _ => refuse_by(alloc, language, words, program, error),
+    }
+}
