@@ -3,6 +3,7 @@ import base64
 import json
 import os
 import pathlib
+import select
 import shutil
 import socket
 import subprocess
@@ -34,7 +35,7 @@ class Browser:
             self.child.wait()
         shutil.rmtree(self.folder, ignore_errors=True)
 
-    def wait(self, expression, seconds=30):
+    def wait(self, expression, seconds=PROMPT):
         end = time.monotonic() + seconds
         while time.monotonic() < end:
             if self.run("Boolean(%s)" % expression):
@@ -56,6 +57,16 @@ class Browser:
 
     def count(self, css):
         return self.run("document.querySelectorAll(%s).length" % json.dumps(css))
+
+    def middle(self, css):
+        """Where the middle of an element stands in the window, after it was brought into sight."""
+        return self.run("""(async () => {
+            const part = document.querySelector(%s);
+            part.scrollIntoView({ block: 'center' });
+            await new Promise(resolve => setTimeout(resolve, 50));
+            const at = part.getBoundingClientRect();
+            return [at.x + at.width / 2, at.y + at.height / 2];
+        })()""" % json.dumps(css))
 
 
 class Chromium(Browser):
@@ -87,6 +98,8 @@ class Chromium(Browser):
 
     def message(self):
         while b"\0" not in self.rest:
+            if not select.select([self.into], [], [], PROMPT)[0]:
+                raise Lost("chromium has not answered for %d seconds" % PROMPT)
             more = os.read(self.into, 1 << 20)
             if not more:
                 raise Lost("chromium has ended")
@@ -106,10 +119,31 @@ class Chromium(Browser):
             got = self.message()
             if got.get("method") == "Network.requestWillBeSent":
                 self.asked.append(got["params"]["request"]["url"])
+            elif got.get("method") == "Tracing.dataCollected":
+                self.traced += got["params"]["value"]
+            elif got.get("method") == "Tracing.tracingComplete":
+                self.is_traced = True
             if got.get("id") == self.number:
                 if "error" in got:
                     raise Lost("%s: %s" % (method, got["error"]))
                 return got["result"]
+
+    def longest(self, act):
+        """The processor time of the longest task of the page's own thread while something is done, in milliseconds: a busy machine makes it little longer."""
+        attached, self.traced, self.is_traced = self.attached, [], False
+        self.attached = None
+        self.call("Tracing.start", traceConfig={"includedCategories": ["toplevel"]}, transferMode="ReportEvents")
+        self.attached = attached
+        act()
+        self.attached = None
+        self.call("Tracing.end")
+        while not self.is_traced:
+            self.call("Browser.getVersion")
+            time.sleep(0.05)
+        self.attached = attached
+        threads = {(one["pid"], one["tid"]): one["args"]["name"] for one in self.traced if one["name"] == "thread_name"}
+        tasks = [one["tdur"] / 1000 for one in self.traced if one["name"].endswith("RunTask") and threads.get((one["pid"], one["tid"])) == "CrRendererMain" and "tdur" in one]
+        return max(tasks, default=0)
 
     def open(self, url):
         self.call("Page.navigate", url=url)
@@ -126,7 +160,7 @@ class Chromium(Browser):
 
     def place(self, css):
         box = self.run("""(async () => {
-            const part = document.querySelector(%s), frame = () => new Promise(requestAnimationFrame);
+            const part = document.querySelector(%s), frame = () => new Promise(resolve => { requestAnimationFrame(resolve); setTimeout(resolve, 500); });
             for (let i = 0; i < 3; i++) { part.scrollIntoView({ block: 'center' }); await frame(); }
             const at = part.getBoundingClientRect();
             return [at.x + at.width / 2, at.y + Math.min(at.height / 2, 20)];
@@ -142,11 +176,33 @@ class Chromium(Browser):
         self.run("document.querySelector(%s).focus()" % json.dumps(css))
         self.press(key)
 
-    def press(self, key):
-        code = {"Enter": 13, " ": 32, "ArrowLeft": 37, "ArrowRight": 39, "PageUp": 33, "PageDown": 34, "Tab": 9}.get(key, 0)
+    def press(self, key, shift=False):
+        code = {"Enter": 13, " ": 32, "ArrowLeft": 37, "ArrowUp": 38, "ArrowRight": 39, "ArrowDown": 40, "PageUp": 33, "PageDown": 34, "End": 35, "Home": 36, "Tab": 9}.get(key, 0)
         more = {"text": "\r"} if key == "Enter" else {"text": " "} if key == " " else {}
-        self.call("Input.dispatchKeyEvent", type="keyDown", key=key, code=key, windowsVirtualKeyCode=code, **more)
-        self.call("Input.dispatchKeyEvent", type="keyUp", key=key, code=key, windowsVirtualKeyCode=code)
+        how = {"key": key, "code": key, "windowsVirtualKeyCode": code, "modifiers": 8 if shift else 0}
+        self.call("Input.dispatchKeyEvent", type="keyDown", **how, **more)
+        self.call("Input.dispatchKeyEvent", type="keyUp", **how)
+
+    def type(self, text):
+        """Puts a text in where the focus is, as a paste does."""
+        self.call("Input.insertText", text=text)
+
+    def tap(self, x, y):
+        self.call("Input.dispatchTouchEvent", type="touchStart", touchPoints=[{"x": x, "y": y}])
+        self.call("Input.dispatchTouchEvent", type="touchEnd", touchPoints=[])
+
+    def drag(self, spots, touch):
+        """Drags by a mouse or a finger along these places of the window."""
+        kinds = ["touchStart", *["touchMove"] * (len(spots) - 1)] if touch else ["mousePressed", *["mouseMoved"] * (len(spots) - 1)]
+        for kind, (x, y) in zip(kinds, spots):
+            if touch:
+                self.call("Input.dispatchTouchEvent", type=kind, touchPoints=[{"x": x, "y": y}])
+            else:
+                self.call("Input.dispatchMouseEvent", type=kind, x=x, y=y, button="left", buttons=1, clickCount=1)
+        if touch:
+            self.call("Input.dispatchTouchEvent", type="touchEnd", touchPoints=[])
+        else:
+            self.call("Input.dispatchMouseEvent", type="mouseReleased", x=spots[-1][0], y=spots[-1][1], button="left", clickCount=1)
 
     def choose(self, css, path):
         self.call("DOM.setFileInputFiles", files=[str(path)], nodeId=self.node(css))
@@ -242,6 +298,18 @@ class Firefox(Browser):
     def key(self, css, key):
         self.run("document.querySelector(%s).focus()" % json.dumps(css))
         self.press(key)
+
+    def pointed(self, kind, actions):
+        self.call("WebDriver:PerformActions", actions=[{"type": "pointer", "id": kind, "parameters": {"pointerType": kind}, "actions": actions}])
+        self.call("WebDriver:ReleaseActions")
+
+    def tap(self, x, y):
+        self.pointed("touch", [{"type": "pointerMove", "x": round(x), "y": round(y)}, {"type": "pointerDown", "button": 0}, {"type": "pointerUp", "button": 0}])
+
+    def drag(self, spots, touch):
+        """Drags by a mouse or a finger along these places of the window."""
+        moves = [{"type": "pointerMove", "x": round(x), "y": round(y), "duration": 20} for x, y in spots]
+        self.pointed("touch" if touch else "mouse", [moves[0], {"type": "pointerDown", "button": 0}, *moves[1:], {"type": "pointerUp", "button": 0}])
 
     def press(self, key):
         value = {"Enter": "\ue007", "ArrowLeft": "\ue012", "ArrowRight": "\ue014", "PageUp": "\ue00e", "PageDown": "\ue00f", "Tab": "\ue004"}.get(key, key)

@@ -1,6 +1,6 @@
 """Inputs on which the page and the program are compared: those of the repository, and random ones.
 
-A case is a call of the page, `explain_` before a command for what the program writes to standard error.
+A case is a call of the page.
 """
 import pathlib
 import random
@@ -41,19 +41,19 @@ class Case(typing.NamedTuple):
 
 def reports(book, returns, names=b""):
     """The calls that report on returns, with a book and without one."""
-    yield Case("report", book, returns, names=names)
+    yield Case("report", book, returns, names=names, language="de")
     yield Case("totals", book, returns, names=names)
-    yield Case("totals", b"", returns, names=names)
+    yield Case("totals", b"", returns, names=names, language="de")
     if isinstance(book, str):
         yield Case("compare", b"", returns, "%s @2008 @2013" % book, names)
     else:
         yield Case("compare", book, returns, "@2023 book", names)
 
 
-def explanations(book, returns):
-    """The explanations of a count by a book, in both languages."""
+def shown(book, returns):
+    """All of a book on returns, in both languages."""
     for language in LANGUAGES:
-        yield Case("explain_count", book, returns, language=language)
+        yield Case("show", book, returns, language=language)
 
 
 def stages_of(book):
@@ -72,8 +72,7 @@ def examples():
             for name in ("lower", "upper", "none") if isinstance(book, str) else stages_of(book):
                 yield Case("stage", book, returns, name)
             yield from reports(book, returns)
-            yield from explanations(book, returns)
-            yield Case("show", book, returns)
+            yield from shown(book, returns)
     for law in (*LAWS, "", "1999", "2023 ", "2023\u00e4"):
         yield Case("law", name=law)
     for path in sorted(ELECTIONS.glob("20*.csv")):
@@ -98,20 +97,19 @@ def rows():
             files.update(dict.fromkeys(text for text in texts(row, ".csv") if len(text) <= LARGEST))
         for book in books:
             yield Case("check", book)
-            for language in LANGUAGES:
-                yield Case("explain_check", book, language=language)
+            yield Case("report", book, language="de")
             for returns in list(files)[:MOST]:
                 yield Case("count", book, returns)
                 yield Case("steps", book, returns)
                 for name in stages_of(book)[:2]:
                     yield Case("stage", book, returns, name)
                 yield from reports(book, returns)
-                yield from explanations(book, returns)
+                yield from shown(book, returns)
 
 
 # How often of a hundred random inputs each command is tried.
 COMMANDS = {
-    "show": 10, "count": 20, "steps": 17, "stage": 12, "check": 4, "law": 1, "report": 10, "totals": 5, "compare": 5, "explain_count": 12, "explain_check": 4,
+    "show": 20, "count": 18, "steps": 15, "stage": 12, "check": 6, "law": 1, "report": 12, "totals": 8, "compare": 8,
 }
 
 

@@ -1,6 +1,6 @@
 """Compares what the page's calls answer with what the program writes, byte for byte, and the statuses.
 
-A statute of the library is given to the page by its text; an explanation is given by the program on standard error, and names the files `book` and `returns`.
+A statute of the library is given to the page by its text; what `show` explains the program writes to standard error, and names the files `book` and `returns`.
 """
 import base64
 import json
@@ -34,19 +34,18 @@ def by_page(browser, calls):
 
 def words_of(case):
     """The words of the program for a case, whose inputs are files of a folder."""
-    command = case.command.removeprefix("explain_")
+    command = case.command
     if command == "law":
         return ["law", "--", case.name]
     book = case.book if isinstance(case.book, str) else "book"
-    names = ["--names", "names"] if case.names else []
+    json_words = ["--json", "--lang", case.language, *(["--names", "names"] if case.names else [])]
     if command in ("report", "totals"):
         inputs = [book, "returns"] if command == "report" else ["returns", *([book] if case.book else [])]
-        return [command, "--json", *names, "--", *inputs]
+        return [command, *json_words, "--", *inputs]
     if command == "compare":
-        return [command, "--json", *names, "--", "returns", *case.name.split()]
+        return [command, *json_words, "--", "returns", *case.name.split()]
     inputs = {"check": [book], "stage": [book, "returns", case.name]}.get(command, [book, "returns"])
-    language = ["--lang", case.language] if command != case.command else []
-    return [command, *language, "--", *inputs]
+    return [command, "--", *inputs]
 
 
 def explained(done):
@@ -64,14 +63,15 @@ def by_program(program, folder, case):
     if case.command == "show":
         return all_by_program(program, folder, case)
     done = subprocess.run([program, *words_of(case)], cwd=folder, capture_output=True, timeout=120)
-    return done.returncode, explained(done) if case.command.startswith("explain_") else done.stdout
+    return done.returncode, done.stdout
 
 
 def all_by_program(program, folder, case):
     """What the program writes by the commands whose texts `show` hands over behind one another, and the exit status of the count."""
-    names = ["--names", "names"] if case.names else []
-    parts = (["count", "--lang", case.language], ["steps"], ["report", "--json", *names], ["stages", "--json", *names])
-    ran = [subprocess.run([program, *words, "--", "book", "returns"], cwd=folder, capture_output=True, timeout=120) for words in parts]
+    names = ["--json", "--lang", case.language, *(["--names", "names"] if case.names else [])]
+    both = ["--", "book", "returns"]
+    parts = (["count", "--lang", case.language, *both], ["steps", *both], ["report", *names, *both], ["stages", *names, *both], ["totals", *names, "--", "returns", "book"])
+    ran = [subprocess.run([program, *words], cwd=folder, capture_output=True, timeout=120) for words in parts]
     return ran[0].returncode, b"".join(one.stdout for one in ran) + explained(ran[0])
 
 
@@ -88,14 +88,13 @@ def call_of(case, laws):
         "compare": ["\n".join(case.name.split()).encode(), book, case.returns, case.names],
         "show": [book, case.returns, case.names],
     }
-    command = case.command.removeprefix("explain_")
-    language = [case.language.encode()] if command != case.command or command == "show" else []
-    return [case.command, *language, *inputs.get(command, [book, case.returns])]
+    language = [case.language.encode()] if case.command in ("report", "totals", "compare", "show") else []
+    return [case.command, *language, *inputs.get(case.command, [book, case.returns])]
 
 
 def told(case, laws):
-    """The case of an explanation with the text of its book in place of a name, since the explanation names the file."""
-    if (case.command.startswith("explain_") or case.command == "show") and isinstance(case.book, str):
+    """A case of `show` with the text of its book in place of a name, since its explanation names the file."""
+    if case.command == "show" and isinstance(case.book, str):
         return case._replace(book=laws[case.book[1:]])
     return case
 

@@ -6,7 +6,6 @@ import subprocess
 import xml.dom.minidom
 
 import cases
-from browsers import BROWSERS
 from user import DATA, User
 
 REAL = DATA / "elections" / "2025.csv"
@@ -142,10 +141,6 @@ class Election(User):
         self.after_shown(lambda: self.do("document.activeElement.dispatchEvent(new KeyboardEvent('keydown', { key: 'ArrowLeft', shiftKey: true, bubbles: true }))"))
         self.expect("the order after a key", self.run(order)[-2:], ["AFD", "CDU"])
         self.expect("the focus", self.focus(), "chip AFD")
-        dropped = """(() => { const carried = new DataTransfer(); const from = document.querySelector('.chip[data-party="CDU"]'), to = document.querySelector('.chip[data-party="LINKE"]');
-            from.dispatchEvent(new DragEvent('dragstart', { dataTransfer: carried, bubbles: true })); to.dispatchEvent(new DragEvent('drop', { dataTransfer: carried, bubbles: true, cancelable: true })); })()"""
-        self.after_shown(lambda: self.run(dropped))
-        self.expect("the order after a drag", self.run(order)[0], "CDU")
         self.after_shown(lambda: self.browser.click('[data-key="orderBack"]'))
         self.expect("the order as it was", self.run(order)[-1], "AFD")
 
@@ -327,22 +322,6 @@ class Election(User):
         data = self.browser.downloaded("seatlaw-2023-order.png")
         self.expect("the begin of the PNG, and its width", [data[:8], int.from_bytes(data[16:20], "big")], [b"\x89PNG\r\n\x1a\n", 2096])
 
-    def both_schemes(self):
-        """Words stand out by at least 4.5 to 1 in the light and in the dark scheme."""
-        path = self.made()
-        for scheme in ("light", "dark"):
-            browser = BROWSERS[self.browser.name](self.language, scheme=scheme)
-            try:
-                browser.open(self.run("location.href"))
-                browser.wait("document.body && document.body.dataset.ready")
-                browser.choose("#returns-file", path)
-                browser.wait("document.querySelector('.house')")
-                paper, contrasts = browser.run(CONTRASTS)
-                self.expect("whether the paper is dark", sum(paper) < 200, scheme == "dark")
-                self.expect("words of little contrast in the %s scheme" % scheme, [c for c in contrasts if c[1] < 4.5], [])
-            finally:
-                browser.close()
-
     def keys_alone(self):
         """From the first seat to the last one of another party, its steps, and tables with heads for a screen reader."""
         self.begin()
@@ -367,18 +346,5 @@ class Election(User):
         self.each((
             self.landing, self.result_first, self.statutes_in_few_lines, self.labels_of_all_parties, self.edges_are_straight, self.order_is_moved, self.majority_and_sums, self.colours_are_told_apart,
             self.many_seats_are_grouped, self.shares_and_bars, self.difference_to_an_election, self.absent_parties_with_the_reason, self.comparison_with_small_houses, self.plain_words,
-            self.warnings_and_trust_at_the_result, self.scroll_bars_at_their_tables, self.fits_a_phone, self.what_if_by_a_slider, self.what_if_in_a_cell, self.picture_files, self.both_schemes,
-            self.keys_alone, self.size_of_the_file,
+            self.warnings_and_trust_at_the_result, self.scroll_bars_at_their_tables, self.fits_a_phone, self.what_if_by_a_slider, self.what_if_in_a_cell, self.picture_files, self.keys_alone, self.size_of_the_file,
         ))
-
-
-# The colour of the paper, and of each kind of words its contrast with what lies behind.
-CONTRASTS = """(() => {
-  const rgb = text => { const c = document.createElement('canvas').getContext('2d'); c.fillStyle = text; c.fillRect(0, 0, 1, 1); return [...c.getImageData(0, 0, 1, 1).data].slice(0, 3); };
-  const light = c => c.map(v => v / 255).map(v => v <= 0.03928 ? v / 12.92 : ((v + 0.055) / 1.055) ** 2.4).reduce((s, v, i) => s + v * [0.2126, 0.7152, 0.0722][i], 0);
-  const behind = part => { for (let at = part; at; at = at.parentElement) { const b = getComputedStyle(at).backgroundColor; if (b !== 'rgba(0, 0, 0, 0)' && b !== 'transparent') return rgb(b); } return [255, 255, 255]; };
-  const contrast = part => { const [a, b] = [light(rgb(getComputedStyle(part).color)), light(behind(part))]; return (Math.max(a, b) + 0.05) / (Math.min(a, b) + 0.05); };
-  document.querySelector('#giving').open = true;
-  const kinds = ['h1', 'h2', 'p', '.note', 'button', 'summary', 'td', 'th', '.change', '.method', '.warned', 'dd', 'footer p', '.chip', '.more .by', '.fewer .by', 'caption'];
-  return [rgb(getComputedStyle(document.body).backgroundColor), kinds.flatMap(css => [...document.querySelectorAll(css)].slice(0, 3).map(part => [css, Math.round(contrast(part) * 10) / 10]))];
-})()"""

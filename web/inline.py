@@ -27,7 +27,7 @@ SCRIPTS = (
     "house.js", "images.js", "tables.js", "comparison.js", "order.js", "steps.js", "margins.js", "ties.js", "changes.js", "records.js", "files.js", "sources.js",
     "inputs.js", "saving.js", "results.js", "main.js",
 )
-CALLS = "count steps stage check law explain_check explain_count report compare totals show"
+CALLS = "count steps stage check law report compare totals show"
 NEEDED = {"memory", "page_room", "page_free", *("page_" + name for name in CALLS.split())}
 
 

@@ -11,6 +11,13 @@ from browsers import Lost
 DATA = cases.EXAMPLES
 
 
+# The words of the page for stages of the library's statutes.
+STAGES = {
+    "de": {"pool": "Sitze für Listen", "lands": "Sitze der Länder", "upper": "Oberverteilung", "lower": "Unterverteilung"},
+    "en": {"pool": "Seats for lists", "lands": "Seats of the Länder", "upper": "Upper distribution", "lower": "Lower distribution"},
+}
+
+
 class User:
     """What all tests of the page share. Each thing that is wrong is printed and counted."""
 
@@ -56,8 +63,8 @@ class User:
         return [line.split(" ") for line in done.stdout.decode().splitlines()]
 
     def tables(self, command, *words):
-        """The tables of a report by their keys."""
-        done = subprocess.run([self.program, command, "--json", *map(str, words)], capture_output=True, timeout=120)
+        """The tables of a report by their keys, with sentences in the language of the page."""
+        done = subprocess.run([self.program, command, "--json", "--lang", self.language, *map(str, words)], capture_output=True, timeout=120)
         return json.loads(done.stdout)["tables"]
 
     def told(self, command, *words):
@@ -83,7 +90,7 @@ class User:
         """Does something after which the page counts, and waits for that."""
         before = self.run("document.body.dataset.counted || ''")
         act()
-        self.browser.wait("(document.body.dataset.counted || '') !== %s" % json.dumps(before), float(os.environ.get("SEATLAW_PATIENCE", 60)))
+        self.browser.wait("(document.body.dataset.counted || '') !== %s" % json.dumps(before), float(os.environ.get("SEATLAW_PATIENCE", 120)))
 
     def after_shown(self, act):
         """Does something after which the page shows its results anew."""
@@ -97,6 +104,10 @@ class User:
         act()
         self.browser.wait("document.body.dataset.taken")
         return self.run("document.body.dataset.taken.split(' ')[0]")
+
+    def stage(self, name):
+        """A stage of a statute as the page names it; a dash is no stage."""
+        return STAGES[self.language].get(name, name)
 
     def switch(self, language):
         self.after_shown(lambda: self.browser.click('[data-language="%d"]' % (language == "en")))

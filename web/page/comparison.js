@@ -36,7 +36,7 @@ const comparison = (() => {
   };
 
   // The first stage of the first statute whose numbers the other one has not.
-  const stageOf = row => (row.fault ? t("faultShort", faultName(row.fault)) : row.differs ? el("span", { title: t("differsInHelp") }, row.differs) : "–");
+  const stageOf = (row, first) => (row.fault ? t("faultShort", faultName(row.fault)) : row.differs ? steps.stageCell(row.differs, first) : "–");
 
   // The table, with the differences from the first statute.
   const part = (compared, shownId, choose) => {
@@ -50,7 +50,7 @@ const comparison = (() => {
     rows.push({ mark: "sum", data: { "data-row": "sum" }, cells: [t("house"), ...words.map(word => cell(all[word], all[words[0]], 0))] });
     rows.push({ data: { "data-row": "majority" }, cells: [t("majority"), ...words.map(word => (typeof all[word] === "number" ? house.majorityOf(all[word]) : "–"))] });
     rows.push({ data: { "data-row": "open" }, cells: [t("open"), ...given.books.map(book => (book.open === null ? { aligned: "–" } : book.open))] });
-    rows.push({ data: { "data-row": "differs" }, cells: [t("differsIn"), ...given.books.map((book, i) => (i ? stageOf(book) : book.fault ? stageOf(book) : "–"))] });
+    rows.push({ data: { "data-row": "differs" }, cells: [el("span", { title: t("differsInHelp") }, t("differsIn")), ...given.books.map((book, i) => (i || book.fault ? stageOf(book, books[0]) : "–"))] });
     return el("section", { class: "comparison", "aria-label": t("compared") },
       el("h2", {}, t("compared")),
       tableWith(t("parties"), [t("party"), ...books.map(book => headOf(compared, book, shownId, choose))], rows, { class: "compared" }),

@@ -4,7 +4,7 @@
 // The least and the greatest room for a text. A text that is longer than a room is asked for again with a larger one.
 const LEAST_ROOM = 1 << 20;
 // How many parts the text of `show` has, behind one another; any other call has one.
-const SHOWN_PARTS = 5;
+const SHOWN_PARTS = 6;
 const MOST_ROOM = 1 << 29;
 // A memory that has grown beyond this is given back after the call, since a memory never shrinks.
 const KEPT_MEMORY = 1 << 28;

@@ -1,5 +1,6 @@
 // Files that are chosen or dropped: read as far as any input may be long, and known by what the desk says of them.
 const files = (() => {
+  const NONE = new Uint8Array(0);
   const MOST = { book: 65536, returns: 4194304, names: 4194304 };
 
   // The bytes of a file, one more than may be at the most, so that the desk refuses a longer one without that all of it is read; or an error.
@@ -26,12 +27,13 @@ const files = (() => {
 
   // What a file is: the desk takes it as a rulebook, as returns, or as full names; or it is what it comes nearest to.
   const kindOf = async bytes => {
-    const book = bytes.length <= MOST.book + 1 ? await calls.ask("check", bytes) : { status: 2, bytes: new Uint8Array(0) };
+    const book = bytes.length <= MOST.book + 1 ? await calls.ask("check", bytes) : { status: 2, bytes: NONE };
     if (book.status === 0) return "book";
-    const summed = await calls.ask("totals", new Uint8Array(0), bytes, new Uint8Array(0));
+    const summed = await calls.ask("totals", encoded(word()), NONE, bytes, NONE);
     if (summed.status === 0) return "returns";
-    const near = nearest(decoded(bytes.slice(0, MOST.book)), decoded(book.bytes), decoded(summed.bytes));
-    if (near === "book" || outputs.rowOf(decoded(summed.bytes)) > 1) return near;
+    const line = outputs.reportOf(summed).fault || "";
+    const near = nearest(decoded(bytes.slice(0, MOST.book)), decoded(book.bytes), line);
+    if (near === "book" || outputs.rowOf(line) > 1) return near;
     return bytes.length && !(await names.refused(bytes)) ? "names" : near;
   };
 

@@ -2,6 +2,7 @@
 const house = (() => {
   const SIZE = 100; // the radius of the half circle in the picture
   const MOST_LABELS = 16;
+  const REACH = 2.5; // how far from a seat's middle a press still means it, in radii of the seat
   const MIDDLE = { x: 0, "text-anchor": "middle", fill: "currentColor" };
 
   // Things by a key that they have, each key with its things in their order.
@@ -137,37 +138,54 @@ const house = (() => {
     return { ring, circled };
   };
 
-  const circle = (seat, place, radius, number, book) =>
-    svg("circle", {
-      cx: (place.x * SIZE).toFixed(2), cy: (-place.y * SIZE).toFixed(2), r: (radius * SIZE).toFixed(2), class: seat.vacant ? "seat vacant" : "seat",
-      fill: seat.vacant ? "none" : null, role: "button", tabindex: number === 0 ? "0" : "-1", "aria-label": labelOf(seat), "data-seat": number,
-      "data-key": "seat " + book + " " + number,
-    });
+  // What makes the circles of seats, of which there may be thousands: each is a copy of one.
+  const circleMaker = (radius, book) => {
+    const like = svg("circle", { r: (radius * SIZE).toFixed(2), class: "seat", role: "button", tabindex: "-1" });
+    return (seat, place, number) => {
+      const made = like.cloneNode(false);
+      const own = { cx: (place.x * SIZE).toFixed(2), cy: (-place.y * SIZE).toFixed(2), "aria-label": visible(labelOf(seat)), "data-seat": number, "data-key": "seat " + book + " " + number };
+      for (const name in own) made.setAttribute(name, own[name]);
+      if (number === 0) made.setAttribute("tabindex", "0");
+      if (seat.vacant) filled(made, { class: "seat vacant", fill: "none" }, []);
+      return made;
+    };
+  };
 
-  // The seats of the house as groups of circles, and the circles in their order.
-  const drawnSeats = (groups, book, withPatterns) => {
+  const SEATS_AT_ONCE = 1000;
+
+  // The seats of the house as groups of circles, and the circles in their order; of many seats so many are made at once.
+  const drawnSeats = function* (groups, book, withPatterns) {
     const { seats, radius } = places.of(groups.map(group => group.seats.length));
+    const circle = circleMaker(radius, book);
+    yield;
     const marks = [];
-    const parts = groups.map((group, at) =>
-      svg("g", { class: "party", "data-party": group.party, "data-book": book, fill: fillOf(book, group.party, withPatterns) },
-        group.seats.map((seat, i) => {
-          marks.push(circle(seat, seats[at][i], radius, marks.length, book));
-          return marks[marks.length - 1];
-        })));
+    const parts = groups.map(group => svg("g", { class: "party", "data-party": group.party, "data-book": book, fill: fillOf(book, group.party, withPatterns) }));
+    for (const [at, group] of groups.entries()) {
+      for (const [i, seat] of group.seats.entries()) {
+        marks.push(circle(seat, seats[at][i], marks.length));
+        parts[at].append(marks[marks.length - 1]);
+        if (marks.length % SEATS_AT_ONCE === 0) yield;
+      }
+    }
     const defs = svg("defs", {}, groups.map(group => patternOf(idOf(book, group.party), group.party, (radius * SIZE * 1.1).toFixed(2))));
     return { marks, parts, defs };
   };
 
+  // The number of the seat at which a picture was pressed: on a small screen a finger is wider than a seat, so the nearest one within reach is meant.
+  const nearestSeat = (drawn, marks, event) => {
+    const at = new DOMPoint(event.clientX, event.clientY).matrixTransform(drawn.getScreenCTM().inverse());
+    const distances = marks.map(mark => Math.hypot(mark.getAttribute("cx") - at.x, mark.getAttribute("cy") - at.y));
+    const least = Math.min(...distances);
+    return marks.length && least <= REACH * marks[0].getAttribute("r") ? distances.indexOf(least) : null;
+  };
+
   // The picture, with the name of the seat under the pointer or with the focus below; choose is called with the number of the seat that is clicked.
-  const picture = (result, winOf, withPatterns, choose) => {
+  const picture = function* (result, winOf, withPatterns, choose) {
     const groups = groupsOf(result.table, winOf);
-    const { marks, parts, defs } = drawnSeats(groups, result.book.id, withPatterns);
+    const { marks, parts, defs } = yield* drawnSeats(groups, result.book.id, withPatterns);
+    yield;
     const group = svg("g", { role: "group", "aria-label": t("houseSeats"), class: "seats" }, parts);
     const firsts = groups.map((_, at) => groups.slice(0, at).reduce((sum, own) => sum + own.seats.length, 0));
-    group.addEventListener("click", event => {
-      const seat = event.target.closest("circle");
-      if (seat) choose(Number(seat.dataset.seat));
-    });
     const name = el("p", { class: "seat-name", "aria-hidden": "true" }, "\u00a0");
     for (const kind of ["mouseover", "focusin"]) {
       group.addEventListener(kind, event => {
@@ -178,6 +196,12 @@ const house = (() => {
     withKeys(group, marks, firsts, choose, circled);
     const drawn = svg("svg", { viewBox: "-131 -122 262 126", class: "house", role: "group", "aria-label": t("houseLabel", String(result.table.total)) },
       defs, group, ring, svg("g", { "aria-hidden": "true", class: "around" }, labels(groups), middle(result.table.total)));
+    drawn.addEventListener("click", event => {
+      const number = nearestSeat(drawn, marks, event);
+      if (number === null) return;
+      marks[number].focus({ preventScroll: true });
+      choose(number);
+    });
     return [drawn, name];
   };
 

@@ -7,6 +7,10 @@ const images = (() => {
     const copy = picture.cloneNode(true);
     for (const [name, value] of Object.entries({ xmlns: SVG, width: 1048, height: 504, color: "#1c1c1c", "font-family": "system-ui, sans-serif" })) copy.setAttribute(name, value);
     for (const name of ["class", "role", "aria-label"]) copy.removeAttribute(name);
+    for (const party of copy.querySelectorAll("g.party")) {
+      party.setAttribute("stroke", "#6f6f6f");
+      party.setAttribute("stroke-width", "0.2");
+    }
     for (const seat of copy.querySelectorAll("circle")) {
       if (seat.classList.contains("vacant")) {
         seat.setAttribute("stroke", "#1c1c1c");

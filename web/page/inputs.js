@@ -75,8 +75,8 @@ const inputs = (() => {
   const showBooks = changed => renewed(byId("books"), state.laws.map(law => lawRow(law, changed)));
 
   // A refused rulebook: its text with a mark at the place, and below that line what is said of it.
-  const marked = ({ text }, told) => {
-    const [from, to] = explanations.spanOf(text, told.place);
+  const marked = ({ text, bytes }, told) => {
+    const [from, to] = explanations.spanOf(bytes, told.place);
     const word = text.slice(from, to).trimEnd();
     const length = text.slice(from).search(/[\r\n]|$/);
     const rest = text.slice(from + length).replace(/^(\r\n|\r|\n)/, "");
@@ -91,7 +91,7 @@ const inputs = (() => {
       const words = own.line.split(" ");
       return el("p", { class: "good" }, el("bdi", {}, own.name), ": ", t("bookGood", words[1], words[3], words[5]));
     }
-    const told = own.told && own.told[language];
+    const told = own.told.get(language);
     const place = told && told.place;
     return el("div", { class: "refused", role: "alert" },
       el("p", {}, el("strong", {}, t("refusedBook")), " ", el("bdi", {}, own.name), place ? " (" + t("lineColumn", place.line, place.column) + ")" : ""),
@@ -101,13 +101,20 @@ const inputs = (() => {
 
   const showOwn = () => renewed(byId("own-answer"), state.own ? bookAnswer(state.own) : null);
 
+  // Asks why the user's rulebook is refused, where that is not known in the language of the page.
+  const translateBook = async () => {
+    const { own } = state;
+    const spoken = language;
+    if (own && !own.good && !own.told.has(spoken)) own.told.set(spoken, await answers.refusedBook(own.bytes));
+  };
+
   // Takes a rulebook of the user's, which the desk judges. What is typed in the text stays as it is; a file takes its place.
   const takeBook = async (name, bytes, isFile) => {
     const answer = await calls.ask("check", bytes);
     const good = answer.status === 0;
-    const told = answer.status === 2 ? await explanations.ask("check", bytes) : null;
     const line = decoded(answer.bytes).trimEnd() || answer.error || "";
-    state.own = { name, bytes, text: decoded(bytes), line, good, told };
+    state.own = { name, bytes, text: decoded(bytes), line, good, told: new Map() };
+    await translateBook();
     if (good) state.shown = OWN_ID;
     if (isFile) byId("own-text").value = state.own.text;
     byId("own").open = byId("own").open || !good;
@@ -133,7 +140,12 @@ const inputs = (() => {
     if (state.refusal) byId("records-part").open = true;
     renewed(byId("returns-answer"), records.answer());
     if (byId("records-part").open) records.show(change);
-    renewed(byId("totals"), result && result.totals ? [tables.totals(result), el("p", { class: "note" }, t("totalsNote"))] : null);
+    showTotals(result);
+  };
+
+  // The sums of the returns, where that part is open.
+  const showTotals = result => {
+    if (byId("totals-part").open) renewed(byId("totals"), result && result.totals ? [tables.totals(result), el("p", { class: "note" }, t("totalsNote"))] : null);
   };
 
   const withRecords = (name, bytes) => {
@@ -173,5 +185,5 @@ const inputs = (() => {
     change();
   };
 
-  return { chosenBooks, shownBook, readLaws, showBooks, showOwn, takeBook, removeBook, showReturns, takeReturns, change, clear, append };
+  return { chosenBooks, shownBook, readLaws, showBooks, showOwn, takeBook, translateBook, removeBook, showReturns, showTotals, takeReturns, change, clear, append };
 })();

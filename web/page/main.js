@@ -22,12 +22,16 @@ const page = (() => {
   const showResults = async () => {
     const turn = ++showing;
     const result = shownResult();
-    const made = result && !results.isRefused(result) ? await results.articleInTurns(result, () => turn === showing) : null;
-    if (turn !== showing) return;
+    const isStill = () => turn === showing;
+    await answers.translated(result);
+    const made = result && isStill() && !results.isRefused(result) ? await results.articleInTurns(result, isStill) : null;
+    const side = made && state.compared ? comparison.part(state.compared, state.shownId, showBook) : null;
+    await pause();
+    if (!isStill()) return;
     byId("result-part").hidden = !result || results.isRefused(result);
     results.showHead(result);
-    renewed(byId("comparison"), state.compared ? comparison.part(state.compared, state.shownId, showBook) : null);
-    renewed(byId("results"), made);
+    await renewedInTurns([[byId("comparison"), side], [byId("results"), made]], [...(side ? [side] : []), ...(made ? results.turnsOf(made) : [])]);
+    if (!isStill()) return;
     if (state.isOld) markOld();
     document.body.dataset.shown = String(turn);
   };
@@ -48,7 +52,7 @@ const page = (() => {
     const given = { ...state.returns, base: state.base, changes: changes.copy(state.changes) };
     const { bytes } = given;
     const book = inputs.shownBook(books);
-    const result = book ? await answers.of(book, bytes) : await answers.withoutBook(state.laws[state.laws.length - 1], bytes);
+    const result = book ? await answers.of(book, bytes) : await answers.withoutBook(bytes);
     if (!isStill()) return null;
     const compared = books.length > 1 && result.status !== 2 ? await answers.compared(books, bytes) : null;
     result.given = given;
@@ -56,18 +60,19 @@ const page = (() => {
     return isStill() ? { book, result, compared } : null;
   };
 
-  // Counts anew; a later count takes the place of one that is under way. Whatever goes wrong is told, and the count is over.
-  const recount = async () => {
+  // Counts anew; a later count takes the place of one that is under way. Whatever goes wrong is told, and the count is over. Of returns that were just
+  // given the result comes into sight.
+  const recount = async (isGiven = false) => {
     const turn = ++state.turn;
     try {
-      await counted(turn);
+      await counted(turn, isGiven);
     } catch (error) {
       say("failedPart", String(error));
       document.body.dataset.counted = String(turn);
     }
   };
 
-  const counted = async turn => {
+  const counted = async (turn, isGiven) => {
     markOld();
     if (!state.returns) {
       Object.assign(state, { results: new Map(), compared: null, refusal: null, shownId: null, counted: "" });
@@ -86,9 +91,20 @@ const page = (() => {
     Object.assign(state, { results: new Map([[id, found.result]]), shownId: id, compared: found.compared, counted: state.returns.name });
     state.refusal = found.result.status === 2 && found.result.text.startsWith("refused returns") ? found.result : null;
     await shownAll(found.result);
+    if (isGiven && turn === state.turn) await showFirst(found.result);
     if (turn !== state.turn) return;
     say(state.refusal ? "refusedShort" : found.book ? "counted" : "noBookChosen", state.returns.name);
     document.body.dataset.counted = String(turn);
+  };
+
+  // Brings the result of returns that were just given into sight, or why they are refused, and folds what was given.
+  const showFirst = async result => {
+    if (state.refusal) byId("returns-answer").scrollIntoView();
+    if (result.status === 2 || !result.book) return;
+    byId("giving").open = false;
+    await drawn();
+    byId("result-part").focus({ preventScroll: true });
+    byId("work").scrollIntoView();
   };
 
   // What stands there is that of the last count.
@@ -100,6 +116,7 @@ const page = (() => {
 
   const shownAll = async result => {
     markNew();
+    await answers.translated(result);
     inputs.showReturns(result, changeCell);
     if (state.refusal || result.status !== 0) byId("giving").open = byId("giving").open || Boolean(state.refusal);
     await pause();
@@ -120,7 +137,7 @@ const page = (() => {
     clearTimeout(soon);
     inputs.change();
     markOld();
-    soon = setTimeout(recount, 30);
+    soon = setTimeout(() => recount(), 30);
   };
 
   const changeCell = (number, k, text) => {
@@ -172,15 +189,18 @@ const page = (() => {
     shown(byId("template-text"), TEMPLATE);
   };
 
-  const showAll = () => {
+  // Shows all in the language of the page; what the program says in it may have to be asked for.
+  const showAll = async () => {
     showWords();
     say(...said);
     showElections();
     inputs.showBooks(recount);
-    inputs.showOwn();
     showNames();
-    inputs.showReturns(shownResult(), changeCell);
     showColours();
+    await inputs.translateBook();
+    inputs.showOwn();
+    await answers.translated(shownResult());
+    inputs.showReturns(shownResult(), changeCell);
     return showResults();
   };
 
@@ -197,13 +217,7 @@ const page = (() => {
   const takeReturns = async (name, bytes) => {
     tell([]);
     inputs.takeReturns(name, bytes);
-    await recount();
-    const result = shownResult();
-    if (state.refusal) byId("returns-answer").scrollIntoView();
-    if (!result || result.status === 2 || !result.book) return;
-    byId("giving").open = false;
-    byId("result-part").focus({ preventScroll: true });
-    byId("work").scrollIntoView();
+    await recount(true);
   };
 
   const takeElection = (year, law) => {
@@ -332,7 +346,7 @@ const page = (() => {
       say("cancelled");
       calls.cancel();
     });
-    onClick("again", recount);
+    onClick("again", () => recount());
     onClick("print", () => window.print());
     byId("patterns").addEventListener("change", event => {
       state.withPatterns = event.target.checked;
@@ -342,6 +356,7 @@ const page = (() => {
     byId("before").addEventListener("change", event => takeBefore(event.target.value));
     byId("colours-part").addEventListener("toggle", showColours);
     byId("whatif-part").addEventListener("toggle", results.showForm);
+    byId("totals-part").addEventListener("toggle", () => inputs.showTotals(shownResult()));
     byId("records-part").addEventListener("toggle", () => state.returns && byId("records-part").open && records.show(changeCell));
   };
 

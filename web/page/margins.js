@@ -8,16 +8,20 @@ const margins = (() => {
 
   const keyOf = row => row.stage + " " + row.scope;
   const scopeOf = row => row.scope.split(" ");
-  const nameOf = row => t("stageOf", row.stage, steps.scopeName(scopeOf(row)));
+  const nameOf = (row, book) => t("stageOf", steps.stageName(row.stage, book), steps.scopeName(scopeOf(row)));
+
+  // The entries that won a last seat, or have the next claim.
+  const entriesOf = (result, row, all) => (all ? all.map(name => names.entry(name, shapes.kindOf(result, row.stage, scopeOf(row), name))).join(", ") : "–");
 
   // The scopes, with the quotients of the lines `bounds`.
-  const scopes = (rows, allBounds) => {
-    const bounds = new Map(allBounds.map(b => [b.stage + " " + b.scope.join(" "), b]));
+  const scopes = result => {
+    const rows = result.report.scopes;
+    const bounds = new Map(result.steps.bounds.map(b => [b.stage + " " + b.scope.join(" "), b]));
     const cellsOf = row => {
       const own = bounds.get(keyOf(row));
       return [
-        row.stage, steps.scopeName(scopeOf(row)), row.seats, { aligned: divisor(row, own) },
-        own ? steps.quotient(own.last) : "–", row.last || "–", own ? steps.quotient(own.next) : "–", row.next || "–",
+        steps.stageCell(row.stage, result.book), steps.scopeName(scopeOf(row)), row.seats, { aligned: divisor(row, own) },
+        own ? steps.quotient(own.last) : "–", entriesOf(result, row, row.last), own ? steps.quotient(own.next) : "–", entriesOf(result, row, row.next),
       ];
     };
     const heads = ["stage", "scope", "seats", "divisor", "last", "lastOf", "next", "nextOf"];
@@ -29,13 +33,12 @@ const margins = (() => {
     const rows = result.report.entries.filter(row => keyOf(row) === keyOf(scope));
     const withMinima = rows.some(row => row.minimum !== null);
     const number = value => (value === null ? { aligned: "–" } : value);
-    const kindOf = row => shapes.kindOf(result, row.stage, scopeOf(row), row.entry);
     const cellsOf = row => [
-      names.entry(row.entry, kindOf(row)), row.votes, { aligned: row.quotient === null ? "–" : decimal(row.quotient) }, row.seats, ...(withMinima ? [number(row.minimum)] : []), number(row.missing),
+      names.entry(row.entry, shapes.ofRow(row)), row.votes, { aligned: row.quotient === null ? "–" : decimal(row.quotient) }, row.seats, ...(withMinima ? [number(row.minimum)] : []), number(row.missing),
     ];
-    const weight = rows.length && kindOf(rows[0]) === "land" && scope.scope === "all" ? "people" : "votes";
+    const weight = rows.length && shapes.ofRow(rows[0]) === "land" && scope.scope === "all" ? "people" : "votes";
     const heads = ["entry", weight, "quotient", "seats", ...(withMinima ? ["minimum"] : []), "missing"];
-    return tableWith(nameOf(scope), heads.map(head => t(head)), rows.map(row => ({ data: { "data-entry": row.entry }, cells: cellsOf(row) })), { class: "missing" });
+    return tableWith(nameOf(scope, result.book), heads.map(head => t(head)), rows.map(row => ({ data: { "data-entry": row.entry }, cells: cellsOf(row) })), { class: "missing" });
   };
 
   const all = result => opened("bounds", t("bounds"), body => {
@@ -43,9 +46,9 @@ const margins = (() => {
     const scopeByKey = new Map(result.report.scopes.map(row => [keyOf(row), row]));
     return shown(body,
       el("p", { class: "note" }, t("boundsNote")),
-      scopes(result.report.scopes, result.steps.bounds),
+      scopes(result),
       el("p", { class: "note" }, t("missingNote")),
-      chooser("bounds-scope", t("scope"), [...scopeByKey].map(([key, row]) => [key, nameOf(row)]), key => entries(result, scopeByKey.get(key))));
+      chooser("bounds-scope", t("scope"), [...scopeByKey].map(([key, row]) => [key, nameOf(row, result.book)]), key => entries(result, scopeByKey.get(key))));
   }, { class: "bounds" });
 
   return { all };

@@ -24,8 +24,8 @@ const names = (() => {
 
   // Tries a file: nothing where the program takes it, or else the line with which it is refused.
   const refused = async bytes => {
-    const { status, bytes: text, error } = await calls.ask("totals", NONE, encoded(TRIAL), bytes);
-    return status === 0 ? null : decoded(text).trimEnd() || error || t("failedCall", status);
+    const answer = await calls.ask("totals", encoded(word()), NONE, encoded(TRIAL), bytes);
+    return answer.status === 0 ? null : outputs.reportOf(answer).fault || answer.error || t("failedCall", answer.status);
   };
 
   const use = given => {

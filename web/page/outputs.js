@@ -71,8 +71,11 @@ const outputs = (() => {
     return digits.slice(0, -2) + "." + digits.slice(-2);
   };
 
-  // The tables of a report in JSON; nothing where the call did not come to them.
-  const tablesOf = ({ status, bytes }) => (status === 0 ? JSON.parse(decoded(bytes)).tables : null);
+  // What a command that reports has written as JSON; where the call failed, a report without anything.
+  const reportOf = ({ status, bytes }) => (status < NO_MEMORY ? JSON.parse(decoded(bytes)) : { status, fault: null, explanation: null, tables: null });
 
-  return { linesOf, tableOf, stepsOf, columnOf, faultOf, rowOf, cut, tablesOf };
+  // The tables of a report; nothing where it did not come to them.
+  const tablesOf = ({ status, tables }) => (status === 0 ? tables : null);
+
+  return { linesOf, tableOf, stepsOf, columnOf, faultOf, rowOf, cut, reportOf, tablesOf };
 })();

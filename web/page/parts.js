@@ -34,6 +34,16 @@ const shown = (element, ...children) => {
 
 const pause = () => new Promise(resolve => setTimeout(resolve, 0));
 
+// Waits until the browser has drawn what stands there; in a window that is not seen, a moment.
+const drawn = () =>
+  new Promise(resolve => {
+    const soon = setTimeout(resolve, 200);
+    requestAnimationFrame(() => {
+      clearTimeout(soon);
+      setTimeout(resolve, 0);
+    });
+  });
+
 const button = (key, press, attributes) => el("button", { type: "button", "data-key": key, onclick: press, ...attributes }, t(key));
 
 // Which parts are open and what is chosen in them, by their keys: it outlives that the parts are made anew. In a page that is saved all of them are filled.
@@ -72,19 +82,46 @@ const chooser = (key, label, options, partOf) => {
   return [el("label", {}, label, " ", select), place];
 };
 
-// Makes a part of the page anew, and gives the focus back to what has the key of the part that had it.
-const renewed = (root, ...children) => {
+// What gives the focus back to what has the key of the part of the page that has it now, when that part was made anew.
+const heldFocus = root => {
   const active = document.activeElement;
   const key = active && root.contains(active) ? active.dataset.key : null;
   const [from, to] = key && "selectionStart" in active && active.type !== "number" && active.type !== "range" ? [active.selectionStart, active.selectionEnd] : [null, null];
-  shown(root, ...children);
-  const again = key && root.querySelector('[data-key="' + CSS.escape(key) + '"]');
-  if (!again) return;
-  again.focus({ preventScroll: true });
-  if (from !== null && again.setSelectionRange) again.setSelectionRange(from, to);
+  return () => {
+    const again = key && root.querySelector('[data-key="' + CSS.escape(key) + '"]');
+    if (!again) return;
+    again.focus({ preventScroll: true });
+    if (from !== null && again.setSelectionRange) again.setSelectionRange(from, to);
+  };
 };
 
-const FIRST_ROWS = 200; // rows of a table that are made at once
+// Makes a part of the page anew, and keeps the focus.
+const renewed = (root, ...children) => {
+  const focusAgain = heldFocus(root);
+  shown(root, ...children);
+  focusAgain();
+};
+
+const AT_ONCE = 3000; // elements that are drawn at once
+
+// Puts new contents into roots, pairs of both, and keeps the focus. Many elements are drawn part by part, so that they do not block the page; meanwhile each
+// root stays as high as it was.
+const renewedInTurns = async (contents, parts) => {
+  const focuses = contents.map(([root]) => heldFocus(root));
+  const inTurns = parts.reduce((sum, part) => sum + part.querySelectorAll("*").length, 0) > AT_ONCE ? parts : [];
+  if (inTurns.length) await drawn();
+  for (const [root] of inTurns.length ? contents : []) root.style.minHeight = root.offsetHeight + "px";
+  for (const part of inTurns) part.classList.add("not-yet");
+  for (const [root, content] of contents) shown(root, content);
+  for (const part of inTurns) {
+    part.classList.remove("not-yet");
+    await drawn();
+  }
+  for (const [root] of contents) root.style.minHeight = "";
+  for (const focusAgain of focuses) focusAgain();
+};
+
+const FIRST_CELLS = 600; // cells of a table that are made at once
 const MORE_ROWS = 1000;
 
 // A cell is a number, a text, an element or a list of these, or { aligned } for a text that stands where numbers do, or { plain, kind } with a class.
@@ -98,6 +135,23 @@ const cellWith = (cell, i, heads) => {
 const rowWith = (row, heads) =>
   el("tr", { class: row.mark || null, ...(row.data || {}) }, (row.cells || row).map((cell, i) => cellWith(cell, i, heads)));
 
+const FIRST_ITEMS = 20; // items of a list that are made at once
+const MORE_ITEMS = 500;
+
+// A list; of many items the first ones, with how many there are and a button for more.
+const listWith = (items, itemOf) => {
+  const list = el("ul", {});
+  const rest = el("p", { class: "note" });
+  let made = 0;
+  const add = count => {
+    list.append(...items.slice(made, made + count).map(itemOf));
+    made = Math.min(items.length, made + count);
+    shown(rest, made === items.length ? null : [t("someOf", grouped(made), grouped(items.length)), " ", button("moreItems", () => add(MORE_ITEMS))]);
+  };
+  add(FIRST_ITEMS);
+  return [list, rest];
+};
+
 // A table with a caption and heads, { head, kind, title } or a text; the first cell of a row is its head. Of many rows the first ones, and a button for more.
 const tableWith = (caption, heads, rows, attributes) => {
   const body = el("tbody", {});
@@ -110,7 +164,7 @@ const tableWith = (caption, heads, rows, attributes) => {
     more.hidden = made === rows.length;
     more.textContent = t("moreRows", grouped(Math.min(MORE_ROWS, rows.length - made)), grouped(rows.length - made));
   };
-  add(kept.isWhole ? rows.length : FIRST_ROWS);
+  add(kept.isWhole ? rows.length : Math.ceil(FIRST_CELLS / heads.length));
   more.addEventListener("click", () => add(MORE_ROWS));
   const headOf = head => el("th", { scope: "col", class: head.kind || null, title: head.title || null }, head.head === undefined ? head : head.head);
   return el("div", { class: "scrolls", tabindex: "0", role: "region", "aria-label": caption },

@@ -8,7 +8,7 @@ const records = (() => {
   // The number of the record that is refused, with what is said of it, if it is.
   const refused = () => {
     const result = state.refusal;
-    return result && { line: result.text.trimEnd(), row: outputs.rowOf(result.text.trimEnd()), told: result.told && result.told[language] };
+    return result && { line: result.text.trimEnd(), row: outputs.rowOf(result.text.trimEnd()), told: answers.saidOf(result).told };
   };
 
   // Puts an input in place of a cell: Enter takes what is typed, Escape leaves it.
@@ -50,7 +50,7 @@ const records = (() => {
 
   const rowOf = (record, number, fault) => {
     const isBad = fault && fault.row === number + 1;
-    const bad = isBad && fault.told && fault.told.place ? returns.cellsIn(record, explanations.spanOf(state.returns.text, fault.told.place)) : [];
+    const bad = isBad && fault.told && fault.told.place ? returns.cellsIn(record, explanations.spanOf(state.returns.bytes, fault.told.place)) : [];
     const cells = cellsOf(record).map((text, k) => cell(record, number, k, text, { bad, changed: changedOf(number) }));
     const head = el("th", { scope: "row" }, String(number + 1), isBad ? el("strong", {}, " ← " + t("refusedRecord")) : null);
     return [

@@ -9,16 +9,16 @@ const results = (() => {
   // A legal fault; of a tie with the form in which it is drawn.
   const legalFault = (result, line) => {
     const fault = outputs.faultOf(line);
-    const told = result.told && result.told[language];
+    const { told } = answers.saidOf(result);
     const add = lots => {
       inputs.append(lots);
       acts.recount();
     };
     const form = fault.kind === "tie" && !kept.isWhole ? ties.form(fault, told, add) : null;
     return el("div", { class: "fault" },
-      el("p", { role: "alert" }, el("strong", {}, t("fault")), " (", fault.stage, ", ", steps.scopeName(fault.scope), ")"),
+      el("p", { role: "alert" }, el("strong", {}, t("fault")), " (", steps.stageCell(fault.stage, result.book), ", ", steps.scopeName(fault.scope), ")"),
       el("p", {}, el("code", {}, line)),
-      explanations.part(form ? ties.withoutRecords(told) : told),
+      explanations.part(told),
       form);
   };
 
@@ -26,7 +26,7 @@ const results = (() => {
   const refusal = result => {
     const line = result.text.trimEnd();
     if (result.status === 3) return legalFault(result, line);
-    const told = explanations.part(result.told && result.told[language]);
+    const told = explanations.part(answers.saidOf(result).told);
     if (result.status === 2) return el("div", { class: "refused" }, el("p", {}, el("strong", {}, t("refusedOther")), ": ", el("code", {}, line)), told);
     const why = { [NO_MEMORY]: "noMemory", [LOST]: "lostWorker" }[result.status] || "failedCall";
     return el("div", { class: "refused", role: "alert" }, el("p", {}, t(why, result.status)),
@@ -34,7 +34,7 @@ const results = (() => {
   };
 
   // The picture of the house with the parties in their order; a seat that is chosen shows its steps, and stays chosen when all is made anew.
-  const pictured = result => {
+  const pictured = function* (result) {
     const detail = el("div", { class: "seat-steps", "aria-live": "polite" });
     const winnerOf = winnersOf(result);
     const choose = number => {
@@ -42,24 +42,27 @@ const results = (() => {
       const seat = house.seatAt(result, winnerOf, number);
       shown(detail, seat ? steps.ofSeat(result, seat) : null);
     };
-    const part = el("div", { class: "pictured" }, house.picture(result, winnerOf, state.withPatterns, choose), order.part(result, winnerOf, () => acts.show()), detail);
+    const picture = yield* house.picture(result, winnerOf, state.withPatterns, choose);
+    const part = el("div", { class: "pictured" }, picture, order.part(result, winnerOf, () => acts.show()), detail);
     if (state.seat !== null) choose(state.seat);
     return part;
   };
 
-  // The parts of a result with a table, which are made one after the other.
+  // The parts of a result with a table: the picture and the parties stand side by side, the others below.
+  const sides = [pictured, result => el("div", { class: "counted" }, tables.parties(result, winnersOf(result)))];
   const parts = [
-    result => el("div", { class: "beside" }, pictured(result), el("div", { class: "counted" }, tables.parties(result, winnersOf(result)))),
-    result => [tables.absent(result), tables.others(result, winnersOf(result))],
-    result => tables.lists(result),
-    result => (result.steps ? [margins.all(result), steps.all(result)] : null),
-    result => steps.columns(result),
+    tables.absent,
+    result => tables.others(result, winnersOf(result)),
+    tables.lists,
+    result => [margins.all(result), steps.all(result)],
+    steps.columns,
   ];
 
-  // A part, or what kept it from being made: the others are shown all the same.
-  const safely = (part, result) => {
+  // A part, which may be made step by step, or what kept it from being made: the others are shown all the same.
+  const safely = function* (part, result) {
     try {
-      return part(result);
+      const made = part(result);
+      return made && made.next ? yield* made : made;
     } catch (error) {
       return el("p", { class: "refused", role: "alert" }, t("failedPart", String(error)));
     }
@@ -67,19 +70,36 @@ const results = (() => {
 
   const emptyArticle = result => el("article", { class: "result", "data-book": result.book ? result.book.id : "", "aria-label": result.book ? t("resultOf", result.book.title) : t("result") });
 
+  // Fills an article part by part.
+  const filling = function* (made, result) {
+    const beside = result.table ? el("div", { class: "beside" }) : made;
+    const all = [...(result.table ? sides : [refusal]).map(part => [beside, part]), ...(result.table ? parts : []).map(part => [made, part]), [made, sources.part]];
+    if (beside !== made) made.append(beside);
+    for (const [parent, part] of all) {
+      filled(parent, {}, [yield* safely(part, result)]);
+      yield;
+    }
+  };
+
   // A result as a whole, made at once: for a page that is saved.
-  const article = result => filled(emptyArticle(result), {}, [result.table ? parts.map(part => safely(part, result)) : safely(refusal, result), safely(sources.part, result)]);
+  const article = result => {
+    const made = emptyArticle(result);
+    for (const _ of filling(made, result));
+    return made;
+  };
 
   // A result, made part by part, so that a large one does not block the page; nothing where something newer is shown meanwhile.
   const articleInTurns = async (result, isStill) => {
     const made = emptyArticle(result);
-    for (const part of result.table ? parts : [refusal]) {
-      filled(made, {}, [safely(part, result)]);
+    for (const _ of filling(made, result)) {
       await pause();
       if (!isStill()) return null;
     }
-    return filled(made, {}, [safely(sources.part, result)]);
+    return made;
   };
+
+  // What of a result is drawn in a turn of its own, where there is much of it.
+  const turnsOf = made => [...made.querySelectorAll(".house, .order, .counted"), ...[...made.children].filter(child => !child.matches(".beside"))];
 
   const shownResult = () => state.results.get(state.shownId) || null;
 
@@ -87,7 +107,11 @@ const results = (() => {
   const isRefused = result => Boolean(state.refusal) && !result.table;
 
   // The warnings of the statute that is shown.
-  const warnings = result => ((result && result.totals && result.totals.warnings) || []).map(row => el("li", { "data-warning": row.warning }, warningText(row)));
+  const warnings = result => {
+    const all = result ? answers.saidOf(result).warnings : [];
+    const itemOf = row => el("li", { "data-warning": row.warning }, row.text);
+    return all.length ? el("div", { class: "warned", role: "note" }, el("strong", {}, "⚠ " + t("warnings")), listWith(all, itemOf)) : null;
+  };
 
   // The form of what if, where that part is open.
   const showForm = () => {
@@ -102,13 +126,12 @@ const results = (() => {
     shown(byId("chosen"), line);
     shown(byId("result-head"), result && result.book ? [result.book.title, " · ", el("bdi", {}, result.given.name)] : t("result"));
     shown(byId("changed"), state.base ? changes.notice(state.base, state.changes, () => acts.reset()) : null);
-    const lines = warnings(result);
-    shown(byId("warnings"), lines.length ? el("div", { class: "warned", role: "note" }, el("strong", {}, "⚠ " + t("warnings")), el("ul", {}, lines)) : null);
+    shown(byId("warnings"), warnings(result));
     shown(byId("save-place"), result && result.book ? saving.menu(result, article) : null);
     byId("whatif-part").hidden = !state.returns;
     showForm();
   };
 
 
-  return { acts, article, articleInTurns, showHead, showForm, shownResult, isRefused };
+  return { acts, article, articleInTurns, turnsOf, showHead, showForm, shownResult, isRefused };
 })();

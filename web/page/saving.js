@@ -32,7 +32,7 @@ const saving = (() => {
 
   const jsonOf = result => JSON.stringify({
     returns: result.given.name, changed: changeLines(result), statute: result.book.name, book: result.book.text, sha256: result.sums, status: result.status, text: result.text,
-    table: result.table || null, seats: result.steps ? result.steps.seats : null, bounds: result.steps ? result.steps.bounds : null,
+    table: result.table || null, seats: result.table ? result.steps.seats : null, bounds: result.table ? result.steps.bounds : null,
   }, null, 1);
 
   // The page as a file of its own: what is shown of a result, with all parts filled, and without scripts and what can be pressed.
@@ -85,8 +85,8 @@ const saving = (() => {
       item("savePage", async () => save(name + ".html", "text/html", await pageOf(result, articleOf))),
       item("saveTable", () => save(name + ".txt", "text/plain", result.text)),
       result.table ? item("saveCsv", () => save(name + ".csv", "text/csv", csvOf(result))) : null,
-      result.steps ? item("saveSteps", () => save(name + "-steps.txt", "text/plain", result.stepsText)) : null,
-      result.report ? item("saveReport", () => save(name + "-report.json", "application/json", result.reportText)) : null,
+      result.table ? item("saveSteps", () => save(name + "-steps.txt", "text/plain", result.stepsText)) : null,
+      result.table ? item("saveReport", () => save(name + "-report.json", "application/json", result.reportText)) : null,
       item("saveJson", () => save(name + ".json", "application/json", jsonOf(result))),
       result.given.facts.lots || !changes.isNone(result.given.changes) ? item("saveReturns", () => save("returns.csv", "text/csv", result.given.bytes)) : null,
     ];

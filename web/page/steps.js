@@ -15,9 +15,15 @@ const steps = (() => {
         : mark.startsWith("rest ") ? t("rest", mark.slice(5))
           : quotient(mark);
 
+  // A stage of the library's statutes by the word that the law has for it; a rulebook of the user's has names of its own.
+  const stageName = (stage, book) => (!book.isOwn && TEXTS["stage_" + stage] ? t("stage_" + stage) : stage);
+
+  // The same with the rulebook's own word for a pointer.
+  const stageCell = (stage, book) => el("span", { title: stage, "data-stage": stage }, stageName(stage, book));
+
   const kindOf = (result, seat) => shapes.kindOf(result, seat.stage, seat.scope, seat.entry);
 
-  const rowOf = (result, seat) => [seat.stage, scopeName(seat.scope), names.entry(seat.entry, kindOf(result, seat)), seat.number, seat.step, markName(seat.mark)];
+  const rowOf = (result, seat) => [stageCell(seat.stage, result.book), scopeName(seat.scope), names.entry(seat.entry, kindOf(result, seat)), seat.number, seat.step, markName(seat.mark)];
 
   const table = (caption, result, seats) =>
     tableWith(caption, ["stage", "scope", "entry", "number", "step", "mark"].map(key => t(key)), seats.map(seat => rowOf(result, seat)), { class: "steps" });
@@ -25,7 +31,7 @@ const steps = (() => {
   // The steps of one seat: those of its list's seat of that number, and those of its party where a stage gives seats to parties.
   const ofSeat = (result, seat) => {
     const heading = el("h4", { tabindex: "-1" }, t("seatSteps"), ": ", house.labelOf(seat));
-    if (seat.single || !result.steps) return [heading, el("p", {}, t("seatNoSteps"))];
+    if (seat.single) return [heading, el("p", {}, t("seatNoSteps"))];
     const list = seat.land + "/" + seat.party;
     const own = result.steps.seats.filter(s => s.entry === list && s.number === seat.number);
     const party = result.steps.seats.filter(s => s.scope[0] === "all" && s.entry === seat.party && kindOf(result, s) === "party");
@@ -44,7 +50,7 @@ const steps = (() => {
       if (!groups.has(keyOf(seat))) groups.set(keyOf(seat), []);
       groups.get(keyOf(seat)).push(seat);
     }
-    const nameOf = key => t("stageOf", groups.get(key)[0].stage, scopeName(groups.get(key)[0].scope));
+    const nameOf = key => t("stageOf", stageName(groups.get(key)[0].stage, result.book), scopeName(groups.get(key)[0].scope));
     shown(body, chooser("steps-scope", t("scope"), [...groups.keys()].map(key => [key, nameOf(key)]), key => table(nameOf(key), result, groups.get(key))));
   }, { class: "all-steps" });
 
@@ -58,7 +64,7 @@ const steps = (() => {
     const kind = shapes.ofColumn(result, stage, column.map(c => c.entry));
     const entry = c => (c.entry === "all" && column.length === 1 && kind === "one" ? t("allScope") : names.entry(c.entry, kind));
     const rows = column.map(c => ({ data: { "data-entry": c.entry }, cells: [entry(c), Number(c.value)] }));
-    return tableWith(stage, [t("entry"), { head: t("value"), kind: "number" }], rows, { class: "column" });
+    return tableWith(stageName(stage, result.book), [t("entry"), { head: t("value"), kind: "number" }], rows, { class: "column" });
   };
 
   // The values of a stage, asked for when it is chosen.
@@ -78,7 +84,7 @@ const steps = (() => {
       }
       return place;
     };
-    return opened("columns", t("column"), body => shown(body, chooser("column-stage", t("stage"), stages.map(stage => [stage, stage]), partOf)), { class: "columns" });
+    return opened("columns", t("column"), body => shown(body, chooser("column-stage", t("stage"), stages.map(stage => [stage, stageName(stage, result.book)]), partOf)), { class: "columns" });
   };
 
   // Asks for the columns of all stages, before the page is saved.
@@ -89,5 +95,5 @@ const steps = (() => {
     }
   };
 
-  return { ofSeat, all, columns, fillColumns, scopeName, quotient };
+  return { ofSeat, all, columns, fillColumns, scopeName, stageName, stageCell, quotient };
 })();

@@ -88,7 +88,7 @@ const tables = (() => {
   // The votes missing for a first seat, of parties for which the report has them.
   const missingOf = result =>
     new Map(((result.report && result.report.entries) || [])
-      .filter(row => row.scope === "all" && row.missing !== null && shapes.kindOf(result, row.stage, ["all"], row.entry) === "party")
+      .filter(row => row.scope === "all" && row.missing !== null && shapes.ofRow(row) === "party")
       .map(row => [row.entry, row.missing]));
 
   // The parties that are not in the house.

@@ -4,10 +4,8 @@ const ties = (() => {
   const MOST_CHOICES = 30;
 
   // The records of the lots, by the names of the tie: the explanation has one for each name, in their order.
-  const recordsOf = (fault, told) => {
-    const records = told ? told.remedies.filter(remedy => remedy.startsWith("lot,")) : [];
-    return records.length === fault.names.length ? new Map(fault.names.map((name, i) => [name, records[i]])) : null;
-  };
+  const recordsOf = (fault, told) =>
+    told && told.records.length === fault.names.length ? new Map(fault.names.map((name, i) => [name, told.records[i]])) : null;
 
   // A name as it is shown: the cells of its record tell whether it is a Land, a party, a list or a winner.
   const nameOf = (name, record) => {
@@ -66,8 +64,5 @@ const ties = (() => {
       result);
   };
 
-  // What an explanation says beside the records, which the form has.
-  const withoutRecords = told => told && { ...told, remedies: told.remedies.filter(remedy => !remedy.startsWith("lot,")) };
-
-  return { form, withoutRecords };
+  return { form };
 })();
