@@ -21,6 +21,7 @@ static struct input input(const char *bytes, size_t length) { return (struct inp
 
 #define INPUT(i) inputs[i].bytes, inputs[i].length
 #define ROOM room, length, count
+#define ENGLISH "en", 2 // the language of reports
 
 static uint32_t asks_show(const struct input *inputs, char *room, size_t length, size_t *count) {
     return page_show(INPUT(0), INPUT(1), INPUT(2), INPUT(3), room, length, (struct seatlaw_parts *)count);
@@ -37,13 +38,13 @@ static uint32_t asks_code(const struct input *inputs, char *room, size_t length,
 }
 static uint32_t asks_run(const struct input *inputs, char *room, size_t length, size_t *count) { return page_run(INPUT(0), INPUT(1), ROOM); }
 static uint32_t asks_report(const struct input *inputs, char *room, size_t length, size_t *count) {
-    return page_report(INPUT(0), INPUT(1), INPUT(2), ROOM);
+    return page_report(ENGLISH, INPUT(0), INPUT(1), INPUT(2), ROOM);
 }
 static uint32_t asks_totals(const struct input *inputs, char *room, size_t length, size_t *count) {
-    return page_totals(INPUT(0), INPUT(1), INPUT(2), ROOM);
+    return page_totals(ENGLISH, INPUT(0), INPUT(1), INPUT(2), ROOM);
 }
 static uint32_t asks_compare(const struct input *inputs, char *room, size_t length, size_t *count) {
-    return page_compare(INPUT(0), INPUT(1), INPUT(2), INPUT(3), ROOM);
+    return page_compare(ENGLISH, INPUT(0), INPUT(1), INPUT(2), INPUT(3), ROOM);
 }
 static uint32_t asks_explain_check(const struct input *inputs, char *room, size_t length, size_t *count) {
     return page_explain_check(INPUT(0), INPUT(1), ROOM);
@@ -98,7 +99,7 @@ enum seatlaw_status seatlaw_show(const char *language, size_t language_length, c
                                  struct seatlaw_parts *ends) {
     const struct input inputs[] = {
         input(language, language_length), input(book, book_length), input(returns, returns_length), input(names, names_length)};
-    *ends = (struct seatlaw_parts){0, 0, 0, 0, 0};
+    *ends = (struct seatlaw_parts){0};
     return asked_parts(asks_show, inputs, answer, &ends->seats, sizeof *ends / sizeof(size_t));
 }
 
@@ -132,7 +133,7 @@ enum seatlaw_status seatlaw_law(const char *name, size_t name_length, struct sea
 
 enum seatlaw_status seatlaw_code(const char *book, size_t book_length, struct seatlaw_text *answer, struct seatlaw_code_parts *ends) {
     const struct input inputs[] = {input(book, book_length)};
-    *ends = (struct seatlaw_code_parts){0, 0};
+    *ends = (struct seatlaw_code_parts){0};
     return asked_parts(asks_code, inputs, answer, &ends->file, sizeof *ends / sizeof(size_t));
 }
 

@@ -26,7 +26,8 @@ extern "C" {
 /* Statuses 0, 2, 3 and 4 are the exit statuses of the program. */
 enum seatlaw_status {
     SEATLAW_DONE = 0,        /* the text that was asked for */
-    SEATLAW_REFUSED = 2,     /* an input is not in order; the text is one line that begins with `refused`, or of an explanation what it says */
+    SEATLAW_REFUSED = 2,     /* an input is not in order; the text is one line that begins with `refused`, or of a report, of totals and of a
+                              * comparison their JSON, or of an explanation what it says */
     SEATLAW_LEGAL_FAULT = 3, /* the rulebook has no table for these returns, as at a tie without a lot; one line that
                               * begins with `fault`, or of a report its JSON */
     SEATLAW_OUT_OF_BUDGET = 4, /* of `seatlaw_run` and `seatlaw_explain_run` alone: the run needs more steps than it may take, as that of no
@@ -48,12 +49,13 @@ void seatlaw_free(struct seatlaw_text *answer);
 
 /* Where each part of an answer of `seatlaw_show` ends. The first begins with the answer, and each other one where the one before it ends. */
 struct seatlaw_parts {
-    size_t seats, steps, report, stages, explanation;
+    size_t seats, steps, report, stages, totals, explanation;
 };
 
 /* Counts once, and hands over all that comes of it, one text behind the other, with the places of their ends: what `seatlaw_count` and
- * `seatlaw_steps` answer, the JSON of `seatlaw report` and of `seatlaw stages`, and the explanation in that language. Refused names are in the
- * parts of the report and of the stages, and change no status. Proved: `ShowsAll`. */
+ * `seatlaw_steps` answer, the JSON of `seatlaw report`, of `seatlaw stages` and of `seatlaw totals` with the rulebook, and the explanation. The
+ * sentences of the last four are in German where the language is `de`, and else in English. Refused names are in the parts of JSON, and change no
+ * status. Proved: `ShowsAll`. */
 enum seatlaw_status seatlaw_show(const char *language, size_t language_length, const char *book, size_t book_length, const char *returns,
                                  size_t returns_length, const char *names, size_t names_length, struct seatlaw_text *answer,
                                  struct seatlaw_parts *ends);
@@ -89,16 +91,18 @@ enum seatlaw_status seatlaw_code(const char *book, size_t book_length, struct se
 enum seatlaw_status seatlaw_run(const char *code, size_t code_length, const char *returns, size_t returns_length,
                                 struct seatlaw_text *answer);
 
-/* The JSON of `seatlaw report`; `names` is a file of full names, or no bytes. Proved: safe and ending, and of the call behind it
- * the status (`IsReportStatus`). */
+/* The JSON of `seatlaw report` (docs/report.schema.json of the repository), its sentences in English; `names` is a file of full names, or no bytes.
+ * A refusal and a legal fault are JSON too, with the line and the explanation. Proved: safe and ending, and of the call behind it the status
+ * (`IsReportStatus`). */
 enum seatlaw_status seatlaw_report(const char *book, size_t book_length, const char *returns, size_t returns_length,
                                    const char *names, size_t names_length, struct seatlaw_text *answer);
 
-/* The JSON of `seatlaw totals`; the rulebook may be no bytes. Proved: safe and ending, as of `seatlaw_compare`. */
+/* The JSON of `seatlaw totals`, in English and also of a refusal; the rulebook may be no bytes. Proved: safe and ending, as of `seatlaw_compare`. */
 enum seatlaw_status seatlaw_totals(const char *book, size_t book_length, const char *returns, size_t returns_length,
                                    const char *names, size_t names_length, struct seatlaw_text *answer);
 
-/* The JSON of `seatlaw compare` by the rulebooks of `words`, one on each line: a word with @ is that of a statute, any other that of `book`. */
+/* The JSON of `seatlaw compare`, in English and also of a refusal, by the rulebooks of `words`, one on each line: a word with @ is that of a statute,
+ * any other that of `book`. */
 enum seatlaw_status seatlaw_compare(const char *words, size_t words_length, const char *book, size_t book_length,
                                     const char *returns, size_t returns_length, const char *names, size_t names_length,
                                     struct seatlaw_text *answer);

@@ -46,7 +46,25 @@ tie <- caught(count(law(file = "examples/tie/book.law"), read_returns("examples/
 same(class(tie)[1], "seatlaw_legal_fault")
 same(lots_lacking(tie), data.frame(land = "Town", party = c("Reds", "Blues", "Greens"), stage = "council", constituency = ""))
 
-same(caught(report(law(file = "examples/tie/book.law"), read_returns("examples/tie/returns.csv")))$line, tie$line)
+# What explains them, in parts.
+tied <- caught(report(law(file = "examples/tie/book.law"), read_returns("examples/tie/returns.csv")))
+same(tied$line, tie$line)
+same(tied$explained(), tie$explained())
+same(tied$explained()[c("code", "input", "place", "more")], list(code = "L04", input = "returns", place = NULL, more = character()))
+same(tied$explained()$records, c("lot,Town,Reds,council,,", "lot,Town,Blues,council,,", "lot,Town,Greens,council,,"))
+same(lots_lacking(tied), lots_lacking(tie))
+same(lots_lacking(caught(run(code(law(file = "examples/tie/book.law"))$file, read_returns("examples/tie/returns.csv")))), lots_lacking(tie))
+for (wrong in list(refused, caught(totals(charToRaw("kind;land\n"))), caught(compare(charToRaw("kind;land\n"))))) {
+  same(wrong$line, "refused returns 1 1")
+  same(wrong$explained()$code, "R01")
+  same(wrong$explained()$place, c(line = 1L, column = 1L, start = 0L, end = 9L))
+  stopifnot(grepl("semicolons", wrong$explained()$sentence), grepl('"CSV UTF-8"', wrong$explained()$help[1], fixed = TRUE), grepl("Fehler", wrong$explanation("de")))
+}
+same(caught(check(charToRaw("rulebook 3;")))$explained()$place, c(line = 1L, column = 12L, start = 11L, end = 11L))
+unknown <- caught(compare(bund, c("@2023", "@a\"b\\\u00e4")))
+same(c(unknown$line, unknown$explained()$sentence), c("refused law a\"b\\\u00e4", "the library has no rulebook `a\"b\\\u00e4`"))
+for (wrong in list(caught(stage(law("2023"), bund, "x")), caught(law("2021")))) same(wrong$explained(), NULL)
+same(caught(report(law("2023"), bund, "a,b,c"))$explained(), NULL)
 
 # Code files: a run is the count of the code's rulebook.
 for (name in c("1956", "1985", "2008", "2013", "2023", "2023-order")) {
@@ -76,8 +94,11 @@ shown <- show_all(law("2023-order"), bund)
 same(shown$table, count(law("2023-order"), bund))
 same(shown$steps, steps(law("2023-order"), bund))
 same(shown$report, report(law("2023-order"), bund))
+same(shown$totals, totals(bund, law("2023-order")))
 same(caught(show_all(law("2023"), bund, "a,b,c"))$line, caught(report(law("2023"), bund, "a,b,c"))$line)
-same(class(caught(show_all(law(file = "examples/tie/book.law"), read_returns("examples/tie/returns.csv"))))[1], "seatlaw_legal_fault")
+tied <- caught(show_all(law(file = "examples/tie/book.law"), read_returns("examples/tie/returns.csv"), "a,b,c"))
+same(class(tied)[1], "seatlaw_legal_fault")
+same(lots_lacking(tied), lots_lacking(tie))
 
 # Many counts: each row is the count of its returns.
 with_votes <- function(returns, numbers) {
@@ -117,6 +138,8 @@ for (wrong in list(1, rbind(votes(bund)$votes, -1), votes(bund)$votes + 0.5)) st
 # The tables of reports.
 if (requireNamespace("jsonlite", quietly = TRUE)) {
   same(report(law("2023-order"), bund)$entries$missing[1], 12422L)
+  same(report(law("2023-order"), bund)$scopes$last[1:2], list("CSU", "Bund/CDU"))
+  same(report(law("2023-order"), bund)$entries[8, c("land", "party")], data.frame(land = "Bund", party = "CDU", row.names = 8L))
   same(totals(bund)$totals$parties, 7L)
   same(compare(bund)$books$book[6], "@2023-order")
   same(shown$stages$stages$stage[2:3], c("upper", "lower"))

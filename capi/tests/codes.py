@@ -5,53 +5,16 @@ file; and of `explain_code` its name is the word that is asked for.
 """
 import pathlib
 import random
-import subprocess
 import sys
 
 sys.path.insert(0, str(pathlib.Path(__file__).resolve().parents[2] / "web"))
 import cases  # noqa: E402
-import compare  # noqa: E402
 import rows as test_rows  # noqa: E402
 from hostile import CODE, ENDLESS  # noqa: E402
 
 COMMANDS = {"code": 15, "code_file": 10, "run": 40, "explain_run": 30, "explain_code": 5}  # how often of a hundred cases each is tried
 WORDS = ("B15", "b15", "C15", "R01", "l04", "B23", "B00", "A01", "C1", "B015", "", "x" * 300, "\u00e4", "--quiet", "B15 ")
 ODD = (b"", b"S", b"SLC\x01", b"SLC\x02\x00\x00", bytes(range(256)), b"\xff" * 70_000, b"SLC\x01" + b"\x00" * 4_194_300, b"SLC\x01" + b"\x00" * 4_194_301)
-
-
-def call_of(case, laws):
-    """The call of a case."""
-    inputs = {
-        "code": [case.book],
-        "code_file": [case.book],
-        "run": [case.book, case.returns],
-        "explain_run": [case.language.encode(), case.book, case.returns],
-        "explain_code": [case.language.encode(), case.name.encode()],
-    }
-    return [case.command, *inputs[case.command]] if case.command in inputs else compare.call_of(case, laws)
-
-
-def written(program, folder, words, files):
-    for name, data in files.items():
-        (pathlib.Path(folder) / name).write_bytes(data)
-    return subprocess.run([program, *words], cwd=folder, capture_output=True, timeout=120)
-
-
-def by_program(program, folder, case):
-    """What the program writes of a case, and its exit status: of `code` the file and then its output. A word that is no code it refuses by its
-    command line, and the call by a status."""
-    language = ["--lang", case.language]
-    if case.command in ("code", "code_file"):
-        done = written(program, folder, ["code", "--", "book", "out"], {"book": case.book})
-        file = (pathlib.Path(folder) / "out").read_bytes()
-        return done.returncode, file if case.command == "code_file" else file + done.stdout
-    if case.command == "explain_code":
-        done = written(program, folder, ["explain", *language, "--", case.name], {})
-        return (2, b"") if done.returncode == 1 else (done.returncode, done.stdout)
-    if case.command in ("run", "explain_run"):
-        done = written(program, folder, ["run", *language, "--", "code", "returns"], {"code": case.book, "returns": case.returns})
-        return done.returncode, done.stderr if case.command == "explain_run" else done.stdout
-    return compare.by_program(program, folder, case)
 
 
 def spoilt(rng, code):

@@ -7,14 +7,15 @@
 <Table of 5 seats: Reds 2, Blues 1, Greens 1>
 """
 from .calls import Shown, check, code, compare, count, explain, law, report, run, show, stage, stage_names, stages, steps, totals
-from .errors import LegalFault, Lot, OutOfBudget, OutOfMemory, Place, Refused, SeatlawError
+from .errors import Explanation, LegalFault, Lot, OutOfBudget, OutOfMemory, Place, Refused, SeatlawError, Span
 from .inputs import STATUTES, Code, Instruction, Land, ListVotes, Party, Returns, Rulebook, Winner
 from .reports import Comparison, Report, Totals
 from .tables import BookLine, Column, ListSeats, PartySeats, Steps, Table
 
 __all__ = [
-    "STATUTES", "BookLine", "Code", "Column", "Comparison", "Instruction", "Land", "LegalFault", "ListSeats", "ListVotes", "Lot", "OutOfBudget",
-    "OutOfMemory", "Party", "PartySeats", "Place", "Refused", "Report", "Returns", "Rulebook", "SeatlawError", "Shown", "Steps", "Table", "Totals", "Winner",
+    "STATUTES", "BookLine", "Code", "Column", "Comparison", "Explanation", "Instruction", "Land", "LegalFault", "ListSeats", "ListVotes", "Lot",
+    "OutOfBudget", "OutOfMemory", "Party", "PartySeats", "Place", "Refused", "Report", "Returns", "Rulebook", "SeatlawError", "Shown", "Span", "Steps",
+    "Table", "Totals", "Winner",
     "check", "code", "compare", "count", "explain", "law", "report", "run", "show", "stage", "stage_names", "stages", "steps", "totals",
 ]
 

@@ -24,7 +24,7 @@ class Text(ctypes.Structure):
 class Parts(ctypes.Structure):
     """Where each part of what is shown ends."""
 
-    _fields_ = [(name, ctypes.c_size_t) for name in ("seats", "steps", "report", "stages", "explanation")]
+    _fields_ = [(name, ctypes.c_size_t) for name in ("seats", "steps", "report", "stages", "totals", "explanation")]
 
 
 class CodeParts(ctypes.Structure):
@@ -103,7 +103,7 @@ def _asked_parts(function, inputs: Tuple[bytes, ...], ends: ctypes.Structure) ->
 
 
 def show(*inputs: bytes) -> Tuple[int, List[bytes]]:
-    """What `seatlaw_show` answers: its status and its five texts."""
+    """What `seatlaw_show` answers: its status and its six texts."""
     return _asked_parts(_show, inputs, Parts())
 
 

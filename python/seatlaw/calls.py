@@ -7,11 +7,10 @@ from typing import Callable, Dict, Iterable, Optional, Tuple, Union
 from . import reports, tables
 from . import _library
 from ._library import DONE, LEGAL_FAULT, NO_MEMORY, NO_NAME, OUT_OF_BUDGET, REFUSED, ask
-from .errors import LegalFault, OutOfBudget, OutOfMemory, Refused, SeatlawError
+from .errors import Explain, Explanation, LegalFault, OutOfBudget, OutOfMemory, Refused, SeatlawError, Unexplained
 from .inputs import STATUTES, Book, Code, Returns, rulebook
 
 Names = Union[str, bytes, None]  # a file of full names: records of a short name, a comma and the full one
-Explain = Callable[[str], str]
 
 LIBRARY = tuple(map("@".__add__, STATUTES))
 # What is no name of a stage in the text of a rulebook: comments and texts.
@@ -19,25 +18,45 @@ UNNAMED = re.compile(r'#[^\n]*|"[^"\n]*"')
 STAGE = re.compile(r"\bstage\s+(\w+)")
 
 
-def _explained(name: str, *inputs: bytes) -> Explain:
-    """What explains a call on these inputs, in a language."""
+def _text_of(name: str, *inputs: bytes) -> Callable[[str], str]:
+    """What explains a call on these inputs in a language."""
 
-    def explain(language: str) -> str:
-        status, text = ask("explain_" + name, language.encode(), *inputs)
+    def text(language: str) -> str:
+        status, data = ask("explain_" + name, language.encode(), *inputs)
         if status == NO_MEMORY:
             raise OutOfMemory("out of memory")
-        return text.decode()
+        return data.decode()
 
-    return explain
-
-
-def _unexplained(language: str) -> str:
-    return ""
+    return text
 
 
-def _refused(line: str, explain: Explain) -> Refused:
-    is_explained = line.split()[1] in ("book", "code", "returns")
-    return Refused(line, explain if is_explained else _unexplained)
+def _parts_of(book: bytes, returns: bytes) -> Optional[Explanation]:
+    """Why there is no table, in parts, from the JSON of a report."""
+    status, data = ask("report", book, returns, b"")
+    if status not in (DONE, REFUSED, LEGAL_FAULT):
+        raise _failed(status)
+    return reports.heading(data.decode()).explanation
+
+
+def _of_count(book: bytes, returns: bytes) -> Explain:
+    return Explain(_text_of("count", book, returns), lambda: _parts_of(book, returns))
+
+
+def _of_check(book: bytes) -> Explain:
+    """What explains a refused rulebook. It is judged before the returns, so these may be no bytes."""
+    return Explain(_text_of("check", book), lambda: _parts_of(book, b""))
+
+
+def _of_run(code: bytes, returns: bytes) -> Explain:
+    return Explain(_text_of("run", code, returns), lambda: None)
+
+
+UNEXPLAINED = Explain(lambda language: "", lambda: None)
+
+
+def _of_refusal(line: str, explain: Explain) -> Explain:
+    """What explains this refusal of a call: nothing, where it is that of a name or of names."""
+    return explain if line.split()[1] in ("book", "code", "returns") else UNEXPLAINED
 
 
 def _failed(status: int) -> SeatlawError:
@@ -49,7 +68,7 @@ def _failed(status: int) -> SeatlawError:
 def _unanswered(status: int, line: str, explain: Explain) -> SeatlawError:
     """What is raised for a status with a line in place of a result."""
     if status == REFUSED:
-        return _refused(line, explain)
+        return Refused(line, _of_refusal(line, explain))
     return LegalFault(line, explain) if status == LEGAL_FAULT else OutOfBudget(line, explain)
 
 
@@ -64,6 +83,26 @@ def _text(answer: Tuple[int, bytes], explain: Explain) -> str:
     raise _unanswered(status, text.rstrip("\n"), explain)
 
 
+def _unanswered_json(text: str, explain: Explain, sums: Optional[str] = None) -> Unexplained:
+    """What is raised for the JSON of a refusal or of a legal fault; `sums` is the JSON of the totals."""
+    told = reports.heading(text)
+    line = told.fault or ""
+    known = lambda explain: dataclasses.replace(explain, parts=lambda: told.explanation)  # noqa: E731
+    if told.status == REFUSED:
+        return Refused(line, known(_of_refusal(line, explain)))
+    return LegalFault(line, known(explain), reports.report(text), reports.totals(sums) if sums else None)
+
+
+def _json(answer: Tuple[int, bytes], explain: Explain) -> str:
+    """The JSON of an answer that is done."""
+    status, data = answer
+    if status not in (DONE, REFUSED, LEGAL_FAULT):
+        raise _failed(status)
+    if status != DONE:
+        raise _unanswered_json(data.decode(), explain)
+    return data.decode()
+
+
 def count(book: Book, returns: Returns) -> tables.Table:
     """The seat table.
 
@@ -73,7 +112,7 @@ def count(book: Book, returns: Returns) -> tables.Table:
     ({'Reds': 4, 'Blues': 6}, ['Lakes'])
     """
     inputs = rulebook(book).data, returns.data
-    return tables.Table(_text(ask("count", *inputs), _explained("count", *inputs)))
+    return tables.Table(_text(ask("count", *inputs), _of_count(*inputs)))
 
 
 def steps(book: Book, returns: Returns) -> tables.Steps:
@@ -84,7 +123,7 @@ def steps(book: Book, returns: Returns) -> tables.Steps:
     Bound(stage='upper', scope='all', last='1120000/11', next='880000/9', lot=False)
     """
     inputs = rulebook(book).data, returns.data
-    return tables.Steps(_text(ask("steps", *inputs), _explained("count", *inputs)))
+    return tables.Steps(_text(ask("steps", *inputs), _of_count(*inputs)))
 
 
 def stage(book: Book, returns: Returns, name: str) -> tables.Column:
@@ -94,7 +133,7 @@ def stage(book: Book, returns: Returns, name: str) -> tables.Column:
     {'X/A': 6, 'X/B': 3, 'Y/A': 3, 'Y/B': 1}
     """
     inputs = rulebook(book).data, returns.data
-    return tables.Column(name, _text(ask("stage", *inputs, name.encode()), _explained("count", *inputs)))
+    return tables.Column(name, _text(ask("stage", *inputs, name.encode()), _of_count(*inputs)))
 
 
 def stage_names(book: Book) -> Tuple[str, ...]:
@@ -118,6 +157,7 @@ class Shown:
     steps: tables.Steps
     report: reports.Report
     stages: Tuple[tables.Column, ...]
+    totals: reports.Totals
 
 
 def _columns(text: str) -> Tuple[tables.Column, ...]:
@@ -130,29 +170,35 @@ def _columns(text: str) -> Tuple[tables.Column, ...]:
 
 
 def show(book: Book, returns: Returns, names: Names = None) -> Shown:
-    """The seat table, the steps, the report and the stages, by one count."""
+    """The seat table, the steps, the report, the stages and the totals, by one count.
+
+    >>> shown = show("@2023-order", Returns.from_file("examples/covered/returns.csv"))
+    >>> shown.table.seats, shown.totals.votes[0].percent
+    ({'Reds': 4, 'Blues': 6}, Decimal('44.000'))
+    """
     inputs = rulebook(book).data, returns.data
     status, parts = _library.show(b"en", *inputs, _named(names))
-    explain = _explained("count", *inputs)
-    seats, won, told, staged = (part.decode() for part in parts[:4])
-    is_told = told.startswith("{")
-    if status == LEGAL_FAULT:
-        raise LegalFault(seats.rstrip("\n"), explain, reports.report(told) if is_told else None)
-    table = tables.Table(_text((status, parts[0]), explain))
-    if not is_told:
-        raise _refused(told.rstrip("\n"), explain)
-    return Shown(table, tables.Steps(won), reports.report(told), _columns(staged))
+    if status not in (DONE, REFUSED, LEGAL_FAULT):
+        raise _failed(status)
+    explain = _of_count(*inputs)
+    seats, won, told, staged, sums = (part.decode() for part in parts[:5])
+    shown = reports.heading(told).status
+    if status == LEGAL_FAULT and shown == REFUSED:  # the names are refused too
+        raise LegalFault(seats.rstrip("\n"), explain)
+    if shown != DONE:
+        raise _unanswered_json(told, explain, sums)
+    return Shown(tables.Table(seats), tables.Steps(won), reports.report(told), _columns(staged), reports.totals(sums))
 
 
 def check(book: Book) -> tables.BookLine:
     """What a good rulebook says of itself."""
     data = rulebook(book).data
-    return tables.book_line(_text(ask("check", data), _explained("check", data)))
+    return tables.book_line(_text(ask("check", data), _of_check(data)))
 
 
 def law(name: str) -> str:
     """The text of a statute of the library."""
-    return _text(ask("law", name.encode()), _unexplained)
+    return _text(ask("law", name.encode()), UNEXPLAINED)
 
 
 def code(book: Book) -> Code:
@@ -166,7 +212,7 @@ def code(book: Book) -> Code:
     """
     data = rulebook(book).data
     status, (file, text) = _library.code(data)
-    return Code(file, _text((status, text), _explained("check", data)))
+    return Code(file, _text((status, text), _of_check(data)))
 
 
 def run(code: Code, returns: Returns) -> tables.Table:
@@ -176,7 +222,7 @@ def run(code: Code, returns: Returns) -> tables.Table:
     {'Reds': 4, 'Blues': 6}
     """
     inputs = code.data, returns.data
-    return tables.Table(_text(ask("run", *inputs), _explained("run", *inputs)))
+    return tables.Table(_text(ask("run", *inputs), _of_run(*inputs)))
 
 
 def explain(code: str, language: str = "en") -> str:
@@ -188,7 +234,7 @@ def explain(code: str, language: str = "en") -> str:
     status, text = ask("explain_code", language.encode(), code.encode())
     if status == REFUSED:
         raise ValueError("no fault has the code %r" % code)
-    return _text((status, text), _unexplained)
+    return _text((status, text), UNEXPLAINED)
 
 
 def _named(names: Names) -> bytes:
@@ -196,13 +242,14 @@ def _named(names: Names) -> bytes:
 
 
 def report(book: Book, returns: Returns, names: Names = None) -> reports.Report:
-    """One count in full: who takes part, seats, divisors and quotients, votes missing. A legal fault has the report up to it as its `report`."""
+    """One count in full: who takes part, seats, divisors and quotients, votes missing. A legal fault has the report up to it as its `report`.
+
+    >>> made = report("@2023-order", Returns.from_file("examples/covered/returns.csv"))
+    >>> made.scopes[0].last, made.scopes[0].next, made.entries[2].land
+    (('Blues',), ('Reds',), 'North')
+    """
     inputs = rulebook(book).data, returns.data
-    status, data = ask("report", *inputs, _named(names))
-    explain = _explained("count", *inputs)
-    if status == LEGAL_FAULT:
-        raise LegalFault(json.loads(data)["fault"], explain, reports.report(data.decode()))
-    return reports.report(_text((status, data), explain))
+    return reports.report(_json(ask("report", *inputs, _named(names)), _of_count(*inputs)))
 
 
 def totals(returns: Returns, book: Optional[Book] = None, names: Names = None) -> reports.Totals:
@@ -213,8 +260,8 @@ def totals(returns: Returns, book: Optional[Book] = None, names: Names = None) -
     ['house', 'few_parties']
     """
     data = b"" if book is None else rulebook(book).data
-    explain = _explained("count", data or rulebook("@2023").data, returns.data)
-    return reports.totals(_text(ask("totals", data, returns.data, _named(names)), explain))
+    explain = _of_count(data or rulebook("@2023").data, returns.data)
+    return reports.totals(_json(ask("totals", data, returns.data, _named(names)), explain))
 
 
 def compare(returns: Returns, books: Iterable[Book] = LIBRARY, names: Names = None) -> reports.Comparison:
@@ -225,5 +272,5 @@ def compare(returns: Returns, books: Iterable[Book] = LIBRARY, names: Names = No
         raise ValueError("one rulebook alone may be none of the library's")
     words = "\n".join(book.name or "book" for book in chosen).encode()
     data = own[0].data if own else b""
-    explain = _explained("count", data or rulebook("@2023").data, returns.data)
-    return reports.comparison(_text(ask("compare", words, data, returns.data, _named(names)), explain))
+    explain = _of_count(data or rulebook("@2023").data, returns.data)
+    return reports.comparison(_json(ask("compare", words, data, returns.data, _named(names)), explain))

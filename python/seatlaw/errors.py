@@ -1,12 +1,15 @@
 """What a call raises where it has no result: refusals, legal faults, and want of memory."""
+import dataclasses
+import functools
 import re
 from typing import Any, Callable, Dict, NamedTuple, Optional, Tuple
 
 # The codes of the refusals that no explanation of the library speaks of (docs/faults.md).
 CODES = {"law": "B01", "stage": "B22"}
+# What is read off the explanation of a run, which has no parts.
 CODE = re.compile(r"\[([A-Z]\d\d)\]")
 PLACE = re.compile(r"^ *--> (\w+):(\d+):(\d+)$", re.M)
-LOT = re.compile(r"^ *= \w+: lot,([^,\n]*),([^,\n]*),([^,\n]*),([^,\n]*),$", re.M)
+LOT = re.compile(r"^ *= \w+: (lot,[^,\n]*,[^,\n]*,[^,\n]*,[^,\n]*,)$", re.M)
 
 
 class Place(NamedTuple):
@@ -16,6 +19,15 @@ class Place(NamedTuple):
     column: int
 
 
+class Span(NamedTuple):
+    """A place in an input, and the offsets of its first byte and of the one behind its last."""
+
+    line: int
+    column: int
+    start: int
+    end: int
+
+
 class Lot(NamedTuple):
     """A lot record of returns: the entry that is drawn at a stage, or at the stage `seats` a winner by the constituency."""
 
@@ -23,6 +35,62 @@ class Lot(NamedTuple):
     party: str
     stage: str
     constituency: str = ""
+
+
+def lot_of(record: str) -> Lot:
+    """The lot of a record.
+
+    >>> lot_of("lot,Town,Reds,council,,")
+    Lot(land='Town', party='Reds', stage='council', constituency='')
+    """
+    return Lot(*record.split(",")[1:5])
+
+
+@dataclasses.dataclass(frozen=True)
+class Explanation:
+    """Why there is no result, in parts. The sentences are in English.
+
+    code      the code of the fault, such as `B15` (docs/faults.md), or None where it has none
+    input     the input of which it speaks: `book` or `returns`
+    sentence  what is wrong
+    place     where that stands in the input, or None
+    help      sentences on what to do
+    records   the lot records that may be added to the returns
+    more      further lines on the input, as one for each further record that is refused
+
+    >>> import seatlaw
+    >>> try:
+    ...     seatlaw.check(seatlaw.Rulebook.from_text("rulebook 3;"))
+    ... except seatlaw.Refused as error:
+    ...     told = error.explained
+    >>> told.code, told.sentence, told.place
+    ('B07', 'the rulebook ends here and is not complete; expected `law`', Span(line=1, column=12, start=11, end=11))
+    """
+
+    code: Optional[str]
+    input: str
+    sentence: str
+    place: Optional[Span]
+    help: Tuple[str, ...]
+    records: Tuple[str, ...]
+    more: Tuple[str, ...]
+
+
+def explanation_of(members: Optional[Dict[str, Any]]) -> Optional[Explanation]:
+    """The explanation that JSON has, if there is one (docs/report.schema.json)."""
+    if members is None:
+        return None
+    place = members["place"]
+    texts = {key: tuple(members[key]) for key in ("help", "records", "more")}
+    return Explanation(members["code"], members["input"], members["sentence"], None if place is None else Span(**place), **texts)
+
+
+@dataclasses.dataclass(frozen=True)
+class Explain:
+    """What explains a fault when it is asked for: as a text in a language, and in parts."""
+
+    text: Callable[[str], str]
+    parts: Callable[[], Optional[Explanation]]
 
 
 class SeatlawError(Exception):
@@ -37,11 +105,12 @@ class Unexplained(SeatlawError):
     """A call that was answered with one line in place of a result.
 
     line         the line, as the program writes it
+    explained    the explanation in parts (`Explanation`), or None of `run` and where there is none, as of refused names
     code         the code of the fault, such as `B15` (docs/faults.md), or None where it has none
     place        the line and the column in the input of which the explanation speaks, or None
     """
 
-    def __init__(self, line: str, explain: Callable[[str], str]):
+    def __init__(self, line: str, explain: Explain):
         super().__init__(line)
         self.line = line
         self._explain = explain
@@ -50,16 +119,24 @@ class Unexplained(SeatlawError):
     def explanation(self, language: str = "en") -> str:
         """What the program writes to standard error, in German for `de` and else in English. Files are called `book`, `code` and `returns`."""
         if language not in self._told:
-            self._told[language] = self._explain(language)
+            self._told[language] = self._explain.text(language)
         return self._told[language]
+
+    @functools.cached_property
+    def explained(self) -> Optional[Explanation]:
+        return self._explain.parts()
 
     @property
     def code(self) -> Optional[str]:
+        if self.explained is not None:
+            return self.explained.code
         found = CODE.search(self.explanation())
         return found[1] if found else None
 
     @property
     def place(self) -> Optional[Place]:
+        if self.explained is not None:
+            return None if self.explained.place is None else Place(*self.explained.place[:2])
         found = PLACE.search(self.explanation())
         return Place(int(found[2]), int(found[3])) if found else None
 
@@ -75,7 +152,7 @@ class Refused(Unexplained):
     number, at   the number of the fault, and the offset in a rulebook, the record of returns, the offset in a code file or its instruction; or None
     """
 
-    def __init__(self, line: str, explain: Callable[[str], str]):
+    def __init__(self, line: str, explain: Explain):
         super().__init__(line, explain)
         words = line.split()
         self.input = words[1] if len(words) > 1 else ""
@@ -98,10 +175,11 @@ class LegalFault(Unexplained):
     stage, scope what the line names: the stage, and `all`, `land X`, `party P` or `list X P`
     kind         `tie`, `majority`, `nolist`, `short`, `cap` or `limit`
     seats, names of a tie: how many seats fall to the entries of these names, which are more
-    report       the report up to the fault, where a report was asked for
+    report       the report up to the fault, where a report was asked for, by `report` or `show`
+    totals       the sums of the returns, of `show`
     """
 
-    def __init__(self, line: str, explain: Callable[[str], str], report: Any = None):
+    def __init__(self, line: str, explain: Explain, report: Any = None, totals: Any = None):
         super().__init__(line, explain)
         words = line.split()[1:]
         self.stage = words[0]
@@ -109,9 +187,12 @@ class LegalFault(Unexplained):
         self.scope, self.kind = " ".join(words[1:end]), words[end]
         self.seats = int(words[end + 1]) if self.kind == "tie" else None
         self.names: Tuple[str, ...] = tuple(words[end + 2:])
-        self.report = report
+        self.report, self.totals = report, totals
 
     @property
     def lots(self) -> Tuple[Lot, ...]:
         """Of a tie the lot records that the returns lack, in no order: put those first that were drawn (`Returns.with_lots`)."""
-        return tuple(Lot(*found) for found in LOT.findall(self.explanation())) if self.kind == "tie" else ()
+        if self.kind != "tie":
+            return ()
+        records = LOT.findall(self.explanation()) if self.explained is None else self.explained.records
+        return tuple(map(lot_of, records))

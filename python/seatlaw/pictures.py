@@ -58,14 +58,17 @@ def house(table: Table, chosen: Dict[str, str]) -> str:
     return "\n".join(parts)
 
 
+def _cell(value: Any) -> str:
+    """A cell of a table: nothing stands for None, names stand behind one another, and numbers at the right."""
+    value = " ".join(value) if isinstance(value, tuple) else value
+    side = "left" if isinstance(value, str) else "right"
+    return '<td style="text-align:%s">%s</td>' % (side, "" if value is None else html.escape(str(value)))
+
+
 def table_of(rows: Sequence[Any], kind: Any) -> str:
-    """Rows as an HTML table; nothing stands for None, and numbers stand at the right."""
+    """Rows as an HTML table."""
     head = "".join("<th>%s</th>" % html.escape(name.replace("_", " ")) for name in kind._fields)
-    cell = '<td style="text-align:%s">%s</td>'
-    body = "".join(
-        "<tr>%s</tr>" % "".join(cell % ("left" if isinstance(value, str) else "right", "" if value is None else html.escape(str(value))) for value in row)
-        for row in rows
-    )
+    body = "".join("<tr>%s</tr>" % "".join(map(_cell, row)) for row in rows)
     return "<table><thead><tr>%s</tr></thead><tbody>%s</tbody></table>" % (head, body)
 
 

@@ -1,10 +1,12 @@
-"""What `report`, `totals` and `compare` tell (docs/report.md): rows of their tables, with exact numbers in place of texts of digits."""
+"""What `report`, `totals` and `compare` tell (docs/report.md): rows of their tables, with exact numbers in place of texts of digits, and their heading."""
 import dataclasses
+import functools
 import json
 from decimal import Decimal
 from fractions import Fraction
 from typing import Any, Dict, List, NamedTuple, Optional, Tuple, Union
 
+from .errors import Explanation, explanation_of
 from .frames import Frame, frame_of
 
 
@@ -48,7 +50,8 @@ class ListReport(NamedTuple):
 
 
 class Scope(NamedTuple):
-    """A scope of a distribution: `divisor` has the fewest digits that one can have; `last` won the last seat, `next` has the next claim."""
+    """A scope of a distribution: `divisor` has the fewest digits that one can have; `last` won the last seat, `next` has the next claim. Both are
+    short names, more than one where claims are equal."""
 
     stage: str
     scope: str
@@ -61,17 +64,19 @@ class Scope(NamedTuple):
     divisor: Optional[Decimal]
     quota: Optional[Decimal]
     quota_exact: Optional[Fraction]
-    last: Optional[str]
-    next: Optional[str]
+    last: Optional[Tuple[str, ...]]
+    next: Optional[Tuple[str, ...]]
 
 
 class Entry(NamedTuple):
-    """An entry of a scope; `missing` are the votes missing for one more seat."""
+    """An entry of a scope, a party, a Land, or a list as `LAND/PARTY`; `missing` are the votes missing for one more seat."""
 
     stage: str
     scope: str
     entry: str
     entry_name: str
+    land: Optional[str]
+    party: Optional[str]
     votes: int
     quotient: Optional[Decimal]
     quotient_exact: Optional[Fraction]
@@ -186,7 +191,7 @@ def _exact(key: str, value: Any) -> Any:
     if key in FRACTIONS:
         over, under = map(int, value.split("/"))
         return Fraction(over, under) if under else None
-    return value
+    return tuple(value) if isinstance(value, list) else value
 
 
 def _rows(tables: Dict[str, List[Dict[str, Any]]], key: str) -> tuple:
@@ -194,8 +199,50 @@ def _rows(tables: Dict[str, List[Dict[str, Any]]], key: str) -> tuple:
     return tuple(kind(**{name: _exact(name, value) for name, value in row.items()}) for row in tables.get(key, []))
 
 
+class Input(NamedTuple):
+    """An input that was read, `book` or `returns`, with the SHA-256 of its bytes; of a comparison `word` names the rulebook."""
+
+    input: str
+    sha256: str
+    word: Optional[str] = None
+
+
+@dataclasses.dataclass(frozen=True)
+class Heading:
+    """What JSON says beside its tables: `schema` is the version of its form, `program` that of the library, and `fault` the line of a fault.
+
+    >>> import seatlaw
+    >>> made = seatlaw.totals(seatlaw.Returns.from_file("examples/covered/returns.csv")).heading
+    >>> made.schema, made.command, [row.input for row in made.inputs]
+    (2, 'totals', ['returns'])
+    """
+
+    schema: int
+    program: str
+    command: str
+    status: int
+    fault: Optional[str]
+    inputs: Tuple[Input, ...]
+    explanation: Optional[Explanation]
+
+
+def heading(text: str) -> Heading:
+    """The heading of the JSON of a report, of totals or of a comparison, which a refusal has too."""
+    told = json.loads(text)
+    inputs = tuple(Input(**members) for members in told["inputs"])
+    plain = {key: told[key] for key in ("schema", "program", "command", "status", "fault")}
+    return Heading(**plain, inputs=inputs, explanation=explanation_of(told["explanation"]))
+
+
 class _Tables:
     """Tables whose rows are fields."""
+
+    text: str
+
+    @functools.cached_property
+    def heading(self) -> Heading:
+        """The versions, and the inputs with their SHA-256."""
+        return heading(self.text)
 
     def to_frame(self, kind: str) -> Frame:
         """The rows of a field."""

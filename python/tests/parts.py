@@ -20,7 +20,7 @@ MODULES = ("seatlaw", "seatlaw.calls", "seatlaw.errors", "seatlaw.inputs", "seat
 
 
 def package(args):
-    suite = unittest.TestSuite(unittest.defaultTestLoader.loadTestsFromName(name) for name in ("test_package", "test_many"))
+    suite = unittest.TestSuite(unittest.defaultTestLoader.loadTestsFromName(name) for name in ("test_package", "test_explanations", "test_many"))
     result = unittest.TextTestRunner(stream=sys.stdout, verbosity=0).run(suite)
     found = [doctest.testmod(importlib.import_module(name)) for name in MODULES]
     failed, tried = sum(it.failed for it in found), sum(it.attempted for it in found)
@@ -83,10 +83,10 @@ def pages(args):
 
 def by_python(case):
     """What the call of the package answers, below its results: the status, and the bytes."""
-    import codes
+    import both
     from seatlaw._library import ask, code, show
 
-    name, *inputs = codes.call_of(case, LAWS)
+    name, *inputs = both.call_of(case, LAWS)
     if name == "code_file":
         return compiled(*inputs)
     if name in ("show", "code"):
@@ -114,30 +114,27 @@ def shown_otherwise(case):
     language, inputs = case.language.encode(), (book, case.returns)
     status, parts = show(language, *inputs, case.names)
     single = [ask("count", *inputs), ask("steps", *inputs), ask("explain_count", language, *inputs)]
-    return [(status, parts[i]) for i in (0, 1, 4)] != single or parts[2] != ask("report", *inputs, case.names)[1]
+    _, _, told, _, sums, _ = show(b"en", *inputs, case.names)[1]  # single reports are in English
+    if told != ask("report", *inputs, case.names)[1] or book and sums != ask("totals", *inputs, case.names)[1]:
+        return True
+    return [(status, parts[i]) for i in (0, 1, 5)] != single
 
 
 def random(args):
+    import both
     import cases
     import codes
-    import compare
     from seatlaw._library import ask
 
     LAWS.update({law: ask("law", law.encode())[1] for law in cases.LAWS})
-    counted = [compare.told(case, LAWS) for case in cases.random_cases(args.random, args.seed)]
+    counted = [both.told(case, LAWS) for case in both.random_cases(args.random, args.seed)]
     all_cases = counted + list(codes.random_cases(args.random // 4, args.seed, LAWS, lambda books: [compiled(book)[1] for book in books]))
     found = [by_python(case) for case in all_cases]
-
-    def one(at):
-        place = os.path.join(folder, str(at))
-        os.mkdir(place)
-        return codes.by_program(args.program, place, all_cases[at])
-
     with tempfile.TemporaryDirectory() as folder, concurrent.futures.ThreadPoolExecutor(os.cpu_count()) as pool:
-        wanted = list(pool.map(one, range(len(all_cases))))
+        wanted = both.by_program_all(args.program, folder, all_cases, pool)
     wrong = [i for i in range(len(found)) if found[i] != wanted[i]]
     for i in wrong[:3]:
-        print("differs: %r\n  Python      %r\n  the program %r" % (all_cases[i], found[i], wanted[i]))
+        print("differs: %s\n  Python      %r\n  the program %r" % (repr(all_cases[i])[:600], (found[i][0], found[i][1][:300]), (wanted[i][0], wanted[i][1][:300])))
     parted = sum(map(shown_otherwise, counted))
     statuses = {status: sum(it[0] == status for it in found) for status in sorted({it[0] for it in found})}
     print("random: %d inputs, by status %s, %d differ from the program, %d of what is shown at once differ from single calls" % (

@@ -1,5 +1,7 @@
 """The package over the examples: results, exceptions, inputs made of tables, frames and pictures. Run at the top of the repository by python/test."""
 import concurrent.futures
+import dataclasses
+import hashlib
 import json
 import pathlib
 import re
@@ -84,6 +86,34 @@ class Results(unittest.TestCase):
         for key, table in schema["properties"]["tables"]["properties"].items():
             if key in reports.ROWS:
                 self.assertEqual(sorted(table["items"]["required"]), sorted(reports.ROWS[key]._fields), key)
+        fields = lambda kind: sorted(field.name for field in dataclasses.fields(kind))  # noqa: E731
+        self.assertEqual(sorted(set(schema["required"]) - {"tables"}), fields(reports.Heading))
+        told = schema["$defs"]
+        self.assertEqual(sorted(told["explanation_or_none"]["required"]), fields(seatlaw.Explanation))
+        self.assertEqual(tuple(told["place"]["required"]), seatlaw.Span._fields)
+        self.assertEqual(set(told["input"]["properties"]), set(reports.Input._fields))
+
+    def test_headings(self):
+        digest = lambda data: hashlib.sha256(data).hexdigest()  # noqa: E731
+        book, returns = seatlaw.Rulebook.from_file(EXAMPLES / "first-count" / "book.law"), seatlaw.Returns.from_file(EXAMPLES / "first-count" / "returns.csv")
+        both = (("book", digest(book.data), None), ("returns", digest(returns.data), None))
+        for made, command in ((seatlaw.report(book, returns), "report"), (seatlaw.totals(returns, book), "totals"), (seatlaw.totals(returns), "totals")):
+            heading = made.heading
+            self.assertEqual((heading.schema, heading.command, heading.status, heading.fault, heading.explanation), (2, command, 0, None, None))
+            self.assertEqual(heading.inputs, both if "book" in made.text[:300] else both[1:])
+            self.assertIn('version = "%s"' % heading.program, (TOP / "python" / "pyproject.toml").read_text())
+        compared = seatlaw.compare(returns, ["@2023", book]).heading
+        statute = digest(seatlaw.law("2023").encode())
+        self.assertEqual(compared.inputs, (("book", statute, "@2023"), ("book", both[0][1], "book"), both[1]))
+
+    def test_names_of_scopes_and_entries(self):
+        report = seatlaw.report("@2023-order", seatlaw.Returns.from_file(EXAMPLES / "elections" / "2025.csv"), (EXAMPLES / "elections" / "names.csv").read_bytes())
+        self.assertEqual([(row.last, row.next) for row in report.scopes[:2]], [(("CSU",), ("CDU",)), (("Bund/CDU",), ("Bund/CDU",))])
+        for row in report.entries:
+            self.assertEqual("/".join(filter(None, (row.land, row.party))), row.entry)
+        tied = seatlaw.Returns.from_file(EXAMPLES / "tie" / "drawn.csv")
+        scope = seatlaw.report(seatlaw.Rulebook.from_file(EXAMPLES / "tie" / "book.law"), tied).scopes[-1]
+        self.assertEqual((scope.last, scope.next), (("Town/Reds", "Town/Greens"), ("Town/Blues",)))
 
     def test_totals_and_compare(self):
         returns = seatlaw.Returns.from_file(EXAMPLES / "covered" / "returns.csv")
@@ -107,6 +137,8 @@ class AtOnce(unittest.TestCase):
                     with self.assertRaises(seatlaw.LegalFault) as caught:
                         seatlaw.report(book, returns)
                     self.assertEqual(caught.exception.report.text, fault.report.text)
+                    self.assertEqual(caught.exception.explained, fault.explained)
+                    self.assertEqual(fault.totals.text, seatlaw.totals(returns, book).text)
                 except seatlaw.Refused as error:
                     self.assertEqual(error.line, outcome(seatlaw.count, book, returns))
                 else:
@@ -114,9 +146,14 @@ class AtOnce(unittest.TestCase):
                     self.assertEqual(shown.steps.text, seatlaw.steps(book, returns).text)
                     self.assertEqual(shown.report.text, seatlaw.report(book, returns).text)
                     self.assertEqual(shown.stages, seatlaw.stages(book, returns))
+                    self.assertEqual(shown.totals.text, seatlaw.totals(returns, book).text)
         with self.assertRaises(seatlaw.Refused) as caught:
             seatlaw.show("@2023", RETURNS[0], b"a,b,c\n")
-        self.assertEqual(caught.exception.input, "names")
+        self.assertEqual((caught.exception.input, caught.exception.explained), ("names", None))
+        tie = [seatlaw.Rulebook.from_file(EXAMPLES / "tie" / "book.law"), seatlaw.Returns.from_file(EXAMPLES / "tie" / "returns.csv")]
+        with self.assertRaises(seatlaw.LegalFault) as caught:
+            seatlaw.show(*tie, b"a,b,c\n")
+        self.assertEqual((caught.exception.report, len(caught.exception.lots)), (None, 3))
 
 
 class Exceptions(unittest.TestCase):
@@ -126,7 +163,8 @@ class Exceptions(unittest.TestCase):
             seatlaw.check(seatlaw.Rulebook.from_text(text))
         error = caught.exception
         self.assertEqual((error.line, error.input, error.part, error.number, error.at), ("refused book check 5 243", "book", "check", 5, 243))
-        self.assertEqual((error.code, error.place), ("B15", (7, 21)))
+        self.assertEqual((error.code, error.place, error.explained.place), ("B15", (7, 21), (7, 21, 243, 247)))
+        self.assertEqual((error.explained.sentence, error.explained.help[0]), ("there is no stage and no column `uper`", "did you mean `upper`?"))
         self.assertIn("did you mean `upper`?", str(error))
         self.assertIn("Fehler[B15]", error.explanation("de"))
 
@@ -153,6 +191,7 @@ class Exceptions(unittest.TestCase):
         self.assertEqual((fault.stage, fault.scope, fault.kind, fault.seats, fault.code), ("council", "all", "tie", 2, "L04"))
         self.assertEqual(fault.names, ("Town/Reds", "Town/Blues", "Town/Greens"))
         self.assertEqual([lot.party for lot in fault.lots], ["Reds", "Blues", "Greens"])
+        self.assertEqual(fault.explained.records[0], "lot,Town,Reds,council,,")
         drawn = seatlaw.count(book, returns.with_lots(reversed(fault.lots)))
         self.assertEqual(drawn.seats["Greens"], seatlaw.count(book, returns.with_lots(fault.lots)).seats["Greens"] + 1)
         with self.assertRaises(seatlaw.LegalFault) as caught:
@@ -320,7 +359,7 @@ class Alone(unittest.TestCase):
         subprocess.run([sys.executable, "-c", code], check=True)
 
     def test_the_version_is_the_program_s(self):
-        text = (TOP / "crates" / "sl_terminal_words" / "src" / "help.rt").read_text()
+        text = (TOP / "crates" / "sl_explain_texts" / "src" / "program.rt").read_text()
         wanted = re.search(r'VERSION: &str = "(.*)"', text)[1]
         self.assertIn('version = "%s"' % wanted, (TOP / "python" / "pyproject.toml").read_text())
 

@@ -52,34 +52,38 @@ stage <- function(book, returns, name) {
 }
 
 # The line of a good rulebook.
-check <- function(book) sub("\n$", "", text_of(ask("check", bytes(book)), function(language) told("explain_check", language, book)))
+check <- function(book) sub("\n$", "", text_of(ask("check", bytes(book)), of_check(bytes(book))))
 
 # The tables of `report`, `totals` and `compare` as data frames, by jsonlite where it is there, and else as JSON.
 report <- function(book, returns, names = raw()) tables_of(counted("report", book, returns, bytes(names)))
 
-totals <- function(returns, book = raw(), names = raw()) tables_of(text_of(ask("totals", bytes(book), bytes(returns), bytes(names))))
-
-compare <- function(returns, books = paste0("@", c("1956", "1985", "2008", "2013", "2023", "2023-order")), names = raw()) {
-  tables_of(text_of(ask("compare", bytes(paste(books, collapse = "\n")), raw(), bytes(returns), bytes(names))))
+totals <- function(returns, book = raw(), names = raw()) {
+  book <- bytes(book)
+  returns <- bytes(returns)
+  tables_of(text_of(ask("totals", book, returns, bytes(names)), of_count(or_statute(book), returns)))
 }
 
-# All that comes of one count: the seat table, the steps, the tables of the report, and the columns of the stages.
+compare <- function(returns, books = paste0("@", c("1956", "1985", "2008", "2013", "2023", "2023-order")), names = raw()) {
+  returns <- bytes(returns)
+  tables_of(text_of(ask("compare", bytes(paste(books, collapse = "\n")), raw(), returns, bytes(names)), of_count(or_statute(raw()), returns)))
+}
+
+# All that comes of one count: the seat table, the steps, the tables of the report, the columns of the stages, and the tables of the totals.
 show_all <- function(book, returns, names = raw()) {
   book <- bytes(book)
   returns <- bytes(returns)
   answer <- ask_parts("show", bytes("en"), book, returns, bytes(names))
   parts <- vapply(answer[[2]], read_text, "")
-  explanation <- function(language) told("explain_count", language, book, returns)
-  seats <- text_of(list(answer[[1]], parts[1]), explanation)
-  text_of(list(if (startsWith(parts[3], "{")) 0L else 2L, parts[3])) # names that are refused
-  list(table = table_of(seats), steps = steps_of(parts[2]), report = tables_of(parts[3]), stages = tables_of(parts[4]))
+  seats <- text_of(list(answer[[1]], parts[1]), of_count(book, returns))
+  text_of(list(as.integer(member_of(parts[3], "status")), parts[3])) # names that are refused
+  list(table = table_of(seats), steps = steps_of(parts[2]), report = tables_of(parts[3]), stages = tables_of(parts[4]), totals = tables_of(parts[5]))
 }
 
 # The bytes of a rulebook's code file, and the lines of its listing.
 code <- function(book) {
   book <- bytes(book)
   answer <- ask_parts("code", book)
-  listing <- text_of(list(answer[[1]], read_text(answer[[2]][[2]])), function(language) told("explain_check", language, book))
+  listing <- text_of(list(answer[[1]], read_text(answer[[2]][[2]])), of_check(book))
   list(file = answer[[2]][[1]], listing = lines_of(listing))
 }
 
@@ -90,7 +94,7 @@ read_code <- function(file) readBin(file, "raw", file.size(file))
 run <- function(code, returns) {
   code <- bytes(code)
   returns <- bytes(returns)
-  table_of(text_of(ask("run", code, returns), function(language) told("explain_run", language, code, returns)))
+  table_of(text_of(ask("run", code, returns), of_run(code, returns)))
 }
 
 # What the code of a fault means.
@@ -100,12 +104,14 @@ explain <- function(code, language = "en") {
   text_of(answer)
 }
 
-# The lot records that returns lack at a tie, of the condition that the call raised.
+# The lot records that returns lack at a tie, of the condition that the call raised. That of a run has no parts: its text is read.
 lots_lacking <- function(condition) {
-  lines <- grep("= \\w+: lot,", lines_of(condition$explanation("en")), value = TRUE)
-  cells <- strsplit(sub(".*: lot,", "", lines), ",")
+  explained <- condition$explained()
+  lines <- lines_of(if (is.null(explained)) condition$explanation("en") else "")
+  records <- c(explained$records, sub("^.*: lot,", "lot,", grep("= \\w+: lot,", lines, value = TRUE)))
+  cells <- strsplit(records, ",")
   cell <- function(i) vapply(cells, function(x) if (length(x) < i) "" else x[i], "")
-  data.frame(land = cell(1), party = cell(2), stage = cell(3), constituency = cell(4))
+  data.frame(land = cell(2), party = cell(3), stage = cell(4), constituency = cell(5))
 }
 
 # ---- what the calls share
@@ -124,30 +130,16 @@ read_text <- function(data) {
   text
 }
 
-told <- function(name, language, ...) ask(name, bytes(language), ...)[[2]]
-
 counted <- function(name, book, returns, ...) {
   book <- bytes(book)
   returns <- bytes(returns)
-  text_of(ask(name, book, returns, ...), function(language) told("explain_count", language, book, returns))
+  text_of(ask(name, book, returns, ...), of_count(book, returns))
 }
 
-# The text of an answer that is done; any other one raises a condition with the line, and a function that explains it in a language.
-text_of <- function(answer, explanation = function(language) "") {
-  status <- answer[[1]]
-  if (status == 0) return(answer[[2]])
-  kinds <- c("2" = "seatlaw_refused", "3" = "seatlaw_legal_fault", "4" = "seatlaw_out_of_budget", "5" = "seatlaw_no_memory")
-  kind <- if (status %in% names(kinds)) kinds[[as.character(status)]] else "seatlaw_failed"
-  line <- if (status %in% 2:4) line_of(answer[[2]]) else paste("the library answered", status)
-  stop(structure(
-    class = c(kind, "seatlaw_error", "error", "condition"),
-    list(message = line, call = NULL, line = line, status = status, explanation = explanation)
-  ))
-}
-
-# The line of a refusal or of a fault, which of a report stands in its JSON.
-line_of <- function(text) {
-  if (startsWith(text, "{")) sub('^.*?"fault":"([^"]*)".*\n$', "\\1", text, perl = TRUE) else sub("\n.*$", "", text)
+# The text of an answer that is done; any other one raises a condition with the line, and functions that explain it.
+text_of <- function(answer, explain = UNEXPLAINED) {
+  if (answer[[1]] != 0) stop(fault_of(answer[[1]], answer[[2]], explain))
+  answer[[2]]
 }
 
 lines_of <- function(text) strsplit(text, "\n", fixed = TRUE)[[1]]

@@ -24,11 +24,15 @@ show_all(book, returns, names = raw())
   \code{count} gives a list of the \code{total}, of data frames of \code{parties}, \code{lists} and \code{vacant} seats, and of the constituencies of
   \code{singles} and of winners without a seat, \code{open}. \code{steps} gives data frames of \code{seats} and \code{bounds}, and that \code{table}.
   \code{stage} gives a data frame of the entries and their values. \code{check} gives the line of a good rulebook. \code{show_all} gives a list of the
-  \code{table}, the \code{steps}, and, as \code{\link{report}} gives them, the \code{report} and the \code{stages}.
+  \code{table}, the \code{steps}, and, as \code{\link{report}} gives them, the \code{report}, the \code{stages} and the \code{totals}.
 
   An input that is not in order raises a condition of the class \code{seatlaw_refused}, and returns for which the rulebook has no table one of
-  \code{seatlaw_legal_fault}; both are \code{seatlaw_error}. They have the \code{line} that says so, the \code{status}, and a function
-  \code{explanation} of the language, \code{"de"} or \code{"en"}.
+  \code{seatlaw_legal_fault}; both are \code{seatlaw_error}. They have the \code{line} that says so, the \code{status}, a function
+  \code{explanation} of the language, \code{"de"} or \code{"en"}, and a function \code{explained}, which gives the explanation in parts, in English:
+  a list of the \code{code} of the fault, the \code{input}, \code{"book"} or \code{"returns"}, the \code{sentence}, the \code{place} (its
+  \code{line} and \code{column} from 1, and the offsets of its first byte and of the one behind its last, \code{start} and \code{end}) or
+  \code{NULL}, texts of \code{help}, \code{records} of lots that may be added to the returns, and \code{more} lines. It gives \code{NULL} for
+  \code{\link{run}}, and where nothing is explained.
 }
 \examples{
 book <- law("2023")

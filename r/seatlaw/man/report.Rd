@@ -19,7 +19,10 @@ compare(
   \item{names}{a file of full names; none by default.}
   \item{books}{names of statutes with \code{@} before them.}
 }
-\value{Data frames by the names of the tables, where the package \code{jsonlite} is there, and else the JSON.}
+\value{
+  Data frames by the names of the tables, where the package \code{jsonlite} is there, and else the JSON. In that of \code{scopes} the columns
+  \code{last} and \code{next} are lists of short names. Refusals and legal faults are conditions, as of \code{\link{count}}.
+}
 \examples{
 votes <- make_returns(
   lands = data.frame(land = "North", people = 900000), parties = data.frame(party = c("Reds", "Blues")),

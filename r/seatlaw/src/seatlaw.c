@@ -8,7 +8,7 @@
 
 #define IN(i) (const char *)RAW(VECTOR_ELT(inputs, i)), (size_t)XLENGTH(VECTOR_ELT(inputs, i))
 
-enum { MOST_PARTS = 5 };
+enum { MOST_PARTS = 6 };
 
 // An answer in parts, and where they end.
 struct parts {
@@ -42,7 +42,7 @@ static int called_parts(const char *name, SEXP inputs, struct parts *parts) {
     }
     struct seatlaw_parts ends;
     int status = seatlaw_show(IN(0), IN(1), IN(2), IN(3), &parts->answer, &ends);
-    *parts = (struct parts){parts->answer, {ends.seats, ends.steps, ends.report, ends.stages, ends.explanation}, 5};
+    *parts = (struct parts){parts->answer, {ends.seats, ends.steps, ends.report, ends.stages, ends.totals, ends.explanation}, 6};
     return status;
 }
 
