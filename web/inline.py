@@ -85,7 +85,7 @@ def policy(script, style):
 
 def version():
     """The version of the program, which is made of the same sources."""
-    return re.search(r'VERSION: &str = "([^"]+)"', (TOP / "crates" / "sl_terminal_words" / "src" / "help.rt").read_text())[1]
+    return re.search(r'VERSION: &str = "([^"]+)"', (TOP / "crates" / "sl_explain_texts" / "src" / "program.rt").read_text())[1]
 
 
 def examples():
