@@ -1,7 +1,7 @@
 #!/usr/bin/env python3
 """English words in German texts. Not part of the gate.
 
-    python3 check/german.py [PROGRAM]
+    python3 check/languages.py [PROGRAM]
 
 Runs each command of the rows (docs/testing.md) in English and in German, over files on disk, and compares what both write for people: standard error,
 helps, what `explain` says, and reports in the form of text. A word of the German text that its English twin has too is English, unless it is a name,
