@@ -57,13 +57,20 @@ def damaged(rng, data):
     return bytes(data)
 
 
+def columns_of(line):
+    """How many columns a line has: its characters, or its bytes where they are no UTF-8, since each is shown for itself then."""
+    try:
+        return len(line.decode())
+    except UnicodeDecodeError:
+        return len(line)
+
+
 def is_within(text, line, column):
     """Whether a line and a column are within a text, or just behind it."""
     lines = re.split(rb"\r\n|\n|\r", text)
     if not 1 <= line <= len(lines):
         return False
-    characters = sum(byte & 0xC0 != 0x80 for byte in lines[line - 1])
-    return 1 <= column <= characters + 1
+    return 1 <= column <= columns_of(lines[line - 1]) + 1
 
 
 def wrong_in(program, folder, seed, books, returns):

@@ -86,7 +86,7 @@ same(caught(run(compiled, charToRaw("kind;land\n")))$line, "refused returns 1 1"
 same(caught(code(charToRaw("rulebook")))$status, 2L)
 
 # What codes mean.
-stopifnot(startsWith(explain("l04"), "L04: "), grepl("Was tun", explain("C15", "de")))
+stopifnot(startsWith(explain("l04"), "L04: "), grepl("Was zu tun ist", explain("C15", "de")))
 stopifnot(grepl("B99", tryCatch(explain("B99"), error = conditionMessage)))
 
 # All of a count at once.

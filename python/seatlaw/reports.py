@@ -162,11 +162,13 @@ class WarningText(NamedTuple):
 
 
 class Compared(NamedTuple):
-    """A rulebook: `open` are winners who are not seated, `differs` the first stage that differs from the first rulebook's."""
+    """A rulebook: `beyond` are seats beyond the house, `open` winners who are not seated, `differs` the first stage that differs from the first
+    rulebook's."""
 
     book: str
     law: str
     seats: Optional[int]
+    beyond: Optional[int]
     open: Optional[int]
     differs: Optional[str]
     fault: Optional[str]

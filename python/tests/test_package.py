@@ -253,7 +253,7 @@ class Codes(unittest.TestCase):
 
     def test_what_codes_mean(self):
         self.assertTrue(seatlaw.explain("b15").startswith("B15: "))
-        self.assertIn("Was tun", seatlaw.explain("C15", "de"))
+        self.assertIn("Was zu tun ist", seatlaw.explain("C15", "de"))
         for word in ("B99", "", "B1", "\u00e4"):
             self.assertRaises(ValueError, seatlaw.explain, word)
 

@@ -43,12 +43,12 @@ const LOST_BOOK: Message = Message {
 
 const FORCE: Message = Message {
     english: "write the code to another file, or add `--force`",
-    german: "schreiben Sie den Code in eine andere Datei, oder fügen Sie `--force` hinzu",
+    german: "den Code in eine andere Datei schreiben, oder `--force` hinzufügen",
 };
 
 const ANOTHER: Message = Message {
     english: "write the code to another file",
-    german: "schreiben Sie den Code in eine andere Datei",
+    german: "den Code in eine andere Datei schreiben",
 };
 
 // What is said of an input that was opened, and of standard output or a file that was.
@@ -79,7 +79,7 @@ const UNWRITTEN: Message = Message {
 
 const FOLDER: Message = Message {
     english: "is it a folder? Give the path of a file in it",
-    german: "ist es ein Ordner? Geben Sie den Pfad einer Datei darin an",
+    german: "ist es ein Ordner? Den Pfad einer Datei darin angeben",
 };
 
 const FULL: Message = Message {
@@ -94,7 +94,7 @@ const LIBRARY: Message = Message {
 
 const STANDARD_INPUT: Message = Message {
     english: "for standard input write `/dev/stdin`",
-    german: "für die Standardeingabe schreiben Sie `/dev/stdin`",
+    german: "für die Standardeingabe `/dev/stdin` schreiben",
 };
 
 // The order of the words; values: the path, the command twice, and the path or a rulebook.
@@ -126,7 +126,7 @@ const NO_CODE_FILE: Message = Message {
 
 const SCHEME: Message = Message {
     english: "write a path, without `file://`",
-    german: "schreiben Sie einen Pfad, ohne `file://`",
+    german: "einen Pfad schreiben, ohne `file://`",
 };
 
 const SHELL: Message = Message {
@@ -136,12 +136,12 @@ const SHELL: Message = Message {
 
 const BACKSLASH: Message = Message {
     english: "write a path with `/` between its parts",
-    german: "schreiben Sie einen Pfad mit `/` zwischen seinen Teilen",
+    german: "einen Pfad mit `/` zwischen seinen Teilen schreiben",
 };
 
 const PATH: Message = Message {
     english: "look whether the path is right; a relative one begins in the folder in which the command runs",
-    german: "prüfen Sie den Pfad; ein relativer beginnt in dem Ordner, in dem der Befehl läuft",
+    german: "den Pfad prüfen; ein relativer beginnt in dem Ordner, in dem der Befehl läuft",
 };
 
 // The message that says which input cannot be opened.

@@ -23,7 +23,7 @@ const EXAMPLE: Message = Message {
 
 const REMEDY: Message = Message {
     english: "What to do",
-    german: "Was tun",
+    german: "Was zu tun ist",
 };
 
 /// What is to be said of a code.

@@ -73,7 +73,7 @@ const LONG: Sentence = Sentence {
 const BUDGET: Sentence = Sentence {
     code: FaultCode::C15,
     english: "the run of the code file takes more steps than any rulebook's does, and was stopped",
-    german: "der Lauf der Codedatei braucht mehr Schritte als der jedes Regelwerks und wurde abgebrochen",
+    german: "der Lauf der Codedatei braucht mehr Schritte als der irgendeines Regelwerks und wurde abgebrochen",
 };
 
 // What the verifier refuses; the value is the number of the instruction.

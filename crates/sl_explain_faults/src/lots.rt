@@ -28,17 +28,17 @@ const NO_STAGE: Message = Message {
 // Lots of the stage of the tie without an effect; the value is their number.
 const NOT_PARTIES: Message = Message {
     english: "lots without an effect: $ of this stage; it is between parties, so a lot has no Land and no constituency",
-    german: "Lose ohne Wirkung: $ dieser Stufe; es geht um Parteien, so hat ein Los kein Land und keinen Wahlkreis",
+    german: "Lose ohne Wirkung: $ dieser Stufe; es geht um Parteien: Ein Los hat kein Land und keinen Wahlkreis",
 };
 
 const NOT_LANDS: Message = Message {
     english: "lots without an effect: $ of this stage; it is between Länder, so a lot has no party",
-    german: "Lose ohne Wirkung: $ dieser Stufe; es geht um Länder, so hat ein Los keine Partei",
+    german: "Lose ohne Wirkung: $ dieser Stufe; es geht um Länder: Ein Los hat keine Partei",
 };
 
 const NOT_LISTS: Message = Message {
     english: "lots without an effect: $ of this stage; it is between lists, so a lot has both a Land and a party",
-    german: "Lose ohne Wirkung: $ dieser Stufe; es geht um Listen, so hat ein Los ein Land und eine Partei",
+    german: "Lose ohne Wirkung: $ dieser Stufe; es geht um Listen: Ein Los hat ein Land und eine Partei",
 };
 
 const NOT_WINNERS: Message = Message {
@@ -48,7 +48,7 @@ const NOT_WINNERS: Message = Message {
 
 const MISSING: Message = Message {
     english: "the lots of this stage name only some of the tied entries, and so have no effect; also name $",
-    german: "die Lose dieser Stufe nennen nur einige der Gleichen und sind so ohne Wirkung; auch zu nennen: $",
+    german: "die Lose dieser Stufe nennen nur einige der Gleichen und bleiben ohne Wirkung; auch zu nennen: $",
 };
 
 // Whether a lot gives a winner by the Land and the party of the winner.

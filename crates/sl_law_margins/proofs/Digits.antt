@@ -1,28 +1,12 @@
 -- Powers of ten, multiples of them, and quotients cut after some places.
-use Rattle.std.proofs.Common.{◌≡◌, ℕ, zero, suc, ◌+◌, ◌-◌, ◌*◌, ◌/◌, ◌%◌, ◌^◌, ◌<◌, ◌≤◌, inl, inr, arith, refl, ap}
-use Rattle.std.specs.Prelude.{◌↔◌}
-use Rattle.std.proofs.Math.Nat.{div-add-mod', le-div_iff_mul-le, pow-suc, pow-le-pow_right, mul-le-mul_right}
-use Rattle.std.proofs.lemmas.Nat.{mul-le}
+use Rattle.std.proofs.Common.{◌≡◌, ℕ, zero, suc, ◌+◌, ◌-◌, ◌*◌, ◌/◌, ◌%◌, ◌^◌, ◌<◌, ◌≤◌, inl, inr, arith, ap}
+use Rattle.std.proofs.Math.Nat.{div-add-mod', pow-suc, pow-le-pow_right, mul-le-mul_right}
 use Rattle.std.proofs.lemmas.Bool.{cases_lt}
-use Rattle.sl_law_margins.specs.Decimals.{IsCut}
 use Rattle.sl_law_margins.specs.inner.Units.{IsRoundest}
 use Rattle.sl_law_margins.proofs.Shortest.{ten_pos}
 
 pub ten_le : (n : ℕ) → n ≤ 12 → 10 ^ n ≤ 10 ^ 12
 ten_le n h = pow-le-pow_right {n = 10} (omega arith) h
-
-pub ten_fits : (n : ℕ) → n ≤ 12 → 10 ^ n < 2 ^ 128
-ten_fits n h = let le = ten_le n h in omega (arith, le)
-
--- a number of up to 10 ^ 25, times a power of ten
-pub scaled_fits : (x y : ℕ) → x ≤ 10 ^ 25 → y ≤ 10 ^ 12 → x * y < 2 ^ 128
-scaled_fits x y h k = let up = mul-le x y (10 ^ 25) (10 ^ 12) h k in omega (arith, up)
-
-pub is_cut : (num den places : ℕ) → 0 < den → IsCut (record { num = num; den = den }) places (record { digits = num * 10 ^ places / den; places = places })
-is_cut num den places pos =
-    let x = num * 10 ^ places in
-    let iff : (n : ℕ) → (n ≤ num * 10 ^ places / den) ↔ (n * den ≤ num * 10 ^ places) = λ n. le-div_iff_mul-le pos in
-    record { places_kept = refl; not_above = (iff (num * 10 ^ places / den)).0 (omega arith); greatest = λ n h. (iff n).1 h }
 
 -- without a last zero, and with one place less, a number is the same
 pub strip : (digits places units left : ℕ) → digits % 10 ≡ 0 → 0 < left → digits * 10 ^ places ≡ units * 10 ^ left →

@@ -11,20 +11,6 @@ use Rattle.sl_ratio.specs.declared.limits.TheConstants.{MAX_WEIGHT, MAX_SEATS}
 use Rattle.sl_ratio.specs.Quotient.{Quotient, quotient}
 use Rattle.sl_law_margins.specs.inner.Needed.{power_of, IsLeast, IsAbove}
 
--- squares rise
-square_least : (n r w : ℕ) → r * r ≤ n → n < w * w → r + 1 ≤ w
-square_least n r w low high =
-    elim (cases_lt r w) [
-      | inl l ↦ omega arith
-      | inr g ↦ absurd (let up = mul-le w w r r g g in omega (arith, up, low, high))
-    ]
-
-pub square_root : (n r : ℕ) → r * r ≤ n → n < (r + 1) * (r + 1) → IsLeast (λ w. n < w * w) (r + 1)
-square_root n r low high = record { holds = high; least = λ w h. square_least n r w low h }
-
-pub next_number : (n : ℕ) → IsLeast (λ w. n < w) (n + 1)
-next_number n = record { holds = omega arith; least = λ w h. omega arith }
-
 -- a quotient is a power of its weight over a number of the seats alone
 pub quotient_num : (method : Divisor) (w a : ℕ) → (quotient method w a).num ≡ (quotient method 1 a).num * power_of method w
 quotient_num Adams w a = omega arith
@@ -95,10 +81,6 @@ is_enough Jefferson weight won held pos = bigger (weight * (held + 1)) (enough w
 pub enough_fits : (weight held : ℕ) → weight ≤ MAX_WEIGHT → held ≤ MAX_SEATS → enough weight held < 2 ^ 64
 enough_fits weight held w h =
     let up : weight * (held + 1) ≤ MAX_WEIGHT * (MAX_SEATS + 1) = mul-le weight (held + 1) MAX_WEIGHT (MAX_SEATS + 1) w (omega arith) in omega (arith, up)
-
--- the parts of two ratios multiply to less than 2 ^ 127
-pub parts_fit : (x y : ℕ) → x ≤ 10 ^ 25 → y ≤ 10 ^ 12 → x * y < 2 ^ 127
-parts_fit x y h k = let up : x * y ≤ 10 ^ 25 * 10 ^ 12 = mul-le x y (10 ^ 25) (10 ^ 12) h k in omega (arith, up)
 
 -- the parts of the two ratios as the code reads them
 pub found_above : (method : Divisor) (weight won held r : ℕ) (claim unit : Quotient) (n d e m : ℕ) →

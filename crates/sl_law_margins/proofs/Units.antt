@@ -1,9 +1,8 @@
 -- Which numbers of units are above or below a claim.
-use Rattle.std.proofs.Common.{◌≡◌, ℕ, zero, suc, ◌+◌, ◌-◌, ◌*◌, ◌/◌, ◌^◌, ◌<◌, ◌≤◌, inl, inr, arith}
+use Rattle.std.proofs.Common.{◌≡◌, ℕ, zero, suc, ◌+◌, ◌-◌, ◌*◌, ◌/◌, ◌^◌, ◌<◌, ◌≤◌, arith}
 use Rattle.std.specs.Prelude.{◌↔◌}
 use Rattle.std.proofs.Math.Nat.{div-lt_iff_lt-mul, le-div_iff_mul-le}
 use Rattle.std.proofs.lemmas.Nat.{mul-le}
-use Rattle.std.proofs.lemmas.Bool.{cases_lt}
 use Rattle.sl_ratio.specs.declared.method.Divisor.{Divisor}
 use Rattle.sl_ratio.specs.declared.method.Divisor.TheVariants.{Adams, Dean, Hill, Webster, Jefferson}
 use Rattle.sl_ratio.specs.Quotient.{Quotient}
@@ -20,17 +19,6 @@ powers_rise Jefferson m n h = h
 
 pub from_least : (method : Divisor) (power r : ℕ) → IsLeast (λ w. power < power_of method w) r → IsFrom (λ w. power < power_of method w) r
 from_least method power r h n = (h.least n, λ le. let up = powers_rise method r n le in let low = h.holds in omega (arith, up, low))
-
--- a root rounded down
-pub root_up_to : (power r : ℕ) → r * r ≤ power → power < (r + 1) * (r + 1) → IsUpTo (λ n. n * n ≤ power) r
-root_up_to power r low high n = (
-  (λ h. elim (cases_lt r n) [ inr g ↦ g | inl l ↦ absurd (let up = mul-le (r + 1) (r + 1) n n (omega arith) (omega arith) in omega (arith, up, h, high)) ]),
-  (λ le. let up = mul-le n n r r le le in omega (arith, up, low)),
-)
-
-pub root_at_most : (power r : ℕ) → r * r ≤ power → r ≤ power
-root_at_most power zero h = omega arith
-root_at_most power (suc r) h = omega arith
 
 above_plain : (x y n : ℕ) → 0 < y → (x * 10 ^ 12 < n * y) ↔ (x * 10 ^ 12 / y < n)
 above_plain x y n pos =
@@ -89,19 +77,8 @@ power_ge Hill (suc w) = omega arith
 power_ge Webster w = omega arith
 power_ge Jefferson w = omega arith
 
-no_power : (method : Divisor) (p : ℕ) → p < power_of method 0 → ⊥
-no_power Adams p h = omega arith
-no_power Dean p h = omega arith
-no_power Hill p h = omega arith
-no_power Webster p h = omega arith
-no_power Jefferson p h = omega arith
-
 pub least_small : (method : Divisor) (p r : ℕ) → IsLeast (λ w. p < power_of method w) r → r ≤ p + 1
 least_small method p r h = let ge = power_ge method (p + 1) in h.least (p + 1) (omega (arith, ge))
-
-pub least_pos : (method : Divisor) (p r : ℕ) → IsLeast (λ w. p < power_of method w) r → 0 < r
-least_pos method p zero h = absurd (no_power method p h.holds)
-least_pos method p (suc r) h = omega arith
 
 -- a ratio in parts of 10 ^ -12 has a whole part of at most 10 ^ 37
 pub parts_small : (x y : ℕ) → x ≤ 10 ^ 25 → 0 < y → x * 10 ^ 12 / y ≤ 10 ^ 37

@@ -1,4 +1,4 @@
--- The rulebooks of the library: each name, and the text after it (docs/laws.md).
+-- The rulebooks of the library: each name, and its text (docs/laws.md).
 use Rattle.std.specs.Prelude.{ℕ, List, [], ◌∷◌, ◌++◌, Option, option_map, codes, flat_map, find}
 use Rattle.std.specs.Str.{bytes_eq}
 

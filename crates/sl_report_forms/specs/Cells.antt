@@ -1,4 +1,4 @@
--- What stands in a cell: nothing, a number, a flag, or a text, whose wording no definition tells.
+-- What stands in a cell: nothing, a number, by how much a number is another than before, a flag, or a text, whose wording no definition tells.
 use Rattle.std.specs.Prelude.{ℕ, Bool, Option, Some, None}
 use Rattle.sl_report_forms.specs.declared.cell.Cell.TheVariants as cell
 use Rattle.sl_report_forms.specs.declared.cell.Cell.{Cell}
@@ -6,6 +6,7 @@ use Rattle.sl_report_forms.specs.declared.cell.Cell.{Cell}
 pub data Content : Type 0 where
   nothing : Content
   a_number : ℕ → Content
+  a_change : (number before : ℕ) → Content
   a_flag : Bool → Content
   a_text : Content
 
@@ -13,6 +14,7 @@ abbrev pub content_of : Cell → Content
 content_of cell.Empty = nothing
 content_of (cell.Text words) = a_text
 content_of (cell.Number n) = a_number n
+content_of (cell.Change n before) = a_change n before
 content_of (cell.Word key shown) = a_text
 content_of (cell.Flag is shown) = a_flag is
 content_of (cell.Names keys shown) = a_text

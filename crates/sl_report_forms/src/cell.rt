@@ -9,6 +9,8 @@ pub enum Cell {
     Empty,
     Text(String),
     Number(u64),
+    /// A number and an earlier one: by how much it is more or less.
+    Change(u64, u64),
     /// A word: as programs know it, and as a person reads it.
     Word { key: String, shown: String },
     /// A flag, and the word for it that a person reads.
@@ -29,6 +31,17 @@ fn listed(alloc: Global, names: &[String]) -> Result<String, NoMemory> {
     Ok(text)
 }
 
+// The difference of two numbers, with this sign where the first is the greater one.
+fn change_text(alloc: Global, more: &str, number: u64, before: u64) -> Result<String, NoMemory> {
+    if number < before {
+        let fewer = before - number;
+        return Ok(format!(in alloc; "-{fewer}")?);
+    }
+    let by = number - before;
+    let sign = if by > 0 { more } else { "" };
+    Ok(format!(in alloc; "{sign}{by}")?)
+}
+
 impl Cell {
     /// What a program reads of the cell, whatever the language.
     pub fn key(&self, alloc: Global) -> Result<String, NoMemory> {
@@ -37,6 +50,7 @@ impl Cell {
             Cell::Flag { is: true, .. } => Ok(String::from_str(alloc, "yes")?),
             Cell::Flag { is: false, .. } => Ok(String::from_str(alloc, "no")?),
             Cell::Names { keys, .. } => listed(alloc, keys.as_slice()),
+            Cell::Change(number, before) => change_text(alloc, "", *number, *before),
             Cell::Empty | Cell::Text(_) | Cell::Number(_) => self.shown(alloc),
         }
     }
@@ -47,6 +61,7 @@ impl Cell {
             Cell::Empty => Ok(String::new(alloc)),
             Cell::Text(text) => Ok(String::from_str(alloc, text.as_str())?),
             Cell::Number(number) => Ok(number.to_string(alloc)?),
+            Cell::Change(number, before) => change_text(alloc, "+", *number, *before),
             Cell::Word { shown, .. } | Cell::Names { shown, .. } => {
                 Ok(String::from_str(alloc, shown.as_str())?)
             }

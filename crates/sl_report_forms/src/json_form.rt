@@ -17,11 +17,21 @@ fn names_value(alloc: Global, names: &[String]) -> Result<Value, NoMemory> {
     Ok(Value::Array(values))
 }
 
+// The difference of two numbers, none of which has more than 63 bits.
+fn change_number(number: u64, before: u64) -> Number {
+    if number < before {
+        Number::from(-i64::try_from(before - number).unwrap_or(i64::MAX))
+    } else {
+        Number::from(number - before)
+    }
+}
+
 fn cell_value(alloc: Global, cell: &Cell) -> Result<Value, NoMemory> {
     match cell {
         Cell::Empty => Ok(Value::Null),
         Cell::Text(text) => text_value(alloc, text.as_str()),
         Cell::Number(number) => Ok(Value::Number(Number::from(*number))),
+        Cell::Change(number, before) => Ok(Value::Number(change_number(*number, *before))),
         Cell::Word { key, .. } => text_value(alloc, key.as_str()),
         Cell::Flag { is, .. } => Ok(Value::Bool(*is)),
         Cell::Names { keys, .. } => names_value(alloc, keys.as_slice()),

@@ -1,7 +1,7 @@
 //! Sheets: a key, a title, the heads of the columns, and rows.
 
 ghost use Rattle.std.specs.Prelude.{◌≡◌, ◌++◌, ◌∷◌, [], IfOk, OnOk, map, string_bytes};
-ghost use Rattle.sl_report_forms.specs.Cells.{a_flag, a_number, a_text, content_of, known, nothing};
+ghost use Rattle.sl_report_forms.specs.Cells.{a_change, a_flag, a_number, a_text, content_of, known, nothing};
 ghost use Rattle.sl_report_forms.specs.Tables.{blank_table, contents_of, table_of, with_columns, with_rows};
 
 use crate::cell::Cell;
@@ -12,7 +12,7 @@ use std::alloc::Global;
 /// How a column looks in aligned text.
 #[derive(Clone, Copy)]
 pub enum Look {
-    /// It is left out.
+    /// It is left out. A sheet whose columns are all left out is so too.
     Hidden,
     /// At the left, and cut to so many columns of a terminal.
     Text(usize),
@@ -147,6 +147,13 @@ impl Row {
         ensures { OnOk result (contents_of self.new.cells.items ≡ contents_of self.old.cells.items ++ a_number number ∷ []) }
     {
         self.push(Cell::Number(number))
+    }
+
+    /// Adds by how much a number is more or less than an earlier one.
+    pub fn change(&mut self, number: u64, before: u64) -> Result<(), NoMemory>
+        ensures { OnOk result (contents_of self.new.cells.items ≡ contents_of self.old.cells.items ++ a_change number before ∷ []) }
+    {
+        self.push(Cell::Change(number, before))
     }
 
     /// Adds a number, or an empty cell.

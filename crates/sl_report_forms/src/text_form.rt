@@ -184,9 +184,14 @@ fn put_table(alloc: Global, out: &mut String, sheet: &Sheet) -> Result<(), NoMem
     put_lines(alloc, out, lines.as_slice(), columns.as_slice())
 }
 
-// Adds a sheet that has rows, after an empty line where it is not the first one: its title and its table.
+// Whether a sheet has a row, and a column that is shown.
+fn is_shown(sheet: &Sheet) -> bool {
+    !sheet.rows.is_empty() && sheet.heads.iter().any(|head| !is_hidden(head.look))
+}
+
+// Adds a sheet that is shown, after an empty line where it is not the first one: its title and its table.
 fn put_sheet(alloc: Global, out: &mut String, sheet: &Sheet) -> Result<(), NoMemory> {
-    if sheet.rows.is_empty() {
+    if !is_shown(sheet) {
         return Ok(());
     }
     if !out.is_empty() {
@@ -197,7 +202,7 @@ fn put_sheet(alloc: Global, out: &mut String, sheet: &Sheet) -> Result<(), NoMem
     put_table(alloc, out, sheet)
 }
 
-/// Sheets as aligned text, with an empty line between them. One without rows is left out.
+/// Sheets as aligned text, with an empty line between them. One without rows, or without a column that is shown, is left out.
 pub fn aligned_text(alloc: Global, sheets: &[Sheet]) -> Result<String, NoMemory> {
     let mut out = String::new(alloc);
     for sheet in sheets {

@@ -7,6 +7,7 @@ pub mod ValueSteps
 pub mod Typed
 pub mod Divided
 pub mod Fews
+pub mod OwnSteps
 pub mod ScopeSteps
 pub mod Before
 pub mod ContestSteps

@@ -10,3 +10,4 @@ pub mod Ranks
 pub mod Places
 pub mod Scopes
 pub mod StageScopes
+pub mod inner

@@ -15,7 +15,7 @@ use crate::columns::{Distribution, distribution_of};
 use crate::facts::Setting;
 use crate::fraction::Fraction;
 use crate::margins::{Margins, margins_of};
-use crate::places::{items_in, scope_at, scope_count};
+use crate::places::{items_in, scope_at, scope_count, steps_in};
 use crate::scopes::{Entry, Scoped, seats_in, shown_entries, weight_in, with_margins, with_quota};
 use sl_ratio::{Divisor, Method, NoMemory};
 use sl_stages::{Counted, Returns, Scope, SeatStep};
@@ -206,7 +206,15 @@ fn push_scope(
     ensures { OnOk result (Adds stage what.now scope (shown_entries returns.now stage what.now steps.now (items_in returns.now what.now.votes.shape scope)) scopes.old.items scopes.new.items) }
 {
     let items = items_in(alloc, returns, what.votes.shape, scope)?;
-    let entries = shown_entries(alloc, returns, stage, what, steps, items.as_slice())?;
+    let own = steps_in(alloc, steps, stage, scope)?;
+    let entries = shown_entries(
+        alloc,
+        returns,
+        stage,
+        what,
+        own.as_slice(),
+        items.as_slice(),
+    )?;
     push_some(alloc, scopes, stage, what, scope, entries.as_slice())
 }
 

@@ -26,6 +26,16 @@ pub struct Setting<'a> {
     pub ghost told: { parts.items ≡ parts_of book.now.eligible.items returns.now },
 }
 
+/// The seats of the house from which a book starts on returns: those that the returns give, or else its own.
+pub fn house_of(book: &Book, returns: &Returns) -> u64
+    ensures { result ≡ unwrap_or returns.now.house book.now.house.value }
+{
+    match returns.house() {
+        Some(house) => u64::from(house),
+        None => u64::from(book.house.value),
+    }
+}
+
 // Whether a winner is of that party in that Land.
 fn is_won(win: Win, land: usize, party: usize) -> bool
     ensures { result ≡ is_won land party win }
@@ -84,10 +94,7 @@ impl<'a> Setting<'a> {
     pub fn house(&self) -> u64
         ensures { result ≡ unwrap_or self.now.returns.now.house self.now.book.now.house.value }
     {
-        match self.returns.house() {
-            Some(house) => u64::from(house),
-            None => u64::from(self.book.house.value),
-        }
+        house_of(self.book, self.returns)
     }
 
     // Whether a winner is of a party that takes part and has a list in the Land.

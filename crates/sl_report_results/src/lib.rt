@@ -23,7 +23,7 @@ mod votes;
 pub use columns::sum_of;
 pub use contests::{Ranked, contested};
 pub use distributed::stage_scopes;
-pub use facts::{Setting, winners_at};
+pub use facts::{Setting, house_of, winners_at};
 pub use fraction::Fraction;
 pub use lacking::{lacking_votes, lacking_winners};
 pub use parts::{PartyPart, part_of, parts_of};

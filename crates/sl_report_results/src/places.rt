@@ -1,7 +1,8 @@
 //! The scopes of a stage and their entries, and the seats that the stage gave to each entry.
 
-ghost use Rattle.std.specs.Prelude.{◌≡◌, ◌<◌, ◌++◌, ◌∷◌, [], IfOk, OnOk, slice_index, map, if◌then◌else◌};
+ghost use Rattle.std.specs.Prelude.{◌≡◌, ◌<◌, ◌++◌, ◌∷◌, [], IfOk, OnOk, slice_index, filter, map, if◌then◌else◌};
 ghost use Rattle.sl_report_results.specs.Places.{IsScope, is_seat_of, items_in, scope_at, scope_count, seats_of};
+ghost use Rattle.sl_report_results.specs.inner.Within.{is_step_in, is_within};
 ghost use Rattle.sl_stages.specs.declared.fault.Item.TheVariants as item;
 ghost use Rattle.sl_stages.specs.meaning.Scopes.{all_lists, entries_of, lists_in_land, lists_of_party, place, same_item};
 ghost use Rattle.sl_stages.specs.returns.Election.{lands_of, parties_of};
@@ -38,6 +39,51 @@ pub(crate) fn seats_of(steps: &[SeatStep], stage: usize, item: Item) -> u64
     seats
 }
 
+// Adds an element, if it is there.
+fn push_if<T: Copy>(all: &mut Vec<T>, one: T, is_there: bool) -> Result<(), NoMemory>
+    ensures { OnOk result (all.new.items ≡ all.old.items ++ (if is_there then one ∷ [] else [])) }
+{
+    if is_there {
+        all.push(one)?;
+    }
+    Ok(())
+}
+
+// Whether an entry can be one of a scope's, by its Land and its party.
+fn is_within(scope: Scope, item: Item) -> bool
+    ensures { result ≡ is_within scope item }
+{
+    match (scope, item) {
+        (Scope::All, _) => true,
+        (Scope::Party(party), Item::List(_, own)) => own == party,
+        (Scope::Land(land), Item::List(own, _)) => own == land,
+        (Scope::Party(_) | Scope::Land(_) | Scope::List(_, _), _) => false,
+    }
+}
+
+// Whether a step can have won a seat of a stage for an entry of a scope.
+fn is_step_in(step: &SeatStep, stage: usize, scope: Scope) -> bool
+    ensures { result ≡ is_step_in stage scope step.now }
+{
+    step.stage == stage && is_within(scope, step.entry)
+}
+
+/// The steps of a stage that can have won a seat for an entry of a scope.
+pub(crate) fn steps_in(
+    alloc: Global,
+    steps: &[SeatStep],
+    stage: usize,
+    scope: Scope,
+) -> Result<Vec<SeatStep>, NoMemory>
+    ensures { IfOk result (λ own. own.items ≡ filter (is_step_in stage scope) steps.now) }
+{
+    let mut own: Vec<SeatStep> = Vec::new(alloc);
+    for step in steps {
+        push_if(&mut own, *step, is_step_in(step, stage, scope))?;
+    }
+    Ok(own)
+}
+
 /// The number of an entry in a column of its shape.
 pub fn number_of(returns: &Returns, column: &Column, item: Item) -> u64
     ensures { result ≡ slice_index column.now.cells.items (place returns.now item) }
@@ -51,16 +97,6 @@ pub fn number_of(returns: &Returns, column: &Column, item: Item) -> u64
         }
         Item::Win(win) => number_at(column, win),
     }
-}
-
-// Adds an entry, if it is there.
-fn push_if(items: &mut Vec<Item>, item: Item, is_there: bool) -> Result<(), NoMemory>
-    ensures { OnOk result (items.new.items ≡ items.old.items ++ (if is_there then item ∷ [] else [])) }
-{
-    if is_there {
-        items.push(item)?;
-    }
-    Ok(())
 }
 
 // Adds the lists in a Land.

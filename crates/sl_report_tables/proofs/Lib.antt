@@ -1,4 +1,6 @@
 pub mod MoreRows
 pub mod MoreTables
+pub mod ComparedRows
+pub mod Divisors
 pub mod GrowingTables
 pub mod VotesRows

@@ -53,6 +53,13 @@ rows_next f xs i x t before after at so_far more =
     rows_then t before after (map f (take i xs)) (f x ∷ []) so_far more
     ∙ ap (with_rows t) (map_next f xs i x (map f (take i xs)) (map f (take i xs) ++ f x ∷ []) (f x) at refl refl refl)
 
+-- the rows of one element more
+pub rows_flat : {X : Type 0} (f : X → List (List Content)) (xs : List X) (i : ℕ) (x : X) (t before after : Table) → slice_get xs i ≡ Some x →
+    before ≡ with_rows t (flat_map f (take i xs)) → after ≡ with_rows before (f x) → after ≡ with_rows t (flat_map f (take (i + 1) xs))
+rows_flat f xs i x t before after at so_far more =
+    rows_then t before after (flat_map f (take i xs)) (f x) so_far more
+    ∙ ap (with_rows t) (pieces_next f xs i x [] (flat_map f (take i xs)) (flat_map f (take i xs) ++ f x) at refl refl)
+
 pub rows_all : {X : Type 0} (f : X → List Content) (xs : List X) (i : ℕ) (t after : Table) → length xs ≤ i → after ≡ with_rows t (map f (take i xs)) → after ≡ with_rows t (map f xs)
 rows_all f xs i t after past so_far = so_far ∙ ap (λ ys. with_rows t (map f ys)) (take_all i xs past)
 

@@ -1,11 +1,13 @@
 -- The tables of several rulebooks, side by side (docs/report.md).
-use Rattle.std.specs.List.{AllZip}
-use Rattle.std.specs.Prelude.{◌≡◌, ℕ, List, [], ◌∷◌, ◌++◌, Option, Some, None, codes, count_by, map, string_bytes}
-use Rattle.sl_report_forms.specs.Cells.{Content, a_number, a_text, nothing}
+use Rattle.std.specs.List.{AllZip, flat_map}
+use Rattle.std.specs.Prelude.{◌≡◌, ℕ, ◌-◌, List, [], ◌∷◌, ◌++◌, Option, Some, None, codes, count_by, drop, map, option_map, string_bytes}
+use Rattle.sl_report_forms.specs.Cells.{Content, a_change, a_number, a_text, known, nothing}
 use Rattle.sl_report_forms.specs.Tables.{Table}
 use Rattle.sl_report_results.specs.Seats.{all_seats, is_open, party_seats}
+use Rattle.sl_report_tables.specs.Parties.{house_of}
 use Rattle.sl_report_tables.specs.Parts.{a_name}
 use Rattle.sl_report_tables.specs.declared.compare.Judged.{Judged}
+use Rattle.sl_stages.specs.declared.book.Book.{Book}
 use Rattle.sl_stages.specs.declared.count.Counted.{Counted}
 use Rattle.sl_stages.specs.declared.fault.LegalFault.{LegalFault}
 use Rattle.sl_stages.specs.returns.Election.{Election}
@@ -18,22 +20,40 @@ fault_cell (Some fault) = a_text
 
 -- ---- a line for each book
 
--- the seats in all, and the winners who are not seated
-abbrev pub book_cells : Option Counted → List Content
-book_cells None = nothing ∷ nothing ∷ []
-book_cells (Some c) = a_number (all_seats c.table).seats ∷ a_number (count_by is_open c.table.placed) ∷ []
+-- the seats in all, those beyond the house, and the winners who are not seated
+abbrev pub book_cells : Election → Book → Option Counted → List Content
+book_cells e book None = nothing ∷ nothing ∷ nothing ∷ []
+book_cells e book (Some c) =
+    a_number (all_seats c.table).seats
+    ∷ a_number ((all_seats c.table).seats - house_of book e)
+    ∷ a_number (count_by is_open c.table.placed) ∷ []
 
 -- the word and the law of the book, what it distributes, where it differs from the first book, and its fault
-abbrev pub book_row : Judged → List Content → List Content
-book_row j differs = a_text ∷ a_text ∷ book_cells j.counted ++ differs ++ fault_cell j.fault ∷ []
+abbrev pub book_row : Election → Judged → List Content → List Content
+book_row e j differs = a_text ∷ a_text ∷ book_cells e j.book.book j.counted ++ differs ++ fault_cell j.fault ∷ []
 
-abbrev pub IsBookRow : Judged → List Content → Type 0
-IsBookRow j row = (differs : Content) × (row ≡ book_row j (differs ∷ []))
+abbrev pub IsBookRow : Election → Judged → List Content → Type 0
+IsBookRow e j row = (differs : Content) × (row ≡ book_row e j (differs ∷ []))
 
-pub record IsBooksTable (books : List Judged) (t : Table) : Type 0 where
+pub record IsBooksTable (e : Election) (books : List Judged) (t : Table) : Type 0 where
   pub key : t.key ≡ codes "books"
-  pub columns : t.columns ≡ codes "book" ∷ codes "law" ∷ codes "seats" ∷ codes "open" ∷ codes "differs" ∷ codes "fault" ∷ []
-  pub rows : AllZip IsBookRow books t.rows
+  pub columns : t.columns ≡ codes "book" ∷ codes "law" ∷ codes "seats" ∷ codes "beyond" ∷ codes "open" ∷ codes "differs" ∷ codes "fault" ∷ []
+  pub rows : AllZip (IsBookRow e) books t.rows
+
+-- ---- who is compared: all together, and then each party
+
+abbrev pub compared : Election → List (Option ℕ)
+compared e = None ∷ map Some (parties e)
+
+-- the word for all, or the names of a party
+abbrev pub compared_name : Option ℕ → List Content
+compared_name None = nothing ∷ a_text ∷ []
+compared_name (Some party) = a_name
+
+-- the seats by a count: all of them, or those of a party
+abbrev pub seats_in : Election → Option ℕ → Counted → ℕ
+seats_in e None c = (all_seats c.table).seats
+seats_in e (Some party) c = (party_seats c.table e party).seats
 
 -- ---- parties in rows, with a column for each book
 
@@ -42,31 +62,60 @@ abbrev pub number_or_fault : (Counted → ℕ) → Option Counted → Option Leg
 number_or_fault number None fault = fault_cell fault
 number_or_fault number (Some c) fault = a_number (number c)
 
--- the seats of a book in all, or those of a party
 abbrev pub compared_cell : Election → Option ℕ → Judged → Content
-compared_cell e None j = number_or_fault (λ c. (all_seats c.table).seats) j.counted j.fault
-compared_cell e (Some party) j = number_or_fault (λ c. (party_seats c.table e party).seats) j.counted j.fault
-
--- the word for all, or the names of a party
-abbrev pub compared_name : Option ℕ → List Content
-compared_name None = nothing ∷ a_text ∷ []
-compared_name (Some party) = a_name
+compared_cell e party j = number_or_fault (seats_in e party) j.counted j.fault
 
 abbrev pub compared_row : Election → List Judged → Option ℕ → List Content
 compared_row e books party = compared_name party ++ map (compared_cell e party) books
-
--- of all together, and then of each party
-abbrev pub compared_rows : Election → List Judged → List (List Content)
-compared_rows e books = compared_row e books None ∷ map (λ party. compared_row e books (Some party)) (parties e)
 
 abbrev pub compare_table : Election → List Judged → Table
 compare_table e books = record {
   key = codes "compare";
   columns = codes "party" ∷ codes "party_name" ∷ map (λ j. string_bytes j.word) books;
-  rows = compared_rows e books;
+  rows = map (compared_row e books) (compared e);
+}
+
+-- ---- the differences from the first book, with a column for each further book
+
+-- how many seats more or fewer there are by one count than by another
+abbrev pub change_cell : Election → Option ℕ → (before now : Option Counted) → Content
+change_cell e party (Some before) (Some now) = a_change (seats_in e party now) (seats_in e party before)
+change_cell e party None now = nothing
+change_cell e party (Some before) None = nothing
+
+abbrev pub change_row : Election → Judged → List Judged → Option ℕ → List Content
+change_row e first others party = compared_name party ++ map (λ j. change_cell e party first.counted j.counted) others
+
+abbrev pub change_rows : Election → List Judged → List (List Content)
+change_rows e [] = []
+change_rows e (first ∷ []) = []
+change_rows e (first ∷ second ∷ more) = map (change_row e first (second ∷ more)) (compared e)
+
+abbrev pub changes_table : Election → List Judged → Table
+changes_table e books = record {
+  key = codes "changes";
+  columns = codes "party" ∷ codes "party_name" ∷ map (λ j. string_bytes j.word) (drop 1 books);
+  rows = change_rows e books;
+}
+
+-- ---- a row for each book and each party
+
+-- the word of the book, the party, its seats, and their difference from those by the first book
+abbrev pub seats_row : Election → (first j : Judged) → Option ℕ → List Content
+seats_row e first j party = a_text ∷ compared_name party ++ known (option_map (seats_in e party) j.counted) ∷ change_cell e party first.counted j.counted ∷ []
+
+abbrev pub seats_rows : Election → List Judged → List (List Content)
+seats_rows e [] = []
+seats_rows e (first ∷ others) = flat_map (λ j. map (seats_row e first j) (compared e)) (first ∷ others)
+
+abbrev pub seats_table : Election → List Judged → Table
+seats_table e books = record {
+  key = codes "seats";
+  columns = codes "book" ∷ codes "party" ∷ codes "party_name" ∷ codes "seats" ∷ codes "change" ∷ [];
+  rows = seats_rows e books;
 }
 
 pub record AreComparison (e : Election) (books : List Judged) (tables : List Table) : Type 0 where
   pub lines : Table
-  pub lines_are : IsBooksTable books lines
-  pub tables_are : tables ≡ lines ∷ compare_table e books ∷ []
+  pub lines_are : IsBooksTable e books lines
+  pub tables_are : tables ≡ lines ∷ compare_table e books ∷ changes_table e books ∷ seats_table e books ∷ []

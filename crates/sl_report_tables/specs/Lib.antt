@@ -1,4 +1,5 @@
 -- What the tables of reports are: the cells of their rows, the tables themselves, and which of them each command shows.
+pub mod Lowest
 pub mod Parts
 pub mod Parties
 pub mod Scopes

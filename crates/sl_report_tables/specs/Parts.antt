@@ -1,6 +1,6 @@
 -- What stands in the cells of the parts of which rows are made (docs/report.md).
 use Rattle.std.specs.Prelude.{ℕ, ◌*◌, List, [], ◌∷◌, Option, Some, None, is_some, option_and_then, slice_get, if◌then◌else◌}
-use Rattle.sl_report_forms.specs.Cells.{Content, a_flag, a_number, a_text, known, nothing}
+use Rattle.sl_report_forms.specs.Cells.{Content, a_change, a_flag, a_number, a_text, known, nothing}
 use Rattle.sl_report_results.specs.Fractions.{has_decimals}
 use Rattle.sl_report_results.specs.declared.fraction.Fraction.{Fraction}
 use Rattle.sl_report_tables.specs.declared.rows.Part.TheVariants as part
@@ -43,6 +43,7 @@ cells_of (part.Word words) = a_text ∷ []
 cells_of (part.InPlace words) = nothing ∷ a_text ∷ []
 cells_of (part.Number n) = a_number n ∷ []
 cells_of (part.Known n) = known n ∷ []
+cells_of (part.Change n before) = a_change n before ∷ []
 cells_of (part.Flag is) = a_flag is ∷ []
 cells_of (part.Land land) = a_name
 cells_of (part.Party party) = a_name

@@ -3,9 +3,10 @@
 ghost use Rattle.std.specs.Prelude.{◌≡◌, ◌++◌, ◌∷◌, [], IfOk, List, OnOk, flat_map, map, string_bytes};
 ghost use Rattle.sl_report_forms.specs.Cells.{Content};
 ghost use Rattle.sl_report_forms.specs.Tables.{contents_of, table_of, with_columns, with_rows};
-ghost use Rattle.sl_report_tables.specs.Compare.{AreComparison, IsBookRow, IsBooksTable, book_cells, book_row, compare_table, compared_cell, compared_name, compared_row, compared_rows, fault_cell};
+ghost use Rattle.sl_report_tables.specs.Compare.{AreComparison, IsBookRow, IsBooksTable, book_cells, book_row, compare_table, compared, compared_cell, compared_name, compared_row, fault_cell, seats_in};
 ghost use Rattle.sl_report_tables.specs.Parts.{cells_of};
 
+use crate::changes::{changes_sheet, each_sheet};
 use crate::faults::kind_word;
 use crate::naming::{ALL, Naming, law_name, stage_name};
 use crate::rows::{Part, push_row, put_parts, titled};
@@ -13,7 +14,7 @@ use crate::stages::stage_number;
 use crate::titles;
 use sl_ratio::NoMemory;
 use sl_report_forms::{Form, Head, Look, Row, Sheet};
-use sl_report_results::{Column, Counted, open_winners, seats_in_all, seats_of};
+use sl_report_results::{Column, Counted, house_of, open_winners, seats_in_all, seats_of};
 use sl_stages::{Book, CheckedBook, LegalFault, Returns};
 use std::alloc::Global;
 
@@ -26,16 +27,18 @@ pub struct Judged {
     pub fault: Option<LegalFault>,
 }
 
-const BOOKS: [Form; 6] = [
+const BOOKS: [Form; 7] = [
     ("book", "book", "Regelwerk", Look::Text(20)),
     ("law", "law", "Gesetz", Look::Text(40)),
     ("seats", "seats", "Sitze", Look::Number),
+    ("beyond", "beyond house", "über Hausgröße", Look::Number),
     ("open", "not seated", "ohne Sitz", Look::Number),
     ("differs", "differs from", "anders ab", Look::Text(12)),
     ("fault", "fault", "Fehler", Look::Text(14)),
 ];
 
-const COMPARE: [Form; 2] = [
+/// Who is compared.
+pub(crate) const COMPARE: [Form; 2] = [
     ("party", "", "", Look::Hidden),
     ("party_name", "party", "Partei", Look::Text(15)),
 ];
@@ -93,16 +96,21 @@ fn difference_part<'a>(first: Option<&'a Judged>, judged: &Judged) -> Part<'a>
     }
 }
 
-// The seats that a book distributes, and the winners who are not seated.
-fn count_parts(judged: &Judged) -> [Part<'static>; 2]
-    ensures { flat_map cells_of result ≡ book_cells judged.now.counted }
+// The seats that a book distributes, those of them beyond the house, and the winners who are not seated.
+fn count_parts(judged: &Judged, returns: &Returns) -> [Part<'static>; 3]
+    ensures { flat_map cells_of result ≡ book_cells returns.now judged.now.book.book judged.now.counted }
 {
     match &judged.counted {
-        Some(counted) => [
-            Part::Number(seats_in_all(&counted.table).seats),
-            Part::Number(open_winners(&counted.table)),
-        ],
-        None => [Part::Empty, Part::Empty],
+        Some(counted) => {
+            let seats = seats_in_all(&counted.table).seats;
+            let house = house_of(&judged.book.book, returns);
+            [
+                Part::Number(seats),
+                Part::Number(seats.saturating_sub(house)),
+                Part::Number(open_winners(&counted.table)),
+            ]
+        }
+        None => [Part::Empty, Part::Empty, Part::Empty],
     }
 }
 
@@ -114,13 +122,14 @@ fn push_book(
     judged: &Judged,
     difference: Part<'_>,
 ) -> Result<(), NoMemory>
-    ensures { OnOk result (table_of sheet.new ≡ with_rows (table_of sheet.old) (book_row judged.now (cells_of difference.entry) ∷ [])) }
+    ensures { OnOk result (table_of sheet.new ≡ with_rows (table_of sheet.old) (book_row naming.now.returns.now judged.now (cells_of difference.entry) ∷ [])) }
 {
-    let [seats, open] = count_parts(judged);
+    let [seats, beyond, open] = count_parts(judged, naming.returns);
     let parts = [
         Part::Text(judged.word.as_str()),
         Part::Text(law_name(&judged.book.book)),
         seats,
+        beyond,
         open,
         difference,
         fault_part(judged),
@@ -135,7 +144,7 @@ fn first_before(books: &[Judged], number: usize) -> Option<&Judged> {
 
 // A line for each book.
 fn books_sheet(alloc: Global, naming: &Naming<'_>, books: &[Judged]) -> Result<Sheet, NoMemory>
-    ensures { IfOk result (λ s. IsBooksTable books.now (table_of s)) }
+    ensures { IfOk result (λ s. IsBooksTable naming.now.returns.now books.now (table_of s)) }
 {
     let mut sheet = titled(alloc, naming, "books", titles::RULEBOOKS, &BOOKS)?;
     for (number, judged) in books.iter().enumerate() {
@@ -145,21 +154,40 @@ fn books_sheet(alloc: Global, naming: &Naming<'_>, books: &[Judged]) -> Result<S
     Ok(sheet)
 }
 
+/// The seats by a count: all of them, or those of a party.
+pub(crate) fn seats_in(counted: &Counted, returns: &Returns, party: Option<usize>) -> u64
+    ensures { result ≡ seats_in returns.now party counted.now }
+{
+    match party {
+        Some(party) => seats_of(&counted.table, returns, party).seats,
+        None => seats_in_all(&counted.table).seats,
+    }
+}
+
 // The seats that a book gives a party, or all where no party is given; else the kind of its fault.
 fn seats_part(judged: &Judged, returns: &Returns, party: Option<usize>) -> Part<'static>
     ensures { cells_of result ≡ compared_cell returns.now party judged.now ∷ [] }
 {
-    match (&judged.counted, party) {
-        (Some(counted), Some(party)) => {
-            Part::Number(seats_of(&counted.table, returns, party).seats)
-        }
-        (Some(counted), None) => Part::Number(seats_in_all(&counted.table).seats),
-        (None, _) => fault_part(judged),
+    match &judged.counted {
+        Some(counted) => Part::Number(seats_in(counted, returns, party)),
+        None => fault_part(judged),
     }
 }
 
-// The names of a party, or the word for all.
-fn name_part(party: Option<usize>) -> Part<'static>
+/// Who is compared: all together, and then each party.
+pub(crate) fn compared(alloc: Global, returns: &Returns) -> Result<Vec<Option<usize>>, NoMemory>
+    ensures { IfOk result (λ all. all.items ≡ compared returns.now) }
+{
+    let mut all: Vec<Option<usize>> = Vec::new(alloc);
+    all.push(None)?;
+    for party in 0..returns.parties() {
+        all.push(Some(party))?;
+    }
+    Ok(all)
+}
+
+/// The names of a party, or the word for all.
+pub(crate) fn name_part(party: Option<usize>) -> Part<'static>
     ensures { cells_of result ≡ compared_name party }
 {
     match party {
@@ -202,23 +230,24 @@ fn push_compared(
 }
 
 // Adds the rows of all together, and of each party.
+#[tactic(auto, using(crate::proofs::MoreRows::rows_next))]
 fn push_rows(
     alloc: Global,
     sheet: &mut Sheet,
     naming: &Naming<'_>,
     books: &[Judged],
 ) -> Result<(), NoMemory>
-    ensures { OnOk result (table_of sheet.new ≡ with_rows (table_of sheet.old) (compared_rows naming.now.returns.now books.now)) }
+    ensures { OnOk result (table_of sheet.new ≡ with_rows (table_of sheet.old) (map (compared_row naming.now.returns.now books.now) (compared naming.now.returns.now))) }
 {
-    push_compared(alloc, sheet, naming, books, None)?;
-    for party in 0..naming.returns.parties() {
-        push_compared(alloc, sheet, naming, books, Some(party))?;
+    let all = compared(alloc, naming.returns)?;
+    for party in &all {
+        push_compared(alloc, sheet, naming, books, *party)?;
     }
     Ok(())
 }
 
-// Adds a column for each book.
-fn push_heads(alloc: Global, sheet: &mut Sheet, books: &[Judged]) -> Result<(), NoMemory>
+/// Adds a column for each book.
+pub(crate) fn push_heads(alloc: Global, sheet: &mut Sheet, books: &[Judged]) -> Result<(), NoMemory>
     ensures { OnOk result (table_of sheet.new ≡ with_columns (table_of sheet.old) (map (λ j. string_bytes j.word) books.now)) }
 {
     for judged in books {
@@ -238,7 +267,8 @@ fn seats_sheet(alloc: Global, naming: &Naming<'_>, books: &[Judged]) -> Result<S
     Ok(sheet)
 }
 
-/// The sheets of several books on the returns: a line for each book, and the parties in rows with a column for each book.
+/// The sheets of several books on the returns: a line for each book, the parties in rows with a column for each book, how they differ from the first
+/// book, and a row for each book and each party.
 pub(crate) fn compare_sheets(
     alloc: Global,
     naming: &Naming<'_>,
@@ -249,5 +279,7 @@ pub(crate) fn compare_sheets(
     let mut sheets: Vec<Sheet> = Vec::new(alloc);
     sheets.push(books_sheet(alloc, naming, books)?)?;
     sheets.push(seats_sheet(alloc, naming, books)?)?;
+    sheets.push(changes_sheet(alloc, naming, books)?)?;
+    sheets.push(each_sheet(alloc, naming, books)?)?;
     Ok(sheets)
 }

@@ -9,6 +9,7 @@
 
 mod answer;
 mod cases;
+mod changes;
 mod compare;
 mod comparison;
 mod counted;
@@ -16,6 +17,7 @@ mod counts;
 mod covering;
 mod faults;
 mod full_names;
+mod lowest;
 mod naming;
 mod parties;
 mod rows;

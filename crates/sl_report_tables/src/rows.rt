@@ -6,6 +6,7 @@ ghost use Rattle.sl_report_forms.specs.Tables.{blank_table, contents_of, table_o
 ghost use Rattle.sl_report_results.specs.Fractions.{has_decimals};
 ghost use Rattle.sl_report_tables.specs.Parts.{a_name, cells_of, condition_cell, fraction_cells, percent_cells, sides_of, two_empty};
 
+use crate::lowest::lowest;
 use crate::naming::{Naming, land_name, party_name, win_name};
 use crate::words::{NO, YES, condition_text};
 use sl_explain_texts::{Language, Message};
@@ -15,7 +16,8 @@ use sl_report_results::Fraction;
 use sl_stages::{Cond, Item, Scope};
 use std::alloc::Global;
 
-/// What a row shows next. A name is two cells: the short one, and the one that a reader sees. So is a fraction: in decimals, and exact.
+/// What a row shows next. A name is two cells: the short one, and the one that a reader sees. So is a fraction: in decimals, and
+/// exact in lowest terms.
 #[derive(Clone, Copy)]
 pub enum Part<'a> {
     /// An empty cell.
@@ -30,6 +32,8 @@ pub enum Part<'a> {
     Number(u64),
     /// A number, or an empty cell.
     Known(Option<u64>),
+    /// A number and an earlier one: by how much it is more or less.
+    Change(u64, u64),
     /// A flag.
     Flag(bool),
     /// The names of a Land.
@@ -73,7 +77,7 @@ fn put_empty_pair(row: &mut Row) -> Result<(), NoMemory>
     row.empty()
 }
 
-// Adds so many of so many in percent: cut in three places, and exact.
+// Adds so many of so many in percent: cut in three places, and exact in lowest terms.
 fn put_percent(alloc: Global, row: &mut Row, part: u64, whole: u64) -> Result<(), NoMemory>
     ensures { OnOk result (contents_of row.new.cells.items ≡ contents_of row.old.cells.items ++ percent_cells part whole) }
 {
@@ -81,13 +85,13 @@ fn put_percent(alloc: Global, row: &mut Row, part: u64, whole: u64) -> Result<()
     match percent.decimal(3) {
         Some(cut) => {
             put_own(row, cut.text(alloc))?;
-            put_own(row, percent.text(alloc))
+            put_own(row, lowest(percent).text(alloc))
         }
         None => put_empty_pair(row),
     }
 }
 
-// Adds a fraction: in decimals, where there are any, and exact.
+// Adds a fraction: in decimals, where there are any, and exact in lowest terms.
 fn put_fraction(alloc: Global, row: &mut Row, fraction: Fraction) -> Result<(), NoMemory>
     ensures { OnOk result (contents_of row.new.cells.items ≡ contents_of row.old.cells.items ++ fraction_cells (Some fraction)) }
 {
@@ -95,7 +99,7 @@ fn put_fraction(alloc: Global, row: &mut Row, fraction: Fraction) -> Result<(), 
         Some(cut) => put_own(row, cut.text(alloc))?,
         None => row.empty()?,
     }
-    put_own(row, fraction.text(alloc))
+    put_own(row, lowest(fraction).text(alloc))
 }
 
 // Adds a word, in English for programs and in the language for a person.
@@ -251,6 +255,7 @@ fn put(alloc: Global, row: &mut Row, naming: &Naming<'_>, part: Part<'_>) -> Res
         Part::InPlace(word) => put_in_place(alloc, row, naming, word),
         Part::Number(number) => row.number(number),
         Part::Known(number) => row.maybe_number(number),
+        Part::Change(number, before) => row.change(number, before),
         Part::Flag(flag) => put_flag(row, naming, flag),
         Part::Land(land) => put_name(alloc, row, naming, land_name(naming.returns, land)),
         Part::Party(party) => put_name(alloc, row, naming, party_name(naming.returns, party)),

@@ -78,6 +78,16 @@ pub(crate) const COMPARED: Message = Message {
     german: "Sitze nach Regelwerk",
 };
 
+pub(crate) const CHANGES: Message = Message {
+    english: "Seats more or fewer than by the first rulebook",
+    german: "Sitze mehr oder weniger als nach dem ersten Regelwerk",
+};
+
+pub(crate) const EACH: Message = Message {
+    english: "Seats of each party by each rulebook",
+    german: "Sitze jeder Partei nach jedem Regelwerk",
+};
+
 /// In place of the party of a winner who has none.
 pub(crate) const NO_PARTY: Message = Message {
     english: "-",

@@ -80,8 +80,3 @@ unchanged (Err k) q = λ own. q
 pub wants : {T : Type 0} (Q : Type 0) (r : Result T RecordFault) → IfErr r (λ k. k ≡ of_record fault.NoMemory) → OwnFault r Q
 wants Q (Ok u) h = tt
 wants Q (Err k) h = λ own. absurd (own (ap (λ (f : RecordFault). f.kind) h))
-
--- the same, where a `?` hands that on
-pub hands_on : {T : Type 0} {k : RecordFault} (Q : Type 0) (r : Result T RecordFault) → IsErrAnd r (λ e. e ≡ k) → k ≡ of_record fault.NoMemory → OwnFault r Q
-hands_on Q (Ok u) h is = absurd h
-hands_on Q (Err e) h is = λ own. absurd (own (ap (λ (f : RecordFault). f.kind) (h ∙ is)))

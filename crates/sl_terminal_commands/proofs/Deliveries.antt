@@ -1,8 +1,8 @@
 -- What is delivered, by a wider relation; and the second of two texts that are.
-use Rattle.std.proofs.Common.{Err, List, None, Ok, Option, Result, Some, [], append-nil, inl, inr, sym, ◌∙◌, ◌≡◌, ℕ}
+use Rattle.std.proofs.Common.{Err, List, None, Ok, Option, Result, Some, [], append-nil, sym, ◌∙◌, ◌≡◌, ℕ}
 use Rattle.std.proofs.KnownBytes.{Keeps-refl}
 use Rattle.std.specs.Io.KnownBytes.{Appends, Keeps}
-use Rattle.sl_count_inputs.specs.Writing.{Delivers, DeliversBoth}
+use Rattle.sl_count_inputs.specs.Writing.{Delivers}
 use Rattle.sl_count_inputs.specs.declared.status.DeskError.TheVariants.{NoMemory, Read, Write}
 use Rattle.sl_count_inputs.specs.declared.status.DeskError.{DeskError}
 use Rattle.sl_count_inputs.specs.declared.status.Status.{Status}
@@ -46,15 +46,3 @@ pub keeps_nothing : (old new : Option (List ℕ)) → Keeps old new → Appends 
 keeps_nothing None new h = tt
 keeps_nothing (Some xs) None h = h
 keeps_nothing (Some xs) (Some ys) h = h ∙ sym (append-nil xs)
-
--- of two texts the second goes to standard output
-pub delivers_second : (AreTexts : Status → List ℕ → List ℕ → Type 0) (Second : Status → List ℕ → Type 0) (failed failed' : ℕ)
-    (first first' second second' : Option (List ℕ)) (r : Result Status DeskError)
-    → ((s : Status) (a b : List ℕ) → AreTexts s a b → Second s b) → DeliversBoth AreTexts failed failed' first first' second second' r
-    → Delivers Second second second' r
-delivers_second AreTexts Second failed failed' first first' second second' (Ok status) is d = (d.1, is status d.0 d.1 d.2, d.4)
-delivers_second AreTexts Second failed failed' first first' second second' (Err Write) is (status, a, b, are, inl left) =
-    (status, b, is status a b are, (0, keeps_nothing second second' left.1))
-delivers_second AreTexts Second failed failed' first first' second second' (Err Write) is (status, a, b, are, inr right) = (status, b, is status a b are, right.2)
-delivers_second AreTexts Second failed failed' first first' second second' (Err (Read input)) is d = d.1
-delivers_second AreTexts Second failed failed' first first' second second' (Err NoMemory) is d = d.1

@@ -13,7 +13,7 @@ use std::alloc::{AllocError, Global};
 // Why `code` refuses one word for its rulebook and its code file.
 const SAME_FILE: Message = Message {
     english: "BOOK and OUT are one file, which would be lost: write the code to another",
-    german: "BOOK und OUT sind eine Datei, die verloren ginge: schreiben Sie den Code in eine andere",
+    german: "BOOK und OUT sind eine Datei, die verloren ginge: den Code in eine andere schreiben",
 };
 
 // Why `explain` refuses a word.

@@ -79,7 +79,7 @@ const TIPS: [Message; 5] = [
     },
     Message {
         english: "to pass '$' as a value, use '$'",
-        german: "um '$' als Wert zu übergeben, schreiben Sie '$'",
+        german: "um '$' als Wert zu übergeben, '$' schreiben",
     },
 ];
 

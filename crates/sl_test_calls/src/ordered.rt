@@ -1,16 +1,16 @@
 //! Seats in the order in which a run records them, which no command shows: `steps` has them by their scopes and steps. And entries that are equal.
 
+use crate::assertions::assert_none;
 use crate::codes::{compiled, ending};
 use crate::recorded::accepted;
 use crate::rows::{THREE_LISTS, TIED_RETURNS};
 use sl_machine::Ending;
-use sl_ratio::{Entry, Ratio};
+use sl_ratio::{Entry, NoMemory, Ratio};
 use sl_returns::read_returns;
 use sl_stages::{Item, Mark, SeatStep};
 use sl_verify::Verified;
 use std::alloc::{AllocError, Global};
 use std::fmt::Write;
-use std::test::Fail;
 
 // A has more than half of the votes; its share of five seats has the whole part 2.
 const MORE_THAN_HALF: &str =
@@ -33,7 +33,7 @@ const THREE_TO_TWO: &str =
     "kind,land,party,a,b,c\nland,X,,1000,,\nparty,,A,0,,\nparty,,B,0,,\nlist,X,A,3,3,\nlist,X,B,2,2,\n";
 
 // Splits of so many seats by a method, returns, and the seats.
-const AWARDED: [(u32, &str, &str, &str); 12] = [
+static AWARDED: [(u32, &str, &str, &str); 12] = [
     (
         8,
         "jefferson",
@@ -104,9 +104,8 @@ fn letter(item: Item) -> &'static str {
     }
 }
 
-// Appends the line of a seat: the list, the number of the seat, the step, and how it was won.
-fn tell_step(told: &mut String, step: &SeatStep) -> Result<(), AllocError> {
-    write!(told, "{} {} {} ", letter(step.entry), step.n, step.step)?;
+// Appends how a seat was won.
+fn tell_mark(told: &mut String, step: &SeatStep) -> Result<(), AllocError> {
     match step.mark {
         Mark::Given => told.push_str("-\n"),
         Mark::Quotient(ratio) if ratio.is_infinite() => told.push_str("inf\n"),
@@ -114,6 +113,12 @@ fn tell_step(told: &mut String, step: &SeatStep) -> Result<(), AllocError> {
         Mark::Rest(remainder) => write!(told, "rest {remainder}\n"),
         Mark::Lead => told.push_str("lead\n"),
     }
+}
+
+// Appends the line of a seat: the list, the number of the seat, the step, and how it was won.
+fn tell_step(told: &mut String, step: &SeatStep) -> Result<(), AllocError> {
+    write!(told, "{} {} {} ", letter(step.entry), step.n, step.step)?;
+    tell_mark(told, step)
 }
 
 // A line for each seat.
@@ -125,30 +130,66 @@ fn steps_text(alloc: Global, steps: &[SeatStep]) -> Result<String, AllocError> {
     Ok(told)
 }
 
-// The seats of the run of a code, as they are recorded.
-fn recorded(alloc: Global, code: &Verified, returns: &str) -> Result<String, Fail> {
-    let returns = read_returns(alloc, returns.as_bytes())?;
-    match ending(alloc, code, &returns)? {
-        Ending::Done(memory) => Ok(steps_text(alloc, memory.steps())?),
-        _ => Err("the run is not done")?,
+// Whether seats have these lines.
+fn are_told(alloc: Global, steps: &[SeatStep], told: &str) -> bool {
+    match steps_text(alloc, steps) {
+        Ok(text) => text.as_str() == told,
+        Err(_) => false,
     }
 }
 
-// Those of a split of so many seats by a method.
-fn split(alloc: Global, seats: u32, method: &str, returns: &str) -> Result<String, Fail> {
-    let book = format!(in alloc;
+// Whether a run is done, and its seats have these lines.
+fn is_told(alloc: Global, ending: Result<Ending, NoMemory>, told: &str) -> bool {
+    match ending {
+        Ok(Ending::Done(memory)) => are_told(alloc, memory.steps(), told),
+        _ => false,
+    }
+}
+
+// Whether those of the run of a code do.
+fn records(alloc: Global, code: &Verified, returns: &str, told: &str) -> bool {
+    match read_returns(alloc, returns.as_bytes()) {
+        Ok(returns) => is_told(alloc, ending(alloc, code, &returns), told),
+        Err(_) => false,
+    }
+}
+
+// Whether those of a book do.
+fn book_records(alloc: Global, book: &[u8], returns: &str, told: &str) -> bool {
+    match compiled(alloc, book) {
+        Ok(code) => records(alloc, &code, returns, told),
+        Err(_) => false,
+    }
+}
+
+// The book of a split of so many seats by a method.
+fn split(alloc: Global, seats: u32, method: &str) -> Result<String, AllocError> {
+    format!(in alloc;
         "rulebook 1; law \"t\"; house {seats}; eligible all; stage s = split(house, counted, {method}); seats s keep;"
-    )?;
-    recorded(alloc, &compiled(alloc, book.as_bytes())?, returns)
+    )
+}
+
+// Whether its seats have these lines.
+fn split_records(alloc: Global, seats: u32, method: &str, returns: &str, told: &str) -> bool {
+    match split(alloc, seats, method) {
+        Ok(book) => book_records(alloc, book.as_bytes(), returns, told),
+        Err(_) => false,
+    }
+}
+
+// The first split whose seats have other lines.
+fn first_split_wrong(alloc: Global) -> Option<usize> {
+    for (number, (seats, method, returns, told)) in AWARDED.iter().enumerate() {
+        if !split_records(alloc, *seats, method, returns, told) {
+            return Some(number);
+        }
+    }
+    None
 }
 
 #[test]
-fn seats_in_their_order(rt: HostRuntime) -> Result<(), Fail> {
-    for (seats, method, returns, told) in AWARDED {
-        let found = split(rt.alloc(), seats, method, returns)?;
-        assert_eq!(rt; found.as_str(), told);
-    }
-    Ok(())
+fn seats_in_their_order(rt: HostRuntime) {
+    assert_none(&rt, first_split_wrong(rt.alloc()));
 }
 
 // A List slot. Registers 0 and 1 are 7 and 3, and each number that is worked out is recorded as that of a given seat of the first party.
@@ -167,7 +208,7 @@ const NO_HOUSE: &str = "kind,land,party,a,b,c\nland,X,,1,,\nparty,,A,0,,\n";
 
 // The numbers with a house and without one: a sum, one that is too great, a difference, one that is 0, a product, one that is too great, a quotient, a
 // rest, twice the larger number, the house, and whether three comparisons are right.
-const NUMBERS: [(&str, &str); 2] = [
+static NUMBERS: [(&str, &str); 2] = [
     (
         HOUSE,
         "A 10 0 -\nA 18446744073709551615 0 -\nA 4 0 -\nA 0 0 -\nA 21 0 -\nA 18446744073709551615 0 -\nA 2 0 -\nA 1 0 -\nA 7 0 -\nA 7 0 -\nA 598 0 -\nA 1 0 -\n",
@@ -178,33 +219,46 @@ const NUMBERS: [(&str, &str); 2] = [
     ),
 ];
 
-#[test]
-fn numbers_in_their_order(rt: HostRuntime) -> Result<(), Fail> {
-    let code = accepted(rt.alloc(), ARITHMETIC)?;
-    for (returns, numbers) in NUMBERS {
-        let found = recorded(rt.alloc(), &code, returns)?;
-        assert_eq!(rt; found.as_str(), numbers);
+// The first returns on which the run of the code records other numbers.
+fn first_number_wrong(alloc: Global, code: &Verified) -> Option<usize> {
+    for (number, (returns, numbers)) in NUMBERS.iter().enumerate() {
+        if !records(alloc, code, returns, numbers) {
+            return Some(number);
+        }
     }
-    Ok(())
+    None
+}
+
+// The same of the code file, or the number after them if it is not accepted.
+fn first_number_wrong_of_file(alloc: Global) -> Option<usize> {
+    match accepted(alloc, ARITHMETIC) {
+        Some(code) => first_number_wrong(alloc, &code),
+        None => Some(NUMBERS.len()),
+    }
+}
+
+#[test]
+fn numbers_in_their_order(rt: HostRuntime) {
+    assert_none(&rt, first_number_wrong_of_file(rt.alloc()));
+}
+
+// Whether entries are equal that have the same numbers, and others are not, not even one with the same quotient.
+fn are_equal_as_written() -> bool {
+    let (ratio, again, reduced) = (Ratio::new(60, 3), Ratio::new(60, 3), Ratio::new(20, 1));
+    let first = Entry { ratio, index: 0 };
+    let same = Entry {
+        ratio: again,
+        index: 0,
+    };
+    let other = Entry { ratio, index: 1 };
+    let other_ratio = Entry {
+        ratio: reduced,
+        index: 0,
+    };
+    first == same && first != other_ratio && first != other
 }
 
 #[test]
 fn equal_entries(rt: HostRuntime) {
-    let first = Entry {
-        ratio: Ratio::new(60, 3),
-        index: 0,
-    };
-    let again = Entry {
-        ratio: Ratio::new(60, 3),
-        index: 0,
-    };
-    let reduced = Entry {
-        ratio: Ratio::new(20, 1),
-        index: 0,
-    };
-    let other = Entry {
-        ratio: Ratio::new(60, 3),
-        index: 1,
-    };
-    assert!(rt; first == again && first != reduced && first != other);
+    assert!(rt; are_equal_as_written());
 }

@@ -1,16 +1,16 @@
 //! Code files that were written by hand, whose runs record seats by remainders and by quotients, and weights, which no command shows; and how many steps
 //! a run may have.
 
+use crate::assertions::assert_none;
 use crate::refused::texts::{Asked, runs_on};
 use crate::rows::{HALT, ONE_LIST};
 use sl_code::from_bytes;
 use sl_machine::{Ending, Memory, budget, run};
 use sl_ratio::Divisor;
-use sl_returns::{ReturnsFault, read_returns};
+use sl_returns::read_returns;
 use sl_stages::{Item, Scope, Shape, Weight};
 use sl_verify::{Verified, verify};
 use std::alloc::Global;
-use std::test::Fail;
 
 // The stage `up`, and two List slots. Each list's votes are its remainder, and a list without votes leads. Each gets a seat, in this order.
 // 0 input 1 0; 1 set 1 1; 2 table 2 1; 3 fland 17; 4 at 2 2 7; 5 fparty 15; 6 at 2 3 7; 7 get 2 1; 8 jz 2 11; 9 rest 2; 10 jmp 13
@@ -53,15 +53,15 @@ const THREE_SEATS: &str =
     "kind,land,party,a,b,c\nhouse,,,3,,\nland,X,,100,,\nparty,,A,0,,\nparty,,B,0,,\nlist,X,A,60,60,\nlist,X,B,30,30,\n";
 
 /// The code of a file that the verifier accepts.
-pub fn accepted(alloc: Global, file: &[u8]) -> Result<Verified, Fail> {
-    match verify(from_bytes(alloc, file)?) {
-        Ok(code) => Ok(code),
-        Err((_, fault)) => Err(fault.into()),
+pub fn accepted(alloc: Global, file: &[u8]) -> Option<Verified> {
+    match from_bytes(alloc, file) {
+        Ok(code) => verify(code).ok(),
+        Err(_) => None,
     }
 }
 
 // Code files, returns, and the steps.
-const RECORDED: [(&[u8], &str, &str); 3] = [
+static RECORDED: [(&[u8], &str, &str); 3] = [
     (
         REMAINDERS,
         THREE_LISTS,
@@ -80,23 +80,42 @@ const RECORDED: [(&[u8], &str, &str); 3] = [
 ];
 
 // Whether the run of a code file records these steps.
-fn records(alloc: Global, file: &[u8], returns: &str, text: &str) -> Result<bool, Fail> {
-    let code = accepted(alloc, file)?;
-    Ok(runs_on(alloc, &code, returns, Asked::Steps, text.as_bytes()))
+fn records(alloc: Global, file: &[u8], returns: &str, text: &str) -> bool {
+    match accepted(alloc, file) {
+        Some(code) => runs_on(alloc, &code, returns, Asked::Steps, text.as_bytes()),
+        None => false,
+    }
+}
+
+// The first code file whose run records others.
+fn first_steps_wrong(alloc: Global) -> Option<usize> {
+    for (number, (file, returns, text)) in RECORDED.iter().enumerate() {
+        if !records(alloc, file, returns, text) {
+            return Some(number);
+        }
+    }
+    None
 }
 
 #[test]
-fn seats(rt: HostRuntime) -> Result<(), Fail> {
-    for (file, returns, text) in RECORDED {
-        assert!(rt; records(rt.alloc(), file, returns, text)?);
-    }
-    Ok(())
+fn seats(rt: HostRuntime) {
+    assert_none(&rt, first_steps_wrong(rt.alloc()));
 }
 
-// How the run of a code ends on the returns of a text, that has so many steps at most.
-fn ending(alloc: Global, code: &Verified, text: &str, steps: u64) -> Result<Ending, Fail> {
-    let returns = read_returns(alloc, text.as_bytes())?;
-    Ok(run(alloc, code, &returns, steps)?)
+// How the run of a code ends on the returns of one list, that has so many steps at most.
+fn ending(alloc: Global, code: &Verified, steps: u64) -> Option<Ending> {
+    match read_returns(alloc, ONE_LIST.as_bytes()) {
+        Ok(returns) => run(alloc, code, &returns, steps).ok(),
+        Err(_) => None,
+    }
+}
+
+// How that of a code file ends.
+fn file_ending(alloc: Global, file: &[u8], steps: u64) -> Option<Ending> {
+    match accepted(alloc, file) {
+        Some(code) => ending(alloc, &code, steps),
+        None => None,
+    }
 }
 
 // Whether a weight is that of an entry in a scope, for this divisor.
@@ -120,36 +139,37 @@ fn are_weights(memory: &Memory) -> bool {
 }
 
 // Whether a run of the code of weights records them.
-fn records_weights(alloc: Global) -> Result<bool, Fail> {
-    match ending(alloc, &accepted(alloc, WEIGHTS)?, ONE_LIST, 1_000)? {
-        Ending::Done(memory) => Ok(are_weights(&memory)),
-        _ => Ok(false),
+fn records_weights(alloc: Global) -> bool {
+    match file_ending(alloc, WEIGHTS, 1_000) {
+        Some(Ending::Done(memory)) => are_weights(&memory),
+        _ => false,
     }
 }
 
 #[test]
-fn weights(rt: HostRuntime) -> Result<(), Fail> {
-    assert!(rt; records_weights(rt.alloc())?);
-    Ok(())
+fn weights(rt: HostRuntime) {
+    assert!(rt; records_weights(rt.alloc()));
 }
 
-// Whether the run of the code that halts at once records no seat, no vacant seat and no weight.
-fn records_nothing(alloc: Global) -> Result<bool, Fail> {
-    match ending(alloc, &accepted(alloc, HALT.as_bytes())?, ONE_LIST, 1)? {
-        Ending::Done(memory) => Ok(
-            memory.base() == [0].as_slice()
-                && memory.vacant() == [0].as_slice()
-                && memory.steps().is_empty()
-                && memory.weights().is_empty(),
-        ),
-        _ => Ok(false),
+// Whether what a run holds has no seat, no vacant seat and no weight.
+fn is_nothing(memory: &Memory) -> bool {
+    memory.base() == [0].as_slice()
+        && memory.vacant() == [0].as_slice()
+        && memory.steps().is_empty()
+        && memory.weights().is_empty()
+}
+
+// Whether the run of the code that halts at once records nothing.
+fn records_nothing(alloc: Global) -> bool {
+    match file_ending(alloc, HALT.as_bytes(), 1) {
+        Some(Ending::Done(memory)) => is_nothing(&memory),
+        _ => false,
     }
 }
 
 #[test]
-fn a_code_that_halts_at_once(rt: HostRuntime) -> Result<(), Fail> {
-    assert!(rt; records_nothing(rt.alloc())?);
-    Ok(())
+fn a_code_that_halts_at_once(rt: HostRuntime) {
+    assert!(rt; records_nothing(rt.alloc()));
 }
 
 // Whether a code of one slot and one instruction is given back as it was accepted.
@@ -158,38 +178,50 @@ fn is_given_back(verified: Verified) -> bool {
 }
 
 #[test]
-fn an_accepted_code(rt: HostRuntime) -> Result<(), Fail> {
-    assert!(rt; is_given_back(accepted(rt.alloc(), HALT.as_bytes())?));
-    Ok(())
+fn an_accepted_code(rt: HostRuntime) {
+    assert!(rt; accepted(rt.alloc(), HALT.as_bytes()).is_some_and(is_given_back));
 }
 
 // Code files, steps, and whether runs of so many steps end.
-const ENDS: [(&str, u64, bool); 3] = [(HALT, 0, false), (HALT, 1, true), (ENDLESS, 100_000, false)];
+static ENDS: [(&str, u64, bool); 3] = [
+    (HALT, 0, false),
+    (HALT, 1, true),
+    (ENDLESS, 100_000, false),
+];
 
-// Whether a run of a code file ends within so many steps.
-fn ends_within(alloc: Global, file: &[u8], steps: u64) -> Result<bool, Fail> {
-    let ending = ending(alloc, &accepted(alloc, file)?, ONE_LIST, steps)?;
-    Ok(!matches!(ending, Ending::OutOfBudget))
-}
-
-#[test]
-fn codes_that_run_out_of_steps(rt: HostRuntime) -> Result<(), Fail> {
-    for (file, steps, ends) in ENDS {
-        assert_eq!(rt; ends_within(rt.alloc(), file.as_bytes(), steps)?, ends);
-    }
-    Ok(())
-}
-
-// The budget of a code without stages on the returns of a text.
-fn budget_on(alloc: Global, text: &str) -> Result<u64, ReturnsFault> {
-    match read_returns(alloc, text.as_bytes()) {
-        Ok(returns) => Ok(budget(0, &returns)),
-        Err(fault) => Err(fault),
+// Whether a run of a code file ends within its steps, or runs out of them.
+fn ends_as_wanted(alloc: Global, file: &[u8], steps: u64, ends: bool) -> bool {
+    match file_ending(alloc, file, steps) {
+        Some(Ending::OutOfBudget) => !ends,
+        Some(_) => ends,
+        None => false,
     }
 }
 
+// The first run of which that is not so.
+fn first_end_wrong(alloc: Global) -> Option<usize> {
+    for (number, (file, steps, ends)) in ENDS.iter().enumerate() {
+        if !ends_as_wanted(alloc, file.as_bytes(), *steps, *ends) {
+            return Some(number);
+        }
+    }
+    None
+}
+
 #[test]
-fn budget_of_one_list(rt: HostRuntime) -> Result<(), Fail> {
-    assert_eq!(rt; budget_on(rt.alloc(), ONE_LIST)?, 12_806_400);
-    Ok(())
+fn codes_that_run_out_of_steps(rt: HostRuntime) {
+    assert_none(&rt, first_end_wrong(rt.alloc()));
+}
+
+// Whether this is the budget of a code without stages on one list.
+fn is_budget(alloc: Global, steps: u64) -> bool {
+    match read_returns(alloc, ONE_LIST.as_bytes()) {
+        Ok(returns) => budget(0, &returns) == steps,
+        Err(_) => false,
+    }
+}
+
+#[test]
+fn budget_of_one_list(rt: HostRuntime) {
+    assert!(rt; is_budget(rt.alloc(), 12_806_400));
 }

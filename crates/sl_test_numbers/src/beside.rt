@@ -2,33 +2,44 @@
 
 use crate::dice::Dice;
 use sl_prio::{AwardTable, Prio};
-use sl_ratio::{Entry, NoMemory};
+use sl_ratio::Entry;
 use std::alloc::Global;
+
+// Where a lot names an index, and its length if it does not.
+fn place_in(lot: &[u32], index: u32) -> usize {
+    for (place, named) in lot.iter().enumerate() {
+        if *named == index {
+            return place;
+        }
+    }
+    lot.len()
+}
 
 // Whether an entry exceeds another, or a lot draws it first.
 fn goes_first(lot: &[u32], entry: &Entry, other: &Entry) -> bool {
-    let named = |index: u32| {
-        lot.iter()
-            .position(|named| *named == index)
-            .unwrap_or(lot.len())
-    };
     entry
         .ratio
         .cmp(&other.ratio)
-        .then(named(other.index).cmp(&named(entry.index)))
+        .then(place_in(lot, other.index).cmp(&place_in(lot, entry.index)))
         .then(other.index.cmp(&entry.index))
         .then(entry.cmp(other))
         .is_gt()
 }
 
-// Takes the entry that a lot draws from a list, by going through all.
-fn take_listed(listed: &mut Vec<Entry>, lot: &[u32]) -> Option<Entry> {
+// The entry that a lot draws from a list, by going through all.
+fn drawn(listed: &[Entry], lot: &[u32]) -> Option<Entry> {
     let mut drawn = *listed.first()?;
-    for entry in listed.iter() {
+    for entry in listed {
         if goes_first(lot, entry, &drawn) {
             drawn = *entry;
         }
     }
+    Some(drawn)
+}
+
+// Takes it out of the list.
+fn take_listed(listed: &mut Vec<Entry>, lot: &[u32]) -> Option<Entry> {
+    let drawn = drawn(listed.as_slice(), lot)?;
     let place = listed.iter().position(|entry| *entry == drawn)?;
     Some(listed.swap_remove(place))
 }
@@ -41,13 +52,18 @@ struct Both {
 }
 
 impl Both {
-    fn put(&mut self, entry: Entry) -> Result<(), NoMemory> {
-        self.table.put(entry)?;
-        Ok(self.listed.push(entry)?)
+    fn has(&self, index: u32) -> bool {
+        for entry in self.listed.as_slice() {
+            if entry.index == index {
+                return true;
+            }
+        }
+        false
     }
 
-    fn has(&self, index: u32) -> bool {
-        self.listed.iter().any(|entry| entry.index == index)
+    // Whether an entry is put into both.
+    fn put(&mut self, entry: &Entry) -> bool {
+        self.table.put(*entry).is_ok() && self.listed.push(*entry).is_ok()
     }
 
     // Whether the two take the same entry.
@@ -61,50 +77,82 @@ impl Both {
     }
 
     // Whether they answer one call alike. Where `once` is set, no two entries have one index.
-    fn call(&mut self, roll: u32, lot: &[u32], entry: Entry, once: bool) -> Result<bool, NoMemory> {
+    fn call(&mut self, roll: u32, lot: &[u32], entry: &Entry, once: bool) -> bool {
         match roll % 8 {
-            0 => Ok(self.take()),
-            1 | 2 => Ok(self.take_lot(lot)),
-            _ if once && self.has(entry.index) => Ok(self.take_lot(&[entry.index])),
-            _ => {
-                self.put(entry)?;
-                Ok(true)
-            }
+            0 => self.take(),
+            1 | 2 => self.take_lot(lot),
+            _ if once && self.has(entry.index) => self.take_lot(&[entry.index]),
+            _ => self.put(entry),
         }
     }
 
     // The same of the call that the dice say, and whether the two are as long then.
-    fn roll(
-        &mut self,
-        alloc: Global,
-        dice: &mut Dice,
-        one: bool,
-        once: bool,
-    ) -> Result<bool, NoMemory> {
-        let lot = dice.lot(alloc)?;
+    fn roll(&mut self, dice: &mut Dice, one: bool, once: bool) -> bool {
+        let lot = dice.lot();
         let entry = dice.entry(one);
-        let alike = self.call(dice.roll(), lot.as_slice(), entry, once)?;
-        Ok(alike && self.table.len() == self.listed.len())
+        self.call(dice.roll(), lot.as_slice(), &entry, once)
+            && self.table.len() == self.listed.len()
+    }
+
+    // The same of so many calls.
+    fn are_alike(&mut self, calls: u32, mut dice: Dice, once: bool) -> bool {
+        for call in 0..calls {
+            if !self.roll(&mut dice, call < calls / 2, once) {
+                return false;
+            }
+        }
+        true
     }
 }
 
-/// Whether a table answers as a list does, in so many calls in no order.
-pub fn are_drawn_alike(
-    alloc: Global,
-    calls: u32,
-    mut dice: Dice,
-    once: bool,
-) -> Result<bool, NoMemory> {
+// Whether a table answers as a list does, in so many calls in no order.
+fn are_drawn_alike(alloc: Global, calls: u32, dice: Dice, once: bool) -> bool {
     let mut both = Both {
         table: Prio::new(alloc),
         listed: Vec::new(alloc),
     };
-    for call in 0..calls {
-        if !both.roll(alloc, &mut dice, call < calls / 2, once)? {
-            return Ok(false);
+    both.are_alike(calls, dice, once)
+}
+
+// Dice by a number to begin with, for entries with so many indexes, which stand so far apart; the calls; and whether each index is there once.
+const DRAWN: [(Dice, u32, bool); 3] = [
+    (
+        Dice {
+            state: 1,
+            indexes: 400,
+            spread: 1,
+        },
+        4_000,
+        true,
+    ),
+    (
+        Dice {
+            state: 2,
+            indexes: 100,
+            spread: 1,
+        },
+        2_000,
+        false,
+    ),
+    (
+        Dice {
+            state: 3,
+            indexes: 100,
+            spread: 300,
+        },
+        2_000,
+        true,
+    ),
+];
+
+/// The first dice by which a table does not answer as a list does.
+pub fn first_drawn_wrong(alloc: Global) -> Option<usize> {
+    for (place, (dice, calls, once)) in DRAWN.iter().enumerate() {
+        if !are_drawn_alike(alloc, *calls, *dice, *once) {
+            return Some(place);
         }
     }
-    Ok(true)
+    None
 }
 
 // A table from which seats are awarded, and one of the same entries.
@@ -115,10 +163,9 @@ struct Beside {
 }
 
 impl Beside {
-    fn put(&mut self, entry: &Entry) -> Result<bool, NoMemory> {
-        self.prio.put(*entry)?;
-        self.awards.put(*entry)?;
-        Ok(true)
+    // Whether an entry is put into both.
+    fn put(&mut self, entry: &Entry) -> bool {
+        self.prio.put(*entry).is_ok() && self.awards.put(*entry).is_ok()
     }
 
     // Whether the two take the same entry.
@@ -134,33 +181,54 @@ impl Beside {
     }
 
     // Whether they do so after one call more. More entries come in than are taken.
-    fn call(&mut self, roll: u32, lot: &[u32], entry: &Entry) -> Result<bool, NoMemory> {
+    fn call(&mut self, roll: u32, lot: &[u32], entry: &Entry) -> bool {
         match roll % 8 {
-            0 | 1 | 2 => Ok(self.take()),
-            3 => Ok(self.answer_alike(lot)),
+            0 | 1 | 2 => self.take(),
+            3 => self.answer_alike(lot),
             _ => self.put(entry),
         }
     }
+
+    // The same of the call that the dice say.
+    fn roll(&mut self, dice: &mut Dice, one: bool) -> bool {
+        let lot = dice.lot();
+        let entry = dice.entry_of_many(one);
+        self.call(dice.roll(), lot.as_slice(), &entry)
+    }
+
+    // The same of so many calls, and whether the table of awards is empty when it is cleared.
+    fn are_alike(&mut self, calls: u32, dice: &mut Dice, one: bool) -> bool {
+        for _ in 0..calls {
+            if !self.roll(dice, one) {
+                return false;
+            }
+        }
+        self.awards.clear();
+        self.awards.take().is_none()
+    }
 }
 
-/// Whether the two are alike in so many calls in no order, with entries of one quotient or of many.
-pub fn are_awarded_alike(
-    alloc: Global,
-    calls: u32,
-    dice: &mut Dice,
-    one: bool,
-) -> Result<bool, NoMemory> {
+// Whether the two are alike in so many calls in no order, with entries of one quotient or of many.
+fn are_awarded_alike(alloc: Global, calls: u32, dice: &mut Dice, one: bool) -> bool {
     let mut both = Beside {
         awards: AwardTable::new(alloc),
         prio: Prio::new(alloc),
     };
-    for _ in 0..calls {
-        let lot = dice.lot(alloc)?;
-        let entry = dice.entry_of_many(one);
-        if !both.call(dice.roll(), lot.as_slice(), &entry)? {
-            return Ok(false);
-        }
+    both.are_alike(calls, dice, one)
+}
+
+/// Which is not so of entries of one quotient, and of entries of many.
+pub fn first_awarded_wrong(alloc: Global) -> Option<usize> {
+    let mut dice = Dice {
+        state: 3,
+        indexes: 200,
+        spread: 1,
+    };
+    if !are_awarded_alike(alloc, 2_000, &mut dice, true) {
+        return Some(0);
     }
-    both.awards.clear();
-    Ok(both.awards.take().is_none())
+    if !are_awarded_alike(alloc, 2_000, &mut dice, false) {
+        return Some(1);
+    }
+    None
 }

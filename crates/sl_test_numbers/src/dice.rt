@@ -1,8 +1,7 @@
 //! Numbers in no order, and entries and lots of them.
 
-use crate::given::ratio;
-use sl_ratio::{Entry, NoMemory};
-use std::alloc::Global;
+use crate::quotients::entry;
+use sl_ratio::Entry;
 
 /// Numbers in no order, for entries with so many indexes, which stand `spread` apart.
 #[derive(Clone, Copy)]
@@ -10,6 +9,19 @@ pub struct Dice {
     pub state: u64,
     pub indexes: u32,
     pub spread: u32,
+}
+
+/// A lot of fewer than eight indexes.
+#[derive(Clone, Copy)]
+pub struct Lot {
+    indexes: [u32; 8],
+    length: usize,
+}
+
+impl Lot {
+    pub fn as_slice(&self) -> &[u32] {
+        &self.indexes[..self.length.min(8)]
+    }
 }
 
 impl Dice {
@@ -31,10 +43,7 @@ impl Dice {
     pub fn entry(&mut self, one: bool) -> Entry {
         let index = self.index();
         let part = u128::from(self.roll() % 3) + 1;
-        Entry {
-            ratio: ratio(part, if one { part } else { 2 }),
-            index,
-        }
+        entry((part, if one { part } else { 2 }), index)
     }
 
     /// An entry with the quotient 1, or with one of many.
@@ -43,18 +52,16 @@ impl Dice {
         if one {
             return alike;
         }
-        Entry {
-            ratio: ratio(u128::from(self.roll() % 90) + 1, 7),
-            index: alike.index,
-        }
+        entry((u128::from(self.roll() % 90) + 1, 7), alike.index)
     }
 
-    /// A lot of fewer than eight indexes.
-    pub fn lot(&mut self, alloc: Global) -> Result<Vec<u32>, NoMemory> {
-        let mut lot = Vec::new(alloc);
-        for _ in 0..self.roll() % 8 {
-            lot.push(self.index())?;
+    /// A lot.
+    pub fn lot(&mut self) -> Lot {
+        let length = (self.roll() % 8) as usize;
+        let mut indexes = [0; 8];
+        for index in &mut indexes[..length] {
+            *index = self.index();
         }
-        Ok(lot)
+        Lot { indexes, length }
     }
 }

@@ -1,95 +1,77 @@
-//! Worked calls, written line by line: margins, and then quotients, names and priority tables by the lines of standard input, each after its call;
-//! and tables in many calls in no order, beside lists of the same entries.
+//! Worked calls in tables, each with what it is to answer: quotients, the order of entries, names, priority tables and margins; and tables in many
+//! calls in no order, beside lists of the same entries. Of each table of calls a line says whether all is as wanted.
 //!
 //! Stands on `sl_law_margins` and `sl_prio`; nothing stands on it. Nothing is proved but safety.
-//!
-//! Where an error is `NoMemory` alone, memory ran out, and nothing else is wrong.
 #![tactic(auto)]
 
 mod beside;
-mod calls;
-mod decimals;
 mod dice;
-mod given;
 mod margins;
+mod names;
+mod quotients;
+mod steps;
+mod tables;
 
-use crate::beside::{are_awarded_alike, are_drawn_alike};
-use crate::calls::Kept;
-use crate::dice::Dice;
+use crate::margins::ELECTIONS;
+use crate::steps::TABLES;
+use sl_prio::Prio;
+use std::alloc::{AllocError, Global};
+use std::io;
 
-// Answers a line. One that begins with `==` is a title, before which the table is empty again.
-fn answer_line(rt: &HostRuntime, kept: &mut Kept, line: &str) -> anyhow::Result<()> {
-    if line.starts_with("==") {
-        kept.clear();
-        println!(rt; "{line}")?;
-        return Ok(());
+// Tells of a table whether each of its calls answers as wanted, and else the number of the first that does not, from 0.
+fn tell(text: &mut String, title: &str, wrong: Option<usize>) -> Result<(), AllocError> {
+    text.push_str(title)?;
+    match wrong {
+        None => text.push_str(": as wanted\n"),
+        Some(call) => write!(text, ": call {call} is not as wanted\n"),
     }
-    let answer = kept.answer(rt.alloc(), line)?;
-    println!(rt; "{line}: {answer}")?;
-    Ok(())
 }
 
-// Answers the lines of standard input.
-fn answer_lines(rt: &HostRuntime, kept: &mut Kept) -> anyhow::Result<()> {
-    for line in rt.lines(rt.alloc()) {
-        answer_line(rt, kept, line?.as_str())?;
-    }
-    Ok(())
-}
-
-// Dice by a number to begin with, for entries with so many indexes, which stand so far apart; the calls; and whether each index is there once.
-const DRAWN: [(Dice, u32, bool); 3] = [
-    (
-        Dice {
-            state: 1,
-            indexes: 400,
-            spread: 1,
-        },
-        4_000,
-        true,
-    ),
-    (
-        Dice {
-            state: 2,
-            indexes: 100,
-            spread: 1,
-        },
-        2_000,
-        false,
-    ),
-    (
-        Dice {
-            state: 3,
-            indexes: 100,
-            spread: 300,
-        },
-        2_000,
-        true,
-    ),
-];
-
-const AWARDED: Dice = Dice {
-    state: 3,
-    indexes: 200,
-    spread: 1,
-};
-
-// Writes of each of these tables whether it is like a list, or another table.
-fn show_beside(rt: &HostRuntime) -> anyhow::Result<()> {
-    let mut awarded = AWARDED;
-    for (dice, calls, once) in DRAWN {
-        let alike = are_drawn_alike(rt.alloc(), calls, dice, once)?;
-        println!(rt; "{calls} calls of a table beside a list: {alike}")?;
-    }
-    for one in [true, false] {
-        let alike = are_awarded_alike(rt.alloc(), 2_000, &mut awarded, one)?;
-        println!(rt; "2000 calls of a table of awards beside a table: {alike}")?;
+// Tells it of all calls but margins and the steps of priority tables.
+fn tell_calls(alloc: Global, text: &mut String) -> Result<(), AllocError> {
+    let calls = [
+        ("the order of methods", quotients::first_wrong_method()),
+        ("quotients", quotients::first_wrong_quotient()),
+        ("the order of entries", quotients::first_wrong_order()),
+        ("bounds", quotients::first_wrong_bound()),
+        ("names in a list for two", names::first_wrong(alloc)),
+        ("spellings of names", names::first_wrong_spelling()),
+        ("decimals", margins::first_wrong_decimal(alloc)),
+        ("tables beside lists", beside::first_drawn_wrong(alloc)),
+        ("tables of awards", beside::first_awarded_wrong(alloc)),
+    ];
+    for (title, wrong) in &calls {
+        tell(text, title, *wrong)?;
     }
     Ok(())
 }
 
-fn main(rt: HostRuntime) -> anyhow::Result<()> {
-    margins::show_all(&rt)?;
-    answer_lines(&rt, &mut Kept::new(rt.alloc()))?;
-    show_beside(&rt)
+// Tells it of the calls on elections.
+fn tell_margins(alloc: Global, text: &mut String) -> Result<(), AllocError> {
+    for (title, election, calls) in &ELECTIONS {
+        tell(text, title, margins::first_wrong(alloc, election, calls))?;
+    }
+    Ok(())
+}
+
+// Tells it of the steps of priority tables.
+fn tell_steps(text: &mut String, table: &mut Prio, long: &[u32]) -> Result<(), AllocError> {
+    for (title, steps) in &TABLES {
+        tell(text, title, tables::first_wrong(table, long, steps))?;
+    }
+    Ok(())
+}
+
+// Tells it of all.
+fn tell_all(alloc: Global, text: &mut String) -> Result<(), AllocError> {
+    tell_calls(alloc, text)?;
+    tell_margins(alloc, text)?;
+    let long = tables::long_lot(alloc)?;
+    tell_steps(text, &mut Prio::new(alloc), long.as_slice())
+}
+
+fn main(rt: HostRuntime) -> io::Result<()> {
+    let mut text = String::new(rt.alloc());
+    tell_all(rt.alloc(), &mut text)?;
+    print!(rt; "{text}")
 }

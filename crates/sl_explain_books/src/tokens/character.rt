@@ -95,7 +95,7 @@ const UNDERSCORE: Message = Message {
 
 const AT_SIGN: Message = Message {
     english: "`@` stands before the name of a library's book in a command, and not in a rulebook",
-    german: "`@` steht in einem Kommando vor dem Namen eines Regelwerks der Bibliothek, und nicht in einem Regelwerk",
+    german: "`@` steht auf der Befehlszeile vor dem Namen eines Regelwerks der Bibliothek, und nicht in einem Regelwerk",
 };
 
 const LETTER: Message = Message {

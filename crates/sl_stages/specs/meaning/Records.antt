@@ -1,4 +1,4 @@
--- The records of the seats of a scope: what won each of them, at which step, and the weights after (docs/meaning.md, section 7).
+-- The records of the seats of a scope: what won each of them, at which step, and with them the weights (docs/meaning.md, section 7).
 use Rattle.std.specs.Prelude.{ℕ, ◌+◌, Bool, ◌&&◌, List, [], ◌++◌, map, flat_map, filter, nat_lt, slice_index, if◌then◌else◌}
 use Rattle.std.specs.List.{zip, range_with_len, enumerate_from}
 use Rattle.sl_ratio.specs.declared.method.Divisor.{Divisor}

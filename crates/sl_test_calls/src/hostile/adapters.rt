@@ -2,6 +2,7 @@
 
 ghost use Rattle.std.specs.Prelude.{Some};
 
+use crate::assertions::assert_none;
 use crate::calls::Ending;
 use crate::rows::{FIRST_BOOK, FIRST_RETURNS, FIRST_TABLE};
 use sl_desk::{
@@ -9,7 +10,6 @@ use sl_desk::{
 };
 use std::alloc::Global;
 use std::io::{self, Error, ErrorKind, Read, Write};
-use std::process::Abort;
 
 // A reader of one byte a call. Its call numbered `fails_at`, from 1, is interrupted.
 #[derive(Drop)]
@@ -147,23 +147,38 @@ fn ends_at_returns(alloc: Global, call: u64) -> bool {
 }
 
 // Some calls of a reader of a text: the last two are that of its last byte, and that of its end.
-fn calls_of(text: &str) -> [u64; 5] {
-    let last = text.len() as u64;
+fn calls_of(text: &str) -> [usize; 5] {
+    let last = text.len();
     [1, 2, 60, last, last.saturating_add(1)]
+}
+
+// The first of them whose failure does not end a count so.
+fn first_book_call_wrong(alloc: Global) -> Option<usize> {
+    for call in &calls_of(FIRST_BOOK) {
+        if !ends_at_book(alloc, *call as u64) {
+            return Some(*call);
+        }
+    }
+    None
 }
 
 #[test]
 fn readers_of_books(rt: HostRuntime) {
-    for call in &calls_of(FIRST_BOOK) {
-        assert!(rt; ends_at_book(rt.alloc(), *call), "call {call}");
+    assert_none(&rt, first_book_call_wrong(rt.alloc()));
+}
+
+fn first_returns_call_wrong(alloc: Global) -> Option<usize> {
+    for call in &calls_of(FIRST_RETURNS) {
+        if !ends_at_returns(alloc, *call as u64) {
+            return Some(*call);
+        }
     }
+    None
 }
 
 #[test]
 fn readers_of_returns(rt: HostRuntime) {
-    for call in &calls_of(FIRST_RETURNS) {
-        assert!(rt; ends_at_returns(rt.alloc(), *call), "call {call}");
-    }
+    assert_none(&rt, first_returns_call_wrong(rt.alloc()));
 }
 
 // Readers that stop after the end of what they read.
@@ -191,17 +206,20 @@ fn ends_at_out(alloc: Global, call: usize, stop: Stop) -> bool {
     }
 }
 
-// Asserts it of each call.
-fn assert_writers(rt: &impl Abort, alloc: Global, stop: Stop) {
+// The first call of which that is not so.
+fn first_out_call_wrong(alloc: Global, stop: Stop) -> Option<usize> {
     for call in 1..=FIRST_TABLE.len() {
-        assert!(rt; ends_at_out(alloc, call, stop), "call {call}");
+        if !ends_at_out(alloc, call, stop) {
+            return Some(call);
+        }
     }
+    None
 }
 
 #[test]
 fn writers_of_std(rt: HostRuntime) {
-    assert_writers(&rt, rt.alloc(), Stop::Fails);
-    assert_writers(&rt, rt.alloc(), Stop::TakesNothing);
+    assert_none(&rt, first_out_call_wrong(rt.alloc(), Stop::Fails));
+    assert_none(&rt, first_out_call_wrong(rt.alloc(), Stop::TakesNothing));
 }
 
 // Whether a failure is counted and not tried again, and the next call goes on with the same byte.

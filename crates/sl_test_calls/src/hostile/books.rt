@@ -1,13 +1,13 @@
 //! Books that are cut at every byte: each is refused at the place where it lacks something, but where only blanks are cut off.
 
+use crate::assertions::assert_none;
 use crate::calls::{Call, Ending, Pace, told};
-use crate::hostile::endings::{STEPS, assert_text};
+use crate::hostile::endings::{STEPS, has_written};
 use crate::hostile::laws::LAWS;
 use crate::hostile::rows::{COVERINGS, Row, STEPS as STEP_ROWS};
 use sl_desk::Status;
-use std::alloc::{AllocError, Global};
+use std::alloc::Global;
 use std::process::Abort;
-use std::test::Fail;
 
 // What stands before a cut: where its last token begins if that is a word, a number or a text that may go on, and whether it is a text
 // that is not closed.
@@ -47,31 +47,27 @@ impl Head {
     }
 }
 
-// Whether a line is the refusal of a book that is cut there: a text is not closed, the end is missing, or what is left of the last word
-// may not stand in its place.
-fn is_refusal(alloc: Global, line: &[u8], head: Head, cut: usize) -> Result<bool, AllocError> {
-    let at_token = head.token;
-    if head.within_text {
-        let open = format!(in alloc; "refused book lex 2 {at_token}\n")?;
-        return Ok(line == open.as_bytes());
+// Whether a line is this one, with a number behind it.
+fn is_line(alloc: Global, line: &[u8], start: &str, number: usize) -> bool {
+    match format!(in alloc; "{start} {number}\n") {
+        Ok(expected) => line == expected.as_bytes(),
+        Err(_) => false,
     }
-    let missing = format!(in alloc; "refused book parse 1 {cut}\n")?;
-    let other = format!(in alloc; "refused book parse 1 {at_token}\n")?;
-    Ok(line == missing.as_bytes() || head.within_word && line == other.as_bytes())
 }
 
-// Asserts that a book which is cut there is refused.
-fn assert_refusal(
-    rt: &impl Abort,
-    alloc: Global,
-    ending: &Ending,
-    head: Head,
-    cut: usize,
-) -> Result<(), AllocError> {
-    let line = ending.written.as_slice();
-    assert_eq!(rt; ending.result, Ok(Status::Refused), "at {cut}");
-    assert!(rt; is_refusal(alloc, line, head, cut)?, "at {cut}");
-    Ok(())
+// Whether a line is the refusal of a book that is cut there: a text is not closed, the end is missing, or what is left of the last word
+// may not stand in its place.
+fn is_refusal(alloc: Global, line: &[u8], head: Head, cut: usize) -> bool {
+    if head.within_text {
+        return is_line(alloc, line, "refused book lex 2", head.token);
+    }
+    is_line(alloc, line, "refused book parse 1", cut)
+        || head.within_word && is_line(alloc, line, "refused book parse 1", head.token)
+}
+
+// Whether a book which is cut there is refused.
+fn is_refused(alloc: Global, ending: &Ending, head: Head, cut: usize) -> bool {
+    ending.result == Ok(Status::Refused) && is_refusal(alloc, ending.written.as_slice(), head, cut)
 }
 
 // The length of a book without what stands after its last semicolon.
@@ -99,57 +95,62 @@ fn whole_text(row: &Row) -> &'static str {
     row.texts.last().copied().unwrap_or("")
 }
 
-// Asserts what is written for each cut of a row's book.
-fn assert_cuts(
-    rt: &impl Abort,
-    alloc: Global,
-    row: &Row,
-    book: &[u8],
-    step: usize,
-) -> Result<(), AllocError> {
+// The first cut of a row's book for which something else is written than has to be.
+fn first_cut_wrong(alloc: Global, row: &Row, book: &[u8], step: usize) -> Option<usize> {
     let length = length(book);
     let mut head = NOTHING;
     for cut in 0..=book.len() {
         let ending = ending(alloc, row, &book[..cut], step);
-        if cut < length {
-            assert_refusal(rt, alloc, &ending, head, cut)?;
+        let is_right = if cut < length {
+            is_refused(alloc, &ending, head, cut)
         } else {
-            assert_text(rt, &ending, whole_text(row).as_bytes(), cut);
+            has_written(&ending, whole_text(row).as_bytes())
+        };
+        if !is_right {
+            return Some(cut);
         }
         if let Some(byte) = book.get(cut) {
             head = head.with(*byte, cut);
         }
     }
-    Ok(())
+    None
 }
 
-// The text of a row's book.
-fn book_of(alloc: Global, row: &Row) -> Result<Vec<u8>, AllocError> {
-    match row.call {
-        Call::CountBy(law) => Ok(told(alloc, law, Pace::of(4096)).written),
-        _ => Vec::from_slice(alloc, row.book.as_bytes()),
-    }
-}
-
-fn assert_rows(rt: &impl Abort, alloc: Global, rows: &[Row]) -> Result<(), AllocError> {
-    for row in rows {
-        let book = book_of(alloc, row)?;
-        for step in STEPS {
-            assert_cuts(rt, alloc, row, book.as_slice(), step)?;
+// The same at each step.
+fn first_cut_wrong_by_step(alloc: Global, row: &Row, book: &[u8]) -> Option<usize> {
+    for step in &STEPS {
+        let wrong = first_cut_wrong(alloc, row, book, *step);
+        if wrong.is_some() {
+            return wrong;
         }
     }
-    Ok(())
+    None
+}
+
+// The same of a row, whose law of the library is told first.
+fn first_row_cut_wrong(alloc: Global, row: &Row) -> Option<usize> {
+    match row.call {
+        Call::CountBy(law) => {
+            let book = told(alloc, law, Pace::of(4096)).written;
+            first_cut_wrong_by_step(alloc, row, book.as_slice())
+        }
+        _ => first_cut_wrong_by_step(alloc, row, row.book.as_bytes()),
+    }
+}
+
+fn assert_rows(rt: &impl Abort, alloc: Global, rows: &[Row]) {
+    for row in rows {
+        assert_none(rt, first_row_cut_wrong(alloc, row));
+    }
 }
 
 #[test]
-fn cut_books(rt: HostRuntime) -> Result<(), Fail> {
-    assert_rows(&rt, rt.alloc(), &STEP_ROWS)?;
-    assert_rows(&rt, rt.alloc(), &COVERINGS)?;
-    Ok(())
+fn cut_books(rt: HostRuntime) {
+    assert_rows(&rt, rt.alloc(), &STEP_ROWS);
+    assert_rows(&rt, rt.alloc(), &COVERINGS);
 }
 
 #[test]
-fn cut_laws(rt: HostRuntime) -> Result<(), Fail> {
-    assert_rows(&rt, rt.alloc(), &LAWS)?;
-    Ok(())
+fn cut_laws(rt: HostRuntime) {
+    assert_rows(&rt, rt.alloc(), &LAWS);
 }

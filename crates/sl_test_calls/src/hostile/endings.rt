@@ -1,8 +1,7 @@
 //! How a call may end: its status, and the text that it has written.
 
 use crate::calls::Ending;
-use sl_desk::{DeskError, Status};
-use std::process::Abort;
+use sl_desk::Status;
 
 /// Bytes that a source gives, or a sink takes, at once: all, or one.
 pub const STEPS: [usize; 2] = [4096, 1];
@@ -25,9 +24,7 @@ pub fn status_of(text: &[u8]) -> Status {
     }
 }
 
-/// Asserts that a text is what was written, with its status.
-pub fn assert_text(rt: &impl Abort, ending: &Ending, text: &[u8], place: usize) {
-    let expected: Result<Status, DeskError> = Ok(status_of(text));
-    assert_eq!(rt; ending.written.as_slice(), text, "at {place}");
-    assert_eq!(rt; ending.result, expected, "at {place}");
+/// Whether a text is what was written, with its status.
+pub fn has_written(ending: &Ending, text: &[u8]) -> bool {
+    ends(ending, text, status_of(text))
 }

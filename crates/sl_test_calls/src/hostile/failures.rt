@@ -1,5 +1,6 @@
 //! Readers of one byte a call and writers of three, which fail at each of their calls in turn.
 
+use crate::assertions::assert_none;
 use crate::calls::{Call, Ending, Pace, coded, told};
 use crate::hostile::endings::status_of;
 use crate::hostile::rows::{COVERING, THREE_SEATS};
@@ -9,10 +10,8 @@ use crate::rows::{
 use sl_desk::{BookSource, DeskError, Failed, Input, Source, Status, check_book};
 use sl_test_support::{Narrow, Slow};
 use std::alloc::Global;
-use std::process::Abort;
 
 // A call that reads returns, or a book alone: its book or code file, its returns, and what it writes.
-#[derive(Clone, Copy)]
 struct Worked {
     call: Call,
     first: &'static str,
@@ -21,12 +20,12 @@ struct Worked {
 }
 
 impl Worked {
-    fn ending(self, alloc: Global, pace: Pace) -> Ending {
+    fn ending(&self, alloc: Global, pace: Pace) -> Ending {
         self.call.ending(alloc, self.first.as_bytes(), self.returns.as_bytes(), pace)
     }
 
     // What is read first.
-    fn input(self) -> Input {
+    fn input(&self) -> Input {
         match self.call {
             Call::Run => Input::Code,
             _ => Input::Book,
@@ -34,7 +33,7 @@ impl Worked {
     }
 
     // The calls of a reader of one byte until it has told the end of what is read first: none of a law.
-    fn first_reads(self) -> usize {
+    fn first_reads(&self) -> usize {
         match self.call {
             Call::CountBy(_) => 0,
             _ => self.first.len().saturating_add(1),
@@ -42,7 +41,7 @@ impl Worked {
     }
 
     // The same for the returns.
-    fn second_reads(self) -> usize {
+    fn second_reads(&self) -> usize {
         match self.call {
             Call::Check => 0,
             _ => self.returns.len().saturating_add(1),
@@ -50,7 +49,7 @@ impl Worked {
     }
 }
 
-const CALLS: [Worked; 8] = [
+static CALLS: [Worked; 8] = [
     Worked {
         call: Call::Count,
         first: FIRST_BOOK,
@@ -101,64 +100,59 @@ const CALLS: [Worked; 8] = [
     },
 ];
 
-// Asserts how a call ends, and what was written.
-fn assert_ending(
-    rt: &impl Abort,
-    ending: &Ending,
-    expected: Result<Status, DeskError>,
-    written: &[u8],
-    call: usize,
-) {
-    assert_eq!(rt; ending.result, expected, "call {call}");
-    assert_eq!(rt; ending.written.as_slice(), written, "call {call}");
+// Whether a call ends so, and this was written.
+fn ends(ending: &Ending, expected: Result<Status, DeskError>, written: &[u8]) -> bool {
+    ending.result == expected && ending.written.as_slice() == written
 }
 
-// Asserts how a call of the desk ends where a reader fails at a call of its own, after which so many are made.
-fn assert_read(
-    rt: &impl Abort,
-    ending: &Ending,
-    input: Input,
-    reads: usize,
-    text: &str,
-    at: usize,
-) {
+// Whether a call of the desk ends as it has to where a reader fails at a call of its own, after which so many are made.
+fn is_read(ending: &Ending, input: Input, reads: usize, text: &[u8], at: usize) -> bool {
     if at <= reads {
-        assert_ending(rt, ending, Err(DeskError::Read(input)), b"", at);
+        ends(ending, Err(DeskError::Read(input)), b"")
     } else {
-        let status = status_of(text.as_bytes());
-        assert_ending(rt, ending, Ok(status), text.as_bytes(), at);
+        ends(ending, Ok(status_of(text)), text)
     }
 }
 
-fn assert_first_reads(rt: &impl Abort, alloc: Global, call: Worked) {
-    let reads = call.first_reads();
-    for at in 1..=reads.saturating_add(1) {
-        let pace = Pace {
-            book_fails: at as u64,
-            ..Pace::of(1)
-        };
-        let ending = call.ending(alloc, pace);
-        assert_read(rt, &ending, call.input(), reads, call.text, at);
+impl Worked {
+    // The first call of the reader of what is read first, such that a call of the desk does not end as it has to where it fails.
+    fn first_read_wrong(&self, alloc: Global) -> Option<usize> {
+        let reads = self.first_reads();
+        for at in 1..=reads.saturating_add(1) {
+            let pace = Pace {
+                book_fails: at as u64,
+                ..Pace::of(1)
+            };
+            let ending = self.ending(alloc, pace);
+            if !is_read(&ending, self.input(), reads, self.text.as_bytes(), at) {
+                return Some(at);
+            }
+        }
+        None
     }
-}
 
-fn assert_second_reads(rt: &impl Abort, alloc: Global, call: Worked) {
-    let reads = call.second_reads();
-    for at in 1..=reads.saturating_add(1) {
-        let pace = Pace {
-            returns_fail: at as u64,
-            ..Pace::of(1)
-        };
-        let ending = call.ending(alloc, pace);
-        assert_read(rt, &ending, Input::Returns, reads, call.text, at);
+    // The same of the reader of the returns.
+    fn second_read_wrong(&self, alloc: Global) -> Option<usize> {
+        let reads = self.second_reads();
+        for at in 1..=reads.saturating_add(1) {
+            let pace = Pace {
+                returns_fail: at as u64,
+                ..Pace::of(1)
+            };
+            let ending = self.ending(alloc, pace);
+            if !is_read(&ending, Input::Returns, reads, self.text.as_bytes(), at) {
+                return Some(at);
+            }
+        }
+        None
     }
 }
 
 #[test]
 fn failing_readers(rt: HostRuntime) {
-    for call in CALLS {
-        assert_first_reads(&rt, rt.alloc(), call);
-        assert_second_reads(&rt, rt.alloc(), call);
+    for call in &CALLS {
+        assert_none(&rt, call.first_read_wrong(rt.alloc()));
+        assert_none(&rt, call.second_read_wrong(rt.alloc()));
     }
 }
 
@@ -176,14 +170,14 @@ fn taken_before(text: &[u8], at: usize) -> &[u8] {
     &text[..length]
 }
 
-// Asserts that a writer which fails at a call of its own got the text up to there.
-fn assert_written(rt: &impl Abort, ending: &Ending, text: &[u8], at: usize) {
+// Whether a writer which fails at a call of its own got the text up to there.
+fn is_written(ending: &Ending, text: &[u8], at: usize) -> bool {
     let result = if at <= puts(text) {
         Err(DeskError::Write)
     } else {
         Ok(status_of(text))
     };
-    assert_ending(rt, ending, result, taken_before(text, at), at);
+    ends(ending, result, taken_before(text, at))
 }
 
 // A writer that fails at a call, from 1.
@@ -194,81 +188,113 @@ fn failing_at(at: usize) -> Pace {
     }
 }
 
-fn assert_writes(rt: &impl Abort, alloc: Global, call: Worked) {
+// The first call of the writer that got something else where it fails.
+fn first_write_wrong(alloc: Global, call: &Worked) -> Option<usize> {
     let text = call.text.as_bytes();
     for at in 1..=puts(text).saturating_add(1) {
-        let ending = call.ending(alloc, failing_at(at));
-        assert_written(rt, &ending, text, at);
+        if !is_written(&call.ending(alloc, failing_at(at)), text, at) {
+            return Some(at);
+        }
     }
+    None
 }
 
 #[test]
 fn failing_writers(rt: HostRuntime) {
-    for call in CALLS {
-        assert_writes(&rt, rt.alloc(), call);
+    for call in &CALLS {
+        assert_none(&rt, first_write_wrong(rt.alloc(), call));
     }
 }
 
 // Two pieces of three bytes have gone out where the third fails.
 #[test]
 fn third_piece(rt: HostRuntime) {
-    let alloc = rt.alloc();
-    let ending = CALLS[0].ending(alloc, failing_at(3));
-    assert_ending(&rt, &ending, Err(DeskError::Write), b"total ", 3);
+    let (book, returns) = (FIRST_BOOK.as_bytes(), FIRST_RETURNS.as_bytes());
+    let ending = Call::Count.ending(rt.alloc(), book, returns, failing_at(3));
+    assert!(rt; ends(&ending, Err(DeskError::Write), b"total "));
+}
+
+// The same of a book of the library, of this text.
+fn first_law_wrong(alloc: Global, text: &[u8]) -> Option<usize> {
+    for at in 1..=puts(text).saturating_add(1) {
+        if !is_written(&told(alloc, "2023", failing_at(at)), text, at) {
+            return Some(at);
+        }
+    }
+    None
 }
 
 #[test]
 fn failing_writers_of_laws(rt: HostRuntime) {
-    let alloc = rt.alloc();
-    let text = told(alloc, "2023", Pace::of(4096)).written;
+    let text = told(rt.alloc(), "2023", Pace::of(4096)).written;
     assert!(rt; text.starts_with(b"rulebook 1;\n"));
-    for at in 1..=puts(text.as_slice()).saturating_add(1) {
-        let ending = told(alloc, "2023", failing_at(at));
-        assert_written(&rt, &ending, text.as_slice(), at);
+    assert_none(&rt, first_law_wrong(rt.alloc(), text.as_slice()));
+}
+
+// Whether a code file is written up to a call at which it fails, and nothing is listed.
+fn is_file_cut(alloc: Global, file: &[u8], at: usize) -> bool {
+    let pace = Pace {
+        file_fails: at as u64,
+        ..Pace::of(STEP)
+    };
+    let (ending, taken) = coded(alloc, FIRST_BOOK.as_bytes(), pace);
+    ends(&ending, Err(DeskError::Write), b"") && taken.as_slice() == taken_before(file, at)
+}
+
+// The first call at which that is not so.
+fn first_file_wrong(alloc: Global, file: &[u8]) -> Option<usize> {
+    for at in 1..=puts(file) {
+        if !is_file_cut(alloc, file, at) {
+            return Some(at);
+        }
     }
+    None
 }
 
 // The file is written before its listing: where it fails, nothing is listed.
 #[test]
 fn failing_files(rt: HostRuntime) {
-    let alloc = rt.alloc();
-    let (listed, file) = coded(alloc, FIRST_BOOK.as_bytes(), Pace::of(4096));
-    for at in 1..=puts(file.as_slice()) {
-        let pace = Pace {
-            file_fails: at as u64,
-            ..Pace::of(STEP)
-        };
-        let (ending, taken) = coded(alloc, FIRST_BOOK.as_bytes(), pace);
-        assert_ending(&rt, &ending, Err(DeskError::Write), b"", at);
-        assert_eq!(rt; taken.as_slice(), taken_before(file.as_slice(), at));
+    let (listed, file) = coded(rt.alloc(), FIRST_BOOK.as_bytes(), Pace::of(4096));
+    assert!(rt; listed.result == Ok(Status::Done));
+    assert_none(&rt, first_file_wrong(rt.alloc(), file.as_slice()));
+}
+
+// Whether a listing is written up to a call at which it fails, beside the whole file.
+fn is_listing_cut(alloc: Global, listing: &[u8], file: &[u8], at: usize) -> bool {
+    let (ending, taken) = coded(alloc, FIRST_BOOK.as_bytes(), failing_at(at));
+    is_written(&ending, listing, at) && taken.as_slice() == file
+}
+
+// The first call at which that is not so.
+fn first_listing_wrong(alloc: Global, listing: &[u8], file: &[u8]) -> Option<usize> {
+    for at in 1..=puts(listing).saturating_add(1) {
+        if !is_listing_cut(alloc, listing, file, at) {
+            return Some(at);
+        }
     }
-    assert_eq!(rt; listed.result, Ok(Status::Done));
+    None
 }
 
 #[test]
 fn failing_listings(rt: HostRuntime) {
-    let alloc = rt.alloc();
-    let (listed, file) = coded(alloc, FIRST_BOOK.as_bytes(), Pace::of(4096));
-    for at in 1..=puts(listed.written.as_slice()).saturating_add(1) {
-        let (ending, taken) = coded(alloc, FIRST_BOOK.as_bytes(), failing_at(at));
-        assert_written(&rt, &ending, listed.written.as_slice(), at);
-        assert_eq!(rt; taken.as_slice(), file.as_slice(), "call {at}");
-    }
+    let (listed, file) = coded(rt.alloc(), FIRST_BOOK.as_bytes(), Pace::of(4096));
+    let (listing, file) = (listed.written.as_slice(), file.as_slice());
+    assert_none(&rt, first_listing_wrong(rt.alloc(), listing, file));
 }
 
-// A reader that failed before the call, and does not fail in it, is read.
-#[test]
-fn earlier_failures(rt: HostRuntime) {
-    let alloc = rt.alloc();
+// Whether a reader that failed before a check of a book, and does not fail in it, is read.
+fn is_read_after_failure(alloc: Global) -> bool {
     let mut source = Slow::new(FIRST_BOOK.as_bytes(), 1, 1);
     let mut buffer = [0u8; 4];
-    assert_eq!(rt; source.fetch(&mut buffer), Err(Failed));
+    let has_failed = source.fetch(&mut buffer) == Err(Failed);
     let mut book = BookSource::Reader(source);
     let mut out = Narrow::new(alloc, STEP, 0);
-    let result = check_book(alloc, &mut book, &mut out);
-    assert_eq!(rt; result, Ok(Status::Done));
-    assert_eq!(rt;
-        out.taken.as_slice(),
-        b"book 1 house 8 stages 1 law t\n".as_slice()
-    );
+    has_failed
+        && check_book(alloc, &mut book, &mut out) == Ok(Status::Done)
+        && out.taken.as_slice() == b"book 1 house 8 stages 1 law t\n".as_slice()
+}
+
+#[test]
+fn earlier_failures(rt: HostRuntime) {
+    assert!(rt; is_read_after_failure(rt.alloc()));
 }

@@ -5,7 +5,7 @@ use crate::hostile::rows::Row;
 use crate::rows::FIVE_LAWS as RETURNS;
 
 /// The rows, one for each law.
-pub const LAWS: [Row; 5] = [
+pub static LAWS: [Row; 5] = [
     Row {
         call: Call::CountBy("1956"),
         book: "",

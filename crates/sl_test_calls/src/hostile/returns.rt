@@ -1,12 +1,12 @@
 //! Returns that are cut at every byte: what is written is what their whole records come to, or the refusal of the record that is cut.
 
-use crate::calls::Pace;
-use crate::hostile::endings::{STEPS, assert_text};
+use crate::assertions::assert_none;
+use crate::calls::{Ending, Pace};
+use crate::hostile::endings::{STEPS, has_written};
 use crate::hostile::laws::LAWS;
 use crate::hostile::rows::{COVERINGS, Row, STEPS as STEP_ROWS};
-use std::alloc::{AllocError, Global};
+use std::alloc::Global;
 use std::process::Abort;
-use std::test::Fail;
 
 // What stands before a cut.
 #[derive(Clone, Copy)]
@@ -68,64 +68,68 @@ fn text_of(row: &Row, records: usize) -> &'static str {
     }
 }
 
-// What is written for the returns before a cut, where the byte after it is this one.
-fn text_before(
-    alloc: Global,
-    row: &Row,
-    head: Head,
-    next: Option<u8>,
-) -> Result<String, AllocError> {
-    let behind = head.records.saturating_add(1);
-    if !head.begun {
-        String::from_str(alloc, text_of(row, head.records))
-    } else if next.is_none() || next == Some(b'\n') {
-        String::from_str(alloc, text_of(row, behind))
-    } else {
-        format!(in alloc; "refused returns {} {behind}\n", head.fault())
+// Whether returns are refused by the record that is cut.
+fn is_refused(alloc: Global, ending: &Ending, head: Head, record: usize) -> bool {
+    match format!(in alloc; "refused returns {} {record}\n", head.fault()) {
+        Ok(line) => has_written(ending, line.as_bytes()),
+        Err(_) => false,
     }
 }
 
-// Asserts what is written for each cut of a row's returns.
-fn assert_cuts(rt: &impl Abort, alloc: Global, row: &Row, step: usize) -> Result<(), AllocError> {
-    let (book, returns) = (row.book.as_bytes(), row.returns.as_bytes());
+// Whether that is written for the returns before a cut which has to be, where the byte after it is this one.
+fn is_right(alloc: Global, ending: &Ending, row: &Row, head: Head, next: Option<u8>) -> bool {
+    let behind = head.records.saturating_add(1);
+    if !head.begun {
+        has_written(ending, text_of(row, head.records).as_bytes())
+    } else if next.is_none() || next == Some(b'\n') {
+        has_written(ending, text_of(row, behind).as_bytes())
+    } else {
+        is_refused(alloc, ending, head, behind)
+    }
+}
+
+// How the call of a row ends with these returns.
+fn ending(alloc: Global, row: &Row, returns: &[u8], step: usize) -> Ending {
+    row.call
+        .ending(alloc, row.book.as_bytes(), returns, Pace::of(step))
+}
+
+// The first cut of a row's returns for which something else is written than has to be.
+fn first_cut_wrong(alloc: Global, row: &Row, step: usize) -> Option<usize> {
+    let returns = row.returns.as_bytes();
     let mut head = NOTHING;
     for cut in 0..=returns.len() {
         let next = returns.get(cut).copied();
-        let text = text_before(alloc, row, head, next)?;
-        let ending = row
-            .call
-            .ending(alloc, book, &returns[..cut], Pace::of(step));
-        assert_text(rt, &ending, text.as_bytes(), cut);
+        let ending = ending(alloc, row, &returns[..cut], step);
+        if !is_right(alloc, &ending, row, head, next) {
+            return Some(cut);
+        }
         if let Some(byte) = next {
             head = head.with(byte);
         }
     }
-    Ok(())
+    None
 }
 
-fn assert_rows(rt: &impl Abort, alloc: Global, rows: &[Row]) -> Result<(), AllocError> {
+fn assert_rows(rt: &impl Abort, alloc: Global, rows: &[Row]) {
     for row in rows {
-        for step in STEPS {
-            assert_cuts(rt, alloc, row, step)?;
+        for step in &STEPS {
+            assert_none(rt, first_cut_wrong(alloc, row, *step));
         }
     }
-    Ok(())
 }
 
 #[test]
-fn cut_steps(rt: HostRuntime) -> Result<(), Fail> {
-    assert_rows(&rt, rt.alloc(), &STEP_ROWS)?;
-    Ok(())
+fn cut_steps(rt: HostRuntime) {
+    assert_rows(&rt, rt.alloc(), &STEP_ROWS);
 }
 
 #[test]
-fn cut_coverings(rt: HostRuntime) -> Result<(), Fail> {
-    assert_rows(&rt, rt.alloc(), &COVERINGS)?;
-    Ok(())
+fn cut_coverings(rt: HostRuntime) {
+    assert_rows(&rt, rt.alloc(), &COVERINGS);
 }
 
 #[test]
-fn cut_laws(rt: HostRuntime) -> Result<(), Fail> {
-    assert_rows(&rt, rt.alloc(), &LAWS)?;
-    Ok(())
+fn cut_laws(rt: HostRuntime) {
+    assert_rows(&rt, rt.alloc(), &LAWS);
 }

@@ -22,7 +22,7 @@ pub const COVERING: &str =
     "rulebook 1; law \"t\"; house 2; eligible all; stage s = split(house, counted, webster); seats s cover;";
 
 /// Steps of two lists, and of three that are tied, with a lot.
-pub const STEPS: [Row; 2] = [
+pub static STEPS: [Row; 2] = [
     Row {
         call: Call::Steps,
         book: THREE_SEATS,
@@ -57,7 +57,7 @@ pub const STEPS: [Row; 2] = [
 ];
 
 /// Winners who are seated by their shares, and two of them tied, with a lot.
-pub const COVERINGS: [Row; 2] = [
+pub static COVERINGS: [Row; 2] = [
     Row {
         call: Call::Count,
         book: COVERING,

@@ -33,14 +33,14 @@ impl Worked {
     }
 
     // How it ends.
-    fn on(self, alloc: Global, out: &mut Narrow) -> Ended {
+    fn on(&self, alloc: Global, out: &mut Narrow) -> Ended {
         let (first, returns) = (self.first.as_bytes(), self.returns.as_bytes());
         self.call.on(alloc, first, returns, Pace::of(STEP), out)
     }
 }
 
 // Whether a call ends well, or writes nothing where memory is refused and ends well when it is made again.
-fn ends_well(alloc: Global, call: Worked, out: &mut Narrow) -> bool {
+fn ends_well(alloc: Global, call: &Worked, out: &mut Narrow) -> bool {
     begin(alloc);
     let first = call.on(alloc, out);
     end(alloc);
@@ -54,7 +54,7 @@ fn ends_well(alloc: Global, call: Worked, out: &mut Narrow) -> bool {
 }
 
 // Whether it writes a text.
-fn writes(alloc: Global, call: Worked, text: &str) -> bool {
+fn writes(alloc: Global, call: &Worked, text: &str) -> bool {
     match Narrow::with_room(alloc, ROOM) {
         Ok(mut out) => {
             ends_well(alloc, call, &mut out) && out.taken.as_slice() == text.as_bytes()
@@ -63,18 +63,22 @@ fn writes(alloc: Global, call: Worked, text: &str) -> bool {
     }
 }
 
+// Whether a book counts three lists so, with these steps.
+fn counts_three(alloc: Global, book: &'static str, steps: &str) -> bool {
+    let count = Worked::of(Call::Count, book, THREE_LISTS);
+    let with_steps = Worked::of(Call::Steps, book, THREE_LISTS);
+    writes(alloc, &count, THREE_LISTS_TABLE) && writes(alloc, &with_steps, steps)
+}
+
 #[test]
 fn counts(rt: HostRuntime) {
-    for (book, steps) in THREE_METHODS {
-        let count = Worked::of(Call::Count, book, THREE_LISTS);
-        assert!(rt; writes(rt.alloc(), count, THREE_LISTS_TABLE));
-        let with_steps = Worked::of(Call::Steps, book, THREE_LISTS);
-        assert!(rt; writes(rt.alloc(), with_steps, steps));
+    for (book, steps) in &THREE_METHODS {
+        assert!(rt; counts_three(rt.alloc(), book, steps));
     }
 }
 
 // Other calls, and what they write.
-const CALLS: [(Worked, &str); 4] = [
+static CALLS: [(Worked, &str); 4] = [
     (
         Worked {
             call: Call::Stage("pool"),
@@ -111,7 +115,7 @@ const CALLS: [(Worked, &str); 4] = [
 
 #[test]
 fn stages_checks_and_runs(rt: HostRuntime) {
-    for (call, text) in CALLS {
+    for (call, text) in &CALLS {
         assert!(rt; writes(rt.alloc(), call, text));
     }
 }

@@ -7,8 +7,6 @@ use csv::ByteRecord;
 use sl_returns::{FaultKind, LAND, ReturnsBuilder, ReturnsFault, read_returns};
 use sl_stages::Returns;
 use std::alloc::{AllocError, Global};
-use std::process::Abort;
-use std::test::Fail;
 
 const NO_MEMORY: ReturnsFault = ReturnsFault {
     row: 0,
@@ -37,17 +35,16 @@ fn read(alloc: Global, text: &str) -> Result<Returns, ReturnsFault> {
 }
 
 // Whether those of the three lists are read.
-fn are_three_read(alloc: Global) -> Result<bool, ReturnsFault> {
+fn are_three_read(alloc: Global) -> bool {
     match read(alloc, THREE_LISTS) {
-        Ok(returns) => Ok(are_only_three(&returns)),
-        Err(fault) => Err(fault),
+        Ok(returns) => are_only_three(&returns),
+        Err(_) => false,
     }
 }
 
 #[test]
-fn returns_are_read(rt: HostRuntime) -> Result<(), Fail> {
-    assert!(rt; are_three_read(rt.alloc())?);
-    Ok(())
+fn returns_are_read(rt: HostRuntime) {
+    assert!(rt; are_three_read(rt.alloc()));
 }
 
 // The record of a line.
@@ -73,78 +70,76 @@ fn records(alloc: Global, text: &str) -> Result<Vec<ByteRecord>, AllocError> {
     Ok(records)
 }
 
-// Feeds a record, and answers whether it was taken; a builder that was refused memory answers the same again.
-fn feed(rt: &impl Abort, alloc: Global, builder: &mut ReturnsBuilder, fields: &ByteRecord) -> bool {
+// Whether a record is taken, or else memory was refused, which the builder answers again; `None` if it answers anything else.
+fn feed(alloc: Global, builder: &mut ReturnsBuilder, fields: &ByteRecord) -> Option<bool> {
     begin(alloc);
     let first = builder.feed(fields);
     end(alloc);
-    if first.is_err() {
-        assert!(rt; first == Err(NO_MEMORY) && builder.feed(fields) == first);
+    if first.is_ok() {
+        Some(true)
+    } else if first == Err(NO_MEMORY) && builder.feed(fields) == first {
+        Some(false)
+    } else {
+        None
     }
-    first.is_ok()
 }
 
-// Feeds all, up to one that is not taken.
-fn feed_all(
-    rt: &impl Abort,
-    alloc: Global,
-    builder: &mut ReturnsBuilder,
-    records: &[ByteRecord],
-) -> bool {
+// The same of all, up to one that is not taken.
+fn feed_all(alloc: Global, builder: &mut ReturnsBuilder, records: &[ByteRecord]) -> Option<bool> {
     for fields in records {
-        if !feed(rt, alloc, builder, fields) {
-            return false;
+        let is_taken = feed(alloc, builder, fields);
+        if is_taken != Some(true) {
+            return is_taken;
         }
     }
-    true
+    Some(true)
 }
 
 // The returns that the records give, or out of memory, which a builder that was refused it answers in the end too.
-fn fed(rt: &impl Abort, alloc: Global, records: &[ByteRecord]) -> Result<Returns, ReturnsFault> {
+fn fed(alloc: Global, records: &[ByteRecord]) -> Option<Result<Returns, ReturnsFault>> {
     let mut builder = ReturnsBuilder::new(alloc);
-    let are_taken = feed_all(rt, alloc, &mut builder, records);
+    let are_taken = feed_all(alloc, &mut builder, records);
     begin(alloc);
     let answer = builder.finish();
     end(alloc);
-    assert_eq!(rt; answer.is_ok(), are_taken);
-    answer
-}
-
-// The same, once more with another builder where the first was refused memory.
-fn fed_twice(
-    rt: &impl Abort,
-    alloc: Global,
-    records: &[ByteRecord],
-) -> Result<Returns, ReturnsFault> {
-    match fed(rt, alloc, records) {
-        Ok(returns) => Ok(returns),
-        Err(NO_MEMORY) => fed(rt, alloc, records),
-        Err(fault) => Err(fault),
+    if are_taken == Some(answer.is_ok()) {
+        Some(answer)
+    } else {
+        None
     }
 }
 
-// Those of the records of a text.
-fn fed_text(rt: &impl Abort, alloc: Global, text: &str) -> Result<Returns, Fail> {
-    let records = records(alloc, text)?;
-    Ok(fed_twice(rt, alloc, records.as_slice())?)
+// The same, once more with another builder where the first was refused memory.
+fn fed_twice(alloc: Global, records: &[ByteRecord]) -> Option<Result<Returns, ReturnsFault>> {
+    match fed(alloc, records) {
+        Some(Err(NO_MEMORY)) => fed(alloc, records),
+        first => first,
+    }
 }
 
-// Whether they hold what a function asks of them.
-fn are_fed(
-    rt: &impl Abort,
-    alloc: Global,
-    text: &str,
-    holds: fn(&Returns) -> bool,
-) -> Result<bool, Fail>
+// Whether those of the records hold what a function asks of them.
+fn hold(alloc: Global, records: &[ByteRecord], holds: fn(&Returns) -> bool) -> bool
     requires { IsAlwaysCallable holds }
 {
-    Ok(holds(&fed_text(rt, alloc, text)?))
+    match fed_twice(alloc, records) {
+        Some(Ok(returns)) => holds(&returns),
+        _ => false,
+    }
+}
+
+// Whether those of the records of a text do.
+fn are_fed(alloc: Global, text: &str, holds: fn(&Returns) -> bool) -> bool
+    requires { IsAlwaysCallable holds }
+{
+    match records(alloc, text) {
+        Ok(records) => hold(alloc, records.as_slice(), holds),
+        Err(_) => false,
+    }
 }
 
 #[test]
-fn records_are_fed(rt: HostRuntime) -> Result<(), Fail> {
-    assert!(rt; are_fed(&rt, rt.alloc(), THREE_LISTS, are_only_three)?);
-    Ok(())
+fn records_are_fed(rt: HostRuntime) {
+    assert!(rt; are_fed(rt.alloc(), THREE_LISTS, are_only_three));
 }
 
 // Whether there are three winners, and lots of the last two, the last one first.
@@ -156,9 +151,8 @@ fn are_drawn(returns: &Returns) -> bool {
 }
 
 #[test]
-fn winners_and_lots_are_fed(rt: HostRuntime) -> Result<(), Fail> {
-    assert!(rt; are_fed(&rt, rt.alloc(), DRAWN_WINNERS, are_drawn)?);
-    Ok(())
+fn winners_and_lots_are_fed(rt: HostRuntime) {
+    assert!(rt; are_fed(rt.alloc(), DRAWN_WINNERS, are_drawn));
 }
 
 // A Land twice.
@@ -186,9 +180,15 @@ fn stays_refused(alloc: Global, records: &[ByteRecord]) -> bool {
     last_answer(&mut builder, records) == Err(TWICE) && builder.finish().err() == Some(TWICE)
 }
 
+// Whether those of a text do.
+fn text_stays_refused(alloc: Global, text: &str) -> bool {
+    match records(alloc, text) {
+        Ok(records) => stays_refused(alloc, records.as_slice()),
+        Err(_) => false,
+    }
+}
+
 #[test]
-fn a_refusal_is_final(rt: HostRuntime) -> Result<(), Fail> {
-    let records = records(rt.alloc(), AGAIN)?;
-    assert!(rt; stays_refused(rt.alloc(), records.as_slice()));
-    Ok(())
+fn a_refusal_is_final(rt: HostRuntime) {
+    assert!(rt; text_stays_refused(rt.alloc(), AGAIN));
 }

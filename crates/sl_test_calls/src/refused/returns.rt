@@ -5,10 +5,9 @@ ghost use Rattle.sl_ratio.specs.Names.{name_fault};
 ghost use Rattle.sl_stages.specs.returns.Election.{no_election, lands_of, parties_of, wins_of, with_land, with_party, with_win};
 
 use crate::marks::{begin, end};
+use sl_ratio::NoMemory;
 use sl_stages::{MAX_LANDS, MAX_LOTS, MAX_PARTIES, MAX_VOTES, MAX_WINS, Returns};
 use std::alloc::Global;
-use std::process::Abort;
-use std::test::Fail;
 
 // How many there are of each kind of record.
 fn numbers(returns: &Returns) -> (usize, usize, usize, usize)
@@ -25,14 +24,13 @@ fn numbers(returns: &Returns) -> (usize, usize, usize, usize)
     )
 }
 
-// Adds a Land, which is as if it had not been tried where memory is refused.
+// Adds a Land, which is as if it had not been tried where memory is refused. If it is not, the answer is out of memory.
 fn add_land(
-    rt: &impl Abort,
     alloc: Global,
     returns: &mut Returns,
     name: &[u8],
     population: u32,
-) -> Result<(), Fail>
+) -> Result<(), NoMemory>
     requires name { name_fault (record { limit = MAX_LANDS; names = returns.old.land_names }) name.now ≡ None }
     requires population { population ≤ MAX_VOTES }
     ensures { IfOk result (λ _. returns.new ≡ with_land returns.old name.now population) }
@@ -41,15 +39,14 @@ fn add_land(
     begin(alloc);
     let first = returns.add_land(name, population);
     end(alloc);
-    if first.is_err() {
-        assert!(rt; numbers(returns) == before && returns.find_land(name).is_none());
-        returns.add_land(name, population)?;
+    if first.is_ok() || numbers(returns) != before || returns.find_land(name).is_some() {
+        return first;
     }
-    Ok(())
+    returns.add_land(name, population)
 }
 
 // The same with a party.
-fn add_party(rt: &impl Abort, alloc: Global, returns: &mut Returns, name: &[u8]) -> Result<(), Fail>
+fn add_party(alloc: Global, returns: &mut Returns, name: &[u8]) -> Result<(), NoMemory>
     requires name { name_fault (record { limit = MAX_PARTIES; names = returns.old.party_names }) name.now ≡ None }
     ensures { IfOk result (λ _. returns.new ≡ with_party returns.old name.now false) }
 {
@@ -57,21 +54,19 @@ fn add_party(rt: &impl Abort, alloc: Global, returns: &mut Returns, name: &[u8])
     begin(alloc);
     let first = returns.add_party(name, false);
     end(alloc);
-    if first.is_err() {
-        assert!(rt; numbers(returns) == before && returns.find_party(name).is_none());
-        returns.add_party(name, false)?;
+    if first.is_ok() || numbers(returns) != before || returns.find_party(name).is_some() {
+        return first;
     }
-    Ok(())
+    returns.add_party(name, false)
 }
 
 // Adds a winner of the first party in the first Land, in the same way.
 fn add_win(
-    rt: &impl Abort,
     alloc: Global,
     returns: &mut Returns,
     name: &[u8],
     votes: (u32, u32),
-) -> Result<(), Fail>
+) -> Result<(), NoMemory>
     requires land { 0 < lands_of returns.old }
     requires party { 0 < parties_of returns.old }
     requires name { name_fault (record { limit = MAX_WINS; names = returns.old.win_names }) name.now ≡ None }
@@ -84,27 +79,25 @@ fn add_win(
     begin(alloc);
     let first = returns.add_win(0, Some(0), name, votes.0, votes.1);
     end(alloc);
-    if first.is_err() {
-        assert!(rt; numbers(returns) == before && returns.find_win(name).is_none());
-        returns.add_win(0, Some(0), name, votes.0, votes.1)?;
+    if first.is_ok() || numbers(returns) != before || returns.find_win(name).is_some() {
+        return first;
     }
-    Ok(())
+    returns.add_win(0, Some(0), name, votes.0, votes.1)
 }
 
 // Adds a lot of a winner of that list to those of the clause `seats`, in the same way.
-fn add_lot(rt: &impl Abort, alloc: Global, returns: &mut Returns, win: usize) -> Result<(), Fail> {
+fn add_lot(alloc: Global, returns: &mut Returns, win: usize) -> Result<(), NoMemory> {
     let before = numbers(returns);
     if before.0 == 0 || before.1 == 0 || win >= before.2 || before.3 >= MAX_LOTS {
-        return Err("no lot can be added")?;
+        return Err(NoMemory);
     }
     begin(alloc);
     let first = returns.add_lot(Some(0), Some(0), b"seats", Some(win));
     end(alloc);
-    if first.is_err() {
-        assert!(rt; numbers(returns) == before);
-        returns.add_lot(Some(0), Some(0), b"seats", Some(win))?;
+    if first.is_ok() || numbers(returns) != before {
+        return first;
     }
-    Ok(())
+    returns.add_lot(Some(0), Some(0), b"seats", Some(win))
 }
 
 /// Whether these are three lists with their votes.
@@ -123,32 +116,37 @@ pub fn are_three(returns: &Returns) -> bool {
 }
 
 // Adds a list in the first Land, for which no memory is taken.
-fn add_list(alloc: Global, returns: &mut Returns, party: usize, votes: u32) -> Result<(), Fail> {
+fn add_list(
+    alloc: Global,
+    returns: &mut Returns,
+    party: usize,
+    votes: u32,
+) -> Result<(), NoMemory> {
     let is_there = returns.lands() > 0 && party < returns.parties() && votes <= MAX_VOTES;
     if !is_there || returns.is_list(0, party) {
-        return Err("no list can be added")?;
+        return Err(NoMemory);
     }
     begin(alloc);
     let answer = returns.add_list(0, party, votes, votes);
     end(alloc);
-    Ok(answer?)
+    answer
 }
 
 // Adds a Land and three parties.
-fn add_names(rt: &impl Abort, alloc: Global, returns: &mut Returns) -> Result<(), Fail>
+fn add_names(alloc: Global, returns: &mut Returns) -> Result<(), NoMemory>
     requires { returns.old ≡ no_election }
 {
-    add_land(rt, alloc, returns, b"X", 1000)?;
-    add_party(rt, alloc, returns, b"A")?;
-    add_party(rt, alloc, returns, b"B")?;
-    add_party(rt, alloc, returns, b"C")
+    add_land(alloc, returns, b"X", 1000)?;
+    add_party(alloc, returns, b"A")?;
+    add_party(alloc, returns, b"B")?;
+    add_party(alloc, returns, b"C")
 }
 
 // Adds these and their lists; whether they are read back.
-fn add_three(rt: &impl Abort, alloc: Global, returns: &mut Returns) -> Result<bool, Fail>
+fn add_three(alloc: Global, returns: &mut Returns) -> Result<bool, NoMemory>
     requires { returns.old ≡ no_election }
 {
-    add_names(rt, alloc, returns)?;
+    add_names(alloc, returns)?;
     add_list(alloc, returns, 0, 100)?;
     add_list(alloc, returns, 1, 80)?;
     add_list(alloc, returns, 2, 30)?;
@@ -156,15 +154,14 @@ fn add_three(rt: &impl Abort, alloc: Global, returns: &mut Returns) -> Result<bo
 }
 
 // Whether new returns keep them.
-fn keep_three(rt: &impl Abort, alloc: Global) -> Result<bool, Fail> {
+fn keep_three(alloc: Global) -> Result<bool, NoMemory> {
     let mut returns = Returns::empty(alloc);
-    add_three(rt, alloc, &mut returns)
+    add_three(alloc, &mut returns)
 }
 
 #[test]
-fn three_lists(rt: HostRuntime) -> Result<(), Fail> {
-    assert!(rt; keep_three(&rt, rt.alloc())?);
-    Ok(())
+fn three_lists(rt: HostRuntime) {
+    assert!(rt; keep_three(rt.alloc()) == Ok(true));
 }
 
 // Whether these are three winners and the lots of the last two.
@@ -188,27 +185,26 @@ fn are_drawn(returns: &Returns) -> bool {
 }
 
 // Adds three winners of a party, and lots of the last two; whether they are read back.
-fn add_winners(rt: &impl Abort, alloc: Global, returns: &mut Returns) -> Result<bool, Fail>
+fn add_winners(alloc: Global, returns: &mut Returns) -> Result<bool, NoMemory>
     requires { returns.old ≡ no_election }
 {
     returns.add_land(b"X", 1000)?;
     returns.add_party(b"A", false)?;
-    add_win(rt, alloc, returns, b"w1", (300, 500))?;
-    add_win(rt, alloc, returns, b"w2", (400, 1000))?;
-    add_win(rt, alloc, returns, b"w3", (360, 900))?;
-    add_lot(rt, alloc, returns, 2)?;
-    add_lot(rt, alloc, returns, 1)?;
+    add_win(alloc, returns, b"w1", (300, 500))?;
+    add_win(alloc, returns, b"w2", (400, 1000))?;
+    add_win(alloc, returns, b"w3", (360, 900))?;
+    add_lot(alloc, returns, 2)?;
+    add_lot(alloc, returns, 1)?;
     Ok(are_drawn(returns))
 }
 
 // Whether new returns keep them.
-fn keep_winners(rt: &impl Abort, alloc: Global) -> Result<bool, Fail> {
+fn keep_winners(alloc: Global) -> Result<bool, NoMemory> {
     let mut returns = Returns::empty(alloc);
-    add_winners(rt, alloc, &mut returns)
+    add_winners(alloc, &mut returns)
 }
 
 #[test]
-fn winners_and_lots(rt: HostRuntime) -> Result<(), Fail> {
-    assert!(rt; keep_winners(&rt, rt.alloc())?);
-    Ok(())
+fn winners_and_lots(rt: HostRuntime) {
+    assert!(rt; keep_winners(rt.alloc()) == Ok(true));
 }

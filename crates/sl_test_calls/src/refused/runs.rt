@@ -4,7 +4,7 @@ use crate::codes::{checked, compiled, ending};
 use crate::marks::{begin, end};
 use crate::rows::{THREE_LISTS, THREE_METHODS};
 use sl_compile::compile;
-use sl_machine::{Ending, budget, run, run_unrecorded};
+use sl_machine::{Ending, Memory, budget, run, run_unrecorded};
 use sl_ratio::NoMemory;
 use sl_returns::read_returns;
 use sl_stages::{CheckedBook, Returns};
@@ -39,12 +39,15 @@ fn unrecorded_ending(
     }
 }
 
-// Whether a run is done, and holds the seats of three lists and so many steps.
+// Whether what a run holds are the seats of three lists and so many steps.
+fn are_seats(memory: &Memory, steps: usize) -> bool {
+    memory.base() == [4, 3, 1].as_slice() && memory.steps().len() == steps
+}
+
+// Whether a run is done and holds them.
 fn holds(ending: Result<Ending, NoMemory>, steps: usize) -> bool {
     match ending {
-        Ok(Ending::Done(memory)) => {
-            memory.base() == [4, 3, 1].as_slice() && memory.steps().len() == steps
-        }
+        Ok(Ending::Done(memory)) => are_seats(&memory, steps),
         _ => false,
     }
 }

@@ -4,21 +4,19 @@ ghost use Rattle.std.specs.Prelude.{◌≤◌, ◌^◌};
 
 use crate::marks::{begin, end};
 use sl_prio::Prio;
-use sl_ratio::{Entry, NameFault, Names, NoMemory, Ratio};
+use sl_ratio::{Entry, NameFault, Names, Ratio};
 use std::alloc::Global;
-use std::process::Abort;
-use std::test::Fail;
 
-// Adds a name, which is new and has this number.
-fn add(rt: &impl Abort, alloc: Global, names: &mut Names, name: &[u8], number: usize) {
+// Whether a name is added, which is new and has this number; where memory is refused, the names are as they were.
+fn is_added(alloc: Global, names: &mut Names, name: &[u8], number: usize) -> bool {
     begin(alloc);
-    let mut answer = names.add(name);
+    let first = names.add(name);
     end(alloc);
-    if answer == Err(NameFault::NoMemory) {
-        assert!(rt; names.len() == number && names.find(name).is_none());
-        answer = names.add(name);
+    if first == Err(NameFault::NoMemory) {
+        names.len() == number && names.find(name).is_none() && names.add(name) == Ok(number)
+    } else {
+        first == Ok(number)
     }
-    assert_eq!(rt; answer, Ok(number));
 }
 
 // Whether the names are A and B, in this order, each found by its bytes.
@@ -35,12 +33,18 @@ fn are_full(names: &mut Names) -> bool {
     names.add(b"A") == Err(NameFault::Twice) && names.add(b"C") == Err(NameFault::Full)
 }
 
+// Whether two names are added to a list for two, and found, and no more names are added.
+fn are_added(alloc: Global, names: &mut Names) -> bool {
+    is_added(alloc, names, b"A", 0)
+        && is_added(alloc, names, b"B", 1)
+        && are_two(names)
+        && are_full(names)
+        && are_two(names)
+}
+
 #[test]
 fn names(rt: HostRuntime) {
-    let mut names = Names::new(rt.alloc(), 2);
-    add(&rt, rt.alloc(), &mut names, b"A", 0);
-    add(&rt, rt.alloc(), &mut names, b"B", 1);
-    assert!(rt; are_two(&names) && are_full(&mut names) && are_two(&names));
+    assert!(rt; are_added(rt.alloc(), &mut Names::new(rt.alloc(), 2)));
 }
 
 fn entry(num: u128, den: u128, index: u32) -> Entry
@@ -54,23 +58,18 @@ fn entry(num: u128, den: u128, index: u32) -> Entry
     }
 }
 
-// Puts an entry into a table; the entries before are as they were where memory is refused.
-fn put(rt: &impl Abort, alloc: Global, prio: &mut Prio, entry: Entry) -> Result<(), NoMemory> {
+// Whether an entry is put into a table; the entries before are as they were where memory is refused.
+fn is_put(alloc: Global, prio: &mut Prio, entry: &Entry) -> bool {
     let (len, peers, top) = (prio.len(), prio.peers(), prio.top());
     begin(alloc);
-    let first = prio.put(entry);
+    let first = prio.put(*entry);
     end(alloc);
-    if first.is_err() {
-        assert!(rt; prio.len() == len && prio.peers() == peers && prio.top() == top);
-        prio.put(entry)?;
-    }
-    assert!(rt; prio.len() == len.saturating_add(1));
-    Ok(())
-}
-
-fn put_two(rt: &impl Abort, alloc: Global, prio: &mut Prio) -> Result<(), NoMemory> {
-    put(rt, alloc, prio, entry(60, 3, 0))?;
-    put(rt, alloc, prio, entry(20, 1, 1))
+    let is_in = first.is_ok()
+        || prio.len() == len
+            && prio.peers() == peers
+            && prio.top() == top
+            && prio.put(*entry).is_ok();
+    is_in && prio.len() == len.saturating_add(1)
 }
 
 fn index_of(entry: Option<Entry>) -> Option<u32> {
@@ -87,22 +86,34 @@ fn are_taken(prio: &mut Prio) -> bool {
         && prio.take().is_none()
 }
 
-#[test]
-fn two_peers(rt: HostRuntime) -> Result<(), Fail> {
-    let mut prio = Prio::new(rt.alloc());
-    put_two(&rt, rt.alloc(), &mut prio)?;
-    assert!(rt; are_taken(&mut prio));
-    Ok(())
+// The same of two that are put into a table.
+fn are_put_and_taken(alloc: Global, prio: &mut Prio) -> bool {
+    is_put(alloc, prio, &entry(60, 3, 0))
+        && is_put(alloc, prio, &entry(20, 1, 1))
+        && are_taken(prio)
 }
 
-// Puts ten peers into a table, an entry above them and one below.
-fn put_twelve(rt: &impl Abort, alloc: Global, prio: &mut Prio) -> Result<(), NoMemory> {
+#[test]
+fn two_peers(rt: HostRuntime) {
+    assert!(rt; are_put_and_taken(rt.alloc(), &mut Prio::new(rt.alloc())));
+}
+
+// Whether ten peers are put into a table.
+fn are_ten_put(alloc: Global, prio: &mut Prio) -> bool {
     for index in (0..10u32).rev() {
         let part = u128::from(index) + 1;
-        put(rt, alloc, prio, entry(part, part, index))?;
+        if !is_put(alloc, prio, &entry(part, part, index)) {
+            return false;
+        }
     }
-    put(rt, alloc, prio, entry(3, 1, 10))?;
-    put(rt, alloc, prio, entry(1, 2, 11))
+    true
+}
+
+// Whether an entry above them and one below are, too.
+fn are_twelve_put(alloc: Global, prio: &mut Prio) -> bool {
+    are_ten_put(alloc, prio)
+        && is_put(alloc, prio, &entry(3, 1, 10))
+        && is_put(alloc, prio, &entry(1, 2, 11))
 }
 
 // Whether the entry above is taken first, and the lot takes one of the ten.
@@ -123,10 +134,14 @@ fn are_last(prio: &mut Prio, indexes: &[u32]) -> bool {
     prio.is_empty()
 }
 
+// Whether the twelve are taken as they have to be.
+fn are_twelve_taken(alloc: Global, prio: &mut Prio) -> bool {
+    are_twelve_put(alloc, prio)
+        && are_drawn(prio)
+        && are_last(prio, &[0, 1, 2, 3, 4, 5, 6, 8, 9, 11])
+}
+
 #[test]
-fn twelve_entries(rt: HostRuntime) -> Result<(), Fail> {
-    let mut prio = Prio::new(rt.alloc());
-    put_twelve(&rt, rt.alloc(), &mut prio)?;
-    assert!(rt; are_drawn(&mut prio) && are_last(&mut prio, &[0, 1, 2, 3, 4, 5, 6, 8, 9, 11]));
-    Ok(())
+fn twelve_entries(rt: HostRuntime) {
+    assert!(rt; are_twelve_taken(rt.alloc(), &mut Prio::new(rt.alloc())));
 }

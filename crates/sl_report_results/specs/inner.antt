@@ -1,0 +1,2 @@
+-- What only bodies and proofs cite.
+pub mod Within
