@@ -1,4 +1,8 @@
-"""Pictures of the page, taken in Chromium: at three widths, in both languages and schemes, and of what is printed; those of docs/page.md go to docs/page/."""
+"""Pictures of the page, taken in Chromium: five uses of it at each of three widths, in both languages and schemes, and what is printed.
+
+Those that docs/page.md shows go to docs/page/. All others go to web/out/pictures/, with a sheet for each use that has its twelve pictures side by side.
+"""
+import itertools
 import json
 import pathlib
 import shutil
@@ -12,10 +16,15 @@ from browsers import BROWSERS
 TO = cases.TOP / "docs" / "page"
 ASIDE = cases.TOP / "web" / "out" / "pictures"
 # The pictures that docs/page.md shows; the others are to be looked at.
-SHOWN = ("start-de", "real-de-light-1400", "real-en-dark-1400", "real-de-dark-360", "comparison-en-1400", "what-if-en", "refused-en", "refused-book-de", "tie-de", "seat-en", "margins-en")
+SHOWN = (
+    "start-de-light-1400", "real-de-light-1400", "real-en-dark-1400", "real-de-dark-360", "comparison-en-light-1400", "what-if-en-light-1400",
+    "refused-en-light-1400", "refused-book-de-light-1400", "tie-de-light-768", "seat-en-light-1400", "margins-en-light-1400",
+)
 DATA = cases.EXAMPLES
 REFUSED = (DATA / "covered" / "returns.csv").read_text().replace("list,South,Reds,140000", "list,South,Reds,140.000")
 WIDTHS = {360: 780, 768: 1024, 1400: 1000}
+LANGUAGES = ("de", "en")
+SCHEMES = ("light", "dark")
 
 
 class Pictured:
@@ -23,12 +32,20 @@ class Pictured:
 
     def __init__(self, page, language, scheme="light", width=1400):
         self.browser, self.folder = BROWSERS["chromium"](language, scheme=scheme), tempfile.TemporaryDirectory()
-        self.size(width)
-        self.browser.open(page.as_uri())
-        self.browser.wait("document.body && document.body.dataset.ready")
-
-    def size(self, width):
+        self.page, self.look = page, "%s-%s-%d" % (language, scheme, width)
         self.browser.size(width, WIDTHS[width])
+        self.open()
+
+    def __enter__(self):
+        return self
+
+    def __exit__(self, *_):
+        self.browser.close()
+
+    def open(self):
+        """Opens the page anew."""
+        self.browser.open(self.page.as_uri())
+        self.browser.wait("document.body && document.body.dataset.ready")
 
     def after(self, act):
         before = self.browser.run("document.body.dataset.counted || ''")
@@ -40,6 +57,11 @@ class Pictured:
         path.write_bytes(data if isinstance(data, bytes) else data.encode())
         self.after(lambda: self.browser.choose("#returns-file", path))
 
+    def give_book(self, name, data):
+        path = pathlib.Path(self.folder.name) / name
+        path.write_bytes(data)
+        self.after(lambda: self.browser.choose("#own-file", path))
+
     def only(self, *laws):
         self.browser.run("(() => { document.querySelector('#giving').open = true; })()")
         for law in cases.LAWS:
@@ -47,103 +69,136 @@ class Pictured:
             if self.browser.run("document.querySelector(%s).checked" % json.dumps(box)) != (law in laws):
                 self.after(lambda: self.browser.click(box))
 
-    def take(self, name, css=None):
+    def fold(self):
+        self.browser.run("(() => { document.querySelector('#giving').open = false; })()")
+
+    def take(self, use, css=None):
         if css:
             self.browser.run("document.querySelector(%s).scrollIntoView()" % json.dumps(css))
         self.browser.run("(document.activeElement?.blur(), new Promise(resolve => setTimeout(resolve, 400)))")
+        name = "%s-%s" % (use, self.look)
         self.browser.picture((TO if name in SHOWN else ASIDE) / (name + ".png"))
 
 
-def elections(page):
-    for language, scheme, width in (("de", "light", 1400), ("en", "dark", 1400), ("de", "dark", 360), ("en", "light", 768)):
-        shown = Pictured(page, language, scheme, width)
-        if (language, width) == ("de", 1400):
-            shown.take("start-de")
-        shown.after(lambda: shown.browser.click('[data-election="2025"]'))
-        shown.take("real-%s-%s-%d" % (language, scheme, width))
-        shown.browser.close()
+# ---- the uses that are taken at every width, in both languages and schemes; each begins with the page as it is opened
 
 
-def made_up(page):
-    for language, scheme, width in (("en", "light", 1400), ("de", "light", 360)):
-        shown = Pictured(page, language, scheme, width)
-        shown.give("made-up.csv", election.made_up())
-        shown.take("made-up-%s-%d" % (language, width))
-        if width == 1400:
-            shown.browser.run("(() => { document.querySelector('#whatif-part').open = true; })()")
-            shown.browser.wait("document.querySelector('[data-key=\"range BSW\"]')")
-            shown.browser.run("(() => { const s = document.querySelector('[data-key=\"range BSW\"]'); s.value = 12; s.dispatchEvent(new Event('input')); })()")
-            shown.browser.wait("document.querySelector('#changed li') && !document.body.classList.contains('old')")
-            shown.take("what-if-en", "#result-part")
-        shown.browser.close()
+def real(shown):
+    """The election of 2025."""
+    shown.after(lambda: shown.browser.click('[data-election="2025"]'))
+    shown.take("real")
 
 
-def compared(page):
-    for language, scheme, width in (("en", "light", 1400), ("de", "dark", 768), ("de", "light", 360)):
-        shown = Pictured(page, language, scheme, width)
-        shown.give("made-up.csv", election.made_up())
-        shown.only(*cases.LAWS)
-        shown.browser.run("(() => { document.querySelector('#giving').open = false; })()")
-        shown.take("comparison-%s-%d" % (language, width), "#result-part")
-        shown.browser.close()
+def made_up(shown):
+    """Sixteen Länder with 299 winners."""
+    shown.give("made-up.csv", election.made_up())
+    shown.take("made-up")
 
 
-def refused(page):
-    shown = Pictured(page, "en")
+def comparison(shown):
+    """The same by six statutes."""
+    shown.give("made-up.csv", election.made_up())
+    shown.only(*cases.LAWS)
+    shown.fold()
+    shown.take("comparison", "#result-part")
+
+
+def refused(shown):
+    """A refused record."""
     shown.give("returns.csv", REFUSED)
-    shown.take("refused-en", "#returns-answer")
-    shown.browser.close()
-    shown = Pictured(page, "de")
-    book = pathlib.Path(shown.folder.name) / "own.law"
-    book.write_bytes(b'rulebook 1; law "t";\nhouse 4001; eligible all;\nseats winners keep;')
-    shown.after(lambda: shown.browser.choose("#own-file", book))
-    shown.take("refused-book-de", "#own-answer")
-    shown.browser.close()
+    shown.take("refused", "#returns-answer")
 
 
-def tie(page):
-    shown = Pictured(page, "de", width=768)
+def tie(shown):
+    """A tie without a lot."""
     shown.only()
-    shown.after(lambda: shown.browser.choose("#own-file", DATA / "tie" / "book.law"))
+    shown.give_book("book.law", (DATA / "tie" / "book.law").read_bytes())
     shown.give("returns.csv", (DATA / "tie" / "returns.csv").read_bytes())
-    shown.take("tie-de", "#result-part")
-    shown.browser.close()
+    shown.take("tie", "#result-part")
+
+
+USES = (real, made_up, comparison, refused, tie)
+
+
+def every_look(page):
+    for language, scheme, width in itertools.product(LANGUAGES, SCHEMES, WIDTHS):
+        with Pictured(page, language, scheme, width) as shown:
+            for use in USES:
+                shown.open()
+                use(shown)
+
+
+# ---- what is taken once
+
+
+def start(page):
+    with Pictured(page, "de") as shown:
+        shown.take("start")
+
+
+def what_if(page):
+    with Pictured(page, "en") as shown:
+        shown.give("made-up.csv", election.made_up())
+        shown.browser.run("(() => { document.querySelector('#whatif-part').open = true; })()")
+        shown.browser.wait("document.querySelector('[data-key=\"range BSW\"]')")
+        shown.browser.run("(() => { const s = document.querySelector('[data-key=\"range BSW\"]'); s.value = 12; s.dispatchEvent(new Event('input')); })()")
+        shown.browser.wait("document.querySelector('#changed li') && !document.body.classList.contains('old')")
+        shown.take("what-if", "#result-part")
+
+
+def refused_book(page):
+    with Pictured(page, "de") as shown:
+        shown.give_book("own.law", b'rulebook 1; law "t";\nhouse 4001; eligible all;\nseats winners keep;')
+        shown.take("refused-book", "#own-answer")
 
 
 def parts(page):
-    shown = Pictured(page, "en")
-    shown.only("2023")
-    shown.give("returns.csv", (DATA / "covered" / "returns.csv").read_bytes())
-    shown.browser.click('.seat[data-seat="3"]')
-    shown.browser.wait("document.querySelector('.seat-steps table')")
-    shown.take("seat-en", "#result-part")
-    shown.browser.run("(() => { document.querySelector('details.bounds').open = true; })()")
-    shown.browser.wait("document.querySelector('table.missing')")
-    shown.take("margins-en", "details.bounds")
-    shown.browser.close()
+    with Pictured(page, "en") as shown:
+        shown.only("2023")
+        shown.give("returns.csv", (DATA / "covered" / "returns.csv").read_bytes())
+        shown.browser.click('.seat[data-seat="3"]')
+        shown.browser.wait("document.querySelector('.seat-steps table')")
+        shown.take("seat", "#result-part")
+        shown.browser.run("(() => { document.querySelector('details.bounds').open = true; })()")
+        shown.browser.wait("document.querySelector('table.missing')")
+        shown.take("margins", "details.bounds")
 
 
 def printed(page):
-    shown = Pictured(page, "de")
-    shown.give("made-up.csv", election.made_up())
-    with tempfile.TemporaryDirectory() as folder:
-        path = pathlib.Path(folder) / "page.pdf"
-        path.write_bytes(shown.browser.paper())
-        subprocess.run(["pdftoppm", "-png", "-r", "70", "-l", "2", str(path), str(ASIDE / "print-de")], check=True)
-        shutil.move(ASIDE / "print-de-1.png", TO / "print-de-1.png")
-    shown.browser.close()
+    """Two sheets of paper."""
+    with Pictured(page, "de") as shown:
+        shown.give("made-up.csv", election.made_up())
+        with tempfile.TemporaryDirectory() as folder:
+            path = pathlib.Path(folder) / "page.pdf"
+            path.write_bytes(shown.browser.paper())
+            subprocess.run(["pdftoppm", "-png", "-r", "70", "-l", "2", str(path), str(ASIDE / "print-de")], check=True)
+            shutil.move(ASIDE / "print-de-1.png", TO / "print-de-1.png")
+
+
+# ---- pictures of pictures, where ImageMagick is there to make them
 
 
 def smaller():
-    """Leaves the pictures of docs/page.md 64 colours, where ImageMagick is there to do it."""
-    if shutil.which("convert"):
-        for path in TO.glob("*.png"):
-            subprocess.run(["convert", str(path), "-strip", "+dither", "-colors", "64", str(path)], check=True)
+    """Leaves the pictures of docs/page.md 64 colours."""
+    for path in TO.glob("*.png"):
+        subprocess.run(["convert", str(path), "-strip", "+dither", "-colors", "64", str(path)], check=True)
+
+
+def side_by_side():
+    """A sheet for each use: its pictures in both languages and schemes, at one width a row."""
+    for use in (use.__name__.replace("_", "-") for use in USES):
+        rows = []
+        for width in WIDTHS:
+            names = ["%s-%s-%s-%d" % (use, *look, width) for look in itertools.product(LANGUAGES, SCHEMES)]
+            rows += [str((TO if name in SHOWN else ASIDE) / (name + ".png")) for name in names]
+        subprocess.run(["montage", *rows, "-tile", "4x3", "-geometry", "560x560+6+6", str(ASIDE / ("all-" + use + ".png"))], check=True)
 
 
 def taken(page):
     TO.mkdir(exist_ok=True)
     ASIDE.mkdir(parents=True, exist_ok=True)
-    for take in (elections, made_up, compared, refused, tie, parts, printed):
+    for take in (every_look, start, what_if, refused_book, parts, printed):
         take(page)
-    smaller()
+    if shutil.which("montage"):
+        side_by_side()
+        smaller()

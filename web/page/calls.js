@@ -1,39 +1,40 @@
-// The page's calls of the desk: by a worker, or by the page itself where the browser lets it have none. All calls of the module go through `ask`.
+// The page's calls of the desk: by workers, or by the page itself where the browser lets it have none. All calls of the module go through `ask`.
 const calls = (() => {
   const STARTING = 30000; // milliseconds after which a worker that has not said that it is ready is given up
-  const waiting = new Map();
-  let number = 0, module = null, worker = null, own = null, starts = 0;
+  const MOST_LANES = Math.min(2, navigator.hardwareConcurrency || 1);
+  const lanes = []; // each a worker with the calls that it has not answered yet
+  let number = 0, module = null, own = null, starts = 0;
 
-  const finish = (key, answer) => {
-    const call = waiting.get(key);
-    waiting.delete(key);
+  const finish = (lane, key, answer) => {
+    const call = lane.waiting.get(key);
+    lane.waiting.delete(key);
     if (call) call.resolve(answer);
   };
 
   const failed = (status, error) => ({ status, bytes: new Uint8Array(0), took: 0, error });
 
   // Waits for the lock that a worker holds as long as it lives: the browser gives it away when the worker has died.
-  const watch = (made, lock) => {
-    if (lock) navigator.locks.request(lock, () => (made === worker ? replace() : null)).catch(() => null);
+  const watch = (lane, made, lock) => {
+    if (lock) navigator.locks.request(lock, () => (made === lane.worker ? replace(lane) : null)).catch(() => null);
   };
 
   // A worker that has the module, or null where there can be none.
-  const started = () =>
+  const started = lane =>
     new Promise(resolve => {
       try {
         const made = new Worker(URL.createObjectURL(new Blob([byId("worker").textContent], { type: "text/javascript" })));
         made.onerror = event => {
           event.preventDefault();
-          if (made === worker) replace();
+          if (made === lane.worker) replace(lane);
           else resolve(null);
         };
         made.onmessage = ready => {
           made.onmessage = event => {
             const { number, ...answer } = event.data;
-            finish(number, answer);
+            finish(lane, number, answer);
           };
           resolve(made);
-          watch(made, ready.data.lock);
+          watch(lane, made, ready.data.lock);
         };
         setTimeout(() => resolve(null), STARTING);
         made.postMessage({ module, lock: "seatlaw " + Math.random() });
@@ -43,32 +44,57 @@ const calls = (() => {
       }
     });
 
-  // Makes the module ready.
-  const start = async () => {
-    module = await WebAssembly.compile(await unpacked("module"));
-    worker = await started();
-    if (!worker) own = new Desk(module);
+  const send = (lane, call) => lane.worker.postMessage({ number: call.number, name: call.name, inputs: call.inputs });
+
+  const give = (lane, call) => {
+    lane.waiting.set(call.number, call);
+    if (lane.worker) send(lane, call);
   };
 
-  const send = call => worker.postMessage({ number: call.number, name: call.name, inputs: call.inputs });
-
-  // Puts another worker in place of one that died, and asks it what is still open; what was asked twice is given up.
-  const replace = async () => {
-    worker.terminate();
-    worker = null;
-    worker = await started();
-    if (!worker) own = new Desk(module);
-    for (const call of [...waiting.values()]) {
-      call.tries += 1;
-      if (call.tries > 2) finish(call.number, failed(LOST, "the worker ended twice"));
-      else if (own) answerHere(call);
-      else send(call);
+  // One lane more. Where it can have no worker, its calls go to the first one.
+  const addLane = async lane => {
+    lanes.push(lane);
+    lane.worker = await started(lane);
+    if (!lane.worker) lanes.splice(lanes.indexOf(lane), 1);
+    for (const call of lane.waiting.values()) {
+      if (lane.worker) send(lane, call);
+      else give(lanes[0], call);
     }
   };
 
-  const answerHere = call => {
+  // Makes the module ready.
+  const start = async () => {
+    module = await WebAssembly.compile(await unpacked("module"));
+    await addLane({ worker: null, waiting: new Map() });
+    if (!lanes.length) own = new Desk(module);
+  };
+
+  // Puts another worker in place of one that died, and asks it what is still open; what was asked twice is given up.
+  const replace = async lane => {
+    lane.worker.terminate();
+    lane.worker = null;
+    lane.worker = await started(lane);
+    if (!lane.worker) own = new Desk(module);
+    for (const call of [...lane.waiting.values()]) {
+      call.tries += 1;
+      if (call.tries > 2) finish(lane, call.number, failed(LOST, "the worker ended twice"));
+      else if (own) answerHere(lane, call);
+      else send(lane, call);
+    }
+  };
+
+  const answerHere = (lane, call) => {
     const began = performance.now();
-    finish(call.number, { ...own.call(call.name, call.inputs), took: performance.now() - began });
+    finish(lane, call.number, { ...own.call(call.name, call.inputs), took: performance.now() - began });
+  };
+
+  // The lane for a call: one that has nothing to do, a new one, or the one that has the least to do.
+  const laneFor = () => {
+    const free = lanes.find(lane => lane.waiting.size === 0);
+    if (free || lanes.length >= MOST_LANES) return free || lanes.reduce((one, other) => (other.waiting.size < one.waiting.size ? other : one));
+    const lane = { worker: null, waiting: new Map() };
+    addLane(lane);
+    return lane;
   };
 
   // Asks for a call with these inputs, arrays of bytes: a promise of its status and its bytes.
@@ -76,18 +102,19 @@ const calls = (() => {
     new Promise(resolve => {
       number += 1;
       const call = { number, name, inputs, resolve, tries: 1 };
-      waiting.set(number, call);
-      if (own) answerHere(call);
-      else if (worker) send(call);
+      const lane = own ? { worker: null, waiting: new Map() } : laneFor();
+      give(lane, call);
+      if (own) answerHere(lane, call);
     });
 
   // Ends what is under way: each open call answers that it was cancelled.
   const cancel = async () => {
-    for (const key of [...waiting.keys()]) finish(key, failed(CANCELLED, "cancelled"));
-    if (worker) await replace();
+    const busy = lanes.filter(lane => lane.waiting.size > 0);
+    for (const lane of busy) for (const key of [...lane.waiting.keys()]) finish(lane, key, failed(CANCELLED, "cancelled"));
+    await Promise.all(busy.filter(lane => lane.worker).map(replace));
   };
 
-  return { start, ask, cancel, hasWorker: () => worker !== null, worker: () => worker, starts: () => starts };
+  return { start, ask, cancel, hasWorker: () => lanes.length > 0, worker: () => lanes[0].worker, starts: () => starts };
 })();
 
 // The bytes of a part of the page's file: they stand there as base64 of what deflate made of them.

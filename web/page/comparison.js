@@ -49,7 +49,9 @@ const comparison = (() => {
       .map(row => ({ data: { "data-party": row.party }, cells: [tables.named(row.party), ...words.map(word => cell(row[word], row[words[0]], all[word]))] }));
     rows.push({ mark: "sum", data: { "data-row": "sum" }, cells: [t("house"), ...words.map(word => cell(all[word], all[words[0]], 0))] });
     rows.push({ data: { "data-row": "majority" }, cells: [t("majority"), ...words.map(word => (typeof all[word] === "number" ? house.majorityOf(all[word]) : "–"))] });
-    rows.push({ data: { "data-row": "open" }, cells: [t("open"), ...given.books.map(book => (book.open === null ? { aligned: "–" } : book.open))] });
+    for (const key of ["beyond", "open"]) {
+      rows.push({ data: { "data-row": key }, cells: [t(key), ...given.books.map(book => (book[key] === null ? { aligned: "–" } : book[key]))] });
+    }
     rows.push({ data: { "data-row": "differs" }, cells: [el("span", { title: t("differsInHelp") }, t("differsIn")), ...given.books.map((book, i) => (i || book.fault ? stageOf(book, books[0]) : "–"))] });
     return el("section", { class: "comparison", "aria-label": t("compared") },
       el("h2", {}, t("compared")),

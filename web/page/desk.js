@@ -1,11 +1,13 @@
 "use strict";
 // The desk over the module's memory: bytes in, a status and bytes out. The page and its worker share this file.
 
-// The least and the greatest room for a text. A text that is longer than a room is asked for again with a larger one.
+// The room for a text: at first by the bytes of the inputs, so that few texts are longer. One that is longer is counted again, for a larger room.
+const ROOM_FOR_BYTE = 32;
 const LEAST_ROOM = 1 << 20;
+const FIRST_ROOM = 1 << 27;
+const MOST_ROOM = 1 << 29;
 // How many parts the text of `show` has, behind one another; any other call has one.
 const SHOWN_PARTS = 6;
-const MOST_ROOM = 1 << 29;
 // A memory that has grown beyond this is given back after the call, since a memory never shrinks.
 const KEPT_MEMORY = 1 << 28;
 // What a call answers where memory ran out, and where the room is too small.
@@ -24,6 +26,12 @@ class NoMemory extends Error {}
 
 // What an error comes to: memory that cannot be had, or anything else.
 const statusOf = error => (error instanceof NoMemory || (/^(Range|Internal)Error$/.test(error.name) && /memory|allocat/i.test(error.message)) ? NO_MEMORY : FAILED);
+
+// The room with which a text is asked for at first.
+const firstRoom = inputs => {
+  const bytes = inputs.reduce((sum, input) => sum + input.length, 0);
+  return Math.min(FIRST_ROOM, Math.max(LEAST_ROOM, ROOM_FOR_BYTE * bytes));
+};
 
 class Desk {
   constructor(code) {
@@ -60,10 +68,10 @@ class Desk {
   call(name, inputs) {
     try {
       if (!this.calls) this.calls = new WebAssembly.Instance(this.code, {}).exports;
-      let length = LEAST_ROOM;
+      let length = firstRoom(inputs);
       let answer = this.tried(name, inputs, length);
       while (answer.status === NO_ROOM && length < MOST_ROOM) {
-        length *= 8;
+        length = Math.min(MOST_ROOM, 8 * length);
         answer = this.tried(name, inputs, length);
       }
       if (this.calls.memory.buffer.byteLength > KEPT_MEMORY) this.calls = null;

@@ -52,9 +52,12 @@ const page = (() => {
     const given = { ...state.returns, base: state.base, changes: changes.copy(state.changes) };
     const { bytes } = given;
     const book = inputs.shownBook(books);
-    const result = book ? await answers.of(book, bytes) : await answers.withoutBook(bytes);
+    const counting = book ? answers.of(book, bytes) : answers.withoutBook(bytes);
+    const comparing = books.length > 1 ? answers.compared(books, bytes) : null;
+    if (comparing) comparing.catch(() => null); // it is told below, or not at all
+    const result = await counting;
     if (!isStill()) return null;
-    const compared = books.length > 1 && result.status !== 2 ? await answers.compared(books, bytes) : null;
+    const compared = comparing && result.status !== 2 ? await comparing : null;
     result.given = given;
     result.sums = await sources.sumsOf(book, bytes);
     return isStill() ? { book, result, compared } : null;

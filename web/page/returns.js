@@ -14,11 +14,27 @@ const returns = (() => {
     }
   };
 
-  // The records of a text: each with its cells, the offsets at which these and a next one would begin, and the line on which it begins. Empty lines are no
-  // records.
+  // A record of a text: the line on which it begins, and the offsets at which its cells and a next one would begin. Its cells are read when they are first
+  // asked for, since of large returns few are shown.
+  class Row {
+    constructor(text, line, starts) {
+      Object.assign(this, { text, line, starts, read: null });
+    }
+
+    cell(k) {
+      return cellOf(this.text.slice(this.starts[k], this.starts[k + 1] - 1));
+    }
+
+    get cells() {
+      if (!this.read) this.read = Array.from({ length: this.starts.length - 1 }, (_, k) => this.cell(k));
+      return this.read;
+    }
+  }
+
+  // The records of a text. Empty lines are none.
   const recordsOf = text => {
     const records = [];
-    let cells = [], starts = [], line = 1, begin = 1, quoted = false;
+    let starts = [], line = 1, begin = 1, quoted = false;
     let start = text.charCodeAt(0) === 0xfeff ? 1 : 0;
     for (let i = start; i <= text.length; i++) {
       const c = i < text.length ? text.charCodeAt(i) : 10;
@@ -26,17 +42,16 @@ const returns = (() => {
       if (c === 34 && (quoted || i === start)) quoted = !quoted;
       const ends = (c === 10 || c === 13) && (!quoted || i === text.length);
       if (ends || (c === 44 && !quoted)) {
-        if (c === 44 || cells.length || i > start) {
-          cells.push(cellOf(text.slice(start, i)));
-          starts.push(start);
-        }
+        if (c === 44 || starts.length || i > start) starts.push(start);
         start = i + 1;
       }
       if (c === 13 || (c === 10 && text.charCodeAt(i - 1) !== 13)) line += 1;
       if (ends) {
-        if (cells.length) records.push({ line: begin, cells, starts: [...starts, start] });
-        cells = [];
-        starts = [];
+        if (starts.length) {
+          starts.push(start);
+          records.push(new Row(text, begin, starts));
+          starts = [];
+        }
         begin = line;
       }
     }
@@ -46,8 +61,9 @@ const returns = (() => {
   // The names of the parties, the winners, and how many lots there are; cells that are no numbers count as 0.
   const factsOf = records => {
     const facts = { parties: [], wins: new Map(), lots: 0 };
-    for (const { cells } of records.slice(1)) {
-      const [kind, land, party, a, b, c] = cells;
+    for (const record of records.slice(1)) {
+      if (record.cell(0) === "list") continue;
+      const [kind, land, party, a, b, c] = record.cells;
       if (kind === "party") facts.parties.push(party);
       else if (kind === "win") facts.wins.set(a, { land, party, name: a, votes: number(b), of: number(c) });
       else if (kind === "lot") facts.lots += 1;

@@ -170,6 +170,7 @@ const TEXTS = {
   directShort: ["direkt", "direct"],
   singles: ["Wahlkreissieger ohne Liste", "Winners on no list"],
   vacantSeats: ["Unbesetzte Sitze", "Vacant seats"],
+  beyond: ["Sitze über der Hausgröße", "Seats beyond the house"],
   open: ["Wahlkreissieger ohne Sitz", "Winners who are not seated"],
   openNote: ["Nach dem Anteil ihrer Erststimmen, der größte zuerst; von der Seite geordnet.", "By their share of the first votes, the greatest first; ordered by the page."],
   constituency: ["Wahlkreis", "Constituency"],
