@@ -8,8 +8,10 @@ const FIRST_ROOM = 1 << 27;
 const MOST_ROOM = 1 << 29;
 // How many parts the text of `show` has, behind one another; any other call has one.
 const SHOWN_PARTS = 6;
+// The pages of 64 KiB that a memory has at first: growing is slow where a browser copies the memory for it, and a page that is not used costs nothing.
+const FIRST_PAGES = 6144n;
 // A memory that has grown beyond this is given back after the call, since a memory never shrinks.
-const KEPT_MEMORY = 1 << 28;
+const KEPT_MEMORY = 1 << 29;
 // What a call answers where memory ran out, and where the room is too small.
 const NO_MEMORY = 5;
 const NO_ROOM = 6;
@@ -37,6 +39,16 @@ class Desk {
   constructor(code) {
     this.code = code;
     this.calls = null;
+  }
+
+  // Begins with a memory of its own; where there is none of that size, it grows with what is asked for.
+  begin() {
+    this.calls = new WebAssembly.Instance(this.code, {}).exports;
+    try {
+      this.calls.memory.grow(FIRST_PAGES);
+    } catch (error) {
+      if (statusOf(error) !== NO_MEMORY) throw error;
+    }
   }
 
   // Room in the module's memory, with these bytes at its begin.
@@ -67,7 +79,7 @@ class Desk {
   // What a call answers: its status, its text, and where its parts end. After an error, and after a call that took much memory, the module begins anew.
   call(name, inputs) {
     try {
-      if (!this.calls) this.calls = new WebAssembly.Instance(this.code, {}).exports;
+      if (!this.calls) this.begin();
       let length = firstRoom(inputs);
       let answer = this.tried(name, inputs, length);
       while (answer.status === NO_ROOM && length < MOST_ROOM) {

@@ -56,6 +56,7 @@ const page = (() => {
     const comparing = books.length > 1 ? answers.compared(books, bytes) : null;
     if (comparing) comparing.catch(() => null); // it is told below, or not at all
     const result = await counting;
+    await pause();
     if (!isStill()) return null;
     const compared = comparing && result.status !== 2 ? await comparing : null;
     result.given = given;
