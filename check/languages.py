@@ -9,6 +9,7 @@ a keyword, a command, an option, a file or a column, or stands below in SAME wit
 its line. The exit status is 1 if there is one. It needs Python 3.8 or later and the built program, that of the repository if PROGRAM is not given.
 """
 import concurrent.futures
+import json
 import os
 import pathlib
 import re
@@ -25,7 +26,7 @@ SAME = {
     "German words that the English texts take over": "Land Länder Bundestag Bundeswahlgesetz Mehrheitsklausel",
     "names of the words of a command, and values of an option": "BOOK CODE NAME OUT RETURNS de en",
     "names of laws and stages of the library": "of order pool",
-    "names of formats and encodings": "ASCII BOM CSV JSON Latin SLC UTF Unicode gzip zip",
+    "names of formats and encodings": "ASCII BOM CSV HTML JSON Latin Markdown SLC UTF Unicode gzip zip",
     "names of programs, people and files": "Droop Excel Hare LibreOffice Niemeyer Windows kerg",
 }
 ALLOWED = {word for words in SAME.values() for word in words.split()}
@@ -33,10 +34,10 @@ ALLOWED = {word for words in SAME.values() for word in words.split()}
 REPORTS = ("report", "stages", "totals", "compare")
 WORD = re.compile(r"[A-Za-zÄÖÜäöüß]{2,}")
 # What is no sentence. Whole lines: a place, a line of a file and the mark below it, the example of a code, and those that no language changes. Within a line:
-# code in backticks or quotes, options, placeholders, codes of warnings, records of returns, paths, endings of files, and bytes.
-LINE = re.compile(r"^ *--> .*$|^ *\d* \|.*$|^(?:Example|Beispiel):\n(?:  .*\n)+|^(?:refused|fault|read fault|write fault)(?: .*)?$|^out of .*$", re.M)
+# the tags of HTML, code in backticks or quotes, options, placeholders, codes of warnings, records of returns, paths, endings of files, and bytes.
+LINE = re.compile(r"^ *--> .*$|^ *\d* \|.*$|^(?:Example|Beispiel):\n(?:  .*\n)+|^(?: {4}|<p><code>)?(?:refused|fault|read fault|write fault)(?: .*)?$|^out of .*$", re.M)
 CODE = re.compile(
-    r"`[^`\n]*`|'[^'\n]*'|(?<!\w)--?[a-z]+|<[A-Z]+>|\[[A-Z]+\]|\[[a-z_]+\]|\b(?:house|land|party|list|win|lot),\S*|\b[\w.-]+/[\w./-]+|\.[a-z]+\b|\b0x[0-9a-f]{2}\b"
+    r"<style>[\s\S]*?</style>|</?[a-z!][^>\n]*>|&[a-z]+;|`[^`\n]*`|'[^'\n]*'|(?<!\w)--?[a-z]+|<[A-Z]+>|\[[A-Z]+\]|\[[a-z_]+\]|\b(?:house|land|party|list|win|lot),\S*|\b[\w.-]+/[\w./-]+|\.[a-z]+\b|\b0x[0-9a-f]{2}\b"
 )
 
 
@@ -52,12 +53,19 @@ def in_language(words, language):
     return plain, {**os.environ, "LC_ALL": language}
 
 
+def sentences(error):
+    """What an error says for people, where it is JSON: the sentence of its explanation, and what to do."""
+    told = json.loads(error)["explanation"]
+    return "\n".join([told["sentence"], *told["help"]]).encode() if told else b""
+
+
 def said(words, ended):
     """What a command writes for people."""
+    error = sentences(ended.stderr) if ended.stderr.startswith(b"{") else ended.stderr
     is_text = not {"--json", "--csv"} & set(words)
     is_help = {"help", "--help", "-h"} & set(words) or not words[1:]
     shown = ended.stdout if is_help or words[1] == "explain" or (words[1] in REPORTS and is_text) else b""
-    return (shown + ended.stderr).decode(errors="replace")
+    return (shown + error).decode(errors="replace")
 
 
 def runs(program, row, folder, language):

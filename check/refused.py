@@ -42,6 +42,8 @@ COMMANDS = (
     "help count",
     "report book returns",
     "report book returns --json",
+    "report book returns --markdown",
+    "report book returns --html",
     "report book book",
     "stages book returns --csv",
     "totals returns book",

@@ -1,10 +1,12 @@
 #!/usr/bin/env python3
-"""Tries the commands that report on all examples: JSON against docs/report.schema.json, CSV by the csv module, text within 100 columns of a
-terminal, and the totals against `count` and `steps`. Not part of the gate.
+"""Tries the commands that report on all examples: JSON against docs/report.schema.json, CSV by the csv module, HTML by the html module and against
+Markdown, text within 100 columns of a terminal, and the totals against `count` and `steps`. Not part of the gate.
 
     python3 check/report.py [PROGRAM]
 """
 import csv
+import fractions
+import html.parser
 import io
 import json
 import os
@@ -73,7 +75,8 @@ def fits(value, schema, where):
         return [f"{where}: {value!r} is not among {schema['enum']}"]
     if "const" in schema and value != schema["const"]:
         return [f"{where}: {value!r} is not {schema['const']}"]
-    if isinstance(value, (dict, list)) and not schema.get("minItems", 0) <= len(value) <= schema.get("maxProperties", len(value)):
+    most = schema.get("maxProperties", schema.get("maxItems"))
+    if isinstance(value, (dict, list)) and not schema.get("minItems", 0) <= len(value) <= (len(value) if most is None else most):
         return [f"{where}: has {len(value)} members"]
     if "minimum" in schema and isinstance(value, int) and value < schema["minimum"]:
         return [f"{where}: {value!r} is too small"]
@@ -109,6 +112,67 @@ def width(text):
     return wide
 
 
+class Page(html.parser.HTMLParser):
+    """The headings of a page of HTML, and the rows of each of its tables."""
+
+    def __init__(self, text):
+        super().__init__()
+        self.titles, self.tables, self.into = [], [], None
+        self.feed(text)
+
+    def handle_starttag(self, tag, attributes):
+        if tag == "h2":
+            self.into = self.titles
+        elif tag == "table":
+            self.tables.append([])
+        elif tag == "tr":
+            self.tables[-1].append([])
+        elif tag in ("th", "td"):
+            self.into = self.tables[-1][-1]
+        if tag in ("h2", "th", "td"):
+            self.into.append("")
+
+    def handle_endtag(self, tag):
+        if tag in ("h2", "th", "td"):
+            self.into = None
+
+    def handle_data(self, data):
+        if self.into is not None:
+            self.into[-1] += data
+
+
+def plain(text):
+    """A text of Markdown without its backslashes."""
+    return re.sub(r"\\(.)", r"\1", text)
+
+
+def markdown(text):
+    """The headings of a text of Markdown, and the rows of each of its tables."""
+    titles, tables = [], []
+    for line in text.splitlines():
+        if line.startswith("## "):
+            titles.append(plain(line[3:]))
+            tables.append([])
+        elif line.startswith("| "):
+            tables[-1].append([plain(cell[1:-1]) for cell in re.findall(r"((?:[^|\\]|\\.)*)\|", line[1:])])
+    return titles, tables
+
+
+def check_pages(line, words, status, text):
+    """Markdown and HTML have the same tables, those of the text; or the line of a refusal."""
+    status_markdown, text_markdown = run(*words, "--markdown")
+    status_html, text_html = run(*words, "--html")
+    check(status == status_markdown == status_html, f"{line}: statuses differ")
+    if text.startswith("refused "):
+        check(text == text_markdown == text_html, f"{line}: refusals differ")
+        return
+    page = Page(text_html)
+    check((page.titles, page.tables) == markdown(text_markdown), f"{line}: Markdown and HTML differ")
+    blocks = [block.splitlines() for block in text.split("\n\n") if block and not block.startswith("fault ")]
+    told = [(block[0], len(block) - 1) for block in blocks]
+    check(told == [(title, len(table)) for title, table in zip(page.titles, page.tables)], f"{line}: text and HTML differ")
+
+
 def forms(*words):
     """All forms of a command, each by itself; and its JSON, if there is one."""
     line = " ".join(words)
@@ -119,13 +183,15 @@ def forms(*words):
     status_json, text_json = run(*words, "--json")
     status_csv, text_csv = run(*words, "--csv")
     check(status == status_json == status_csv, f"{line}: statuses differ")
+    check_pages(line, words, status, text)
     report = json.loads(text_json)
     for wrong in fits(report, SCHEMA, line)[:5]:
         check(False, wrong)
     if refused:
         check(text == text_csv == report["fault"] + "\n", f"{line}: refusals differ")
         return status, text, None
-    check(report["command"] == words[0] and report["status"] == status, f"{line}: command or status")
+    command = " ".join(words[:2]) if words[1] == "--short" else words[0]
+    check(report["command"] == command and report["status"] == status, f"{line}: command or status")
     tables = {}
     for row in csv.reader(io.StringIO(text_csv)):
         tables.setdefault(row[0], []).append(row[1:])
@@ -189,6 +255,23 @@ def check_totals(book, returns, report):
     check([row["constituency"] for row in tables["open"]] == said["open"], f"{line}: open")
 
 
+def check_press(book, returns):
+    """The page for the press has the seats of count, the parties with the most first, and no row of zeros."""
+    line = f"{book} {returns} --short"
+    _, _, said = counted(book, returns)
+    _, _, report = forms("report", "--short", book, returns)
+    *parties, total = report["tables"]["press"]
+    check(total["seats"] == said["total"], f"{line}: total")
+    told = {row["party"]: (row["seats"], row["direct"]) for row in parties}
+    check(all(said["party"][party] == seats for party, seats in told.items()), f"{line}: parties {told}")
+    check(all(party in told for party, (seats, _) in said["party"].items() if seats), f"{line}: a party is missing")
+    check([row["seats"] for row in parties] == sorted((row["seats"] for row in parties), reverse=True), f"{line}: order")
+    check(all(row["seats"] or row["won"] for row in parties), f"{line}: a row of zeros")
+    for row in [*parties, total]:
+        exact = fractions.Fraction(100 * row["valid"], total["valid"])
+        check(row["percent"] == f"{int(exact * 10 + fractions.Fraction(1, 2)) / 10:.1f}", f"{line}: percent of {row['party']}")
+
+
 def check_steps(book, returns, report):
     """The seats of each entry of a scope are the lines that steps has for it, and the divisor lies between the bounds."""
     line = f"{book} {returns}"
@@ -212,8 +295,12 @@ def check_steps(book, returns, report):
     check(told == seats, f"{line}: seats by scope {told} {seats}")
     for row in report["tables"]["scopes"]:
         scope = (row["stage"], row["scope"])
-        if scope in bounds and row["divisor"] is not None:
-            check_divisor(line, row, bounds[scope])
+        if scope in bounds:
+            check(row["lot"] == (bounds[scope][-1] == "lot"), f"{line}: a lot in {scope}")
+            if row["lot"]:
+                check_border(line, row, bounds[scope])
+            elif row["divisor"] is not None:
+                check_divisor(line, row, bounds[scope])
 
 
 def parts(fraction):
@@ -231,6 +318,12 @@ def check_divisor(line, row, rest):
         check(divisor * den < num * unit, f"{line}: the divisor is above the last quotient")
     num, den = parts(rest[1])
     check(divisor * den > num * unit, f"{line}: the divisor is below the next quotient")
+
+
+def check_border(line, row, rest):
+    """The divisor is the quotient that the two claims have in common, and nothing where they are infinite."""
+    shown = None if rest[0] == "inf" else str(fractions.Fraction(*parts(rest[0])))
+    check(row["divisor"] == shown, f"{line}: the divisor of equal claims")
 
 
 def check_stages(book, returns):
@@ -257,8 +350,18 @@ def check_book(book, returns):
     else:
         check_totals(book, returns, report)
         check_steps(book, returns, report)
+        check_press(book, returns)
     check_stages(book, returns)
     forms("totals", returns, book)
+
+
+def check_error(*words):
+    """An error has nothing on standard output, and as JSON on standard error a text that fits the schema."""
+    line = " ".join(words)
+    done = subprocess.run([program, *words, "--json"], cwd=TOP, capture_output=True)
+    check(done.returncode == 5 and not done.stdout, f"{line}: an error")
+    for wrong in fits(json.loads(done.stderr), SCHEMA, line)[:5]:
+        check(False, wrong)
 
 
 def check_election(book, returns, divisor, seats, quotients):
@@ -285,6 +388,8 @@ def main():
         check_book(book, returns)
     check_book("@2099", RETURNS[0])
     check_book("examples/tie/book.law", "examples/tie/book.law")
+    check_error("report", "@2023-order", "missing.csv")
+    check_error("totals", RETURNS[0], "--names", "missing.csv")
     check_election(
         "@1985", "examples/elections/2005.csv", "75970.5317",
         {"SPD": 213, "CDU": 173, "CSU": 46, "GRUENE": 51, "FDP": 61, "LINKE": 54},

@@ -50,8 +50,8 @@ class ListReport(NamedTuple):
 
 
 class Scope(NamedTuple):
-    """A scope of a distribution: `divisor` has the fewest digits that one can have; `last` won the last seat, `next` has the next claim. Both are
-    short names, more than one where claims are equal."""
+    """A scope of a distribution: `divisor` has the fewest digits that one can have, and where claims are equal it is their quotient; `last` won the
+    last seat, `next` has the next claim. Both are short names, more than one where claims are equal. `lot`: whether a lot decided between them."""
 
     stage: str
     scope: str
@@ -61,15 +61,17 @@ class Scope(NamedTuple):
     minima: bool
     votes: int
     seats: int
-    divisor: Optional[Decimal]
+    divisor: Union[Decimal, Fraction, None]
     quota: Optional[Decimal]
     quota_exact: Optional[Fraction]
     last: Optional[Tuple[str, ...]]
     next: Optional[Tuple[str, ...]]
+    lot: Optional[bool]
 
 
 class Entry(NamedTuple):
-    """An entry of a scope, a party, a Land, or a list as `LAND/PARTY`; `missing` are the votes missing for one more seat."""
+    """An entry of a scope, a party, a Land, or a list as `LAND/PARTY`; `missing` are the votes missing for one more seat, and `lot` says whether a lot
+    gave it the last seat, where one did or did not."""
 
     stage: str
     scope: str
@@ -83,6 +85,7 @@ class Entry(NamedTuple):
     seats: int
     minimum: Optional[int]
     missing: Optional[int]
+    lot: Optional[bool]
 
 
 class Covering(NamedTuple):
@@ -188,11 +191,11 @@ FRACTIONS = ("percent_exact", "quotient_exact", "quota_exact")
 def _exact(key: str, value: Any) -> Any:
     if value is None:
         return None
-    if key in DECIMALS:
-        return Decimal(value)
-    if key in FRACTIONS:
+    if key in FRACTIONS or (key in DECIMALS and "/" in value):
         over, under = map(int, value.split("/"))
         return Fraction(over, under) if under else None
+    if key in DECIMALS:
+        return Decimal(value)
     return tuple(value) if isinstance(value, list) else value
 
 
@@ -267,7 +270,7 @@ class Report(_Tables):
     explanation: Tuple[Text, ...]
 
     @property
-    def divisors(self) -> Dict[Tuple[str, str], Optional[Decimal]]:
+    def divisors(self) -> Dict[Tuple[str, str], Union[Decimal, Fraction, None]]:
         """The divisor of each scope, by the stage and the scope."""
         return {(row.stage, row.scope): row.divisor for row in self.scopes}
 
@@ -308,19 +311,21 @@ class Comparison(_Tables):
 
     books    the rulebooks
     seats    for each party, and `all`, the seats by each rulebook, by its word; the line of a fault where it gives none
+    lists    the same for each list that has seats by one of them, by its Land and its party
     """
 
     text: str
     books: Tuple[Compared, ...]
     seats: Dict[str, Dict[str, Seats]]
+    lists: Dict[Tuple[str, str], Dict[str, Seats]]
 
     def to_frame(self, kind: str = "seats") -> Frame:
-        """The rows of `books`, or of `seats` with a column for each rulebook."""
-        if kind != "seats":
+        """The rows of `books`, or of `seats` or `lists` with a column for each rulebook."""
+        if kind not in ("seats", "lists"):
             return super().to_frame(kind)
         import pandas
 
-        return pandas.DataFrame.from_dict(self.seats, orient="index", columns=[row.book for row in self.books])
+        return pandas.DataFrame.from_dict(getattr(self, kind), orient="index", columns=[row.book for row in self.books])
 
     def __repr__(self) -> str:
         return "<Comparison of %s>" % ", ".join(row.book for row in self.books)
@@ -342,9 +347,12 @@ def totals(text: str) -> Totals:
 
 def comparison(text: str) -> Comparison:
     tables = json.loads(text)["tables"]
-    seats = {}
+    seats, lists = {}, {}
     for row in tables["compare"]:
         party = row.pop("party")
         row.pop("party_name")
         seats["all" if party is None else party] = row
-    return Comparison(text, _rows(tables, "books"), seats)
+    for row in tables["list_seats"]:
+        lists[row.pop("land"), row.pop("party")] = row
+        del row["land_name"], row["party_name"]
+    return Comparison(text, _rows(tables, "books"), seats, lists)

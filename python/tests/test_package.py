@@ -10,6 +10,7 @@ import sys
 import tempfile
 import unittest
 import xml.etree.ElementTree
+from fractions import Fraction
 
 import seatlaw
 sys.path.append(str(pathlib.Path(__file__).resolve().parents[2] / "tools"))
@@ -81,6 +82,13 @@ class Results(unittest.TestCase):
         self.assertEqual(str(report.parties[0].percent), "26.139")
         self.assertEqual(report.parties[0].percent_exact * sum(row.valid for row in report.parties), 100 * 11196374)
 
+    def test_a_lot_in_a_report(self):
+        folder = EXAMPLES / "tie"
+        report = seatlaw.report(seatlaw.Rulebook.from_file(folder / "book.law"), seatlaw.Returns.from_file(folder / "drawn.csv"))
+        self.assertEqual([(row.divisor, row.lot) for row in report.scopes], [(200, True)])
+        self.assertEqual({row.entry: row.lot for row in report.entries}, {"Town/Reds": True, "Town/Blues": False, "Town/Greens": True})
+        self.assertEqual(reports._exact("divisor", "100/3"), Fraction(100, 3))
+
     def test_rows_are_those_of_the_schema(self):
         schema = json.loads((TOP / "docs" / "report.schema.json").read_text())
         for key, table in schema["properties"]["tables"]["properties"].items():
@@ -122,6 +130,7 @@ class Results(unittest.TestCase):
         self.assertEqual([row.warning for row in totals.warnings], ["house", "few_parties"])
         compared = seatlaw.compare(seatlaw.Returns.from_file(EXAMPLES / "six-laws" / "returns.csv"))
         self.assertEqual(compared.seats["B"]["@2013"], 4)
+        self.assertEqual((compared.lists["X", "B"]["@2013"], compared.lists["Y", "A"]["@2023"]), (3, 1))
         own = seatlaw.Rulebook.from_file(EXAMPLES / "first-count" / "book.law")
         self.assertEqual([row.book for row in seatlaw.compare(returns, ["@2013", own]).books], ["@2013", "book"])
 

@@ -1,8 +1,8 @@
 // Of each scope the divisor, its quotients, the last seat and the next claim; of its entries the votes missing for one more seat: as `report` has them.
 const margins = (() => {
-  // The divisor of a scope, or its quota.
+  // The divisor of a scope, of which that of equal claims may be a fraction, or its quota.
   const divisor = (row, bounds) =>
-    row.divisor !== null ? decimal(row.divisor)
+    row.divisor !== null ? row.divisor.split("/").map(decimal).join("/")
       : row.quota !== null ? t("quota", decimal(row.quota))
         : bounds && bounds.lot ? t("byLot") : "–";
 
@@ -32,12 +32,15 @@ const margins = (() => {
   const entries = (result, scope) => {
     const rows = result.report.entries.filter(row => keyOf(row) === keyOf(scope));
     const withMinima = rows.some(row => row.minimum !== null);
+    const withLot = rows.some(row => row.lot !== null);
+    const lot = row => (row.lot === null ? "–" : t(row.lot ? "seatByLot" : "noSeatByLot"));
     const number = value => (value === null ? { aligned: "–" } : value);
     const cellsOf = row => [
       names.entry(row.entry, shapes.ofRow(row)), row.votes, { aligned: row.quotient === null ? "–" : decimal(row.quotient) }, row.seats, ...(withMinima ? [number(row.minimum)] : []), number(row.missing),
+      ...(withLot ? [lot(row)] : []),
     ];
     const weight = rows.length && shapes.ofRow(rows[0]) === "land" && scope.scope === "all" ? "people" : "votes";
-    const heads = ["entry", weight, "quotient", "seats", ...(withMinima ? ["minimum"] : []), "missing"];
+    const heads = ["entry", weight, "quotient", "seats", ...(withMinima ? ["minimum"] : []), "missing", ...(withLot ? ["lot"] : [])];
     return tableWith(nameOf(scope, result.book), heads.map(head => t(head)), rows.map(row => ({ data: { "data-entry": row.entry }, cells: cellsOf(row) })), { class: "missing" });
   };
 

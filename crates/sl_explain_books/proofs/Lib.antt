@@ -1,1 +1,3 @@
 pub mod Characters
+pub mod Going
+pub mod LeftOut

@@ -7,7 +7,11 @@
 //! Where an error is `NoMemory` alone, memory ran out, and nothing else is wrong.
 #![tactic(auto)]
 
+mod clause;
+mod copies;
+mod further;
 mod grammar;
+mod left_out;
 mod meant;
 mod near;
 mod pieces;

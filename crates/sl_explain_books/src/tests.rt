@@ -10,8 +10,10 @@ mod names;
 mod node;
 mod numbers;
 
+use crate::further::add_further;
 use divisions::explain_option;
 use forms::{explain_shape, explain_two_splits};
+pub use names::around;
 use names::{explain_seats, explain_twice, explain_unknown};
 use numbers::{
     CAP, CAP_REMEDY, HOUSE, HOUSE_REMEDY, explain_seat_number, explain_share, explain_version,
@@ -21,17 +23,15 @@ use sl_ratio::NoMemory;
 use sl_stages::{Book, CheckFault};
 use std::alloc::Global;
 
-/// Explains the first test that the rulebook of a text fails.
-pub fn explain_test(
-    alloc: Global,
-    language: Language,
+/// Explains a test that the rulebook of a text fails.
+pub fn explain_fault(
+    speaker: Speaker,
     text: &[u8],
     book: &Book,
     fault: CheckFault,
 ) -> Result<Explanation, NoMemory>
     ensures { IfOk result (λ x. x.code ≡ Some (test_code fault)) }
 {
-    let speaker = Speaker { alloc, language };
     match fault {
         CheckFault::Version(at) => explain_version(speaker, text, book, at),
         CheckFault::HouseRange(at) => {
@@ -47,4 +47,20 @@ pub fn explain_test(
         CheckFault::CapRange(at) => explain_seat_number(speaker, text, at, &CAP, &CAP_REMEDY),
         CheckFault::SeatsShape(at) => explain_seats(speaker, text, book, at),
     }
+}
+
+/// Explains the first test that the rulebook of a text fails, and says which further ones it fails with the clause of that fault left out.
+pub fn explain_test(
+    alloc: Global,
+    language: Language,
+    text: &[u8],
+    book: &Book,
+    fault: CheckFault,
+) -> Result<Explanation, NoMemory>
+    ensures { IfOk result (λ x. x.code ≡ Some (test_code fault)) }
+{
+    let speaker = Speaker { alloc, language };
+    let mut explanation = explain_fault(speaker, text, book, fault)?;
+    add_further(speaker, text, book, fault, &mut explanation)?;
+    Ok(explanation)
 }

@@ -4,6 +4,7 @@ ghost use Rattle.std.specs.Prelude.{◌≡◌, ◌<◌, IfOk, length};
 ghost use Rattle.sl_count_outcomes.specs.Fitting.{FitsJudged};
 ghost use Rattle.sl_stages.specs.declared.count.Records.TheVariants.{Kept};
 ghost use Rattle.sl_count_inputs.specs.Statuses.{status_number};
+ghost use Rattle.sl_report_commands.specs.Digests.{digests, summed_digests};
 ghost use Rattle.sl_page_calls.specs.Showing.{AreEnds};
 ghost use Rattle.sl_page_calls.specs.inner.Parts.{ArePartsOf, AreTablesOf, Hold};
 
@@ -12,12 +13,12 @@ use crate::taken::{NO_MEMORY, put};
 use crate::told::explanation_text;
 use sl_count_calls::{View, answer_of};
 use sl_count_outcomes::Judged;
-use sl_desk::{MAX_RETURNS_BYTES, Status};
+use sl_desk::Status;
 use sl_explain_calls::{Explained, explain_judged};
 use sl_explain_texts::Language;
 use sl_ratio::NoMemory;
 use sl_report_commands::{
-    Answer, DigestedInput, Shape, Show, Texts, Told, answer_judged, digested, digested_returns,
+    Answer, DigestedInput, Show, Style, Texts, Told, answer_judged, digested, digested_unjudged,
     names_of, push_digested, text_of, told_of, totals_judged,
 };
 use std::alloc::Global;
@@ -57,19 +58,14 @@ struct Beside<'a> {
 fn json_of(
     alloc: Global,
     command: &'static str,
+    language: Language,
     answer: &Result<Answer, Answer>,
     beside: Beside<'_>,
 ) -> Result<Vec<u8>, NoMemory> {
+    let style = Style::json(language);
     match answer {
-        Ok(answer) => text_of(
-            alloc,
-            command,
-            Shape::Json,
-            answer,
-            beside.inputs,
-            beside.told,
-        ),
-        Err(refusal) => text_of(alloc, command, Shape::Json, refusal, beside.inputs, None),
+        Ok(answer) => text_of(alloc, command, style, answer, beside.inputs, beside.told),
+        Err(refusal) => text_of(alloc, command, style, refusal, beside.inputs, None),
     }
 }
 
@@ -89,21 +85,14 @@ fn beside_totals<'a>(
     }
 }
 
-// The digest of returns that are not judged, if they are not too long.
-fn digested_unjudged(returns: &[u8]) -> Option<DigestedInput> {
-    if returns.len() > MAX_RETURNS_BYTES {
-        None
-    } else {
-        digested_returns(returns, None)
-    }
-}
-
 // The digests of the inputs of totals, which read the returns also after a refused rulebook.
 fn digested_totals(
     alloc: Global,
     judged: &Judged<'_>,
     texts: Texts<'_>,
-) -> Result<Vec<DigestedInput>, NoMemory> {
+) -> Result<Vec<DigestedInput>, NoMemory>
+    ensures { IfOk result (λ inputs. digests inputs.items ≡ summed_digests judged.now texts.entry.book.now texts.entry.returns.now) }
+{
     let mut inputs = digested(alloc, judged, texts)?;
     if let Judged::BookRefused(_) = judged {
         push_digested(&mut inputs, digested_unjudged(texts.returns))?;
@@ -146,9 +135,9 @@ pub(crate) fn parts_of(
         status: tables.status,
         seats: tables.seats,
         steps: tables.steps,
-        report: json_of(alloc, "report", &report, beside)?,
-        stages: json_of(alloc, "stages", &stages, beside)?,
-        totals: json_of(alloc, "totals", &totals, also)?,
+        report: json_of(alloc, "report", language, &report, beside)?,
+        stages: json_of(alloc, "stages", language, &stages, beside)?,
+        totals: json_of(alloc, "totals", language, &totals, also)?,
         explanation: explanation_text(alloc, language, judged, &explained, texts)?,
     })
 }

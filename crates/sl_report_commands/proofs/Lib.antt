@@ -1,1 +1,2 @@
 pub mod Summed
+pub mod DigestSteps

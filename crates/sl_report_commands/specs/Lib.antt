@@ -3,4 +3,5 @@ pub mod Statuses
 pub mod Reports
 pub mod Compared
 pub mod Summaries
+pub mod Digests
 pub mod inner

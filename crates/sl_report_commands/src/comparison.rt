@@ -1,21 +1,24 @@
 //! The command that shows several rulebooks side by side: `compare`.
 
 ghost use Rattle.std.specs.List.{AllZip};
-ghost use Rattle.std.specs.Prelude.{◌⊎◌, ◌≡◌, Any, IfErr, IfOk, is_some, map};
+ghost use Rattle.std.specs.Prelude.{◌⊎◌, ◌≡◌, ◌++◌, Any, IfErr, IfOk, OnOk, is_some, map};
 ghost use Rattle.sl_count_inputs.specs.Judging.{input_of};
 ghost use Rattle.sl_count_inputs.specs.declared.status.Status.TheVariants.{Done, Refused};
+ghost use Rattle.sl_report_commands.specs.Digests.{compared_digests, digests, is_whole, named_digest};
 ghost use Rattle.sl_report_commands.specs.Compared.{IsComparedTo, ShowsCompared, counted_of, fault_of};
 ghost use Rattle.sl_report_commands.specs.Summaries.{IsComparison, IsGoodNamed, IsRefusal, IsRefusedBook};
 ghost use Rattle.sl_report_commands.specs.inner.Answered.{IsComparisonBy, IsComparisonOn, IsNamedComparison};
 ghost use Rattle.sl_report_forms.specs.Tables.{table_of};
 
+use crate::further::add_refused;
 use crate::sums::ReturnsVerdict;
-use crate::written::{Reason, Reasoned, Style, Written, bytes_of, text_of};
+use crate::written::{Reasoned, Style, Written, bytes_of, digested_unjudged, push_digested};
 use sl_count_inputs::{
-    BookText, Input, MAX_BOOK_BYTES, MAX_RETURNS_BYTES, RefusedBook, RefusedElection, Verdict,
-    judge_book, judge_returns,
+    BookText, Input, MAX_BOOK_BYTES, RefusedBook, RefusedElection, Verdict, judge_book,
+    judge_returns,
 };
 use sl_count_outcomes::{End, Records, outcome_of};
+use sl_explain_calls::{Explained, explain_book};
 use sl_explain_texts::Language;
 use sl_laws::{STATUTES, law};
 use sl_ratio::NoMemory;
@@ -82,23 +85,24 @@ pub fn compare_judged(
     comparison_answer(alloc, all.as_slice(), returns, full, language)
 }
 
-// A book that is refused, with its bytes.
+// A book that is refused, and the books after it.
 #[derive(Drop)]
-struct BookRefusal<'a> {
-    text: &'a [u8],
+struct BookRefusal<'a, 'b> {
+    named: &'b Named<'a>,
     refused: RefusedBook<'a>,
+    further: &'b [Named<'a>],
 }
 
 // The good ones of some books, or the first that is refused.
-fn good_books<'a>(
+fn good_books<'a, 'b>(
     alloc: Global,
-    books: &[Named<'a>],
-) -> Result<Result<Vec<Compared<'a>>, BookRefusal<'a>>, NoMemory>
+    books: &'b [Named<'a>],
+) -> Result<Result<Vec<Compared<'a>>, BookRefusal<'a, 'b>>, NoMemory>
     ensures good { IfOk result (λ r. IfOk r (λ good. AllZip IsGoodNamed books.now good.items)) }
     ensures refused { IfOk result (λ r. IfErr r (λ _. Any (λ n. IsRefusedBook (input_of n.book)) books.now)) }
 {
     let mut good: Vec<Compared<'a>> = Vec::new(alloc);
-    for named in books {
+    for (number, named) in books.iter().enumerate() {
         match judge_book(alloc, named.book)? {
             Verdict::Good(book) => good.push(Compared {
                 word: named.word,
@@ -106,8 +110,9 @@ fn good_books<'a>(
             })?,
             Verdict::Refused(refused) => {
                 return Ok(Err(BookRefusal {
-                    text: bytes_of(named.book),
+                    named,
                     refused,
+                    further: &books[number + 1..],
                 }));
             }
         }
@@ -132,31 +137,77 @@ fn compare_named(
 }
 
 // Whether a book has bytes: there is a statute of its name, and it is not too long.
-fn is_whole(book: BookText<'_>) -> bool {
+fn is_whole(book: BookText<'_>) -> bool
+    ensures { result ≡ is_whole (input_of book.entry) }
+{
     match book {
         BookText::Library(name) => law(name).is_some(),
         BookText::Text(text) => text.len() <= MAX_BOOK_BYTES,
     }
 }
 
+// Adds the digest of a book that has bytes.
+fn push_named(
+    alloc: Global,
+    inputs: &mut Vec<DigestedInput>,
+    named: Named<'_>,
+) -> Result<(), NoMemory>
+    ensures { OnOk result (digests inputs.new.items ≡ digests inputs.old.items ++ named_digest named.entry) }
+{
+    if is_whole(named.book) {
+        let word = String::from_str(alloc, named.word)?;
+        let bytes = bytes_of(named.book);
+        inputs.push(DigestedInput::new(Input::Book.word(), Some(word), bytes))?;
+    }
+    Ok(())
+}
+
 // The digests of some books and of returns that have bytes.
+#[tactic(auto, using(crate::proofs::DigestSteps::digests_next))]
 fn digested_books(
     alloc: Global,
     books: &[Named<'_>],
     returns: &[u8],
-) -> Result<Vec<DigestedInput>, NoMemory> {
-    let mut inputs = Vec::new(alloc);
+) -> Result<Vec<DigestedInput>, NoMemory>
+    ensures { IfOk result (λ inputs. digests inputs.items ≡ compared_digests books.now returns.now) }
+{
+    let mut inputs: Vec<DigestedInput> = Vec::new(alloc);
     for named in books {
-        if is_whole(named.book) {
-            let word = String::from_str(alloc, named.word)?;
+        push_named(alloc, &mut inputs, *named)?;
+    }
+    push_digested(&mut inputs, digested_unjudged(returns))?;
+    Ok(inputs)
+}
+
+// Adds a line for each of some books that is refused.
+fn add_all_refused(
+    alloc: Global,
+    language: Language,
+    explained: &mut Explained,
+    books: &[Named<'_>],
+) -> Result<(), NoMemory> {
+    for named in books {
+        if let Verdict::Refused(refused) = judge_book(alloc, named.book)? {
             let bytes = bytes_of(named.book);
-            inputs.push(DigestedInput::new(Input::Book.word(), Some(word), bytes))?;
+            add_refused(alloc, language, explained, named.word, bytes, &refused)?;
         }
     }
-    if returns.len() <= MAX_RETURNS_BYTES {
-        inputs.push(DigestedInput::new(Input::Returns.word(), None, returns))?;
-    }
-    Ok(inputs)
+    Ok(())
+}
+
+// The answer that refuses a book, with a line for each refused one of the books after it.
+fn refuse_book<'a>(
+    alloc: Global,
+    language: Language,
+    refusal: &BookRefusal<'a, '_>,
+) -> Result<Reasoned<'a>, NoMemory>
+    ensures { IfOk result (λ r. IsRefusal r.answer.status (map table_of r.answer.sheets.items)) }
+{
+    let bytes = bytes_of(refusal.named.book);
+    let mut explained = explain_book(alloc, language, bytes, &refusal.refused)?;
+    add_all_refused(alloc, language, &mut explained, refusal.further)?;
+    let line = refusal.refused.why().line(alloc)?;
+    Ok(Reasoned::refused(alloc, line, explained, bytes))
 }
 
 // Several books on good returns, side by side, or the answer that refuses the first that is not good, or the names.
@@ -174,9 +225,7 @@ fn compare_on<'a>(
             answer: compare_named(alloc, good, returns, names, language)?,
             reason: None,
         }),
-        Err(BookRefusal { text, refused }) => {
-            Reasoned::refused_book(alloc, language, text, &refused)
-        }
+        Err(refusal) => refuse_book(alloc, language, &refusal),
     }
 }
 
@@ -190,10 +239,15 @@ fn refuse<'a>(
 ) -> Result<Reasoned<'a>, NoMemory>
     ensures { IfOk result (λ r. IsRefusal r.answer.status (map table_of r.answer.sheets.items)) }
 {
-    if let Some(first) = books.first()
-        && let Verdict::Refused(why) = judge_book(alloc, first.book)?
+    if let Some((named, further)) = books.split_first()
+        && let Verdict::Refused(refused) = judge_book(alloc, named.book)?
     {
-        return Reasoned::refused_book(alloc, language, bytes_of(first.book), &why);
+        let refusal = BookRefusal {
+            named,
+            refused,
+            further,
+        };
+        return refuse_book(alloc, language, &refusal);
     }
     Reasoned::refused_returns(alloc, language, returns, refused)
 }
@@ -216,7 +270,8 @@ fn compare_by<'a>(
 }
 
 /// Several books on the same returns, side by side. Inputs that `count` refuses are refused by the same line, the first of the books before the
-/// returns, and these before the other books; a legal fault stands in its column. Without a book the table has no column.
+/// returns, and these before the other books. The explanation of a refused book has a line for each later one that is refused. A legal fault stands
+/// in its column. Without a book the table has no column.
 pub fn compare(
     alloc: Global,
     books: &[Named<'_>],
@@ -228,24 +283,8 @@ pub fn compare(
 {
     let inputs = digested_books(alloc, books, returns)?;
     let judged = judge_returns(alloc, returns)?;
-    let Reasoned { answer, reason } = compare_by(
-        alloc,
-        books,
-        &judged,
-        returns,
-        names,
-        style.language,
-    )?;
-    let told = reason.as_ref().map(Reason::told);
-    let text = text_of(
-        alloc,
-        "compare",
-        style.shape,
-        &answer,
-        inputs.as_slice(),
-        told,
-    )?;
-    Ok(Written { answer, text })
+    let compared = compare_by(alloc, books, &judged, returns, names, style.language)?;
+    Ok(compared.written(alloc, "compare", style, inputs.as_slice())?)
 }
 
 /// The statutes of the library on good returns, side by side, each by its name after `@`, with the full names of a text.

@@ -3,14 +3,15 @@
 ghost use Rattle.std.specs.Prelude.{◌≡◌, IfErr, IfOk, false, is_some, map, option_map};
 ghost use Rattle.std.specs.Result.{is_ok};
 ghost use Rattle.sl_count_inputs.specs.Judging.{input_of};
+ghost use Rattle.sl_report_commands.specs.Digests.{digests, totals_digests};
 ghost use Rattle.sl_report_commands.specs.Summaries.{IsRefusal, IsTotals, IsTotalsOfJudged};
 ghost use Rattle.sl_report_commands.specs.inner.Answered.{IsJudgedBook, IsNamedTotals, IsTotalsBy, IsTotalsOn};
 ghost use Rattle.sl_report_forms.specs.Tables.{table_of};
 
 use crate::counts::{again, refusal_line};
 use crate::written::{
-    Reason, Reasoned, Style, Texts, Written, bytes_of, digested_book, digested_returns,
-    push_digested, refusal_of, text_of,
+    Reasoned, Style, Texts, Written, bytes_of, digested_book, digested_returns, push_digested,
+    refusal_of,
 };
 use sl_count_inputs::{BookText, RefusedBook, RefusedElection, Verdict, judge_book, judge_returns};
 use sl_count_outcomes::Judged;
@@ -124,7 +125,9 @@ fn digested_totals(
     book: Option<&BookVerdict<'_>>,
     returns: &ReturnsVerdict,
     texts: Texts<'_>,
-) -> Result<Vec<DigestedInput>, NoMemory> {
+) -> Result<Vec<DigestedInput>, NoMemory>
+    ensures { IfOk result (λ inputs. digests inputs.items ≡ totals_digests (option_map (λ v. v.now) book.entry) returns.now texts.entry.book.now texts.entry.returns.now) }
+{
     let mut inputs = Vec::new(alloc);
     if let Some(verdict) = book {
         push_digested(
@@ -178,22 +181,6 @@ pub fn totals(
     let book = judged_book(alloc, book)?;
     let returns = judge_returns(alloc, returns)?;
     let inputs = digested_totals(alloc, book.as_ref(), &returns, texts)?;
-    let Reasoned { answer, reason } = totals_by(
-        alloc,
-        &book,
-        &returns,
-        texts,
-        names,
-        style.language,
-    )?;
-    let told = reason.as_ref().map(Reason::told);
-    let text = text_of(
-        alloc,
-        "totals",
-        style.shape,
-        &answer,
-        inputs.as_slice(),
-        told,
-    )?;
-    Ok(Written { answer, text })
+    let totals = totals_by(alloc, &book, &returns, texts, names, style.language)?;
+    Ok(totals.written(alloc, "totals", style, inputs.as_slice())?)
 }

@@ -4,7 +4,7 @@ ghost use Rattle.std.specs.Prelude.{◌≡◌};
 ghost use Rattle.sha2.specs.Sha256.{sha256};
 
 use sha2::{Digest, Sha256};
-use sl_explain_texts::Explanation;
+use sl_explain_texts::{Explanation, Language};
 
 /// An input of a command: its kind, of one of several rulebooks the word that names it, and the SHA-256 of its bytes.
 #[derive(Drop)]
@@ -35,10 +35,11 @@ pub struct Told<'a> {
     pub explanation: &'a Explanation,
 }
 
-/// What an answer says beside its tables, whatever they are: the command, its inputs, and why there is no table.
+/// What an answer says beside its tables, whatever they are: the command, its language, its inputs, and why there is no table.
 #[derive(Clone, Copy)]
 pub struct Heading<'a> {
     pub command: &'static str,
+    pub language: Language,
     pub inputs: &'a [DigestedInput],
     pub told: Option<Told<'a>>,
 }

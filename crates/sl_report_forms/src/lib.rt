@@ -1,7 +1,7 @@
-//! Sheets of rows, and their forms: aligned text, comma-separated values, and JSON.
+//! Sheets of rows, and their forms: aligned text, Markdown, HTML, comma-separated values, and JSON.
 //!
 //! Stands on `sl_explain_texts`; used by the room report. Proved: what stands in the cells of each row, and the digest of
-//! an input. Only tested: the three forms.
+//! an input. Only tested: the five forms.
 //!
 //! Where an error is `NoMemory` alone, memory ran out, and nothing else is wrong.
 #![tactic(auto)]
@@ -9,15 +9,20 @@
 mod cell;
 mod comma_form;
 mod heading;
+mod html_form;
 mod json_form;
 mod json_heading;
 mod json_values;
+mod markdown_form;
 mod sheet;
+mod shown;
 mod text_form;
 
 pub use cell::Cell;
 pub use comma_form::comma_text;
 pub use heading::{DigestedInput, Heading, Told};
+pub use html_form::html_text;
 pub use json_form::json_text;
+pub use markdown_form::markdown_text;
 pub use sheet::{Form, Head, Look, Row, Sheet};
 pub use text_form::aligned_text;

@@ -1,10 +1,15 @@
 //! Sheets as aligned text, by the columns that a terminal needs for each character.
 
-use crate::cell::Cell;
-use crate::sheet::{Head, Look, Sheet};
+use crate::sheet::{Look, Sheet};
+use crate::shown::{Shown, shown_of};
 use sl_base_no_memory::NoMemory;
 use std::alloc::Global;
 use unicode_width::{UnicodeWidthChar, UnicodeWidthStr};
+
+// The width up to which no text is cut, and the same for a table that would be wider than the first even with its texts cut.
+const NARROW: usize = 80;
+
+const WIDE: usize = 100;
 
 // How a column looks, and the columns of a terminal that it takes.
 #[derive(Clone, Copy)]
@@ -37,91 +42,67 @@ fn limited(alloc: Global, text: &str, most: usize) -> Result<String, NoMemory> {
     Ok(short)
 }
 
-// What is shown of a cell.
-fn shown(alloc: Global, look: Look, cell: &Cell) -> Result<String, NoMemory> {
-    let text = cell.shown(alloc)?;
+// A text as it is cut in a column.
+fn cut(alloc: Global, look: Look, text: &str) -> Result<String, NoMemory> {
     match look {
-        Look::Text(most) => limited(alloc, text.as_str(), most),
-        Look::Hidden | Look::Number => Ok(text),
+        Look::Text(most) => limited(alloc, text, most),
+        Look::Hidden | Look::Number => Ok(String::from_str(alloc, text)?),
     }
 }
 
-fn is_hidden(look: Look) -> bool {
-    matches!(look, Look::Hidden)
-}
-
-// The titles of the columns that are shown.
-fn titles(alloc: Global, heads: &[Head]) -> Result<Vec<String>, NoMemory> {
-    let mut titles = Vec::new(alloc);
-    for head in heads {
-        if !is_hidden(head.look) {
-            titles.push(String::from_str(alloc, head.title.as_str())?)?;
-        }
-    }
-    Ok(titles)
-}
-
-// Adds the text of a cell, if its column is shown.
-fn push_shown(
-    alloc: Global,
-    texts: &mut Vec<String>,
-    look: Look,
-    cell: &Cell,
-) -> Result<(), NoMemory> {
-    if !is_hidden(look) {
-        texts.push(shown(alloc, look, cell)?)?;
-    }
-    Ok(())
-}
-
-// The texts of a row's cells that are shown.
-fn shown_row(alloc: Global, heads: &[Head], row: &[Cell]) -> Result<Vec<String>, NoMemory> {
+fn cut_row(alloc: Global, looks: &[Look], row: &[String]) -> Result<Vec<String>, NoMemory> {
     let mut texts = Vec::new(alloc);
-    for (head, cell) in heads.iter().zip(row) {
-        push_shown(alloc, &mut texts, head.look, cell)?;
+    for (look, text) in looks.iter().zip(row) {
+        texts.push(cut(alloc, *look, text.as_str())?)?;
     }
     Ok(texts)
 }
 
-// Adds the texts of the rows.
-fn push_rows(alloc: Global, lines: &mut Vec<Vec<String>>, sheet: &Sheet) -> Result<(), NoMemory> {
-    for row in &sheet.rows {
-        lines.push(shown_row(alloc, sheet.heads.as_slice(), row.as_slice())?)?;
+// The rows with their texts cut.
+fn cut_rows(alloc: Global, shown: &Shown) -> Result<Vec<Vec<String>>, NoMemory> {
+    let mut rows = Vec::new(alloc);
+    for row in &shown.rows {
+        rows.push(cut_row(alloc, shown.looks.as_slice(), row.as_slice())?)?;
     }
-    Ok(())
+    Ok(rows)
 }
 
-// The titles and then the rows, as texts.
-fn lines(alloc: Global, sheet: &Sheet) -> Result<Vec<Vec<String>>, NoMemory> {
-    let mut lines = Vec::new(alloc);
-    lines.push(titles(alloc, sheet.heads.as_slice())?)?;
-    push_rows(alloc, &mut lines, sheet)?;
-    Ok(lines)
+// The width of the text at a place of a line, if it has one there.
+fn width_in(line: &[String], place: usize) -> usize {
+    match line.get(place) {
+        Some(text) => text.as_str().width(),
+        None => 0,
+    }
 }
 
-// The width of the widest text at a place of the lines.
-fn width_at(lines: &[Vec<String>], place: usize) -> usize {
-    let mut most = 0usize;
-    for line in lines {
-        if let Some(text) = line.get(place) {
-            most = most.max(text.as_str().width());
-        }
+// The width of the widest text at a place of the rows, or of the title there.
+fn width_at(titles: &[String], rows: &[Vec<String>], place: usize) -> usize {
+    let mut most = width_in(titles, place);
+    for row in rows {
+        most = most.max(width_in(row.as_slice(), place));
     }
     most
 }
 
-// The columns that are shown, each as wide as its widest text.
-fn columns(alloc: Global, heads: &[Head], lines: &[Vec<String>]) -> Result<Vec<Column>, NoMemory> {
+// The columns of these rows, each as wide as its widest text.
+fn columns(alloc: Global, shown: &Shown, rows: &[Vec<String>]) -> Result<Vec<Column>, NoMemory> {
     let mut columns = Vec::new(alloc);
-    for head in heads {
-        if !is_hidden(head.look) {
-            columns.push(Column {
-                look: head.look,
-                width: width_at(lines, columns.len()),
-            })?;
-        }
+    for (place, look) in shown.looks.iter().enumerate() {
+        columns.push(Column {
+            look: *look,
+            width: width_at(shown.titles.as_slice(), rows, place),
+        })?;
     }
     Ok(columns)
+}
+
+// The width of columns with the two blanks between them.
+fn whole_width(columns: &[Column]) -> usize {
+    let mut width = 0usize;
+    for column in columns {
+        width = width.saturating_add(column.width).saturating_add(2);
+    }
+    width.saturating_sub(2)
 }
 
 fn put_blanks(out: &mut String, count: usize) -> Result<(), NoMemory> {
@@ -165,44 +146,70 @@ fn put_line(
     Ok(())
 }
 
+// Adds the titles of the columns, and then the rows.
 fn put_lines(
     alloc: Global,
     out: &mut String,
-    lines: &[Vec<String>],
+    titles: &[String],
+    rows: &[Vec<String>],
     columns: &[Column],
 ) -> Result<(), NoMemory> {
-    for line in lines {
-        put_line(alloc, out, line.as_slice(), columns)?;
+    put_line(alloc, out, titles, columns)?;
+    for row in rows {
+        put_line(alloc, out, row.as_slice(), columns)?;
     }
     Ok(())
 }
 
-// Adds the titles of the columns of a sheet, and its rows.
-fn put_table(alloc: Global, out: &mut String, sheet: &Sheet) -> Result<(), NoMemory> {
-    let lines = lines(alloc, sheet)?;
-    let columns = columns(alloc, sheet.heads.as_slice(), lines.as_slice())?;
-    put_lines(alloc, out, lines.as_slice(), columns.as_slice())
+// Adds a table that is wider than `NARROW` with these columns of its whole texts. They are cut where it then is not, or where it is wider than
+// `WIDE`.
+fn put_wide(
+    alloc: Global,
+    out: &mut String,
+    shown: &Shown,
+    whole: &[Column],
+) -> Result<(), NoMemory> {
+    let titles = shown.titles.as_slice();
+    let rows = cut_rows(alloc, shown)?;
+    let columns = columns(alloc, shown, rows.as_slice())?;
+    if whole_width(whole) <= WIDE && whole_width(columns.as_slice()) > NARROW {
+        put_lines(alloc, out, titles, shown.rows.as_slice(), whole)
+    } else {
+        put_lines(alloc, out, titles, rows.as_slice(), columns.as_slice())
+    }
 }
 
-// Whether a sheet has a row, and a column that is shown.
-fn is_shown(sheet: &Sheet) -> bool {
-    !sheet.rows.is_empty() && sheet.heads.iter().any(|head| !is_hidden(head.look))
+// Adds the titles of the columns of a sheet, and its rows.
+fn put_table(alloc: Global, out: &mut String, shown: &Shown) -> Result<(), NoMemory> {
+    let rows = shown.rows.as_slice();
+    let columns = columns(alloc, shown, rows)?;
+    if whole_width(columns.as_slice()) > NARROW {
+        return put_wide(alloc, out, shown, columns.as_slice());
+    }
+    put_lines(
+        alloc,
+        out,
+        shown.titles.as_slice(),
+        rows,
+        columns.as_slice(),
+    )
 }
 
 // Adds a sheet that is shown, after an empty line where it is not the first one: its title and its table.
 fn put_sheet(alloc: Global, out: &mut String, sheet: &Sheet) -> Result<(), NoMemory> {
-    if !is_shown(sheet) {
+    let Some(shown) = shown_of(alloc, sheet)? else {
         return Ok(());
-    }
+    };
     if !out.is_empty() {
         out.push('\n')?;
     }
     out.push_str(sheet.title.as_str())?;
     out.push('\n')?;
-    put_table(alloc, out, sheet)
+    put_table(alloc, out, &shown)
 }
 
-/// Sheets as aligned text, with an empty line between them. One without rows, or without a column that is shown, is left out.
+/// Sheets as aligned text, with an empty line between them. One without rows, or without a column that is shown, is left
+/// out. Texts are cut where their table would be too wide.
 pub fn aligned_text(alloc: Global, sheets: &[Sheet]) -> Result<String, NoMemory> {
     let mut out = String::new(alloc);
     for sheet in sheets {

@@ -11,4 +11,6 @@ pub mod OwnSteps
 pub mod ScopeSteps
 pub mod Before
 pub mod ContestSteps
+pub mod PressSteps
 pub mod LackingSteps
+pub mod Borders

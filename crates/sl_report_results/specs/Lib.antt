@@ -7,7 +7,9 @@ pub mod Seats
 pub mod Cells
 pub mod Values
 pub mod Ranks
+pub mod Press
 pub mod Places
+pub mod Lots
 pub mod Scopes
 pub mod StageScopes
 pub mod inner

@@ -1,5 +1,5 @@
 -- The scopes of a stage, as a report shows them: their entries, and the divisor or the quota with what follows from it.
-use Rattle.std.specs.Prelude.{◌≡◌, ◌⊎◌, ℕ, ◌*◌, ◌^◌, ◌<◌, ◌≤◌, Bool, true, false, ◌||◌, List, [], ◌∷◌, ◌++◌, Option, Some, None, is_some, length, map, filter, All, sum, sum_by, nat_lt, option_map, unwrap_or, slice_index, slice_index_or}
+use Rattle.std.specs.Prelude.{◌≡◌, ◌⊎◌, ℕ, ◌*◌, ◌^◌, ◌<◌, ◌≤◌, Bool, true, false, not, ◌&&◌, ◌||◌, List, [], ◌∷◌, ◌++◌, Option, Some, None, is_some, length, map, filter, All, sum, sum_by, nat_lt, option_map, unwrap_or, slice_index, slice_index_or}
 use Rattle.std.specs.List.{AllZip, zip}
 use Rattle.sl_law_margins.specs.Divisors.{IsShortDivisor}
 use Rattle.sl_law_margins.specs.MissingVotes.{AreMissing, IsAllocation}
@@ -9,6 +9,8 @@ use Rattle.sl_ratio.specs.declared.limits.TheConstants.{MAX_SEATS, MAX_WEIGHT}
 use Rattle.sl_ratio.specs.declared.method.Divisor.{Divisor}
 use Rattle.sl_ratio.specs.declared.method.Method.TheVariants as by
 use Rattle.sl_ratio.specs.declared.method.Method.{Method}
+use Rattle.sl_ratio.specs.Quotient.{Quotient}
+use Rattle.sl_report_results.specs.Lots.{AreLots}
 use Rattle.sl_report_results.specs.Places.{seats_of}
 use Rattle.sl_report_results.specs.Sums.{capped}
 use Rattle.sl_report_results.specs.declared.columns.Distribution.{Distribution}
@@ -33,6 +35,7 @@ entry_of e stage d steps i = record {
   minimum = unwrap_or (option_map (λ m. slice_index m.cells.items (place e i)) d.minima) 0;
   quotient = None;
   missing = None;
+  lot = None;
 }
 
 -- an entry has a weight, seats or a minimum
@@ -62,15 +65,24 @@ pub record IsAllocated (method : Divisor) (xs : List Entry) : Type 0 where
 abbrev pub quotient_of : ℕ → Decimal → Fraction
 quotient_of weight divisor = record { num = weight * 10 ^ divisor.places; den = divisor.digits }
 
--- an entry with its quotient by the divisor, and with the votes that it lacks
-abbrev pub with_margins : Option Decimal → Entry → Option ℕ → Entry
-with_margins divisor x missing = record {
+abbrev pub quotient_by : ℕ → Quotient → Fraction
+quotient_by weight claim = record { num = weight * claim.den; den = claim.num }
+
+-- the quotient by the divisor, or else by that on the border of equal claims
+abbrev pub margin_quotient : ℕ → Option Decimal → Option Quotient → Option Fraction
+margin_quotient weight (Some divisor) border = Some (quotient_of weight divisor)
+margin_quotient weight None border = option_map (quotient_by weight) border
+
+-- an entry with its quotient, with the votes that it lacks, and with what a lot did for it
+abbrev pub with_margins : Option Decimal → Option Quotient → Entry → Option ℕ → Option Bool → Entry
+with_margins divisor border x missing lot = record {
   item = x.item;
   weight = x.weight;
   seats = x.seats;
   minimum = x.minimum;
-  quotient = option_map (quotient_of x.weight) divisor;
+  quotient = margin_quotient x.weight divisor border;
   missing = missing;
+  lot = lot;
 }
 
 -- the votes that each entry lacks, and nothing where there are minima
@@ -86,19 +98,24 @@ pub record AreMargins (method : Divisor) (minima : Bool) (v s : List ℕ) (divis
   pub long : length lacking ≡ length v
   pub missing : AreLacking minima method v s lacking
 
+-- the margins, and what is told of a lot: a split with minima may have given seats, and a growth has given none to an entry with votes
 pub record HasMargins (method : Divisor) (minima : Bool) (xs : List Entry) (s : Scoped) : Type 0 where
   pub allocated : IsAllocated method xs
   pub quota : s.quota ≡ None
   pub lacking : List (Option ℕ)
+  pub marks : List (Option Bool)
   pub margins : AreMargins method minima (weights_of xs) (held_of xs) s.divisor s.last.items s.next.items lacking
-  pub entries : s.entries.items ≡ map (λ x. with_margins s.divisor x.0 x.1) (zip xs lacking)
+  pub lots : AreLots (minima && not s.grows) method (weights_of xs) (held_of xs) s.last.items s.next.items s.drawn s.border marks
+  pub entries : s.entries.items ≡ map (λ x. with_margins s.divisor s.border x.0 x.1.0 x.1.1) (zip xs (zip lacking marks))
 
--- nothing follows from a divisor or a quota
+-- nothing follows from a divisor or a quota, and of a lot nothing is known
 pub record HasNone (xs : List Entry) (s : Scoped) : Type 0 where
   pub quota : s.quota ≡ None
   pub divisor : s.divisor ≡ None
+  pub border : s.border ≡ None
   pub last : s.last.items ≡ []
   pub next : s.next.items ≡ []
+  pub drawn : s.drawn ≡ None
   pub entries : s.entries.items ≡ xs
 
 -- ---- what follows from a quota
@@ -112,15 +129,18 @@ quota_entry seats weight x = record {
   minimum = x.minimum;
   quotient = Some (record { num = x.weight * seats; den = weight });
   missing = x.missing;
+  lot = x.lot;
 }
 
 pub record HasQuota (xs : List Entry) (s : Scoped) : Type 0 where
   pub seats : 0 < s.seats
   pub weight : 0 < s.weight
   pub divisor : s.divisor ≡ None
+  pub border : s.border ≡ None
   pub quota : s.quota ≡ Some (record { num = s.weight; den = s.seats })
   pub last : s.last.items ≡ []
   pub next : s.next.items ≡ []
+  pub drawn : s.drawn ≡ None
   pub entries : s.entries.items ≡ map (quota_entry s.seats s.weight) xs
 
 -- of a divisor method: the margins exactly where the seats are allocated so; of largest remainders: the quota exactly where there are seats and votes

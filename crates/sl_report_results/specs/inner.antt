@@ -1,2 +1,3 @@
 -- What only bodies and proofs cite.
 pub mod Within
+pub mod Common

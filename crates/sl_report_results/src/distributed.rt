@@ -1,9 +1,10 @@
 //! The scopes of a stage of a count.
 
-ghost use Rattle.std.specs.Prelude.{◌≡◌, ◌<◌, IfOk, OnOk, get_or, length, is_some, sum_by};
+ghost use Rattle.std.specs.Prelude.{◌≡◌, ◌<◌, ◌&&◌, not, IfOk, OnOk, get_or, length, is_some, sum_by};
 ghost use Rattle.sl_report_results.specs.Sums.{capped};
 ghost use Rattle.sl_stages.specs.meaning.Counts.{HoldsStages};
 ghost use Rattle.sl_ratio.specs.declared.method.Method.TheVariants as by;
+ghost use Rattle.sl_report_results.specs.Lots.{AreLots};
 ghost use Rattle.sl_report_results.specs.Places.{IsScope, items_in};
 ghost use Rattle.sl_report_results.specs.Scopes.{Adds, AreMargins, AreScopes, Follows, HasMargins, HasNone, HasQuota, IsAllocated, IsHead, IsScoped, held_of, shown_entries, weights_of};
 ghost use Rattle.sl_report_results.specs.StageScopes.{AreStageScopes};
@@ -41,10 +42,12 @@ fn plain(
         seats: seats_in(entries),
         weight: weight_in(entries),
         divisor: None,
+        border: None,
         quota: None,
         entries: Vec::from_slice(alloc, entries)?,
         last: Vec::new(alloc),
         next: Vec::new(alloc),
+        drawn: None,
     })
 }
 
@@ -60,10 +63,18 @@ fn with_found(
 ) -> Result<Scoped, NoMemory>
     requires allocated { IsAllocated method entries.now }
     requires margins { AreMargins method (is_some what.now.minima) (weights_of entries.now) (held_of entries.now) found.divisor found.last.items found.next.items found.missing.items }
+    requires lots { AreLots (is_some what.now.minima && not what.now.grows) method (weights_of entries.now) (held_of entries.now) found.last.items found.next.items found.drawn found.border found.marks.items }
     ensures head { IfOk result (IsHead stage what.now scope entries.now) }
     ensures margins { IfOk result (HasMargins method (is_some what.now.minima) entries.now) }
 {
-    let all = with_margins(alloc, entries, &found.divisor, found.missing.as_slice())?;
+    let all = with_margins(
+        alloc,
+        entries,
+        &found.divisor,
+        &found.border,
+        found.missing.as_slice(),
+        found.marks.as_slice(),
+    )?;
     Ok(Scoped {
         stage,
         scope,
@@ -73,10 +84,12 @@ fn with_found(
         seats: seats_in(entries),
         weight: weight_in(entries),
         divisor: found.divisor,
+        border: found.border,
         quota: None,
         entries: all,
         last: found.last,
         next: found.next,
+        drawn: found.drawn,
     })
 }
 
@@ -93,7 +106,9 @@ fn divided(
     ensures { IfOk result (IsScoped stage what.now scope entries.now) }
 {
     let weight = weight_in(entries);
-    match margins_of(alloc, method, entries, weight, what.minima.is_some())? {
+    let has_minima = what.minima.is_some();
+    let given = has_minima && !what.grows;
+    match margins_of(alloc, method, entries, weight, has_minima, given)? {
         Some(found) => with_found(alloc, stage, scope, what, entries, found, method),
         None => plain(alloc, stage, scope, what, entries),
     }
@@ -126,6 +141,7 @@ fn with_shares(
         seats,
         weight,
         divisor: None,
+        border: None,
         quota: Some(Fraction {
             num: u128::from(weight),
             den: u128::from(seats),
@@ -133,6 +149,7 @@ fn with_shares(
         entries: all,
         last: Vec::new(alloc),
         next: Vec::new(alloc),
+        drawn: None,
     })
 }
 

@@ -2,10 +2,10 @@
 
 ghost use Rattle.std.specs.Prelude.{◌≡◌, ◌*◌, ◌^◌, IfSome, is_some};
 ghost use Rattle.sl_law_margins.specs.Decimals.{IsCut};
-ghost use Rattle.sl_report_results.specs.Fractions.{has_decimals};
+ghost use Rattle.sl_report_results.specs.Fractions.{has_decimals, percent_half_up};
 
 use sl_law_margins::{Decimal, MAX_PLACES, cut};
-use sl_ratio::{MAX_NUMERATOR, NoMemory};
+use sl_ratio::{MAX_NUMERATOR, NoMemory, Ratio};
 use std::alloc::Global;
 
 /// A fraction, kept as it came and not reduced.
@@ -26,6 +26,16 @@ impl Fraction {
         }
     }
 
+    /// So many of so many, in parts of a hundred, and a twentieth more: cut in one place it is that number rounded, a half up.
+    pub fn percent_half_up(part: u64, whole: u64) -> Fraction
+        ensures { result ≡ percent_half_up part whole }
+    {
+        Fraction {
+            num: u128::from(part) * 2000 + u128::from(whole),
+            den: u128::from(whole) * 20,
+        }
+    }
+
     /// A weight by a divisor.
     pub fn quotient(weight: u64, divisor: Decimal) -> Fraction
         ensures { result ≡ record { num = weight * 10 ^ divisor.places; den = divisor.digits } }
@@ -33,6 +43,26 @@ impl Fraction {
         Fraction {
             num: u128::from(weight) * 10u128.pow(divisor.places()),
             den: divisor.digits(),
+        }
+    }
+
+    /// A weight by a quotient as the divisor.
+    pub fn by_claim(weight: u64, claim: Ratio) -> Fraction
+        ensures { result ≡ record { num = weight * claim.den; den = claim.num } }
+    {
+        Fraction {
+            num: u128::from(weight) * claim.den(),
+            den: claim.num(),
+        }
+    }
+
+    /// A quotient.
+    pub fn of_claim(claim: Ratio) -> Fraction
+        ensures { result ≡ record { num = claim.num; den = claim.den } }
+    {
+        Fraction {
+            num: claim.num(),
+            den: claim.den(),
         }
     }
 

@@ -1,5 +1,5 @@
 //! What returns and a seat table say of an election, as plain numbers: votes and winners, who takes part, columns, the seats of parties, the ranks of
-//! constituency winners, and the scopes of splits and growths with their entries, divisors or quotas, and margins.
+//! constituency winners, the parties of a press report, and the scopes of splits and growths with their entries, divisors or quotas, and margins.
 //!
 //! Stands on `sl_law_margins`; used by the room report. Proved: each number is that of its definition.
 //!
@@ -12,9 +12,11 @@ mod distributed;
 mod facts;
 mod fraction;
 mod lacking;
+mod lots;
 mod margins;
 mod parts;
 mod places;
+mod press;
 mod scopes;
 mod seats;
 mod totals;
@@ -28,6 +30,7 @@ pub use fraction::Fraction;
 pub use lacking::{lacking_votes, lacking_winners};
 pub use parts::{PartyPart, part_of, parts_of};
 pub use places::{entries_of, number_of};
+pub use press::{Pressed, Standing, by_seats, left_out};
 pub use scopes::{Entry, Scoped};
 pub use seats::{Seats, seats_in_all, seats_of};
 pub use sl_stages::{Column, Counted};

@@ -3,21 +3,27 @@
 ghost use Rattle.std.specs.Prelude.{◌≡◌, ℕ, ◌<◌, ◌≤◌, ◌↔◌, None, All, IfOk, IfSome, IsTrue, MatchOption, length, map, sum, sum_by, slice_index_or};
 ghost use Rattle.sl_report_results.specs.Sums.{capped};
 ghost use Rattle.sl_law_margins.specs.MissingVotes.{AreMissing, IsAllocation};
+ghost use Rattle.sl_report_results.specs.Lots.{AreLots};
 ghost use Rattle.sl_report_results.specs.Scopes.{AreLacking, AreMargins, IsAllocated, IsFew, held_of, weights_of};
 
+use crate::lots::lots_of;
 use crate::scopes::Entry;
 use sl_law_margins::{Decimal, divisor, is_allocation, last_seats, next_claims, votes_missing};
-use sl_ratio::{Divisor, MAX_SEATS, MAX_WEIGHT, NoMemory};
+use sl_ratio::{Divisor, MAX_SEATS, MAX_WEIGHT, NoMemory, Ratio};
 use std::alloc::Global;
 
 /// The margins of an allocation by a divisor method without minima: a divisor, if a decimal number lies between the claims; the entries that won
-/// the last seat, and those that have the next claim; and the votes that each entry lacks for one more seat, where a number is enough.
+/// the last seat, and those that have the next claim; the votes that each entry lacks for one more seat, where a number is enough; and whether a
+/// lot decided, the divisor on the border of equal claims, and what the lot did for each entry.
 #[derive(Drop)]
 pub(crate) struct Margins {
     pub divisor: Option<Decimal>,
     pub last: Vec<usize>,
     pub next: Vec<usize>,
     pub missing: Vec<Option<u64>>,
+    pub drawn: Option<bool>,
+    pub border: Option<Ratio>,
+    pub marks: Vec<Option<bool>>,
 }
 
 // Whether the weights and the seats of entries are within the limits.
@@ -106,38 +112,54 @@ fn found(
     weights: &[u64],
     seats: &[u32],
     has_minima: bool,
+    given: bool,
 ) -> Result<Margins, NoMemory>
     requires same_length { length seats.now ≡ length weights.now }
     requires weights { All (λ v. v ≤ MAX_WEIGHT) weights.now }
     requires seats { All (λ s. s ≤ MAX_SEATS) seats.now }
     requires field { 0 < sum weights.now }
     requires allocation { IsAllocation method weights.now seats.now }
-    ensures { IfOk result (λ m. AreMargins method has_minima weights.now seats.now m.divisor m.last.items m.next.items m.missing.items) }
+    ensures margins { IfOk result (λ m. AreMargins method has_minima weights.now seats.now m.divisor m.last.items m.next.items m.missing.items) }
+    ensures lots { IfOk result (λ m. AreLots given method weights.now seats.now m.last.items m.next.items m.drawn m.border m.marks.items) }
 {
     let divisor = divisor(method, weights, seats);
     let last = last_seats(alloc, method, weights, seats)?;
     let next = next_claims(alloc, method, weights, seats)?;
     let missing = lacking(alloc, method, weights, seats, has_minima)?;
+    let lots = lots_of(
+        alloc,
+        method,
+        weights,
+        seats,
+        last.as_slice(),
+        next.as_slice(),
+        given,
+    )?;
     Ok(Margins {
         divisor,
         last,
         next,
         missing,
+        drawn: lots.drawn,
+        border: lots.border,
+        marks: lots.marks,
     })
 }
 
 /// The margins of the seats of entries with that weight in all; `None` where they are no allocation by the method without minima, where nobody has
-/// votes, or past the limits.
+/// votes, or past the limits. `given`: seats may have been given as minima.
 pub(crate) fn margins_of(
     alloc: Global,
     method: Divisor,
     entries: &[Entry],
     weight: u64,
     has_minima: bool,
+    given: bool,
 ) -> Result<Option<Margins>, NoMemory>
     requires { weight ≡ capped (sum_by (λ x. x.weight) entries.now) }
     ensures { IfOk result (λ o. MatchOption o (¬ IsAllocated method entries.now) (λ m. IsAllocated method entries.now
-        × AreMargins method has_minima (weights_of entries.now) (held_of entries.now) m.divisor m.last.items m.next.items m.missing.items)) }
+        × AreMargins method has_minima (weights_of entries.now) (held_of entries.now) m.divisor m.last.items m.next.items m.missing.items
+        × AreLots given method (weights_of entries.now) (held_of entries.now) m.last.items m.next.items m.drawn m.border m.marks.items)) }
 {
     if weight == 0 || !are_few(entries) {
         return Ok(None);
@@ -153,6 +175,7 @@ pub(crate) fn margins_of(
         weights.as_slice(),
         held.as_slice(),
         has_minima,
+        given,
     )?;
     Ok(Some(found))
 }

@@ -12,12 +12,12 @@ use crate::fraction::Fraction;
 use crate::margins::{Margins, margins_of};
 use crate::places::{items_in, number_of, seats_of};
 use sl_law_margins::Decimal;
-use sl_ratio::{Divisor, Method, NoMemory};
+use sl_ratio::{Divisor, Method, NoMemory, Ratio};
 use sl_stages::{Item, Returns, Scope, SeatStep};
 use std::alloc::Global;
 
-/// An entry of a scope: its weight in votes or people, its seats, its minimum, its quotient by the divisor or the quota, and the votes that it
-/// lacks for one more seat, where a number is known.
+/// An entry of a scope: its weight in votes or people, its seats, its minimum, its quotient by the divisor or the quota, the votes that it lacks
+/// for one more seat, where a number is known, and whether a lot gave it a last seat, where one did or did not.
 #[derive(Clone, Copy)]
 pub struct Entry {
     pub item: Item,
@@ -26,10 +26,12 @@ pub struct Entry {
     pub minimum: u64,
     pub quotient: Option<Fraction>,
     pub missing: Option<u64>,
+    pub lot: Option<bool>,
 }
 
-/// A scope of a split or a growth: what it distributes by which method, the divisor or the quota, the entries that have a weight, seats or a minimum,
-/// and the numbers of those that won the last seat and of those with the next claim.
+/// A scope of a split or a growth: what it distributes by which method, the divisor, that on the border of equal claims or the quota, the entries
+/// that have a weight, seats or a minimum, the numbers of those that won the last seat and of those with the next claim, and whether a lot decided
+/// between them, where that is known.
 #[derive(Drop)]
 pub struct Scoped {
     pub stage: usize,
@@ -40,10 +42,12 @@ pub struct Scoped {
     pub seats: u64,
     pub weight: u64,
     pub divisor: Option<Decimal>,
+    pub border: Option<Ratio>,
     pub quota: Option<Fraction>,
     pub entries: Vec<Entry>,
     pub last: Vec<usize>,
     pub next: Vec<usize>,
+    pub drawn: Option<bool>,
 }
 
 // An entry without a quotient.
@@ -67,6 +71,7 @@ fn entry_of(
         minimum,
         quotient: None,
         missing: None,
+        lot: None,
     }
 }
 
@@ -120,17 +125,25 @@ pub(crate) fn weight_in(entries: &[Entry]) -> u64
     weight
 }
 
-// An entry with its quotient by the divisor, and with the votes that it lacks.
-fn margin_entry(entry: Entry, divisor: &Option<Decimal>, missing: Option<u64>) -> Entry
-    ensures { result ≡ with_margins divisor.now entry missing }
+// An entry with its quotient by the divisor or by that on the border, with the votes that it lacks, and with what a lot did for it.
+fn margin_entry(
+    entry: Entry,
+    divisor: &Option<Decimal>,
+    border: &Option<Ratio>,
+    missing: Option<u64>,
+    lot: Option<bool>,
+) -> Entry
+    ensures { result ≡ with_margins divisor.now border.now entry missing lot }
 {
-    let quotient = match divisor {
-        Some(divisor) => Some(Fraction::quotient(entry.weight, *divisor)),
-        None => None,
+    let quotient = match (divisor, border) {
+        (Some(divisor), _) => Some(Fraction::quotient(entry.weight, *divisor)),
+        (None, Some(claim)) => Some(Fraction::by_claim(entry.weight, *claim)),
+        (None, None) => None,
     };
     Entry {
         quotient,
         missing,
+        lot,
         ..entry
     }
 }
@@ -150,20 +163,33 @@ fn lack_at(lacking: &[Option<u64>], number: usize) -> Option<u64>
     lacking[number]
 }
 
-/// The entries with their quotients by the divisor, and with the votes that they lack.
+// What a lot did for the entry of that number.
+fn mark_at(marks: &[Option<bool>], number: usize) -> Option<bool>
+    requires { number < length marks.now }
+    ensures { slice_get marks.now number ≡ Some result }
+{
+    marks[number]
+}
+
+/// The entries with their quotients by the divisor or by that on the border, with the votes that they lack, and with what a lot did for them.
 pub(crate) fn with_margins(
     alloc: Global,
     entries: &[Entry],
     divisor: &Option<Decimal>,
+    border: &Option<Ratio>,
     lacking: &[Option<u64>],
+    marks: &[Option<bool>],
 ) -> Result<Vec<Entry>, NoMemory>
-    requires { length lacking.now ≡ length entries.now }
-    ensures { IfOk result (λ all. all.items ≡ map (λ x. with_margins divisor.now x.0 x.1) (zip entries.now lacking.now)) }
+    requires lacking { length lacking.now ≡ length entries.now }
+    requires marks { length marks.now ≡ length entries.now }
+    ensures { IfOk result (λ all. all.items ≡ map (λ x. with_margins divisor.now border.now x.0 x.1.0 x.1.1) (zip entries.now (zip lacking.now marks.now))) }
 {
     let mut all = Vec::new(alloc);
     for number in 0..entries.len() {
         let missing = lack_at(lacking, number);
-        all.push(margin_entry(entry_at(entries, number), divisor, missing))?;
+        let lot = mark_at(marks, number);
+        let entry = entry_at(entries, number);
+        all.push(margin_entry(entry, divisor, border, missing, lot))?;
     }
     Ok(all)
 }

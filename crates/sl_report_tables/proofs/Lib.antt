@@ -1,4 +1,5 @@
 pub mod MoreRows
+pub mod LocalSeats
 pub mod MoreTables
 pub mod ComparedRows
 pub mod Divisors

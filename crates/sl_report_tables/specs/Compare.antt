@@ -1,17 +1,19 @@
 -- The tables of several rulebooks, side by side (docs/report.md).
-use Rattle.std.specs.List.{AllZip, flat_map}
-use Rattle.std.specs.Prelude.{◌≡◌, ℕ, ◌-◌, List, [], ◌∷◌, ◌++◌, Option, Some, None, codes, count_by, drop, map, option_map, string_bytes}
+use Rattle.std.specs.List.{AllZip, flat_map, list_any}
+use Rattle.std.specs.Prelude.{◌≡◌, ℕ, ◌-◌, Bool, ◌&&◌, List, [], ◌∷◌, ◌++◌, Option, Some, None, codes, count_by, drop, filter, if◌then◌else◌, map, nat_eq, nat_lt, option_map, string_bytes, sum_by, unwrap_or}
 use Rattle.sl_report_forms.specs.Cells.{Content, a_change, a_number, a_text, known, nothing}
 use Rattle.sl_report_forms.specs.Tables.{Table}
 use Rattle.sl_report_results.specs.Seats.{all_seats, is_open, party_seats}
+use Rattle.sl_report_results.specs.Sums.{capped}
 use Rattle.sl_report_tables.specs.Parties.{house_of}
 use Rattle.sl_report_tables.specs.Parts.{a_name}
 use Rattle.sl_report_tables.specs.declared.compare.Judged.{Judged}
 use Rattle.sl_stages.specs.declared.book.Book.{Book}
 use Rattle.sl_stages.specs.declared.count.Counted.{Counted}
 use Rattle.sl_stages.specs.declared.fault.LegalFault.{LegalFault}
-use Rattle.sl_stages.specs.returns.Election.{Election}
-use Rattle.sl_stages.specs.returns.Facts.{parties}
+use Rattle.sl_stages.specs.declared.table.ListSeats.{ListSeats}
+use Rattle.sl_stages.specs.returns.Election.{Election, has_list}
+use Rattle.sl_stages.specs.returns.Facts.{lands, parties}
 
 -- the word for a legal fault, where there is one
 abbrev pub fault_cell : Option LegalFault → Content
@@ -83,19 +85,68 @@ change_cell e party (Some before) (Some now) = a_change (seats_in e party now) (
 change_cell e party None now = nothing
 change_cell e party (Some before) None = nothing
 
-abbrev pub change_row : Election → Judged → List Judged → Option ℕ → List Content
-change_row e first others party = compared_name party ++ map (λ j. change_cell e party first.counted j.counted) others
+-- that number, or else the word for the fault of the count
+abbrev pub change_or_fault : Election → Option ℕ → Option Counted → Judged → Content
+change_or_fault e party before j = by_count j.counted
+  where
+    by_count : Option Counted → Content
+    by_count (Some now) = change_cell e party before (Some now)
+    by_count None = fault_cell j.fault
 
+abbrev pub change_row : Election → Judged → List Judged → Option ℕ → List Content
+change_row e first others party = compared_name party ++ map (change_or_fault e party first.counted) others
+
+-- rows from a count: none where there is no count
+abbrev pub rows_from : Option Counted → List (List Content) → List (List Content)
+rows_from None rows = []
+rows_from (Some c) rows = rows
+
+-- none of a single book, and none from a first book that has a legal fault
 abbrev pub change_rows : Election → List Judged → List (List Content)
 change_rows e [] = []
 change_rows e (first ∷ []) = []
-change_rows e (first ∷ second ∷ more) = map (change_row e first (second ∷ more)) (compared e)
+change_rows e (first ∷ second ∷ more) = rows_from first.counted (map (change_row e first (second ∷ more)) (compared e))
 
 abbrev pub changes_table : Election → List Judged → Table
 changes_table e books = record {
   key = codes "changes";
   columns = codes "party" ∷ codes "party_name" ∷ map (λ j. string_bytes j.word) (drop 1 books);
   rows = change_rows e books;
+}
+
+-- ---- the lists that have seats, with a column for each book
+
+-- the seats of a line, if it is that of the party's list in the Land
+abbrev pub seats_at : (land party : ℕ) → ListSeats → ℕ
+seats_at land party l = if nat_eq l.land land && nat_eq l.party party then l.seats else 0
+
+-- the seats of the list by a count
+abbrev pub list_seats : (land party : ℕ) → Counted → ℕ
+list_seats land party c = capped (sum_by (seats_at land party) c.table.lists)
+
+-- a book gives the list seats
+abbrev pub gives_seats : (land party : ℕ) → Judged → Bool
+gives_seats land party j = nat_lt 0 (unwrap_or (option_map (list_seats land party) j.counted) 0)
+
+-- a list that has seats by one of the books
+abbrev pub has_seats : Election → List Judged → (land party : ℕ) → Bool
+has_seats e books land party = has_list e land party && list_any (gives_seats land party) books
+
+abbrev pub list_seats_cell : (land party : ℕ) → Judged → Content
+list_seats_cell land party j = number_or_fault (list_seats land party) j.counted j.fault
+
+-- the Land, the party, and the seats by each book or the word for its fault
+abbrev pub list_seats_row : List Judged → (land party : ℕ) → List Content
+list_seats_row books land party = a_name ++ a_name ++ map (list_seats_cell land party) books
+
+abbrev pub list_seats_rows : Election → List Judged → (land : ℕ) → List (List Content)
+list_seats_rows e books land = map (list_seats_row books land) (filter (has_seats e books land) (parties e))
+
+abbrev pub list_seats_table : Election → List Judged → Table
+list_seats_table e books = record {
+  key = codes "list_seats";
+  columns = codes "land" ∷ codes "land_name" ∷ codes "party" ∷ codes "party_name" ∷ map (λ j. string_bytes j.word) books;
+  rows = flat_map (list_seats_rows e books) (lands e);
 }
 
 -- ---- a row for each book and each party
@@ -118,4 +169,4 @@ seats_table e books = record {
 pub record AreComparison (e : Election) (books : List Judged) (tables : List Table) : Type 0 where
   pub lines : Table
   pub lines_are : IsBooksTable e books lines
-  pub tables_are : tables ≡ lines ∷ compare_table e books ∷ changes_table e books ∷ seats_table e books ∷ []
+  pub tables_are : tables ≡ lines ∷ compare_table e books ∷ changes_table e books ∷ list_seats_table e books ∷ seats_table e books ∷ []

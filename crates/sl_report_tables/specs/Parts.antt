@@ -1,7 +1,7 @@
 -- What stands in the cells of the parts of which rows are made (docs/report.md).
-use Rattle.std.specs.Prelude.{ℕ, ◌*◌, List, [], ◌∷◌, Option, Some, None, is_some, option_and_then, slice_get, if◌then◌else◌}
+use Rattle.std.specs.Prelude.{ℕ, ◌*◌, Bool, List, [], ◌∷◌, Option, Some, None, is_some, option_and_then, slice_get, if◌then◌else◌}
 use Rattle.sl_report_forms.specs.Cells.{Content, a_change, a_flag, a_number, a_text, known, nothing}
-use Rattle.sl_report_results.specs.Fractions.{has_decimals}
+use Rattle.sl_report_results.specs.Fractions.{has_decimals, percent_half_up}
 use Rattle.sl_report_results.specs.declared.fraction.Fraction.{Fraction}
 use Rattle.sl_report_tables.specs.declared.rows.Part.TheVariants as part
 use Rattle.sl_report_tables.specs.declared.rows.Part.{Part}
@@ -20,6 +20,10 @@ two_empty = nothing ∷ nothing ∷ []
 abbrev pub percent_cells : ℕ → ℕ → List Content
 percent_cells of_them all = if has_decimals (100 * of_them) all 3 then a_name else two_empty
 
+-- so many of so many in percent, rounded to one place
+abbrev pub rounded_cell : ℕ → ℕ → Content
+rounded_cell of_them all = if has_decimals (percent_half_up of_them all).num (percent_half_up of_them all).den 1 then a_text else nothing
+
 -- a fraction, where there is one: in decimals, where there are some, and exact
 abbrev pub fraction_cells : Option Fraction → List Content
 fraction_cells None = two_empty
@@ -36,6 +40,11 @@ sides_of (item.Land land) = a_text ∷ nothing ∷ []
 sides_of (item.List land party) = a_name
 sides_of (item.Win win) = two_empty
 
+-- a flag, where it is known
+abbrev pub known_flag : Option Bool → Content
+known_flag None = nothing
+known_flag (Some is) = a_flag is
+
 abbrev pub cells_of : Part → List Content
 cells_of part.Empty = nothing ∷ []
 cells_of (part.Text words) = a_text ∷ []
@@ -45,6 +54,7 @@ cells_of (part.Number n) = a_number n ∷ []
 cells_of (part.Known n) = known n ∷ []
 cells_of (part.Change n before) = a_change n before ∷ []
 cells_of (part.Flag is) = a_flag is ∷ []
+cells_of (part.KnownFlag flag) = known_flag flag ∷ []
 cells_of (part.Land land) = a_name
 cells_of (part.Party party) = a_name
 cells_of (part.Win win) = a_name
@@ -55,4 +65,5 @@ cells_of (part.Scope scope) = a_text ∷ []
 cells_of (part.LongScope scope) = a_text ∷ []
 cells_of (part.Met conditions met) = condition_cell conditions.now met ∷ []
 cells_of (part.Percent of_them all) = percent_cells of_them all
+cells_of (part.Rounded of_them all) = rounded_cell of_them all ∷ []
 cells_of (part.Fraction fraction) = fraction_cells fraction

@@ -1,13 +1,16 @@
 -- Which tables each command shows (docs/report.md).
 use Rattle.std.specs.List.{AllZip, range_with_len}
-use Rattle.std.specs.Prelude.{◌≡◌, ℕ, List, [], ◌∷◌, ◌++◌, Option, None, Some, flat_map, get_or, length}
+use Rattle.std.specs.Prelude.{◌≡◌, ℕ, List, [], ◌∷◌, ◌++◌, Option, None, Some, filter, flat_map, get_or, length}
 use Rattle.sl_report_forms.specs.Tables.{Table}
 use Rattle.sl_report_results.specs.StageScopes.{AreStageScopes}
+use Rattle.sl_report_results.specs.Press.{ArePressed}
+use Rattle.sl_report_results.specs.declared.press.Pressed.{Pressed}
 use Rattle.sl_report_results.specs.declared.contests.Ranked.{Ranked}
 use Rattle.sl_report_results.specs.declared.scopes.Scoped.{Scoped}
 use Rattle.sl_report_tables.specs.Faults.{AreFaultTables}
 use Rattle.sl_report_tables.specs.Parties.{AreCovered, covering_table, house_of, law_table, lists_table, open_table, parties_table, singles_table}
-use Rattle.sl_report_tables.specs.Scopes.{scope_tables}
+use Rattle.sl_report_tables.specs.Press.{IsLackingTable, is_whole, press_table}
+use Rattle.sl_report_tables.specs.Scopes.{scope_tables, scopes_table}
 use Rattle.sl_report_tables.specs.Stages.{stage_tables}
 use Rattle.sl_report_tables.specs.declared.counts.Show.TheVariants as show
 use Rattle.sl_report_tables.specs.declared.counts.Show.{Show}
@@ -54,6 +57,18 @@ module _ (b : Book) (e : Election) where
   abbrev pub IsCountReport : Counted → List Table → Type 0
   IsCountReport c tables = AddsCounted c (first_tables (Some c.table)) tables
 
+  -- ---- the report for the press
+
+  -- the law, the parties that it shows, the scopes of the whole country, and the largest party of those left out
+  pub record IsPressReport (c : Counted) (tables : List Table) : Type 0 where
+    pub pressed : List Pressed
+    pub are_pressed : ArePressed b.eligible.items c.table e pressed
+    pub scopes : List Scoped
+    pub all : AreAllScopes c scopes
+    pub lacking : Table
+    pub lacks : IsLackingTable b.eligible.items e lacking
+    pub tables_are : tables ≡ law_table (house_of b e) (Some c.table) ∷ press_table e c.table pressed ∷ scopes_table (filter is_whole scopes) ∷ lacking ∷ []
+
   -- ---- a legal fault
 
   -- a fault with its explanation, and who takes part
@@ -64,6 +79,8 @@ module _ (b : Book) (e : Election) where
 
   abbrev pub Shows : Show → End → List Table → Type 0
   Shows show.Report (end.Counted c) tables = IsCountReport c tables
+  Shows show.Short (end.Counted c) tables = IsPressReport c tables
   Shows show.Stages (end.Counted c) tables = tables ≡ stage_tables e c.columns.items
   Shows show.Report (end.Fault f) tables = IsFaultReport f tables
+  Shows show.Short (end.Fault f) tables = IsFaultReport f tables
   Shows show.Stages (end.Fault f) tables = IsFaultReport f tables

@@ -1,21 +1,25 @@
 -- The tables of scopes, and of the entries of each (docs/report.md).
-use Rattle.std.specs.Prelude.{ℕ, Bool, List, [], ◌∷◌, ◌++◌, codes, is_some, map, if◌then◌else◌}
+use Rattle.std.specs.Prelude.{ℕ, Bool, ◌||◌, List, [], ◌∷◌, ◌++◌, codes, is_some, map, if◌then◌else◌}
 use Rattle.sl_report_forms.specs.Cells.{Content, a_flag, a_number, a_text, known, nothing}
 use Rattle.sl_report_forms.specs.Tables.{Table}
 use Rattle.sl_report_results.specs.declared.scopes.Entry.{Entry}
 use Rattle.sl_report_results.specs.declared.scopes.Scoped.{Scoped}
-use Rattle.sl_report_tables.specs.Parts.{a_name, fraction_cells, sides_of}
+use Rattle.sl_report_tables.specs.Parts.{a_name, fraction_cells, known_flag, sides_of}
 
 -- the names of some entries in one cell, where there are some
 abbrev pub names_cell : List ℕ → Content
 names_cell [] = nothing
 names_cell (number ∷ numbers) = a_text
 
--- the divisor and the quota, and who won the last seat and has the next claim
+-- a divisor, where there is one: between the claims, or on the border of equal ones
+abbrev pub divisor_cell : Scoped → Content
+divisor_cell s = if is_some s.divisor || is_some s.border then a_text else nothing
+
+-- the divisor and the quota, who won the last seat and has the next claim, and whether a lot decided
 abbrev pub margin_cells : Scoped → List Content
 margin_cells s =
-    (if is_some s.divisor then a_text else nothing) ∷ fraction_cells s.quota
-    ++ names_cell s.last.items ∷ names_cell s.next.items ∷ []
+    divisor_cell s ∷ fraction_cells s.quota
+    ++ names_cell s.last.items ∷ names_cell s.next.items ∷ known_flag s.drawn ∷ []
 
 -- the stage, the scope by its short name and as a reader sees it, the method, and the numbers
 abbrev pub scope_row : Scoped → List Content
@@ -27,7 +31,7 @@ abbrev pub scopes_table : List Scoped → Table
 scopes_table scopes = record {
   key = codes "scopes";
   columns = codes "stage" ∷ codes "scope" ∷ codes "scope_name" ∷ codes "method" ∷ codes "grows" ∷ codes "minima" ∷ codes "votes" ∷ codes "seats"
-      ∷ codes "divisor" ∷ codes "quota" ∷ codes "quota_exact" ∷ codes "last" ∷ codes "next" ∷ [];
+      ∷ codes "divisor" ∷ codes "quota" ∷ codes "quota_exact" ∷ codes "last" ∷ codes "next" ∷ codes "lot" ∷ [];
   rows = map scope_row scopes;
 }
 
@@ -36,13 +40,13 @@ abbrev pub entry_row : Bool → Entry → List Content
 entry_row has_minima x =
     a_text ∷ a_text ∷ a_name ++ sides_of x.item
     ++ a_number x.weight ∷ fraction_cells x.quotient
-    ++ a_number x.seats ∷ (if has_minima then a_number x.minimum else nothing) ∷ known x.missing ∷ []
+    ++ a_number x.seats ∷ (if has_minima then a_number x.minimum else nothing) ∷ known x.missing ∷ known_flag x.lot ∷ []
 
 abbrev pub entries_table : Scoped → Table
 entries_table s = record {
   key = codes "entries";
   columns = codes "stage" ∷ codes "scope" ∷ codes "entry" ∷ codes "entry_name" ∷ codes "land" ∷ codes "party" ∷ codes "votes" ∷ codes "quotient" ∷ codes "quotient_exact"
-      ∷ codes "seats" ∷ codes "minimum" ∷ codes "missing" ∷ [];
+      ∷ codes "seats" ∷ codes "minimum" ∷ codes "missing" ∷ codes "lot" ∷ [];
   rows = map (entry_row s.has_minima) s.entries.items;
 }
 

@@ -4,7 +4,9 @@ ghost use Rattle.std.specs.Prelude.{◌≡◌, [], IfOk};
 
 use sl_count_inputs::Status;
 use sl_ratio::NoMemory;
-use sl_report_forms::{Heading, Sheet, aligned_text, comma_text, json_text};
+use sl_report_forms::{
+    Heading, Sheet, aligned_text, comma_text, html_text, json_text, markdown_text,
+};
 use std::alloc::Global;
 
 // What a file of names holds, as the line says that refuses one.
@@ -15,6 +17,8 @@ const NAMES_FORM: &str =
 #[derive(Clone, Copy)]
 pub enum Shape {
     Text,
+    Markdown,
+    Html,
     Json,
     Comma,
 }
@@ -99,13 +103,24 @@ impl Answer {
         Ok(text)
     }
 
+    fn markdown(&self, alloc: Global) -> Result<Vec<u8>, NoMemory> {
+        let line = without_end(self.line.as_slice());
+        Ok(markdown_text(alloc, line, self.sheets.as_slice())?.into_bytes())
+    }
+
+    fn html(&self, alloc: Global, heading: &Heading<'_>) -> Result<Vec<u8>, NoMemory> {
+        let line = without_end(self.line.as_slice());
+        Ok(html_text(alloc, heading, line, self.sheets.as_slice())?.into_bytes())
+    }
+
     fn json(&self, alloc: Global, heading: &Heading<'_>) -> Result<Vec<u8>, NoMemory> {
         let line = without_end(self.line.as_slice());
         let sheets = self.sheets.as_slice();
         Ok(json_text(alloc, heading, self.status.number(), line, sheets)?.into_bytes())
     }
 
-    /// Its text in a form. A refusal is its line alone, but in JSON. What a heading says beside the tables stands in JSON alone.
+    /// Its text in a form. A refusal is its line alone, but in JSON. The command and the language of a heading stand in HTML, and what it says beside
+    /// the tables in JSON alone.
     pub fn text(
         &self,
         alloc: Global,
@@ -114,11 +129,13 @@ impl Answer {
     ) -> Result<Vec<u8>, NoMemory> {
         match (shape, self.status) {
             (Shape::Json, _) => self.json(alloc, heading),
-            (Shape::Text | Shape::Comma, Status::Refused) => {
-                Ok(Vec::from_slice(alloc, self.line.as_slice())?)
-            }
+            (Shape::Text | Shape::Markdown | Shape::Html | Shape::Comma, Status::Refused) => Ok(
+                Vec::from_slice(alloc, self.line.as_slice())?,
+            ),
             (Shape::Comma, _) => Ok(comma_text(alloc, self.sheets.as_slice())?.into_bytes()),
             (Shape::Text, _) => self.aligned(alloc),
+            (Shape::Markdown, _) => self.markdown(alloc),
+            (Shape::Html, _) => self.html(alloc, heading),
         }
     }
 }

@@ -2,10 +2,10 @@
 
 ghost use Rattle.std.specs.Prelude.{◌≡◌, ◌++◌, ◌∷◌, [], IfOk, OnOk, flat_map, map};
 ghost use Rattle.sl_report_forms.specs.Tables.{contents_of, table_of, with_rows};
-ghost use Rattle.sl_report_tables.specs.Compare.{change_cell, change_row, changes_table, compared, seats_in, seats_row, seats_table};
+ghost use Rattle.sl_report_tables.specs.Compare.{change_cell, change_or_fault, change_row, changes_table, compared, seats_in, seats_row, seats_table};
 ghost use Rattle.sl_report_tables.specs.Parts.{cells_of};
 
-use crate::compare::{COMPARE, Judged, compared, name_part, push_heads, seats_in};
+use crate::compare::{COMPARE, Judged, compared, fault_part, name_part, push_heads, seats_in};
 use crate::naming::Naming;
 use crate::rows::{Part, push_row, put_parts, titled};
 use crate::titles;
@@ -41,6 +41,21 @@ fn change_part(
     }
 }
 
+// That number, or the kind of the fault of a book.
+fn column_part(
+    first: &Judged,
+    judged: &Judged,
+    returns: &Returns,
+    party: Option<usize>,
+) -> Part<'static>
+    ensures { cells_of result ≡ change_or_fault returns.now party first.now.counted judged.now ∷ [] }
+{
+    match &judged.counted {
+        Some(_) => change_part(first, judged, returns, party),
+        None => fault_part(judged),
+    }
+}
+
 // Adds a cell for each book.
 fn put_changes(
     alloc: Global,
@@ -50,10 +65,10 @@ fn put_changes(
     others: &[Judged],
     party: Option<usize>,
 ) -> Result<(), NoMemory>
-    ensures { OnOk result (contents_of row.new.cells.items ≡ contents_of row.old.cells.items ++ map (λ j. change_cell naming.now.returns.now party first.now.counted j.counted) others.now) }
+    ensures { OnOk result (contents_of row.new.cells.items ≡ contents_of row.old.cells.items ++ map (change_or_fault naming.now.returns.now party first.now.counted) others.now) }
 {
     for judged in others {
-        let change = change_part(first, judged, naming.returns, party);
+        let change = column_part(first, judged, naming.returns, party);
         put_parts(alloc, row, naming, &[change])?;
     }
     Ok(())
@@ -95,7 +110,7 @@ fn push_changes(
 }
 
 /// How many seats more or fewer than the first book the others give: the parties in rows, with a column for each of these books. A single book has no
-/// row.
+/// row, nor have several of which the first has a legal fault.
 pub(crate) fn changes_sheet(
     alloc: Global,
     naming: &Naming<'_>,
@@ -109,7 +124,11 @@ pub(crate) fn changes_sheet(
     }
     let others = &books[1..];
     push_heads(alloc, &mut sheet, others)?;
-    push_changes(alloc, &mut sheet, naming, &books[0], others)?;
+    let first = &books[0];
+    if first.counted.is_none() {
+        return Ok(sheet);
+    }
+    push_changes(alloc, &mut sheet, naming, first, others)?;
     Ok(sheet)
 }
 

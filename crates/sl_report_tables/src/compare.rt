@@ -8,6 +8,7 @@ ghost use Rattle.sl_report_tables.specs.Parts.{cells_of};
 
 use crate::changes::{changes_sheet, each_sheet};
 use crate::faults::kind_word;
+use crate::lists_compared::list_seats_sheet;
 use crate::naming::{ALL, Naming, law_name, stage_name};
 use crate::rows::{Part, push_row, put_parts, titled};
 use crate::stages::stage_number;
@@ -31,7 +32,7 @@ const BOOKS: [Form; 7] = [
     ("book", "book", "Regelwerk", Look::Text(20)),
     ("law", "law", "Gesetz", Look::Text(40)),
     ("seats", "seats", "Sitze", Look::Number),
-    ("beyond", "beyond house", "über Hausgröße", Look::Number),
+    ("beyond", "beyond", "darüber", Look::Number),
     ("open", "not seated", "ohne Sitz", Look::Number),
     ("differs", "differs from", "anders ab", Look::Text(12)),
     ("fault", "fault", "Fehler", Look::Text(14)),
@@ -73,8 +74,8 @@ fn first_difference<'a>(left: &'a Judged, right: &Judged) -> Option<&'a str> {
     None
 }
 
-// The kind of the fault to which a book comes.
-fn fault_part(judged: &Judged) -> Part<'static>
+/// The kind of the fault to which a book comes.
+pub(crate) fn fault_part(judged: &Judged) -> Part<'static>
     ensures { cells_of result ≡ fault_cell judged.now.fault ∷ [] }
 {
     match &judged.fault {
@@ -268,7 +269,7 @@ fn seats_sheet(alloc: Global, naming: &Naming<'_>, books: &[Judged]) -> Result<S
 }
 
 /// The sheets of several books on the returns: a line for each book, the parties in rows with a column for each book, how they differ from the first
-/// book, and a row for each book and each party.
+/// book, the lists in rows with a column for each book, and a row for each book and each party.
 pub(crate) fn compare_sheets(
     alloc: Global,
     naming: &Naming<'_>,
@@ -280,6 +281,7 @@ pub(crate) fn compare_sheets(
     sheets.push(books_sheet(alloc, naming, books)?)?;
     sheets.push(seats_sheet(alloc, naming, books)?)?;
     sheets.push(changes_sheet(alloc, naming, books)?)?;
+    sheets.push(list_seats_sheet(alloc, naming, books)?)?;
     sheets.push(each_sheet(alloc, naming, books)?)?;
     Ok(sheets)
 }

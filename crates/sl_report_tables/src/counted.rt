@@ -40,8 +40,8 @@ fn seats_in(table: Option<&Table>) -> Option<Seats>
     }
 }
 
-// The law, the house from which it starts, and the seats in all.
-fn law_sheet(
+/// The law, the house from which it starts, and the seats in all.
+pub(crate) fn law_sheet(
     alloc: Global,
     setting: &Setting<'_>,
     naming: &Naming<'_>,
@@ -60,8 +60,8 @@ fn law_sheet(
     one_row_sheet(alloc, naming, "law", titles::LAW, &LAW, &parts)
 }
 
-// The scopes of all stages.
-fn all_scopes(
+/// The scopes of all stages.
+pub(crate) fn all_scopes(
     alloc: Global,
     setting: &Setting<'_>,
     counted: &Counted,

@@ -11,6 +11,7 @@ use crate::counted::{first_sheets, report_sheets};
 use crate::faults::fault_sheets;
 use crate::full_names::FullNames;
 use crate::naming::Naming;
+use crate::press::press_sheets;
 use crate::stages::stage_sheets;
 use sl_explain_texts::Language;
 use sl_ratio::NoMemory;
@@ -24,6 +25,8 @@ use std::alloc::Global;
 pub enum Show {
     /// All of it, as `report` does.
     Report,
+    /// What the press needs of it, as `report --short` does.
+    Short,
     /// The columns of all stages, as `stages` does.
     Stages,
 }
@@ -33,6 +36,7 @@ impl Show {
     pub fn command(self) -> &'static str {
         match self {
             Show::Report => "report",
+            Show::Short => "report --short",
             Show::Stages => "stages",
         }
     }
@@ -67,6 +71,7 @@ fn sheets_of(
 {
     match (show, end) {
         (Show::Report, End::Counted(counted)) => report_sheets(alloc, setting, naming, counted),
+        (Show::Short, End::Counted(counted)) => press_sheets(alloc, setting, naming, counted),
         (Show::Stages, End::Counted(counted)) => stage_sheets(alloc, setting, naming, counted),
         (_, End::Fault(fault)) => sheets_of_fault(alloc, setting, naming, fault),
     }

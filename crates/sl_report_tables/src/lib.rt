@@ -1,5 +1,5 @@
 //! The tables of reports, and what the commands that report answer: sheets of one count, of the totals of returns with their warnings, of all stages,
-//! and of several rulebooks side by side; the names and words in them; and answers, which are sheets in one of three forms with a status.
+//! and of several rulebooks side by side; the names and words in them; and answers, which are sheets in one of five forms with a status.
 //!
 //! Stands on `sl_count_inputs`, `sl_report_warnings`, `sl_report_forms` and `sl_explain_faults`; used by the room report. Proved: the status of an
 //! answer, which tables it has, and what stands in the cells of each.
@@ -17,9 +17,12 @@ mod counts;
 mod covering;
 mod faults;
 mod full_names;
+mod lists_compared;
+mod local;
 mod lowest;
 mod naming;
 mod parties;
+mod press;
 mod rows;
 mod scopes;
 mod stages;

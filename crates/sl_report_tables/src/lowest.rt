@@ -3,7 +3,9 @@
 ghost use Rattle.std.specs.Int.{IsGcd};
 ghost use Rattle.sl_report_tables.specs.Lowest.{IsLowest};
 
+use sl_ratio::NoMemory;
 use sl_report_results::Fraction;
+use std::alloc::Global;
 
 // The greatest common divisor of two numbers, as Euclid finds it.
 fn common_divisor(first: u128, second: u128) -> u128
@@ -32,4 +34,14 @@ pub(crate) fn lowest(fraction: Fraction) -> Fraction
         num: num / divisor,
         den: den / divisor,
     }
+}
+
+/// The text of a fraction in lowest terms; of a whole number its digits alone.
+pub(crate) fn lowest_text(alloc: Global, fraction: Fraction) -> Result<String, NoMemory> {
+    let lowest = lowest(fraction);
+    if lowest.den != 1 {
+        return lowest.text(alloc);
+    }
+    let whole = lowest.num;
+    Ok(format!(in alloc; "{whole}")?)
 }

@@ -4,7 +4,7 @@ ghost use Rattle.std.specs.Prelude.{◌≡◌, ◌*◌, ◌++◌, ◌∷◌, [],
 ghost use Rattle.sl_report_forms.specs.Cells.{a_flag, a_text, nothing};
 ghost use Rattle.sl_report_forms.specs.Tables.{blank_table, contents_of, table_of, with_rows};
 ghost use Rattle.sl_report_results.specs.Fractions.{has_decimals};
-ghost use Rattle.sl_report_tables.specs.Parts.{a_name, cells_of, condition_cell, fraction_cells, percent_cells, sides_of, two_empty};
+ghost use Rattle.sl_report_tables.specs.Parts.{a_name, cells_of, condition_cell, fraction_cells, percent_cells, rounded_cell, sides_of, two_empty};
 
 use crate::lowest::lowest;
 use crate::naming::{Naming, land_name, party_name, win_name};
@@ -36,6 +36,8 @@ pub enum Part<'a> {
     Change(u64, u64),
     /// A flag.
     Flag(bool),
+    /// A flag, or an empty cell.
+    KnownFlag(Option<bool>),
     /// The names of a Land.
     Land(usize),
     /// The names of a party.
@@ -56,6 +58,8 @@ pub enum Part<'a> {
     Met(&'a [Cond], Option<usize>),
     /// So many of so many in percent, in three places.
     Percent(u64, u64),
+    /// So many of so many in percent, rounded to one place.
+    Rounded(u64, u64),
     /// A fraction in four places, or empty cells.
     Fraction(Option<Fraction>),
 }
@@ -88,6 +92,16 @@ fn put_percent(alloc: Global, row: &mut Row, part: u64, whole: u64) -> Result<()
             put_own(row, lowest(percent).text(alloc))
         }
         None => put_empty_pair(row),
+    }
+}
+
+// Adds so many of so many in percent, rounded to one place.
+fn put_rounded(alloc: Global, row: &mut Row, part: u64, whole: u64) -> Result<(), NoMemory>
+    ensures { OnOk result (contents_of row.new.cells.items ≡ contents_of row.old.cells.items ++ rounded_cell part whole ∷ []) }
+{
+    match Fraction::percent_half_up(part, whole).decimal(1) {
+        Some(rounded) => put_own(row, rounded.text(alloc)),
+        None => row.empty(),
     }
 }
 
@@ -257,6 +271,8 @@ fn put(alloc: Global, row: &mut Row, naming: &Naming<'_>, part: Part<'_>) -> Res
         Part::Known(number) => row.maybe_number(number),
         Part::Change(number, before) => row.change(number, before),
         Part::Flag(flag) => put_flag(row, naming, flag),
+        Part::KnownFlag(Some(flag)) => put_flag(row, naming, flag),
+        Part::KnownFlag(None) => row.empty(),
         Part::Land(land) => put_name(alloc, row, naming, land_name(naming.returns, land)),
         Part::Party(party) => put_name(alloc, row, naming, party_name(naming.returns, party)),
         Part::Win(win) => put_name(alloc, row, naming, win_name(naming.returns, win)),
@@ -267,6 +283,7 @@ fn put(alloc: Global, row: &mut Row, naming: &Naming<'_>, part: Part<'_>) -> Res
         Part::LongScope(scope) => put_long_scope(alloc, row, naming, scope),
         Part::Met(conditions, met) => put_met(alloc, row, naming, conditions, met),
         Part::Percent(part, whole) => put_percent(alloc, row, part, whole),
+        Part::Rounded(part, whole) => put_rounded(alloc, row, part, whole),
         Part::Fraction(Some(fraction)) => put_fraction(alloc, row, fraction),
         Part::Fraction(None) => put_empty_pair(row),
     }

@@ -1,22 +1,24 @@
 //! The sheets of scopes: a line for each, and the entries of each.
 
-ghost use Rattle.std.specs.Prelude.{◌≡◌, ◌++◌, ◌∷◌, [], IfOk, OnOk, if◌then◌else◌, is_some};
-ghost use Rattle.sl_report_forms.specs.Cells.{a_number, a_text, nothing};
+ghost use Rattle.std.specs.Prelude.{◌≡◌, ◌++◌, ◌∷◌, [], IfOk, OnOk, if◌then◌else◌};
+ghost use Rattle.sl_report_forms.specs.Cells.{a_number, nothing};
 ghost use Rattle.sl_report_forms.specs.Tables.{contents_of, table_of, with_rows};
 ghost use Rattle.sl_report_tables.specs.Parts.{cells_of, fraction_cells, sides_of};
-ghost use Rattle.sl_report_tables.specs.Scopes.{entries_table, entry_row, margin_cells, names_cell, scope_row, scopes_table};
+ghost use Rattle.sl_report_tables.specs.Scopes.{divisor_cell, entries_table, entry_row, margin_cells, names_cell, scope_row, scopes_table};
 
+use crate::lowest::lowest_text;
 use crate::naming::{Naming, stage_name};
 use crate::rows::{Part, push_name, push_row, put_parts, titled};
 use crate::titles;
 use crate::words::method_word;
 use sl_ratio::NoMemory;
 use sl_report_forms::{Form, Look, Row, Sheet};
-use sl_report_results::{Entry, Scoped};
+use sl_report_results::{Entry, Fraction, Scoped};
 use sl_stages::{Book, Scope};
 use std::alloc::Global;
 
-const SCOPES: [Form; 13] = [
+/// The columns of scopes.
+pub(crate) const SCOPES: [Form; 14] = [
     ("stage", "stage", "Stufe", Look::Text(10)),
     ("scope", "", "", Look::Hidden),
     ("scope_name", "scope", "Bereich", Look::Text(20)),
@@ -30,9 +32,10 @@ const SCOPES: [Form; 13] = [
     ("quota_exact", "", "", Look::Hidden),
     ("last", "last seat", "letzter Sitz", Look::Text(14)),
     ("next", "next claim", "nächster Anspruch", Look::Text(14)),
+    ("lot", "", "", Look::Hidden),
 ];
 
-const ENTRIES: [Form; 12] = [
+const ENTRIES: [Form; 13] = [
     ("stage", "", "", Look::Hidden),
     ("scope", "", "", Look::Hidden),
     ("entry", "", "", Look::Hidden),
@@ -45,6 +48,7 @@ const ENTRIES: [Form; 12] = [
     ("seats", "seats", "Sitze", Look::Number),
     ("minimum", "minimum", "Minimum", Look::Number),
     ("missing", "votes missing", "Stimmen fehlen", Look::Number),
+    ("lot", "lot", "Los", Look::Text(4)),
 ];
 
 // The short names of the entries of these numbers.
@@ -97,17 +101,18 @@ fn put_names(
     row.names(short, long_names(alloc, naming, scoped, numbers)?)
 }
 
-// Adds the divisor of a scope, if there is one.
+// Adds the divisor of a scope, or that on the border of equal claims, if there is one.
 fn put_divisor(alloc: Global, row: &mut Row, scoped: &Scoped) -> Result<(), NoMemory>
-    ensures { OnOk result (contents_of row.new.cells.items ≡ contents_of row.old.cells.items ++ (if is_some scoped.now.divisor then a_text else nothing) ∷ []) }
+    ensures { OnOk result (contents_of row.new.cells.items ≡ contents_of row.old.cells.items ++ divisor_cell scoped.now ∷ []) }
 {
-    match &scoped.divisor {
-        Some(divisor) => row.own(divisor.text(alloc)?),
-        None => row.empty(),
+    match (&scoped.divisor, &scoped.border) {
+        (Some(divisor), _) => row.own(divisor.text(alloc)?),
+        (None, Some(border)) => row.own(lowest_text(alloc, Fraction::of_claim(*border))?),
+        (None, None) => row.empty(),
     }
 }
 
-// Adds the divisor or the quota of a scope, and who won the last seat and has the next claim.
+// Adds the divisor or the quota of a scope, who won the last seat and has the next claim, and whether a lot decided.
 fn put_margins(
     alloc: Global,
     row: &mut Row,
@@ -119,11 +124,12 @@ fn put_margins(
     put_divisor(alloc, row, scoped)?;
     put_parts(alloc, row, naming, &[Part::Fraction(scoped.quota)])?;
     put_names(alloc, row, naming, scoped, scoped.last.as_slice())?;
-    put_names(alloc, row, naming, scoped, scoped.next.as_slice())
+    put_names(alloc, row, naming, scoped, scoped.next.as_slice())?;
+    put_parts(alloc, row, naming, &[Part::KnownFlag(scoped.drawn)])
 }
 
-// Adds the row of a scope.
-fn push_scope(
+/// Adds the row of a scope.
+pub(crate) fn push_scope(
     alloc: Global,
     sheet: &mut Sheet,
     book: &Book,
@@ -198,6 +204,7 @@ fn push_entry(
         Part::Number(entry.seats),
         minimum,
         Part::Known(entry.missing),
+        Part::KnownFlag(entry.lot),
     ];
     push_row(alloc, sheet, naming, &parts)
 }

@@ -83,9 +83,29 @@ pub(crate) const CHANGES: Message = Message {
     german: "Sitze mehr oder weniger als nach dem ersten Regelwerk",
 };
 
+pub(crate) const LIST_SEATS: Message = Message {
+    english: "Seats of lists by rulebook",
+    german: "Sitze der Listen nach Regelwerk",
+};
+
 pub(crate) const EACH: Message = Message {
     english: "Seats of each party by each rulebook",
     german: "Sitze jeder Partei nach jedem Regelwerk",
+};
+
+pub(crate) const PRESS: Message = Message {
+    english: "Seats, constituencies and votes",
+    german: "Sitze, Wahlkreise und Stimmen",
+};
+
+pub(crate) const LAST_SEATS: Message = Message {
+    english: "Last seats and next claims",
+    german: "Letzte Sitze und nächste Ansprüche",
+};
+
+pub(crate) const LEFT_OUT: Message = Message {
+    english: "The largest party that does not take part",
+    german: "Die größte Partei, die nicht teilnimmt",
 };
 
 /// In place of the party of a winner who has none.

@@ -4,3 +4,4 @@ mod Files
 mod Shown
 mod Summaries
 mod Tellings
+mod Words

@@ -40,6 +40,7 @@ IsReportOf bytes book returns is_named ends = ForKnown (named_input bytes book) 
 -- a command that reports, by its status alone: its tables are no part of this
 abbrev pub IsReportEnd : (List ℕ → Option (List ℕ)) → Report → (is_named : Bool) → Status → Type 0
 IsReportEnd bytes (what.Count book returns) is_named ends = IsReportOf bytes book.now returns.now is_named ends
+IsReportEnd bytes (what.Short book returns) is_named ends = IsReportOf bytes book.now returns.now is_named ends
 IsReportEnd bytes (what.Stages book returns) is_named ends = IsReportOf bytes book.now returns.now is_named ends
 IsReportEnd bytes (what.Totals returns book) is_named ends = IsSummary bytes returns.now (given_word (option_map (λ word. word.now) book)) ends
 IsReportEnd bytes (what.Compare returns books) is_named ends = IsSummary bytes returns.now (map (λ word. word.now) books.items) ends

@@ -54,6 +54,7 @@ IsOfReport bytes book returns is_named Says = IsOfCount bytes records.Kept None 
 
 abbrev pub IsOfWhat : (List ℕ → Option (List ℕ)) → Report → (is_named : Bool) → (Said → Type 0) → Type 0
 IsOfWhat bytes (what.Count book returns) is_named Says = IsOfReport bytes book.now returns.now is_named Says
+IsOfWhat bytes (what.Short book returns) is_named Says = IsOfReport bytes book.now returns.now is_named Says
 IsOfWhat bytes (what.Stages book returns) is_named Says = IsOfReport bytes book.now returns.now is_named Says
 IsOfWhat bytes (what.Totals returns book) is_named Says = IsOfSums bytes returns.now (given_word (option_map (λ word. word.now) book)) Says
 IsOfWhat bytes (what.Compare returns books) is_named Says = IsOfComparison bytes returns.now (map (λ word. word.now) books.items) Says
@@ -71,6 +72,7 @@ IsOfFault bytes (asked.Report what form names) Says = IsOfWhat bytes what (is_so
 -- requests that warn of what they count
 abbrev pub warns_of : Report → Bool
 warns_of (what.Count book returns) = true
+warns_of (what.Short book returns) = true
 warns_of (what.Stages book returns) = true
 warns_of (what.Totals returns book) = false
 warns_of (what.Compare returns books) = true

@@ -9,6 +9,7 @@ mod commands;
 mod failure;
 mod manner;
 mod program;
+mod refused_books;
 mod reports;
 mod sums;
 mod telling;

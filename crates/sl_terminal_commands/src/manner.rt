@@ -1,5 +1,9 @@
 //! How the texts of `totals` and `compare` are written, and the digests of their inputs.
 
+ghost use Rattle.std.specs.Prelude.{◌≡◌, ◌<◌, ◌++◌, IfOk, OnOk, flat_map, length, option_map};
+ghost use Rattle.sl_report_commands.specs.Digests.{digests};
+ghost use Rattle.sl_terminal_commands.specs.Digested.{called_digests, named_digest, read_digest, sums_digests};
+
 use crate::reports::book_bytes;
 use crate::sums::{NamedBook, NamedReturns};
 use sl_explain_calls::Explained;
@@ -34,8 +38,7 @@ impl<'a> Manner<'a> {
 
     /// The text of an answer.
     pub(crate) fn text(self, alloc: Global, answer: &Answer) -> Result<Vec<u8>, NoMemory> {
-        let shape = self.style.shape;
-        text_of(alloc, self.command, shape, answer, self.inputs, None)
+        text_of(alloc, self.command, self.style, answer, self.inputs, None)
     }
 
     /// The text that refuses an input of these bytes by a line, with what was explained, if there was memory for that.
@@ -51,8 +54,7 @@ impl<'a> Manner<'a> {
             Ok(explained) => Some(told_of(explained, bytes)),
             Err(_) => None,
         };
-        let shape = self.style.shape;
-        text_of(alloc, self.command, shape, &answer, self.inputs, told)
+        text_of(alloc, self.command, self.style, &answer, self.inputs, told)
     }
 }
 
@@ -61,12 +63,29 @@ fn push_book(
     inputs: &mut Vec<DigestedInput>,
     book: &NamedBook<'_>,
     word: Option<String>,
-) -> Result<(), NoMemory> {
+) -> Result<(), NoMemory>
+    ensures { OnOk result (digests inputs.new.items ≡ digests inputs.old.items ++ named_digest book.now) }
+{
     let bytes = book_bytes(book.word, book.read.text.as_slice());
     push_digested(
         inputs,
         digested_book(word, bytes, refusal_of(&book.read.verdict)),
     )
+}
+
+// Adds the digests of rulebooks, each with the word that names it.
+fn push_books(
+    alloc: Global,
+    inputs: &mut Vec<DigestedInput>,
+    books: &[NamedBook<'_>],
+) -> Result<(), NoMemory>
+    ensures { OnOk result (digests inputs.new.items ≡ digests inputs.old.items ++ flat_map named_digest books.now) }
+{
+    for book in books {
+        let word = String::from_str(alloc, book.word)?;
+        push_book(inputs, book, Some(word))?;
+    }
+    Ok(())
 }
 
 // Adds the digests of the statutes of the library.
@@ -82,10 +101,9 @@ fn push_statutes(alloc: Global, inputs: &mut Vec<DigestedInput>) -> Result<(), N
 }
 
 // Adds the digest of returns, if they have bytes.
-fn push_returns(
-    inputs: &mut Vec<DigestedInput>,
-    returns: &NamedReturns<'_>,
-) -> Result<(), NoMemory> {
+fn push_returns(inputs: &mut Vec<DigestedInput>, returns: &NamedReturns<'_>) -> Result<(), NoMemory>
+    ensures { OnOk result (digests inputs.new.items ≡ digests inputs.old.items ++ read_digest returns.now) }
+{
     let read = &returns.read;
     push_digested(
         inputs,
@@ -99,7 +117,9 @@ pub(crate) fn inputs_of(
     book: Option<&NamedBook<'_>>,
     returns: &NamedReturns<'_>,
     style: Style,
-) -> Result<Vec<DigestedInput>, NoMemory> {
+) -> Result<Vec<DigestedInput>, NoMemory>
+    ensures { IfOk result (λ inputs. digests inputs.items ≡ sums_digests style.shape (option_map (λ b. b.now) book.entry) returns.now) }
+{
     let mut inputs = Vec::new(alloc);
     if !style.is_json() {
         return Ok(inputs);
@@ -118,15 +138,14 @@ pub(crate) fn called_inputs(
     books: &[NamedBook<'_>],
     returns: &NamedReturns<'_>,
     style: Style,
-) -> Result<Vec<DigestedInput>, NoMemory> {
+) -> Result<Vec<DigestedInput>, NoMemory>
+    ensures { 0 < length books.now → IfOk result (λ inputs. digests inputs.items ≡ called_digests style.shape books.now returns.now) }
+{
     let mut inputs = Vec::new(alloc);
     if !style.is_json() {
         return Ok(inputs);
     }
-    for book in books {
-        let word = String::from_str(alloc, book.word)?;
-        push_book(&mut inputs, book, Some(word))?;
-    }
+    push_books(alloc, &mut inputs, books)?;
     if books.is_empty() {
         push_statutes(alloc, &mut inputs)?;
     }

@@ -11,7 +11,18 @@ ghost use Rattle.sl_report_warnings.specs.declared.warning.Warning.{Warning};
 use crate::terminal::Terminal;
 use sl_count_inputs::{Sink, write_all};
 use sl_terminal_count::Outside;
-use sl_terminal_words::{Answer, Asked, request_of};
+use sl_terminal_words::{Answer, Asked, ReportForm, Request, request_of};
+
+// Whether it is a report in JSON.
+fn is_json(request: &Request<'_>) -> bool {
+    matches!(
+        request,
+        Request::Report {
+            form: ReportForm::Json,
+            ..
+        }
+    )
+}
 
 impl<O: Outside, W: Sink, E: Sink> Terminal<O, W, E> {
     /// Runs the command that is asked for, and answers the exit status. After the line of a refusal, a fault or an error it explains
@@ -28,9 +39,10 @@ impl<O: Outside, W: Sink, E: Sink> Terminal<O, W, E> {
     {
         self.set_options(asked.options);
         let command = asked.request.command();
+        let is_json = is_json(&asked.request);
         match self.ending(asked.request) {
             Ok(status) => status.number(),
-            Err(failure) => self.tell_failure(command, &failure),
+            Err(failure) => self.tell_failure(command, is_json, &failure),
         }
     }
 

@@ -8,6 +8,7 @@ ghost use Rattle.sl_count_inputs.specs.Reading.{ForKnown};
 ghost use Rattle.sl_count_inputs.specs.declared.status.Status.TheVariants as status;
 ghost use Rattle.sl_terminal_count.specs.Inputs.{named_input};
 ghost use Rattle.sl_report_commands.specs.Statuses.{judged_status};
+ghost use Rattle.sl_terminal_commands.specs.Digested.{word_bytes};
 ghost use Rattle.sl_terminal_commands.specs.Ends.{Ends, IsEarly};
 ghost use Rattle.sl_terminal_commands.specs.Requests.{IsReportEnd, IsReportOf};
 ghost use Rattle.sl_terminal_commands.specs.Said.{OnlyWarns, Says, judged_said};
@@ -35,13 +36,17 @@ pub(crate) struct Writing<'a> {
 fn shape_of(form: ReportForm) -> Shape {
     match form {
         ReportForm::Text => Shape::Text,
+        ReportForm::Markdown => Shape::Markdown,
+        ReportForm::Html => Shape::Html,
         ReportForm::Json => Shape::Json,
         ReportForm::Comma => Shape::Comma,
     }
 }
 
 // The bytes of the rulebook of a word: those of the library's after `@`, and else those that were read.
-pub(crate) fn book_bytes<'a>(word: &'a str, read: &'a [u8]) -> &'a [u8] {
+pub(crate) fn book_bytes<'a>(word: &'a str, read: &'a [u8]) -> &'a [u8]
+    ensures { result.now ≡ word_bytes word.now read.now }
+{
     match word.strip_prefix('@') {
         Some(name) => bytes_of(BookText::Library(name)),
         None => read,
@@ -187,6 +192,9 @@ impl<O: Outside, W: Sink, E: Sink> Terminal<O, W, E> {
         match what {
             Report::Count { book, returns } => {
                 self.report_count(Show::Report, *book, *returns, writing)
+            }
+            Report::Short { book, returns } => {
+                self.report_count(Show::Short, *book, *returns, writing)
             }
             Report::Stages { book, returns } => {
                 self.report_count(Show::Stages, *book, *returns, writing)

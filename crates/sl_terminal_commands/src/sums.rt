@@ -15,6 +15,7 @@ ghost use Rattle.sl_terminal_commands.specs.inner.Verdicts.{IsDoneOrRefused, IsE
 
 use crate::failure::Failure;
 use crate::manner::{Manner, called_inputs, inputs_of};
+use crate::refused_books::{FirstRefused, explain_refused, first_refused};
 use crate::reports::Writing;
 use crate::telling::ReadFile;
 use crate::terminal::Terminal;
@@ -22,7 +23,7 @@ use sl_count_inputs::{
     Input, ReadBook, ReadReturns, RefusedBook, RefusedElection, Sink, Status, Verdict, read_book,
     read_election,
 };
-use sl_explain_calls::{explain_book, explain_election};
+use sl_explain_calls::explain_election;
 use sl_ratio::NoMemory;
 use sl_report_commands::{
     Answer, Compared, FullNames, Language, compare_judged, compare_statutes, totals_answer,
@@ -43,21 +44,6 @@ pub(crate) struct NamedBook<'a> {
 pub(crate) struct NamedReturns<'a> {
     pub(crate) path: &'a str,
     pub(crate) read: ReadReturns,
-}
-
-// The first of some rulebooks that is refused.
-fn first_refused<'a, 'b>(
-    books: &'a [NamedBook<'b>],
-) -> Option<(&'a NamedBook<'b>, &'a RefusedBook<'b>)>
-    ensures good { result ≡ None → All (λ b. IsGood b.read.verdict) books.now }
-    ensures refused { IfSome result (λ both. Contains books.now both.0.now × (both.0.now.read.verdict ≡ Refused both.1.now)) }
-{
-    for book in books {
-        if let Verdict::Refused(refused) = &book.read.verdict {
-            return Some((book, refused));
-        }
-    }
-    None
 }
 
 // The rulebook of a verdict, if it is good.
@@ -128,26 +114,25 @@ impl<O: Outside, W: Sink, E: Sink> Terminal<O, W, E> {
         Ok(NamedReturns { path, read })
     }
 
-    // Refuses a rulebook.
+    // Refuses a rulebook, and tells of those after it that are refused too.
     #[tactic(auto, using(crate::proofs::Deliveries::ends_early))]
     fn refuse_book<'a>(
         &mut self,
-        book: &NamedBook<'_>,
-        refused: &RefusedBook<'_>,
+        first: FirstRefused<'_, '_>,
         manner: Manner<'_>,
     ) -> Result<Status, Failure<'a, O::Reason>>
         ensures ends { Ends (λ ends _. ends ≡ status.Refused) (W.contents self.old.out) (W.contents self.new.out) result }
         ensures silent { IfOk result (λ ends. IsSilent self.old.is_quiet ends → self.new.err ≡ self.old.err) }
-        ensures told { IfOk result (λ _. Says E.contents self.old self.new (fault (subject input.Book (book_code refused.now)))) }
+        ensures told { IfOk result (λ _. Says E.contents self.old self.new (fault (subject input.Book (book_code first.entry.refused.now)))) }
     {
-        let (alloc, bytes) = (self.alloc, book.read.text.as_slice());
-        let line = refused.why().line(alloc)?;
-        let explained = explain_book(alloc, self.language, bytes, refused);
+        let (alloc, bytes) = (self.alloc, first.book.read.text.as_slice());
+        let line = first.refused.why().line(alloc)?;
+        let explained = explain_refused(alloc, self.language, first);
         let text = manner.refusal(alloc, line, &explained, bytes)?;
         let status = self.write_text(Status::Refused, text.as_slice())?;
         let file = ReadFile {
             input: Input::Book,
-            path: book.word,
+            path: first.book.word,
             bytes,
         };
         self.tell_refusal(status, file, explained);
@@ -239,7 +224,14 @@ impl<O: Outside, W: Sink, E: Sink> Terminal<O, W, E> {
     {
         match &book.read.verdict {
             Verdict::Good(good) => self.sum_up(Some(good), returns, names, manner),
-            Verdict::Refused(refused) => self.refuse_book(book, refused, manner),
+            Verdict::Refused(refused) => {
+                let first = FirstRefused {
+                    book,
+                    refused,
+                    further: &[],
+                };
+                self.refuse_book(first, manner)
+            }
         }
     }
 
@@ -332,10 +324,15 @@ impl<O: Outside, W: Sink, E: Sink> Terminal<O, W, E> {
         ensures silent { IfOk result (λ ends. IsSilent self.old.is_quiet ends → self.new.err ≡ self.old.err) }
         ensures told { IfOk result (λ _. IsOfOneOf books.now (Refused refused.now) (Says E.contents self.old self.new)) }
     {
-        if let Some(first) = books.first()
-            && let Verdict::Refused(why) = &first.read.verdict
+        if let Some(book) = books.first()
+            && let Verdict::Refused(refused) = &book.read.verdict
         {
-            return self.refuse_book(first, why, manner);
+            let first = FirstRefused {
+                book,
+                refused,
+                further: &books[1..],
+            };
+            return self.refuse_book(first, manner);
         }
         self.refuse_returns(returns, refused, manner)
     }
@@ -355,7 +352,7 @@ impl<O: Outside, W: Sink, E: Sink> Terminal<O, W, E> {
     {
         match &returns.read.verdict {
             Verdict::Good(election) => match first_refused(books.as_slice()) {
-                Some((book, refused)) => self.refuse_book(book, refused, manner),
+                Some(first) => self.refuse_book(first, manner),
                 None => self.finish_comparison(books, election, names, manner),
             },
             Verdict::Refused(refused) => {

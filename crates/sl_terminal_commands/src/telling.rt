@@ -19,8 +19,9 @@ use sl_explain_calls::{
     Explained, Lost, explain_check, explain_failure, explain_kept, explain_opening, explain_read,
     explain_writing,
 };
-use sl_explain_texts::{Explanation, Language, written};
+use sl_explain_texts::{Explanation, Language, VERSION, written};
 use sl_ratio::NoMemory;
+use sl_report_commands::failed_text;
 use sl_report_warnings::warnings_of;
 use sl_stages::{Book, Returns};
 use sl_terminal_count::{Outside, Unopened};
@@ -229,11 +230,8 @@ impl<O: Outside, W: Sink, E: Sink> Terminal<O, W, E> {
         ensures only { OnlyTells self.old self.new }
     {
         self.write_line(&unopened.error());
-        if let Ok(reason) = self.reason(&unopened.reason) {
-            let (alloc, input, path) = (self.alloc, unopened.input, unopened.path);
-            let told = explain_opening(alloc, self.language, command, input, path, reason.as_str());
-            self.tell_alone(told);
-        }
+        let told = self.opening(command, unopened);
+        self.tell_alone(told);
     }
 
     // Says that a file could not be made, and why.
@@ -267,8 +265,75 @@ impl<O: Outside, W: Sink, E: Sink> Terminal<O, W, E> {
         1
     }
 
-    // Says why a command did not come to its end, and answers its exit status.
-    pub(crate) fn tell_failure(&mut self, command: &str, failure: &Failure<'_, O::Reason>) -> u8
+    // Says as JSON that there is no memory, in pieces that need none.
+    fn tell_no_memory(&mut self, command: &'static str)
+        ensures only { OnlyTells self.old self.new }
+    {
+        let _ = write_all(&mut self.err, b"{\"command\":\"");
+        let _ = write_all(&mut self.err, command.as_bytes());
+        let _ = write_all(
+            &mut self.err,
+            b"\",\"explanation\":null,\"fault\":\"out of memory\",\"inputs\":[],\"program\":\"",
+        );
+        let _ = write_all(&mut self.err, VERSION.as_bytes());
+        let _ = write_all(
+            &mut self.err,
+            b"\",\"schema\":2,\"status\":5,\"tables\":{}}\n",
+        );
+    }
+
+    // Says an error as JSON, with what is explained of it, if anything is; where there is no memory for that, that there is none.
+    fn tell_json(&mut self, command: &'static str, error: DeskError, explained: Option<Explanation>)
+        ensures only { OnlyTells self.old self.new }
+    {
+        match failed_text(
+            self.alloc,
+            command,
+            self.language,
+            error,
+            explained.as_ref(),
+        ) {
+            Ok(text) => {
+                let _ = write_all(&mut self.err, text.as_slice());
+            }
+            Err(NoMemory) => self.tell_no_memory(command),
+        }
+    }
+
+    // What is explained of an input that could not be opened, if there is memory for it.
+    fn opening(
+        &self,
+        command: &str,
+        unopened: &Unopened<'_, O::Reason>,
+    ) -> Result<Explanation, NoMemory> {
+        let reason = self.reason(&unopened.reason)?;
+        let (alloc, input, path) = (self.alloc, unopened.input, unopened.path);
+        explain_opening(alloc, self.language, command, input, path, reason.as_str())
+    }
+
+    // Says as JSON why a command that reports did not come to its end, and answers its exit status.
+    fn tell_as_json(&mut self, command: &'static str, failure: &Failure<'_, O::Reason>) -> u8
+        ensures number { result ≡ failure_number failure.now }
+        ensures only { OnlyTells self.old self.new }
+    {
+        match failure {
+            Failure::Unopened(unopened) => {
+                let explained = self.opening(command, unopened).ok();
+                self.tell_json(command, unopened.error(), explained);
+            }
+            Failure::Call(error) => {
+                let explained = explain_failure(self.alloc, self.language, *error);
+                self.tell_json(command, *error, explained.ok().flatten());
+            }
+            Failure::Unmade { .. } | Failure::Kept(_) | Failure::Same(_) => {
+                return self.tell_plainly(command, failure);
+            }
+        }
+        5
+    }
+
+    // Says in lines why a command did not come to its end, and answers its exit status.
+    fn tell_plainly(&mut self, command: &str, failure: &Failure<'_, O::Reason>) -> u8
         ensures number { result ≡ failure_number failure.now }
         ensures only { OnlyTells self.old self.new }
     {
@@ -280,5 +345,22 @@ impl<O: Outside, W: Sink, E: Sink> Terminal<O, W, E> {
             Failure::Same(path) => return self.refuse_file(path, Lost::Rulebook),
         }
         5
+    }
+
+    /// Says why a command did not come to its end, as JSON where its report is JSON, and answers its exit status.
+    pub(crate) fn tell_failure(
+        &mut self,
+        command: &'static str,
+        is_json: bool,
+        failure: &Failure<'_, O::Reason>,
+    ) -> u8
+        ensures number { result ≡ failure_number failure.now }
+        ensures only { OnlyTells self.old self.new }
+    {
+        if is_json {
+            self.tell_as_json(command, failure)
+        } else {
+            self.tell_plainly(command, failure)
+        }
     }
 }

@@ -101,7 +101,7 @@ impl Request<'_> {
             Request::Law { .. } => "law",
             Request::Explain { .. } => "explain",
             Request::Report { what, .. } => match what {
-                Report::Count { .. } => "report",
+                Report::Count { .. } | Report::Short { .. } => "report",
                 Report::Stages { .. } => "stages",
                 Report::Totals { .. } => "totals",
                 Report::Compare { .. } => "compare",

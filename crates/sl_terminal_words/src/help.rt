@@ -2,8 +2,8 @@
 
 use crate::statuses::{ALL, COUNTS, READS, RUNS, TELLS};
 use crate::words::{
-    BOOK, BOOKS, CODE_FILE, CODE_OPTIONS, FAULT_CODE, OPTIONAL_BOOK, OPTIONS, OUT, REPORT_OPTIONS,
-    RETURNS, STAGE_NAME, STATUTE, Word,
+    BOOK, BOOKS, CODE_FILE, CODE_OPTIONS, COUNT_REPORT_OPTIONS, FAULT_CODE, OPTIONAL_BOOK, OPTIONS,
+    OUT, REPORT_OPTIONS, RETURNS, STAGE_NAME, STATUTE, Word,
 };
 use sl_explain_texts::Message;
 
@@ -197,7 +197,7 @@ const REPORT: Form = Form {
         german: "Zählt eine Wahl aus und schreibt alles daran in Tabellen zum Lesen",
     },
     words: &[BOOK, RETURNS],
-    options: &REPORT_OPTIONS,
+    options: &COUNT_REPORT_OPTIONS,
     more: Message {
         english: "Reads a rulebook and returns. Writes who takes part and why; the seats of parties and\n\
                   lists; for each distribution a divisor, the quotients, the last seat, the next claim and\n\
@@ -259,12 +259,12 @@ const COMPARE: Form = Form {
     options: &REPORT_OPTIONS,
     more: Message {
         english: "Reads returns and rulebooks; without one, the six statutes of the library. Writes the\n\
-                  seats of each party by each of them, and the first stage in which they differ from the\n\
-                  first one. A legal fault stands in the column of its rulebook.",
+                  seats of each party and of each list by each of them, and the first stage in which they\n\
+                  differ from the first one. A legal fault stands in the column of its rulebook.",
         german: "Liest Wahlergebnisse und Regelwerke; ohne Regelwerk die sechs Gesetze der Bibliothek.\n\
-                 Schreibt die Sitze jeder Partei nach jedem davon, und die erste Stufe, in der ein\n\
-                 Regelwerk vom ersten abweicht. Ein rechtlicher Fehler steht in der Spalte seines\n\
-                 Regelwerks.",
+                 Schreibt die Sitze jeder Partei und jeder Liste nach jedem davon, und die erste Stufe,\n\
+                 in der ein Regelwerk vom ersten abweicht. Ein rechtlicher Fehler steht in der Spalte\n\
+                 seines Regelwerks.",
     },
     example: "compare returns.csv @2013 @2023-order",
     statuses: &READS,

@@ -56,8 +56,8 @@ const OPTION_BEHIND: Message = Message {
 };
 
 const REPORTS: Message = Message {
-    english: "`--json`, `--csv` and `--names` are options of report, stages, totals and compare",
-    german: "`--json`, `--csv` und `--names` sind Optionen von report, stages, totals und compare",
+    english: "`--markdown`, `--html`, `--json`, `--csv` and `--names` are options of report, stages, totals and compare",
+    german: "`--markdown`, `--html`, `--json`, `--csv` und `--names` sind Optionen von report, stages, totals und compare",
 };
 
 const CODE_ALONE: Message = Message {
@@ -65,9 +65,19 @@ const CODE_ALONE: Message = Message {
     german: "`--force` ist eine Option von code",
 };
 
+const REPORT_ALONE: Message = Message {
+    english: "`--short` is an option of report",
+    german: "`--short` ist eine Option von report",
+};
+
+const IN_PLACE: Message = Message {
+    english: "files stand in their places, without a name, as in `seatlaw count @2023-order returns.csv`",
+    german: "Dateien stehen an ihrem Platz, ohne einen Namen, wie in `seatlaw count @2023-order returns.csv`",
+};
+
 const REDIRECT: Message = Message {
-    english: "a command writes to standard output: add `> FILE` to write a file, and `--json` or `--csv` to report, stages, totals or compare for another form",
-    german: "ein Befehl schreibt auf die Standardausgabe: `> DATEI` dahinter schreibt eine Datei, und `--json` oder `--csv` geben report, stages, totals und compare eine andere Form",
+    english: "a command writes to standard output: add `> FILE` to write a file, and `--markdown`, `--html`, `--json` or `--csv` to report, stages, totals or compare for another form",
+    german: "ein Befehl schreibt auf die Standardausgabe: `> DATEI` dahinter schreibt eine Datei, und `--markdown`, `--html`, `--json` oder `--csv` geben report, stages, totals und compare eine andere Form",
 };
 
 const STAGE: Message = Message {
@@ -116,8 +126,10 @@ fn about_option(word: &str) -> Option<&'static Message> {
         None => word,
     };
     match name {
-        "--json" | "--csv" | "--names" => Some(&REPORTS),
+        "--markdown" | "--html" | "--json" | "--csv" | "--names" => Some(&REPORTS),
+        "--short" => Some(&REPORT_ALONE),
         "--force" => Some(&CODE_ALONE),
+        "--book" | "--law" | "--returns" | "--input" | "--file" => Some(&IN_PLACE),
         "--output" | "--out" | "--format" | "-o" => Some(&REDIRECT),
         "-v" => Some(&VERSION),
         _ => None,

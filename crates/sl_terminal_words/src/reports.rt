@@ -11,6 +11,11 @@ pub enum Report<'a> {
         book: &'a str,
         returns: &'a str,
     },
+    /// What the press needs of one count.
+    Short {
+        book: &'a str,
+        returns: &'a str,
+    },
     /// All stages of a count.
     Stages {
         book: &'a str,
@@ -32,13 +37,19 @@ pub enum Report<'a> {
 #[derive(Clone, Copy)]
 pub enum ReportForm {
     Text,
+    Markdown,
+    Html,
     Json,
     Comma,
 }
 
 /// The form that is asked for.
 pub(crate) fn form_of(given: &ArgMatches<'_>) -> ReportForm {
-    if given.get_flag("json") {
+    if given.get_flag("markdown") {
+        ReportForm::Markdown
+    } else if given.get_flag("html") {
+        ReportForm::Html
+    } else if given.get_flag("json") {
         ReportForm::Json
     } else if given.get_flag("csv") {
         ReportForm::Comma
@@ -66,6 +77,9 @@ pub(crate) fn report_of<'a>(
     };
     let book = given.get_str("BOOK");
     Ok(match (command, book) {
+        ("report", Some(book)) if given.get_flag("short") => {
+            Some(Report::Short { book, returns })
+        }
         ("report", Some(book)) => Some(Report::Count { book, returns }),
         ("stages", Some(book)) => Some(Report::Stages { book, returns }),
         ("totals", book) => Some(Report::Totals { returns, book }),

@@ -106,9 +106,36 @@ pub(crate) const FAULT_CODE: Word = Word {
     },
 };
 
+const SHORT: Word = Word {
+    name: "short",
+    given: Given::Flag(&[]),
+    help: Message {
+        english: "A page for the press: seats, votes, the last seat and the next claim",
+        german: "Eine Seite für die Presse: Sitze, Stimmen, letzter Sitz, nächster Anspruch",
+    },
+};
+
+const MARKDOWN: Word = Word {
+    name: "markdown",
+    given: Given::Flag(&[]),
+    help: Message {
+        english: "Write Markdown",
+        german: "Schreibt Markdown",
+    },
+};
+
+const HTML: Word = Word {
+    name: "html",
+    given: Given::Flag(&["markdown"]),
+    help: Message {
+        english: "Write a page of HTML",
+        german: "Schreibt eine HTML-Seite",
+    },
+};
+
 const JSON: Word = Word {
     name: "json",
-    given: Given::Flag(&[]),
+    given: Given::Flag(&["markdown", "html"]),
     help: Message {
         english: "Write JSON (docs/report.md)",
         german: "Schreibt JSON (docs/report.md)",
@@ -117,7 +144,7 @@ const JSON: Word = Word {
 
 const CSV: Word = Word {
     name: "csv",
-    given: Given::Flag(&["json"]),
+    given: Given::Flag(&["markdown", "html", "json"]),
     help: Message {
         english: "Write comma-separated values",
         german: "Schreibt kommagetrennte Werte",
@@ -194,4 +221,9 @@ pub(crate) const OPTIONS: [Word; 2] = [QUIET, LANGUAGE];
 
 pub(crate) const CODE_OPTIONS: [Word; 3] = [FORCE, QUIET, LANGUAGE];
 
-pub(crate) const REPORT_OPTIONS: [Word; 5] = [JSON, CSV, NAMES, QUIET, LANGUAGE];
+/// Those of `report`.
+pub(crate) const COUNT_REPORT_OPTIONS: [Word; 8] = [
+    SHORT, MARKDOWN, HTML, JSON, CSV, NAMES, QUIET, LANGUAGE,
+];
+
+pub(crate) const REPORT_OPTIONS: [Word; 7] = [MARKDOWN, HTML, JSON, CSV, NAMES, QUIET, LANGUAGE];

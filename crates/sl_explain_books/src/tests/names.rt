@@ -1,7 +1,9 @@
 //! Names of stages: one that two have, one that none has, and the one that the last clause asks for.
 
-ghost use Rattle.std.specs.Prelude.{◌≡◌, IfOk, Some};
+ghost use Rattle.std.specs.Prelude.{◌≡◌, IfOk, None, Some, map, option_map};
+ghost use Rattle.sl_explain_books.specs.Further.{stage_at};
 ghost use Rattle.sl_explain_texts.specs.declared.code.FaultCode.TheVariants.{B14, B15, B21};
+ghost use Rattle.sl_stages.specs.book.Trees.{stage_of};
 
 use super::columns::{column_words, types_of};
 use crate::near::{columns_of_returns, help_nearest_stage, help_stages};
@@ -109,9 +111,17 @@ pub fn above(stages: &[Stage], at: usize) -> &[Stage] {
     stages.get(..count).unwrap_or(&[])
 }
 
-/// The stage in which an offset lies.
-pub fn around(stages: &[Stage], at: usize) -> Option<&Stage> {
-    stages.get(stages_before(stages, at).saturating_sub(1))
+/// The stage in which an offset lies: the last of those that begin no later.
+pub fn around(stages: &[Stage], at: usize) -> Option<&Stage>
+    ensures { option_map (λ s. s.now.at) result ≡ stage_at at None (map stage_of stages.now) }
+{
+    let mut found = None;
+    for stage in stages {
+        if stage.at <= at {
+            found = Some(stage);
+        }
+    }
+    found
 }
 
 /// The first stage of a name.

@@ -10,13 +10,13 @@ use Rattle.sl_report_commands.specs.Summaries.{IsGoodNamed}
 use Rattle.sl_report_commands.specs.declared.comparison.Compared.{Compared}
 use Rattle.sl_report_commands.specs.declared.comparison.Named.{Named}
 
-pub loop-named-preserved : goal.loop-named-preserved
-loop-named-preserved c =
+pub loop-number-preserved : goal.loop-number-preserved
+loop-number-preserved c =
     let books = c.args.books.now in
-    let i = c.loop-named.named-index in
+    let i = c.loop-number.number in
     let none : Named = record { word = record { ref_ptr = (0, 0); now = [] }; book = Library record { ref_ptr = (0, 0); now = [] } } in
     let named : Named = get_or books i none in
     let compared : Compared = record { word = named.word; book = c.in-Good.book } in
     subst (λ all. AllZip IsGoodNamed (take (i + 1) books) all) (sym c.in_ok-push-in-Good.ensures.items)
-    (one_more books i named c.loop-named.good.items compared (slice_get-get_or books i none c.loop-named-test.true)
-    (refl, subst (λ v. IsBookVerdict (input_of named.book) (tree_verdict v)) c.in-Good.is c.in_ok-book.ensures) c.loop-named.invariant)
+    (one_more books i named c.loop-number.good.items compared (slice_get-get_or books i none c.loop-number-test.true)
+    (refl, subst (λ v. IsBookVerdict (input_of named.book) (tree_verdict v)) c.in-Good.is c.in_ok-book.ensures) c.loop-number.invariant)

@@ -10,13 +10,20 @@ pub loop-number-preserved : goal.loop-number-preserved
 loop-number-preserved c =
     let xs = c.args.entries.now in
     let ys = c.args.lacking.now in
+    let zs = c.args.marks.now in
     let n = c.loop-number.number in
-    map_next (λ z. with_margins c.args.divisor.now z.0 z.1) (zip xs ys) n (c.entry_at.result, c.lack_at-missing.result) _ _ _
-    (zip_at xs ys n c.entry_at.result c.lack_at-missing.result c.entry_at.ensures c.lack_at-missing.ensures)
+    map_next (λ z. with_margins c.args.divisor.now c.args.border.now z.0 z.1.0 z.1.1) (zip xs (zip ys zs)) n
+    (c.entry_at-entry.result, (c.lack_at-missing.result, c.mark_at-lot.result)) _ _ _
+    (zip_at xs (zip ys zs) n c.entry_at-entry.result (c.lack_at-missing.result, c.mark_at-lot.result) c.entry_at-entry.ensures
+    (zip_at ys zs n c.lack_at-missing.result c.mark_at-lot.result c.lack_at-missing.ensures c.mark_at-lot.ensures))
     c.loop-number.invariant c.in_ok-push.ensures.items c.margin_entry.ensures
 
 pub returns : goal.returns
 returns c =
+    let xs = c.args.entries.now in
+    let ys = c.args.lacking.now in
+    let zs = c.args.marks.now in
     c.loop-number.invariant
-    ∙ ap (map (λ x. with_margins c.args.divisor.now x.0 x.1))
-    (take_all c.loop-number.number (zip c.args.entries.now c.args.lacking.now) (omega (arith, c.loop-number-test.false, c.requires, length-zip c.args.entries.now c.args.lacking.now)))
+    ∙ ap (map (λ x. with_margins c.args.divisor.now c.args.border.now x.0 x.1.0 x.1.1))
+    (take_all c.loop-number.number (zip xs (zip ys zs))
+    (omega (arith, c.loop-number-test.false, c.requires.lacking, c.requires.marks, length-zip xs (zip ys zs), length-zip ys zs)))

@@ -15,16 +15,16 @@ use Rattle.sl_terminal_commands.specs.inner.Verdicts.{IsDoneOrRefused, IsEndOfAl
 pub returns-in-Some-clause-told : goal.returns-in-Some-clause-told
 returns-in-Some-clause-told g c =
     let books = c.args.books.items in
-    let book = c.in-Some.book.now in
+    let book = c.in-Some.first.book.now in
     let says = Says g.E.Sink.contents c.args.self.now c.refuse_book.new.self in
-    ok_wider (λ (ends : Status). says (fault (subject input.Book (book_code c.in-Some.refused.now))))
+    ok_wider (λ (ends : Status). says (fault (subject input.Book (book_code c.in-Some.first.refused.now))))
     (λ (ends : Status). IsOfCompared books c.args.returns.now.read.verdict says) c.refuse_book.result
     (
     λ ends told.
     inl (
     inr (
       book,
-      c.in-Some.refused.now,
+      c.in-Some.first.refused.now,
       subst (λ all. Contains all book) c.as_slice.ensures.value c.in-Some.ensures.refused.0,
       c.in-Some.ensures.refused.1,
       told,

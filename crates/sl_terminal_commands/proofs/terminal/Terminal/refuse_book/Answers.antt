@@ -6,6 +6,6 @@ use Rattle.sl_terminal_commands.specs.Said.{fault}
 
 pub returns-clause-told : goal.returns-clause-told
 returns-clause-told g c =
-    let s = subject input.Book (book_code c.args.refused.now) in
+    let s = subject input.Book (book_code c.args.first.refused.now) in
     says_after g.E.Sink.contents c.args.self.now c.write_text.new.self c.tell_refusal.new.self (fault s) c.in_ok-status.ensures.untold
-    (c.tell_refusal.ensures.told s c.explain_book-explained.ensures)
+    (c.tell_refusal.ensures.told s c.explain_refused-explained.ensures)

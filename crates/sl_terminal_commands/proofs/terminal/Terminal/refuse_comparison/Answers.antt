@@ -13,7 +13,7 @@ pub returns-clause-told : goal.returns-clause-told
 returns-clause-told g c =
     let books = c.args.books.now in
     let says = Says g.E.Sink.contents c.args.self.now c.refuse_book.new.self in
-    ok_wider (λ (ends : Status). says (fault (subject input.Book (book_code c.in-Refused.why))))
+    ok_wider (λ (ends : Status). says (fault (subject input.Book (book_code c.in-Refused.refused))))
     (λ (ends : Status). IsOfOneOf books (Refused c.args.refused.now) says) c.refuse_book.result
-    (λ ends told. inr (c.in-Some.first.now, c.in-Refused.why, contains_first books c.in-Some.first.now c.in-Some.ensures.value, c.in-Refused.is, told))
+    (λ ends told. inr (c.in-Some.book.now, c.in-Refused.refused, contains_first books c.in-Some.book.now c.in-Some.ensures.value, c.in-Refused.is, told))
     c.refuse_book.ensures.told

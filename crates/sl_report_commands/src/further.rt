@@ -1,0 +1,35 @@
+//! The further ones of several rulebooks that are refused, in a line each.
+
+ghost use Rattle.std.specs.Prelude.{◌≡◌};
+ghost use Rattle.sl_explain_calls.specs.Codes.{subject_of};
+
+use sl_count_inputs::RefusedBook;
+use sl_explain_calls::{Explained, explain_book};
+use sl_explain_texts::{Language, Message, push_shown};
+use sl_ratio::NoMemory;
+use std::alloc::Global;
+
+// Values: the word that names the rulebook, and what is wrong with it.
+const ALSO: Message = Message {
+    english: "also refused: $: $",
+    german: "auch abgelehnt: $: $",
+};
+
+/// Adds a line on a further rulebook of this text that is refused: the word that names it, and the sentence of its own explanation.
+pub fn add_refused(
+    alloc: Global,
+    language: Language,
+    explained: &mut Explained,
+    word: &str,
+    text: &[u8],
+    refused: &RefusedBook<'_>,
+) -> Result<(), NoMemory>
+    ensures { subject_of explained.new ≡ subject_of explained.old }
+{
+    let own = explain_book(alloc, language, text, refused)?;
+    let mut shown: Vec<u8> = Vec::new(alloc);
+    push_shown(&mut shown, word.as_bytes())?;
+    let values = [shown.as_slice(), own.explanation.sentence()];
+    let line = ALSO.text(alloc, language, &values)?;
+    explained.explanation.line(line)
+}

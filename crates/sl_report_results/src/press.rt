@@ -1,0 +1,105 @@
+//! The parties that a press report shows, by their seats, and those that it leaves out, by their votes.
+
+ghost use Rattle.std.specs.Prelude.{◌≡◌, ◌++◌, ◌∷◌, [], IfOk, OnOk, filter, map};
+ghost use Rattle.sl_report_results.specs.Press.{AreLeftOut, ArePressed, below_most, is_left_out, is_pressed, pressed_of, standing_of};
+ghost use Rattle.sl_stages.specs.returns.Facts.{parties};
+
+use crate::facts::Setting;
+use crate::parts::PartyPart;
+use crate::seats::{Seats, seats_of};
+use sl_ratio::NoMemory;
+use sl_stages::Table;
+use std::alloc::Global;
+
+/// A party by its number, with its seats, its votes and the constituencies that it won.
+#[derive(Clone, Copy)]
+pub struct Pressed {
+    pub party: usize,
+    pub seats: Seats,
+    pub part: PartyPart,
+}
+
+/// A party by its number, with its votes, the constituencies that it won, and the condition that it meets.
+#[derive(Clone, Copy)]
+pub struct Standing {
+    pub party: usize,
+    pub part: PartyPart,
+}
+
+// Adds a party that has a seat, or won a constituency.
+fn push_pressed(found: &mut Vec<Pressed>, pressed: Pressed) -> Result<(), NoMemory>
+    ensures { OnOk result (found.new.items ≡ found.old.items ++ filter is_pressed (pressed ∷ [])) }
+{
+    if pressed.seats.seats > 0 || pressed.part.winners > 0 {
+        found.push(pressed)?;
+    }
+    Ok(())
+}
+
+// The parties with a seat or a constituency, in the order of the returns.
+fn with_seats(alloc: Global, setting: &Setting<'_>, table: &Table) -> Result<Vec<Pressed>, NoMemory>
+    ensures { IfOk result (λ found. found.items ≡ filter is_pressed (map (pressed_of setting.now.book.now.eligible.items table.now setting.now.returns.now) (parties setting.now.returns.now))) }
+{
+    let mut found: Vec<Pressed> = Vec::new(alloc);
+    for party in 0..setting.returns.parties() {
+        let pressed = Pressed {
+            party,
+            seats: seats_of(table, setting.returns, party),
+            part: setting.part(party),
+        };
+        push_pressed(&mut found, pressed)?;
+    }
+    Ok(found)
+}
+
+/// The parties with a seat or a constituency, those with the most seats first, and of as many seats in the order of the returns.
+pub fn by_seats(
+    alloc: Global,
+    setting: &Setting<'_>,
+    table: &Table,
+) -> Result<Vec<Pressed>, NoMemory>
+    ensures { IfOk result (λ found. ArePressed setting.now.book.now.eligible.items table.now setting.now.returns.now found.items) }
+{
+    let mut found = with_seats(alloc, setting, table)?;
+    found.sort_by_key(
+        |pressed|
+            ensures { result ≡ below_most pressed.now.seats.seats }
+        { u64::MAX - pressed.seats.seats },
+    )?;
+    Ok(found)
+}
+
+// Adds a party that meets no condition.
+fn push_left_out(found: &mut Vec<Standing>, standing: Standing) -> Result<(), NoMemory>
+    ensures { OnOk result (found.new.items ≡ found.old.items ++ filter is_left_out (standing ∷ [])) }
+{
+    if standing.part.met.is_none() {
+        found.push(standing)?;
+    }
+    Ok(())
+}
+
+// The parties that meet no condition, in the order of the returns.
+fn without_condition(alloc: Global, setting: &Setting<'_>) -> Result<Vec<Standing>, NoMemory>
+    ensures { IfOk result (λ found. found.items ≡ filter is_left_out (map (standing_of setting.now.book.now.eligible.items setting.now.returns.now) (parties setting.now.returns.now))) }
+{
+    let mut found: Vec<Standing> = Vec::new(alloc);
+    for party in 0..setting.returns.parties() {
+        let part = setting.part(party);
+        push_left_out(&mut found, Standing { party, part })?;
+    }
+    Ok(found)
+}
+
+/// The parties that meet no condition, those with the most valid votes first, and of as many votes in the order of the returns.
+pub fn left_out(alloc: Global, setting: &Setting<'_>) -> Result<Vec<Standing>, NoMemory>
+    ensures { IfOk result (λ found. AreLeftOut setting.now.book.now.eligible.items setting.now.returns.now found.items) }
+{
+    let mut found = without_condition(alloc, setting)?;
+    found.sort_by_key(
+        |standing|
+            ensures { result ≡ below_most standing.now.part.votes.valid }
+        { u64::MAX - standing.part.votes.valid },
+    )?;
+    Ok(found)
+}

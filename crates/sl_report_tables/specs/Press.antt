@@ -1,0 +1,74 @@
+-- The tables of a press report (docs/report.md).
+use Rattle.std.specs.List.{AllZip}
+use Rattle.std.specs.Prelude.{◌≡◌, ℕ, Bool, true, false, List, [], ◌∷◌, ◌++◌, Option, codes, filter, length, map, take}
+use Rattle.sl_report_forms.specs.Cells.{Content, a_number, a_text, known, nothing}
+use Rattle.sl_report_forms.specs.Tables.{Table}
+use Rattle.sl_report_results.specs.Lacking.{AreVotesFor, AreWinnersFor, Lacks}
+use Rattle.sl_report_results.specs.Press.{AreLeftOut}
+use Rattle.sl_report_results.specs.Seats.{all_seats}
+use Rattle.sl_report_results.specs.declared.press.Pressed.{Pressed}
+use Rattle.sl_report_results.specs.declared.press.Standing.{Standing}
+use Rattle.sl_report_results.specs.declared.scopes.Scoped.{Scoped}
+use Rattle.sl_report_tables.specs.Parts.{a_name, rounded_cell}
+use Rattle.sl_stages.specs.declared.book.Cond.{Cond}
+use Rattle.sl_stages.specs.declared.fault.Scope.TheVariants as scope
+use Rattle.sl_stages.specs.declared.fault.Scope.{Scope}
+use Rattle.sl_stages.specs.meaning.Tables.{SeatTable}
+use Rattle.sl_stages.specs.returns.Election.{Election}
+use Rattle.sl_stages.specs.returns.Facts.{all_valid_votes}
+
+-- ---- the parties in the order of their seats, and all together
+
+abbrev pub press_row : Election → Pressed → List Content
+press_row e p =
+    a_name
+    ++ a_number p.seats.seats ∷ a_number p.part.winners ∷ a_number p.seats.direct ∷ a_number p.part.votes.valid
+    ∷ rounded_cell p.part.votes.valid (all_valid_votes e) ∷ []
+
+-- the seats of all, the constituencies with a winner, the winners who are seated, and all valid votes
+abbrev pub sum_row : Election → SeatTable → List Content
+sum_row e t =
+    nothing ∷ a_text
+    ∷ a_number (all_seats t).seats ∷ a_number (length e.wins) ∷ a_number (all_seats t).direct ∷ a_number (all_valid_votes e)
+    ∷ rounded_cell (all_valid_votes e) (all_valid_votes e) ∷ []
+
+abbrev pub press_table : Election → SeatTable → List Pressed → Table
+press_table e t pressed = record {
+  key = codes "press";
+  columns = codes "party" ∷ codes "party_name" ∷ codes "seats" ∷ codes "won" ∷ codes "direct" ∷ codes "valid" ∷ codes "percent" ∷ [];
+  rows = map (press_row e) pressed ++ sum_row e t ∷ [];
+}
+
+-- ---- who won the last seats of the country, and who has the next claims
+
+-- a scope of the whole country
+abbrev pub is_whole : Scoped → Bool
+is_whole s = is_all s.scope
+  where
+    is_all : Scope → Bool
+    is_all scope.All = true
+    is_all (scope.Land land) = false
+    is_all (scope.Party party) = false
+    is_all (scope.List land party) = false
+
+-- ---- the largest party of those left out
+
+-- its votes, and what it lacks for the nearest condition on votes and on winners
+abbrev pub lacking_row : Election → Standing → (votes winners : Option ℕ) → List Content
+lacking_row e s votes winners =
+    a_name ++ a_number s.part.votes.valid ∷ rounded_cell s.part.votes.valid (all_valid_votes e) ∷ known votes ∷ known winners ∷ []
+
+pub record IsLackingRow (conditions : List Cond) (e : Election) (s : Standing) (row : List Content) : Type 0 where
+  pub votes : Option ℕ
+  pub winners : Option ℕ
+  pub lacks_votes : Lacks (AreVotesFor s.part.votes.valid (all_valid_votes e)) conditions s.part.met votes
+  pub lacks_winners : Lacks (AreWinnersFor s.part.winners) conditions s.part.met winners
+  pub row_is : row ≡ lacking_row e s votes winners
+
+-- the first of the parties that meet no condition, by their valid votes
+pub record IsLackingTable (conditions : List Cond) (e : Election) (t : Table) : Type 0 where
+  pub key : t.key ≡ codes "left_out"
+  pub columns : t.columns ≡ codes "party" ∷ codes "party_name" ∷ codes "valid" ∷ codes "percent" ∷ codes "votes_short" ∷ codes "winners_short" ∷ []
+  pub left_out : List Standing
+  pub are_left_out : AreLeftOut conditions e left_out
+  pub rows : AllZip (IsLackingRow conditions e) (take 1 left_out) t.rows

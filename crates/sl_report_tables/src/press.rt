@@ -1,0 +1,255 @@
+//! The sheets of a press report: the parties in the order of their seats, who won the last seats of the country, and what the largest party of those left
+//! out lacks.
+
+ghost use Rattle.std.specs.List.{AllZip};
+ghost use Rattle.std.specs.Prelude.{◌≡◌, ◌++◌, ◌∷◌, [], IfOk, List, OnOk, filter, if◌then◌else◌, map, take};
+ghost use Rattle.sl_report_forms.specs.Cells.{Content};
+ghost use Rattle.sl_report_forms.specs.Tables.{table_of, with_rows};
+ghost use Rattle.sl_report_results.specs.Press.{ArePressed};
+ghost use Rattle.sl_report_results.specs.declared.press.Pressed.{Pressed};
+ghost use Rattle.sl_report_tables.specs.Press.{IsLackingRow, IsLackingTable, is_whole, press_row, press_table, sum_row};
+ghost use Rattle.sl_report_tables.specs.Reports.{IsPressReport};
+ghost use Rattle.sl_report_tables.specs.Scopes.{scope_row, scopes_table};
+ghost use Rattle.sl_stages.specs.book.Books.{book_of};
+ghost use Rattle.sl_stages.specs.meaning.Counts.{HoldsStages};
+ghost use Rattle.sl_stages.specs.returns.Facts.{all_valid_votes};
+
+use crate::counted::{all_scopes, law_sheet};
+use crate::naming::{ALL, Naming};
+use crate::rows::{Part, push_row, titled};
+use crate::scopes::{SCOPES, push_scope};
+use crate::titles;
+use sl_ratio::NoMemory;
+use sl_report_forms::{Form, Look, Sheet};
+use sl_report_results::{
+    Counted, Pressed, Scoped, Setting, Standing, all_votes, by_seats, lacking_votes,
+    lacking_winners, left_out, seats_in_all,
+};
+use sl_stages::{Book, Cond, Scope, Table};
+use std::alloc::Global;
+
+const PRESS: [Form; 7] = [
+    ("party", "party", "Partei", Look::Text(12)),
+    ("party_name", "name", "Name", Look::Text(30)),
+    ("seats", "seats", "Sitze", Look::Number),
+    ("won", "won", "gewonnen", Look::Number),
+    ("direct", "seated", "mit Sitz", Look::Number),
+    ("valid", "votes", "Stimmen", Look::Number),
+    ("percent", "percent", "Prozent", Look::Number),
+];
+
+const LEFT_OUT: [Form; 6] = [
+    ("party", "party", "Partei", Look::Text(12)),
+    ("party_name", "name", "Name", Look::Text(30)),
+    ("valid", "votes", "Stimmen", Look::Number),
+    ("percent", "percent", "Prozent", Look::Number),
+    ("votes_short", "lacks votes", "Stimmen fehlen", Look::Number),
+    (
+        "winners_short",
+        "lacks winners",
+        "Wahlkreise fehlen",
+        Look::Number,
+    ),
+];
+
+// Adds the row of a party, of so many valid votes in all.
+fn push_pressed(
+    alloc: Global,
+    sheet: &mut Sheet,
+    naming: &Naming<'_>,
+    pressed: Pressed,
+    valid: u64,
+) -> Result<(), NoMemory>
+    requires { valid ≡ all_valid_votes naming.now.returns.now }
+    ensures { OnOk result (table_of sheet.new ≡ with_rows (table_of sheet.old) (press_row naming.now.returns.now pressed ∷ [])) }
+{
+    let votes = pressed.part.votes.valid;
+    let parts = [
+        Part::Party(pressed.party),
+        Part::Number(pressed.seats.seats),
+        Part::Number(pressed.part.winners),
+        Part::Number(pressed.seats.direct),
+        Part::Number(votes),
+        Part::Rounded(votes, valid),
+    ];
+    push_row(alloc, sheet, naming, &parts)
+}
+
+// Adds the row of all together, of so many valid votes in all.
+fn push_sum(
+    alloc: Global,
+    sheet: &mut Sheet,
+    naming: &Naming<'_>,
+    table: &Table,
+    valid: u64,
+) -> Result<(), NoMemory>
+    requires { valid ≡ all_valid_votes naming.now.returns.now }
+    ensures { OnOk result (table_of sheet.new ≡ with_rows (table_of sheet.old) (sum_row naming.now.returns.now table.now ∷ [])) }
+{
+    let all = seats_in_all(table);
+    let parts = [
+        Part::InPlace(ALL),
+        Part::Number(all.seats),
+        Part::Number(naming.returns.wins() as u64),
+        Part::Number(all.direct),
+        Part::Number(valid),
+        Part::Rounded(valid, valid),
+    ];
+    push_row(alloc, sheet, naming, &parts)
+}
+
+// Adds the rows of these parties, of so many valid votes in all.
+#[tactic(auto, using(crate::proofs::MoreRows::rows_next))]
+fn push_each(
+    alloc: Global,
+    sheet: &mut Sheet,
+    naming: &Naming<'_>,
+    found: &[Pressed],
+    valid: u64,
+) -> Result<(), NoMemory>
+    requires { valid ≡ all_valid_votes naming.now.returns.now }
+    ensures { OnOk result (table_of sheet.new ≡ with_rows (table_of sheet.old) (map (press_row naming.now.returns.now) found.now)) }
+{
+    for pressed in found {
+        push_pressed(alloc, sheet, naming, *pressed, valid)?;
+    }
+    Ok(())
+}
+
+// The parties with a seat or a constituency, and all together.
+fn press_sheet(
+    alloc: Global,
+    setting: &Setting<'_>,
+    naming: &Naming<'_>,
+    table: &Table,
+) -> Result<Sheet, NoMemory>
+    ensures { IfOk result (λ s. (found : List Pressed) × ArePressed setting.now.book.now.eligible.items table.now setting.now.returns.now found
+        × (table_of s ≡ press_table naming.now.returns.now table.now found)) }
+{
+    let found = by_seats(alloc, setting, table)?;
+    let valid = all_votes(naming.returns).valid;
+    let mut sheet = titled(alloc, naming, "press", titles::PRESS, &PRESS)?;
+    push_each(alloc, &mut sheet, naming, found.as_slice(), valid)?;
+    push_sum(alloc, &mut sheet, naming, table, valid)?;
+    Ok(sheet)
+}
+
+// Whether a scope is the whole country.
+fn is_whole(scoped: &Scoped) -> bool
+    ensures { result ≡ is_whole scoped.now }
+{
+    match scoped.scope {
+        Scope::All => true,
+        Scope::Land(_) | Scope::Party(_) | Scope::List(_, _) => false,
+    }
+}
+
+// Adds the row of a scope of the whole country.
+fn push_whole(
+    alloc: Global,
+    sheet: &mut Sheet,
+    book: &Book,
+    naming: &Naming<'_>,
+    scoped: &Scoped,
+) -> Result<(), NoMemory>
+    ensures { OnOk result (table_of sheet.new ≡ with_rows (table_of sheet.old) (if is_whole scoped.now then scope_row scoped.now ∷ [] else [])) }
+{
+    if is_whole(scoped) {
+        push_scope(alloc, sheet, book, naming, scoped)?;
+    }
+    Ok(())
+}
+
+// A line for each scope of the whole country.
+#[tactic(auto, using(crate::proofs::MoreRows::rows_kept))]
+fn whole_sheet(
+    alloc: Global,
+    book: &Book,
+    naming: &Naming<'_>,
+    scopes: &[Scoped],
+) -> Result<Sheet, NoMemory>
+    ensures { IfOk result (λ s. table_of s ≡ scopes_table (filter is_whole scopes.now)) }
+{
+    let mut sheet = titled(alloc, naming, "scopes", titles::LAST_SEATS, &SCOPES)?;
+    for scoped in scopes {
+        push_whole(alloc, &mut sheet, book, naming, scoped)?;
+    }
+    Ok(sheet)
+}
+
+// Adds the row of a party that is left out, with what it lacks.
+fn push_lacking(
+    alloc: Global,
+    sheet: &mut Sheet,
+    conditions: &[Cond],
+    naming: &Naming<'_>,
+    standing: Standing,
+) -> Result<(), NoMemory>
+    ensures { OnOk result ((row : List Content) × IsLackingRow conditions.now naming.now.returns.now standing row × (table_of sheet.new ≡ with_rows (table_of sheet.old) (row ∷ []))) }
+{
+    let valid = all_votes(naming.returns).valid;
+    let part = standing.part;
+    let parts = [
+        Part::Party(standing.party),
+        Part::Number(part.votes.valid),
+        Part::Rounded(part.votes.valid, valid),
+        Part::Known(lacking_votes(conditions, part, valid)),
+        Part::Known(lacking_winners(conditions, part)),
+    ];
+    push_row(alloc, sheet, naming, &parts)?;
+    Ok(())
+}
+
+// Adds the row of the first of these parties, if there is one.
+fn push_first(
+    alloc: Global,
+    sheet: &mut Sheet,
+    conditions: &[Cond],
+    naming: &Naming<'_>,
+    found: &[Standing],
+) -> Result<(), NoMemory>
+    ensures { OnOk result ((rows : List (List Content)) × AllZip (IsLackingRow conditions.now naming.now.returns.now) (take 1 found.now) rows × (table_of sheet.new ≡ with_rows (table_of sheet.old) rows)) }
+{
+    match found.first() {
+        Some(first) => push_lacking(alloc, sheet, conditions, naming, *first),
+        None => Ok(()),
+    }
+}
+
+// The largest party of those left out.
+fn lacking_sheet(
+    alloc: Global,
+    setting: &Setting<'_>,
+    naming: &Naming<'_>,
+) -> Result<Sheet, NoMemory>
+    requires named { naming.now.returns.now ≡ setting.now.returns.now }
+    ensures { IfOk result (λ s. IsLackingTable setting.now.book.now.eligible.items setting.now.returns.now (table_of s)) }
+{
+    let conditions = setting.book.eligible.as_slice();
+    let found = left_out(alloc, setting)?;
+    let mut sheet = titled(alloc, naming, "left_out", titles::LEFT_OUT, &LEFT_OUT)?;
+    push_first(alloc, &mut sheet, conditions, naming, found.as_slice())?;
+    Ok(sheet)
+}
+
+/// The sheets of a press report on one count: the law; the parties with seats or constituencies, in the order of their seats, and all together; who won
+/// the last seats of the country and has the next claims; and what the largest party of those left out lacks.
+pub(crate) fn press_sheets(
+    alloc: Global,
+    setting: &Setting<'_>,
+    naming: &Naming<'_>,
+    counted: &Counted,
+) -> Result<Vec<Sheet>, NoMemory>
+    requires held { HoldsStages (book_of setting.now.book.now) setting.now.returns.now counted.now.columns.items }
+    requires named { naming.now.returns.now ≡ setting.now.returns.now }
+    ensures { IfOk result (λ sheets. IsPressReport setting.now.book.now setting.now.returns.now counted.now (map table_of sheets.items)) }
+{
+    let table = &counted.table;
+    let scopes = all_scopes(alloc, setting, counted)?;
+    let mut sheets: Vec<Sheet> = Vec::new(alloc);
+    sheets.push(law_sheet(alloc, setting, naming, Some(table))?)?;
+    sheets.push(press_sheet(alloc, setting, naming, table)?)?;
+    sheets.push(whole_sheet(alloc, setting.book, naming, scopes.as_slice())?)?;
+    sheets.push(lacking_sheet(alloc, setting, naming)?)?;
+    Ok(sheets)
+}
