@@ -52,10 +52,10 @@ def faults_of_files():
             yield command + [path, "returns"], "", READ["book"], 5
             yield command + ["book", path], "", READ["returns"], 5
             yield command + ["@2023", path], "", READ["returns"], 5
-        for command in (["report", "--markdown"], ["stages", "--json"]):
+        for command in (["report", "--markdown"], ["stages", "--csv"]):
             yield command + [path, "returns"], "", READ["book"], 5
             yield command + ["book", path], "", READ["returns"], 5
-        for command in (["totals", "--html"], ["compare", "--csv"]):
+        for command in (["totals", "--html"], ["compare"]):
             yield command + [path, "book"], "", READ["returns"], 5
             yield command + ["returns", path], "", READ["book"], 5
             yield command + ["returns", "book", "--names", path], "", "read fault names\n", 5
