@@ -146,7 +146,7 @@ const DRAWN: [(Dice, u32, bool); 3] = [
 ];
 
 /// The first dice by which a table does not answer as a list does.
-pub fn first_drawn_wrong(alloc: Global) -> Option<usize> {
+pub(crate) fn first_drawn_wrong(alloc: Global) -> Option<usize> {
     for (place, (dice, calls, once)) in DRAWN.iter().enumerate() {
         if !are_drawn_alike(alloc, *calls, *dice, *once) {
             return Some(place);
@@ -218,7 +218,7 @@ fn are_awarded_alike(alloc: Global, calls: u32, dice: &mut Dice, one: bool) -> b
 }
 
 /// Which is not so of entries of one quotient, and of entries of many.
-pub fn first_awarded_wrong(alloc: Global) -> Option<usize> {
+pub(crate) fn first_awarded_wrong(alloc: Global) -> Option<usize> {
     let mut dice = Dice {
         state: 3,
         indexes: 200,

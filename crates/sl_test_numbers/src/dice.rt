@@ -19,14 +19,14 @@ pub struct Lot {
 }
 
 impl Lot {
-    pub fn as_slice(&self) -> &[u32] {
+    pub(crate) fn as_slice(&self) -> &[u32] {
         &self.indexes[..self.length.min(8)]
     }
 }
 
 impl Dice {
     /// The next number.
-    pub fn roll(&mut self) -> u32 {
+    pub(crate) fn roll(&mut self) -> u32 {
         self.state = self
             .state
             .wrapping_mul(6_364_136_223_846_793_005)
@@ -35,19 +35,19 @@ impl Dice {
     }
 
     /// An index.
-    pub fn index(&mut self) -> u32 {
+    pub(crate) fn index(&mut self) -> u32 {
         (self.roll() % self.indexes.max(1)).wrapping_mul(self.spread)
     }
 
     /// An entry with the quotient 1, or with one of three.
-    pub fn entry(&mut self, one: bool) -> Entry {
+    pub(crate) fn entry(&mut self, one: bool) -> Entry {
         let index = self.index();
         let part = u128::from(self.roll() % 3) + 1;
         entry((part, if one { part } else { 2 }), index)
     }
 
     /// An entry with the quotient 1, or with one of many.
-    pub fn entry_of_many(&mut self, one: bool) -> Entry {
+    pub(crate) fn entry_of_many(&mut self, one: bool) -> Entry {
         let alike = self.entry(true);
         if one {
             return alike;
@@ -56,7 +56,7 @@ impl Dice {
     }
 
     /// A lot.
-    pub fn lot(&mut self) -> Lot {
+    pub(crate) fn lot(&mut self) -> Lot {
         let length = (self.roll() % 8) as usize;
         let mut indexes = [0; 8];
         for index in &mut indexes[..length] {

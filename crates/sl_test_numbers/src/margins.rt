@@ -204,7 +204,7 @@ impl Election {
 }
 
 /// The first call on an election that does not answer as wanted.
-pub fn first_wrong(alloc: Global, election: &Election, calls: &[Call]) -> Option<usize> {
+pub(crate) fn first_wrong(alloc: Global, election: &Election, calls: &[Call]) -> Option<usize> {
     for (place, call) in calls.iter().enumerate() {
         if !election.answers(alloc, call) {
             return Some(place);
@@ -230,7 +230,7 @@ fn is_cut(alloc: Global, votes: u128, divisor: u128, places: u32, wanted: &str) 
 }
 
 /// The first quotient that does not have its text.
-pub fn first_wrong_decimal(alloc: Global) -> Option<usize> {
+pub(crate) fn first_wrong_decimal(alloc: Global) -> Option<usize> {
     for (call, (votes, divisor, places, wanted)) in DECIMALS.iter().enumerate() {
         if !is_cut(alloc, *votes, *divisor, *places, wanted) {
             return Some(call);

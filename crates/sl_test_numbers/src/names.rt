@@ -41,12 +41,12 @@ fn first_wrong_in(names: &mut Names) -> Option<usize> {
 }
 
 /// The first name that is not added so to a new list, or the number after them if those in it are not found, or another is.
-pub fn first_wrong(alloc: Global) -> Option<usize> {
+pub(crate) fn first_wrong(alloc: Global) -> Option<usize> {
     first_wrong_in(&mut Names::new(alloc, 2))
 }
 
 /// 0 if a name is refused that has each kind of byte which may stand in one.
-pub fn first_wrong_spelling() -> Option<usize> {
+pub(crate) fn first_wrong_spelling() -> Option<usize> {
     match spelling_fault(b"_a-Z09") {
         Some(_) => Some(0),
         None => None,

@@ -10,7 +10,7 @@ use std::hash::{DefaultHasher, Hash, Hasher};
 pub type Quotient = (u128, u128);
 
 /// The ratio of a quotient, made to fit.
-pub fn ratio((num, den): Quotient) -> Ratio {
+pub(crate) fn ratio((num, den): Quotient) -> Ratio {
     Ratio::new(num.clamp(1, MAX_NUMERATOR), den.min(MAX_DENOMINATOR))
 }
 
@@ -62,7 +62,7 @@ fn is_quotient(method: Divisor, votes: u64, held: u32, wanted: Quotient) -> bool
 }
 
 /// The first votes and seats whose quotient is not this one.
-pub fn first_wrong_quotient() -> Option<usize> {
+pub(crate) fn first_wrong_quotient() -> Option<usize> {
     for (call, (method, votes, held, wanted)) in QUOTIENTS.iter().enumerate() {
         if !is_quotient(*method, *votes, *held, *wanted) {
             return Some(call);
@@ -72,7 +72,7 @@ pub fn first_wrong_quotient() -> Option<usize> {
 }
 
 /// 0 if the methods do not stand from Adams' to Jefferson's.
-pub fn first_wrong_method() -> Option<usize> {
+pub(crate) fn first_wrong_method() -> Option<usize> {
     match DIVISORS {
         [
             Divisor::Adams,
@@ -161,7 +161,7 @@ fn hash_of(entry: &Entry) -> u64 {
 }
 
 /// The entry of a quotient.
-pub fn entry(quotient: Quotient, index: u32) -> Entry {
+pub(crate) fn entry(quotient: Quotient, index: u32) -> Entry {
     Entry {
         ratio: ratio(quotient),
         index,
@@ -181,7 +181,7 @@ fn is_order(order: &Order) -> bool {
 }
 
 /// The first entries that do not compare so.
-pub fn first_wrong_order() -> Option<usize> {
+pub(crate) fn first_wrong_order() -> Option<usize> {
     for (call, order) in ORDERS.iter().enumerate() {
         if !is_order(order) {
             return Some(call);
@@ -191,7 +191,7 @@ pub fn first_wrong_order() -> Option<usize> {
 }
 
 /// Of eight seats for 100, 80 and 30 votes, which of those that no divisor gives, and of those that one gives, do not have bounds as they should.
-pub fn first_wrong_bound() -> Option<usize> {
+pub(crate) fn first_wrong_bound() -> Option<usize> {
     if bounds(Divisor::Jefferson, &[100, 80, 30], &[3, 3, 2]).is_some() {
         return Some(0);
     }

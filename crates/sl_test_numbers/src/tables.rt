@@ -66,7 +66,7 @@ fn is_as_wanted(table: &mut Prio, long: &[u32], step: &Step) -> bool {
 }
 
 /// The first of the steps, made of a table that is cleared before, that does not answer so.
-pub fn first_wrong(table: &mut Prio, long: &[u32], steps: &[Step]) -> Option<usize> {
+pub(crate) fn first_wrong(table: &mut Prio, long: &[u32], steps: &[Step]) -> Option<usize> {
     table.clear();
     for (call, step) in steps.iter().enumerate() {
         if !is_as_wanted(table, long, step) {
@@ -81,7 +81,7 @@ pub fn first_wrong(table: &mut Prio, long: &[u32], steps: &[Step]) -> Option<usi
 /// # Errors
 ///
 /// Out of memory.
-pub fn long_lot(alloc: Global) -> Result<Vec<u32>, AllocError> {
+pub(crate) fn long_lot(alloc: Global) -> Result<Vec<u32>, AllocError> {
     let mut lot = Vec::new(alloc);
     for index in (0..16_385).rev() {
         lot.push(index)?;
